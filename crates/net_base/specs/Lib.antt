@@ -1,0 +1,6 @@
+pub mod Address
+pub mod Bounds
+pub mod Number
+pub mod Peer
+pub mod Shared
+pub mod Timer

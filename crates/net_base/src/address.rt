@@ -1,0 +1,54 @@
+ghost use Rattle.std.specs.Prelude.{◌≡◌, ◌+◌, ◌*◌, ◌^◌, ◌<◌};
+ghost use Rattle.net_base.specs.Address.{key_of, folded_ip};
+
+use crate::Sequence;
+
+/// An IP address of either family. Every IPv4 address comes before every IPv6 address.
+#[derive(Clone, Copy, Debug, PartialEq, Eq, PartialOrd, Ord)]
+pub enum Ip {
+    /// The first octet is the greatest byte.
+    V4(u32),
+    /// The first group is the greatest sixteen bits. An IPv4-mapped address is one of these.
+    V6(u128),
+}
+
+/// Where a peer is reached. Ordered by `ip` and then `port`.
+#[derive(Clone, Copy, Debug, PartialEq, Eq, PartialOrd, Ord)]
+pub struct Addr {
+    pub ip: Ip,
+    pub port: u16,
+}
+
+/// Addresses one after another.
+pub type AddrList = Sequence<Addr>;
+
+impl Addr {
+    /// The number by which picks are scored: this project's own. Two addresses may have one key.
+    pub fn key(&self) -> u64
+        ensures { result ≡ key_of self.now }
+    {
+        joined(folded(self.ip), self.port)
+    }
+}
+
+// An address in 48 bits. The two halves of an IPv6 address are added.
+fn folded(ip: Ip) -> u64
+    ensures value { result ≡ folded_ip ip }
+    ensures bound { result < 2 ^ 48 }
+{
+    match ip {
+        Ip::V4(ip) => u64::from(ip),
+        Ip::V6(ip) => {
+            let high = ip / 18_446_744_073_709_551_616;
+            let low = ip % 18_446_744_073_709_551_616;
+            ((high + low) % 281_474_976_710_656) as u64
+        }
+    }
+}
+
+fn joined(folded: u64, port: u16) -> u64
+    requires { folded < 2 ^ 48 }
+    ensures { result ≡ folded * 65_536 + port }
+{
+    folded * 65_536 + u64::from(port)
+}
