@@ -1,5 +1,5 @@
-ghost use Rattle.std.specs.Prelude.{◌≡◌};
-ghost use Rattle.net_base.specs.Number.{number_up_to, digits_up_to};
+ghost use Rattle.std.specs.Prelude.{◌≡◌, ◌+◌, ◌*◌, ◌-◌, ◌<◌, ◌≤◌, IsTrue, IfSome, IfNone, true};
+ghost use Rattle.net_base.specs.Number.{is_digit, number_up_to, digits_up_to};
 
 /// The number that a word spells in decimal, without a sign and without a leading zero.
 pub fn read_number(word: &[u8], most: u64) -> Option<u64>
@@ -18,13 +18,21 @@ fn digits_value(digits: &[u8], most: u64) -> Option<u64>
 {
     let mut value: u64 = 0;
     for digit in digits {
-        value = next_value(value, *digit, most)?;
+        match next_value(value, *digit, most) {
+            Some(next) => value = next,
+            None => return None,
+        }
     }
     Some(value)
 }
 
 // The value with one more digit behind it.
-fn next_value(value: u64, digit: u8, most: u64) -> Option<u64> {
+fn next_value(value: u64, digit: u8, most: u64) -> Option<u64>
+    ensures digit { IfSome result (λ n. is_digit digit ≡ true) }
+    ensures value { IfSome result (λ n. n ≡ value * 10 + (digit - 48)) }
+    ensures within { IfSome result (λ n. n ≤ most) }
+    ensures none { IfNone result (is_digit digit ≡ true → most < value * 10 + (digit - 48)) }
+{
     if !digit.is_ascii_digit() {
         return None;
     }
