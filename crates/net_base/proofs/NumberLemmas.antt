@@ -39,4 +39,4 @@ pub stops_at : (most value : ℕ) (digits : List ℕ) (i : ℕ) → i < length d
     None ≡ digits_up_to most digits
 stops_at most value digits i inside same h =
     sym (same ∙ (ap (with_rest most value) (drop-cons digits i 0 inside)
-        ∙ with_rest-none most value (get_or digits i 0) (drop (suc i) digits) h))
+    ∙ with_rest-none most value (get_or digits i 0) (drop (suc i) digits) h))

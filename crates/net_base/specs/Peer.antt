@@ -14,6 +14,7 @@ more_failures failures = min (failures + 1) 65535
 -- a peer that fails is cold, and left alone for the back-off
 abbrev pub failed_peer : ℕ → ℕ → Peer → Peer
 failed_peer now base peer = record peer {
-    temp = Cold
-  ; failures = more_failures peer.failures
-  ; not_before = now + backoff_of base (more_failures peer.failures) }
+  temp = Cold;
+  failures = more_failures peer.failures;
+  not_before = now + backoff_of base (more_failures peer.failures);
+}

@@ -1,9 +1,8 @@
 ghost use Rattle.std.specs.Prelude.{◌≡◌, [], ◌∷◌, ◌++◌, OnOk, OnErr};
 
+use crate::OutOfMemory;
 use std::alloc::Global;
 use std::marker::Model;
-
-use crate::OutOfMemory;
 
 /// Items one after another. Contracts see the list of them.
 #[derive(Debug, Drop)]

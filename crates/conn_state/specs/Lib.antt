@@ -1,0 +1,4 @@
+pub mod Counted
+pub mod Moves
+pub mod Names
+pub mod Use

@@ -1,0 +1,87 @@
+-- What each event does.
+use Rattle.std.specs.Prelude.{ℕ, ◌+◌, ◌&&◌, nat_le, List, [], ◌∷◌, if◌then◌else◌, Option, Some, None}
+use Rattle.accept_gate.specs.Gate.{gate_of}
+use Rattle.accept_gate.specs.declared.gate.Gate.{Gate}
+use Rattle.accept_gate.specs.declared.gate.Gate.TheVariants.{Free, Pause as PauseFor, Full as NoRoom}
+use Rattle.conn_state.specs.Moves.{accepted}
+use Rattle.conn_state.specs.Use.{is_live, is_pending}
+use Rattle.net_base.specs.Address.{same_address, address_below}
+use Rattle.net_base.specs.declared.action.Action.{Action}
+use Rattle.net_base.specs.declared.action.Action.TheVariants.{Admit, Turnaway, Pause}
+use Rattle.net_base.specs.declared.action.Away.{Away}
+use Rattle.net_base.specs.declared.action.Away.TheVariants.{Full, OwnAddr, Crossed, Present}
+use Rattle.net_base.specs.declared.action.CloseCause.TheVariants.{Overwritten}
+use Rattle.net_base.specs.declared.address.Addr.{Addr}
+use Rattle.net_base.specs.declared.connection.Cid.{Cid}
+use Rattle.net_base.specs.declared.event.Event.{Event}
+use Rattle.net_base.specs.declared.event.Event.TheVariants.{Now, Govern, Accepted, Dialed, Bytes, Closed, Aims, Locals, Roots, BigAims, Bigs}
+use Rattle.machine.specs.Machine.{Machine, Entry, fresh_entry, counted_in, entry_at, live_entry_at}
+use Rattle.machine.specs.Effect.{Effect, nothing_more, tells, then_do}
+use Rattle.machine.specs.Connections.{entry_comes, ending, vanishes}
+use Rattle.machine.specs.Deadlines.{fire_all}
+
+-- The clock shows a moment. Where it is a later one, all that is due by then happens.
+abbrev pub clock_shows : ℕ → Machine → Effect
+clock_shows t m = if nat_le t m.now then nothing_more m else fire_all (record m { now = t })
+
+abbrev pub turned_away : Away → Machine → Effect
+turned_away away = tells (Turnaway away ∷ [])
+
+abbrev pub pause_notice : Gate → List Action
+pause_notice Free = []
+pause_notice (PauseFor delay) = Pause delay ∷ []
+pause_notice NoRoom = []
+
+abbrev pub next_cid : Machine → Cid
+next_cid m = record { 0 = m.next_id }
+
+-- An address is admitted under the next id, and accepting pauses where the soft limit is passed.
+abbrev pub admitted : Addr → Machine → Effect
+admitted addr m = then_do
+    (entry_comes (Admit (next_cid m) addr ∷ []) (fresh_entry (accepted m.next_id addr (m.now + m.settings.handshake))) m)
+    (tells (pause_notice (gate_of m.settings (counted_in m))))
+
+-- Two nodes have dialed each other: the connection that the lower address dialed survives.
+abbrev pub crossed : Addr → Entry → Machine → Effect
+crossed addr entry m =
+    if address_below addr m.settings.own then then_do (ending Overwritten entry m) (admitted addr)
+    else turned_away Crossed m
+
+-- by the live connection of the address
+abbrev pub accepted_beside : Option Entry → Addr → Machine → Effect
+accepted_beside None addr m = admitted addr m
+accepted_beside (Some entry) addr m =
+    if is_pending entry.facts then crossed addr entry m else turned_away Present m
+
+abbrev pub accepted_through : Gate → Addr → Machine → Effect
+accepted_through Free addr m = accepted_beside (live_entry_at addr m) addr m
+accepted_through (PauseFor delay) addr m = accepted_beside (live_entry_at addr m) addr m
+accepted_through NoRoom addr m = turned_away Full m
+
+-- A peer has connected. The first that decides: the own address, the hard limit, a live connection of the address.
+abbrev pub peer_connects : Addr → Machine → Effect
+peer_connects addr m =
+    if same_address addr m.settings.own then turned_away OwnAddr m
+    else accepted_through (gate_of m.settings (counted_in m)) addr m
+
+abbrev pub closed_at : Option Entry → Machine → Effect
+closed_at None m = nothing_more m
+closed_at (Some entry) m = if is_live entry.facts then vanishes entry m else nothing_more m
+
+-- The other side has closed.
+abbrev pub peer_closes : Cid → Machine → Effect
+peer_closes cid m = closed_at (entry_at cid.0 m) m
+
+-- An event that the machine does not handle yet leaves it as it is.
+abbrev pub step : Machine → Event → Effect
+step m (Now t) = clock_shows t m
+step m (Govern word) = nothing_more m
+step m (Accepted addr) = peer_connects addr m
+step m (Dialed cid open_now) = nothing_more m
+step m (Bytes cid bytes) = nothing_more m
+step m (Closed cid) = peer_closes cid m
+step m (Aims targets) = nothing_more m
+step m (Locals groups) = nothing_more m
+step m (Roots job answer) = nothing_more m
+step m (BigAims targets) = nothing_more m
+step m (Bigs addresses) = nothing_more m
