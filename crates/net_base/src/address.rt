@@ -1,5 +1,5 @@
 ghost use Rattle.std.specs.Prelude.{◌≡◌, ◌+◌, ◌*◌, ◌^◌, ◌<◌};
-ghost use Rattle.net_base.specs.Address.{key_of, folded_ip};
+ghost use Rattle.net_base.specs.Address.{key_of, folded_ip, address_below, same_address};
 
 use crate::Sequence;
 
@@ -29,6 +29,19 @@ impl Addr {
     {
         joined(folded(self.ip), self.port)
     }
+
+    pub fn is_same(&self, other: &Addr) -> bool
+        ensures { result ≡ same_address self.now other.now }
+    {
+        self == other
+    }
+
+    /// Every IPv4 address comes before every IPv6 address. Within a family it goes by `ip` and then `port`.
+    pub fn is_before(&self, other: &Addr) -> bool
+        ensures { result ≡ address_below self.now other.now }
+    {
+        self < other
+    }
 }
 
 // An address in 48 bits. The two halves of an IPv6 address are added.
@@ -51,4 +64,54 @@ fn joined(folded: u64, port: u16) -> u64
     ensures { result ≡ folded * 65_536 + port }
 {
     folded * 65_536 + u64::from(port)
+}
+
+#[cfg(test)]
+mod tests {
+    use super::*;
+
+    #[test]
+    fn keys_of_both_families(rt: HostRuntime) {
+        let loopback = Addr {
+            ip: Ip::V4(0x7f00_0001),
+            port: 3002,
+        };
+        let first = Addr {
+            ip: Ip::V6(1),
+            port: 3001,
+        };
+        assert_eq!(rt; loopback.key(), 139_637_976_796_090);
+        assert_eq!(rt; first.key(), 68_537);
+    }
+
+    #[test]
+    fn ipv4_comes_before_ipv6(rt: HostRuntime) {
+        let last = Addr {
+            ip: Ip::V4(0xffff_ffff),
+            port: 65_535,
+        };
+        let first = Addr {
+            ip: Ip::V6(0),
+            port: 0,
+        };
+        assert!(rt; last < first && last.is_before(&first) && !first.is_before(&last));
+        assert!(rt;
+            Addr {
+                ip: Ip::V4(1),
+                port: 2
+            } < Addr {
+                ip: Ip::V4(1),
+                port: 3
+            }
+        );
+        assert!(rt;
+            Addr {
+                ip: Ip::V4(1),
+                port: 9
+            } < Addr {
+                ip: Ip::V4(2),
+                port: 3
+            }
+        );
+    }
 }

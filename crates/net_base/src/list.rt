@@ -65,3 +65,20 @@ impl<T: Drop> Sequence<T> {
         Ok(())
     }
 }
+
+#[cfg(test)]
+mod tests {
+    use super::*;
+    use std::test::Fail;
+
+    #[test]
+    fn items_go_in_and_out(rt: HostRuntime) -> Result<(), Fail> {
+        let mut octets = Octets::new(rt.alloc());
+        octets.push(7)?;
+        octets.push(9)?;
+        assert_eq!(rt; octets.as_slice(), [7, 9].as_slice());
+        let again = Octets::from_vec(octets.into_vec());
+        assert_eq!(rt; again.as_slice(), [7, 9].as_slice());
+        Ok(())
+    }
+}

@@ -34,3 +34,20 @@ pub fn backoff_delay(base: u64, failures: u64) -> u64
 {
     base << (failures - 1).min(5)
 }
+
+#[cfg(test)]
+mod tests {
+    use super::*;
+
+    #[test]
+    fn seven_failures(rt: HostRuntime) {
+        let mut delay = [0; 7];
+        for (failures, entry) in (1..8).zip(delay.iter_mut()) {
+            *entry = backoff_delay(5000, failures);
+        }
+        assert_eq!(rt;
+            delay,
+            [5000, 10_000, 20_000, 40_000, 80_000, 160_000, 160_000]
+        );
+    }
+}

@@ -124,3 +124,173 @@ fn first_of(tests: &[(Field, bool)]) -> Option<Field>
     }
     None
 }
+
+#[cfg(test)]
+mod tests {
+    use super::*;
+    use crate::Ip;
+
+    fn usual() -> Settings {
+        Settings {
+            version: 1,
+            own: Addr {
+                ip: Ip::V4(0x7f00_0001),
+                port: 3001,
+            },
+            magic: 42,
+            initiator_only: 0,
+            sharing: 1,
+            hard: 512,
+            soft: 384,
+            delay: 5000,
+            idle: 5000,
+            timewait: 60_000,
+            handshake: 10_000,
+            reply: 10_000,
+            backoff: 5000,
+            sharegap: 900_000,
+            shares: 2,
+        }
+    }
+
+    #[test]
+    fn each_range_is_named_by_its_field(rt: HostRuntime) {
+        let day = 86_400_000;
+        assert_eq!(rt; usual().check(), None);
+        assert_eq!(rt;
+            Settings {
+                version: 3,
+                ..usual()
+            }
+            .check(),
+            Some(Field::Version)
+        );
+        assert_eq!(rt;
+            Settings {
+                magic: 4_294_967_296,
+                ..usual()
+            }
+            .check(),
+            Some(Field::Magic)
+        );
+        assert_eq!(rt;
+            Settings {
+                initiator_only: 2,
+                ..usual()
+            }
+            .check(),
+            Some(Field::InitiatorOnly)
+        );
+        assert_eq!(rt;
+            Settings {
+                sharing: 2,
+                ..usual()
+            }
+            .check(),
+            Some(Field::Sharing)
+        );
+        assert_eq!(rt; Settings { hard: 0, ..usual() }.check(), Some(Field::Hard));
+        assert_eq!(rt;
+            Settings {
+                hard: 10_001,
+                ..usual()
+            }
+            .check(),
+            Some(Field::Hard)
+        );
+        assert_eq!(rt;
+            Settings {
+                soft: 513,
+                ..usual()
+            }
+            .check(),
+            Some(Field::Soft)
+        );
+        assert_eq!(rt;
+            Settings {
+                delay: 0,
+                ..usual()
+            }
+            .check(),
+            Some(Field::Delay)
+        );
+        assert_eq!(rt;
+            Settings {
+                idle: day + 1,
+                ..usual()
+            }
+            .check(),
+            Some(Field::Idle)
+        );
+        assert_eq!(rt;
+            Settings {
+                timewait: 0,
+                ..usual()
+            }
+            .check(),
+            Some(Field::Timewait)
+        );
+        assert_eq!(rt;
+            Settings {
+                handshake: 0,
+                ..usual()
+            }
+            .check(),
+            Some(Field::Handshake)
+        );
+        assert_eq!(rt;
+            Settings {
+                reply: day + 1,
+                ..usual()
+            }
+            .check(),
+            Some(Field::Reply)
+        );
+        assert_eq!(rt;
+            Settings {
+                backoff: 0,
+                ..usual()
+            }
+            .check(),
+            Some(Field::Backoff)
+        );
+        assert_eq!(rt;
+            Settings {
+                sharegap: 0,
+                ..usual()
+            }
+            .check(),
+            Some(Field::Sharegap)
+        );
+        assert_eq!(rt;
+            Settings {
+                shares: 9,
+                ..usual()
+            }
+            .check(),
+            Some(Field::Shares)
+        );
+    }
+
+    #[test]
+    fn the_version_is_judged_first(rt: HostRuntime) {
+        assert_eq!(rt;
+            Settings {
+                version: 0,
+                shares: 9,
+                ..usual()
+            }
+            .check(),
+            Some(Field::Version)
+        );
+        assert_eq!(rt;
+            Settings {
+                hard: 0,
+                shares: 9,
+                ..usual()
+            }
+            .check(),
+            Some(Field::Hard)
+        );
+    }
+}

@@ -54,3 +54,48 @@ impl BigTargets {
         }
     }
 }
+
+#[cfg(test)]
+mod tests {
+    use super::*;
+
+    const fn targets(root: u64, known: u64, established: u64, active: u64) -> Targets {
+        Targets {
+            root,
+            known,
+            established,
+            active,
+        }
+    }
+
+    #[test]
+    fn each_bound_is_named_by_its_field(rt: HostRuntime) {
+        assert_eq!(rt; targets(10_000, 10_000, 1_000, 100).check(), None);
+        assert_eq!(rt; targets(0, 0, 0, 0).check(), None);
+        assert_eq!(rt; targets(2, 1, 0, 0).check(), Some(Field::Root));
+        assert_eq!(rt; targets(0, 10_001, 0, 0).check(), Some(Field::Known));
+        assert_eq!(rt; targets(0, 5, 6, 0).check(), Some(Field::Established));
+        assert_eq!(rt;
+            targets(0, 10_000, 1_001, 0).check(),
+            Some(Field::Established)
+        );
+        assert_eq!(rt; targets(0, 10, 5, 6).check(), Some(Field::Active));
+        assert_eq!(rt; targets(0, 1_000, 1_000, 101).check(), Some(Field::Active));
+        // the first of several
+        assert_eq!(rt; targets(9, 1, 2, 3).check(), Some(Field::Root));
+        assert_eq!(rt; targets(0, 1, 2, 0).check(), Some(Field::Established));
+    }
+
+    #[test]
+    fn big_targets_have_the_same_bounds(rt: HostRuntime) {
+        let aims = |known: u64, established: u64, active: u64| BigTargets {
+            known,
+            established,
+            active,
+        };
+        assert_eq!(rt; aims(5, 1, 0).check(), None);
+        assert_eq!(rt; aims(10_001, 1, 0).check(), Some(Field::Known));
+        assert_eq!(rt; aims(1, 2, 0).check(), Some(Field::Established));
+        assert_eq!(rt; aims(3, 2, 3).check(), Some(Field::Active));
+    }
+}

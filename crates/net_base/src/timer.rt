@@ -1,3 +1,6 @@
+ghost use Rattle.std.specs.Prelude.{◌≡◌};
+ghost use Rattle.net_base.specs.Timer.{deadline_before};
+
 use crate::Cid;
 
 /// What a deadline is for, in the order in which deadlines of one moment and connection fire.
@@ -21,4 +24,33 @@ pub struct Deadline {
     pub at: u64,
     pub cid: Cid,
     pub kind: Kind,
+}
+
+impl Deadline {
+    /// Deadlines fire by their moment, then by the id of the connection, then by their kind.
+    pub fn is_before(&self, other: &Deadline) -> bool
+        ensures { result ≡ deadline_before self.now other.now }
+    {
+        self < other
+    }
+}
+
+#[cfg(test)]
+mod tests {
+    use super::*;
+
+    #[test]
+    fn deadlines_in_order(rt: HostRuntime) {
+        let deadline = |at: u64, cid: u64, kind: Kind| Deadline {
+            at,
+            cid: Cid(cid),
+            kind,
+        };
+        let grace = deadline(5000, 2, Kind::Grace);
+        assert!(rt; deadline(4999, 9, Kind::Reply10).is_before(&grace));
+        assert!(rt; deadline(5000, 1, Kind::Reply10).is_before(&grace));
+        assert!(rt; deadline(5000, 2, Kind::Handshake).is_before(&grace));
+        assert!(rt; !grace.is_before(&grace));
+        assert!(rt; grace.is_before(&deadline(5000, 2, Kind::TimeWait)));
+    }
 }
