@@ -66,6 +66,17 @@ impl<T: Drop> Sequence<T> {
     }
 }
 
+impl Sequence<u8> {
+    /// Puts bytes at the end. A refusal changes nothing.
+    pub fn extend_from_slice(&mut self, bytes: &[u8]) -> Result<(), OutOfMemory>
+        ensures ok { OnOk result (self.new ≡ self.old ++ bytes.now) }
+        ensures err { OnErr result (self.new ≡ self.old) }
+    {
+        self.items.extend_from_slice(bytes)?;
+        Ok(())
+    }
+}
+
 #[cfg(test)]
 mod tests {
     use super::*;
@@ -75,10 +86,10 @@ mod tests {
     fn items_go_in_and_out(rt: HostRuntime) -> Result<(), Fail> {
         let mut octets = Octets::new(rt.alloc());
         octets.push(7)?;
-        octets.push(9)?;
-        assert_eq!(rt; octets.as_slice(), [7, 9].as_slice());
+        octets.extend_from_slice(&[9, 11])?;
+        assert_eq!(rt; octets.as_slice(), [7, 9, 11].as_slice());
         let again = Octets::from_vec(octets.into_vec());
-        assert_eq!(rt; again.as_slice(), [7, 9].as_slice());
+        assert_eq!(rt; again.as_slice(), [7, 9, 11].as_slice());
         Ok(())
     }
 }
