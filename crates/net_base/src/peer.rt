@@ -41,12 +41,17 @@ mod tests {
 
     #[test]
     fn seven_failures(rt: HostRuntime) {
-        let mut delay = [0; 7];
-        for (failures, entry) in (1..8).zip(delay.iter_mut()) {
-            *entry = backoff_delay(5000, failures);
-        }
+        let delays = [
+            backoff_delay(5000, 1),
+            backoff_delay(5000, 2),
+            backoff_delay(5000, 3),
+            backoff_delay(5000, 4),
+            backoff_delay(5000, 5),
+            backoff_delay(5000, 6),
+            backoff_delay(5000, 7),
+        ];
         assert_eq!(rt;
-            delay,
+            delays,
             [5000, 10_000, 20_000, 40_000, 80_000, 160_000, 160_000]
         );
     }
