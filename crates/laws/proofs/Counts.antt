@@ -1,0 +1,91 @@
+-- What a connection adds to the counts of the record: whether the limits count it, and how many of its deadlines
+-- are late.
+use Rattle.std.proofs.Common.{ℕ, ◌+◌, ◌≤◌, ◌≡◌, Bool, true, false, cond, ◌++◌, map, sum_by, count_by, nat_le, ◌&&◌, ◌||◌, not, refl, ap, ◌∙◌, arith}
+use Rattle.std.proofs.lemmas.Bool.{lt-leb}
+use Rattle.std.proofs.lemmas.List.Sums.{sum_by-append}
+use Rattle.net_base.specs.declared.connection.Facts.{Facts}
+use Rattle.net_base.specs.declared.connection.Phase.TheVariants.{Closing}
+use Rattle.net_base.specs.declared.timer.Deadline.{Deadline}
+use Rattle.conn_state.specs.Counted.{is_counted}
+use Rattle.conn_state.specs.Moves.{expired, closing}
+use Rattle.conn_state.specs.Use.{is_outbound, is_greeting, is_negotiated, some_runs, is_for_remote}
+use Rattle.machine.specs.Machine.{Machine, Entry, counted_in}
+use Rattle.machine.specs.Connections.{closing_entry}
+use Rattle.machine.specs.Deadlines.{deadlines, deadlines_of, phase_deadlines, grace_deadlines, reply_deadline}
+use Rattle.laws.proofs.Lists.{sum_by-map, sum_by-flat_map}
+
+-- 1 where the limits count it
+abbrev pub one_if_counted : Facts → ℕ
+one_if_counted f = cond (is_counted f) 1 0
+
+abbrev pub counted_of : Entry → ℕ
+counted_of e = one_if_counted e.facts
+
+pub counted_in-sum : (m : Machine) → counted_in m ≡ sum_by counted_of m.connections
+counted_in-sum m = sum_by-map one_if_counted (λ e. e.facts) m.connections
+
+-- at most a moment
+abbrev pub is_late : ℕ → Deadline → Bool
+is_late now d = nat_le d.at now
+
+abbrev pub late_of : ℕ → Entry → ℕ
+late_of now e = count_by (is_late now) (deadlines_of e)
+
+-- how many deadlines of the record are at most its moment
+abbrev pub late_in : Machine → ℕ
+late_in m = count_by (is_late m.now) (deadlines m)
+
+pub late_in-sum : (m : Machine) → late_in m ≡ sum_by (late_of m.now) m.connections
+late_in-sum m = sum_by-flat_map (λ d. cond (is_late m.now d) 1 0) deadlines_of m.connections
+
+pub late_of-parts : (now : ℕ) (e : Entry) → late_of now e ≡
+    count_by (is_late now) (phase_deadlines e.facts.cid e.facts.phase)
+    + count_by (is_late now) (grace_deadlines e.facts.cid e.facts.grace)
+    + count_by (is_late now) (map (reply_deadline e.facts.cid) e.owed)
+late_of-parts now e =
+    let one : Deadline → ℕ = λ d. cond (is_late now d) 1 0 in
+    let phase = phase_deadlines e.facts.cid e.facts.phase in
+    let grace = grace_deadlines e.facts.cid e.facts.grace in
+    let owed = map (reply_deadline e.facts.cid) e.owed in
+    sum_by-append one (phase ++ grace) owed ∙ ap (λ n. n + sum_by one owed) (sum_by-append one phase grace)
+
+-- what stands behind a test that fails makes no difference
+fails_anyway : (x y z : Bool) → (x && false && y) ≡ (x && false && z)
+fails_anyway true y z = refl
+fails_anyway false y z = refl
+
+-- A grace that is over makes no difference to a connection in local use.
+pub counted-expired : (f : Facts) → f.local ≡ true → is_counted (expired f) ≡ is_counted f
+counted-expired f in_use = rw in_use (ap
+    (λ kept. (not (is_outbound f) && is_greeting f) || (is_negotiated f && some_runs f.running) || kept)
+    (fails_anyway (is_negotiated f) false (is_for_remote f.grace)))
+
+none_passes : (x : Bool) → (x && false || false || false) ≡ false
+none_passes true = refl
+none_passes false = refl
+
+-- A connection that this side has closed isn't counted.
+pub counted-closing : (until : ℕ) (f : Facts) → is_counted (closing until f) ≡ false
+counted-closing until f = none_passes (not (is_outbound f))
+
+abbrev pub grace_late_of : ℕ → Entry → ℕ
+grace_late_of now e = count_by (is_late now) (grace_deadlines e.facts.cid e.facts.grace)
+
+-- the deadlines of a grace that is over are gone
+pub late-expired : (now : ℕ) (e : Entry) →
+    late_of now (record e { facts = expired e.facts }) + grace_late_of now e ≡ late_of now e
+late-expired now e =
+    let after = late_of-parts now (record e { facts = expired e.facts }) in
+    let before = late_of-parts now e in
+    omega (arith, after, before)
+
+-- the time-wait of a connection that this side closes is yet to come
+pub late-closing : (m : Machine) (e : Entry) → 1 ≤ m.settings.timewait →
+    late_of m.now (closing_entry m e) + grace_late_of m.now e ≤ late_of m.now e
+late-closing m e positive =
+    let until : ℕ = m.now + m.settings.timewait in
+    let ahead : nat_le until m.now ≡ false = lt-leb until m.now (omega arith) in
+    let none : count_by (is_late m.now) (phase_deadlines e.facts.cid (Closing until)) ≡ 0 = rw ahead refl in
+    let after = late_of-parts m.now (closing_entry m e) in
+    let before = late_of-parts m.now e in
+    omega (arith, after, before, none)

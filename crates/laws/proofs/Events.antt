@@ -1,0 +1,240 @@
+-- Each event keeps what is sound.
+use Rattle.std.proofs.Common.{ℕ, ◌+◌, ◌<◌, ◌≤◌, ◌≡◌, ◌≢◌, true, false, remove, Option, Some, None, All, IsTrue, nat_le, nat_lt, sum_by, if◌then◌else◌, refl, sym, ap, ◌∙◌, subst, arith, leb-false}
+use Rattle.std.proofs.lemmas.Bool.{cond_both, and_parts, and_from, both_ways, lt-leb, cond-true, false_from_ne_true}
+use Rattle.std.proofs.lemmas.List.Elements.{All-weaker}
+use Rattle.std.proofs.lemmas.List.Sums.{sum_by_push}
+use Rattle.net_base.specs.Address.{same_address, address_below}
+use Rattle.net_base.specs.declared.action.Away.TheVariants.{OwnAddr, Crossed, Present}
+use Rattle.net_base.specs.declared.action.CloseCause.TheVariants.{Overwritten}
+use Rattle.net_base.specs.declared.address.Addr.{Addr}
+use Rattle.net_base.specs.declared.connection.Cid.{Cid}
+use Rattle.net_base.specs.declared.event.Event.{Event}
+use Rattle.net_base.specs.declared.event.Event.TheVariants.{Now, Govern, Accepted, Dialed, Bytes, Closed, Aims, Locals, Roots, BigAims, Bigs}
+use Rattle.net_base.specs.declared.settings.Settings.{Settings}
+use Rattle.accept_gate.specs.Gate.{gate_of, pause_of}
+use Rattle.accept_gate.specs.declared.gate.Gate.{Gate}
+use Rattle.accept_gate.specs.declared.gate.Gate.TheVariants.{Free, Pause as PauseFor, Full as NoRoom}
+use Rattle.conn_state.specs.Moves.{accepted}
+use Rattle.conn_state.specs.Use.{is_live, is_live_at, is_pending, has_id}
+use Rattle.machine.specs.Machine.{Machine, Entry, fresh_entry, counted_in, entry_at, live_entry_at}
+use Rattle.machine.specs.Effect.{nothing_more, then_do}
+use Rattle.machine.specs.Connections.{without_entry, ending, vanishes}
+use Rattle.machine.specs.Deadlines.{deadlines, fire_all}
+use Rattle.machine.specs.Events.{clock_shows, turned_away, admitted, crossed, accepted_beside, accepted_through, peer_connects, closed_at, peer_closes, step}
+use Rattle.laws.specs.Laws.{HaveOwnAddresses, WithinHardLimit, DeadlinesAhead}
+use Rattle.laws.specs.Sound.{IsOrderly, IsSound}
+use Rattle.laws.proofs.Addresses.{same_address-self, same_address-true}
+use Rattle.laws.proofs.Lists.{FoundIn, find_some, find_none, All-others, count_by-none, count_by-all_fail}
+use Rattle.laws.proofs.Settings.{handshake-positive}
+use Rattle.laws.proofs.Counts.{is_late, counted_of, counted_in-sum, late_of, late_in, late_in-sum}
+use Rattle.laws.proofs.Entries.{with_new, come-orderly, gone-connections}
+use Rattle.laws.proofs.Moves.{Lowers, ending-lowers, vanishes-lowers}
+use Rattle.laws.proofs.Firing.{fire_all-lowers, fire_all-none_late}
+
+-- no deadline is late exactly where every deadline is above now
+pub ahead-none_late : (m : Machine) → DeadlinesAhead m → late_in m ≡ 0
+ahead-none_late m h = count_by-all_fail (is_late m.now) (deadlines m)
+    (All-weaker (λ d. m.now < d.at) (λ d. is_late m.now d ≡ false) (λ d above. lt-leb d.at m.now above) (deadlines m) h)
+
+pub none_late-ahead : (m : Machine) → late_in m ≡ 0 → DeadlinesAhead m
+none_late-ahead m none = All-weaker (λ d. is_late m.now d ≡ false) (λ d. m.now < d.at)
+    (λ d ahead. leb-false d.at m.now ahead) (deadlines m) (count_by-none (is_late m.now) (deadlines m) none)
+
+-- what an event does to a sound record: it is sound again, under the same settings
+pub record StaysSound (before after : Machine) : Type 0 where
+  pub sound : IsSound after
+  pub settings : after.settings ≡ before.settings
+
+stays_same : (m : Machine) → IsSound m → StaysSound m m
+stays_same m h = record { sound = h; settings = refl }
+
+-- after a part of a step in which no connection comes
+pub lowered-sound : (gone : ℕ) (m n : Machine) → IsSound m → Lowers gone m n → IsSound n
+lowered-sound gone m n h l =
+    let none_before : late_in m ≡ 0 = ahead-none_late m h.deadlines in
+    let hard : n.settings.hard ≡ m.settings.hard = ap (λ s. s.hard) l.settings in
+    let within : counted_in m ≤ m.settings.hard = h.counted in
+    record {
+      orderly = l.orderly;
+      counted = omega arith;
+      deadlines = none_late-ahead n (omega arith);
+    }
+
+-- the record at a moment
+abbrev at_moment : ℕ → Machine → Machine
+at_moment t m = record m { now = t }
+
+at_moment-orderly : (t : ℕ) (m : Machine) → IsOrderly m → IsOrderly (at_moment t m)
+at_moment-orderly t m h = record {
+  settings = h.settings;
+  next_id = h.next_id;
+  ids_given = h.ids_given;
+  ids_rise = h.ids_rise;
+  addresses = h.addresses;
+}
+
+-- all that is due at a moment happens
+pub fire_all-sound : (m : Machine) → IsOrderly m → WithinHardLimit m → StaysSound m (fire_all m).machine
+fire_all-sound m h within =
+    let l : Lowers 0 m (fire_all m).machine = fire_all-lowers m h in
+    let hard : (fire_all m).machine.settings.hard ≡ m.settings.hard = ap (λ s. s.hard) l.settings in
+    record {
+      sound = record {
+        orderly = l.orderly;
+        counted = omega (arith, within);
+        deadlines = none_late-ahead (fire_all m).machine (fire_all-none_late m h);
+      };
+      settings = l.settings;
+    }
+
+pub clock_shows-sound : (t : ℕ) (m : Machine) → IsSound m → StaysSound m (clock_shows t m).machine
+clock_shows-sound t m h = cond_both (nat_le t m.now) (nothing_more m) (fire_all (at_moment t m))
+    (λ effect. StaysSound m effect.machine) (λ past. stays_same m h)
+    (λ later.
+    let all : StaysSound (at_moment t m) (fire_all (at_moment t m)).machine =
+    fire_all-sound (at_moment t m) (at_moment-orderly t m h.orderly) h.counted in
+    record { sound = all.sound; settings = all.settings })
+
+-- the connection that is admitted
+abbrev admitted_entry : Addr → Machine → Entry
+admitted_entry addr m = fresh_entry (accepted m.next_id addr (m.now + m.settings.handshake))
+
+-- A connection is admitted below the hard limit, where no live connection has its address.
+pub admitted-sound : (addr : Addr) (m : Machine) → IsOrderly m → counted_in m < m.settings.hard → late_in m ≡ 0 →
+    All (λ e. IsTrue (is_live e.facts) → e.facts.addr ≢ addr) m.connections → StaysSound m (admitted addr m).machine
+admitted-sound addr m h room none apart =
+    let new : Entry = admitted_entry addr m in
+    let n : Machine = with_new new m in
+    let counts : sum_by counted_of n.connections ≡ sum_by counted_of m.connections + 1 =
+    sum_by_push counted_of m.connections new in
+    let counted_before : counted_in m ≡ sum_by counted_of m.connections = counted_in-sum m in
+    let counted_after : counted_in n ≡ sum_by counted_of n.connections = counted_in-sum n in
+    let above : m.now < m.now + m.settings.handshake =
+    (let positive : 1 ≤ m.settings.handshake = handshake-positive m.settings h.settings in omega arith) in
+    let ahead : nat_le (m.now + m.settings.handshake) m.now ≡ false = lt-leb (m.now + m.settings.handshake) m.now above in
+    let not_late : late_of m.now new ≡ 0 = rw ahead refl in
+    let lates : sum_by (late_of m.now) n.connections ≡ sum_by (late_of m.now) m.connections + late_of m.now new =
+    sum_by_push (late_of m.now) m.connections new in
+    let late_before : late_in m ≡ sum_by (late_of m.now) m.connections = late_in-sum m in
+    let late_after : late_in n ≡ sum_by (late_of m.now) n.connections = late_in-sum n in
+    record {
+      sound = record {
+        orderly = come-orderly m new h refl
+            (All-weaker (λ e. IsTrue (is_live e.facts) → e.facts.addr ≢ addr) (λ e. HaveOwnAddresses e new)
+            (λ e own e_live new_live. own e_live) m.connections apart);
+        counted = omega arith;
+        deadlines = none_late-ahead n (omega arith);
+      };
+      settings = refl;
+    }
+
+-- what an address needs for one more connection
+abbrev NoneLiveAt : Addr → Machine → Type 0
+NoneLiveAt addr m = All (λ e. IsTrue (is_live e.facts) → e.facts.addr ≢ addr) m.connections
+
+none_live_at-none : (addr : Addr) (m : Machine) → live_entry_at addr m ≡ None → NoneLiveAt addr m
+none_live_at-none addr m none = All-weaker (λ e. is_live_at addr e.facts ≡ false)
+    (λ e. IsTrue (is_live e.facts) → e.facts.addr ≢ addr)
+    (λ e other e_live same. both_ways (is_live_at addr e.facts) other
+    (and_from (same_address e.facts.addr addr) (is_live e.facts)
+    (subst (λ a. same_address e.facts.addr a ≡ true) same (same_address-self e.facts.addr)) e_live))
+    m.connections (find_none (λ e. is_live_at addr e.facts) m.connections none)
+
+own_addresses-turned : (e f : Entry) → HaveOwnAddresses e f → HaveOwnAddresses f e
+own_addresses-turned e f own f_live e_live same = own e_live f_live (sym same)
+
+-- once the live connection of an address has gone, none is left
+none_live_at-gone : (addr : Addr) (m : Machine) (entry : Entry) → IsOrderly m →
+    FoundIn (λ e. is_live_at addr e.facts) m.connections entry → NoneLiveAt addr (without_entry entry.facts.cid.0 m)
+none_live_at-gone addr m entry h found =
+    let parts = and_parts (same_address entry.facts.addr addr) (is_live entry.facts) found.passes in
+    let at_addr : entry.facts.addr ≡ addr = same_address-true entry.facts.addr addr parts.0 in
+    subst (All (λ e. IsTrue (is_live e.facts) → e.facts.addr ≢ addr))
+    (sym (gone-connections m entry found.place h found.stands))
+    (All-weaker (HaveOwnAddresses entry) (λ e. IsTrue (is_live e.facts) → e.facts.addr ≢ addr)
+    (λ e own e_live same. own parts.1 e_live (at_addr ∙ sym same))
+    (remove m.connections found.place)
+    (All-others HaveOwnAddresses own_addresses-turned entry m.connections found.place found.stands h.addresses))
+
+pub crossed-sound : (addr : Addr) (m : Machine) (entry : Entry) → IsSound m → counted_in m < m.settings.hard →
+    FoundIn (λ e. is_live_at addr e.facts) m.connections entry → StaysSound m (crossed addr entry m).machine
+crossed-sound addr m entry h room found = cond_both (address_below addr m.settings.own)
+    (then_do (ending Overwritten entry m) (admitted addr)) (turned_away Crossed m) (λ effect. StaysSound m effect.machine)
+    (λ below.
+    let n : Machine = (ending Overwritten entry m).machine in
+    let ends : Lowers (late_of m.now entry) m n = ending-lowers Overwritten m entry found.place h.orderly found.stands in
+    let hard : n.settings.hard ≡ m.settings.hard = ap (λ s. s.hard) ends.settings in
+    let none : late_in m ≡ 0 = ahead-none_late m h.deadlines in
+    let comes : StaysSound n (admitted addr n).machine =
+    admitted-sound addr n ends.orderly (omega arith) (omega arith) (none_live_at-gone addr m entry h.orderly found) in
+    record { sound = comes.sound; settings = comes.settings ∙ ends.settings })
+    (λ above. stays_same m h)
+
+pub accepted_beside-sound : (addr : Addr) (m : Machine) → IsSound m → counted_in m < m.settings.hard →
+    StaysSound m (accepted_beside (live_entry_at addr m) addr m).machine
+accepted_beside-sound addr m h room = by_live (live_entry_at addr m) refl
+  where
+    by_live : (o : Option Entry) → live_entry_at addr m ≡ o → StaysSound m (accepted_beside o addr m).machine
+    by_live None e = admitted-sound addr m h.orderly room (ahead-none_late m h.deadlines) (none_live_at-none addr m e)
+    by_live (Some entry) e = cond_both (is_pending entry.facts) (crossed addr entry m) (turned_away Present m)
+        (λ effect. StaysSound m effect.machine)
+        (λ pending. crossed-sound addr m entry h room (find_some (λ x. is_live_at addr x.facts) m.connections entry e))
+        (λ other. stays_same m h)
+
+-- the gate is shut at the hard limit
+gate-room : (s : Settings) (count : ℕ) → gate_of s count ≢ NoRoom → count < s.hard
+gate-room s count open_now = leb-false s.hard count (false_from_ne_true (nat_le s.hard count)
+    (λ reached. open_now (cond-true (nat_le s.hard count) NoRoom
+    (if nat_lt s.soft (count + 1) then PauseFor (pause_of s (count + 1)) else Free) reached)))
+
+pub accepted_through-sound : (addr : Addr) (m : Machine) → IsSound m →
+    StaysSound m (accepted_through (gate_of m.settings (counted_in m)) addr m).machine
+accepted_through-sound addr m h = by_gate (gate_of m.settings (counted_in m)) refl
+  where
+    room : gate_of m.settings (counted_in m) ≢ NoRoom → StaysSound m (accepted_beside (live_entry_at addr m) addr m).machine
+    room open_now = accepted_beside-sound addr m h (gate-room m.settings (counted_in m) open_now)
+
+    by_gate : (g : Gate) → gate_of m.settings (counted_in m) ≡ g → StaysSound m (accepted_through g addr m).machine
+    by_gate Free e = room (λ shut. cc)
+    by_gate (PauseFor delay) e = room (λ shut. cc)
+    by_gate NoRoom e = stays_same m h
+
+pub peer_connects-sound : (addr : Addr) (m : Machine) → IsSound m → StaysSound m (peer_connects addr m).machine
+peer_connects-sound addr m h = cond_both (same_address addr m.settings.own) (turned_away OwnAddr m)
+    (accepted_through (gate_of m.settings (counted_in m)) addr m) (λ effect. StaysSound m effect.machine)
+    (λ own. stays_same m h) (λ other. accepted_through-sound addr m h)
+
+pub peer_closes-sound : (cid : Cid) (m : Machine) → IsSound m → StaysSound m (peer_closes cid m).machine
+peer_closes-sound cid m h = by_entry (entry_at cid.0 m) refl
+  where
+    by_entry : (o : Option Entry) → entry_at cid.0 m ≡ o → StaysSound m (closed_at o m).machine
+    by_entry None e = stays_same m h
+    by_entry (Some entry) e =
+        let found : FoundIn (λ x. has_id cid.0 x.facts) m.connections entry =
+        find_some (λ x. has_id cid.0 x.facts) m.connections entry e in
+        cond_both (is_live entry.facts) (vanishes entry m) (nothing_more m) (λ effect. StaysSound m effect.machine)
+        (λ live.
+        let goes : Lowers 0 m (vanishes entry m).machine =
+        vanishes-lowers m entry found.place h.orderly found.stands in
+        record { sound = lowered-sound 0 m (vanishes entry m).machine h goes; settings = goes.settings })
+        (λ closed. stays_same m h)
+
+-- each event
+pub step-stays_sound : (m : Machine) (event : Event) → IsSound m → StaysSound m (step m event).machine
+step-stays_sound m (Now t) h = clock_shows-sound t m h
+step-stays_sound m (Govern word) h = stays_same m h
+step-stays_sound m (Accepted addr) h = peer_connects-sound addr m h
+step-stays_sound m (Dialed cid open_now) h = stays_same m h
+step-stays_sound m (Bytes cid bytes) h = stays_same m h
+step-stays_sound m (Closed cid) h = peer_closes-sound cid m h
+step-stays_sound m (Aims targets) h = stays_same m h
+step-stays_sound m (Locals groups) h = stays_same m h
+step-stays_sound m (Roots job answer) h = stays_same m h
+step-stays_sound m (BigAims targets) h = stays_same m h
+step-stays_sound m (Bigs addresses) h = stays_same m h
+
+pub step-sound : (m : Machine) (event : Event) → IsSound m → IsSound (step m event).machine
+step-sound m event h = (step-stays_sound m event h).sound
+
+pub step-settings : (m : Machine) (event : Event) → IsSound m → (step m event).machine.settings ≡ m.settings
+step-settings m event h = (step-stays_sound m event h).settings

@@ -1,0 +1,270 @@
+-- The deadlines that are due fire, and none is left.
+use Rattle.std.proofs.Common.{ℕ, zero, suc, ◌≤◌, ◌≡◌, ◌≢◌, true, cond, List, [], ◌∷◌, ◌++◌, length, get_or, map, filter, flat_map, count_by, Option, Some, None, All, Contains, ◌==◌, if◌then◌else◌, refl, sym, ap, ◌∙◌, subst, ⊎_elim, arith, eq-eqb}
+use Rattle.std.proofs.lemmas.Bool.{cond_both}
+use Rattle.std.proofs.lemmas.List.{nil_from_length}
+use Rattle.std.proofs.lemmas.List.Elements.{All-nil, All-cons, All-append, All-map, All-filter, All-contains, All-contains_itself, filter_passes, Contains-append_cases, Contains-append_right}
+use Rattle.std.proofs.lemmas.List.Sums.{length-filter, get_or-le-sum_by, count_by-le-length}
+use Rattle.net_base.specs.declared.connection.Cid.{Cid}
+use Rattle.net_base.specs.declared.connection.Grace.{Grace}
+use Rattle.net_base.specs.declared.connection.Grace.TheVariants.{Off, ForRemote, ForLocal}
+use Rattle.net_base.specs.declared.connection.Phase.{Phase}
+use Rattle.net_base.specs.declared.connection.Phase.TheVariants.{Dialing, Greeting, Negotiated, Closing}
+use Rattle.net_base.specs.declared.action.CloseCause.TheVariants.{Fault}
+use Rattle.net_base.specs.declared.action.FaultKind.TheVariants.{HandshakeWait, ReplyWait}
+use Rattle.net_base.specs.declared.timer.Deadline.{Deadline}
+use Rattle.net_base.specs.declared.timer.Kind.{Kind}
+use Rattle.net_base.specs.declared.timer.Kind.TheVariants.{Handshake, Grace as GraceKind, TimeWait, Reply2, Reply8, Reply10}
+use Rattle.net_base.specs.Timer.{deadline_before}
+use Rattle.conn_state.specs.Use.{has_id}
+use Rattle.machine.specs.Machine.{Machine, Entry, entry_at}
+use Rattle.machine.specs.Deadlines.{deadlines, deadlines_of, deadline, phase_deadlines, grace_deadlines, reply_kind, reply_deadline, earlier, least, due, fires_as, fires_on, fires, fires_some, fire_due, fire_all}
+use Rattle.laws.specs.Sound.{IsOrderly}
+use Rattle.laws.proofs.Lists.{StandsAt, stands_next, FoundIn, find_some, find_only}
+use Rattle.laws.proofs.Entries.{one_has_id}
+use Rattle.laws.proofs.Counts.{is_late, late_of, late_in, grace_late_of}
+use Rattle.laws.proofs.Moves.{Lowers, lowers_nothing, lowers_then, lowers_less, ending-lowers, grace_over-lowers, wait_over-lowers}
+
+-- how many late deadlines of a connection are gone once one of a kind has fired
+abbrev pub fired_of : Kind → ℕ → Entry → ℕ
+fired_of Handshake = late_of
+fired_of GraceKind = grace_late_of
+fired_of TimeWait = late_of
+fired_of Reply2 = late_of
+fired_of Reply8 = late_of
+fired_of Reply10 = late_of
+
+pub fires_as-lowers : (kind : Kind) (m : Machine) (e : Entry) (k : ℕ) → IsOrderly m → StandsAt m.connections k e →
+    Lowers (fired_of kind m.now e) m (fires_as kind e m).machine
+fires_as-lowers Handshake = ending-lowers (Fault HandshakeWait)
+fires_as-lowers GraceKind = grace_over-lowers
+fires_as-lowers TimeWait = wait_over-lowers
+fires_as-lowers Reply2 = ending-lowers (Fault ReplyWait)
+fires_as-lowers Reply8 = ending-lowers (Fault ReplyWait)
+fires_as-lowers Reply10 = ending-lowers (Fault ReplyWait)
+
+-- whatever deadline fires
+pub fires-lowers : (d : Deadline) (m : Machine) → IsOrderly m → Lowers 0 m (fires d m).machine
+fires-lowers d m h = by_entry (entry_at d.cid.0 m) refl
+  where
+    by_entry : (o : Option Entry) → entry_at d.cid.0 m ≡ o → Lowers 0 m (fires_on o d.kind m).machine
+    by_entry None e = lowers_nothing m h
+    by_entry (Some entry) e =
+        let found : FoundIn (λ x. has_id d.cid.0 x.facts) m.connections entry =
+        find_some (λ x. has_id d.cid.0 x.facts) m.connections entry e in
+        lowers_less 0 (fired_of d.kind m.now entry) m (fires_as d.kind entry m).machine (omega arith)
+        (fires_as-lowers d.kind m entry found.place h found.stands)
+
+pub fire_due-lowers : (n : ℕ) (m : Machine) → IsOrderly m → Lowers 0 m (fire_due n m).machine
+unfolding fire_due
+fire_due-lowers zero m h = lowers_nothing m h
+fire_due-lowers (suc n) m h = by_due (due m) (fire_due-lowers n)
+  where
+    by_due : (o : Option Deadline) → ((w : Machine) → IsOrderly w → Lowers 0 w (fire_due n w).machine) →
+        Lowers 0 m (fires_some o (fire_due n) m).machine
+    by_due None later = lowers_nothing m h
+    by_due (Some d) later =
+        let first : Lowers 0 m (fires d m).machine = fires-lowers d m h in
+        lowers_then 0 0 m (fires d m).machine (fire_due n (fires d m).machine).machine first
+        (later (fires d m).machine first.orderly)
+
+-- The deadline that fires is one of the record, and late.
+
+pub contains_first : {X : Type 0} (x : X) (xs : List X) → Contains (x ∷ xs) x
+contains_first x xs = (0, omega arith, refl)
+
+least-contains : (ds : List Deadline) (d : Deadline) → least ds ≡ Some d → Contains ds d
+least-contains [] d e = absurd cc
+least-contains (x ∷ xs) d e = by_least (least xs) (least-contains xs) e
+  where
+    in_tail : (y : Deadline) → Contains xs y → Contains (x ∷ xs) y
+    in_tail y c = Contains-append_right (x ∷ []) xs y c
+
+    by_least : (o : Option Deadline) → ((y : Deadline) → o ≡ Some y → Contains xs y) → Some (earlier x o) ≡ Some d →
+        Contains (x ∷ xs) d
+    by_least None later same = subst (Contains (x ∷ xs)) (let is : x ≡ d = cc in is) (contains_first x xs)
+    by_least (Some y) later same =
+        let is : earlier x (Some y) ≡ d = cc in
+        subst (Contains (x ∷ xs)) is
+        (cond_both (deadline_before y x) y x (Contains (x ∷ xs)) (λ before. in_tail y (later y refl))
+        (λ after. contains_first x xs))
+
+least-none : (ds : List Deadline) → least ds ≡ None → ds ≡ []
+least-none [] e = refl
+least-none (x ∷ xs) e = absurd cc
+
+-- a deadline that one of the connections has
+record Has (es : List Entry) (d : Deadline) : Type 0 where
+  owner : Entry
+  place : ℕ
+  stands : StandsAt es place owner
+  among : Contains (deadlines_of owner) d
+
+has-contains : (es : List Entry) (d : Deadline) → Contains (flat_map deadlines_of es) d → Has es d
+has-contains [] d c = absurd (omega (arith, c.1))
+has-contains (e ∷ es) d c =
+    ⊎_elim in_first (λ later. in_rest (has-contains es d later))
+    (Contains-append_cases (deadlines_of e) (flat_map deadlines_of es) d c)
+  where
+    in_first : Contains (deadlines_of e) d → Has (e ∷ es) d
+    in_first among = record { owner = e; place = 0; stands = record { inside = omega arith; is = refl }; among = among }
+
+    in_rest : Has es d → Has (e ∷ es) d
+    in_rest h = record {
+      owner = h.owner;
+      place = suc h.place;
+      stands = stands_next e h.owner es h.place h.stands;
+      among = h.among;
+    }
+
+-- what every deadline of a connection has, in each of their three places
+all-deadlines_of : (P : Deadline → Type 0) (e : Entry) → All P (phase_deadlines e.facts.cid e.facts.phase) →
+    All P (grace_deadlines e.facts.cid e.facts.grace) → All (λ owed. P (reply_deadline e.facts.cid owed)) e.owed →
+    All P (deadlines_of e)
+all-deadlines_of P e phase grace owed =
+    let opening = phase_deadlines e.facts.cid e.facts.phase in
+    let unused = grace_deadlines e.facts.cid e.facts.grace in
+    All-append P (opening ++ unused) (map (reply_deadline e.facts.cid) e.owed) (All-append P opening unused phase grace)
+    (All-map P (reply_deadline e.facts.cid) e.owed owed)
+
+all_one : {X : Type 0} (P : X → Type 0) (x : X) → P x → All P (x ∷ [])
+all_one P x h = All-cons P x [] h (All-nil P)
+
+phase-cid : (cid : Cid) (phase : Phase) → All (λ d. d.cid ≡ cid) (phase_deadlines cid phase)
+phase-cid cid Dialing = All-nil (λ d. d.cid ≡ cid)
+phase-cid cid (Greeting until) = all_one (λ d. d.cid ≡ cid) (deadline cid Handshake until) refl
+phase-cid cid Negotiated = All-nil (λ d. d.cid ≡ cid)
+phase-cid cid (Closing until) = all_one (λ d. d.cid ≡ cid) (deadline cid TimeWait until) refl
+
+grace-cid : (cid : Cid) (grace : Grace) → All (λ d. d.cid ≡ cid) (grace_deadlines cid grace)
+grace-cid cid Off = All-nil (λ d. d.cid ≡ cid)
+grace-cid cid (ForRemote until) = all_one (λ d. d.cid ≡ cid) (deadline cid GraceKind until) refl
+grace-cid cid (ForLocal until) = all_one (λ d. d.cid ≡ cid) (deadline cid GraceKind until) refl
+
+pub deadlines_of-cid : (e : Entry) → All (λ d. d.cid ≡ e.facts.cid) (deadlines_of e)
+deadlines_of-cid e = all-deadlines_of (λ d. d.cid ≡ e.facts.cid) e (phase-cid e.facts.cid e.facts.phase)
+    (grace-cid e.facts.cid e.facts.grace) (λ k d inside. refl)
+
+-- Only a grace has a deadline of its kind.
+
+abbrev IsOther : Deadline → Type 0
+IsOther d = d.kind ≢ GraceKind
+
+phase-other : (cid : Cid) (phase : Phase) → All IsOther (phase_deadlines cid phase)
+phase-other cid Dialing = All-nil IsOther
+phase-other cid (Greeting until) = all_one IsOther (deadline cid Handshake until) (λ same. cc)
+phase-other cid Negotiated = All-nil IsOther
+phase-other cid (Closing until) = all_one IsOther (deadline cid TimeWait until) (λ same. cc)
+
+reply-other : (protocol : ℕ) → reply_kind protocol ≢ GraceKind
+reply-other protocol = cond_both (protocol == 2) Reply2 (if protocol == 8 then Reply8 else Reply10)
+    (λ kind. kind ≢ GraceKind) (λ on_2 same. cc)
+    (λ not_2. cond_both (protocol == 8) Reply8 Reply10 (λ kind. kind ≢ GraceKind) (λ on_8 same. cc) (λ not_8 same. cc))
+
+pub grace-among : (e : Entry) (d : Deadline) → Contains (deadlines_of e) d → d.kind ≡ GraceKind →
+    Contains (grace_deadlines e.facts.cid e.facts.grace) d
+grace-among e d c kind =
+    ⊎_elim in_front (λ on_reply. absurd (All-contains IsOther owed d replies on_reply kind))
+    (Contains-append_cases (opening ++ unused) owed d c)
+  where
+    opening : List Deadline
+    opening = phase_deadlines e.facts.cid e.facts.phase
+
+    unused : List Deadline
+    unused = grace_deadlines e.facts.cid e.facts.grace
+
+    owed : List Deadline
+    owed = map (reply_deadline e.facts.cid) e.owed
+
+    replies : All IsOther owed
+    replies = All-map IsOther (reply_deadline e.facts.cid) e.owed (λ k w inside. reply-other (get_or e.owed k w).protocol)
+
+    in_front : Contains (opening ++ unused) d → Contains unused d
+    in_front front = ⊎_elim
+        (λ at_phase. absurd (All-contains IsOther opening d (phase-other e.facts.cid e.facts.phase) at_phase kind))
+        (λ at_grace. at_grace) (Contains-append_cases opening unused d front)
+
+-- a late one among some is counted
+late-counted : (now : ℕ) (ds : List Deadline) (d : Deadline) → Contains ds d → is_late now d ≡ true →
+    1 ≤ count_by (is_late now) ds
+late-counted now ds d c late =
+    let least_sum : cond (is_late now (get_or ds c.0 d)) 1 0 ≤ count_by (is_late now) ds =
+    get_or-le-sum_by (λ x. cond (is_late now x) 1 0) ds c.0 d c.1 in
+    rw (c.2, late) at least_sum
+
+-- a late deadline of a connection is gone once it has fired
+fired_of-positive : (now : ℕ) (e : Entry) (d : Deadline) → Contains (deadlines_of e) d → is_late now d ≡ true →
+    1 ≤ fired_of d.kind now e
+fired_of-positive now e d c late = by_kind d.kind refl
+  where
+    any : 1 ≤ late_of now e
+    any = late-counted now (deadlines_of e) d c late
+
+    by_kind : (kind : Kind) → d.kind ≡ kind → 1 ≤ fired_of kind now e
+    by_kind Handshake is = any
+    by_kind GraceKind is = late-counted now (grace_deadlines e.facts.cid e.facts.grace) d (grace-among e d c is) late
+    by_kind TimeWait is = any
+    by_kind Reply2 is = any
+    by_kind Reply8 is = any
+    by_kind Reply10 is = any
+
+-- the deadline that fires next is late, and stands among those of the record
+due-contains : (m : Machine) (d : Deadline) → due m ≡ Some d → Contains (deadlines m) d × (is_late m.now d ≡ true)
+due-contains m d e =
+    let late : List Deadline = filter (is_late m.now) (deadlines m) in
+    let among : Contains late d = least-contains late d e in (
+      All-contains (Contains (deadlines m)) late d
+          (All-filter (is_late m.now) (Contains (deadlines m)) (deadlines m) (All-contains_itself (deadlines m))) among,
+      All-contains (λ x. is_late m.now x ≡ true) late d (filter_passes (is_late m.now) (deadlines m)) among,
+    )
+
+-- The deadline that fires next leaves fewer that are late.
+pub due-lowers : (m : Machine) (d : Deadline) → IsOrderly m → due m ≡ Some d → Lowers 1 m (fires d m).machine
+due-lowers m d h e =
+    let known = due-contains m d e in
+    let has : Has m.connections d = has-contains m.connections d known.0 in
+    let owner : Entry = has.owner in
+    let id : d.cid ≡ owner.facts.cid =
+    All-contains (λ x. x.cid ≡ owner.facts.cid) (deadlines_of owner) d (deadlines_of-cid owner) has.among in
+    let found : entry_at d.cid.0 m ≡ Some owner =
+    find_only (λ x. has_id d.cid.0 x.facts) owner m.connections has.place
+    (one_has_id d.cid.0 m.connections h.ids_rise) has.stands
+    (eq-eqb owner.facts.cid.0 d.cid.0 (sym (ap (λ cid. cid.0) id))) in
+    subst (λ o. Lowers 1 m (fires_on o d.kind m).machine) (sym found)
+    (lowers_less 1 (fired_of d.kind m.now owner) m (fires_as d.kind owner m).machine
+    (fired_of-positive m.now owner d has.among known.1)
+    (fires_as-lowers d.kind m owner has.place h has.stands))
+
+-- where no deadline is to fire, none is late
+due-none : (m : Machine) → due m ≡ None → late_in m ≡ 0
+due-none m e =
+    let late : List Deadline = filter (is_late m.now) (deadlines m) in
+    sym (length-filter (is_late m.now) (deadlines m)) ∙ ap length (least-none late e)
+
+-- So many may fire as are late, and then none is.
+pub fire_due-all : (n : ℕ) (m : Machine) → IsOrderly m → late_in m ≤ n → late_in (fire_due n m).machine ≡ 0
+unfolding fire_due
+fire_due-all zero m h enough = omega arith
+fire_due-all (suc n) m h enough = by_due (due m) refl (fire_due-all n)
+  where
+    by_due : (o : Option Deadline) → due m ≡ o →
+        ((w : Machine) → IsOrderly w → late_in w ≤ n → late_in (fire_due n w).machine ≡ 0) →
+        late_in (fires_some o (fire_due n) m).machine ≡ 0
+    by_due None e later = due-none m e
+    by_due (Some d) e later =
+        let first : Lowers 1 m (fires d m).machine = due-lowers m d h e in
+        later (fires d m).machine first.orderly (omega arith)
+
+-- The number of deadlines suffices.
+pub fire_all-none_late : (m : Machine) → IsOrderly m → late_in (fire_all m).machine ≡ 0
+fire_all-none_late m h = fire_due-all (length (deadlines m)) m h (count_by-le-length (is_late m.now) (deadlines m))
+
+none_late-none_due : (m : Machine) → late_in m ≡ 0 → due m ≡ None
+none_late-none_due m none =
+    let late : List Deadline = filter (is_late m.now) (deadlines m) in
+    ap least (nil_from_length late (length-filter (is_late m.now) (deadlines m) ∙ none))
+
+pub fire_all-none_due : (m : Machine) → IsOrderly m → due (fire_all m).machine ≡ None
+fire_all-none_due m h = none_late-none_due (fire_all m).machine (fire_all-none_late m h)
+
+pub fire_all-lowers : (m : Machine) → IsOrderly m → Lowers 0 m (fire_all m).machine
+fire_all-lowers m = fire_due-lowers (length (deadlines m)) m

@@ -1,0 +1,9 @@
+pub mod Addresses
+pub mod Counts
+pub mod Entries
+pub mod Events
+pub mod Firing
+pub mod Lists
+pub mod Moves
+pub mod Runs
+pub mod Settings

@@ -1,0 +1,188 @@
+-- One element of a list: what is found, what takes its place, and the list without it.
+use Rattle.std.proofs.Common.{ℕ, zero, suc, ◌+◌, ◌<◌, ◌≤◌, ◌≡◌, Bool, true, false, cond, not, List, [], ◌∷◌, length, map, filter, find, set, remove, get_or, Some, None, All, AllPairs, sum_by, count_by, flat_map, if◌then◌else◌, refl, sym, ap, ◌∙◌, subst, arith}
+use Rattle.std.proofs.lemmas.Bool.{false_from_ne_true, both_ways}
+use Rattle.std.proofs.lemmas.List.Elements.{All-head, All-tail, All-cons, All-nil, All-set, All-weaker}
+use Rattle.std.proofs.lemmas.List.Kept.{AllPairs-cons}
+use Rattle.std.proofs.lemmas.List.Sums.{sum_by-cons, sum_by-append, sum_by-set, sum_by-remove, get_or-le-sum_by}
+
+pub AllPairs-tail : {X : Type 0} (R : X → X → Type 0) (x : X) (xs : List X) → AllPairs R (x ∷ xs) → AllPairs R xs
+AllPairs-tail R x xs h i j d l k = h (suc i) (suc j) d (omega arith) (omega arith)
+
+pub AllPairs-head : {X : Type 0} (R : X → X → Type 0) (x : X) (xs : List X) → AllPairs R (x ∷ xs) → All (R x) xs
+AllPairs-head R x xs h k d l = h 0 (suc k) d (omega arith) (omega arith)
+
+-- x stands at the place k
+pub record StandsAt {X : Type 0} (xs : List X) (k : ℕ) (x : X) : Type 0 where
+  pub inside : k < length xs
+  pub is : get_or xs k x ≡ x
+
+pub stands_next : {X : Type 0} (y x : X) (ys : List X) (k : ℕ) → StandsAt ys k x → StandsAt (y ∷ ys) (suc k) x
+stands_next y x ys k s = record { inside = omega arith; is = s.is }
+
+pub stands_before : {X : Type 0} (y x : X) (ys : List X) (k : ℕ) → StandsAt (y ∷ ys) (suc k) x → StandsAt ys k x
+stands_before y x ys k s = record { inside = omega arith; is = s.is }
+
+-- what holds of each element holds of one that stands
+pub All-stands : {X : Type 0} (P : X → Type 0) (xs : List X) (k : ℕ) (x : X) → StandsAt xs k x → All P xs → P x
+All-stands P xs k x s h = subst P s.is (h k x s.inside)
+
+-- at most one element passes
+abbrev pub OnePasses : {X : Type 0} → (X → Bool) → List X → Type 0
+OnePasses p xs = AllPairs (λ x y. p x ≡ true → p y ≡ false) xs
+
+pub OnePasses-none_after : {X : Type 0} (p : X → Bool) (x : X) (xs : List X) → OnePasses p (x ∷ xs) → p x ≡ true →
+    All (λ y. p y ≡ false) xs
+OnePasses-none_after p x xs one here k d l =
+    AllPairs-head (λ x y. p x ≡ true → p y ≡ false) x xs one k d l here
+
+pub OnePasses-not_before : {X : Type 0} (p : X → Bool) (y x : X) (ys : List X) (k : ℕ) → OnePasses p (y ∷ ys) →
+    StandsAt ys k x → p x ≡ true → p y ≡ false
+OnePasses-not_before p y x ys k one s passes = false_from_ne_true (p y)
+    (λ here. both_ways (p x) (All-stands (λ z. p z ≡ false) ys k x s (OnePasses-none_after p y ys one here)) passes)
+
+pub OnePasses-tail : {X : Type 0} (p : X → Bool) (x : X) (xs : List X) → OnePasses p (x ∷ xs) → OnePasses p xs
+OnePasses-tail p = AllPairs-tail (λ x y. p x ≡ true → p y ≡ false)
+
+-- each element that passes gives way to a new one
+abbrev pub replaced : {X : Type 0} → (X → Bool) → X → List X → List X
+replaced p new xs = map (λ x. if p x then new else x) xs
+
+abbrev pub without : {X : Type 0} → (X → Bool) → List X → List X
+without p xs = filter (λ x. not (p x)) xs
+
+pub replaced_none : {X : Type 0} (p : X → Bool) (new : X) (xs : List X) → All (λ x. p x ≡ false) xs →
+    replaced p new xs ≡ xs
+replaced_none p new [] h = refl
+replaced_none p new (x ∷ xs) h =
+    let here : p x ≡ false = All-head (λ x. p x ≡ false) x xs h in
+    rw here (ap (λ ys. x ∷ ys) (replaced_none p new xs (All-tail (λ x. p x ≡ false) x xs h)))
+
+pub without_none : {X : Type 0} (p : X → Bool) (xs : List X) → All (λ x. p x ≡ false) xs → without p xs ≡ xs
+without_none p [] h = refl
+without_none p (x ∷ xs) h =
+    let here : p x ≡ false = All-head (λ x. p x ≡ false) x xs h in
+    rw here (ap (λ ys. x ∷ ys) (without_none p xs (All-tail (λ x. p x ≡ false) x xs h)))
+
+pub replaced_at : {X : Type 0} (p : X → Bool) (new x : X) (xs : List X) (k : ℕ) → OnePasses p xs → StandsAt xs k x →
+    p x ≡ true → replaced p new xs ≡ set xs k new
+replaced_at p new x [] k one s passes = absurd (omega (arith, s.inside))
+replaced_at p new x (y ∷ ys) zero one s passes =
+    let here : p y ≡ true = ap p s.is ∙ passes in
+    rw here (ap (λ zs. new ∷ zs) (replaced_none p new ys (OnePasses-none_after p y ys one here)))
+replaced_at p new x (y ∷ ys) (suc k) one s passes =
+    let rest : StandsAt ys k x = stands_before y x ys k s in
+    let other : p y ≡ false = OnePasses-not_before p y x ys k one rest passes in
+    rw other (ap (λ zs. y ∷ zs) (replaced_at p new x ys k (OnePasses-tail p y ys one) rest passes))
+
+pub without_at : {X : Type 0} (p : X → Bool) (x : X) (xs : List X) (k : ℕ) → OnePasses p xs → StandsAt xs k x →
+    p x ≡ true → without p xs ≡ remove xs k
+without_at p x [] k one s passes = absurd (omega (arith, s.inside))
+without_at p x (y ∷ ys) zero one s passes =
+    let here : p y ≡ true = ap p s.is ∙ passes in
+    rw here (without_none p ys (OnePasses-none_after p y ys one here))
+without_at p x (y ∷ ys) (suc k) one s passes =
+    let rest : StandsAt ys k x = stands_before y x ys k s in
+    let other : p y ≡ false = OnePasses-not_before p y x ys k one rest passes in
+    rw other (ap (λ zs. y ∷ zs) (without_at p x ys k (OnePasses-tail p y ys one) rest passes))
+
+-- what a search finds stands in the list, and passes
+pub record FoundIn {X : Type 0} (p : X → Bool) (xs : List X) (x : X) : Type 0 where
+  pub place : ℕ
+  pub stands : StandsAt xs place x
+  pub passes : p x ≡ true
+
+pub find_some : {X : Type 0} (p : X → Bool) (xs : List X) (x : X) → find p xs ≡ Some x → FoundIn p xs x
+find_some p [] x e = absurd cc
+find_some {X} p (y ∷ ys) x e = at_head (p y) refl (find_some p ys x) e
+  where
+    at_head : (b : Bool) → p y ≡ b → (find p ys ≡ Some x → FoundIn p ys x) → cond b (Some y) (find p ys) ≡ Some x →
+        FoundIn p (y ∷ ys) x
+    at_head true here later e =
+        let same : y ≡ x = cc in
+        record { place = 0; stands = record { inside = omega arith; is = same }; passes = ap p (sym same) ∙ here }
+    at_head false here later e =
+        let found : FoundIn p ys x = later e in
+        record { place = suc found.place; stands = stands_next y x ys found.place found.stands; passes = found.passes }
+
+pub find_none : {X : Type 0} (p : X → Bool) (xs : List X) → find p xs ≡ None → All (λ x. p x ≡ false) xs
+find_none p [] e = All-nil (λ x. p x ≡ false)
+find_none p (y ∷ ys) e = at_head (p y) refl (find_none p ys) e
+  where
+    at_head : (b : Bool) → p y ≡ b → (find p ys ≡ None → All (λ x. p x ≡ false) ys) → cond b (Some y) (find p ys) ≡ None →
+        All (λ x. p x ≡ false) (y ∷ ys)
+    at_head true here later e = absurd cc
+    at_head false here later e = All-cons (λ x. p x ≡ false) y ys here (later e)
+
+pub find_only : {X : Type 0} (p : X → Bool) (x : X) (xs : List X) (k : ℕ) → OnePasses p xs → StandsAt xs k x →
+    p x ≡ true → find p xs ≡ Some x
+find_only p x [] k one s passes = absurd (omega (arith, s.inside))
+find_only p x (y ∷ ys) zero one s passes = rw (ap p s.is ∙ passes) (ap Some s.is)
+find_only p x (y ∷ ys) (suc k) one s passes =
+    let rest : StandsAt ys k x = stands_before y x ys k s in
+    let other : p y ≡ false = OnePasses-not_before p y x ys k one rest passes in
+    rw other (find_only p x ys k (OnePasses-tail p y ys one) rest passes)
+
+-- An element gives way to one that stands to each other as it did.
+pub AllPairs-set : {X : Type 0} (R : X → X → Type 0) (new x : X) (xs : List X) (k : ℕ) → StandsAt xs k x →
+    ((y : X) → R y x → R y new) → ((y : X) → R x y → R new y) → AllPairs R xs → AllPairs R (set xs k new)
+AllPairs-set R new x [] k s before after h = absurd (omega (arith, s.inside))
+AllPairs-set R new x (y ∷ ys) zero s before after h =
+    let heads : All (R x) ys = subst (λ z. All (R z) ys) s.is (AllPairs-head R y ys h) in
+    AllPairs-cons R new ys (All-weaker (R x) (R new) after ys heads) (AllPairs-tail R y ys h)
+AllPairs-set R new x (y ∷ ys) (suc k) s before after h =
+    let rest : StandsAt ys k x = stands_before y x ys k s in
+    let heads : All (R y) ys = AllPairs-head R y ys h in
+    AllPairs-cons R y (set ys k new) (All-set (R y) ys k new (before y (All-stands (R y) ys k x rest heads)) heads)
+    (AllPairs-set R new x ys k rest before after (AllPairs-tail R y ys h))
+
+-- how one element stands to all others
+pub All-others : {X : Type 0} (R : X → X → Type 0) → ((y z : X) → R y z → R z y) → (x : X) (xs : List X) (k : ℕ) →
+    StandsAt xs k x → AllPairs R xs → All (R x) (remove xs k)
+All-others R turned x [] k s h = absurd (omega (arith, s.inside))
+All-others R turned x (y ∷ ys) zero s h = subst (λ z. All (R z) ys) s.is (AllPairs-head R y ys h)
+All-others R turned x (y ∷ ys) (suc k) s h =
+    let rest : StandsAt ys k x = stands_before y x ys k s in
+    All-cons (R x) y (remove ys k) (turned y x (All-stands (R y) ys k x rest (AllPairs-head R y ys h)))
+    (All-others R turned x ys k rest (AllPairs-tail R y ys h))
+
+-- sums over a list of which one element has changed or gone
+pub sum_by-replaced : {X : Type 0} (f : X → ℕ) (p : X → Bool) (new x : X) (xs : List X) (k : ℕ) → OnePasses p xs →
+    StandsAt xs k x → p x ≡ true → sum_by f (replaced p new xs) + f x ≡ sum_by f xs + f new
+sum_by-replaced f p new x xs k one s passes =
+    let changed : sum_by f (set xs k new) + f (get_or xs k x) ≡ sum_by f xs + f new =
+    sum_by-set f xs k new x s.inside in
+    rw (replaced_at p new x xs k one s passes) (rw s.is at changed)
+
+pub sum_by-without : {X : Type 0} (f : X → ℕ) (p : X → Bool) (x : X) (xs : List X) (k : ℕ) → OnePasses p xs →
+    StandsAt xs k x → p x ≡ true → sum_by f (without p xs) + f x ≡ sum_by f xs
+sum_by-without f p x xs k one s passes =
+    let gone : sum_by f (remove xs k) + f (get_or xs k x) ≡ sum_by f xs = sum_by-remove f xs k x s.inside in
+    rw (without_at p x xs k one s passes) (rw s.is at gone)
+
+pub sum_by-map : {X Y : Type 0} (f : Y → ℕ) (g : X → Y) (xs : List X) →
+    sum_by f (map g xs) ≡ sum_by (λ x. f (g x)) xs
+sum_by-map f g [] = refl
+sum_by-map f g (x ∷ xs) =
+    sum_by-cons f (g x) (map g xs) ∙ (ap (λ n. f (g x) + n) (sum_by-map f g xs) ∙ sym (sum_by-cons (λ y. f (g y)) x xs))
+
+pub sum_by-flat_map : {X Y : Type 0} (f : Y → ℕ) (g : X → List Y) (xs : List X) →
+    sum_by f (flat_map g xs) ≡ sum_by (λ x. sum_by f (g x)) xs
+sum_by-flat_map f g [] = refl
+sum_by-flat_map f g (x ∷ xs) =
+    sum_by-append f (g x) (flat_map g xs)
+    ∙ (ap (λ n. sum_by f (g x) + n) (sum_by-flat_map f g xs) ∙ sym (sum_by-cons (λ y. sum_by f (g y)) x xs))
+
+-- none is counted exactly where each one fails
+pub count_by-none : {X : Type 0} (p : X → Bool) (xs : List X) → count_by p xs ≡ 0 → All (λ x. p x ≡ false) xs
+count_by-none p xs none k d inside = false_from_ne_true (p (get_or xs k d)) (λ passes.
+    let one : cond (p (get_or xs k d)) 1 0 ≤ count_by p xs = get_or-le-sum_by (λ x. cond (p x) 1 0) xs k d inside in
+    let one_at_least : 1 ≤ count_by p xs = rw passes at one in
+    omega arith)
+
+pub count_by-all_fail : {X : Type 0} (p : X → Bool) (xs : List X) → All (λ x. p x ≡ false) xs → count_by p xs ≡ 0
+count_by-all_fail p [] h = refl
+count_by-all_fail p (x ∷ xs) h =
+    let here : p x ≡ false = All-head (λ y. p y ≡ false) x xs h in
+    let first : cond {A = ℕ} (p x) 1 0 ≡ 0 = rw here refl in
+    let rest : count_by p xs ≡ 0 = count_by-all_fail p xs (All-tail (λ y. p y ≡ false) x xs h) in
+    omega (arith, sum_by-cons (λ y. cond (p y) 1 0) x xs)

@@ -1,0 +1,176 @@
+-- A part of a step in which no connection comes.
+use Rattle.std.proofs.Common.{ℕ, ◌+◌, ◌≤◌, ◌≡◌, cond, [], ◌∷◌, sum_by, Option, Some, None, refl, ap, ◌∙◌, arith}
+use Rattle.std.proofs.lemmas.Bool.{cond_both, false≢true}
+use Rattle.net_base.specs.declared.action.Action.TheVariants.{Close}
+use Rattle.net_base.specs.declared.action.CloseCause.{CloseCause}
+use Rattle.net_base.specs.declared.action.CloseCause.TheVariants.{Unused, Pruned, Overwritten, Refused, Query, Fault}
+use Rattle.net_base.specs.declared.connection.Facts.{Facts}
+use Rattle.net_base.specs.declared.peer.Peer.{Peer}
+use Rattle.net_base.specs.Peer.{failed_peer}
+use Rattle.conn_state.specs.Moves.{expired}
+use Rattle.machine.specs.Machine.{Machine, Entry, counted_in}
+use Rattle.machine.specs.Effect.{nothing_more, then_do, tells, as_move, unused}
+use Rattle.machine.specs.Peers.{with_peer, fails_at, peer_fails, peer_at}
+use Rattle.machine.specs.Connections.{with_entry, without_entry, entry_turns, is_missed, lost, lost_by, ending, vanishes, closing_entry, grace_over, wait_over}
+use Rattle.laws.specs.Sound.{IsOrderly}
+use Rattle.laws.proofs.Lists.{StandsAt}
+use Rattle.laws.proofs.Entries.{TurnsInto, turned-orderly, turned-sum, gone-orderly, gone-sum}
+use Rattle.laws.proofs.Counts.{counted_of, counted_in-sum, late_of, late_in, late_in-sum, grace_late_of, late-expired, late-closing, counted-expired, counted-closing}
+use Rattle.laws.proofs.Settings.{timewait-positive}
+
+-- From one record to another: what holds at every moment still holds, no more connections are counted, and so many
+-- late deadlines are gone.
+pub record Lowers (gone : ℕ) (before after : Machine) : Type 0 where
+  pub orderly : IsOrderly after
+  pub settings : after.settings ≡ before.settings
+  pub now : after.now ≡ before.now
+  pub counted : counted_in after ≤ counted_in before
+  pub late : late_in after + gone ≤ late_in before
+
+pub lowers_nothing : (m : Machine) → IsOrderly m → Lowers 0 m m
+lowers_nothing m h = record {
+  orderly = h;
+  settings = refl;
+  now = refl;
+  counted = omega arith;
+  late = omega arith;
+}
+
+-- one part after another
+pub lowers_then : (i j : ℕ) (m n o : Machine) → Lowers i m n → Lowers j n o → Lowers (i + j) m o
+lowers_then i j m n o first second = record {
+  orderly = second.orderly;
+  settings = second.settings ∙ first.settings;
+  now = second.now ∙ first.now;
+  counted = omega arith;
+  late = omega arith;
+}
+
+pub lowers_less : (i j : ℕ) (m n : Machine) → i ≤ j → Lowers j m n → Lowers i m n
+lowers_less i j m n le h = record {
+  orderly = h.orderly;
+  settings = h.settings;
+  now = h.now;
+  counted = h.counted;
+  late = omega arith;
+}
+
+-- a connection goes
+pub goes-lowers : (m : Machine) (e : Entry) (k : ℕ) → IsOrderly m → StandsAt m.connections k e →
+    Lowers (late_of m.now e) m (without_entry e.facts.cid.0 m)
+goes-lowers m e k h s =
+    let n : Machine = without_entry e.facts.cid.0 m in
+    let counts : sum_by counted_of n.connections + counted_of e ≡ sum_by counted_of m.connections =
+    gone-sum counted_of m e k h s in
+    let lates : sum_by (late_of m.now) n.connections + late_of m.now e ≡ sum_by (late_of m.now) m.connections =
+    gone-sum (late_of m.now) m e k h s in
+    let counted_before : counted_in m ≡ sum_by counted_of m.connections = counted_in-sum m in
+    let counted_after : counted_in n ≡ sum_by counted_of n.connections = counted_in-sum n in
+    let late_before : late_in m ≡ sum_by (late_of m.now) m.connections = late_in-sum m in
+    let late_after : late_in n ≡ sum_by (late_of m.now) n.connections = late_in-sum n in
+    record {
+      orderly = gone-orderly m e.facts.cid.0 h;
+      settings = refl;
+      now = refl;
+      counted = omega arith;
+      late = omega arith;
+    }
+
+-- a connection turns into one that isn't counted where it wasn't, and has fewer late deadlines
+pub turns-lowers : (gone : ℕ) (m : Machine) (old new : Entry) (k : ℕ) → IsOrderly m → StandsAt m.connections k old →
+    TurnsInto old new → counted_of new ≤ counted_of old → late_of m.now new + gone ≤ late_of m.now old →
+    Lowers gone m (with_entry new m)
+turns-lowers gone m old new k h s t fewer earlier =
+    let n : Machine = with_entry new m in
+    let counts : sum_by counted_of n.connections + counted_of old ≡ sum_by counted_of m.connections + counted_of new =
+    turned-sum counted_of m old new k h s t in
+    let lates : sum_by (late_of m.now) n.connections + late_of m.now old
+    ≡ sum_by (late_of m.now) m.connections + late_of m.now new =
+    turned-sum (late_of m.now) m old new k h s t in
+    let counted_before : counted_in m ≡ sum_by counted_of m.connections = counted_in-sum m in
+    let counted_after : counted_in n ≡ sum_by counted_of n.connections = counted_in-sum n in
+    let late_before : late_in m ≡ sum_by (late_of m.now) m.connections = late_in-sum m in
+    let late_after : late_in n ≡ sum_by (late_of m.now) n.connections = late_in-sum n in
+    record {
+      orderly = turned-orderly m old new k h s t;
+      settings = refl;
+      now = refl;
+      counted = omega arith;
+      late = omega arith;
+    }
+
+-- the book is no matter of the connections
+pub with_peer-lowers : (m : Machine) (p : Peer) → IsOrderly m → Lowers 0 m (with_peer p m)
+with_peer-lowers m p h = record {
+  orderly = record {
+    settings = h.settings;
+    next_id = h.next_id;
+    ids_given = h.ids_given;
+    ids_rise = h.ids_rise;
+    addresses = h.addresses;
+  };
+  settings = refl;
+  now = refl;
+  counted = omega arith;
+  late = omega arith;
+}
+
+fails_at-lowers : (o : Option Peer) (m : Machine) → IsOrderly m → Lowers 0 m (fails_at o m).machine
+fails_at-lowers None m h = lowers_nothing m h
+fails_at-lowers (Some p) m h = with_peer-lowers m (failed_peer m.now m.settings.backoff p) h
+
+pub lost-lowers : (f : Facts) (m : Machine) → IsOrderly m → Lowers 0 m (lost f m).machine
+lost-lowers f m h = cond_both (is_missed f) (peer_fails f.addr m) (nothing_more m) (λ effect. Lowers 0 m effect.machine)
+    (λ missed. fails_at-lowers (peer_at f.addr m) m h) (λ other. lowers_nothing m h)
+
+lost_by-lowers : (cause : CloseCause) (f : Facts) (m : Machine) → IsOrderly m → Lowers 0 m (lost_by cause f m).machine
+lost_by-lowers Unused f m h = lost-lowers f m h
+lost_by-lowers Pruned f m h = lost-lowers f m h
+lost_by-lowers Overwritten f m h = lowers_nothing m h
+lost_by-lowers Refused f m h = lost-lowers f m h
+lost_by-lowers Query f m h = lost-lowers f m h
+lost_by-lowers (Fault kind) f m h = lost-lowers f m h
+
+pub ending-lowers : (cause : CloseCause) (m : Machine) (e : Entry) (k : ℕ) → IsOrderly m → StandsAt m.connections k e →
+    Lowers (late_of m.now e) m (ending cause e m).machine
+ending-lowers cause m e k h s =
+    let n : Machine = without_entry e.facts.cid.0 m in
+    let goes : Lowers (late_of m.now e) m n = goes-lowers m e k h s in
+    let after : Lowers 0 n (lost_by cause e.facts n).machine = lost_by-lowers cause e.facts n goes.orderly in
+    lowers_less (late_of m.now e) (late_of m.now e + 0) m (lost_by cause e.facts n).machine (omega arith)
+    (lowers_then (late_of m.now e) 0 m n (lost_by cause e.facts n).machine goes after)
+
+pub vanishes-lowers : (m : Machine) (e : Entry) (k : ℕ) → IsOrderly m → StandsAt m.connections k e →
+    Lowers 0 m (vanishes e m).machine
+vanishes-lowers m e k h s =
+    let n : Machine = without_entry e.facts.cid.0 m in
+    let goes : Lowers (late_of m.now e) m n = goes-lowers m e k h s in
+    let after : Lowers 0 n (lost e.facts n).machine = lost-lowers e.facts n goes.orderly in
+    lowers_less 0 (late_of m.now e + 0) m (lost e.facts n).machine (omega arith)
+    (lowers_then (late_of m.now e) 0 m n (lost e.facts n).machine goes after)
+
+expired-turns : (e : Entry) → TurnsInto e (record e { facts = expired e.facts })
+expired-turns e = record { same_id = refl; same_addr = refl; live = λ live. live }
+
+closing-turns : (m : Machine) (e : Entry) → TurnsInto e (closing_entry m e)
+closing-turns m e = record { same_id = refl; same_addr = refl; live = λ live. absurd (false≢true live) }
+
+pub grace_over-lowers : (m : Machine) (e : Entry) (k : ℕ) → IsOrderly m → StandsAt m.connections k e →
+    Lowers (grace_late_of m.now e) m (grace_over e m).machine
+grace_over-lowers m e k h s = cond_both e.facts.local
+    (entry_turns e (record e { facts = expired e.facts }) m)
+    (as_move (unused e.facts.cid.0) m
+    (then_do (tells (Close e.facts.cid Unused ∷ []) m) (entry_turns e (closing_entry m e))))
+    (λ effect. Lowers (grace_late_of m.now e) m effect.machine)
+    (λ in_use. turns-lowers (grace_late_of m.now e) m e (record e { facts = expired e.facts }) k h s (expired-turns e)
+    (let same : counted_of (record e { facts = expired e.facts }) ≡ counted_of e =
+    ap (λ b. cond b 1 0) (counted-expired e.facts in_use) in omega arith)
+    (omega (arith, late-expired m.now e)))
+    (λ idle. turns-lowers (grace_late_of m.now e) m e (closing_entry m e) k h s (closing-turns m e)
+    (let none : counted_of (closing_entry m e) ≡ 0 =
+    ap (λ b. cond b 1 0) (counted-closing (m.now + m.settings.timewait) e.facts) in omega arith)
+    (late-closing m e (timewait-positive m.settings h.settings)))
+
+pub wait_over-lowers : (m : Machine) (e : Entry) (k : ℕ) → IsOrderly m → StandsAt m.connections k e →
+    Lowers (late_of m.now e) m (wait_over e m).machine
+wait_over-lowers = goes-lowers

@@ -1,0 +1,8 @@
+//! What holds in every record that a run of the machine reaches.
+//!
+//! The functions do nothing. Each carries a law as its contract, and the law is proved.
+#![tactic(auto)]
+
+mod laws;
+
+pub use laws::{all_due_fires, laws_of_runs, sound_kept};
