@@ -7,14 +7,14 @@ use Rattle.std.specs.Prelude.{not}
 use Rattle.conn_state.specs.Use.{has_id, is_live}
 use Rattle.machine.specs.Machine.{Machine, Entry}
 use Rattle.machine.specs.Connections.{with_entry, without_entry}
-use Rattle.laws.specs.Laws.{HaveOwnAddresses}
-use Rattle.laws.specs.Sound.{IsOlder, HasGivenId, IsOrderly}
+use Rattle.laws.specs.Laws.{DifferInAddress}
+use Rattle.laws.specs.Sound.{HasLowerId, HasGivenId, IsOrderly}
 use Rattle.laws.proofs.Lists.{StandsAt, All-stands, OnePasses, AllPairs-set, replaced_at, without_at, sum_by-replaced, sum_by-without}
 
 -- since ids rise, at most one connection has an id
-pub one_has_id : (cid : ℕ) (es : List Entry) → AllPairs IsOlder es → OnePasses (λ e. has_id cid e.facts) es
+pub one_has_id : (cid : ℕ) (es : List Entry) → AllPairs HasLowerId es → OnePasses (λ e. has_id cid e.facts) es
 one_has_id cid es rise i j d before inside here =
-    let older : IsOlder (get_or es i d) (get_or es j d) = rise i j d before inside in
+    let older : HasLowerId (get_or es i d) (get_or es j d) = rise i j d before inside in
     let same : (get_or es i d).facts.cid.0 ≡ cid = eqb-true (get_or es i d).facts.cid.0 cid here in
     ne_eqb (get_or es j d).facts.cid.0 cid (λ other. omega arith)
 
@@ -46,10 +46,10 @@ turned-orderly m old new k h s t =
       next_id = h.next_id;
       ids_given = subst (All (HasGivenId m.next_id)) list
           (All-set (HasGivenId m.next_id) m.connections k new (omega arith) h.ids_given);
-      ids_rise = subst (AllPairs IsOlder) list
-          (AllPairs-set IsOlder new old m.connections k s (λ y older. omega arith) (λ y older. omega arith) h.ids_rise);
-      addresses = subst (AllPairs HaveOwnAddresses) list
-          (AllPairs-set HaveOwnAddresses new old m.connections k s
+      ids_rise = subst (AllPairs HasLowerId) list
+          (AllPairs-set HasLowerId new old m.connections k s (λ y older. omega arith) (λ y older. omega arith) h.ids_rise);
+      addresses = subst (AllPairs DifferInAddress) list
+          (AllPairs-set DifferInAddress new old m.connections k s
           (λ y own y_live new_live same. own y_live (t.live new_live) (same ∙ t.same_addr))
           (λ y own new_live y_live same. own (t.live new_live) y_live (sym t.same_addr ∙ same)) h.addresses);
     }
@@ -70,8 +70,8 @@ gone-orderly m cid h = record {
   settings = h.settings;
   next_id = h.next_id;
   ids_given = All-filter (λ e. not (has_id cid e.facts)) (HasGivenId m.next_id) m.connections h.ids_given;
-  ids_rise = AllPairs-filter IsOlder (λ e. not (has_id cid e.facts)) m.connections h.ids_rise;
-  addresses = AllPairs-filter HaveOwnAddresses (λ e. not (has_id cid e.facts)) m.connections h.addresses;
+  ids_rise = AllPairs-filter HasLowerId (λ e. not (has_id cid e.facts)) m.connections h.ids_rise;
+  addresses = AllPairs-filter DifferInAddress (λ e. not (has_id cid e.facts)) m.connections h.addresses;
 }
 
 pub gone-sum : (f : Entry → ℕ) (m : Machine) (old : Entry) (k : ℕ) → IsOrderly m → StandsAt m.connections k old →
@@ -84,14 +84,14 @@ abbrev pub with_new : Entry → Machine → Machine
 with_new new m = record m { connections = m.connections ++ new ∷ []; next_id = m.next_id + 1 }
 
 pub come-orderly : (m : Machine) (new : Entry) → IsOrderly m → new.facts.cid.0 ≡ m.next_id →
-    All (λ e. HaveOwnAddresses e new) m.connections → IsOrderly (with_new new m)
+    All (λ e. DifferInAddress e new) m.connections → IsOrderly (with_new new m)
 come-orderly m new h id apart = record {
   settings = h.settings;
   next_id = omega (arith, h.next_id);
   ids_given = All-push (HasGivenId (m.next_id + 1)) m.connections new
       (All-weaker (HasGivenId m.next_id) (HasGivenId (m.next_id + 1)) (λ e given. omega arith) m.connections h.ids_given)
       (omega (arith, h.next_id));
-  ids_rise = all_pairs_push IsOlder m.connections new h.ids_rise
+  ids_rise = all_pairs_push HasLowerId m.connections new h.ids_rise
       (λ k d inside. let given : HasGivenId m.next_id (get_or m.connections k d) = h.ids_given k d inside in omega arith);
-  addresses = all_pairs_push HaveOwnAddresses m.connections new h.addresses apart;
+  addresses = all_pairs_push DifferInAddress m.connections new h.addresses apart;
 }

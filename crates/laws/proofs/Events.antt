@@ -21,10 +21,10 @@ use Rattle.machine.specs.Effect.{nothing_more, then_do}
 use Rattle.machine.specs.Connections.{without_entry, ending, vanishes}
 use Rattle.machine.specs.Deadlines.{deadlines, fire_all}
 use Rattle.machine.specs.Events.{clock_shows, turned_away, admitted, crossed, accepted_beside, accepted_through, peer_connects, closed_at, peer_closes, step}
-use Rattle.laws.specs.Laws.{HaveOwnAddresses, WithinHardLimit, DeadlinesAhead}
+use Rattle.laws.specs.Laws.{DifferInAddress, WithinHardLimit, DeadlinesAhead}
 use Rattle.laws.specs.Sound.{IsOrderly, IsSound}
 use Rattle.laws.proofs.Addresses.{same_address-self, same_address-true}
-use Rattle.laws.proofs.Lists.{FoundIn, find_some, find_none, All-others, count_by-none, count_by-all_fail}
+use Rattle.laws.proofs.Lists.{StandsAt, FoundIn, find_some, find_none, All-others, count_by-none, count_by-all_fail}
 use Rattle.laws.proofs.Settings.{handshake-positive}
 use Rattle.laws.proofs.Counts.{is_late, counted_of, counted_in-sum, late_of, late_in, late_in-sum}
 use Rattle.laws.proofs.Entries.{with_new, come-orderly, gone-connections}
@@ -73,7 +73,7 @@ at_moment-orderly t m h = record {
   addresses = h.addresses;
 }
 
--- all that is due at a moment happens
+-- all that is due happens
 pub fire_all-sound : (m : Machine) → IsOrderly m → WithinHardLimit m → StaysSound m (fire_all m).machine
 fire_all-sound m h within =
     let l : Lowers 0 m (fire_all m).machine = fire_all-lowers m h in
@@ -87,13 +87,15 @@ fire_all-sound m h within =
       settings = l.settings;
     }
 
-pub clock_shows-sound : (t : ℕ) (m : Machine) → IsSound m → StaysSound m (clock_shows t m).machine
-clock_shows-sound t m h = cond_both (nat_le t m.now) (nothing_more m) (fire_all (at_moment t m))
-    (λ effect. StaysSound m effect.machine) (λ past. stays_same m h)
-    (λ later.
+fired_at-sound : (t : ℕ) (m : Machine) → IsSound m → StaysSound m (fire_all (at_moment t m)).machine
+fired_at-sound t m h =
     let all : StaysSound (at_moment t m) (fire_all (at_moment t m)).machine =
     fire_all-sound (at_moment t m) (at_moment-orderly t m h.orderly) h.counted in
-    record { sound = all.sound; settings = all.settings })
+    record { sound = all.sound; settings = all.settings }
+
+pub clock_shows-sound : (t : ℕ) (m : Machine) → IsSound m → StaysSound m (clock_shows t m).machine
+clock_shows-sound t m h = cond_both (nat_le t m.now) (nothing_more m) (fire_all (at_moment t m))
+    (λ effect. StaysSound m effect.machine) (λ past. stays_same m h) (λ later. fired_at-sound t m h)
 
 -- the connection that is admitted
 abbrev admitted_entry : Addr → Machine → Entry
@@ -120,7 +122,7 @@ admitted-sound addr m h room none apart =
     record {
       sound = record {
         orderly = come-orderly m new h refl
-            (All-weaker (λ e. IsTrue (is_live e.facts) → e.facts.addr ≢ addr) (λ e. HaveOwnAddresses e new)
+            (All-weaker (λ e. IsTrue (is_live e.facts) → e.facts.addr ≢ addr) (λ e. DifferInAddress e new)
             (λ e own e_live new_live. own e_live) m.connections apart);
         counted = omega arith;
         deadlines = none_late-ahead n (omega arith);
@@ -140,8 +142,8 @@ none_live_at-none addr m none = All-weaker (λ e. is_live_at addr e.facts ≡ fa
     (subst (λ a. same_address e.facts.addr a ≡ true) same (same_address-self e.facts.addr)) e_live))
     m.connections (find_none (λ e. is_live_at addr e.facts) m.connections none)
 
-own_addresses-turned : (e f : Entry) → HaveOwnAddresses e f → HaveOwnAddresses f e
-own_addresses-turned e f own f_live e_live same = own e_live f_live (sym same)
+differ_in_address-turned : (e f : Entry) → DifferInAddress e f → DifferInAddress f e
+differ_in_address-turned e f own f_live e_live same = own e_live f_live (sym same)
 
 -- once the live connection of an address has gone, none is left
 none_live_at-gone : (addr : Addr) (m : Machine) (entry : Entry) → IsOrderly m →
@@ -151,24 +153,30 @@ none_live_at-gone addr m entry h found =
     let at_addr : entry.facts.addr ≡ addr = same_address-true entry.facts.addr addr parts.0 in
     subst (All (λ e. IsTrue (is_live e.facts) → e.facts.addr ≢ addr))
     (sym (gone-connections m entry found.place h found.stands))
-    (All-weaker (HaveOwnAddresses entry) (λ e. IsTrue (is_live e.facts) → e.facts.addr ≢ addr)
+    (All-weaker (DifferInAddress entry) (λ e. IsTrue (is_live e.facts) → e.facts.addr ≢ addr)
     (λ e own e_live same. own parts.1 e_live (at_addr ∙ sym same))
     (remove m.connections found.place)
-    (All-others HaveOwnAddresses own_addresses-turned entry m.connections found.place found.stands h.addresses))
+    (All-others DifferInAddress differ_in_address-turned entry m.connections found.place found.stands h.addresses))
+
+-- the connection that this node dialed gives way to the one that comes
+pub overwritten-sound : (addr : Addr) (m : Machine) (entry : Entry) → IsSound m → counted_in m < m.settings.hard →
+    FoundIn (λ e. is_live_at addr e.facts) m.connections entry →
+    StaysSound m (then_do (ending Overwritten entry m) (admitted addr)).machine
+overwritten-sound addr m entry h room found =
+    let n : Machine = (ending Overwritten entry m).machine in
+    let ends : Lowers (late_of m.now entry) m n = ending-lowers Overwritten m entry found.place h.orderly found.stands in
+    let hard : n.settings.hard ≡ m.settings.hard = ap (λ s. s.hard) ends.settings in
+    let none : late_in m ≡ 0 = ahead-none_late m h.deadlines in
+    let apart : NoneLiveAt addr n = none_live_at-gone addr m entry h.orderly found in
+    let comes : StaysSound n (admitted addr n).machine =
+    admitted-sound addr n ends.orderly (omega arith) (omega arith) apart in
+    record { sound = comes.sound; settings = comes.settings ∙ ends.settings }
 
 pub crossed-sound : (addr : Addr) (m : Machine) (entry : Entry) → IsSound m → counted_in m < m.settings.hard →
     FoundIn (λ e. is_live_at addr e.facts) m.connections entry → StaysSound m (crossed addr entry m).machine
 crossed-sound addr m entry h room found = cond_both (address_below addr m.settings.own)
     (then_do (ending Overwritten entry m) (admitted addr)) (turned_away Crossed m) (λ effect. StaysSound m effect.machine)
-    (λ below.
-    let n : Machine = (ending Overwritten entry m).machine in
-    let ends : Lowers (late_of m.now entry) m n = ending-lowers Overwritten m entry found.place h.orderly found.stands in
-    let hard : n.settings.hard ≡ m.settings.hard = ap (λ s. s.hard) ends.settings in
-    let none : late_in m ≡ 0 = ahead-none_late m h.deadlines in
-    let comes : StaysSound n (admitted addr n).machine =
-    admitted-sound addr n ends.orderly (omega arith) (omega arith) (none_live_at-gone addr m entry h.orderly found) in
-    record { sound = comes.sound; settings = comes.settings ∙ ends.settings })
-    (λ above. stays_same m h)
+    (λ below. overwritten-sound addr m entry h room found) (λ above. stays_same m h)
 
 pub accepted_beside-sound : (addr : Addr) (m : Machine) → IsSound m → counted_in m < m.settings.hard →
     StaysSound m (accepted_beside (live_entry_at addr m) addr m).machine
@@ -204,6 +212,12 @@ peer_connects-sound addr m h = cond_both (same_address addr m.settings.own) (tur
     (accepted_through (gate_of m.settings (counted_in m)) addr m) (λ effect. StaysSound m effect.machine)
     (λ own. stays_same m h) (λ other. accepted_through-sound addr m h)
 
+vanishes-sound : (m : Machine) (entry : Entry) (k : ℕ) → IsSound m → StandsAt m.connections k entry →
+    StaysSound m (vanishes entry m).machine
+vanishes-sound m entry k h stands =
+    let goes : Lowers 0 m (vanishes entry m).machine = vanishes-lowers m entry k h.orderly stands in
+    record { sound = lowered-sound 0 m (vanishes entry m).machine h goes; settings = goes.settings }
+
 pub peer_closes-sound : (cid : Cid) (m : Machine) → IsSound m → StaysSound m (peer_closes cid m).machine
 peer_closes-sound cid m h = by_entry (entry_at cid.0 m) refl
   where
@@ -213,11 +227,7 @@ peer_closes-sound cid m h = by_entry (entry_at cid.0 m) refl
         let found : FoundIn (λ x. has_id cid.0 x.facts) m.connections entry =
         find_some (λ x. has_id cid.0 x.facts) m.connections entry e in
         cond_both (is_live entry.facts) (vanishes entry m) (nothing_more m) (λ effect. StaysSound m effect.machine)
-        (λ live.
-        let goes : Lowers 0 m (vanishes entry m).machine =
-        vanishes-lowers m entry found.place h.orderly found.stands in
-        record { sound = lowered-sound 0 m (vanishes entry m).machine h goes; settings = goes.settings })
-        (λ closed. stays_same m h)
+        (λ live. vanishes-sound m entry found.place h found.stands) (λ closed. stays_same m h)
 
 -- each event
 pub step-stays_sound : (m : Machine) (event : Event) → IsSound m → StaysSound m (step m event).machine

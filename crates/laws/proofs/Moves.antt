@@ -1,5 +1,5 @@
 -- A part of a step in which no connection comes.
-use Rattle.std.proofs.Common.{ℕ, ◌+◌, ◌≤◌, ◌≡◌, cond, [], ◌∷◌, sum_by, Option, Some, None, refl, ap, ◌∙◌, arith}
+use Rattle.std.proofs.Common.{ℕ, ◌+◌, ◌≤◌, ◌≡◌, true, cond, [], ◌∷◌, sum_by, Option, Some, None, refl, ap, ◌∙◌, arith}
 use Rattle.std.proofs.lemmas.Bool.{cond_both, false≢true}
 use Rattle.net_base.specs.declared.action.Action.TheVariants.{Close}
 use Rattle.net_base.specs.declared.action.CloseCause.{CloseCause}
@@ -9,7 +9,7 @@ use Rattle.net_base.specs.declared.peer.Peer.{Peer}
 use Rattle.net_base.specs.Peer.{failed_peer}
 use Rattle.conn_state.specs.Moves.{expired}
 use Rattle.machine.specs.Machine.{Machine, Entry, counted_in}
-use Rattle.machine.specs.Effect.{nothing_more, then_do, tells, as_move, unused}
+use Rattle.machine.specs.Effect.{Effect, nothing_more, then_do, tells, as_move, unused}
 use Rattle.machine.specs.Peers.{with_peer, fails_at, peer_fails, peer_at}
 use Rattle.machine.specs.Connections.{with_entry, without_entry, entry_turns, is_missed, lost, lost_by, ending, vanishes, closing_entry, grace_over, wait_over}
 use Rattle.laws.specs.Sound.{IsOrderly}
@@ -155,21 +155,33 @@ expired-turns e = record { same_id = refl; same_addr = refl; live = λ live. liv
 closing-turns : (m : Machine) (e : Entry) → TurnsInto e (closing_entry m e)
 closing-turns m e = record { same_id = refl; same_addr = refl; live = λ live. absurd (false≢true live) }
 
+-- in local use the connection goes on, and no deadline takes the place of the one that is over
+pub expires-lowers : (m : Machine) (e : Entry) (k : ℕ) → IsOrderly m → StandsAt m.connections k e →
+    e.facts.local ≡ true →
+    Lowers (grace_late_of m.now e) m (entry_turns e (record e { facts = expired e.facts }) m).machine
+expires-lowers m e k h s in_use =
+    let new : Entry = record e { facts = expired e.facts } in
+    let same : counted_of new ≡ counted_of e = ap (λ b. cond b 1 0) (counted-expired e.facts in_use) in
+    turns-lowers (grace_late_of m.now e) m e new k h s (expired-turns e) (omega arith) (omega (arith, late-expired m.now e))
+
+-- a connection that this side closes has the time-wait ahead, and isn't counted
+pub closes-lowers : (m : Machine) (e : Entry) (k : ℕ) → IsOrderly m → StandsAt m.connections k e →
+    Lowers (grace_late_of m.now e) m (entry_turns e (closing_entry m e) m).machine
+closes-lowers m e k h s =
+    let until : ℕ = m.now + m.settings.timewait in
+    let none : counted_of (closing_entry m e) ≡ 0 = ap (λ b. cond b 1 0) (counted-closing until e.facts) in
+    let ahead = late-closing m e (timewait-positive m.settings h.settings) in
+    turns-lowers (grace_late_of m.now e) m e (closing_entry m e) k h s (closing-turns m e) (omega arith) ahead
+
 pub grace_over-lowers : (m : Machine) (e : Entry) (k : ℕ) → IsOrderly m → StandsAt m.connections k e →
     Lowers (grace_late_of m.now e) m (grace_over e m).machine
-grace_over-lowers m e k h s = cond_both e.facts.local
-    (entry_turns e (record e { facts = expired e.facts }) m)
-    (as_move (unused e.facts.cid.0) m
-    (then_do (tells (Close e.facts.cid Unused ∷ []) m) (entry_turns e (closing_entry m e))))
-    (λ effect. Lowers (grace_late_of m.now e) m effect.machine)
-    (λ in_use. turns-lowers (grace_late_of m.now e) m e (record e { facts = expired e.facts }) k h s (expired-turns e)
-    (let same : counted_of (record e { facts = expired e.facts }) ≡ counted_of e =
-    ap (λ b. cond b 1 0) (counted-expired e.facts in_use) in omega arith)
-    (omega (arith, late-expired m.now e)))
-    (λ idle. turns-lowers (grace_late_of m.now e) m e (closing_entry m e) k h s (closing-turns m e)
-    (let none : counted_of (closing_entry m e) ≡ 0 =
-    ap (λ b. cond b 1 0) (counted-closing (m.now + m.settings.timewait) e.facts) in omega arith)
-    (late-closing m e (timewait-positive m.settings h.settings)))
+grace_over-lowers m e k h s = cond_both e.facts.local (entry_turns e (record e { facts = expired e.facts }) m) closed
+    (λ effect. Lowers (grace_late_of m.now e) m effect.machine) (expires-lowers m e k h s)
+    (λ idle. closes-lowers m e k h s)
+  where
+    closed : Effect
+    closed = as_move (unused e.facts.cid.0) m
+        (then_do (tells (Close e.facts.cid Unused ∷ []) m) (entry_turns e (closing_entry m e)))
 
 pub wait_over-lowers : (m : Machine) (e : Entry) (k : ℕ) → IsOrderly m → StandsAt m.connections k e →
     Lowers (late_of m.now e) m (wait_over e m).machine

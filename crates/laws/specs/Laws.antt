@@ -4,15 +4,15 @@ use Rattle.conn_state.specs.Use.{is_live}
 use Rattle.machine.specs.Deadlines.{deadlines}
 use Rattle.machine.specs.Machine.{Machine, Entry, counted_in}
 
--- two connections that are both live have different addresses
-abbrev pub HaveOwnAddresses : Entry → Entry → Type 0
-HaveOwnAddresses e f = IsTrue (is_live e.facts) → IsTrue (is_live f.facts) → e.facts.addr ≢ f.facts.addr
+-- if both are live
+abbrev pub DifferInAddress : Entry → Entry → Type 0
+DifferInAddress e f = IsTrue (is_live e.facts) → IsTrue (is_live f.facts) → e.facts.addr ≢ f.facts.addr
 
 -- No two live connections have one address.
 abbrev pub LiveAddressesDistinct : Machine → Type 0
-LiveAddressesDistinct m = AllPairs HaveOwnAddresses m.connections
+LiveAddressesDistinct m = AllPairs DifferInAddress m.connections
 
--- Counted connections are at most as many as the hard limit says.
+-- No more connections are counted than the hard limit says.
 abbrev pub WithinHardLimit : Machine → Type 0
 WithinHardLimit m = counted_in m ≤ m.settings.hard
 

@@ -1,30 +1,34 @@
--- The whole that carries the laws: each event keeps it.
+-- The whole that carries the laws: the start has it, and each event keeps it.
 use Rattle.std.specs.Prelude.{ℕ, ◌<◌, ◌≤◌, All, AllPairs}
 use Rattle.net_base.specs.Bounds.{AreSound}
 use Rattle.machine.specs.Machine.{Machine, Entry}
 use Rattle.laws.specs.Laws.{LiveAddressesDistinct, WithinHardLimit, DeadlinesAhead}
 
--- the first has the lower id
-abbrev pub IsOlder : Entry → Entry → Type 0
-IsOlder e f = e.facts.cid.0 < f.facts.cid.0
+abbrev pub HasLowerId : Entry → Entry → Type 0
+HasLowerId e f = e.facts.cid.0 < f.facts.cid.0
 
--- ids are given from 1 on, up to the next one
+-- at least 1, and below the next id
 abbrev pub HasGivenId : ℕ → Entry → Type 0
 HasGivenId next_id e = (1 ≤ e.facts.cid.0) × (e.facts.cid.0 < next_id)
 
--- What holds at every moment, in the middle of an event too.
+-- what holds at every moment, in the middle of an event too
 pub record IsOrderly (m : Machine) : Type 0 where
-  -- the check passes the settings
+  -- the settings are such as the check passes
   pub settings : AreSound m.settings
+  -- ids are given from 1 on
   pub next_id : 1 ≤ m.next_id
+  -- each connection has an id that was given
   pub ids_given : All (HasGivenId m.next_id) m.connections
-  -- so no two connections have one id
-  pub ids_rise : AllPairs IsOlder m.connections
+  -- connections stand in order of id, so no two have one id
+  pub ids_rise : AllPairs HasLowerId m.connections
+  -- no two live connections have one address
   pub addresses : LiveAddressesDistinct m
 
--- What holds after each event.
+-- what holds after each event
 pub record IsSound (m : Machine) : Type 0 where
   pub orderly : IsOrderly m
   pub open orderly use *
+  -- no more connections are counted than the hard limit says
   pub counted : WithinHardLimit m
+  -- every deadline is above now
   pub deadlines : DeadlinesAhead m

@@ -26,7 +26,7 @@ pub fn sound_kept()
     ensures runs { (settings : Settings) (events : List Event) → AreSound settings → IsSound (after_all (start_of settings) events) }
 {}
 
-/// So many deadlines may fire as there are, and none that is due is left: no deadline that fires sets another one
+/// Where as many deadlines may fire as there are, none that is due is left, since no deadline that fires sets one
 /// that is due.
 pub fn all_due_fires()
     ensures none_due { (m : Machine) → IsOrderly m → due (fire_all m).machine ≡ None }
