@@ -1,5 +1,5 @@
 -- The name of a connection's state, as in the Ouroboros network specification's connection manager.
-use Rattle.std.specs.Prelude.{ℕ, Bool, true, false, ◌==◌, if◌then◌else◌}
+use Rattle.std.specs.Prelude.{ℕ, Bool, true, false, ◌==◌}
 use Rattle.net_base.specs.declared.action.StateName.{StateName}
 use Rattle.net_base.specs.declared.action.StateName.TheVariants.{ReservedOutbound, UnnegotiatedInbound, UnnegotiatedOutbound, Duplex, OutboundUni, OutboundDupTicking, OutboundDupExpired, Inbound, InboundIdle, OutboundIdle, Terminating, Terminated}
 use Rattle.net_base.specs.declared.connection.Facts.{Facts}

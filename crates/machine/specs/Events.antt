@@ -1,5 +1,5 @@
 -- What each event does.
-use Rattle.std.specs.Prelude.{ℕ, ◌+◌, ◌&&◌, nat_le, List, [], ◌∷◌, if◌then◌else◌, Option, Some, None}
+use Rattle.std.specs.Prelude.{ℕ, ◌+◌, nat_le, List, [], ◌∷◌, if◌then◌else◌, Option, Some, None}
 use Rattle.accept_gate.specs.Gate.{gate_of}
 use Rattle.accept_gate.specs.declared.gate.Gate.{Gate}
 use Rattle.accept_gate.specs.declared.gate.Gate.TheVariants.{Free, Pause as PauseFor, Full as NoRoom}

@@ -1,5 +1,5 @@
 -- The record that a node keeps.
-use Rattle.std.specs.Prelude.{ℕ, List, [], ◌∷◌, map, Option, find}
+use Rattle.std.specs.Prelude.{ℕ, List, [], map, Option, find}
 use Rattle.net_base.specs.declared.address.Addr.{Addr}
 use Rattle.net_base.specs.declared.connection.Facts.{Facts}
 use Rattle.net_base.specs.declared.event.Group.{Group}

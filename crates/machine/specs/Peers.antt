@@ -1,8 +1,7 @@
 -- Changes of a peer.
-use Rattle.std.specs.Prelude.{ℕ, Bool, ◌==◌, List, [], ◌∷◌, map, find, Option, Some, None, if◌then◌else◌}
+use Rattle.std.specs.Prelude.{ℕ, Bool, ◌==◌, [], ◌∷◌, map, find, Option, Some, None, if◌then◌else◌}
 use Rattle.net_base.specs.Address.{same_address}
 use Rattle.net_base.specs.Peer.{failed_peer}
-use Rattle.net_base.specs.declared.action.Action.{Action}
 use Rattle.net_base.specs.declared.action.Action.TheVariants.{Peer as TellPeer}
 use Rattle.net_base.specs.declared.action.PeerNote.{PeerNote}
 use Rattle.net_base.specs.declared.action.PeerNote.TheVariants.{Cold as TellCold, Warm as TellWarm, Hot as TellHot}

@@ -1,5 +1,5 @@
 -- The run of the machine over a list of events.
-use Rattle.std.specs.Prelude.{ℕ, List, [], ◌∷◌}
+use Rattle.std.specs.Prelude.{List, [], ◌∷◌}
 use Rattle.net_base.specs.declared.action.Action.{Action}
 use Rattle.net_base.specs.declared.event.Event.{Event}
 use Rattle.machine.specs.Machine.{Machine}
