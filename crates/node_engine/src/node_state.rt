@@ -1,0 +1,110 @@
+ghost use Rattle.std.specs.Prelude.{◌≡◌, ◌≤◌, ◌+◌, ◌^◌, OnOk, IfOk};
+ghost use Rattle.conn_state.specs.Use.{facts_at};
+ghost use Rattle.machine.specs.Events.{step};
+ghost use Rattle.machine.specs.Machine.{start_of, facts_of};
+ghost use Rattle.net_base.specs.Bounds.{AreSound};
+ghost use Rattle.node_engine.specs.Limits.{IsWithinLimits};
+ghost use Rattle.node_engine.specs.State.{Does};
+ghost use Rattle.node_engine.specs.Tally.{tally_of};
+
+mod accept;
+mod clock;
+mod close;
+
+use crate::Tally;
+use conn_table::ConnTable;
+use net_base::{ActionList, Cid, Event, Facts, OutOfMemory, Sequence, Settings};
+use std::alloc::Global;
+use std::marker::Model;
+
+/// What a node knows. Contracts see the machine's record.
+#[derive(Debug, Drop)]
+pub struct NodeState {
+    alloc: Global,
+    moment: u64,
+    table: ConnTable,
+}
+
+impl Model for NodeState {
+    ghost use Rattle.machine.specs.Machine.{Machine};
+    ghost use Rattle.node_engine.specs.State.{machine_of, IsKept};
+
+    ghost Value = { Machine };
+
+    ghost view = { λ s. machine_of s.moment s.table };
+
+    ghost invariant = { λ s. IsKept s.moment s.table };
+}
+
+impl NodeState {
+    /// Nothing has happened yet.
+    pub(crate) fn new(alloc: Global, settings: &Settings) -> NodeState
+        requires { AreSound settings.now }
+        ensures { result ≡ start_of settings.now }
+    {
+        NodeState {
+            alloc,
+            moment: 0,
+            table: ConnTable::new(alloc, settings),
+        }
+    }
+
+    /// What happens to the node, and what it does about it.
+    pub(crate) fn handle(&mut self, event: Event) -> Result<ActionList, OutOfMemory>
+        requires few_ids { self.old.next_id ≤ 2 ^ 48 }
+        requires within { IsWithinLimits event }
+        ensures machine { OnOk result (self.new ≡ (step self.old event).machine) }
+        ensures actions { IfOk result (λ actions. actions ≡ (step self.old event).actions) }
+        ensures ids { OnOk result (self.new.next_id ≤ self.old.next_id + 1) }
+    {
+        let mut actions = Sequence::new(self.alloc);
+        self.respond(event, &mut actions)?;
+        Ok(actions)
+    }
+
+    // What happens to the node, with what it does about it behind the actions before.
+    fn respond(&mut self, event: Event, actions: &mut ActionList) -> Result<(), OutOfMemory>
+        requires few_ids { self.old.next_id ≤ 2 ^ 48 }
+        requires within { IsWithinLimits event }
+        ensures does { OnOk result (Does (step self.old event) actions.old self.new actions.new) }
+        ensures ids { OnOk result (self.new.next_id ≤ self.old.next_id + 1) }
+    {
+        match event {
+            Event::Now(moment) => self.clock_shows(moment, actions),
+            Event::Accepted(addr) => self.accept(addr, actions),
+            Event::Closed(cid) => self.close(cid, actions),
+            // The machine does not handle the others yet.
+            _ => Ok(()),
+        }
+    }
+
+    /// The moment that the clock showed last.
+    pub(crate) fn moment(&self) -> u64
+        ensures value { result ≡ self.now.now }
+        ensures bound { result ≤ 2 ^ 48 }
+    {
+        self.moment
+    }
+
+    /// What is known of a connection. None where there is none with the id.
+    pub(crate) fn facts(&self, cid: Cid) -> Option<Facts>
+        ensures { result ≡ facts_at cid.0 (facts_of self.now) }
+    {
+        self.table.facts(cid)
+    }
+
+    /// How many peers and connections there are.
+    pub(crate) fn tally(&self) -> Tally
+        ensures { result ≡ tally_of self.now }
+    {
+        Tally {
+            known: 0,
+            established: 0,
+            active: 0,
+            counted: self.table.counted(),
+            big_known: 0,
+            big_established: 0,
+            big_active: 0,
+        }
+    }
+}
