@@ -1,5 +1,5 @@
 -- A peer connects: what the record says of its address is what the table says.
-use Rattle.std.proofs.Common.{◌≡◌, ℕ, ◌+◌, Bool, true, false, Option, Some, None, Result, Ok, Err, IfSome, IsSomeAnd, OnOk, OnErr, is_some, map, find, refl, sym, subst}
+use Rattle.std.proofs.Common.{◌≡◌, ℕ, ◌+◌, Bool, true, false, Option, Some, None, Result, Ok, Err, IfSome, IsSomeAnd, OnOk, OnErr, is_some, refl, sym, subst}
 use Rattle.std.specs.Bool.{OnTrue, OnFalse}
 use Rattle.std.specs.Option.{option_map}
 use Rattle.std.proofs.lemmas.List.Elements.{All-push}
@@ -8,7 +8,7 @@ use Rattle.conn_table.specs.Table.{Table, with_accepted}
 use Rattle.net_base.specs.declared.address.Addr.{Addr}
 use Rattle.net_base.specs.declared.connection.Cid.{Cid}
 use Rattle.net_base.specs.declared.connection.Facts.{Facts}
-use Rattle.machine.specs.Machine.{Entry, fresh_entry}
+use Rattle.machine.specs.Machine.{fresh_entry}
 use Rattle.node_engine.specs.State.{IsAccepted, IsKept}
 use Rattle.node_engine.proofs.AcceptedLemmas.{is_pending-accepted}
 

@@ -1,8 +1,6 @@
 -- What a connection whose handshake has not ended is not yet.
-use Rattle.std.proofs.Common.{◌≡◌, ℕ, true, false, ◌∷◌, [], Option, Some, None, IfSome, refl, ap, ◌∙◌}
-use Rattle.std.specs.Option.{option_map}
+use Rattle.std.proofs.Common.{◌≡◌, true, false, ap}
 use Rattle.conn_state.specs.Use.{is_live, is_pending}
-use Rattle.net_base.specs.declared.connection.Cid.{Cid}
 use Rattle.net_base.specs.declared.connection.Facts.{Facts}
 use Rattle.machine.specs.Connections.{is_missed}
 use Rattle.node_engine.specs.State.{IsAccepted}

@@ -1,5 +1,5 @@
 -- A connection goes: out of the record as out of the table.
-use Rattle.std.proofs.Common.{◌≡◌, ℕ, true, false, not, List, Option, Some, None, IfSome, IsSomeAnd, find, sym, ap, subst, rules, tests}
+use Rattle.std.proofs.Common.{◌≡◌, ℕ, true, false, not, List, Option, Some, None, IfSome, IsSomeAnd, sym, ap, subst, rules, tests}
 use Rattle.std.specs.Option.{option_map}
 use Rattle.std.proofs.lemmas.List.Elements.{All-filter}
 use Rattle.std.proofs.lemmas.Option.{IfSome_then}
@@ -8,7 +8,7 @@ use Rattle.conn_table.specs.Table.{Table, without}
 use Rattle.net_base.specs.declared.connection.Cid.{Cid}
 use Rattle.net_base.specs.declared.connection.Facts.{Facts}
 use Rattle.machine.specs.Connections.{without_entry}
-use Rattle.machine.specs.Machine.{Entry, Machine, fresh_entry, entry_at}
+use Rattle.machine.specs.Machine.{Entry, Machine, fresh_entry}
 use Rattle.node_engine.specs.State.{IsAccepted, IsKept, machine_of}
 use Rattle.node_engine.proofs.AcceptedLemmas.{local-accepted}
 use Rattle.node_engine.proofs.EntryLemmas.{filter-entries}

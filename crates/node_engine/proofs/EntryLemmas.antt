@@ -1,8 +1,8 @@
 -- What is found among the entries of a table is what is found among its facts.
-use Rattle.std.proofs.Common.{◌≡◌, Bool, true, false, if◌then◌else◌, List, [], ◌∷◌, Option, Some, None, map, filter, find, refl, ap, ◌∙◌, sym}
+use Rattle.std.proofs.Common.{◌≡◌, Bool, true, false, if◌then◌else◌, List, [], ◌∷◌, Option, Some, map, filter, find, refl, ap, ◌∙◌, sym}
 use Rattle.std.specs.Option.{option_map}
 use Rattle.net_base.specs.declared.connection.Facts.{Facts}
-use Rattle.machine.specs.Machine.{Entry, fresh_entry}
+use Rattle.machine.specs.Machine.{fresh_entry}
 
 pub facts-entries : (fs : List Facts) → map (λ e. e.facts) (map fresh_entry fs) ≡ fs
 facts-entries [] = refl

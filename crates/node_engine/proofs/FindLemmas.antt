@@ -1,5 +1,5 @@
 -- What is known of the element that a search finds.
-use Rattle.std.proofs.Common.{◌≡◌, Bool, true, false, if◌then◌else◌, List, [], ◌∷◌, Option, Some, None, IfSome, All, find, refl}
+use Rattle.std.proofs.Common.{◌≡◌, Bool, true, false, if◌then◌else◌, List, [], ◌∷◌, Option, Some, IfSome, All, find, refl}
 use Rattle.std.proofs.lemmas.List.Elements.{All-head, All-tail}
 
 choice-of : {X : Type 0} (P : X → Type 0) (b : Bool) (x : X) (o : Option X) → (b ≡ true → P x) → IfSome o P →

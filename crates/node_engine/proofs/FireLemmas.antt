@@ -1,9 +1,9 @@
 -- Deadlines fire one after another: what is left of the definition's firing after some turns.
-use Rattle.std.proofs.Common.{◌≡◌, ℕ, zero, suc, ◌+◌, ◌-◌, ◌<◌, ◌≤◌, List, [], ◌++◌, Option, Some, None, append_assoc, append-nil, refl, sym, ap, ◌∙◌, arith}
+use Rattle.std.proofs.Common.{◌≡◌, ℕ, zero, suc, ◌+◌, ◌-◌, ◌<◌, ◌≤◌, List, ◌++◌, Some, None, append_assoc, append-nil, refl, sym, ap, ◌∙◌, arith}
 use Rattle.net_base.specs.declared.action.Action.{Action}
 use Rattle.net_base.specs.declared.timer.Deadline.{Deadline}
 use Rattle.machine.specs.Deadlines.{due, fires, fires_some, fire_due}
-use Rattle.machine.specs.Effect.{Effect, then_do, nothing_more}
+use Rattle.machine.specs.Effect.{then_do, nothing_more}
 use Rattle.machine.specs.Machine.{Machine}
 use Rattle.node_engine.specs.State.{Does}
 
@@ -31,12 +31,12 @@ pub IsFiring-more : (count fired : ℕ) (first : Machine) (before : List Action)
 IsFiring-more count fired first before m after d new told inside h next does =
     let turns : count - fired ≡ suc (count - (fired + 1)) = omega arith in
     let one : fire_due (count - fired) m ≡ then_do (fires d m) (fire_due (count - (fired + 1))) =
-        ap (λ k. fire_due k m) turns ∙ fire_due-suc (count - (fired + 1)) m d next in
+    ap (λ k. fire_due k m) turns ∙ fire_due-suc (count - (fired + 1)) m d next in
     record {
       machine_left = h.machine_left ∙ (ap (λ e. e.machine) one
-        ∙ ap (λ n. (fire_due (count - (fired + 1)) n).machine) (sym does.machine_is));
+          ∙ ap (λ n. (fire_due (count - (fired + 1)) n).machine) (sym does.machine_is));
       actions_left = h.actions_left ∙ (ap (λ e. after ++ e.actions) one
-        ∙ rw (does.actions_are, does.machine_is, append_assoc));
+          ∙ rw (does.actions_are, does.machine_is, append_assoc));
     }
 
 fire_due-none : (turns : ℕ) (m : Machine) → due m ≡ None → fire_due turns m ≡ nothing_more m

@@ -1,5 +1,5 @@
 -- How many peers and connections there are.
-use Rattle.std.specs.Prelude.{ℕ, Bool, true, false, ◌&&◌, not, count_by}
+use Rattle.std.specs.Prelude.{Bool, true, false, ◌&&◌, not, count_by}
 use Rattle.net_base.specs.declared.peer.Peer.{Peer}
 use Rattle.net_base.specs.declared.peer.Temp.{Temp}
 use Rattle.net_base.specs.declared.peer.Temp.TheVariants.{Cold, Warm, Hot}

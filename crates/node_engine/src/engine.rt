@@ -45,7 +45,10 @@ impl Engine {
         ensures actions { IfOk result (λ r. r.1 ≡ (step self.machine event).actions) }
         ensures taken { IfOk result (λ r. r.0.events ≡ self.events + 1) }
     {
-        let Engine { mut machine, events } = self;
+        let Engine {
+            mut machine,
+            events,
+        } = self;
         let actions = machine.handle(event)?;
         let events = events + 1;
         Ok((Engine { machine, events }, actions))

@@ -88,15 +88,24 @@ fn pauses_above_soft_and_turns_away_at_hard(rt: HostRuntime) -> Result<(), Fail>
     let alloc = rt.alloc();
     let engine = Engine::new(alloc, settings(2, 1))?;
     let (engine, told) = lines(alloc, engine, accepted(3002))?;
-    assert_eq!(rt; told.as_str(), "admit 1 127.0.0.1:3002\nstate 1 UnnegotiatedInbound\n");
+    assert_eq!(rt;
+        told.as_str(),
+        "admit 1 127.0.0.1:3002\nstate 1 UnnegotiatedInbound\n"
+    );
     let (engine, told) = lines(alloc, engine, accepted(3003))?;
-    assert_eq!(rt; told.as_str(), "admit 2 127.0.0.1:3003\nstate 2 UnnegotiatedInbound\npause 5000\n");
+    assert_eq!(rt;
+        told.as_str(),
+        "admit 2 127.0.0.1:3003\nstate 2 UnnegotiatedInbound\npause 5000\n"
+    );
     let (engine, told) = lines(alloc, engine, accepted(3004))?;
     assert_eq!(rt; told.as_str(), "turnaway full\n");
     let (engine, told) = lines(alloc, engine, Event::Closed(Cid(1)))?;
     assert_eq!(rt; told.as_str(), "state 1 Terminated\n");
     let (engine, told) = lines(alloc, engine, Event::Now(10_000))?;
-    assert_eq!(rt; told.as_str(), "close 2 fault handshakewait\nstate 2 Terminated\n");
+    assert_eq!(rt;
+        told.as_str(),
+        "close 2 fault handshakewait\nstate 2 Terminated\n"
+    );
     assert_eq!(rt; engine.taken(), 5);
     assert_eq!(rt; engine.now(), 10_000);
     Ok(())
@@ -107,13 +116,19 @@ fn ends_a_handshake_at_its_deadline(rt: HostRuntime) -> Result<(), Fail> {
     let alloc = rt.alloc();
     let engine = Engine::new(alloc, settings(512, 384))?;
     let (engine, told) = lines(alloc, engine, accepted(3002))?;
-    assert_eq!(rt; told.as_str(), "admit 1 127.0.0.1:3002\nstate 1 UnnegotiatedInbound\n");
+    assert_eq!(rt;
+        told.as_str(),
+        "admit 1 127.0.0.1:3002\nstate 1 UnnegotiatedInbound\n"
+    );
     assert_eq!(rt; engine.tally().counted, 1);
     let (engine, told) = lines(alloc, engine, Event::Now(9_999))?;
     assert_eq!(rt; told.as_str(), "");
-    assert_eq!(rt; engine.facts(Cid(1)).is_some(), true);
+    assert!(rt; engine.facts(Cid(1)).is_some());
     let (engine, told) = lines(alloc, engine, Event::Now(10_000))?;
-    assert_eq!(rt; told.as_str(), "close 1 fault handshakewait\nstate 1 Terminated\n");
+    assert_eq!(rt;
+        told.as_str(),
+        "close 1 fault handshakewait\nstate 1 Terminated\n"
+    );
     assert_eq!(rt; engine.facts(Cid(1)), None);
     assert_eq!(rt; engine.tally().counted, 0);
     let (engine, told) = lines(alloc, engine, Event::Now(5))?;
@@ -129,12 +144,16 @@ fn turns_away_itself_and_whom_it_has(rt: HostRuntime) -> Result<(), Fail> {
     let (engine, told) = lines(alloc, engine, accepted(3001))?;
     assert_eq!(rt; told.as_str(), "turnaway self\n");
     let (engine, told) = lines(alloc, engine, accepted(3002))?;
-    assert_eq!(rt; told.as_str(), "admit 1 127.0.0.1:3002\nstate 1 UnnegotiatedInbound\n");
+    assert_eq!(rt;
+        told.as_str(),
+        "admit 1 127.0.0.1:3002\nstate 1 UnnegotiatedInbound\n"
+    );
     let (engine, told) = lines(alloc, engine, accepted(3002))?;
     assert_eq!(rt; told.as_str(), "turnaway present\n");
     let (engine, told) = lines(alloc, engine, Event::Govern(7))?;
     assert_eq!(rt; told.as_str(), "");
     assert_eq!(rt; engine.taken(), 4);
+    assert_eq!(rt; engine.now(), 0);
     Ok(())
 }
 

@@ -30,7 +30,12 @@ impl NodeState {
     }
 
     // A peer has connected, and the limits let it in.
-    fn accept_beside(&mut self, addr: Addr, gate: Gate, actions: &mut ActionList) -> Result<(), OutOfMemory>
+    fn accept_beside(
+        &mut self,
+        addr: Addr,
+        gate: Gate,
+        actions: &mut ActionList,
+    ) -> Result<(), OutOfMemory>
         requires few_ids { self.old.next_id ≤ 2 ^ 48 }
         requires gate_is { gate_of self.old.settings (counted_in self.old) ≡ gate }
         requires room { counted_in self.old < self.old.settings.hard }
@@ -87,7 +92,12 @@ fn turn_away(away: Away, actions: &mut ActionList) -> Result<(), OutOfMemory>
 }
 
 // A peer was let in: its admission, its name, and a pause where the gate wants one.
-fn tell_admitted(cid: Cid, addr: Addr, gate: Gate, actions: &mut ActionList) -> Result<(), OutOfMemory>
+fn tell_admitted(
+    cid: Cid,
+    addr: Addr,
+    gate: Gate,
+    actions: &mut ActionList,
+) -> Result<(), OutOfMemory>
     ensures { OnOk result (actions.new ≡ actions.old
         ++ ((Admit cid addr ∷ State cid UnnegotiatedInbound ∷ []) ++ pause_notice gate)) }
 {

@@ -10,7 +10,11 @@ use net_base::{ActionList, CloseCause, Deadline, Facts, FaultKind, Kind, OutOfMe
 
 impl NodeState {
     /// The clock shows a moment. Where it is a later one, all that is due by then happens.
-    pub(super) fn clock_shows(&mut self, moment: u64, actions: &mut ActionList) -> Result<(), OutOfMemory>
+    pub(super) fn clock_shows(
+        &mut self,
+        moment: u64,
+        actions: &mut ActionList,
+    ) -> Result<(), OutOfMemory>
         requires { moment ≤ 2 ^ 48 }
         ensures does { OnOk result (Does (clock_shows moment self.old) actions.old self.new actions.new) }
         ensures ids { OnOk result (self.new.next_id ≡ self.old.next_id) }

@@ -9,7 +9,7 @@ returns-in-None-clause-does c = rw (← c.deadline_count-count.ensures)
 pub loop-fired-preserved : goal.loop-fired-preserved
 loop-fired-preserved c = record {
   so_far = IsFiring-more _ _ _ _ _ _ _ _ _ c.loop-fired-test.true c.loop-fired.invariant.so_far
-    (sym c.in-Some.ensures.value) c.in_ok-fire-in-Some.ensures.does;
+      (sym c.in-Some.ensures.value) c.in_ok-fire-in-Some.ensures.does;
   ids = c.in_ok-fire-in-Some.ensures.ids ∙ c.loop-fired.invariant.ids;
 }
 

@@ -1,5 +1,5 @@
 use Rattle.std.proofs.Common.{◌∙◌, ap, is_some}
-use Rattle.conn_state.specs.Use.{is_live_at, live_at}
+use Rattle.conn_state.specs.Use.{is_live_at}
 use Rattle.node_engine.specs.State.{IsAccepted}
 use Rattle.node_engine.proofs.AcceptLemmas.{beside, alone}
 use Rattle.node_engine.proofs.EntryLemmas.{find-entries}

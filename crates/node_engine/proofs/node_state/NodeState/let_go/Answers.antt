@@ -20,7 +20,7 @@ invariant_of-self c = rw c.drop_conn.ensures
 pub returns-clause-does : goal.returns-clause-does
 returns-clause-does c = record {
   machine_is = ap (machine_of c.self.inside.moment) c.drop_conn.ensures
-    ∙ (machine_of-without c.args.facts.cid.0 c.self.inside.moment c.self.inside.table
-    ∙ ap (without_entry c.args.facts.cid.0) c.self.view_is);
+      ∙ (machine_of-without c.args.facts.cid.0 c.self.inside.moment c.self.inside.table
+      ∙ ap (without_entry c.args.facts.cid.0) c.self.view_is);
   actions_are = c.in_ok-push.ensures.ok;
 }
