@@ -1,5 +1,7 @@
 ghost use Rattle.std.specs.Prelude.{◌≡◌, ◌≤◌, ◌<◌, ◌+◌, ◌*◌, ◌↔◌, Some, Err, IfOk, OnOk};
 ghost use Rattle.conn_state.specs.Use.{facts_at};
+ghost use Rattle.laws.specs.Laws.{LiveAddressesDistinct, WithinHardLimit, DeadlinesAhead};
+ghost use Rattle.laws.specs.Sound.{IsSound};
 ghost use Rattle.machine.specs.Events.{step};
 ghost use Rattle.machine.specs.Machine.{start_of, facts_of};
 ghost use Rattle.net_base.specs.Bounds.{settings_fault, AreSound};
@@ -18,6 +20,7 @@ pub struct Engine {
     pub machine: NodeState,
     pub events: u64,
     ghost few_ids: { machine.next_id ≤ 20000 * events + 1 },
+    pub ghost sound: { IsSound machine },
 }
 
 impl Engine {
@@ -44,6 +47,11 @@ impl Engine {
         ensures machine { IfOk result (λ r. r.0.machine ≡ (step self.machine event).machine) }
         ensures actions { IfOk result (λ r. r.1 ≡ (step self.machine event).actions) }
         ensures taken { IfOk result (λ r. r.0.events ≡ self.events + 1) }
+
+        // what holds after each event
+        ensures addresses { IfOk result (λ r. LiveAddressesDistinct r.0.machine) }
+        ensures limit { IfOk result (λ r. WithinHardLimit r.0.machine) }
+        ensures deadlines { IfOk result (λ r. DeadlinesAhead r.0.machine) }
     {
         let Engine {
             mut machine,
