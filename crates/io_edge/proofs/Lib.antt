@@ -1,0 +1,5 @@
+pub mod CauseLemmas
+pub mod LineLemmas
+pub mod ReadingLemmas
+pub mod ScanLemmas
+pub mod ToldLemmas

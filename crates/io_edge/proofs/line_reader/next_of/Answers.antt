@@ -1,0 +1,17 @@
+use Rattle.std.proofs.Common.{◌≡◌, ◌++◌, List, ℕ, [], refl, ap, ◌∙◌, subst, sym}
+use Rattle.std.proofs.lemmas.List.{append-nil}
+use Rattle.io_edge.specs.Lines.{FitsLine}
+use Rattle.io_edge.specs.Reading.{IsScan}
+use Rattle.io_edge.proofs.ReadingLemmas.{HasRead, HasRead-more}
+use Rattle.io_edge.proofs.line_reader.next_of.Goals as goal
+
+pub readings-preserved : goal.readings-preserved
+readings-preserved g c =
+    let scanned = rw c.in_default.is at c.in_ok-line.ensures.answer in
+    let more = c.in_ok-refill.ensures in
+    let read = HasRead-more g.S.Source.left g.S.Source.faults c.args.src.now c.readings.src c.refill.new.src _ _ c.refill.new.self c.readings.invariant.read scanned.0 more.bytes more.cause.calm in
+    record {
+      front = c.in_ok-line.ensures.front;
+      fits = more.fits;
+      read = rw scanned.1 read;
+    }

@@ -1,0 +1,16 @@
+//! Where bytes come from and where they go: sources, sinks and a reader of lines. Each counts its faults, and a
+//! fault is answered only where the count rose.
+#![tactic(auto)]
+
+mod answer;
+mod failed;
+mod line_reader;
+mod sink;
+mod source;
+mod window;
+
+pub use answer::{Got, LineFault};
+pub use failed::Failed;
+pub use line_reader::LineReader;
+pub use sink::{Sink, put_all};
+pub use source::Source;
