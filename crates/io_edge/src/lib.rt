@@ -3,14 +3,21 @@
 #![tactic(auto)]
 
 mod answer;
+mod calls;
 mod failed;
 mod line_reader;
+mod mem_sink;
+mod mem_source;
 mod sink;
 mod source;
+mod sure_source;
 mod window;
 
 pub use answer::{Got, LineFault};
 pub use failed::Failed;
 pub use line_reader::LineReader;
+pub use mem_sink::MemSink;
+pub use mem_source::MemSource;
 pub use sink::{Sink, put_all};
 pub use source::Source;
+pub use sure_source::SureSource;
