@@ -10,6 +10,8 @@ mod mem_sink;
 mod mem_source;
 mod sink;
 mod source;
+mod std_sink;
+mod std_source;
 mod sure_source;
 mod window;
 
@@ -20,4 +22,6 @@ pub use mem_sink::MemSink;
 pub use mem_source::MemSource;
 pub use sink::{Sink, put_all};
 pub use source::Source;
+pub use std_sink::StdSink;
+pub use std_source::StdSource;
 pub use sure_source::SureSource;

@@ -62,10 +62,6 @@ impl Sink for MemSink {
     ghost faults = { λ s. s.calls.faults };
 
     fn put(&mut self, piece: &[u8]) -> Result<usize, Failed>
-        ensures bound { IfOk result (λ n. n ≤ length piece.now) }
-        ensures progress { IfOk result (λ n. 0 < length piece.now → 0 < n) }
-        ensures bytes { IfOk result (λ n. Takes (Some self.old.taken) (Some self.new.taken) (take n piece.now)) }
-        ensures untouched { OnErr result (Some self.new.taken ≡ Some self.old.taken) }
         ensures cause { HasCause self.old.calls.faults self.new.calls.faults result }
         ensures answer { result ≡ answer_to self.old piece.now }
         ensures after { self.new ≡ after_put self.old piece.now }

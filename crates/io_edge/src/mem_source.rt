@@ -55,10 +55,8 @@ impl Source for MemSource {
     ghost faults = { λ s. s.calls.faults };
 
     fn fill(&mut self, buf: &mut [u8]) -> Result<usize, Failed>
-        ensures bound { IfOk result (λ n. n ≤ length buf.new) }
         ensures bytes { IfOk result (λ n. Gives (Some self.old.pieces.left) (Some self.new.pieces.left) (take n buf.new)) }
         ensures end { IfOk result (λ n. n ≡ 0 → 0 < length buf.new → IsAtEnd (Some self.new.pieces.left)) }
-        ensures untouched { OnErr result (Some self.new.pieces.left ≡ Some self.old.pieces.left) }
         ensures cause { HasCause self.old.calls.faults self.new.calls.faults result }
         ensures size { result ≡ (if next_fails self.old.calls then Err (record {}) else Ok (piece_size self.old.pieces (length buf.old))) }
         ensures pieces { self.new.pieces ≡ (if next_fails self.old.calls then self.old.pieces else after_piece self.old.pieces (length buf.old)) }

@@ -50,10 +50,8 @@ impl Source for SureSource {
     ghost faults = { λ _. 0 };
 
     fn fill(&mut self, buf: &mut [u8]) -> Result<usize, Failed>
-        ensures bound { IfOk result (λ n. n ≤ length buf.new) }
         ensures bytes { IfOk result (λ n. Gives (Some self.old.left) (Some self.new.left) (take n buf.new)) }
         ensures end { IfOk result (λ n. n ≡ 0 → 0 < length buf.new → IsAtEnd (Some self.new.left)) }
-        ensures untouched { OnErr result (Some self.new.left ≡ Some self.old.left) }
         ensures cause { HasCause 0 0 result }
         ensures size { result ≡ Ok (piece_size self.old (length buf.old)) }
         ensures after { self.new ≡ after_piece self.old (length buf.old) }
