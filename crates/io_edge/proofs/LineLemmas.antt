@@ -3,7 +3,7 @@ use Rattle.std.proofs.Common.{◌≡◌, ℕ, ◌+◌, ◌-◌, ◌<◌, ◌≤�
 use Rattle.std.specs.List.{slice_split, onto_first, before_first, after_first, position_or_len, flat_map, join_with_byte}
 use Rattle.std.proofs.lemmas.Bool.{eqb-true, eq-eqb, cases_Bool, cases_lt, false≢true}
 use Rattle.std.proofs.lemmas.List.{append_assoc, append-nil, length-append, length-take, length-drop, take_all, take_at, get_or_at, get_or_append_left, get_or-append-add, get_or-take}
-use Rattle.std.proofs.lemmas.List.Elements.{All-nil, All-cons, All-head, All-tail, All-append, All-take, All-get_or}
+use Rattle.std.proofs.lemmas.List.Elements.{All-nil, All-cons, All-head, All-tail, All-append, All-take, All-get_or, All-weaker}
 use Rattle.std.proofs.lemmas.List.Folds.{prefix_len-append}
 use Rattle.std.proofs.lemmas.List.Sums.{split_at_first, fails_before_first, passes_at_first, position_or_len_is, prefix_len-le-length}
 use Rattle.std.proofs.lemmas.List.Splits.{slice_split_none, slice_split_at, length-slice_split, join_with_byte-slice_split, slice_split-cons_yes, slice_split-cons_no}
@@ -224,3 +224,23 @@ whole_lines-append xs ys =
 pub unfinished_line-append : (xs ys : List ℕ) → unfinished_line (xs ++ ys) ≡ unfinished_line (unfinished_line xs ++ ys)
 unfinished_line-append xs ys =
     unfinished_line_is (xs ++ ys) (whole_lines xs ++ whole_lines (unfinished_line xs ++ ys)) _ (CutsInto-append xs ys _ _ _ _ (cut_of xs) (cut_of (unfinished_line xs ++ ys)))
+
+-- where the line in front is past its limit, it is the first whole line, or the unfinished one where there is none
+pub IsPastLimit-whole : (bytes line : List ℕ) (lines : List (List ℕ)) → whole_lines bytes ≡ line ∷ lines → IsPastLimit bytes → line_limit < length line
+IsPastLimit-whole bytes line lines are past =
+    let cut = cut_of bytes in
+    let clean : All HasNoLineFeed (line ∷ lines) = subst (All HasNoLineFeed) are cut.each_one_line in
+    let front : bytes ≡ line ++ 10 ∷ (ended_lines lines ++ unfinished_line bytes) =
+    cut.joined ∙ ap (λ (all : List (List ℕ)). ended_lines all ++ unfinished_line bytes) are ∙ simp append_assoc in
+    let same = ap (before_first is_line_feed) front ∙ before_first-line line _ (All-head HasNoLineFeed line lines clean) in
+    subst (λ (xs : List ℕ). line_limit < length xs) same past
+
+pub IsPastLimit-unfinished : (bytes : List ℕ) → whole_lines bytes ≡ [] → IsPastLimit bytes → line_limit < length (unfinished_line bytes)
+IsPastLimit-unfinished bytes none past =
+    let cut = cut_of bytes in
+    let front : bytes ≡ unfinished_line bytes = cut.joined ∙ ap (λ (all : List (List ℕ)). ended_lines all ++ unfinished_line bytes) none in
+    let same = ap (before_first is_line_feed) front ∙ before_first-none (unfinished_line bytes) cut.rest_unfinished in
+    subst (λ (xs : List ℕ). line_limit < length xs) same past
+
+pub clean_lines : (lines : List (List ℕ)) → All FitsLine lines → All HasNoLineFeed lines
+clean_lines lines fit = All-weaker FitsLine HasNoLineFeed (λ line fits. fits.one_line) lines fit

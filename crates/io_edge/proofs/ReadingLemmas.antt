@@ -1,5 +1,5 @@
 -- Readings of a source, one after another.
-use Rattle.std.proofs.Common.{◌≡◌, ℕ, List, [], ◌∷◌, ◌++◌, Option, Result, Ok, Err, refl, sym, ap, ◌∙◌, subst}
+use Rattle.std.proofs.Common.{◌≡◌, ℕ, List, [], ◌∷◌, ◌++◌, Option, Result, Ok, Err, refl, sym, ap, ◌∙◌, subst, ◌≤◌, arith}
 use Rattle.std.proofs.lemmas.List.{append_assoc, append-nil}
 use Rattle.io_edge.specs.declared.answer.Got.{Got}
 use Rattle.io_edge.specs.declared.answer.Got.TheVariants.{Line, Over}
@@ -7,7 +7,7 @@ use Rattle.io_edge.specs.declared.answer.LineFault.{LineFault}
 use Rattle.io_edge.specs.declared.answer.LineFault.TheVariants.{Failed, TooLong, OutOfMemory}
 use Rattle.io_edge.specs.Lines.{FitsLine, IsPastLimit}
 use Rattle.io_edge.specs.Told.{Gives}
-use Rattle.io_edge.specs.Reading.{IsAnswer, ReadsLine}
+use Rattle.io_edge.specs.Reading.{IsAnswer, ReadsLine, HasReadCause}
 use Rattle.io_edge.proofs.LineLemmas.{FitsLine-front, IsPastLimit-append, IsPastLimit-not, IsPastLimit-not_line}
 use Rattle.io_edge.proofs.ToldLemmas.{Gives-nothing, Gives-append}
 
@@ -68,3 +68,9 @@ ReadsLine-past before after kept left (Err Failed) read past =
     absurd (IsPastLimit-not (kept ++ read.taken) read.answer.0 (IsPastLimit-append kept read.taken past))
 ReadsLine-past before after kept left (Err OutOfMemory) read past =
     absurd (read.answer.0 (IsPastLimit-append kept read.taken past))
+
+pub HasReadCause-later : (before now : ℕ) (answer : Result Got LineFault) → HasReadCause before now answer → before ≤ now
+HasReadCause-later before now (Ok got) cause = omega arith
+HasReadCause-later before now (Err TooLong) cause = omega arith
+HasReadCause-later before now (Err OutOfMemory) cause = omega arith
+HasReadCause-later before now (Err Failed) cause = cause.0

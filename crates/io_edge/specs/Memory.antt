@@ -23,8 +23,9 @@ after_fault calls = record calls { faults = one_more calls.faults }
 -- after the next call
 abbrev pub after_call : Calls → Calls
 after_call calls = record calls {
-    made = one_more calls.made
-  ; faults = if next_fails calls then one_more calls.faults else calls.faults }
+  made = one_more calls.made;
+  faults = if next_fails calls then one_more calls.faults else calls.faults;
+}
 
 -- bytes that are given at most `piece` at a time
 pub record Pieces : Type 0 where

@@ -1,9 +1,8 @@
 ghost use Rattle.std.specs.Prelude.{◌≡◌, ◌≤◌};
 ghost use Rattle.io_edge.specs.Memory.{next_fails, after_call, after_fault};
 
-use std::marker::Model;
-
 use net_base::NumberList;
+use std::marker::Model;
 
 // The calls that were made, those that are to fail, and how many did.
 #[derive(Debug, Drop)]

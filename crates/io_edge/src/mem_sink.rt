@@ -3,13 +3,11 @@ ghost use Rattle.io_edge.specs.Causes.{HasCause};
 ghost use Rattle.io_edge.specs.Told.{Takes};
 ghost use Rattle.io_edge.specs.Memory.{answer_to, after_put};
 
-use std::alloc::Global;
-use std::marker::Model;
-
-use net_base::{NumberList, OutOfMemory};
-
 use crate::calls::CallLog;
 use crate::{Failed, Sink};
+use net_base::{NumberList, OutOfMemory};
+use std::alloc::Global;
+use std::marker::Model;
 
 /// A room in memory that is filled, by calls of which some fail. Where it is full, a call that brings a byte fails
 /// too. Contracts see the bytes taken, the size of the room and the calls.

@@ -4,12 +4,10 @@ ghost use Rattle.io_edge.specs.Causes.{HasCause};
 ghost use Rattle.io_edge.specs.Told.{Gives};
 ghost use Rattle.io_edge.specs.Memory.{piece_size, after_piece, next_fails, after_call};
 
-use std::marker::Model;
-
-use net_base::{NumberList, Octets};
-
 use crate::calls::CallLog;
 use crate::{Failed, Source, SureSource};
+use net_base::{NumberList, Octets};
+use std::marker::Model;
 
 /// Bytes in memory that are given at most a piece at a time, by calls of which some fail. Contracts see the bytes
 /// left with the size of a piece, and the calls.

@@ -2,11 +2,10 @@ ghost use Rattle.std.specs.Prelude.{◌≡◌, ◌<◌, ◌≤◌, ℕ, None, le
 ghost use Rattle.io_edge.specs.Causes.{HasCause};
 ghost use Rattle.io_edge.specs.Memory.{one_more};
 
+use crate::{Failed, Sink};
 use std::io;
 use std::io::{ErrorKind, Print, Stderr};
 use std::marker::Model;
-
-use crate::{Failed, Sink};
 
 /// The standard output or the standard error of a runtime. What it took is not told. Contracts see the count of its
 /// faults.

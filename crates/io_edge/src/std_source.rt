@@ -2,11 +2,10 @@ ghost use Rattle.std.specs.Prelude.{◌≡◌, ◌≤◌, ℕ, None, length, is_
 ghost use Rattle.io_edge.specs.Causes.{HasCause};
 ghost use Rattle.io_edge.specs.Memory.{one_more};
 
+use crate::{Failed, Source};
 use std::io;
 use std::io::{ErrorKind, Input, Read};
 use std::marker::Model;
-
-use crate::{Failed, Source};
 
 /// The standard input of a runtime. Its bytes are not told. Contracts see the count of its faults.
 #[derive(Drop)]

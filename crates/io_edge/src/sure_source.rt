@@ -4,11 +4,9 @@ ghost use Rattle.io_edge.specs.Causes.{HasCause};
 ghost use Rattle.io_edge.specs.Told.{Gives};
 ghost use Rattle.io_edge.specs.Memory.{piece_size, after_piece};
 
-use std::marker::Model;
-
-use net_base::Octets;
-
 use crate::{Failed, Source};
+use net_base::Octets;
+use std::marker::Model;
 
 /// Bytes in memory that are given at most a piece at a time, and no call fails. Contracts see the bytes left and
 /// the size of a piece.
