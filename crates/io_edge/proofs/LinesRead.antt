@@ -1,17 +1,16 @@
 -- Lines that a reader gave, one after another.
 use Rattle.std.proofs.Common.{◌≡◌, ℕ, List, [], ◌∷◌, ◌++◌, All, Option, Some, None, Result, Ok, Err, refl, sym, ap, ◌∙◌, subst}
-use Rattle.std.specs.List.{flat_map}
 use Rattle.std.specs.Io.KnownBytes.{IsAtEnd}
 use Rattle.std.proofs.lemmas.List.{append_assoc, append-nil}
 use Rattle.std.proofs.lemmas.List.Elements.{All-nil, All-push}
 use Rattle.std.proofs.lemmas.Grind.{flat_map-append}
-use Rattle.io_edge.specs.declared.answer.Got.{Got}
-use Rattle.io_edge.specs.declared.answer.Got.TheVariants.{Line, Over}
-use Rattle.io_edge.specs.declared.answer.LineFault.{LineFault}
-use Rattle.io_edge.specs.declared.answer.LineFault.TheVariants.{Failed, TooLong, OutOfMemory}
+use Rattle.io_edge.specs.declared.got.Got.{Got}
+use Rattle.io_edge.specs.declared.got.Got.TheVariants.{Line, Over}
+use Rattle.io_edge.specs.declared.line_fault.LineFault.{LineFault}
+use Rattle.io_edge.specs.declared.line_fault.LineFault.TheVariants.{Failed, TooLong, OutOfMemory}
 use Rattle.io_edge.specs.Lines.{whole_lines, unfinished_line, ended_lines, CutsInto, FitsLine}
 use Rattle.io_edge.specs.Told.{Gives}
-use Rattle.io_edge.specs.Reading.{IsAnswer, ReadsLine}
+use Rattle.io_edge.specs.Reading.{ReadsLine}
 use Rattle.io_edge.proofs.LineLemmas.{whole_lines_are, unfinished_line_is, whole_lines-ended, unfinished_line-ended, clean_lines}
 use Rattle.io_edge.proofs.ToldLemmas.{Gives-nothing, Gives-append, Gives-told}
 

@@ -1,10 +1,10 @@
 -- Readings of a source, one after another.
-use Rattle.std.proofs.Common.{◌≡◌, ℕ, List, [], ◌∷◌, ◌++◌, Option, Result, Ok, Err, refl, sym, ap, ◌∙◌, subst, ◌≤◌, arith}
+use Rattle.std.proofs.Common.{◌≡◌, ℕ, List, [], ◌++◌, Option, Result, Ok, Err, refl, sym, ap, ◌∙◌, subst, ◌≤◌, arith}
 use Rattle.std.proofs.lemmas.List.{append_assoc, append-nil}
-use Rattle.io_edge.specs.declared.answer.Got.{Got}
-use Rattle.io_edge.specs.declared.answer.Got.TheVariants.{Line, Over}
-use Rattle.io_edge.specs.declared.answer.LineFault.{LineFault}
-use Rattle.io_edge.specs.declared.answer.LineFault.TheVariants.{Failed, TooLong, OutOfMemory}
+use Rattle.io_edge.specs.declared.got.Got.{Got}
+use Rattle.io_edge.specs.declared.got.Got.TheVariants.{Line, Over}
+use Rattle.io_edge.specs.declared.line_fault.LineFault.{LineFault}
+use Rattle.io_edge.specs.declared.line_fault.LineFault.TheVariants.{Failed, TooLong, OutOfMemory}
 use Rattle.io_edge.specs.Lines.{FitsLine, IsPastLimit}
 use Rattle.io_edge.specs.Told.{Gives}
 use Rattle.io_edge.specs.Reading.{IsAnswer, ReadsLine, HasReadCause}

@@ -1,10 +1,10 @@
 -- A front of a line that is held, and the bytes ahead of it.
-use Rattle.std.proofs.Common.{◌≡◌, ℕ, ◌+◌, ◌-◌, ◌<◌, ◌≤◌, List, [], ◌∷◌, ◌++◌, length, take, drop, refl, sym, ap, ◌∙◌, subst, arith}
-use Rattle.std.specs.List.{before_first, after_first, position_or_len}
+use Rattle.std.proofs.Common.{◌≡◌, ℕ, ◌+◌, ◌<◌, ◌≤◌, List, ◌∷◌, ◌++◌, length, take, drop, refl, sym, ap, ◌∙◌, arith}
+use Rattle.std.specs.List.{before_first, position_or_len}
 use Rattle.std.proofs.lemmas.List.{append_assoc, length-append, length-take, drop-drop, take_all}
 use Rattle.std.proofs.lemmas.List.Sums.{prefix_len-le-length}
 use Rattle.io_edge.specs.Lines.{is_line_feed, HasNoLineFeed, line_limit, FitsLine, IsPastLimit}
-use Rattle.io_edge.proofs.LineLemmas.{HasNoLineFeed-append, HasNoLineFeed-before_first, HasNoLineFeed-not_found, before_first-append, first_cut}
+use Rattle.io_edge.proofs.LineLemmas.{HasNoLineFeed-append, HasNoLineFeed-before_first, before_first-append, first_cut}
 
 -- how many bytes of the line are there
 pub line_so_far : (held ahead : List ℕ) → HasNoLineFeed held → length (before_first is_line_feed (held ++ ahead)) ≡ length held + position_or_len is_line_feed ahead

@@ -1,6 +1,6 @@
 -- Calls on a source or a sink, one after another.
-use Rattle.std.proofs.Common.{◌≡◌, List, ◌++◌, [], ℕ, ◌<◌, length, Option, Some, None, refl, sym, ◌∙◌, ap, rules, arith}
-use Rattle.std.proofs.lemmas.List.{append_assoc, append-nil}
+use Rattle.std.proofs.Common.{◌≡◌, List, ◌++◌, [], ℕ, Option, Some, None, refl, sym, ◌∙◌, ap, arith}
+use Rattle.std.proofs.lemmas.List.{append_assoc, append-nil, length-append}
 use Rattle.io_edge.specs.Told.{Gives, Takes, TakesProperPrefix}
 
 -- a call that gives nothing
@@ -39,4 +39,14 @@ TakesProperPrefix-after first second third xs ys whole part = record {
   split = ap (λ (zs : List ℕ). xs ++ zs) part.split ∙ sym (append_assoc xs part.front part.rest);
   proper = part.proper;
   taken = Takes-append first second third xs part.front whole part.taken;
+}
+
+-- a proper prefix of a text is one of the text with more behind it
+pub TakesProperPrefix-more : (before after : Option (List ℕ)) (xs ys : List ℕ) → TakesProperPrefix before after xs → TakesProperPrefix before after (xs ++ ys)
+TakesProperPrefix-more before after xs ys part = record {
+  front = part.front;
+  rest = part.rest ++ ys;
+  split = ap (λ (zs : List ℕ). zs ++ ys) part.split ∙ append_assoc part.front part.rest ys;
+  proper = omega (arith, part.proper, length-append part.rest ys);
+  taken = part.taken;
 }

@@ -1,10 +1,10 @@
 -- What reading the next line answers, and what it keeps.
 use Rattle.std.specs.Prelude.{◌≡◌, ℕ, ◌≤◌, List, [], ◌∷◌, ◌++◌, Option, Some, None, Result, Ok, Err}
 use Rattle.std.specs.Io.KnownBytes.{IsAtEnd}
-use Rattle.io_edge.specs.declared.answer.Got.{Got}
-use Rattle.io_edge.specs.declared.answer.Got.TheVariants.{Line, Over}
-use Rattle.io_edge.specs.declared.answer.LineFault.{LineFault}
-use Rattle.io_edge.specs.declared.answer.LineFault.TheVariants.{Failed, TooLong, OutOfMemory}
+use Rattle.io_edge.specs.declared.got.Got.{Got}
+use Rattle.io_edge.specs.declared.got.Got.TheVariants.{Line, Over}
+use Rattle.io_edge.specs.declared.line_fault.LineFault.{LineFault}
+use Rattle.io_edge.specs.declared.line_fault.LineFault.TheVariants.{Failed, TooLong, OutOfMemory}
 use Rattle.io_edge.specs.Causes.{Rose}
 use Rattle.io_edge.specs.Told.{Gives}
 use Rattle.io_edge.specs.Lines.{FitsLine, IsPastLimit}
@@ -17,17 +17,8 @@ IsAnswer seen kept left (Err TooLong) = IsPastLimit seen × (kept ≡ seen)
 IsAnswer seen kept left (Err Failed) = FitsLine seen × (kept ≡ seen)
 IsAnswer seen kept left (Err OutOfMemory) = ¬ IsPastLimit seen × (kept ≡ seen)
 
--- The answer to the bytes at hand, which are a front of a line that is held and those ahead, with what is held and
--- ahead after it. Nothing is answered where they are not enough.
-abbrev pub IsScan : List ℕ → List ℕ → List ℕ → Result (Option (List ℕ)) LineFault → Type 0
-IsScan seen held ahead (Ok (Some line)) = FitsLine line × (seen ≡ line ++ 10 ∷ ahead) × (held ≡ [])
-IsScan seen held ahead (Ok None) = FitsLine seen × (held ≡ seen) × (ahead ≡ [])
-IsScan seen held ahead (Err TooLong) = IsPastLimit seen
-IsScan seen held ahead (Err OutOfMemory) = ¬ IsPastLimit seen
-IsScan seen held ahead (Err Failed) = ⊥
-
--- The bytes that were seen are those kept before, and behind them those taken from the source. None are taken where
--- those kept are no front of a line that may still be given.
+-- The bytes that were seen are those kept before and those taken from the source, which come behind them. None are
+-- taken where those kept are no front of a line that may still be given.
 pub record ReadsLine (left_before left_after : Option (List ℕ)) (kept_before kept_after : List ℕ) (result : Result Got LineFault) : Type 0 where
   pub taken : List ℕ
   pub gives : Gives left_before left_after taken
@@ -40,3 +31,12 @@ HasReadCause before now (Err Failed) = (before ≤ now) × Rose before now
 HasReadCause before now (Err TooLong) = now ≡ before
 HasReadCause before now (Err OutOfMemory) = now ≡ before
 HasReadCause before now (Ok got) = now ≡ before
+
+-- The line that is taken out of the bytes at hand, a front of it that is held and those ahead, with what is held and
+-- ahead after it. None is taken where it does not end there.
+abbrev pub TakesLine : List ℕ → List ℕ → List ℕ → Result (Option (List ℕ)) LineFault → Type 0
+TakesLine seen held ahead (Ok (Some line)) = FitsLine line × (seen ≡ line ++ 10 ∷ ahead) × (held ≡ [])
+TakesLine seen held ahead (Ok None) = FitsLine seen × (held ≡ seen) × (ahead ≡ [])
+TakesLine seen held ahead (Err TooLong) = IsPastLimit seen
+TakesLine seen held ahead (Err OutOfMemory) = ¬ IsPastLimit seen
+TakesLine seen held ahead (Err Failed) = ⊥

@@ -2,9 +2,10 @@
 //! fault is answered only where the count rose.
 #![tactic(auto)]
 
-mod answer;
-mod calls;
+mod call_log;
 mod failed;
+mod got;
+mod line_fault;
 mod line_reader;
 mod mem_sink;
 mod mem_source;
@@ -15,8 +16,9 @@ mod std_source;
 mod sure_source;
 mod window;
 
-pub use answer::{Got, LineFault};
 pub use failed::Failed;
+pub use got::Got;
+pub use line_fault::LineFault;
 pub use line_reader::LineReader;
 pub use mem_sink::MemSink;
 pub use mem_source::MemSource;

@@ -1,7 +1,7 @@
 ghost use Rattle.std.specs.Prelude.{◌≡◌, ◌<◌, ◌≤◌, ℕ, List, [], ◌∷◌, ◌++◌, length, IfOk, OnOk, OnErr};
 ghost use Rattle.std.specs.List.{position_or_len};
 ghost use Rattle.io_edge.specs.Lines.{is_line_feed, HasNoLineFeed, FitsLine, IsPastLimit};
-ghost use Rattle.io_edge.specs.Reading.{IsScan, ReadsLine, HasReadCause};
+ghost use Rattle.io_edge.specs.Reading.{TakesLine, ReadsLine, HasReadCause};
 
 use crate::window::Window;
 use crate::{Got, LineFault, Source};
@@ -55,18 +55,19 @@ impl LineReader {
         ensures answer { ReadsLine (S.left src.old) (S.left src.new) self.old self.new result }
         ensures cause { HasReadCause (S.faults src.old) (S.faults src.new) result }
 
-        // The source is asked only where the bytes kept hold no whole line, and none that is too long.
+        // The source is asked only where the bytes kept are the front of a line that may still be given.
         ensures asked { ¬ FitsLine self.old → src.new ≡ src.old }
         ensures stays { IsPastLimit self.old → (result ≡ Err LineFault.TooLong) × (self.new ≡ self.old) }
 
+        // No more is kept than a line of 140,000 bytes and one reading of 65,536.
         ensures held { length self.new ≤ 205_536 }
     {
-        next_of(self.alloc, &mut self.line, &mut self.window, src)
+        find_line(self.alloc, &mut self.line, &mut self.window, src)
     }
 }
 
-// The next line of the bytes that are held, those of the window and those of the source.
-fn next_of<S: Source>(
+// Takes the next line, and asks the source for more bytes until it is there.
+fn find_line<S: Source>(
     alloc: Global,
     held: &mut Vec<u8>,
     window: &mut Window,
@@ -82,7 +83,7 @@ fn next_of<S: Source>(
     ensures asked { ¬ FitsLine (held.old.items ++ window.old) → src.new ≡ src.old }
 {
     'readings: loop {
-        if let Some(line) = scan(alloc, held, window)? {
+        if let Some(line) = take_line(alloc, held, window)? {
             return Ok(Got::Line(line));
         }
         if window.refill(src)? == 0 {
@@ -91,24 +92,28 @@ fn next_of<S: Source>(
     }
 }
 
-// Takes the next line out of a window, behind its front that is held already. Where the line does not end there,
-// all of the window is held.
-fn scan(alloc: Global, held: &mut Vec<u8>, window: &mut Window) -> Result<Option<Octets>, LineFault>
+// Takes the next line out of a window, with the front of it that is held. Where it does not end there, all of the
+// window is held.
+fn take_line(
+    alloc: Global,
+    held: &mut Vec<u8>,
+    window: &mut Window,
+) -> Result<Option<Octets>, LineFault>
     requires { FitsLine held.old.items }
-    ensures answer { IsScan (held.old.items ++ window.old) held.new.items window.new result }
+    ensures answer { TakesLine (held.old.items ++ window.old) held.new.items window.new result }
     ensures err { OnErr result ((held.new.items ≡ held.old.items) × (window.new ≡ window.old)) }
     ensures front { FitsLine held.new.items }
     ensures fits { length window.new ≤ length window.old }
 {
     let ahead = window.bytes();
     let count = line_length(ahead);
-    let is_whole = count < ahead.len();
+    let is_ended = count < ahead.len();
     if held.len() + count > LINE_LIMIT {
         return Err(LineFault::TooLong);
     }
     held.extend_from_slice(&ahead[..count])?;
     window.consume(count);
-    if !is_whole {
+    if !is_ended {
         return Ok(None);
     }
     window.consume(1);

@@ -3,7 +3,7 @@ ghost use Rattle.io_edge.specs.Causes.{HasCause};
 ghost use Rattle.io_edge.specs.Told.{Takes};
 ghost use Rattle.io_edge.specs.Memory.{answer_to, after_put};
 
-use crate::calls::CallLog;
+use crate::call_log::CallLog;
 use crate::{Failed, Sink};
 use net_base::{NumberList, OutOfMemory};
 use std::alloc::Global;

@@ -4,7 +4,7 @@ ghost use Rattle.io_edge.specs.Causes.{HasCause};
 ghost use Rattle.io_edge.specs.Told.{Gives};
 ghost use Rattle.io_edge.specs.Memory.{piece_size, after_piece, next_fails, after_call};
 
-use crate::calls::CallLog;
+use crate::call_log::CallLog;
 use crate::{Failed, Source, SureSource};
 use net_base::{NumberList, Octets};
 use std::marker::Model;

@@ -55,7 +55,7 @@ impl<R: Input> Source for StdSource<R> {
 }
 
 // One read, begun again where a signal interrupts it.
-pub(crate) fn read_once<R: Read>(reader: &mut R, buf: &mut [u8]) -> io::Result<usize>
+fn read_once<R: Read>(reader: &mut R, buf: &mut [u8]) -> io::Result<usize>
     ensures { IfOk result (λ n. n ≤ length buf.new) }
 {
     for _ in 0..u64::MAX {

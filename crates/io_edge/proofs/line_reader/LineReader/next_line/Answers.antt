@@ -1,4 +1,4 @@
-use Rattle.std.proofs.Common.{◌≡◌, ◌++◌, ◌∙◌, sym, subst}
+use Rattle.std.proofs.Common.{◌∙◌, sym, subst}
 use Rattle.io_edge.specs.Lines.{IsPastLimit}
 use Rattle.io_edge.proofs.ReadingLemmas.{ReadsLine-past}
 use Rattle.io_edge.proofs.line_reader.LineReader.next_line.Goals as goal
@@ -6,5 +6,5 @@ use Rattle.io_edge.proofs.line_reader.LineReader.next_line.Goals as goal
 pub returns-clause-stays : goal.returns-clause-stays
 returns-clause-stays g c =
     λ past.
-    let stays = ReadsLine-past _ _ _ _ _ c.next_of.ensures.answer (subst IsPastLimit (sym c.self.view_is) past) in
+    let stays = ReadsLine-past _ _ _ _ _ c.find_line.ensures.answer (subst IsPastLimit (sym c.self.view_is) past) in
     (stays.0, stays.1 ∙ c.self.view_is)

@@ -1,20 +1,10 @@
 ghost use Rattle.std.specs.Prelude.{◌≡◌};
-ghost use Rattle.io_edge.specs.declared.answer.LineFault.TheVariants.{Failed as SourceFailed, OutOfMemory};
+ghost use Rattle.io_edge.specs.declared.line_fault.LineFault.TheVariants.{Failed as SourceFailed, OutOfMemory};
 
 use crate::Failed;
-use net_base::Octets;
 use std::alloc::AllocError;
 
-/// What a reader of lines found.
-#[derive(Debug, Drop)]
-pub enum Got {
-    /// The next line, without its line feed.
-    Line(Octets),
-    /// The input is over. What stands behind its last line feed is kept.
-    Over,
-}
-
-/// Why no line is given.
+/// Why a reader gives no line.
 #[derive(Clone, Copy, Debug, PartialEq, Eq)]
 pub enum LineFault {
     /// The source failed.

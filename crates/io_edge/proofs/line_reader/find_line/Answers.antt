@@ -1,9 +1,5 @@
-use Rattle.std.proofs.Common.{◌≡◌, ◌++◌, List, ℕ, [], refl, ap, ◌∙◌, subst, sym}
-use Rattle.std.proofs.lemmas.List.{append-nil}
-use Rattle.io_edge.specs.Lines.{FitsLine}
-use Rattle.io_edge.specs.Reading.{IsScan}
-use Rattle.io_edge.proofs.ReadingLemmas.{HasRead, HasRead-more}
-use Rattle.io_edge.proofs.line_reader.next_of.Goals as goal
+use Rattle.io_edge.proofs.ReadingLemmas.{HasRead-more}
+use Rattle.io_edge.proofs.line_reader.find_line.Goals as goal
 
 pub readings-preserved : goal.readings-preserved
 readings-preserved g c =

@@ -1,11 +1,10 @@
-use Rattle.std.proofs.Common.{◌≡◌, ℕ, ◌+◌, ◌<◌, ◌≤◌, List, [], ◌∷◌, ◌++◌, length, take, drop, sym, ap, ◌∙◌, subst, arith}
+use Rattle.std.proofs.Common.{◌≡◌, ◌<◌, ◌≤◌, ◌++◌, length, take, ap, ◌∙◌, subst, arith}
 use Rattle.std.specs.List.{position_or_len}
 use Rattle.std.proofs.lemmas.List.{drop_all}
 use Rattle.std.proofs.lemmas.Result.{err_from_is_err_and}
-use Rattle.io_edge.specs.Lines.{is_line_feed, line_limit, FitsLine, IsPastLimit}
-use Rattle.io_edge.specs.Reading.{IsScan}
+use Rattle.io_edge.specs.Lines.{is_line_feed, FitsLine}
 use Rattle.io_edge.proofs.ScanLemmas.{too_long, not_too_long, still_fits, all_joined, line_found}
-use Rattle.io_edge.proofs.line_reader.scan.Goals as goal
+use Rattle.io_edge.proofs.line_reader.take_line.Goals as goal
 
 pub returns-then-len-count-gt-LINE_LIMIT-clause-answer : goal.returns-then-len-count-gt-LINE_LIMIT-clause-answer
 returns-then-len-count-gt-LINE_LIMIT-clause-answer c =
@@ -20,8 +19,8 @@ returns-in_err-extend_from_slice-clause-answer c =
     let p = err_from_is_err_and c.from_residual.result c.from_residual.ensures.1 in
     rw (p.1, p.2) (not_too_long c.args.held.now.items c.args.window.now c.requires (omega arith))
 
-pub returns-then-not-is_whole-clause-answer : goal.returns-then-not-is_whole-clause-answer
-returns-then-not-is_whole-clause-answer c =
+pub returns-then-not-is_ended-clause-answer : goal.returns-then-not-is_ended-clause-answer
+returns-then-not-is_ended-clause-answer c =
     let at : c.line_length-count.result ≡ position_or_len is_line_feed c.args.window.now =
     c.line_length-count.ensures.value ∙ ap (position_or_len is_line_feed) c.bytes-ahead.ensures.value in
     let join : c.extend_from_slice.new.self.items ≡ c.args.held.now.items ++ take c.line_length-count.result c.args.window.now =
@@ -31,8 +30,8 @@ returns-then-not-is_whole-clause-answer c =
     let fits = still_fits c.args.held.now.items c.args.window.now c.extend_from_slice.new.self.items c.line_length-count.result c.requires at (omega arith) join in
     (subst FitsLine all fits, all, c.consume.ensures.rest ∙ drop_all c.line_length-count.result c.args.window.now far)
 
-pub returns-then-not-is_whole-clause-front : goal.returns-then-not-is_whole-clause-front
-returns-then-not-is_whole-clause-front c =
+pub returns-then-not-is_ended-clause-front : goal.returns-then-not-is_ended-clause-front
+returns-then-not-is_ended-clause-front c =
     let at : c.line_length-count.result ≡ position_or_len is_line_feed c.args.window.now =
     c.line_length-count.ensures.value ∙ ap (position_or_len is_line_feed) c.bytes-ahead.ensures.value in
     let join : c.extend_from_slice.new.self.items ≡ c.args.held.now.items ++ take c.line_length-count.result c.args.window.now =

@@ -1,7 +1,7 @@
 use Rattle.std.proofs.Common.{◌≤◌, ◌++◌, length, ◌+◌, ◌-◌}
 use Rattle.io_edge.specs.Lines.{FitsLine}
 use Rattle.io_edge.proofs.ReadingLemmas.{HasRead}
-use Rattle.io_edge.proofs.line_reader.next_of.Given as goal
+use Rattle.io_edge.proofs.line_reader.find_line.Given as goal
 
 abbrev pub invariant-readings : goal.invariant-readings
 invariant-readings g l = record {
