@@ -1,6 +1,6 @@
 pub mod CauseLemmas
+pub mod FrontLemmas
 pub mod LineLemmas
 pub mod LinesRead
 pub mod ReadingLemmas
-pub mod ScanLemmas
 pub mod ToldLemmas

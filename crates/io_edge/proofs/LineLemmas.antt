@@ -2,7 +2,7 @@
 use Rattle.std.proofs.Common.{◌≡◌, ℕ, ◌+◌, ◌-◌, ◌<◌, ◌≤◌, false, List, [], ◌∷◌, ◌++◌, length, get_or, take, All, refl, sym, ap, ◌∙◌, subst, ⊎_elim, arith}
 use Rattle.std.specs.List.{onto_first, before_first, after_first, position_or_len, join_with_byte}
 use Rattle.std.proofs.lemmas.Bool.{eqb-true, eq-eqb, cases_Bool, cases_lt, false≢true}
-use Rattle.std.proofs.lemmas.List.{append_assoc, length-append, length-take, take_all, take_at, get_or_at, get_or_append_left, get_or-take}
+use Rattle.std.proofs.lemmas.List.{append_assoc, append-nil, length-append, length-take, take_all, take_at, get_or_at, get_or_append_left, get_or-take}
 use Rattle.std.proofs.lemmas.List.Elements.{All-nil, All-cons, All-head, All-tail, All-append, All-take, All-get_or, All-weaker}
 use Rattle.std.proofs.lemmas.List.Folds.{prefix_len-append}
 use Rattle.std.proofs.lemmas.List.Sums.{split_at_first, fails_before_first, passes_at_first, position_or_len_is}
@@ -244,3 +244,10 @@ IsPastLimit-unfinished bytes none past =
 
 pub clean_lines : (lines : List (List ℕ)) → All FitsLine lines → All HasNoLineFeed lines
 clean_lines lines fit = All-weaker FitsLine HasNoLineFeed (λ line fits. fits.one_line) lines fit
+
+-- lines one after another, and one more
+pub ended_lines-append : (lines more : List (List ℕ)) → ended_lines (lines ++ more) ≡ ended_lines lines ++ ended_lines more
+ended_lines-append lines more = flat_map-append (λ line. line ++ 10 ∷ []) lines more
+
+pub ended_lines_push : (lines : List (List ℕ)) (line : List ℕ) → ended_lines (lines ++ line ∷ []) ≡ ended_lines lines ++ (line ++ 10 ∷ [])
+ended_lines_push lines line = ended_lines-append lines (line ∷ []) ∙ ap (λ (xs : List ℕ). ended_lines lines ++ xs) (append-nil (line ++ 10 ∷ []))

@@ -3,7 +3,6 @@ use Rattle.std.proofs.Common.{◌≡◌, ℕ, List, [], ◌∷◌, ◌++◌, All
 use Rattle.std.specs.Io.KnownBytes.{IsAtEnd}
 use Rattle.std.proofs.lemmas.List.{append_assoc, append-nil}
 use Rattle.std.proofs.lemmas.List.Elements.{All-nil, All-push}
-use Rattle.std.proofs.lemmas.Grind.{flat_map-append}
 use Rattle.io_edge.specs.declared.got.Got.{Got}
 use Rattle.io_edge.specs.declared.got.Got.TheVariants.{Line, Over}
 use Rattle.io_edge.specs.declared.line_fault.LineFault.{LineFault}
@@ -11,7 +10,7 @@ use Rattle.io_edge.specs.declared.line_fault.LineFault.TheVariants.{Failed, TooL
 use Rattle.io_edge.specs.Lines.{whole_lines, unfinished_line, ended_lines, CutsInto, FitsLine}
 use Rattle.io_edge.specs.Told.{Gives}
 use Rattle.io_edge.specs.Reading.{ReadsLine}
-use Rattle.io_edge.proofs.LineLemmas.{whole_lines_are, unfinished_line_is, whole_lines-ended, unfinished_line-ended, clean_lines}
+use Rattle.io_edge.proofs.LineLemmas.{whole_lines_are, unfinished_line_is, whole_lines-ended, unfinished_line-ended, ended_lines_push, clean_lines}
 use Rattle.io_edge.proofs.ToldLemmas.{Gives-nothing, Gives-append, Gives-told}
 
 -- From a moment on these lines were read, and these bytes are kept: the source gave both, and nothing else.
@@ -41,7 +40,7 @@ same_lines first before after lines kept taken left read gives is =
 pub HasReadLines-next : (first before after : Option (List ℕ)) (lines : List (List ℕ)) (kept left : List ℕ) (answer : Result Got LineFault) → HasReadLines first before lines kept → ReadsLine before after kept left answer → HasReadLines first after (lines_after lines answer) left
 HasReadLines-next first before after lines kept left (Ok (Line line)) read next =
     let joined : ended_lines lines ++ (line ++ 10 ∷ left) ≡ ended_lines (lines ++ line ∷ []) ++ left =
-    sym (ap (λ (xs : List ℕ). xs ++ left) (flat_map-append (λ line. line ++ 10 ∷ []) lines (line ∷ [])) ∙ simp append_assoc) in
+    sym (ap (λ (xs : List ℕ). xs ++ left) (ended_lines_push lines line) ∙ simp append_assoc) in
     let seen = seen_more first before after lines kept next.taken read next.gives in
     let all : ended_lines lines ++ (kept ++ next.taken) ≡ ended_lines (lines ++ line ∷ []) ++ left = ap (λ (xs : List ℕ). ended_lines lines ++ xs) next.answer.1 ∙ joined in
     record { gives = subst (Gives first after) all seen; each_fits = All-push FitsLine lines line read.each_fits next.answer.0 }

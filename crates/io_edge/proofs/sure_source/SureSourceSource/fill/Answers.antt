@@ -16,7 +16,6 @@ returns-clause-bytes c =
     let given = c.self.inside.given in
     let same : c.as_slice.result.now ≡ bytes = c.as_slice.ensures in
     let rest : length (take (length bytes - given) (drop given bytes)) ≡ length (drop given bytes) = ap length (take_rest bytes given) in
-    let most = c.min.ensures in
     let fits : c.min-count.result ≤ length (drop given bytes) = omega (arith, rw same at c.min.ensures) in
     let copy = rw same at c.copy_from_slice.ensures.after in
     ap (λ (pieces : Pieces). Some pieces.left) (sym c.self.view_is)
