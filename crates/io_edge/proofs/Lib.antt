@@ -1,5 +1,6 @@
 pub mod CauseLemmas
 pub mod FrontLemmas
+pub mod InputLemmas
 pub mod LineLemmas
 pub mod LinesRead
 pub mod ReadingLemmas

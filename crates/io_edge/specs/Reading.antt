@@ -1,5 +1,5 @@
 -- What reading the next line answers, and what it keeps.
-use Rattle.std.specs.Prelude.{◌≡◌, ℕ, ◌≤◌, List, [], ◌∷◌, ◌++◌, Option, Some, None, Result, Ok, Err}
+use Rattle.std.specs.Prelude.{◌≡◌, ℕ, ◌≤◌, List, [], ◌∷◌, ◌++◌, Option, Some, None, Result, Ok, Err, ⊤}
 use Rattle.std.specs.Io.KnownBytes.{IsAtEnd}
 use Rattle.io_edge.specs.declared.got.Got.{Got}
 use Rattle.io_edge.specs.declared.got.Got.TheVariants.{Line, Over}
@@ -24,6 +24,21 @@ pub record ReadsLine (left_before left_after : Option (List ℕ)) (kept_before k
   pub gives : Gives left_before left_after taken
   pub none_needed : ¬ FitsLine kept_before → taken ≡ []
   pub answer : IsAnswer (kept_before ++ taken) kept_after left_after result
+
+-- The answer to all that the input has left, in whatever readings it comes.
+abbrev pub AnswersInput : List ℕ → Result Got LineFault → Type 0
+AnswersInput input (Ok (Line line)) = FitsLine line × ((rest : List ℕ) × (input ≡ line ++ 10 ∷ rest))
+AnswersInput input (Ok Over) = FitsLine input
+AnswersInput input (Err TooLong) = IsPastLimit input
+AnswersInput input (Err Failed) = ⊤
+AnswersInput input (Err OutOfMemory) = ⊤
+
+-- neither a fault of the source nor want of memory
+abbrev pub IsOfInput : Result Got LineFault → Type 0
+IsOfInput (Ok got) = ⊤
+IsOfInput (Err TooLong) = ⊤
+IsOfInput (Err Failed) = ⊥
+IsOfInput (Err OutOfMemory) = ⊥
 
 -- A fault of the source is answered only where its count of faults rose, and else the count stays.
 abbrev pub HasReadCause : ℕ → ℕ → Result Got LineFault → Type 0

@@ -5,6 +5,7 @@
 mod call_log;
 mod failed;
 mod got;
+mod law;
 mod line_fault;
 mod line_reader;
 mod mem_sink;
@@ -18,6 +19,7 @@ mod window;
 
 pub use failed::Failed;
 pub use got::Got;
+pub use law::{bytes_are_cut_in_one_way, inputs_have_one_answer};
 pub use line_fault::LineFault;
 pub use line_reader::LineReader;
 pub use mem_sink::MemSink;

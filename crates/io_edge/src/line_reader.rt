@@ -1,7 +1,7 @@
-ghost use Rattle.std.specs.Prelude.{◌≡◌, ◌<◌, ◌≤◌, ℕ, List, [], ◌∷◌, ◌++◌, length, IfOk, OnOk, OnErr};
+ghost use Rattle.std.specs.Prelude.{◌≡◌, ◌<◌, ◌≤◌, ℕ, List, [], ◌∷◌, ◌++◌, length, IfSome, IfOk, OnOk, OnErr};
 ghost use Rattle.std.specs.List.{position_or_len};
 ghost use Rattle.io_edge.specs.Lines.{is_line_feed, HasNoLineFeed, FitsLine, IsPastLimit};
-ghost use Rattle.io_edge.specs.Reading.{TakesLine, ReadsLine, HasReadCause};
+ghost use Rattle.io_edge.specs.Reading.{TakesLine, ReadsLine, AnswersInput, HasReadCause};
 
 use crate::window::Window;
 use crate::{Got, LineFault, Source};
@@ -53,6 +53,7 @@ impl LineReader {
     /// for the next call. A line that is too long is kept too, and answered again by every later call.
     pub fn next_line<S: Source>(&mut self, src: &mut S) -> Result<Got, LineFault>
         ensures answer { ReadsLine (S.left src.old) (S.left src.new) self.old self.new result }
+        ensures input { IfSome (S.left src.old) (λ left. AnswersInput (self.old ++ left) result) }
         ensures cause { HasReadCause (S.faults src.old) (S.faults src.new) result }
 
         // The source is asked only where the bytes kept are the front of a line that may still be given.
