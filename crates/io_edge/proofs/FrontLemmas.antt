@@ -1,0 +1,42 @@
+-- A front of a line that is held, and the bytes ahead of it.
+use Rattle.std.proofs.Common.{◌≡◌, ℕ, ◌+◌, ◌<◌, ◌≤◌, List, ◌∷◌, ◌++◌, length, take, drop, refl, sym, ap, ◌∙◌, arith}
+use Rattle.std.specs.List.{before_first, position_or_len}
+use Rattle.std.proofs.lemmas.List.{append_assoc, length-append, length-take, drop-drop, take_all}
+use Rattle.std.proofs.lemmas.List.Sums.{prefix_len-le-length}
+use Rattle.io_edge.specs.Lines.{is_line_feed, HasNoLineFeed, line_limit, FitsLine, IsPastLimit}
+use Rattle.io_edge.proofs.LineLemmas.{HasNoLineFeed-append, HasNoLineFeed-before_first, before_first-append, first_cut}
+
+-- how many bytes of the line are there
+pub line_so_far : (held ahead : List ℕ) → HasNoLineFeed held → length (before_first is_line_feed (held ++ ahead)) ≡ length held + position_or_len is_line_feed ahead
+line_so_far held ahead clean =
+    let bound : position_or_len is_line_feed ahead ≤ length ahead = prefix_len-le-length _ ahead in
+    ap length (before_first-append held ahead clean)
+    ∙ omega (arith, length-append held (before_first is_line_feed ahead), length-take (position_or_len is_line_feed ahead) ahead)
+
+pub too_long : (held ahead : List ℕ) → FitsLine held → line_limit < length held + position_or_len is_line_feed ahead → IsPastLimit (held ++ ahead)
+too_long held ahead fits more = omega (arith, line_so_far held ahead fits.one_line)
+
+pub not_too_long : (held ahead : List ℕ) → FitsLine held → length held + position_or_len is_line_feed ahead ≤ line_limit → IsPastLimit (held ++ ahead) → ⊥
+not_too_long held ahead fits less past = omega (arith, line_so_far held ahead fits.one_line)
+
+-- what stands before the first line feed joins what is held
+pub still_fits : (held ahead joined : List ℕ) (n : ℕ) → FitsLine held → n ≡ position_or_len is_line_feed ahead → length held + n ≤ line_limit → joined ≡ held ++ take n ahead → FitsLine joined
+still_fits held ahead joined n fits at less join =
+    let front : joined ≡ held ++ before_first is_line_feed ahead = rw (join, at) refl in
+    rw front (record {
+      one_line = HasNoLineFeed-append held (before_first is_line_feed ahead) fits.one_line (HasNoLineFeed-before_first ahead);
+      short = omega (arith, length-append held (before_first is_line_feed ahead), length-take (position_or_len is_line_feed ahead) ahead);
+    })
+
+-- where no line feed is found, all is joined
+pub all_joined : (held ahead joined : List ℕ) (n : ℕ) → length ahead ≤ n → joined ≡ held ++ take n ahead → joined ≡ held ++ ahead
+all_joined held ahead joined n far join = join ∙ ap (λ (xs : List ℕ). held ++ xs) (take_all n ahead far)
+
+-- where one is found, the line ends there
+pub line_found : (held ahead joined : List ℕ) (n : ℕ) → n ≡ position_or_len is_line_feed ahead → n < length ahead → joined ≡ held ++ take n ahead → held ++ ahead ≡ joined ++ 10 ∷ drop 1 (drop n ahead)
+line_found held ahead joined n at found join =
+    let within : position_or_len is_line_feed ahead < length ahead = omega arith in
+    rw (join, at) (
+    ap (λ (xs : List ℕ). held ++ xs) (first_cut ahead within)
+    ∙ sym (append_assoc held (before_first is_line_feed ahead) _)
+    ∙ ap (λ (xs : List ℕ). (held ++ before_first is_line_feed ahead) ++ 10 ∷ xs) (sym (drop-drop 1 (position_or_len is_line_feed ahead) ahead)))

@@ -1,0 +1,7 @@
+pub mod CauseLemmas
+pub mod FrontLemmas
+pub mod InputLemmas
+pub mod LineLemmas
+pub mod LinesRead
+pub mod ReadingLemmas
+pub mod ToldLemmas

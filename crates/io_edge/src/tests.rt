@@ -1,0 +1,149 @@
+ghost use Rattle.std.specs.Prelude.{◌≤◌};
+
+mod std_streams;
+
+use crate::*;
+use net_base::{NumberList, Octets, OutOfMemory};
+use std::alloc::Global;
+use std::test::Fail;
+
+// Three whole lines, of which one is empty, and a rest.
+const INPUT: &[u8] = b"first line\n\n> third\nno end";
+
+fn octets(alloc: Global, bytes: &[u8]) -> Result<Octets, OutOfMemory> {
+    Ok(Octets::from_vec(bytes.to_vec(alloc)?))
+}
+
+fn numbers(alloc: Global, numbers: &[u64]) -> Result<NumberList, OutOfMemory> {
+    Ok(NumberList::from_vec(numbers.to_vec(alloc)?))
+}
+
+// What a reader gave: each line with a bar behind it, and how often it answered that the source failed.
+#[derive(Drop)]
+struct Heard {
+    lines: Vec<u8>,
+    faults: u64,
+}
+
+// Reads lines until the input is over, and asks again after each fault of the source.
+fn hear<S: Source>(alloc: Global, src: &mut S) -> Result<Heard, Fail> {
+    let mut reader = LineReader::new(alloc)?;
+    let mut lines = Vec::new(alloc);
+    let mut faults: u64 = 0;
+    for _ in 0..1000 {
+        match reader.next_line(src) {
+            Ok(Got::Line(line)) => {
+                lines.extend_from_slice(line.as_slice())?;
+                lines.push(b'|')?;
+            }
+            Ok(Got::Over) => return Ok(Heard { lines, faults }),
+            Err(LineFault::Failed) => faults = faults.saturating_add(1),
+            Err(fault) => return Err(fault.into()),
+        }
+    }
+    Err("the input has no end".into())
+}
+
+// The lines of a text that is given in pieces of this size.
+fn lines_by(alloc: Global, piece: usize) -> Result<Vec<u8>, Fail>
+    requires { 1 ≤ piece }
+{
+    let mut src = SureSource::new(octets(alloc, INPUT)?, piece);
+    Ok(hear(alloc, &mut src)?.lines)
+}
+
+#[test]
+fn the_lines_do_not_depend_on_the_pieces(rt: HostRuntime) -> Result<(), Fail> {
+    let alloc = rt.alloc();
+    let lines: &[u8] = b"first line||> third|";
+    assert_eq!(rt; lines_by(alloc, 1)?.as_slice(), lines);
+    assert_eq!(rt; lines_by(alloc, 2)?.as_slice(), lines);
+    assert_eq!(rt; lines_by(alloc, 7)?.as_slice(), lines);
+    assert_eq!(rt; lines_by(alloc, 65_536)?.as_slice(), lines);
+    Ok(())
+}
+
+#[test]
+fn a_call_that_fails_costs_no_byte(rt: HostRuntime) -> Result<(), Fail> {
+    let alloc = rt.alloc();
+    // 26 bytes in pieces of 3, and the call that finds the end.
+    for failing in 1..=10 {
+        let mut src = MemSource::new(octets(alloc, INPUT)?, 3, numbers(alloc, &[failing])?);
+        let heard = hear(alloc, &mut src)?;
+        assert_eq!(rt;
+            heard.lines.as_slice(),
+            b"first line||> third|".as_slice(),
+            "{failing}"
+        );
+        assert_eq!(rt; heard.faults, 1, "{failing}");
+        assert_eq!(rt; src.calls(), 11, "{failing}");
+    }
+    Ok(())
+}
+
+#[test]
+fn no_call_is_made_once_a_line_is_there(rt: HostRuntime) -> Result<(), Fail> {
+    let alloc = rt.alloc();
+    let mut src = MemSource::new(octets(alloc, INPUT)?, 20, numbers(alloc, &[2])?);
+    let mut reader = LineReader::new(alloc)?;
+    for _ in 0..3 {
+        assert!(rt; matches!(reader.next_line(&mut src)?, Got::Line(_)));
+        assert_eq!(rt; src.calls(), 1);
+    }
+    assert!(rt; matches!(reader.next_line(&mut src), Err(LineFault::Failed)));
+    assert!(rt; matches!(reader.next_line(&mut src)?, Got::Over));
+    Ok(())
+}
+
+// What a line of so many bytes is answered, with its line feed or without.
+fn answer_of(alloc: Global, count: usize, ended: bool) -> Result<Result<usize, LineFault>, Fail> {
+    let mut bytes = vec![in alloc; b'a'; count]?;
+    if ended {
+        bytes.extend_from_slice(b"\nend\n")?;
+    }
+    let mut src = SureSource::new(Octets::from_vec(bytes), 4_096);
+    let mut reader = LineReader::new(alloc)?;
+    Ok(match reader.next_line(&mut src) {
+        Ok(Got::Line(line)) => Ok(line.as_slice().len()),
+        Ok(Got::Over) => Ok(0),
+        Err(fault) => Err(fault),
+    })
+}
+
+#[test]
+fn a_line_has_at_most_140_000_bytes(rt: HostRuntime) -> Result<(), Fail> {
+    let alloc = rt.alloc();
+    assert_eq!(rt; answer_of(alloc, 140_000, true)?, Ok(140_000));
+    assert_eq!(rt; answer_of(alloc, 140_001, true)?, Err(LineFault::TooLong));
+    assert_eq!(rt; answer_of(alloc, 140_000, false)?, Ok(0));
+    assert_eq!(rt; answer_of(alloc, 140_001, false)?, Err(LineFault::TooLong));
+    Ok(())
+}
+
+#[test]
+fn a_line_that_is_too_long_stays(rt: HostRuntime) -> Result<(), Fail> {
+    let alloc = rt.alloc();
+    let bytes = Octets::from_vec(vec![in alloc; b'a'; 200_000]?);
+    let mut src = MemSource::new(bytes, 65_536, numbers(alloc, &[])?);
+    let mut reader = LineReader::new(alloc)?;
+    for _ in 0..3 {
+        assert!(rt; matches!(reader.next_line(&mut src), Err(LineFault::TooLong)));
+        assert_eq!(rt; src.calls(), 3);
+    }
+    Ok(())
+}
+
+#[test]
+fn a_piece_is_taken_whole_or_up_to_a_fault(rt: HostRuntime) -> Result<(), Fail> {
+    let alloc = rt.alloc();
+    let mut out = MemSink::new(alloc, 8, numbers(alloc, &[3])?)?;
+    assert_eq!(rt; put_all(&mut out, b"abc"), Ok(()));
+    assert_eq!(rt; put_all(&mut out, b""), Ok(()));
+    assert_eq!(rt; put_all(&mut out, b"def"), Ok(()));
+    assert_eq!(rt; put_all(&mut out, b"gh"), Err(Failed));
+    assert_eq!(rt; out.bytes(), b"abcdef".as_slice());
+    assert_eq!(rt; put_all(&mut out, b"ghi"), Err(Failed));
+    assert_eq!(rt; out.bytes(), b"abcdefgh".as_slice());
+    assert_eq!(rt; out.put(b""), Ok(0));
+    Ok(())
+}
