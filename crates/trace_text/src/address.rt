@@ -1,0 +1,66 @@
+ghost use Rattle.std.specs.Prelude.{◌≡◌};
+ghost use Rattle.trace_text.specs.Addresses.{address_of, ipv4_address_of, ipv6_address_of, octets_of, groups_of, port_of, port_after};
+
+use std::net::Ipv4Addr;
+
+use net_base::{Addr, Ip, read_number};
+
+use crate::pieces::{Pieces, cut_once};
+
+/// The address that a word spells. A trace of version 1 has no IPv6 address.
+pub fn read_address(version: u64, word: &[u8]) -> Option<Addr>
+    ensures { result ≡ address_of version word.now }
+{
+    match word {
+        [b'[', rest @ ..] if version == 2 => read_ipv6(rest),
+        _ => read_ipv4(word),
+    }
+}
+
+fn read_ipv4(word: &[u8]) -> Option<Addr>
+    ensures { result ≡ ipv4_address_of word.now }
+{
+    let (host, rest) = cut_once(word, b':')?;
+    let ip = Ip::V4(read_octets(host)?);
+    let port = read_port(rest)?;
+    Some(Addr { ip, port })
+}
+
+// An IPv6 address behind its opening bracket.
+fn read_ipv6(word: &[u8]) -> Option<Addr>
+    ensures { result ≡ ipv6_address_of word.now }
+{
+    let (host, rest) = cut_once(word, b']')?;
+    let ip = Ip::V6(read_groups(host)?);
+    let port = read_port_after(rest)?;
+    Some(Addr { ip, port })
+}
+
+fn read_port(word: &[u8]) -> Option<u16>
+    ensures { result ≡ port_of word.now }
+{
+    let port = read_number(word, 65_535)?;
+    Some(port as u16)
+}
+
+fn read_port_after(word: &[u8]) -> Option<u16>
+    ensures { result ≡ port_after word.now }
+{
+    match word {
+        [b':', port @ ..] => read_port(port),
+        _ => None,
+    }
+}
+
+fn read_octets(text: &[u8]) -> Option<u32>
+    ensures { result ≡ octets_of text.now }
+{
+    let ip = Ipv4Addr::parse_ascii(text).ok()?;
+    Some(ip.to_bits())
+}
+
+fn read_groups(text: &[u8]) -> Option<u128>
+    ensures { result ≡ groups_of text.now }
+{
+    None
+}

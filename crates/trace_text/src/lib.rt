@@ -1,0 +1,14 @@
+//! The lines of a trace: reading them, and printing actions as lines.
+#![tactic(auto)]
+
+mod address;
+mod line;
+mod pieces;
+mod read;
+mod setting;
+mod stage;
+mod words;
+
+pub use line::{HeadLine, Line, LineRefusal};
+pub use read::read_line;
+pub use stage::Stage;
