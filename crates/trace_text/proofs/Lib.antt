@@ -1,3 +1,4 @@
 pub mod Cutting
 pub mod Numerals
 pub mod Digits
+pub mod Spelling
