@@ -37,7 +37,7 @@ number-low_digits base (suc count) n h fits =
     ∙ ap (λ (m : ℕ). m * base + n % base) front
     ∙ div-mul-mod n base
 
-split_last : (count : ℕ) (ds : List ℕ) → length ds ≡ suc count → (front : List ℕ) × (d : ℕ) × (ds ≡ front ++ d ∷ []) × (length front ≡ count)
+pub split_last : (count : ℕ) (ds : List ℕ) → length ds ≡ suc count → (front : List ℕ) × (d : ℕ) × (ds ≡ front ++ d ∷ []) × (length front ≡ count)
 split_last zero (d ∷ []) e = ([], d, refl, refl)
 split_last zero (d ∷ c ∷ ds) e = absurd (omega arith)
 split_last zero [] e = absurd (omega arith)
@@ -46,7 +46,7 @@ split_last (suc count) (d ∷ ds) e =
     let (front, last, parts, len) = split_last count ds (omega arith) in
     (d ∷ front, last, ap (λ (xs : List ℕ). d ∷ xs) parts, ap suc len)
 
-below_parts : (base : ℕ) (xs : List ℕ) (d : ℕ) → AllBelowBase base (xs ++ d ∷ []) → AllBelowBase base xs × (d < base)
+pub below_parts : (base : ℕ) (xs : List ℕ) (d : ℕ) → AllBelowBase base (xs ++ d ∷ []) → AllBelowBase base xs × (d < base)
 below_parts base [] d h = (tt, h.0)
 below_parts base (x ∷ xs) d h = let p = below_parts base xs d h.1 in ((h.0, p.0), p.1)
 

@@ -2,3 +2,5 @@ pub mod Cutting
 pub mod Numerals
 pub mod Digits
 pub mod Spelling
+pub mod Printed
+pub mod Groups

@@ -12,10 +12,14 @@ use Rattle.trace_text.specs.Words.{pieces_of}
 use Rattle.trace_text.specs.Addresses.{◌>>=◌, all_read, number_read, number_in_pieces, low_digits}
 use Rattle.trace_text.proofs.Digits.{length-low_digits, below-low_digits, number-low_digits, low_digits-number}
 
+-- what is printed of each number below a base is read as that number, and nothing else is
+pub record IsInverse {A : Type 0} (base : ℕ) (read : A → Option ℕ) (print : ℕ → A) : Type 0 where
+  pub again : (n : ℕ) → n < base → read (print n) ≡ Some n
+  pub only : (x : A) (n : ℕ) → read x ≡ Some n → (x ≡ print n) × (n < base)
+
 -- the words of the digits of a base, none of which holds the separator
 pub record IsSpelling (separator base : ℕ) (read : List ℕ → Option ℕ) (print : ℕ → List ℕ) : Type 0 where
-  pub again : (n : ℕ) → n < base → read (print n) ≡ Some n
-  pub only : (word : List ℕ) (n : ℕ) → read word ≡ Some n → (word ≡ print n) × (n < base)
+  pub inverse : IsInverse base read print
   pub apart : (n : ℕ) → n < base → All (λ c. eqb c separator ≡ false) (print n)
 
 -- the value of a step that gave one
@@ -27,34 +31,35 @@ pub map_some : {A B : Type 0} (o : Option A) (f : A → B) (y : B) → option_ma
 map_some (Some x) f y e = (x, refl, same_Some (f x) y e)
 map_some None f y e = absurd cc
 
-cond_same : {A : Type 0} (b : Bool) (o : Option A) (x : A) → cond b o None ≡ Some x → (b ≡ true) × (o ≡ Some x)
+pub cond_same : {A : Type 0} (b : Bool) (o : Option A) (x : A) → cond b o None ≡ Some x → (b ≡ true) × (o ≡ Some x)
 cond_same true o x e = (refl, e)
 cond_same false o x e = absurd cc
 
-module _ (separator base : ℕ) (read : List ℕ → Option ℕ) (print : ℕ → List ℕ) (spelling : IsSpelling separator base read print) where
-  all_read-map : (ns : List ℕ) → AllBelowBase base ns → all_read read (map print ns) ≡ Some ns
+module _ {A : Type 0} (base : ℕ) (read : A → Option ℕ) (print : ℕ → A) (inverse : IsInverse base read print) where
+  pub all_read-map : (ns : List ℕ) → AllBelowBase base ns → all_read read (map print ns) ≡ Some ns
   all_read-map [] h = refl
-  all_read-map (n ∷ ns) h = rw (spelling.again n h.0, all_read-map ns h.1) refl
+  all_read-map (n ∷ ns) h = rw (inverse.again n h.0, all_read-map ns h.1) refl
 
-  record IsRead (words : List (List ℕ)) (ns : List ℕ) : Type 0 where
-    printed : words ≡ map print ns
-    below : AllBelowBase base ns
-    len : length ns ≡ length words
+  pub record AreRead (xs : List A) (ns : List ℕ) : Type 0 where
+    pub printed : xs ≡ map print ns
+    pub below : AllBelowBase base ns
+    pub len : length ns ≡ length xs
 
-  more_read : (word : List ℕ) (words : List (List ℕ)) (n : ℕ) (ns : List ℕ) → (word ≡ print n) × (n < base) → IsRead words ns → IsRead (word ∷ words) (n ∷ ns)
-  more_read word words n ns first later = record {
-    printed = ap (λ (w : List ℕ). w ∷ words) first.0 ∙ ap (λ (ws : List (List ℕ)). print n ∷ ws) later.printed;
+  more_read : (x : A) (xs : List A) (n : ℕ) (ns : List ℕ) → (x ≡ print n) × (n < base) → AreRead xs ns → AreRead (x ∷ xs) (n ∷ ns)
+  more_read x xs n ns first later = record {
+    printed = ap (λ (y : A). y ∷ xs) first.0 ∙ ap (λ (ys : List A). print n ∷ ys) later.printed;
     below = (first.1, later.below);
     len = ap suc later.len;
   }
 
-  all_read_only : (words : List (List ℕ)) (ns : List ℕ) → all_read read words ≡ Some ns → IsRead words ns
-  all_read_only [] ns e = subst (IsRead []) (same_Some [] ns e) (record { printed = refl; below = tt; len = refl })
-  all_read_only (word ∷ words) ns e =
-      let p = bind_some (read word) (λ n. all_read read words >>= λ ns. Some (n ∷ ns)) ns e in
-      let q = bind_some (all_read read words) (λ ns. Some (p.0 ∷ ns)) ns p.2 in
-      subst (IsRead (word ∷ words)) (same_Some (p.0 ∷ q.0) ns q.2) (more_read word words p.0 q.0 (spelling.only word p.0 p.1) (all_read_only words q.0 q.1))
+  pub all_read_only : (xs : List A) (ns : List ℕ) → all_read read xs ≡ Some ns → AreRead xs ns
+  all_read_only [] ns e = subst (AreRead []) (same_Some [] ns e) (record { printed = refl; below = tt; len = refl })
+  all_read_only (x ∷ xs) ns e =
+      let p = bind_some (read x) (λ n. all_read read xs >>= λ ns. Some (n ∷ ns)) ns e in
+      let q = bind_some (all_read read xs) (λ ns. Some (p.0 ∷ ns)) ns p.2 in
+      subst (AreRead (x ∷ xs)) (same_Some (p.0 ∷ q.0) ns q.2) (more_read x xs p.0 q.0 (inverse.only x p.0 p.1) (all_read_only xs q.0 q.1))
 
+module _ (separator base : ℕ) (read : List ℕ → Option ℕ) (print : ℕ → List ℕ) (spelling : IsSpelling separator base read print) where
   pieces_of-join : (n : ℕ) (ns : List ℕ) → AllBelowBase base (n ∷ ns) → pieces_of separator (join_with_byte separator (map print (n ∷ ns))) ≡ map print (n ∷ ns)
   pieces_of-join n [] h = slice_split_none (λ c. eqb c separator) (print n) (spelling.apart n h.0)
   pieces_of-join n (m ∷ ns) h =
@@ -73,7 +78,7 @@ module _ (separator base : ℕ) (read : List ℕ → Option ℕ) (print : ℕ �
       let enough : length (map print digits) ≡ suc count = length-map digits print ∙ length-low_digits base (suc count) n in
       ap (number_in_pieces (suc count) base read) pieces
       ∙ cond-true (eqb (length (map print digits)) (suc count)) (number_read base read (map print digits)) None (eq-eqb _ _ enough)
-      ∙ ap (option_map (number_from_digits base)) (all_read-map digits below)
+      ∙ ap (option_map (number_from_digits base)) (all_read-map base read print spelling.inverse digits below)
       ∙ ap Some (number-low_digits base (suc count) n some fits)
 
   pub reads_only : (count n : ℕ) (text : List ℕ) → number_in_pieces count base read (pieces_of separator text) ≡ Some n → (text ≡ spelled count n) × (n < base ^ count)
@@ -81,7 +86,7 @@ module _ (separator base : ℕ) (read : List ℕ → Option ℕ) (print : ℕ �
       let pieces = pieces_of separator text in
       let p = cond_same (eqb (length pieces) count) (number_read base read pieces) n e in
       let q = map_some (all_read read pieces) (number_from_digits base) n p.1 in
-      let r = all_read_only pieces q.0 q.1 in
+      let r = all_read_only base read print spelling.inverse pieces q.0 q.1 in
       let long : length q.0 ≡ count = r.len ∙ eqb-true _ _ p.0 in
       let digits : low_digits base count n ≡ q.0 = ap (low_digits base count) (sym q.2) ∙ low_digits-number base count q.0 long r.below in
       (
