@@ -4,3 +4,5 @@ pub mod Digits
 pub mod Spelling
 pub mod Printed
 pub mod Groups
+pub mod Octets
+pub mod Reading
