@@ -6,3 +6,4 @@ pub mod Printed
 pub mod Groups
 pub mod Octets
 pub mod Reading
+pub mod Ips

@@ -27,7 +27,7 @@ IsSpelling-octets = record {
   apart = λ n _. tested_apart 46 (decimal n) (digits_apart 46 10 n (lit< tt));
 }
 
-dotted_join : (a b c d : ℕ) → dotted_text a b c d ≡ join_with_byte 46 (map decimal (a ∷ b ∷ c ∷ d ∷ []))
+pub dotted_join : (a b c d : ℕ) → dotted_text a b c d ≡ join_with_byte 46 (map decimal (a ∷ b ∷ c ∷ d ∷ []))
 dotted_join a b c d = simp append_assoc
 
 -- four octets as a number

@@ -8,18 +8,11 @@ use Rattle.std.proofs.lemmas.Bool.Decides.{nat_tests}
 use Rattle.std.proofs.lemmas.List.{at_drop_more}
 use Rattle.trace_text.specs.Addresses.{◌>>=◌, all_read, number_read, number_in_pieces}
 
-eqb-suc : (m n : ℕ) → eqb (suc m) (suc n) ≡ eqb m n
-eqb-suc m n = grind (arith, nat_tests)
-
 -- a number with few digits has room for one more
 pub fits_more : (base most index value : ℕ) → 0 < base → index ≤ most → value < base ^ index → value < base ^ most
 fits_more base most index value some low small =
     let p : base ^ index ≤ base ^ most = pow-le-pow_right some low in
     omega arith
-
-same_arms : (b : Bool) → ◌≡◌ {A = Option ℕ} (cond b None None) None
-same_arms true = refl
-same_arms false = refl
 
 module _ {A : Type 0} (base : ℕ) (read : A → Option ℕ) where
   -- the number that the rest gives behind the value so far
@@ -46,15 +39,6 @@ module _ {A : Type 0} (base : ℕ) (read : A → Option ℕ) where
   -- the same, where so many members are left
   abbrev pub read_rest : ℕ → ℕ → List A → Option ℕ
   read_rest count value xs = cond (eqb (length xs) count) (read_on value xs) None
-
-  pub read_rest-some : (count value n : ℕ) (x : A) (xs : List A) → read x ≡ Some n → read_rest (suc count) value (x ∷ xs) ≡ read_rest count (value * base + n) xs
-  read_rest-some count value n x xs e =
-      ap (λ (b : Bool). cond b (read_on value (x ∷ xs)) None) (eqb-suc (length xs) count)
-      ∙ ap (λ (o : Option ℕ). cond (eqb (length xs) count) o None) (read_on-some value n x xs e)
-
-  pub read_rest-none : (count value : ℕ) (x : A) (xs : List A) → read x ≡ None → read_rest (suc count) value (x ∷ xs) ≡ None
-  read_rest-none count value x xs e =
-      ap (λ (o : Option ℕ). cond (eqb (suc (length xs)) (suc count)) o None) (read_on-none value x xs e) ∙ same_arms (eqb (suc (length xs)) (suc count))
 
 -- one digit more is still below the next power
 pub small_more : (base index value digit : ℕ) → value < base ^ index → digit < base → value * base + digit < base ^ (index + 1)

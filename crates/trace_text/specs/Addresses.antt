@@ -87,12 +87,21 @@ abbrev pub low_digits : ℕ → ℕ → ℕ → List ℕ
 low_digits base zero n = []
 low_digits base (suc count) n = (n / base ^ count % base) ∷ low_digits base count n
 
-abbrev pub printed_ip : Ip → List ℕ
-printed_ip (V4 ip) = join_with_byte 46 (map decimal (low_digits 256 4 ip))
-printed_ip (V6 ip) = codes "[" ++ (join_with_byte 58 (map (digits 16 false) (low_digits 65536 8 ip)) ++ codes "]")
+abbrev pub printed_octets : ℕ → List ℕ
+printed_octets ip = join_with_byte 46 (map decimal (low_digits 256 4 ip))
+
+abbrev pub joined_groups : List ℕ → List ℕ
+joined_groups groups = join_with_byte 58 (map (digits 16 false) groups)
+
+abbrev pub printed_groups : ℕ → List ℕ
+printed_groups ip = joined_groups (low_digits 65536 8 ip)
+
+abbrev pub printed_at : Ip → ℕ → List ℕ
+printed_at (V4 ip) port = printed_octets ip ++ (codes ":" ++ decimal port)
+printed_at (V6 ip) port = codes "[" ++ (printed_groups ip ++ (codes "]:" ++ decimal port))
 
 abbrev pub printed_address : Addr → List ℕ
-printed_address address = printed_ip address.ip ++ (codes ":" ++ decimal address.port)
+printed_address address = printed_at address.ip address.port
 
 -- what an address of each family can be
 abbrev pub IsIp : Ip → Type 0

@@ -7,6 +7,7 @@ mod pieces;
 mod read;
 mod setting;
 mod stage;
+mod text;
 mod words;
 
 pub use line::{HeadLine, Line, LineRefusal};
