@@ -22,14 +22,15 @@ away_word away.OwnAddr = codes "self"
 away_word away.Crossed = codes "crossed"
 away_word away.Present = codes "present"
 
-abbrev pub fault_word : FaultKind → List ℕ
-fault_word fault.Malformed = codes "malformed"
-fault_word fault.Deep = codes "deep"
-fault_word fault.TooLong = codes "toolong"
-fault_word fault.Protocol = codes "protocol"
-fault_word fault.UnknownId = codes "unknownid"
-fault_word fault.HandshakeWait = codes "handshakewait"
-fault_word fault.ReplyWait = codes "replywait"
+-- `fault` and its kind
+abbrev pub fault_words : FaultKind → List ℕ
+fault_words fault.Malformed = codes "fault malformed"
+fault_words fault.Deep = codes "fault deep"
+fault_words fault.TooLong = codes "fault toolong"
+fault_words fault.Protocol = codes "fault protocol"
+fault_words fault.UnknownId = codes "fault unknownid"
+fault_words fault.HandshakeWait = codes "fault handshakewait"
+fault_words fault.ReplyWait = codes "fault replywait"
 
 abbrev pub cause_words : CloseCause → List ℕ
 cause_words cause.Unused = codes "unused"
@@ -37,7 +38,7 @@ cause_words cause.Pruned = codes "pruned"
 cause_words cause.Overwritten = codes "overwritten"
 cause_words cause.Refused = codes "refused"
 cause_words cause.Query = codes "query"
-cause_words (cause.Fault kind) = codes "fault " ++ fault_word kind
+cause_words (cause.Fault kind) = fault_words kind
 
 abbrev pub note_word : PeerNote → List ℕ
 note_word note.Known = codes "known"

@@ -4,6 +4,7 @@
 mod address;
 mod line;
 mod pieces;
+mod print;
 mod read;
 mod setting;
 mod stage;
@@ -11,5 +12,6 @@ mod text;
 mod words;
 
 pub use line::{HeadLine, Line, LineRefusal};
+pub use print::print_action;
 pub use read::read_line;
 pub use stage::Stage;
