@@ -5,7 +5,8 @@ use Rattle.std.specs.Borrow.{Bor}
 use Rattle.std.specs.List.{All, position_or_len, before_first, after_first, slice_split}
 use Rattle.std.proofs.lemmas.Bool.{false≢true, cases_lt, lt-ltb, le-ltb, eqb-true, eqb-false, ne_eqb, eq-eqb}
 use Rattle.std.proofs.lemmas.Option.{some_pair_parts}
-use Rattle.std.proofs.lemmas.List.Elements.{All-from_get_or}
+use Rattle.std.proofs.lemmas.List.Elements.{All-from_get_or, All-get_or}
+use Rattle.std.proofs.lemmas.List.{length-append, get_or_append_left, get_or_at, take_at, drop_at, drop-drop}
 use Rattle.std.proofs.lemmas.List.Sums.{split_at_first, passes_at_first, fails_before_first, position_or_len_is}
 use Rattle.std.proofs.lemmas.List.Splits.{slice_split_first, slice_split_none, slice_split_at, length-slice_split}
 use Rattle.trace_text.specs.Words.{pieces_of, pieces_left, cut_at}
@@ -53,3 +54,18 @@ pieces_of-ne s xs e = let l = ap length e in omega (arith, length-slice_split (�
 pub none_left : (s : ℕ) (rest : Option (Bor (List ℕ))) → (IsTrue (is_none rest) → pieces_left s rest ≡ []) × (pieces_left s rest ≡ [] → IsTrue (is_none rest))
 none_left s None = (λ _. refl, λ _. refl)
 none_left s (Some rest) = (λ h. absurd (false≢true h), λ e. absurd (pieces_of-ne s rest.now e))
+
+drop_past : (s : ℕ) (a b : List ℕ) → drop (length a + 1) (a ++ s ∷ b) ≡ b
+drop_past s a b = sym (drop-drop 1 (length a) (a ++ s ∷ b)) ∙ ap (drop 1) (drop_at a (s ∷ b) (length a) refl)
+
+-- a separator behind bytes that are none
+pub cut_at-append : (s : ℕ) (a b : List ℕ) → All (λ c. eqb c s ≡ false) a → cut_at s (a ++ s ∷ b) ≡ Some (a, b)
+cut_at-append s a b apart =
+    let xs : List ℕ = a ++ s ∷ b in
+    let at : position_or_len (λ c. eqb c s) xs ≡ length a = position_or_len_is (λ c. eqb c s) xs (length a) 0 (omega (arith, length-append a (s ∷ b)))
+        (λ k h. ap (λ (c : ℕ). eqb c s) (get_or_append_left a (s ∷ b) 0 k h) ∙ All-get_or (λ c. eqb c s ≡ false) a k 0 h apart)
+        (λ h. eq-eqb _ s (get_or_at a s b 0 (length a) refl)) in
+    cut_at-within s xs (omega (arith, length-append a (s ∷ b)))
+    ∙ ap (λ (i : ℕ). Some (take i xs, drop (i + 1) xs)) at
+    ∙ ap (λ (front : List ℕ). Some (front, drop (length a + 1) xs)) (take_at a (s ∷ b) (length a) refl)
+    ∙ ap (λ (back : List ℕ). Some (a, back)) (drop_past s a b)

@@ -13,7 +13,7 @@ use Rattle.std.proofs.Math.Nat.{pow-le-pow_right}
 use Rattle.trace_text.specs.Addresses.{◌>>=◌, all_read, number_read, hex_digit, is_group_form, group_of}
 use Rattle.trace_text.proofs.Digits.{split_last, below_parts}
 use Rattle.trace_text.proofs.Spelling.{map_some, cond_same, IsInverse, IsSpelling, all_read-map, AreRead, all_read_only}
-use Rattle.trace_text.proofs.Printed.{digits_no_colon, tested_apart}
+use Rattle.trace_text.proofs.Printed.{digits_between, tested_apart}
 
 abbrev glyph : ℕ → ℕ
 glyph = digit_glyph false
@@ -183,5 +183,5 @@ groups_only word n e =
 pub IsSpelling-groups : IsSpelling 58 65536 group_of (digits 16 false)
 IsSpelling-groups = record {
   inverse = record { again = groups_again; only = groups_only };
-  apart = λ n _. tested_apart 58 (digits 16 false n) (digits_no_colon 16 n);
+  apart = λ n _. tested_apart 58 (digits 16 false n) (digits_between 58 16 n (omega arith) (omega arith));
 }

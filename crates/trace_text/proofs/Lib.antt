@@ -7,3 +7,4 @@ pub mod Groups
 pub mod Octets
 pub mod Reading
 pub mod Ips
+pub mod AddressLaws
