@@ -8,3 +8,4 @@ pub mod Octets
 pub mod Reading
 pub mod Ips
 pub mod AddressLaws
+pub mod ActionLaws

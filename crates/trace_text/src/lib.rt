@@ -2,6 +2,7 @@
 #![tactic(auto)]
 
 mod address;
+mod law;
 mod line;
 mod pieces;
 mod print;
@@ -11,6 +12,7 @@ mod stage;
 mod text;
 mod words;
 
+pub use law::{actions_are_lines, addresses_are_spelled_once, numbers_are_spelled_once};
 pub use line::{HeadLine, Line, LineRefusal};
 pub use print::print_action;
 pub use read::read_line;

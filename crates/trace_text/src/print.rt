@@ -1,5 +1,8 @@
-ghost use Rattle.std.specs.Prelude.{◌≡◌, IfOk};
+ghost use Rattle.std.specs.Prelude.{◌≡◌, ◌≤◌, Contains, IfOk};
 ghost use Rattle.std.specs.String.{string_bytes};
+ghost use Rattle.trace_text.specs.declared.line.Line.TheVariants.{Acted};
+ghost use Rattle.trace_text.specs.declared.stage.Stage.{Stage};
+ghost use Rattle.trace_text.specs.Lines.{line_of};
 ghost use Rattle.trace_text.specs.Actions.{printed_action, away_word, fault_words, cause_words, note_word, state_word};
 
 use std::alloc::{AllocError, Global};
@@ -10,7 +13,9 @@ use crate::text::AddressText;
 
 /// The line of an action, with its `> ` and without a line feed.
 pub fn print_action(alloc: Global, action: &Action) -> Result<Octets, OutOfMemory>
-    ensures { IfOk result (λ line. line ≡ printed_action action.now) }
+    ensures printed { IfOk result (λ line. line ≡ printed_action action.now) }
+    ensures one_line { IfOk result (λ line. ¬ (Contains line 10)) }
+    ensures acted { IfOk result (λ line. (stage : Stage) → 2 ≤ stage.seen → line_of stage line ≡ Ok Acted) }
 {
     let text = action_text(alloc, action)?;
     Ok(Octets::from_vec(text.into_bytes()))
