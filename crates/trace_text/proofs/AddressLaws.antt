@@ -43,7 +43,7 @@ ipv4_only version word address e =
     let r = bind_some (port_of p.0.1) (λ port. Some (record { ip = V4 q.0; port = port })) address q.2 in
     let made : Addr = record { ip = V4 q.0; port = r.0 } in
     subst (Spells version word) (same_Some made address r.2)
-      (ipv4_spells version word p.0.0 p.0.1 q.0 r.0 (cut_at-Some 58 word p.0.0 p.0.1 p.1).whole q.1 r.1)
+    (ipv4_spells version word p.0.0 p.0.1 q.0 r.0 (cut_at-Some 58 word p.0.0 p.0.1 p.1).whole q.1 r.1)
 
 port_after_only : (rest : List ℕ) (port : ℕ) → port_after rest ≡ Some port → (rest ≡ 58 ∷ decimal port) × (port < 2 ^ 16)
 port_after_only [] port e = absurd cc
@@ -70,7 +70,7 @@ ipv6_only version word address two e =
     let r = bind_some (port_after p.0.1) (λ port. Some (record { ip = V6 q.0; port = port })) address q.2 in
     let made : Addr = record { ip = V6 q.0; port = r.0 } in
     subst (Spells version (91 ∷ word)) (same_Some made address r.2)
-      (ipv6_spells version word p.0.0 p.0.1 q.0 r.0 two (cut_at-Some 93 word p.0.0 p.0.1 p.1).whole q.1 r.1)
+    (ipv6_spells version word p.0.0 p.0.1 q.0 r.0 two (cut_at-Some 93 word p.0.0 p.0.1 p.1).whole q.1 r.1)
 
 by_family : (version c : ℕ) (rest : List ℕ) (address : Addr) (b : Bool) → (eqb version 2 && eqb c 91) ≡ b
     → cond b (ipv6_address_of rest) (ipv4_address_of (c ∷ rest)) ≡ Some address → Spells version (c ∷ rest) address
@@ -111,18 +111,18 @@ port_again port fits = number_up_to-decimal 65535 port (omega arith) (lit< tt)
 printed_again : (version : ℕ) (ip : Ip) (port : ℕ) → IsIp ip → port < 2 ^ 16 → knows_family version ip ≡ true → address_of version (printed_at ip port) ≡ Some (record { ip = ip; port = port })
 printed_again version (V4 ip) port fits small family =
     no_bracket version (printed_octets ip ++ 58 ∷ decimal port)
-      (all_append (λ b. b ≢ 91) (printed_octets ip) (58 ∷ decimal port) (octets_apart 91 ip (omega arith) (omega arith)) (λ e. omega arith, digits_between 91 10 port (omega arith) (omega arith)))
+    (all_append (λ b. b ≢ 91) (printed_octets ip) (58 ∷ decimal port) (octets_apart 91 ip (omega arith) (omega arith)) (λ e. omega arith, digits_between 91 10 port (omega arith) (omega arith)))
     ∙ ipv4_from (printed_octets ip ++ 58 ∷ decimal port) (printed_octets ip) (decimal port) ip port
-      (cut_at-append 58 (printed_octets ip) (decimal port) (tested_apart 58 (printed_octets ip) (octets_apart 58 ip (omega arith) (omega arith))))
-      (reads_again 46 256 (number_up_to 255) decimal IsSpelling-octets 3 ip (omega arith) fits)
-      (port_again port small)
+    (cut_at-append 58 (printed_octets ip) (decimal port) (tested_apart 58 (printed_octets ip) (octets_apart 58 ip (omega arith) (omega arith))))
+    (reads_again 46 256 (number_up_to 255) decimal IsSpelling-octets 3 ip (omega arith) fits)
+    (port_again port small)
 printed_again version (V6 ip) port fits small family =
     let rest : List ℕ = printed_groups ip ++ 93 ∷ 58 ∷ decimal port in
     cond-true (eqb version 2 && true) (ipv6_address_of rest) (ipv4_address_of (91 ∷ rest)) (ap (λ (b : Bool). b && true) family)
     ∙ ipv6_from rest (printed_groups ip) (58 ∷ decimal port) ip port
-      (cut_at-append 93 (printed_groups ip) (58 ∷ decimal port) (tested_apart 93 (printed_groups ip) (groups_apart 93 ip (omega arith) (omega arith))))
-      (reads_again 58 65536 group_of (digits 16 false) IsSpelling-groups 7 ip (omega arith) fits)
-      (port_again port small)
+    (cut_at-append 93 (printed_groups ip) (58 ∷ decimal port) (tested_apart 93 (printed_groups ip) (groups_apart 93 ip (omega arith) (omega arith))))
+    (reads_again 58 65536 group_of (digits 16 false) IsSpelling-groups 7 ip (omega arith) fits)
+    (port_again port small)
 
 pub address_of-printed : (version : ℕ) (address : Addr) → IsAddress address → knows_family version address.ip ≡ true → address_of version (printed_address address) ≡ Some address
 address_of-printed version address fits family = printed_again version address.ip address.port fits.ip fits.port family

@@ -63,8 +63,8 @@ pub cut_at-append : (s : ℕ) (a b : List ℕ) → All (λ c. eqb c s ≡ false)
 cut_at-append s a b apart =
     let xs : List ℕ = a ++ s ∷ b in
     let at : position_or_len (λ c. eqb c s) xs ≡ length a = position_or_len_is (λ c. eqb c s) xs (length a) 0 (omega (arith, length-append a (s ∷ b)))
-        (λ k h. ap (λ (c : ℕ). eqb c s) (get_or_append_left a (s ∷ b) 0 k h) ∙ All-get_or (λ c. eqb c s ≡ false) a k 0 h apart)
-        (λ h. eq-eqb _ s (get_or_at a s b 0 (length a) refl)) in
+    (λ k h. ap (λ (c : ℕ). eqb c s) (get_or_append_left a (s ∷ b) 0 k h) ∙ All-get_or (λ c. eqb c s ≡ false) a k 0 h apart)
+    (λ h. eq-eqb _ s (get_or_at a s b 0 (length a) refl)) in
     cut_at-within s xs (omega (arith, length-append a (s ∷ b)))
     ∙ ap (λ (i : ℕ). Some (take i xs, drop (i + 1) xs)) at
     ∙ ap (λ (front : List ℕ). Some (front, drop (length a + 1) xs)) (take_at a (s ∷ b) (length a) refl)

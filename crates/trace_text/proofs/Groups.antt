@@ -67,7 +67,7 @@ onto_glyphs (suc k) (x ∷ front) d acc long below small first =
     let (low, fits) = below_parts 16 before last (subst (AllBelowBase 16) parts below) in
     let some : 0 < get_or (x ∷ front) 0 0 = first (omega arith) in
     let leads : 0 < length before → 0 < get_or before 0 0 =
-      λ h. subst (λ (n : ℕ). 0 < n) (ap (λ (ds : List ℕ). get_or ds 0 0) parts ∙ first_of before last h) some in
+    λ h. subst (λ (n : ℕ). 0 < n) (ap (λ (ds : List ℕ). get_or ds 0 0) parts ∙ first_of before last h) some in
     ap (λ (n : ℕ). digits_onto (suc (suc k)) 16 false n acc) (number_push 16 (x ∷ front) d)
     ∙ next_glyph (suc k) (number_from_digits 16 (x ∷ front)) d acc small (not_zero 16 (x ∷ front) (omega arith) some)
     ∙ ap (λ (ds : List ℕ). digits_onto (suc k) 16 false (number_from_digits 16 ds) (glyph d ∷ acc)) parts
@@ -82,7 +82,7 @@ digits-number (x ∷ ds) h =
     let (low, fits) = below_parts 16 front d (subst (AllBelowBase 16) parts h.below) in
     let short = h.short in
     let leads : 0 < length front → 0 < get_or front 0 0 =
-      λ many. subst (λ (n : ℕ). 0 < n) (ap (λ (xs : List ℕ). get_or xs 0 0) parts ∙ first_of front d many) (positive x (λ e. let one = h.no_zero e in absurd (omega arith))) in
+    λ many. subst (λ (n : ℕ). 0 < n) (ap (λ (xs : List ℕ). get_or xs 0 0) parts ∙ first_of front d many) (positive x (λ e. let one = h.no_zero e in absurd (omega arith))) in
     sym (digits_onto-nil 16 false (number_from_digits 16 (x ∷ ds)))
     ∙ ap (λ (xs : List ℕ). digits_onto 64 16 false (number_from_digits 16 xs) []) parts
     ∙ onto_glyphs 63 front d [] (omega arith) low fits leads
@@ -100,15 +100,15 @@ group_digits n fits =
     elim (cases_eq n 0) [
       | inl e ↦ (0 ∷ [], record { some = omega arith; short = omega arith; below = (omega arith, tt); no_zero = λ _. refl }, sym e)
       | inr ne ↦ (
-          digits_of 16 n,
-          record {
-            some = length_some (digits_of 16 n) (first_digits_of 16 n (omega arith) (omega arith));
-            short = length-digits_of-le 16 4 n (omega arith) fits;
-            below = all_below_base_digits_of 16 n (omega arith);
-            no_zero = λ e. absurd (let h = first_digits_of 16 n (omega arith) (omega arith) in omega arith);
-          },
-          number_digits_of 16 n (omega arith),
-        )
+        digits_of 16 n,
+        record {
+          some = length_some (digits_of 16 n) (first_digits_of 16 n (omega arith) (omega arith));
+          short = length-digits_of-le 16 4 n (omega arith) fits;
+          below = all_below_base_digits_of 16 n (omega arith);
+          no_zero = λ e. absurd (let h = first_digits_of 16 n (omega arith) (omega arith) in omega arith);
+        },
+        number_digits_of 16 n (omega arith),
+      )
     ]
 
 -- ---- reading

@@ -37,9 +37,9 @@ unfolding IsIpv6OfBits
 ipv6_segments-bits address ip h =
     h
     ∙ same_cons (group_at ip (65536 ^ 7) (256 ^ 15) refl) (same_cons (group_at ip (65536 ^ 6) (256 ^ 13) refl)
-      (same_cons (group_at ip (65536 ^ 5) (256 ^ 11) refl) (same_cons (group_at ip (65536 ^ 4) (256 ^ 9) refl)
-      (same_cons (group_at ip (65536 ^ 3) (256 ^ 7) refl) (same_cons (group_at ip (65536 ^ 2) (256 ^ 5) refl)
-      (same_cons (group_at ip (65536 ^ 1) (256 ^ 3) refl) (same_cons (two_octets ip ∙ last_digit 65536 ip) refl)))))))
+    (same_cons (group_at ip (65536 ^ 5) (256 ^ 11) refl) (same_cons (group_at ip (65536 ^ 4) (256 ^ 9) refl)
+    (same_cons (group_at ip (65536 ^ 3) (256 ^ 7) refl) (same_cons (group_at ip (65536 ^ 2) (256 ^ 5) refl)
+    (same_cons (group_at ip (65536 ^ 1) (256 ^ 3) refl) (same_cons (two_octets ip ∙ last_digit 65536 ip) refl)))))))
 
 joined_push : (n m : ℕ) (ns : List ℕ) → joined_groups (n ∷ (ns ++ m ∷ [])) ≡ joined_groups (n ∷ ns) ++ (58 ∷ digits 16 false m)
 joined_push n m [] = refl

@@ -11,7 +11,7 @@ all_onto P each zero base n bytes h = h
 all_onto P each (suc k) base n bytes h =
     let more : AllByRecursion P (digit_glyph false (n % base) ∷ bytes) = (each (n % base), h) in
     cond_both (eqb (n / base) 0) (digit_glyph false (n % base) ∷ bytes) (digits_onto k base false (n / base) (digit_glyph false (n % base) ∷ bytes)) (AllByRecursion P)
-      (λ e. more) (λ e. all_onto P each k base (n / base) (digit_glyph false (n % base) ∷ bytes) more)
+    (λ e. more) (λ e. all_onto P each k base (n / base) (digit_glyph false (n % base) ∷ bytes) more)
 
 pub all_digits : (P : ℕ → Type 0) → ((d : ℕ) → P (digit_glyph false d)) → (base n : ℕ) → AllByRecursion P (digits base false n)
 unfolding digits

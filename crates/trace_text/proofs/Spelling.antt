@@ -88,8 +88,7 @@ module _ (separator base : ℕ) (read : List ℕ → Option ℕ) (print : ℕ �
       let q = map_some (all_read read pieces) (number_from_digits base) n p.1 in
       let r = all_read_only base read print spelling.inverse pieces q.0 q.1 in
       let long : length q.0 ≡ count = r.len ∙ eqb-true _ _ p.0 in
-      let digits : low_digits base count n ≡ q.0 = ap (low_digits base count) (sym q.2) ∙ low_digits-number base count q.0 long r.below in
-      (
+      let digits : low_digits base count n ≡ q.0 = ap (low_digits base count) (sym q.2) ∙ low_digits-number base count q.0 long r.below in (
         sym (join_with_byte-slice_split separator text) ∙ ap (join_with_byte separator) r.printed ∙ ap (λ (ns : List ℕ). join_with_byte separator (map print ns)) (sym digits),
         subst (λ (m : ℕ). m < base ^ count) q.2 (subst (λ (k : ℕ). number_from_digits base q.0 < base ^ k) long (number_lt base q.0 r.below)),
       )

@@ -143,12 +143,12 @@ abbrev pub later_line : Stage → Unread → Result Line LineRefusal
 later_line stage unread = do
   (word, rest) ← next_word unread
   if bytes_eq word (codes "set") then set_line stage rest
-    else if bytes_eq word (codes "now") then now_line rest
-    else if bytes_eq word (codes "accepted") then accepted_line stage.version rest
-    else if bytes_eq word (codes "closed") then closed_line rest
-    else if bytes_eq word (codes "end") then end_line rest
-    else if is_unbuilt stage.version word then Err NotBuilt
-    else Err (BadWord 1)
+      else if bytes_eq word (codes "now") then now_line rest
+      else if bytes_eq word (codes "accepted") then accepted_line stage.version rest
+      else if bytes_eq word (codes "closed") then closed_line rest
+      else if bytes_eq word (codes "end") then end_line rest
+      else if is_unbuilt stage.version word then Err NotBuilt
+      else Err (BadWord 1)
 
 abbrev pub is_action_line : List ℕ → Bool
 is_action_line line = starts_with nat_eq line (codes "> ")

@@ -1,11 +1,9 @@
 ghost use Rattle.std.specs.Prelude.{◌≡◌, ◌<◌, ◌≤◌, length, IfSome};
 ghost use Rattle.trace_text.specs.Addresses.{address_of, ipv4_address_of, ipv6_address_of, octets_of, groups_of, port_of, port_after, group_of, hex_digit, number_read};
 
-use std::net::Ipv4Addr;
-
-use net_base::{Addr, Ip, read_number};
-
 use crate::pieces::{Pieces, cut_once};
+use net_base::{Addr, Ip, read_number};
+use std::net::Ipv4Addr;
 
 /// The address that a word spells. A trace of version 1 has no IPv6 address.
 pub fn read_address(version: u64, word: &[u8]) -> Option<Addr>

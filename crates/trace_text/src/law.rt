@@ -12,8 +12,7 @@ ghost use Rattle.trace_text.specs.Lines.{line_of};
 pub fn numbers_are_spelled_once()
     ensures printed { (word : List ℕ) (n : ℕ) → number_of word ≡ Some n → n < 2 ^ 64 → word ≡ decimal n }
     ensures read { (n : ℕ) → n < 2 ^ 64 → number_of (decimal n) ≡ Some n }
-{
-}
+{}
 
 /// A law: an address has one spelling, and it is read in the versions that know its family.
 pub fn addresses_are_spelled_once()
@@ -24,13 +23,11 @@ pub fn addresses_are_spelled_once()
     ensures read { (version : ℕ) (address : Addr)
         → IsAddress address → IsTrue (knows_family version address.ip)
         → address_of version (printed_address address) ≡ Some address }
-{
-}
+{}
 
 /// A law: a printed action is one line, and is read as an action line wherever one may stand.
 pub fn actions_are_lines()
     ensures one_line { (action : Action) → ¬ (Contains (printed_action action) 10) }
     ensures acted { (stage : Stage) (action : Action)
         → 2 ≤ stage.seen → line_of stage (printed_action action) ≡ Ok Acted }
-{
-}
+{}

@@ -17,3 +17,6 @@ pub use line::{HeadLine, Line, LineRefusal};
 pub use print::print_action;
 pub use read::read_line;
 pub use stage::Stage;
+
+#[cfg(test)]
+mod tests;

@@ -5,11 +5,9 @@ ghost use Rattle.trace_text.specs.declared.stage.Stage.{Stage};
 ghost use Rattle.trace_text.specs.Lines.{line_of};
 ghost use Rattle.trace_text.specs.Actions.{printed_action, away_word, fault_words, cause_words, note_word, state_word};
 
-use std::alloc::{AllocError, Global};
-
-use net_base::{Action, Away, CloseCause, FaultKind, Octets, OutOfMemory, PeerNote, StateName};
-
 use crate::text::AddressText;
+use net_base::{Action, Away, CloseCause, FaultKind, Octets, OutOfMemory, PeerNote, StateName};
+use std::alloc::{AllocError, Global};
 
 /// The line of an action, with its `> ` and without a line feed.
 pub fn print_action(alloc: Global, action: &Action) -> Result<Octets, OutOfMemory>

@@ -3,13 +3,11 @@ ghost use Rattle.std.specs.List.{list_any};
 ghost use Rattle.trace_text.specs.Words.{words_of};
 ghost use Rattle.trace_text.specs.Lines.{first_line, second_line, set_line, setting_line, now_line, accepted_line, closed_line, end_line, later_line, line_of, is_unbuilt, IsReading};
 
-use std::alloc::Global;
-
-use net_base::{Cid, Event};
-
 use crate::setting::Found;
 use crate::words::Words;
 use crate::{HeadLine, Line, LineRefusal, Stage};
+use net_base::{Cid, Event};
+use std::alloc::Global;
 
 // Moments and connection ids are at most so great.
 const ID_MOST: u64 = 281_474_976_710_656;

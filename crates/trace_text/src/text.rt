@@ -2,10 +2,9 @@ ghost use Rattle.std.specs.Prelude.{◌≡◌, Some, false};
 ghost use Rattle.std.specs.Fmt.{digits};
 ghost use Rattle.trace_text.specs.Addresses.{printed_address, printed_octets, joined_groups, low_digits};
 
+use net_base::{Addr, Ip};
 use std::fmt;
 use std::net::{Ipv4Addr, Ipv6Addr};
-
-use net_base::{Addr, Ip};
 
 /// An address as lines spell it.
 #[derive(Clone, Copy)]

@@ -4,14 +4,12 @@ ghost use Rattle.trace_text.specs.declared.line.LineRefusal.TheVariants.{BadWord
 ghost use Rattle.trace_text.specs.Lines.{Gives, next_word, next_number, next_address, next_read, this_word, version_of, no_more};
 ghost use Rattle.trace_text.specs.Settings.{setting_of, found_view};
 
-use std::marker::Model;
-
-use net_base::{Addr, read_number};
-
 use crate::LineRefusal;
 use crate::address::read_address;
 use crate::pieces::Pieces;
 use crate::setting::{Found, setting_named};
+use net_base::{Addr, read_number};
+use std::marker::Model;
 
 /// The words of a line that are not read yet.
 #[derive(Drop)]

@@ -27,12 +27,12 @@ pub returns-then-eq : goal.returns-then-eq
 returns-then-eq c =
     let name = c.args.name.now in
     let same : bytes_eq (get_or c.args.rows.now c.loop-row.row-index no_row).name.now name ≡ true =
-      ap (λ text. bytes_eq text name) (sym c.as_bytes.ensures.value) ∙ sym c.if-eq.ensures in
+    ap (λ text. bytes_eq text name) (sym c.as_bytes.ensures.value) ∙ sym c.if-eq.ensures in
     sym (found c.loop-row.place name c.args.rows.now c.loop-row.row-index c.loop-row-test.true same) ∙ c.loop-row.invariant.1
 
 pub loop-row-preserved : goal.loop-row-preserved
 loop-row-preserved c =
     let name = c.args.name.now in
     let other : bytes_eq (get_or c.args.rows.now c.loop-row.row-index no_row).name.now name ≡ false =
-      ap (λ text. bytes_eq text name) (sym c.as_bytes.ensures.value) ∙ sym c.if-eq.ensures in
+    ap (λ text. bytes_eq text name) (sym c.as_bytes.ensures.value) ∙ sym c.if-eq.ensures in
     (omega arith, sym (passed c.loop-row.place name c.args.rows.now c.loop-row.row-index c.loop-row-test.true other) ∙ c.loop-row.invariant.1)

@@ -7,5 +7,5 @@ pub loop-group-preserved : goal.loop-group-preserved
 loop-group-preserved g c = λ plain.
     let groups = c.args.self.now.0.now in
     has_written_of_eq _ _ _ _ _
-      (joined_more _ (take (length groups - 1) (drop 1 groups)) c.loop-group.group-index c.loop-group-test.true)
-      (has_written_append _ _ _ _ _ _ (c.loop-group.invariant plain) (search rules))
+    (joined_more _ (take (length groups - 1) (drop 1 groups)) c.loop-group.group-index c.loop-group-test.true)
+    (has_written_append _ _ _ _ _ _ (c.loop-group.invariant plain) (search rules))
