@@ -1,0 +1,8 @@
+use Rattle.std.proofs.Common.{◌≡◌, ℕ, ◌+◌, map, drop}
+use Rattle.trace_text.specs.Settings.{setting_from, row_view}
+use Rattle.trace_text.proofs.setting.find.Given as goal
+
+abbrev pub invariant-loop-row : goal.invariant-loop-row
+invariant-loop-row l =
+    (l.place ≡ l.row-index + 1)
+    × (setting_from l.place l.name (map row_view (drop l.row-index l.rows)) ≡ setting_from 1 l.name (map row_view l.rows))

@@ -1,0 +1,6 @@
+pub mod Words
+pub mod Addresses
+pub mod Settings
+pub mod Stages
+pub mod Lines
+pub mod Actions

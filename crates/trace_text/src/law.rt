@@ -1,0 +1,33 @@
+ghost use Rattle.std.specs.Prelude.{◌≡◌, ◌≤◌, ◌<◌, ◌^◌, ℕ, List, Some, Ok, IsTrue, Contains, decimal};
+ghost use Rattle.net_base.specs.Number.{number_of};
+ghost use Rattle.net_base.specs.declared.address.Addr.{Addr};
+ghost use Rattle.net_base.specs.declared.action.Action.{Action};
+ghost use Rattle.trace_text.specs.declared.line.Line.TheVariants.{Acted};
+ghost use Rattle.trace_text.specs.declared.stage.Stage.{Stage};
+ghost use Rattle.trace_text.specs.Addresses.{IsAddress, address_of, knows_family, printed_address};
+ghost use Rattle.trace_text.specs.Actions.{printed_action};
+ghost use Rattle.trace_text.specs.Lines.{line_of};
+
+/// A law: a number has one spelling, and it is read.
+pub fn numbers_are_spelled_once()
+    ensures printed { (word : List ℕ) (n : ℕ) → number_of word ≡ Some n → n < 2 ^ 64 → word ≡ decimal n }
+    ensures read { (n : ℕ) → n < 2 ^ 64 → number_of (decimal n) ≡ Some n }
+{}
+
+/// A law: an address has one spelling, and it is read in the versions that know its family.
+pub fn addresses_are_spelled_once()
+    ensures printed { (version : ℕ) (word : List ℕ) (address : Addr)
+        → address_of version word ≡ Some address → word ≡ printed_address address }
+    ensures within { (version : ℕ) (word : List ℕ) (address : Addr)
+        → address_of version word ≡ Some address → IsAddress address × IsTrue (knows_family version address.ip) }
+    ensures read { (version : ℕ) (address : Addr)
+        → IsAddress address → IsTrue (knows_family version address.ip)
+        → address_of version (printed_address address) ≡ Some address }
+{}
+
+/// A law: a printed action is one line, and is read as an action line wherever one may stand.
+pub fn actions_are_lines()
+    ensures one_line { (action : Action) → ¬ (Contains (printed_action action) 10) }
+    ensures acted { (stage : Stage) (action : Action)
+        → 2 ≤ stage.seen → line_of stage (printed_action action) ≡ Ok Acted }
+{}

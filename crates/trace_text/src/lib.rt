@@ -1,0 +1,22 @@
+//! The lines of a trace: reading them, and printing actions as lines.
+#![tactic(auto)]
+
+mod address;
+mod law;
+mod line;
+mod pieces;
+mod print;
+mod read;
+mod setting;
+mod stage;
+mod text;
+mod words;
+
+pub use law::{actions_are_lines, addresses_are_spelled_once, numbers_are_spelled_once};
+pub use line::{HeadLine, Line, LineRefusal};
+pub use print::print_action;
+pub use read::read_line;
+pub use stage::Stage;
+
+#[cfg(test)]
+mod tests;

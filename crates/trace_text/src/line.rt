@@ -1,0 +1,38 @@
+use net_base::{Addr, Event};
+
+/// What a line of a trace says.
+#[derive(Debug, Drop)]
+pub enum Line {
+    Head(HeadLine),
+    Happen(Event),
+    /// A line that begins with `> `: an action as it was printed. What it says is not read.
+    Acted,
+    End,
+}
+
+/// What a line of the head says.
+#[derive(Clone, Copy, Debug, PartialEq, Eq)]
+pub enum HeadLine {
+    /// The version of the trace, 1 or 2.
+    Trace(u64),
+    /// The node's own address.
+    Own(Addr),
+    /// The place of a setting among the thirteen, from 1, and its value.
+    Set(u8, u64),
+}
+
+/// Why a line is refused. A place is that of a word in the line, from 1.
+#[derive(Clone, Copy, Debug, PartialEq, Eq)]
+pub enum LineRefusal {
+    /// A word that is wrong, missing or too many.
+    BadWord(u64),
+    /// A number that is no decimal or out of its range.
+    BadNumber(u64),
+    /// Targets that break a bound.
+    BadTargets,
+    /// A setting that stands before one that it should follow, or after an event.
+    OutOfOrder,
+    /// An event that is not handled yet.
+    NotBuilt,
+    OutOfMemory,
+}

@@ -1,0 +1,116 @@
+ghost use Rattle.std.specs.Prelude.{◌≡◌, ◌≤◌, Contains, IfOk};
+ghost use Rattle.std.specs.String.{string_bytes};
+ghost use Rattle.trace_text.specs.declared.line.Line.TheVariants.{Acted};
+ghost use Rattle.trace_text.specs.declared.stage.Stage.{Stage};
+ghost use Rattle.trace_text.specs.Lines.{line_of};
+ghost use Rattle.trace_text.specs.Actions.{printed_action, away_word, fault_words, cause_words, note_word, state_word};
+
+use crate::text::AddressText;
+use net_base::{Action, Away, CloseCause, FaultKind, Octets, OutOfMemory, PeerNote, StateName};
+use std::alloc::{AllocError, Global};
+
+/// The line of an action, with its `> ` and without a line feed.
+pub fn print_action(alloc: Global, action: &Action) -> Result<Octets, OutOfMemory>
+    ensures printed { IfOk result (λ line. line ≡ printed_action action.now) }
+    ensures one_line { IfOk result (λ line. ¬ (Contains line 10)) }
+    ensures acted { IfOk result (λ line. (stage : Stage) → 2 ≤ stage.seen → line_of stage line ≡ Ok Acted) }
+{
+    let text = action_text(alloc, action)?;
+    Ok(Octets::from_vec(text.into_bytes()))
+}
+
+fn action_text(alloc: Global, action: &Action) -> Result<String, AllocError>
+    ensures { IfOk result (λ text. string_bytes text ≡ printed_action action.now) }
+{
+    match action {
+        Action::Admit(cid, address) => {
+            format!(in alloc; "> admit {} {}", cid.0, AddressText(*address))
+        }
+        Action::Turnaway(away) => format!(in alloc; "> turnaway {}", away_word(*away)),
+        Action::Dial(cid, address) => {
+            format!(in alloc; "> dial {} {}", cid.0, AddressText(*address))
+        }
+        Action::Send(cid, bytes) => {
+            let digits = hex::encode(alloc, bytes.as_slice())?;
+            format!(in alloc; "> send {} {digits}", cid.0)
+        }
+        Action::Close(cid, cause) => {
+            format!(in alloc; "> close {} {}", cid.0, cause_words(*cause))
+        }
+        Action::Pause(time) => format!(in alloc; "> pause {time}"),
+        Action::AskRoots(job) => format!(in alloc; "> askroots {}", job.0),
+        Action::State(cid, name) => format!(in alloc; "> state {} {}", cid.0, state_word(*name)),
+        Action::Peer(address, note) => {
+            format!(in alloc; "> peer {} {}", AddressText(*address), note_word(*note))
+        }
+    }
+}
+
+fn away_word(away: Away) -> &'static str
+    ensures { result.now ≡ away_word away }
+{
+    match away {
+        Away::Full => "full",
+        Away::OwnAddr => "self",
+        Away::Crossed => "crossed",
+        Away::Present => "present",
+    }
+}
+
+fn cause_words(cause: CloseCause) -> &'static str
+    ensures { result.now ≡ cause_words cause }
+{
+    match cause {
+        CloseCause::Unused => "unused",
+        CloseCause::Pruned => "pruned",
+        CloseCause::Overwritten => "overwritten",
+        CloseCause::Refused => "refused",
+        CloseCause::Query => "query",
+        CloseCause::Fault(kind) => fault_words(kind),
+    }
+}
+
+fn fault_words(kind: FaultKind) -> &'static str
+    ensures { result.now ≡ fault_words kind }
+{
+    match kind {
+        FaultKind::Malformed => "fault malformed",
+        FaultKind::Deep => "fault deep",
+        FaultKind::TooLong => "fault toolong",
+        FaultKind::Protocol => "fault protocol",
+        FaultKind::UnknownId => "fault unknownid",
+        FaultKind::HandshakeWait => "fault handshakewait",
+        FaultKind::ReplyWait => "fault replywait",
+    }
+}
+
+fn note_word(note: PeerNote) -> &'static str
+    ensures { result.now ≡ note_word note }
+{
+    match note {
+        PeerNote::Known => "known",
+        PeerNote::Cold => "cold",
+        PeerNote::Warm => "warm",
+        PeerNote::Hot => "hot",
+        PeerNote::Forgotten => "forgotten",
+    }
+}
+
+fn state_word(name: StateName) -> &'static str
+    ensures { result.now ≡ state_word name }
+{
+    match name {
+        StateName::ReservedOutbound => "ReservedOutbound",
+        StateName::UnnegotiatedInbound => "UnnegotiatedInbound",
+        StateName::UnnegotiatedOutbound => "UnnegotiatedOutbound",
+        StateName::Duplex => "Duplex",
+        StateName::OutboundUni => "OutboundUni",
+        StateName::OutboundDupTicking => "OutboundDupTicking",
+        StateName::OutboundDupExpired => "OutboundDupExpired",
+        StateName::Inbound => "Inbound",
+        StateName::InboundIdle => "InboundIdle",
+        StateName::OutboundIdle => "OutboundIdle",
+        StateName::Terminating => "Terminating",
+        StateName::Terminated => "Terminated",
+    }
+}

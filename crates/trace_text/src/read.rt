@@ -1,0 +1,138 @@
+ghost use Rattle.std.specs.Prelude.{◌≡◌, bytes_eq};
+ghost use Rattle.std.specs.List.{list_any};
+ghost use Rattle.trace_text.specs.Words.{words_of};
+ghost use Rattle.trace_text.specs.Lines.{first_line, second_line, set_line, setting_line, now_line, accepted_line, closed_line, end_line, later_line, line_of, is_unbuilt, IsReading};
+
+use crate::setting::Found;
+use crate::words::Words;
+use crate::{HeadLine, Line, LineRefusal, Stage};
+use net_base::{Cid, Event};
+use std::alloc::Global;
+
+// Moments and connection ids are at most so great.
+const ID_MOST: u64 = 281_474_976_710_656;
+
+// The events that are not handled yet.
+const UNBUILT: [&str; 6] = ["govern", "dialed", "bytes", "targets", "locals", "roots"];
+
+// Those that only version 2 has.
+const UNBUILT_BIG: [&str; 2] = ["bigtargets", "bigs"];
+
+/// What a line says, given without its line feed. A line may hold any bytes.
+///
+/// The first word from the left that is wrong decides over the refusal. A missing word has the place after the
+/// last one.
+pub fn read_line(_alloc: Global, stage: &Stage, line: &[u8]) -> Result<Line, LineRefusal>
+    ensures { IsReading result (line_of stage.now line.now) }
+{
+    match stage.seen {
+        0 => read_first(Words::of(line)),
+        1 => read_second(stage.version, Words::of(line)),
+        _ if line.starts_with(b"> ") => Ok(Line::Acted),
+        _ => read_later(stage, Words::of(line)),
+    }
+}
+
+fn read_first(mut words: Words) -> Result<Line, LineRefusal>
+    ensures { result ≡ first_line words.entry }
+{
+    words.this("trace")?;
+    let version = words.version()?;
+    words.end()?;
+    Ok(Line::Head(HeadLine::Trace(version)))
+}
+
+fn read_second(version: u64, mut words: Words) -> Result<Line, LineRefusal>
+    ensures { result ≡ second_line version words.entry }
+{
+    words.this("own")?;
+    let address = words.address(version)?;
+    words.end()?;
+    Ok(Line::Head(HeadLine::Own(address)))
+}
+
+fn read_later(stage: &Stage, mut words: Words) -> Result<Line, LineRefusal>
+    ensures { result ≡ later_line stage.now words.entry }
+{
+    let word = words.word()?;
+    if word == b"set".as_slice() {
+        read_set(stage, words)
+    } else if word == b"now".as_slice() {
+        read_now(words)
+    } else if word == b"accepted".as_slice() {
+        read_accepted(stage.version, words)
+    } else if word == b"closed".as_slice() {
+        read_closed(words)
+    } else if word == b"end".as_slice() {
+        read_end(words)
+    } else if is_unbuilt(stage.version, word) {
+        Err(LineRefusal::NotBuilt)
+    } else {
+        Err(LineRefusal::BadWord(1))
+    }
+}
+
+fn is_unbuilt(version: u64, word: &[u8]) -> bool
+    ensures { result ≡ is_unbuilt version word.now }
+{
+    is_among(&UNBUILT, word) || version == 2 && is_among(&UNBUILT_BIG, word)
+}
+
+fn is_among(known: &[&str], word: &[u8]) -> bool
+    ensures { result ≡ list_any (λ text. bytes_eq text.now word.now) known.now }
+{
+    known.iter().any(|text| text.as_bytes() == word)
+}
+
+// What follows `set`.
+fn read_set(stage: &Stage, mut words: Words) -> Result<Line, LineRefusal>
+    ensures { result ≡ set_line stage.now words.entry }
+{
+    if stage.events {
+        return Err(LineRefusal::OutOfOrder);
+    }
+    let found = words.setting(stage.hard)?;
+    if found.place <= stage.last {
+        return Err(LineRefusal::OutOfOrder);
+    }
+    read_setting(found, words)
+}
+
+fn read_setting(found: Found, mut words: Words) -> Result<Line, LineRefusal>
+    ensures { result ≡ setting_line found.place found.row.least found.row.most words.entry }
+{
+    let value = words.number(found.row.least, found.row.most)?;
+    words.end()?;
+    Ok(Line::Head(HeadLine::Set(found.place, value)))
+}
+
+fn read_now(mut words: Words) -> Result<Line, LineRefusal>
+    ensures { result ≡ now_line words.entry }
+{
+    let moment = words.number(0, ID_MOST)?;
+    words.end()?;
+    Ok(Line::Happen(Event::Now(moment)))
+}
+
+fn read_accepted(version: u64, mut words: Words) -> Result<Line, LineRefusal>
+    ensures { result ≡ accepted_line version words.entry }
+{
+    let address = words.address(version)?;
+    words.end()?;
+    Ok(Line::Happen(Event::Accepted(address)))
+}
+
+fn read_closed(mut words: Words) -> Result<Line, LineRefusal>
+    ensures { result ≡ closed_line words.entry }
+{
+    let cid = Cid(words.number(0, ID_MOST)?);
+    words.end()?;
+    Ok(Line::Happen(Event::Closed(cid)))
+}
+
+fn read_end(words: Words) -> Result<Line, LineRefusal>
+    ensures { result ≡ end_line words.entry }
+{
+    words.end()?;
+    Ok(Line::End)
+}

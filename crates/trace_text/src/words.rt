@@ -1,0 +1,120 @@
+ghost use Rattle.std.specs.Prelude.{◌≡◌};
+ghost use Rattle.trace_text.specs.Words.{words_of};
+ghost use Rattle.trace_text.specs.declared.line.LineRefusal.TheVariants.{BadWord};
+ghost use Rattle.trace_text.specs.Lines.{Gives, next_word, next_number, next_address, next_read, this_word, version_of, no_more};
+ghost use Rattle.trace_text.specs.Settings.{setting_of, found_view};
+
+use crate::LineRefusal;
+use crate::address::read_address;
+use crate::pieces::Pieces;
+use crate::setting::{Found, setting_named};
+use net_base::{Addr, read_number};
+use std::marker::Model;
+
+/// The words of a line that are not read yet.
+#[derive(Drop)]
+pub struct Words<'a> {
+    pieces: Pieces<'a>,
+    place: u64,
+}
+
+impl<'a> Model for Words<'a> {
+    ghost use Rattle.std.specs.Prelude.{◌+◌, ◌<◌, ◌^◌, length};
+    ghost use Rattle.trace_text.specs.Words.{Unread};
+
+    ghost Value = { Unread };
+
+    ghost view = { λ w. record { words = w.pieces; place = w.place } };
+
+    ghost invariant = { λ w. w.place + length w.pieces < 2 ^ 64 };
+}
+
+impl<'a> Words<'a> {
+    pub fn of(line: &'a [u8]) -> Self
+        ensures { result ≡ words_of line.now }
+    {
+        Words {
+            pieces: Pieces::new(b' ', line),
+            place: 1,
+        }
+    }
+
+    /// The next word, which must not be missing.
+    pub fn word(&mut self) -> Result<&'a [u8], LineRefusal>
+        ensures { Gives (λ word. word.now) result self.new (next_word self.old) }
+    {
+        match self.pieces.take() {
+            Some(word) => {
+                self.place += 1;
+                Ok(word)
+            }
+            None => Err(LineRefusal::BadWord(self.place)),
+        }
+    }
+
+    /// A number in a range.
+    pub fn number(&mut self, least: u64, most: u64) -> Result<u64, LineRefusal>
+        ensures { Gives (λ n. n) result self.new (next_number least most self.old) }
+    {
+        let place = self.place;
+        let word = self.word()?;
+        match read_number(word, most) {
+            Some(n) if n >= least => Ok(n),
+            _ => Err(LineRefusal::BadNumber(place)),
+        }
+    }
+
+    /// An address that a trace of a version may hold.
+    pub fn address(&mut self, version: u64) -> Result<Addr, LineRefusal>
+        ensures { Gives (λ address. address) result self.new (next_address version self.old) }
+    {
+        let place = self.place;
+        let word = self.word()?;
+        read_address(version, word).ok_or(LineRefusal::BadWord(place))
+    }
+
+    /// One word and no other.
+    pub fn this(&mut self, text: &str) -> Result<(), LineRefusal>
+        ensures { Gives (λ word. word) result self.new (next_read (this_word text.now) BadWord self.old) }
+    {
+        let place = self.place;
+        let word = self.word()?;
+        if word == text.as_bytes() {
+            Ok(())
+        } else {
+            Err(LineRefusal::BadWord(place))
+        }
+    }
+
+    /// A version of the trace.
+    pub fn version(&mut self) -> Result<u64, LineRefusal>
+        ensures { Gives (λ version. version) result self.new (next_read version_of BadWord self.old) }
+    {
+        let place = self.place;
+        match self.word()? {
+            b"1" => Ok(1),
+            b"2" => Ok(2),
+            _ => Err(LineRefusal::BadWord(place)),
+        }
+    }
+
+    /// A setting's name.
+    pub fn setting(&mut self, hard: u64) -> Result<Found, LineRefusal>
+        ensures { Gives found_view result self.new (next_read (setting_of hard) BadWord self.old) }
+    {
+        let place = self.place;
+        let word = self.word()?;
+        setting_named(hard, word).ok_or(LineRefusal::BadWord(place))
+    }
+
+    /// No word may follow.
+    pub fn end(&self) -> Result<(), LineRefusal>
+        ensures { result ≡ no_more self.now }
+    {
+        if self.pieces.is_empty() {
+            Ok(())
+        } else {
+            Err(LineRefusal::BadWord(self.place))
+        }
+    }
+}
