@@ -1,0 +1,5 @@
+pub mod Reading
+pub mod Head
+pub mod Item
+pub mod Scan
+pub mod Part

@@ -1,0 +1,30 @@
+ghost use Rattle.std.specs.Prelude.{◌≡◌};
+ghost use Rattle.cbor_items.specs.Scan.{scan_of};
+
+use crate::item::skip_item;
+use crate::stop::Stop;
+
+/// What stands at the front of some bytes.
+#[derive(Clone, Copy, Debug, PartialEq, Eq)]
+pub enum Scan {
+    /// An item of so many bytes.
+    Whole(usize),
+    /// An item that goes on behind the bytes, or nothing.
+    More,
+    /// No item.
+    Bad,
+    /// More than 64 arrays, maps and tags inside each other.
+    Deep,
+}
+
+/// Scans the first item of the bytes. The first byte that decides gives the answer, whatever follows it.
+pub fn first_item(bytes: &[u8]) -> Scan
+    ensures { result ≡ scan_of bytes.now }
+{
+    match skip_item(bytes, 64) {
+        Ok(rest) => Scan::Whole(bytes.len() - rest.len()),
+        Err(Stop::More) => Scan::More,
+        Err(Stop::Bad) => Scan::Bad,
+        Err(Stop::Deep) => Scan::Deep,
+    }
+}
