@@ -1,14 +1,20 @@
 -- Passing over things and the grammar of things: what is passed over is a thing, a thing is passed over again
 -- whatever follows it, where bytes are missing some complete a thing, and every other stop stays a stop.
-use Rattle.std.proofs.Common.{◌≡◌, ◌≢◌, ℕ, zero, suc, ◌+◌, ◌-◌, ◌≤◌, ◌<◌, Bool, true, false, cond, eqb, MatchBool, List, [], ◌∷◌, ◌++◌, length, Result, Ok, Err, refl, sym, ap, subst, ◌∙◌, append_assoc, arith, inl, inr}
+use Rattle.std.proofs.Common.{◌≡◌, ◌≢◌, ℕ, zero, suc, ◌+◌, ◌-◌, ◌≤◌, ◌<◌, Bool, true, false, cond, eqb, MatchBool, ◌⊎◌, List, [], ◌∷◌, ◌++◌, length, Result, Ok, Err, refl, sym, ap, subst, ◌∙◌, append_assoc, arith, inl, inr, lit<}
 use Rattle.std.proofs.lemmas.Bool.{eqb-true, eqb-false, ne_eqb}
 use Rattle.std.proofs.lemmas.List.{append-nil, length-append}
-use Rattle.std.proofs.lemmas.List.Elements.{All-nil, All-append}
+use Rattle.std.proofs.lemmas.List.Elements.{All-nil, All-cons, All-append}
 use Rattle.cbor_items.specs.declared.stop.Stop.{Stop}
 use Rattle.cbor_items.specs.declared.stop.Stop.TheVariants.{More, Bad, Deep}
 use Rattle.cbor_items.specs.Reading.{◌>>=◌}
 use Rattle.cbor_items.specs.Item.{IsPair, IsRow, IsRowToBreak}
 use Rattle.cbor_items.specs.Scan.{Skip, skip_pair, skip_row, skip_to_break, AreBytes}
+
+pub AreBytes-nil : AreBytes []
+AreBytes-nil = All-nil (λ byte. byte < 256)
+
+pub AreBytes-append : (xs ys : List ℕ) → AreBytes xs → AreBytes ys → AreBytes (xs ++ ys)
+AreBytes-append xs ys = All-append (λ byte. byte < 256) xs ys
 
 -- the bytes begin with a thing
 pub record HasFront (Thing : List ℕ → Type 0) (bytes rest : List ℕ) : Type 0 where
@@ -65,7 +71,7 @@ module _ (First Second : List ℕ → Type 0) (first second : Skip) (one : Skips
       elim (bind_err (first bytes) second More e) [
         | inl f ↦ let b = one.more bytes f in record {
             missing = b.missing ++ some.missing
-          ; are_bytes = All-append _ b.missing some.missing b.are_bytes some.are_bytes
+          ; are_bytes = AreBytes-append b.missing some.missing b.are_bytes some.are_bytes
           ; is = record { first = bytes ++ b.missing; second = some.missing; joined = sym (append_assoc bytes b.missing some.missing); is_first = b.is; is_second = some.is } }
         | inr s ↦ let f = one.found bytes s.read s.is in let b = two.more s.read s.then in record {
             missing = b.missing
@@ -84,3 +90,174 @@ module _ (First Second : List ℕ → Type 0) (first second : Skip) (one : Skips
 
   pub skips_pair : Skips (IsPair First Second) (skip_pair first second)
   skips_pair = record { found = pair_found; again = pair_again; more = pair_more; stays = pair_stays }
+
+-- ---- the same skip, or the same grammar, in other words
+
+pub skips_same : {Thing Other : List ℕ → Type 0} {skip : Skip} → ((x : List ℕ) → Thing x → Other x) → ((x : List ℕ) → Other x → Thing x) → Skips Thing skip → Skips Other skip
+skips_same to back s = record {
+    found = λ bytes rest e. let f = s.found bytes rest e in record { front = f.front; joined = f.joined; is = to f.front f.is }
+  ; again = λ front rest o. s.again front rest (back front o)
+  ; more = λ bytes e. let b = s.more bytes e in record { missing = b.missing; are_bytes = b.are_bytes; is = to (bytes ++ b.missing) b.is }
+  ; stays = s.stays }
+
+pub skips_cond : {Thing Other : List ℕ → Type 0} {skip other : Skip} (b : Bool) → Skips Thing skip → Skips Other other
+    → Skips (λ x. MatchBool b (Thing x) (Other x)) (λ x. cond b (skip x) (other x))
+skips_cond true s o = s
+skips_cond false s o = o
+
+-- ---- nothing, and what is refused
+
+pub skips_nothing : Skips (λ x. x ≡ []) Ok
+skips_nothing = record {
+    found = λ bytes rest e. record { front = []; joined = cc; is = refl }
+  ; again = λ front rest e. ap (λ (x : List ℕ). Ok (x ++ rest)) e
+  ; more = λ bytes e. absurd cc
+  ; stays = λ bytes after stop known e. absurd cc }
+
+pub skips_never : (stop : Stop) → stop ≢ More → Skips (λ x. ⊥) (λ x. Err stop)
+skips_never stop known = record {
+    found = λ bytes rest e. absurd cc
+  ; again = λ front rest never. absurd never
+  ; more = λ bytes e. absurd (known cc)
+  ; stays = λ bytes after other known' e. e }
+
+-- ---- so many things
+
+pub row_example : (Thing : List ℕ → Type 0) → Begins Thing [] → (n : ℕ) → Begins (IsRow Thing n) []
+row_example Thing some zero = record { missing = []; are_bytes = AreBytes-nil; is = refl }
+row_example Thing some (suc n) =
+    let others = row_example Thing some n in
+    record {
+      missing = some.missing ++ others.missing
+    ; are_bytes = AreBytes-append some.missing others.missing some.are_bytes others.are_bytes
+    ; is = record { first = some.missing; second = others.missing; joined = refl; is_first = some.is; is_second = others.is } }
+
+pub skips_row : (Thing : List ℕ → Type 0) (skip : Skip) → Skips Thing skip → Begins Thing [] → (n : ℕ) → Skips (IsRow Thing n) (skip_row skip n)
+unfolding skip_row
+skips_row Thing skip s some zero = skips_nothing
+skips_row Thing skip s some (suc n) = skips_pair Thing (IsRow Thing n) skip (skip_row skip n) s (skips_row Thing skip s some n) (row_example Thing some n)
+
+-- ---- things up to a break
+
+-- the bytes begin with something that is no break
+pub record StartsPlain (bytes : List ℕ) : Type 0 where
+  pub first : ℕ
+  pub rest : List ℕ
+  pub joined : bytes ≡ first ∷ rest
+  pub no_break : first ≢ 255
+
+-- which way a test went
+pub chosen : {A : Type 0} (b : Bool) (x y z : A) → cond b x y ≡ z → ((b ≡ true) × (x ≡ z)) ⊎ ((b ≡ false) × (y ≡ z))
+chosen true x y z e = inl (refl, e)
+chosen false x y z e = inr (refl, e)
+
+ok_is : (x y : List ℕ) → ◌≡◌ {A = Result (List ℕ) Stop} (Ok x) (Ok y) → x ≡ y
+ok_is x y e = cc
+
+module _ (Thing : List ℕ → Type 0) (skip : Skip) (s : Skips Thing skip) (plain : (x : List ℕ) → Thing x → StartsPlain x) where
+  -- a row that goes on
+  broken_more : (x rest : List ℕ) → Thing x → HasFront (IsRowToBreak Thing) rest [] → IsRowToBreak Thing (x ++ rest)
+  broken_more x rest is others =
+      let row = others.is in
+      let e : rest ≡ row.things ++ 255 ∷ [] = others.joined ∙ append-nil others.front ∙ row.joined in
+      record { count = suc row.count; things = x ++ row.things
+             ; joined = ap (λ (y : List ℕ). x ++ y) e ∙ sym (append_assoc x row.things (255 ∷ []))
+             ; is_row = record { first = x; second = row.things; joined = refl; is_first = is; is_second = row.is_row } }
+
+  one_more : (x rest : List ℕ) → Thing x → IsRowToBreak Thing rest → IsRowToBreak Thing (x ++ rest)
+  one_more x rest is row = broken_more x rest is (record { front = rest; joined = sym (append-nil rest); is = row })
+
+  only_break : IsRowToBreak Thing (255 ∷ [])
+  only_break = record { count = 0; things = []; joined = refl; is_row = refl }
+
+  break_found : (n : ℕ) (bytes rest : List ℕ) → skip_to_break skip n bytes ≡ Ok rest → HasFront (IsRowToBreak Thing) bytes rest
+  unfolding skip_to_break
+  break_found zero bytes rest e = absurd cc
+  break_found (suc n) [] rest e = absurd cc
+  break_found (suc n) (byte ∷ bytes) rest e =
+      elim (chosen (eqb byte 255) (Ok bytes) (skip (byte ∷ bytes) >>= skip_to_break skip n) (Ok rest) e) [
+        | inl (is_break, stop) ↦ record {
+            front = 255 ∷ []
+          ; joined = ap (λ (b : ℕ). b ∷ bytes) (eqb-true byte 255 is_break) ∙ ap (λ (x : List ℕ). 255 ∷ x) (ok_is bytes rest stop)
+          ; is = only_break }
+        | inr (no_break, more) ↦
+            let b = bind_ok (skip (byte ∷ bytes)) (skip_to_break skip n) rest more in
+            let f = s.found (byte ∷ bytes) b.0 b.1 in
+            let others = break_found n b.0 rest b.2 in
+            record {
+              front = f.front ++ others.front
+            ; joined = f.joined ∙ ap (λ (x : List ℕ). f.front ++ x) others.joined ∙ sym (append_assoc f.front others.front rest)
+            ; is = one_more f.front others.front f.is others.is }
+      ]
+
+  break_again : (n count : ℕ) (things rest : List ℕ) → IsRow Thing count things → length (things ++ 255 ∷ rest) ≤ n
+      → skip_to_break skip n (things ++ 255 ∷ rest) ≡ Ok rest
+  unfolding skip_to_break
+  break_again zero count things rest row fits = absurd (omega (arith, length-append things (255 ∷ rest)))
+  break_again (suc n) zero things rest row fits = rw row refl
+  break_again (suc n) (suc count) things rest row fits =
+      let start = plain row.first row.is_first in
+      let others = row.second ++ 255 ∷ rest in
+      let regrouped : things ++ 255 ∷ rest ≡ row.first ++ others = ap (λ (x : List ℕ). x ++ 255 ∷ rest) row.joined ∙ append_assoc row.first row.second (255 ∷ rest) in
+      let opened : row.first ++ others ≡ start.first ∷ (start.rest ++ others) = ap (λ (x : List ℕ). x ++ others) start.joined in
+      let read : skip (start.first ∷ (start.rest ++ others)) ≡ Ok others = ap skip (sym opened) ∙ s.again row.first others row.is_first in
+      let shorter : length others ≤ n = omega (arith, fits, ap length regrouped, length-append row.first others, ap length start.joined) in
+      let one : skip_to_break skip (suc n) (start.first ∷ (start.rest ++ others)) ≡ Ok rest = rw (ne_eqb start.first 255 start.no_break, read) (break_again n count row.second rest row.is_second shorter) in
+      ap (skip_to_break skip (suc n)) (regrouped ∙ opened) ∙ one
+
+  break_is_byte : AreBytes (255 ∷ [])
+  break_is_byte = All-cons (λ byte. byte < 256) 255 [] (lit< tt) AreBytes-nil
+
+  pub break_alone : Begins (IsRowToBreak Thing) []
+  break_alone = record { missing = 255 ∷ []; are_bytes = break_is_byte; is = only_break }
+
+  break_more : (n : ℕ) (bytes : List ℕ) → length bytes ≤ n → skip_to_break skip n bytes ≡ Err More → Begins (IsRowToBreak Thing) bytes
+  unfolding skip_to_break
+  break_more zero [] fits e = break_alone
+  break_more zero (byte ∷ bytes) fits e = absurd (omega arith)
+  break_more (suc n) [] fits e = break_alone
+  break_more (suc n) (byte ∷ bytes) fits e =
+      elim (chosen (eqb byte 255) (Ok bytes) (skip (byte ∷ bytes) >>= skip_to_break skip n) (Err More) e) [
+        | inl (is_break, stop) ↦ absurd cc
+        | inr (no_break, more) ↦ elim (bind_err (skip (byte ∷ bytes)) (skip_to_break skip n) More more) [
+            | inl f ↦ let b = s.more (byte ∷ bytes) f in record {
+                missing = b.missing ++ 255 ∷ []
+              ; are_bytes = AreBytes-append b.missing (255 ∷ []) b.are_bytes break_is_byte
+              ; is = subst (IsRowToBreak Thing) (append_assoc (byte ∷ bytes) b.missing (255 ∷ [])) (one_more ((byte ∷ bytes) ++ b.missing) (255 ∷ []) b.is only_break) }
+            | inr then ↦
+                let f = s.found (byte ∷ bytes) then.read then.is in
+                let start = plain f.front f.is in
+                let shorter : length then.read ≤ n = omega (arith, fits, ap length f.joined, length-append f.front then.read, ap length start.joined) in
+                let b = break_more n then.read shorter then.then in
+                let regrouped : (byte ∷ bytes) ++ b.missing ≡ f.front ++ (then.read ++ b.missing) = ap (λ (x : List ℕ). x ++ b.missing) f.joined ∙ append_assoc f.front then.read b.missing in
+                record { missing = b.missing; are_bytes = b.are_bytes; is = subst (IsRowToBreak Thing) (sym regrouped) (one_more f.front (then.read ++ b.missing) f.is b.is) }
+          ]
+      ]
+
+  break_stays : (n m : ℕ) (bytes after : List ℕ) (stop : Stop) → n ≤ m → stop ≢ More → skip_to_break skip n bytes ≡ Err stop
+      → skip_to_break skip m (bytes ++ after) ≡ Err stop
+  unfolding skip_to_break
+  break_stays zero m bytes after stop fits known e = absurd (known cc)
+  break_stays (suc n) m [] after stop fits known e = absurd (known cc)
+  break_stays (suc n) zero (byte ∷ bytes) after stop fits known e = absurd (omega arith)
+  break_stays (suc n) (suc m) (byte ∷ bytes) after stop fits known e =
+      elim (chosen (eqb byte 255) (Ok bytes) (skip (byte ∷ bytes) >>= skip_to_break skip n) (Err stop) e) [
+        | inl (is_break, found) ↦ absurd cc
+        | inr (no_break, more) ↦ elim (bind_err (skip (byte ∷ bytes)) (skip_to_break skip n) stop more) [
+            | inl f ↦ rw (no_break, s.stays (byte ∷ bytes) after stop known f) refl
+            | inr then ↦
+                let f = s.found (byte ∷ bytes) then.read then.is in
+                let regrouped : byte ∷ (bytes ++ after) ≡ f.front ++ (then.read ++ after) = ap (λ (x : List ℕ). x ++ after) f.joined ∙ append_assoc f.front then.read after in
+                let read : skip (byte ∷ (bytes ++ after)) ≡ Ok (then.read ++ after) = ap skip regrouped ∙ s.again f.front (then.read ++ after) f.is in
+                rw (no_break, read) (break_stays n m then.read after stop (omega arith) known then.then)
+          ]
+      ]
+
+  pub skips_to_break : Skips (IsRowToBreak Thing) (λ bytes. skip_to_break skip (length bytes) bytes)
+  skips_to_break = record {
+      found = λ bytes rest e. break_found (length bytes) bytes rest e
+    ; again = λ front rest row.
+        let regrouped : front ++ rest ≡ row.things ++ 255 ∷ rest = ap (λ (x : List ℕ). x ++ rest) row.joined ∙ append_assoc row.things (255 ∷ []) rest in
+        ap (λ (x : List ℕ). skip_to_break skip (length x) x) regrouped ∙ break_again (length (row.things ++ 255 ∷ rest)) row.count row.things rest row.is_row (omega arith)
+    ; more = λ bytes e. break_more (length bytes) bytes (omega arith) e
+    ; stays = λ bytes after stop known e. break_stays (length bytes) (length (bytes ++ after)) bytes after stop (omega (arith, length-append bytes after)) known e }
