@@ -73,6 +73,15 @@ argument_again head spelled is rest =
     let long : ltb (length (is.argument ++ rest)) n ≡ false = le-ltb _ _ (omega (arith, length-append is.argument rest, is.whole)) in
     rw (long, take_at is.argument rest n is.whole, drop_at is.argument rest n is.whole, is.follows, ← is.is) refl
 
+-- the initial byte of a head is told by its bytes
+pub initial_is : (initial : ℕ) (argument : List ℕ) (head : Head) (is : IsHead head (initial ∷ argument)) → (is.initial ≡ initial) × (is.argument ≡ argument)
+initial_is initial argument head is = let e : is.initial ∷ is.argument ≡ initial ∷ argument = sym is.joined in (cc, cc)
+
+pub argument_reads : (initial : ℕ) (argument : List ℕ) (head : Head) → IsHead head (initial ∷ argument) → (rest : List ℕ) → argument_at initial (argument ++ rest) ≡ Ok (head, rest)
+argument_reads initial argument head is rest =
+    let i = initial_is initial argument head is in
+    rw (← i.0, ← i.1) (argument_again head (initial ∷ argument) is rest)
+
 pub argument_stays : (initial : ℕ) (bytes after : List ℕ) (stop : Stop) → stop ≢ More → argument_at initial bytes ≡ Err stop → argument_at initial (bytes ++ after) ≡ Err stop
 argument_stays initial bytes after stop known e =
     let n = argument_len_at initial in
@@ -107,7 +116,13 @@ filled_follows initial (byte ∷ bytes) short =
       | inr other ↦ not_simple initial ((byte ∷ bytes) ++ filled initial (byte ∷ bytes)) other
     ]
 
-pub argument_more : (initial : ℕ) (bytes : List ℕ) → may_begin initial ≡ true → argument_at initial bytes ≡ Err More → (head : Head) × Begins (IsArgument initial head) bytes
+-- an argument of which something is missing, and which therefore has some bytes
+pub record IsShort (initial : ℕ) (bytes : List ℕ) : Type 0 where
+  pub head : Head
+  pub begun : Begins (IsArgument initial head) bytes
+  pub some : 0 < argument_len (info_of initial)
+
+pub argument_more : (initial : ℕ) (bytes : List ℕ) → may_begin initial ≡ true → argument_at initial bytes ≡ Err More → IsShort initial bytes
 unfolding filled
 argument_more initial bytes begins e =
     let n = argument_len_at initial in
@@ -116,11 +131,11 @@ argument_more initial bytes begins e =
           let lt : length bytes < n = ltb-true _ _ short in
           let argument = bytes ++ filled initial bytes in
           let whole : length argument ≡ n = omega (arith, length-append bytes (filled initial bytes), length-replicate {A = ℕ} (n - length bytes) 32) in
-          (head_of initial argument, record {
+          record { head = head_of initial argument; some = omega arith; begun = record {
             missing = filled initial bytes
           ; are_bytes = All-replicate (λ byte. byte < 256) (n - length bytes) 32 (lit< tt)
           ; is = record { initial = initial; argument = argument; joined = refl; begins = begins; whole = whole
-                        ; follows = filled_follows initial bytes lt; is = refl } })
+                        ; follows = filled_follows initial bytes lt; is = refl } } }
       | inr (long, read) ↦ elim (chosen (may_follow initial (take n bytes)) (Ok (head_of initial (take n bytes), drop n bytes)) (Err Bad) (Err More) read) [
           | inl (follows, found) ↦ absurd cc
           | inr (wrong, found) ↦ absurd cc

@@ -1,3 +1,5 @@
 pub mod Loops
 pub mod Skips
 pub mod Heads
+pub mod Items
+pub mod Grammar

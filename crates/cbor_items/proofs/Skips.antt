@@ -100,10 +100,15 @@ skips_same to back s = record {
   ; more = λ bytes e. let b = s.more bytes e in record { missing = b.missing; are_bytes = b.are_bytes; is = to (bytes ++ b.missing) b.is }
   ; stays = s.stays }
 
-pub skips_cond : {Thing Other : List ℕ → Type 0} {skip other : Skip} (b : Bool) → Skips Thing skip → Skips Other other
+pub skips_cond : {Thing Other : List ℕ → Type 0} {skip other : Skip} (b : Bool) → (b ≡ true → Skips Thing skip) → (b ≡ false → Skips Other other)
     → Skips (λ x. MatchBool b (Thing x) (Other x)) (λ x. cond b (skip x) (other x))
-skips_cond true s o = s
-skips_cond false s o = o
+skips_cond true s o = s refl
+skips_cond false s o = o refl
+
+pub example_cond : {Thing Other : List ℕ → Type 0} (b : Bool) → (b ≡ true → Begins Thing []) → (b ≡ false → Begins Other [])
+    → Begins (λ x. MatchBool b (Thing x) (Other x)) []
+example_cond true s o = s refl
+example_cond false s o = o refl
 
 -- ---- nothing, and what is refused
 
@@ -154,6 +159,15 @@ chosen false x y z e = inr (refl, e)
 ok_is : (x y : List ℕ) → ◌≡◌ {A = Result (List ℕ) Stop} (Ok x) (Ok y) → x ≡ y
 ok_is x y e = cc
 
+only_break : (Thing : List ℕ → Type 0) → IsRowToBreak Thing (255 ∷ [])
+only_break Thing = record { count = 0; things = []; joined = refl; is_row = refl }
+
+break_is_byte : AreBytes (255 ∷ [])
+break_is_byte = All-cons (λ byte. byte < 256) 255 [] (lit< tt) AreBytes-nil
+
+pub break_alone : (Thing : List ℕ → Type 0) → Begins (IsRowToBreak Thing) []
+break_alone Thing = record { missing = 255 ∷ []; are_bytes = break_is_byte; is = only_break Thing }
+
 module _ (Thing : List ℕ → Type 0) (skip : Skip) (s : Skips Thing skip) (plain : (x : List ℕ) → Thing x → StartsPlain x) where
   -- a row that goes on
   broken_more : (x rest : List ℕ) → Thing x → HasFront (IsRowToBreak Thing) rest [] → IsRowToBreak Thing (x ++ rest)
@@ -167,9 +181,6 @@ module _ (Thing : List ℕ → Type 0) (skip : Skip) (s : Skips Thing skip) (pla
   one_more : (x rest : List ℕ) → Thing x → IsRowToBreak Thing rest → IsRowToBreak Thing (x ++ rest)
   one_more x rest is row = broken_more x rest is (record { front = rest; joined = sym (append-nil rest); is = row })
 
-  only_break : IsRowToBreak Thing (255 ∷ [])
-  only_break = record { count = 0; things = []; joined = refl; is_row = refl }
-
   break_found : (n : ℕ) (bytes rest : List ℕ) → skip_to_break skip n bytes ≡ Ok rest → HasFront (IsRowToBreak Thing) bytes rest
   unfolding skip_to_break
   break_found zero bytes rest e = absurd cc
@@ -179,7 +190,7 @@ module _ (Thing : List ℕ → Type 0) (skip : Skip) (s : Skips Thing skip) (pla
         | inl (is_break, stop) ↦ record {
             front = 255 ∷ []
           ; joined = ap (λ (b : ℕ). b ∷ bytes) (eqb-true byte 255 is_break) ∙ ap (λ (x : List ℕ). 255 ∷ x) (ok_is bytes rest stop)
-          ; is = only_break }
+          ; is = only_break Thing }
         | inr (no_break, more) ↦
             let b = bind_ok (skip (byte ∷ bytes)) (skip_to_break skip n) rest more in
             let f = s.found (byte ∷ bytes) b.0 b.1 in
@@ -205,17 +216,11 @@ module _ (Thing : List ℕ → Type 0) (skip : Skip) (s : Skips Thing skip) (pla
       let one : skip_to_break skip (suc n) (start.first ∷ (start.rest ++ others)) ≡ Ok rest = rw (ne_eqb start.first 255 start.no_break, read) (break_again n count row.second rest row.is_second shorter) in
       ap (skip_to_break skip (suc n)) (regrouped ∙ opened) ∙ one
 
-  break_is_byte : AreBytes (255 ∷ [])
-  break_is_byte = All-cons (λ byte. byte < 256) 255 [] (lit< tt) AreBytes-nil
-
-  pub break_alone : Begins (IsRowToBreak Thing) []
-  break_alone = record { missing = 255 ∷ []; are_bytes = break_is_byte; is = only_break }
-
   break_more : (n : ℕ) (bytes : List ℕ) → length bytes ≤ n → skip_to_break skip n bytes ≡ Err More → Begins (IsRowToBreak Thing) bytes
   unfolding skip_to_break
-  break_more zero [] fits e = break_alone
+  break_more zero [] fits e = break_alone Thing
   break_more zero (byte ∷ bytes) fits e = absurd (omega arith)
-  break_more (suc n) [] fits e = break_alone
+  break_more (suc n) [] fits e = break_alone Thing
   break_more (suc n) (byte ∷ bytes) fits e =
       elim (chosen (eqb byte 255) (Ok bytes) (skip (byte ∷ bytes) >>= skip_to_break skip n) (Err More) e) [
         | inl (is_break, stop) ↦ absurd cc
@@ -223,7 +228,7 @@ module _ (Thing : List ℕ → Type 0) (skip : Skip) (s : Skips Thing skip) (pla
             | inl f ↦ let b = s.more (byte ∷ bytes) f in record {
                 missing = b.missing ++ 255 ∷ []
               ; are_bytes = AreBytes-append b.missing (255 ∷ []) b.are_bytes break_is_byte
-              ; is = subst (IsRowToBreak Thing) (append_assoc (byte ∷ bytes) b.missing (255 ∷ [])) (one_more ((byte ∷ bytes) ++ b.missing) (255 ∷ []) b.is only_break) }
+              ; is = subst (IsRowToBreak Thing) (append_assoc (byte ∷ bytes) b.missing (255 ∷ [])) (one_more ((byte ∷ bytes) ++ b.missing) (255 ∷ []) b.is (only_break Thing)) }
             | inr then ↦
                 let f = s.found (byte ∷ bytes) then.read then.is in
                 let start = plain f.front f.is in
@@ -261,3 +266,63 @@ module _ (Thing : List ℕ → Type 0) (skip : Skip) (s : Skips Thing skip) (pla
         ap (λ (x : List ℕ). skip_to_break skip (length x) x) regrouped ∙ break_again (length (row.things ++ 255 ∷ rest)) row.count row.things rest row.is_row (omega arith)
     ; more = λ bytes e. break_more (length bytes) bytes (omega arith) e
     ; stays = λ bytes after stop known e. break_stays (length bytes) (length (bytes ++ after)) bytes after stop (omega (arith, length-append bytes after)) known e }
+
+-- ---- by the first byte
+
+pub skips_equal : {Thing : List ℕ → Type 0} {skip : Skip} (other : Skip) → ((x : List ℕ) → other x ≡ skip x) → Skips Thing skip → Skips Thing other
+skips_equal other same s = record {
+    found = λ bytes rest e. s.found bytes rest (sym (same bytes) ∙ e)
+  ; again = λ front rest is. same (front ++ rest) ∙ s.again front rest is
+  ; more = λ bytes e. s.more bytes (sym (same bytes) ∙ e)
+  ; stays = λ bytes after stop known e. same (bytes ++ after) ∙ s.stays bytes after stop known (sym (same bytes) ∙ e) }
+
+-- a first byte that passes a test, and what stands behind it
+pub record IsLed (passes : ℕ → Bool) (Behind : ℕ → List ℕ → Type 0) (bytes : List ℕ) : Type 0 where
+  pub first : ℕ
+  pub behind : List ℕ
+  pub joined : bytes ≡ first ∷ behind
+  pub passed : passes first ≡ true
+  pub is : Behind first behind
+
+abbrev pub skip_led : (ℕ → Bool) → (ℕ → Skip) → Skip
+skip_led passes behind [] = Err More
+skip_led passes behind (first ∷ rest) = cond (passes first) (behind first rest) (Err Bad)
+
+module _ (passes : ℕ → Bool) (Behind : ℕ → List ℕ → Type 0) (behind : ℕ → Skip)
+    (skips : (first : ℕ) → passes first ≡ true → Skips (Behind first) (behind first)) (some : Begins (IsLed passes Behind) []) where
+  led_found : (bytes rest : List ℕ) → skip_led passes behind bytes ≡ Ok rest → HasFront (IsLed passes Behind) bytes rest
+  led_found [] rest e = absurd cc
+  led_found (first ∷ bytes) rest e =
+      elim (chosen (passes first) (behind first bytes) (Err Bad) (Ok rest) e) [
+        | inl (passed, read) ↦ let f = (skips first passed).found bytes rest read in record {
+            front = first ∷ f.front
+          ; joined = ap (λ (x : List ℕ). first ∷ x) f.joined
+          ; is = record { first = first; behind = f.front; joined = refl; passed = passed; is = f.is } }
+        | inr (refused, read) ↦ absurd cc
+      ]
+
+  led_again : (front rest : List ℕ) → IsLed passes Behind front → skip_led passes behind (front ++ rest) ≡ Ok rest
+  led_again front rest led =
+      ap (λ (x : List ℕ). skip_led passes behind (x ++ rest)) led.joined
+      ∙ rw led.passed ((skips led.first led.passed).again led.behind rest led.is)
+
+  led_more : (bytes : List ℕ) → skip_led passes behind bytes ≡ Err More → Begins (IsLed passes Behind) bytes
+  led_more [] e = some
+  led_more (first ∷ bytes) e =
+      elim (chosen (passes first) (behind first bytes) (Err Bad) (Err More) e) [
+        | inl (passed, read) ↦ let b = (skips first passed).more bytes read in record {
+            missing = b.missing; are_bytes = b.are_bytes
+          ; is = record { first = first; behind = bytes ++ b.missing; joined = refl; passed = passed; is = b.is } }
+        | inr (refused, read) ↦ absurd cc
+      ]
+
+  led_stays : (bytes after : List ℕ) (stop : Stop) → stop ≢ More → skip_led passes behind bytes ≡ Err stop → skip_led passes behind (bytes ++ after) ≡ Err stop
+  led_stays [] after stop known e = absurd (known cc)
+  led_stays (first ∷ bytes) after stop known e =
+      elim (chosen (passes first) (behind first bytes) (Err Bad) (Err stop) e) [
+        | inl (passed, read) ↦ rw passed ((skips first passed).stays bytes after stop known read)
+        | inr (refused, read) ↦ rw refused read
+      ]
+
+  pub skips_led : Skips (IsLed passes Behind) (skip_led passes behind)
+  skips_led = record { found = led_found; again = led_again; more = led_more; stays = led_stays }

@@ -1,5 +1,5 @@
 -- The grammar of well-formed items: RFC 8949, sections 3.1 and 3.2.
-use Rattle.std.specs.Prelude.{◌≡◌, ◌≢◌, ℕ, zero, suc, ◌<◌, Bool, true, false, ◌||◌, ◌==◌, List, [], ◌∷◌, ◌++◌, length, All, IsTrue, ◌⊎◌}
+use Rattle.std.specs.Prelude.{◌≡◌, ◌≢◌, ℕ, zero, suc, ◌<◌, Bool, true, false, ◌||◌, not, ◌==◌, List, [], ◌∷◌, ◌++◌, length, All, IsTrue, ◌⊎◌}
 use Rattle.cbor_items.specs.declared.head.Head.{Head}
 use Rattle.cbor_items.specs.Head.{IsHead}
 
@@ -23,13 +23,17 @@ pub record IsRowToBreak (Thing : List ℕ → Type 0) (bytes : List ℕ) : Type 
   pub joined : bytes ≡ things ++ 0xff ∷ []
   pub is_row : IsRow Thing count things
 
--- integers, and simple values with floats, are a head alone
-abbrev pub stands_alone : ℕ → Bool
-stands_alone major = major == 0 || major == 1 || major == 7
-
 -- strings of bytes and of text
 abbrev pub is_string : ℕ → Bool
 is_string major = major == 2 || major == 3
+
+-- arrays, maps and tags
+abbrev pub holds_items : ℕ → Bool
+holds_items major = major == 4 || major == 5 || major == 6
+
+-- The others, which are integers, simple values and floats, are a head alone.
+abbrev pub stands_alone : ℕ → Bool
+stands_alone major = not (is_string major || holds_items major)
 
 -- a string of a length, of a major type
 pub record IsString (major : ℕ) (bytes : List ℕ) : Type 0 where

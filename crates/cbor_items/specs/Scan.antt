@@ -7,7 +7,7 @@ use Rattle.cbor_items.specs.declared.scan.Scan.{Scan}
 use Rattle.cbor_items.specs.declared.scan.Scan.TheVariants as scan
 use Rattle.cbor_items.specs.Reading.{◌>>=◌}
 use Rattle.cbor_items.specs.Head.{major_of, info_of, initial_at, argument_at}
-use Rattle.cbor_items.specs.Item.{is_string, IsItem}
+use Rattle.cbor_items.specs.Item.{is_string, holds_items, IsItem}
 
 -- passing over something at the front of the bytes: the bytes behind it, or what decided before its end
 abbrev pub Skip : Type 0
@@ -61,9 +61,8 @@ skip_flat initial bytes = argument_at initial bytes >>= λ read. skip_flat_conte
 abbrev pub skip_nested : Skip → ℕ → Skip
 skip_nested item initial bytes = argument_at initial bytes >>= λ read. skip_nested_content item read.0 read.1
 
--- arrays, maps and tags
 abbrev pub is_nested : ℕ → Bool
-is_nested initial = major_of initial == 4 || major_of initial == 5 || major_of initial == 6
+is_nested initial = holds_items (major_of initial)
 
 -- an item, where `nested` passes over what stands behind the initial byte of an array, a map or a tag
 abbrev pub skip_either : (ℕ → Skip) → Skip
