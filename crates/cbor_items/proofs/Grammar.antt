@@ -90,7 +90,7 @@ nested_headed Item x (tag {head} spelled content is six item) =
 
 -- ---- by the initial byte
 
-abbrev BehindItem : (ℕ → List ℕ → Type 0) → ℕ → List ℕ → Type 0
+abbrev pub BehindItem : (ℕ → List ℕ → Type 0) → ℕ → List ℕ → Type 0
 BehindItem Nested initial behind = MatchBool (is_nested initial) (Nested initial behind) (IsBehind FlatContent initial behind)
 
 headed_behind : (Content : Head → List ℕ → Type 0) (x : List ℕ) (h : IsHeaded Content x) → IsBehind Content h.is_head.initial (h.is_head.argument ++ h.content)
@@ -104,7 +104,7 @@ headed_joined Content x h = h.joined ∙ ap (λ (y : List ℕ). y ++ h.content) 
 headed_major : (Content : Head → List ℕ → Type 0) (x : List ℕ) (h : IsHeaded Content x) → h.head.major ≡ major_of h.is_head.initial
 headed_major Content x h = ap (λ (y : Head). y.major) h.is_head.is
 
-flat_led : (Nested : ℕ → List ℕ → Type 0) (x : List ℕ) → IsFlat x → IsLed may_begin (BehindItem Nested) x
+pub flat_led : (Nested : ℕ → List ℕ → Type 0) (x : List ℕ) → IsFlat x → IsLed may_begin (BehindItem Nested) x
 flat_led Nested x flat =
     let f = flat_headed x flat in
     let h = f.0 in
@@ -112,7 +112,7 @@ flat_led Nested x flat =
     record { first = h.is_head.initial; behind = h.is_head.argument ++ h.content; joined = headed_joined FlatContent x h
            ; passed = h.is_head.begins; is = rw others (headed_behind FlatContent x h) }
 
-abbrev NestedBehind : (List ℕ → Type 0) → ℕ → List ℕ → Type 0
+abbrev pub NestedBehind : (List ℕ → Type 0) → ℕ → List ℕ → Type 0
 NestedBehind Item = IsBehind (NestedContent Item)
 
 nested_led : (Item : List ℕ → Type 0) (x : List ℕ) → IsNested Item x → IsLed may_begin (BehindItem (NestedBehind Item)) x
@@ -145,15 +145,15 @@ led_cases Nested false initial behind is e = inl (refl, flat_from_behind initial
 
 -- ---- the scan is the grammar
 
-abbrev NoneBehind : ℕ → List ℕ → Type 0
+abbrev pub NoneBehind : ℕ → List ℕ → Type 0
 NoneBehind initial behind = ⊥
 
-item_led : (depth : ℕ) (x : List ℕ) → IsItem (suc depth) x → IsLed may_begin (BehindItem (NestedBehind (IsItem depth))) x
+pub item_led : (depth : ℕ) (x : List ℕ) → IsItem (suc depth) x → IsLed may_begin (BehindItem (NestedBehind (IsItem depth))) x
 unfolding IsItem
 item_led depth x (inl flat) = flat_led (NestedBehind (IsItem depth)) x flat
 item_led depth x (inr nested) = nested_led (IsItem depth) x nested
 
-led_item : (depth : ℕ) (x : List ℕ) → IsLed may_begin (BehindItem (NestedBehind (IsItem depth))) x → IsItem (suc depth) x
+pub led_item : (depth : ℕ) (x : List ℕ) → IsLed may_begin (BehindItem (NestedBehind (IsItem depth))) x → IsItem (suc depth) x
 unfolding IsItem
 led_item depth x led =
     elim (led_cases (NestedBehind (IsItem depth)) (is_nested led.first) led.first led.behind led.is refl) [
@@ -161,7 +161,7 @@ led_item depth x led =
       | inr (holds, nested) ↦ inr (subst (IsNested (IsItem depth)) (sym led.joined) (nested_from_behind (IsItem depth) led.first led.behind holds nested))
     ]
 
-led_flat : (x : List ℕ) → IsLed may_begin (BehindItem NoneBehind) x → IsFlat x
+pub led_flat : (x : List ℕ) → IsLed may_begin (BehindItem NoneBehind) x → IsFlat x
 led_flat x led =
     elim (led_cases NoneBehind (is_nested led.first) led.first led.behind led.is refl) [
       | inl (others, flat) ↦ subst IsFlat (sym led.joined) flat
@@ -196,14 +196,14 @@ item_is_plain zero x flat = flat_is_plain x flat
 item_is_plain (suc depth) x (inl flat) = flat_is_plain x flat
 item_is_plain (suc depth) x (inr nested) = nested_is_plain (IsItem depth) x nested
 
-abbrev skip_behind_item : (ℕ → Skip) → ℕ → Skip
+abbrev pub skip_behind_item : (ℕ → Skip) → ℕ → Skip
 skip_behind_item nested initial behind = cond (is_nested initial) (nested initial behind) (skip_flat initial behind)
 
 bind_cond : {A B : Type 0} (b : Bool) (x : A) (stop : Stop) (f : A → Result B Stop) → (cond b (Ok x) (Err stop) >>= f) ≡ cond b (f x) (Err stop)
 bind_cond true x stop f = refl
 bind_cond false x stop f = refl
 
-either_is_led : (nested : ℕ → Skip) (bytes : List ℕ) → skip_either nested bytes ≡ skip_led may_begin (skip_behind_item nested) bytes
+pub either_is_led : (nested : ℕ → Skip) (bytes : List ℕ) → skip_either nested bytes ≡ skip_led may_begin (skip_behind_item nested) bytes
 either_is_led nested [] = refl
 either_is_led nested (initial ∷ rest) = bind_cond (may_begin initial) (initial, rest) Bad (λ (read : ℕ × List ℕ). skip_behind_item nested read.0 read.1)
 

@@ -97,13 +97,13 @@ argument_stays initial bytes after stop known e =
     ]
 
 -- Bytes of 32 complete every argument.
-filled : ℕ → List ℕ → List ℕ
+pub filled : ℕ → List ℕ → List ℕ
 filled initial bytes = replicate (argument_len_at initial - length bytes) 32
 
 not_simple : (initial : ℕ) (argument : List ℕ) → eqb initial 248 ≡ false → may_follow initial argument ≡ true
 not_simple initial argument other = rw other refl
 
-filled_follows : (initial : ℕ) (bytes : List ℕ) → length bytes < argument_len_at initial → may_follow initial (bytes ++ filled initial bytes) ≡ true
+pub filled_follows : (initial : ℕ) (bytes : List ℕ) → length bytes < argument_len_at initial → may_follow initial (bytes ++ filled initial bytes) ≡ true
 unfolding filled
 filled_follows initial [] short =
     elim (cases_Bool (eqb initial 248)) [
@@ -169,3 +169,22 @@ size_of_head head spelled is = ap (λ (h : Head). h.size) is.is ∙ omega (arith
 pub head_again : (head : Head) (spelled rest : List ℕ) → IsHead head spelled → head_at (spelled ++ rest) ≡ Some head
 unfolding head_at
 head_again head spelled rest is = rw (initial_again head spelled is rest, argument_again head spelled is rest) refl
+
+-- every initial byte has an argument
+pub every_argument : (initial : ℕ) → may_begin initial ≡ true → (head : Head) × Begins (IsArgument initial head) []
+unfolding filled
+every_argument initial begins =
+    let n = argument_len_at initial in
+    let argument = filled initial [] in
+    let whole : length argument ≡ n = omega (arith, length-replicate {A = ℕ} (n - 0) 32) in
+    let follows : may_follow initial argument ≡ true = elim (cases_lt 0 n) [
+      | inl some ↦ filled_follows initial [] some
+      | inr none ↦ elim (cases_Bool (eqb initial 248)) [
+          | inl simple ↦ let one : argument_len_at initial ≡ 1 = rw (eqb-true _ _ simple) refl in absurd (omega arith)
+          | inr other ↦ not_simple initial argument other
+        ]
+    ] in
+    (head_of initial argument, record {
+        missing = argument
+      ; are_bytes = All-replicate (λ byte. byte < 256) (n - 0) 32 (lit< tt)
+      ; is = record { initial = initial; argument = argument; joined = refl; begins = begins; whole = whole; follows = follows; is = refl } })

@@ -63,7 +63,7 @@ pub record IsBehind (Content : Head → List ℕ → Type 0) (initial : ℕ) (by
   pub is_head : IsHead head (initial ∷ argument)
   pub is_content : Content head content
 
-abbrev skip_behind : (Head → Skip) → ℕ → Skip
+abbrev pub skip_behind : (Head → Skip) → ℕ → Skip
 skip_behind content initial bytes = argument_at initial bytes >>= λ read. content read.0 read.1
 
 module _ (Content : Head → List ℕ → Type 0) (content : Head → Skip) (skips : (head : Head) → Skips (Content head) (content head))
@@ -126,10 +126,10 @@ module _ (Content : Head → List ℕ → Type 0) (content : Head → Skip) (ski
 abbrev pub IsLength : Head → List ℕ → Type 0
 IsLength head bytes = length bytes ≡ head.value
 
-abbrev begins_chunk : ℕ → ℕ → Bool
+abbrev pub begins_chunk : ℕ → ℕ → Bool
 begins_chunk major initial = eqb (major_of initial) major && ltb (info_of initial) 28
 
-chunk_begins : (major initial : ℕ) → begins_chunk major initial ≡ true → may_begin initial ≡ true
+pub chunk_begins : (major initial : ℕ) → begins_chunk major initial ≡ true → may_begin initial ≡ true
 chunk_begins major initial e = rw ((and_parts (eqb (major_of initial) major) (ltb (info_of initial) 28) e).1) refl
 
 -- definite strings begin so, and what begins so is one
@@ -161,7 +161,7 @@ chunk_back major x s =
     , and_from _ _ (eq-eqb _ _ major-is) below
     , record { head = s.head; argument = h.argument; content = s.content; joined = refl; is_head = subst (IsHead s.head) h.joined h; is_content = s.is_content } )
 
-abbrev skip_string : ℕ → Skip
+abbrev pub skip_string : ℕ → Skip
 skip_string = skip_behind (λ head. skip_bytes head.value)
 
 -- the empty string
@@ -182,13 +182,13 @@ string_example major e =
                       ; is_major = refl; definite = refl; is_content = refl } })
     ]
 
-string_from_led : (major : ℕ) (x : List ℕ) → IsLed (begins_chunk major) (IsBehind IsLength) x → IsString major x
+pub string_from_led : (major : ℕ) (x : List ℕ) → IsLed (begins_chunk major) (IsBehind IsLength) x → IsString major x
 string_from_led major x led = subst (IsString major) (sym led.joined) (chunk_to major led.first led.behind led.passed led.is)
 
-led_from_string : (major : ℕ) (x : List ℕ) → IsString major x → IsLed (begins_chunk major) (IsBehind IsLength) x
+pub led_from_string : (major : ℕ) (x : List ℕ) → IsString major x → IsLed (begins_chunk major) (IsBehind IsLength) x
 led_from_string major x s = let b = chunk_back major x s in record { first = b.0; behind = b.1; joined = b.2; passed = b.3; is = b.4 }
 
-chunk_is_led : (major : ℕ) (bytes : List ℕ) → skip_chunk major bytes ≡ skip_led (begins_chunk major) skip_string bytes
+pub chunk_is_led : (major : ℕ) (bytes : List ℕ) → skip_chunk major bytes ≡ skip_led (begins_chunk major) skip_string bytes
 unfolding skip_chunk
 chunk_is_led major [] = refl
 chunk_is_led major (initial ∷ rest) = refl
@@ -218,7 +218,7 @@ head_is_plain head spelled content is other = record {
 pub plain_same : (x y : List ℕ) → x ≡ y → StartsPlain y → StartsPlain x
 plain_same x y e plain = subst StartsPlain (sym e) plain
 
-string_is_plain : (major : ℕ) (x : List ℕ) → IsString major x → StartsPlain x
+pub string_is_plain : (major : ℕ) (x : List ℕ) → IsString major x → StartsPlain x
 string_is_plain major x s =
     plain_same x (s.spelled ++ s.content) s.joined (head_is_plain s.head s.spelled s.content s.is_head (λ seven break. absurd cc))
 
@@ -268,7 +268,7 @@ NestedContent Item head x = MatchBool (eqb head.major 4)
         (Item x))
 
 module _ (Item : List ℕ → Type 0) (some : Begins Item []) where
-  pair_example : Begins (IsPair Item Item) []
+  pub pair_example : Begins (IsPair Item Item) []
   pair_example = record {
       missing = some.missing ++ some.missing
     ; are_bytes = AreBytes-append some.missing some.missing some.are_bytes some.are_bytes
@@ -282,10 +282,10 @@ module _ (Item : List ℕ → Type 0) (some : Begins Item []) where
               (λ _. example_cond head.indefinite (λ _. break_alone (IsPair Item Item)) (λ _. row_example (IsPair Item Item) pair_example head.value))
               (λ _. some))
 
-  module _ (item : Skip) (s : Skips Item item) (plain : (x : List ℕ) → Item x → StartsPlain x) where
-    skips_entry : Skips (IsPair Item Item) (skip_pair item item)
-    skips_entry = skips_pair Item Item item item s s some
+  pub skips_entry : (item : Skip) → Skips Item item → Skips (IsPair Item Item) (skip_pair item item)
+  skips_entry item s = skips_pair Item Item item item s s some
 
+  module _ (item : Skip) (s : Skips Item item) (plain : (x : List ℕ) → Item x → StartsPlain x) where
     pub skips_nested_content : (head : Head) → Skips (NestedContent Item head) (skip_nested_content item head)
     unfolding skip_nested_content
     skips_nested_content head =
@@ -293,6 +293,6 @@ module _ (Item : List ℕ → Type 0) (some : Begins Item []) where
             (λ _. skips_cond head.indefinite (λ _. skips_to_break Item item s plain) (λ _. skips_row Item item s some head.value))
             (λ _. skips_cond (eqb head.major 5)
                 (λ _. skips_cond head.indefinite
-                    (λ _. skips_to_break (IsPair Item Item) (skip_pair item item) skips_entry (pair_is_plain Item Item plain))
-                    (λ _. skips_row (IsPair Item Item) (skip_pair item item) skips_entry pair_example head.value))
+                    (λ _. skips_to_break (IsPair Item Item) (skip_pair item item) (skips_entry item s) (pair_is_plain Item Item plain))
+                    (λ _. skips_row (IsPair Item Item) (skip_pair item item) (skips_entry item s) pair_example head.value))
                 (λ _. s))

@@ -3,3 +3,5 @@ pub mod Skips
 pub mod Heads
 pub mod Items
 pub mod Grammar
+pub mod Deeper
+pub mod Levels

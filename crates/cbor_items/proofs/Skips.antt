@@ -168,19 +168,19 @@ break_is_byte = All-cons (λ byte. byte < 256) 255 [] (lit< tt) AreBytes-nil
 pub break_alone : (Thing : List ℕ → Type 0) → Begins (IsRowToBreak Thing) []
 break_alone Thing = record { missing = 255 ∷ []; are_bytes = break_is_byte; is = only_break Thing }
 
+pub one_more : (Thing : List ℕ → Type 0) (x rest : List ℕ) → Thing x → IsRowToBreak Thing rest → IsRowToBreak Thing (x ++ rest)
+one_more Thing x rest is row = record {
+    count = suc row.count; things = x ++ row.things
+  ; joined = ap (λ (y : List ℕ). x ++ y) row.joined ∙ sym (append_assoc x row.things (255 ∷ []))
+  ; is_row = record { first = x; second = row.things; joined = refl; is_first = is; is_second = row.is_row } }
+
+pub one_then_break : (Thing : List ℕ → Type 0) (bytes : List ℕ) → Begins Thing bytes → Begins (IsRowToBreak Thing) bytes
+one_then_break Thing bytes b = record {
+    missing = b.missing ++ 255 ∷ []
+  ; are_bytes = AreBytes-append b.missing (255 ∷ []) b.are_bytes break_is_byte
+  ; is = subst (IsRowToBreak Thing) (append_assoc bytes b.missing (255 ∷ [])) (one_more Thing (bytes ++ b.missing) (255 ∷ []) b.is (only_break Thing)) }
+
 module _ (Thing : List ℕ → Type 0) (skip : Skip) (s : Skips Thing skip) (plain : (x : List ℕ) → Thing x → StartsPlain x) where
-  -- a row that goes on
-  broken_more : (x rest : List ℕ) → Thing x → HasFront (IsRowToBreak Thing) rest [] → IsRowToBreak Thing (x ++ rest)
-  broken_more x rest is others =
-      let row = others.is in
-      let e : rest ≡ row.things ++ 255 ∷ [] = others.joined ∙ append-nil others.front ∙ row.joined in
-      record { count = suc row.count; things = x ++ row.things
-             ; joined = ap (λ (y : List ℕ). x ++ y) e ∙ sym (append_assoc x row.things (255 ∷ []))
-             ; is_row = record { first = x; second = row.things; joined = refl; is_first = is; is_second = row.is_row } }
-
-  one_more : (x rest : List ℕ) → Thing x → IsRowToBreak Thing rest → IsRowToBreak Thing (x ++ rest)
-  one_more x rest is row = broken_more x rest is (record { front = rest; joined = sym (append-nil rest); is = row })
-
   break_found : (n : ℕ) (bytes rest : List ℕ) → skip_to_break skip n bytes ≡ Ok rest → HasFront (IsRowToBreak Thing) bytes rest
   unfolding skip_to_break
   break_found zero bytes rest e = absurd cc
@@ -198,7 +198,7 @@ module _ (Thing : List ℕ → Type 0) (skip : Skip) (s : Skips Thing skip) (pla
             record {
               front = f.front ++ others.front
             ; joined = f.joined ∙ ap (λ (x : List ℕ). f.front ++ x) others.joined ∙ sym (append_assoc f.front others.front rest)
-            ; is = one_more f.front others.front f.is others.is }
+            ; is = one_more Thing f.front others.front f.is others.is }
       ]
 
   break_again : (n count : ℕ) (things rest : List ℕ) → IsRow Thing count things → length (things ++ 255 ∷ rest) ≤ n
@@ -225,17 +225,14 @@ module _ (Thing : List ℕ → Type 0) (skip : Skip) (s : Skips Thing skip) (pla
       elim (chosen (eqb byte 255) (Ok bytes) (skip (byte ∷ bytes) >>= skip_to_break skip n) (Err More) e) [
         | inl (is_break, stop) ↦ absurd cc
         | inr (no_break, more) ↦ elim (bind_err (skip (byte ∷ bytes)) (skip_to_break skip n) More more) [
-            | inl f ↦ let b = s.more (byte ∷ bytes) f in record {
-                missing = b.missing ++ 255 ∷ []
-              ; are_bytes = AreBytes-append b.missing (255 ∷ []) b.are_bytes break_is_byte
-              ; is = subst (IsRowToBreak Thing) (append_assoc (byte ∷ bytes) b.missing (255 ∷ [])) (one_more ((byte ∷ bytes) ++ b.missing) (255 ∷ []) b.is (only_break Thing)) }
+            | inl f ↦ one_then_break Thing (byte ∷ bytes) (s.more (byte ∷ bytes) f)
             | inr then ↦
                 let f = s.found (byte ∷ bytes) then.read then.is in
                 let start = plain f.front f.is in
                 let shorter : length then.read ≤ n = omega (arith, fits, ap length f.joined, length-append f.front then.read, ap length start.joined) in
                 let b = break_more n then.read shorter then.then in
                 let regrouped : (byte ∷ bytes) ++ b.missing ≡ f.front ++ (then.read ++ b.missing) = ap (λ (x : List ℕ). x ++ b.missing) f.joined ∙ append_assoc f.front then.read b.missing in
-                record { missing = b.missing; are_bytes = b.are_bytes; is = subst (IsRowToBreak Thing) (sym regrouped) (one_more f.front (then.read ++ b.missing) f.is b.is) }
+                record { missing = b.missing; are_bytes = b.are_bytes; is = subst (IsRowToBreak Thing) (sym regrouped) (one_more Thing f.front (then.read ++ b.missing) f.is b.is) }
           ]
       ]
 
