@@ -8,9 +8,9 @@ use Rattle.cbor_items.specs.declared.stop.Stop.{Stop}
 use Rattle.cbor_items.specs.declared.stop.Stop.TheVariants.{More, Bad, Deep}
 use Rattle.cbor_items.specs.Reading.{◌>>=◌}
 use Rattle.cbor_items.specs.Head.{info_of, argument_len, may_begin, may_follow, head_of, IsHead, argument_at}
-use Rattle.cbor_items.specs.Item.{IsPair, IsRow, IsRowToBreak}
-use Rattle.cbor_items.specs.Scan.{Skip, skip_bytes, skip_pair, skip_row, skip_to_break, AreBytes}
-use Rattle.cbor_items.proofs.Skips.{HasFront, Begins, Skips, AreBytes-append, bind_ok, bind_err, chosen, skips_pair, skips_row, row_example, IsLed, skip_led, StartsPlain, one_more, one_then_break}
+use Rattle.cbor_items.specs.Item.{AreBytes, Begins, IsPair, IsRow, IsRowToBreak}
+use Rattle.cbor_items.specs.Scan.{Skip, skip_bytes, skip_pair, skip_row, skip_to_break}
+use Rattle.cbor_items.proofs.Skips.{HasFront, Skips, AreBytes-append, bind_ok, bind_err, chosen, skips_pair, skips_row, row_example, IsLed, skip_led, StartsPlain, one_more, one_then_break}
 use Rattle.cbor_items.proofs.Heads.{argument_found, argument_reads}
 use Rattle.cbor_items.proofs.Items.{IsBehind, skip_behind}
 

@@ -8,9 +8,9 @@ use Rattle.cbor_items.specs.declared.stop.Stop.{Stop}
 use Rattle.cbor_items.specs.declared.stop.Stop.TheVariants.{More, Bad, Deep}
 use Rattle.cbor_items.specs.Reading.{◌>>=◌}
 use Rattle.cbor_items.specs.Head.{major_of, info_of, may_begin, may_follow, head_of, IsHead, initial_at, argument_at}
-use Rattle.cbor_items.specs.Item.{IsPair, IsRow, IsRowToBreak, is_string, holds_items, stands_alone, IsString, IsFlat, alone, string, chunks, IsNested, array, open_array, map, open_map, tag, IsItem}
-use Rattle.cbor_items.specs.Scan.{Skip, skip_flat_content, skip_nested_content, skip_flat, skip_nested, is_nested, skip_either, skip_item, AreBytes}
-use Rattle.cbor_items.proofs.Skips.{HasFront, Begins, Skips, skips_same, skips_cond, skips_never, skips_equal, StartsPlain, IsLed, skip_led, skips_led}
+use Rattle.cbor_items.specs.Item.{Begins, IsPair, IsRow, IsRowToBreak, is_string, holds_items, stands_alone, IsString, IsFlat, alone, string, chunks, IsNested, array, open_array, map, open_map, tag, IsItem}
+use Rattle.cbor_items.specs.Scan.{Skip, skip_flat_content, skip_nested_content, skip_flat, skip_nested, is_nested, skip_either, skip_item}
+use Rattle.cbor_items.proofs.Skips.{HasFront, Skips, skips_same, skips_cond, skips_never, skips_equal, StartsPlain, IsLed, skip_led, skips_led}
 use Rattle.cbor_items.proofs.Heads.{initial_is}
 use Rattle.cbor_items.proofs.Items.{IsBehind, skips_behind, FlatContent, NestedContent, skips_flat_content, flat_example, skips_nested_content, nested_example, head_is_plain, plain_same}
 

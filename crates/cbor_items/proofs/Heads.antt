@@ -8,8 +8,8 @@ use Rattle.cbor_items.specs.declared.stop.Stop.{Stop}
 use Rattle.cbor_items.specs.declared.stop.Stop.TheVariants.{More, Bad}
 use Rattle.cbor_items.specs.Reading.{◌>>=◌}
 use Rattle.cbor_items.specs.Head.{info_of, argument_len, may_begin, may_follow, head_of, IsHead, initial_at, argument_at, found_head, head_at}
-use Rattle.cbor_items.specs.Scan.{AreBytes}
-use Rattle.cbor_items.proofs.Skips.{HasFront, Begins, bind_ok, chosen}
+use Rattle.cbor_items.specs.Item.{Begins}
+use Rattle.cbor_items.proofs.Skips.{HasFront, bind_ok, chosen}
 
 -- the argument of an initial byte, all of these bytes
 abbrev pub IsArgument : ℕ → Head → List ℕ → Type 0

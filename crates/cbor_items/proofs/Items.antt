@@ -8,9 +8,9 @@ use Rattle.cbor_items.specs.declared.stop.Stop.{Stop}
 use Rattle.cbor_items.specs.declared.stop.Stop.TheVariants.{More, Bad, Deep}
 use Rattle.cbor_items.specs.Reading.{◌>>=◌}
 use Rattle.cbor_items.specs.Head.{major_of, info_of, argument_len, may_begin, may_follow, head_of, IsHead, initial_at, argument_at}
-use Rattle.cbor_items.specs.Item.{IsPair, IsRow, IsRowToBreak, is_string, holds_items, stands_alone, IsString, IsFlat, alone, string, chunks, IsNested, array, open_array, map, open_map, tag, IsItem}
-use Rattle.cbor_items.specs.Scan.{Skip, skip_bytes, skip_pair, skip_row, skip_to_break, skip_chunk, skip_flat_content, skip_nested_content, skip_flat, skip_nested, is_nested, skip_either, skip_item, AreBytes}
-use Rattle.cbor_items.proofs.Skips.{HasFront, Begins, Skips, AreBytes-nil, AreBytes-append, bind_ok, Stops, bind_err, chosen, skips_pair, skips_same, skips_cond, example_cond, skips_nothing, skips_never, row_example, skips_row, StartsPlain, break_alone, skips_to_break, skips_equal, IsLed, skip_led, skips_led}
+use Rattle.cbor_items.specs.Item.{AreBytes, Begins, IsPair, IsRow, IsRowToBreak, is_string, holds_items, stands_alone, IsString, IsFlat, alone, string, chunks, IsNested, array, open_array, map, open_map, tag, IsItem}
+use Rattle.cbor_items.specs.Scan.{Skip, skip_bytes, skip_pair, skip_row, skip_to_break, skip_chunk, skip_flat_content, skip_nested_content, skip_flat, skip_nested, is_nested, skip_either, skip_item}
+use Rattle.cbor_items.proofs.Skips.{HasFront, Skips, AreBytes-nil, AreBytes-append, bind_ok, Stops, bind_err, chosen, skips_pair, skips_same, skips_cond, example_cond, skips_nothing, skips_never, row_example, skips_row, StartsPlain, break_alone, skips_to_break, skips_equal, IsLed, skip_led, skips_led}
 use Rattle.cbor_items.proofs.Heads.{IsArgument, IsShort, initial_found, initial_stays, initial_again, argument_found, initial_is, argument_reads, argument_more, argument_stays}
 
 -- ---- so many bytes

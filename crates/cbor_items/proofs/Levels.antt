@@ -5,9 +5,9 @@ use Rattle.cbor_items.specs.declared.stop.Stop.{Stop}
 use Rattle.cbor_items.specs.declared.stop.Stop.TheVariants.{More, Bad, Deep}
 use Rattle.cbor_items.specs.Reading.{◌>>=◌}
 use Rattle.cbor_items.specs.Head.{may_begin, IsHead}
-use Rattle.cbor_items.specs.Item.{IsPair, IsRow, IsRowToBreak, is_string, IsString, IsFlat, IsNested, IsItem}
+use Rattle.cbor_items.specs.Item.{AreBytes, Begins, IsPair, IsRow, IsRowToBreak, is_string, IsString, IsFlat, IsNested, IsItem}
 use Rattle.cbor_items.specs.Scan.{Skip, skip_bytes, skip_pair, skip_row, skip_to_break, skip_chunk, skip_flat_content, skip_nested_content, skip_flat, skip_nested, is_nested, skip_either, skip_item}
-use Rattle.cbor_items.proofs.Skips.{HasFront, Begins, Skips, AreBytes-append, chosen, skips_pair, skips_row, StartsPlain, IsLed, skip_led}
+use Rattle.cbor_items.proofs.Skips.{HasFront, Skips, AreBytes-append, chosen, skips_pair, skips_row, StartsPlain, IsLed, skip_led}
 use Rattle.cbor_items.proofs.Heads.{every_argument}
 use Rattle.cbor_items.proofs.Items.{IsBehind, skip_behind, IsLength, begins_chunk, chunk_begins, skip_string, string_from_led, led_from_string, chunk_is_led, skips_chunk, string_is_plain, pair_is_plain, FlatContent, NestedContent, pair_example, nested_example, skips_entry}
 use Rattle.cbor_items.proofs.Grammar.{BehindItem, NestedBehind, NoneBehind, skip_behind_item, either_is_led, led_item, item_led, led_flat, flat_led, item_example, item_is_plain, skips_item}

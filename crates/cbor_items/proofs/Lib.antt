@@ -5,3 +5,4 @@ pub mod Items
 pub mod Grammar
 pub mod Deeper
 pub mod Levels
+pub mod Meaning

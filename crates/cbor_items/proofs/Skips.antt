@@ -7,8 +7,8 @@ use Rattle.std.proofs.lemmas.List.Elements.{All-nil, All-cons, All-append}
 use Rattle.cbor_items.specs.declared.stop.Stop.{Stop}
 use Rattle.cbor_items.specs.declared.stop.Stop.TheVariants.{More, Bad, Deep}
 use Rattle.cbor_items.specs.Reading.{◌>>=◌}
-use Rattle.cbor_items.specs.Item.{IsPair, IsRow, IsRowToBreak}
-use Rattle.cbor_items.specs.Scan.{Skip, skip_pair, skip_row, skip_to_break, AreBytes}
+use Rattle.cbor_items.specs.Item.{AreBytes, Begins, IsPair, IsRow, IsRowToBreak}
+use Rattle.cbor_items.specs.Scan.{Skip, skip_pair, skip_row, skip_to_break}
 
 pub AreBytes-nil : AreBytes []
 AreBytes-nil = All-nil (λ byte. byte < 256)
@@ -21,12 +21,6 @@ pub record HasFront (Thing : List ℕ → Type 0) (bytes rest : List ℕ) : Type
   pub front : List ℕ
   pub joined : bytes ≡ front ++ rest
   pub is : Thing front
-
--- the bytes begin a thing
-pub record Begins (Thing : List ℕ → Type 0) (bytes : List ℕ) : Type 0 where
-  pub missing : List ℕ
-  pub are_bytes : AreBytes missing
-  pub is : Thing (bytes ++ missing)
 
 -- A skip passes over things, and over nothing else.
 pub record Skips (Thing : List ℕ → Type 0) (skip : Skip) : Type 0 where

@@ -71,3 +71,12 @@ pub data IsNested (Item : List ℕ → Type 0) : List ℕ → Type 0 where
 unfoldable pub IsItem : ℕ → List ℕ → Type 0
 IsItem zero bytes = IsFlat bytes
 IsItem (suc depth) bytes = IsFlat bytes ⊎ IsNested (IsItem depth) bytes
+
+abbrev pub AreBytes : List ℕ → Type 0
+AreBytes bytes = All (λ byte. byte < 256) bytes
+
+-- the bytes begin a thing: with some bytes behind them, or with none, they are one
+pub record Begins (Thing : List ℕ → Type 0) (bytes : List ℕ) : Type 0 where
+  pub missing : List ℕ
+  pub are_bytes : AreBytes missing
+  pub is : Thing (bytes ++ missing)

@@ -2,4 +2,5 @@ pub mod Reading
 pub mod Head
 pub mod Item
 pub mod Scan
+pub mod Answer
 pub mod Part

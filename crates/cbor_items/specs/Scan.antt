@@ -7,7 +7,7 @@ use Rattle.cbor_items.specs.declared.scan.Scan.{Scan}
 use Rattle.cbor_items.specs.declared.scan.Scan.TheVariants as scan
 use Rattle.cbor_items.specs.Reading.{◌>>=◌}
 use Rattle.cbor_items.specs.Head.{major_of, info_of, initial_at, argument_at}
-use Rattle.cbor_items.specs.Item.{is_string, holds_items, IsItem}
+use Rattle.cbor_items.specs.Item.{is_string, holds_items}
 
 -- passing over something at the front of the bytes: the bytes behind it, or what decided before its end
 abbrev pub Skip : Type 0
@@ -82,13 +82,3 @@ scan_result bytes (Err stop.Deep) = scan.Deep
 -- the scan of the first item: what decides first, from the left
 unfoldable pub scan_of : List ℕ → Scan
 scan_of bytes = scan_result bytes (skip_item 64 bytes)
-
-abbrev pub AreBytes : List ℕ → Type 0
-AreBytes bytes = All (λ byte. byte < 256) bytes
-
--- the bytes begin an item, of which something is missing
-pub record IsBegun (depth : ℕ) (bytes : List ℕ) : Type 0 where
-  pub missing : List ℕ
-  pub are_bytes : AreBytes missing
-  pub some : missing ≢ []
-  pub is_item : IsItem depth (bytes ++ missing)

@@ -1,5 +1,7 @@
 ghost use Rattle.std.specs.Prelude.{◌≡◌};
+ghost use Rattle.cbor_items.specs.declared.scan.Scan.{Scan};
 ghost use Rattle.cbor_items.specs.Scan.{scan_of};
+ghost use Rattle.cbor_items.specs.Answer.{IsAnswer};
 
 use crate::item::skip_item;
 use crate::stop::Stop;
@@ -19,7 +21,10 @@ pub enum Scan {
 
 /// Scans the first item of the bytes. The first byte that decides gives the answer, whatever follows it.
 pub fn first_item(bytes: &[u8]) -> Scan
-    ensures { result ≡ scan_of bytes.now }
+    ensures scan { result ≡ scan_of bytes.now }
+    // What the answer means, by the grammar of items.
+    ensures means { IsAnswer bytes.now result }
+    ensures only { (answer : Scan) → IsAnswer bytes.now answer → answer ≡ result }
 {
     match skip_item(bytes, 64) {
         Ok(rest) => Scan::Whole(bytes.len() - rest.len()),
