@@ -31,11 +31,17 @@ pub deepens_same : {Thing Other Thing' Other' : List ℕ → Type 0} {skip other
     → ((x : List ℕ) → Thing' x → Thing x) → ((x : List ℕ) → Other x → Other' x) → ((x : List ℕ) → skip' x ≡ skip x) → ((x : List ℕ) → other' x ≡ other x)
     → Deepens Thing skip Other other → Deepens Thing' skip' Other' other'
 deepens_same skip' other' back to same same' d = record {
-    wider = λ x t. to x (d.wider x (back x t))
-  ; bad = λ bytes e. same' bytes ∙ d.bad bytes (sym (same bytes) ∙ e)
-  ; deep = λ bytes e. let t = d.deep bytes (sym (same bytes) ∙ e) in
-      record { front = t.front; rest = t.rest; joined = t.joined; is_deep = same t.front ∙ t.is_deep
-             ; begun = record { missing = t.begun.missing; are_bytes = t.begun.are_bytes; is = to (t.front ++ t.begun.missing) t.begun.is } } }
+  wider = λ x t. to x (d.wider x (back x t));
+  bad = λ bytes e. same' bytes ∙ d.bad bytes (sym (same bytes) ∙ e);
+  deep = λ bytes e. let t = d.deep bytes (sym (same bytes) ∙ e) in
+      record {
+        front = t.front;
+        rest = t.rest;
+        joined = t.joined;
+        is_deep = same t.front ∙ t.is_deep;
+        begun = record { missing = t.begun.missing; are_bytes = t.begun.are_bytes; is = to (t.front ++ t.begun.missing) t.begun.is };
+      };
+}
 
 -- where nothing is ever too deep
 pub deepens_flat : (Thing : List ℕ → Type 0) (skip : Skip) → ((bytes : List ℕ) → skip bytes ≡ Err Deep → ⊥) → Deepens Thing skip Thing skip
@@ -69,22 +75,39 @@ module _ (First First' Second Second' : List ℕ → Type 0) (first first' secon
   pair_deep bytes is =
       elim (bind_err (first bytes) second Deep is) [
         | inl f ↦ let t = d.deep bytes f in record {
-            front = t.front; rest = t.rest; joined = t.joined
-          ; is_deep = ap (λ r. r >>= second) t.is_deep
-          ; begun = record {
-              missing = t.begun.missing ++ some.missing
-            ; are_bytes = AreBytes-append t.begun.missing some.missing t.begun.are_bytes some.are_bytes
-            ; is = record { first = t.front ++ t.begun.missing; second = some.missing; joined = sym (append_assoc t.front t.begun.missing some.missing)
-                          ; is_first = t.begun.is; is_second = some.is } } }
+          front = t.front;
+          rest = t.rest;
+          joined = t.joined;
+          is_deep = ap (λ r. r >>= second) t.is_deep;
+          begun = record {
+            missing = t.begun.missing ++ some.missing;
+            are_bytes = AreBytes-append t.begun.missing some.missing t.begun.are_bytes some.are_bytes;
+            is = record {
+              first = t.front ++ t.begun.missing;
+              second = some.missing;
+              joined = sym (append_assoc t.front t.begun.missing some.missing);
+              is_first = t.begun.is;
+              is_second = some.is;
+            };
+          };
+        }
         | inr then ↦ let f = one.found bytes then.read then.is in let t = e.deep then.read then.then in record {
-            front = f.front ++ t.front; rest = t.rest
-          ; joined = f.joined ∙ ap (λ (x : List ℕ). f.front ++ x) t.joined ∙ sym (append_assoc f.front t.front t.rest)
-          ; is_deep = ap (λ r. r >>= second) (one.again f.front t.front f.is) ∙ t.is_deep
-          ; begun = record {
-              missing = t.begun.missing
-            ; are_bytes = t.begun.are_bytes
-            ; is = record { first = f.front; second = t.front ++ t.begun.missing; joined = append_assoc f.front t.front t.begun.missing
-                          ; is_first = d.wider f.front f.is; is_second = t.begun.is } } }
+          front = f.front ++ t.front;
+          rest = t.rest;
+          joined = f.joined ∙ ap (λ (x : List ℕ). f.front ++ x) t.joined ∙ sym (append_assoc f.front t.front t.rest);
+          is_deep = ap (λ r. r >>= second) (one.again f.front t.front f.is) ∙ t.is_deep;
+          begun = record {
+            missing = t.begun.missing;
+            are_bytes = t.begun.are_bytes;
+            is = record {
+              first = f.front;
+              second = t.front ++ t.begun.missing;
+              joined = append_assoc f.front t.front t.begun.missing;
+              is_first = d.wider f.front f.is;
+              is_second = t.begun.is;
+            };
+          };
+        }
       ]
 
   pub deepens_pair : Deepens (IsPair First Second) (skip_pair first second) (IsPair First' Second') (skip_pair first' second')
@@ -96,7 +119,7 @@ unfolding skip_row
 deepens_row Thing Thing' skip skip' s s' d some zero = deepens_flat (λ x. x ≡ []) Ok (λ bytes e. absurd cc)
 deepens_row Thing Thing' skip skip' s s' d some (suc n) =
     deepens_pair Thing Thing' (IsRow Thing n) (IsRow Thing' n) skip skip' (skip_row skip n) (skip_row skip' n) s s' d
-        (deepens_row Thing Thing' skip skip' s s' d some n) (row_example Thing' some n)
+    (deepens_row Thing Thing' skip skip' s s' d some n) (row_example Thing' some n)
 
 -- ---- things up to a break
 
@@ -123,12 +146,12 @@ module _ (Thing Thing' : List ℕ → Type 0) (skip skip' : Skip) (s : Skips Thi
       elim (chosen (eqb byte 255) (Ok bytes) (skip (byte ∷ bytes) >>= skip_to_break skip n) (Err Bad) e) [
         | inl (is_break, found) ↦ absurd cc
         | inr (no_break, more) ↦ elim (bind_err (skip (byte ∷ bytes)) (skip_to_break skip n) Bad more) [
-            | inl f ↦ rw (no_break, d.bad (byte ∷ bytes) f) refl
-            | inr then ↦
-                let f = s.found (byte ∷ bytes) then.read then.is in
-                let read : skip' (byte ∷ bytes) ≡ Ok then.read = ap skip' f.joined ∙ s'.again f.front then.read (d.wider f.front f.is) in
-                rw (no_break, read) (break_bad n then.read then.then)
-          ]
+          | inl f ↦ rw (no_break, d.bad (byte ∷ bytes) f) refl
+          | inr then ↦
+              let f = s.found (byte ∷ bytes) then.read then.is in
+              let read : skip' (byte ∷ bytes) ≡ Ok then.read = ap skip' f.joined ∙ s'.again f.front then.read (d.wider f.front f.is) in
+              rw (no_break, read) (break_bad n then.read then.then)
+        ]
       ]
 
   -- the things begin with one that is too deep
@@ -163,30 +186,38 @@ module _ (Thing Thing' : List ℕ → Type 0) (skip skip' : Skip) (s : Skips Thi
       elim (chosen (eqb byte 255) (Ok bytes) (skip (byte ∷ bytes) >>= skip_to_break skip n) (Err Deep) e) [
         | inl (is_break, found) ↦ absurd cc
         | inr (no_break, more) ↦ elim (bind_err (skip (byte ∷ bytes)) (skip_to_break skip n) Deep more) [
-            | inl f ↦ let t = d.deep (byte ∷ bytes) f in record {
-                front = t.front; rest = t.rest; joined = t.joined
-              ; is_deep = too_deep_first byte bytes t.front t.rest (eqb-false byte 255 no_break) t.joined t.is_deep
-              ; begun = one_then_break Thing' t.front t.begun }
-            | inr then ↦
-                let f = s.found (byte ∷ bytes) then.read then.is in
-                let t = break_deep n then.read then.then in
-                record {
-                  front = f.front ++ t.front; rest = t.rest
-                ; joined = f.joined ∙ ap (λ (x : List ℕ). f.front ++ x) t.joined ∙ sym (append_assoc f.front t.front t.rest)
-                ; is_deep = too_deep_later f.front t.front f.is t.is_deep
-                ; begun = record {
-                    missing = t.begun.missing; are_bytes = t.begun.are_bytes
-                  ; is = subst (IsRowToBreak Thing') (sym (append_assoc f.front t.front t.begun.missing))
-                      (one_more Thing' f.front (t.front ++ t.begun.missing) (d.wider f.front f.is) t.begun.is) } }
-          ]
+          | inl f ↦ let t = d.deep (byte ∷ bytes) f in record {
+            front = t.front;
+            rest = t.rest;
+            joined = t.joined;
+            is_deep = too_deep_first byte bytes t.front t.rest (eqb-false byte 255 no_break) t.joined t.is_deep;
+            begun = one_then_break Thing' t.front t.begun;
+          }
+          | inr then ↦
+              let f = s.found (byte ∷ bytes) then.read then.is in
+              let t = break_deep n then.read then.then in
+              record {
+                front = f.front ++ t.front;
+                rest = t.rest;
+                joined = f.joined ∙ ap (λ (x : List ℕ). f.front ++ x) t.joined ∙ sym (append_assoc f.front t.front t.rest);
+                is_deep = too_deep_later f.front t.front f.is t.is_deep;
+                begun = record {
+                  missing = t.begun.missing;
+                  are_bytes = t.begun.are_bytes;
+                  is = subst (IsRowToBreak Thing') (sym (append_assoc f.front t.front t.begun.missing))
+                      (one_more Thing' f.front (t.front ++ t.begun.missing) (d.wider f.front f.is) t.begun.is);
+                };
+              }
+        ]
       ]
 
   pub deepens_to_break : Deepens (IsRowToBreak Thing) (λ bytes. skip_to_break skip (length bytes) bytes) (IsRowToBreak Thing') (λ bytes. skip_to_break skip' (length bytes) bytes)
   deepens_to_break = record {
-      wider = λ x row. record { count = row.count; things = row.things; joined = row.joined; is_row = row_wider Thing Thing' d.wider row.count row.things row.is_row }
-    ; bad = λ bytes e. break_bad (length bytes) bytes e
-    ; deep = λ bytes e. let t = break_deep (length bytes) bytes e in
-        record { front = t.front; rest = t.rest; joined = t.joined; is_deep = t.is_deep (length t.front) (omega arith); begun = t.begun } }
+    wider = λ x row. record { count = row.count; things = row.things; joined = row.joined; is_row = row_wider Thing Thing' d.wider row.count row.things row.is_row };
+    bad = λ bytes e. break_bad (length bytes) bytes e;
+    deep = λ bytes e. let t = break_deep (length bytes) bytes e in
+        record { front = t.front; rest = t.rest; joined = t.joined; is_deep = t.is_deep (length t.front) (omega arith); begun = t.begun };
+  }
 
 -- ---- behind a first byte
 
@@ -196,9 +227,9 @@ argument_not_deep initial bytes e =
     elim (chosen (ltb (length bytes) n) (Err More) (cond (may_follow initial (take n bytes)) (Ok (head_of initial (take n bytes), drop n bytes)) (Err Bad)) (Err Deep) e) [
       | inl (short, read) ↦ absurd cc
       | inr (long, read) ↦ elim (chosen (may_follow initial (take n bytes)) (Ok (head_of initial (take n bytes), drop n bytes)) (Err Bad) (Err Deep) read) [
-          | inl (follows, found) ↦ absurd cc
-          | inr (wrong, found) ↦ absurd cc
-        ]
+        | inl (follows, found) ↦ absurd cc
+        | inr (wrong, found) ↦ absurd cc
+      ]
     ]
 
 module _ (Content Content' : Head → List ℕ → Type 0) (content content' : Head → Skip)
@@ -218,21 +249,38 @@ module _ (Content Content' : Head → List ℕ → Type 0) (content content' : H
             let a = argument_found initial bytes then.read.0 then.read.1 begins then.is in
             let t = (d then.read.0).deep then.read.1 then.then in
             record {
-              front = a.front ++ t.front; rest = t.rest
-            ; joined = a.joined ∙ ap (λ (x : List ℕ). a.front ++ x) t.joined ∙ sym (append_assoc a.front t.front t.rest)
-            ; is_deep = ap (λ r. r >>= λ read. content read.0 read.1) (argument_reads initial a.front then.read.0 a.is t.front) ∙ t.is_deep
-            ; begun = record {
-                missing = t.begun.missing; are_bytes = t.begun.are_bytes
-              ; is = record { head = then.read.0; argument = a.front; content = t.front ++ t.begun.missing
-                            ; joined = append_assoc a.front t.front t.begun.missing; is_head = a.is; is_content = t.begun.is } } }
+              front = a.front ++ t.front;
+              rest = t.rest;
+              joined = a.joined ∙ ap (λ (x : List ℕ). a.front ++ x) t.joined ∙ sym (append_assoc a.front t.front t.rest);
+              is_deep = ap (λ r. r >>= λ read. content read.0 read.1) (argument_reads initial a.front then.read.0 a.is t.front) ∙ t.is_deep;
+              begun = record {
+                missing = t.begun.missing;
+                are_bytes = t.begun.are_bytes;
+                is = record {
+                  head = then.read.0;
+                  argument = a.front;
+                  content = t.front ++ t.begun.missing;
+                  joined = append_assoc a.front t.front t.begun.missing;
+                  is_head = a.is;
+                  is_content = t.begun.is;
+                };
+              };
+            }
       ]
 
   pub deepens_behind : Deepens (IsBehind Content initial) (skip_behind content initial) (IsBehind Content' initial) (skip_behind content' initial)
   deepens_behind = record {
-      wider = λ x b. record { head = b.head; argument = b.argument; content = b.content; joined = b.joined; is_head = b.is_head
-                            ; is_content = (d b.head).wider b.content b.is_content }
-    ; bad = behind_bad
-    ; deep = behind_deep }
+    wider = λ x b. record {
+      head = b.head;
+      argument = b.argument;
+      content = b.content;
+      joined = b.joined;
+      is_head = b.is_head;
+      is_content = (d b.head).wider b.content b.is_content;
+    };
+    bad = behind_bad;
+    deep = behind_deep;
+  }
 
 module _ (passes : ℕ → Bool) (Behind Behind' : ℕ → List ℕ → Type 0) (behind behind' : ℕ → Skip)
     (d : (first : ℕ) → passes first ≡ true → Deepens (Behind first) (behind first) (Behind' first) (behind' first)) where
@@ -249,17 +297,22 @@ module _ (passes : ℕ → Bool) (Behind Behind' : ℕ → List ℕ → Type 0) 
   led_deep (first ∷ bytes) e =
       elim (chosen (passes first) (behind first bytes) (Err Bad) (Err Deep) e) [
         | inl (passed, read) ↦ let t = (d first passed).deep bytes read in record {
-            front = first ∷ t.front; rest = t.rest
-          ; joined = ap (λ (x : List ℕ). first ∷ x) t.joined
-          ; is_deep = rw passed t.is_deep
-          ; begun = record {
-              missing = t.begun.missing; are_bytes = t.begun.are_bytes
-            ; is = record { first = first; behind = t.front ++ t.begun.missing; joined = refl; passed = passed; is = t.begun.is } } }
+          front = first ∷ t.front;
+          rest = t.rest;
+          joined = ap (λ (x : List ℕ). first ∷ x) t.joined;
+          is_deep = rw passed t.is_deep;
+          begun = record {
+            missing = t.begun.missing;
+            are_bytes = t.begun.are_bytes;
+            is = record { first = first; behind = t.front ++ t.begun.missing; joined = refl; passed = passed; is = t.begun.is };
+          };
+        }
         | inr (refused, read) ↦ absurd cc
       ]
 
   pub deepens_led : Deepens (IsLed passes Behind) (skip_led passes behind) (IsLed passes Behind') (skip_led passes behind')
   deepens_led = record {
-      wider = λ x led. record { first = led.first; behind = led.behind; joined = led.joined; passed = led.passed; is = (d led.first led.passed).wider led.behind led.is }
-    ; bad = led_bad
-    ; deep = led_deep }
+    wider = λ x led. record { first = led.first; behind = led.behind; joined = led.joined; passed = led.passed; is = (d led.first led.passed).wider led.behind led.is };
+    bad = led_bad;
+    deep = led_deep;
+  }

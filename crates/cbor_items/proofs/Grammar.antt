@@ -45,7 +45,7 @@ last_of false false c e f g = e
 nested_cases : (Item : List ℕ → Type 0) (head : Head) (spelled content : List ℕ) (four five endless : Bool) → IsHead head spelled → holds_items head.major ≡ true
     → eqb head.major 4 ≡ four → eqb head.major 5 ≡ five → head.indefinite ≡ endless
     → MatchBool four (MatchBool endless (IsRowToBreak Item content) (IsRow Item head.value content))
-        (MatchBool five (MatchBool endless (IsRowToBreak (IsPair Item Item) content) (IsRow (IsPair Item Item) head.value content)) (Item content))
+    (MatchBool five (MatchBool endless (IsRowToBreak (IsPair Item Item) content) (IsRow (IsPair Item Item) head.value content)) (Item content))
     → IsNested Item (spelled ++ content)
 nested_cases Item head spelled content true five true is holds a b e c = open_array spelled content is (eqb-true _ _ a) e c
 nested_cases Item head spelled content true five false is holds a b e c = array spelled content is (eqb-true _ _ a) e c
@@ -65,16 +65,19 @@ string_holds_nothing major text =
 
 flat_headed : (x : List ℕ) → IsFlat x → (h : IsHeaded FlatContent x) × (holds_items h.head.major ≡ false)
 flat_headed x (alone {head} {spelled} is stands definite) =
-    let parts : (is_string head.major ≡ false) × (holds_items head.major ≡ false) = or_parts (is_string head.major) (holds_items head.major) (not-true _ stands) in
-    ( record { head = head; spelled = spelled; content = []; joined = sym (append-nil spelled); is_head = is; is_content = rw (parts.0, definite) refl }
-    , parts.1 )
+    let parts : (is_string head.major ≡ false) × (holds_items head.major ≡ false) = or_parts (is_string head.major) (holds_items head.major) (not-true _ stands) in (
+      record { head = head; spelled = spelled; content = []; joined = sym (append-nil spelled); is_head = is; is_content = rw (parts.0, definite) refl },
+      parts.1,
+    )
 flat_headed x (string {major} text s) =
-    let text' : is_string s.head.major ≡ true = ap is_string s.is_major ∙ text in
-    ( record { head = s.head; spelled = s.spelled; content = s.content; joined = s.joined; is_head = s.is_head; is_content = rw (text', s.definite) s.is_content }
-    , string_holds_nothing s.head.major text' )
-flat_headed x (chunks {head} spelled content is text endless row) =
-    ( record { head = head; spelled = spelled; content = content; joined = refl; is_head = is; is_content = rw (text, endless) row }
-    , string_holds_nothing head.major text )
+    let text' : is_string s.head.major ≡ true = ap is_string s.is_major ∙ text in (
+      record { head = s.head; spelled = s.spelled; content = s.content; joined = s.joined; is_head = s.is_head; is_content = rw (text', s.definite) s.is_content },
+      string_holds_nothing s.head.major text',
+    )
+flat_headed x (chunks {head} spelled content is text endless row) = (
+  record { head = head; spelled = spelled; content = content; joined = refl; is_head = is; is_content = rw (text, endless) row },
+  string_holds_nothing head.major text,
+)
 
 nested_headed : (Item : List ℕ → Type 0) (x : List ℕ) → IsNested Item x → (h : IsHeaded (NestedContent Item) x) × (holds_items h.head.major ≡ true)
 nested_headed Item x (array {head} spelled content is four definite row) =
@@ -95,8 +98,13 @@ BehindItem Nested initial behind = MatchBool (is_nested initial) (Nested initial
 
 headed_behind : (Content : Head → List ℕ → Type 0) (x : List ℕ) (h : IsHeaded Content x) → IsBehind Content h.is_head.initial (h.is_head.argument ++ h.content)
 headed_behind Content x h = record {
-    head = h.head; argument = h.is_head.argument; content = h.content; joined = refl
-  ; is_head = subst (IsHead h.head) h.is_head.joined h.is_head; is_content = h.is_content }
+  head = h.head;
+  argument = h.is_head.argument;
+  content = h.content;
+  joined = refl;
+  is_head = subst (IsHead h.head) h.is_head.joined h.is_head;
+  is_content = h.is_content;
+}
 
 headed_joined : (Content : Head → List ℕ → Type 0) (x : List ℕ) (h : IsHeaded Content x) → x ≡ h.is_head.initial ∷ (h.is_head.argument ++ h.content)
 headed_joined Content x h = h.joined ∙ ap (λ (y : List ℕ). y ++ h.content) h.is_head.joined
@@ -109,8 +117,13 @@ flat_led Nested x flat =
     let f = flat_headed x flat in
     let h = f.0 in
     let others : is_nested h.is_head.initial ≡ false = ap holds_items (sym (headed_major FlatContent x h)) ∙ f.1 in
-    record { first = h.is_head.initial; behind = h.is_head.argument ++ h.content; joined = headed_joined FlatContent x h
-           ; passed = h.is_head.begins; is = rw others (headed_behind FlatContent x h) }
+    record {
+      first = h.is_head.initial;
+      behind = h.is_head.argument ++ h.content;
+      joined = headed_joined FlatContent x h;
+      passed = h.is_head.begins;
+      is = rw others (headed_behind FlatContent x h);
+    }
 
 abbrev pub NestedBehind : (List ℕ → Type 0) → ℕ → List ℕ → Type 0
 NestedBehind Item = IsBehind (NestedContent Item)
@@ -120,8 +133,13 @@ nested_led Item x nested =
     let f = nested_headed Item x nested in
     let h = f.0 in
     let holds : is_nested h.is_head.initial ≡ true = ap holds_items (sym (headed_major (NestedContent Item) x h)) ∙ f.1 in
-    record { first = h.is_head.initial; behind = h.is_head.argument ++ h.content; joined = headed_joined (NestedContent Item) x h
-           ; passed = h.is_head.begins; is = rw holds (headed_behind (NestedContent Item) x h) }
+    record {
+      first = h.is_head.initial;
+      behind = h.is_head.argument ++ h.content;
+      joined = headed_joined (NestedContent Item) x h;
+      passed = h.is_head.begins;
+      is = rw holds (headed_behind (NestedContent Item) x h);
+    }
 
 behind_major : (Content : Head → List ℕ → Type 0) (initial : ℕ) (behind : List ℕ) (b : IsBehind Content initial behind) → b.head.major ≡ major_of initial
 behind_major Content initial behind b = ap (λ (y : Head). y.major) b.is_head.is ∙ ap major_of (initial_is initial b.argument b.head b.is_head).0
@@ -129,14 +147,14 @@ behind_major Content initial behind b = ap (λ (y : Head). y.major) b.is_head.is
 flat_from_behind : (initial : ℕ) (behind : List ℕ) → is_nested initial ≡ false → IsBehind FlatContent initial behind → IsFlat (initial ∷ behind)
 flat_from_behind initial behind others b =
     subst IsFlat (ap (λ (y : List ℕ). initial ∷ y) (sym b.joined))
-        (flat_cases b.head (initial ∷ b.argument) b.content (is_string b.head.major) b.head.indefinite b.is_head
-            (ap holds_items (behind_major FlatContent initial behind b) ∙ others) refl refl b.is_content)
+    (flat_cases b.head (initial ∷ b.argument) b.content (is_string b.head.major) b.head.indefinite b.is_head
+    (ap holds_items (behind_major FlatContent initial behind b) ∙ others) refl refl b.is_content)
 
 nested_from_behind : (Item : List ℕ → Type 0) (initial : ℕ) (behind : List ℕ) → is_nested initial ≡ true → NestedBehind Item initial behind → IsNested Item (initial ∷ behind)
 nested_from_behind Item initial behind holds b =
     subst (IsNested Item) (ap (λ (y : List ℕ). initial ∷ y) (sym b.joined))
-        (nested_cases Item b.head (initial ∷ b.argument) b.content (eqb b.head.major 4) (eqb b.head.major 5) b.head.indefinite b.is_head
-            (ap holds_items (behind_major (NestedContent Item) initial behind b) ∙ holds) refl refl refl b.is_content)
+    (nested_cases Item b.head (initial ∷ b.argument) b.content (eqb b.head.major 4) (eqb b.head.major 5) b.head.indefinite b.is_head
+    (ap holds_items (behind_major (NestedContent Item) initial behind b) ∙ holds) refl refl refl b.is_content)
 
 led_cases : (Nested : ℕ → List ℕ → Type 0) (b : Bool) (initial : ℕ) (behind : List ℕ) → MatchBool b (Nested initial behind) (IsBehind FlatContent initial behind)
     → is_nested initial ≡ b → ((b ≡ false) × IsFlat (initial ∷ behind)) ⊎ ((b ≡ true) × Nested initial behind)
@@ -181,14 +199,14 @@ flat_is_plain : (x : List ℕ) → IsFlat x → StartsPlain x
 flat_is_plain x flat =
     let h = (flat_headed x flat).0 in
     plain_same x (h.spelled ++ h.content) h.joined
-        (head_is_plain h.head h.spelled h.content h.is_head (λ seven endless. let never : ⊥ = rw (seven, endless) at h.is_content in never))
+    (head_is_plain h.head h.spelled h.content h.is_head (λ seven endless. let never : ⊥ = rw (seven, endless) at h.is_content in never))
 
 nested_is_plain : (Item : List ℕ → Type 0) (x : List ℕ) → IsNested Item x → StartsPlain x
 nested_is_plain Item x nested =
     let f = nested_headed Item x nested in
     let h = f.0 in
     plain_same x (h.spelled ++ h.content) h.joined
-        (head_is_plain h.head h.spelled h.content h.is_head (λ seven endless. let never : holds_items 7 ≡ true = rw seven at f.1 in absurd cc))
+    (head_is_plain h.head h.spelled h.content h.is_head (λ seven endless. let never : holds_items 7 ≡ true = rw seven at f.1 in absurd cc))
 
 pub item_is_plain : (depth : ℕ) (x : List ℕ) → IsItem depth x → StartsPlain x
 unfolding IsItem
@@ -211,12 +229,15 @@ skips_either : (Nested : ℕ → List ℕ → Type 0) (nested : ℕ → Skip) �
     → Skips (IsLed may_begin (BehindItem Nested)) (skip_either nested)
 skips_either Nested nested skips =
     let some : Begins (IsLed may_begin (BehindItem Nested)) [] = record {
-        missing = 0 ∷ []; are_bytes = All-replicate (λ byte. byte < 256) 1 0 (lit< tt); is = flat_led Nested (0 ∷ []) zero_is_flat } in
+      missing = 0 ∷ [];
+      are_bytes = All-replicate (λ byte. byte < 256) 1 0 (lit< tt);
+      is = flat_led Nested (0 ∷ []) zero_is_flat;
+    } in
     skips_equal (skip_either nested) (either_is_led nested)
-        (skips_led may_begin (BehindItem Nested) (skip_behind_item nested)
-            (λ initial begins. skips_cond (is_nested initial) (λ _. skips initial begins)
-                (λ _. skips_behind FlatContent skip_flat_content skips_flat_content initial begins (flat_example initial)))
-            some)
+    (skips_led may_begin (BehindItem Nested) (skip_behind_item nested)
+    (λ initial begins. skips_cond (is_nested initial) (λ _. skips initial begins)
+    (λ _. skips_behind FlatContent skip_flat_content skips_flat_content initial begins (flat_example initial)))
+    some)
 
 pub skips_item : (depth : ℕ) → Skips (IsItem depth) (skip_item depth)
 unfolding IsItem skip_item
@@ -225,7 +246,7 @@ skips_item zero =
 skips_item (suc depth) =
     let Item = IsItem depth in
     skips_same (led_item depth) (item_led depth)
-        (skips_either (NestedBehind Item) (skip_nested (skip_item depth))
-            (λ initial begins. skips_behind (NestedContent Item) (skip_nested_content (skip_item depth))
-                (skips_nested_content Item (item_example depth) (skip_item depth) (skips_item depth) (item_is_plain depth))
-                initial begins (λ some head argument is. nested_example Item (item_example depth) head)))
+    (skips_either (NestedBehind Item) (skip_nested (skip_item depth))
+    (λ initial begins. skips_behind (NestedContent Item) (skip_nested_content (skip_item depth))
+    (skips_nested_content Item (item_example depth) (skip_item depth) (skips_item depth) (item_is_plain depth))
+    initial begins (λ some head argument is. nested_example Item (item_example depth) head)))

@@ -7,7 +7,7 @@ use Rattle.cbor_items.specs.declared.head.Head.{Head}
 use Rattle.cbor_items.specs.declared.stop.Stop.{Stop}
 use Rattle.cbor_items.specs.declared.stop.Stop.TheVariants.{More, Bad}
 use Rattle.cbor_items.specs.Reading.{◌>>=◌}
-use Rattle.cbor_items.specs.Head.{info_of, argument_len, may_begin, may_follow, head_of, IsHead, initial_at, argument_at, found_head, head_at}
+use Rattle.cbor_items.specs.Head.{info_of, argument_len, may_begin, may_follow, head_of, IsHead, initial_at, argument_at, head_and_rest, found_head, head_at}
 use Rattle.cbor_items.specs.Item.{Begins}
 use Rattle.cbor_items.proofs.Skips.{HasFront, bind_ok, chosen}
 
@@ -50,18 +50,26 @@ argument_found initial bytes head rest begins e =
     elim (chosen (ltb (length bytes) n) (Err More) (checked_argument initial bytes) (Ok (head, rest)) e) [
       | inl (short, read) ↦ absurd cc
       | inr (long, read) ↦ elim (chosen (may_follow initial (take n bytes)) (Ok (head_of initial (take n bytes), drop n bytes)) (Err Bad) (Ok (head, rest)) read) [
-          | inl (follows, found) ↦
-              let fits : n ≤ length bytes = ltb-false _ _ long in
-              let is : ◌≡◌ {A = Head × List ℕ} (head_of initial (take n bytes), drop n bytes) (head, rest) = cc in
-              let head-is : head_of initial (take n bytes) ≡ head = ap (λ (p : Head × List ℕ). p.0) is in
-              let rest-is : drop n bytes ≡ rest = ap (λ (p : Head × List ℕ). p.1) is in
-              record {
-                front = take n bytes
-              ; joined = rw (← rest-is) (sym (take-append-drop n bytes))
-              ; is = record { initial = initial; argument = take n bytes; joined = refl; begins = begins
-                            ; whole = omega (arith, length-take n bytes); follows = follows; is = sym head-is } }
-          | inr (wrong, found) ↦ absurd cc
-        ]
+        | inl (follows, found) ↦
+            let fits : n ≤ length bytes = ltb-false _ _ long in
+            let is : ◌≡◌ {A = Head × List ℕ} (head_of initial (take n bytes), drop n bytes) (head, rest) = cc in
+            let head-is : head_of initial (take n bytes) ≡ head = ap (λ (p : Head × List ℕ). p.0) is in
+            let rest-is : drop n bytes ≡ rest = ap (λ (p : Head × List ℕ). p.1) is in
+            record {
+              front = take n bytes;
+              joined = rw (← rest-is) (sym (take-append-drop n bytes));
+              is = record {
+                initial = initial;
+                argument = take n bytes;
+                joined = refl;
+                begins = begins;
+                whole = omega (arith, length-take n bytes);
+                follows = follows;
+                is = sym head-is;
+              };
+            }
+        | inr (wrong, found) ↦ absurd cc
+      ]
     ]
 
 pub initial_again : (head : Head) (spelled : List ℕ) (is : IsHead head spelled) (rest : List ℕ) → initial_at (spelled ++ rest) ≡ Ok (is.initial, is.argument ++ rest)
@@ -88,12 +96,12 @@ argument_stays initial bytes after stop known e =
     elim (chosen (ltb (length bytes) n) (Err More) (checked_argument initial bytes) (Err stop) e) [
       | inl (short, read) ↦ absurd (known cc)
       | inr (long, read) ↦ elim (chosen (may_follow initial (take n bytes)) (Ok (head_of initial (take n bytes), drop n bytes)) (Err Bad) (Err stop) read) [
-          | inl (follows, found) ↦ absurd cc
-          | inr (wrong, found) ↦
-              let fits : n ≤ length bytes = ltb-false _ _ long in
-              let longer : ltb (length (bytes ++ after)) n ≡ false = le-ltb _ _ (omega (arith, length-append bytes after)) in
-              rw (longer, take-append-le n bytes after fits, wrong) found
-        ]
+        | inl (follows, found) ↦ absurd cc
+        | inr (wrong, found) ↦
+            let fits : n ≤ length bytes = ltb-false _ _ long in
+            let longer : ltb (length (bytes ++ after)) n ≡ false = le-ltb _ _ (omega (arith, length-append bytes after)) in
+            rw (longer, take-append-le n bytes after fits, wrong) found
+      ]
     ]
 
 -- Bytes of 32 complete every argument.
@@ -131,15 +139,27 @@ argument_more initial bytes begins e =
           let lt : length bytes < n = ltb-true _ _ short in
           let argument = bytes ++ filled initial bytes in
           let whole : length argument ≡ n = omega (arith, length-append bytes (filled initial bytes), length-replicate {A = ℕ} (n - length bytes) 32) in
-          record { head = head_of initial argument; some = omega arith; begun = record {
-            missing = filled initial bytes
-          ; are_bytes = All-replicate (λ byte. byte < 256) (n - length bytes) 32 (lit< tt)
-          ; is = record { initial = initial; argument = argument; joined = refl; begins = begins; whole = whole
-                        ; follows = filled_follows initial bytes lt; is = refl } } }
+          record {
+            head = head_of initial argument;
+            some = omega arith;
+            begun = record {
+              missing = filled initial bytes;
+              are_bytes = All-replicate (λ byte. byte < 256) (n - length bytes) 32 (lit< tt);
+              is = record {
+                initial = initial;
+                argument = argument;
+                joined = refl;
+                begins = begins;
+                whole = whole;
+                follows = filled_follows initial bytes lt;
+                is = refl;
+              };
+            };
+          }
       | inr (long, read) ↦ elim (chosen (may_follow initial (take n bytes)) (Ok (head_of initial (take n bytes), drop n bytes)) (Err Bad) (Err More) read) [
-          | inl (follows, found) ↦ absurd cc
-          | inr (wrong, found) ↦ absurd cc
-        ]
+        | inl (follows, found) ↦ absurd cc
+        | inr (wrong, found) ↦ absurd cc
+      ]
     ]
 
 -- ---- the head as `read_head` gives it
@@ -170,6 +190,19 @@ pub head_again : (head : Head) (spelled rest : List ℕ) → IsHead head spelled
 unfolding head_at
 head_again head spelled rest is = rw (initial_again head spelled is rest, argument_again head spelled is rest) refl
 
+pub only_head : (bytes : List ℕ) (head : Head) (n : ℕ) → IsHead head (take n bytes) → head_at bytes ≡ Some head
+only_head bytes head n is = ap head_at (sym (take-append-drop n bytes)) ∙ head_again head (take n bytes) (drop n bytes) is
+
+pub head_stands : (bytes : List ℕ) (head : Head) → head_at bytes ≡ Some head → IsHead head (take head.size bytes)
+head_stands bytes head e =
+    let f = head_found bytes head e in
+    let front : take head.size bytes ≡ f.1.front = ap (take head.size) f.1.joined ∙ take_at f.1.front f.0 head.size (sym (size_of_head head f.1.front f.1.is)) in
+    subst (IsHead head) (sym front) f.1.is
+
+pub head_is_found : (bytes : List ℕ) (r : Result (Head × List ℕ) Stop) → head_and_rest bytes ≡ r → found_head r ≡ head_at bytes
+unfolding head_at
+head_is_found bytes r e = ap found_head (sym e)
+
 -- every initial byte has an argument
 pub every_argument : (initial : ℕ) → may_begin initial ≡ true → (head : Head) × Begins (IsArgument initial head) []
 unfolding filled
@@ -180,11 +213,14 @@ every_argument initial begins =
     let follows : may_follow initial argument ≡ true = elim (cases_lt 0 n) [
       | inl some ↦ filled_follows initial [] some
       | inr none ↦ elim (cases_Bool (eqb initial 248)) [
-          | inl simple ↦ let one : argument_len_at initial ≡ 1 = rw (eqb-true _ _ simple) refl in absurd (omega arith)
-          | inr other ↦ not_simple initial argument other
-        ]
-    ] in
-    (head_of initial argument, record {
-        missing = argument
-      ; are_bytes = All-replicate (λ byte. byte < 256) (n - 0) 32 (lit< tt)
-      ; is = record { initial = initial; argument = argument; joined = refl; begins = begins; whole = whole; follows = follows; is = refl } })
+        | inl simple ↦ let one : argument_len_at initial ≡ 1 = rw (eqb-true _ _ simple) refl in absurd (omega arith)
+        | inr other ↦ not_simple initial argument other
+      ]
+    ] in (
+      head_of initial argument,
+      record {
+        missing = argument;
+        are_bytes = All-replicate (λ byte. byte < 256) (n - 0) 32 (lit< tt);
+        is = record { initial = initial; argument = argument; joined = refl; begins = begins; whole = whole; follows = follows; is = refl };
+      },
+    )

@@ -75,9 +75,10 @@ module _ (Content : Head → List ℕ → Type 0) (content : Head → Skip) (ski
       let a = argument_found initial bytes b.0.0 b.0.1 begins b.1 in
       let c = (skips b.0.0).found b.0.1 rest b.2 in
       record {
-        front = a.front ++ c.front
-      ; joined = a.joined ∙ ap (λ (x : List ℕ). a.front ++ x) c.joined ∙ sym (append_assoc a.front c.front rest)
-      ; is = record { head = b.0.0; argument = a.front; content = c.front; joined = refl; is_head = a.is; is_content = c.is } }
+        front = a.front ++ c.front;
+        joined = a.joined ∙ ap (λ (x : List ℕ). a.front ++ x) c.joined ∙ sym (append_assoc a.front c.front rest);
+        is = record { head = b.0.0; argument = a.front; content = c.front; joined = refl; is_head = a.is; is_content = c.is };
+      }
 
   behind_again : (front rest : List ℕ) → IsBehind Content initial front → skip_behind content initial (front ++ rest) ≡ Ok rest
   behind_again front rest b =
@@ -93,18 +94,32 @@ module _ (Content : Head → List ℕ → Type 0) (content : Head → Skip) (ski
             let a = argument_more initial bytes begins short in
             let c = example a.some a.head (bytes ++ a.begun.missing) a.begun.is in
             record {
-              missing = a.begun.missing ++ c.missing
-            ; are_bytes = AreBytes-append a.begun.missing c.missing a.begun.are_bytes c.are_bytes
-            ; is = record { head = a.head; argument = bytes ++ a.begun.missing; content = c.missing
-                          ; joined = sym (append_assoc bytes a.begun.missing c.missing); is_head = a.begun.is; is_content = c.is } }
+              missing = a.begun.missing ++ c.missing;
+              are_bytes = AreBytes-append a.begun.missing c.missing a.begun.are_bytes c.are_bytes;
+              is = record {
+                head = a.head;
+                argument = bytes ++ a.begun.missing;
+                content = c.missing;
+                joined = sym (append_assoc bytes a.begun.missing c.missing);
+                is_head = a.begun.is;
+                is_content = c.is;
+              };
+            }
         | inr then ↦
             let a = argument_found initial bytes then.read.0 then.read.1 begins then.is in
             let c = (skips then.read.0).more then.read.1 then.then in
             record {
-              missing = c.missing
-            ; are_bytes = c.are_bytes
-            ; is = record { head = then.read.0; argument = a.front; content = then.read.1 ++ c.missing
-                          ; joined = ap (λ (x : List ℕ). x ++ c.missing) a.joined ∙ append_assoc a.front then.read.1 c.missing; is_head = a.is; is_content = c.is } }
+              missing = c.missing;
+              are_bytes = c.are_bytes;
+              is = record {
+                head = then.read.0;
+                argument = a.front;
+                content = then.read.1 ++ c.missing;
+                joined = ap (λ (x : List ℕ). x ++ c.missing) a.joined ∙ append_assoc a.front then.read.1 c.missing;
+                is_head = a.is;
+                is_content = c.is;
+              };
+            }
       ]
 
   behind_stays : (bytes after : List ℕ) (stop : Stop) → stop ≢ More → skip_behind content initial bytes ≡ Err stop → skip_behind content initial (bytes ++ after) ≡ Err stop
@@ -139,14 +154,17 @@ chunk_to major initial behind e b =
     let i = initial_is initial b.argument b.head b.is_head in
     let info : info_of initial < 28 = ltb-true _ _ parts.1 in
     record {
-      head = b.head; spelled = initial ∷ b.argument; content = b.content
-    ; joined = ap (λ (x : List ℕ). initial ∷ x) b.joined
-    ; is_head = b.is_head
-    ; is_major = ap (λ (h : Head). h.major) b.is_head.is ∙ ap major_of i.0 ∙ eqb-true _ _ parts.0
-    ; definite = ap (λ (h : Head). h.indefinite) b.is_head.is ∙ rw i.0 (ne_eqb (info_of initial) 31 (λ same. absurd (omega arith)))
-    ; is_content = b.is_content }
+      head = b.head;
+      spelled = initial ∷ b.argument;
+      content = b.content;
+      joined = ap (λ (x : List ℕ). initial ∷ x) b.joined;
+      is_head = b.is_head;
+      is_major = ap (λ (h : Head). h.major) b.is_head.is ∙ ap major_of i.0 ∙ eqb-true _ _ parts.0;
+      definite = ap (λ (h : Head). h.indefinite) b.is_head.is ∙ rw i.0 (ne_eqb (info_of initial) 31 (λ same. absurd (omega arith)));
+      is_content = b.is_content;
+    }
 
-only_left : (a b c : Bool) → (a || (b && c)) ≡ true → b ≡ false → a ≡ true
+pub only_left : (a b c : Bool) → (a || (b && c)) ≡ true → b ≡ false → a ≡ true
 only_left true b c e f = refl
 only_left false true c e f = absurd cc
 only_left false false c e f = e
@@ -156,10 +174,13 @@ chunk_back major x s =
     let h = s.is_head in
     let major-is : major_of h.initial ≡ major = sym (ap (λ (h : Head). h.major) h.is) ∙ s.is_major in
     let not_31 : eqb (info_of h.initial) 31 ≡ false = sym (ap (λ (h : Head). h.indefinite) h.is) ∙ s.definite in
-    let below : ltb (info_of h.initial) 28 ≡ true = only_left _ _ _ h.begins not_31 in
-    ( h.initial, h.argument ++ s.content, s.joined ∙ ap (λ (x : List ℕ). x ++ s.content) h.joined
-    , and_from _ _ (eq-eqb _ _ major-is) below
-    , record { head = s.head; argument = h.argument; content = s.content; joined = refl; is_head = subst (IsHead s.head) h.joined h; is_content = s.is_content } )
+    let below : ltb (info_of h.initial) 28 ≡ true = only_left _ _ _ h.begins not_31 in (
+      h.initial,
+      h.argument ++ s.content,
+      s.joined ∙ ap (λ (x : List ℕ). x ++ s.content) h.joined,
+      and_from _ _ (eq-eqb _ _ major-is) below,
+      record { head = s.head; argument = h.argument; content = s.content; joined = refl; is_head = subst (IsHead s.head) h.joined h; is_content = s.is_content },
+    )
 
 abbrev pub skip_string : ℕ → Skip
 skip_string = skip_behind (λ head. skip_bytes head.value)
@@ -169,17 +190,33 @@ string_example : (major : ℕ) → is_string major ≡ true → Begins (IsString
 string_example major e =
     elim (or_cases (eqb major 2) (eqb major 3) e) [
       | inl two ↦ subst (λ (m : ℕ). Begins (IsString m) []) (sym (eqb-true _ _ two)) (record {
-          missing = 0x40 ∷ []
-        ; are_bytes = All-replicate (λ byte. byte < 256) 1 0x40 (lit< tt)
-        ; is = record { head = head_of 0x40 []; spelled = 0x40 ∷ []; content = []; joined = refl
-                      ; is_head = record { initial = 0x40; argument = []; joined = refl; begins = refl; whole = refl; follows = refl; is = refl }
-                      ; is_major = refl; definite = refl; is_content = refl } })
+        missing = 0x40 ∷ [];
+        are_bytes = All-replicate (λ byte. byte < 256) 1 0x40 (lit< tt);
+        is = record {
+          head = head_of 0x40 [];
+          spelled = 0x40 ∷ [];
+          content = [];
+          joined = refl;
+          is_head = record { initial = 0x40; argument = []; joined = refl; begins = refl; whole = refl; follows = refl; is = refl };
+          is_major = refl;
+          definite = refl;
+          is_content = refl;
+        };
+      })
       | inr three ↦ subst (λ (m : ℕ). Begins (IsString m) []) (sym (eqb-true _ _ three)) (record {
-          missing = 0x60 ∷ []
-        ; are_bytes = All-replicate (λ byte. byte < 256) 1 0x60 (lit< tt)
-        ; is = record { head = head_of 0x60 []; spelled = 0x60 ∷ []; content = []; joined = refl
-                      ; is_head = record { initial = 0x60; argument = []; joined = refl; begins = refl; whole = refl; follows = refl; is = refl }
-                      ; is_major = refl; definite = refl; is_content = refl } })
+        missing = 0x60 ∷ [];
+        are_bytes = All-replicate (λ byte. byte < 256) 1 0x60 (lit< tt);
+        is = record {
+          head = head_of 0x60 [];
+          spelled = 0x60 ∷ [];
+          content = [];
+          joined = refl;
+          is_head = record { initial = 0x60; argument = []; joined = refl; begins = refl; whole = refl; follows = refl; is = refl };
+          is_major = refl;
+          definite = refl;
+          is_content = refl;
+        };
+      })
     ]
 
 pub string_from_led : (major : ℕ) (x : List ℕ) → IsLed (begins_chunk major) (IsBehind IsLength) x → IsString major x
@@ -197,23 +234,28 @@ pub skips_chunk : (major : ℕ) → is_string major ≡ true → Skips (IsString
 skips_chunk major text =
     let example = string_example major text in
     let some : Begins (IsLed (begins_chunk major) (IsBehind IsLength)) [] = record {
-        missing = example.missing; are_bytes = example.are_bytes; is = led_from_string major example.missing example.is } in
+      missing = example.missing;
+      are_bytes = example.are_bytes;
+      is = led_from_string major example.missing example.is;
+    } in
     skips_equal (skip_chunk major) (chunk_is_led major)
-        (skips_same (string_from_led major) (led_from_string major)
-            (skips_led (begins_chunk major) (IsBehind IsLength) skip_string
-                (λ initial begins. skips_behind IsLength (λ head. skip_bytes head.value) (λ head. skips_bytes head.value) initial
-                    (chunk_begins major initial begins) (λ some head argument is. bytes_example head.value))
-                some))
+    (skips_same (string_from_led major) (led_from_string major)
+    (skips_led (begins_chunk major) (IsBehind IsLength) skip_string
+    (λ initial begins. skips_behind IsLength (λ head. skip_bytes head.value) (λ head. skips_bytes head.value) initial
+    (chunk_begins major initial begins) (λ some head argument is. bytes_example head.value))
+    some))
 
 -- ---- no item begins as a break
 
 pub head_is_plain : (head : Head) (spelled content : List ℕ) → IsHead head spelled → (head.major ≡ 7 → head.indefinite ≡ true → ⊥) → StartsPlain (spelled ++ content)
 head_is_plain head spelled content is other = record {
-    first = is.initial; rest = is.argument ++ content
-  ; joined = ap (λ (x : List ℕ). x ++ content) is.joined
-  ; no_break = λ same. other
+  first = is.initial;
+  rest = is.argument ++ content;
+  joined = ap (λ (x : List ℕ). x ++ content) is.joined;
+  no_break = λ same. other
       (ap (λ (h : Head). h.major) is.is ∙ ap major_of same)
-      (ap (λ (h : Head). h.indefinite) is.is ∙ ap (λ (i : ℕ). eqb (info_of i) 31) same) }
+      (ap (λ (h : Head). h.indefinite) is.is ∙ ap (λ (i : ℕ). eqb (info_of i) 31) same);
+}
 
 pub plain_same : (x y : List ℕ) → x ≡ y → StartsPlain y → StartsPlain x
 plain_same x y e plain = subst StartsPlain (sym e) plain
@@ -238,10 +280,10 @@ pub skips_flat_content : (head : Head) → Skips (FlatContent head) (skip_flat_c
 unfolding skip_flat_content
 skips_flat_content head =
     skips_cond (is_string head.major)
-        (λ text. skips_cond head.indefinite
-            (λ _. skips_to_break (IsString head.major) (skip_chunk head.major) (skips_chunk head.major text) (string_is_plain head.major))
-            (λ _. skips_bytes head.value))
-        (λ _. skips_cond head.indefinite (λ _. skips_never Bad (λ e. absurd cc)) (λ _. skips_nothing))
+    (λ text. skips_cond head.indefinite
+    (λ _. skips_to_break (IsString head.major) (skip_chunk head.major) (skips_chunk head.major text) (string_is_plain head.major))
+    (λ _. skips_bytes head.value))
+    (λ _. skips_cond head.indefinite (λ _. skips_never Bad (λ e. absurd cc)) (λ _. skips_nothing))
 
 nothing_example : Begins (λ x. x ≡ []) []
 nothing_example = record { missing = []; are_bytes = AreBytes-nil; is = refl }
@@ -249,14 +291,14 @@ nothing_example = record { missing = []; are_bytes = AreBytes-nil; is = refl }
 pub flat_example : (initial : ℕ) → 0 < argument_len (info_of initial) → (head : Head) (argument : List ℕ) → IsHead head (initial ∷ argument) → Begins (FlatContent head) []
 flat_example initial some head argument is =
     example_cond (is_string head.major)
-        (λ text. example_cond head.indefinite (λ _. break_alone (IsString head.major)) (λ _. bytes_example head.value))
-        (λ _. example_cond head.indefinite
-            (λ break.
-                let endless : eqb (info_of is.initial) 31 ≡ true = sym (ap (λ (h : Head). h.indefinite) is.is) ∙ break in
-                let info : info_of initial ≡ 31 = ap info_of (sym (initial_is initial argument head is).0) ∙ eqb-true _ _ endless in
-                let none : argument_len (info_of initial) ≡ 0 = rw info refl in
-                absurd (omega arith))
-            (λ _. nothing_example))
+    (λ text. example_cond head.indefinite (λ _. break_alone (IsString head.major)) (λ _. bytes_example head.value))
+    (λ _. example_cond head.indefinite
+    (λ break.
+    let endless : eqb (info_of is.initial) 31 ≡ true = sym (ap (λ (h : Head). h.indefinite) is.is) ∙ break in
+    let info : info_of initial ≡ 31 = ap info_of (sym (initial_is initial argument head is).0) ∙ eqb-true _ _ endless in
+    let none : argument_len (info_of initial) ≡ 0 = rw info refl in
+    absurd (omega arith))
+    (λ _. nothing_example))
 
 -- ---- an array, a map or a tag
 
@@ -264,23 +306,24 @@ abbrev pub NestedContent : (List ℕ → Type 0) → Head → List ℕ → Type 
 NestedContent Item head x = MatchBool (eqb head.major 4)
     (MatchBool head.indefinite (IsRowToBreak Item x) (IsRow Item head.value x))
     (MatchBool (eqb head.major 5)
-        (MatchBool head.indefinite (IsRowToBreak (IsPair Item Item) x) (IsRow (IsPair Item Item) head.value x))
-        (Item x))
+    (MatchBool head.indefinite (IsRowToBreak (IsPair Item Item) x) (IsRow (IsPair Item Item) head.value x))
+    (Item x))
 
 module _ (Item : List ℕ → Type 0) (some : Begins Item []) where
   pub pair_example : Begins (IsPair Item Item) []
   pair_example = record {
-      missing = some.missing ++ some.missing
-    ; are_bytes = AreBytes-append some.missing some.missing some.are_bytes some.are_bytes
-    ; is = record { first = some.missing; second = some.missing; joined = refl; is_first = some.is; is_second = some.is } }
+    missing = some.missing ++ some.missing;
+    are_bytes = AreBytes-append some.missing some.missing some.are_bytes some.are_bytes;
+    is = record { first = some.missing; second = some.missing; joined = refl; is_first = some.is; is_second = some.is };
+  }
 
   pub nested_example : (head : Head) → Begins (NestedContent Item head) []
   nested_example head =
       example_cond (eqb head.major 4)
-          (λ _. example_cond head.indefinite (λ _. break_alone Item) (λ _. row_example Item some head.value))
-          (λ _. example_cond (eqb head.major 5)
-              (λ _. example_cond head.indefinite (λ _. break_alone (IsPair Item Item)) (λ _. row_example (IsPair Item Item) pair_example head.value))
-              (λ _. some))
+      (λ _. example_cond head.indefinite (λ _. break_alone Item) (λ _. row_example Item some head.value))
+      (λ _. example_cond (eqb head.major 5)
+      (λ _. example_cond head.indefinite (λ _. break_alone (IsPair Item Item)) (λ _. row_example (IsPair Item Item) pair_example head.value))
+      (λ _. some))
 
   pub skips_entry : (item : Skip) → Skips Item item → Skips (IsPair Item Item) (skip_pair item item)
   skips_entry item s = skips_pair Item Item item item s s some
@@ -290,9 +333,9 @@ module _ (Item : List ℕ → Type 0) (some : Begins Item []) where
     unfolding skip_nested_content
     skips_nested_content head =
         skips_cond (eqb head.major 4)
-            (λ _. skips_cond head.indefinite (λ _. skips_to_break Item item s plain) (λ _. skips_row Item item s some head.value))
-            (λ _. skips_cond (eqb head.major 5)
-                (λ _. skips_cond head.indefinite
-                    (λ _. skips_to_break (IsPair Item Item) (skip_pair item item) (skips_entry item s) (pair_is_plain Item Item plain))
-                    (λ _. skips_row (IsPair Item Item) (skip_pair item item) (skips_entry item s) pair_example head.value))
-                (λ _. s))
+        (λ _. skips_cond head.indefinite (λ _. skips_to_break Item item s plain) (λ _. skips_row Item item s some head.value))
+        (λ _. skips_cond (eqb head.major 5)
+        (λ _. skips_cond head.indefinite
+        (λ _. skips_to_break (IsPair Item Item) (skip_pair item item) (skips_entry item s) (pair_is_plain Item Item plain))
+        (λ _. skips_row (IsPair Item Item) (skip_pair item item) (skips_entry item s) pair_example head.value))
+        (λ _. s))

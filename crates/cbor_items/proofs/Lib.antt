@@ -6,3 +6,4 @@ pub mod Grammar
 pub mod Deeper
 pub mod Levels
 pub mod Meaning
+pub mod Shortest

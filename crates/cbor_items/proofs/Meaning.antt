@@ -58,17 +58,20 @@ bad_none : (depth : ℕ) (bytes : List ℕ) → skip_item depth bytes ≡ Err Ba
 bad_none depth bytes e other b =
     let m = depth + other in
     stop_none m bytes Bad bad_decides (bad_by other depth m bytes refl e)
-        (record { missing = b.missing; are_bytes = b.are_bytes; is = wider_by depth other m (bytes ++ b.missing) (omega arith) b.is })
+    (record { missing = b.missing; are_bytes = b.are_bytes; is = wider_by depth other m (bytes ++ b.missing) (omega arith) b.is })
 
 more_begun : (depth : ℕ) (bytes : List ℕ) → skip_item depth bytes ≡ Err More → IsBegun depth bytes
 more_begun depth bytes e =
     let b = (skips_item depth).more bytes e in
     record {
-      missing = b.missing; are_bytes = b.are_bytes; is_item = b.is
-    ; some = λ none.
-        let whole : IsItem depth bytes = subst (IsItem depth) (ap (λ (x : List ℕ). bytes ++ x) none ∙ append-nil bytes) b.is in
-        let read = item_whole depth bytes whole in
-        absurd cc }
+      missing = b.missing;
+      are_bytes = b.are_bytes;
+      is_item = b.is;
+      some = λ none.
+          let whole : IsItem depth bytes = subst (IsItem depth) (ap (λ (x : List ℕ). bytes ++ x) none ∙ append-nil bytes) b.is in
+          let read = item_whole depth bytes whole in
+          absurd cc;
+    }
 
 -- ---- the first front that decides
 
@@ -105,9 +108,9 @@ module _ (depth : ℕ) (bytes : List ℕ) (stop : Stop) (known : stop ≢ More) 
   search_step n (Err More) next e within shorter =
       elim (cases_lt n (length bytes)) [
         | inl lt ↦ next lt (omega arith) (λ k below. elim (cases_lt k n) [
-              | inl less ↦ shorter k less
-              | inr same ↦ let is : k ≡ n = omega arith in rw is e
-            ])
+          | inl less ↦ shorter k less
+          | inr same ↦ let is : k ≡ n = omega arith in rw is e
+        ])
         | inr all ↦ let whole : skip_item depth bytes ≡ Err More = ap (skip_item depth) (sym (take_all n bytes all)) ∙ e in absurd (known cc)
       ]
   search_step n (Err Bad) next e within shorter =
@@ -163,10 +166,13 @@ answer_of bytes (Err Bad) e =
     record { count = first.count; first = open_before bytes Bad first; none = bad_none level_limit (take first.count bytes) first.stops }
 answer_of bytes (Err Deep) e =
     let first = first_stop level_limit bytes Deep deep_decides e in
-    record { count = first.count; first = open_before bytes Deep first
-           ; none = stop_none level_limit (take first.count bytes) Deep deep_decides first.stops
-           ; depth = suc level_limit
-           ; some = deep_front bytes first.count (open_before bytes Deep first) first.stops }
+    record {
+      count = first.count;
+      first = open_before bytes Deep first;
+      none = stop_none level_limit (take first.count bytes) Deep deep_decides first.stops;
+      depth = suc level_limit;
+      some = deep_front bytes first.count (open_before bytes Deep first) first.stops;
+    }
 
 pub answer_means : (bytes : List ℕ) → IsAnswer bytes (scan_of bytes)
 unfolding scan_of
@@ -221,7 +227,7 @@ deep_is_read bytes b (Err Deep) e = refl
 only_of : (bytes : List ℕ) (answer : Scan) → IsAnswer bytes answer → answer ≡ scan_result bytes (skip_item level_limit bytes)
 only_of bytes (scan.Whole n) (within, is) =
     let read : skip_item level_limit bytes ≡ Ok (drop n bytes) =
-        ap (skip_item level_limit) (sym (take-append-drop n bytes)) ∙ (skips_item level_limit).again (take n bytes) (drop n bytes) is in
+    ap (skip_item level_limit) (sym (take-append-drop n bytes)) ∙ (skips_item level_limit).again (take n bytes) (drop n bytes) is in
     let len : length bytes - length (drop n bytes) ≡ n = omega (arith, length-drop n bytes) in
     sym (ap (scan_result bytes) read ∙ ap (λ (k : ℕ). scan.Whole k) len)
 only_of bytes scan.More b = sym (ap (scan_result bytes) (begun_not_read bytes (skip_item level_limit bytes) b refl))

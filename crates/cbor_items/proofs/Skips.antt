@@ -51,9 +51,10 @@ module _ (First Second : List ℕ → Type 0) (first second : Skip) (one : Skips
       let f = one.found bytes b.0 b.1 in
       let s = two.found b.0 rest b.2 in
       record {
-        front = f.front ++ s.front
-      ; joined = f.joined ∙ ap (λ (x : List ℕ). f.front ++ x) s.joined ∙ sym (append_assoc f.front s.front rest)
-      ; is = record { first = f.front; second = s.front; joined = refl; is_first = f.is; is_second = s.is } }
+        front = f.front ++ s.front;
+        joined = f.joined ∙ ap (λ (x : List ℕ). f.front ++ x) s.joined ∙ sym (append_assoc f.front s.front rest);
+        is = record { first = f.front; second = s.front; joined = refl; is_first = f.is; is_second = s.is };
+      }
 
   pair_again : (front rest : List ℕ) → IsPair First Second front → skip_pair first second (front ++ rest) ≡ Ok rest
   pair_again front rest p =
@@ -64,13 +65,15 @@ module _ (First Second : List ℕ → Type 0) (first second : Skip) (one : Skips
   pair_more bytes e =
       elim (bind_err (first bytes) second More e) [
         | inl f ↦ let b = one.more bytes f in record {
-            missing = b.missing ++ some.missing
-          ; are_bytes = AreBytes-append b.missing some.missing b.are_bytes some.are_bytes
-          ; is = record { first = bytes ++ b.missing; second = some.missing; joined = sym (append_assoc bytes b.missing some.missing); is_first = b.is; is_second = some.is } }
+          missing = b.missing ++ some.missing;
+          are_bytes = AreBytes-append b.missing some.missing b.are_bytes some.are_bytes;
+          is = record { first = bytes ++ b.missing; second = some.missing; joined = sym (append_assoc bytes b.missing some.missing); is_first = b.is; is_second = some.is };
+        }
         | inr s ↦ let f = one.found bytes s.read s.is in let b = two.more s.read s.then in record {
-            missing = b.missing
-          ; are_bytes = b.are_bytes
-          ; is = record { first = f.front; second = s.read ++ b.missing; joined = ap (λ (x : List ℕ). x ++ b.missing) f.joined ∙ append_assoc f.front s.read b.missing; is_first = f.is; is_second = b.is } }
+          missing = b.missing;
+          are_bytes = b.are_bytes;
+          is = record { first = f.front; second = s.read ++ b.missing; joined = ap (λ (x : List ℕ). x ++ b.missing) f.joined ∙ append_assoc f.front s.read b.missing; is_first = f.is; is_second = b.is };
+        }
       ]
 
   pair_stays : (bytes after : List ℕ) (stop : Stop) → stop ≢ More → skip_pair first second bytes ≡ Err stop → skip_pair first second (bytes ++ after) ≡ Err stop
@@ -89,10 +92,11 @@ module _ (First Second : List ℕ → Type 0) (first second : Skip) (one : Skips
 
 pub skips_same : {Thing Other : List ℕ → Type 0} {skip : Skip} → ((x : List ℕ) → Thing x → Other x) → ((x : List ℕ) → Other x → Thing x) → Skips Thing skip → Skips Other skip
 skips_same to back s = record {
-    found = λ bytes rest e. let f = s.found bytes rest e in record { front = f.front; joined = f.joined; is = to f.front f.is }
-  ; again = λ front rest o. s.again front rest (back front o)
-  ; more = λ bytes e. let b = s.more bytes e in record { missing = b.missing; are_bytes = b.are_bytes; is = to (bytes ++ b.missing) b.is }
-  ; stays = s.stays }
+  found = λ bytes rest e. let f = s.found bytes rest e in record { front = f.front; joined = f.joined; is = to f.front f.is };
+  again = λ front rest o. s.again front rest (back front o);
+  more = λ bytes e. let b = s.more bytes e in record { missing = b.missing; are_bytes = b.are_bytes; is = to (bytes ++ b.missing) b.is };
+  stays = s.stays;
+}
 
 pub skips_cond : {Thing Other : List ℕ → Type 0} {skip other : Skip} (b : Bool) → (b ≡ true → Skips Thing skip) → (b ≡ false → Skips Other other)
     → Skips (λ x. MatchBool b (Thing x) (Other x)) (λ x. cond b (skip x) (other x))
@@ -108,17 +112,19 @@ example_cond false s o = o refl
 
 pub skips_nothing : Skips (λ x. x ≡ []) Ok
 skips_nothing = record {
-    found = λ bytes rest e. record { front = []; joined = cc; is = refl }
-  ; again = λ front rest e. ap (λ (x : List ℕ). Ok (x ++ rest)) e
-  ; more = λ bytes e. absurd cc
-  ; stays = λ bytes after stop known e. absurd cc }
+  found = λ bytes rest e. record { front = []; joined = cc; is = refl };
+  again = λ front rest e. ap (λ (x : List ℕ). Ok (x ++ rest)) e;
+  more = λ bytes e. absurd cc;
+  stays = λ bytes after stop known e. absurd cc;
+}
 
 pub skips_never : (stop : Stop) → stop ≢ More → Skips (λ x. ⊥) (λ x. Err stop)
 skips_never stop known = record {
-    found = λ bytes rest e. absurd cc
-  ; again = λ front rest never. absurd never
-  ; more = λ bytes e. absurd (known cc)
-  ; stays = λ bytes after other known' e. e }
+  found = λ bytes rest e. absurd cc;
+  again = λ front rest never. absurd never;
+  more = λ bytes e. absurd (known cc);
+  stays = λ bytes after other known' e. e;
+}
 
 -- ---- so many things
 
@@ -127,9 +133,10 @@ row_example Thing some zero = record { missing = []; are_bytes = AreBytes-nil; i
 row_example Thing some (suc n) =
     let others = row_example Thing some n in
     record {
-      missing = some.missing ++ others.missing
-    ; are_bytes = AreBytes-append some.missing others.missing some.are_bytes others.are_bytes
-    ; is = record { first = some.missing; second = others.missing; joined = refl; is_first = some.is; is_second = others.is } }
+      missing = some.missing ++ others.missing;
+      are_bytes = AreBytes-append some.missing others.missing some.are_bytes others.are_bytes;
+      is = record { first = some.missing; second = others.missing; joined = refl; is_first = some.is; is_second = others.is };
+    }
 
 pub skips_row : (Thing : List ℕ → Type 0) (skip : Skip) → Skips Thing skip → Begins Thing [] → (n : ℕ) → Skips (IsRow Thing n) (skip_row skip n)
 unfolding skip_row
@@ -164,15 +171,18 @@ break_alone Thing = record { missing = 255 ∷ []; are_bytes = break_is_byte; is
 
 pub one_more : (Thing : List ℕ → Type 0) (x rest : List ℕ) → Thing x → IsRowToBreak Thing rest → IsRowToBreak Thing (x ++ rest)
 one_more Thing x rest is row = record {
-    count = suc row.count; things = x ++ row.things
-  ; joined = ap (λ (y : List ℕ). x ++ y) row.joined ∙ sym (append_assoc x row.things (255 ∷ []))
-  ; is_row = record { first = x; second = row.things; joined = refl; is_first = is; is_second = row.is_row } }
+  count = suc row.count;
+  things = x ++ row.things;
+  joined = ap (λ (y : List ℕ). x ++ y) row.joined ∙ sym (append_assoc x row.things (255 ∷ []));
+  is_row = record { first = x; second = row.things; joined = refl; is_first = is; is_second = row.is_row };
+}
 
 pub one_then_break : (Thing : List ℕ → Type 0) (bytes : List ℕ) → Begins Thing bytes → Begins (IsRowToBreak Thing) bytes
 one_then_break Thing bytes b = record {
-    missing = b.missing ++ 255 ∷ []
-  ; are_bytes = AreBytes-append b.missing (255 ∷ []) b.are_bytes break_is_byte
-  ; is = subst (IsRowToBreak Thing) (append_assoc bytes b.missing (255 ∷ [])) (one_more Thing (bytes ++ b.missing) (255 ∷ []) b.is (only_break Thing)) }
+  missing = b.missing ++ 255 ∷ [];
+  are_bytes = AreBytes-append b.missing (255 ∷ []) b.are_bytes break_is_byte;
+  is = subst (IsRowToBreak Thing) (append_assoc bytes b.missing (255 ∷ [])) (one_more Thing (bytes ++ b.missing) (255 ∷ []) b.is (only_break Thing));
+}
 
 module _ (Thing : List ℕ → Type 0) (skip : Skip) (s : Skips Thing skip) (plain : (x : List ℕ) → Thing x → StartsPlain x) where
   break_found : (n : ℕ) (bytes rest : List ℕ) → skip_to_break skip n bytes ≡ Ok rest → HasFront (IsRowToBreak Thing) bytes rest
@@ -182,17 +192,19 @@ module _ (Thing : List ℕ → Type 0) (skip : Skip) (s : Skips Thing skip) (pla
   break_found (suc n) (byte ∷ bytes) rest e =
       elim (chosen (eqb byte 255) (Ok bytes) (skip (byte ∷ bytes) >>= skip_to_break skip n) (Ok rest) e) [
         | inl (is_break, stop) ↦ record {
-            front = 255 ∷ []
-          ; joined = ap (λ (b : ℕ). b ∷ bytes) (eqb-true byte 255 is_break) ∙ ap (λ (x : List ℕ). 255 ∷ x) (ok_is bytes rest stop)
-          ; is = only_break Thing }
+          front = 255 ∷ [];
+          joined = ap (λ (b : ℕ). b ∷ bytes) (eqb-true byte 255 is_break) ∙ ap (λ (x : List ℕ). 255 ∷ x) (ok_is bytes rest stop);
+          is = only_break Thing;
+        }
         | inr (no_break, more) ↦
             let b = bind_ok (skip (byte ∷ bytes)) (skip_to_break skip n) rest more in
             let f = s.found (byte ∷ bytes) b.0 b.1 in
             let others = break_found n b.0 rest b.2 in
             record {
-              front = f.front ++ others.front
-            ; joined = f.joined ∙ ap (λ (x : List ℕ). f.front ++ x) others.joined ∙ sym (append_assoc f.front others.front rest)
-            ; is = one_more Thing f.front others.front f.is others.is }
+              front = f.front ++ others.front;
+              joined = f.joined ∙ ap (λ (x : List ℕ). f.front ++ x) others.joined ∙ sym (append_assoc f.front others.front rest);
+              is = one_more Thing f.front others.front f.is others.is;
+            }
       ]
 
   break_again : (n count : ℕ) (things rest : List ℕ) → IsRow Thing count things → length (things ++ 255 ∷ rest) ≤ n
@@ -219,15 +231,15 @@ module _ (Thing : List ℕ → Type 0) (skip : Skip) (s : Skips Thing skip) (pla
       elim (chosen (eqb byte 255) (Ok bytes) (skip (byte ∷ bytes) >>= skip_to_break skip n) (Err More) e) [
         | inl (is_break, stop) ↦ absurd cc
         | inr (no_break, more) ↦ elim (bind_err (skip (byte ∷ bytes)) (skip_to_break skip n) More more) [
-            | inl f ↦ one_then_break Thing (byte ∷ bytes) (s.more (byte ∷ bytes) f)
-            | inr then ↦
-                let f = s.found (byte ∷ bytes) then.read then.is in
-                let start = plain f.front f.is in
-                let shorter : length then.read ≤ n = omega (arith, fits, ap length f.joined, length-append f.front then.read, ap length start.joined) in
-                let b = break_more n then.read shorter then.then in
-                let regrouped : (byte ∷ bytes) ++ b.missing ≡ f.front ++ (then.read ++ b.missing) = ap (λ (x : List ℕ). x ++ b.missing) f.joined ∙ append_assoc f.front then.read b.missing in
-                record { missing = b.missing; are_bytes = b.are_bytes; is = subst (IsRowToBreak Thing) (sym regrouped) (one_more Thing f.front (then.read ++ b.missing) f.is b.is) }
-          ]
+          | inl f ↦ one_then_break Thing (byte ∷ bytes) (s.more (byte ∷ bytes) f)
+          | inr then ↦
+              let f = s.found (byte ∷ bytes) then.read then.is in
+              let start = plain f.front f.is in
+              let shorter : length then.read ≤ n = omega (arith, fits, ap length f.joined, length-append f.front then.read, ap length start.joined) in
+              let b = break_more n then.read shorter then.then in
+              let regrouped : (byte ∷ bytes) ++ b.missing ≡ f.front ++ (then.read ++ b.missing) = ap (λ (x : List ℕ). x ++ b.missing) f.joined ∙ append_assoc f.front then.read b.missing in
+              record { missing = b.missing; are_bytes = b.are_bytes; is = subst (IsRowToBreak Thing) (sym regrouped) (one_more Thing f.front (then.read ++ b.missing) f.is b.is) }
+        ]
       ]
 
   break_stays : (n m : ℕ) (bytes after : List ℕ) (stop : Stop) → n ≤ m → stop ≢ More → skip_to_break skip n bytes ≡ Err stop
@@ -240,32 +252,34 @@ module _ (Thing : List ℕ → Type 0) (skip : Skip) (s : Skips Thing skip) (pla
       elim (chosen (eqb byte 255) (Ok bytes) (skip (byte ∷ bytes) >>= skip_to_break skip n) (Err stop) e) [
         | inl (is_break, found) ↦ absurd cc
         | inr (no_break, more) ↦ elim (bind_err (skip (byte ∷ bytes)) (skip_to_break skip n) stop more) [
-            | inl f ↦ rw (no_break, s.stays (byte ∷ bytes) after stop known f) refl
-            | inr then ↦
-                let f = s.found (byte ∷ bytes) then.read then.is in
-                let regrouped : byte ∷ (bytes ++ after) ≡ f.front ++ (then.read ++ after) = ap (λ (x : List ℕ). x ++ after) f.joined ∙ append_assoc f.front then.read after in
-                let read : skip (byte ∷ (bytes ++ after)) ≡ Ok (then.read ++ after) = ap skip regrouped ∙ s.again f.front (then.read ++ after) f.is in
-                rw (no_break, read) (break_stays n m then.read after stop (omega arith) known then.then)
-          ]
+          | inl f ↦ rw (no_break, s.stays (byte ∷ bytes) after stop known f) refl
+          | inr then ↦
+              let f = s.found (byte ∷ bytes) then.read then.is in
+              let regrouped : byte ∷ (bytes ++ after) ≡ f.front ++ (then.read ++ after) = ap (λ (x : List ℕ). x ++ after) f.joined ∙ append_assoc f.front then.read after in
+              let read : skip (byte ∷ (bytes ++ after)) ≡ Ok (then.read ++ after) = ap skip regrouped ∙ s.again f.front (then.read ++ after) f.is in
+              rw (no_break, read) (break_stays n m then.read after stop (omega arith) known then.then)
+        ]
       ]
 
   pub skips_to_break : Skips (IsRowToBreak Thing) (λ bytes. skip_to_break skip (length bytes) bytes)
   skips_to_break = record {
-      found = λ bytes rest e. break_found (length bytes) bytes rest e
-    ; again = λ front rest row.
+    found = λ bytes rest e. break_found (length bytes) bytes rest e;
+    again = λ front rest row.
         let regrouped : front ++ rest ≡ row.things ++ 255 ∷ rest = ap (λ (x : List ℕ). x ++ rest) row.joined ∙ append_assoc row.things (255 ∷ []) rest in
-        ap (λ (x : List ℕ). skip_to_break skip (length x) x) regrouped ∙ break_again (length (row.things ++ 255 ∷ rest)) row.count row.things rest row.is_row (omega arith)
-    ; more = λ bytes e. break_more (length bytes) bytes (omega arith) e
-    ; stays = λ bytes after stop known e. break_stays (length bytes) (length (bytes ++ after)) bytes after stop (omega (arith, length-append bytes after)) known e }
+        ap (λ (x : List ℕ). skip_to_break skip (length x) x) regrouped ∙ break_again (length (row.things ++ 255 ∷ rest)) row.count row.things rest row.is_row (omega arith);
+    more = λ bytes e. break_more (length bytes) bytes (omega arith) e;
+    stays = λ bytes after stop known e. break_stays (length bytes) (length (bytes ++ after)) bytes after stop (omega (arith, length-append bytes after)) known e;
+  }
 
 -- ---- by the first byte
 
 pub skips_equal : {Thing : List ℕ → Type 0} {skip : Skip} (other : Skip) → ((x : List ℕ) → other x ≡ skip x) → Skips Thing skip → Skips Thing other
 skips_equal other same s = record {
-    found = λ bytes rest e. s.found bytes rest (sym (same bytes) ∙ e)
-  ; again = λ front rest is. same (front ++ rest) ∙ s.again front rest is
-  ; more = λ bytes e. s.more bytes (sym (same bytes) ∙ e)
-  ; stays = λ bytes after stop known e. same (bytes ++ after) ∙ s.stays bytes after stop known (sym (same bytes) ∙ e) }
+  found = λ bytes rest e. s.found bytes rest (sym (same bytes) ∙ e);
+  again = λ front rest is. same (front ++ rest) ∙ s.again front rest is;
+  more = λ bytes e. s.more bytes (sym (same bytes) ∙ e);
+  stays = λ bytes after stop known e. same (bytes ++ after) ∙ s.stays bytes after stop known (sym (same bytes) ∙ e);
+}
 
 -- a first byte that passes a test, and what stands behind it
 pub record IsLed (passes : ℕ → Bool) (Behind : ℕ → List ℕ → Type 0) (bytes : List ℕ) : Type 0 where
@@ -286,9 +300,10 @@ module _ (passes : ℕ → Bool) (Behind : ℕ → List ℕ → Type 0) (behind 
   led_found (first ∷ bytes) rest e =
       elim (chosen (passes first) (behind first bytes) (Err Bad) (Ok rest) e) [
         | inl (passed, read) ↦ let f = (skips first passed).found bytes rest read in record {
-            front = first ∷ f.front
-          ; joined = ap (λ (x : List ℕ). first ∷ x) f.joined
-          ; is = record { first = first; behind = f.front; joined = refl; passed = passed; is = f.is } }
+          front = first ∷ f.front;
+          joined = ap (λ (x : List ℕ). first ∷ x) f.joined;
+          is = record { first = first; behind = f.front; joined = refl; passed = passed; is = f.is };
+        }
         | inr (refused, read) ↦ absurd cc
       ]
 
@@ -302,8 +317,10 @@ module _ (passes : ℕ → Bool) (Behind : ℕ → List ℕ → Type 0) (behind 
   led_more (first ∷ bytes) e =
       elim (chosen (passes first) (behind first bytes) (Err Bad) (Err More) e) [
         | inl (passed, read) ↦ let b = (skips first passed).more bytes read in record {
-            missing = b.missing; are_bytes = b.are_bytes
-          ; is = record { first = first; behind = bytes ++ b.missing; joined = refl; passed = passed; is = b.is } }
+          missing = b.missing;
+          are_bytes = b.are_bytes;
+          is = record { first = first; behind = bytes ++ b.missing; joined = refl; passed = passed; is = b.is };
+        }
         | inr (refused, read) ↦ absurd cc
       ]
 

@@ -68,13 +68,16 @@ argument_at initial bytes = let n = argument_len (info_of initial) in
     if nat_lt (length bytes) n then Err More
     else (if may_follow initial (take n bytes) then Ok (head_of initial (take n bytes), drop n bytes) else Err Bad)
 
+abbrev pub head_and_rest : List ℕ → Result (Head × List ℕ) Stop
+head_and_rest bytes = initial_at bytes >>= λ read. argument_at read.0 read.1
+
 abbrev pub found_head : Result (Head × List ℕ) Stop → Option Head
 found_head (Ok read) = Some read.0
 found_head (Err stop) = None
 
 -- the whole valid head at the front of the bytes
 unfoldable pub head_at : List ℕ → Option Head
-head_at bytes = found_head (initial_at bytes >>= λ read. argument_at read.0 read.1)
+head_at bytes = found_head (head_and_rest bytes)
 
 -- the shortest head of a major type and a value
 unfoldable pub shortest_head : ℕ → ℕ → List ℕ
@@ -84,3 +87,7 @@ shortest_head major value =
     else (if nat_lt value 0x1_0000 then (major * 32 + 25) ∷ to_be_bytes w16 value
     else (if nat_lt value 0x1_0000_0000 then (major * 32 + 26) ∷ to_be_bytes w32 value
     else (major * 32 + 27) ∷ to_be_bytes w64 value)))
+
+-- the head that it is
+abbrev pub written_head : ℕ → ℕ → Head
+written_head major value = record { major = major; value = value; indefinite = false; size = length (shortest_head major value) }

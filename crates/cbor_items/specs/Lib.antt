@@ -4,3 +4,4 @@ pub mod Item
 pub mod Scan
 pub mod Answer
 pub mod Part
+pub mod Law

@@ -1,8 +1,10 @@
-ghost use Rattle.std.specs.Prelude.{◌≡◌, length};
+ghost use Rattle.std.specs.Prelude.{◌≡◌, ◌<◌, ◌≤◌, ◌++◌, ℕ, length, take, IfSome, Some, OnOk, OnErr};
+ghost use Rattle.cbor_items.specs.declared.head.Head.{Head};
 ghost use Rattle.cbor_items.specs.Reading.{Gives};
-ghost use Rattle.cbor_items.specs.Head.{argument_len, value_of, may_begin, may_follow, initial_at, argument_at, head_at};
+ghost use Rattle.cbor_items.specs.Head.{argument_len, value_of, may_begin, may_follow, initial_at, argument_at, head_and_rest, head_at, IsHead, shortest_head};
 
 use crate::stop::Stop;
+use net_base::{Octets, OutOfMemory};
 
 /// A head of an item: what kind of item it is, and its value or its length.
 #[derive(Clone, Copy, Debug, PartialEq, Eq)]
@@ -18,13 +20,51 @@ pub struct Head {
 }
 
 /// The head at the front of the bytes. None exactly where they do not begin with a whole valid one.
-#[tactic(auto, unfolding(crate::specs::Head::head_at))]
 pub fn read_head(bytes: &[u8]) -> Option<Head>
-    ensures { result ≡ head_at bytes.now }
+    ensures head { result ≡ head_at bytes.now }
+    ensures some { IfSome result (λ head. IsHead head (take head.size bytes.now)) }
+    ensures only { (head : Head) (n : ℕ) → IsHead head (take n bytes.now) → result ≡ Some head }
 {
-    let (initial, rest) = split_initial(bytes).ok()?;
-    let (head, _) = split_argument(initial, rest).ok()?;
-    Some(head)
+    match split_head(bytes) {
+        Ok((head, _)) => Some(head),
+        Err(_) => None,
+    }
+}
+
+/// Appends the shortest head of a major type, at most 7, and a value, which is below 24 with major type 7. A
+/// refusal changes nothing.
+#[tactic(auto, unfolding(crate::specs::Head::shortest_head))]
+pub fn write_head(out: &mut Octets, major: u8, value: u64) -> Result<(), OutOfMemory>
+    requires major { major ≤ 7 }
+    requires simple { major ≡ 7 → value < 24 }
+    ensures ok { OnOk result (out.new ≡ out.old ++ shortest_head major value) }
+    ensures err { OnErr result (out.new ≡ out.old) }
+{
+    let initial = major * 32;
+    match value {
+        0..=23 => out.push(initial + value as u8),
+        24..=0xff => out.extend_from_slice(&[initial + 24, value as u8]),
+        0x100..=0xffff => {
+            let [a, b] = (value as u16).to_be_bytes();
+            out.extend_from_slice(&[initial + 25, a, b])
+        }
+        0x1_0000..=0xffff_ffff => {
+            let [a, b, c, d] = (value as u32).to_be_bytes();
+            out.extend_from_slice(&[initial + 26, a, b, c, d])
+        }
+        _ => {
+            let [a, b, c, d, e, f, g, h] = value.to_be_bytes();
+            out.extend_from_slice(&[initial + 27, a, b, c, d, e, f, g, h])
+        }
+    }
+}
+
+// The head at the front of the bytes, and the bytes behind it.
+fn split_head(bytes: &[u8]) -> Result<(Head, &[u8]), Stop>
+    ensures { Gives (λ read. (read.0, read.1.now)) result (head_and_rest bytes.now) }
+{
+    let (initial, rest) = split_initial(bytes)?;
+    split_argument(initial, rest)
 }
 
 /// The initial byte of a head, and the bytes behind it.

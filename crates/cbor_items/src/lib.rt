@@ -3,8 +3,9 @@
 
 mod head;
 mod item;
+pub mod law;
 mod scan;
 mod stop;
 
-pub use head::{Head, read_head};
+pub use head::{Head, read_head, write_head};
 pub use scan::{Scan, first_item};
