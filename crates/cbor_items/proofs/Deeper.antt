@@ -1,16 +1,15 @@
 -- The same scan with one more level: what is an item stays one, what is refused stays refused, and what is too
 -- deep begins an item there.
-use Rattle.std.proofs.Common.{◌≡◌, ◌≢◌, ℕ, zero, suc, ◌+◌, ◌≤◌, ◌<◌, Bool, true, false, cond, eqb, ltb, MatchBool, ◌⊎◌, List, [], ◌∷◌, ◌++◌, length, take, drop, Result, Ok, Err, refl, sym, ap, subst, ◌∙◌, append_assoc, arith, inl, inr}
-use Rattle.std.proofs.lemmas.Bool.{eqb-true, eqb-false, ne_eqb}
-use Rattle.std.proofs.lemmas.List.{append-nil, length-append}
+use Rattle.std.proofs.Common.{◌≡◌, ◌≢◌, ℕ, zero, suc, ◌≤◌, Bool, true, false, cond, eqb, ltb, MatchBool, List, [], ◌∷◌, ◌++◌, length, take, drop, Ok, Err, refl, sym, ap, subst, ◌∙◌, append_assoc, arith, inl, inr}
+use Rattle.std.proofs.lemmas.Bool.{eqb-false, ne_eqb}
+use Rattle.std.proofs.lemmas.List.{length-append}
 use Rattle.cbor_items.specs.declared.head.Head.{Head}
-use Rattle.cbor_items.specs.declared.stop.Stop.{Stop}
 use Rattle.cbor_items.specs.declared.stop.Stop.TheVariants.{More, Bad, Deep}
 use Rattle.cbor_items.specs.Reading.{◌>>=◌}
-use Rattle.cbor_items.specs.Head.{info_of, argument_len, may_begin, may_follow, head_of, IsHead, argument_at}
-use Rattle.cbor_items.specs.Item.{AreBytes, Begins, IsPair, IsRow, IsRowToBreak}
-use Rattle.cbor_items.specs.Scan.{Skip, skip_bytes, skip_pair, skip_row, skip_to_break}
-use Rattle.cbor_items.proofs.Skips.{HasFront, Skips, AreBytes-append, bind_ok, bind_err, chosen, skips_pair, skips_row, row_example, IsLed, skip_led, StartsPlain, one_more, one_then_break}
+use Rattle.cbor_items.specs.Head.{info_of, argument_len, may_begin, may_follow, head_of, argument_at}
+use Rattle.cbor_items.specs.Item.{Begins, IsPair, IsRow, IsRowToBreak}
+use Rattle.cbor_items.specs.Scan.{Skip, skip_pair, skip_row, skip_to_break}
+use Rattle.cbor_items.proofs.Skips.{Skips, AreBytes-append, bind_err, chosen, row_example, IsLed, skip_led, StartsPlain, one_more, one_then_break}
 use Rattle.cbor_items.proofs.Heads.{argument_found, argument_reads}
 use Rattle.cbor_items.proofs.Items.{IsBehind, skip_behind}
 

@@ -1,16 +1,16 @@
 -- Items of every depth: their productions by the initial byte, and the scan.
-use Rattle.std.proofs.Common.{◌≡◌, ◌≢◌, ℕ, zero, suc, ◌+◌, ◌≤◌, ◌<◌, Bool, true, false, cond, eqb, not, ◌||◌, MatchBool, IsTrue, ◌⊎◌, List, [], ◌∷◌, ◌++◌, length, Result, Ok, Err, refl, sym, ap, subst, ◌∙◌, append_assoc, arith, inl, inr, lit<}
-use Rattle.std.proofs.lemmas.Bool.{cases_Bool, eqb-true, eq-eqb, ne_eqb, or_cases, or_parts, or_from, not-true, not_from_false}
-use Rattle.std.proofs.lemmas.List.{append-nil, length-append}
+use Rattle.std.proofs.Common.{◌≡◌, ℕ, zero, suc, ◌<◌, Bool, true, false, cond, eqb, ◌||◌, MatchBool, ◌⊎◌, List, [], ◌∷◌, ◌++◌, length, Result, Ok, Err, refl, sym, ap, subst, ◌∙◌, inl, inr, lit<}
+use Rattle.std.proofs.lemmas.Bool.{eqb-true, or_cases, or_parts, or_from, not-true, not_from_false}
+use Rattle.std.proofs.lemmas.List.{append-nil}
 use Rattle.std.proofs.lemmas.List.Elements.{All-replicate}
 use Rattle.cbor_items.specs.declared.head.Head.{Head}
 use Rattle.cbor_items.specs.declared.stop.Stop.{Stop}
-use Rattle.cbor_items.specs.declared.stop.Stop.TheVariants.{More, Bad, Deep}
+use Rattle.cbor_items.specs.declared.stop.Stop.TheVariants.{Bad, Deep}
 use Rattle.cbor_items.specs.Reading.{◌>>=◌}
-use Rattle.cbor_items.specs.Head.{major_of, info_of, may_begin, may_follow, head_of, IsHead, initial_at, argument_at}
-use Rattle.cbor_items.specs.Item.{Begins, IsPair, IsRow, IsRowToBreak, is_string, holds_items, stands_alone, IsString, IsFlat, alone, string, chunks, IsNested, array, open_array, map, open_map, tag, IsItem}
+use Rattle.cbor_items.specs.Head.{major_of, may_begin, head_of, IsHead}
+use Rattle.cbor_items.specs.Item.{Begins, IsPair, IsRow, IsRowToBreak, is_string, holds_items, IsString, IsFlat, alone, string, chunks, IsNested, array, open_array, map, open_map, tag, IsItem}
 use Rattle.cbor_items.specs.Scan.{Skip, skip_flat_content, skip_nested_content, skip_flat, skip_nested, is_nested, skip_either, skip_item}
-use Rattle.cbor_items.proofs.Skips.{HasFront, Skips, skips_same, skips_cond, skips_never, skips_equal, StartsPlain, IsLed, skip_led, skips_led}
+use Rattle.cbor_items.proofs.Skips.{Skips, skips_same, skips_cond, skips_never, skips_equal, StartsPlain, IsLed, skip_led, skips_led}
 use Rattle.cbor_items.proofs.Heads.{initial_is}
 use Rattle.cbor_items.proofs.Items.{IsBehind, skips_behind, FlatContent, NestedContent, skips_flat_content, flat_example, skips_nested_content, nested_example, head_is_plain, plain_same}
 

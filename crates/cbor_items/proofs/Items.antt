@@ -1,17 +1,17 @@
 -- The scan of items is their grammar.
-use Rattle.std.proofs.Common.{◌≡◌, ◌≢◌, ℕ, zero, suc, ◌+◌, ◌-◌, ◌/◌, ◌≤◌, ◌<◌, Bool, true, false, cond, eqb, ltb, not, ◌&&◌, ◌||◌, MatchBool, IsTrue, ◌⊎◌, List, [], ◌∷◌, ◌++◌, length, take, drop, replicate, Result, Ok, Err, refl, sym, ap, subst, ◌∙◌, append_assoc, arith, inl, inr, lit<}
-use Rattle.std.proofs.lemmas.Bool.{ltb-true, ltb-false, lt-ltb, le-ltb, cases_Bool, eqb-true, eq-eqb, ne_eqb, and_parts, and_from, or_cases, or_parts, not-true, not_from_false}
-use Rattle.std.proofs.lemmas.List.{append-nil, length-append, length-take, length-replicate, take-append-drop, take_at, drop_at}
+use Rattle.std.proofs.Common.{◌≡◌, ◌≢◌, ℕ, ◌-◌, ◌≤◌, ◌<◌, Bool, true, false, eqb, ltb, ◌&&◌, ◌||◌, MatchBool, List, [], ◌∷◌, ◌++◌, length, take, drop, replicate, Ok, Err, refl, sym, ap, subst, ◌∙◌, append_assoc, arith, inl, inr, lit<}
+use Rattle.std.proofs.lemmas.Bool.{ltb-true, ltb-false, le-ltb, eqb-true, eq-eqb, ne_eqb, and_parts, and_from, or_cases}
+use Rattle.std.proofs.lemmas.List.{length-append, length-take, length-replicate, take-append-drop, drop_at}
 use Rattle.std.proofs.lemmas.List.Elements.{All-replicate}
 use Rattle.cbor_items.specs.declared.head.Head.{Head}
 use Rattle.cbor_items.specs.declared.stop.Stop.{Stop}
-use Rattle.cbor_items.specs.declared.stop.Stop.TheVariants.{More, Bad, Deep}
+use Rattle.cbor_items.specs.declared.stop.Stop.TheVariants.{More, Bad}
 use Rattle.cbor_items.specs.Reading.{◌>>=◌}
-use Rattle.cbor_items.specs.Head.{major_of, info_of, argument_len, may_begin, may_follow, head_of, IsHead, initial_at, argument_at}
-use Rattle.cbor_items.specs.Item.{AreBytes, Begins, IsPair, IsRow, IsRowToBreak, is_string, holds_items, stands_alone, IsString, IsFlat, alone, string, chunks, IsNested, array, open_array, map, open_map, tag, IsItem}
-use Rattle.cbor_items.specs.Scan.{Skip, skip_bytes, skip_pair, skip_row, skip_to_break, skip_chunk, skip_flat_content, skip_nested_content, skip_flat, skip_nested, is_nested, skip_either, skip_item}
-use Rattle.cbor_items.proofs.Skips.{HasFront, Skips, AreBytes-nil, AreBytes-append, bind_ok, Stops, bind_err, chosen, skips_pair, skips_same, skips_cond, example_cond, skips_nothing, skips_never, row_example, skips_row, StartsPlain, break_alone, skips_to_break, skips_equal, IsLed, skip_led, skips_led}
-use Rattle.cbor_items.proofs.Heads.{IsArgument, IsShort, initial_found, initial_stays, initial_again, argument_found, initial_is, argument_reads, argument_more, argument_stays}
+use Rattle.cbor_items.specs.Head.{major_of, info_of, argument_len, may_begin, head_of, IsHead, argument_at}
+use Rattle.cbor_items.specs.Item.{Begins, IsPair, IsRow, IsRowToBreak, is_string, IsString}
+use Rattle.cbor_items.specs.Scan.{Skip, skip_bytes, skip_pair, skip_chunk, skip_flat_content, skip_nested_content}
+use Rattle.cbor_items.proofs.Skips.{HasFront, Skips, AreBytes-nil, AreBytes-append, bind_ok, bind_err, chosen, skips_pair, skips_same, skips_cond, example_cond, skips_nothing, skips_never, row_example, skips_row, StartsPlain, break_alone, skips_to_break, skips_equal, IsLed, skip_led, skips_led}
+use Rattle.cbor_items.proofs.Heads.{argument_found, initial_is, argument_reads, argument_more, argument_stays}
 
 -- ---- so many bytes
 

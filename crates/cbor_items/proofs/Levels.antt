@@ -1,17 +1,16 @@
 -- Items with more levels: what an item is, what is no item, and what is too deep.
-use Rattle.std.proofs.Common.{◌≡◌, ◌≢◌, ℕ, zero, suc, ◌+◌, ◌≤◌, ◌<◌, Bool, true, false, cond, eqb, ltb, MatchBool, ◌⊎◌, List, [], ◌∷◌, ◌++◌, length, drop, Result, Ok, Err, refl, sym, ap, subst, ◌∙◌, append_assoc, arith, inl, inr}
+use Rattle.std.proofs.Common.{◌≡◌, ℕ, zero, suc, true, eqb, ltb, List, [], ◌++◌, length, drop, Ok, Err, refl, ap, inl, inr}
 use Rattle.cbor_items.specs.declared.head.Head.{Head}
-use Rattle.cbor_items.specs.declared.stop.Stop.{Stop}
 use Rattle.cbor_items.specs.declared.stop.Stop.TheVariants.{More, Bad, Deep}
 use Rattle.cbor_items.specs.Reading.{◌>>=◌}
-use Rattle.cbor_items.specs.Head.{may_begin, IsHead}
-use Rattle.cbor_items.specs.Item.{AreBytes, Begins, IsPair, IsRow, IsRowToBreak, is_string, IsString, IsFlat, IsNested, IsItem}
-use Rattle.cbor_items.specs.Scan.{Skip, skip_bytes, skip_pair, skip_row, skip_to_break, skip_chunk, skip_flat_content, skip_nested_content, skip_flat, skip_nested, is_nested, skip_either, skip_item}
-use Rattle.cbor_items.proofs.Skips.{HasFront, Skips, AreBytes-append, chosen, skips_pair, skips_row, StartsPlain, IsLed, skip_led}
+use Rattle.cbor_items.specs.Head.{may_begin}
+use Rattle.cbor_items.specs.Item.{Begins, IsPair, is_string, IsString, IsItem}
+use Rattle.cbor_items.specs.Scan.{Skip, skip_bytes, skip_pair, skip_chunk, skip_flat_content, skip_nested_content, skip_nested, is_nested, skip_either, skip_item}
+use Rattle.cbor_items.proofs.Skips.{Skips, AreBytes-append, chosen, StartsPlain, IsLed}
 use Rattle.cbor_items.proofs.Heads.{every_argument}
-use Rattle.cbor_items.proofs.Items.{IsBehind, skip_behind, IsLength, begins_chunk, chunk_begins, skip_string, string_from_led, led_from_string, chunk_is_led, skips_chunk, string_is_plain, pair_is_plain, FlatContent, NestedContent, pair_example, nested_example, skips_entry}
-use Rattle.cbor_items.proofs.Grammar.{BehindItem, NestedBehind, NoneBehind, skip_behind_item, either_is_led, led_item, item_led, led_flat, flat_led, item_example, item_is_plain, skips_item}
-use Rattle.cbor_items.proofs.Deeper.{TooDeep, Deepens, deepens_same, deepens_flat, deepens_cond, deepens_pair, deepens_row, deepens_to_break, deepens_behind, deepens_led}
+use Rattle.cbor_items.proofs.Items.{IsBehind, IsLength, begins_chunk, chunk_begins, skip_string, string_from_led, led_from_string, chunk_is_led, skips_chunk, string_is_plain, pair_is_plain, FlatContent, NestedContent, pair_example, nested_example, skips_entry}
+use Rattle.cbor_items.proofs.Grammar.{BehindItem, NestedBehind, NoneBehind, skip_behind_item, either_is_led, led_item, item_led, flat_led, item_example, item_is_plain, skips_item}
+use Rattle.cbor_items.proofs.Deeper.{Deepens, deepens_same, deepens_flat, deepens_cond, deepens_pair, deepens_row, deepens_to_break, deepens_behind, deepens_led}
 
 -- ---- items that hold no other
 

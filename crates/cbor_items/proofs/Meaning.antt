@@ -1,17 +1,16 @@
 -- The answers of the scan have their meaning, and no other answer has it.
-use Rattle.std.proofs.Common.{◌≡◌, ◌≢◌, ℕ, zero, suc, ◌+◌, ◌-◌, ◌≤◌, ◌<◌, ◌⊎◌, List, [], ◌∷◌, ◌++◌, length, take, drop, Result, Ok, Err, refl, sym, ap, subst, ◌∙◌, append_assoc, arith, inl, inr}
+use Rattle.std.proofs.Common.{◌≡◌, ◌≢◌, ℕ, zero, suc, ◌+◌, ◌-◌, ◌≤◌, ◌<◌, List, [], ◌++◌, length, take, drop, Result, Ok, Err, refl, sym, ap, subst, ◌∙◌, append_assoc, arith, inl, inr}
 use Rattle.std.proofs.lemmas.Bool.{cases_lt}
-use Rattle.std.proofs.lemmas.List.{append-nil, append_cancel_left, length-append, length-take, length-drop, take-append-drop, take-take, take_at, take_all, nil_from_length}
+use Rattle.std.proofs.lemmas.List.{append-nil, length-append, length-take, length-drop, take-append-drop, take-take, take_at, take_all, nil_from_length}
 use Rattle.cbor_items.specs.declared.stop.Stop.{Stop}
 use Rattle.cbor_items.specs.declared.stop.Stop.TheVariants.{More, Bad, Deep}
 use Rattle.cbor_items.specs.declared.scan.Scan.{Scan}
 use Rattle.cbor_items.specs.declared.scan.Scan.TheVariants as scan
-use Rattle.cbor_items.specs.Item.{IsItem, Begins}
+use Rattle.cbor_items.specs.Item.{IsItem, level_limit, Begins}
 use Rattle.cbor_items.specs.Scan.{skip_item, scan_result, scan_of}
-use Rattle.cbor_items.specs.Answer.{level_limit, IsBegun, IsOpenBefore, IsBad, IsTooDeep, IsAnswer}
-use Rattle.cbor_items.proofs.Skips.{HasFront, Skips, AreBytes-nil}
+use Rattle.cbor_items.specs.Answer.{IsBegun, IsOpenBefore, IsBad, IsTooDeep, IsAnswer}
+use Rattle.cbor_items.proofs.Skips.{AreBytes-nil}
 use Rattle.cbor_items.proofs.Grammar.{skips_item}
-use Rattle.cbor_items.proofs.Deeper.{TooDeep, Deepens}
 use Rattle.cbor_items.proofs.Levels.{deepens_item}
 
 ok_is : (x y : List ℕ) → ◌≡◌ {A = Result (List ℕ) Stop} (Ok x) (Ok y) → x ≡ y

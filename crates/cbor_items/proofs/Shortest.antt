@@ -1,11 +1,11 @@
 -- The shortest head of a major type and a value.
-use Rattle.std.proofs.Common.{◌≡◌, ◌≢◌, ℕ, zero, suc, ◌+◌, ◌-◌, ◌*◌, ◌/◌, ◌%◌, ◌^◌, ◌≤◌, ◌<◌, Bool, true, false, cond, eqb, ltb, leb, not, ◌||◌, ◌&&◌, ◌⊎◌, List, [], ◌∷◌, ◌++◌, length, get_or, Some, refl, sym, ap, subst, ◌∙◌, arith, inl, inr, lit<}
-use Rattle.std.proofs.lemmas.Bool.{ltb-true, ltb-false, lt-ltb, le-ltb, cases_Bool, cases_lt, cases_eq, eqb-true, ne_eqb}
+use Rattle.std.proofs.Common.{◌≡◌, ◌≢◌, ℕ, suc, ◌+◌, ◌*◌, ◌≤◌, ◌<◌, false, eqb, ltb, List, [], ◌∷◌, ◌++◌, length, get_or, Some, refl, sym, ap, subst, ◌∙◌, arith, inl, inr, lit<}
+use Rattle.std.proofs.lemmas.Bool.{ltb-true, ltb-false, lt-ltb, cases_Bool, cases_lt, cases_eq, ne_eqb}
 use Rattle.std.proofs.lemmas.Nat.{from_be_bytes-to_be_bytes_2, from_be_bytes-to_be_bytes_4, from_be_bytes-to_be_bytes_8}
 use Rattle.std.proofs.lemmas.List.{get_or_past}
 use Rattle.std.specs.Int.{w16, w32, w64, to_be_bytes, from_be_bytes}
 use Rattle.cbor_items.specs.declared.head.Head.{Head}
-use Rattle.cbor_items.specs.Head.{major_of, info_of, argument_len, value_of, may_begin, may_follow, head_of, IsHead, head_at, shortest_head, written_head}
+use Rattle.cbor_items.specs.Head.{major_of, info_of, argument_len, value_of, IsHead, head_at, shortest_head, written_head}
 use Rattle.cbor_items.specs.Item.{AreBytes}
 use Rattle.cbor_items.specs.Law.{CanWrite}
 use Rattle.cbor_items.proofs.Heads.{head_again}
@@ -55,18 +55,18 @@ shortest_is_head major value can =
       | inl a ↦ let lt = ltb-true _ _ a in
           rw a (head_spelled major value (omega arith) value [] can.major_fits (λ _. lt) (rw (len_small value lt) refl) (rw a refl))
       | inr a ↦ elim (cases_Bool (ltb value 256)) [
-          | inl b ↦ rw (a, b) (head_spelled major 24 (omega arith) value (value ∷ []) can.major_fits (no_simple major value can a) refl refl)
-          | inr b ↦ elim (cases_Bool (ltb value 65536)) [
-              | inl c ↦ rw (a, b, c) (head_spelled major 25 (omega arith) value (to_be_bytes w16 value) can.major_fits (no_simple major value can a) refl
-                  (from_be_bytes-to_be_bytes_2 value (ltb-true _ _ c)))
-              | inr c ↦ elim (cases_Bool (ltb value 4294967296)) [
-                  | inl d ↦ rw (a, b, c, d) (head_spelled major 26 (omega arith) value (to_be_bytes w32 value) can.major_fits (no_simple major value can a) refl
-                      (from_be_bytes-to_be_bytes_4 value (ltb-true _ _ d)))
-                  | inr d ↦ rw (a, b, c, d) (head_spelled major 27 (omega arith) value (to_be_bytes w64 value) can.major_fits (no_simple major value can a) refl
-                      (from_be_bytes-to_be_bytes_8 value can.value_fits))
-                ]
-            ]
+        | inl b ↦ rw (a, b) (head_spelled major 24 (omega arith) value (value ∷ []) can.major_fits (no_simple major value can a) refl refl)
+        | inr b ↦ elim (cases_Bool (ltb value 65536)) [
+          | inl c ↦ rw (a, b, c) (head_spelled major 25 (omega arith) value (to_be_bytes w16 value) can.major_fits (no_simple major value can a) refl
+              (from_be_bytes-to_be_bytes_2 value (ltb-true _ _ c)))
+          | inr c ↦ elim (cases_Bool (ltb value 4294967296)) [
+            | inl d ↦ rw (a, b, c, d) (head_spelled major 26 (omega arith) value (to_be_bytes w32 value) can.major_fits (no_simple major value can a) refl
+                (from_be_bytes-to_be_bytes_4 value (ltb-true _ _ d)))
+            | inr d ↦ rw (a, b, c, d) (head_spelled major 27 (omega arith) value (to_be_bytes w64 value) can.major_fits (no_simple major value can a) refl
+                (from_be_bytes-to_be_bytes_8 value can.value_fits))
+          ]
         ]
+      ]
     ]
 
 pub are_read_again : (major value : ℕ) (rest : List ℕ) → CanWrite major value
@@ -94,19 +94,19 @@ shortest_fits major value =
       | inl a ↦ let len : ShortestIs major value 1 = rw a refl in
           record { one = λ lt. omega arith; two = λ lt. omega arith; three = λ lt. omega arith; five = λ lt. omega arith; nine = omega arith }
       | inr a ↦ let ge = ltb-false _ _ a in elim (cases_Bool (ltb value 256)) [
-          | inl b ↦ let len : ShortestIs major value 2 = rw (a, b) refl in
-              record { one = λ lt. absurd (omega arith); two = λ lt. omega arith; three = λ lt. omega arith; five = λ lt. omega arith; nine = omega arith }
-          | inr b ↦ let ge' = ltb-false _ _ b in elim (cases_Bool (ltb value 65536)) [
-              | inl c ↦ let len : ShortestIs major value 3 = rw (a, b, c) refl in
-                  record { one = λ lt. absurd (omega arith); two = λ lt. absurd (omega arith); three = λ lt. omega arith; five = λ lt. omega arith; nine = omega arith }
-              | inr c ↦ let ge'' = ltb-false _ _ c in elim (cases_Bool (ltb value 4294967296)) [
-                  | inl d ↦ let len : ShortestIs major value 5 = rw (a, b, c, d) refl in
-                      record { one = λ lt. absurd (omega arith); two = λ lt. absurd (omega arith); three = λ lt. absurd (omega arith); five = λ lt. omega arith; nine = omega arith }
-                  | inr d ↦ let ge''' = ltb-false _ _ d in let len : ShortestIs major value 9 = rw (a, b, c, d) refl in
-                      record { one = λ lt. absurd (omega arith); two = λ lt. absurd (omega arith); three = λ lt. absurd (omega arith); five = λ lt. absurd (omega arith); nine = omega arith }
-                ]
-            ]
+        | inl b ↦ let len : ShortestIs major value 2 = rw (a, b) refl in
+            record { one = λ lt. absurd (omega arith); two = λ lt. omega arith; three = λ lt. omega arith; five = λ lt. omega arith; nine = omega arith }
+        | inr b ↦ let ge' = ltb-false _ _ b in elim (cases_Bool (ltb value 65536)) [
+          | inl c ↦ let len : ShortestIs major value 3 = rw (a, b, c) refl in
+              record { one = λ lt. absurd (omega arith); two = λ lt. absurd (omega arith); three = λ lt. omega arith; five = λ lt. omega arith; nine = omega arith }
+          | inr c ↦ let ge'' = ltb-false _ _ c in elim (cases_Bool (ltb value 4294967296)) [
+            | inl d ↦ let len : ShortestIs major value 5 = rw (a, b, c, d) refl in
+                record { one = λ lt. absurd (omega arith); two = λ lt. absurd (omega arith); three = λ lt. absurd (omega arith); five = λ lt. omega arith; nine = omega arith }
+            | inr d ↦ let ge''' = ltb-false _ _ d in let len : ShortestIs major value 9 = rw (a, b, c, d) refl in
+                record { one = λ lt. absurd (omega arith); two = λ lt. absurd (omega arith); three = λ lt. absurd (omega arith); five = λ lt. absurd (omega arith); nine = omega arith }
+          ]
         ]
+      ]
     ]
 
 -- the value of an argument is as large as its bytes allow
@@ -122,27 +122,27 @@ module _ (info : ℕ) (argument : List ℕ) (fits : (i : ℕ) → get_or argumen
             let v : value_of info argument ≡ info = rw (lt-ltb info 24 small) refl in
             omega (arith, s.one (omega arith))
         | inr large ↦ elim (cases_eq info 24) [
+          | inl is ↦
+              let v : value_of info argument ≡ get_or argument 0 0 = rw is refl in
+              let n : argument_len info ≡ 1 = rw is refl in
+              omega (arith, s.two (omega (arith, fits 0)))
+          | inr no_24 ↦ elim (cases_eq info 25) [
             | inl is ↦
-                let v : value_of info argument ≡ get_or argument 0 0 = rw is refl in
-                let n : argument_len info ≡ 1 = rw is refl in
-                omega (arith, s.two (omega (arith, fits 0)))
-            | inr no_24 ↦ elim (cases_eq info 25) [
-                | inl is ↦
-                    let v : value_of info argument ≡ from_be_bytes w16 argument = rw is refl in
-                    let n : argument_len info ≡ 2 = rw is refl in
-                    omega (arith, s.three (omega (arith, fits 0, fits 1)))
-                | inr no_25 ↦ elim (cases_eq info 26) [
-                    | inl is ↦
-                        let v : value_of info argument ≡ from_be_bytes w32 argument = rw is refl in
-                        let n : argument_len info ≡ 4 = rw is refl in
-                        omega (arith, s.five (omega (arith, fits 0, fits 1, fits 2, fits 3)))
-                    | inr no_26 ↦
-                        let is : info ≡ 27 = omega arith in
-                        let n : argument_len info ≡ 8 = rw is refl in
-                        omega (arith, s.nine)
-                  ]
-              ]
+                let v : value_of info argument ≡ from_be_bytes w16 argument = rw is refl in
+                let n : argument_len info ≡ 2 = rw is refl in
+                omega (arith, s.three (omega (arith, fits 0, fits 1)))
+            | inr no_25 ↦ elim (cases_eq info 26) [
+              | inl is ↦
+                  let v : value_of info argument ≡ from_be_bytes w32 argument = rw is refl in
+                  let n : argument_len info ≡ 4 = rw is refl in
+                  omega (arith, s.five (omega (arith, fits 0, fits 1, fits 2, fits 3)))
+              | inr no_26 ↦
+                  let is : info ≡ 27 = omega arith in
+                  let n : argument_len info ≡ 8 = rw is refl in
+                  omega (arith, s.nine)
+            ]
           ]
+        ]
       ]
 
 argument_fits : (initial : ℕ) (argument : List ℕ) → AreBytes (initial ∷ argument) → (i : ℕ) → get_or argument i 0 < 256

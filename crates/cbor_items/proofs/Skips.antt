@@ -1,11 +1,11 @@
 -- Passing over things and the grammar of things: what is passed over is a thing, a thing is passed over again
 -- whatever follows it, where bytes are missing some complete a thing, and every other stop stays a stop.
-use Rattle.std.proofs.Common.{◌≡◌, ◌≢◌, ℕ, zero, suc, ◌+◌, ◌-◌, ◌≤◌, ◌<◌, Bool, true, false, cond, eqb, MatchBool, ◌⊎◌, List, [], ◌∷◌, ◌++◌, length, Result, Ok, Err, refl, sym, ap, subst, ◌∙◌, append_assoc, arith, inl, inr, lit<}
-use Rattle.std.proofs.lemmas.Bool.{eqb-true, eqb-false, ne_eqb}
-use Rattle.std.proofs.lemmas.List.{append-nil, length-append}
+use Rattle.std.proofs.Common.{◌≡◌, ◌≢◌, ℕ, zero, suc, ◌≤◌, ◌<◌, Bool, true, false, cond, eqb, MatchBool, ◌⊎◌, List, [], ◌∷◌, ◌++◌, length, Result, Ok, Err, refl, sym, ap, subst, ◌∙◌, append_assoc, arith, inl, inr, lit<}
+use Rattle.std.proofs.lemmas.Bool.{eqb-true, ne_eqb}
+use Rattle.std.proofs.lemmas.List.{length-append}
 use Rattle.std.proofs.lemmas.List.Elements.{All-nil, All-cons, All-append}
 use Rattle.cbor_items.specs.declared.stop.Stop.{Stop}
-use Rattle.cbor_items.specs.declared.stop.Stop.TheVariants.{More, Bad, Deep}
+use Rattle.cbor_items.specs.declared.stop.Stop.TheVariants.{More, Bad}
 use Rattle.cbor_items.specs.Reading.{◌>>=◌}
 use Rattle.cbor_items.specs.Item.{AreBytes, Begins, IsPair, IsRow, IsRowToBreak}
 use Rattle.cbor_items.specs.Scan.{Skip, skip_pair, skip_row, skip_to_break}

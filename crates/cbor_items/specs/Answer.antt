@@ -2,11 +2,7 @@
 use Rattle.std.specs.Prelude.{◌≢◌, ℕ, ◌<◌, ◌≤◌, List, [], ◌++◌, length, take}
 use Rattle.cbor_items.specs.declared.scan.Scan.{Scan}
 use Rattle.cbor_items.specs.declared.scan.Scan.TheVariants.{Whole, More, Bad, Deep}
-use Rattle.cbor_items.specs.Item.{IsItem, AreBytes, Begins}
-
--- how many arrays, maps and tags may stand inside each other
-abbrev pub level_limit : ℕ
-level_limit = 64
+use Rattle.cbor_items.specs.Item.{IsItem, level_limit, AreBytes, Begins}
 
 -- the bytes begin an item and are none: something is missing
 pub record IsBegun (depth : ℕ) (bytes : List ℕ) : Type 0 where

@@ -1,5 +1,6 @@
--- The grammar of well-formed items: RFC 8949, sections 3.1 and 3.2.
-use Rattle.std.specs.Prelude.{◌≡◌, ◌≢◌, ℕ, zero, suc, ◌<◌, Bool, true, false, ◌||◌, not, ◌==◌, List, [], ◌∷◌, ◌++◌, length, All, IsTrue, ◌⊎◌}
+-- The grammar of well-formed items: RFC 8949, sections 3.1 and 3.2. Heads have any width, the bytes of a text
+-- may be no UTF-8, and a float is a head with 2, 4 or 8 bytes of argument.
+use Rattle.std.specs.Prelude.{◌≡◌, ℕ, zero, suc, ◌<◌, Bool, true, false, ◌||◌, not, ◌==◌, List, [], ◌∷◌, ◌++◌, length, All, IsTrue, ◌⊎◌}
 use Rattle.cbor_items.specs.declared.head.Head.{Head}
 use Rattle.cbor_items.specs.Head.{IsHead}
 
@@ -71,6 +72,10 @@ pub data IsNested (Item : List ℕ → Type 0) : List ℕ → Type 0 where
 unfoldable pub IsItem : ℕ → List ℕ → Type 0
 IsItem zero bytes = IsFlat bytes
 IsItem (suc depth) bytes = IsFlat bytes ⊎ IsNested (IsItem depth) bytes
+
+-- how many arrays, maps and tags may stand inside each other: this project's own limit
+abbrev pub level_limit : ℕ
+level_limit = 64
 
 abbrev pub AreBytes : List ℕ → Type 0
 AreBytes bytes = All (λ byte. byte < 256) bytes

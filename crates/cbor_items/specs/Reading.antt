@@ -1,5 +1,5 @@
 -- Reading from left to right, up to the first thing that decides.
-use Rattle.std.specs.Prelude.{◌≡◌, ℕ, List, Result, Ok, Err}
+use Rattle.std.specs.Prelude.{◌≡◌, Result, Ok, Err}
 use Rattle.cbor_items.specs.declared.stop.Stop.{Stop}
 
 -- one reading and another behind it

@@ -1,5 +1,5 @@
 -- The scan of the first item, and what each of its answers means.
-use Rattle.std.specs.Prelude.{◌≡◌, ◌≢◌, ℕ, zero, suc, ◌<◌, ◌≤◌, ◌-◌, Bool, true, false, ◌&&◌, ◌||◌, ◌==◌, nat_lt, List, [], ◌∷◌, ◌++◌, length, take, drop, All, Result, Ok, Err, if◌then◌else◌}
+use Rattle.std.specs.Prelude.{ℕ, zero, suc, ◌-◌, Bool, ◌&&◌, ◌==◌, nat_lt, List, [], ◌∷◌, length, drop, Result, Ok, Err, if◌then◌else◌}
 use Rattle.cbor_items.specs.declared.head.Head.{Head}
 use Rattle.cbor_items.specs.declared.stop.Stop.{Stop}
 use Rattle.cbor_items.specs.declared.stop.Stop.TheVariants as stop
@@ -7,7 +7,7 @@ use Rattle.cbor_items.specs.declared.scan.Scan.{Scan}
 use Rattle.cbor_items.specs.declared.scan.Scan.TheVariants as scan
 use Rattle.cbor_items.specs.Reading.{◌>>=◌}
 use Rattle.cbor_items.specs.Head.{major_of, info_of, initial_at, argument_at}
-use Rattle.cbor_items.specs.Item.{is_string, holds_items}
+use Rattle.cbor_items.specs.Item.{is_string, holds_items, level_limit}
 
 -- passing over something at the front of the bytes: the bytes behind it, or what decided before its end
 abbrev pub Skip : Type 0
@@ -81,4 +81,4 @@ scan_result bytes (Err stop.Deep) = scan.Deep
 
 -- the scan of the first item: what decides first, from the left
 unfoldable pub scan_of : List ℕ → Scan
-scan_of bytes = scan_result bytes (skip_item 64 bytes)
+scan_of bytes = scan_result bytes (skip_item level_limit bytes)

@@ -9,3 +9,6 @@ mod stop;
 
 pub use head::{Head, read_head, write_head};
 pub use scan::{Scan, first_item};
+
+#[cfg(test)]
+mod tests;

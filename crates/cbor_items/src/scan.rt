@@ -6,6 +6,9 @@ ghost use Rattle.cbor_items.specs.Answer.{IsAnswer};
 use crate::item::skip_item;
 use crate::stop::Stop;
 
+// How many arrays, maps and tags may stand inside each other.
+const LEVEL_LIMIT: u8 = 64;
+
 /// What stands at the front of some bytes.
 #[derive(Clone, Copy, Debug, PartialEq, Eq)]
 pub enum Scan {
@@ -26,7 +29,7 @@ pub fn first_item(bytes: &[u8]) -> Scan
     ensures means { IsAnswer bytes.now result }
     ensures only { (answer : Scan) → IsAnswer bytes.now answer → answer ≡ result }
 {
-    match skip_item(bytes, 64) {
+    match skip_item(bytes, LEVEL_LIMIT) {
         Ok(rest) => Scan::Whole(bytes.len() - rest.len()),
         Err(Stop::More) => Scan::More,
         Err(Stop::Bad) => Scan::Bad,

@@ -1,6 +1,6 @@
 use Rattle.std.proofs.Common.{◌<◌, length, sym, arith}
 use Rattle.std.proofs.lemmas.Result.{err_from_is_err_and}
-use Rattle.cbor_items.specs.Scan.{skip_row, skip_to_break, skip_item}
+use Rattle.cbor_items.specs.Scan.{skip_item}
 use Rattle.cbor_items.specs.Part.{part_of}
 use Rattle.cbor_items.proofs.Loops.{row_goes_on, row_stops, row_is_done, break_is_missing, break_is_found, break_goes_on, break_stops, break_is_out, item_stops, item_is_flat, item_is_nested, item_is_too_deep}
 use Rattle.cbor_items.proofs.item.+item.Goals as goal

@@ -1,6 +1,6 @@
 use Rattle.std.proofs.Common.{length}
 use Rattle.std.proofs.lemmas.Result.{err_from_is_err_and}
-use Rattle.cbor_items.specs.Scan.{skip_to_break, skip_chunk}
+use Rattle.cbor_items.specs.Scan.{skip_chunk}
 use Rattle.cbor_items.proofs.Loops.{break_is_missing, break_is_found, break_goes_on, break_stops, break_is_out}
 use Rattle.cbor_items.proofs.item.skip_chunks.Goals as goal
 
