@@ -4,7 +4,7 @@ use Rattle.cbor_items.proofs.Meaning.{rest_is_shorter, scanned, means, only}
 use Rattle.cbor_items.proofs.scan.first_item.Goals as goal
 
 pub overflow_sub-result : goal.overflow_sub-result
-overflow_sub-result c = rest_is_shorter 64 c.args.bytes.now c.in-Ok.rest.now c.in-Ok.ensures
+overflow_sub-result c = rest_is_shorter _ c.args.bytes.now c.in-Ok.rest.now c.in-Ok.ensures
 
 pub returns-in-Ok : goal.returns-in-Ok
 returns-in-Ok c =
