@@ -7,3 +7,4 @@ pub mod Deeper
 pub mod Levels
 pub mod Meaning
 pub mod Shortest
+pub mod Fronts
