@@ -1,0 +1,158 @@
+ghost use Rattle.std.specs.Prelude.{◌≡◌, ◌<◌, ◌==◌, length};
+ghost use Rattle.cbor_items.specs.Reading.{Gives};
+ghost use Rattle.cbor_items.specs.Head.{argument_at};
+ghost use Rattle.cbor_items.specs.Scan.{skip_bytes, skip_row, skip_to_break, skip_chunk, skip_flat, skip_nested, is_nested, skip_item};
+ghost use Rattle.cbor_items.specs.Part.{part_of};
+
+use crate::head::{split_argument, split_initial};
+use crate::stop::Stop;
+
+const BREAK: u8 = 0xff;
+
+/// What arrays and maps are rows of.
+#[derive(Clone, Copy)]
+enum Part {
+    Item,
+    /// A key and its value.
+    Entry,
+}
+
+/// Passes over an item with at most so many arrays, maps and tags inside each other.
+#[cycle(item)]
+pub(crate) fn skip_item(bytes: &[u8], depth: u8) -> Result<&[u8], Stop>
+    ensures { Gives (λ rest. rest.now) result (skip_item depth bytes.now) }
+{
+    let (initial, rest) = split_initial(bytes)?;
+    if !is_nested(initial) {
+        return skip_flat(initial, rest);
+    }
+    match depth.checked_sub(1) {
+        None => Err(Stop::Deep),
+        Some(inner) => skip_nested(initial, rest, inner),
+    }
+}
+
+// Passes over what stands behind the initial byte of an array, a map or a tag. Each item in it has at most so
+// many arrays, maps and tags inside each other.
+#[tactic(auto, unfolding(crate::specs::Scan::skip_nested_content))]
+#[cycle(item)]
+fn skip_nested(initial: u8, bytes: &[u8], inner: u8) -> Result<&[u8], Stop>
+    ensures { Gives (λ rest. rest.now) result (skip_nested (skip_item inner) initial bytes.now) }
+{
+    let (head, rest) = split_argument(initial, bytes)?;
+    match (head.major, head.indefinite) {
+        (4, false) => skip_parts(Part::Item, head.value, rest, inner),
+        (4, true) => skip_parts_to_break(Part::Item, rest, inner),
+        (5, false) => skip_parts(Part::Entry, head.value, rest, inner),
+        (5, true) => skip_parts_to_break(Part::Entry, rest, inner),
+        _ => skip_item(rest, inner),
+    }
+}
+
+#[cycle(item)]
+fn skip_parts(part: Part, count: u64, bytes: &[u8], inner: u8) -> Result<&[u8], Stop>
+    ensures { Gives (λ rest. rest.now) result (skip_row (part_of (skip_item inner) part) count bytes.now) }
+{
+    let mut rest = bytes;
+    for _ in 0..count {
+        rest = skip_part(part, rest, inner)?;
+    }
+    Ok(rest)
+}
+
+#[cycle(item)]
+fn skip_parts_to_break(part: Part, bytes: &[u8], inner: u8) -> Result<&[u8], Stop>
+    ensures { Gives (λ rest. rest.now) result (skip_to_break (part_of (skip_item inner) part) (length bytes.now) bytes.now) }
+{
+    let mut rest = bytes;
+    // each part takes a byte at least
+    for _ in 0..bytes.len() {
+        let Some((first, after)) = rest.split_first() else {
+            return Err(Stop::More);
+        };
+        if *first == BREAK {
+            return Ok(after);
+        }
+        rest = skip_part(part, rest, inner)?;
+    }
+    Err(Stop::More)
+}
+
+#[cycle(item)]
+fn skip_part(part: Part, bytes: &[u8], inner: u8) -> Result<&[u8], Stop>
+    ensures { Gives (λ rest. rest.now) result (part_of (skip_item inner) part bytes.now) }
+{
+    match part {
+        Part::Item => skip_item(bytes, inner),
+        Part::Entry => {
+            let rest = skip_item(bytes, inner)?;
+            skip_item(rest, inner)
+        }
+    }
+}
+
+// Passes over what stands behind the initial byte of an item that holds no other.
+#[tactic(auto, unfolding(crate::specs::Scan::skip_flat_content))]
+fn skip_flat(initial: u8, bytes: &[u8]) -> Result<&[u8], Stop>
+    ensures { Gives (λ rest. rest.now) result (skip_flat initial bytes.now) }
+{
+    let (head, rest) = split_argument(initial, bytes)?;
+    match (head.major, head.indefinite) {
+        (2 | 3, false) => skip_bytes(head.value, rest),
+        (2 | 3, true) => skip_chunks(head.major, rest),
+        (_, false) => Ok(rest),
+        // a break, which is no item
+        (_, true) => Err(Stop::Bad),
+    }
+}
+
+fn skip_bytes(count: u64, bytes: &[u8]) -> Result<&[u8], Stop>
+    ensures { Gives (λ rest. rest.now) result (skip_bytes count bytes.now) }
+{
+    if (bytes.len() as u64) < count {
+        return Err(Stop::More);
+    }
+    let (_, rest) = bytes.split_at(count as usize);
+    Ok(rest)
+}
+
+// Passes over the chunks of an indefinite string, and over the break behind them.
+fn skip_chunks(major: u8, bytes: &[u8]) -> Result<&[u8], Stop>
+    ensures { Gives (λ rest. rest.now) result (skip_to_break (skip_chunk major) (length bytes.now) bytes.now) }
+{
+    let mut rest = bytes;
+    for _ in 0..bytes.len() {
+        let Some((first, after)) = rest.split_first() else {
+            return Err(Stop::More);
+        };
+        if *first == BREAK {
+            return Ok(after);
+        }
+        rest = skip_chunk(major, rest)?;
+    }
+    Err(Stop::More)
+}
+
+// Passes over a definite string of a major type.
+#[tactic(auto, unfolding(crate::specs::Scan::skip_chunk))]
+fn skip_chunk(major: u8, bytes: &[u8]) -> Result<&[u8], Stop>
+    ensures { Gives (λ rest. rest.now) result (skip_chunk major bytes.now) }
+{
+    match bytes {
+        [] => Err(Stop::More),
+        [initial, rest @ ..] => {
+            if *initial / 32 != major || *initial % 32 >= 28 {
+                return Err(Stop::Bad);
+            }
+            let (head, rest) = split_argument(*initial, rest)?;
+            skip_bytes(head.value, rest)
+        }
+    }
+}
+
+// Arrays, maps and tags.
+fn is_nested(initial: u8) -> bool
+    ensures { result ≡ is_nested initial }
+{
+    matches!(initial / 32, 4..=6)
+}
