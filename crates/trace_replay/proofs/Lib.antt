@@ -1,0 +1,6 @@
+pub mod Grammar
+pub mod Heads
+pub mod Judging
+pub mod Outputs
+pub mod Prefixes
+pub mod Readings

@@ -1,0 +1,6 @@
+pub mod Judgement
+pub mod Output
+pub mod Passing
+pub mod Reading
+pub mod Replays
+pub mod Settings
