@@ -87,7 +87,7 @@ lines_for-acted readings text =
     rw (head_texts-append readings (reading ∷ []), event_texts-append readings (reading ∷ []), heads, events, append-nil (head_texts readings), append-nil (event_texts readings)) refl
 
 -- what the machine tells of an event behind lines that were read
-pub told_behind : List Reading → List ℕ → Event → List (List ℕ)
+unfoldable pub told_behind : List Reading → List ℕ → Event → List (List ℕ)
 told_behind readings text event = told_event (text, (step (after_all (start_in readings) (events_in readings)) event).actions)
 
 pub lines_for-event : (readings : List Reading) (text : List ℕ) (event : Event) →
