@@ -40,12 +40,12 @@ judged_behind readings tail passed clean =
 
 -- ---- what decides behind it
 
-pub judgement_of : List Reading → Verdict → Judgement
+abbrev pub judgement_of : List Reading → Verdict → Judgement
 judgement_of passed verdict = record { passed = passed; verdict = verdict }
 
 decides_first : (before : List Reading) (reading : Reading) (later : List Reading) (rest : List ℕ) (verdict : Verdict) →
     verdict_at before reading ≡ Some verdict → judged_from before (reading ∷ later) rest ≡ judgement_of before verdict
-unfolding judged_from judgement_of
+unfolding judged_from
 decides_first before reading later rest verdict e = rw e refl
 
 -- a whole line that decides
@@ -62,7 +62,7 @@ judged_line readings line more verdict passed clean one decides =
 -- the bytes end within a line
 pub judged_rest : (readings : List Reading) (tail : List ℕ) → ArePassed readings → All HasNoLineFeed (texts_of readings) → HasNoLineFeed tail →
     judged (ended_lines (texts_of readings) ++ tail) ≡ judgement_of readings (verdict_of_rest readings tail)
-unfolding readings_from judged_from judgement_of
+unfolding readings_from judged_from
 judged_rest readings tail passed clean one =
     judged_behind readings tail passed clean ∙ rw (whole_lines-none tail one, unfinished_line-none tail one) refl
 

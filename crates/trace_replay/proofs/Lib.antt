@@ -5,3 +5,4 @@ pub mod Outputs
 pub mod Playing
 pub mod Prefixes
 pub mod Readings
+pub mod Ways

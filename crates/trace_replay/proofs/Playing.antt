@@ -26,8 +26,8 @@ use Rattle.trace_replay.specs.Judgement.{Verdict, ended, refused, too_long, most
 use Rattle.trace_replay.specs.Output.{start_in, told_event, lines_for}
 use Rattle.trace_replay.specs.Passing.{ArePassed}
 use Rattle.trace_replay.specs.Playback.{machine_or, events_taken, machine_before, StandsBehind, GoesOn, IsPlayed, IsLineWithin, IsSaid, TakesEvent, IsHappened, refusal_told}
-use Rattle.trace_replay.specs.declared.outcome.Outcome.{Outcome}
-use Rattle.trace_replay.specs.declared.outcome.Outcome.TheVariants.{Done, Differ, Refused, ReadFault, WriteFault, OutOfMemory, WorldFault, TooLong}
+use Rattle.trace_replay.specs.declared.stop.Stop.{Stop}
+use Rattle.trace_replay.specs.declared.stop.Stop.TheVariants.{Ended, Refused, TooLong, OutOfMemory}
 use Rattle.trace_replay.specs.declared.playback.Playback.{Playback}
 use Rattle.trace_replay.proofs.Grammar.{IsHeadAt, IsEventSaid, IsLineAt, said_at-is}
 use Rattle.trace_replay.proofs.Heads.{AreSound-heads}
@@ -208,7 +208,7 @@ pub end_played : (before : Playback) (readings : List Reading) (number : ℕ) (t
     verdict_at readings (reading_at (stage_behind readings first_stage) text) ≡ Some ended
 end_played before readings number text due says = decides_by before readings number text (Ok End) ended due says refl
 
-pub event_played : (before : Playback) (readings : List Reading) (number : ℕ) (text : List ℕ) (event : Event) (result : Result (Playback × List ℕ) Outcome) →
+pub event_played : (before : Playback) (readings : List Reading) (number : ℕ) (text : List ℕ) (event : Event) (result : Result (Playback × List ℕ) Stop) →
     IsDue before readings number text → said_at before.stage text ≡ Ok (Happen event) → IsHappened before number (stage_after before.stage (Happen event)) event text result →
     IsPlayed readings (reading_at (stage_behind readings first_stage) text) result
 event_played before readings number text event (Ok played) due says is =
@@ -219,12 +219,8 @@ event_played before readings number text event (Err (TooLong line)) due says is 
     let late = verdict_by-event_late line (length (events_in readings)) event (omega (arith, is.0, due.stands.events)) in
     decides_by before readings number text (Ok (Happen event)) (too_long line) due says (rw (← is.1) late)
 event_played before readings number text event (Err OutOfMemory) due says is = tt
-event_played before readings number text event (Err Done) due says is = absurd is
+event_played before readings number text event (Err Ended) due says is = absurd is
 event_played before readings number text event (Err (Refused line kind)) due says is = absurd is
-event_played before readings number text event (Err (Differ line)) due says is = is
-event_played before readings number text event (Err ReadFault) due says is = is
-event_played before readings number text event (Err WriteFault) due says is = is
-event_played before readings number text event (Err WorldFault) due says is = is
 
 pub refusal_played : (before : Playback) (readings : List Reading) (number : ℕ) (text : List ℕ) (refusal : LineRefusal) → IsDue before readings number text →
     IsSaid before.stage text (Err refusal) → IsPlayed readings (reading_at (stage_behind readings first_stage) text) (Err (refusal_told number refusal))

@@ -5,3 +5,4 @@ pub mod Playback
 pub mod Reading
 pub mod Replays
 pub mod Settings
+pub mod UnderWay

@@ -19,9 +19,9 @@ use Rattle.trace_replay.specs.Settings.{settings_in}
 use Rattle.trace_replay.specs.Judgement.{Verdict, ended, refused, too_long, most_events, verdict_at}
 use Rattle.trace_replay.specs.Output.{start_in, told_event, lines_for}
 use Rattle.trace_replay.specs.Passing.{ArePassed}
-use Rattle.trace_replay.specs.declared.outcome.Outcome.{Outcome}
-use Rattle.trace_replay.specs.declared.outcome.Outcome.TheVariants.{Done, Differ, Refused, ReadFault, WriteFault, OutOfMemory, WorldFault, TooLong}
 use Rattle.trace_replay.specs.declared.playback.Playback.{Playback}
+use Rattle.trace_replay.specs.declared.stop.Stop.{Stop}
+use Rattle.trace_replay.specs.declared.stop.Stop.TheVariants.{Ended, Refused, TooLong, OutOfMemory}
 
 -- the engine's machine, or the one that it will begin with
 abbrev pub machine_or : Machine → Option Engine → Machine
@@ -52,16 +52,12 @@ pub record GoesOn (readings : List Reading) (reading : Reading) (next : Playback
   pub lines : ended_lines (lines_for (readings ++ reading ∷ [])) ≡ ended_lines (lines_for readings) ++ written
 
 -- What one line more comes to: it passes, or it decides.
-abbrev pub IsPlayed : List Reading → Reading → Result (Playback × List ℕ) Outcome → Type 0
+abbrev pub IsPlayed : List Reading → Reading → Result (Playback × List ℕ) Stop → Type 0
 IsPlayed readings reading (Ok played) = GoesOn readings reading played.0 played.1
-IsPlayed readings reading (Err Done) = verdict_at readings reading ≡ Some ended
+IsPlayed readings reading (Err Ended) = verdict_at readings reading ≡ Some ended
 IsPlayed readings reading (Err (Refused line kind)) = verdict_at readings reading ≡ Some (refused line kind)
 IsPlayed readings reading (Err (TooLong line)) = verdict_at readings reading ≡ Some (too_long line)
 IsPlayed readings reading (Err OutOfMemory) = Unit {0}
-IsPlayed readings reading (Err (Differ line)) = ⊥
-IsPlayed readings reading (Err ReadFault) = ⊥
-IsPlayed readings reading (Err WriteFault) = ⊥
-IsPlayed readings reading (Err WorldFault) = ⊥
 
 -- an event line says an event that the engine takes
 abbrev pub IsLineWithin : Line → Type 0
@@ -89,20 +85,16 @@ pub record TakesEvent (before : Playback) (event : Event) (text : List ℕ) (nex
   pub lines : written ≡ ended_lines (told_event (text, (step (machine_before before) event).actions))
 
 -- An event line is played: the event is taken, or it is one too many.
-abbrev pub IsHappened : Playback → ℕ → Stage → Event → List ℕ → Result (Playback × List ℕ) Outcome → Type 0
+abbrev pub IsHappened : Playback → ℕ → Stage → Event → List ℕ → Result (Playback × List ℕ) Stop → Type 0
 IsHappened before number stage event text (Ok played) =
     (events_taken before.engine < most_events) × (played.0.stage ≡ stage) × TakesEvent before event text played.0 played.1
 IsHappened before number stage event text (Err (TooLong line)) = (most_events ≤ events_taken before.engine) × (line ≡ number)
 IsHappened before number stage event text (Err OutOfMemory) = Unit {0}
-IsHappened before number stage event text (Err Done) = ⊥
+IsHappened before number stage event text (Err Ended) = ⊥
 IsHappened before number stage event text (Err (Refused line kind)) = ⊥
-IsHappened before number stage event text (Err (Differ line)) = ⊥
-IsHappened before number stage event text (Err ReadFault) = ⊥
-IsHappened before number stage event text (Err WriteFault) = ⊥
-IsHappened before number stage event text (Err WorldFault) = ⊥
 
 -- how the refusal of a line is told
-abbrev pub refusal_told : ℕ → LineRefusal → Outcome
+abbrev pub refusal_told : ℕ → LineRefusal → Stop
 refusal_told number (BadWord place) = Refused number (Word place)
 refusal_told number (BadNumber place) = Refused number (Number place)
 refusal_told number BadTargets = Refused number Targets

@@ -4,7 +4,10 @@
 mod head;
 mod outcome;
 mod playback;
+mod replaying;
 mod start;
+mod stop;
 mod told;
 
 pub use outcome::Outcome;
+pub use replaying::replay;

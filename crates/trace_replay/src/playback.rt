@@ -13,8 +13,8 @@ use net_base::{Event, Octets, OutOfMemory, RefusalKind};
 use node_engine::Engine;
 use trace_text::{HeadLine, Line, LineRefusal, Stage, read_line};
 
-use crate::Outcome;
 use crate::start::engine_or_first;
+use crate::stop::Stop;
 use crate::told::{ended_line, told};
 
 // How many events a trace may have.
@@ -121,13 +121,13 @@ impl Playback {
         stage: Stage,
         event: Event,
         text: &[u8],
-    ) -> Result<(Playback, Octets), Outcome>
+    ) -> Result<(Playback, Octets), Stop>
         requires sound { AreSound (settings_in self.heads.items) }
         requires within { IsWithinLimits event }
         ensures { IsHappened self number stage event text.now result }
     {
         if self.events() >= EVENTS_MOST {
-            return Err(Outcome::TooLong { line: number });
+            return Err(Stop::TooLong { line: number });
         }
         Ok(self.event(stage, event, text)?)
     }
@@ -138,7 +138,7 @@ impl Playback {
         number: u64,
         line: Line,
         text: &[u8],
-    ) -> Result<(Playback, Octets), Outcome>
+    ) -> Result<(Playback, Octets), Stop>
         requires sound { AreSound (settings_in self.heads.items) }
         requires within { IsLineWithin line }
         requires few { number ≤ 4_000_000 }
@@ -155,13 +155,13 @@ impl Playback {
                 let nothing = Octets::new(self.alloc);
                 Ok((self, nothing))
             }
-            Line::End => Err(Outcome::Done),
+            Line::End => Err(Stop::Ended),
         }
     }
 
     /// One line more, given without its line feed, with its number from 1. Answers what is kept then, and the text
-    /// that is to be written for the line; `Done` where the line is `end`.
-    pub(crate) fn line(self, number: u64, text: &[u8]) -> Result<(Playback, Octets), Outcome>
+    /// that is to be written for the line.
+    pub(crate) fn line(self, number: u64, text: &[u8]) -> Result<(Playback, Octets), Stop>
         requires sound { AreSound (settings_in self.heads.items) }
         requires few { number ≤ 4_000_000 }
         requires short { length text.now ≤ 140_000 }
@@ -184,7 +184,7 @@ fn read(alloc: Global, stage: &Stage, text: &[u8]) -> Result<Line, LineRefusal>
 }
 
 // How the refusal of a line is told.
-fn refused(number: u64, refusal: LineRefusal) -> Outcome
+fn refused(number: u64, refusal: LineRefusal) -> Stop
     ensures { result ≡ refusal_told number refusal }
 {
     let kind = match refusal {
@@ -193,7 +193,7 @@ fn refused(number: u64, refusal: LineRefusal) -> Outcome
         LineRefusal::BadTargets => RefusalKind::Targets,
         LineRefusal::OutOfOrder => RefusalKind::Order,
         LineRefusal::NotBuilt => RefusalKind::NotBuilt,
-        LineRefusal::OutOfMemory => return Outcome::OutOfMemory,
+        LineRefusal::OutOfMemory => return Stop::OutOfMemory,
     };
-    Outcome::Refused { line: number, kind }
+    Stop::Refused { line: number, kind }
 }
