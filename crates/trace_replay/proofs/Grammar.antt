@@ -53,9 +53,11 @@ from_least-range least most word value e = in_number (number_of word) e
     in_least : (n : ℕ) (b : Bool) → leb least n ≡ b → n ≤ most → cond b (Some n) None ≡ Some value → (least ≤ value) × (value ≤ most)
     in_least n true is below e = let same : n ≡ value = cc in (rw (← same) (leb-true least n is), rw (← same) below)
     in_least n false is below e = absurd cc
+
     in_most : (n : ℕ) (b : Bool) → leb n most ≡ b → from_least least (cond b (Some n) None) ≡ Some value → (least ≤ value) × (value ≤ most)
     in_most n true is e = in_least n (leb least n) refl (leb-true n most is) e
     in_most n false is e = absurd cc
+
     in_number : (found : Option ℕ) → from_least least (up_to most found) ≡ Some value → (least ≤ value) × (value ≤ most)
     in_number None e = absurd cc
     in_number (Some n) e = in_most n (leb n most) refl e
@@ -175,17 +177,20 @@ set_line-is stage unread behind = in_events stage.events refl
     in_order found rest early read false is =
         let at = setting_of-place stage.hard read.word found read.reads in
         setting_line-is stage found.0 found.1.least found.1.most rest (λ value within. record {
-            behind = behind
-          ; before_events = early
-          ; later = leb-false found.0 stage.last is
-          ; in_range = record {
-                placed = at.0
-              ; known = at.1
-              ; least = rw (← at.2) within.0
-              ; most = rw (← at.2) within.1 } })
+          behind = behind;
+          before_events = early;
+          later = leb-false found.0 stage.last is;
+          in_range = record {
+            placed = at.0;
+            known = at.1;
+            least = rw (← at.2) within.0;
+            most = rw (← at.2) within.1;
+          };
+        })
+
     in_events : (b : Bool) → stage.events ≡ b →
         IfOk (cond b (Err OutOfOrder) (next_read (setting_of stage.hard) BadWord unread >>= (λ (p : (ℕ × Setting) × Unread).
-            cond (leb p.0.0 stage.last) (Err OutOfOrder) (setting_line p.0.0 p.0.1.least p.0.1.most p.1)))) (IsLineAt stage)
+        cond (leb p.0.0 stage.last) (Err OutOfOrder) (setting_line p.0.0 p.0.1.least p.0.1.most p.1)))) (IsLineAt stage)
     in_events true is = tt
     in_events false is =
         IfOk-chain (IsLineAt stage) (next_read (setting_of stage.hard) BadWord unread) _ (λ p e.
@@ -235,13 +240,15 @@ line_of-is stage line = in_first (eqb stage.seen 0) refl
     in_later : (b : Bool) → IsBehindHead stage → IfOk (cond b (Ok Acted) (later_line stage (words_of line))) (IsLineAt stage)
     in_later true behind = behind
     in_later false behind = later_line-is stage (words_of line) behind
+
     in_second : (b : Bool) → eqb stage.seen 0 ≡ false → eqb stage.seen 1 ≡ b →
         IfOk (cond b (second_line stage.version (words_of line)) (cond (is_action_line line) (Ok Acted) (later_line stage (words_of line)))) (IsLineAt stage)
     in_second true other is = second_line-is stage (words_of line) (eqb-true stage.seen 1 is)
     in_second false other is = in_later (is_action_line line) (record { no_first = other; no_second = is })
+
     in_first : (b : Bool) → eqb stage.seen 0 ≡ b →
         IfOk (cond b (first_line (words_of line)) (cond (eqb stage.seen 1) (second_line stage.version (words_of line))
-            (cond (is_action_line line) (Ok Acted) (later_line stage (words_of line))))) (IsLineAt stage)
+        (cond (is_action_line line) (Ok Acted) (later_line stage (words_of line))))) (IsLineAt stage)
     in_first true is = first_line-is stage (words_of line) (eqb-true stage.seen 0 is)
     in_first false is = in_second (eqb stage.seen 1) is refl
 

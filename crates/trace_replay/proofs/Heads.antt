@@ -26,13 +26,14 @@ pub record AreHeads (stage : Stage) (heads : List HeadLine) : Type 0 where
 
 pub AreHeads-none : AreHeads first_stage []
 AreHeads-none = record {
-    seen = omega arith
-  ; none_before = λ _. refl
-  ; version_least = omega arith
-  ; version_most = omega arith
-  ; hard = refl
-  ; none_later = λ place _. refl
-  ; in_range = λ place value e. absurd cc }
+  seen = omega arith;
+  none_before = λ _. refl;
+  version_least = omega arith;
+  version_most = omega arith;
+  hard = refl;
+  none_later = λ place _. refl;
+  in_range = λ place value e. absurd cc;
+}
 
 -- ---- one line more
 
@@ -92,23 +93,25 @@ IsInRange-hard hard other place value low at =
 
 AreHeads-trace : (stage : Stage) (version : ℕ) → IsHeadAt stage (Trace version) → AreHeads stage [] → AreHeads (stage_after_head stage (Trace version)) (Trace version ∷ [])
 AreHeads-trace stage version at h = record {
-    seen = omega arith
-  ; none_before = λ e. absurd (omega arith)
-  ; version_least = at.1
-  ; version_most = at.2
-  ; hard = h.hard
-  ; none_later = λ place _. refl
-  ; in_range = λ place value e. absurd cc }
+  seen = omega arith;
+  none_before = λ e. absurd (omega arith);
+  version_least = at.1;
+  version_most = at.2;
+  hard = h.hard;
+  none_later = λ place _. refl;
+  in_range = λ place value e. absurd cc;
+}
 
 AreHeads-own : (stage : Stage) (heads : List HeadLine) (address : Addr) → AreHeads stage heads → AreHeads (stage_after_head stage (Own address)) (heads ++ Own address ∷ [])
 AreHeads-own stage heads address h = record {
-    seen = omega arith
-  ; none_before = λ e. absurd (omega arith)
-  ; version_least = omega (arith, h.version_least, version_in-own heads address)
-  ; version_most = omega (arith, h.version_most, version_in-own heads address)
-  ; hard = h.hard ∙ ap (λ o. unwrap_or o 512) (sym (set_in-own 4 heads address))
-  ; none_later = λ place later. set_in-own place heads address ∙ h.none_later place later
-  ; in_range = λ place value e. h.in_range place value (sym (set_in-own place heads address) ∙ e) }
+  seen = omega arith;
+  none_before = λ e. absurd (omega arith);
+  version_least = omega (arith, h.version_least, version_in-own heads address);
+  version_most = omega (arith, h.version_most, version_in-own heads address);
+  hard = h.hard ∙ ap (λ o. unwrap_or o 512) (sym (set_in-own 4 heads address));
+  none_later = λ place later. set_in-own place heads address ∙ h.none_later place later;
+  in_range = λ place value e. h.in_range place value (sym (set_in-own place heads address) ∙ e);
+}
 
 -- the hard limit behind a setting
 hard_after : ℕ → ℕ → ℕ → ℕ
@@ -118,9 +121,12 @@ set_in-set : (stage : Stage) (heads : List HeadLine) (p v place value : ℕ) →
     set_in place (heads ++ Set p v ∷ []) ≡ Some value → ((p ≡ place) × (v ≡ value)) ⊎ (set_in place heads ≡ Some value)
 set_in-set stage heads p v place value h later e =
     ⊎_elim
-    (λ same. inl (same, (let found = set_in-set_same heads p v (h.none_later p later) in
-        let there : set_in p (heads ++ Set p v ∷ []) ≡ Some value = ap (λ q. set_in q (heads ++ Set p v ∷ [])) same ∙ e in
-        cc)))
+    (λ same. inl (
+      same,
+      (let found = set_in-set_same heads p v (h.none_later p later) in
+          let there : set_in p (heads ++ Set p v ∷ []) ≡ Some value = ap (λ q. set_in q (heads ++ Set p v ∷ [])) same ∙ e in
+          cc),
+    ))
     (λ other. inr (sym (set_in-set_other place heads p v other) ∙ e))
     (cases_eq p place)
 
@@ -156,14 +162,15 @@ hard_set stage heads p v false h is later =
 
 AreHeads-set : (stage : Stage) (heads : List HeadLine) (p v : ℕ) → IsSetAt stage p v → AreHeads stage heads → AreHeads (stage_after_head stage (Set p v)) (heads ++ Set p v ∷ [])
 AreHeads-set stage heads p v at h = record {
-    seen = h.seen
-  ; none_before = λ e. absurd (eqb-false stage.seen 0 at.behind.no_first e)
-  ; version_least = omega (arith, h.version_least, version_in-set heads p v)
-  ; version_most = omega (arith, h.version_most, version_in-set heads p v)
-  ; hard = hard_set stage heads p v (eqb p 4) h refl at.later
-  ; none_later = λ place later. set_in-set_other place heads p v (omega arith) ∙ h.none_later place (omega (arith, at.later))
-  ; in_range = λ place value e. set_in_range stage heads p v place value (eqb p 4) h refl at.later at.in_range
-        (set_in-set stage heads p v place value h at.later e) }
+  seen = h.seen;
+  none_before = λ e. absurd (eqb-false stage.seen 0 at.behind.no_first e);
+  version_least = omega (arith, h.version_least, version_in-set heads p v);
+  version_most = omega (arith, h.version_most, version_in-set heads p v);
+  hard = hard_set stage heads p v (eqb p 4) h refl at.later;
+  none_later = λ place later. set_in-set_other place heads p v (omega arith) ∙ h.none_later place (omega (arith, at.later));
+  in_range = λ place value e. set_in_range stage heads p v place value (eqb p 4) h refl at.later at.in_range
+      (set_in-set stage heads p v place value h at.later e);
+}
 
 -- a line of the head that is read at the stage leaves heads that were read
 pub AreHeads-more : (stage : Stage) (heads : List HeadLine) (head : HeadLine) → IsHeadAt stage head → AreHeads stage heads → AreHeads (stage_after_head stage head) (heads ++ head ∷ [])
@@ -221,17 +228,45 @@ soft_below stage heads h =
 pub AreSound-heads : (stage : Stage) (heads : List HeadLine) → AreHeads stage heads → AreSound (settings_in heads)
 unfolding setting_at
 AreSound-heads stage heads h = first_failing-none (settings_tests (settings_in heads)) (
-    both_within 1 2 (version_in heads) (h.version_least, h.version_most), (
-    le-leb _ _ (at_place stage heads 1 0 4294967295 42 h refl refl (omega arith) (omega arith)).1, (
-    le-leb _ _ (at_place stage heads 2 0 1 0 h refl refl (omega arith) (omega arith)).1, (
-    le-leb _ _ (at_place stage heads 3 0 1 1 h refl refl (omega arith) (omega arith)).1, (
-    both_within 1 10000 (set_or 4 512 heads) (at_place stage heads 4 1 10000 512 h refl refl (omega arith) (omega arith)), (
-    le-leb _ _ (soft_below stage heads h), (
-    at_interval stage heads 6 5000 h refl refl (omega arith) (omega arith), (
-    at_interval stage heads 7 5000 h refl refl (omega arith) (omega arith), (
-    at_interval stage heads 8 60000 h refl refl (omega arith) (omega arith), (
-    at_interval stage heads 9 10000 h refl refl (omega arith) (omega arith), (
-    at_interval stage heads 10 10000 h refl refl (omega arith) (omega arith), (
-    at_interval stage heads 11 5000 h refl refl (omega arith) (omega arith), (
-    at_interval stage heads 12 900000 h refl refl (omega arith) (omega arith), (
-    le-leb _ _ (at_place stage heads 13 0 8 2 h refl refl (omega arith) (omega arith)).1, tt))))))))))))))
+  both_within 1 2 (version_in heads) (h.version_least, h.version_most),
+  (
+    le-leb _ _ (at_place stage heads 1 0 4294967295 42 h refl refl (omega arith) (omega arith)).1,
+    (
+      le-leb _ _ (at_place stage heads 2 0 1 0 h refl refl (omega arith) (omega arith)).1,
+      (
+        le-leb _ _ (at_place stage heads 3 0 1 1 h refl refl (omega arith) (omega arith)).1,
+        (
+          both_within 1 10000 (set_or 4 512 heads) (at_place stage heads 4 1 10000 512 h refl refl (omega arith) (omega arith)),
+          (
+            le-leb _ _ (soft_below stage heads h),
+            (
+              at_interval stage heads 6 5000 h refl refl (omega arith) (omega arith),
+              (
+                at_interval stage heads 7 5000 h refl refl (omega arith) (omega arith),
+                (
+                  at_interval stage heads 8 60000 h refl refl (omega arith) (omega arith),
+                  (
+                    at_interval stage heads 9 10000 h refl refl (omega arith) (omega arith),
+                    (
+                      at_interval stage heads 10 10000 h refl refl (omega arith) (omega arith),
+                      (
+                        at_interval stage heads 11 5000 h refl refl (omega arith) (omega arith),
+                        (
+                          at_interval stage heads 12 900000 h refl refl (omega arith) (omega arith),
+                          (
+                            le-leb _ _ (at_place stage heads 13 0 8 2 h refl refl (omega arith) (omega arith)).1,
+                            tt,
+                          ),
+                        ),
+                      ),
+                    ),
+                  ),
+                ),
+              ),
+            ),
+          ),
+        ),
+      ),
+    ),
+  ),
+)

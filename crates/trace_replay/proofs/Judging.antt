@@ -33,9 +33,9 @@ unfolding stage_behind
 judged_behind readings tail passed clean =
     let texts = texts_of readings in
     let read : readings_of (whole_lines (ended_lines texts ++ tail)) ≡ readings ++ readings_from (stage_behind readings first_stage) (whole_lines tail) =
-        ap readings_of (whole_lines-ended texts tail clean)
-        ∙ readings_from-append first_stage texts (whole_lines tail)
-        ∙ ap (λ (rs : List Reading). rs ++ readings_from (stage_behind rs first_stage) (whole_lines tail)) (sym passed.read) in
+    ap readings_of (whole_lines-ended texts tail clean)
+    ∙ readings_from-append first_stage texts (whole_lines tail)
+    ∙ ap (λ (rs : List Reading). rs ++ readings_from (stage_behind rs first_stage) (whole_lines tail)) (sym passed.read) in
     rw (read, unfinished_line-ended texts tail clean) (judged_from-passes [] readings _ (unfinished_line tail) passed.pass)
 
 -- ---- what decides behind it
@@ -81,6 +81,7 @@ judged_too_long readings tail passed clean long =
         let decides : verdict_at readings (reading_at (stage_behind readings first_stage) line) ≡ Some (too_long (number_behind readings)) = rw long refl in
         ap (λ (bytes : List ℕ). judged (ended_lines (texts_of readings) ++ bytes)) (first_cut tail found)
         ∙ judged_line readings line (after_first is_line_feed tail) (too_long (number_behind readings)) passed clean (HasNoLineFeed-before_first tail) decides
+
     in_rest : (readings : List Reading) (tail : List ℕ) → ArePassed readings → All HasNoLineFeed (texts_of readings) →
         is_too_long_at (number_behind readings) (before_first is_line_feed tail) ≡ true → length tail ≤ position_or_len is_line_feed tail →
         judged (ended_lines (texts_of readings) ++ tail) ≡ judgement_of readings (too_long (number_behind readings))
@@ -122,9 +123,11 @@ pub PassBehind-push : (before later : List Reading) (reading : Reading) → Pass
     PassBehind before (later ++ reading ∷ [])
 unfolding PassBehind
 PassBehind-push before [] reading pass none = (subst (λ (rs : List Reading). verdict_at rs reading ≡ None) (append-nil before) none, tt)
-PassBehind-push before (first ∷ later) reading pass none =
-    (pass.0, PassBehind-push (before ++ first ∷ []) later reading pass.1
-        (subst (λ (rs : List Reading). verdict_at rs reading ≡ None) (sym (append_assoc before (first ∷ []) later)) none))
+PassBehind-push before (first ∷ later) reading pass none = (
+  pass.0,
+  PassBehind-push (before ++ first ∷ []) later reading pass.1
+      (subst (λ (rs : List Reading). verdict_at rs reading ≡ None) (sym (append_assoc before (first ∷ []) later)) none),
+)
 
 pub ArePassed-none : ArePassed []
 unfolding readings_from PassBehind
@@ -139,6 +142,6 @@ ArePassed-more readings text passed none =
     let texts = texts_of readings in
     let pushed : texts_of (readings ++ reading ∷ []) ≡ texts ++ text ∷ [] = map-append (λ (r : Reading). r.text) readings (reading ∷ []) in
     let again : readings_of (texts ++ text ∷ []) ≡ readings ++ reading ∷ [] =
-        readings_from-append first_stage texts (text ∷ [])
-        ∙ ap (λ (rs : List Reading). rs ++ readings_from (stage_behind rs first_stage) (text ∷ [])) (sym passed.read) in
+    readings_from-append first_stage texts (text ∷ [])
+    ∙ ap (λ (rs : List Reading). rs ++ readings_from (stage_behind rs first_stage) (text ∷ [])) (sym passed.read) in
     record { read = sym (ap readings_of pushed ∙ again); pass = PassBehind-push [] readings reading passed.pass none }

@@ -1,5 +1,6 @@
 pub mod Grammar
 pub mod Heads
+pub mod Inputs
 pub mod Judging
 pub mod Outputs
 pub mod Playing

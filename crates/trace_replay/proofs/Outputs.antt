@@ -76,7 +76,7 @@ lines_for-head readings text head none =
     let still : events_in (readings ++ reading ∷ []) ≡ [] = events_in-append readings (reading ∷ []) ∙ append-nil (events_in readings) ∙ none in
     rw (told_events-none (readings ++ reading ∷ []) still, told_events-none readings none)
     (append-nil (head_texts (readings ++ reading ∷ [])) ∙ head_texts-append readings (reading ∷ [])
-        ∙ ap (λ (xs : List (List ℕ)). xs ++ text ∷ []) (sym (append-nil (head_texts readings))))
+    ∙ ap (λ (xs : List (List ℕ)). xs ++ text ∷ []) (sym (append-nil (head_texts readings))))
 
 pub lines_for-acted : (readings : List Reading) (text : List ℕ) →
     lines_for (readings ++ record { text = text; says = Ok Acted } ∷ []) ≡ lines_for readings
@@ -104,6 +104,6 @@ lines_for-event readings text event =
     let same : length (event_texts readings) ≡ length (actions_of start (events_in readings)) = length-event_texts readings ∙ sym (length-actions_of start (events_in readings)) in
     let zipped = zip-push (event_texts readings) (actions_of start (events_in readings)) text (step (after_all start (events_in readings)) event).actions same in
     let told : told_events (readings ++ reading ∷ []) ≡ told_events readings ++ told_event (text, (step (after_all start (events_in readings)) event).actions) =
-        rw (texts, heads, events, actions, zipped, flat_map-append)
-        (ap (λ (xs : List (List ℕ)). told_events readings ++ xs) (append-nil (told_event (text, (step (after_all start (events_in readings)) event).actions)))) in
+    rw (texts, heads, events, actions, zipped, flat_map-append)
+    (ap (λ (xs : List (List ℕ)). told_events readings ++ xs) (append-nil (told_event (text, (step (after_all start (events_in readings)) event).actions)))) in
     rw (head, told) (sym (append_assoc (head_texts readings) (told_events readings) _))

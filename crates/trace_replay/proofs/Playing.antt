@@ -39,12 +39,13 @@ use Rattle.trace_replay.proofs.Outputs.{after_all-push, lines_for-head, lines_fo
 pub StandsBehind-none : (playback : Playback) → playback.stage ≡ first_stage → playback.heads.items ≡ [] → playback.engine ≡ None → StandsBehind playback []
 unfolding stage_behind after_all
 StandsBehind-none playback stage heads engine = record {
-    passed = ArePassed-none
-  ; stage = stage
-  ; heads = heads
-  ; machine = ap (machine_or (start_in [])) engine
-  ; events = ap events_taken engine
-  ; begun = subst (λ (e : Option Engine). IfSome e (λ (x : Engine). 0 < x.events)) (sym engine) tt }
+  passed = ArePassed-none;
+  stage = stage;
+  heads = heads;
+  machine = ap (machine_or (start_in [])) engine;
+  events = ap events_taken engine;
+  begun = subst (λ (e : Option Engine). IfSome e (λ (x : Engine). 0 < x.events)) (sym engine) tt;
+}
 
 no_engine : (engine : Option Engine) → events_taken engine ≡ 0 → IfSome engine (λ (x : Engine). 0 < x.events) → engine ≡ None
 no_engine None none begun = refl
@@ -93,16 +94,18 @@ head_on before next readings text head written stands few short said stage heads
     let idle : before.engine ≡ None = no_engine before.engine (stands.events ∙ ap length none) stands.begun in
     let still : events_in (readings ++ reading ∷ []) ≡ [] = events_in-append readings (reading ∷ []) ∙ append-nil (events_in readings) ∙ none in
     record {
-        passes = passes_said readings text (Head head) stands.passed few short said refl
-      ; stands = record {
-            passed = passed_said readings text (Head head) stands.passed few short said refl
-          ; stage = stage ∙ ap (λ (s : Stage). stage_after s (Head head)) stands.stage
-              ∙ sym (stage_said readings text (Head head) stands.passed few short said refl)
-          ; heads = heads ∙ ap (λ (hs : List HeadLine). hs ++ head ∷ []) stands.heads ∙ sym (heads_in-append readings (reading ∷ []))
-          ; machine = rw (engine, idle, still) refl
-          ; events = rw (engine, idle, still) refl
-          ; begun = rw engine stands.begun }
-      ; lines = rw (lines_for-head readings text head none, lines) (flat_map-append (λ line. line ++ 10 ∷ []) (lines_for readings) (text ∷ [])) }
+      passes = passes_said readings text (Head head) stands.passed few short said refl;
+      stands = record {
+        passed = passed_said readings text (Head head) stands.passed few short said refl;
+        stage = stage ∙ ap (λ (s : Stage). stage_after s (Head head)) stands.stage
+            ∙ sym (stage_said readings text (Head head) stands.passed few short said refl);
+        heads = heads ∙ ap (λ (hs : List HeadLine). hs ++ head ∷ []) stands.heads ∙ sym (heads_in-append readings (reading ∷ []));
+        machine = rw (engine, idle, still) refl;
+        events = rw (engine, idle, still) refl;
+        begun = rw engine stands.begun;
+      };
+      lines = rw (lines_for-head readings text head none, lines) (flat_map-append (λ line. line ++ 10 ∷ []) (lines_for readings) (text ∷ []));
+    }
 
 -- an action line changes nothing
 acted_on : (before : Playback) (readings : List Reading) (text : List ℕ) → StandsBehind before readings → length readings < most_lines → length text ≤ line_limit →
@@ -112,15 +115,17 @@ acted_on before readings text stands few short said =
     let heads : heads_in (readings ++ reading ∷ []) ≡ heads_in readings = heads_in-append readings (reading ∷ []) ∙ append-nil (heads_in readings) in
     let events : events_in (readings ++ reading ∷ []) ≡ events_in readings = events_in-append readings (reading ∷ []) ∙ append-nil (events_in readings) in
     record {
-        passes = passes_said readings text Acted stands.passed few short said refl
-      ; stands = record {
-            passed = passed_said readings text Acted stands.passed few short said refl
-          ; stage = stands.stage ∙ sym (stage_said readings text Acted stands.passed few short said refl)
-          ; heads = stands.heads ∙ sym heads
-          ; machine = rw (heads, events) stands.machine
-          ; events = rw events stands.events
-          ; begun = stands.begun }
-      ; lines = rw (lines_for-acted readings text) (sym (append-nil (ended_lines (lines_for readings)))) }
+      passes = passes_said readings text Acted stands.passed few short said refl;
+      stands = record {
+        passed = passed_said readings text Acted stands.passed few short said refl;
+        stage = stands.stage ∙ sym (stage_said readings text Acted stands.passed few short said refl);
+        heads = stands.heads ∙ sym heads;
+        machine = rw (heads, events) stands.machine;
+        events = rw events stands.events;
+        begun = stands.begun;
+      };
+      lines = rw (lines_for-acted readings text) (sym (append-nil (ended_lines (lines_for readings))));
+    }
 
 -- the machine that the next event finds
 machine_found : (before : Playback) (readings : List Reading) → StandsBehind before readings → machine_before before ≡ after_all (start_in readings) (events_in readings)
@@ -141,25 +146,27 @@ unfolding told_behind
 event_on before next readings text event written stands few short said early stage takes =
     let reading = said_reading text (Happen event) in
     let on : verdict_by (number_behind readings) (length (events_in readings)) (Ok (Happen event)) ≡ None =
-        verdict_by-event (number_behind readings) (length (events_in readings)) event (omega (arith, stands.events)) in
+    verdict_by-event (number_behind readings) (length (events_in readings)) event (omega (arith, stands.events)) in
     let heads : heads_in (readings ++ reading ∷ []) ≡ heads_in readings = heads_in-append readings (reading ∷ []) ∙ append-nil (heads_in readings) in
     let events : events_in (readings ++ reading ∷ []) ≡ events_in readings ++ event ∷ [] = events_in-append readings (reading ∷ []) in
     let found = machine_found before readings stands in
     let stepped : (step (machine_before before) event).machine ≡ after_all (start_in readings) (events_in readings ++ event ∷ []) =
-        ap (λ (m : Machine). (step m event).machine) found ∙ sym (after_all-push (start_in readings) (events_in readings) event) in
+    ap (λ (m : Machine). (step m event).machine) found ∙ sym (after_all-push (start_in readings) (events_in readings) event) in
     let told : written ≡ ended_lines (told_behind readings text event) =
-        takes.lines ∙ ap (λ (m : Machine). ended_lines (told_event (text, (step m event).actions))) found in
+    takes.lines ∙ ap (λ (m : Machine). ended_lines (told_event (text, (step m event).actions))) found in
     record {
-        passes = passes_said readings text (Happen event) stands.passed few short said on
-      ; stands = record {
-            passed = passed_said readings text (Happen event) stands.passed few short said on
-          ; stage = stage ∙ ap (λ (s : Stage). stage_after s (Happen event)) stands.stage
-              ∙ sym (stage_said readings text (Happen event) stands.passed few short said on)
-          ; heads = takes.heads ∙ stands.heads ∙ sym heads
-          ; machine = rw (heads, events) (takes.machine (start_in readings) ∙ stepped)
-          ; events = rw (events, takes.events, stands.events) (sym (length_push (events_in readings) event))
-          ; begun = takes.begun }
-      ; lines = rw (lines_for-event readings text event, told) (flat_map-append (λ line. line ++ 10 ∷ []) (lines_for readings) (told_behind readings text event)) }
+      passes = passes_said readings text (Happen event) stands.passed few short said on;
+      stands = record {
+        passed = passed_said readings text (Happen event) stands.passed few short said on;
+        stage = stage ∙ ap (λ (s : Stage). stage_after s (Happen event)) stands.stage
+            ∙ sym (stage_said readings text (Happen event) stands.passed few short said on);
+        heads = takes.heads ∙ stands.heads ∙ sym heads;
+        machine = rw (heads, events) (takes.machine (start_in readings) ∙ stepped);
+        events = rw (events, takes.events, stands.events) (sym (length_push (events_in readings) event));
+        begun = takes.begun;
+      };
+      lines = rw (lines_for-event readings text event, told) (flat_map-append (λ line. line ++ 10 ∷ []) (lines_for readings) (told_behind readings text event));
+    }
 
 -- ---- what the functions answer
 

@@ -34,13 +34,15 @@ Begins-from xs ys same = record { rest = []; split = same ∙ sym (append-nil ys
 
 pub Begins-more : {A : Type 0} (xs ys zs : List A) → Begins xs ys → Begins ys zs → Begins xs zs
 Begins-more {A} xs ys zs a b = record {
-    rest = b.rest ++ a.rest
-  ; split = a.split ∙ ap (λ (l : List A). l ++ a.rest) b.split ∙ append_assoc zs b.rest a.rest }
+  rest = b.rest ++ a.rest;
+  split = a.split ∙ ap (λ (l : List A). l ++ a.rest) b.split ∙ append_assoc zs b.rest a.rest;
+}
 
 pub Begins-ended : (xs ys : List (List ℕ)) → Begins xs ys → Begins (ended_lines xs) (ended_lines ys)
 Begins-ended xs ys a = record {
-    rest = ended_lines a.rest
-  ; split = ap ended_lines a.split ∙ flat_map-append (λ line. line ++ 10 ∷ []) ys a.rest }
+  rest = ended_lines a.rest;
+  split = ap ended_lines a.split ∙ flat_map-append (λ line. line ++ 10 ∷ []) ys a.rest;
+}
 
 -- ---- the lines that are written
 
@@ -71,19 +73,20 @@ pub lines_for-behind : (readings : List Reading) (texts : List (List ℕ)) → A
     Begins (lines_for (readings ++ readings_from (stage_behind readings first_stage) texts)) (lines_for readings)
 lines_for-behind readings texts front pass =
     let grown = passed_behind (Grows readings)
-        (λ before text so_far passes. record {
-            front_is = AreFront-more before text so_far.front_is passes
-          ; begins = Begins-more _ _ _ (lines_for-more before text so_far.front_is passes) so_far.begins })
-        readings texts (record { front_is = front; begins = Begins-same (lines_for readings) }) pass in
+    (λ before text so_far passes. record {
+      front_is = AreFront-more before text so_far.front_is passes;
+      begins = Begins-more _ _ _ (lines_for-more before text so_far.front_is passes) so_far.begins;
+    })
+    readings texts (record { front_is = front; begins = Begins-same (lines_for readings) }) pass in
     grown.begins
 
 -- ---- what is judged behind lines that pass
 
 -- the judgement is over these lines, and more of them that pass
-record Continues (before : List Reading) (j : Judgement) : Type 0 where
-  texts : List (List ℕ)
-  passed : j.passed ≡ before ++ readings_from (stage_behind before first_stage) texts
-  pass : PassBehind before (readings_from (stage_behind before first_stage) texts)
+pub record Continues (before : List Reading) (j : Judgement) : Type 0 where
+  pub texts : List (List ℕ)
+  pub passed : j.passed ≡ before ++ readings_from (stage_behind before first_stage) texts
+  pub pass : PassBehind before (readings_from (stage_behind before first_stage) texts)
 
 Continues-none : (before : List Reading) (j : Judgement) → j.passed ≡ before → Continues before j
 unfolding readings_from PassBehind
@@ -99,20 +102,20 @@ Continues-more before text j none on =
     let pass = rw stage at on.pass in
     record { texts = text ∷ on.texts; passed = passed; pass = (none, pass) }
 
-judged_from-continues : (before : List Reading) (texts : List (List ℕ)) (rest : List ℕ) →
+pub judged_from-continues : (before : List Reading) (texts : List (List ℕ)) (rest : List ℕ) →
     Continues before (judged_from before (readings_from (stage_behind before first_stage) texts) rest)
 unfolding judged_from readings_from
 judged_from-continues before [] rest = Continues-none before _ refl
 judged_from-continues before (text ∷ texts) rest =
     by_verdict (verdict_at before (reading_at (stage_behind before first_stage) text)) refl
-        (judged_from-continues (before ++ reading_at (stage_behind before first_stage) text ∷ []) texts rest)
+    (judged_from-continues (before ++ reading_at (stage_behind before first_stage) text ∷ []) texts rest)
   where
     by_verdict : (verdict : Option Verdict) → verdict_at before (reading_at (stage_behind before first_stage) text) ≡ verdict →
         Continues (before ++ reading_at (stage_behind before first_stage) text ∷ [])
-            (judged_from (before ++ reading_at (stage_behind before first_stage) text ∷ [])
-                (readings_from (stage_behind (before ++ reading_at (stage_behind before first_stage) text ∷ []) first_stage) texts) rest) →
+        (judged_from (before ++ reading_at (stage_behind before first_stage) text ∷ [])
+        (readings_from (stage_behind (before ++ reading_at (stage_behind before first_stage) text ∷ []) first_stage) texts) rest) →
         Continues before (judged_at verdict before (judged_from (before ++ reading_at (stage_behind before first_stage) text ∷ [])
-            (readings_from (stage_past (stage_behind before first_stage) (said_at (stage_behind before first_stage) text)) texts) rest))
+        (readings_from (stage_past (stage_behind before first_stage) (said_at (stage_behind before first_stage) text)) texts) rest))
     by_verdict None is on =
         let stage = stage_behind-push before (reading_at (stage_behind before first_stage) text) first_stage in
         Continues-more before text _ is (rw stage at on)
@@ -165,7 +168,7 @@ output_of-rest : (readings : List Reading) (rest : List ℕ) → output_for (jud
 unfolding judged_from
 output_of-rest readings rest = rw (last_lines-rest readings rest) (ap ended_lines (append-nil (lines_for readings)))
 
-ArePassed-lines : (lines : List (List ℕ)) → PassBehind [] (readings_of lines) → ArePassed (readings_of lines)
+pub ArePassed-lines : (lines : List (List ℕ)) → PassBehind [] (readings_of lines) → ArePassed (readings_of lines)
 ArePassed-lines lines pass = record { read = ap readings_of (sym (texts-readings_from first_stage lines)); pass = pass }
 
 -- a decision stays, whatever follows
@@ -185,8 +188,8 @@ passed_further xs more pass =
     let readings = readings_of (whole_lines xs) in
     let later = readings_from (stage_behind readings first_stage) (whole_lines (unfinished_line xs ++ more)) in
     let whole : judged (xs ++ more) ≡ judged_from readings later (unfinished_line (xs ++ more)) =
-        ap (λ (rs : List Reading). judged_from [] rs (unfinished_line (xs ++ more))) (read_further xs more)
-        ∙ judged_from-passes [] readings later (unfinished_line (xs ++ more)) pass in
+    ap (λ (rs : List Reading). judged_from [] rs (unfinished_line (xs ++ more))) (read_further xs more)
+    ∙ judged_from-passes [] readings later (unfinished_line (xs ++ more)) pass in
     let front = AreFront-passed readings (ArePassed-lines (whole_lines xs) pass) in
     rw (whole, passed_alone xs pass, output_of-rest readings (unfinished_line xs))
     (output_for-begins readings _ front (judged_from-continues readings (whole_lines (unfinished_line xs ++ more)) (unfinished_line (xs ++ more))))

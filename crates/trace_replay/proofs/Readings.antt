@@ -97,15 +97,17 @@ front_line stage heads events (Head head) front at =
     let none = no_events_before_head stage heads events head front at in
     record { head = AreHeads-more stage heads head at front.head; order = inl (ap (λ (es : List Event). es ++ []) none) }
 front_line stage heads events (Happen event) front at = record {
-    head = rw (append-nil heads) (record {
-        seen = front.head.seen
-      ; none_before = front.head.none_before
-      ; version_least = front.head.version_least
-      ; version_most = front.head.version_most
-      ; hard = front.head.hard
-      ; none_later = front.head.none_later
-      ; in_range = front.head.in_range })
-  ; order = inr (IsPastHead-event stage event at.0) }
+  head = rw (append-nil heads) (record {
+    seen = front.head.seen;
+    none_before = front.head.none_before;
+    version_least = front.head.version_least;
+    version_most = front.head.version_most;
+    hard = front.head.hard;
+    none_later = front.head.none_later;
+    in_range = front.head.in_range;
+  });
+  order = inr (IsPastHead-event stage event at.0);
+}
 front_line stage heads events Acted front at = rw (append-nil heads, append-nil events) front
 front_line stage heads events End front at = rw (append-nil heads, append-nil events) front
 
@@ -139,7 +141,7 @@ AreFront-more before text front passes =
 
 pub passed_behind : (P : List Reading → Type 0) →
     ((before : List Reading) (text : List ℕ) → P before → Passes before (reading_at (stage_behind before first_stage) text) →
-        P (before ++ reading_at (stage_behind before first_stage) text ∷ [])) →
+    P (before ++ reading_at (stage_behind before first_stage) text ∷ [])) →
     (before : List Reading) (texts : List (List ℕ)) → P before → PassBehind before (readings_from (stage_behind before first_stage) texts) →
     P (before ++ readings_from (stage_behind before first_stage) texts)
 unfolding readings_from PassBehind

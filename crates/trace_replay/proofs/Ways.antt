@@ -61,8 +61,9 @@ decisive : (readings : List Reading) (tail : List ℕ) (left : Option (List ℕ)
 decisive readings tail left verdict decides =
     let now = judged_now readings tail verdict decides in
     record {
-        told = ap outcome_of (sym (verdict_decided readings tail verdict now))
-      ; settled = λ more _. ap judged (append_assoc (ended_lines (texts_of readings)) tail more) ∙ decides more ∙ sym now }
+      told = ap outcome_of (sym (verdict_decided readings tail verdict now));
+      settled = λ more _. ap judged (append_assoc (ended_lines (texts_of readings)) tail more) ∙ decides more ∙ sym now;
+    }
 
 -- ---- what it has come to
 
@@ -70,35 +71,40 @@ takes_decided : (readings : List Reading) (tail : List ℕ) (verdict : Verdict) 
     Takes before now (ended_lines (lines_for readings)) → Takes before now (output_of (seen_of readings tail))
 takes_decided readings tail verdict before now decides silent takes =
     let output : output_of (seen_of readings tail) ≡ ended_lines (lines_for readings) =
-        output_decided readings tail verdict (judged_now readings tail verdict decides)
-        ∙ ap (λ (ls : List (List ℕ)). ended_lines (lines_for readings ++ ls)) silent ∙ ap ended_lines (append-nil (lines_for readings)) in
+    output_decided readings tail verdict (judged_now readings tail verdict decides)
+    ∙ ap (λ (ls : List (List ℕ)). ended_lines (lines_for readings ++ ls)) silent ∙ ap ended_lines (append-nil (lines_for readings)) in
     subst (λ (bytes : List ℕ). Takes before now bytes) (sym output) takes
 
 pub refused_at : (readings : List Reading) (tail : List ℕ) (number : ℕ) (kind : RefusalKind) (l0 l1 t0 t1 : Option (List ℕ)) → HasRead readings tail l0 l1 t0 t1 →
     Decides readings tail (refused number kind) → Replays l0 l1 t0 t1 (Refused number kind)
 refused_at readings tail number kind l0 l1 t0 t1 read decides = record {
-    seen = seen_of readings tail
-  ; gives = read.gives
-  ; is_outcome = (decisive readings tail l1 (refused number kind) decides, takes_decided readings tail (refused number kind) t0 t1 decides refl read.takes) }
+  seen = seen_of readings tail;
+  gives = read.gives;
+  is_outcome = (decisive readings tail l1 (refused number kind) decides, takes_decided readings tail (refused number kind) t0 t1 decides refl read.takes);
+}
 
 pub too_long_at : (readings : List Reading) (tail : List ℕ) (number : ℕ) (l0 l1 t0 t1 : Option (List ℕ)) → HasRead readings tail l0 l1 t0 t1 →
     Decides readings tail (too_long number) → Replays l0 l1 t0 t1 (TooLong number)
 too_long_at readings tail number l0 l1 t0 t1 read decides = record {
-    seen = seen_of readings tail
-  ; gives = read.gives
-  ; is_outcome = (decisive readings tail l1 (too_long number) decides, takes_decided readings tail (too_long number) t0 t1 decides refl read.takes) }
+  seen = seen_of readings tail;
+  gives = read.gives;
+  is_outcome = (decisive readings tail l1 (too_long number) decides, takes_decided readings tail (too_long number) t0 t1 decides refl read.takes);
+}
 
 pub done_at : (readings : List Reading) (tail : List ℕ) (l0 l1 t0 t1 t2 : Option (List ℕ)) → HasRead readings tail l0 l1 t0 t1 →
     Decides readings tail ended → Takes t1 t2 (ended_lines (last_lines ended)) → Replays l0 l1 t0 t2 Done
 done_at readings tail l0 l1 t0 t1 t2 read decides takes =
     let output : output_of (seen_of readings tail) ≡ ended_lines (lines_for readings) ++ ended_lines (last_lines ended) =
-        output_decided readings tail ended (judged_now readings tail ended decides)
-        ∙ flat_map-append (λ line. line ++ 10 ∷ []) (lines_for readings) (last_lines ended) in
+    output_decided readings tail ended (judged_now readings tail ended decides)
+    ∙ flat_map-append (λ line. line ++ 10 ∷ []) (lines_for readings) (last_lines ended) in
     record {
-        seen = seen_of readings tail
-      ; gives = read.gives
-      ; is_outcome = (decisive readings tail l1 ended decides,
-          subst (λ (bytes : List ℕ). Takes t0 t2 bytes) (sym output) (Takes-append t0 t1 t2 _ _ read.takes takes)) }
+      seen = seen_of readings tail;
+      gives = read.gives;
+      is_outcome = (
+        decisive readings tail l1 ended decides,
+        subst (λ (bytes : List ℕ). Takes t0 t2 bytes) (sym output) (Takes-append t0 t1 t2 _ _ read.takes takes),
+      );
+    }
 
 -- the input is over
 pub over_at : (readings : List Reading) (tail : List ℕ) (l0 l1 t0 t1 : Option (List ℕ)) → HasRead readings tail l0 l1 t0 t1 → FitsLine tail → IsAtEnd l1 →
@@ -106,16 +112,20 @@ pub over_at : (readings : List Reading) (tail : List ℕ) (l0 l1 t0 t1 : Option 
 over_at readings tail l0 l1 t0 t1 read fits at_end few =
     let verdict = refused (number_behind readings) NoEnd in
     let now : judged (seen_of readings tail) ≡ judgement_of readings verdict =
-        judged_rest readings tail read.passed read.whole fits.one_line ∙ ap (judgement_of readings) (rest_refused readings tail few fits.short) in
+    judged_rest readings tail read.passed read.whole fits.one_line ∙ ap (judgement_of readings) (rest_refused readings tail few fits.short) in
     let output : output_of (seen_of readings tail) ≡ ended_lines (lines_for readings) =
-        output_decided readings tail verdict now ∙ ap ended_lines (append-nil (lines_for readings)) in
+    output_decided readings tail verdict now ∙ ap ended_lines (append-nil (lines_for readings)) in
     record {
-        seen = seen_of readings tail
-      ; gives = read.gives
-      ; is_outcome = (record {
-            told = ap outcome_of (sym (verdict_decided readings tail verdict now))
-          ; settled = λ more is. ap judged (ap (λ (bytes : List ℕ). seen_of readings tail ++ bytes) (subst IsAtEnd is at_end) ∙ append-nil (seen_of readings tail)) },
-          subst (λ (bytes : List ℕ). Takes t0 t1 bytes) (sym output) read.takes) }
+      seen = seen_of readings tail;
+      gives = read.gives;
+      is_outcome = (
+        record {
+          told = ap outcome_of (sym (verdict_decided readings tail verdict now));
+          settled = λ more is. ap judged (ap (λ (bytes : List ℕ). seen_of readings tail ++ bytes) (subst IsAtEnd is at_end) ∙ append-nil (seen_of readings tail));
+        },
+        subst (λ (bytes : List ℕ). Takes t0 t1 bytes) (sym output) read.takes,
+      );
+    }
 
 -- the source failed within a line
 pub failed_at : (readings : List Reading) (tail : List ℕ) (l0 l1 t0 t1 : Option (List ℕ)) → HasRead readings tail l0 l1 t0 t1 → FitsLine tail →
@@ -123,26 +133,30 @@ pub failed_at : (readings : List Reading) (tail : List ℕ) (l0 l1 t0 t1 : Optio
 failed_at readings tail l0 l1 t0 t1 read fits few =
     let verdict = refused (number_behind readings) NoEnd in
     let now : judged (seen_of readings tail) ≡ judgement_of readings verdict =
-        judged_rest readings tail read.passed read.whole fits.one_line ∙ ap (judgement_of readings) (rest_refused readings tail few fits.short) in
+    judged_rest readings tail read.passed read.whole fits.one_line ∙ ap (judgement_of readings) (rest_refused readings tail few fits.short) in
     let output : output_of (seen_of readings tail) ≡ ended_lines (lines_for readings) =
-        output_decided readings tail verdict now ∙ ap ended_lines (append-nil (lines_for readings)) in
+    output_decided readings tail verdict now ∙ ap ended_lines (append-nil (lines_for readings)) in
     let lines : whole_lines (seen_of readings tail) ≡ texts_of readings =
-        whole_lines-ended (texts_of readings) tail read.whole ∙ ap (λ (ls : List (List ℕ)). texts_of readings ++ ls) (whole_lines-none tail fits.one_line) ∙ append-nil (texts_of readings) in
+    whole_lines-ended (texts_of readings) tail read.whole ∙ ap (λ (ls : List (List ℕ)). texts_of readings ++ ls) (whole_lines-none tail fits.one_line) ∙ append-nil (texts_of readings) in
     let count : length (whole_lines (seen_of readings tail)) ≡ length readings = ap length lines ∙ length-map readings (λ (r : Reading). r.text) in
     record {
-        seen = seen_of readings tail
-      ; gives = read.gives
-      ; is_outcome = (verdict_decided readings tail verdict now ∙ ap (λ n. refused (n + 1) NoEnd) (sym count),
-          subst (λ (bytes : List ℕ). Takes t0 t1 bytes) (sym output) read.takes) }
+      seen = seen_of readings tail;
+      gives = read.gives;
+      is_outcome = (
+        verdict_decided readings tail verdict now ∙ ap (λ n. refused (n + 1) NoEnd) (sym count),
+        subst (λ (bytes : List ℕ). Takes t0 t1 bytes) (sym output) read.takes,
+      );
+    }
 
 -- memory is wanting
 pub memory_at : (readings : List Reading) (tail : List ℕ) (l0 l1 t0 t1 : Option (List ℕ)) → HasRead readings tail l0 l1 t0 t1 → Replays l0 l1 t0 t1 OutOfMemory
 memory_at readings tail l0 l1 t0 t1 read =
     let begins = output_behind readings tail read.passed read.whole in
     record {
-        seen = seen_of readings tail
-      ; gives = read.gives
-      ; is_outcome = record { front = ended_lines (lines_for readings); rest = begins.rest; split = begins.split; taken = read.takes } }
+      seen = seen_of readings tail;
+      gives = read.gives;
+      is_outcome = record { front = ended_lines (lines_for readings); rest = begins.rest; split = begins.split; taken = read.takes };
+    }
 
 -- ---- a line with its line feed
 
@@ -170,11 +184,11 @@ seen_further : (readings : List Reading) (reading : Reading) (kept : List ℕ) �
 seen_further readings reading kept =
     let texts : texts_of (readings ++ reading ∷ []) ≡ texts_of readings ++ reading.text ∷ [] = map-append (λ (r : Reading). r.text) readings (reading ∷ []) in
     let ended : ended_lines (texts_of (readings ++ reading ∷ [])) ≡ ended_lines (texts_of readings) ++ (reading.text ++ 10 ∷ []) =
-        ap ended_lines texts ∙ flat_map-append (λ line. line ++ 10 ∷ []) (texts_of readings) (reading.text ∷ [])
-        ∙ ap (λ (bytes : List ℕ). ended_lines (texts_of readings) ++ bytes) (append-nil (reading.text ++ 10 ∷ [])) in
+    ap ended_lines texts ∙ flat_map-append (λ line. line ++ 10 ∷ []) (texts_of readings) (reading.text ∷ [])
+    ∙ ap (λ (bytes : List ℕ). ended_lines (texts_of readings) ++ bytes) (append-nil (reading.text ++ 10 ∷ [])) in
     sym (ap (λ (bytes : List ℕ). bytes ++ kept) ended
-        ∙ append_assoc (ended_lines (texts_of readings)) (reading.text ++ 10 ∷ []) kept
-        ∙ ap (λ (bytes : List ℕ). ended_lines (texts_of readings) ++ bytes) (append_assoc reading.text (10 ∷ []) kept))
+    ∙ append_assoc (ended_lines (texts_of readings)) (reading.text ++ 10 ∷ []) kept
+    ∙ ap (λ (bytes : List ℕ). ended_lines (texts_of readings) ++ bytes) (append_assoc reading.text (10 ∷ []) kept))
 
 whole_further : (readings : List Reading) (reading : Reading) → All HasNoLineFeed (texts_of readings) → HasNoLineFeed reading.text → All HasNoLineFeed (texts_of (readings ++ reading ∷ []))
 whole_further readings reading whole one =
@@ -194,7 +208,7 @@ written_begins readings line kept written l0 l1 t0 t1 read one (last at is) =
     let decides = line_decides readings line kept ended l0 l1 t0 t1 read one at in
     let output = output_decided readings (line ++ 10 ∷ kept) ended (judged_now readings (line ++ 10 ∷ kept) ended decides) in
     Begins-from _ _ (output ∙ flat_map-append (λ line. line ++ 10 ∷ []) (lines_for readings) (last_lines ended)
-        ∙ ap (λ (bytes : List ℕ). ended_lines (lines_for readings) ++ bytes) (sym is))
+    ∙ ap (λ (bytes : List ℕ). ended_lines (lines_for readings) ++ bytes) (sym is))
 
 regrouped : (xs ys front rest more : List ℕ) → ys ≡ front ++ rest → (xs ++ ys) ++ more ≡ (xs ++ front) ++ (rest ++ more)
 regrouped xs ys front rest more split =
@@ -207,14 +221,16 @@ cut_at : (readings : List Reading) (line kept : List ℕ) (l0 l1 t0 t1 t2 : Opti
 cut_at readings line kept l0 l1 t0 t1 t2 read one cut =
     let begins = written_begins readings line kept cut.written l0 l1 t0 t1 read one cut.output in
     record {
-        seen = seen_of readings (line ++ 10 ∷ kept)
-      ; gives = read.gives
-      ; is_outcome = record {
-            front = ended_lines (lines_for readings) ++ cut.part.front
-          ; rest = cut.part.rest ++ begins.rest
-          ; split = begins.split ∙ regrouped (ended_lines (lines_for readings)) cut.written cut.part.front cut.part.rest begins.rest cut.part.split
-          ; proper = omega (arith, cut.part.proper, length-append cut.part.rest begins.rest)
-          ; taken = Takes-append t0 t1 t2 _ _ read.takes cut.part.taken } }
+      seen = seen_of readings (line ++ 10 ∷ kept);
+      gives = read.gives;
+      is_outcome = record {
+        front = ended_lines (lines_for readings) ++ cut.part.front;
+        rest = cut.part.rest ++ begins.rest;
+        split = begins.split ∙ regrouped (ended_lines (lines_for readings)) cut.written cut.part.front cut.part.rest begins.rest cut.part.split;
+        proper = omega (arith, cut.part.proper, length-append cut.part.rest begins.rest);
+        taken = Takes-append t0 t1 t2 _ _ read.takes cut.part.taken;
+      };
+    }
 
 -- a line passes, and what it gives was written
 goes_at : (number : ℕ) (readings : List Reading) (line kept written : List ℕ) (next : Playback) (l0 l1 t0 t1 t2 : Option (List ℕ)) → number ≡ length readings + 1 →
@@ -223,12 +239,13 @@ goes_at : (number : ℕ) (readings : List Reading) (line kept written : List ℕ
 goes_at number readings line kept written next l0 l1 t0 t1 t2 at read one on takes =
     let reading = reading_at (stage_behind readings first_stage) line in
     record {
-        readings = readings ++ reading ∷ []
-      ; stands = on.stands
-      ; number_is = omega (arith, at, length_push readings reading)
-      ; whole = whole_further readings reading read.whole one
-      ; gives = subst (λ (bytes : List ℕ). Gives l0 l1 bytes) (seen_further readings reading kept) read.gives
-      ; takes = subst (λ (bytes : List ℕ). Takes t0 t2 bytes) (sym on.lines) (Takes-append t0 t1 t2 _ _ read.takes takes) }
+      readings = readings ++ reading ∷ [];
+      stands = on.stands;
+      number_is = omega (arith, at, length_push readings reading);
+      whole = whole_further readings reading read.whole one;
+      gives = subst (λ (bytes : List ℕ). Gives l0 l1 bytes) (seen_further readings reading kept) read.gives;
+      takes = subst (λ (bytes : List ℕ). Takes t0 t2 bytes) (sym on.lines) (Takes-append t0 t1 t2 _ _ read.takes takes);
+    }
 
 same_takes : (readings : List Reading) (tail : List ℕ) (l0 l1 t0 t1 t2 : Option (List ℕ)) → HasRead readings tail l0 l1 t0 t1 → t2 ≡ t1 → HasRead readings tail l0 l1 t0 t2
 same_takes readings tail l0 l1 t0 t1 t2 read same = subst (λ (t : Option (List ℕ)). HasRead readings tail l0 l1 t0 t) (sym same) read
@@ -258,11 +275,12 @@ line_turn number readings line kept l0 l1 t0 t1 t2 (Err WorldFault) at read one 
 has_read : (number : ℕ) (playback : Playback) (kept bytes : List ℕ) (l0 l1 l2 t0 t1 : Option (List ℕ)) → (way : IsUnderWay number playback kept l0 l1 t0 t1) → Gives l1 l2 bytes →
     HasRead way.readings (kept ++ bytes) l0 l2 t0 t1
 has_read number playback kept bytes l0 l1 l2 t0 t1 way gives = record {
-    passed = way.stands.passed
-  ; whole = way.whole
-  ; gives = subst (λ (xs : List ℕ). Gives l0 l2 xs) (append_assoc (ended_lines (texts_of way.readings)) kept bytes)
-      (Gives-append l0 l1 l2 (seen_of way.readings kept) bytes way.gives gives)
-  ; takes = way.takes }
+  passed = way.stands.passed;
+  whole = way.whole;
+  gives = subst (λ (xs : List ℕ). Gives l0 l2 xs) (append_assoc (ended_lines (texts_of way.readings)) kept bytes)
+      (Gives-append l0 l1 l2 (seen_of way.readings kept) bytes way.gives gives);
+  takes = way.takes;
+}
 
 pub line_read : (number : ℕ) (playback : Playback) (kept next_kept line : List ℕ) (l0 l1 l2 t0 t1 t2 : Option (List ℕ)) (result : Result Playback Outcome) →
     IsUnderWay number playback kept l0 l1 t0 t1 → ReadsLine l1 l2 kept next_kept (Ok (Line line)) →
@@ -293,7 +311,7 @@ too_long_read number playback kept next_kept l0 l1 l2 t0 t1 way read =
     let all = has_read number playback kept read.taken l0 l1 l2 t0 t1 way read.gives in
     subst (λ n. Replays l0 l2 t0 t1 (TooLong n)) (sym way.number_is)
     (too_long_at way.readings (kept ++ read.taken) (number_behind way.readings) l0 l2 t0 t1 all
-        (past_decides way.readings (kept ++ read.taken) all.passed all.whole read.answer.0))
+    (past_decides way.readings (kept ++ read.taken) all.passed all.whole read.answer.0))
 
 pub memory_read : (number : ℕ) (playback : Playback) (kept next_kept : List ℕ) (l0 l1 l2 t0 t1 : Option (List ℕ)) →
     IsUnderWay number playback kept l0 l1 t0 t1 → ReadsLine l1 l2 kept next_kept (Err NoMemory) → Replays l0 l2 t0 t1 OutOfMemory
@@ -307,17 +325,18 @@ most_read number playback kept l0 l1 t0 t1 most way =
     let all : HasRead way.readings kept l0 l1 t0 t1 = record { passed = way.stands.passed; whole = way.whole; gives = way.gives; takes = way.takes } in
     subst (λ n. Replays l0 l1 t0 t1 (TooLong n)) (sym way.number_is)
     (too_long_at way.readings kept (number_behind way.readings) l0 l1 t0 t1 all
-        (most_decides way.readings kept all.passed all.whole (omega (arith, way.number_is))))
+    (most_decides way.readings kept all.passed all.whole (omega (arith, way.number_is))))
 
 -- before any line
 pub way_none : (playback : Playback) (left taken : Option (List ℕ)) → StandsBehind playback [] → IsUnderWay 1 playback [] left left taken taken
 way_none playback left taken stands = record {
-    readings = []
-  ; stands = stands
-  ; number_is = refl
-  ; whole = All-nil HasNoLineFeed
-  ; gives = Gives-nothing left
-  ; takes = Takes-nothing taken }
+  readings = [];
+  stands = stands;
+  number_is = refl;
+  whole = All-nil HasNoLineFeed;
+  gives = Gives-nothing left;
+  takes = Takes-nothing taken;
+}
 
 -- memory is wanting before anything was read
 pub no_memory : (left taken : Option (List ℕ)) → Replays left left taken taken OutOfMemory

@@ -34,18 +34,19 @@ set_or place usual heads = unwrap_or (set_in place heads) usual
 -- each setting by its place; the usual soft limit is 384, where the hard one is not below it
 abbrev pub settings_in : List HeadLine → Settings
 settings_in heads = record {
-    version = version_in heads
-  ; own = own_in heads
-  ; magic = set_or 1 42 heads
-  ; initiator_only = set_or 2 0 heads
-  ; sharing = set_or 3 1 heads
-  ; hard = set_or 4 512 heads
-  ; soft = set_or 5 (min 384 (set_or 4 512 heads)) heads
-  ; delay = set_or 6 5000 heads
-  ; idle = set_or 7 5000 heads
-  ; timewait = set_or 8 60000 heads
-  ; handshake = set_or 9 10000 heads
-  ; reply = set_or 10 10000 heads
-  ; backoff = set_or 11 5000 heads
-  ; sharegap = set_or 12 900000 heads
-  ; shares = set_or 13 2 heads }
+  version = version_in heads;
+  own = own_in heads;
+  magic = set_or 1 42 heads;
+  initiator_only = set_or 2 0 heads;
+  sharing = set_or 3 1 heads;
+  hard = set_or 4 512 heads;
+  soft = set_or 5 (min 384 (set_or 4 512 heads)) heads;
+  delay = set_or 6 5000 heads;
+  idle = set_or 7 5000 heads;
+  timewait = set_or 8 60000 heads;
+  handshake = set_or 9 10000 heads;
+  reply = set_or 10 10000 heads;
+  backoff = set_or 11 5000 heads;
+  sharegap = set_or 12 900000 heads;
+  shares = set_or 13 2 heads;
+}

@@ -7,15 +7,13 @@ ghost use Rattle.trace_replay.specs.Playback.{events_taken, StandsBehind, IsPlay
 ghost use Rattle.trace_replay.specs.Reading.{Reading, said_at, reading_at, stage_behind};
 ghost use Rattle.trace_replay.specs.Settings.{settings_in};
 
-use std::alloc::Global;
-
-use net_base::{Event, Octets, OutOfMemory, RefusalKind};
-use node_engine::Engine;
-use trace_text::{HeadLine, Line, LineRefusal, Stage, read_line};
-
 use crate::start::engine_or_first;
 use crate::stop::Stop;
 use crate::told::{ended_line, told};
+use net_base::{Event, Octets, OutOfMemory, RefusalKind};
+use node_engine::Engine;
+use std::alloc::Global;
+use trace_text::{HeadLine, Line, LineRefusal, Stage, read_line};
 
 // How many events a trace may have.
 const EVENTS_MOST: u64 = 1_000_000;
@@ -133,12 +131,7 @@ impl Playback {
     }
 
     // A line, with its number and what it says.
-    fn play(
-        self,
-        number: u64,
-        line: Line,
-        text: &[u8],
-    ) -> Result<(Playback, Octets), Stop>
+    fn play(self, number: u64, line: Line, text: &[u8]) -> Result<(Playback, Octets), Stop>
         requires sound { AreSound (settings_in self.heads.items) }
         requires within { IsLineWithin line }
         requires few { number ≤ 4_000_000 }

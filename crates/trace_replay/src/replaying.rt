@@ -10,14 +10,12 @@ ghost use Rattle.trace_replay.specs.Replays.{Replays};
 ghost use Rattle.trace_replay.specs.Settings.{settings_in};
 ghost use Rattle.trace_replay.specs.UnderWay.{IsUnderWay, IsTurn, IsWritten, HasReadCount, HasWriteCount};
 
-use std::alloc::Global;
-
-use io_edge::{Got, LineFault, LineReader, Sink, Source, put_all};
-use net_base::RefusalKind;
-
 use crate::Outcome;
 use crate::playback::Playback;
 use crate::stop::Stop;
+use io_edge::{Got, LineFault, LineReader, Sink, Source, put_all};
+use net_base::RefusalKind;
+use std::alloc::Global;
 
 // How many lines a trace may have.
 const LINES_MOST: u64 = 4_000_000;

@@ -4,13 +4,11 @@ ghost use Rattle.net_base.specs.Bounds.{AreSound};
 ghost use Rattle.trace_replay.specs.Playback.{machine_or, events_taken};
 ghost use Rattle.trace_replay.specs.Settings.{settings_in};
 
-use std::alloc::Global;
-
+use crate::head::settings_of;
 use net_base::{OutOfMemory, Settings};
 use node_engine::{Engine, NewRefusal};
+use std::alloc::Global;
 use trace_text::HeadLine;
-
-use crate::head::settings_of;
 
 /// The engine that was made already, or one with the settings of the head.
 pub(crate) fn engine_or_first(

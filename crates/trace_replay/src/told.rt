@@ -2,9 +2,8 @@ ghost use Rattle.std.specs.Prelude.{◌≡◌, ℕ, ◌+◌, ◌<◌, ◌≤◌,
 ghost use Rattle.io_edge.specs.Lines.{ended_lines};
 ghost use Rattle.trace_replay.specs.Output.{told_event};
 
-use std::alloc::Global;
-
 use net_base::{Action, Octets, OutOfMemory};
+use std::alloc::Global;
 use trace_text::print_action;
 
 /// A line with its line feed.

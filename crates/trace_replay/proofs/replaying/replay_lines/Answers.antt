@@ -16,9 +16,10 @@ returns-in-Err-clause-reads g c =
 
 pub loop-number-preserved : goal.loop-number-preserved
 loop-number-preserved g c = record {
-    way = c.in-Ok.ensures.turn _ _ c.loop-number.invariant.way
-  ; reads = c.in-Ok.ensures.reads _ _ c.loop-number.invariant.way ∙ c.loop-number.invariant.reads
-  ; writes = c.in-Ok.ensures.writes ∙ c.loop-number.invariant.writes }
+  way = c.in-Ok.ensures.turn _ _ c.loop-number.invariant.way;
+  reads = c.in-Ok.ensures.reads _ _ c.loop-number.invariant.way ∙ c.loop-number.invariant.reads;
+  writes = c.in-Ok.ensures.writes ∙ c.loop-number.invariant.writes;
+}
 
 pub returns-clause-replays : goal.returns-clause-replays
 returns-clause-replays g c =

@@ -12,7 +12,8 @@ pub returns-in_err-put-in-Ok-clause-written : goal.returns-in_err-put-in-Ok-clau
 returns-in_err-put-in-Ok-clause-written g c = λ readings stands at.
     let p = err_from_is_err_and c.from_residual.result c.from_residual.ensures.1 in
     rw (p.1, p.2, c.in_err-put-in-Ok.ensures.fault) (record {
-        written = c.in-Ok.text
-      ; output = passing c.in-Ok.next (c.in-Ok.ensures readings stands at)
-      ; part = subst (λ (piece : List ℕ). TakesProperPrefix (g.K.Sink.taken c.args.out.now) (g.K.Sink.taken c.put.new.out) piece)
-          c.as_slice.ensures c.in_err-put-in-Ok.ensures.part })
+      written = c.in-Ok.text;
+      output = passing c.in-Ok.next (c.in-Ok.ensures readings stands at);
+      part = subst (λ (piece : List ℕ). TakesProperPrefix (g.K.Sink.taken c.args.out.now) (g.K.Sink.taken c.put.new.out) piece)
+          c.as_slice.ensures c.in_err-put-in-Ok.ensures.part;
+    })

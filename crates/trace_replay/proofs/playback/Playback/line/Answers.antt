@@ -10,4 +10,4 @@ pub returns-in-Err : goal.returns-in-Err
 returns-in-Err c = λ readings stands at.
     subst (λ (stop : Stop). IsPlayed readings (reading_at (stage_behind readings first_stage) c.args.text.now) (Err stop)) (sym c.refused.ensures)
     (refusal_played c.args.self readings c.args.number c.args.text.now c.in-Err.refusal
-        (record { stands = stands; number_is = at; few = c.requires.few; short = c.requires.short }) c.in-Err.ensures.said)
+    (record { stands = stands; number_is = at; few = c.requires.few; short = c.requires.short }) c.in-Err.ensures.said)

@@ -39,5 +39,5 @@ pub returns-in-Acted : goal.returns-in-Acted
 returns-in-Acted c = λ readings stands at said.
     subst (λ (written : List ℕ). GoesOn readings (reading_at (stage_behind readings first_stage) c.args.text.now) c.args.self written) (sym c.new-nothing.ensures)
     (acted_played c.args.self readings c.args.number c.args.text.now
-        (due c.args.self readings c.args.number c.args.text.now stands at c.requires.few c.requires.short)
-        (said_so _ _ c.args.line Acted said c.in-Acted.is))
+    (due c.args.self readings c.args.number c.args.text.now stands at c.requires.few c.requires.short)
+    (said_so _ _ c.args.line Acted said c.in-Acted.is))
