@@ -1,0 +1,9 @@
+pub mod Grammar
+pub mod Heads
+pub mod Inputs
+pub mod Judging
+pub mod Outputs
+pub mod Playing
+pub mod Prefixes
+pub mod Readings
+pub mod Ways

@@ -1,0 +1,13 @@
+use Rattle.std.proofs.Common.{Result, Err, sym, subst}
+use Rattle.trace_text.specs.Stages.{first_stage}
+use Rattle.trace_replay.specs.Reading.{stage_behind, reading_at}
+use Rattle.trace_replay.specs.Playback.{IsPlayed}
+use Rattle.trace_replay.specs.declared.stop.Stop.{Stop}
+use Rattle.trace_replay.proofs.Playing.{IsDue, refusal_played}
+use Rattle.trace_replay.proofs.playback.Playback.line.Goals as goal
+
+pub returns-in-Err : goal.returns-in-Err
+returns-in-Err c = λ readings stands at.
+    subst (λ (stop : Stop). IsPlayed readings (reading_at (stage_behind readings first_stage) c.args.text.now) (Err stop)) (sym c.refused.ensures)
+    (refusal_played c.args.self readings c.args.number c.args.text.now c.in-Err.refusal
+    (record { stands = stands; number_is = at; few = c.requires.few; short = c.requires.short }) c.in-Err.ensures.said)

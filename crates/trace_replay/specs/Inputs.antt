@@ -1,0 +1,46 @@
+-- What a replay comes to, in terms of the whole input.
+use Rattle.std.specs.Prelude.{◌≡◌, ℕ, ◌^◌, List, ◌++◌, take, Option, Some}
+use Rattle.io_edge.specs.Told.{Takes, TakesProperPrefix}
+use Rattle.laws.specs.Laws.{LiveAddressesDistinct, WithinHardLimit}
+use Rattle.machine.specs.Machine.{Machine}
+use Rattle.machine.specs.Run.{after_all}
+use Rattle.trace_replay.specs.Reading.{events_in}
+use Rattle.trace_replay.specs.Judgement.{Verdict, judged}
+use Rattle.trace_replay.specs.Output.{start_in, output_of}
+use Rattle.trace_replay.specs.Replays.{verdict_of, AreUndecided}
+
+-- The input is decided in one way, and the sink took its whole output.
+pub record IsDecided (input : List ℕ) (verdict : Verdict) (taken_before taken_after : Option (List ℕ)) : Type 0 where
+  pub verdict_is : verdict_of input ≡ verdict
+  pub taken : Takes taken_before taken_after (output_of input)
+
+-- The bytes that were read are a front of the input, and the rest is left.
+pub record IsReadUpTo (input seen : List ℕ) (left_after : Option (List ℕ)) : Type 0 where
+  pub rest : List ℕ
+  pub split : input ≡ seen ++ rest
+  pub left : left_after ≡ Some rest
+
+-- The bytes that were read end inside a line or before `end`, and no line of them decides. The sink took exactly
+-- what they give.
+pub record StopsReading (input : List ℕ) (left_after taken_before taken_after : Option (List ℕ)) : Type 0 where
+  pub seen : List ℕ
+  pub read : IsReadUpTo input seen left_after
+  pub undecided : AreUndecided seen
+  pub taken : Takes taken_before taken_after (output_of seen)
+
+-- The sink took a front of what the bytes that were read give, and not all of it.
+pub record StopsWriting (input : List ℕ) (left_after taken_before taken_after : Option (List ℕ)) : Type 0 where
+  pub seen : List ℕ
+  pub read : IsReadUpTo input seen left_after
+  pub part : TakesProperPrefix taken_before taken_after (output_of seen)
+
+-- the machine after so many events of the lines of an input that pass
+abbrev pub machine_after : ℕ → List ℕ → Machine
+machine_after count input =
+    let passed = (judged input).passed in after_all (start_in passed) (take count (events_in passed))
+
+-- The laws hold in every record that the run over an input reaches: no two live connections have one address, and
+-- counted connections are at most as many as the hard limit says.
+pub record KeepsLaws (input : List ℕ) : Type 0 where
+  pub addresses : (count : ℕ) → LiveAddressesDistinct (machine_after count input)
+  pub limit : (count : ℕ) → WithinHardLimit (machine_after count input)

@@ -1,0 +1,103 @@
+-- What is kept of the lines of a trace that were read, and what one line more comes to.
+use Rattle.std.specs.Prelude.{◌≡◌, ℕ, ◌+◌, ◌<◌, ◌≤◌, List, [], ◌∷◌, ◌++◌, length, Option, Some, None, IfSome, Result, Ok, Err}
+use Rattle.io_edge.specs.Lines.{ended_lines}
+use Rattle.machine.specs.Events.{step}
+use Rattle.machine.specs.Machine.{Machine, start_of}
+use Rattle.machine.specs.Run.{after_all}
+use Rattle.net_base.specs.declared.event.Event.{Event}
+use Rattle.net_base.specs.declared.refusal.RefusalKind.TheVariants.{Word, Number, Targets, Order, NotBuilt as Unbuilt}
+use Rattle.node_engine.specs.Limits.{IsWithinLimits}
+use Rattle.node_engine.specs.declared.engine.Engine.{Engine}
+use Rattle.trace_text.specs.Stages.{first_stage}
+use Rattle.trace_text.specs.declared.line.Line.{Line}
+use Rattle.trace_text.specs.declared.line.Line.TheVariants.{Head, Happen, Acted, End}
+use Rattle.trace_text.specs.declared.line.LineRefusal.{LineRefusal}
+use Rattle.trace_text.specs.declared.line.LineRefusal.TheVariants.{BadWord, BadNumber, BadTargets, OutOfOrder, NotBuilt, OutOfMemory as NoMemory}
+use Rattle.trace_text.specs.declared.stage.Stage.{Stage}
+use Rattle.trace_replay.specs.Reading.{Reading, said_at, stage_behind, heads_in, events_in}
+use Rattle.trace_replay.specs.Settings.{settings_in}
+use Rattle.trace_replay.specs.Judgement.{Verdict, ended, refused, too_long, most_events, verdict_at}
+use Rattle.trace_replay.specs.Output.{start_in, told_event, lines_for}
+use Rattle.trace_replay.specs.Passing.{ArePassed}
+use Rattle.trace_replay.specs.declared.playback.Playback.{Playback}
+use Rattle.trace_replay.specs.declared.stop.Stop.{Stop}
+use Rattle.trace_replay.specs.declared.stop.Stop.TheVariants.{Ended, Refused, TooLong, OutOfMemory}
+
+-- the engine's machine, or the one that it will begin with
+abbrev pub machine_or : Machine → Option Engine → Machine
+machine_or start None = start
+machine_or start (Some engine) = engine.machine
+
+abbrev pub events_taken : Option Engine → ℕ
+events_taken None = 0
+events_taken (Some engine) = engine.events
+
+-- the machine that the next event finds
+abbrev pub machine_before : Playback → Machine
+machine_before playback = machine_or (start_of (settings_in playback.heads.items)) playback.engine
+
+-- What is kept of lines that pass. The engine is made at the first event.
+pub record StandsBehind (playback : Playback) (readings : List Reading) : Type 0 where
+  pub passed : ArePassed readings
+  pub stage : playback.stage ≡ stage_behind readings first_stage
+  pub heads : playback.heads.items ≡ heads_in readings
+  pub machine : machine_or (start_in readings) playback.engine ≡ after_all (start_in readings) (events_in readings)
+  pub events : events_taken playback.engine ≡ length (events_in readings)
+  pub begun : IfSome playback.engine (λ engine. 0 < engine.events)
+
+-- A line passes: what is kept stands behind it too, and its lines are written behind those before.
+pub record GoesOn (readings : List Reading) (reading : Reading) (next : Playback) (written : List ℕ) : Type 0 where
+  pub passes : verdict_at readings reading ≡ None
+  pub stands : StandsBehind next (readings ++ reading ∷ [])
+  pub lines : ended_lines (lines_for (readings ++ reading ∷ [])) ≡ ended_lines (lines_for readings) ++ written
+
+-- What one line more comes to: it passes, or it decides.
+abbrev pub IsPlayed : List Reading → Reading → Result (Playback × List ℕ) Stop → Type 0
+IsPlayed readings reading (Ok played) = GoesOn readings reading played.0 played.1
+IsPlayed readings reading (Err Ended) = verdict_at readings reading ≡ Some ended
+IsPlayed readings reading (Err (Refused line kind)) = verdict_at readings reading ≡ Some (refused line kind)
+IsPlayed readings reading (Err (TooLong line)) = verdict_at readings reading ≡ Some (too_long line)
+IsPlayed readings reading (Err OutOfMemory) = Unit {0}
+
+-- an event line says an event that the engine takes
+abbrev pub IsLineWithin : Line → Type 0
+IsLineWithin (Head head) = Unit {0}
+IsLineWithin (Happen event) = IsWithinLimits event
+IsLineWithin Acted = Unit {0}
+IsLineWithin End = Unit {0}
+
+-- what is read is what the line says; only want of memory may come in its place
+abbrev pub IsSaid : Stage → List ℕ → Result Line LineRefusal → Type 0
+IsSaid stage text (Ok line) = said_at stage text ≡ Ok line
+IsSaid stage text (Err (BadWord place)) = said_at stage text ≡ Err (BadWord place)
+IsSaid stage text (Err (BadNumber place)) = said_at stage text ≡ Err (BadNumber place)
+IsSaid stage text (Err BadTargets) = said_at stage text ≡ Err BadTargets
+IsSaid stage text (Err OutOfOrder) = said_at stage text ≡ Err OutOfOrder
+IsSaid stage text (Err NotBuilt) = said_at stage text ≡ Err NotBuilt
+IsSaid stage text (Err NoMemory) = Unit {0}
+
+-- An event is taken: the engine's machine steps, or the one that it begins with; the event line and its actions are written.
+pub record TakesEvent (before : Playback) (event : Event) (text : List ℕ) (next : Playback) (written : List ℕ) : Type 0 where
+  pub heads : next.heads.items ≡ before.heads.items
+  pub machine : (start : Machine) → machine_or start next.engine ≡ (step (machine_before before) event).machine
+  pub events : events_taken next.engine ≡ events_taken before.engine + 1
+  pub begun : IfSome next.engine (λ engine. 0 < engine.events)
+  pub lines : written ≡ ended_lines (told_event (text, (step (machine_before before) event).actions))
+
+-- An event line is played: the event is taken, or it is one too many.
+abbrev pub IsHappened : Playback → ℕ → Stage → Event → List ℕ → Result (Playback × List ℕ) Stop → Type 0
+IsHappened before number stage event text (Ok played) =
+    (events_taken before.engine < most_events) × (played.0.stage ≡ stage) × TakesEvent before event text played.0 played.1
+IsHappened before number stage event text (Err (TooLong line)) = (most_events ≤ events_taken before.engine) × (line ≡ number)
+IsHappened before number stage event text (Err OutOfMemory) = Unit {0}
+IsHappened before number stage event text (Err Ended) = ⊥
+IsHappened before number stage event text (Err (Refused line kind)) = ⊥
+
+-- how the refusal of a line is told
+abbrev pub refusal_told : ℕ → LineRefusal → Stop
+refusal_told number (BadWord place) = Refused number (Word place)
+refusal_told number (BadNumber place) = Refused number (Number place)
+refusal_told number BadTargets = Refused number Targets
+refusal_told number OutOfOrder = Refused number Order
+refusal_told number NotBuilt = Refused number Unbuilt
+refusal_told number NoMemory = OutOfMemory

@@ -1,0 +1,13 @@
+//! Traces, replayed: the bytes of a trace in, the same trace with the machine's actions out.
+#![tactic(auto)]
+
+mod head;
+mod outcome;
+mod playback;
+mod replaying;
+mod start;
+mod stop;
+mod told;
+
+pub use outcome::Outcome;
+pub use replaying::replay;
