@@ -7,8 +7,8 @@ use Rattle.std.proofs.lemmas.List.Elements.{All-push, All-nil}
 use Rattle.io_edge.specs.Lines.{HasNoLineFeed, whole_lines, unfinished_line, ended_lines, FitsLine, IsPastLimit}
 use Rattle.io_edge.specs.Reading.{IsAnswer, ReadsLine}
 use Rattle.io_edge.specs.Told.{Gives, Takes, TakesProperPrefix}
-use Rattle.io_edge.specs.declared.answer.Got.TheVariants.{Line, Over}
-use Rattle.io_edge.specs.declared.answer.LineFault.TheVariants.{Failed, TooLong as LineTooLong, OutOfMemory as NoMemory}
+use Rattle.io_edge.specs.declared.got.Got.TheVariants.{Line, Over}
+use Rattle.io_edge.specs.declared.line_fault.LineFault.TheVariants.{Failed, TooLong as LineTooLong, OutOfMemory as NoMemory}
 use Rattle.io_edge.proofs.LineLemmas.{whole_lines-ended, whole_lines-none, IsPastLimit-append}
 use Rattle.io_edge.proofs.ToldLemmas.{Gives-nothing, Gives-append, Gives-told, Takes-nothing, Takes-append}
 use Rattle.net_base.specs.declared.refusal.RefusalKind.{RefusalKind}

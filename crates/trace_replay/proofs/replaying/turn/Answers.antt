@@ -1,9 +1,9 @@
 use Rattle.std.proofs.Common.{◌≡◌, ◌∙◌, ℕ, List, Option, Result, Ok, Err, sym, ap, subst}
 use Rattle.io_edge.specs.Reading.{ReadsLine}
-use Rattle.io_edge.specs.declared.answer.Got.{Got}
-use Rattle.io_edge.specs.declared.answer.Got.TheVariants.{Line, Over}
-use Rattle.io_edge.specs.declared.answer.LineFault.{LineFault}
-use Rattle.io_edge.specs.declared.answer.LineFault.TheVariants.{Failed, TooLong, OutOfMemory}
+use Rattle.io_edge.specs.declared.got.Got.{Got}
+use Rattle.io_edge.specs.declared.got.Got.TheVariants.{Line, Over}
+use Rattle.io_edge.specs.declared.line_fault.LineFault.{LineFault}
+use Rattle.io_edge.specs.declared.line_fault.LineFault.TheVariants.{Failed, TooLong, OutOfMemory}
 use Rattle.trace_replay.proofs.Ways.{line_read, line_read-reads, over_read, failed_read, too_long_read, memory_read}
 use Rattle.trace_replay.proofs.replaying.turn.Goals as goal
 
