@@ -1,0 +1,10 @@
+pub mod Distinct
+pub mod LeastLaws
+pub mod LeastLemmas
+pub mod Members
+pub mod PickFacts
+pub mod Picking
+pub mod RisingLeast
+pub mod SameAddress
+pub mod ScoreOrder
+pub mod Sorting

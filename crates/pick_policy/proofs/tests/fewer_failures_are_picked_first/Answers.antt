@@ -1,0 +1,11 @@
+use Rattle.std.proofs.Common.{rules}
+use Rattle.std.specs.List.{IsDistinct}
+use Rattle.pick_policy.proofs.tests.fewer_failures_are_picked_first.Goals as goal
+
+pub pick-requires : goal.pick-requires
+unfolding IsDistinct
+pick-requires c = search rules
+
+pub pick-requires-2 : goal.pick-requires-2
+unfolding IsDistinct
+pick-requires-2 c = search rules

@@ -1,0 +1,8 @@
+use net_base::Addr;
+
+/// A candidate, and how often it failed.
+#[derive(Clone, Copy, Debug, PartialEq, Eq)]
+pub struct Rated {
+    pub addr: Addr,
+    pub failures: u64,
+}
