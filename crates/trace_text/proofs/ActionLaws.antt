@@ -1,11 +1,11 @@
 -- A printed action is one line, and is read as an action line.
-use Rattle.std.proofs.Common.{◌≡◌, ◌≢◌, ℕ, zero, suc, ◌+◌, ◌/◌, ◌%◌, ◌<◌, ◌≤◌, Bool, true, false, not, ◌&&◌, cond, eqb, List, [], ◌∷◌, ◌++◌, get_or, map, decimal, Result, Ok, Err, refl, sym, ap, subst, ◌∙◌, arith}
+use Rattle.std.proofs.Common.{◌≡◌, ◌≢◌, ℕ, zero, suc, ◌/◌, ◌%◌, true, false, not, eqb, List, [], ◌∷◌, get_or, map, decimal, refl, arith}
 use Rattle.std.specs.Prelude.{codes, Contains}
 use Rattle.std.specs.List.{AllByRecursion, list_all, join_with_byte}
 use Rattle.std.specs.Fmt.{digits}
-use Rattle.std.proofs.lemmas.Bool.{and_parts, eqb-false, not-true, ne_eqb, cond-true, cond-false}
+use Rattle.std.proofs.lemmas.Bool.{and_parts, eqb-false, not-true}
 use Rattle.std.proofs.lemmas.List.Elements.{All-contains, All-from_recursion}
-use Rattle.hex.specs.Hex.{encode_with, encode_lower, lower_digits}
+use Rattle.hex.specs.Hex.{encode_with, lower_digits}
 use Rattle.net_base.specs.declared.address.Ip.{Ip}
 use Rattle.net_base.specs.declared.address.Ip.TheVariants.{V4, V6}
 use Rattle.net_base.specs.declared.address.Addr.{Addr}
@@ -21,11 +21,8 @@ use Rattle.net_base.specs.declared.action.PeerNote.{PeerNote}
 use Rattle.net_base.specs.declared.action.PeerNote.TheVariants as note
 use Rattle.net_base.specs.declared.action.StateName.{StateName}
 use Rattle.net_base.specs.declared.action.StateName.TheVariants as state
-use Rattle.trace_text.specs.declared.line.Line.TheVariants.{Acted}
-use Rattle.trace_text.specs.declared.stage.Stage.{Stage}
 use Rattle.trace_text.specs.Addresses.{low_digits, printed_octets, printed_groups, printed_at, printed_address}
 use Rattle.trace_text.specs.Actions.{away_word, fault_words, cause_words, note_word, state_word, action_words, printed_action}
-use Rattle.trace_text.specs.Lines.{line_of}
 use Rattle.trace_text.proofs.Printed.{digits_apart, all_append, all_join, all_map}
 
 -- no line feed

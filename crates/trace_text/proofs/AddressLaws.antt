@@ -1,8 +1,8 @@
 -- An address has one spelling: the printed one.
-use Rattle.std.proofs.Common.{◌≡◌, ◌≢◌, ℕ, ◌+◌, ◌^◌, ◌<◌, ◌≤◌, Bool, true, false, ◌&&◌, cond, eqb, List, [], ◌∷◌, ◌++◌, length, get_or, map, Option, Some, None, decimal, refl, sym, ap, subst, ◌∙◌, arith, lit<}
-use Rattle.std.specs.List.{All, AllByRecursion, join_with_byte}
+use Rattle.std.proofs.Common.{◌≡◌, ◌≢◌, ℕ, ◌^◌, ◌<◌, ◌≤◌, Bool, true, false, ◌&&◌, cond, eqb, List, [], ◌∷◌, ◌++◌, map, Some, decimal, refl, sym, ap, subst, ◌∙◌, arith, lit<}
+use Rattle.std.specs.List.{AllByRecursion}
 use Rattle.std.specs.Fmt.{digits}
-use Rattle.std.proofs.lemmas.Bool.{and_parts, eqb-true, eq-eqb, cond-true, cond-false, and_left, and_right, ne_eqb}
+use Rattle.std.proofs.lemmas.Bool.{and_parts, eqb-true, eq-eqb, cond-true, cond-false, and_right, ne_eqb}
 use Rattle.std.proofs.lemmas.Option.{same_Some}
 use Rattle.net_base.specs.Number.{number_up_to}
 use Rattle.net_base.specs.declared.address.Ip.{Ip}

@@ -1,18 +1,18 @@
 -- Sixteen bits have one spelling in lower-case hexadecimal.
-use Rattle.std.proofs.Common.{◌≡◌, ◌≢◌, ℕ, zero, suc, ◌+◌, ◌-◌, ◌*◌, ◌/◌, ◌%◌, ◌^◌, ◌<◌, ◌≤◌, Bool, true, false, not, ◌&&◌, cond, eqb, ltb, leb, List, [], ◌∷◌, ◌++◌, length, get_or, map, Option, Some, None, refl, sym, ap, subst, ◌∙◌, arith, inl, inr}
+use Rattle.std.proofs.Common.{◌≡◌, ◌≢◌, ℕ, zero, suc, ◌+◌, ◌-◌, ◌*◌, ◌/◌, ◌%◌, ◌^◌, ◌<◌, ◌≤◌, true, false, not, eqb, leb, List, [], ◌∷◌, ◌++◌, length, get_or, map, Some, None, refl, sym, ap, subst, ◌∙◌, arith, inl, inr}
 use Rattle.std.specs.Option.{option_map}
 use Rattle.std.specs.Fmt.{digits, digits_onto, digit_glyph}
-use Rattle.std.specs.Int.Digits.{number_from_digits, number_from_digits_after, AllBelowBase, digits_of}
+use Rattle.std.specs.Int.Digits.{number_from_digits, AllBelowBase, digits_of}
 use Rattle.std.proofs.DigitsParse.{digits_onto-nil, digits_onto_last, digits_onto_step}
-use Rattle.std.proofs.lemmas.Bool.{cond_both, cases_eq, ltb-true, ltb-false, lt-ltb, le-ltb, leb-true, le-leb, eqb-true, eqb-false, eq-eqb, ne_eqb, and_parts, and_from, not-true, cond-true}
+use Rattle.std.proofs.lemmas.Bool.{cases_eq, leb-true, le-leb, eqb-false, ne_eqb, and_parts, and_from, not-true, cond-true}
 use Rattle.std.proofs.lemmas.Bool.Decides.{nat_tests}
 use Rattle.std.proofs.lemmas.Int.Digits.{number_push, number_lt, number_after_ge, all_below_base_digits_of, length-digits_of-le, first_digits_of, number_digits_of}
-use Rattle.std.proofs.lemmas.List.{length-map, append_assoc, map-append, append-nil}
+use Rattle.std.proofs.lemmas.List.{length-map, append-nil}
 use Rattle.std.proofs.lemmas.Nat.{div-mul-add, mod-mul-add}
 use Rattle.std.proofs.Math.Nat.{pow-le-pow_right}
-use Rattle.trace_text.specs.Addresses.{◌>>=◌, all_read, number_read, hex_digit, is_group_form, group_of}
+use Rattle.trace_text.specs.Addresses.{all_read, number_read, hex_digit, is_group_form, group_of}
 use Rattle.trace_text.proofs.Digits.{split_last, below_parts}
-use Rattle.trace_text.proofs.Spelling.{map_some, cond_same, IsInverse, IsSpelling, all_read-map, AreRead, all_read_only}
+use Rattle.trace_text.proofs.Spelling.{map_some, cond_same, IsInverse, IsSpelling, all_read-map, all_read_only}
 use Rattle.trace_text.proofs.Printed.{digits_between, tested_apart}
 
 abbrev glyph : ℕ → ℕ

@@ -3,11 +3,10 @@ use Rattle.std.proofs.Common.{◌≡◌, ℕ, ◌+◌, ◌*◌, ◌/◌, ◌%◌
 use Rattle.std.specs.List.{join_with_byte}
 use Rattle.std.specs.Fmt.{digits}
 use Rattle.std.proofs.lemmas.List.{take_more}
-use Rattle.std.specs.Int.{w32, w128, to_be_bytes}
 use Rattle.std.specs.declared.net.ipv4_addr.Ipv4Addr.{Ipv4Addr}
 use Rattle.std.specs.declared.net.ipv6_addr.Ipv6Addr.{Ipv6Addr}
-use Rattle.std.specs.Net.Addr.{ipv4_octets, ipv6_segments, segments_of, IsIpv4OfBits, IsIpv6OfBits}
-use Rattle.std.specs.Net.Text.{ipv4_text, dotted_text}
+use Rattle.std.specs.Net.Addr.{ipv4_octets, ipv6_segments, IsIpv4OfBits, IsIpv6OfBits}
+use Rattle.std.specs.Net.Text.{ipv4_text}
 use Rattle.std.proofs.Math.Nat.{div-one, div-div-eq-div-mul}
 use Rattle.trace_text.specs.Addresses.{low_digits, printed_octets, joined_groups}
 use Rattle.trace_text.proofs.Octets.{dotted_join}

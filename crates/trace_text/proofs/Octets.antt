@@ -1,19 +1,17 @@
 -- Four octets have one dotted spelling, the one that std reads.
-use Rattle.std.proofs.Common.{◌≡◌, ℕ, ◌+◌, ◌*◌, ◌/◌, ◌%◌, ◌^◌, ◌<◌, ◌≤◌, List, [], ◌∷◌, ◌++◌, map, Option, Some, None, Result, Ok, Err, decimal, refl, sym, ap, subst, ◌∙◌, arith, append_assoc, lit<}
+use Rattle.std.proofs.Common.{◌≡◌, ℕ, ◌/◌, ◌%◌, ◌^◌, ◌<◌, List, [], ◌∷◌, map, Option, Some, None, decimal, refl, sym, ap, ◌∙◌, arith, append_assoc, lit<}
 use Rattle.std.specs.List.{join_with_byte}
-use Rattle.std.specs.Option.{option_map}
-use Rattle.std.specs.Int.{w32, from_be_bytes, to_be_bytes}
+use Rattle.std.specs.Int.{w32, from_be_bytes}
 use Rattle.std.specs.Int.Digits.{number_from_digits, AllBelowBase}
 use Rattle.std.specs.Net.Text.{dotted_text}
 use Rattle.std.specs.Net.Grammar.{IsDotted}
 use Rattle.net_base.specs.Number.{number_up_to}
 use Rattle.std.proofs.lemmas.Int.Digits.{number_lt}
-use Rattle.trace_text.specs.Words.{pieces_of}
-use Rattle.trace_text.specs.Addresses.{octets_of, low_digits, number_in_pieces}
+use Rattle.trace_text.specs.Addresses.{octets_of, low_digits}
 use Rattle.trace_text.proofs.Numerals.{number_up_to-decimal, decimal-number_up_to}
 use Rattle.trace_text.proofs.Printed.{digits_apart, tested_apart}
-use Rattle.trace_text.proofs.Spelling.{IsInverse, IsSpelling, reads_again, reads_only, spelled}
-use Rattle.trace_text.proofs.Digits.{number-low_digits, low_digits-number}
+use Rattle.trace_text.proofs.Spelling.{IsSpelling, reads_again, reads_only, spelled}
+use Rattle.trace_text.proofs.Digits.{low_digits-number}
 
 numbers_again : (n : ℕ) → n < 256 → number_up_to 255 (decimal n) ≡ Some n
 numbers_again n fits = number_up_to-decimal 255 n (omega arith) (lit< tt)

@@ -1,12 +1,11 @@
 -- A number by what was read of it and what is still to be read.
-use Rattle.std.proofs.Common.{◌≡◌, ℕ, suc, ◌+◌, ◌-◌, ◌*◌, ◌^◌, ◌<◌, ◌≤◌, Bool, true, false, cond, eqb, List, [], ◌∷◌, length, get_or, drop, Option, Some, None, refl, sym, ap, ◌∙◌, arith}
+use Rattle.std.proofs.Common.{◌≡◌, ℕ, suc, ◌+◌, ◌*◌, ◌^◌, ◌<◌, ◌≤◌, cond, eqb, List, ◌∷◌, length, get_or, drop, Option, Some, None, refl, ◌∙◌, arith}
 use Rattle.std.specs.Option.{option_map}
 use Rattle.std.specs.Int.Digits.{number_from_digits_after}
 use Rattle.std.proofs.Math.Nat.{pow-le-pow_right, mul-le-mul_right}
 use Rattle.std.proofs.lemmas.Grind.{pow_more}
-use Rattle.std.proofs.lemmas.Bool.Decides.{nat_tests}
 use Rattle.std.proofs.lemmas.List.{at_drop_more}
-use Rattle.trace_text.specs.Addresses.{◌>>=◌, all_read, number_read, number_in_pieces}
+use Rattle.trace_text.specs.Addresses.{◌>>=◌, all_read}
 
 -- a number with few digits has room for one more
 pub fits_more : (base most index value : ℕ) → 0 < base → index ≤ most → value < base ^ index → value < base ^ most

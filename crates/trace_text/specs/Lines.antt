@@ -1,5 +1,5 @@
 -- The grammar of a trace's lines.
-use Rattle.std.specs.Prelude.{ℕ, ◌+◌, ◌^◌, ◌==◌, nat_le, nat_lt, nat_eq, Bool, true, false, ◌||◌, ◌&&◌, ◌≡◌, List, [], ◌∷◌, codes, bytes_eq, if◌then◌else◌, Option, Some, None, Result, Ok, Err}
+use Rattle.std.specs.Prelude.{ℕ, ◌+◌, ◌==◌, nat_le, nat_eq, Bool, ◌||◌, ◌&&◌, ◌≡◌, List, [], ◌∷◌, codes, bytes_eq, if◌then◌else◌, Option, Some, None, Result, Ok, Err}
 use Rattle.std.specs.Option.{ok_or}
 use Rattle.std.specs.List.{list_any, starts_with}
 use Rattle.net_base.specs.Number.{number_up_to}
@@ -13,7 +13,7 @@ use Rattle.trace_text.specs.declared.line.LineRefusal.TheVariants.{BadWord, BadN
 use Rattle.trace_text.specs.declared.stage.Stage.{Stage}
 use Rattle.trace_text.specs.Words.{Unread, words_of}
 use Rattle.trace_text.specs.Addresses.{address_of}
-use Rattle.trace_text.specs.Settings.{Setting, setting_of}
+use Rattle.trace_text.specs.Settings.{setting_of}
 
 -- the first refusal from the left decides
 infixl 10 ◌>>=◌

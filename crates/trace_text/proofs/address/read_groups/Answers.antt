@@ -1,4 +1,4 @@
-use Rattle.std.proofs.Common.{sym, ◌∙◌, arith}
+use Rattle.std.proofs.Common.{arith}
 use Rattle.trace_text.proofs.Reading.{fits_more}
 use Rattle.trace_text.proofs.address.read_groups.Goals as goal
 

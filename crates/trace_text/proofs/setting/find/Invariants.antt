@@ -1,4 +1,4 @@
-use Rattle.std.proofs.Common.{◌≡◌, ℕ, ◌+◌, map, drop}
+use Rattle.std.proofs.Common.{◌≡◌, ◌+◌, map, drop}
 use Rattle.trace_text.specs.Settings.{setting_from, row_view}
 use Rattle.trace_text.proofs.setting.find.Given as goal
 

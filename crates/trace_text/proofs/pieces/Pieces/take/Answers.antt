@@ -1,6 +1,4 @@
-use Rattle.std.proofs.Common.{rules, ◌≡◌, ◌∷◌, [], ◌++◌, sym, ap, ◌∙◌}
-use Rattle.std.specs.Option.{option_map}
-use Rattle.trace_text.specs.Words.{pieces_of, cut_at}
+use Rattle.std.proofs.Common.{rules}
 use Rattle.trace_text.proofs.Cutting.{cut_at-Some, cut_at-None}
 use Rattle.trace_text.proofs.pieces.Pieces.take.Goals as goal
 
