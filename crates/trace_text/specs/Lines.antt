@@ -59,7 +59,7 @@ no_more unread = no_words unread.place unread.words
 
 -- ---- the head
 
--- only `trace` is a first word of line 1
+-- one word and no other
 abbrev pub this_word : List ℕ → List ℕ → Option (Unit {0})
 this_word text word = if bytes_eq word text then Some tt else None
 
