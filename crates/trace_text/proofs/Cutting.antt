@@ -9,7 +9,8 @@ use Rattle.std.proofs.lemmas.List.Elements.{All-from_get_or, All-get_or}
 use Rattle.std.proofs.lemmas.List.{length-append, get_or_append_left, get_or_at, take_at, drop_at, drop-drop}
 use Rattle.std.proofs.lemmas.List.Sums.{split_at_first, passes_at_first, fails_before_first, position_or_len_is}
 use Rattle.std.proofs.lemmas.List.Splits.{slice_split_first, slice_split_none, length-slice_split}
-use Rattle.trace_text.specs.Words.{pieces_of, pieces_left, cut_at}
+use Rattle.trace_text.specs.Words.{pieces_of, cut_at}
+use Rattle.trace_text.specs.Views.{pieces_left}
 
 abbrev place : ℕ → List ℕ → ℕ
 place s xs = position_or_len (λ c. eqb c s) xs

@@ -9,3 +9,4 @@ pub mod Reading
 pub mod Ips
 pub mod AddressLaws
 pub mod ActionLaws
+pub mod SettingLaws

@@ -4,3 +4,4 @@ pub mod Settings
 pub mod Stages
 pub mod Lines
 pub mod Actions
+pub mod Views

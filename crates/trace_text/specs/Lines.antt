@@ -165,8 +165,3 @@ line_of stage line =
 abbrev pub IsReading : Result Line LineRefusal → Result Line LineRefusal → Type 0
 IsReading (Err OutOfMemory) expected = Unit {0}
 IsReading result expected = result ≡ expected
-
--- a value and the words that are left, or a refusal
-abbrev pub Gives : {A B : Type 0} → (A → B) → Result A LineRefusal → Unread → Result (B × Unread) LineRefusal → Type 0
-Gives view (Ok value) rest expected = expected ≡ Ok (view value, rest)
-Gives view (Err refusal) rest expected = expected ≡ Err refusal

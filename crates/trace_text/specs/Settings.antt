@@ -1,7 +1,6 @@
 -- The settings of a trace's head: their order and their ranges.
-use Rattle.std.specs.Prelude.{ℕ, ◌+◌, List, [], ◌∷◌, codes, bytes_eq, Option, Some, None, if◌then◌else◌}
-use Rattle.trace_text.specs.declared.setting.Row.{Row}
-use Rattle.trace_text.specs.declared.setting.Found.{Found}
+use Rattle.std.specs.Prelude.{ℕ, ◌+◌, ◌≤◌, List, [], ◌∷◌, codes, bytes_eq, Option, Some, None, if◌then◌else◌}
+use Rattle.net_base.specs.declared.settings.Settings.{Settings}
 
 pub record Setting : Type 0 where
   pub name : List ℕ
@@ -34,9 +33,15 @@ setting_from place name (first ∷ rest) =
 abbrev pub setting_of : ℕ → List ℕ → Option (ℕ × Setting)
 setting_of hard name = setting_from 1 name (settings_under hard)
 
--- the code's rows and findings as settings
-abbrev pub row_view : Row → Setting
-row_view row = setting row.name.now row.least row.most
+-- the values of the settings in their order
+abbrev pub setting_values : Settings → List ℕ
+setting_values s =
+    s.magic ∷ s.initiator_only ∷ s.sharing ∷ s.hard ∷ s.soft ∷ s.delay ∷ s.idle ∷ s.timewait ∷ s.handshake
+    ∷ s.reply ∷ s.backoff ∷ s.sharegap ∷ s.shares ∷ []
 
-abbrev pub found_view : Found → ℕ × Setting
-found_view found = (found.place, row_view found.row)
+-- each value is in the range of its setting
+abbrev pub AreInRange : List Setting → List ℕ → Type 0
+AreInRange [] values = Unit {0}
+AreInRange (first ∷ rest) [] = Unit {0}
+AreInRange (first ∷ rest) (value ∷ values) =
+    (first.least ≤ value) × (value ≤ first.most) × AreInRange rest values

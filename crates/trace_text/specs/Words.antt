@@ -1,17 +1,11 @@
 -- How a line is cut into words.
-use Rattle.std.specs.Prelude.{ℕ, ◌+◌, ◌==◌, List, [], take, drop, position, Option, Some, None}
+use Rattle.std.specs.Prelude.{ℕ, ◌+◌, ◌==◌, List, take, drop, position, Option}
 use Rattle.std.specs.List.{slice_split}
 use Rattle.std.specs.Option.{option_map}
-use Rattle.std.specs.Borrow.{Bor}
 
 -- what stands between the separators: one piece more than there are separators
 abbrev pub pieces_of : ℕ → List ℕ → List (List ℕ)
 pieces_of separator bytes = slice_split (λ c. c == separator) bytes
-
--- the pieces of what is left, if anything is
-abbrev pub pieces_left : ℕ → Option (Bor (List ℕ)) → List (List ℕ)
-pieces_left separator None = []
-pieces_left separator (Some rest) = pieces_of separator rest.now
 
 -- what stands before and after the first separator, where there is one
 abbrev pub cut_at : ℕ → List ℕ → Option (List ℕ × List ℕ)

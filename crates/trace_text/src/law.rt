@@ -7,6 +7,9 @@ ghost use Rattle.trace_text.specs.declared.stage.Stage.{Stage};
 ghost use Rattle.trace_text.specs.Addresses.{IsAddress, address_of, knows_family, printed_address};
 ghost use Rattle.trace_text.specs.Actions.{printed_action};
 ghost use Rattle.trace_text.specs.Lines.{line_of};
+ghost use Rattle.net_base.specs.Bounds.{AreSound};
+ghost use Rattle.net_base.specs.declared.settings.Settings.{Settings};
+ghost use Rattle.trace_text.specs.Settings.{AreInRange, setting_values, settings_under};
 
 /// A law: a number has one spelling, and it is read.
 pub fn numbers_are_spelled_once()
@@ -30,4 +33,11 @@ pub fn actions_are_lines()
     ensures one_line { (action : Action) → ¬ (Contains (printed_action action) 10) }
     ensures acted { (stage : Stage) (action : Action)
         → 2 ≤ stage.seen → line_of stage (printed_action action) ≡ Ok Acted }
+{}
+
+/// A law: the ranges of the settings' lines are those that `Settings::check` tests.
+pub fn settings_are_those_of_the_check()
+    ensures passes { (s : Settings) → 1 ≤ s.version → s.version ≤ 2
+        → AreInRange (settings_under s.hard) (setting_values s) → AreSound s }
+    ensures within { (s : Settings) → AreSound s → AreInRange (settings_under s.hard) (setting_values s) }
 {}

@@ -12,7 +12,10 @@ mod stage;
 mod text;
 mod words;
 
-pub use law::{actions_are_lines, addresses_are_spelled_once, numbers_are_spelled_once};
+pub use law::{
+    actions_are_lines, addresses_are_spelled_once, numbers_are_spelled_once,
+    settings_are_those_of_the_check,
+};
 pub use line::{HeadLine, Line, LineRefusal};
 pub use print::print_action;
 pub use read::read_line;

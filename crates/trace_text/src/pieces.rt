@@ -14,7 +14,7 @@ pub struct Pieces<'a> {
 
 impl<'a> Model for Pieces<'a> {
     ghost use Rattle.std.specs.Prelude.{ℕ, List};
-    ghost use Rattle.trace_text.specs.Words.{pieces_left};
+    ghost use Rattle.trace_text.specs.Views.{pieces_left};
 
     ghost Value = { List (List ℕ) };
 

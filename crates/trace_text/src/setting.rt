@@ -1,6 +1,7 @@
 ghost use Rattle.std.specs.Prelude.{◌≡◌, ◌<◌, length, map};
 ghost use Rattle.std.specs.Option.{option_map};
-ghost use Rattle.trace_text.specs.Settings.{setting as setting_row, interval, setting_of, setting_from, row_view, found_view};
+ghost use Rattle.trace_text.specs.Settings.{setting as setting_row, interval, setting_of, setting_from};
+ghost use Rattle.trace_text.specs.Views.{row_view, found_view};
 
 /// A setting's name, its least and its greatest value.
 #[derive(Clone, Copy)]

@@ -1,8 +1,9 @@
 ghost use Rattle.std.specs.Prelude.{◌≡◌};
 ghost use Rattle.trace_text.specs.Words.{words_of};
 ghost use Rattle.trace_text.specs.declared.line.LineRefusal.TheVariants.{BadWord};
-ghost use Rattle.trace_text.specs.Lines.{Gives, next_word, next_number, next_address, next_read, this_word, version_of, no_more};
-ghost use Rattle.trace_text.specs.Settings.{setting_of, found_view};
+ghost use Rattle.trace_text.specs.Lines.{next_word, next_number, next_address, next_read, this_word, version_of, no_more};
+ghost use Rattle.trace_text.specs.Settings.{setting_of};
+ghost use Rattle.trace_text.specs.Views.{Gives, found_view};
 
 use crate::LineRefusal;
 use crate::address::read_address;

@@ -3,7 +3,8 @@ use Rattle.std.specs.Str.{bytes_eq}
 use Rattle.std.proofs.lemmas.Bool.{cond-true, cond-false}
 use Rattle.std.proofs.lemmas.List.{at_drop_more}
 use Rattle.trace_text.specs.declared.setting.Row.{Row}
-use Rattle.trace_text.specs.Settings.{setting_from, row_view}
+use Rattle.trace_text.specs.Settings.{setting_from}
+use Rattle.trace_text.specs.Views.{row_view}
 use Rattle.trace_text.proofs.setting.find.Goals as goal
 
 -- what a read past the end would give

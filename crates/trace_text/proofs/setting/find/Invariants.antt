@@ -1,5 +1,6 @@
 use Rattle.std.proofs.Common.{◌≡◌, ◌+◌, map, drop}
-use Rattle.trace_text.specs.Settings.{setting_from, row_view}
+use Rattle.trace_text.specs.Settings.{setting_from}
+use Rattle.trace_text.specs.Views.{row_view}
 use Rattle.trace_text.proofs.setting.find.Given as goal
 
 abbrev pub invariant-loop-row : goal.invariant-loop-row
