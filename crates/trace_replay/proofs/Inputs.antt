@@ -55,24 +55,27 @@ judged_whole before after input seen outcome gives told decisive =
     ap judged read.split ∙ decisive.settled read.rest read.left
 
 decided : (before after : Option (List ℕ)) (input seen : List ℕ) (outcome : Outcome) (verdict : Verdict) (t0 t1 : Option (List ℕ)) → Gives before after seen → before ≡ Some input →
-    AreDecisive seen after outcome → Takes t0 t1 (output_of seen) → verdict_of seen ≡ verdict → IsDecided input verdict t0 t1
+    AreDecisive seen after outcome → Takes t0 t1 (output_of seen) → verdict_of seen ≡ verdict → IsDecided input verdict after t0 t1
 decided before after input seen outcome verdict t0 t1 gives told decisive takes is =
     let same = judged_whole before after input seen outcome gives told decisive in
     record {
+      seen = seen;
+      read = read_up_to before after input seen gives told;
+      decides = is;
       verdict_is = ap (λ j. j.verdict) same ∙ is;
       taken = subst (λ (bytes : List ℕ). Takes t0 t1 bytes) (sym (ap output_for same)) takes;
     }
 
-pub Replays-done : (l0 l1 t0 t1 : Option (List ℕ)) (input : List ℕ) → Replays l0 l1 t0 t1 Done → l0 ≡ Some input → IsDecided input ended t0 t1
+pub Replays-done : (l0 l1 t0 t1 : Option (List ℕ)) (input : List ℕ) → Replays l0 l1 t0 t1 Done → l0 ≡ Some input → IsDecided input ended l1 t0 t1
 Replays-done l0 l1 t0 t1 input r told =
     decided l0 l1 input r.seen Done ended t0 t1 r.gives told r.is_outcome.0 r.is_outcome.1 (verdict_done (verdict_of r.seen) r.is_outcome.0.told)
 
 pub Replays-refused : (l0 l1 t0 t1 : Option (List ℕ)) (input : List ℕ) (line : ℕ) (kind : RefusalKind) → Replays l0 l1 t0 t1 (Refused line kind) → l0 ≡ Some input →
-    IsDecided input (refused line kind) t0 t1
+    IsDecided input (refused line kind) l1 t0 t1
 Replays-refused l0 l1 t0 t1 input line kind r told =
     decided l0 l1 input r.seen (Refused line kind) (refused line kind) t0 t1 r.gives told r.is_outcome.0 r.is_outcome.1 (verdict_refused (verdict_of r.seen) line kind r.is_outcome.0.told)
 
-pub Replays-too_long : (l0 l1 t0 t1 : Option (List ℕ)) (input : List ℕ) (line : ℕ) → Replays l0 l1 t0 t1 (TooLong line) → l0 ≡ Some input → IsDecided input (too_long line) t0 t1
+pub Replays-too_long : (l0 l1 t0 t1 : Option (List ℕ)) (input : List ℕ) (line : ℕ) → Replays l0 l1 t0 t1 (TooLong line) → l0 ≡ Some input → IsDecided input (too_long line) l1 t0 t1
 Replays-too_long l0 l1 t0 t1 input line r told =
     decided l0 l1 input r.seen (TooLong line) (too_long line) t0 t1 r.gives told r.is_outcome.0 r.is_outcome.1 (verdict_too_long (verdict_of r.seen) line r.is_outcome.0.told)
 

@@ -9,16 +9,19 @@ use Rattle.trace_replay.specs.Judgement.{Verdict, judged}
 use Rattle.trace_replay.specs.Output.{start_in, output_of}
 use Rattle.trace_replay.specs.Replays.{verdict_of, AreUndecided}
 
--- The input is decided in one way, and the sink took its whole output.
-pub record IsDecided (input : List ℕ) (verdict : Verdict) (taken_before taken_after : Option (List ℕ)) : Type 0 where
-  pub verdict_is : verdict_of input ≡ verdict
-  pub taken : Takes taken_before taken_after (output_of input)
-
 -- The bytes that were read are a front of the input, and the rest is left.
 pub record IsReadUpTo (input seen : List ℕ) (left_after : Option (List ℕ)) : Type 0 where
   pub rest : List ℕ
   pub split : input ≡ seen ++ rest
   pub left : left_after ≡ Some rest
+
+-- The bytes that were read decide the input in one way, and the sink took its whole output.
+pub record IsDecided (input : List ℕ) (verdict : Verdict) (left_after taken_before taken_after : Option (List ℕ)) : Type 0 where
+  pub seen : List ℕ
+  pub read : IsReadUpTo input seen left_after
+  pub decides : verdict_of seen ≡ verdict
+  pub verdict_is : verdict_of input ≡ verdict
+  pub taken : Takes taken_before taken_after (output_of input)
 
 -- The bytes that were read end inside a line or before `end`, and no line of them decides. The sink took exactly
 -- what they give.
