@@ -1,0 +1,16 @@
+use Rattle.std.proofs.Common.{◌≡◌, Bool, true, false, map, string_bytes, sym, ⊎_elim, ◌∙◌}
+use Rattle.std.proofs.lemmas.Bool.{cases_Bool}
+use Rattle.trace_replay.proofs.Inputs.{KeepsLaws-all}
+use Rattle.node_tool.specs.Run.{is_replay}
+use Rattle.node_tool.proofs.RunLemmas.{IsReplayed-memory}
+use Rattle.node_tool.proofs.running.run.Goals as goal
+
+pub returns-clause-memory : goal.returns-clause-memory
+returns-clause-memory g c = λ input told is.
+    ⊎_elim
+    (λ yes_replay. IsReplayed-memory _ _ _ _ _ _ _ _ c.answer-status.result input (c.answer-status.ensures.replayed yes_replay) told is)
+    (λ none. absurd (let usage = c.answer-status.ensures.usage none in cc))
+    (cases_Bool (is_replay (map string_bytes c.args.words.now)))
+
+pub returns-clause-laws : goal.returns-clause-laws
+returns-clause-laws g c = KeepsLaws-all

@@ -1,0 +1,34 @@
+//! The program of a Cardano node's connection manager: it replays traces.
+#![tactic(auto)]
+
+mod names;
+mod running;
+mod status;
+mod telling;
+mod words;
+
+use io_edge::{StdSink, StdSource};
+pub use running::run;
+pub use status::{Status, What, Which};
+use std::process::ExitCode;
+
+fn main(rt: HostRuntime) -> ExitCode {
+    let alloc = rt.alloc();
+    let mut src = StdSource::new(&rt);
+    let mut err = StdSink::err(rt.stderr());
+    let status = match words::command_words(&rt) {
+        Ok(words) => {
+            let mut out = StdSink::out(rt);
+            run(alloc, &words, &mut src, &mut out, &mut err)
+        }
+        Err(_) => {
+            // A text that is not taken changes no status.
+            let _ = telling::tell(&Status::OutOfMemory, &mut err);
+            Status::OutOfMemory
+        }
+    };
+    ExitCode::from(status.code())
+}
+
+#[cfg(test)]
+mod tests;

@@ -1,0 +1,105 @@
+ghost use Rattle.std.specs.Prelude.{◌≡◌, ℕ, ◌⊎◌, ◌↔◌, List, Some, map, string_bytes, true, false};
+ghost use Rattle.io_edge.specs.Causes.{Rose};
+ghost use Rattle.net_base.specs.declared.refusal.RefusalKind.{RefusalKind};
+ghost use Rattle.trace_replay.specs.Inputs.{IsDecided, StopsReading, StopsWriting, KeepsLaws};
+ghost use Rattle.trace_replay.specs.Judgement.{ended, refused, too_long};
+ghost use Rattle.trace_replay.specs.Output.{output_of};
+ghost use Rattle.trace_replay.specs.Replays.{verdict_of, TakesPrefix};
+ghost use Rattle.node_tool.specs.Run.{is_replay, status_of, status_told, IsAnswered, IsReplayStatus, IsReplayed};
+ghost use Rattle.node_tool.specs.Status.{status_text};
+ghost use Rattle.node_tool.specs.Telling.{IsTold};
+
+use crate::Status;
+use crate::telling::tell;
+use io_edge::{Sink, Source};
+use std::alloc::Global;
+use trace_replay::{Outcome, replay};
+
+/// Does what the words of a command line say, from a source to a sink, and tells on another sink how it ended. The
+/// words stand without the program's name.
+pub fn run<S: Source, K: Sink, E: Sink>(
+    alloc: Global,
+    words: &[String],
+    src: &mut S,
+    out: &mut K,
+    err: &mut E,
+) -> Status
+    ensures usage { (result ≡ Status.Usage) ↔ (is_replay (map string_bytes words.now) ≡ false) }
+    ensures usage_source { result ≡ Status.Usage → src.new ≡ src.old }
+    ensures usage_out { result ≡ Status.Usage → out.new ≡ out.old }
+
+    // Each clause about an input is for a source that tells it.
+    ensures done { (input : List ℕ) → S.left src.old ≡ Some input → result ≡ Status.Done →
+        IsDecided input ended (S.left src.new) (K.taken out.old) (K.taken out.new) }
+    ensures refused { (input : List ℕ) (line : ℕ) (kind : RefusalKind) → S.left src.old ≡ Some input → result ≡ Status.Refused line kind →
+        IsDecided input (refused line kind) (S.left src.new) (K.taken out.old) (K.taken out.new) }
+    ensures too_long { (input : List ℕ) (line : ℕ) → S.left src.old ≡ Some input → result ≡ Status.TooLong line →
+        IsDecided input (too_long line) (S.left src.new) (K.taken out.old) (K.taken out.new) }
+
+    ensures read_cause { result ≡ Status.ReadFault → Rose (S.faults src.old) (S.faults src.new) }
+    ensures read_fault { (input : List ℕ) → S.left src.old ≡ Some input → result ≡ Status.ReadFault →
+        StopsReading input (S.left src.new) (K.taken out.old) (K.taken out.new) }
+    ensures write_cause { result ≡ Status.WriteFault → Rose (K.faults out.old) (K.faults out.new) }
+    ensures write_fault { (input : List ℕ) → S.left src.old ≡ Some input → result ≡ Status.WriteFault →
+        StopsWriting input (S.left src.new) (K.taken out.old) (K.taken out.new) }
+    ensures memory { (input : List ℕ) → S.left src.old ≡ Some input → result ≡ Status.OutOfMemory →
+        TakesPrefix (K.taken out.old) (K.taken out.new) (output_of input) }
+
+    // The line that decides has its status, but for want of memory and for faults.
+    ensures answered { (input : List ℕ) → S.left src.old ≡ Some input → is_replay (map string_bytes words.now) ≡ true →
+        IsAnswered (status_of (verdict_of input)) (Rose (S.faults src.old) (S.faults src.new)) (Rose (K.faults out.old) (K.faults out.new)) result }
+    ensures complete { (input : List ℕ) → S.left src.old ≡ Some input → is_replay (map string_bytes words.now) ≡ true →
+        ¬ Rose (S.faults src.old) (S.faults src.new) → ¬ Rose (K.faults out.old) (K.faults out.new) →
+        (result ≡ status_of (verdict_of input)) ⊎ (result ≡ Status.OutOfMemory) }
+    ensures no_other { IsReplayStatus result }
+
+    ensures told { IsTold (E.taken err.old) (E.taken err.new) (E.faults err.old) (E.faults err.new) (status_text result) }
+    ensures laws { (input : List ℕ) → KeepsLaws input }
+{
+    let status = answer(alloc, words, src, out);
+    // A text that is not taken changes no status.
+    let _ = tell(&status, err);
+    status
+}
+
+// The status of a command.
+fn answer<S: Source, K: Sink>(alloc: Global, words: &[String], src: &mut S, out: &mut K) -> Status
+    ensures usage { is_replay (map string_bytes words.now) ≡ false → result ≡ Status.Usage }
+    ensures source { is_replay (map string_bytes words.now) ≡ false → src.new ≡ src.old }
+    ensures out { is_replay (map string_bytes words.now) ≡ false → out.new ≡ out.old }
+    ensures replayed { is_replay (map string_bytes words.now) ≡ true →
+        IsReplayed (S.left src.old) (S.left src.new) (K.taken out.old) (K.taken out.new)
+        (S.faults src.old) (S.faults src.new) (K.faults out.old) (K.faults out.new) result }
+{
+    if is_replay(words) {
+        told(replay(alloc, src, out))
+    } else {
+        Status::Usage
+    }
+}
+
+// The words are the one word of the command.
+fn is_replay(words: &[String]) -> bool
+    ensures { result ≡ is_replay (map string_bytes words.now) }
+{
+    match words {
+        [word] => word.as_str() == "replay",
+        _ => false,
+    }
+}
+
+// How an outcome is told.
+fn told(outcome: Outcome) -> Status
+    ensures { result ≡ status_told outcome }
+{
+    match outcome {
+        Outcome::Done => Status::Done,
+        Outcome::Differ { line } => Status::Differ { line },
+        Outcome::Refused { line, kind } => Status::Refused { line, kind },
+        Outcome::ReadFault => Status::ReadFault,
+        Outcome::WriteFault => Status::WriteFault,
+        Outcome::OutOfMemory => Status::OutOfMemory,
+        Outcome::WorldFault => Status::WorldFault,
+        Outcome::TooLong { line } => Status::TooLong { line },
+    }
+}
