@@ -1,3 +1,5 @@
+ghost use Rattle.std.specs.Prelude.{◌≤◌};
+
 use crate::{Status, run};
 use io_edge::{MemSink, MemSource, SureSource};
 use net_base::{NumberList, Octets, RefusalKind};
@@ -231,7 +233,7 @@ fn each_reading_fails_in_turn(rt: HostRuntime) -> Result<(), Fail> {
             .windows(2)
             .filter(|pair| *pair == b"> ".as_slice())
             .count();
-        assert_eq!(rt; ended - actions, lines);
+        assert_eq!(rt; ended, lines + actions);
     }
     Ok(())
 }
