@@ -1,9 +1,5 @@
 -- What a replay's status says of the whole input.
-use Rattle.std.proofs.Common.{◌≡◌, ◌≢◌, ℕ, Bool, true, false, List, Option, Some, ◌⊎◌, inl, inr, refl, sym, ap, ◌∙◌, subst}
-use Rattle.std.proofs.lemmas.Bool.{cases_Bool}
-use Rattle.net_base.specs.declared.refusal.RefusalKind.{RefusalKind}
-use Rattle.trace_replay.specs.Inputs.{IsDecided, StopsReading, StopsWriting}
-use Rattle.trace_replay.specs.Judgement.{ended, refused, too_long}
+use Rattle.std.proofs.Common.{◌≡◌, ℕ, List, Option, Some, refl, sym, ◌∙◌, subst}
 use Rattle.trace_replay.specs.Output.{output_of}
 use Rattle.trace_replay.specs.Replays.{TakesPrefix, Replays}
 use Rattle.trace_replay.specs.declared.outcome.Outcome.{Outcome}
@@ -11,7 +7,7 @@ use Rattle.trace_replay.specs.declared.outcome.Outcome.TheVariants as outcome
 use Rattle.trace_replay.proofs.Inputs.{Replays-memory}
 use Rattle.node_tool.specs.Run.{status_told, IsReplayed}
 use Rattle.node_tool.specs.declared.status.Status.{Status}
-use Rattle.node_tool.specs.declared.status.Status.TheVariants.{Done, Differ, Usage, Refused, ReadFault, WriteFault, OutOfMemory, WorldFault, FileFault, TooLong, BadSettings, FileTooLarge}
+use Rattle.node_tool.specs.declared.status.Status.TheVariants.{OutOfMemory}
 
 outcome_memory : (o : Outcome) → OutOfMemory ≡ status_told o → o ≡ outcome.OutOfMemory
 outcome_memory outcome.Done e = absurd cc

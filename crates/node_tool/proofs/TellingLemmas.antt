@@ -1,10 +1,9 @@
 -- Pieces that are taken one after another.
-use Rattle.std.proofs.Common.{◌≡◌, ℕ, ◌+◌, ◌<◌, List, [], ◌∷◌, ◌++◌, length, get_or, take, drop, Option, Result, Ok, Err, OnOk, OnErr, IfErr, ◌⊎◌, inl, inr, refl, sym, ap, ◌∙◌, subst, arith}
+use Rattle.std.proofs.Common.{◌≡◌, ℕ, ◌+◌, ◌<◌, List, ◌∷◌, ◌++◌, length, get_or, take, drop, Option, sym, ap, ◌∙◌, subst, arith}
 use Rattle.std.specs.Borrow.{Bor}
 use Rattle.std.specs.List.{flat_map}
-use Rattle.std.proofs.lemmas.List.{append_assoc, append-nil, length-append, drop_more, take-append-drop}
+use Rattle.std.proofs.lemmas.List.{append_assoc, length-append, drop_more, take-append-drop}
 use Rattle.std.proofs.lemmas.List.Concat.{flat_map-append}
-use Rattle.io_edge.specs.Causes.{Rose, HasCause}
 use Rattle.io_edge.specs.Told.{Takes, TakesProperPrefix}
 use Rattle.io_edge.proofs.ToldLemmas.{TakesProperPrefix-after}
 

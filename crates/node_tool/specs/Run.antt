@@ -1,5 +1,5 @@
 -- What a run of the program comes to.
-use Rattle.std.specs.Prelude.{◌≡◌, ℕ, Bool, true, false, ◌⊎◌, List, [], ◌∷◌, codes, bytes_eq, Option}
+use Rattle.std.specs.Prelude.{◌≡◌, ℕ, Bool, false, ◌⊎◌, List, [], ◌∷◌, codes, bytes_eq, Option}
 use Rattle.trace_replay.specs.Judgement.{Verdict, ended, refused, too_long}
 use Rattle.trace_replay.specs.Replays.{Replays}
 use Rattle.trace_replay.specs.UnderWay.{HasReadCount, HasWriteCount}

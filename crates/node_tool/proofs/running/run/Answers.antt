@@ -1,4 +1,4 @@
-use Rattle.std.proofs.Common.{◌≡◌, Bool, true, false, map, string_bytes, sym, ⊎_elim, ◌∙◌}
+use Rattle.std.proofs.Common.{map, string_bytes, ⊎_elim}
 use Rattle.std.proofs.lemmas.Bool.{cases_Bool}
 use Rattle.trace_replay.proofs.Inputs.{KeepsLaws-all}
 use Rattle.node_tool.specs.Run.{is_replay}
