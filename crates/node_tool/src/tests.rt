@@ -240,8 +240,19 @@ fn each_reading_fails_in_turn(rt: HostRuntime) -> Result<(), Fail> {
 
 #[test]
 fn each_writing_fails_in_turn(rt: HostRuntime) -> Result<(), Fail> {
-    // how many bytes stand before each of the first pieces
-    for (call, before) in [(1u64, 0usize), (2, 8), (3, 27), (4, 38)] {
+    // how many bytes stand before each line with its actions
+    for (call, before) in [
+        (1u64, 0usize),
+        (2, 8),
+        (3, 27),
+        (4, 38),
+        (5, 49),
+        (6, 128),
+        (7, 220),
+        (8, 260),
+        (9, 290),
+        (10, 351),
+    ] {
         let (left, _) = failing_run(rt.alloc(), LIMITS, &[], &[call])?;
         assert_eq!(rt; left.status, Status::WriteFault);
         assert_eq!(rt; left.err.bytes(), b"write fault\n".as_slice());
@@ -266,5 +277,46 @@ fn nothing_is_read_behind_the_line_that_decides(rt: HostRuntime) -> Result<(), F
     )?;
     assert_eq!(rt; left.status, Status::Done);
     assert_eq!(rt; calls, 1);
+    Ok(())
+}
+
+// A head, and behind it one line so often, without an end.
+fn endless(alloc: Global, line: &str, count: u64) -> Result<Octets, Fail> {
+    let mut input = octets(alloc, HEAD)?;
+    for _ in 0..count {
+        input.extend_from_slice(line.as_bytes())?;
+    }
+    Ok(input)
+}
+
+// A run of `replay` on many bytes.
+fn long_run(alloc: Global, input: Octets) -> Result<Left, Fail> {
+    let words = [String::from_str(alloc, "replay")?];
+    let mut src = SureSource::new(input, 65_536);
+    let mut out = MemSink::new(alloc, 8_000_000, NumberList::new(alloc))?;
+    let mut err = sink(alloc)?;
+    let status = run(alloc, &words, &mut src, &mut out, &mut err);
+    Ok(Left { status, out, err })
+}
+
+#[test]
+fn a_trace_has_at_most_so_many_lines(rt: HostRuntime) -> Result<(), Fail> {
+    let left = long_run(rt.alloc(), endless(rt.alloc(), "> \n", 4_000_000)?)?;
+    let line = 4_000_001;
+    assert_eq!(rt; left.status, Status::TooLong { line });
+    assert_eq!(rt; left.status.code(), 9);
+    assert_eq!(rt; left.out.bytes(), HEAD.as_bytes());
+    assert_eq!(rt; left.err.bytes(), b"too long: line 4000001\n".as_slice());
+    Ok(())
+}
+
+#[test]
+fn a_trace_has_at_most_so_many_events(rt: HostRuntime) -> Result<(), Fail> {
+    let left = long_run(rt.alloc(), endless(rt.alloc(), "now 0\n", 1_000_001)?)?;
+    let line = 1_000_003;
+    assert_eq!(rt; left.status, Status::TooLong { line });
+    let output = endless(rt.alloc(), "now 0\n", 1_000_000)?;
+    assert_eq!(rt; left.out.bytes(), output.as_slice());
+    assert_eq!(rt; left.err.bytes(), b"too long: line 1000003\n".as_slice());
     Ok(())
 }
