@@ -1,0 +1,6 @@
+pub mod Addresses
+pub mod Book
+pub mod Kept
+pub mod Order
+pub mod Rows
+pub mod Tallies

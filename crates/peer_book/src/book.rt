@@ -1,0 +1,254 @@
+ghost use Rattle.std.specs.Prelude.{◌≡◌, ◌≤◌, ◌^◌, [], length, IsSome, IfSome, IsSomeAnd, IfOk, OnOk, OnErr, false, true};
+ghost use Rattle.net_base.specs.Peer.{failed_peer};
+ghost use Rattle.peer_book.specs.Book.{peer_at, with_peer, without_peer, new_peer, entered, entry_of, known_of, established_of, active_of, listed_at, most_peers};
+ghost use Rattle.peer_book.specs.Order.{IsRising};
+
+use crate::Added;
+use crate::kept::Kept;
+use crate::place::peer_with;
+use net_base::{Addr, AddrList, OutOfMemory, Peer, Temp, backoff_delay};
+use std::alloc::Global;
+use std::marker::Model;
+
+/// How many peers there may be, of both classes.
+const MOST_PEERS: usize = 20_000;
+
+/// The peers that a node knows, in address order.
+#[derive(Drop)]
+pub struct PeerBook {
+    kept: Kept,
+}
+
+impl Model for PeerBook {
+    ghost use Rattle.std.specs.Prelude.{List};
+    ghost use Rattle.net_base.specs.declared.peer.Peer.{Peer};
+    ghost use Rattle.peer_book.specs.Kept.{IsKept};
+
+    ghost Value = { List Peer };
+
+    ghost view = { λ b. b.kept.peers.items };
+
+    ghost invariant = { λ b. IsKept b.kept };
+}
+
+impl PeerBook {
+    /// No peers yet. Takes no memory.
+    pub fn new(alloc: Global) -> PeerBook
+        ensures { result ≡ [] }
+    {
+        PeerBook {
+            kept: Kept::new(alloc),
+        }
+    }
+
+    /// All peers in address order.
+    pub fn as_slice(&self) -> &[Peer]
+        ensures value { result.now ≡ self.now }
+        ensures ordered { IsRising (λ p. p.addr) self.now }
+        ensures limited { length self.now ≤ most_peers }
+    {
+        &self.kept.peers
+    }
+
+    /// The peer with an address.
+    pub fn get(&self, addr: Addr) -> Option<Peer>
+        ensures { result ≡ peer_at addr self.now }
+    {
+        peer_with(&self.kept.peers, addr)
+    }
+
+    /// How many ordinary peers are known.
+    pub fn known(&self) -> u64
+        ensures { result ≡ known_of false self.now }
+    {
+        self.kept.tally.ordinary.known
+    }
+
+    /// How many ordinary peers are warm or hot.
+    pub fn established(&self) -> u64
+        ensures { result ≡ established_of false self.now }
+    {
+        self.kept.tally.ordinary.established
+    }
+
+    /// How many ordinary peers are hot.
+    pub fn active(&self) -> u64
+        ensures { result ≡ active_of false self.now }
+    {
+        self.kept.tally.ordinary.active
+    }
+
+    /// How many big ledger peers are known.
+    pub fn big_known(&self) -> u64
+        ensures { result ≡ known_of true self.now }
+    {
+        self.kept.tally.big.known
+    }
+
+    /// How many big ledger peers are warm or hot.
+    pub fn big_established(&self) -> u64
+        ensures { result ≡ established_of true self.now }
+    {
+        self.kept.tally.big.established
+    }
+
+    /// How many big ledger peers are hot.
+    pub fn big_active(&self) -> u64
+        ensures { result ≡ active_of true self.now }
+    {
+        self.kept.tally.big.active
+    }
+
+    /// The addresses of the peers of a temperature, of both classes, in address order.
+    pub fn listed(&self, temp: Temp) -> &[Addr]
+        ensures value { result.now ≡ listed_at temp self.now }
+        ensures rising { IsRising (λ a. a) result.now }
+    {
+        self.kept.rows.list(temp)
+    }
+
+    /// A copy of that list.
+    pub fn of_temp(&self, temp: Temp) -> Result<AddrList, OutOfMemory>
+        ensures { IfOk result (λ addrs. addrs ≡ listed_at temp self.now) }
+    {
+        let alloc = *self.kept.peers.allocator();
+        Ok(AddrList::from_vec(self.listed(temp).to_vec(alloc)?))
+    }
+
+    /// Makes an address known as that of an ordinary peer. Later changes of the peer take no memory, and memory is
+    /// asked for only where the address comes in.
+    pub fn add(&mut self, addr: Addr) -> Result<Added, OutOfMemory>
+        ensures answer { IfOk result (λ added. added ≡ entry_of addr self.old) }
+        ensures entered { OnOk result (self.new ≡ entered (new_peer false addr) self.old) }
+        ensures unchanged { OnErr result (self.new ≡ self.old) }
+        ensures only_new { OnErr result (entry_of addr self.old ≡ Added.New) }
+    {
+        self.enter(fresh(addr, false))
+    }
+
+    /// Makes an address known as that of a big ledger peer. Memory is asked for as by `add`.
+    pub fn add_big(&mut self, addr: Addr) -> Result<Added, OutOfMemory>
+        ensures answer { IfOk result (λ added. added ≡ entry_of addr self.old) }
+        ensures entered { OnOk result (self.new ≡ entered (new_peer true addr) self.old) }
+        ensures unchanged { OnErr result (self.new ≡ self.old) }
+        ensures only_new { OnErr result (entry_of addr self.old ≡ Added.New) }
+    {
+        self.enter(fresh(addr, true))
+    }
+
+    /// The peer with the address is cold, and goes.
+    pub fn forget(&mut self, addr: Addr)
+        requires { IsSomeAnd (peer_at addr self.old) (λ peer. peer.temp ≡ Temp.Cold) }
+        ensures { self.new ≡ without_peer addr self.old }
+    {
+        let peer = self.get(addr).unwrap();
+        self.kept.take_out(addr, peer);
+    }
+
+    /// Sets the temperature of a peer.
+    pub fn set_temp(&mut self, addr: Addr, temp: Temp)
+        requires { IsSome (peer_at addr self.old) }
+        ensures { IfSome (peer_at addr self.old) (λ peer. self.new ≡ with_peer (record peer { temp = temp }) self.old) }
+    {
+        let peer = self.get(addr).unwrap();
+        self.kept.replace(addr, peer, Peer { temp, ..peer });
+    }
+
+    /// A peer was connected: it is warm, and its failures are forgotten.
+    pub fn succeed(&mut self, addr: Addr)
+        requires { IsSome (peer_at addr self.old) }
+        ensures { IfSome (peer_at addr self.old) (λ peer. self.new ≡ with_peer (record peer { temp = Temp.Warm; failures = 0 }) self.old) }
+    {
+        let peer = self.get(addr).unwrap();
+        self.kept.replace(
+            addr,
+            peer,
+            Peer {
+                temp: Temp::Warm,
+                failures: 0,
+                ..peer
+            },
+        );
+    }
+
+    /// A peer failed: it is cold, and left alone for the back-off.
+    pub fn fail(&mut self, addr: Addr, now: u64, base: u64)
+        requires there { IsSome (peer_at addr self.old) }
+        requires moment { now ≤ 2 ^ 48 }
+        requires interval { base ≤ 86_400_000 }
+        ensures { IfSome (peer_at addr self.old) (λ peer. self.new ≡ with_peer (failed_peer now base peer) self.old) }
+    {
+        let peer = self.get(addr).unwrap();
+        self.kept.replace(addr, peer, failed(peer, now, base));
+    }
+
+    /// A peer was asked for addresses, and is not asked again before a moment.
+    pub fn asked(&mut self, addr: Addr, next: u64)
+        requires { IsSome (peer_at addr self.old) }
+        ensures { IfSome (peer_at addr self.old) (λ peer. self.new ≡ with_peer (record peer { share_next = next }) self.old) }
+    {
+        let peer = self.get(addr).unwrap();
+        self.kept.replace(
+            addr,
+            peer,
+            Peer {
+                share_next: next,
+                ..peer
+            },
+        );
+    }
+
+    /// A peer is an ordinary one from now on.
+    pub fn make_ordinary(&mut self, addr: Addr)
+        requires { IsSome (peer_at addr self.old) }
+        ensures { IfSome (peer_at addr self.old) (λ peer. self.new ≡ with_peer (record peer { big = false }) self.old) }
+    {
+        let peer = self.get(addr).unwrap();
+        self.kept.replace(addr, peer, Peer { big: false, ..peer });
+    }
+
+    fn enter(&mut self, peer: Peer) -> Result<Added, OutOfMemory>
+        ensures answer { IfOk result (λ added. added ≡ entry_of peer.addr self.old) }
+        ensures entered { OnOk result (self.new ≡ entered peer self.old) }
+        ensures unchanged { OnErr result (self.new ≡ self.old) }
+        ensures only_new { OnErr result (entry_of peer.addr self.old ≡ Added.New) }
+    {
+        if self.get(peer.addr).is_some() {
+            return Ok(Added::Present);
+        }
+        if self.kept.peers.len() >= MOST_PEERS {
+            return Ok(Added::Full);
+        }
+        self.kept.reserve()?;
+        self.kept.put(peer);
+        Ok(Added::New)
+    }
+}
+
+// A peer of which nothing is known yet.
+fn fresh(addr: Addr, big: bool) -> Peer
+    ensures { result ≡ new_peer big addr }
+{
+    Peer {
+        addr,
+        big,
+        temp: Temp::Cold,
+        failures: 0,
+        not_before: 0,
+        share_next: 0,
+    }
+}
+
+fn failed(peer: Peer, now: u64, base: u64) -> Peer
+    requires moment { now ≤ 2 ^ 48 }
+    requires interval { base ≤ 86_400_000 }
+    ensures { result ≡ failed_peer now base peer }
+{
+    let failures = peer.failures.saturating_add(1).min(65_535);
+    Peer {
+        temp: Temp::Cold,
+        failures,
+        not_before: now + backoff_delay(base, failures),
+        ..peer
+    }
+}

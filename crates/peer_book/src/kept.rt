@@ -1,0 +1,83 @@
+ghost use Rattle.std.specs.Prelude.{◌≡◌, ◌<◌, ◌≤◌, [], length, Some, None, OnOk, IfOk};
+ghost use Rattle.peer_book.specs.Book.{peer_at, with_peer, without_peer, with_new, most_peers};
+
+use crate::place::place_of_peer;
+use crate::rows::Rows;
+use crate::tally::Tally;
+use net_base::{Addr, Peer};
+use std::alloc::{AllocError, Global};
+
+// The peers in address order, and what is kept beside them.
+#[derive(Drop)]
+pub struct Kept {
+    pub peers: Vec<Peer>,
+    pub rows: Rows,
+    pub tally: Tally,
+}
+
+impl Kept {
+    ghost use Rattle.peer_book.specs.Kept.{IsKept, HasRoom};
+
+    pub fn new(alloc: Global) -> Kept
+        ensures kept { IsKept result }
+        ensures peers { result.peers.items ≡ [] }
+    {
+        Kept {
+            peers: Vec::new(alloc),
+            rows: Rows::new(alloc),
+            tally: Tally::new(),
+        }
+    }
+
+    // Makes room for one more peer.
+    pub fn reserve(&mut self) -> Result<(), AllocError>
+        requires { IsKept self.old }
+        ensures kept { IsKept self.new }
+        ensures peers { self.new.peers.items ≡ self.old.peers.items }
+        ensures room { OnOk result (HasRoom self.new) }
+    {
+        self.peers.try_reserve(1)?;
+        self.rows.reserve(self.peers.len() + 1)
+    }
+
+    pub fn put(&mut self, peer: Peer)
+        requires kept { IsKept self.old }
+        requires room { HasRoom self.old }
+        requires limited { length self.old.peers.items < most_peers }
+        requires absent { peer_at peer.addr self.old.peers.items ≡ None }
+        ensures kept { IsKept self.new }
+        ensures peers { self.new.peers.items ≡ with_new peer self.old.peers.items }
+    {
+        let place = place_of_peer(&self.peers, peer.addr);
+        self.rows.insert(peer.temp, peer.addr);
+        self.tally.enter(&peer);
+        // there is room
+        let _ = self.peers.insert(place, peer);
+    }
+
+    pub fn take_out(&mut self, addr: Addr, peer: Peer)
+        requires kept { IsKept self.old }
+        requires there { peer_at addr self.old.peers.items ≡ Some peer }
+        ensures kept { IsKept self.new }
+        ensures peers { self.new.peers.items ≡ without_peer addr self.old.peers.items }
+    {
+        let place = place_of_peer(&self.peers, addr);
+        self.rows.remove(peer.temp, addr);
+        self.tally.leave(&peer);
+        self.peers.remove(place);
+    }
+
+    pub fn replace(&mut self, addr: Addr, old: Peer, new: Peer)
+        requires kept { IsKept self.old }
+        requires there { peer_at addr self.old.peers.items ≡ Some old }
+        requires same { new.addr ≡ old.addr }
+        ensures kept { IsKept self.new }
+        ensures peers { self.new.peers.items ≡ with_peer new self.old.peers.items }
+    {
+        let place = place_of_peer(&self.peers, addr);
+        self.rows.turn(addr, old.temp, new.temp);
+        self.tally.leave(&old);
+        self.tally.enter(&new);
+        self.peers[place] = new;
+    }
+}

@@ -1,0 +1,15 @@
+//! The peers that a node knows: looked up by address, listed by temperature and counted by class.
+#![tactic(auto)]
+
+mod added;
+mod book;
+mod kept;
+mod place;
+mod rows;
+mod tally;
+
+pub use added::Added;
+pub use book::PeerBook;
+
+#[cfg(test)]
+mod tests;

@@ -1,0 +1,39 @@
+ghost use Rattle.std.specs.Prelude.{◌≡◌, slice_get};
+ghost use Rattle.std.specs.List.{prefix_len};
+ghost use Rattle.net_base.specs.Address.{address_below};
+ghost use Rattle.peer_book.specs.Book.{peer_at};
+ghost use Rattle.peer_book.specs.Order.{IsRising, found_at};
+
+use net_base::{Addr, Peer};
+
+// How many addresses of a rising list are below one.
+pub fn place_of(addrs: &[Addr], addr: Addr) -> usize
+    requires { IsRising (λ a. a) addrs.now }
+    ensures { result ≡ prefix_len (λ a. address_below a addr) addrs.now }
+{
+    addrs.partition_point(|a| *a < addr)
+}
+
+// How many peers have an address below one.
+pub fn place_of_peer(peers: &[Peer], addr: Addr) -> usize
+    requires { IsRising (λ p. p.addr) peers.now }
+    ensures { result ≡ prefix_len (λ p. address_below p.addr addr) peers.now }
+{
+    peers.partition_point(|p| p.addr < addr)
+}
+
+// The peer with an address.
+pub fn peer_with(peers: &[Peer], addr: Addr) -> Option<Peer>
+    requires { IsRising (λ p. p.addr) peers.now }
+    ensures { result ≡ peer_at addr peers.now }
+{
+    peer_there(peers, place_of_peer(peers, addr), addr)
+}
+
+// The peer at a place, where it has an address.
+fn peer_there(peers: &[Peer], place: usize, addr: Addr) -> Option<Peer>
+    ensures { result ≡ found_at (λ p. p.addr) addr (slice_get peers.now place) }
+{
+    let peer = peers.get(place).copied()?;
+    (peer.addr == addr).then_some(peer)
+}

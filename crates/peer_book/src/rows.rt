@@ -1,0 +1,124 @@
+ghost use Rattle.std.specs.Prelude.{◌≡◌, ◌<◌, ◌≤◌, [], false, length, IsTrue, OnOk, vec_len, vec_capacity, if◌then◌else◌};
+ghost use Rattle.net_base.specs.declared.peer.Temp.{Temp};
+ghost use Rattle.peer_book.specs.Book.{same_temp};
+ghost use Rattle.peer_book.specs.Order.{IsRising};
+ghost use Rattle.peer_book.specs.Addresses.{has_address, with_address, without_address};
+
+use crate::place::place_of;
+use net_base::{Addr, Temp};
+use std::alloc::{AllocError, Global};
+
+// The addresses of each temperature, in order.
+#[derive(Drop)]
+pub struct Rows {
+    pub cold: Vec<Addr>,
+    pub warm: Vec<Addr>,
+    pub hot: Vec<Addr>,
+}
+
+impl Rows {
+    ghost use Rattle.peer_book.specs.Rows.{row_of, room_of, moved};
+
+    pub fn new(alloc: Global) -> Rows
+        ensures { (temp : Temp) → row_of temp result ≡ [] }
+    {
+        Rows {
+            cold: Vec::new(alloc),
+            warm: Vec::new(alloc),
+            hot: Vec::new(alloc),
+        }
+    }
+
+    pub fn list(&self, temp: Temp) -> &[Addr]
+        ensures { result.now ≡ row_of temp self.now }
+    {
+        match temp {
+            Temp::Cold => &self.cold,
+            Temp::Warm => &self.warm,
+            Temp::Hot => &self.hot,
+        }
+    }
+
+    // Makes room for so many addresses at each temperature.
+    pub fn reserve(&mut self, room: usize) -> Result<(), AllocError>
+        ensures lists { (temp : Temp) → row_of temp self.new ≡ row_of temp self.old }
+        ensures kept { (temp : Temp) → room_of temp self.old ≤ room_of temp self.new }
+        ensures made { OnOk result ((temp : Temp) → room ≤ room_of temp self.new) }
+    {
+        reserve_in(&mut self.cold, room)?;
+        reserve_in(&mut self.warm, room)?;
+        reserve_in(&mut self.hot, room)?;
+        Ok(())
+    }
+
+    // There has to be room.
+    pub fn insert(&mut self, temp: Temp, addr: Addr)
+        requires rising { IsRising (λ a. a) (row_of temp self.old) }
+        requires room { length (row_of temp self.old) < room_of temp self.old }
+        ensures lists { (other : Temp) → row_of other self.new ≡ (if same_temp temp other then with_address addr (row_of other self.old) else row_of other self.old) }
+        ensures kept { (other : Temp) → room_of other self.old ≤ room_of other self.new }
+    {
+        match temp {
+            Temp::Cold => insert_in(&mut self.cold, addr),
+            Temp::Warm => insert_in(&mut self.warm, addr),
+            Temp::Hot => insert_in(&mut self.hot, addr),
+        }
+    }
+
+    pub fn remove(&mut self, temp: Temp, addr: Addr)
+        requires rising { IsRising (λ a. a) (row_of temp self.old) }
+        requires there { IsTrue (has_address addr (row_of temp self.old)) }
+        ensures lists { (other : Temp) → row_of other self.new ≡ (if same_temp temp other then without_address addr (row_of other self.old) else row_of other self.old) }
+        ensures kept { (other : Temp) → room_of other self.old ≤ room_of other self.new }
+    {
+        match temp {
+            Temp::Cold => remove_from(&mut self.cold, addr),
+            Temp::Warm => remove_from(&mut self.warm, addr),
+            Temp::Hot => remove_from(&mut self.hot, addr),
+        }
+    }
+
+    // Moves an address from one row to another. There has to be room in that one.
+    pub fn turn(&mut self, addr: Addr, from: Temp, to: Temp)
+        requires rising { (temp : Temp) → IsRising (λ a. a) (row_of temp self.old) }
+        requires there { IsTrue (has_address addr (row_of from self.old)) }
+        requires room { same_temp from to ≡ false → length (row_of to self.old) < room_of to self.old }
+        ensures lists { (temp : Temp) → row_of temp self.new ≡ moved from to addr temp (row_of temp self.old) }
+        ensures kept { (temp : Temp) → room_of temp self.old ≤ room_of temp self.new }
+    {
+        if from != to {
+            self.remove(from, addr);
+            self.insert(to, addr);
+        }
+    }
+}
+
+fn insert_in(row: &mut Vec<Addr>, addr: Addr)
+    requires rising { IsRising (λ a. a) row.old.items }
+    requires room { vec_len row.old < vec_capacity row.old }
+    ensures items { row.new.items ≡ with_address addr row.old.items }
+    ensures kept { vec_capacity row.old ≤ vec_capacity row.new }
+{
+    let place = place_of(row, addr);
+    // there is room
+    let _ = row.insert(place, addr);
+}
+
+fn remove_from(row: &mut Vec<Addr>, addr: Addr)
+    requires rising { IsRising (λ a. a) row.old.items }
+    requires there { IsTrue (has_address addr row.old.items) }
+    ensures items { row.new.items ≡ without_address addr row.old.items }
+    ensures kept { vec_capacity row.old ≤ vec_capacity row.new }
+{
+    let place = place_of(row, addr);
+    row.remove(place);
+}
+
+fn reserve_in(row: &mut Vec<Addr>, room: usize) -> Result<(), AllocError>
+    ensures items { row.new.items ≡ row.old.items }
+    ensures kept { vec_capacity row.old ≤ vec_capacity row.new }
+    ensures made { OnOk result (room ≤ vec_capacity row.new) }
+{
+    let more = room.saturating_sub(row.len());
+    row.try_reserve(more)
+}
