@@ -6,7 +6,7 @@ ghost use Rattle.machine.specs.Events.{step};
 ghost use Rattle.machine.specs.Machine.{start_of, facts_of};
 ghost use Rattle.net_base.specs.Bounds.{settings_fault, AreSound};
 ghost use Rattle.net_base.specs.declared.settings.Field.{Field};
-ghost use Rattle.node_engine.specs.Limits.{IsWithinLimits};
+ghost use Rattle.net_base.specs.Limits.{IsWithinLimits};
 ghost use Rattle.node_engine.specs.Tally.{tally_of};
 ghost use Rattle.node_engine.specs.declared.refusal.NewRefusal.TheVariants.{BadSetting};
 

@@ -3,7 +3,7 @@ ghost use Rattle.conn_state.specs.Use.{facts_at};
 ghost use Rattle.machine.specs.Events.{step};
 ghost use Rattle.machine.specs.Machine.{start_of, facts_of};
 ghost use Rattle.net_base.specs.Bounds.{AreSound};
-ghost use Rattle.node_engine.specs.Limits.{IsWithinLimits};
+ghost use Rattle.net_base.specs.Limits.{IsWithinLimits};
 ghost use Rattle.node_engine.specs.State.{Does};
 ghost use Rattle.node_engine.specs.Tally.{tally_of};
 

@@ -10,7 +10,7 @@ use Rattle.machine.specs.Run.{after_all}
 use Rattle.net_base.specs.Bounds.{AreSound}
 use Rattle.net_base.specs.declared.event.Event.{Event}
 use Rattle.net_base.specs.declared.event.Event.TheVariants.{Now, Govern, Accepted, Dialed, Bytes, Closed, Aims, Locals, Roots, BigAims, Bigs}
-use Rattle.node_engine.specs.Limits.{IsWithinLimits}
+use Rattle.net_base.specs.Limits.{IsWithinLimits}
 use Rattle.node_engine.specs.declared.engine.Engine.{Engine}
 use Rattle.trace_text.specs.Lines.{line_of, IsReading}
 use Rattle.trace_text.specs.Stages.{first_stage, stage_after}

@@ -6,7 +6,7 @@ use Rattle.machine.specs.Machine.{Machine, start_of}
 use Rattle.machine.specs.Run.{after_all}
 use Rattle.net_base.specs.declared.event.Event.{Event}
 use Rattle.net_base.specs.declared.refusal.RefusalKind.TheVariants.{Word, Number, Targets, Order, NotBuilt as Unbuilt}
-use Rattle.node_engine.specs.Limits.{IsWithinLimits}
+use Rattle.net_base.specs.Limits.{IsWithinLimits}
 use Rattle.node_engine.specs.declared.engine.Engine.{Engine}
 use Rattle.trace_text.specs.Stages.{first_stage}
 use Rattle.trace_text.specs.declared.line.Line.{Line}

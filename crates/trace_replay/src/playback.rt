@@ -1,7 +1,7 @@
 ghost use Rattle.std.specs.Prelude.{◌≡◌, ℕ, ◌+◌, ◌<◌, ◌≤◌, List, [], ◌∷◌, ◌++◌, length, IfOk, Ok};
 ghost use Rattle.io_edge.specs.Lines.{ended_lines};
 ghost use Rattle.net_base.specs.Bounds.{AreSound};
-ghost use Rattle.node_engine.specs.Limits.{IsWithinLimits};
+ghost use Rattle.net_base.specs.Limits.{IsWithinLimits};
 ghost use Rattle.trace_text.specs.Stages.{first_stage};
 ghost use Rattle.trace_replay.specs.Playback.{events_taken, StandsBehind, IsPlayed, IsLineWithin, IsSaid, TakesEvent, IsHappened, refusal_told};
 ghost use Rattle.trace_replay.specs.Reading.{Reading, said_at, reading_at, stage_behind};

@@ -1,5 +1,5 @@
 ghost use Rattle.std.specs.Prelude.{◌≡◌, ◌+◌, ◌<◌, ◌≤◌, IfOk};
-ghost use Rattle.node_engine.specs.Limits.{IsWithinLimits};
+ghost use Rattle.net_base.specs.Limits.{IsWithinLimits};
 
 use super::*;
 use net_base::{Action, Addr, Away, CloseCause, FaultKind, Field, Ip, StateName};
