@@ -118,6 +118,19 @@ release_score_wraps = record {
       ∷ [];
 }
 
+-- a dial on its way counts
+abbrev pub pending_counts : Trace
+pending_counts = record {
+  settings = usual;
+  happenings =
+      brings (Aims (aims 2 2 1 0)) []
+      ∷ brings (Govern 0) (AskRoots (job 1) ∷ [])
+      ∷ brings (Roots (job 1) (Found 3600000 (node 3002 ∷ node 3003 ∷ []))) (Peer (node 3002) note.Known ∷ Peer (node 3003) note.Known ∷ [])
+      ∷ brings (Govern 0) (Dial (cid 1) (node 3002) ∷ State (cid 1) state.ReservedOutbound ∷ [])
+      ∷ brings (Govern 0) []
+      ∷ [];
+}
+
 -- the first back-off
 abbrev pub backoff_first : Trace
 backoff_first = record {

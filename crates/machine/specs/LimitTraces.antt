@@ -50,6 +50,37 @@ prune_newest_greeting = record {
       ∷ [];
 }
 
+-- one that nobody uses goes before one in its handshake
+abbrev pub prune_idle_before_greeting : Trace
+prune_idle_before_greeting = record {
+  settings = record usual { hard = 2; soft = 2 };
+  happenings =
+      brings (Locals (group 0 1 true (node 3002 ∷ []) ∷ [])) (Peer (node 3002) note.Known ∷ [])
+      ∷ brings (Govern 0) (Dial (cid 1) (node 3002) ∷ State (cid 1) state.ReservedOutbound ∷ [])
+      ∷ brings (Dialed (cid 1) true) (
+      State (cid 1) state.UnnegotiatedOutbound
+      ∷ Send (cid 1) (bytes_of (codes "00000000000000118200a20d84182af401f40e84182af401f4"))
+      ∷ [])
+      ∷ brings (Bytes (cid 1) (bytes_of (codes "000000008000000983010e84182af401f4"))) (
+      State (cid 1) state.OutboundDupTicking
+      ∷ Peer (node 3002) note.Warm
+      ∷ Send (cid 1) (bytes_of (codes "0000000000080003820001"))
+      ∷ [])
+      ∷ brings (Accepted (node 3003)) (Admit (cid 2) (node 3003) ∷ State (cid 2) state.UnnegotiatedInbound ∷ [])
+      ∷ brings (Bytes (cid 2) (bytes_of (codes "00000000000000118200a20d84182af401f40e84182af401f4"))) (
+      Send (cid 2) (bytes_of (codes "000000008000000983010e84182af401f4"))
+      ∷ State (cid 2) state.InboundIdle
+      ∷ [])
+      ∷ brings (Accepted (node 3004)) (Admit (cid 3) (node 3004) ∷ State (cid 3) state.UnnegotiatedInbound ∷ [])
+      ∷ brings (Bytes (cid 1) (bytes_of (codes "0000000000080003820007"))) (
+      State (cid 1) state.Duplex
+      ∷ Close (cid 2) Pruned
+      ∷ State (cid 2) state.Terminated
+      ∷ Send (cid 1) (bytes_of (codes "0000000080080003820107"))
+      ∷ [])
+      ∷ [];
+}
+
 -- the woken connection goes, where no other may
 abbrev pub prune_the_woken_itself : Trace
 prune_the_woken_itself = record {

@@ -89,6 +89,28 @@ inbound_reused_outbound = record {
       ∷ [];
 }
 
+-- taken into use later, it keeps its grace
+abbrev pub reuse_keeps_grace : Trace
+reuse_keeps_grace = record {
+  settings = usual;
+  happenings =
+      brings (Accepted (node 3002)) (Admit (cid 1) (node 3002) ∷ State (cid 1) state.UnnegotiatedInbound ∷ [])
+      ∷ brings (Bytes (cid 1) (bytes_of (codes "00000000000000118200a20d84182af401f40e84182af401f4"))) (
+      Send (cid 1) (bytes_of (codes "000000008000000983010e84182af401f4"))
+      ∷ State (cid 1) state.InboundIdle
+      ∷ [])
+      ∷ brings (Now 1000) []
+      ∷ brings (Locals (group 0 1 true (node 3002 ∷ []) ∷ [])) (Peer (node 3002) note.Known ∷ [])
+      ∷ brings (Govern 0) (
+      State (cid 1) state.OutboundDupTicking
+      ∷ Peer (node 3002) note.Warm
+      ∷ Send (cid 1) (bytes_of (codes "000f424000080003820001"))
+      ∷ [])
+      ∷ brings (Now 4999) []
+      ∷ brings (Now 5000) (State (cid 1) state.OutboundDupExpired ∷ [])
+      ∷ [];
+}
+
 -- a reply does not come, and the grace is over before that
 abbrev pub reply_wait_after_grace : Trace
 reply_wait_after_grace = record {

@@ -81,6 +81,30 @@ share_request_of_one = record {
       ∷ [];
 }
 
+-- a target that was lowered meanwhile bounds what is taken
+abbrev pub share_answer_above_target : Trace
+share_answer_above_target = record {
+  settings = usual;
+  happenings =
+      brings (Locals (group 0 1 true (node 3002 ∷ []) ∷ [])) (Peer (node 3002) note.Known ∷ [])
+      ∷ brings (Govern 0) (Dial (cid 1) (node 3002) ∷ State (cid 1) state.ReservedOutbound ∷ [])
+      ∷ brings (Dialed (cid 1) true) (
+      State (cid 1) state.UnnegotiatedOutbound
+      ∷ Send (cid 1) (bytes_of (codes "00000000000000118200a20d84182af401f40e84182af401f4"))
+      ∷ [])
+      ∷ brings (Bytes (cid 1) (bytes_of (codes "000000008000000983010e84182af401f4"))) (
+      State (cid 1) state.OutboundDupTicking
+      ∷ Peer (node 3002) note.Warm
+      ∷ Send (cid 1) (bytes_of (codes "0000000000080003820001"))
+      ∷ [])
+      ∷ brings (Bytes (cid 1) (bytes_of (codes "0000000080080003820101"))) []
+      ∷ brings (Aims (aims 0 3 0 0)) []
+      ∷ brings (Govern 0) (Send (cid 1) (bytes_of (codes "00000000000a0003820002")) ∷ [])
+      ∷ brings (Aims (aims 0 2 0 0)) []
+      ∷ brings (Bytes (cid 1) (bytes_of (codes "00000000800a001782018283001a7f000001190bbb83001a7f000001190bbc"))) (Peer (node 3003) note.Known ∷ [])
+      ∷ [];
+}
+
 -- a peer is told of the others
 abbrev pub share_served_without_asker : Trace
 share_served_without_asker = record {

@@ -2,11 +2,11 @@
 use Rattle.machine.specs.Traces.{IsRun}
 use Rattle.machine.specs.HandshakeTraces.{inbound_duplex_accept, inbound_no_common_version, inbound_other_magic, inbound_query, handshake_wait_inbound, greeting_break_alone, greeting_no_message, greeting_unknown_protocol, greeting_wrong_side, greeting_other_protocol, greeting_cut_header}
 use Rattle.machine.specs.ResponderTraces.{idle_grace_timer_first, idle_grace_bytes_first, inbound_empty_chain, keep_alive_and_done_in_one_segment, negotiated_unowed_reply, negotiated_handshake_item, negotiated_no_keep_alive, negotiated_no_first_number, negotiated_passed_over, negotiated_done_awakes_first, negotiated_share_request_of_hundred}
-use Rattle.machine.specs.OutboundTraces.{outbound_duplex_life, outbound_release_within_grace, inbound_reused_outbound, reply_wait_after_grace, hot_and_warm_again}
+use Rattle.machine.specs.OutboundTraces.{outbound_duplex_life, outbound_release_within_grace, inbound_reused_outbound, reuse_keeps_grace, reply_wait_after_grace, hot_and_warm_again}
 use Rattle.machine.specs.CrossingTraces.{crossing_own_lower, crossing_own_higher, accepted_own_address, accepted_present_greeting, accepted_present_negotiated, simultaneous_open}
-use Rattle.machine.specs.LimitTraces.{accept_limits, prune_newest_greeting, prune_the_woken_itself}
-use Rattle.machine.specs.GovernorTraces.{targets_ask_roots_and_dial, release_least_score, release_score_wraps, backoff_first, backoff_seven_failures, local_valency_above_target, locals_cleaned, one_round}
-use Rattle.machine.specs.SharingTraces.{share_answer_adds_peer, share_answer_too_many, share_request_of_one, share_served_without_asker, share_answer_ipv6_taken, share_answer_ipv6_passed_over}
+use Rattle.machine.specs.LimitTraces.{accept_limits, prune_newest_greeting, prune_idle_before_greeting, prune_the_woken_itself}
+use Rattle.machine.specs.GovernorTraces.{targets_ask_roots_and_dial, release_least_score, release_score_wraps, pending_counts, backoff_first, backoff_seven_failures, local_valency_above_target, locals_cleaned, one_round}
+use Rattle.machine.specs.SharingTraces.{share_answer_adds_peer, share_answer_too_many, share_request_of_one, share_answer_above_target, share_served_without_asker, share_answer_ipv6_taken, share_answer_ipv6_passed_over}
 use Rattle.machine.specs.BigPeerTraces.{big_fewer_failures_first, big_made_ordinary_by_locals}
 
 pub record HandshakesRun : Type 0 where
@@ -39,6 +39,7 @@ pub record OutboundsRun : Type 0 where
   pub outbound_duplex_life_runs : IsRun outbound_duplex_life
   pub outbound_release_within_grace_runs : IsRun outbound_release_within_grace
   pub inbound_reused_outbound_runs : IsRun inbound_reused_outbound
+  pub reuse_keeps_grace_runs : IsRun reuse_keeps_grace
   pub reply_wait_after_grace_runs : IsRun reply_wait_after_grace
   pub hot_and_warm_again_runs : IsRun hot_and_warm_again
 
@@ -53,12 +54,14 @@ pub record CrossingsRun : Type 0 where
 pub record LimitsRun : Type 0 where
   pub accept_limits_runs : IsRun accept_limits
   pub prune_newest_greeting_runs : IsRun prune_newest_greeting
+  pub prune_idle_before_greeting_runs : IsRun prune_idle_before_greeting
   pub prune_the_woken_itself_runs : IsRun prune_the_woken_itself
 
 pub record GovernorsRun : Type 0 where
   pub targets_ask_roots_and_dial_runs : IsRun targets_ask_roots_and_dial
   pub release_least_score_runs : IsRun release_least_score
   pub release_score_wraps_runs : IsRun release_score_wraps
+  pub pending_counts_runs : IsRun pending_counts
   pub backoff_first_runs : IsRun backoff_first
   pub backoff_seven_failures_runs : IsRun backoff_seven_failures
   pub local_valency_above_target_runs : IsRun local_valency_above_target
@@ -69,6 +72,7 @@ pub record SharingsRun : Type 0 where
   pub share_answer_adds_peer_runs : IsRun share_answer_adds_peer
   pub share_answer_too_many_runs : IsRun share_answer_too_many
   pub share_request_of_one_runs : IsRun share_request_of_one
+  pub share_answer_above_target_runs : IsRun share_answer_above_target
   pub share_served_without_asker_runs : IsRun share_served_without_asker
   pub share_answer_ipv6_taken_runs : IsRun share_answer_ipv6_taken
   pub share_answer_ipv6_passed_over_runs : IsRun share_answer_ipv6_passed_over
