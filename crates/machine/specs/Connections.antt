@@ -1,18 +1,31 @@
 -- Changes of a connection.
-use Rattle.std.specs.Prelude.{ℕ, ◌+◌, Bool, ◌||◌, not, List, [], ◌∷◌, ◌++◌, map, filter, if◌then◌else◌}
+use Rattle.std.specs.Prelude.{ℕ, false, true, ◌+◌, ◌%◌, Bool, ◌||◌, not, nat_le, List, [], ◌∷◌, ◌++◌, map, filter, if◌then◌else◌, Option, Some, None}
+use Rattle.std.specs.List.{filter_map}
+use Rattle.std.specs.Option.{option_map, unwrap_or}
+use Rattle.accept_gate.specs.Prune.{rank_of, choice_of}
+use Rattle.accept_gate.specs.declared.prune.Candidate.{Candidate}
+use Rattle.conn_state.specs.Moves.{dialing, connected, agreed_inbound, agreed_outbound, acquired, released, awakened, idled, closing, expired}
+use Rattle.conn_state.specs.Names.{name_of, same_name}
+use Rattle.conn_state.specs.Use.{has_id, is_pending, agreed_sharing}
+use Rattle.hs_decide.specs.Answers.{proposal_of}
 use Rattle.net_base.specs.Shared.{nothing_undecoded}
 use Rattle.net_base.specs.declared.action.Action.{Action}
-use Rattle.net_base.specs.declared.action.Action.TheVariants.{Close, State}
+use Rattle.net_base.specs.declared.action.Action.TheVariants.{Close, Dial, State}
 use Rattle.net_base.specs.declared.action.CloseCause.{CloseCause}
 use Rattle.net_base.specs.declared.action.CloseCause.TheVariants.{Unused, Pruned, Overwritten, Refused, Query, Fault}
 use Rattle.net_base.specs.declared.action.StateName.TheVariants.{Terminated}
+use Rattle.net_base.specs.declared.address.Addr.{Addr}
+use Rattle.net_base.specs.declared.connection.Agreed.{Agreed}
+use Rattle.net_base.specs.declared.connection.Cid.{Cid}
 use Rattle.net_base.specs.declared.connection.Facts.{Facts}
-use Rattle.conn_state.specs.Moves.{closing, expired}
-use Rattle.conn_state.specs.Names.{name_of, same_name}
-use Rattle.conn_state.specs.Use.{has_id, is_pending}
-use Rattle.machine.specs.Machine.{Machine, Entry}
+use Rattle.net_base.specs.declared.peer.Temp.TheVariants.{Cold}
+use Rattle.warm_messages.specs.Writing.{written_alive}
+use Rattle.warm_messages.specs.declared.alive.Alive.TheVariants.{Ask, Done}
+use Rattle.machine.specs.Machine.{Machine, Entry, fresh_entry, facts_of, counted_in, entry_at, next_cid}
 use Rattle.machine.specs.Effect.{Effect, ended, unused, left, nothing_more, tells, then_do, as_move}
-use Rattle.machine.specs.Peers.{peer_fails}
+use Rattle.machine.specs.Own.{own_info}
+use Rattle.machine.specs.Peers.{peer_fails, peer_succeeds, peer_becomes}
+use Rattle.machine.specs.Replies.{owing, asks, peer_sharing_done}
 
 abbrev pub with_entry : Entry → Machine → Machine
 with_entry new m = record m {
@@ -80,3 +93,82 @@ grace_over entry m =
 -- The time-wait of a connection is over.
 abbrev pub wait_over : Entry → Machine → Effect
 wait_over entry m = as_move (left entry.facts.cid.0) m (entry_goes entry m)
+
+-- ---- moves of a connection
+
+-- A connection comes into this node's use: its peer is warm, and a keep-alive is sent, to which a reply is owed.
+abbrev pub is_used : Facts → Entry → Machine → Effect
+is_used facts entry m =
+    let cookie = facts.cid.0 % 65536 in
+    then_do (entry_turns entry (owing 8 cookie m (record entry { facts = facts })) m)
+    (λ m. then_do (peer_succeeds facts.addr m)
+    (asks facts.cid 8 (written_alive (Ask cookie))))
+
+-- The handshake of a peer that connected is done: the connection is kept for the other side.
+abbrev pub is_agreed_inbound : Agreed → Entry → Machine → Effect
+is_agreed_inbound agreed entry m =
+    entry_turns entry (record entry { facts = agreed_inbound agreed (m.now + m.settings.idle) entry.facts }) m
+
+-- The handshake of a peer that was dialed is done: the connection is in use at once.
+abbrev pub is_agreed_outbound : Agreed → Entry → Machine → Effect
+is_agreed_outbound agreed entry m =
+    is_used (agreed_outbound agreed (m.now + m.settings.idle) entry.facts) entry m
+
+-- This node takes a connection that stands into its use.
+abbrev pub acquire : Entry → Machine → Effect
+acquire entry m = is_used (agreed_outbound (record { version = 14; initiator_only = false; sharing = true }) (m.now + m.settings.idle) entry.facts) entry m
+
+-- Where more are counted than the hard limit, one of them goes: the first of those that may, else the one that moved.
+abbrev pub candidate_of : Facts → Option Candidate
+candidate_of f = option_map (λ rank. record { cid = f.cid; rank = rank }) (rank_of f)
+
+abbrev pub candidates_in : Machine → List Candidate
+candidates_in m = filter_map candidate_of (facts_of m)
+
+abbrev pub pruned_at : Option Entry → Machine → Effect
+pruned_at None m = nothing_more m
+pruned_at (Some entry) m = ending Pruned entry m
+
+abbrev pub trim : Cid → Machine → Effect
+trim moved m =
+    if nat_le (counted_in m) m.settings.hard then nothing_more m
+    else pruned_at (entry_at (unwrap_or (choice_of (candidates_in m)) moved).0 m) m
+
+-- The protocols that this node began are done: peer sharing, where it was agreed, and keep-alive.
+abbrev pub says_done : Facts → Machine → Effect
+says_done f m = then_do
+    (if agreed_sharing f.agreed then asks f.cid 10 peer_sharing_done m else nothing_more m)
+    (asks f.cid 8 (written_alive Done))
+
+-- This node gives a connection out of its use.
+abbrev pub release : Entry → Machine → Effect
+release entry m = then_do (says_done entry.facts m)
+    (λ m. then_do (entry_turns entry (record entry { facts = released (m.now + m.settings.idle) entry.facts }) m)
+    (λ m. then_do (peer_becomes Cold entry.facts.addr m)
+    (trim entry.facts.cid)))
+
+-- The other side begins a protocol.
+abbrev pub awake : ℕ → Entry → Machine → Effect
+awake protocol entry m = then_do (entry_turns entry (record entry { facts = awakened protocol entry.facts }) m)
+    (trim entry.facts.cid)
+
+-- The other side ends a protocol.
+abbrev pub idle : ℕ → Entry → Machine → Effect
+idle protocol entry m =
+    entry_turns entry (record entry { facts = idled protocol (m.now + m.settings.idle) entry.facts }) m
+
+-- ---- dials
+
+-- An address is dialed, under the next id.
+abbrev pub dial : Addr → Machine → Effect
+dial addr m = entry_comes (Dial (next_cid m) addr ∷ []) (fresh_entry (dialing m.next_id addr)) m
+
+-- The socket is open: the handshake begins with this node's proposal.
+abbrev pub dial_opens : Entry → Machine → Effect
+dial_opens entry m = then_do
+    (entry_turns entry (record entry { facts = connected (m.now + m.settings.handshake) entry.facts }) m)
+    (asks entry.facts.cid 0 (proposal_of (own_info m.settings)))
+
+-- It is not: the connection goes, and its peer has failed.
+abbrev pub dial_fails : Entry → Machine → Effect
+dial_fails entry m = as_move (left entry.facts.cid.0) m (vanishes entry m)

@@ -53,3 +53,8 @@ abbrev pub as_move : Happened → Machine → Effect → Effect
 as_move happened before effect = record effect {
   moves = effect.moves ++ record { happened = happened; before = before; after = effect.machine } ∷ [];
 }
+
+-- one part for each of a list, in order
+unfoldable pub for_each : {X : Type 0} → (X → Machine → Effect) → List X → Machine → Effect
+for_each act [] m = nothing_more m
+for_each act (x ∷ xs) m = then_do (act x m) (for_each act xs)

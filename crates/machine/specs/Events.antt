@@ -1,10 +1,10 @@
 -- What each event does.
-use Rattle.std.specs.Prelude.{ℕ, ◌+◌, nat_le, List, [], ◌∷◌, if◌then◌else◌, Option, Some, None}
+use Rattle.std.specs.Prelude.{ℕ, ◌+◌, Bool, nat_le, List, [], ◌∷◌, if◌then◌else◌, Option, Some, None}
 use Rattle.accept_gate.specs.Gate.{gate_of}
 use Rattle.accept_gate.specs.declared.gate.Gate.{Gate}
 use Rattle.accept_gate.specs.declared.gate.Gate.TheVariants.{Free, Pause as PauseFor, Full as NoRoom}
 use Rattle.conn_state.specs.Moves.{accepted}
-use Rattle.conn_state.specs.Use.{is_live, is_pending}
+use Rattle.conn_state.specs.Use.{is_live, is_pending, is_dialing}
 use Rattle.net_base.specs.Address.{same_address, address_below}
 use Rattle.net_base.specs.declared.action.Action.{Action}
 use Rattle.net_base.specs.declared.action.Action.TheVariants.{Admit, Turnaway, Pause}
@@ -15,9 +15,9 @@ use Rattle.net_base.specs.declared.address.Addr.{Addr}
 use Rattle.net_base.specs.declared.connection.Cid.{Cid}
 use Rattle.net_base.specs.declared.event.Event.{Event}
 use Rattle.net_base.specs.declared.event.Event.TheVariants.{Now, Govern, Accepted, Dialed, Bytes, Closed, Aims, Locals, Roots, BigAims, Bigs}
-use Rattle.machine.specs.Machine.{Machine, Entry, fresh_entry, counted_in, entry_at, live_entry_at}
+use Rattle.machine.specs.Machine.{Machine, Entry, fresh_entry, counted_in, entry_at, live_entry_at, next_cid}
 use Rattle.machine.specs.Effect.{Effect, nothing_more, tells, then_do}
-use Rattle.machine.specs.Connections.{entry_comes, ending, vanishes}
+use Rattle.machine.specs.Connections.{entry_comes, ending, vanishes, dial_opens, dial_fails}
 use Rattle.machine.specs.Deadlines.{fire_all}
 
 -- The clock shows a moment. Where it is a later one, all that is due by then happens.
@@ -31,9 +31,6 @@ abbrev pub pause_notice : Gate → List Action
 pause_notice Free = []
 pause_notice (PauseFor delay) = Pause delay ∷ []
 pause_notice NoRoom = []
-
-abbrev pub next_cid : Machine → Cid
-next_cid m = record { 0 = m.next_id }
 
 -- An address is admitted under the next id, and accepting pauses where the soft limit is passed.
 abbrev pub admitted : Addr → Machine → Effect
@@ -72,16 +69,30 @@ closed_at (Some entry) m = if is_live entry.facts then vanishes entry m else not
 abbrev pub peer_closes : Cid → Machine → Effect
 peer_closes cid m = closed_at (entry_at cid.0 m) m
 
--- An event that the machine does not handle yet leaves it as it is.
+-- ---- a dial has ended
+
+abbrev pub dial_ends_at : Option Entry → Bool → Machine → Effect
+dial_ends_at None opened m = nothing_more m
+dial_ends_at (Some entry) opened m =
+    if is_dialing entry.facts then (if opened then dial_opens entry m else dial_fails entry m)
+    else nothing_more m
+
+-- An answer to a dial that is no longer awaited changes nothing.
+abbrev pub dial_ends : Cid → Bool → Machine → Effect
+dial_ends cid opened m = dial_ends_at (entry_at cid.0 m) opened m
+
+-- ---- the events that the program handles today
+
+-- An event that the program does not handle yet leaves the machine as it is.
 abbrev pub step : Machine → Event → Effect
 step m (Now t) = clock_shows t m
 step m (Govern word) = nothing_more m
 step m (Accepted addr) = peer_connects addr m
-step m (Dialed cid open_now) = nothing_more m
+step m (Dialed cid opened) = nothing_more m
 step m (Bytes cid bytes) = nothing_more m
 step m (Closed cid) = peer_closes cid m
 step m (Aims targets) = nothing_more m
 step m (Locals groups) = nothing_more m
 step m (Roots job answer) = nothing_more m
 step m (BigAims targets) = nothing_more m
-step m (Bigs addresses) = nothing_more m
+step m (Bigs addrs) = nothing_more m

@@ -1,6 +1,7 @@
 -- The record that a node keeps.
 use Rattle.std.specs.Prelude.{ℕ, List, [], map, Option, find}
 use Rattle.net_base.specs.declared.address.Addr.{Addr}
+use Rattle.net_base.specs.declared.connection.Cid.{Cid}
 use Rattle.net_base.specs.declared.connection.Facts.{Facts}
 use Rattle.net_base.specs.declared.event.Group.{Group}
 use Rattle.net_base.specs.declared.peer.Peer.{Peer}
@@ -68,3 +69,6 @@ entry_at cid m = find (λ e. has_id cid e.facts) m.connections
 
 abbrev pub live_entry_at : Addr → Machine → Option Entry
 live_entry_at addr m = find (λ e. is_live_at addr e.facts) m.connections
+
+abbrev pub next_cid : Machine → Cid
+next_cid m = record { 0 = m.next_id }

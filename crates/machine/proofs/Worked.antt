@@ -1,0 +1,98 @@
+-- Worked traces, computed.
+use Rattle.std.proofs.Common.{refl}
+use Rattle.accept_gate.specs.Prune.{first_to_go}
+use Rattle.cbor_items.specs.Head.{head_at, shortest_head}
+use Rattle.cbor_items.specs.Scan.{skip_row, skip_to_break, skip_chunk, skip_flat_content, skip_nested_content, skip_item, scan_of}
+use Rattle.mux_segment.specs.Frame.{pieces_within, pieces_of, frame_of}
+use Rattle.mux_segment.specs.Items.{taken_within, taken_of}
+use Rattle.mux_segment.specs.Parts.{part_bytes, without_part, with_part}
+use Rattle.mux_segment.specs.Segment.{segment_at, cut_within, cut_of}
+use Rattle.mux_segment.specs.Stream.{segment_decoded, decoded, fed_by}
+use Rattle.hs_message.specs.Canonical.{node_spelling}
+use Rattle.hs_message.specs.Reading.{definite_at, array_at, flag_at, bit_at, version_info_at, known_of, offer_at, row_at, table_at, row_to_break_at, version_list_at, text_at, tag_at, noted_at, reason_at, message_at, message_of}
+use Rattle.warm_messages.specs.First.{first_number_of}
+use Rattle.warm_messages.specs.Reading.{number_at, opening_at, elements_at, numbers_at, address_at, addresses_at, alive_of, peers_at, share_of}
+use Rattle.pick_policy.specs.Least.{least_by}
+use Rattle.root_groups.specs.Cleaned.{first_places, cleaned_after}
+use Rattle.share_rounds.specs.Rounds.{taken_after}
+use Rattle.machine.specs.Deadlines.{fire_due}
+use Rattle.machine.specs.Effect.{for_each}
+use Rattle.machine.specs.Whole.{whole_actions_of}
+use Rattle.machine.specs.Worked.{AllRun}
+
+pub all_run : AllRun
+unfolding first_to_go head_at shortest_head skip_row skip_to_break skip_chunk skip_flat_content skip_nested_content skip_item scan_of pieces_within pieces_of frame_of taken_within taken_of part_bytes without_part with_part segment_at cut_within cut_of segment_decoded decoded fed_by node_spelling definite_at array_at flag_at bit_at version_info_at known_of offer_at row_at table_at row_to_break_at version_list_at text_at tag_at noted_at reason_at message_at message_of first_number_of number_at opening_at elements_at numbers_at address_at addresses_at alive_of peers_at share_of least_by first_places cleaned_after taken_after fire_due for_each whole_actions_of
+all_run = record {
+  handshakes = record {
+    inbound_duplex_accept_runs = refl;
+    inbound_no_common_version_runs = refl;
+    inbound_other_magic_runs = refl;
+    inbound_query_runs = refl;
+    handshake_wait_inbound_runs = refl;
+    greeting_break_alone_runs = refl;
+    greeting_no_message_runs = refl;
+    greeting_unknown_protocol_runs = refl;
+    greeting_wrong_side_runs = refl;
+    greeting_other_protocol_runs = refl;
+    greeting_cut_header_runs = refl;
+  };
+  responders = record {
+    idle_grace_timer_first_runs = refl;
+    idle_grace_bytes_first_runs = refl;
+    inbound_empty_chain_runs = refl;
+    keep_alive_and_done_in_one_segment_runs = refl;
+    negotiated_unowed_reply_runs = refl;
+    negotiated_handshake_item_runs = refl;
+    negotiated_no_keep_alive_runs = refl;
+    negotiated_no_first_number_runs = refl;
+    negotiated_passed_over_runs = refl;
+    negotiated_done_awakes_first_runs = refl;
+    negotiated_share_request_of_hundred_runs = refl;
+  };
+  outbound = record {
+    outbound_duplex_life_runs = refl;
+    outbound_release_within_grace_runs = refl;
+    inbound_reused_outbound_runs = refl;
+    reuse_keeps_grace_runs = refl;
+    reply_wait_after_grace_runs = refl;
+    hot_and_warm_again_runs = refl;
+  };
+  crossings = record {
+    crossing_own_lower_runs = refl;
+    crossing_own_higher_runs = refl;
+    accepted_own_address_runs = refl;
+    accepted_present_greeting_runs = refl;
+    accepted_present_negotiated_runs = refl;
+    simultaneous_open_runs = refl;
+  };
+  limits = record {
+    accept_limits_runs = refl;
+    prune_newest_greeting_runs = refl;
+    prune_idle_before_greeting_runs = refl;
+    prune_the_woken_itself_runs = refl;
+  };
+  governor = record {
+    targets_ask_roots_and_dial_runs = refl;
+    release_least_score_runs = refl;
+    release_score_wraps_runs = refl;
+    pending_counts_runs = refl;
+    backoff_first_runs = refl;
+    backoff_seven_failures_runs = refl;
+    local_valency_above_target_runs = refl;
+    locals_cleaned_runs = refl;
+    one_round_runs = refl;
+  };
+  sharing = record {
+    share_answer_adds_peer_runs = refl;
+    share_answer_too_many_runs = refl;
+    share_request_of_one_runs = refl;
+    share_answer_above_target_runs = refl;
+    share_served_without_asker_runs = refl;
+    share_answer_ipv6_taken_runs = refl;
+    share_answer_ipv6_passed_over_runs = refl;
+  };
+  big_peers = record {
+    big_fewer_failures_first_runs = refl;
+    big_made_ordinary_by_locals_runs = refl;
+  };
+}

@@ -1,0 +1,92 @@
+-- What the machine does on worked traces, computed from its definitions.
+use Rattle.machine.specs.Traces.{IsRun}
+use Rattle.machine.specs.HandshakeTraces.{inbound_duplex_accept, inbound_no_common_version, inbound_other_magic, inbound_query, handshake_wait_inbound, greeting_break_alone, greeting_no_message, greeting_unknown_protocol, greeting_wrong_side, greeting_other_protocol, greeting_cut_header}
+use Rattle.machine.specs.ResponderTraces.{idle_grace_timer_first, idle_grace_bytes_first, inbound_empty_chain, keep_alive_and_done_in_one_segment, negotiated_unowed_reply, negotiated_handshake_item, negotiated_no_keep_alive, negotiated_no_first_number, negotiated_passed_over, negotiated_done_awakes_first, negotiated_share_request_of_hundred}
+use Rattle.machine.specs.OutboundTraces.{outbound_duplex_life, outbound_release_within_grace, inbound_reused_outbound, reuse_keeps_grace, reply_wait_after_grace, hot_and_warm_again}
+use Rattle.machine.specs.CrossingTraces.{crossing_own_lower, crossing_own_higher, accepted_own_address, accepted_present_greeting, accepted_present_negotiated, simultaneous_open}
+use Rattle.machine.specs.LimitTraces.{accept_limits, prune_newest_greeting, prune_idle_before_greeting, prune_the_woken_itself}
+use Rattle.machine.specs.GovernorTraces.{targets_ask_roots_and_dial, release_least_score, release_score_wraps, pending_counts, backoff_first, backoff_seven_failures, local_valency_above_target, locals_cleaned, one_round}
+use Rattle.machine.specs.SharingTraces.{share_answer_adds_peer, share_answer_too_many, share_request_of_one, share_answer_above_target, share_served_without_asker, share_answer_ipv6_taken, share_answer_ipv6_passed_over}
+use Rattle.machine.specs.BigPeerTraces.{big_fewer_failures_first, big_made_ordinary_by_locals}
+
+pub record HandshakesRun : Type 0 where
+  pub inbound_duplex_accept_runs : IsRun inbound_duplex_accept
+  pub inbound_no_common_version_runs : IsRun inbound_no_common_version
+  pub inbound_other_magic_runs : IsRun inbound_other_magic
+  pub inbound_query_runs : IsRun inbound_query
+  pub handshake_wait_inbound_runs : IsRun handshake_wait_inbound
+  pub greeting_break_alone_runs : IsRun greeting_break_alone
+  pub greeting_no_message_runs : IsRun greeting_no_message
+  pub greeting_unknown_protocol_runs : IsRun greeting_unknown_protocol
+  pub greeting_wrong_side_runs : IsRun greeting_wrong_side
+  pub greeting_other_protocol_runs : IsRun greeting_other_protocol
+  pub greeting_cut_header_runs : IsRun greeting_cut_header
+
+pub record RespondersRun : Type 0 where
+  pub idle_grace_timer_first_runs : IsRun idle_grace_timer_first
+  pub idle_grace_bytes_first_runs : IsRun idle_grace_bytes_first
+  pub inbound_empty_chain_runs : IsRun inbound_empty_chain
+  pub keep_alive_and_done_in_one_segment_runs : IsRun keep_alive_and_done_in_one_segment
+  pub negotiated_unowed_reply_runs : IsRun negotiated_unowed_reply
+  pub negotiated_handshake_item_runs : IsRun negotiated_handshake_item
+  pub negotiated_no_keep_alive_runs : IsRun negotiated_no_keep_alive
+  pub negotiated_no_first_number_runs : IsRun negotiated_no_first_number
+  pub negotiated_passed_over_runs : IsRun negotiated_passed_over
+  pub negotiated_done_awakes_first_runs : IsRun negotiated_done_awakes_first
+  pub negotiated_share_request_of_hundred_runs : IsRun negotiated_share_request_of_hundred
+
+pub record OutboundsRun : Type 0 where
+  pub outbound_duplex_life_runs : IsRun outbound_duplex_life
+  pub outbound_release_within_grace_runs : IsRun outbound_release_within_grace
+  pub inbound_reused_outbound_runs : IsRun inbound_reused_outbound
+  pub reuse_keeps_grace_runs : IsRun reuse_keeps_grace
+  pub reply_wait_after_grace_runs : IsRun reply_wait_after_grace
+  pub hot_and_warm_again_runs : IsRun hot_and_warm_again
+
+pub record CrossingsRun : Type 0 where
+  pub crossing_own_lower_runs : IsRun crossing_own_lower
+  pub crossing_own_higher_runs : IsRun crossing_own_higher
+  pub accepted_own_address_runs : IsRun accepted_own_address
+  pub accepted_present_greeting_runs : IsRun accepted_present_greeting
+  pub accepted_present_negotiated_runs : IsRun accepted_present_negotiated
+  pub simultaneous_open_runs : IsRun simultaneous_open
+
+pub record LimitsRun : Type 0 where
+  pub accept_limits_runs : IsRun accept_limits
+  pub prune_newest_greeting_runs : IsRun prune_newest_greeting
+  pub prune_idle_before_greeting_runs : IsRun prune_idle_before_greeting
+  pub prune_the_woken_itself_runs : IsRun prune_the_woken_itself
+
+pub record GovernorsRun : Type 0 where
+  pub targets_ask_roots_and_dial_runs : IsRun targets_ask_roots_and_dial
+  pub release_least_score_runs : IsRun release_least_score
+  pub release_score_wraps_runs : IsRun release_score_wraps
+  pub pending_counts_runs : IsRun pending_counts
+  pub backoff_first_runs : IsRun backoff_first
+  pub backoff_seven_failures_runs : IsRun backoff_seven_failures
+  pub local_valency_above_target_runs : IsRun local_valency_above_target
+  pub locals_cleaned_runs : IsRun locals_cleaned
+  pub one_round_runs : IsRun one_round
+
+pub record SharingsRun : Type 0 where
+  pub share_answer_adds_peer_runs : IsRun share_answer_adds_peer
+  pub share_answer_too_many_runs : IsRun share_answer_too_many
+  pub share_request_of_one_runs : IsRun share_request_of_one
+  pub share_answer_above_target_runs : IsRun share_answer_above_target
+  pub share_served_without_asker_runs : IsRun share_served_without_asker
+  pub share_answer_ipv6_taken_runs : IsRun share_answer_ipv6_taken
+  pub share_answer_ipv6_passed_over_runs : IsRun share_answer_ipv6_passed_over
+
+pub record BigPeersRun : Type 0 where
+  pub big_fewer_failures_first_runs : IsRun big_fewer_failures_first
+  pub big_made_ordinary_by_locals_runs : IsRun big_made_ordinary_by_locals
+
+pub record AllRun : Type 0 where
+  pub handshakes : HandshakesRun
+  pub responders : RespondersRun
+  pub outbound : OutboundsRun
+  pub crossings : CrossingsRun
+  pub limits : LimitsRun
+  pub governor : GovernorsRun
+  pub sharing : SharingsRun
+  pub big_peers : BigPeersRun

@@ -1,0 +1,21 @@
+//! Laws on the definitions. The functions do nothing.
+
+ghost use Rattle.machine.specs.Whole.{IsPart};
+ghost use Rattle.machine.specs.Worked.{HandshakesRun, RespondersRun, OutboundsRun, CrossingsRun, LimitsRun, GovernorsRun, SharingsRun, BigPeersRun};
+
+/// The machine does on each worked trace what the trace says.
+pub fn worked_traces_are_runs()
+    ensures handshakes { HandshakesRun }
+    ensures responders { RespondersRun }
+    ensures outbound { OutboundsRun }
+    ensures crossings { CrossingsRun }
+    ensures limits { LimitsRun }
+    ensures governor { GovernorsRun }
+    ensures sharing { SharingsRun }
+    ensures big_peers { BigPeersRun }
+{}
+
+/// On the events that the program handles today, its machine is the whole one.
+pub fn the_program_carries_a_part()
+    ensures { IsPart }
+{}
