@@ -10,7 +10,7 @@ use Rattle.net_base.specs.Peer.{failed_peer}
 use Rattle.conn_state.specs.Moves.{expired}
 use Rattle.machine.specs.Machine.{Machine, Entry, counted_in}
 use Rattle.machine.specs.Effect.{Effect, nothing_more, then_do, tells, as_move, unused}
-use Rattle.machine.specs.Peers.{with_peer, fails_at, peer_fails, peer_at}
+use Rattle.machine.specs.Peers.{with_peer, turns_at, peer_fails, peer_at}
 use Rattle.machine.specs.Connections.{with_entry, without_entry, entry_turns, is_missed, lost, lost_by, ending, vanishes, closing_entry, grace_over, wait_over}
 use Rattle.laws.specs.Sound.{IsOrderly}
 use Rattle.laws.proofs.Lists.{StandsAt}
@@ -115,13 +115,13 @@ with_peer-lowers m p h = record {
   late = omega arith;
 }
 
-fails_at-lowers : (o : Option Peer) (m : Machine) → IsOrderly m → Lowers 0 m (fails_at o m).machine
-fails_at-lowers None m h = lowers_nothing m h
-fails_at-lowers (Some p) m h = with_peer-lowers m (failed_peer m.now m.settings.backoff p) h
+turns_at-lowers : (o : Option Peer) (change : Peer → Peer) (m : Machine) → IsOrderly m → Lowers 0 m (turns_at o change m).machine
+turns_at-lowers None change m h = lowers_nothing m h
+turns_at-lowers (Some p) change m h = with_peer-lowers m (change p) h
 
 pub lost-lowers : (f : Facts) (m : Machine) → IsOrderly m → Lowers 0 m (lost f m).machine
 lost-lowers f m h = cond_both (is_missed f) (peer_fails f.addr m) (nothing_more m) (λ effect. Lowers 0 m effect.machine)
-    (λ missed. fails_at-lowers (peer_at f.addr m) m h) (λ other. lowers_nothing m h)
+    (λ missed. turns_at-lowers (peer_at f.addr m) (failed_peer m.now m.settings.backoff) m h) (λ other. lowers_nothing m h)
 
 lost_by-lowers : (cause : CloseCause) (f : Facts) (m : Machine) → IsOrderly m → Lowers 0 m (lost_by cause f m).machine
 lost_by-lowers Unused f m h = lost-lowers f m h
