@@ -2,8 +2,8 @@ ghost use Rattle.std.specs.Prelude.{◌≡◌, ◌≤◌, ◌<◌, ◌+◌, ◌^
 ghost use Rattle.std.specs.Bool.{OnTrue, OnFalse};
 ghost use Rattle.accept_gate.specs.Gate.{gate_of};
 ghost use Rattle.conn_state.specs.Use.{is_pending};
-ghost use Rattle.machine.specs.Events.{peer_connects, accepted_beside, admitted, turned_away, pause_notice, next_cid};
-ghost use Rattle.machine.specs.Machine.{counted_in, live_entry_at};
+ghost use Rattle.machine.specs.Events.{peer_connects, accepted_beside, admitted, turned_away, pause_notice};
+ghost use Rattle.machine.specs.Machine.{counted_in, live_entry_at, next_cid};
 ghost use Rattle.net_base.specs.Address.{same_address};
 ghost use Rattle.net_base.specs.declared.action.Action.TheVariants.{Admit, State, Turnaway};
 ghost use Rattle.net_base.specs.declared.action.StateName.TheVariants.{UnnegotiatedInbound};
