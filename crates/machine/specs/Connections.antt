@@ -1,5 +1,5 @@
 -- Changes of a connection.
-use Rattle.std.specs.Prelude.{ℕ, false, true, ◌+◌, ◌%◌, Bool, ◌||◌, not, nat_le, List, [], ◌∷◌, ◌++◌, map, filter, if◌then◌else◌, Option, Some, None}
+use Rattle.std.specs.Prelude.{ℕ, ◌+◌, ◌%◌, Bool, ◌||◌, not, nat_le, List, [], ◌∷◌, ◌++◌, map, filter, if◌then◌else◌, Option, Some, None}
 use Rattle.std.specs.List.{filter_map}
 use Rattle.std.specs.Option.{option_map, unwrap_or}
 use Rattle.accept_gate.specs.Prune.{rank_of, choice_of}
@@ -116,7 +116,7 @@ is_agreed_outbound agreed entry m =
 
 -- This node takes a connection that stands into its use.
 abbrev pub acquire : Entry → Machine → Effect
-acquire entry m = is_used (agreed_outbound (record { version = 14; initiator_only = false; sharing = true }) (m.now + m.settings.idle) entry.facts) entry m
+acquire entry m = is_used (acquired entry.facts) entry m
 
 -- Where more are counted than the hard limit, one of them goes: the first of those that may, else the one that moved.
 abbrev pub candidate_of : Facts → Option Candidate
