@@ -1,6 +1,6 @@
 -- Links in address order, and what they say of an address.
-use Rattle.std.proofs.Common.{◌≡◌, ℕ, suc, zero, ◌<◌, ◌≤◌, ◌+◌, Bool, true, false, ◌&&◌, ◌||◌, cond, List, [], ◌∷◌, length, drop, get_or, refl, sym, ap, ◌∙◌, subst, inl, inr, arith, rules, add-one, drop-cons}
-use Rattle.std.specs.List.{AllByRecursion, list_any, prefix_len}
+use Rattle.std.proofs.Common.{◌≡◌, ℕ, suc, zero, ◌<◌, ◌≤◌, ◌+◌, Bool, true, false, ◌&&◌, ◌||◌, List, [], ◌∷◌, length, drop, get_or, refl, sym, ap, ◌∙◌, subst, inl, inr, arith, rules, add-one, drop-cons}
+use Rattle.std.specs.List.{AllByRecursion, prefix_len}
 use Rattle.std.specs.List.Sorted.{IsPermutation, IsPartitionedBy, IsSortedBy}
 use Rattle.std.specs.Ordering.{is_lt}
 use Rattle.std.proofs.Math.ListN.{drop_of_length-le}

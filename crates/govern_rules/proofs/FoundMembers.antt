@@ -1,16 +1,16 @@
 -- The peers of a group, looked up one after the other, are those that a look through the book finds.
-use Rattle.std.proofs.Common.{◌≡◌, ℕ, ◌+◌, ◌-◌, Bool, true, false, ◌&&◌, ◌||◌, not, cond, List, [], ◌∷◌, ◌++◌, map, length, get_or, drop, Option, Some, None, refl, sym, ap, ◌∙◌, subst, inl, inr, suc, zero, ◌<◌, ◌≤◌, arith, append_assoc, add-one, drop-cons}
-use Rattle.std.specs.List.{AllByRecursion, IsDistinct, filter, filter_map, cons_option, find, count_by}
+use Rattle.std.proofs.Common.{◌≡◌, ℕ, ◌+◌, Bool, true, false, ◌&&◌, not, cond, List, [], ◌∷◌, ◌++◌, length, get_or, drop, Option, Some, None, refl, sym, ap, ◌∙◌, subst, inl, inr, suc, ◌<◌, ◌≤◌, append_assoc, add-one, drop-cons}
+use Rattle.std.specs.List.{AllByRecursion, IsDistinct, filter, filter_map, cons_option}
 use Rattle.std.specs.List.Sorted.{IsPermutation}
 use Rattle.std.specs.Option.{option_to_list}
 use Rattle.std.proofs.Math.ListN.{drop_of_length-le}
 use Rattle.std.proofs.lemmas.List.{append-nil}
-use Rattle.std.proofs.lemmas.Bool.{cases_Bool, false≢true, false_from_ne_true}
+use Rattle.std.proofs.lemmas.Bool.{cases_Bool}
 use Rattle.std.proofs.lemmas.List.Sorted.{IsPermutation-refl, IsPermutation-trans, IsPermutation-append, IsPermutation-filter_both}
 use Rattle.net_base.specs.Address.{same_address}
 use Rattle.net_base.specs.declared.address.Addr.{Addr}
 use Rattle.net_base.specs.declared.peer.Peer.{Peer}
-use Rattle.peer_book.specs.Book.{has_address, peer_at, is_of, addresses_of}
+use Rattle.peer_book.specs.Book.{has_address, peer_at, addresses_of}
 use Rattle.root_groups.specs.Cleaned.{is_listed}
 use Rattle.root_groups.proofs.Listed.{same_address_equiv, same_address-turn}
 use Rattle.govern_rules.specs.Members.{peers_with}

@@ -2,7 +2,7 @@
 use Rattle.std.proofs.Common.{◌≡◌, ℕ, ◌-◌, Bool, true, false, ◌&&◌, ◌||◌, List, length, map, refl, sym, ap, ◌∙◌}
 use Rattle.std.specs.List.{IsDistinct, filter, count_by}
 use Rattle.std.specs.List.Sorted.{IsPermutation}
-use Rattle.std.proofs.lemmas.List.Sorted.{IsPermutation-sym, sum_by-IsPermutation}
+use Rattle.std.proofs.lemmas.List.Sorted.{sum_by-IsPermutation}
 use Rattle.std.proofs.lemmas.List.Sums.{length-filter}
 use Rattle.net_base.specs.Address.{same_address}
 use Rattle.net_base.specs.declared.address.Addr.{Addr}

@@ -1,5 +1,5 @@
 -- The members of a group that are known, and what is done with them.
-use Rattle.std.specs.Prelude.{ℕ, ◌-◌, Bool, false, List, filter}
+use Rattle.std.specs.Prelude.{ℕ, ◌-◌, false, List, filter}
 use Rattle.net_base.specs.declared.address.Addr.{Addr}
 use Rattle.net_base.specs.declared.event.Group.{Group}
 use Rattle.net_base.specs.declared.peer.Peer.{Peer}

@@ -1,6 +1,6 @@
 -- The rules for ordinary peers. Every count, candidate and reply that is owed is one of an ordinary peer. A local
 -- peer is one in a group; groups have rules of their own, one group after the other.
-use Rattle.std.specs.Prelude.{ℕ, ◌-◌, min, Bool, true, false, ◌&&◌, ◌||◌, not, nat_lt, List, ◌++◌, count_by, if◌then◌else◌, is_some}
+use Rattle.std.specs.Prelude.{ℕ, ◌-◌, min, Bool, false, ◌&&◌, ◌||◌, not, nat_lt, List, ◌++◌, count_by, if◌then◌else◌, is_some}
 use Rattle.std.specs.List.{flat_map}
 use Rattle.net_base.specs.declared.address.Addr.{Addr}
 use Rattle.net_base.specs.declared.event.Group.{Group}

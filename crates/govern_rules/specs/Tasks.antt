@@ -1,5 +1,5 @@
 -- What a rule does with those that it picks: who they may be, how many, and the order that each is given.
-use Rattle.std.specs.Prelude.{ℕ, ◌-◌, nat_lt, Bool, true, false, ◌&&◌, List, if◌then◌else◌}
+use Rattle.std.specs.Prelude.{ℕ, ◌-◌, nat_lt, Bool, ◌&&◌, List, if◌then◌else◌}
 use Rattle.net_base.specs.declared.address.Addr.{Addr}
 use Rattle.net_base.specs.declared.peer.Peer.{Peer}
 use Rattle.peer_book.specs.Book.{known_of, established_of, active_of}

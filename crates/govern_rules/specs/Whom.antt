@@ -1,5 +1,5 @@
 -- Which addresses a rule is about, and how its peers are picked.
-use Rattle.std.specs.Prelude.{Bool, true, false}
+use Rattle.std.specs.Prelude.{Bool}
 use Rattle.net_base.specs.declared.address.Addr.{Addr}
 use Rattle.govern_rules.specs.BigRules.{everybody}
 use Rattle.govern_rules.specs.Rules.{is_not_local, may_be_dropped}

@@ -1,6 +1,4 @@
 use Rattle.std.proofs.Common.{◌≡◌, ◌-◌, min, false, ap, ◌∙◌}
-use Rattle.net_base.specs.declared.targets.Targets.{Targets}
-use Rattle.peer_book.specs.Book.{known_of}
 use Rattle.govern_rules.specs.BigRules.{everybody}
 use Rattle.govern_rules.specs.Rules.{missing_of}
 use Rattle.govern_rules.specs.Tasks.{task_orders}

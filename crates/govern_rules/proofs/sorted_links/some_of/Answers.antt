@@ -1,8 +1,7 @@
-use Rattle.std.proofs.Common.{◌≡◌, true, false, sym, ap, ◌∙◌, arith, rules, get_or}
-use Rattle.net_base.specs.Address.{address_below, same_address}
-use Rattle.govern_rules.specs.Links.{some_link}
+use Rattle.std.proofs.Common.{◌≡◌, true, sym, ◌∙◌, rules, get_or}
+use Rattle.net_base.specs.Address.{address_below}
 use Rattle.govern_rules.specs.Marks.{has_mark}
-use Rattle.govern_rules.proofs.ByAddress.{no_link, turn_above, turn_found, turn_more, turn_end}
+use Rattle.govern_rules.proofs.ByAddress.{no_link, turn_above}
 use Rattle.govern_rules.proofs.sorted_links.some_of.Goals as goal
 
 pub returns-then-lt : goal.returns-then-lt

@@ -1,11 +1,6 @@
-use Rattle.std.proofs.Common.{◌≡◌, ◌≤◌, List, length, ap, sym, subst, ◌∙◌, arith}
-use Rattle.std.specs.List.{IsDistinct}
+use Rattle.std.proofs.Common.{sym, subst, arith}
 use Rattle.std.specs.List.Sorted.{IsPermutation}
-use Rattle.net_base.specs.Address.{same_address}
 use Rattle.net_base.specs.declared.peer.Peer.{Peer}
-use Rattle.peer_book.specs.Book.{addresses_of}
-use Rattle.peer_book.specs.Order.{IsRising}
-use Rattle.peer_book.proofs.BookFacts.{IsDistinct-rising}
 use Rattle.root_groups.specs.Cleaned.{is_listed}
 use Rattle.govern_rules.specs.Members.{peers_with}
 use Rattle.govern_rules.proofs.Apart.{IsDistinct-filter, distinct_book}

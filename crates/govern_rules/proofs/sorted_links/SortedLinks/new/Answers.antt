@@ -1,8 +1,7 @@
-use Rattle.std.proofs.Common.{◌≡◌, ap, sym, subst, ◌∙◌, rules}
+use Rattle.std.proofs.Common.{◌≡◌, ap, ◌∙◌, rules}
 use Rattle.std.proofs.lemmas.List.Sorted.{answers_always}
 use Rattle.govern_rules.specs.Links.{some_link}
 use Rattle.govern_rules.specs.declared.link.Link.{Link}
-use Rattle.govern_rules.specs.SortedLinks.{SaySame}
 use Rattle.govern_rules.proofs.ByAddress.{by_address_from_sort, SaySame-permutation}
 use Rattle.govern_rules.proofs.sorted_links.SortedLinks.new.Goals as goal
 

@@ -1,4 +1,4 @@
-use Rattle.std.proofs.Common.{◌≡◌, sym, ap, subst, ◌∙◌, drop}
+use Rattle.std.proofs.Common.{sym, ap, subst, ◌∙◌, drop}
 use Rattle.std.specs.List.{prefix_len}
 use Rattle.net_base.specs.Address.{address_below}
 use Rattle.govern_rules.specs.Links.{some_link}
