@@ -14,7 +14,7 @@ use Rattle.root_groups.specs.Cleaned.{cleaned, members_of, group_of}
 use Rattle.root_groups.specs.RootAsk.{awaits, publics_of, found, failed}
 use Rattle.machine.specs.Machine.{Machine}
 use Rattle.machine.specs.Effect.{Effect, shared, becomes, nothing_more, then_do, as_move, for_each}
-use Rattle.machine.specs.Peers.{peer_comes, peer_is_ordinary}
+use Rattle.machine.specs.Peers.{peer_at, peer_comes, peer_is_ordinary}
 
 -- ---- targets
 
@@ -39,10 +39,11 @@ locals_are groups m =
 
 -- ---- big ledger peers
 
--- neither the own address nor a member of a group, and fewer big ledger peers are known than wanted
+-- neither the own address, nor in the book, nor a member of a group, and fewer big ledger peers are known than wanted
 abbrev pub is_wanted_big : Addr → Machine → Bool
 is_wanted_big addr m =
     not (same_address addr m.settings.own)
+    && not (is_some (peer_at addr m))
     && not (is_some (group_of addr m.groups))
     && nat_lt (known_of true m.peers) (effective_big_of m.big_targets m.now).known
 
