@@ -1,5 +1,5 @@
 -- The index of connections after a change of them, and what it finds.
-use Rattle.std.proofs.Common.{◌≡◌, ℕ, suc, ◌+◌, ◌<◌, ◌≤◌, ◌==◌, nat_lt, ◌||◌, Bool, true, false, cond, List, [], ◌∷◌, ◌++◌, Option, Some, None, is_some, refl, sym, subst, ap, ◌∙◌, inl, inr, ◌⊎◌, arith}
+use Rattle.std.proofs.Common.{◌≡◌, ℕ, ◌+◌, ◌<◌, ◌≤◌, ◌==◌, nat_lt, ◌||◌, Bool, true, false, cond, List, [], ◌∷◌, ◌++◌, Some, None, is_some, refl, sym, subst, ap, ◌∙◌, inl, inr, ◌⊎◌, arith}
 use Rattle.std.specs.List.{AllByRecursion, find}
 use Rattle.std.specs.Option.{option_map}
 use Rattle.std.proofs.lemmas.Bool.{cases_Bool, true≢false, and_parts}
@@ -15,7 +15,7 @@ use Rattle.conn_table.specs.Table.{IdsRise, moved_at, without_at}
 use Rattle.conn_table.specs.declared.placed.Placed.{Placed}
 use Rattle.conn_table.proofs.AddressOrder.{address_turned, same_address-itself, same_address-is}
 use Rattle.conn_table.proofs.IdPlaces.{found_here, found_later, found_id, without_at-above}
-use Rattle.conn_table.proofs.PlacedOrder.{placed_transitive, placed_connected, other_when_below, never_both, same_placed-itself, same_placed-is}
+use Rattle.conn_table.proofs.PlacedOrder.{placed_transitive, placed_connected, never_both, same_placed-itself, same_placed-is}
 use Rattle.conn_table.proofs.PlacedPlaces.{IsRising-put_in, filter-put_in, taken_out-put_in}
 
 -- ---- two that are put in, in either order

@@ -1,5 +1,5 @@
 -- Which connection of an address may be live: the last.
-use Rattle.std.proofs.Common.{◌≡◌, ℕ, ◌+◌, ◌<◌, ◌≤◌, ◌||◌, ◌&&◌, Bool, true, false, cond, List, [], ◌∷◌, ◌++◌, map, length, Option, Some, None, is_some, refl, sym, subst, ap, ◌∙◌, inl, inr, ◌⊎◌, arith}
+use Rattle.std.proofs.Common.{◌≡◌, ℕ, ◌+◌, ◌≤◌, Bool, true, false, cond, List, [], ◌∷◌, ◌++◌, length, Option, Some, None, is_some, refl, sym, subst, ap, ◌∙◌, inl, inr, ◌⊎◌, arith}
 use Rattle.std.specs.List.{find, filter}
 use Rattle.std.specs.Option.{option_map}
 use Rattle.std.proofs.lemmas.Bool.{cases_Bool, true≢false, false≢true, and_parts}
@@ -9,15 +9,15 @@ use Rattle.net_base.specs.declared.address.Addr.{Addr}
 use Rattle.net_base.specs.declared.connection.Facts.{Facts}
 use Rattle.net_base.specs.declared.connection.Phase.{Phase}
 use Rattle.net_base.specs.declared.connection.Phase.TheVariants.{Dialing, Greeting, Negotiated, Closing}
-use Rattle.conn_state.specs.Use.{has_id, facts_at, is_live, live_phase, is_negotiated, is_negotiated_phase, is_live_at, live_at, is_acquirable}
+use Rattle.conn_state.specs.Use.{has_id, facts_at, is_live, live_phase, is_negotiated_phase, is_live_at, live_at, is_acquirable}
 use Rattle.conn_table.specs.Answers.{has_address, any_at, any_acquirable, may_acquire}
 use Rattle.conn_table.specs.Index.{placed_of}
 use Rattle.conn_table.specs.declared.placed.Placed.{Placed}
 use Rattle.conn_table.specs.Finds.{newest, if_live}
 use Rattle.conn_table.specs.Kept.{OnlyLastLives}
-use Rattle.conn_table.specs.Table.{IdsRise, moved_at, without_at}
+use Rattle.conn_table.specs.Table.{IdsRise, moved_at}
 use Rattle.conn_table.proofs.AddressOrder.{same_address-itself, same_address-is}
-use Rattle.conn_table.proofs.IdPlaces.{found_here, found_later, found_id, moved_at-above, none_above}
+use Rattle.conn_table.proofs.IdPlaces.{found_here, found_later, moved_at-above, none_above}
 
 -- ---- some connection of an address
 

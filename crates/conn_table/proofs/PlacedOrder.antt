@@ -1,5 +1,5 @@
 -- The order of address and then id is strict, and tells any two apart.
-use Rattle.std.proofs.Common.{◌≡◌, true, false, ◌==◌, refl, sym, ap, ◌∙◌, rules}
+use Rattle.std.proofs.Common.{◌≡◌, true, false, ◌==◌, sym, ap, ◌∙◌, rules}
 use Rattle.std.specs.declared.cmp.Ordering.{Ordering}
 use Rattle.std.specs.declared.cmp.Ordering.TheVariants.{Less, Greater}
 use Rattle.std.specs.Ordering.{is_lt, is_eq, ordering_reverse}

@@ -1,5 +1,5 @@
 -- A rising list by the place of one in it: what an edit there leaves.
-use Rattle.std.proofs.Common.{◌≡◌, ℕ, suc, zero, ◌<◌, ◌≤◌, ◌+◌, Bool, true, false, cond, List, [], ◌∷◌, length, get_or, is_some, None, refl, sym, subst, ap, ◌∙◌, inl, inr, arith}
+use Rattle.std.proofs.Common.{◌≡◌, ℕ, suc, zero, ◌<◌, ◌≤◌, ◌+◌, Bool, true, false, cond, List, [], ◌∷◌, length, get_or, None, refl, sym, subst, ap, ◌∙◌, inl, inr, arith}
 use Rattle.std.specs.List.{AllByRecursion, prefix_len, find, filter, insert, remove}
 use Rattle.std.specs.List.Sorted.{IsPartitionedBy, IsPartitionPoint}
 use Rattle.std.proofs.lemmas.Bool.{cases_Bool, cases_order, false≢true, true≢false, false_from_ne_true}
@@ -7,7 +7,7 @@ use Rattle.std.proofs.lemmas.List.Elements.{All-from_recursion}
 use Rattle.std.proofs.lemmas.List.Sums.{prefix_len_is}
 use Rattle.conn_table.specs.Index.{placed_below, same_placed, IsRising, put_in, taken_out, stands}
 use Rattle.conn_table.specs.declared.placed.Placed.{Placed}
-use Rattle.conn_table.proofs.PlacedOrder.{placed_transitive, placed_connected, other_when_below, other_when_above, never_both, same_placed-is}
+use Rattle.conn_table.proofs.PlacedOrder.{placed_transitive, placed_connected, other_when_below, other_when_above, same_placed-is}
 
 one_more : (n : ℕ) → 1 + n ≡ suc n
 one_more n = omega arith

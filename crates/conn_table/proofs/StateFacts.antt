@@ -1,22 +1,22 @@
 -- The state that stands at the place of an id, and what a step keeps of it.
-use Rattle.std.proofs.Common.{◌≡◌, ℕ, ◌+◌, ◌<◌, ◌≤◌, ◌&&◌, Bool, true, false, List, map, length, get_or, Option, Some, None, IsSome, IfSome, IsSomeAnd, slice_get, refl, sym, subst, ap, ◌∙◌, inl, inr, arith, rules}
+use Rattle.std.proofs.Common.{◌≡◌, ℕ, ◌<◌, true, List, map, length, get_or, Option, Some, None, IsSome, IfSome, IsSomeAnd, refl, sym, ap, ◌∙◌, inl, inr, arith, rules}
 use Rattle.std.specs.Option.{option_map}
-use Rattle.std.proofs.lemmas.Bool.{cases_Bool, true≢false, false≢true, and_parts}
+use Rattle.std.proofs.lemmas.Bool.{cases_Bool, true≢false, false≢true}
 use Rattle.std.proofs.lemmas.List.{length-map}
 use Rattle.std.proofs.lemmas.Option.{slice_get-map, slice_get_within, slice_get-get_or}
 use Rattle.net_base.specs.declared.connection.Facts.{Facts}
 use Rattle.net_base.specs.declared.connection.Grace.{Grace}
-use Rattle.net_base.specs.declared.connection.Grace.TheVariants.{Off, ForRemote, ForLocal}
+use Rattle.net_base.specs.declared.connection.Grace.TheVariants.{Off}
 use Rattle.net_base.specs.declared.connection.Phase.{Phase}
 use Rattle.net_base.specs.declared.connection.Phase.TheVariants as phase
 use Rattle.net_base.specs.declared.connection.Responders.{Responders}
 use Rattle.conn_state.specs.Shapes.{IsUnused}
 use Rattle.conn_state.specs.State.{facts_of, HasShape}
-use Rattle.conn_state.specs.Use.{facts_at, is_live, live_phase, is_dialing_phase, is_greeting_phase, is_negotiated_phase, is_duplex, is_outbound, runs, some_runs}
+use Rattle.conn_state.specs.Use.{facts_at, is_live, live_phase, is_dialing_phase, is_greeting_phase, is_negotiated_phase, is_outbound, runs, some_runs}
 use Rattle.conn_state.specs.declared.state.ConnState.{ConnState}
 use Rattle.conn_state.specs.declared.state.ConnState.TheVariants as state
 use Rattle.conn_table.specs.Answers.{is_due}
-use Rattle.conn_table.specs.Conditions.{CanStep, CanAwake, after_step}
+use Rattle.conn_table.specs.Conditions.{CanStep, after_step}
 use Rattle.conn_table.specs.Index.{placed_of}
 use Rattle.conn_table.specs.Finds.{id_place}
 use Rattle.conn_table.specs.Table.{IdsRise}

@@ -1,14 +1,12 @@
 -- One state in place of another, or gone, as the list of facts sees it.
-use Rattle.std.proofs.Common.{◌≡◌, ℕ, suc, zero, ◌+◌, ◌<◌, ◌≤◌, Bool, cond, List, [], ◌∷◌, ◌++◌, map, length, set, Some, refl, sym, ap, ◌∙◌, arith}
+use Rattle.std.proofs.Common.{◌≡◌, ℕ, suc, zero, ◌+◌, ◌<◌, ◌≤◌, Bool, cond, List, [], ◌∷◌, ◌++◌, map, length, set, refl, ap, ◌∙◌, arith}
 use Rattle.std.specs.List.{remove, count_by}
-use Rattle.std.proofs.lemmas.List.{map-set, map-append}
+use Rattle.std.proofs.lemmas.List.{map-set}
 use Rattle.std.proofs.lemmas.List.Sums.{count_by-le-length, sum_by-append, sum_by-cons}
 use Rattle.net_base.specs.declared.connection.Facts.{Facts}
 use Rattle.conn_state.specs.State.{facts_of}
-use Rattle.conn_state.specs.Use.{facts_at}
 use Rattle.conn_state.specs.declared.state.ConnState.{ConnState}
-use Rattle.conn_table.specs.Table.{IdsRise, without_at}
-use Rattle.conn_table.proofs.IdPlaces.{count-without}
+use Rattle.conn_table.specs.Table.{IdsRise}
 use Rattle.conn_table.proofs.Lives.{length-rise}
 
 abbrev pub one_if : Bool → ℕ

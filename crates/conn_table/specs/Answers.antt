@@ -1,5 +1,5 @@
 -- What the table says to the outbound side, and to a grace that is over.
-use Rattle.std.specs.Prelude.{ℕ, Bool, ◌&&◌, ◌||◌, nat_le, List, Option, Some, None, is_some, find, if◌then◌else◌, true, false}
+use Rattle.std.specs.Prelude.{ℕ, Bool, ◌&&◌, nat_le, List, Option, Some, None, is_some, find, if◌then◌else◌, true, false}
 use Rattle.net_base.specs.Address.{same_address}
 use Rattle.net_base.specs.declared.address.Addr.{Addr}
 use Rattle.net_base.specs.declared.connection.Cid.{Cid}

@@ -1,7 +1,6 @@
 -- When a connection may make a move.
 use Rattle.std.specs.Prelude.{ℕ, ◌≡◌, true, false}
 use Rattle.net_base.specs.declared.connection.Facts.{Facts}
-use Rattle.net_base.specs.declared.connection.Grace.TheVariants.{Off}
 use Rattle.conn_state.specs.Moves.{connected, negotiated, acquired, released, awakened, idled, grace_ended}
 use Rattle.conn_state.specs.Protocols.{has_responder}
 use Rattle.conn_state.specs.Shapes.{serves_remote}

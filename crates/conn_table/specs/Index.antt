@@ -1,5 +1,5 @@
 -- The index: the address and id of every connection, in order of address and then id.
-use Rattle.std.specs.Prelude.{ℕ, zero, suc, ◌≡◌, Bool, true, false, ◌&&◌, ◌||◌, ◌==◌, not, nat_lt, List, [], ◌∷◌, filter, find, Option, Some, None, is_some, slice_get, if◌then◌else◌}
+use Rattle.std.specs.Prelude.{ℕ, zero, suc, ◌≡◌, Bool, true, ◌&&◌, ◌||◌, ◌==◌, not, nat_lt, List, [], ◌∷◌, filter, find, Option, Some, None, is_some, slice_get, if◌then◌else◌}
 use Rattle.std.specs.List.{AllByRecursion}
 use Rattle.net_base.specs.Address.{same_address, address_below}
 use Rattle.net_base.specs.declared.address.Addr.{Addr}

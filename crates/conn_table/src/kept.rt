@@ -16,7 +16,7 @@ use std::alloc::Global;
 use std::mem;
 
 // The connections in order of id, and what is kept beside them.
-#[derive(Drop)]
+#[derive(Debug, Drop)]
 pub struct Kept {
     pub states: Vec<ConnState>,
     // by address and then id

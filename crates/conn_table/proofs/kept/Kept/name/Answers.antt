@@ -1,5 +1,4 @@
-use Rattle.std.proofs.Common.{◌≡◌, ◌<◌, List, ap, get_or, length, ◌∙◌, arith}
-use Rattle.net_base.specs.declared.connection.Facts.{Facts}
+use Rattle.std.proofs.Common.{ap, get_or, ◌∙◌, arith}
 use Rattle.conn_state.specs.Names.{name_of}
 use Rattle.conn_state.specs.State.{facts_of}
 use Rattle.conn_state.specs.Use.{facts_at}

@@ -1,4 +1,4 @@
-use Rattle.std.proofs.Common.{◌≡◌, ◌+◌, ◌<◌, ℕ, true, cond, List, Some, get_or, map, length, sym, subst, ap, ◌∙◌, arith}
+use Rattle.std.proofs.Common.{◌≡◌, ◌+◌, ℕ, cond, List, get_or, map, sym, subst, ap, ◌∙◌, arith}
 use Rattle.std.specs.List.{remove}
 use Rattle.net_base.specs.declared.connection.Facts.{Facts}
 use Rattle.conn_state.specs.Counted.{is_counted, counted}

@@ -1,4 +1,4 @@
-use Rattle.std.proofs.Common.{◌≡◌, ◌+◌, ◌<◌, ℕ, true, cond, if◌then◌else◌, List, Option, Some, IsSomeAnd, get_or, set, length, sym, subst, ap, ◌∙◌, arith}
+use Rattle.std.proofs.Common.{◌≡◌, ◌+◌, ℕ, true, cond, List, get_or, set, sym, subst, ap, ◌∙◌, arith}
 use Rattle.net_base.specs.declared.connection.Facts.{Facts}
 use Rattle.conn_state.specs.Counted.{is_counted, counted}
 use Rattle.conn_state.specs.State.{facts_of}
@@ -7,7 +7,7 @@ use Rattle.conn_table.specs.Conditions.{CanStep, after_step}
 use Rattle.conn_table.specs.Index.{index_of}
 use Rattle.conn_table.specs.Kept.{facts_kept, OnlyLastLives}
 use Rattle.conn_table.specs.Finds.{id_place}
-use Rattle.conn_table.specs.Table.{IdsRise, moved_at, without_at}
+use Rattle.conn_table.specs.Table.{IdsRise, without_at}
 use Rattle.conn_table.proofs.IdPlaces.{set-place, IdsRise-moved, count-moved, count-without}
 use Rattle.conn_table.proofs.IndexFacts.{index_of-moved}
 use Rattle.conn_table.proofs.Lives.{OnlyLastLives-moved}

@@ -1,4 +1,4 @@
-use Rattle.std.proofs.Common.{◌≡◌, true, false, cond, Some, IsSomeAnd, IfSome, is_some, ap, sym, subst, ◌∙◌}
+use Rattle.std.proofs.Common.{◌≡◌, false, cond, Some, IsSomeAnd, IfSome, is_some, ap, sym, subst, ◌∙◌}
 use Rattle.conn_state.specs.Names.{name_of}
 use Rattle.conn_state.specs.Use.{facts_at, live_at, is_acquirable}
 use Rattle.conn_table.specs.Answers.{acquire_answer}

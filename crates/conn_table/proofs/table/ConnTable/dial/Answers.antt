@@ -1,4 +1,4 @@
-use Rattle.std.proofs.Common.{◌≡◌, false, ap, sym, ◌∙◌}
+use Rattle.std.proofs.Common.{ap, ◌∙◌}
 use Rattle.conn_state.specs.Use.{live_at}
 use Rattle.conn_table.specs.Answers.{any_at}
 use Rattle.conn_table.specs.Kept.{facts_kept}
