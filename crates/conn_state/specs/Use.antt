@@ -17,6 +17,11 @@ abbrev pub agreed_duplex : Option Agreed → Bool
 agreed_duplex None = false
 agreed_duplex (Some agreed) = not agreed.initiator_only
 
+-- peer sharing was agreed on
+abbrev pub agreed_sharing : Option Agreed → Bool
+agreed_sharing None = false
+agreed_sharing (Some agreed) = agreed.sharing
+
 abbrev pub is_duplex : Facts → Bool
 is_duplex f = agreed_duplex f.agreed
 

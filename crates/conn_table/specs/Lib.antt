@@ -1,1 +1,6 @@
+pub mod Answers
+pub mod Conditions
+pub mod Finds
+pub mod Index
+pub mod Kept
 pub mod Table

@@ -1,47 +1,36 @@
 ghost use Rattle.std.specs.Prelude.{◌≡◌, ◌&&◌, not};
 ghost use Rattle.conn_state.specs.Counted.{is_counted};
-ghost use Rattle.conn_state.specs.Moves.{accepted};
-ghost use Rattle.conn_state.specs.Use.{has_id, is_live_at, some_runs, is_for_remote};
+ghost use Rattle.conn_state.specs.Use.{agreed_duplex, is_live, is_acquirable, some_runs, is_for_remote};
 
-use net_base::{Addr, Cid, Facts, Grace, Phase, Provenance, Responders};
+use net_base::{Agreed, Facts, Grace, Phase, Provenance, Responders};
 
-/// What is known of a connection whose peer has just connected, and whose handshake may take until a moment.
-pub fn accepted(cid: Cid, addr: Addr, until: u64) -> Facts
-    ensures { result ≡ accepted cid.0 addr until }
+// Whether this side has not closed a connection.
+pub fn is_live(facts: &Facts) -> bool
+    ensures { result ≡ is_live facts.now }
 {
-    Facts {
-        cid,
-        addr,
-        provenance: Provenance::FromRemote,
-        phase: Phase::Greeting(until),
-        agreed: None,
-        local: false,
-        running: Responders {
-            chain_sync: false,
-            block_fetch: false,
-            tx_submission: false,
-            keep_alive: false,
-            peer_sharing: false,
-        },
-        grace: Grace::Off,
+    !matches!(facts.phase, Phase::Closing(_))
+}
+
+// Whether this side may take a connection into use.
+pub fn is_acquirable(facts: &Facts) -> bool
+    ensures { result ≡ is_acquirable facts.now }
+{
+    matches!(facts.phase, Phase::Negotiated)
+        && is_duplex(facts.agreed)
+        && !facts.local
+        && !matches!(facts.grace, Grace::ForLocal(_))
+}
+
+fn is_duplex(agreed: Option<Agreed>) -> bool
+    ensures { result ≡ agreed_duplex agreed }
+{
+    match agreed {
+        Some(agreed) => !agreed.initiator_only,
+        None => false,
     }
 }
 
-/// Whether a connection has an id.
-pub fn has_id(facts: &Facts, cid: Cid) -> bool
-    ensures { result ≡ has_id cid.0 facts.now }
-{
-    facts.cid == cid
-}
-
-/// Whether a connection is with an address and this side has not closed it.
-pub fn is_live_at(facts: &Facts, addr: Addr) -> bool
-    ensures { result ≡ is_live_at addr facts.now }
-{
-    facts.addr == addr && !matches!(facts.phase, Phase::Closing(_))
-}
-
-/// Whether the limits count a connection.
+// Whether the limits count a connection.
 pub fn is_counted(facts: &Facts) -> bool
     ensures { result ≡ is_counted facts.now }
 {

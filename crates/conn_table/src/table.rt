@@ -1,12 +1,22 @@
-ghost use Rattle.std.specs.Prelude.{◌≡◌, ◌+◌, ◌<◌, ◌≤◌, ◌^◌, None, length, slice_get, IsSomeAnd, IfOk, OnOk, OnErr, false};
+ghost use Rattle.std.specs.Prelude.{◌≡◌, ◌+◌, ◌<◌, ◌≤◌, ◌^◌, Some, None, length, slice_get, IsSomeAnd, IfSome, IfOk, OnOk, OnErr, false, true, if◌then◌else◌};
 ghost use Rattle.std.specs.Option.{option_map};
 ghost use Rattle.conn_state.specs.Counted.{counted};
-ghost use Rattle.conn_state.specs.Use.{facts_at, live_at};
-ghost use Rattle.conn_table.specs.Table.{empty_table, with_accepted, without, IdsRise};
+ghost use Rattle.conn_state.specs.Moves.{connected, negotiated, released, awakened, idled, grace_ended};
+ghost use Rattle.conn_state.specs.Protocols.{has_responder};
+ghost use Rattle.conn_state.specs.Use.{facts_at, live_at, is_dialing, is_greeting, runs};
+ghost use Rattle.conn_table.specs.Answers.{any_at, any_acquirable, acquire_of, after_acquire, is_leased, may_acquire, lease_of, is_due, grace_end_of};
+ghost use Rattle.conn_table.specs.Conditions.{CanAwake};
+ghost use Rattle.conn_table.specs.Index.{index_of, IsRising};
+ghost use Rattle.conn_table.specs.Finds.{if_live};
+ghost use Rattle.conn_table.specs.Table.{empty_table, with_accepted, with_dialing, with_moved, without, IdsRise};
 ghost use Rattle.net_base.specs.Bounds.{AreSound};
 
-use crate::facts::{accepted, has_id, is_counted, is_live_at};
-use net_base::{Addr, Cid, Facts, OutOfMemory, Settings};
+use crate::facts::{is_acquirable, is_live};
+use crate::kept::Kept;
+use crate::step::Step;
+use crate::{Acquire, GraceEnd, LocalLease, PlacedList};
+use conn_state::{ConnState, ReservedOutbound, Unnegotiated};
+use net_base::{Addr, Agreed, Cid, Facts, OutOfMemory, Provenance, Settings};
 use std::alloc::Global;
 use std::marker::Model;
 
@@ -15,18 +25,19 @@ use std::marker::Model;
 #[derive(Debug, Drop)]
 pub struct ConnTable {
     settings: Settings,
-    facts: Vec<Facts>,
-    given: u64,
+    kept: Kept,
 }
 
 impl Model for ConnTable {
-    ghost use Rattle.conn_table.specs.Table.{Table, IsKept};
+    ghost use Rattle.conn_table.specs.Kept.{IsSettled, facts_kept};
+    ghost use Rattle.conn_table.specs.Finds.{if_live};
+    ghost use Rattle.conn_table.specs.Table.{Table};
 
     ghost Value = { Table };
 
-    ghost view = { λ t. record { settings = t.settings; facts = t.facts.items; given = t.given } };
+    ghost view = { λ t. record { settings = t.settings; facts = facts_kept t.kept; given = t.kept.given } };
 
-    ghost invariant = { λ t. IsKept t.settings t.facts.items t.given };
+    ghost invariant = { λ t. IsSettled t.settings t.kept };
 }
 
 impl ConnTable {
@@ -37,13 +48,12 @@ impl ConnTable {
     {
         ConnTable {
             settings: *settings,
-            facts: Vec::new(alloc),
-            given: 0,
+            kept: Kept::new(alloc),
         }
     }
 
     /// Lets in a peer that connected at a moment, under the next id. Its handshake may take as long as the settings
-    /// say. A refusal changes nothing.
+    /// say. A refusal changes nothing. Later moves of the connection take no memory.
     pub fn admit(&mut self, addr: Addr, now: u64) -> Result<Cid, OutOfMemory>
         requires no_live { live_at addr self.old.facts ≡ None }
         requires below_hard { counted self.old.facts < self.old.settings.hard }
@@ -53,11 +63,107 @@ impl ConnTable {
         ensures ok { OnOk result (self.new ≡ with_accepted addr now self.old) }
         ensures err { OnErr result (self.new ≡ self.old) }
     {
-        let cid = Cid(self.given + 1);
+        let cid = Cid(self.kept.given + 1);
         let until = now + self.settings.handshake;
-        self.facts.push(accepted(cid, addr, until))?;
-        self.given += 1;
+        let state = Unnegotiated::accepted(cid, addr, until);
+        self.kept.enter(ConnState::Unnegotiated(state))?;
         Ok(cid)
+    }
+
+    /// This side begins to dial an address, under the next id. A refusal changes nothing. Later moves of the connection
+    /// take no memory.
+    pub fn dial(&mut self, addr: Addr) -> Result<Cid, OutOfMemory>
+        requires none { any_at addr self.old.facts ≡ false }
+        requires few_given { self.old.given < 2 ^ 48 }
+        ensures id { IfOk result (λ cid. cid.0 ≡ self.old.given + 1) }
+        ensures ok { OnOk result (self.new ≡ with_dialing addr self.old) }
+        ensures err { OnErr result (self.new ≡ self.old) }
+    {
+        let cid = Cid(self.kept.given + 1);
+        let state = ReservedOutbound::new(cid, addr);
+        self.kept.enter(ConnState::ReservedOutbound(state))?;
+        Ok(cid)
+    }
+
+    /// The dialed socket is open, and the handshake begins.
+    pub fn connected(&mut self, cid: Cid, now: u64)
+        requires dialing { IsSomeAnd (facts_at cid.0 self.old.facts) (λ f. is_dialing f ≡ true) }
+        requires moment { now ≤ 2 ^ 48 }
+        ensures { self.new ≡ with_moved cid.0 (connected (now + self.old.settings.handshake)) self.old }
+    {
+        let until = now + self.settings.handshake;
+        self.kept.turn(cid, Step::Connected(until));
+    }
+
+    /// The handshake is over. A lease comes with a connection that this side dialed.
+    pub fn negotiated(&mut self, cid: Cid, agreed: Agreed, now: u64) -> Option<LocalLease>
+        requires greeting { IsSomeAnd (facts_at cid.0 self.old.facts) (λ f. is_greeting f ≡ true) }
+        requires moment { now ≤ 2 ^ 48 }
+        ensures lease { IfSome (facts_at cid.0 self.old.facts) (λ f. result ≡ lease_of f) }
+        ensures table { self.new ≡ with_moved cid.0 (negotiated agreed (now + self.old.settings.idle)) self.old }
+    {
+        let until = now + self.settings.idle;
+        let facts = self.kept.facts(cid).unwrap();
+        self.kept.turn(cid, Step::Negotiated(agreed, until));
+        lease_by(&facts)
+    }
+
+    /// Takes the connection of an address into local use, where it may be.
+    pub fn acquire(&mut self, addr: Addr) -> Acquire
+        ensures answer { result ≡ acquire_of addr self.old.facts }
+        ensures table { self.new ≡ after_acquire result self.old }
+        ensures leased { is_leased result ≡ any_acquirable addr self.old.facts }
+    {
+        match self.newest_live(addr) {
+            None => Acquire::NoSuch,
+            Some(facts) => self.acquire_live(addr, facts),
+        }
+    }
+
+    /// This side uses a connection no more.
+    pub fn release(&mut self, lease: LocalLease, now: u64)
+        requires used { IsSomeAnd (facts_at lease.0 self.old.facts) (λ f. f.local ≡ true) }
+        requires moment { now ≤ 2 ^ 48 }
+        ensures { self.new ≡ with_moved lease.0 (released (now + self.old.settings.idle)) self.old }
+    {
+        let until = now + self.settings.idle;
+        self.kept.turn(lease.cid(), Step::Release(until));
+    }
+
+    /// The other side starts the responder of a protocol.
+    pub fn awake(&mut self, cid: Cid, protocol: u16)
+        requires known { has_responder protocol ≡ true }
+        requires able { IsSomeAnd (facts_at cid.0 self.old.facts) (CanAwake protocol) }
+        ensures { self.new ≡ with_moved cid.0 (awakened protocol) self.old }
+    {
+        self.kept.turn(cid, Step::Awake(protocol));
+    }
+
+    /// The responder of a protocol stops.
+    pub fn idle(&mut self, cid: Cid, protocol: u16, now: u64)
+        requires running { IsSomeAnd (facts_at cid.0 self.old.facts) (λ f. runs protocol f.running ≡ true) }
+        requires moment { now ≤ 2 ^ 48 }
+        ensures { self.new ≡ with_moved cid.0 (idled protocol (now + self.old.settings.idle)) self.old }
+    {
+        let until = now + self.settings.idle;
+        self.kept.turn(cid, Step::Idle(protocol, until));
+    }
+
+    /// The grace of a connection is over. Where it is in no use, this side closes it.
+    pub fn grace_over(&mut self, cid: Cid, now: u64) -> GraceEnd
+        requires due { IsSomeAnd (facts_at cid.0 self.old.facts) (λ f. is_due now f.grace ≡ true) }
+        requires moment { now ≤ 2 ^ 48 }
+        ensures answer { IfSome (facts_at cid.0 self.old.facts) (λ f. result ≡ grace_end_of f) }
+        ensures table { self.new ≡ with_moved cid.0 (grace_ended (now + self.old.settings.timewait)) self.old }
+    {
+        let until = now + self.settings.timewait;
+        let facts = self.kept.facts(cid).unwrap();
+        self.kept.turn(cid, Step::GraceOver(until));
+        if facts.local {
+            GraceEnd::Expired
+        } else {
+            GraceEnd::Closing
+        }
     }
 
     /// A connection goes.
@@ -65,30 +171,43 @@ impl ConnTable {
         requires { IsSomeAnd (facts_at cid.0 self.old.facts) (λ f. f.local ≡ false) }
         ensures { self.new ≡ without cid.0 self.old }
     {
-        self.facts.retain(|facts| !has_id(facts, cid));
+        self.kept.remove(cid);
+    }
+
+    /// A connection in local use goes.
+    pub fn drop_leased(&mut self, lease: LocalLease)
+        requires { IsSomeAnd (facts_at lease.0 self.old.facts) (λ f. f.local ≡ true) }
+        ensures { self.new ≡ without lease.0 self.old }
+    {
+        self.kept.remove(lease.cid());
     }
 
     /// What is known of the connection with an id. None where there is none.
     pub fn facts(&self, cid: Cid) -> Option<Facts>
         ensures { result ≡ facts_at cid.0 self.now.facts }
     {
-        self.facts.iter().find(|facts| has_id(facts, cid)).copied()
+        self.kept.facts(cid)
     }
 
     /// The id of the live connection with an address. None where there is none.
     pub fn live_of(&self, addr: Addr) -> Option<Cid>
         ensures { result ≡ option_map (λ f. f.cid) (live_at addr self.now.facts) }
     {
-        let found = self.facts.iter().find(|facts| is_live_at(facts, addr));
-        found.map(|facts| facts.cid)
+        self.newest_live(addr).map(|facts| facts.cid)
+    }
+
+    /// Whether some connection has an address, closed or not.
+    pub fn any_of(&self, addr: Addr) -> bool
+        ensures { result ≡ any_at addr self.now.facts }
+    {
+        self.kept.newest(addr).is_some()
     }
 
     /// How many connections the limits count.
     pub fn counted(&self) -> u64
         ensures { result ≡ counted self.now.facts }
     {
-        let counted = self.facts.iter().filter(|facts| is_counted(facts));
-        counted.count() as u64
+        self.kept.counted
     }
 
     /// How many ids were given. They are given from 1 on.
@@ -96,7 +215,15 @@ impl ConnTable {
         ensures value { result ≡ self.now.given }
         ensures ids { IdsRise 0 self.now.given self.now.facts }
     {
-        self.given
+        self.kept.given
+    }
+
+    /// The address and id of every connection, in order of address and then id.
+    pub fn index(&self) -> &PlacedList
+        ensures value { result.now ≡ index_of self.now.facts }
+        ensures rising { IsRising result.now }
+    {
+        &self.kept.index
     }
 
     /// The settings that the table was made with.
@@ -111,7 +238,7 @@ impl ConnTable {
     pub fn len(&self) -> usize
         ensures { result ≡ length self.now.facts }
     {
-        self.facts.len()
+        self.kept.states.len()
     }
 
     /// What is known of the connection at a place, from 0, in order of id.
@@ -119,9 +246,45 @@ impl ConnTable {
         requires { place < length self.now.facts }
         ensures { slice_get self.now.facts place ≡ Some result }
     {
-        self.facts[place]
+        self.kept.states[place].facts()
+    }
+
+    // The live connection of an address. There is no other one that may be taken into use.
+    fn newest_live(&self, addr: Addr) -> Option<Facts>
+        ensures value { result ≡ live_at addr self.now.facts }
+        ensures only { may_acquire result ≡ any_acquirable addr self.now.facts }
+    {
+        live(self.kept.newest(addr))
+    }
+
+    // Takes the live connection of an address into use.
+    fn acquire_live(&mut self, addr: Addr, facts: Facts) -> Acquire
+        requires { live_at addr self.old.facts ≡ Some facts }
+        ensures answer { result ≡ acquire_of addr self.old.facts }
+        ensures table { self.new ≡ after_acquire result self.old }
+    {
+        if !is_acquirable(&facts) {
+            return Acquire::NotReusable(self.kept.name(facts.cid));
+        }
+        self.kept.turn(facts.cid, Step::Acquire);
+        Acquire::Leased(LocalLease::new(facts.cid))
     }
 }
 
-#[cfg(test)]
-mod tests;
+// A connection that was found, where it is live.
+fn live(found: Option<Facts>) -> Option<Facts>
+    ensures { result ≡ if_live found }
+{
+    let facts = found?;
+    is_live(&facts).then_some(facts)
+}
+
+// A lease comes with an outbound connection.
+fn lease_by(facts: &Facts) -> Option<LocalLease>
+    ensures { result ≡ lease_of facts.now }
+{
+    match facts.provenance {
+        Provenance::FromLocal => Some(LocalLease::new(facts.cid)),
+        Provenance::FromRemote => None,
+    }
+}

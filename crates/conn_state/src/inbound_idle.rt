@@ -1,0 +1,62 @@
+ghost use Rattle.std.specs.Prelude.{◌≡◌, true};
+ghost use Rattle.conn_state.specs.Moves.{acquired, awakened, closing};
+ghost use Rattle.conn_state.specs.Protocols.{has_responder};
+ghost use Rattle.conn_state.specs.Use.{is_duplex};
+
+use crate::responders::with_responder;
+use crate::{Inbound, OutboundDup, Terminating};
+use net_base::{Facts, Grace};
+use std::marker::Model;
+
+/// In no use, and kept for the other side.
+#[derive(Debug, Drop)]
+pub struct InboundIdle {
+    pub(crate) facts: Facts,
+}
+
+impl Model for InboundIdle {
+    ghost use Rattle.net_base.specs.declared.connection.Facts.{Facts};
+    ghost use Rattle.conn_state.specs.Shapes.{IsInboundIdle};
+
+    ghost Value = { Facts };
+
+    ghost view = { λ s. s.facts };
+
+    ghost invariant = { λ s. IsInboundIdle s.facts };
+}
+
+impl InboundIdle {
+    /// The other side starts a responder.
+    pub fn awake(self, protocol: u16) -> Inbound
+        requires { has_responder protocol ≡ true }
+        ensures { result ≡ awakened protocol self }
+    {
+        Inbound {
+            facts: Facts {
+                running: with_responder(protocol, true, self.facts.running),
+                grace: Grace::Off,
+                ..self.facts
+            },
+        }
+    }
+
+    /// This side takes the connection into use. The other side keeps its time.
+    pub fn acquire(self) -> OutboundDup
+        requires { is_duplex self ≡ true }
+        ensures { result ≡ acquired self }
+    {
+        OutboundDup {
+            facts: Facts {
+                local: true,
+                ..self.facts
+            },
+        }
+    }
+
+    /// Nobody took the connection into use: this side closes it, and keeps it until a moment.
+    pub fn grace_over(self, until: u64) -> Terminating
+        ensures { result ≡ closing until self }
+    {
+        Terminating::closed(self.facts, until)
+    }
+}

@@ -1,0 +1,177 @@
+ghost use Rattle.std.specs.Prelude.{◌≡◌, ◌+◌, ◌++◌, ◌∷◌, ◌<◌, ◌^◌, [], length, None, OnOk, OnErr, IsSome, IsSomeAnd, IfSome, slice_get, vec_len, vec_capacity, ℕ, if◌then◌else◌};
+ghost use Rattle.conn_state.specs.Names.{name_of};
+ghost use Rattle.conn_state.specs.State.{facts_of};
+ghost use Rattle.conn_state.specs.Use.{facts_at, live_at};
+ghost use Rattle.conn_table.specs.Conditions.{CanStep, after_step};
+ghost use Rattle.conn_table.specs.Index.{placed_of};
+ghost use Rattle.conn_table.specs.Finds.{id_place, newest, found_with};
+ghost use Rattle.conn_table.specs.Table.{moved_at, without_at};
+
+use crate::facts::is_counted;
+use crate::step::{Step, stepped};
+use crate::{Placed, PlacedList};
+use conn_state::{ConnState, ReservedOutbound};
+use net_base::{Addr, Cid, Facts, Ip, OutOfMemory, StateName};
+use std::alloc::Global;
+use std::mem;
+
+// The connections in order of id, and what is kept beside them.
+#[derive(Debug, Drop)]
+pub struct Kept {
+    pub states: Vec<ConnState>,
+    // by address and then id
+    pub index: PlacedList,
+    // how many the limits count
+    pub counted: u64,
+    // how many ids were given
+    pub given: u64,
+}
+
+impl Kept {
+    ghost use Rattle.conn_table.specs.Kept.{IsKept, facts_kept};
+
+    pub fn new(alloc: Global) -> Kept
+        ensures kept { IsKept result }
+        ensures facts { facts_kept result ≡ [] }
+        ensures given { result.given ≡ 0 }
+    {
+        Kept {
+            states: Vec::new(alloc),
+            index: PlacedList::new(alloc),
+            counted: 0,
+            given: 0,
+        }
+    }
+
+    pub fn facts(&self, cid: Cid) -> Option<Facts>
+        requires { IsKept self.now }
+        ensures { result ≡ facts_at cid.0 (facts_kept self.now) }
+    {
+        self.facts_there(self.place_of(cid), cid)
+    }
+
+    // The last connection of an address: only that one may be live.
+    pub fn newest(&self, addr: Addr) -> Option<Facts>
+        requires { IsKept self.now }
+        ensures { result ≡ newest addr (facts_kept self.now) }
+    {
+        let placed = self.index.last_at(addr)?;
+        self.facts(placed.cid)
+    }
+
+    // The name of the state of a connection that stands.
+    pub fn name(&self, cid: Cid) -> StateName
+        requires kept { IsKept self.now }
+        requires there { IsSome (facts_at cid.0 (facts_kept self.now)) }
+        ensures { IfSome (facts_at cid.0 (facts_kept self.now)) (λ f. result ≡ name_of f) }
+    {
+        self.states[self.place_of(cid)].name()
+    }
+
+    // Takes in a connection under the next id. A refusal changes nothing.
+    pub fn enter(&mut self, state: ConnState) -> Result<(), OutOfMemory>
+        requires kept { IsKept self.old }
+        requires next { (facts_of state).cid.0 ≡ self.old.given + 1 }
+        requires few { self.old.given < 2 ^ 48 }
+        requires alone { live_at (facts_of state).addr (facts_kept self.old) ≡ None }
+        ensures kept { IsKept self.new }
+        ensures ok { OnOk result (facts_kept self.new ≡ facts_kept self.old ++ facts_of state ∷ []) }
+        ensures given { OnOk result (self.new.given ≡ self.old.given + 1) }
+        ensures err { OnErr result (facts_kept self.new ≡ facts_kept self.old) }
+        ensures none_given { OnErr result (self.new.given ≡ self.old.given) }
+    {
+        let facts = state.facts();
+        self.states.try_reserve(1)?;
+        self.index.insert(placed(&facts))?;
+        push_within(&mut self.states, state);
+        self.counted = recounted(self.counted, false, is_counted(&facts));
+        self.given += 1;
+        Ok(())
+    }
+
+    // A connection makes a move that it has.
+    pub fn turn(&mut self, cid: Cid, step: Step)
+        requires kept { IsKept self.old }
+        requires can { IsSomeAnd (facts_at cid.0 (facts_kept self.old)) (CanStep step) }
+        ensures kept { IsKept self.new }
+        ensures facts { facts_kept self.new ≡ moved_at cid.0 (after_step step) (facts_kept self.old) }
+        ensures given { self.new.given ≡ self.old.given }
+    {
+        let place = self.place_of(cid);
+        let old = mem::replace(&mut self.states[place], spare(cid));
+        let was = is_counted(&old.facts());
+        let new = stepped(old, step);
+        let is = is_counted(&new.facts());
+        self.counted = recounted(self.counted, was, is);
+        self.states[place] = new;
+    }
+
+    // A connection that stands goes.
+    pub fn remove(&mut self, cid: Cid)
+        requires kept { IsKept self.old }
+        requires there { IsSome (facts_at cid.0 (facts_kept self.old)) }
+        ensures kept { IsKept self.new }
+        ensures facts { facts_kept self.new ≡ without_at cid.0 (facts_kept self.old) }
+        ensures given { self.new.given ≡ self.old.given }
+    {
+        let place = self.place_of(cid);
+        let facts = self.states[place].facts();
+        self.index.remove(placed(&facts));
+        self.counted = recounted(self.counted, is_counted(&facts), false);
+        self.states.remove(place);
+    }
+
+    // How many connections have a lower id.
+    fn place_of(&self, cid: Cid) -> usize
+        requires { IsKept self.now }
+        ensures { result ≡ id_place cid.0 (facts_kept self.now) }
+    {
+        self.states.partition_point(|state| state.facts().cid < cid)
+    }
+
+    // What is known of the connection at a place, where it has an id.
+    fn facts_there(&self, place: usize, cid: Cid) -> Option<Facts>
+        ensures { result ≡ found_with cid.0 (slice_get (facts_kept self.now) place) }
+    {
+        let facts = self.states.get(place)?.facts();
+        (facts.cid == cid).then_some(facts)
+    }
+}
+
+// Puts a state at the end, for which there is room.
+fn push_within(states: &mut Vec<ConnState>, state: ConnState)
+    requires { vec_len states.old < vec_capacity states.old }
+    ensures { states.new.items ≡ states.old.items ++ state ∷ [] }
+{
+    let _ = states.push(state);
+}
+
+fn placed(facts: &Facts) -> Placed
+    ensures { result ≡ placed_of facts.now }
+{
+    Placed {
+        addr: facts.addr,
+        cid: facts.cid,
+    }
+}
+
+// What stands at a place while its state makes a move.
+fn spare(cid: Cid) -> ConnState {
+    let addr = Addr {
+        ip: Ip::V4(0),
+        port: 0,
+    };
+    ConnState::ReservedOutbound(ReservedOutbound::new(cid, addr))
+}
+
+// A count after one that was counted or not is counted or not.
+fn recounted(count: u64, was: bool, is: bool) -> u64
+    requires { (rest : ℕ) × (count ≡ rest + (if was then 1 else 0)) × (rest < 2 ^ 63) }
+    ensures { result + (if was then 1 else 0) ≡ count + (if is then 1 else 0) }
+{
+    match (was, is) {
+        (true, false) => count - 1,
+        (false, true) => count + 1,
+        (true, true) | (false, false) => count,
+    }
+}

@@ -1,0 +1,101 @@
+ghost use Rattle.std.specs.Prelude.{◌≡◌, [], true, OnOk, OnErr, slice_get, IsTrue};
+ghost use Rattle.std.specs.List.{prefix_len};
+ghost use Rattle.conn_table.specs.Index.{IsRising, placed_below, put_in, taken_out, stands, last_at, found_at, up_to, before};
+
+use net_base::{Addr, Cid, OutOfMemory};
+use std::alloc::Global;
+use std::marker::Model;
+
+/// An address and the id of a connection that has it. Ordered by the address and then the id.
+#[derive(Clone, Copy, Debug, PartialEq, Eq, PartialOrd, Ord)]
+pub struct Placed {
+    pub addr: Addr,
+    pub cid: Cid,
+}
+
+/// Addresses and ids, one after another.
+#[derive(Debug, Drop)]
+pub struct PlacedList {
+    items: Vec<Placed>,
+}
+
+impl Model for PlacedList {
+    ghost use Rattle.std.specs.Prelude.{List};
+    ghost use Rattle.conn_table.specs.declared.placed.Placed.{Placed};
+
+    ghost Value = { List Placed };
+
+    ghost view = { λ l. l.items.items };
+}
+
+impl PlacedList {
+    // Nothing yet. Takes no memory.
+    pub(crate) fn new(alloc: Global) -> PlacedList
+        ensures { result ≡ [] }
+    {
+        PlacedList {
+            items: Vec::new(alloc),
+        }
+    }
+
+    /// In order of address and then id.
+    pub fn as_slice(&self) -> &[Placed]
+        ensures { result.now ≡ self.now }
+    {
+        &self.items
+    }
+
+    // Puts one in at its place. A refusal changes nothing.
+    pub(crate) fn insert(&mut self, placed: Placed) -> Result<(), OutOfMemory>
+        requires { IsRising self.old }
+        ensures ok { OnOk result (self.new ≡ put_in placed self.old) }
+        ensures err { OnErr result (self.new ≡ self.old) }
+    {
+        let place = place_of(&self.items, placed);
+        self.items.insert(place, placed)?;
+        Ok(())
+    }
+
+    // Takes one out that is there.
+    pub(crate) fn remove(&mut self, placed: Placed)
+        requires rising { IsRising self.old }
+        requires there { IsTrue (stands placed self.old) }
+        ensures { self.new ≡ taken_out placed self.old }
+    {
+        let place = place_of(&self.items, placed);
+        self.items.remove(place);
+    }
+
+    // The last with an address.
+    pub(crate) fn last_at(&self, addr: Addr) -> Option<Placed>
+        requires { IsRising self.now }
+        ensures { result ≡ last_at addr self.now }
+    {
+        let end = end_of(&self.items, addr);
+        placed_before(&self.items, end, addr)
+    }
+}
+
+// How many of a rising list are below one.
+fn place_of(items: &[Placed], placed: Placed) -> usize
+    requires { IsRising items.now }
+    ensures { result ≡ prefix_len (λ p. placed_below p placed) items.now }
+{
+    items.partition_point(|p| *p < placed)
+}
+
+// How many of a rising list have an address up to one.
+fn end_of(items: &[Placed], addr: Addr) -> usize
+    requires { IsRising items.now }
+    ensures { result ≡ prefix_len (up_to addr) items.now }
+{
+    items.partition_point(|p| p.addr <= addr)
+}
+
+// The one before a place, where it has an address.
+fn placed_before(items: &[Placed], end: usize, addr: Addr) -> Option<Placed>
+    ensures { result ≡ found_at addr (before end items.now) }
+{
+    let placed = items.get(end.checked_sub(1)?).copied()?;
+    (placed.addr == addr).then_some(placed)
+}

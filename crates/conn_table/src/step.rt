@@ -1,0 +1,167 @@
+ghost use Rattle.std.specs.Prelude.{◌≡◌, ℕ, true};
+ghost use Rattle.conn_state.specs.Moves.{connected, negotiated, agreed_outbound, acquired, released, awakened, idled, grace_ended};
+ghost use Rattle.conn_state.specs.Protocols.{has_responder};
+ghost use Rattle.conn_state.specs.State.{facts_of, as_released, as_after_inbound, as_after_duplex};
+ghost use Rattle.conn_state.specs.Use.{is_dialing, is_greeting, is_outbound, is_acquirable, runs};
+ghost use Rattle.conn_table.specs.Answers.{is_due};
+ghost use Rattle.conn_table.specs.Conditions.{CanStep, CanAwake, after_step};
+ghost use Rattle.net_base.specs.declared.connection.Facts.{Facts};
+
+use conn_state::{AfterDuplex, AfterInbound, ConnState, Released, Unnegotiated};
+use net_base::{Agreed, Provenance};
+
+// A move of a connection. The last number of each is the moment until which it may last.
+pub enum Step {
+    Connected(u64),
+    Negotiated(Agreed, u64),
+    Acquire,
+    Release(u64),
+    Awake(u16),
+    Idle(u16, u64),
+    GraceOver(u64),
+}
+
+// The state after a move that it has.
+pub fn stepped(state: ConnState, step: Step) -> ConnState
+    requires { CanStep step (facts_of state) }
+    ensures { facts_of result ≡ after_step step (facts_of state) }
+{
+    match step {
+        Step::Connected(until) => connected(state, until),
+        Step::Negotiated(agreed, until) => negotiated(state, agreed, until),
+        Step::Acquire => acquired(state),
+        Step::Release(until) => released(state, until),
+        Step::Awake(protocol) => awakened(state, protocol),
+        Step::Idle(protocol, until) => idled(state, protocol, until),
+        Step::GraceOver(until) => grace_ended(state, until),
+    }
+}
+
+fn connected(state: ConnState, until: u64) -> ConnState
+    requires { is_dialing (facts_of state) ≡ true }
+    ensures { facts_of result ≡ connected until (facts_of state) }
+{
+    let _facts = state.facts();
+    match state {
+        ConnState::ReservedOutbound(state) => ConnState::Unnegotiated(state.connected(until)),
+        _ => unreachable!(),
+    }
+}
+
+fn negotiated(state: ConnState, agreed: Agreed, until: u64) -> ConnState
+    requires { is_greeting (facts_of state) ≡ true }
+    ensures { facts_of result ≡ negotiated agreed until (facts_of state) }
+{
+    let facts = state.facts();
+    match state {
+        ConnState::Unnegotiated(state) => match facts.provenance {
+            Provenance::FromRemote => ConnState::InboundIdle(state.agreed_in(agreed, until)),
+            Provenance::FromLocal => negotiated_outbound(state, agreed, until),
+        },
+        _ => unreachable!(),
+    }
+}
+
+fn negotiated_outbound(state: Unnegotiated, agreed: Agreed, until: u64) -> ConnState
+    requires { is_outbound state ≡ true }
+    ensures { facts_of result ≡ agreed_outbound agreed until state }
+{
+    if agreed.initiator_only {
+        ConnState::OutboundUni(state.agreed_uni(agreed))
+    } else {
+        ConnState::OutboundDup(state.agreed_dup(agreed, until))
+    }
+}
+
+fn acquired(state: ConnState) -> ConnState
+    requires { is_acquirable (facts_of state) ≡ true }
+    ensures { facts_of result ≡ acquired (facts_of state) }
+{
+    let _facts = state.facts();
+    match state {
+        ConnState::InboundIdle(state) => ConnState::OutboundDup(state.acquire()),
+        ConnState::Inbound(state) => ConnState::Duplex(state.acquire()),
+        _ => unreachable!(),
+    }
+}
+
+fn released(state: ConnState, until: u64) -> ConnState
+    requires { (facts_of state).local ≡ true }
+    ensures { facts_of result ≡ released until (facts_of state) }
+{
+    let _facts = state.facts();
+    match state {
+        ConnState::OutboundUni(state) => ConnState::OutboundIdle(state.release(until)),
+        ConnState::OutboundDup(state) => state_after_release(state.release(until)),
+        ConnState::Duplex(state) => ConnState::Inbound(state.release()),
+        _ => unreachable!(),
+    }
+}
+
+fn awakened(state: ConnState, protocol: u16) -> ConnState
+    requires known { has_responder protocol ≡ true }
+    requires can { CanAwake protocol (facts_of state) }
+    ensures { facts_of result ≡ awakened protocol (facts_of state) }
+{
+    let _facts = state.facts();
+    match state {
+        ConnState::OutboundDup(state) => ConnState::Duplex(state.awake(protocol)),
+        ConnState::InboundIdle(state) => ConnState::Inbound(state.awake(protocol)),
+        ConnState::Inbound(state) => ConnState::Inbound(state.awake(protocol)),
+        ConnState::Duplex(state) => ConnState::Duplex(state.awake(protocol)),
+        ConnState::OutboundIdle(state) => ConnState::Inbound(state.awake(protocol)),
+        _ => unreachable!(),
+    }
+}
+
+fn idled(state: ConnState, protocol: u16, until: u64) -> ConnState
+    requires { runs protocol (facts_of state).running ≡ true }
+    ensures { facts_of result ≡ idled protocol until (facts_of state) }
+{
+    let _facts = state.facts();
+    match state {
+        ConnState::Inbound(state) => state_after_inbound(state.idle(protocol, until)),
+        ConnState::Duplex(state) => state_after_duplex(state.idle(protocol, until)),
+        _ => unreachable!(),
+    }
+}
+
+fn grace_ended(state: ConnState, until: u64) -> ConnState
+    requires { (now : ℕ) × (is_due now (facts_of state).grace ≡ true) }
+    ensures { facts_of result ≡ grace_ended until (facts_of state) }
+{
+    let _facts = state.facts();
+    match state {
+        ConnState::OutboundDup(state) => ConnState::OutboundDup(state.grace_over()),
+        ConnState::InboundIdle(state) => ConnState::Terminating(state.grace_over(until)),
+        ConnState::OutboundIdle(state) => ConnState::Terminating(state.grace_over(until)),
+        _ => unreachable!(),
+    }
+}
+
+fn state_after_release(released: Released) -> ConnState
+    ensures { (f : Facts) → released ≡ as_released f → facts_of result ≡ f }
+{
+    match released {
+        Released::ToInboundIdle(state) => ConnState::InboundIdle(state),
+        Released::ToOutboundIdle(state) => ConnState::OutboundIdle(state),
+    }
+}
+
+fn state_after_inbound(after: AfterInbound) -> ConnState
+    ensures { (f : Facts) → after ≡ as_after_inbound f → facts_of result ≡ f }
+{
+    match after {
+        AfterInbound::Still(state) => ConnState::Inbound(state),
+        AfterInbound::Quiet(state) => ConnState::InboundIdle(state),
+    }
+}
+
+fn state_after_duplex(after: AfterDuplex) -> ConnState
+    ensures { (f : Facts) → after ≡ as_after_duplex f → facts_of result ≡ f }
+{
+    match after {
+        AfterDuplex::Still(state) => ConnState::Duplex(state),
+        AfterDuplex::Quiet(state) => ConnState::OutboundDup(state),
+    }
+}

@@ -1,0 +1,12 @@
+pub mod BigRules
+pub mod Candidates
+pub mod ClassRules
+pub mod Links
+pub mod Marks
+pub mod Members
+pub mod Orders
+pub mod Rules
+pub mod SortedLinks
+pub mod Statuses
+pub mod Tasks
+pub mod Whom

@@ -1,0 +1,111 @@
+ghost use Rattle.std.specs.Prelude.{◌≡◌};
+ghost use Rattle.peer_book.specs.Book.{known_of, established_of, active_of};
+ghost use Rattle.govern_rules.specs.ClassRules.{known_target, established_target, active_target};
+ghost use Rattle.govern_rules.specs.Tasks.{number_of};
+
+use crate::View;
+use crate::outlook::Outlook;
+use crate::status::{Status, count_with};
+use crate::task::Task;
+use peer_book::PeerBook;
+
+// How many orders a rule by the targets gives at most.
+pub fn number_of(task: Task, big: bool, outlook: &Outlook, book: &PeerBook) -> u64
+    ensures { result ≡ number_of task big outlook.now.view.now book.now }
+{
+    match task {
+        Task::Asking(_) => to_ask(big, outlook, book),
+        Task::Forgetting => known(big, book).saturating_sub(known_target(big, outlook.view)),
+        Task::Promoting => to_promote(big, outlook, book),
+        Task::Releasing => established(big, book).saturating_sub(established_target(
+            big,
+            outlook.view,
+        )),
+        Task::Activating => to_activate(big, outlook, book),
+        Task::Deactivating => active(big, book).saturating_sub(active_target(big, outlook.view)),
+    }
+}
+
+fn to_ask(big: bool, outlook: &Outlook, book: &PeerBook) -> u64
+    ensures { result ≡ number_of (Task.Asking 0) big outlook.now.view.now book.now }
+{
+    if known(big, book) >= known_target(big, outlook.view) {
+        return 0;
+    }
+    let owing = count_with(Status::OwesOn10, big, outlook, book.as_slice());
+    outlook.view.settings.shares.saturating_sub(owing)
+}
+
+fn to_promote(big: bool, outlook: &Outlook, book: &PeerBook) -> u64
+    ensures { result ≡ number_of Task.Promoting big outlook.now.view.now book.now }
+{
+    let pending = count_with(Status::Pending, big, outlook, book.as_slice());
+    established_target(big, outlook.view)
+        .saturating_sub(established(big, book))
+        .saturating_sub(pending)
+}
+
+fn to_activate(big: bool, outlook: &Outlook, book: &PeerBook) -> u64
+    ensures { result ≡ number_of Task.Activating big outlook.now.view.now book.now }
+{
+    let owing = count_with(Status::OwesOn2, big, outlook, book.as_slice());
+    active_target(big, outlook.view)
+        .saturating_sub(active(big, book))
+        .saturating_sub(owing)
+}
+
+fn known(big: bool, book: &PeerBook) -> u64
+    ensures { result ≡ known_of big book.now }
+{
+    if big { book.big_known() } else { book.known() }
+}
+
+fn established(big: bool, book: &PeerBook) -> u64
+    ensures { result ≡ established_of big book.now }
+{
+    if big {
+        book.big_established()
+    } else {
+        book.established()
+    }
+}
+
+fn active(big: bool, book: &PeerBook) -> u64
+    ensures { result ≡ active_of big book.now }
+{
+    if big {
+        book.big_active()
+    } else {
+        book.active()
+    }
+}
+
+fn known_target(big: bool, view: &View) -> u64
+    ensures { result ≡ known_target big view.now }
+{
+    if big {
+        view.big.known
+    } else {
+        view.targets.known
+    }
+}
+
+fn established_target(big: bool, view: &View) -> u64
+    ensures { result ≡ established_target big view.now }
+{
+    if big {
+        view.big.established
+    } else {
+        view.targets.established
+    }
+}
+
+fn active_target(big: bool, view: &View) -> u64
+    ensures { result ≡ active_target big view.now }
+{
+    if big {
+        view.big.active
+    } else {
+        view.targets.active
+    }
+}

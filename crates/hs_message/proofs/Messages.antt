@@ -1,0 +1,354 @@
+-- Reading messages: what is read is spelled so, and what is spelled so is read.
+use Rattle.std.proofs.Common.{◌≡◌, ℕ, ◌^◌, Bool, true, false, cond, eqb, ltb, not, ◌&&◌, List, [], ◌++◌, length, Option, Some, None, refl, sym, ap, subst, ◌∙◌, append_assoc, inl, inr}
+use Rattle.std.proofs.lemmas.Bool.{ltb-true, lt-ltb, eqb-true, and_parts}
+use Rattle.std.proofs.lemmas.List.{append-nil, nil_from_length}
+use Rattle.cbor_items.specs.declared.head.Head.{Head}
+use Rattle.cbor_items.specs.Head.{major_of, IsHead}
+use Rattle.cbor_items.specs.Item.{IsPair}
+use Rattle.cbor_items.proofs.Skips.{HasFront, StartsPlain, chosen}
+use Rattle.hs_message.specs.declared.info.VersionInfo.{VersionInfo}
+use Rattle.hs_message.specs.declared.info.Info.{Info}
+use Rattle.hs_message.specs.declared.info.Info.TheVariants.{Known, Foreign}
+use Rattle.hs_message.specs.declared.offer.Offer.{Offer}
+use Rattle.hs_message.specs.declared.message.Message.{Message}
+use Rattle.hs_message.specs.declared.message.Message.TheVariants.{Propose, Accept, Refuse, QueryReply}
+use Rattle.hs_message.specs.declared.message.Reason.{Reason}
+use Rattle.hs_message.specs.declared.message.Reason.TheVariants.{NoCommon, NotDecoded, Declined}
+use Rattle.hs_message.specs.Parts.{IsDefinite, IsIndefinite, IsNumber, IsArray}
+use Rattle.hs_message.specs.Info.{IsInfo, IsUnderstoodAs, is_node_version, IsVersionInfo, IsNodeInfo}
+use Rattle.hs_message.specs.Spelling.{rises, IsOffer, IsTable, IsVersionList, IsReason, IsMessage}
+use Rattle.hs_message.specs.Reading.{◌>>=◌, any_head_at, definite_at, number_at, array_at, flag_at, sharing_at, version_info_at, whole, known_of, as_info, info_of, item_at, offer_at, row_at, table_at, row_to_break_at, version_row_at, version_list_at, tag_at, noted_at, no_common_at, not_decoded_at, declined_at, reason_behind, reason_at, propose_at, accept_at, refuse_at, query_reply_at, message_behind, message_at}
+use Rattle.hs_message.proofs.Fronts.{Reads, bind_some, guard_some, some_is, pair_front, front_as, pair_parts, reads_any_head, reads_definite, reads_number, definite_starts, array_found, array_again, reads_flag, reads_sharing, reads_item, row_found, row_again, closed_found, closed_again, IsTag, reads_tag, reads_noted}
+
+-- ---- what stands beside a version
+
+abbrev info_with : ℕ → Bool → Bool → Bool → VersionInfo
+info_with magic initiator_only sharing query = record { magic = magic; initiator_only = initiator_only; sharing = sharing; query = query }
+
+-- the five parts one behind the other
+info_from : (bytes elements a b c d : List ℕ) (magic : ℕ) (initiator_only sharing query : Bool) → ltb magic (2 ^ 32) ≡ true
+    → array_at 4 bytes ≡ Some elements → number_at elements ≡ Some (magic, a) → flag_at a ≡ Some (initiator_only, b) → sharing_at b ≡ Some (sharing, c) → flag_at c ≡ Some (query, d)
+    → HasFront (IsVersionInfo (info_with magic initiator_only sharing query)) bytes d
+info_from bytes elements a b c d magic initiator_only sharing query low zeroth first second third fourth =
+    let stands = pair_front (array_found 4 bytes elements zeroth) (pair_front (reads_number.found elements magic a first)
+    (pair_front (reads_flag.found a initiator_only b second) (pair_front (reads_sharing.found b sharing c third) (reads_flag.found c query d fourth)))) in
+    record { front = stands.front; joined = stands.joined; is = record { magic_fits = ltb-true _ _ low; is_array = stands.is } }
+
+info_found : (bytes : List ℕ) (info : VersionInfo) (rest : List ℕ) → version_info_at bytes ≡ Some (info, rest) → HasFront (IsVersionInfo info) bytes rest
+unfolding version_info_at
+info_found bytes info rest e =
+    let a = bind_some (array_at 4 bytes) (λ (elements : List ℕ).
+    number_at elements >>= λ magic. flag_at magic.1 >>= λ initiator_only. sharing_at initiator_only.1 >>= λ sharing. flag_at sharing.1 >>= λ query.
+    cond (ltb magic.0 (2 ^ 32)) (Some (info_with magic.0 initiator_only.0 sharing.0 query.0, query.1)) None) (info, rest) e in
+    let b = bind_some (number_at a.0) (λ (magic : ℕ × List ℕ).
+    flag_at magic.1 >>= λ initiator_only. sharing_at initiator_only.1 >>= λ sharing. flag_at sharing.1 >>= λ query.
+    cond (ltb magic.0 (2 ^ 32)) (Some (info_with magic.0 initiator_only.0 sharing.0 query.0, query.1)) None) (info, rest) a.2 in
+    let c = bind_some (flag_at b.0.1) (λ (initiator_only : Bool × List ℕ).
+    sharing_at initiator_only.1 >>= λ sharing. flag_at sharing.1 >>= λ query.
+    cond (ltb b.0.0 (2 ^ 32)) (Some (info_with b.0.0 initiator_only.0 sharing.0 query.0, query.1)) None) (info, rest) b.2 in
+    let d = bind_some (sharing_at c.0.1) (λ (sharing : Bool × List ℕ).
+    flag_at sharing.1 >>= λ query.
+    cond (ltb b.0.0 (2 ^ 32)) (Some (info_with b.0.0 c.0.0 sharing.0 query.0, query.1)) None) (info, rest) c.2 in
+    let q = bind_some (flag_at d.0.1) (λ (query : Bool × List ℕ).
+    cond (ltb b.0.0 (2 ^ 32)) (Some (info_with b.0.0 c.0.0 d.0.0 query.0, query.1)) None) (info, rest) d.2 in
+    let is : VersionInfo × List ℕ = (info_with b.0.0 c.0.0 d.0.0 q.0.0, q.0.1) in
+    let g = guard_some (ltb b.0.0 (2 ^ 32)) is (info, rest) q.2 in
+    subst (λ (p : VersionInfo × List ℕ). HasFront (IsVersionInfo p.0) bytes p.1) g.1
+    (info_from bytes a.0 b.0.1 c.0.1 d.0.1 q.0.1 b.0.0 c.0.0 d.0.0 q.0.0 g.0 a.1 b.1 c.1 d.1 q.1)
+
+info_again : (info : VersionInfo) (front rest : List ℕ) → IsVersionInfo info front → version_info_at (front ++ rest) ≡ Some (info, rest)
+unfolding version_info_at
+info_again info front rest is =
+    let elements = is.is_array.is_second in
+    let behind_magic = elements.is_second in
+    let behind_initiator = behind_magic.is_second in
+    let low : ltb info.magic (2 ^ 32) ≡ true = lt-ltb _ _ is.magic_fits in
+    let one : front ++ rest ≡ is.is_array.first ++ (elements.first ++ (behind_magic.first ++ (behind_initiator.first ++ (behind_initiator.second ++ rest)))) =
+    pair_parts is.is_array rest
+    ∙ ap (λ (x : List ℕ). is.is_array.first ++ x) (pair_parts elements rest
+    ∙ ap (λ (x : List ℕ). elements.first ++ x) (pair_parts behind_magic rest
+    ∙ ap (λ (x : List ℕ). behind_magic.first ++ x) (pair_parts behind_initiator rest))) in
+    ap version_info_at one
+    ∙ rw (
+      array_again 4 is.is_array.first (elements.first ++ (behind_magic.first ++ (behind_initiator.first ++ (behind_initiator.second ++ rest)))) is.is_array.is_first,
+      reads_number.again info.magic elements.first (behind_magic.first ++ (behind_initiator.first ++ (behind_initiator.second ++ rest))) elements.is_first,
+      reads_flag.again info.initiator_only behind_magic.first (behind_initiator.first ++ (behind_initiator.second ++ rest)) behind_magic.is_first,
+      reads_sharing.again info.sharing behind_initiator.first (behind_initiator.second ++ rest) behind_initiator.is_first,
+      reads_flag.again info.query behind_initiator.second rest behind_initiator.is_second,
+      low,
+    ) refl
+
+whole_is : {X : Type 0} (r : Option (X × List ℕ)) (x : X) → whole r ≡ Some x → r ≡ Some (x, [])
+whole_is None x e = absurd cc
+whole_is {X} (Some read) x e =
+    let g = guard_some (eqb (length read.1) 0) read.0 x e in
+    let none : read.1 ≡ [] = nil_from_length read.1 (eqb-true _ _ g.0) in
+    ap (λ (y : X). Some (y, read.1)) g.1 ∙ ap (λ (y : List ℕ). Some (x, y)) none
+
+known_found : (version : ℕ) (item : List ℕ) (known : VersionInfo) → known_of version item ≡ Some known → IsNodeInfo version known item
+unfolding known_of
+known_found version item known e =
+    elim (chosen (is_node_version version) (whole (version_info_at item)) None (Some known) e) [
+      | inl (own, is) ↦
+          let f = info_found item known [] (whole_is (version_info_at item) known is) in
+          let all : f.front ≡ item = sym (append-nil f.front) ∙ sym f.joined in
+          (own, subst (IsVersionInfo known) all f.is)
+      | inr (other, is) ↦ absurd cc
+    ]
+
+known_again : (version : ℕ) (item : List ℕ) (known : VersionInfo) → IsNodeInfo version known item → known_of version item ≡ Some known
+unfolding known_of
+known_again version item known (own, is) =
+    let read : version_info_at item ≡ Some (known, []) = ap version_info_at (sym (append-nil item)) ∙ info_again known item [] is in
+    rw (own, read) refl
+
+-- what an item is read as
+abbrev pub NodeInfos : ℕ → Info → List ℕ → Type 0
+NodeInfos = IsInfo IsNodeInfo
+
+understood : (version : ℕ) (item : List ℕ) (read : Option VersionInfo) → known_of version item ≡ read → IsUnderstoodAs IsNodeInfo version (as_info read) item
+understood version item (Some known) e = known_found version item known e
+understood version item None e = λ known is. let read = known_again version item known is in absurd cc
+
+info_only : (version : ℕ) (info : Info) (item : List ℕ) (read : Option VersionInfo) → known_of version item ≡ read → IsUnderstoodAs IsNodeInfo version info item → as_info read ≡ info
+info_only version (Known known) item read e is = ap as_info (sym e ∙ known_again version item known is)
+info_only version Foreign item (Some known) e not = absurd (not known (known_found version item known e))
+info_only version Foreign item None e not = refl
+
+-- ---- tables
+
+offer_found : (bytes : List ℕ) (offer : Offer) (rest : List ℕ) → offer_at bytes ≡ Some (offer, rest) → HasFront (IsOffer NodeInfos offer) bytes rest
+unfolding offer_at
+offer_found bytes offer rest e =
+    let made : ℕ → List ℕ → Offer = λ version item. record { version = version; info = info_of version item } in
+    let a = bind_some (number_at bytes) (λ (version : ℕ × List ℕ). item_at version.1 >>= λ item. Some (made version.0 item.0, item.1)) (offer, rest) e in
+    let b = bind_some (item_at a.0.1) (λ (item : List ℕ × List ℕ). Some (made a.0.0 item.0, item.1)) (offer, rest) a.2 in
+    let item = reads_item.found a.0.1 b.0.0 b.0.1 b.1 in
+    let info : HasFront (NodeInfos a.0.0 (info_of a.0.0 b.0.0)) a.0.1 b.0.1 =
+    front_as (λ x is. (is.1, subst (IsUnderstoodAs IsNodeInfo a.0.0 (info_of a.0.0 b.0.0)) (sym is.0) (understood a.0.0 b.0.0 (known_of a.0.0 b.0.0) refl))) item in
+    let is : Offer × List ℕ = (made a.0.0 b.0.0, b.0.1) in
+    subst (λ (p : Offer × List ℕ). HasFront (IsOffer NodeInfos p.0) bytes p.1) (some_is is (offer, rest) b.2)
+    (pair_front (reads_number.found bytes a.0.0 a.0.1 a.1) info)
+
+offer_again : (offer : Offer) (front rest : List ℕ) → IsOffer NodeInfos offer front → offer_at (front ++ rest) ≡ Some (offer, rest)
+unfolding offer_at
+offer_again offer front rest p =
+    let info : info_of offer.version p.second ≡ offer.info = info_only offer.version offer.info p.second (known_of offer.version p.second) refl p.is_second.1 in
+    ap offer_at (pair_parts p rest)
+    ∙ rw (reads_number.again offer.version p.first (p.second ++ rest) p.is_first, reads_item.again p.second p.second rest (refl, p.is_second.0), info) refl
+
+pub reads_offer : Reads (IsOffer NodeInfos) offer_at
+reads_offer = record { found = offer_found; again = offer_again }
+
+table_found : (bytes : List ℕ) (table : List Offer) (rest : List ℕ) → table_at bytes ≡ Some (table, rest) → HasFront (IsTable NodeInfos table) bytes rest
+unfolding table_at
+table_found bytes table rest e =
+    let a = bind_some (definite_at 5 bytes) (λ (count : ℕ × List ℕ). row_at offer_at count.0 count.1 >>= λ offers. cond (rises offers.0) (Some offers) None) (table, rest) e in
+    let b = bind_some (row_at offer_at a.0.0 a.0.1) (λ (offers : List Offer × List ℕ). cond (rises offers.0) (Some offers) None) (table, rest) a.2 in
+    let g = guard_some (rises b.0.0) b.0 (table, rest) b.2 in
+    let row = row_found (IsOffer NodeInfos) offer_at reads_offer a.0.0 a.0.1 b.0.0 b.0.1 b.1 in
+    let head = subst (λ (n : ℕ). HasFront (IsDefinite 5 n) bytes a.0.1) (sym row.0) ((reads_definite 5).found bytes a.0.0 a.0.1 a.1) in
+    let map = pair_front head row.1 in
+    let stands : HasFront (IsTable NodeInfos b.0.0) bytes b.0.1 = record { front = map.front; joined = map.joined; is = record { rising = g.0; is_map = map.is } } in
+    subst (λ (p : List Offer × List ℕ). HasFront (IsTable NodeInfos p.0) bytes p.1) g.1 stands
+
+table_again : (table : List Offer) (front rest : List ℕ) → IsTable NodeInfos table front → table_at (front ++ rest) ≡ Some (table, rest)
+unfolding table_at
+table_again table front rest is =
+    let p = is.is_map in
+    ap table_at (pair_parts p rest)
+    ∙ rw ((reads_definite 5).again (length table) p.first (p.second ++ rest) p.is_first, row_again (IsOffer NodeInfos) offer_at reads_offer table p.second rest p.is_second, is.rising) refl
+
+pub reads_table : Reads (IsTable NodeInfos) table_at
+reads_table = record { found = table_found; again = table_again }
+
+-- ---- reasons
+
+number_is_plain : (n : ℕ) (bytes : List ℕ) → IsNumber n bytes → StartsPlain bytes
+number_is_plain n bytes d =
+    let s = definite_starts 0 n bytes d in
+    record { first = s.first; rest = s.rest; joined = s.joined; no_break = λ is. let seven : major_of 255 ≡ 0 = ap major_of (sym is) ∙ s.is_major in absurd cc }
+
+-- the versions behind the head of an array
+versions_found : (head : Head) (spelled : List ℕ) (bytes : List ℕ) (mid : List ℕ) (versions rest : List ℕ) (endless : Bool) → head.indefinite ≡ endless → head.major ≡ 4
+    → HasFront (IsHead head) bytes mid → version_row_at head mid ≡ Some (versions, rest) → HasFront (IsVersionList versions) bytes rest
+versions_found head spelled bytes mid versions rest true is four front e =
+    let unclosed : HasFront (IsIndefinite 4) bytes mid = front_as (λ x h. record { head = head; is_head = h; is_major = four; indefinite = is }) front in
+    let read : row_to_break_at number_at (length mid) mid ≡ Some (versions, rest) = rw is at e in
+    front_as {Other = IsVersionList versions} (λ x l. inr l) (pair_front unclosed (closed_found IsNumber number_at reads_number (length mid) mid versions rest read))
+versions_found head spelled bytes mid versions rest false is four front e =
+    let read : row_at number_at head.value mid ≡ Some (versions, rest) = rw is at e in
+    let row = row_found IsNumber number_at reads_number head.value mid versions rest read in
+    let closed : HasFront (IsDefinite 4 (length versions)) bytes mid =
+    front_as (λ x h. record { head = head; is_head = h; is_major = four; definite = is; is_value = sym row.0 }) front in
+    front_as {Other = IsVersionList versions} (λ x l. inl l) (pair_front closed row.1)
+
+version_list_found : (bytes versions rest : List ℕ) → version_list_at bytes ≡ Some (versions, rest) → HasFront (IsVersionList versions) bytes rest
+unfolding version_list_at
+version_list_found bytes versions rest e =
+    let a = bind_some (any_head_at bytes) (λ (read : Head × List ℕ). cond (eqb read.0.major 4) (version_row_at read.0 read.1) None) (versions, rest) e in
+    elim (chosen (eqb a.0.0.major 4) (version_row_at a.0.0 a.0.1) None (Some (versions, rest)) a.2) [
+      | inl (four, is) ↦ versions_found a.0.0 [] bytes a.0.1 versions rest a.0.0.indefinite refl (eqb-true _ _ four) (reads_any_head.found bytes a.0.0 a.0.1 a.1) is
+      | inr (other, is) ↦ absurd cc
+    ]
+
+version_list_again : (versions front rest : List ℕ) → IsVersionList versions front → version_list_at (front ++ rest) ≡ Some (versions, rest)
+unfolding version_list_at
+version_list_again versions front rest (inl p) =
+    let h = p.is_first in
+    ap version_list_at (pair_parts p rest)
+    ∙ rw (reads_any_head.again h.head p.first (p.second ++ rest) h.is_head, h.is_major, h.definite, h.is_value) (row_again IsNumber number_at reads_number versions p.second rest p.is_second)
+version_list_again versions front rest (inr p) =
+    let h = p.is_first in
+    ap version_list_at (pair_parts p rest)
+    ∙ rw (reads_any_head.again h.head p.first (p.second ++ rest) h.is_head, h.is_major, h.indefinite) (closed_again IsNumber number_at reads_number number_is_plain versions p.second rest p.is_second)
+
+pub reads_version_list : Reads IsVersionList version_list_at
+reads_version_list = record { found = version_list_found; again = version_list_again }
+
+-- An array's head with its first number, and what is behind that.
+tagged_front : {Rest : List ℕ → Type 0} {bytes mid rest : List ℕ} (count tag : ℕ) → HasFront (IsTag (count, tag)) bytes mid → HasFront Rest mid rest
+    → HasFront (IsArray count (IsPair (IsNumber tag) Rest)) bytes rest
+tagged_front {Rest} {bytes} {mid} {rest} count tag one two = record {
+  front = one.is.first ++ (one.is.second ++ two.front);
+  joined = one.joined ∙ ap (λ (x : List ℕ). x ++ mid) one.is.joined ∙ append_assoc one.is.first one.is.second mid
+      ∙ ap (λ (x : List ℕ). one.is.first ++ x) (ap (λ (x : List ℕ). one.is.second ++ x) two.joined ∙ sym (append_assoc one.is.second two.front rest))
+      ∙ sym (append_assoc one.is.first (one.is.second ++ two.front) rest);
+  is = record {
+    first = one.is.first;
+    second = one.is.second ++ two.front;
+    joined = refl;
+    is_first = one.is.is_first;
+    is_second = record { first = one.is.second; second = two.front; joined = refl; is_first = one.is.is_second; is_second = two.is };
+  };
+}
+
+tagged_again : {Rest : List ℕ → Type 0} (count tag : ℕ) (front rest : List ℕ) (p : IsArray count (IsPair (IsNumber tag) Rest) front)
+    → tag_at (front ++ rest) ≡ Some ((count, tag), p.is_second.second ++ rest)
+tagged_again {Rest} count tag front rest p =
+    let inner = p.is_second in
+    let both : IsTag (count, tag) (p.first ++ inner.first) = record { first = p.first; second = inner.first; joined = refl; is_first = p.is_first; is_second = inner.is_first } in
+    let regrouped : front ++ rest ≡ (p.first ++ inner.first) ++ (inner.second ++ rest) =
+    pair_parts p rest ∙ ap (λ (x : List ℕ). p.first ++ x) (pair_parts inner rest) ∙ sym (append_assoc p.first inner.first (inner.second ++ rest)) in
+    ap tag_at regrouped ∙ reads_tag.again (count, tag) (p.first ++ inner.first) (inner.second ++ rest) both
+
+-- which tag it is
+tag_is : (tag : ℕ × ℕ) (count number : ℕ) → (eqb tag.0 count && eqb tag.1 number) ≡ true → tag ≡ (count, number)
+tag_is tag count number e =
+    let parts = and_parts (eqb tag.0 count) (eqb tag.1 number) e in
+    let first : tag.0 ≡ count = eqb-true _ _ parts.0 in
+    let second : tag.1 ≡ number = eqb-true _ _ parts.1 in
+    ap (λ (n : ℕ). (n, tag.1)) first ∙ ap (λ (n : ℕ). (count, n)) second
+
+reason_behind_found : (bytes mid : List ℕ) (tag : ℕ × ℕ) (reason : Reason) (rest : List ℕ) → HasFront (IsTag tag) bytes mid → reason_behind tag mid ≡ Some (reason, rest)
+    → HasFront (IsReason reason) bytes rest
+reason_behind_found bytes mid tag reason rest t e =
+    let last : Option (Reason × List ℕ) = cond (eqb tag.0 3 && eqb tag.1 2) (declined_at mid) None in
+    let middle : Option (Reason × List ℕ) = cond (eqb tag.0 3 && eqb tag.1 1) (not_decoded_at mid) last in
+    elim (chosen (eqb tag.0 2 && eqb tag.1 0) (no_common_at mid) middle (Some (reason, rest)) e) [
+      | inl (is, read) ↦
+          let b = bind_some (version_list_at mid) (λ (versions : List ℕ × List ℕ). Some (NoCommon versions.0, versions.1)) (reason, rest) read in
+          let made : Reason × List ℕ = (NoCommon b.0.0, b.0.1) in
+          let t' = subst (λ (p : ℕ × ℕ). HasFront (IsTag p) bytes mid) (tag_is tag 2 0 is) t in
+          subst (λ (p : Reason × List ℕ). HasFront (IsReason p.0) bytes p.1) (some_is made (reason, rest) b.2)
+          (tagged_front 2 0 t' (reads_version_list.found mid b.0.0 b.0.1 b.1))
+      | inr (other, later) ↦ elim (chosen (eqb tag.0 3 && eqb tag.1 1) (not_decoded_at mid) last (Some (reason, rest)) later) [
+        | inl (is, read) ↦
+            let b = bind_some (noted_at mid) (λ (noted : (ℕ × List ℕ) × List ℕ). Some (NotDecoded noted.0.0 noted.0.1, noted.1)) (reason, rest) read in
+            let made : Reason × List ℕ = (NotDecoded b.0.0.0 b.0.0.1, b.0.1) in
+            let t' = subst (λ (p : ℕ × ℕ). HasFront (IsTag p) bytes mid) (tag_is tag 3 1 is) t in
+            subst (λ (p : Reason × List ℕ). HasFront (IsReason p.0) bytes p.1) (some_is made (reason, rest) b.2)
+            (tagged_front 3 1 t' (reads_noted.found mid b.0.0 b.0.1 b.1))
+        | inr (another, latest) ↦
+            let g = chosen (eqb tag.0 3 && eqb tag.1 2) (declined_at mid) None (Some (reason, rest)) latest in
+            elim g [
+              | inl (is, read) ↦
+                  let b = bind_some (noted_at mid) (λ (noted : (ℕ × List ℕ) × List ℕ). Some (Declined noted.0.0 noted.0.1, noted.1)) (reason, rest) read in
+                  let made : Reason × List ℕ = (Declined b.0.0.0 b.0.0.1, b.0.1) in
+                  let t' = subst (λ (p : ℕ × ℕ). HasFront (IsTag p) bytes mid) (tag_is tag 3 2 is) t in
+                  subst (λ (p : Reason × List ℕ). HasFront (IsReason p.0) bytes p.1) (some_is made (reason, rest) b.2)
+                  (tagged_front 3 2 t' (reads_noted.found mid b.0.0 b.0.1 b.1))
+              | inr (none, never) ↦ absurd cc
+            ]
+      ]
+    ]
+
+reason_found : (bytes : List ℕ) (reason : Reason) (rest : List ℕ) → reason_at bytes ≡ Some (reason, rest) → HasFront (IsReason reason) bytes rest
+unfolding reason_at
+reason_found bytes reason rest e =
+    let a = bind_some (tag_at bytes) (λ (tag : (ℕ × ℕ) × List ℕ). reason_behind tag.0 tag.1) (reason, rest) e in
+    reason_behind_found bytes a.0.1 a.0.0 reason rest (reads_tag.found bytes a.0.0 a.0.1 a.1) a.2
+
+reason_again : (reason : Reason) (front rest : List ℕ) → IsReason reason front → reason_at (front ++ rest) ≡ Some (reason, rest)
+unfolding reason_at
+reason_again (NoCommon versions) front rest p =
+    rw (tagged_again 2 0 front rest p, reads_version_list.again versions p.is_second.second rest p.is_second.is_second) refl
+reason_again (NotDecoded version text) front rest p =
+    rw (tagged_again 3 1 front rest p, reads_noted.again (version, text) p.is_second.second rest p.is_second.is_second) refl
+reason_again (Declined version text) front rest p =
+    rw (tagged_again 3 2 front rest p, reads_noted.again (version, text) p.is_second.second rest p.is_second.is_second) refl
+
+pub reads_reason : Reads IsReason reason_at
+reads_reason = record { found = reason_found; again = reason_again }
+
+-- ---- messages
+
+message_behind_found : (bytes mid : List ℕ) (tag : ℕ × ℕ) (message : Message) (rest : List ℕ) → HasFront (IsTag tag) bytes mid → message_behind tag mid ≡ Some (message, rest)
+    → HasFront (IsMessage NodeInfos message) bytes rest
+message_behind_found bytes mid tag message rest t e =
+    let fourth : Option (Message × List ℕ) = cond (eqb tag.0 2 && eqb tag.1 3) (query_reply_at mid) None in
+    let third : Option (Message × List ℕ) = cond (eqb tag.0 2 && eqb tag.1 2) (refuse_at mid) fourth in
+    let second : Option (Message × List ℕ) = cond (eqb tag.0 3 && eqb tag.1 1) (accept_at mid) third in
+    elim (chosen (eqb tag.0 2 && eqb tag.1 0) (propose_at mid) second (Some (message, rest)) e) [
+      | inl (is, read) ↦
+          let b = bind_some (table_at mid) (λ (table : List Offer × List ℕ). Some (Propose table.0, table.1)) (message, rest) read in
+          let made : Message × List ℕ = (Propose b.0.0, b.0.1) in
+          let t' = subst (λ (p : ℕ × ℕ). HasFront (IsTag p) bytes mid) (tag_is tag 2 0 is) t in
+          subst (λ (p : Message × List ℕ). HasFront (IsMessage NodeInfos p.0) bytes p.1) (some_is made (message, rest) b.2)
+          (tagged_front 2 0 t' (reads_table.found mid b.0.0 b.0.1 b.1))
+      | inr (not_first, e2) ↦ elim (chosen (eqb tag.0 3 && eqb tag.1 1) (accept_at mid) third (Some (message, rest)) e2) [
+        | inl (is, read) ↦
+            let b = bind_some (offer_at mid) (λ (offer : Offer × List ℕ). Some (Accept offer.0.version offer.0.info, offer.1)) (message, rest) read in
+            let made : Message × List ℕ = (Accept b.0.0.version b.0.0.info, b.0.1) in
+            let t' = subst (λ (p : ℕ × ℕ). HasFront (IsTag p) bytes mid) (tag_is tag 3 1 is) t in
+            subst (λ (p : Message × List ℕ). HasFront (IsMessage NodeInfos p.0) bytes p.1) (some_is made (message, rest) b.2)
+            (tagged_front 3 1 t' (reads_offer.found mid b.0.0 b.0.1 b.1))
+        | inr (not_second, e3) ↦ elim (chosen (eqb tag.0 2 && eqb tag.1 2) (refuse_at mid) fourth (Some (message, rest)) e3) [
+          | inl (is, read) ↦
+              let b = bind_some (reason_at mid) (λ (reason : Reason × List ℕ). Some (Refuse reason.0, reason.1)) (message, rest) read in
+              let made : Message × List ℕ = (Refuse b.0.0, b.0.1) in
+              let t' = subst (λ (p : ℕ × ℕ). HasFront (IsTag p) bytes mid) (tag_is tag 2 2 is) t in
+              subst (λ (p : Message × List ℕ). HasFront (IsMessage NodeInfos p.0) bytes p.1) (some_is made (message, rest) b.2)
+              (tagged_front 2 2 t' (reads_reason.found mid b.0.0 b.0.1 b.1))
+          | inr (not_third, e4) ↦ elim (chosen (eqb tag.0 2 && eqb tag.1 3) (query_reply_at mid) None (Some (message, rest)) e4) [
+            | inl (is, read) ↦
+                let b = bind_some (table_at mid) (λ (table : List Offer × List ℕ). Some (QueryReply table.0, table.1)) (message, rest) read in
+                let made : Message × List ℕ = (QueryReply b.0.0, b.0.1) in
+                let t' = subst (λ (p : ℕ × ℕ). HasFront (IsTag p) bytes mid) (tag_is tag 2 3 is) t in
+                subst (λ (p : Message × List ℕ). HasFront (IsMessage NodeInfos p.0) bytes p.1) (some_is made (message, rest) b.2)
+                (tagged_front 2 3 t' (reads_table.found mid b.0.0 b.0.1 b.1))
+            | inr (none, never) ↦ absurd cc
+          ]
+        ]
+      ]
+    ]
+
+message_found : (bytes : List ℕ) (message : Message) (rest : List ℕ) → message_at bytes ≡ Some (message, rest) → HasFront (IsMessage NodeInfos message) bytes rest
+unfolding message_at
+message_found bytes message rest e =
+    let a = bind_some (tag_at bytes) (λ (tag : (ℕ × ℕ) × List ℕ). message_behind tag.0 tag.1) (message, rest) e in
+    message_behind_found bytes a.0.1 a.0.0 message rest (reads_tag.found bytes a.0.0 a.0.1 a.1) a.2
+
+message_again : (message : Message) (front rest : List ℕ) → IsMessage NodeInfos message front → message_at (front ++ rest) ≡ Some (message, rest)
+unfolding message_at
+message_again (Propose table) front rest p =
+    rw (tagged_again 2 0 front rest p, reads_table.again table p.is_second.second rest p.is_second.is_second) refl
+message_again (Accept version info) front rest p =
+    rw (tagged_again 3 1 front rest p, reads_offer.again (record { version = version; info = info }) p.is_second.second rest p.is_second.is_second) refl
+message_again (Refuse reason) front rest p =
+    rw (tagged_again 2 2 front rest p, reads_reason.again reason p.is_second.second rest p.is_second.is_second) refl
+message_again (QueryReply table) front rest p =
+    rw (tagged_again 2 3 front rest p, reads_table.again table p.is_second.second rest p.is_second.is_second) refl
+
+pub reads_message : Reads (IsMessage NodeInfos) message_at
+reads_message = record { found = message_found; again = message_again }

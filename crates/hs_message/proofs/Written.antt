@@ -1,0 +1,154 @@
+-- What is written spells the message, and is read again.
+use Rattle.std.proofs.Common.{ℕ, ◌<◌, ◌^◌, Bool, true, false, cond, List, [], ◌∷◌, ◌++◌, length, refl, arith, inl, lit<}
+use Rattle.std.specs.Prelude.{IsTrue}
+use Rattle.std.specs.List.{flat_map, AllByRecursion}
+use Rattle.std.proofs.lemmas.List.Concat.{flat_map-cons}
+use Rattle.cbor_items.specs.Head.{shortest_head, written_head}
+use Rattle.cbor_items.specs.Item.{IsPair, IsItem}
+use Rattle.cbor_items.proofs.Shortest.{are_read_again}
+use Rattle.cbor_items.proofs.Meaning.{wider_by}
+use Rattle.cbor_items.proofs.Fronts.{scan_again}
+use Rattle.hs_message.specs.declared.info.VersionInfo.{VersionInfo}
+use Rattle.hs_message.specs.declared.info.Info.{Info}
+use Rattle.hs_message.specs.declared.info.Info.TheVariants.{Known, Foreign}
+use Rattle.hs_message.specs.declared.offer.Offer.{Offer}
+use Rattle.hs_message.specs.declared.message.Message.{Message}
+use Rattle.hs_message.specs.declared.message.Message.TheVariants.{Propose, Accept, Refuse, QueryReply}
+use Rattle.hs_message.specs.declared.message.Reason.{Reason}
+use Rattle.hs_message.specs.declared.message.Reason.TheVariants.{NoCommon, NotDecoded, Declined}
+use Rattle.hs_message.specs.Parts.{IsDefinite, IsNumber, IsText, IsListOf}
+use Rattle.hs_message.specs.Info.{IsInfo, is_node_version, IsVersionInfo, IsNodeInfo}
+use Rattle.hs_message.specs.Spelling.{IsOffer, IsTable, IsReason, IsMessage}
+use Rattle.hs_message.specs.Canonical.{number_spelling, text_spelling, flag_spelling, array_spelling, info_spelling, offer_spelling, table_spelling, reason_spelling, message_spelling, version_info_spelling, node_spelling, IsOwn, IsOwnTable, CanWrite}
+use Rattle.hs_message.specs.Law.{FitsInfo, FitsTable, FitsReason, Fits, AreReadAgain}
+use Rattle.hs_message.proofs.Items.{version_info_is_item, message_is_item}
+
+-- ---- the parts
+
+definite_is : (major value : ℕ) → major < 7 → value < 2 ^ 64 → IsDefinite major value (shortest_head major value)
+definite_is major value low fits = record {
+  head = written_head major value;
+  is_head = (are_read_again major value [] (record { major_fits = omega arith; simple_fits = λ seven. absurd (omega arith); value_fits = fits })).0;
+  is_major = refl;
+  definite = refl;
+  is_value = refl;
+}
+
+number_is : (n : ℕ) → n < 2 ^ 64 → IsNumber n (number_spelling n)
+number_is n fits = definite_is 0 n (lit< tt) fits
+
+text_is : (text : List ℕ) → length text < 2 ^ 64 → IsText text (text_spelling text)
+text_is text fits = record { first = shortest_head 3 (length text); second = text; joined = refl; is_first = definite_is 3 (length text) (lit< tt) fits; is_second = refl }
+
+pair_is : {First Second : List ℕ → Type 0} (first second : List ℕ) → First first → Second second → IsPair First Second (first ++ second)
+pair_is {First} {Second} first second one two = record { first = first; second = second; joined = refl; is_first = one; is_second = two }
+
+bit_fits : (bit : Bool) → cond bit 1 0 < 2 ^ 64
+bit_fits true = lit< tt
+bit_fits false = lit< tt
+
+pub version_info_is : (info : VersionInfo) → info.magic < 2 ^ 32 → IsVersionInfo info (version_info_spelling info)
+version_info_is info fits = record {
+  magic_fits = fits;
+  is_array = pair_is (shortest_head 4 4) (number_spelling info.magic ++ (flag_spelling info.initiator_only ++ (number_spelling (cond info.sharing 1 0) ++ flag_spelling info.query)))
+      (definite_is 4 4 (lit< tt) (lit< tt))
+      (pair_is (number_spelling info.magic) (flag_spelling info.initiator_only ++ (number_spelling (cond info.sharing 1 0) ++ flag_spelling info.query))
+      (number_is info.magic (omega arith))
+      (pair_is (flag_spelling info.initiator_only) (number_spelling (cond info.sharing 1 0) ++ flag_spelling info.query) refl
+      (pair_is (number_spelling (cond info.sharing 1 0)) (flag_spelling info.query) (inl (number_is (cond info.sharing 1 0) (bit_fits info.sharing))) refl)));
+}
+
+list_is : {X : Type 0} (Thing : X → List ℕ → Type 0) (spelled : X → List ℕ) (Good : X → Type 0) (xs : List X) → ((x : X) → Good x → Thing x (spelled x)) → AllByRecursion Good xs
+    → IsListOf Thing xs (flat_map spelled xs)
+list_is Thing spelled Good [] each good = refl
+list_is {X} Thing spelled Good (x ∷ xs) each good = record {
+  first = spelled x;
+  second = flat_map spelled xs;
+  joined = flat_map-cons spelled x xs;
+  is_first = each x good.0;
+  is_second = list_is Thing spelled Good xs each good.1;
+}
+
+both_hold : {X : Type 0} (P Q : X → Type 0) (xs : List X) → AllByRecursion P xs → AllByRecursion Q xs → AllByRecursion (λ x. P x × Q x) xs
+both_hold P Q [] p q = tt
+both_hold P Q (x ∷ xs) p q = ((p.0, q.0), both_hold P Q xs p.1 q.1)
+
+reason_is : (reason : Reason) → FitsReason reason → IsReason reason (reason_spelling reason)
+reason_is (NoCommon versions) fits =
+    pair_is (shortest_head 4 2) (number_spelling 0 ++ array_spelling (length versions) (flat_map number_spelling versions)) (definite_is 4 2 (lit< tt) (lit< tt))
+    (pair_is (number_spelling 0) (array_spelling (length versions) (flat_map number_spelling versions)) (number_is 0 (lit< tt))
+    (inl (pair_is (shortest_head 4 (length versions)) (flat_map number_spelling versions) (definite_is 4 (length versions) (lit< tt) fits.0)
+    (list_is IsNumber number_spelling (λ version. version < 2 ^ 64) versions number_is fits.1))))
+reason_is (NotDecoded version text) fits =
+    pair_is (shortest_head 4 3) (number_spelling 1 ++ (number_spelling version ++ text_spelling text)) (definite_is 4 3 (lit< tt) (lit< tt))
+    (pair_is (number_spelling 1) (number_spelling version ++ text_spelling text) (number_is 1 (lit< tt))
+    (pair_is (number_spelling version) (text_spelling text) (number_is version fits.0) (text_is text fits.1)))
+reason_is (Declined version text) fits =
+    pair_is (shortest_head 4 3) (number_spelling 2 ++ (number_spelling version ++ text_spelling text)) (definite_is 4 3 (lit< tt) (lit< tt))
+    (pair_is (number_spelling 2) (number_spelling version ++ text_spelling text) (number_is 2 (lit< tt))
+    (pair_is (number_spelling version) (text_spelling text) (number_is version fits.0) (text_is text fits.1)))
+
+-- ---- messages
+
+-- what an offer is that can be written
+abbrev IsGood : Offer → Type 0
+IsGood offer = (offer.version < 2 ^ 64) × FitsInfo offer.info × IsOwn offer.version offer.info
+
+module _ (Infos : ℕ → Info → List ℕ → Type 0) (known_is : (version : ℕ) (known : VersionInfo) → IsTrue (is_node_version version) → known.magic < 2 ^ 32
+    → Infos version (Known known) (version_info_spelling known)) where
+  info_is : (version : ℕ) (info : Info) → FitsInfo info → IsOwn version info → Infos version info (info_spelling version_info_spelling info)
+  info_is version (Known known) fits own = known_is version known own fits
+  info_is version Foreign fits never = absurd never
+
+  offer_is : (offer : Offer) → IsGood offer → IsOffer Infos offer (offer_spelling version_info_spelling offer)
+  offer_is offer good = pair_is (number_spelling offer.version) (info_spelling version_info_spelling offer.info)
+      (number_is offer.version good.0) (info_is offer.version offer.info good.1 good.2)
+
+  good_offers : (table : List Offer) → AllByRecursion (λ offer. (offer.version < 2 ^ 64) × FitsInfo offer.info) table → AllByRecursion (λ offer. IsOwn offer.version offer.info) table
+      → AllByRecursion IsGood table
+  good_offers [] fits own = tt
+  good_offers (offer ∷ table) fits own = ((fits.0.0, fits.0.1, own.0), good_offers table fits.1 own.1)
+
+  table_is : (table : List Offer) → FitsTable table → IsOwnTable table → IsTable Infos table (table_spelling version_info_spelling table)
+  table_is table fits own = record {
+    rising = own.1;
+    is_map = pair_is (shortest_head 5 (length table)) (flat_map (offer_spelling version_info_spelling) table) (definite_is 5 (length table) (lit< tt) fits.0)
+        (list_is (IsOffer Infos) (offer_spelling version_info_spelling) IsGood table offer_is (good_offers table fits.1 own.0));
+  }
+
+  pub message_is : (message : Message) → Fits message → CanWrite message → IsMessage Infos message (message_spelling version_info_spelling message)
+  message_is (Propose table) fits can =
+      pair_is (shortest_head 4 2) (number_spelling 0 ++ table_spelling version_info_spelling table) (definite_is 4 2 (lit< tt) (lit< tt))
+      (pair_is (number_spelling 0) (table_spelling version_info_spelling table) (number_is 0 (lit< tt)) (table_is table fits can))
+  message_is (Accept version info) fits can =
+      pair_is (shortest_head 4 3) (number_spelling 1 ++ (number_spelling version ++ info_spelling version_info_spelling info)) (definite_is 4 3 (lit< tt) (lit< tt))
+      (pair_is (number_spelling 1) (number_spelling version ++ info_spelling version_info_spelling info) (number_is 1 (lit< tt))
+      (pair_is (number_spelling version) (info_spelling version_info_spelling info) (number_is version fits.0) (info_is version info fits.1 can)))
+  message_is (Refuse reason) fits can =
+      pair_is (shortest_head 4 2) (number_spelling 2 ++ reason_spelling reason) (definite_is 4 2 (lit< tt) (lit< tt))
+      (pair_is (number_spelling 2) (reason_spelling reason) (number_is 2 (lit< tt)) (reason_is reason fits))
+  message_is (QueryReply table) fits can =
+      pair_is (shortest_head 4 2) (number_spelling 3 ++ table_spelling version_info_spelling table) (definite_is 4 2 (lit< tt) (lit< tt))
+      (pair_is (number_spelling 3) (table_spelling version_info_spelling table) (number_is 3 (lit< tt)) (table_is table fits can))
+
+-- a message of known infos has three levels at most
+written_is_item : (message : Message) → Fits message → CanWrite message → IsItem 64 (message_spelling version_info_spelling message)
+written_is_item message fits can =
+    let Infos : ℕ → Info → List ℕ → Type 0 = λ version info bytes. IsItem 1 bytes in
+    let is = message_is Infos (λ version known own magic. version_info_is_item 0 known (version_info_spelling known) (version_info_is known magic)) message fits can in
+    wider_by 61 3 64 (message_spelling version_info_spelling message) refl
+    (message_is_item Infos 0 (λ version info bytes item. item) message (message_spelling version_info_spelling message) is)
+
+known_info_is : (version : ℕ) (known : VersionInfo) → IsTrue (is_node_version version) → known.magic < 2 ^ 32
+    → IsInfo IsNodeInfo version (Known known) (version_info_spelling known)
+known_info_is version known own magic =
+    let is = version_info_is known magic in
+    (version_info_is_item 63 known (version_info_spelling known) is, (own, is))
+
+pub written_is_read : AreReadAgain
+unfolding node_spelling
+written_is_read message rest fits can =
+    let item = written_is_item message fits can in (
+      record { is_item = item; is_message = message_is (IsInfo IsNodeInfo) known_info_is message fits can },
+      scan_again (message_spelling version_info_spelling message) rest item,
+    )

@@ -1,0 +1,7 @@
+use Rattle.std.proofs.Common.{◌≡◌, ◌-◌, length}
+use Rattle.hs_message.specs.Reading.{number_at, row_to_break_at}
+use Rattle.hs_message.proofs.Loops.{with_front}
+use Rattle.hs_message.proofs.read.read_numbers_to_break.Given as goal
+
+abbrev pub invariant-loop : goal.invariant-loop
+invariant-loop l = with_front l.numbers (row_to_break_at number_at (length l.bytes - l.counter) l.rest) ≡ row_to_break_at number_at (length l.bytes) l.bytes

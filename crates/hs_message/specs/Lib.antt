@@ -1,0 +1,6 @@
+pub mod Parts
+pub mod Info
+pub mod Spelling
+pub mod Canonical
+pub mod Reading
+pub mod Law

@@ -1,0 +1,232 @@
+-- Reading from left to right: what stands at the front of the bytes, and the bytes behind it. None where nothing of
+-- the kind stands there.
+use Rattle.std.specs.Prelude.{◌≡◌, ℕ, zero, suc, ◌^◌, Bool, true, false, ◌&&◌, not, ◌==◌, nat_lt, List, [], ◌∷◌, length, take, drop, Option, Some, None, Result, Ok, Err, if◌then◌else◌}
+use Rattle.std.specs.Option.{option_or}
+use Rattle.cbor_items.specs.declared.head.Head.{Head}
+use Rattle.cbor_items.specs.Head.{head_at}
+use Rattle.cbor_items.specs.declared.scan.Scan.{Scan}
+use Rattle.cbor_items.specs.declared.scan.Scan.TheVariants as scan
+use Rattle.cbor_items.specs.Scan.{scan_of}
+use Rattle.hs_message.specs.declared.info.VersionInfo.{VersionInfo}
+use Rattle.hs_message.specs.declared.info.Info.{Info}
+use Rattle.hs_message.specs.declared.info.Info.TheVariants.{Known, Foreign}
+use Rattle.hs_message.specs.declared.offer.Offer.{Offer}
+use Rattle.hs_message.specs.declared.message.Message.{Message}
+use Rattle.hs_message.specs.declared.message.Message.TheVariants.{Propose, Accept, Refuse, QueryReply}
+use Rattle.hs_message.specs.declared.message.Reason.{Reason}
+use Rattle.hs_message.specs.declared.message.Reason.TheVariants.{NoCommon, NotDecoded, Declined}
+use Rattle.hs_message.specs.declared.refusal.ReadRefusal.{ReadRefusal}
+use Rattle.hs_message.specs.declared.refusal.ReadRefusal.TheVariants.{NotAMessage, OutOfMemory}
+use Rattle.hs_message.specs.Info.{is_node_version}
+use Rattle.hs_message.specs.Spelling.{rises}
+
+abbrev pub Reader : Type 0 → Type 0
+Reader X = List ℕ → Option (X × List ℕ)
+
+-- one reading and another behind it
+infixl 10 ◌>>=◌
+abbrev pub ◌>>=◌ : {A B : Type 0} → Option A → (A → Option B) → Option B
+(Some x) >>= f = f x
+None >>= f = None
+
+-- what a function returned, seen by `view`, is what reading gives
+abbrev pub Finds : {X Y E : Type 0} → (X → Y) → Result X E → Option Y → Type 0
+Finds view (Ok x) read = read ≡ Some (view x)
+Finds view (Err e) read = read ≡ None
+
+-- the same, unless memory ran out
+abbrev pub Gives : {X Y : Type 0} → (X → Y) → Result X ReadRefusal → Option Y → Type 0
+Gives view (Ok x) read = read ≡ Some (view x)
+Gives view (Err NotAMessage) read = read ≡ None
+Gives view (Err OutOfMemory) read = Unit {0}
+
+-- ---- heads
+
+abbrev pub any_head_at : Reader Head
+any_head_at bytes = head_at bytes >>= λ head. Some (head, drop head.size bytes)
+
+-- the value of a definite head of a major type
+unfoldable pub definite_at : ℕ → Reader ℕ
+definite_at major bytes = do
+  read ← any_head_at bytes
+  if read.0.major == major && not read.0.indefinite then Some (read.0.value, read.1) else None
+
+abbrev pub number_at : Reader ℕ
+number_at bytes = definite_at 0 bytes
+
+-- the bytes behind the head of an array of so many elements
+unfoldable pub array_at : ℕ → List ℕ → Option (List ℕ)
+array_at count bytes = do
+  read ← definite_at 4 bytes
+  if read.0 == count then Some read.1 else None
+
+-- ---- infos
+
+unfoldable pub flag_at : Reader Bool
+flag_at [] = None
+flag_at (byte ∷ rest) = if byte == 0xf4 then Some (false, rest) else (if byte == 0xf5 then Some (true, rest) else None)
+
+-- the number 0 or 1
+unfoldable pub bit_at : Reader Bool
+bit_at bytes = do
+  read ← number_at bytes
+  if read.0 == 0 then Some (false, read.1) else (if read.0 == 1 then Some (true, read.1) else None)
+
+abbrev pub sharing_at : Reader Bool
+sharing_at bytes = option_or (flag_at bytes) (bit_at bytes)
+
+unfoldable pub version_info_at : Reader VersionInfo
+version_info_at bytes = do
+  elements ← array_at 4 bytes
+  magic ← number_at elements
+  initiator_only ← flag_at magic.1
+  sharing ← sharing_at initiator_only.1
+  query ← flag_at sharing.1
+  if nat_lt magic.0 (2 ^ 32)
+      then Some (record { magic = magic.0; initiator_only = initiator_only.0; sharing = sharing.0; query = query.0 }, query.1)
+      else None
+
+-- what was read where nothing is left behind it
+abbrev pub whole : {X : Type 0} → Option (X × List ℕ) → Option X
+whole None = None
+whole (Some read) = if length read.1 == 0 then Some read.0 else None
+
+-- the known info that an item beside a version is
+unfoldable pub known_of : ℕ → List ℕ → Option VersionInfo
+known_of version item = if is_node_version version then whole (version_info_at item) else None
+
+abbrev pub as_info : Option VersionInfo → Info
+as_info (Some known) = Known known
+as_info None = Foreign
+
+abbrev pub info_of : ℕ → List ℕ → Info
+info_of version item = as_info (known_of version item)
+
+-- ---- tables
+
+abbrev pub front_of : List ℕ → Scan → Option (List ℕ × List ℕ)
+front_of bytes (scan.Whole n) = Some (take n bytes, drop n bytes)
+front_of bytes scan.More = None
+front_of bytes scan.Bad = None
+front_of bytes scan.Deep = None
+
+-- any item
+abbrev pub item_at : Reader (List ℕ)
+item_at bytes = front_of bytes (scan_of bytes)
+
+unfoldable pub offer_at : Reader Offer
+offer_at bytes = do
+  version ← number_at bytes
+  item ← item_at version.1
+  Some (record { version = version.0; info = info_of version.0 item.0 }, item.1)
+
+-- so many things
+unfoldable pub row_at : {X : Type 0} → Reader X → ℕ → Reader (List X)
+row_at thing zero bytes = Some ([], bytes)
+row_at thing (suc n) bytes = do
+  first ← thing bytes
+  others ← row_at thing n first.1
+  Some (first.0 ∷ others.0, others.1)
+
+unfoldable pub table_at : Reader (List Offer)
+table_at bytes = do
+  count ← definite_at 5 bytes
+  offers ← row_at offer_at count.0 count.1
+  if rises offers.0 then Some offers else None
+
+-- ---- reasons
+
+-- things up to a break. The number is that of the bytes: each thing takes one at least
+unfoldable pub row_to_break_at : {X : Type 0} → Reader X → ℕ → Reader (List X)
+row_to_break_at thing zero bytes = None
+row_to_break_at thing (suc n) [] = None
+row_to_break_at thing (suc n) (byte ∷ rest) =
+    if byte == 0xff then Some ([], rest)
+    else (thing (byte ∷ rest) >>= λ first. row_to_break_at thing n first.1 >>= λ others. Some (first.0 ∷ others.0, others.1))
+
+abbrev pub version_row_at : Head → Reader (List ℕ)
+version_row_at head bytes = if head.indefinite then row_to_break_at number_at (length bytes) bytes else row_at number_at head.value bytes
+
+unfoldable pub version_list_at : Reader (List ℕ)
+version_list_at bytes = do
+  read ← any_head_at bytes
+  if read.0.major == 4 then version_row_at read.0 read.1 else None
+
+unfoldable pub text_at : Reader (List ℕ)
+text_at bytes = do
+  read ← definite_at 3 bytes
+  if nat_lt (length read.1) read.0 then None else Some (take read.0 read.1, drop read.0 read.1)
+
+-- how many elements an array has, the number that is the first one, and the bytes behind that
+unfoldable pub tag_at : Reader (ℕ × ℕ)
+tag_at bytes = do
+  count ← definite_at 4 bytes
+  tag ← number_at count.1
+  Some ((count.0, tag.0), tag.1)
+
+-- a version and a text
+unfoldable pub noted_at : Reader (ℕ × List ℕ)
+noted_at bytes = do
+  version ← number_at bytes
+  text ← text_at version.1
+  Some ((version.0, text.0), text.1)
+
+abbrev pub no_common_at : Reader Reason
+no_common_at bytes = version_list_at bytes >>= λ versions. Some (NoCommon versions.0, versions.1)
+
+abbrev pub not_decoded_at : Reader Reason
+not_decoded_at bytes = noted_at bytes >>= λ noted. Some (NotDecoded noted.0.0 noted.0.1, noted.1)
+
+abbrev pub declined_at : Reader Reason
+declined_at bytes = noted_at bytes >>= λ noted. Some (Declined noted.0.0 noted.0.1, noted.1)
+
+-- what stands behind the first number of a reason
+abbrev pub reason_behind : ℕ × ℕ → Reader Reason
+reason_behind tag bytes =
+    if tag.0 == 2 && tag.1 == 0 then no_common_at bytes
+    else (if tag.0 == 3 && tag.1 == 1 then not_decoded_at bytes
+    else (if tag.0 == 3 && tag.1 == 2 then declined_at bytes
+    else None))
+
+unfoldable pub reason_at : Reader Reason
+reason_at bytes = tag_at bytes >>= λ tag. reason_behind tag.0 tag.1
+
+-- ---- messages
+
+abbrev pub propose_at : Reader Message
+propose_at bytes = table_at bytes >>= λ table. Some (Propose table.0, table.1)
+
+abbrev pub accept_at : Reader Message
+accept_at bytes = offer_at bytes >>= λ offer. Some (Accept offer.0.version offer.0.info, offer.1)
+
+abbrev pub refuse_at : Reader Message
+refuse_at bytes = reason_at bytes >>= λ reason. Some (Refuse reason.0, reason.1)
+
+abbrev pub query_reply_at : Reader Message
+query_reply_at bytes = table_at bytes >>= λ table. Some (QueryReply table.0, table.1)
+
+-- what stands behind the first number of a message
+abbrev pub message_behind : ℕ × ℕ → Reader Message
+message_behind tag bytes =
+    if tag.0 == 2 && tag.1 == 0 then propose_at bytes
+    else (if tag.0 == 3 && tag.1 == 1 then accept_at bytes
+    else (if tag.0 == 2 && tag.1 == 2 then refuse_at bytes
+    else (if tag.0 == 2 && tag.1 == 3 then query_reply_at bytes
+    else None)))
+
+unfoldable pub message_at : Reader Message
+message_at bytes = tag_at bytes >>= λ tag. message_behind tag.0 tag.1
+
+-- the scan says that the bytes are one item, with nothing behind it
+abbrev pub is_all_of : List ℕ → Scan → Bool
+is_all_of bytes (scan.Whole n) = n == length bytes
+is_all_of bytes scan.More = false
+is_all_of bytes scan.Bad = false
+is_all_of bytes scan.Deep = false
+
+abbrev pub without_rest : {X : Type 0} → Option (X × List ℕ) → Option X
+without_rest read = read >>= λ x. Some x.0
+
+-- the message between nodes that the bytes spell
+unfoldable pub message_of : List ℕ → Option Message
+message_of bytes = if is_all_of bytes (scan_of bytes) then without_rest (message_at bytes) else None

@@ -1,0 +1,20 @@
+/// What a node says of itself beside a version. Known of the versions 13 and 14.
+#[derive(Clone, Copy, Debug, PartialEq, Eq)]
+pub struct VersionInfo {
+    /// The number of the network.
+    pub magic: u32,
+    /// The node runs no responder for those that it dials.
+    pub initiator_only: bool,
+    /// The node takes part in peer sharing.
+    pub sharing: bool,
+    /// The node only asks for the versions.
+    pub query: bool,
+}
+
+/// What stands beside a version.
+#[derive(Clone, Copy, Debug, PartialEq, Eq)]
+pub enum Info {
+    Known(VersionInfo),
+    /// Any other item, or any item of another version.
+    Foreign,
+}

@@ -1,0 +1,22 @@
+//! Messages of the handshake: their spelling in CBOR (RFC 8949), read and written. The messages follow the node-to-node
+//! handshake of the Ouroboros network specification in outline. How they are spelled here is this project's own.
+#![tactic(auto)]
+
+mod info;
+pub mod law;
+mod message;
+mod offer;
+mod part;
+mod read;
+mod refusal;
+mod write;
+
+pub use info::{Info, VersionInfo};
+pub use message::{Message, Reason};
+pub use offer::{Offer, Table};
+pub use read::read_message;
+pub use refusal::ReadRefusal;
+pub use write::write_message;
+
+#[cfg(test)]
+mod tests;

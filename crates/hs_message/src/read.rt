@@ -1,0 +1,287 @@
+ghost use Rattle.std.specs.Prelude.{◌≡◌, IfOk, Err, length};
+ghost use Rattle.hs_message.specs.declared.message.Message.{Message as AnyMessage};
+ghost use Rattle.hs_message.specs.Info.{is_node_version};
+ghost use Rattle.hs_message.specs.Spelling.{is_below_next, rises, NodeSpells};
+ghost use Rattle.hs_message.specs.Reading.{Finds, Gives, version_info_at, known_of, info_of, offer_at, number_at, row_at, row_to_break_at, table_at, version_row_at, version_list_at, reason_behind, reason_at, message_behind, message_at, message_of};
+
+use crate::part::{
+    split_array, split_definite, split_flag, split_head, split_item, split_noted, split_number,
+    split_sharing, split_tag,
+};
+use crate::refusal::Absent;
+use crate::{Info, Message, Offer, ReadRefusal, Reason, Table, VersionInfo};
+use cbor_items::{Head, Scan, first_item};
+use net_base::{NumberList, Octets, OutOfMemory};
+use std::alloc::Global;
+
+// The major types of RFC 8949.
+const ARRAY: u8 = 4;
+
+const MAP: u8 = 5;
+
+const BREAK: u8 = 0xff;
+
+/// The message that the bytes spell, all of them. `NotAMessage` comes exactly where they spell none. No more memory is
+/// asked for than what was read so far takes, whatever lengths are announced.
+pub fn read_message(alloc: Global, bytes: &[u8]) -> Result<Message, ReadRefusal>
+    ensures reading { Gives (λ message. message) result (message_of bytes.now) }
+    // What is read is spelled by the bytes.
+    ensures found { IfOk result (λ message. NodeSpells message bytes.now) }
+    ensures none { result ≡ Err ReadRefusal.NotAMessage →
+        (message : AnyMessage) → NodeSpells message bytes.now → ⊥ }
+{
+    read_whole(alloc, bytes)
+}
+
+#[tactic(auto, unfolding(crate::specs::Reading::message_of))]
+fn read_whole(alloc: Global, bytes: &[u8]) -> Result<Message, ReadRefusal>
+    ensures { Gives (λ message. message) result (message_of bytes.now) }
+{
+    if first_item(bytes) != Scan::Whole(bytes.len()) {
+        return Err(ReadRefusal::NotAMessage);
+    }
+    let (message, _) = read_front(alloc, bytes)?;
+    Ok(message)
+}
+
+#[tactic(auto, unfolding(crate::specs::Reading::message_at))]
+fn read_front(alloc: Global, bytes: &[u8]) -> Result<(Message, &[u8]), ReadRefusal>
+    ensures { Gives (λ read. (read.0, read.1.now)) result (message_at bytes.now) }
+{
+    let (tag, rest) = split_tag(bytes)?;
+    read_message_behind(alloc, tag, rest)
+}
+
+// What stands behind the first number of a message.
+fn read_message_behind(
+    alloc: Global,
+    tag: (u64, u64),
+    bytes: &[u8],
+) -> Result<(Message, &[u8]), ReadRefusal>
+    ensures { Gives (λ read. (read.0, read.1.now)) result (message_behind tag bytes.now) }
+{
+    match tag {
+        (2, 0) => {
+            let (table, rest) = read_table(alloc, bytes)?;
+            Ok((Message::Propose(table), rest))
+        }
+        (3, 1) => {
+            let (offer, rest) = split_offer(bytes)?;
+            Ok((Message::Accept(offer.version, offer.info), rest))
+        }
+        (2, 2) => {
+            let (reason, rest) = read_reason(alloc, bytes)?;
+            Ok((Message::Refuse(reason), rest))
+        }
+        (2, 3) => {
+            let (table, rest) = read_table(alloc, bytes)?;
+            Ok((Message::QueryReply(table), rest))
+        }
+        _ => Err(ReadRefusal::NotAMessage),
+    }
+}
+
+#[tactic(auto, unfolding(crate::specs::Reading::table_at))]
+fn read_table(alloc: Global, bytes: &[u8]) -> Result<(Table, &[u8]), ReadRefusal>
+    ensures { Gives (λ read. (read.0, read.1.now)) result (table_at bytes.now) }
+{
+    let (count, rest) = split_definite(MAP, bytes)?;
+    let (table, rest) = read_offers(alloc, count, rest)?;
+    if rises(table.as_slice()) {
+        Ok((table, rest))
+    } else {
+        Err(ReadRefusal::NotAMessage)
+    }
+}
+
+fn read_offers(alloc: Global, count: u64, bytes: &[u8]) -> Result<(Table, &[u8]), ReadRefusal>
+    ensures { Gives (λ read. (read.0, read.1.now)) result (row_at offer_at count bytes.now) }
+{
+    let mut table = Table::new(alloc);
+    let mut rest = bytes;
+    for _ in 0..count {
+        let (offer, after) = split_offer(rest)?;
+        table.push(offer)?;
+        rest = after;
+    }
+    Ok((table, rest))
+}
+
+// Whether the versions rise strictly.
+fn rises(offers: &[Offer]) -> bool
+    ensures { result ≡ rises offers.now }
+{
+    let mut rest = offers;
+    while let Some((first, after)) = rest.split_first() {
+        if !is_below_next(first, after) {
+            return false;
+        }
+        rest = after;
+    }
+    true
+}
+
+fn is_below_next(offer: &Offer, rest: &[Offer]) -> bool
+    ensures { result ≡ is_below_next offer.now rest.now }
+{
+    match rest {
+        [] => true,
+        [next, ..] => offer.version < next.version,
+    }
+}
+
+#[tactic(auto, unfolding(crate::specs::Reading::offer_at))]
+fn split_offer(bytes: &[u8]) -> Result<(Offer, &[u8]), Absent>
+    ensures { Finds (λ read. (read.0, read.1.now)) result (offer_at bytes.now) }
+{
+    let (version, rest) = split_number(bytes)?;
+    let (item, rest) = split_item(rest)?;
+    let info = read_info(version, item);
+    Ok((Offer { version, info }, rest))
+}
+
+fn read_info(version: u64, item: &[u8]) -> Info
+    ensures { result ≡ info_of version item.now }
+{
+    match read_known(version, item) {
+        Some(known) => Info::Known(known),
+        None => Info::Foreign,
+    }
+}
+
+#[tactic(auto, unfolding(crate::specs::Reading::known_of))]
+fn read_known(version: u64, item: &[u8]) -> Option<VersionInfo>
+    ensures { result ≡ known_of version item.now }
+{
+    if !is_node_version(version) {
+        return None;
+    }
+    match split_version_info(item) {
+        Ok((info, [])) => Some(info),
+        _ => None,
+    }
+}
+
+fn is_node_version(version: u64) -> bool
+    ensures { result ≡ is_node_version version }
+{
+    matches!(version, 13 | 14)
+}
+
+#[tactic(auto, unfolding(crate::specs::Reading::version_info_at))]
+fn split_version_info(bytes: &[u8]) -> Result<(VersionInfo, &[u8]), Absent>
+    ensures { Finds (λ read. (read.0, read.1.now)) result (version_info_at bytes.now) }
+{
+    let rest = split_array(4, bytes)?;
+    let (magic, rest) = split_number(rest)?;
+    let (initiator_only, rest) = split_flag(rest)?;
+    let (sharing, rest) = split_sharing(rest)?;
+    let (query, rest) = split_flag(rest)?;
+    if magic > 0xffff_ffff {
+        return Err(Absent);
+    }
+    let info = VersionInfo {
+        magic: magic as u32,
+        initiator_only,
+        sharing,
+        query,
+    };
+    Ok((info, rest))
+}
+
+#[tactic(auto, unfolding(crate::specs::Reading::reason_at))]
+fn read_reason(alloc: Global, bytes: &[u8]) -> Result<(Reason, &[u8]), ReadRefusal>
+    ensures { Gives (λ read. (read.0, read.1.now)) result (reason_at bytes.now) }
+{
+    let (tag, rest) = split_tag(bytes)?;
+    read_reason_behind(alloc, tag, rest)
+}
+
+// What stands behind the first number of a reason.
+fn read_reason_behind(
+    alloc: Global,
+    tag: (u64, u64),
+    bytes: &[u8],
+) -> Result<(Reason, &[u8]), ReadRefusal>
+    ensures { Gives (λ read. (read.0, read.1.now)) result (reason_behind tag bytes.now) }
+{
+    match tag {
+        (2, 0) => {
+            let (versions, rest) = read_version_list(alloc, bytes)?;
+            Ok((Reason::NoCommon(versions), rest))
+        }
+        (3, 1) => {
+            let ((version, text), rest) = split_noted(bytes)?;
+            Ok((Reason::NotDecoded(version, octets(alloc, text)?), rest))
+        }
+        (3, 2) => {
+            let ((version, text), rest) = split_noted(bytes)?;
+            Ok((Reason::Declined(version, octets(alloc, text)?), rest))
+        }
+        _ => Err(ReadRefusal::NotAMessage),
+    }
+}
+
+fn octets(alloc: Global, bytes: &[u8]) -> Result<Octets, OutOfMemory>
+    ensures { IfOk result (λ octets. octets ≡ bytes.now) }
+{
+    Ok(Octets::from_vec(Vec::from_slice(alloc, bytes)?))
+}
+
+#[tactic(auto, unfolding(crate::specs::Reading::version_list_at))]
+fn read_version_list(alloc: Global, bytes: &[u8]) -> Result<(NumberList, &[u8]), ReadRefusal>
+    ensures { Gives (λ read. (read.0, read.1.now)) result (version_list_at bytes.now) }
+{
+    let (head, rest) = split_head(bytes)?;
+    if head.major != ARRAY {
+        return Err(ReadRefusal::NotAMessage);
+    }
+    read_version_row(alloc, &head, rest)
+}
+
+fn read_version_row<'a>(
+    alloc: Global,
+    head: &Head,
+    bytes: &'a [u8],
+) -> Result<(NumberList, &'a [u8]), ReadRefusal>
+    ensures { Gives (λ read. (read.0, read.1.now)) result (version_row_at head.now bytes.now) }
+{
+    if head.indefinite {
+        read_numbers_to_break(alloc, bytes)
+    } else {
+        read_numbers(alloc, head.value, bytes)
+    }
+}
+
+fn read_numbers(alloc: Global, count: u64, bytes: &[u8]) -> Result<(NumberList, &[u8]), ReadRefusal>
+    ensures { Gives (λ read. (read.0, read.1.now)) result (row_at number_at count bytes.now) }
+{
+    let mut numbers = NumberList::new(alloc);
+    let mut rest = bytes;
+    for _ in 0..count {
+        let (number, after) = split_number(rest)?;
+        numbers.push(number)?;
+        rest = after;
+    }
+    Ok((numbers, rest))
+}
+
+fn read_numbers_to_break(alloc: Global, bytes: &[u8]) -> Result<(NumberList, &[u8]), ReadRefusal>
+    ensures { Gives (λ read. (read.0, read.1.now)) result (row_to_break_at number_at (length bytes.now) bytes.now) }
+{
+    let mut numbers = NumberList::new(alloc);
+    let mut rest = bytes;
+    // each number takes a byte at least
+    for _ in 0..bytes.len() {
+        let Some((first, after)) = rest.split_first() else {
+            return Err(ReadRefusal::NotAMessage);
+        };
+        if *first == BREAK {
+            return Ok((numbers, after));
+        }
+        let (number, after) = split_number(rest)?;
+        numbers.push(number)?;
+        rest = after;
+    }
+    Err(ReadRefusal::NotAMessage)
+}

@@ -1,0 +1,31 @@
+ghost use Rattle.std.specs.Prelude.{◌≡◌};
+ghost use Rattle.hs_message.specs.declared.refusal.ReadRefusal.TheVariants.{NotAMessage, OutOfMemory};
+
+/// Why no message was read.
+#[derive(Clone, Copy, Debug, PartialEq, Eq)]
+pub enum ReadRefusal {
+    /// The bytes spell none.
+    NotAMessage,
+    /// A growth of memory was refused.
+    OutOfMemory,
+}
+
+impl From<net_base::OutOfMemory> for ReadRefusal {
+    ghost from_gives = { λ _ e. e ≡ OutOfMemory };
+
+    fn from(_: net_base::OutOfMemory) -> Self {
+        ReadRefusal::OutOfMemory
+    }
+}
+
+/// Nothing of the kind stands at the front of the bytes.
+#[derive(Clone, Copy, Debug, PartialEq, Eq)]
+pub(crate) struct Absent;
+
+impl From<Absent> for ReadRefusal {
+    ghost from_gives = { λ _ e. e ≡ NotAMessage };
+
+    fn from(_: Absent) -> Self {
+        ReadRefusal::NotAMessage
+    }
+}

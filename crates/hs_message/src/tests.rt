@@ -1,0 +1,296 @@
+ghost use Rattle.std.specs.Prelude.{IfOk};
+ghost use Rattle.hs_message.specs.Canonical.{IsOwnTable};
+
+use super::*;
+use net_base::{NumberList, Octets};
+use std::alloc::{AllocError, Global};
+use std::test::Fail;
+
+const OWN: VersionInfo = VersionInfo {
+    magic: 42,
+    initiator_only: false,
+    sharing: true,
+    query: false,
+};
+
+// 13 and 14 with the own info.
+fn both(alloc: Global) -> Result<Table, AllocError>
+    ensures { IfOk result (λ table. IsOwnTable table) }
+{
+    let info = Info::Known(OWN);
+    let offers = [Offer { version: 13, info }, Offer { version: 14, info }];
+    Ok(Table::from_vec(Vec::from_slice(alloc, &offers)?))
+}
+
+fn numbers(alloc: Global, items: &[u64]) -> Result<NumberList, AllocError> {
+    Ok(NumberList::from_vec(Vec::from_slice(alloc, items)?))
+}
+
+fn octets(alloc: Global, items: &[u8]) -> Result<Octets, AllocError> {
+    Ok(Octets::from_vec(Vec::from_slice(alloc, items)?))
+}
+
+const PROPOSAL: &[u8] = b"\x82\x00\xa2\x0d\x84\x18\x2a\xf4\x01\xf4\x0e\x84\x18\x2a\xf4\x01\xf4";
+
+const ACCEPT: &[u8] = b"\x83\x01\x0e\x84\x18\x2a\xf4\x01\xf4";
+
+const NO_COMMON: &[u8] = b"\x82\x02\x82\x00\x82\x0d\x0e";
+
+const NOT_DECODED: &[u8] = b"\x82\x02\x83\x01\x0e\x78\x1bversion data not understood";
+
+const DECLINED: &[u8] = b"\x82\x02\x83\x02\x0e\x75network magic differs";
+
+const QUERY_REPLY: &[u8] = b"\x82\x03\xa2\x0d\x84\x18\x2a\xf4\x01\xf4\x0e\x84\x18\x2a\xf4\x01\xf4";
+
+#[test]
+fn the_vectors_are_written(rt: HostRuntime) -> Result<(), Fail> {
+    let alloc = rt.alloc();
+    let proposal = write_message(alloc, &Message::Propose(both(alloc)?))?;
+    assert_eq!(rt; proposal.as_slice(), PROPOSAL);
+    let accept = write_message(alloc, &Message::Accept(14, Info::Known(OWN)))?;
+    assert_eq!(rt; accept.as_slice(), ACCEPT);
+    let versions = numbers(alloc, &[13, 14])?;
+    let refusal = write_message(alloc, &Message::Refuse(Reason::NoCommon(versions)))?;
+    assert_eq!(rt; refusal.as_slice(), NO_COMMON);
+    let text = octets(alloc, b"version data not understood")?;
+    let refusal = write_message(alloc, &Message::Refuse(Reason::NotDecoded(14, text)))?;
+    assert_eq!(rt; refusal.as_slice(), NOT_DECODED);
+    let text = octets(alloc, b"network magic differs")?;
+    let refusal = write_message(alloc, &Message::Refuse(Reason::Declined(14, text)))?;
+    assert_eq!(rt; refusal.as_slice(), DECLINED);
+    let reply = write_message(alloc, &Message::QueryReply(both(alloc)?))?;
+    assert_eq!(rt; reply.as_slice(), QUERY_REPLY);
+    Ok(())
+}
+
+// One line for each message that is read: what it is, with its numbers and texts.
+fn told(alloc: Global, bytes: &[u8]) -> Result<String, AllocError> {
+    match read_message(alloc, bytes) {
+        Ok(Message::Propose(table)) => told_table(alloc, "propose", table.as_slice()),
+        Ok(Message::Accept(version, info)) => told_offer(alloc, &Offer { version, info }),
+        Ok(Message::Refuse(Reason::NoCommon(versions))) => {
+            let versions = versions.as_slice();
+            format!(in alloc; "no common {versions:?}")
+        }
+        Ok(Message::Refuse(Reason::NotDecoded(version, text))) => {
+            let text = text.as_slice();
+            format!(in alloc; "not decoded {version} {text:?}")
+        }
+        Ok(Message::Refuse(Reason::Declined(version, text))) => {
+            let text = text.as_slice();
+            format!(in alloc; "declined {version} {text:?}")
+        }
+        Ok(Message::QueryReply(table)) => told_table(alloc, "query reply", table.as_slice()),
+        Err(ReadRefusal::NotAMessage) => String::from_str(alloc, "no message"),
+        Err(ReadRefusal::OutOfMemory) => String::from_str(alloc, "out of memory"),
+    }
+}
+
+fn told_table(alloc: Global, name: &str, table: &[Offer]) -> Result<String, AllocError> {
+    let mut text = String::from_str(alloc, name)?;
+    for offer in table {
+        text.push_str(", ")?;
+        let offer = told_offer(alloc, offer)?;
+        text.push_str(&offer)?;
+    }
+    Ok(text)
+}
+
+fn told_offer(alloc: Global, offer: &Offer) -> Result<String, AllocError> {
+    let version = offer.version;
+    match offer.info {
+        Info::Known(info) => {
+            let magic = info.magic;
+            let initiator_only = info.initiator_only;
+            let sharing = info.sharing;
+            let query = info.query;
+            format!(in alloc; "{version} {magic} {initiator_only} {sharing} {query}")
+        }
+        Info::Foreign => format!(in alloc; "{version} foreign"),
+    }
+}
+
+#[test]
+fn messages_are_read(rt: HostRuntime) -> Result<(), Fail> {
+    let cases: [(&[u8], &str); 17] = [
+        (
+            PROPOSAL,
+            "propose, 13 42 false true false, 14 42 false true false",
+        ),
+        (ACCEPT, "14 42 false true false"),
+        (NO_COMMON, "no common [13, 14]"),
+        (b"\x82\x02\x83\x01\x0e\x62no", "not decoded 14 [110, 111]"),
+        (b"\x82\x02\x83\x02\x0d\x61\x78", "declined 13 [120]"),
+        (
+            QUERY_REPLY,
+            "query reply, 13 42 false true false, 14 42 false true false",
+        ),
+        // heads of every width
+        (
+            b"\x98\x02\x19\x00\x00\xba\x00\x00\x00\x01\x1b\x00\x00\x00\x00\x00\x00\x00\x0e\x98\x04\x1a\x00\x00\x00\x2a\xf5\x18\x01\xf5",
+            "propose, 14 42 true true true",
+        ),
+        (
+            b"\x9b\x00\x00\x00\x00\x00\x00\x00\x02\x18\x02\x99\x00\x03\x1a\x00\x00\x00\x01\x19\x00\x0e\x78\x01\x79",
+            "not decoded 14 [121]",
+        ),
+        // peer sharing as a flag, and the greatest magic
+        (
+            b"\x83\x01\x0d\x84\x1a\xff\xff\xff\xff\xf4\xf5\xf4",
+            "13 4294967295 false true false",
+        ),
+        (
+            b"\x83\x01\x0d\x84\x00\xf4\xf4\xf4",
+            "13 0 false false false",
+        ),
+        // an indefinite list of versions
+        (
+            b"\x82\x02\x82\x00\x9f\x0d\x18\x0e\xff",
+            "no common [13, 14]",
+        ),
+        (b"\x82\x02\x82\x00\x9f\xff", "no common []"),
+        // nothing in it
+        (b"\x82\x00\xa0", "propose"),
+        (b"\x82\x03\xa0", "query reply"),
+        (b"\x82\x02\x82\x00\x80", "no common []"),
+        (b"\x82\x02\x83\x01\x00\x60", "not decoded 0 []"),
+        // a text that is not UTF-8, and the greatest version
+        (
+            b"\x82\x02\x83\x02\x1b\xff\xff\xff\xff\xff\xff\xff\xff\x62\xff\xfe",
+            "declined 18446744073709551615 [255, 254]",
+        ),
+    ];
+    for (bytes, want) in cases {
+        let got = told(rt.alloc(), bytes)?;
+        assert_eq!(rt; got.as_str(), want, "at {bytes:?}");
+    }
+    Ok(())
+}
+
+// An accept of a version with these bytes for its info.
+fn accept(alloc: Global, version: u8, info: &[u8]) -> Result<Vec<u8>, AllocError> {
+    let mut bytes = Vec::new(alloc);
+    bytes.extend_from_slice(&[0x83, 0x01, version])?;
+    bytes.extend_from_slice(info)?;
+    Ok(bytes)
+}
+
+#[test]
+fn every_other_info_is_foreign(rt: HostRuntime) -> Result<(), Fail> {
+    let infos: [&[u8]; 19] = [
+        // too few, and too many
+        b"\x83\x18\x2a\xf4\x01",
+        b"\x85\x18\x2a\xf4\x01\xf4\x00",
+        // the magic: too large, negative, a text, a flag
+        b"\x84\x1b\x00\x00\x00\x01\x00\x00\x00\x00\xf4\x01\xf4",
+        b"\x84\x20\xf4\x01\xf4",
+        b"\x84\x61\x2a\xf4\x01\xf4",
+        b"\x84\xf4\xf4\x01\xf4",
+        // initiator only, peer sharing and query
+        b"\x84\x18\x2a\x00\x01\xf4",
+        b"\x84\x18\x2a\xf6\x01\xf4",
+        b"\x84\x18\x2a\xf4\x02\xf4",
+        b"\x84\x18\x2a\xf4\xf7\xf4",
+        b"\x84\x18\x2a\xf4\x01\x00",
+        // no definite array
+        b"\x9f\x18\x2a\xf4\x01\xf4\xff",
+        b"\x84\x18\x2a\xf4\x9f\xff\xf4",
+        b"\xc1\x84\x18\x2a\xf4\x01\xf4",
+        b"\xbf\xff",
+        b"\xa0",
+        b"\x80",
+        b"\x18\x2a",
+        b"\x60",
+    ];
+    for info in infos {
+        let got = told(rt.alloc(), &accept(rt.alloc(), 14, info)?)?;
+        assert_eq!(rt; got.as_str(), "14 foreign", "at {info:?}");
+    }
+    // other versions
+    for (version, want) in [(12, "12 foreign"), (15, "15 foreign"), (0, "0 foreign")] {
+        let got = told(
+            rt.alloc(),
+            &accept(rt.alloc(), version, b"\x84\x18\x2a\xf4\x01\xf4")?,
+        )?;
+        assert_eq!(rt; got.as_str(), want);
+    }
+    let got = told(
+        rt.alloc(),
+        b"\x82\x00\xa3\x0c\x00\x0d\x84\x18\x2a\xf4\x00\xf4\x0e\x9f\xff",
+    )?;
+    assert_eq!(rt;
+        got.as_str(),
+        "propose, 12 foreign, 13 42 false false false, 14 foreign"
+    );
+    Ok(())
+}
+
+#[test]
+fn what_breaks_a_rule_is_no_message(rt: HostRuntime) -> Result<(), Fail> {
+    let cases: [&[u8]; 31] = [
+        b"",
+        b"\x00",
+        b"\xff",
+        b"\x82\x00",
+        b"\x82\x00\xa0\x00",
+        b"\x80",
+        b"\x81\x00",
+        b"\x82\x04\xa0",
+        b"\x82\x20\xa0",
+        b"\x83\x00\xa0\x00",
+        b"\x82\x01\x0e",
+        b"\x84\x01\x0e\x00\x00",
+        // the message itself is definite
+        b"\x9f\x00\xa0\xff",
+        b"\x82\x00\xbf\xff",
+        b"\x82\x00\xbf\x0e\x00\xff",
+        b"\x82\x02\x9f\x00\x80\xff",
+        b"\x82\x02\x83\x01\x0e\x7f\xff",
+        // keys that do not rise, or are no numbers
+        b"\x82\x00\xa2\x0e\x00\x0e\x00",
+        b"\x82\x00\xa2\x0e\x00\x0d\x00",
+        b"\x82\x03\xa3\x0c\x00\x0e\x00\x0d\x00",
+        b"\x82\x00\xa1\x20\x00",
+        b"\x82\x00\xa1\x60\x00",
+        b"\x82\x00\x80",
+        // other reasons
+        b"\x82\x02\x82\x01\x80",
+        b"\x82\x02\x82\x00\xa0",
+        b"\x82\x02\x82\x00\x81\x20",
+        b"\x82\x02\x83\x03\x0e\x60",
+        b"\x82\x02\x83\x01\x0e\x40",
+        b"\x82\x02\x83\x01\x0e\x61",
+        // 2^63 entries and 2^64 - 1 versions are announced
+        b"\x82\x00\xbb\x80\x00\x00\x00\x00\x00\x00\x00\x0d\x00",
+        b"\x82\x02\x82\x00\x9b\xff\xff\xff\xff\xff\xff\xff\xff\x0d\x0e",
+    ];
+    for bytes in cases {
+        let got = told(rt.alloc(), bytes)?;
+        assert_eq!(rt; got.as_str(), "no message", "at {bytes:?}");
+    }
+    // every proper front of a message
+    for n in 0..PROPOSAL.len() {
+        let got = told(rt.alloc(), &PROPOSAL[..n])?;
+        assert_eq!(rt; got.as_str(), "no message", "at {n} bytes");
+    }
+    Ok(())
+}
+
+// So many arrays of one element around nothing, as an info.
+fn nested(alloc: Global, levels: usize) -> Result<Vec<u8>, AllocError> {
+    let mut bytes = accept(alloc, 14, b"")?;
+    for _ in 0..levels {
+        bytes.push(0x81)?;
+    }
+    bytes.push(0x00)?;
+    Ok(bytes)
+}
+
+#[test]
+fn a_message_has_sixty_four_levels_at_most(rt: HostRuntime) -> Result<(), Fail> {
+    let got = told(rt.alloc(), &nested(rt.alloc(), 63)?)?;
+    assert_eq!(rt; got.as_str(), "14 foreign");
+    let got = told(rt.alloc(), &nested(rt.alloc(), 64)?)?;
+    assert_eq!(rt; got.as_str(), "no message");
+    Ok(())
+}

@@ -1,0 +1,146 @@
+ghost use Rattle.std.specs.Prelude.{◌≡◌, ◌++◌, ◌<◌, ◌≤◌, IsTrue, IfOk, OnOk, length, if◌then◌else◌};
+ghost use Rattle.std.specs.List.{flat_map, AllByRecursion};
+ghost use Rattle.hs_message.specs.Canonical.{number_spelling, text_spelling, flag_spelling, array_spelling, map_spelling, info_spelling, offer_spelling, table_spelling, noted_spelling, reason_spelling, message_spelling, version_info_spelling, node_spelling, IsOwn, CanWrite};
+
+use crate::{Info, Message, Offer, Reason, VersionInfo};
+use cbor_items::write_head;
+use net_base::{Octets, OutOfMemory};
+use std::alloc::Global;
+
+const FALSE: u8 = 0xf4;
+
+const TRUE: u8 = 0xf5;
+
+// The major types of RFC 8949.
+const NUMBER: u8 = 0;
+
+const TEXT: u8 = 3;
+
+const ARRAY: u8 = 4;
+
+const MAP: u8 = 5;
+
+/// The one spelling of a message. Each info has to be known and to stand with version 13 or 14, and the versions of a
+/// table have to rise strictly.
+#[tactic(auto, unfolding(crate::specs::Canonical::node_spelling))]
+pub fn write_message(alloc: Global, message: &Message) -> Result<Octets, OutOfMemory>
+    requires { CanWrite message.now }
+    ensures { IfOk result (λ octets. octets ≡ node_spelling message.now) }
+{
+    let mut out = Octets::new(alloc);
+    put_message(&mut out, message)?;
+    Ok(out)
+}
+
+fn put_message(out: &mut Octets, message: &Message) -> Result<(), OutOfMemory>
+    ensures { OnOk result (out.new ≡ out.old ++ message_spelling version_info_spelling message.now) }
+{
+    match message {
+        Message::Propose(table) => {
+            put_tag(out, 2, 0)?;
+            put_table(out, table.as_slice())
+        }
+        Message::Accept(version, info) => {
+            put_tag(out, 3, 1)?;
+            put_number(out, *version)?;
+            put_info(out, info)
+        }
+        Message::Refuse(reason) => {
+            put_tag(out, 2, 2)?;
+            put_reason(out, reason)
+        }
+        Message::QueryReply(table) => {
+            put_tag(out, 2, 3)?;
+            put_table(out, table.as_slice())
+        }
+    }
+}
+
+fn put_table(out: &mut Octets, table: &[Offer]) -> Result<(), OutOfMemory>
+    ensures { OnOk result (out.new ≡ out.old ++ table_spelling version_info_spelling table.now) }
+{
+    write_head(out, MAP, table.len() as u64)?;
+    for offer in table {
+        put_number(out, offer.version)?;
+        put_info(out, &offer.info)?;
+    }
+    Ok(())
+}
+
+// A foreign info is never written: nothing tells which item it was.
+fn put_info(out: &mut Octets, info: &Info) -> Result<(), OutOfMemory>
+    ensures { OnOk result (out.new ≡ out.old ++ info_spelling version_info_spelling info.now) }
+{
+    match info {
+        Info::Known(known) => put_version_info(out, known),
+        Info::Foreign => Ok(()),
+    }
+}
+
+fn put_version_info(out: &mut Octets, info: &VersionInfo) -> Result<(), OutOfMemory>
+    ensures { OnOk result (out.new ≡ out.old ++ version_info_spelling info.now) }
+{
+    write_head(out, ARRAY, 4)?;
+    put_number(out, u64::from(info.magic))?;
+    put_flag(out, info.initiator_only)?;
+    put_number(out, u64::from(info.sharing))?;
+    put_flag(out, info.query)
+}
+
+fn put_reason(out: &mut Octets, reason: &Reason) -> Result<(), OutOfMemory>
+    ensures { OnOk result (out.new ≡ out.old ++ reason_spelling reason.now) }
+{
+    match reason {
+        Reason::NoCommon(versions) => {
+            put_tag(out, 2, 0)?;
+            put_numbers(out, versions.as_slice())
+        }
+        Reason::NotDecoded(version, text) => {
+            put_tag(out, 3, 1)?;
+            put_noted(out, *version, text.as_slice())
+        }
+        Reason::Declined(version, text) => {
+            put_tag(out, 3, 2)?;
+            put_noted(out, *version, text.as_slice())
+        }
+    }
+}
+
+// An array of so many elements, of which the number is the first.
+fn put_tag(out: &mut Octets, count: u64, tag: u64) -> Result<(), OutOfMemory>
+    ensures { OnOk result (out.new ≡ out.old ++ array_spelling count (number_spelling tag)) }
+{
+    write_head(out, ARRAY, count)?;
+    put_number(out, tag)
+}
+
+fn put_numbers(out: &mut Octets, numbers: &[u64]) -> Result<(), OutOfMemory>
+    ensures { OnOk result (out.new ≡ out.old
+        ++ array_spelling (length numbers.now) (flat_map number_spelling numbers.now)) }
+{
+    write_head(out, ARRAY, numbers.len() as u64)?;
+    for number in numbers {
+        put_number(out, *number)?;
+    }
+    Ok(())
+}
+
+fn put_noted(out: &mut Octets, version: u64, text: &[u8]) -> Result<(), OutOfMemory>
+    ensures { OnOk result (out.new ≡ out.old ++ noted_spelling version text.now) }
+{
+    put_number(out, version)?;
+    write_head(out, TEXT, text.len() as u64)?;
+    out.extend_from_slice(text)
+}
+
+fn put_number(out: &mut Octets, number: u64) -> Result<(), OutOfMemory>
+    ensures { OnOk result (out.new ≡ out.old ++ number_spelling number) }
+{
+    write_head(out, NUMBER, number)
+}
+
+fn put_flag(out: &mut Octets, flag: bool) -> Result<(), OutOfMemory>
+    ensures { OnOk result (out.new ≡ out.old ++ flag_spelling flag) }
+{
+    out.push(if flag { TRUE } else { FALSE })
+}

@@ -1,0 +1,10 @@
+pub mod Segment
+pub mod Protocols
+pub mod Items
+pub mod Parts
+pub mod Stream
+pub mod Frame
+pub mod Steps
+pub mod PartView
+pub mod Given
+pub mod Law

@@ -1,0 +1,9 @@
+use crate::{CutFault, ItemList};
+
+/// What new bytes gave.
+#[derive(Debug, Drop)]
+pub struct Fed {
+    /// The items that are whole now, up to the fault.
+    pub items: ItemList,
+    pub fault: Option<CutFault>,
+}

@@ -1,0 +1,14 @@
+use net_base::{Octets, Sequence};
+
+/// A whole item that came in.
+#[derive(Debug, Drop)]
+pub struct Item {
+    /// 0 from the initiator, 1 from the responder.
+    pub side: u8,
+    /// The number of the protocol.
+    pub id: u16,
+    pub body: Octets,
+}
+
+/// Items one after another.
+pub type ItemList = Sequence<Item>;

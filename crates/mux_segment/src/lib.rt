@@ -1,0 +1,26 @@
+//! Segments of the multiplexer: a stream cut into them, the items of each protocol, and payloads as segments.
+#![tactic(auto)]
+
+mod bodies;
+mod bytes;
+mod cutter;
+mod fault;
+mod fed;
+mod framing;
+mod header;
+mod item;
+pub mod law;
+mod part;
+mod parts;
+mod segments;
+mod stopped;
+
+pub use cutter::Cutter;
+pub use fault::CutFault;
+pub use fed::Fed;
+pub use framing::frame;
+pub use header::{Header, read_header, write_header};
+pub use item::{Item, ItemList};
+
+#[cfg(test)]
+mod tests;

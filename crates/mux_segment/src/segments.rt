@@ -1,0 +1,79 @@
+ghost use Rattle.std.specs.Prelude.{◌≡◌, ◌≤◌, length, drop, IfOk, OnOk, MatchOption, None, Some};
+ghost use Rattle.mux_segment.specs.Segment.{Segment, segment_at, cut_of};
+ghost use Rattle.mux_segment.specs.Protocols.{node_limits};
+ghost use Rattle.mux_segment.specs.Stream.{segment_decoded, decoded};
+ghost use Rattle.mux_segment.specs.Steps.{Adds, segment_with};
+
+use crate::bodies::take_items;
+use crate::bytes::behind;
+use crate::parts::Parts;
+use crate::stopped::Stopped;
+use crate::{CutFault, Header, ItemList, read_header};
+use std::alloc::Global;
+
+/// Takes the items of the whole segments at the front of a stream, and says how many bytes these are.
+pub(crate) fn take_segments(
+    alloc: Global,
+    stream: &[u8],
+    parts: &mut Parts,
+    items: &mut ItemList,
+) -> Result<usize, Stopped>
+    ensures items { let d = decoded node_limits parts.old (cut_of stream.now).segments in Adds result items.old items.new d.items d.fault }
+    ensures parts { OnOk result (parts.new ≡ (decoded node_limits parts.old (cut_of stream.now).segments).parts) }
+    ensures rest { IfOk result (λ count. (count ≤ length stream.now) × (drop count stream.now ≡ (cut_of stream.now).rest)) }
+{
+    let mut rest = stream;
+    while let Some((header, payload, after)) = split_segment(rest) {
+        take_segment(alloc, header, payload, parts, items)?;
+        rest = after;
+    }
+    Ok(stream.len() - rest.len())
+}
+
+// The header and the payload of the segment at the front, and the bytes behind it.
+fn split_segment(bytes: &[u8]) -> Option<(Header, &[u8], &[u8])>
+    ensures { MatchOption result (segment_at bytes.now ≡ None)
+        (λ read. segment_at bytes.now ≡ Some (segment_with read.0 read.1.now, read.2.now)) }
+{
+    let (front, rest) = bytes.split_first_chunk::<8>()?;
+    let header = read_header(*front);
+    let size = usize::from(header.size);
+    if rest.len() < size {
+        return None;
+    }
+    let (payload, rest) = rest.split_at(size);
+    Some((header, payload, rest))
+}
+
+// Takes the items that a segment makes whole.
+fn take_segment(
+    alloc: Global,
+    header: Header,
+    payload: &[u8],
+    parts: &mut Parts,
+    items: &mut ItemList,
+) -> Result<(), Stopped>
+    ensures items { let d = segment_decoded node_limits parts.old (segment_with header payload.now) in Adds result items.old items.new d.items d.fault }
+    ensures parts { OnOk result (parts.new ≡ (segment_decoded node_limits parts.old (segment_with header payload.now)).parts) }
+{
+    let Some(limit) = limit_of(header.id) else {
+        return Err(Stopped::Fault(CutFault::UnknownId));
+    };
+    let mut part = parts.take(alloc, header.side, header.id);
+    part.extend_from_slice(payload)?;
+    let count = take_items(alloc, header.side, header.id, limit, part.as_slice(), items)?;
+    let left = behind(alloc, part, count)?;
+    parts.put(header.side, header.id, left)?;
+    Ok(())
+}
+
+// How many bytes an item of a protocol may have. None where the protocol is not known.
+fn limit_of(id: u16) -> Option<usize>
+    ensures { result ≡ node_limits id }
+{
+    match id {
+        0 => Some(5760),
+        2 | 3 | 4 | 8 | 10 => Some(65_535),
+        _ => None,
+    }
+}

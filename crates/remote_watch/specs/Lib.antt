@@ -1,0 +1,5 @@
+pub mod Replies
+pub mod Temperature
+pub mod Watch
+pub mod Refusal
+pub mod Law

@@ -1,0 +1,45 @@
+ghost use Rattle.std.specs.Prelude.{◌≡◌};
+ghost use Rattle.conn_state.specs.Use.{some_runs};
+ghost use Rattle.remote_watch.specs.Temperature.{remote_temp_of, some_hot_runs};
+
+use net_base::{Facts, Phase, Responders};
+
+/// How far the other side uses a connection: this project's own rule.
+#[derive(Clone, Copy, Debug, PartialEq, Eq)]
+pub enum RemoteTemp {
+    /// The handshake is not done, or the connection is closed.
+    Cold,
+    /// Nothing runs.
+    Idle,
+    /// Keep-alive or peer sharing runs, and nothing else.
+    Warm,
+    /// Chain-sync, block-fetch or tx-submission runs.
+    Hot,
+}
+
+/// By the responders that run, and else by whether the handshake is done.
+pub fn remote_temp(facts: &Facts) -> RemoteTemp
+    ensures { result ≡ remote_temp_of facts.now }
+{
+    if some_hot_runs(facts.running) {
+        RemoteTemp::Hot
+    } else if some_runs(facts.running) {
+        RemoteTemp::Warm
+    } else if matches!(facts.phase, Phase::Negotiated) {
+        RemoteTemp::Idle
+    } else {
+        RemoteTemp::Cold
+    }
+}
+
+fn some_hot_runs(running: Responders) -> bool
+    ensures { result ≡ some_hot_runs running }
+{
+    running.chain_sync || running.block_fetch || running.tx_submission
+}
+
+fn some_runs(running: Responders) -> bool
+    ensures { result ≡ some_runs running }
+{
+    some_hot_runs(running) || running.keep_alive || running.peer_sharing
+}

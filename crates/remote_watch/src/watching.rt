@@ -1,0 +1,87 @@
+ghost use Rattle.std.specs.Prelude.{◌≡◌, Some, None, IfErr, MatchResult};
+ghost use Rattle.net_base.specs.declared.action.FaultKind.{FaultKind};
+ghost use Rattle.remote_watch.specs.Refusal.{Answers};
+ghost use Rattle.remote_watch.specs.Watch.{watched, chain_sync_seen, block_fetch_seen, tx_submission_seen, keep_alive_seen, peer_sharing_seen};
+ghost use Rattle.warm_messages.specs.First.{first_number_of};
+ghost use Rattle.warm_messages.specs.Reading.{alive_of, share_of};
+ghost use Rattle.remote_watch.specs.declared.refusal.WatchRefusal.{WatchRefusal};
+
+use crate::{Reply, Seen, WatchRefusal};
+use net_base::FaultKind;
+use std::alloc::Global;
+use warm_messages::{Alive, Share, first_number, read_alive, read_share};
+
+/// What an item of the initiator's side is, by the number of its mini-protocol, where the handshake is over. Peer sharing has
+/// its number only where both ends agreed on it. Memory is taken for peer sharing alone.
+pub fn watch(alloc: Global, id: u16, sharing: bool, item: &[u8]) -> Result<Seen, WatchRefusal>
+    ensures answer { Answers result (watched id sharing item.now) }
+    ensures memory { IfErr result (λ refusal. refusal ≡ WatchRefusal.OutOfMemory → id ≡ 10) }
+{
+    match id {
+        0 => Err(WatchRefusal::Fault(FaultKind::Protocol)),
+        2 => Ok(chain_sync(numbered(item)?)),
+        3 => Ok(block_fetch(numbered(item)?)),
+        4 => Ok(tx_submission(numbered(item)?)),
+        8 => keep_alive(item),
+        10 if sharing => peer_sharing(alloc, item),
+        _ => Err(WatchRefusal::Fault(FaultKind::UnknownId)),
+    }
+}
+
+// The first number of an item, which each one of chain-sync, block-fetch and tx-submission has.
+fn numbered(item: &[u8]) -> Result<u64, WatchRefusal>
+    ensures { MatchResult result (λ n. first_number_of item.now ≡ Some n) (λ refusal. (refusal ≡ WatchRefusal.Fault FaultKind.Protocol) × (first_number_of item.now ≡ None)) }
+{
+    first_number(item).ok_or(WatchRefusal::Fault(FaultKind::Protocol))
+}
+
+fn chain_sync(number: u64) -> Seen
+    ensures { result ≡ chain_sync_seen number }
+{
+    match number {
+        4 => Seen::goes_on(Reply::NoIntersect),
+        0 => Seen::goes_on(Reply::Await),
+        7 => Seen::done(),
+        _ => Seen::goes_on(Reply::Nothing),
+    }
+}
+
+fn block_fetch(number: u64) -> Seen
+    ensures { result ≡ block_fetch_seen number }
+{
+    match number {
+        0 => Seen::goes_on(Reply::NoBlocks),
+        1 => Seen::done(),
+        _ => Seen::goes_on(Reply::Nothing),
+    }
+}
+
+fn tx_submission(number: u64) -> Seen
+    ensures { result ≡ tx_submission_seen number }
+{
+    match number {
+        4 => Seen::done(),
+        _ => Seen::goes_on(Reply::Nothing),
+    }
+}
+
+fn keep_alive(item: &[u8]) -> Result<Seen, WatchRefusal>
+    ensures answer { Answers result (keep_alive_seen (alive_of item.now)) }
+    ensures fault { IfErr result (λ refusal. refusal ≡ WatchRefusal.Fault FaultKind.Protocol) }
+{
+    match read_alive(item) {
+        Some(Alive::Ask(cookie)) => Ok(Seen::goes_on(Reply::Alive(cookie))),
+        Some(Alive::Done) => Ok(Seen::done()),
+        Some(Alive::Reply(_)) | None => Err(WatchRefusal::Fault(FaultKind::Protocol)),
+    }
+}
+
+fn peer_sharing(alloc: Global, item: &[u8]) -> Result<Seen, WatchRefusal>
+    ensures { Answers result (peer_sharing_seen (share_of item.now)) }
+{
+    match read_share(alloc, item)? {
+        Some(Share::Request(number)) => Ok(Seen::goes_on(Reply::Share(number))),
+        Some(Share::Done) => Ok(Seen::done()),
+        Some(Share::Peers(_)) | None => Err(WatchRefusal::Fault(FaultKind::Protocol)),
+    }
+}

@@ -1,0 +1,6 @@
+pub mod Cleaned
+pub mod Hashing
+pub mod Placed
+pub mod Places
+pub mod RootAsk
+pub mod Sorted

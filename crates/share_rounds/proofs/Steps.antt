@@ -1,0 +1,92 @@
+-- The turns of loops that keep some addresses of a list, at most so many.
+use Rattle.std.proofs.Common.{◌≡◌, ℕ, suc, ◌+◌, ◌-◌, ◌<◌, ◌≤◌, Bool, cond, ◌&&◌, not, List, [], ◌∷◌, ◌++◌, length, get_or, take, drop, sym, ap, ◌∙◌, append_assoc, add-one, drop-cons, arith, inl, inr}
+use Rattle.std.specs.List.{filter}
+use Rattle.std.proofs.lemmas.Bool.{cases_Bool}
+use Rattle.std.proofs.lemmas.List.{length_push, append-nil}
+use Rattle.std.proofs.Math.ListN.{drop_of_length-le}
+use Rattle.std.proofs.Math.Seq.{take-nil}
+use Rattle.net_base.specs.declared.address.Addr.{Addr}
+use Rattle.net_base.specs.declared.peer.Peer.{Peer}
+use Rattle.peer_book.specs.Book.{addresses_of}
+use Rattle.root_groups.specs.Cleaned.{is_listed}
+use Rattle.share_rounds.specs.Rounds.{taken_after}
+
+-- what there is so far, and what is still to come
+pub record IsKept (most : ℕ) (kept later all : List Addr) : Type 0 where
+  pub fits : length kept ≤ most
+  pub whole : all ≡ kept ++ take (most - length kept) later
+
+-- the next one stays
+stays : (most : ℕ) (kept later all : List Addr) (addr : Addr) → length kept < most → all ≡ kept ++ take (most - length kept) (addr ∷ later)
+    → IsKept most (kept ++ addr ∷ []) later all
+stays most kept later all addr room whole =
+    let longer : length (kept ++ addr ∷ []) ≡ length kept + 1 = length_push kept addr in
+    let left : most - length kept ≡ suc (most - length (kept ++ addr ∷ [])) = omega arith in
+    record {
+      fits = omega arith;
+      whole = whole ∙ rw left (sym (append_assoc kept (addr ∷ []) (take (most - length (kept ++ addr ∷ [])) later)));
+    }
+
+kept_of_filter : (test : Addr → Bool) (most : ℕ) (addr : Addr) (rest kept new all : List Addr) → length kept < most → new ≡ cond (test addr) (kept ++ addr ∷ []) kept
+    → all ≡ kept ++ take (most - length kept) (filter test (addr ∷ rest)) → IsKept most new (filter test rest) all
+kept_of_filter test most addr rest kept new all room is whole =
+    elim (cases_Bool (test addr)) [
+      | inl passes ↦
+          let same : new ≡ kept ++ addr ∷ [] = rw passes at is in
+          let before : all ≡ kept ++ take (most - length kept) (addr ∷ filter test rest) = rw passes at whole in
+          rw same (stays most kept (filter test rest) all addr room before)
+      | inr fails ↦
+          let same : new ≡ kept = rw fails at is in
+          let before : all ≡ kept ++ take (most - length kept) (filter test rest) = rw fails at whole in
+          rw same (record { fits = omega arith; whole = before })
+    ]
+
+-- one more peer is looked at
+pub peer_looked_at : (test : Addr → Bool) (most : ℕ) (book : List Peer) (i : ℕ) (d : Peer) (kept new all : List Addr) → i < length book → length kept < most
+    → new ≡ cond (test (get_or book i d).addr) (kept ++ (get_or book i d).addr ∷ []) kept
+    → all ≡ kept ++ take (most - length kept) (filter test (addresses_of (drop i book))) → IsKept most new (filter test (addresses_of (drop (i + 1) book))) all
+peer_looked_at test most book i d kept new all within room is whole =
+    let next : drop i book ≡ get_or book i d ∷ drop (suc i) book = drop-cons book i d within in
+    let before : all ≡ kept ++ take (most - length kept) (filter test ((get_or book i d).addr ∷ addresses_of (drop (suc i) book))) =
+    whole ∙ ap (λ (peers : List Peer). kept ++ take (most - length kept) (filter test (addresses_of peers))) next in
+    rw add-one (kept_of_filter test most (get_or book i d).addr (addresses_of (drop (suc i) book)) kept new all room is before)
+
+-- one more told address is looked at
+pub told_looked_at : (may : Addr → Bool) (most : ℕ) (told : List Addr) (i : ℕ) (d : Addr) (kept new all : List Addr) → i < length told → length kept < most
+    → new ≡ cond (may (get_or told i d) && not (is_listed (get_or told i d) kept)) (kept ++ get_or told i d ∷ []) kept
+    → all ≡ kept ++ take (most - length kept) (taken_after kept may (drop i told)) → IsKept most new (taken_after new may (drop (i + 1) told)) all
+unfolding taken_after
+told_looked_at may most told i d kept new all within room is whole =
+    let addr = get_or told i d in
+    let rest = drop (suc i) told in
+    let next : drop i told ≡ addr ∷ rest = drop-cons told i d within in
+    let before : all ≡ kept ++ take (most - length kept) (taken_after kept may (addr ∷ rest)) =
+    whole ∙ ap (λ (addrs : List Addr). kept ++ take (most - length kept) (taken_after kept may addrs)) next in
+    elim (cases_Bool (may addr && not (is_listed addr kept))) [
+      | inl passes ↦
+          let same : new ≡ kept ++ addr ∷ [] = rw passes at is in
+          let on : all ≡ kept ++ take (most - length kept) (addr ∷ taken_after (kept ++ addr ∷ []) may rest) = rw passes at before in
+          rw (same, add-one) (stays most kept (taken_after (kept ++ addr ∷ []) may rest) all addr room on)
+      | inr fails ↦
+          let same : new ≡ kept = rw fails at is in
+          let on : all ≡ kept ++ take (most - length kept) (taken_after kept may rest) = rw fails at before in
+          rw (same, add-one) (record { fits = omega arith; whole = on })
+    ]
+
+-- nothing is kept yet
+pub none_kept : (most : ℕ) (later : List Addr) → IsKept most [] later (take most later)
+none_kept most later =
+    let same : most ≡ most - 0 = omega arith in
+    record { fits = omega arith; whole = ap (λ (n : ℕ). take n later) same }
+
+-- as many are kept as there may be
+pub most_kept : (most : ℕ) (kept later all : List Addr) → most ≤ length kept → all ≡ kept ++ take (most - length kept) later → kept ≡ all
+most_kept most kept later all full whole =
+    let none : most - length kept ≡ 0 = omega arith in
+    sym (whole ∙ rw none (append-nil kept))
+
+-- all were looked at
+pub all_kept : (may : Addr → Bool) (most : ℕ) (told : List Addr) (i : ℕ) (kept all : List Addr) → length told ≤ i
+    → all ≡ kept ++ take (most - length kept) (taken_after kept may (drop i told)) → kept ≡ all
+unfolding taken_after
+all_kept may most told i kept all past whole = sym (whole ∙ rw (drop_of_length-le told past) (ap (λ (l : List Addr). kept ++ l) (take-nil (most - length kept)) ∙ append-nil kept))

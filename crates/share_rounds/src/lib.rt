@@ -1,0 +1,13 @@
+//! Peer sharing: which peers are told to one that asks, and which of those that one tells are taken.
+#![tactic(auto)]
+
+mod keep;
+pub mod law;
+mod serving;
+mod taking;
+
+pub use serving::served;
+pub use taking::fresh;
+
+#[cfg(test)]
+mod tests;

@@ -1,0 +1,9 @@
+pub mod Agreement
+pub mod Firsts
+pub mod Leaving
+pub mod Lines
+pub mod Orderly
+pub mod Orders
+pub mod Outcomes
+pub mod Rising
+pub mod RowEdits

@@ -1,0 +1,47 @@
+-- The line of timers, after an edit at a place.
+use Rattle.std.proofs.Common.{◌≡◌, ℕ, ◌<◌, ◌+◌, Bool, true, false, not, List, length, ap, sym, subst, ◌∙◌, arith}
+use Rattle.std.specs.List.{filter, prefix_len, insert, remove}
+use Rattle.net_base.specs.Timer.{deadline_before}
+use Rattle.net_base.specs.declared.timer.Deadline.{Deadline}
+use Rattle.timer_queue.specs.Timers.{IsInOrder, has_timer, same_timer, put_in}
+use Rattle.timer_queue.proofs.Orders.{timer_order}
+use Rattle.timer_queue.proofs.Rising.{insert-place, put_in-between, remove-place, place-inside, IsRising-put_in, IsRising-filter, length-put_in as more, length-taken_out as fewer}
+
+-- how many of a line fire before a timer
+abbrev pub place_in : Deadline → List Deadline → ℕ
+place_in new line = prefix_len (λ d. deadline_before d new) line
+
+pub insert-place_in : (new : Deadline) (line : List Deadline) (n : ℕ) → IsInOrder line → has_timer new line ≡ false →
+    n ≡ place_in new line → insert line n new ≡ put_in new line
+insert-place_in new line n rises absent e =
+    ap (λ m. insert line m new) e
+    ∙ (insert-place deadline_before same_timer timer_order (λ d. d) new line
+    ∙ put_in-between deadline_before same_timer timer_order (λ d. d) new line rises absent)
+
+pub remove-place_in : (old : Deadline) (line : List Deadline) (n : ℕ) → IsInOrder line → has_timer old line ≡ true →
+    n ≡ place_in old line → remove line n ≡ filter (λ d. not (same_timer d old)) line
+remove-place_in old line n rises there e =
+    ap (remove line) e ∙ remove-place deadline_before same_timer timer_order (λ d. d) old line rises there
+
+pub place_in-inside : (old : Deadline) (line : List Deadline) → IsInOrder line → has_timer old line ≡ true → place_in old line < length line
+place_in-inside old line rises there = place-inside deadline_before same_timer timer_order (λ d. d) old line rises there
+
+-- ---- what is left
+
+pub IsInOrder-put_in : (new : Deadline) (line : List Deadline) → IsInOrder line → has_timer new line ≡ false → IsInOrder (put_in new line)
+IsInOrder-put_in new line rises absent =
+    subst IsInOrder (put_in-between deadline_before same_timer timer_order (λ d. d) new line rises absent)
+    (IsRising-put_in deadline_before same_timer timer_order (λ d. d) new line rises absent)
+
+pub length-put_in : (new : Deadline) (line : List Deadline) → IsInOrder line → has_timer new line ≡ false → length (put_in new line) ≡ length line + 1
+length-put_in new line rises absent =
+    ap length (sym (put_in-between deadline_before same_timer timer_order (λ d. d) new line rises absent))
+    ∙ (more deadline_before same_timer timer_order (λ d. d) new line ∙ omega arith)
+
+pub IsInOrder-filter : (p : Deadline → Bool) (line : List Deadline) → IsInOrder line → IsInOrder (filter p line)
+IsInOrder-filter p line rises = IsRising-filter deadline_before same_timer timer_order (λ d. d) p line rises
+
+pub length-taken_out : (old : Deadline) (line : List Deadline) → IsInOrder line → has_timer old line ≡ true →
+    length (filter (λ d. not (same_timer d old)) line) + 1 ≡ length line
+length-taken_out old line rises there =
+    omega (arith, fewer deadline_before same_timer timer_order (λ d. d) old line rises there)

@@ -1,0 +1,11 @@
+use Rattle.std.proofs.Common.{sym, ◌∙◌, arith}
+use Rattle.timer_queue.proofs.Firsts.{least-first, front_is}
+use Rattle.timer_queue.proofs.kept.Kept.first.Goals as goal
+
+pub returns : goal.returns
+returns c =
+    let line = c.args.self.now.line.items in
+    let front = c.front.ensures in
+    c.copied.ensures
+    ∙ (front_is line c.front.result (λ inside. front.variant.1 (omega arith)) (λ some. let h = front.variant.0 some in omega arith) front.lookup
+    ∙ sym (least-first line c.requires.in_order))

@@ -1,0 +1,5 @@
+pub mod Kept
+pub mod Order
+pub mod Queue
+pub mod Rows
+pub mod Timers

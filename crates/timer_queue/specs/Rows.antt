@@ -1,0 +1,79 @@
+-- The moments of one connection's timers, and the rows of them, one for each connection.
+use Rattle.std.specs.Prelude.{ℕ, ◌+◌, Bool, false, ◌==◌, List, [], ◌∷◌, find, map, filter, not, Option, Some, None, if◌then◌else◌}
+use Rattle.net_base.specs.declared.connection.Cid.{Cid}
+use Rattle.net_base.specs.declared.timer.Kind.{Kind}
+use Rattle.net_base.specs.declared.timer.Kind.TheVariants.{Handshake, Grace, TimeWait, Reply2, Reply8, Reply10}
+use Rattle.timer_queue.specs.Timers.{same_cid, cid_below}
+use Rattle.timer_queue.specs.declared.moments.Moments.{Moments}
+use Rattle.timer_queue.specs.declared.rows.Row.{Row}
+
+abbrev pub moment : Kind → Moments → Option ℕ
+moment Handshake m = m.handshake
+moment Grace m = m.grace
+moment TimeWait m = m.time_wait
+moment Reply2 m = m.reply2
+moment Reply8 m = m.reply8
+moment Reply10 m = m.reply10
+
+abbrev pub with_moment : Kind → Option ℕ → Moments → Moments
+with_moment Handshake at m = record m { handshake = at }
+with_moment Grace at m = record m { grace = at }
+with_moment TimeWait at m = record m { time_wait = at }
+with_moment Reply2 at m = record m { reply2 = at }
+with_moment Reply8 at m = record m { reply8 = at }
+with_moment Reply10 at m = record m { reply10 = at }
+
+abbrev pub no_moments : Moments
+no_moments = record { handshake = None; grace = None; time_wait = None; reply2 = None; reply8 = None; reply10 = None }
+
+abbrev pub one_if_set : Option ℕ → ℕ
+one_if_set None = 0
+one_if_set (Some at) = 1
+
+-- how many timers a row has
+abbrev pub timers_in : Row → ℕ
+timers_in row =
+    one_if_set row.moments.handshake + one_if_set row.moments.grace + one_if_set row.moments.time_wait
+    + one_if_set row.moments.reply2 + one_if_set row.moments.reply8 + one_if_set row.moments.reply10
+
+abbrev pub empty_row : Cid → Row
+empty_row cid = record { cid = cid; moments = no_moments }
+
+abbrev pub with_at : Kind → Option ℕ → Row → Row
+with_at kind at row = record row { moments = with_moment kind at row.moments }
+
+-- ---- rows
+
+abbrev pub row_at : Cid → List Row → Option Row
+row_at cid rows = find (λ r. same_cid r.cid cid) rows
+
+-- the moment of the timer of an id and a kind
+abbrev pub moment_of : Kind → Option Row → Option ℕ
+moment_of kind None = None
+moment_of kind (Some row) = moment kind row.moments
+
+abbrev pub moment_at : Cid → Kind → List Row → Option ℕ
+moment_at cid kind rows = moment_of kind (row_at cid rows)
+
+-- whether a moment is the one that is set
+abbrev pub is_set_at : ℕ → Option ℕ → Bool
+is_set_at at None = false
+is_set_at at (Some other) = other == at
+
+-- a row that was found, where it is that of an id
+abbrev pub found_at : Cid → Option Row → Option Row
+found_at cid None = None
+found_at cid (Some row) = if same_cid row.cid cid then Some row else None
+
+-- ---- rows after a change
+
+abbrev pub with_new_row : Row → List Row → List Row
+with_new_row new [] = new ∷ []
+with_new_row new (row ∷ rows) = if cid_below row.cid new.cid then row ∷ with_new_row new rows else new ∷ row ∷ rows
+
+-- a row in place of the one of its id
+abbrev pub with_row : Row → List Row → List Row
+with_row new rows = map (λ r. if same_cid r.cid new.cid then new else r) rows
+
+abbrev pub without_row : Cid → List Row → List Row
+without_row cid rows = filter (λ r. not (same_cid r.cid cid)) rows

@@ -1,0 +1,215 @@
+ghost use Rattle.std.specs.Prelude.{◌≡◌, ◌+◌, ◌*◌, ◌≤◌, true, false, None, Some, OnOk, OnErr, length};
+ghost use Rattle.std.specs.VecDeque.{deque_capacity};
+ghost use Rattle.net_base.specs.declared.timer.Deadline.{Deadline};
+ghost use Rattle.timer_queue.specs.Rows.{row_at, moment, moment_at, is_set_at};
+ghost use Rattle.timer_queue.specs.Timers.{timer, has_timer, is_of, least};
+ghost use Rattle.timer_queue.specs.Queue.{is_enrolled, empty_queue, with_enrolled, with_new_timer, with_timer, without_timer, without_id, without_connection, least_due, without_fired};
+
+use crate::line::{put_in, take_out};
+use crate::rows::{Row, insert_row, remove_row, replace_row, row_in};
+use net_base::{Cid, Deadline, Kind, OutOfMemory};
+use std::alloc::{AllocError, Global};
+use std::collections::VecDeque;
+
+// How many timers a connection may have, one of each kind.
+const KINDS: usize = 6;
+
+// The moments of each connection, in order of id, and all timers in the order in which they fire.
+#[derive(Drop)]
+pub struct Kept {
+    pub rows: Vec<Row>,
+    pub line: VecDeque<Deadline>,
+}
+
+impl Kept {
+    ghost use Rattle.timer_queue.specs.Kept.{IsKept, queue_of};
+
+    pub fn new(alloc: Global) -> Kept
+        ensures kept { IsKept result }
+        ensures queue { queue_of result ≡ empty_queue }
+    {
+        Kept {
+            rows: Vec::new(alloc),
+            line: VecDeque::new(alloc),
+        }
+    }
+
+    // The timer that fires first.
+    pub fn first(&self) -> Option<Deadline>
+        requires { IsKept self.now }
+        ensures { result ≡ least self.now.line.items }
+    {
+        self.line.front().copied()
+    }
+
+    pub fn has(&self, cid: Cid) -> bool
+        requires { IsKept self.now }
+        ensures { result ≡ is_enrolled cid (queue_of self.now) }
+    {
+        row_in(&self.rows, cid).is_some()
+    }
+
+    pub fn enroll(&mut self, cid: Cid) -> Result<(), OutOfMemory>
+        requires { IsKept self.old }
+        ensures kept { IsKept self.new }
+        ensures ok { OnOk result (queue_of self.new ≡ with_enrolled cid (queue_of self.old)) }
+        ensures err { OnErr result (queue_of self.new ≡ queue_of self.old) }
+        ensures only_new { OnErr result (is_enrolled cid (queue_of self.old) ≡ false) }
+    {
+        if self.has(cid) {
+            return Ok(());
+        }
+        self.reserve()?;
+        self.admit(cid)
+    }
+
+    // Makes room for the timers of one more connection.
+    fn reserve(&mut self) -> Result<(), AllocError>
+        requires { IsKept self.old }
+        ensures kept { IsKept self.new }
+        ensures rows { self.new.rows.items ≡ self.old.rows.items }
+        ensures line { self.new.line.items ≡ self.old.line.items }
+        ensures room { OnOk result (6 * (length self.new.rows.items + 1) ≤ deque_capacity self.new.line) }
+    {
+        let unset = KINDS * self.rows.len() - self.line.len();
+        self.line.try_reserve(unset + KINDS)
+    }
+
+    // A connection with no timers. There has to be room for them.
+    fn admit(&mut self, cid: Cid) -> Result<(), OutOfMemory>
+        requires kept { IsKept self.old }
+        requires absent { row_at cid self.old.rows.items ≡ None }
+        requires room { 6 * (length self.old.rows.items + 1) ≤ deque_capacity self.old.line }
+        ensures kept { IsKept self.new }
+        ensures ok { OnOk result (queue_of self.new ≡ with_enrolled cid (queue_of self.old)) }
+        ensures err { OnErr result (queue_of self.new ≡ queue_of self.old) }
+    {
+        insert_row(&mut self.rows, Row::empty(cid))?;
+        Ok(())
+    }
+
+    pub fn set(&mut self, cid: Cid, kind: Kind, at: u64)
+        requires kept { IsKept self.old }
+        requires enrolled { is_enrolled cid (queue_of self.old) ≡ true }
+        ensures kept { IsKept self.new }
+        ensures queue { queue_of self.new ≡ with_timer (timer cid kind at) (queue_of self.old) }
+    {
+        if self.is_set(cid, kind, at) {
+            return;
+        }
+        self.clear(cid, kind);
+        let row = row_in(&self.rows, cid).unwrap();
+        self.arm(row, kind, at);
+    }
+
+    // Whether a timer is set to a moment.
+    fn is_set(&self, cid: Cid, kind: Kind, at: u64) -> bool
+        requires { IsKept self.now }
+        ensures { result ≡ is_set_at at (moment_at cid kind self.now.rows.items) }
+    {
+        match row_in(&self.rows, cid) {
+            Some(row) => row.moments.of(kind) == Some(at),
+            None => false,
+        }
+    }
+
+    pub fn clear(&mut self, cid: Cid, kind: Kind)
+        requires { IsKept self.old }
+        ensures kept { IsKept self.new }
+        ensures queue { queue_of self.new ≡ without_timer cid kind (queue_of self.old) }
+        ensures gone { moment_at cid kind self.new.rows.items ≡ None }
+    {
+        let Some(row) = row_in(&self.rows, cid) else {
+            return;
+        };
+        let Some(at) = row.moments.of(kind) else {
+            return;
+        };
+        self.disarm(row, kind, at);
+    }
+
+    // Sets a timer that isn't set.
+    fn arm(&mut self, row: Row, kind: Kind, at: u64)
+        requires kept { IsKept self.old }
+        requires there { row_at row.cid self.old.rows.items ≡ Some row }
+        requires unset { moment kind row.moments ≡ None }
+        ensures kept { IsKept self.new }
+        ensures queue { queue_of self.new ≡ with_new_timer (timer row.cid kind at) (queue_of self.old) }
+    {
+        put_in(
+            &mut self.line,
+            Deadline {
+                at,
+                cid: row.cid,
+                kind,
+            },
+        );
+        replace_row(&mut self.rows, row.with(kind, Some(at)));
+    }
+
+    // Clears a timer that is set.
+    fn disarm(&mut self, row: Row, kind: Kind, at: u64)
+        requires kept { IsKept self.old }
+        requires there { row_at row.cid self.old.rows.items ≡ Some row }
+        requires set { moment kind row.moments ≡ Some at }
+        ensures kept { IsKept self.new }
+        ensures queue { queue_of self.new ≡ without_timer row.cid kind (queue_of self.old) }
+        ensures gone { moment_at row.cid kind self.new.rows.items ≡ None }
+    {
+        take_out(
+            &mut self.line,
+            Deadline {
+                at,
+                cid: row.cid,
+                kind,
+            },
+        );
+        replace_row(&mut self.rows, row.with(kind, None));
+    }
+
+    pub fn leave(&mut self, cid: Cid)
+        requires { IsKept self.old }
+        ensures kept { IsKept self.new }
+        ensures queue { queue_of self.new ≡ without_connection cid (queue_of self.old) }
+    {
+        self.clear(cid, Kind::Handshake);
+        self.clear(cid, Kind::Grace);
+        self.clear(cid, Kind::TimeWait);
+        self.clear(cid, Kind::Reply2);
+        self.clear(cid, Kind::Reply8);
+        self.clear(cid, Kind::Reply10);
+        self.dismiss(cid);
+    }
+
+    // A connection with no timers goes.
+    fn dismiss(&mut self, cid: Cid)
+        requires kept { IsKept self.old }
+        requires idle { (d : Deadline) → has_timer d self.old.line.items ≡ true → is_of cid d ≡ false }
+        ensures kept { IsKept self.new }
+        ensures queue { queue_of self.new ≡ without_id cid (queue_of self.old) }
+    {
+        if row_in(&self.rows, cid).is_none() {
+            return;
+        }
+        remove_row(&mut self.rows, cid);
+    }
+
+    pub fn pop_due(&mut self, now: u64) -> Option<Deadline>
+        requires { IsKept self.old }
+        ensures kept { IsKept self.new }
+        ensures answer { result ≡ least_due now (queue_of self.old) }
+        ensures queue { queue_of self.new ≡ without_fired result (queue_of self.old) }
+    {
+        let fired = self.due(now)?;
+        self.clear(fired.cid, fired.kind);
+        Some(fired)
+    }
+
+    fn due(&self, now: u64) -> Option<Deadline>
+        requires { IsKept self.now }
+        ensures { result ≡ least_due now (queue_of self.now) }
+    {
+        let first = self.first()?;
+        (first.at <= now).then_some(first)
+    }
+}

@@ -1,0 +1,8 @@
+pub mod Elements
+pub mod Gives
+pub mod Arrays
+pub mod Spelling
+pub mod Messages
+pub mod Items
+pub mod Written
+pub mod Answered

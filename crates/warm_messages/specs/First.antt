@@ -1,0 +1,26 @@
+-- The first number of an item.
+use Rattle.std.specs.Prelude.{ℕ, suc, ◌-◌, ◌==◌, Bool, false, List, length, option_map, Option, None, if◌then◌else◌}
+use Rattle.cbor_items.specs.declared.scan.Scan.{Scan}
+use Rattle.cbor_items.specs.declared.scan.Scan.TheVariants.{Whole, More, Bad, Deep}
+use Rattle.cbor_items.specs.Item.{IsPair, IsRow, IsItem, level_limit}
+use Rattle.cbor_items.specs.Scan.{scan_of}
+use Rattle.warm_messages.specs.Array.{IsNumber, IsArray}
+use Rattle.warm_messages.specs.Reading.{◌>>=◌, opening_at, number_at}
+
+-- an array whose first element is the unsigned number, and whose others are items
+pub record HasFirstNumber (n : ℕ) (bytes : List ℕ) : Type 0 where
+  pub others : ℕ
+  pub is : IsArray (suc others) (IsPair (IsNumber n) (IsRow (IsItem (level_limit - 1)) others)) bytes
+
+abbrev pub is_whole : Scan → ℕ → Bool
+is_whole (Whole n) count = n == count
+is_whole More count = false
+is_whole Bad count = false
+is_whole Deep count = false
+
+-- the first element of the item that the bytes are, where it is an array and that element an unsigned number
+unfoldable pub first_number_of : List ℕ → Option ℕ
+first_number_of bytes =
+    if is_whole (scan_of bytes) (length bytes)
+    then (opening_at bytes >>= λ opened. option_map (λ read. read.0) (number_at opened.1))
+    else None

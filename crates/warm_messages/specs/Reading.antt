@@ -1,0 +1,135 @@
+-- Reading messages from left to right. That this reads what is spelled is a law.
+use Rattle.std.specs.Prelude.{◌≡◌, ℕ, zero, suc, ◌+◌, ◌==◌, nat_lt, List, [], ◌∷◌, length, drop, Option, Some, None, option_map, Result, Ok, Err, if◌then◌else◌}
+use Rattle.cbor_items.specs.declared.head.Head.{Head}
+use Rattle.cbor_items.specs.Head.{head_at}
+use Rattle.net_base.specs.declared.address.Addr.{Addr}
+use Rattle.warm_messages.specs.declared.unread.Unread.{Unread}
+use Rattle.warm_messages.specs.declared.unread.Unread.TheVariants.{NoMessage, OutOfMemory}
+use Rattle.warm_messages.specs.declared.array.Length.{Length}
+use Rattle.warm_messages.specs.declared.array.Length.TheVariants.{Of, ToBreak}
+use Rattle.warm_messages.specs.declared.alive.Alive.{Alive}
+use Rattle.warm_messages.specs.declared.alive.Alive.TheVariants as alive
+use Rattle.warm_messages.specs.declared.share.Share.{Share}
+use Rattle.warm_messages.specs.declared.share.Share.TheVariants as share
+use Rattle.warm_messages.specs.Address.{address_of}
+
+-- one reading and another behind it
+infixl 10 ◌>>=◌
+abbrev pub ◌>>=◌ : {A B : Type 0} → Option A → (A → Option B) → Option B
+(Some x) >>= f = f x
+None >>= f = None
+
+-- what a function returned, seen by `view`, is what reading gives
+abbrev pub Gives : {X Y : Type 0} → (X → Y) → Option X → Option Y → Type 0
+Gives view (Some x) read = read ≡ Some (view x)
+Gives view None read = read ≡ None
+
+-- reading a thing at the front of the bytes: the thing, and the bytes behind it
+abbrev pub Reading : Type 0 → Type 0
+Reading A = List ℕ → Option (A × List ℕ)
+
+-- a thing that is all of the bytes
+abbrev pub all_read : {A : Type 0} → A → List ℕ → Option A
+all_read x [] = Some x
+all_read x (byte ∷ rest) = None
+
+abbrev pub whole : {A : Type 0} → Reading A → List ℕ → Option A
+whole read bytes = read bytes >>= λ one. all_read one.0 one.1
+
+-- what a head of a major type says, at the front of the bytes
+abbrev pub headed_at : {A : Type 0} → ℕ → (Head → A) → Reading A
+headed_at major says bytes = head_at bytes >>= λ head. if head.major == major then Some (says head, drop head.size bytes) else None
+
+unfoldable pub number_at : Reading ℕ
+number_at bytes = headed_at 0 (λ head. head.value) bytes
+
+abbrev pub length_of : Head → Length
+length_of head = if head.indefinite then ToBreak else Of head.value
+
+-- the head of an array
+unfoldable pub opening_at : Reading Length
+opening_at bytes = headed_at 4 length_of bytes
+
+abbrev pub behind_break : List ℕ → Option (List ℕ)
+behind_break [] = None
+behind_break (byte ∷ rest) = if byte == 0xff then Some rest else None
+
+-- the bytes behind an array, where it ends after so many elements
+abbrev pub ending_at : Length → ℕ → List ℕ → Option (List ℕ)
+ending_at (Of n) count bytes = if n == count then Some bytes else None
+ending_at ToBreak count bytes = behind_break bytes
+
+abbrev pub ended : {A : Type 0} → Option (List ℕ) → Option (List A × List ℕ) → Option (List A × List ℕ)
+ended (Some rest) more = Some ([], rest)
+ended None more = more
+
+-- the elements of an array behind so many, and at most so many more
+unfoldable pub elements_at : {A : Type 0} → Reading A → Length → ℕ → ℕ → Reading (List A)
+elements_at thing size count zero bytes = ended (ending_at size count bytes) None
+elements_at thing size count (suc most) bytes = ended (ending_at size count bytes)
+    (thing bytes >>= λ one. elements_at thing size (count + 1) most one.1 >>= λ others. Some (one.0 ∷ others.0, others.1))
+
+-- an array of at most so many elements
+abbrev pub array_at : {A : Type 0} → Reading A → ℕ → Reading (List A)
+array_at thing most bytes = opening_at bytes >>= λ opened. elements_at thing opened.0 0 most opened.1
+
+-- No message has an array of more than eight numbers.
+unfoldable pub numbers_at : Reading (List ℕ)
+numbers_at bytes = array_at number_at 8 bytes
+
+unfoldable pub address_at : Reading Addr
+address_at bytes = numbers_at bytes >>= λ read. address_of read.0 >>= λ addr. Some (addr, read.1)
+
+-- Each address has a byte at least.
+unfoldable pub addresses_at : Reading (List Addr)
+addresses_at bytes = array_at address_at (length bytes) bytes
+
+-- ---- keep-alive
+
+abbrev pub cookie_message : ℕ → ℕ → Option Alive
+cookie_message kind cookie =
+    if nat_lt cookie 65536
+    then (if kind == 0 then Some (alive.Ask cookie) else (if kind == 1 then Some (alive.Reply cookie) else None))
+    else None
+
+abbrev pub alive_of_numbers : List ℕ → Option Alive
+alive_of_numbers (kind ∷ []) = if kind == 2 then Some alive.Done else None
+alive_of_numbers (kind ∷ cookie ∷ []) = cookie_message kind cookie
+alive_of_numbers numbers = None
+
+-- the keep-alive message that the bytes are
+unfoldable pub alive_of : List ℕ → Option Alive
+alive_of bytes = whole numbers_at bytes >>= alive_of_numbers
+
+-- ---- peer sharing
+
+abbrev pub share_of_numbers : List ℕ → Option Share
+share_of_numbers (kind ∷ []) = if kind == 2 then Some share.Done else None
+share_of_numbers (kind ∷ n ∷ []) = if kind == 0 then Some (share.Request n) else None
+share_of_numbers numbers = None
+
+-- the addresses of a peers message
+abbrev pub peers_in : Length → Reading (List Addr)
+peers_in size bytes = number_at bytes >>= λ kind.
+    if kind.0 == 1
+    then (addresses_at kind.1 >>= λ peers. ending_at size 2 peers.1 >>= λ rest. Some (peers.0, rest))
+    else None
+
+unfoldable pub peers_at : Reading (List Addr)
+peers_at bytes = opening_at bytes >>= λ opened. peers_in opened.0 opened.1
+
+abbrev pub share_by : Option (List ℕ) → List ℕ → Option Share
+share_by (Some numbers) bytes = share_of_numbers numbers
+share_by None bytes = option_map share.Peers (whole peers_at bytes)
+
+-- the peer-sharing message that the bytes are
+unfoldable pub share_of : List ℕ → Option Share
+share_of bytes = share_by (whole numbers_at bytes) bytes
+
+-- ---- what a function returned that may want memory
+
+-- Want of memory says nothing.
+abbrev pub GivesOr : {X Y : Type 0} → (X → Y) → Result X Unread → Option Y → Type 0
+GivesOr view (Ok x) read = read ≡ Some (view x)
+GivesOr view (Err NoMessage) read = read ≡ None
+GivesOr view (Err OutOfMemory) read = Unit {0}

@@ -1,0 +1,94 @@
+ghost use Rattle.std.specs.Prelude.{◌≡◌, ◌++◌, length, IfSome, OnOk};
+ghost use Rattle.warm_messages.specs.Reading.{Gives, behind_break, number_at, opening_at, ending_at};
+ghost use Rattle.warm_messages.specs.Writing.{written_number, written_numbers, written_opening};
+
+use cbor_items::{read_head, write_head};
+use net_base::{Octets, OutOfMemory};
+
+const NUMBER: u8 = 0;
+
+const ARRAY: u8 = 4;
+
+const BREAK: u8 = 0xff;
+
+/// How many elements an array has.
+#[derive(Clone, Copy, Debug, PartialEq, Eq)]
+pub(crate) enum Length {
+    /// As many as its head says.
+    Of(u64),
+    /// As many as stand before a break.
+    ToBreak,
+}
+
+impl Length {
+    /// The bytes behind the array, where it ends after so many elements.
+    pub(crate) fn end(self, count: u64, bytes: &[u8]) -> Option<&[u8]>
+        ensures { Gives (λ rest. rest.now) result (ending_at self count bytes.now) }
+    {
+        match self {
+            Length::Of(number) => (number == count).then_some(bytes),
+            Length::ToBreak => behind_break(bytes),
+        }
+    }
+}
+
+fn behind_break(bytes: &[u8]) -> Option<&[u8]>
+    ensures { Gives (λ rest. rest.now) result (behind_break bytes.now) }
+{
+    match bytes {
+        [BREAK, rest @ ..] => Some(rest),
+        _ => None,
+    }
+}
+
+/// The length of the array at the front of the bytes, and the bytes behind its head.
+#[tactic(auto, unfolding(crate::specs::Reading::opening_at))]
+pub(crate) fn open_array(bytes: &[u8]) -> Option<(Length, &[u8])>
+    ensures { Gives (λ read. (read.0, read.1.now)) result (opening_at bytes.now) }
+{
+    let head = read_head(bytes)?;
+    if head.major != ARRAY {
+        return None;
+    }
+    let length = if head.indefinite {
+        Length::ToBreak
+    } else {
+        Length::Of(head.value)
+    };
+    Some((length, &bytes[head.size..]))
+}
+
+/// The unsigned number at the front of the bytes, and the bytes behind it.
+#[tactic(auto, unfolding(crate::specs::Reading::number_at))]
+pub(crate) fn split_number(bytes: &[u8]) -> Option<(u64, &[u8])>
+    ensures { Gives (λ read. (read.0, read.1.now)) result (number_at bytes.now) }
+{
+    let head = read_head(bytes)?;
+    if head.major != NUMBER {
+        return None;
+    }
+    Some((head.value, &bytes[head.size..]))
+}
+
+pub(crate) fn write_opening(out: &mut Octets, count: u64) -> Result<(), OutOfMemory>
+    ensures { OnOk result (out.new ≡ out.old ++ written_opening count) }
+{
+    write_head(out, ARRAY, count)
+}
+
+pub(crate) fn write_number(out: &mut Octets, number: u64) -> Result<(), OutOfMemory>
+    ensures { OnOk result (out.new ≡ out.old ++ written_number number) }
+{
+    write_head(out, NUMBER, number)
+}
+
+/// Appends an array of numbers.
+pub(crate) fn write_numbers(out: &mut Octets, numbers: &[u64]) -> Result<(), OutOfMemory>
+    ensures { OnOk result (out.new ≡ out.old ++ written_numbers numbers.now) }
+{
+    write_opening(out, numbers.len() as u64)?;
+    for number in numbers {
+        write_number(out, *number)?;
+    }
+    Ok(())
+}

@@ -1,0 +1,23 @@
+//! Laws on messages, whatever function reads or writes them. The functions do nothing.
+
+ghost use Rattle.warm_messages.specs.Law.{ReadingIsSpelling, SpellAtMostOne, WritingIsSpelling, MessagesAreItems};
+
+/// Reading finds a message exactly where the bytes spell it.
+pub fn reading_is_spelling()
+    ensures { ReadingIsSpelling }
+{}
+
+/// Bytes spell at most one message of each protocol.
+pub fn bytes_spell_at_most_one_message()
+    ensures { SpellAtMostOne }
+{}
+
+/// What is written spells the message, so it is read again.
+pub fn writing_is_spelling()
+    ensures { WritingIsSpelling }
+{}
+
+/// What spells a message is one item.
+pub fn messages_are_items()
+    ensures { MessagesAreItems }
+{}

@@ -1,0 +1,20 @@
+//! The messages of keep-alive (mini-protocol 8) and peer sharing (mini-protocol 10), read and written, and the first
+//! number of any item. The encodings follow the node-to-node protocols of Ouroboros in outline, and are this project's own.
+#![tactic(auto)]
+
+mod address;
+mod alive;
+mod array;
+mod first;
+pub mod law;
+mod numbers;
+mod share;
+mod unread;
+
+pub use alive::{Alive, read_alive, write_alive};
+pub use first::first_number;
+pub use net_base::AddrList as PeerItems;
+pub use share::{Share, read_share, write_peers, write_request};
+
+#[cfg(test)]
+mod tests;
