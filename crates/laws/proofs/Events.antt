@@ -61,10 +61,10 @@ lowered-sound gone m n h l =
     }
 
 -- the record at a moment
-abbrev at_moment : ℕ → Machine → Machine
+abbrev pub at_moment : ℕ → Machine → Machine
 at_moment t m = record m { now = t }
 
-at_moment-orderly : (t : ℕ) (m : Machine) → IsOrderly m → IsOrderly (at_moment t m)
+pub at_moment-orderly : (t : ℕ) (m : Machine) → IsOrderly m → IsOrderly (at_moment t m)
 at_moment-orderly t m h = record {
   settings = h.settings;
   next_id = h.next_id;
@@ -98,7 +98,7 @@ clock_shows-sound t m h = cond_both (nat_le t m.now) (nothing_more m) (fire_all 
     (λ effect. StaysSound m effect.machine) (λ past. stays_same m h) (λ later. fired_at-sound t m h)
 
 -- the connection that is admitted
-abbrev admitted_entry : Addr → Machine → Entry
+abbrev pub admitted_entry : Addr → Machine → Entry
 admitted_entry addr m = fresh_entry (accepted m.next_id addr (m.now + m.settings.handshake))
 
 -- A connection is admitted below the hard limit, where no live connection has its address.

@@ -7,3 +7,14 @@ pub mod Lists
 pub mod Moves
 pub mod Runs
 pub mod Settings
+mod Finds
+mod Shapes
+mod Effects
+mod Keeping
+mod WholeMoves
+mod Trims
+mod Handshakes
+mod Talks
+mod Streams
+mod WholeEvents
+mod WholeRuns

@@ -22,6 +22,13 @@ stands_next y x ys k s = record { inside = omega arith; is = s.is }
 pub stands_before : {X : Type 0} (y x : X) (ys : List X) (k : ℕ) → StandsAt (y ∷ ys) (suc k) x → StandsAt ys k x
 stands_before y x ys k s = record { inside = omega arith; is = s.is }
 
+-- what takes the place of an element stands there
+pub stands-set : {X : Type 0} (xs : List X) (k : ℕ) (new x : X) → StandsAt xs k x → StandsAt (set xs k new) k new
+stands-set [] k new x s = absurd (omega (arith, s.inside))
+stands-set (y ∷ ys) zero new x s = record { inside = omega arith; is = refl }
+stands-set (y ∷ ys) (suc k) new x s =
+    stands_next y new (set ys k new) k (stands-set ys k new x (stands_before y x ys k s))
+
 -- what holds of each element holds of one that stands
 pub All-stands : {X : Type 0} (P : X → Type 0) (xs : List X) (k : ℕ) (x : X) → StandsAt xs k x → All P xs → P x
 All-stands P xs k x s h = subst P s.is (h k x s.inside)

@@ -16,7 +16,7 @@ first_failing-none (test ∷ tests) e = at_head test.1 refl (first_failing-none 
     at_head true here later e = All-cons (λ t. t.1 ≡ true) test tests here (later e)
     at_head false here later e = absurd cc
 
-interval-positive : (n : ℕ) → is_interval n ≡ true → 1 ≤ n
+pub interval-positive : (n : ℕ) → is_interval n ≡ true → 1 ≤ n
 interval-positive n h = leb-true 1 n (and_parts (nat_le 1 n) (nat_le n 86400000) h).0
 
 pub timewait-positive : (s : Settings) → AreSound s → 1 ≤ s.timewait

@@ -1,0 +1,166 @@
+-- A connection in its handshake: whatever comes in, the connections stay in order and within the limit.
+use Rattle.std.proofs.Common.{ℕ, ◌≤◌, ◌≡◌, Bool, true, false, not, ◌&&◌, ◌==◌, if◌then◌else◌, List, Option, Some, None, refl, sym, subst}
+use Rattle.std.proofs.lemmas.Bool.{cond_both, both_ways}
+use Rattle.hs_decide.specs.Agreement.{accepts_info, accepts_offer, agrees_info, agrees_on, meets_joined, meets_info, meets_offer, verdict_of, common_in, joined, same_magic}
+use Rattle.hs_decide.specs.Answers.{answer_of}
+use Rattle.hs_decide.specs.declared.role.Role.{Role}
+use Rattle.hs_decide.specs.declared.role.Role.TheVariants.{Acceptor, Dialer}
+use Rattle.hs_decide.specs.declared.verdict.Verdict.{Verdict}
+use Rattle.hs_decide.specs.declared.verdict.Verdict.TheVariants as verdict
+use Rattle.hs_decide.specs.declared.verdict.Why.TheVariants as why
+use Rattle.hs_message.specs.Info.{is_node_version}
+use Rattle.hs_message.specs.declared.info.VersionInfo.{VersionInfo}
+use Rattle.hs_message.specs.declared.info.Info.{Info}
+use Rattle.hs_message.specs.declared.info.Info.TheVariants.{Known, Foreign}
+use Rattle.hs_message.specs.declared.message.Message.{Message}
+use Rattle.hs_message.specs.declared.message.Message.TheVariants as message
+use Rattle.hs_message.specs.declared.offer.Offer.{Offer}
+use Rattle.hs_message.specs.Reading.{message_of}
+use Rattle.mux_segment.specs.declared.item.Item.{Item}
+use Rattle.net_base.specs.declared.action.CloseCause.{CloseCause}
+use Rattle.net_base.specs.declared.action.CloseCause.TheVariants as cause
+use Rattle.net_base.specs.declared.action.FaultKind.TheVariants.{Malformed, Protocol}
+use Rattle.net_base.specs.declared.connection.Cid.{Cid}
+use Rattle.net_base.specs.declared.connection.Provenance.{Provenance}
+use Rattle.net_base.specs.declared.connection.Provenance.TheVariants.{FromRemote, FromLocal}
+use Rattle.conn_state.specs.Use.{is_greeting, is_outbound, is_outbound_by}
+use Rattle.machine.specs.Machine.{Machine, Entry, counted_in}
+use Rattle.machine.specs.Own.{own_info}
+use Rattle.machine.specs.Connections.{ending}
+use Rattle.machine.specs.Greeting.{role_of, is_awaited, fits_side, told, judged, decided, greeted_by, greets}
+use Rattle.laws.proofs.Keeping.{IsOrdered}
+use Rattle.laws.proofs.Lists.{StandsAt}
+use Rattle.laws.proofs.Trims.{Trimmed, keeps-trimmed}
+use Rattle.laws.proofs.WholeMoves.{ending-keeps, agrees_inbound-keeps, agrees_outbound-keeps}
+
+-- ---- who comes to which verdict
+
+is_accept : Verdict → Bool
+is_accept (verdict.Accept agreed) = true
+is_accept (verdict.Refuse reason) = false
+is_accept verdict.Query = false
+is_accept (verdict.Agree agreed) = false
+is_accept verdict.Refused = false
+is_accept verdict.Wrong = false
+
+is_agree : Verdict → Bool
+is_agree (verdict.Accept agreed) = false
+is_agree (verdict.Refuse reason) = false
+is_agree verdict.Query = false
+is_agree (verdict.Agree agreed) = true
+is_agree verdict.Refused = false
+is_agree verdict.Wrong = false
+
+accepts_info-no_agree : (own : VersionInfo) (version : ℕ) (info : Info) → is_agree (accepts_info own version info) ≡ false
+unfolding is_agree
+accepts_info-no_agree own version Foreign = refl
+accepts_info-no_agree own version (Known theirs) =
+    cond_both (not (same_magic own theirs)) (verdict.Refuse (why.Magic version))
+    (if theirs.query then verdict.Query else verdict.Accept (joined version own theirs)) (λ v. is_agree v ≡ false) (λ h. refl)
+    (λ h. cond_both theirs.query verdict.Query (verdict.Accept (joined version own theirs)) (λ v. is_agree v ≡ false) (λ k. refl) (λ k. refl))
+
+accepts_offer-no_agree : (own : VersionInfo) (o : Option Offer) → is_agree (accepts_offer own o) ≡ false
+unfolding is_agree
+accepts_offer-no_agree own None = refl
+accepts_offer-no_agree own (Some offer) = accepts_info-no_agree own offer.version offer.info
+
+meets_info-no_accept : (own : VersionInfo) (version : ℕ) (info : Info) → is_accept (meets_info own version info) ≡ false
+unfolding is_accept
+meets_info-no_accept own version Foreign = refl
+meets_info-no_accept own version (Known theirs) =
+    cond_both (not (same_magic own theirs)) verdict.Refused
+    (if theirs.query then verdict.Wrong else meets_joined (joined version own theirs)) (λ v. is_accept v ≡ false) (λ h. refl)
+    (λ h. cond_both theirs.query verdict.Wrong (meets_joined (joined version own theirs)) (λ v. is_accept v ≡ false) (λ k. refl)
+    (λ k. cond_both (joined version own theirs).initiator_only verdict.Refused (verdict.Agree (joined version own theirs))
+    (λ v. is_accept v ≡ false) (λ l. refl) (λ l. refl)))
+
+meets_offer-no_accept : (own : VersionInfo) (o : Option Offer) → is_accept (meets_offer own o) ≡ false
+unfolding is_accept
+meets_offer-no_accept own None = refl
+meets_offer-no_accept own (Some offer) = meets_info-no_accept own offer.version offer.info
+
+agrees_on-no_accept : (own : VersionInfo) (version : ℕ) (info : Info) → is_accept (agrees_on own version info) ≡ false
+unfolding is_accept
+agrees_on-no_accept own version info =
+    cond_both (is_node_version version) (agrees_info own version info) verdict.Wrong (λ v. is_accept v ≡ false) (λ h. by_info info) (λ h. refl)
+  where
+    by_info : (i : Info) → is_accept (agrees_info own version i) ≡ false
+    by_info Foreign = refl
+    by_info (Known theirs) = cond_both (same_magic own theirs) (verdict.Agree (joined version own theirs)) verdict.Wrong
+        (λ v. is_accept v ≡ false) (λ h. refl) (λ h. refl)
+
+-- a dialer accepts nothing, and an acceptor agrees to nothing
+dialer-no_accept : (own : VersionInfo) (m : Message) → is_accept (verdict_of Dialer own m) ≡ false
+unfolding is_accept
+dialer-no_accept own (message.Propose table) = meets_offer-no_accept own (common_in table)
+dialer-no_accept own (message.Accept version info) = agrees_on-no_accept own version info
+dialer-no_accept own (message.Refuse reason) = refl
+dialer-no_accept own (message.QueryReply table) = refl
+
+acceptor-no_agree : (own : VersionInfo) (m : Message) → is_agree (verdict_of Acceptor own m) ≡ false
+unfolding is_agree
+acceptor-no_agree own (message.Propose table) = accepts_offer-no_agree own (common_in table)
+acceptor-no_agree own (message.Accept version info) = refl
+acceptor-no_agree own (message.Refuse reason) = refl
+acceptor-no_agree own (message.QueryReply table) = refl
+
+-- ---- what a verdict does
+
+-- what is sent is no matter of the record
+told-machine : (o : Option (List ℕ)) (cid : Cid) (m : Machine) → (told o cid m).machine ≡ m
+told-machine None cid m = refl
+told-machine (Some bytes) cid m = refl
+
+-- who answers a greeting: an acceptor was dialed, and a dialer has dialed
+record Greets (m : Machine) (e : Entry) (k : ℕ) : Type 0 where
+  ordered : IsOrdered m
+  within : counted_in m ≤ m.settings.hard
+  stands : StandsAt m.connections k e
+  greeting : is_greeting e.facts ≡ true
+
+ends : (cause : CloseCause) (m : Machine) (e : Entry) (k : ℕ) → Greets m e k → Trimmed m (ending cause e m).machine
+ends cause m e k g = keeps-trimmed m (ending cause e m).machine g.within (ending-keeps cause m e k g.ordered g.stands)
+
+judged-trimmed : (v : Verdict) (m : Machine) (e : Entry) (k : ℕ) → Greets m e k → (is_accept v ≡ true → is_outbound e.facts ≡ false) →
+    (is_agree v ≡ true → is_outbound e.facts ≡ true) → Trimmed m (judged v e m).machine
+unfolding is_accept is_agree
+judged-trimmed (verdict.Accept agreed) m e k g accepts agrees =
+    keeps-trimmed m (judged (verdict.Accept agreed) e m).machine g.within (agrees_inbound-keeps agreed m e k g.ordered g.stands g.greeting (accepts refl))
+judged-trimmed (verdict.Refuse reason) m e k g accepts agrees = ends cause.Refused m e k g
+judged-trimmed verdict.Query m e k g accepts agrees = ends cause.Query m e k g
+judged-trimmed (verdict.Agree agreed) m e k g accepts agrees =
+    keeps-trimmed m (judged (verdict.Agree agreed) e m).machine g.within (agrees_outbound-keeps agreed m e k g.ordered g.stands g.greeting (agrees refl))
+judged-trimmed verdict.Refused m e k g accepts agrees = ends cause.Refused m e k g
+judged-trimmed verdict.Wrong m e k g accepts agrees = ends (cause.Fault Protocol) m e k g
+
+accepts-inbound : (own : VersionInfo) (p : Provenance) (msg : Message) → is_accept (verdict_of (role_of p) own msg) ≡ true → is_outbound_by p ≡ false
+accepts-inbound own FromRemote msg h = refl
+accepts-inbound own FromLocal msg h = absurd (both_ways (is_accept (verdict_of Dialer own msg)) (dialer-no_accept own msg) h)
+
+agrees-outbound : (own : VersionInfo) (p : Provenance) (msg : Message) → is_agree (verdict_of (role_of p) own msg) ≡ true → is_outbound_by p ≡ true
+agrees-outbound own FromLocal msg h = refl
+agrees-outbound own FromRemote msg h = absurd (both_ways (is_agree (verdict_of Acceptor own msg)) (acceptor-no_agree own msg) h)
+
+decided-trimmed : (msg : Message) (m : Machine) (e : Entry) (k : ℕ) → Greets m e k →
+    Trimmed m (decided (verdict_of (role_of e.facts.provenance) (own_info m.settings) msg) e m).machine
+decided-trimmed msg m e k g =
+    let own : VersionInfo = own_info m.settings in
+    let v : Verdict = verdict_of (role_of e.facts.provenance) own msg in
+    subst (λ n. Trimmed m (judged v e n).machine) (sym (told-machine (answer_of v own) e.facts.cid m))
+    (judged-trimmed v m e k g (accepts-inbound own e.facts.provenance msg) (agrees-outbound own e.facts.provenance msg))
+
+greeted_by-trimmed : (o : Option Message) (side : ℕ) (m : Machine) (e : Entry) (k : ℕ) → Greets m e k → Trimmed m (greeted_by o side e m).machine
+greeted_by-trimmed None side m e k g = ends (cause.Fault Malformed) m e k g
+greeted_by-trimmed (Some msg) side m e k g =
+    let role : Role = role_of e.facts.provenance in
+    cond_both (fits_side role side msg) (decided (verdict_of role (own_info m.settings) msg) e m) (ending (cause.Fault Protocol) e m)
+    (λ effect. Trimmed m effect.machine) (λ fits. decided-trimmed msg m e k g) (λ other. ends (cause.Fault Protocol) m e k g)
+
+-- an item comes in
+pub greets-trimmed : (item : Item) (m : Machine) (e : Entry) (k : ℕ) → IsOrdered m → counted_in m ≤ m.settings.hard →
+    StandsAt m.connections k e → is_greeting e.facts ≡ true → Trimmed m (greets item e m).machine
+greets-trimmed item m e k h within s greeting =
+    let g : Greets m e k = record { ordered = h; within = within; stands = s; greeting = greeting } in
+    cond_both (item.id == 0 && is_awaited (role_of e.facts.provenance) item.side) (greeted_by (message_of item.body) item.side e m)
+    (ending (cause.Fault Protocol) e m) (λ effect. Trimmed m effect.machine)
+    (λ awaited. greeted_by-trimmed (message_of item.body) item.side m e k g) (λ other. ends (cause.Fault Protocol) m e k g)

@@ -1,0 +1,163 @@
+-- A part of a step of the whole machine: what it keeps, and by how much it may raise the counted connections.
+use Rattle.std.proofs.Common.{ℕ, ◌+◌, ◌≤◌, ◌≡◌, Bool, not, List, [], ◌∷◌, set, All, sum_by, Option, Some, None, refl, sym, ◌∙◌, subst, arith}
+use Rattle.std.proofs.lemmas.List.Elements.{All-set, All-filter}
+use Rattle.net_base.specs.declared.peer.Peer.{Peer}
+use Rattle.machine.specs.Connections.{with_entry, without_entry}
+use Rattle.machine.specs.Machine.{Machine, Entry, counted_in}
+use Rattle.machine.specs.Effect.{Effect, for_each}
+use Rattle.machine.specs.Peers.{turns_at, peer_at, peer_changes, note_of_coming, peer_comes}
+use Rattle.net_base.specs.Shared.{RootState}
+use Rattle.net_base.specs.declared.address.Addr.{Addr}
+use Rattle.net_base.specs.declared.event.Group.{Group}
+use Rattle.net_base.specs.declared.targets.BigTargets.{BigTargets}
+use Rattle.net_base.specs.declared.targets.Targets.{Targets}
+use Rattle.peer_book.specs.Book.{with_peer as with_peer_in, new_peer, entry_of, entered}
+use Rattle.peer_book.specs.declared.added.Added.{Added}
+use Rattle.peer_book.specs.declared.added.Added.TheVariants.{New, Present, Full}
+use Rattle.conn_state.specs.Use.{has_id}
+use Rattle.laws.specs.Sound.{IsOrderly}
+use Rattle.laws.specs.Whole.{IsShaped, AreShaped}
+use Rattle.laws.proofs.Counts.{counted_of, counted_in-sum, late_of, late_in, late_in-sum}
+use Rattle.laws.proofs.Entries.{TurnsInto, turned-connections, turned-orderly, turned-sum, gone-orderly, gone-sum}
+use Rattle.laws.proofs.Lists.{StandsAt}
+
+-- what holds at every moment of the connections alone
+pub record IsOrdered (m : Machine) : Type 0 where
+  pub orderly : IsOrderly m
+  pub shaped : AreShaped m
+
+-- From one record to another: both hold at every moment, no more than so many connections come to be counted, and no
+-- more deadlines are late.
+pub record Keeps (raised : ℕ) (before after : Machine) : Type 0 where
+  pub ordered : IsOrdered after
+  pub settings : after.settings ≡ before.settings
+  pub now : after.now ≡ before.now
+  pub counted : counted_in after ≤ counted_in before + raised
+  pub late : late_in after ≤ late_in before
+
+pub keeps_nothing : (m : Machine) → IsOrdered m → Keeps 0 m m
+keeps_nothing m h = record { ordered = h; settings = refl; now = refl; counted = omega arith; late = omega arith }
+
+-- one part after another
+pub keeps_then : (i j : ℕ) (m n o : Machine) → Keeps i m n → Keeps j n o → Keeps (i + j) m o
+keeps_then i j m n o first second = record {
+  ordered = second.ordered;
+  settings = second.settings ∙ first.settings;
+  now = second.now ∙ first.now;
+  counted = omega arith;
+  late = omega arith;
+}
+
+pub keeps_more : (i j : ℕ) (m n : Machine) → i ≤ j → Keeps i m n → Keeps j m n
+keeps_more i j m n le h = record {
+  ordered = h.ordered;
+  settings = h.settings;
+  now = h.now;
+  counted = omega arith;
+  late = h.late;
+}
+
+-- a connection turns into another
+pub turns-keeps : (raised : ℕ) (m : Machine) (old new : Entry) (k : ℕ) → IsOrdered m → StandsAt m.connections k old →
+    TurnsInto old new → IsShaped new.facts → counted_of new ≤ counted_of old + raised → late_of m.now new ≤ late_of m.now old →
+    Keeps raised m (with_entry new m)
+turns-keeps raised m old new k h s t shaped more later =
+    let n : Machine = with_entry new m in
+    let o : IsOrderly m = h.orderly in
+    let list : set m.connections k new ≡ n.connections = sym (turned-connections m old new k o s t) in
+    let counts : sum_by counted_of n.connections + counted_of old ≡ sum_by counted_of m.connections + counted_of new =
+    turned-sum counted_of m old new k o s t in
+    let lates : sum_by (late_of m.now) n.connections + late_of m.now old
+    ≡ sum_by (late_of m.now) m.connections + late_of m.now new =
+    turned-sum (late_of m.now) m old new k o s t in
+    let counted_before : counted_in m ≡ sum_by counted_of m.connections = counted_in-sum m in
+    let counted_after : counted_in n ≡ sum_by counted_of n.connections = counted_in-sum n in
+    let late_before : late_in m ≡ sum_by (late_of m.now) m.connections = late_in-sum m in
+    let late_after : late_in n ≡ sum_by (late_of m.now) n.connections = late_in-sum n in
+    record {
+      ordered = record {
+        orderly = turned-orderly m old new k o s t;
+        shaped = subst (All (λ e. IsShaped e.facts)) list (All-set (λ e. IsShaped e.facts) m.connections k new shaped h.shaped);
+      };
+      settings = refl;
+      now = refl;
+      counted = omega arith;
+      late = omega arith;
+    }
+
+-- a connection goes
+pub goes-keeps : (m : Machine) (e : Entry) (k : ℕ) → IsOrdered m → StandsAt m.connections k e →
+    Keeps 0 m (without_entry e.facts.cid.0 m)
+goes-keeps m e k h s =
+    let n : Machine = without_entry e.facts.cid.0 m in
+    let counts : sum_by counted_of n.connections + counted_of e ≡ sum_by counted_of m.connections =
+    gone-sum counted_of m e k h.orderly s in
+    let lates : sum_by (late_of m.now) n.connections + late_of m.now e ≡ sum_by (late_of m.now) m.connections =
+    gone-sum (late_of m.now) m e k h.orderly s in
+    let counted_before : counted_in m ≡ sum_by counted_of m.connections = counted_in-sum m in
+    let counted_after : counted_in n ≡ sum_by counted_of n.connections = counted_in-sum n in
+    let late_before : late_in m ≡ sum_by (late_of m.now) m.connections = late_in-sum m in
+    let late_after : late_in n ≡ sum_by (late_of m.now) n.connections = late_in-sum n in
+    record {
+      ordered = record {
+        orderly = gone-orderly m e.facts.cid.0 h.orderly;
+        shaped = All-filter (λ x. not (has_id e.facts.cid.0 x.facts)) (λ x. IsShaped x.facts) m.connections h.shaped;
+      };
+      settings = refl;
+      now = refl;
+      counted = omega arith;
+      late = omega arith;
+    }
+
+-- what is no connection is no matter of them
+pub elsewhere-keeps : (targets : Targets) (big : BigTargets) (groups : List Group) (roots : RootState) (peers : List Peer) (m : Machine) →
+    IsOrdered m → Keeps 0 m (record m { targets = targets; big_targets = big; groups = groups; roots = roots; peers = peers })
+elsewhere-keeps targets big groups roots peers m h = record {
+  ordered = record {
+    orderly = record {
+      settings = h.orderly.settings;
+      next_id = h.orderly.next_id;
+      ids_given = h.orderly.ids_given;
+      ids_rise = h.orderly.ids_rise;
+      addresses = h.orderly.addresses;
+    };
+    shaped = h.shaped;
+  };
+  settings = refl;
+  now = refl;
+  counted = omega arith;
+  late = omega arith;
+}
+
+pub peers-keeps : (peers : List Peer) (m : Machine) → IsOrdered m → Keeps 0 m (record m { peers = peers })
+peers-keeps peers m h = elsewhere-keeps m.targets m.big_targets m.groups m.roots peers m h
+
+-- ---- peers
+
+pub turns_at-keeps : (o : Option Peer) (change : Peer → Peer) (m : Machine) → IsOrdered m → Keeps 0 m (turns_at o change m).machine
+turns_at-keeps None change m h = keeps_nothing m h
+turns_at-keeps (Some p) change m h = peers-keeps (with_peer_in (change p) m.peers) m h
+
+pub changes-keeps : (addr : Addr) (change : Peer → Peer) (m : Machine) → IsOrdered m → Keeps 0 m (peer_changes addr change m).machine
+changes-keeps addr change m h = turns_at-keeps (peer_at addr m) change m h
+
+pub note-machine : (added : Added) (addr : Addr) (m : Machine) → (note_of_coming added addr m).machine ≡ m
+note-machine New addr m = refl
+note-machine Present addr m = refl
+note-machine Full addr m = refl
+
+pub peer_comes-keeps : (big : Bool) (addr : Addr) (m : Machine) → IsOrdered m → Keeps 0 m (peer_comes big addr m).machine
+peer_comes-keeps big addr m h =
+    rw (note-machine (entry_of addr m.peers) addr (record m { peers = entered (new_peer big addr) m.peers }))
+    (peers-keeps (entered (new_peer big addr) m.peers) m h)
+
+-- ---- one part for each of a list
+
+pub for_each-keeps : {X : Type 0} (act : X → Machine → Effect) → ((x : X) (m : Machine) → IsOrdered m → Keeps 0 m (act x m).machine) →
+    (xs : List X) (m : Machine) → IsOrdered m → Keeps 0 m (for_each act xs m).machine
+unfolding for_each
+for_each-keeps act each [] m h = keeps_nothing m h
+for_each-keeps act each (x ∷ xs) m h =
+    let first : Keeps 0 m (act x m).machine = each x m h in
+    keeps_then 0 0 m (act x m).machine (for_each act xs (act x m).machine).machine first
+    (for_each-keeps act each xs (act x m).machine first.ordered)

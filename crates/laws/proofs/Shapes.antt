@@ -1,0 +1,253 @@
+-- Each move keeps the facts of a connection in shape.
+use Rattle.std.proofs.Common.{ℕ, ◌≡◌, Bool, true, false, not, ◌||◌, ◌&&◌, if◌then◌else◌, refl, sym, ap, ◌∙◌}
+use Rattle.std.proofs.lemmas.Bool.{false≢true, both_ways, and_parts}
+use Rattle.net_base.specs.declared.address.Addr.{Addr}
+use Rattle.net_base.specs.declared.connection.Agreed.{Agreed}
+use Rattle.net_base.specs.declared.connection.Facts.{Facts}
+use Rattle.net_base.specs.declared.connection.Grace.{Grace}
+use Rattle.net_base.specs.declared.connection.Grace.TheVariants.{Off, ForRemote, ForLocal}
+use Rattle.net_base.specs.declared.connection.Phase.{Phase}
+use Rattle.net_base.specs.declared.connection.Phase.TheVariants.{Dialing, Greeting, Negotiated, Closing}
+use Rattle.conn_state.specs.Moves.{accepted, dialing, connected, agreed_inbound, agreed_outbound, acquired, released, awakened, idled, expired, closing}
+use Rattle.conn_state.specs.Use.{is_negotiated, is_negotiated_phase, is_dialing, is_dialing_phase, is_greeting, is_greeting_phase, is_outbound, is_duplex, is_for_remote, is_for_local, some_runs, is_acquirable}
+use Rattle.laws.specs.Whole.{IsShaped, IsUnused}
+
+-- ---- phases exclude each other
+
+pub dialing-unnegotiated : (p : Phase) → is_dialing_phase p ≡ true → is_negotiated_phase p ≡ false
+dialing-unnegotiated Dialing h = refl
+dialing-unnegotiated (Greeting until) h = refl
+dialing-unnegotiated Negotiated h = absurd (false≢true h)
+dialing-unnegotiated (Closing until) h = refl
+
+pub greeting-unnegotiated : (p : Phase) → is_greeting_phase p ≡ true → is_negotiated_phase p ≡ false
+greeting-unnegotiated Dialing h = refl
+greeting-unnegotiated (Greeting until) h = refl
+greeting-unnegotiated Negotiated h = absurd (false≢true h)
+greeting-unnegotiated (Closing until) h = refl
+
+-- ---- an unused one
+
+-- whatever stands before the handshake or after the end
+pub unused-shaped : (f : Facts) → IsUnused f → is_negotiated f ≡ false → (is_dialing f ≡ true → is_outbound f ≡ true) → IsShaped f
+unused-shaped f u phase dials = record {
+  unused = λ h. u;
+  dialing = dials;
+  remote = λ h. u.grace;
+  kept = λ h. ap is_for_local u.grace;
+  idle = λ h. absurd (both_ways (is_negotiated f) phase h);
+  serves_remote = λ h. absurd (false≢true (sym (ap (λ b. b || is_for_remote f.grace) u.running ∙ ap is_for_remote u.grace) ∙ h));
+  serves_local = λ h. absurd (both_ways f.local u.local h);
+}
+
+pub accepted-shaped : (cid : ℕ) (addr : Addr) (until : ℕ) → IsShaped (accepted cid addr until)
+accepted-shaped cid addr until =
+    unused-shaped (accepted cid addr until) (record { agreed = refl; local = refl; running = refl; grace = refl }) refl
+    (λ h. absurd (false≢true h))
+
+pub dialing-shaped : (cid : ℕ) (addr : Addr) → IsShaped (dialing cid addr)
+dialing-shaped cid addr =
+    unused-shaped (dialing cid addr) (record { agreed = refl; local = refl; running = refl; grace = refl }) refl (λ h. refl)
+
+pub connected-shaped : (until : ℕ) (f : Facts) → IsShaped f → is_dialing f ≡ true → IsShaped (connected until f)
+connected-shaped until f h dials =
+    let u : IsUnused f = h.unused (dialing-unnegotiated f.phase dials) in
+    unused-shaped (connected until f) (record { agreed = u.agreed; local = u.local; running = u.running; grace = u.grace }) refl
+    (λ greets. absurd (false≢true greets))
+
+pub closing-shaped : (until : ℕ) (f : Facts) → IsShaped (closing until f)
+closing-shaped until f =
+    unused-shaped (closing until f) (record { agreed = refl; local = refl; running = refl; grace = refl }) refl
+    (λ h. absurd (false≢true h))
+
+-- ---- the end of a handshake
+
+abbrev true_is_false : true ≡ false → {P : Type 0} → P
+true_is_false e = absurd (false≢true (sym e))
+
+pub agreed_inbound-shaped : (agreed : Agreed) (until : ℕ) (f : Facts) → IsShaped f → is_greeting f ≡ true →
+    is_outbound f ≡ false → IsShaped (agreed_inbound agreed until f)
+agreed_inbound-shaped agreed until f h greets inbound =
+    let u : IsUnused f = h.unused (greeting-unnegotiated f.phase greets) in record {
+      unused = λ e. absurd (false≢true (sym e));
+      dialing = λ e. absurd (false≢true e);
+      remote = λ runs. absurd (both_ways (some_runs f.running) u.running runs);
+      kept = λ local. refl;
+      idle = λ phase local runs. refl;
+      serves_remote = λ serves. rw inbound refl;
+      serves_local = λ local. absurd (both_ways f.local u.local local);
+    }
+
+outbound_grace-kept : (uni : Bool) (until : ℕ) → is_for_local (if uni then Off else ForRemote until) ≡ false
+outbound_grace-kept true until = refl
+outbound_grace-kept false until = refl
+
+outbound_grace-serves : (uni out runs : Bool) (until : ℕ) → runs ≡ false →
+    (runs || is_for_remote (if uni then Off else ForRemote until)) ≡ true → (not out || not uni) ≡ true
+outbound_grace-serves true out runs until none serves = absurd (both_ways runs none (by_runs runs serves))
+  where
+    by_runs : (b : Bool) → (b || false) ≡ true → b ≡ true
+    by_runs true e = refl
+    by_runs false e = e
+outbound_grace-serves false true runs until none serves = refl
+outbound_grace-serves false false runs until none serves = refl
+
+pub agreed_outbound-shaped : (agreed : Agreed) (until : ℕ) (f : Facts) → IsShaped f → is_greeting f ≡ true →
+    is_outbound f ≡ true → IsShaped (agreed_outbound agreed until f)
+agreed_outbound-shaped agreed until f h greets outbound =
+    let u : IsUnused f = h.unused (greeting-unnegotiated f.phase greets) in record {
+      unused = λ e. absurd (false≢true (sym e));
+      dialing = λ e. absurd (false≢true e);
+      remote = λ runs. absurd (both_ways (some_runs f.running) u.running runs);
+      kept = λ local. outbound_grace-kept agreed.initiator_only until;
+      idle = λ phase local runs. absurd (false≢true (sym local));
+      serves_remote = λ serves. outbound_grace-serves agreed.initiator_only (is_outbound f) (some_runs f.running) until u.running serves;
+      serves_local = λ local. rw outbound refl;
+    }
+
+-- ---- what is in use is negotiated
+
+pub local-negotiated : (f : Facts) → IsShaped f → f.local ≡ true → is_negotiated f ≡ true
+local-negotiated f h local = by_phase (is_negotiated f) refl
+  where
+    by_phase : (b : Bool) → is_negotiated f ≡ b → is_negotiated f ≡ true
+    by_phase true e = e
+    by_phase false e = absurd (both_ways f.local (h.unused e).local local)
+
+pub running-negotiated : (f : Facts) → IsShaped f → some_runs f.running ≡ true → is_negotiated f ≡ true
+running-negotiated f h runs = by_phase (is_negotiated f) refl
+  where
+    by_phase : (b : Bool) → is_negotiated f ≡ b → is_negotiated f ≡ true
+    by_phase true e = e
+    by_phase false e = absurd (both_ways (some_runs f.running) (h.unused e).running runs)
+
+abbrev pub serves_remote : Facts → Bool
+serves_remote f = not (is_outbound f) || is_duplex f
+
+or_true : (b : Bool) → (b || true) ≡ true
+or_true true = refl
+or_true false = refl
+
+or_false : (b : Bool) → (b || false) ≡ true → b ≡ true
+or_false true e = refl
+or_false false e = e
+
+or_left : (b c : Bool) → b ≡ true → (b || c) ≡ true
+or_left true c e = refl
+or_left false c e = absurd (false≢true e)
+
+not_true : (b : Bool) → not b ≡ true → b ≡ false
+not_true true e = absurd (false≢true e)
+not_true false e = refl
+
+-- ---- moves of one that is negotiated
+
+pub record CanAcquire (f : Facts) : Type 0 where
+  pub negotiated : is_negotiated f ≡ true
+  pub duplex : is_duplex f ≡ true
+  pub idle : f.local ≡ false
+  pub not_kept : is_for_local f.grace ≡ false
+
+pub can_acquire : (f : Facts) → is_acquirable f ≡ true → CanAcquire f
+can_acquire f h =
+    let last = and_parts (is_negotiated f && is_duplex f && not f.local) (not (is_for_local f.grace)) h in
+    let third = and_parts (is_negotiated f && is_duplex f) (not f.local) last.0 in
+    let first = and_parts (is_negotiated f) (is_duplex f) third.0 in
+    record { negotiated = first.0; duplex = first.1; idle = not_true f.local third.1; not_kept = not_true (is_for_local f.grace) last.1 }
+
+pub acquired-shaped : (f : Facts) → IsShaped f → is_acquirable f ≡ true → IsShaped (acquired f)
+acquired-shaped f h may =
+    let c : CanAcquire f = can_acquire f may in record {
+      unused = λ e. absurd (both_ways (is_negotiated f) e c.negotiated);
+      dialing = h.dialing;
+      remote = h.remote;
+      kept = λ local. c.not_kept;
+      idle = λ phase local runs. absurd (false≢true (sym local));
+      serves_remote = h.serves_remote;
+      serves_local = λ local. rw c.duplex (or_true (is_outbound f));
+    }
+
+released-remote : (runs : Bool) (grace : Grace) (until : ℕ) → (runs ≡ true → grace ≡ Off) → runs ≡ true →
+    (if runs || is_for_remote grace then grace else ForLocal until) ≡ Off
+released-remote true grace until off runs = off runs
+released-remote false grace until off runs = absurd (false≢true runs)
+
+released-idle : (runs : Bool) (grace : Grace) (until : ℕ) → runs ≡ false →
+    (is_for_remote (if runs || is_for_remote grace then grace else ForLocal until)
+    || is_for_local (if runs || is_for_remote grace then grace else ForLocal until)) ≡ true
+released-idle true grace until none = absurd (false≢true (sym none))
+released-idle false Off until none = refl
+released-idle false (ForRemote at) until none = refl
+released-idle false (ForLocal at) until none = refl
+
+released-serves : (runs : Bool) (grace : Grace) (until : ℕ) →
+    (runs || is_for_remote (if runs || is_for_remote grace then grace else ForLocal until)) ≡ true →
+    (runs || is_for_remote grace) ≡ true
+released-serves true grace until e = refl
+released-serves false Off until e = e
+released-serves false (ForRemote at) until e = refl
+released-serves false (ForLocal at) until e = e
+
+pub released-shaped : (until : ℕ) (f : Facts) → IsShaped f → f.local ≡ true → IsShaped (released until f)
+released-shaped until f h local = record {
+  unused = λ e. absurd (both_ways (is_negotiated f) e (local-negotiated f h local));
+  dialing = h.dialing;
+  remote = λ runs. released-remote (some_runs f.running) f.grace until h.remote runs;
+  kept = λ e. absurd (false≢true e);
+  idle = λ phase none runs. released-idle (some_runs f.running) f.grace until runs;
+  serves_remote = λ serves. h.serves_remote (released-serves (some_runs f.running) f.grace until serves);
+  serves_local = λ e. absurd (false≢true e);
+}
+
+-- A responder starts. That one of a known protocol then runs is handed in.
+pub awakened-shaped : (protocol : ℕ) (f : Facts) → IsShaped f → is_negotiated f ≡ true → serves_remote f ≡ true →
+    some_runs (awakened protocol f).running ≡ true → IsShaped (awakened protocol f)
+awakened-shaped protocol f h negotiated serves runs = record {
+  unused = λ e. absurd (both_ways (is_negotiated f) e negotiated);
+  dialing = h.dialing;
+  remote = λ e. refl;
+  kept = λ e. refl;
+  idle = λ phase local none. absurd (both_ways (some_runs (awakened protocol f).running) none runs);
+  serves_remote = λ e. serves;
+  serves_local = h.serves_local;
+}
+
+idled-remote : (still : Bool) (grace : Grace) (until : ℕ) → grace ≡ Off → still ≡ true →
+    (if still then grace else ForRemote until) ≡ Off
+idled-remote true grace until off e = off
+idled-remote false grace until off e = absurd (false≢true e)
+
+idled-kept : (still : Bool) (grace : Grace) (until : ℕ) → grace ≡ Off → is_for_local (if still then grace else ForRemote until) ≡ false
+idled-kept true grace until off = ap is_for_local off
+idled-kept false grace until off = refl
+
+idled-idle : (still : Bool) (grace : Grace) (until : ℕ) → still ≡ false →
+    (is_for_remote (if still then grace else ForRemote until) || is_for_local (if still then grace else ForRemote until)) ≡ true
+idled-idle true grace until none = absurd (false≢true (sym none))
+idled-idle false grace until none = refl
+
+-- A responder stops, while one ran.
+pub idled-shaped : (protocol until : ℕ) (f : Facts) → IsShaped f → some_runs f.running ≡ true → IsShaped (idled protocol until f)
+idled-shaped protocol until f h runs =
+    let off : f.grace ≡ Off = h.remote runs in
+    let still : Bool = some_runs (idled protocol until f).running in
+    let serves : serves_remote f ≡ true = h.serves_remote (or_left (some_runs f.running) (is_for_remote f.grace) runs) in record {
+      unused = λ e. absurd (both_ways (is_negotiated f) e (running-negotiated f h runs));
+      dialing = h.dialing;
+      remote = λ e. idled-remote still f.grace until off e;
+      kept = λ local. idled-kept still f.grace until off;
+      idle = λ phase local none. idled-idle still f.grace until none;
+      serves_remote = λ e. serves;
+      serves_local = h.serves_local;
+    }
+
+pub expired-shaped : (f : Facts) → IsShaped f → f.local ≡ true → IsShaped (expired f)
+expired-shaped f h local = record {
+  unused = λ e. absurd (both_ways (is_negotiated f) e (local-negotiated f h local));
+  dialing = h.dialing;
+  remote = λ runs. refl;
+  kept = λ e. refl;
+  idle = λ phase none runs. absurd (both_ways f.local none local);
+  serves_remote = λ serves. h.serves_remote (or_left (some_runs f.running) (is_for_remote f.grace) (or_false (some_runs f.running) serves));
+  serves_local = h.serves_local;
+}

@@ -1,0 +1,330 @@
+-- A connection whose handshake is done: whatever comes in, the connections stay in order and within the limit.
+use Rattle.std.proofs.Common.{ℕ, ◌≤◌, ◌≡◌, Bool, true, false, ◌||◌, ◌==◌, nat_le, if◌then◌else◌, List, find, set, remove, Option, Some, None, Result, Ok, Err, refl, sym, ap, ◌∙◌, subst, arith, eqb-true, eq-eqb}
+use Rattle.std.specs.Option.{unwrap_or}
+use Rattle.std.proofs.lemmas.Bool.{cond_both, false≢true}
+use Rattle.net_base.specs.declared.action.CloseCause.{CloseCause}
+use Rattle.net_base.specs.declared.action.CloseCause.TheVariants.{Pruned, Fault}
+use Rattle.net_base.specs.declared.action.FaultKind.{FaultKind}
+use Rattle.net_base.specs.declared.action.FaultKind.TheVariants.{Protocol, UnknownId}
+use Rattle.net_base.specs.declared.address.Addr.{Addr}
+use Rattle.net_base.specs.declared.connection.Cid.{Cid}
+use Rattle.net_base.specs.declared.connection.Facts.{Facts}
+use Rattle.net_base.specs.declared.connection.Responders.{Responders}
+use Rattle.net_base.specs.declared.peer.Peer.{Peer}
+use Rattle.net_base.specs.declared.peer.Temp.TheVariants.{Hot}
+use Rattle.net_base.specs.Peer.{failed_peer}
+use Rattle.accept_gate.specs.Prune.{choice_of}
+use Rattle.conn_state.specs.Moves.{awakened}
+use Rattle.conn_state.specs.Protocols.{has_responder}
+use Rattle.conn_state.specs.Use.{agreed_sharing, has_id, is_negotiated, runs, some_runs}
+use Rattle.mux_segment.specs.declared.item.Item.{Item}
+use Rattle.remote_watch.specs.Watch.{watched, seen_by_number, chain_sync_seen, block_fetch_seen, tx_submission_seen, keep_alive_seen, peer_sharing_seen}
+use Rattle.remote_watch.specs.declared.reply.Reply.{Reply}
+use Rattle.remote_watch.specs.declared.reply.Reply.TheVariants as reply
+use Rattle.remote_watch.specs.declared.seen.Seen.{Seen}
+use Rattle.warm_messages.specs.First.{first_number_of}
+use Rattle.warm_messages.specs.Reading.{alive_of, share_of}
+use Rattle.warm_messages.specs.declared.share.Share.{Share}
+use Rattle.warm_messages.specs.declared.share.Share.TheVariants as share
+use Rattle.machine.specs.Machine.{Machine, Entry, Owed, counted_in, entry_at}
+use Rattle.machine.specs.Effect.{nothing_more, then_do}
+use Rattle.machine.specs.Peers.{turns_at, peer_at, peer_fails, peer_becomes}
+use Rattle.machine.specs.Connections.{with_entry, without_entry, entry_turns, is_missed, lost, ending, pruned_at, candidates_in, trim, awake, idle}
+use Rattle.machine.specs.Talking.{replies, ends_if, served_at, begins, takes_requests, asked_as, shares_address, taken_of, takes_addresses, pays, brings, answered_as, talks}
+use Rattle.machine.specs.Replies.{reply_on, paid}
+use Rattle.laws.proofs.Effects.{counted-running}
+use Rattle.laws.proofs.Entries.{gone-connections, one_has_id, turned-connections}
+use Rattle.laws.proofs.Finds.{find-remove_other, find-remove_here}
+use Rattle.laws.proofs.Keeping.{IsOrdered, Keeps, keeps_nothing, changes-keeps, peer_comes-keeps}
+use Rattle.laws.proofs.Lists.{StandsAt, stands-set, find_some, find_only}
+use Rattle.laws.proofs.Trims.{Trimmed, HasMoved, keeps-trimmed, trimmed_then, trimmed-within, raised_then_trimmed, trim-trims, for_each-trimmed}
+use Rattle.laws.proofs.WholeMoves.{ending-keeps, awakes-keeps, idles-keeps, pays-keeps}
+
+-- ---- only known protocols are answered
+
+known_of : {X E : Type 0} (p u : E) (x : X) (r2 r3 r4 r8 r10 : Result X E) (z a b c d e : Bool) →
+    (if z then Err p else if a then r2 else if b then r3 else if c then r4 else if d then r8 else if e then r10 else Err u) ≡ Ok x →
+    (a || b || c || d || e) ≡ true
+known_of p u x r2 r3 r4 r8 r10 true a b c d e h = absurd cc
+known_of p u x r2 r3 r4 r8 r10 false true b c d e h = refl
+known_of p u x r2 r3 r4 r8 r10 false false true c d e h = refl
+known_of p u x r2 r3 r4 r8 r10 false false false true d e h = refl
+known_of p u x r2 r3 r4 r8 r10 false false false false true e h = refl
+known_of p u x r2 r3 r4 r8 r10 false false false false false true h = refl
+known_of p u x r2 r3 r4 r8 r10 false false false false false false h = absurd cc
+
+pub seen-known : (id : ℕ) (sharing : Bool) (item : List ℕ) (seen : Seen) → watched id sharing item ≡ Ok seen → has_responder id ≡ true
+seen-known id sharing item seen h =
+    known_of Protocol UnknownId seen (seen_by_number chain_sync_seen (first_number_of item)) (seen_by_number block_fetch_seen (first_number_of item))
+    (seen_by_number tx_submission_seen (first_number_of item)) (keep_alive_seen (alive_of item))
+    (if sharing then peer_sharing_seen (share_of item) else Err UnknownId) (id == 0) (id == 2) (id == 3) (id == 4) (id == 8) (id == 10) h
+
+-- ---- a responder that starts runs
+
+woken-runs_by : (r : Responders) (a b c d e : Bool) → (a || b || c || d || e) ≡ true →
+    some_runs (if a then record r { chain_sync = true } else if b then record r { block_fetch = true }
+    else if c then record r { tx_submission = true } else if d then record r { keep_alive = true }
+    else if e then record r { peer_sharing = true } else r) ≡ true
+woken-runs_by r true b c d e h = refl
+woken-runs_by r false true c d e h = by_one r.chain_sync
+  where
+    by_one : (x : Bool) → (x || true || r.tx_submission || r.keep_alive || r.peer_sharing) ≡ true
+    by_one true = refl
+    by_one false = refl
+woken-runs_by r false false true d e h = by_two r.chain_sync r.block_fetch
+  where
+    by_two : (x y : Bool) → (x || y || true || r.keep_alive || r.peer_sharing) ≡ true
+    by_two true y = refl
+    by_two false true = refl
+    by_two false false = refl
+woken-runs_by r false false false true e h = by_three r.chain_sync r.block_fetch r.tx_submission
+  where
+    by_three : (x y z : Bool) → (x || y || z || true || r.peer_sharing) ≡ true
+    by_three true y z = refl
+    by_three false true z = refl
+    by_three false false true = refl
+    by_three false false false = refl
+woken-runs_by r false false false false true h = by_four r.chain_sync r.block_fetch r.tx_submission r.keep_alive
+  where
+    by_four : (x y z w : Bool) → (x || y || z || w || true) ≡ true
+    by_four true y z w = refl
+    by_four false true z w = refl
+    by_four false false true w = refl
+    by_four false false false true = refl
+    by_four false false false false = refl
+woken-runs_by r false false false false false h = absurd (false≢true h)
+
+pub woken-runs : (protocol : ℕ) (f : Facts) → has_responder protocol ≡ true → some_runs (awakened protocol f).running ≡ true
+woken-runs protocol f known =
+    woken-runs_by f.running (protocol == 2) (protocol == 3) (protocol == 4) (protocol == 8) (protocol == 10) known
+
+runs-some_by : (r : Responders) (a b c d e : Bool) →
+    (if a then r.chain_sync else if b then r.block_fetch else if c then r.tx_submission else if d then r.keep_alive else if e then r.peer_sharing else false) ≡ true →
+    some_runs r ≡ true
+runs-some_by r true b c d e h = rw h refl
+runs-some_by r false true c d e h = rw h (by_one r.chain_sync)
+  where
+    by_one : (x : Bool) → (x || true || r.tx_submission || r.keep_alive || r.peer_sharing) ≡ true
+    by_one true = refl
+    by_one false = refl
+runs-some_by r false false true d e h = rw h (by_two r.chain_sync r.block_fetch)
+  where
+    by_two : (x y : Bool) → (x || y || true || r.keep_alive || r.peer_sharing) ≡ true
+    by_two true y = refl
+    by_two false true = refl
+    by_two false false = refl
+runs-some_by r false false false true e h = rw h (by_three r.chain_sync r.block_fetch r.tx_submission)
+  where
+    by_three : (x y z : Bool) → (x || y || z || true || r.peer_sharing) ≡ true
+    by_three true y z = refl
+    by_three false true z = refl
+    by_three false false true = refl
+    by_three false false false = refl
+runs-some_by r false false false false true h = rw h (by_four r.chain_sync r.block_fetch r.tx_submission r.keep_alive)
+  where
+    by_four : (x y z w : Bool) → (x || y || z || w || true) ≡ true
+    by_four true y z w = refl
+    by_four false true z w = refl
+    by_four false false true w = refl
+    by_four false false false true = refl
+    by_four false false false false = refl
+runs-some_by r false false false false false h = absurd (false≢true h)
+
+pub runs-some : (protocol : ℕ) (r : Responders) → runs protocol r ≡ true → some_runs r ≡ true
+runs-some protocol r h = runs-some_by r (protocol == 2) (protocol == 3) (protocol == 4) (protocol == 8) (protocol == 10) h
+
+-- ---- what is found once a connection was pruned
+
+turns_at-connections : (o : Option Peer) (change : Peer → Peer) (m : Machine) → (turns_at o change m).machine.connections ≡ m.connections
+turns_at-connections None change m = refl
+turns_at-connections (Some p) change m = refl
+
+lost-connections : (f : Facts) (m : Machine) → (lost f m).machine.connections ≡ m.connections
+lost-connections f m = cond_both (is_missed f) (peer_fails f.addr m) (nothing_more m) (λ effect. effect.machine.connections ≡ m.connections)
+    (λ missed. turns_at-connections (peer_at f.addr m) (failed_peer m.now m.settings.backoff) m) (λ other. refl)
+
+-- what is found after it was found before it
+pruned-found : (m : Machine) (e : Entry) (k : ℕ) (cid : ℕ) (x : Entry) → IsOrdered m → StandsAt m.connections k e →
+    entry_at cid (ending Pruned e m).machine ≡ Some x → entry_at cid m ≡ Some x
+pruned-found m e k cid x h s found =
+    let p : Entry → Bool = λ y. has_id cid y.facts in
+    let same : find p (remove m.connections k) ≡ Some x =
+    ap (find p) (sym (lost-connections e.facts (without_entry e.facts.cid.0 m) ∙ gone-connections m e k h.orderly s)) ∙ found in
+    by_test (p e) refl same
+  where
+    by_test : (b : Bool) → has_id cid e.facts ≡ b → find (λ y. has_id cid y.facts) (remove m.connections k) ≡ Some x → entry_at cid m ≡ Some x
+    by_test true is same =
+        let none = find-remove_here (λ y. has_id cid y.facts) e m.connections k (one_has_id cid m.connections h.orderly.ids_rise) s is in
+        absurd (none_some (sym none ∙ same))
+      where
+        none_some : None ≡ Some x → ⊥
+        none_some e = cc
+    by_test false is same = sym (find-remove_other (λ y. has_id cid y.facts) e m.connections k s is) ∙ same
+
+pruned_at-found : (id cid : ℕ) (x : Entry) (m : Machine) → IsOrdered m →
+    entry_at cid (pruned_at (entry_at id m) m).machine ≡ Some x → entry_at cid m ≡ Some x
+pruned_at-found id cid x m h = by_entry (entry_at id m) refl
+  where
+    by_entry : (o : Option Entry) → entry_at id m ≡ o → entry_at cid (pruned_at o m).machine ≡ Some x → entry_at cid m ≡ Some x
+    by_entry None is found = found
+    by_entry (Some e) is found =
+        let at = find_some (λ y. has_id id y.facts) m.connections e is in
+        pruned-found m e at.place cid x h at.stands found
+
+trim-found : (moved : Cid) (cid : ℕ) (x : Entry) (m : Machine) → IsOrdered m →
+    entry_at cid (trim moved m).machine ≡ Some x → entry_at cid m ≡ Some x
+trim-found moved cid x m h =
+    cond_both (nat_le (counted_in m) m.settings.hard) (nothing_more m)
+    (pruned_at (entry_at (unwrap_or (choice_of (candidates_in m)) moved).0 m) m)
+    (λ effect. entry_at cid effect.machine ≡ Some x → entry_at cid m ≡ Some x)
+    (λ within found. found)
+    (λ above found. pruned_at-found (unwrap_or (choice_of (candidates_in m)) moved).0 cid x m h found)
+
+-- ---- the other side asks
+
+-- a negotiated connection that stands in a record within the limit
+pub record Talking (m : Machine) (e : Entry) (k : ℕ) : Type 0 where
+  pub ordered : IsOrdered m
+  pub within : counted_in m ≤ m.settings.hard
+  pub stands : StandsAt m.connections k e
+  pub negotiated : is_negotiated e.facts ≡ true
+
+ends : (cause : CloseCause) (m : Machine) (e : Entry) (k : ℕ) → Talking m e k → Trimmed m (ending cause e m).machine
+ends cause m e k t = keeps-trimmed m (ending cause e m).machine t.within (ending-keeps cause m e k t.ordered t.stands)
+
+-- the record after a responder has started, and what is found in it
+record Begun (cid : ℕ) (before after : Machine) : Type 0 where
+  trimmed : Trimmed before after
+  runs : (x : Entry) → entry_at cid after ≡ Some x → some_runs x.facts.running ≡ true
+
+found_is : (m : Machine) (e x : Entry) (k : ℕ) → IsOrdered m → StandsAt m.connections k e → entry_at e.facts.cid.0 m ≡ Some x → x ≡ e
+found_is m e x k h s found =
+    let own : entry_at e.facts.cid.0 m ≡ Some e =
+    find_only (λ y. has_id e.facts.cid.0 y.facts) e m.connections k (one_has_id e.facts.cid.0 m.connections h.orderly.ids_rise) s (eq-eqb e.facts.cid.0 e.facts.cid.0 refl) in
+    some_same (sym found ∙ own)
+  where
+    some_same : Some x ≡ Some e → x ≡ e
+    some_same e2 = cc
+
+awake-begun : (protocol : ℕ) (m : Machine) (e : Entry) (k : ℕ) → Talking m e k → takes_requests e ≡ true → has_responder protocol ≡ true →
+    Begun e.facts.cid.0 m (awake protocol e m).machine
+awake-begun protocol m e k t serves known =
+    let new : Entry = record e { facts = awakened protocol e.facts } in
+    let n : Machine = with_entry new m in
+    let runs : some_runs new.facts.running ≡ true = woken-runs protocol e.facts known in
+    let raised : Keeps 1 m n = awakes-keeps protocol m e k t.ordered t.stands t.negotiated serves runs in
+    let list : n.connections ≡ set m.connections k new =
+    turned-connections m e new k t.ordered.orderly t.stands (record { same_id = refl; same_addr = refl; live = λ l. l }) in
+    let here : StandsAt n.connections k new = subst (λ es. StandsAt es k new) (sym list) (stands-set m.connections k new e t.stands) in
+    let moved : HasMoved e.facts.cid n = record { entry = new; place = k; stands = here; same = refl; counted = counted-running new.facts t.negotiated runs } in
+    let trimmed : Trimmed n (trim e.facts.cid n).machine =
+    trim-trims e.facts.cid n raised.ordered (omega (arith, raised.counted, t.within)) (λ over. moved) in
+    record {
+      trimmed = raised_then_trimmed m n (trim e.facts.cid n).machine t.within raised trimmed;
+      runs = λ x found.
+          let was : entry_at e.facts.cid.0 n ≡ Some x = trim-found e.facts.cid e.facts.cid.0 x n raised.ordered found in
+          ap (λ y. some_runs y.facts.running) (found_is n new x k raised.ordered here was) ∙ runs;
+    }
+
+begins-begun : (protocol : ℕ) (m : Machine) (e : Entry) (k : ℕ) → Talking m e k → takes_requests e ≡ true → has_responder protocol ≡ true →
+    Begun e.facts.cid.0 m (begins protocol e m).machine
+begins-begun protocol m e k t serves known = cond_both (runs protocol e.facts.running) (nothing_more m) (awake protocol e m)
+    (λ effect. Begun e.facts.cid.0 m effect.machine)
+    (λ running. record {
+      trimmed = keeps-trimmed m m t.within (keeps_nothing m t.ordered);
+      runs = λ x found. ap (λ y. some_runs y.facts.running) (found_is m e x k t.ordered t.stands found) ∙ runs-some protocol e.facts.running running;
+    })
+    (λ silent. awake-begun protocol m e k t serves known)
+
+replies-machine : (r : Reply) (protocol : ℕ) (e : Entry) (m : Machine) → (replies r protocol e m).machine ≡ m
+replies-machine reply.Nothing protocol e m = refl
+replies-machine (reply.Alive cookie) protocol e m = refl
+replies-machine (reply.Share n) protocol e m = refl
+replies-machine reply.NoIntersect protocol e m = refl
+replies-machine reply.Await protocol e m = refl
+replies-machine reply.NoBlocks protocol e m = refl
+
+ends_if-trimmed : (done : Bool) (protocol cid : ℕ) (m : Machine) → IsOrdered m → counted_in m ≤ m.settings.hard →
+    ((x : Entry) → entry_at cid m ≡ Some x → some_runs x.facts.running ≡ true) →
+    Trimmed m (ends_if done protocol (entry_at cid m) m).machine
+ends_if-trimmed false protocol cid m h within runs = keeps-trimmed m m within (keeps_nothing m h)
+ends_if-trimmed true protocol cid m h within runs = by_entry (entry_at cid m) refl
+  where
+    by_entry : (o : Option Entry) → entry_at cid m ≡ o → Trimmed m (ends_if true protocol o m).machine
+    by_entry None is = keeps-trimmed m m within (keeps_nothing m h)
+    by_entry (Some x) is =
+        let at = find_some (λ y. has_id cid y.facts) m.connections x is in
+        keeps-trimmed m (idle protocol x m).machine within (idles-keeps protocol m x at.place h at.stands (runs x is))
+
+served-trimmed : (seen : Seen) (protocol cid : ℕ) (m : Machine) → IsOrdered m → counted_in m ≤ m.settings.hard →
+    ((x : Entry) → entry_at cid m ≡ Some x → some_runs x.facts.running ≡ true) →
+    Trimmed m (served_at (entry_at cid m) seen protocol m).machine
+served-trimmed seen protocol cid m h within runs = by_entry (entry_at cid m) refl
+  where
+    by_entry : (o : Option Entry) → entry_at cid m ≡ o → Trimmed m (served_at o seen protocol m).machine
+    by_entry None is = keeps-trimmed m m within (keeps_nothing m h)
+    by_entry (Some e) is =
+        let at = find_some (λ y. has_id cid y.facts) m.connections e is in
+        let own : e.facts.cid.0 ≡ cid = eqb-true e.facts.cid.0 cid at.passes in
+        subst (λ n. Trimmed m (ends_if seen.done protocol (entry_at e.facts.cid.0 n) n).machine) (sym (replies-machine seen.reply protocol e m))
+        (subst (λ c. Trimmed m (ends_if seen.done protocol (entry_at c m) m).machine) (sym own)
+        (ends_if-trimmed seen.done protocol cid m h within runs))
+
+pub asked_as-trimmed : (r : Result Seen FaultKind) (item : List ℕ) (sharing : Bool) (protocol : ℕ) (m : Machine) (e : Entry) (k : ℕ) →
+    watched protocol sharing item ≡ r → Talking m e k → Trimmed m (asked_as r protocol e m).machine
+asked_as-trimmed (Err kind) item sharing protocol m e k is t = ends (Fault kind) m e k t
+asked_as-trimmed (Ok seen) item sharing protocol m e k is t = by_test (takes_requests e) refl
+  where
+    known : has_responder protocol ≡ true
+    known = seen-known protocol sharing item seen is
+
+    by_test : (b : Bool) → takes_requests e ≡ b →
+        Trimmed m (if b then then_do (begins protocol e m) (λ m. served_at (entry_at e.facts.cid.0 m) seen protocol m) else ending (Fault Protocol) e m).machine
+    by_test true serves =
+        let n : Machine = (begins protocol e m).machine in
+        let begun : Begun e.facts.cid.0 m n = begins-begun protocol m e k t serves known in
+        trimmed_then m n (served_at (entry_at e.facts.cid.0 n) seen protocol n).machine begun.trimmed
+        (served-trimmed seen protocol e.facts.cid.0 n begun.trimmed.ordered (trimmed-within m n begun.trimmed) begun.runs)
+    by_test false serves = ends (Fault Protocol) m e k t
+
+-- ---- the other side answers
+
+pub shares-keeps : (addr : Addr) (m : Machine) → IsOrdered m → Keeps 0 m (shares_address addr m).machine
+shares-keeps addr m h = peer_comes-keeps false addr m h
+
+takes-trimmed : (o : Option Share) (m : Machine) → IsOrdered m → counted_in m ≤ m.settings.hard → Trimmed m (takes_addresses o m).machine
+takes-trimmed None m h within = keeps-trimmed m m within (keeps_nothing m h)
+takes-trimmed (Some (share.Request n)) m h within = keeps-trimmed m m within (keeps_nothing m h)
+takes-trimmed (Some (share.Peers peers)) m h within =
+    for_each-trimmed shares_address (λ addr n o w. keeps-trimmed n (shares_address addr n).machine w (shares-keeps addr n o)) (taken_of peers m) m h within
+takes-trimmed (Some share.Done) m h within = keeps-trimmed m m within (keeps_nothing m h)
+
+brings-trimmed : (protocol : ℕ) (body : List ℕ) (e : Entry) (m : Machine) → IsOrdered m → counted_in m ≤ m.settings.hard →
+    Trimmed m (brings protocol body e m).machine
+brings-trimmed protocol body e m h within =
+    cond_both (protocol == 2) (peer_becomes Hot e.facts.addr m) (if protocol == 8 then nothing_more m else takes_addresses (share_of body) m)
+    (λ effect. Trimmed m effect.machine)
+    (λ on_2. keeps-trimmed m (peer_becomes Hot e.facts.addr m).machine within (changes-keeps e.facts.addr (λ p. record p { temp = Hot }) m h))
+    (λ not_2. cond_both (protocol == 8) (nothing_more m) (takes_addresses (share_of body) m) (λ effect. Trimmed m effect.machine)
+    (λ on_8. keeps-trimmed m m within (keeps_nothing m h)) (λ not_8. takes-trimmed (share_of body) m h within))
+
+answered_as-trimmed : (o : Option Owed) (item : Item) (m : Machine) (e : Entry) (k : ℕ) → Talking m e k → Trimmed m (answered_as o item e m).machine
+answered_as-trimmed None item m e k t = ends (Fault Protocol) m e k t
+answered_as-trimmed (Some owed) item m e k t =
+    cond_both (pays owed item.body) (then_do (entry_turns e (paid item.id e) m) (brings item.id item.body e)) (ending (Fault Protocol) e m)
+    (λ effect. Trimmed m effect.machine)
+    (λ pays_it.
+    let n : Machine = with_entry (paid item.id e) m in
+    let first : Trimmed m n = keeps-trimmed m n t.within (pays-keeps item.id m e k t.ordered t.stands) in
+    trimmed_then m n (brings item.id item.body e n).machine first
+    (brings-trimmed item.id item.body e n first.ordered (trimmed-within m n first)))
+    (λ other. ends (Fault Protocol) m e k t)
+
+-- an item comes in
+pub talks-trimmed : (item : Item) (m : Machine) (e : Entry) (k : ℕ) → Talking m e k → Trimmed m (talks item e m).machine
+talks-trimmed item m e k t =
+    let sharing : Bool = agreed_sharing e.facts.agreed in
+    cond_both (item.side == 0) (asked_as (watched item.id sharing item.body) item.id e m) (answered_as (reply_on item.id e) item e m)
+    (λ effect. Trimmed m effect.machine)
+    (λ asks. asked_as-trimmed (watched item.id sharing item.body) item.body sharing item.id m e k refl t)
+    (λ answers. answered_as-trimmed (reply_on item.id e) item m e k t)

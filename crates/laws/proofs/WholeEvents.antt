@@ -1,0 +1,250 @@
+-- Each event of the whole machine but the governor's.
+use Rattle.std.proofs.Common.{ℕ, zero, suc, ◌+◌, ◌≤◌, ◌≡◌, Bool, true, false, cond, nat_le, if◌then◌else◌, List, [], ◌∷◌, length, Option, Some, None, refl, sym, ap, subst, arith}
+use Rattle.std.proofs.lemmas.Bool.{cond_both, false≢true}
+use Rattle.std.proofs.lemmas.List.Elements.{All-push}
+use Rattle.net_base.specs.Address.{same_address, address_below}
+use Rattle.net_base.specs.declared.action.Away.TheVariants.{OwnAddr, Crossed, Present}
+use Rattle.net_base.specs.declared.action.Action.TheVariants.{Close}
+use Rattle.net_base.specs.declared.action.CloseCause.TheVariants.{Unused, Overwritten, Fault}
+use Rattle.net_base.specs.declared.action.FaultKind.TheVariants.{HandshakeWait, ReplyWait}
+use Rattle.net_base.specs.declared.address.Addr.{Addr}
+use Rattle.net_base.specs.declared.connection.Cid.{Cid}
+use Rattle.net_base.specs.declared.event.Event.{Event}
+use Rattle.net_base.specs.declared.event.Event.TheVariants.{Now, Govern, Accepted, Dialed, Bytes, Closed, Aims, Locals, Roots, BigAims, Bigs}
+use Rattle.net_base.specs.declared.event.Group.{Group}
+use Rattle.net_base.specs.declared.event.Job.{Job}
+use Rattle.net_base.specs.declared.event.RootAnswer.{RootAnswer}
+use Rattle.net_base.specs.declared.event.RootAnswer.TheVariants.{Found, Failed}
+use Rattle.net_base.specs.declared.timer.Deadline.{Deadline}
+use Rattle.net_base.specs.declared.timer.Kind.{Kind}
+use Rattle.net_base.specs.declared.timer.Kind.TheVariants.{Handshake, Grace as GraceKind, TimeWait, Reply2, Reply8, Reply10}
+use Rattle.accept_gate.specs.Gate.{gate_of}
+use Rattle.accept_gate.specs.declared.gate.Gate.{Gate}
+use Rattle.accept_gate.specs.declared.gate.Gate.TheVariants.{Free, Pause as PauseFor, Full as NoRoom}
+use Rattle.conn_state.specs.Moves.{expired}
+use Rattle.conn_state.specs.Use.{is_live, is_live_at, is_pending, is_dialing, has_id}
+use Rattle.root_groups.specs.Cleaned.{cleaned, members_of}
+use Rattle.root_groups.specs.RootAsk.{awaits, publics_of, found, failed}
+use Rattle.machine.specs.Machine.{Machine, Entry, counted_in, entry_at, live_entry_at}
+use Rattle.machine.specs.Effect.{Effect, shared, unused, nothing_more, tells, then_do, as_move, for_each}
+use Rattle.machine.specs.Peers.{peer_is_ordinary, peer_comes}
+use Rattle.machine.specs.Connections.{entry_turns, closing_entry, grace_over, ending, vanishes, dial_opens, dial_fails}
+use Rattle.machine.specs.Deadlines.{deadlines, due, fires_as, fires_on, fires, fires_some, fire_due, fire_all}
+use Rattle.machine.specs.Events.{clock_shows, turned_away, admitted, crossed, accepted_beside, accepted_through, peer_connects, closed_at, peer_closes, dial_ends_at, dial_ends}
+use Rattle.machine.specs.Provided.{targets_are, big_targets_are, comes_ordinary, locals_are, is_wanted_big, comes_big, bigs_are, roots_say, roots_answer}
+use Rattle.machine.specs.Whole.{whole_step}
+use Rattle.laws.specs.Whole.{IsShaped, AreShaped, IsSteady, IsUngoverned}
+use Rattle.laws.proofs.Counts.{counted_of, late_in, counted-expired, counted-closing, late-expired, late-closing}
+use Rattle.laws.proofs.Effects.{one_if-not_counted}
+use Rattle.laws.proofs.Events.{StaysSound, admitted_entry, at_moment, at_moment-orderly, ahead-none_late, none_late-ahead, peer_connects-sound, clock_shows-sound}
+use Rattle.laws.proofs.Keeping.{IsOrdered, Keeps, keeps_nothing, keeps_then, turns-keeps, goes-keeps, elsewhere-keeps, changes-keeps, peer_comes-keeps, for_each-keeps}
+use Rattle.laws.proofs.Lists.{StandsAt, find_some}
+use Rattle.laws.proofs.Settings.{timewait-positive}
+use Rattle.laws.proofs.Shapes.{accepted-shaped, expired-shaped, closing-shaped}
+use Rattle.laws.proofs.Streams.{bytes_come_in-trimmed}
+use Rattle.laws.proofs.Trims.{Trimmed, keeps-trimmed}
+use Rattle.laws.proofs.WholeMoves.{ending-keeps, vanishes-keeps, connects-keeps, stands-shaped}
+
+-- ---- what is set and provided
+
+comes_ordinary-keeps : (addr : Addr) (m : Machine) → IsOrdered m → Keeps 0 m (comes_ordinary addr m).machine
+comes_ordinary-keeps addr m h = peer_comes-keeps false addr m h
+
+ordinary-keeps : (addr : Addr) (m : Machine) → IsOrdered m → Keeps 0 m (peer_is_ordinary addr m).machine
+ordinary-keeps addr m h = changes-keeps addr (λ p. record p { big = false }) m h
+
+locals-keeps : (groups : List Group) (m : Machine) → IsOrdered m → Keeps 0 m (locals_are groups m).machine
+locals-keeps groups m h =
+    let kept : List Group = cleaned m.settings.own groups in
+    let n : Machine = record m { groups = kept } in
+    let first : Keeps 0 m n = elsewhere-keeps m.targets m.big_targets kept m.roots m.peers m h in
+    let o : Machine = (for_each peer_is_ordinary (members_of kept) n).machine in
+    let second : Keeps 0 n o = for_each-keeps peer_is_ordinary ordinary-keeps (members_of kept) n first.ordered in
+    let third : Keeps 0 o (for_each comes_ordinary (members_of kept) o).machine = for_each-keeps comes_ordinary comes_ordinary-keeps (members_of kept) o second.ordered in
+    keeps_then 0 0 m n (for_each comes_ordinary (members_of kept) o).machine first
+    (keeps_then 0 0 n o (for_each comes_ordinary (members_of kept) o).machine second third)
+
+comes_big-keeps : (addr : Addr) (m : Machine) → IsOrdered m → Keeps 0 m (comes_big addr m).machine
+comes_big-keeps addr m h = by_test (is_wanted_big addr m)
+  where
+    by_test : (b : Bool) → Keeps 0 m (if b then as_move (shared addr) m (peer_comes true addr m) else nothing_more m).machine
+    by_test true = peer_comes-keeps true addr m h
+    by_test false = keeps_nothing m h
+
+roots_say-keeps : (answer : RootAnswer) (m : Machine) → IsOrdered m → Keeps 0 m (roots_say answer m).machine
+roots_say-keeps (Found ttl addrs) m h =
+    let publics : List Addr = publics_of m.settings.own m.targets.root addrs in
+    let n : Machine = record m { roots = found m.now ttl publics m.roots } in
+    let first : Keeps 0 m n = elsewhere-keeps m.targets m.big_targets m.groups (found m.now ttl publics m.roots) m.peers m h in
+    keeps_then 0 0 m n (for_each comes_ordinary publics n).machine first (for_each-keeps comes_ordinary comes_ordinary-keeps publics n first.ordered)
+roots_say-keeps Failed m h = elsewhere-keeps m.targets m.big_targets m.groups (failed m.now m.settings.backoff m.roots) m.peers m h
+
+roots-keeps : (job : Job) (answer : RootAnswer) (m : Machine) → IsOrdered m → Keeps 0 m (roots_answer job answer m).machine
+roots-keeps job answer m h = cond_both (awaits job.0 m.roots) (roots_say answer m) (nothing_more m) (λ effect. Keeps 0 m effect.machine)
+    (λ pending. roots_say-keeps answer m h) (λ other. keeps_nothing m h)
+
+-- ---- dials and ends
+
+dial_ends-keeps : (cid : Cid) (opened : Bool) (m : Machine) → IsOrdered m → Keeps 0 m (dial_ends cid opened m).machine
+dial_ends-keeps cid opened m h = by_entry (entry_at cid.0 m) refl opened
+  where
+    by_entry : (o : Option Entry) → entry_at cid.0 m ≡ o → (b : Bool) → Keeps 0 m (dial_ends_at o b m).machine
+    by_entry None is b = keeps_nothing m h
+    by_entry (Some e) is b =
+        let at = find_some (λ y. has_id cid.0 y.facts) m.connections e is in
+        cond_both (is_dialing e.facts) (if b then dial_opens e m else dial_fails e m) (nothing_more m) (λ effect. Keeps 0 m effect.machine)
+        (λ dials. by_end e at.place at.stands dials b) (λ other. keeps_nothing m h)
+      where
+        by_end : (e : Entry) (k : ℕ) → StandsAt m.connections k e → is_dialing e.facts ≡ true → (b : Bool) →
+            Keeps 0 m (if b then dial_opens e m else dial_fails e m).machine
+        by_end e k s dials true = connects-keeps m e k h s dials
+        by_end e k s dials false = vanishes-keeps m e k h s
+
+closes-keeps : (cid : Cid) (m : Machine) → IsOrdered m → Keeps 0 m (peer_closes cid m).machine
+closes-keeps cid m h = by_entry (entry_at cid.0 m) refl
+  where
+    by_entry : (o : Option Entry) → entry_at cid.0 m ≡ o → Keeps 0 m (closed_at o m).machine
+    by_entry None is = keeps_nothing m h
+    by_entry (Some e) is =
+        let at = find_some (λ y. has_id cid.0 y.facts) m.connections e is in
+        cond_both (is_live e.facts) (vanishes e m) (nothing_more m) (λ effect. Keeps 0 m effect.machine)
+        (λ live. vanishes-keeps m e at.place h at.stands) (λ closed. keeps_nothing m h)
+
+-- ---- a peer connects
+
+admitted-shaped : (addr : Addr) (m : Machine) → AreShaped m → AreShaped (admitted addr m).machine
+admitted-shaped addr m h =
+    All-push (λ e. IsShaped e.facts) m.connections (admitted_entry addr m) h
+    (accepted-shaped m.next_id addr (m.now + m.settings.handshake))
+
+crossed-shaped : (addr : Addr) (m : Machine) (e : Entry) (k : ℕ) → IsOrdered m → StandsAt m.connections k e → AreShaped (crossed addr e m).machine
+crossed-shaped addr m e k h s = cond_both (address_below addr m.settings.own) (then_do (ending Overwritten e m) (admitted addr)) (turned_away Crossed m)
+    (λ effect. AreShaped effect.machine)
+    (λ below. admitted-shaped addr (ending Overwritten e m).machine (ending-keeps Overwritten m e k h s).ordered.shaped) (λ above. h.shaped)
+
+beside-shaped : (addr : Addr) (m : Machine) → IsOrdered m → AreShaped (accepted_beside (live_entry_at addr m) addr m).machine
+beside-shaped addr m h = by_live (live_entry_at addr m) refl
+  where
+    by_live : (o : Option Entry) → live_entry_at addr m ≡ o → AreShaped (accepted_beside o addr m).machine
+    by_live None is = admitted-shaped addr m h.shaped
+    by_live (Some e) is =
+        let at = find_some (λ y. is_live_at addr y.facts) m.connections e is in
+        cond_both (is_pending e.facts) (crossed addr e m) (turned_away Present m) (λ effect. AreShaped effect.machine)
+        (λ pending. crossed-shaped addr m e at.place h at.stands) (λ other. h.shaped)
+
+through-shaped : (g : Gate) (addr : Addr) (m : Machine) → IsOrdered m → AreShaped (accepted_through g addr m).machine
+through-shaped Free addr m h = beside-shaped addr m h
+through-shaped (PauseFor delay) addr m h = beside-shaped addr m h
+through-shaped NoRoom addr m h = h.shaped
+
+connects-shaped : (addr : Addr) (m : Machine) → IsOrdered m → AreShaped (peer_connects addr m).machine
+connects-shaped addr m h = cond_both (same_address addr m.settings.own) (turned_away OwnAddr m)
+    (accepted_through (gate_of m.settings (counted_in m)) addr m) (λ effect. AreShaped effect.machine)
+    (λ own. h.shaped) (λ other. through-shaped (gate_of m.settings (counted_in m)) addr m h)
+
+-- ---- the clock
+
+expires-keeps : (m : Machine) (e : Entry) (k : ℕ) → IsOrdered m → StandsAt m.connections k e → e.facts.local ≡ true →
+    Keeps 0 m (entry_turns e (record e { facts = expired e.facts }) m).machine
+expires-keeps m e k h s local =
+    let new : Entry = record e { facts = expired e.facts } in
+    let same : counted_of new ≡ counted_of e = ap (λ b. cond b 1 0) (counted-expired e.facts local) in
+    let late = late-expired m.now e in
+    turns-keeps 0 m e new k h s (record { same_id = refl; same_addr = refl; live = λ l. l })
+    (expired-shaped e.facts (stands-shaped m e k h s) local) (omega arith) (omega (arith, late))
+
+closes_entry-keeps : (m : Machine) (e : Entry) (k : ℕ) → IsOrdered m → StandsAt m.connections k e →
+    Keeps 0 m (entry_turns e (closing_entry m e) m).machine
+closes_entry-keeps m e k h s =
+    let until : ℕ = m.now + m.settings.timewait in
+    let none : counted_of (closing_entry m e) ≡ 0 = one_if-not_counted (closing_entry m e).facts (counted-closing until e.facts) in
+    let late = late-closing m e (timewait-positive m.settings h.orderly.settings) in
+    turns-keeps 0 m e (closing_entry m e) k h s (record { same_id = refl; same_addr = refl; live = λ l. absurd (false≢true l) })
+    (closing-shaped until e.facts) (omega arith) (omega (arith, late))
+
+grace_over-keeps : (m : Machine) (e : Entry) (k : ℕ) → IsOrdered m → StandsAt m.connections k e → Keeps 0 m (grace_over e m).machine
+grace_over-keeps m e k h s = cond_both e.facts.local (entry_turns e (record e { facts = expired e.facts }) m) closed
+    (λ effect. Keeps 0 m effect.machine) (expires-keeps m e k h s) (λ idle. closes_entry-keeps m e k h s)
+  where
+    closed : Effect
+    closed = as_move (unused e.facts.cid.0) m
+        (then_do (tells (Close e.facts.cid Unused ∷ []) m) (entry_turns e (closing_entry m e)))
+
+fires_as-keeps : (kind : Kind) (m : Machine) (e : Entry) (k : ℕ) → IsOrdered m → StandsAt m.connections k e → Keeps 0 m (fires_as kind e m).machine
+fires_as-keeps Handshake = ending-keeps (Fault HandshakeWait)
+fires_as-keeps GraceKind = grace_over-keeps
+fires_as-keeps TimeWait = goes-keeps
+fires_as-keeps Reply2 = ending-keeps (Fault ReplyWait)
+fires_as-keeps Reply8 = ending-keeps (Fault ReplyWait)
+fires_as-keeps Reply10 = ending-keeps (Fault ReplyWait)
+
+fires-keeps : (d : Deadline) (m : Machine) → IsOrdered m → Keeps 0 m (fires d m).machine
+fires-keeps d m h = by_entry (entry_at d.cid.0 m) refl
+  where
+    by_entry : (o : Option Entry) → entry_at d.cid.0 m ≡ o → Keeps 0 m (fires_on o d.kind m).machine
+    by_entry None is = keeps_nothing m h
+    by_entry (Some e) is =
+        let at = find_some (λ y. has_id d.cid.0 y.facts) m.connections e is in
+        fires_as-keeps d.kind m e at.place h at.stands
+
+fire_due-keeps : (n : ℕ) (m : Machine) → IsOrdered m → Keeps 0 m (fire_due n m).machine
+unfolding fire_due
+fire_due-keeps zero m h = keeps_nothing m h
+fire_due-keeps (suc n) m h = by_due (due m) (fire_due-keeps n)
+  where
+    by_due : (o : Option Deadline) → ((w : Machine) → IsOrdered w → Keeps 0 w (fire_due n w).machine) →
+        Keeps 0 m (fires_some o (fire_due n) m).machine
+    by_due None later = keeps_nothing m h
+    by_due (Some d) later =
+        let first : Keeps 0 m (fires d m).machine = fires-keeps d m h in
+        keeps_then 0 0 m (fires d m).machine (fire_due n (fires d m).machine).machine first (later (fires d m).machine first.ordered)
+
+clock-shaped : (t : ℕ) (m : Machine) → IsOrdered m → AreShaped (clock_shows t m).machine
+clock-shaped t m h =
+    let n : Machine = at_moment t m in
+    cond_both (nat_le t m.now) (nothing_more m) (fire_all n) (λ effect. AreShaped effect.machine) (λ past. h.shaped)
+    (λ later. (fire_due-keeps (length (deadlines n)) n (record { orderly = at_moment-orderly t m h.orderly; shaped = h.shaped })).ordered.shaped)
+
+-- ---- each event
+
+-- what an event does to a steady record
+pub record StaysSteady (before after : Machine) : Type 0 where
+  pub steady : IsSteady after
+  pub settings : after.settings ≡ before.settings
+
+ordered_of : (m : Machine) → IsSteady m → IsOrdered m
+ordered_of m h = record { orderly = h.sound.orderly; shaped = h.shaped }
+
+trimmed-steady : (m n : Machine) → IsSteady m → Trimmed m n → StaysSteady m n
+trimmed-steady m n h t =
+    let none : late_in m ≡ 0 = ahead-none_late m h.sound.deadlines in
+    record {
+      steady = record {
+        sound = record {
+          orderly = t.ordered.orderly;
+          counted = subst (λ s. counted_in n ≤ s.hard) (sym t.settings) t.counted;
+          deadlines = none_late-ahead n (omega (arith, t.late, none));
+        };
+        shaped = t.ordered.shaped;
+      };
+      settings = t.settings;
+    }
+
+kept-steady : (m n : Machine) → IsSteady m → Keeps 0 m n → StaysSteady m n
+kept-steady m n h k = trimmed-steady m n h (keeps-trimmed m n h.sound.counted k)
+
+stays-steady : (m n : Machine) → StaysSound m n → AreShaped n → StaysSteady m n
+stays-steady m n sound shaped = record { steady = record { sound = sound.sound; shaped = shaped }; settings = sound.settings }
+
+pub whole_step-steady : (m : Machine) (event : Event) → IsSteady m → IsUngoverned event → StaysSteady m (whole_step m event).machine
+whole_step-steady m (Now t) h u = stays-steady m (clock_shows t m).machine (clock_shows-sound t m h.sound) (clock-shaped t m (ordered_of m h))
+whole_step-steady m (Govern word) h u = elim u [ ]
+whole_step-steady m (Accepted addr) h u = stays-steady m (peer_connects addr m).machine (peer_connects-sound addr m h.sound) (connects-shaped addr m (ordered_of m h))
+whole_step-steady m (Dialed cid opened) h u = kept-steady m (dial_ends cid opened m).machine h (dial_ends-keeps cid opened m (ordered_of m h))
+whole_step-steady m (Bytes cid bytes) h u = trimmed-steady m (whole_step m (Bytes cid bytes)).machine h (bytes_come_in-trimmed cid bytes m (ordered_of m h) h.sound.counted)
+whole_step-steady m (Closed cid) h u = kept-steady m (peer_closes cid m).machine h (closes-keeps cid m (ordered_of m h))
+whole_step-steady m (Aims targets) h u = kept-steady m (targets_are targets m).machine h (elsewhere-keeps targets m.big_targets m.groups m.roots m.peers m (ordered_of m h))
+whole_step-steady m (Locals groups) h u = kept-steady m (locals_are groups m).machine h (locals-keeps groups m (ordered_of m h))
+whole_step-steady m (Roots job answer) h u = kept-steady m (roots_answer job answer m).machine h (roots-keeps job answer m (ordered_of m h))
+whole_step-steady m (BigAims targets) h u = kept-steady m (big_targets_are targets m).machine h (elsewhere-keeps m.targets targets m.groups m.roots m.peers m (ordered_of m h))
+whole_step-steady m (Bigs addrs) h u = kept-steady m (bigs_are addrs m).machine h (for_each-keeps comes_big comes_big-keeps addrs m (ordered_of m h))

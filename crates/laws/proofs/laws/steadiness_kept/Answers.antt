@@ -1,0 +1,12 @@
+use Rattle.laws.proofs.WholeEvents.{whole_step-steady}
+use Rattle.laws.proofs.WholeRuns.{start-steady}
+use Rattle.laws.proofs.laws.steadiness_kept.Goals as goal
+
+pub returns-clause-start : goal.returns-clause-start
+returns-clause-start c = start-steady
+
+pub returns-clause-kept : goal.returns-clause-kept
+returns-clause-kept c m event h u = (whole_step-steady m event h u).steady
+
+pub returns-clause-settings : goal.returns-clause-settings
+returns-clause-settings c m event h u = (whole_step-steady m event h u).settings

@@ -1,0 +1,68 @@
+-- What holds in every record that a run of the whole machine reaches before its governor has acted.
+use Rattle.std.specs.Prelude.{◌≡◌, true, false, not, ◌||◌, List, [], ◌∷◌, All, None}
+use Rattle.net_base.specs.declared.connection.Facts.{Facts}
+use Rattle.net_base.specs.declared.connection.Grace.TheVariants.{Off}
+use Rattle.net_base.specs.declared.event.Event.{Event}
+use Rattle.net_base.specs.declared.event.Event.TheVariants.{Now, Govern, Accepted, Dialed, Bytes, Closed, Aims, Locals, Roots, BigAims, Bigs}
+use Rattle.conn_state.specs.Use.{is_dialing, is_duplex, is_for_local, is_for_remote, is_negotiated, is_outbound, some_runs}
+use Rattle.machine.specs.Machine.{Machine}
+use Rattle.machine.specs.Whole.{whole_step}
+use Rattle.laws.specs.Sound.{IsSound}
+
+-- ---- the facts of one connection
+
+-- nobody uses it, and it is kept for nobody
+pub record IsUnused (f : Facts) : Type 0 where
+  pub agreed : f.agreed ≡ None
+  pub local : f.local ≡ false
+  pub running : some_runs f.running ≡ false
+  pub grace : f.grace ≡ Off
+
+-- which facts go together
+pub record IsShaped (f : Facts) : Type 0 where
+  -- outside the negotiated phase it is unused
+  pub unused : is_negotiated f ≡ false → IsUnused f
+  -- only this side dials
+  pub dialing : is_dialing f ≡ true → is_outbound f ≡ true
+  -- while a responder runs no grace does
+  pub remote : some_runs f.running ≡ true → f.grace ≡ Off
+  -- it is kept for this side only while this side does not use it
+  pub kept : f.local ≡ true → is_for_local f.grace ≡ false
+  -- one that nobody uses is kept for one side
+  pub idle : is_negotiated f ≡ true → f.local ≡ false → some_runs f.running ≡ false → (is_for_remote f.grace || is_for_local f.grace) ≡ true
+  -- only where the other side may use it, it does, or it is kept for it
+  pub serves_remote : (some_runs f.running || is_for_remote f.grace) ≡ true → (not (is_outbound f) || is_duplex f) ≡ true
+  -- only where this side may use it, it does
+  pub serves_local : f.local ≡ true → (is_outbound f || is_duplex f) ≡ true
+
+abbrev pub AreShaped : Machine → Type 0
+AreShaped m = All (λ e. IsShaped e.facts) m.connections
+
+-- ---- the record
+
+pub record IsSteady (m : Machine) : Type 0 where
+  pub sound : IsSound m
+  pub shaped : AreShaped m
+
+-- every event but the governor's
+abbrev pub IsUngoverned : Event → Type 0
+IsUngoverned (Now t) = Unit {0}
+IsUngoverned (Govern word) = ⊥
+IsUngoverned (Accepted addr) = Unit {0}
+IsUngoverned (Dialed cid opened) = Unit {0}
+IsUngoverned (Bytes cid bytes) = Unit {0}
+IsUngoverned (Closed cid) = Unit {0}
+IsUngoverned (Aims targets) = Unit {0}
+IsUngoverned (Locals groups) = Unit {0}
+IsUngoverned (Roots job answer) = Unit {0}
+IsUngoverned (BigAims targets) = Unit {0}
+IsUngoverned (Bigs addrs) = Unit {0}
+
+abbrev pub AreUngoverned : List Event → Type 0
+AreUngoverned [] = Unit {0}
+AreUngoverned (event ∷ events) = IsUngoverned event × AreUngoverned events
+
+-- the whole machine after all of the events
+unfoldable pub whole_after : Machine → List Event → Machine
+whole_after m [] = m
+whole_after m (event ∷ events) = whole_after (whole_step m event).machine events
