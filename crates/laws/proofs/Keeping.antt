@@ -16,15 +16,17 @@ use Rattle.peer_book.specs.declared.added.Added.{Added}
 use Rattle.peer_book.specs.declared.added.Added.TheVariants.{New, Present, Full}
 use Rattle.conn_state.specs.Use.{has_id}
 use Rattle.laws.specs.Sound.{IsOrderly}
-use Rattle.laws.specs.Whole.{IsShaped, AreShaped}
+use Rattle.laws.specs.Whole.{IsShaped, IsFormed, ArePeersApart, AreApart}
 use Rattle.laws.proofs.Counts.{counted_of, counted_in-sum, late_of, late_in, late_in-sum}
 use Rattle.laws.proofs.Entries.{TurnsInto, turned-connections, turned-orderly, turned-sum, gone-orderly, gone-sum}
 use Rattle.laws.proofs.Lists.{StandsAt}
+use Rattle.laws.proofs.PeersApart.{with_peer-apart, entered-apart}
+use Rattle.root_groups.specs.Cleaned.{members_of}
 
 -- what holds at every moment of the connections alone
 pub record IsOrdered (m : Machine) : Type 0 where
   pub orderly : IsOrderly m
-  pub shaped : AreShaped m
+  pub formed : IsFormed m
 
 -- From one record to another: both hold at every moment, no more than so many connections come to be counted, and no
 -- more deadlines are late.
@@ -77,7 +79,11 @@ turns-keeps raised m old new k h s t shaped more later =
     record {
       ordered = record {
         orderly = turned-orderly m old new k o s t;
-        shaped = subst (All (λ e. IsShaped e.facts)) list (All-set (λ e. IsShaped e.facts) m.connections k new shaped h.shaped);
+        formed = record {
+          shaped = subst (All (λ e. IsShaped e.facts)) list (All-set (λ e. IsShaped e.facts) m.connections k new shaped h.formed.shaped);
+          peers = h.formed.peers;
+          groups = h.formed.groups;
+        };
       };
       settings = refl;
       now = refl;
@@ -101,7 +107,11 @@ goes-keeps m e k h s =
     record {
       ordered = record {
         orderly = gone-orderly m e.facts.cid.0 h.orderly;
-        shaped = All-filter (λ x. not (has_id e.facts.cid.0 x.facts)) (λ x. IsShaped x.facts) m.connections h.shaped;
+        formed = record {
+          shaped = All-filter (λ x. not (has_id e.facts.cid.0 x.facts)) (λ x. IsShaped x.facts) m.connections h.formed.shaped;
+          peers = h.formed.peers;
+          groups = h.formed.groups;
+        };
       };
       settings = refl;
       now = refl;
@@ -111,8 +121,9 @@ goes-keeps m e k h s =
 
 -- what is no connection is no matter of them
 pub elsewhere-keeps : (targets : Targets) (big : BigTargets) (groups : List Group) (roots : RootState) (peers : List Peer) (m : Machine) →
-    IsOrdered m → Keeps 0 m (record m { targets = targets; big_targets = big; groups = groups; roots = roots; peers = peers })
-elsewhere-keeps targets big groups roots peers m h = record {
+    IsOrdered m → AreApart (members_of groups) → ArePeersApart peers →
+    Keeps 0 m (record m { targets = targets; big_targets = big; groups = groups; roots = roots; peers = peers })
+elsewhere-keeps targets big groups roots peers m h members apart = record {
   ordered = record {
     orderly = record {
       settings = h.orderly.settings;
@@ -121,7 +132,7 @@ elsewhere-keeps targets big groups roots peers m h = record {
       ids_rise = h.orderly.ids_rise;
       addresses = h.orderly.addresses;
     };
-    shaped = h.shaped;
+    formed = record { shaped = h.formed.shaped; peers = apart; groups = members };
   };
   settings = refl;
   now = refl;
@@ -129,17 +140,20 @@ elsewhere-keeps targets big groups roots peers m h = record {
   late = omega arith;
 }
 
-pub peers-keeps : (peers : List Peer) (m : Machine) → IsOrdered m → Keeps 0 m (record m { peers = peers })
-peers-keeps peers m h = elsewhere-keeps m.targets m.big_targets m.groups m.roots peers m h
+pub peers-keeps : (peers : List Peer) (m : Machine) → IsOrdered m → ArePeersApart peers → Keeps 0 m (record m { peers = peers })
+peers-keeps peers m h apart = elsewhere-keeps m.targets m.big_targets m.groups m.roots peers m h h.formed.groups apart
 
 -- ---- peers
 
-pub turns_at-keeps : (o : Option Peer) (change : Peer → Peer) (m : Machine) → IsOrdered m → Keeps 0 m (turns_at o change m).machine
-turns_at-keeps None change m h = keeps_nothing m h
-turns_at-keeps (Some p) change m h = peers-keeps (with_peer_in (change p) m.peers) m h
+-- a change that keeps addresses
+pub turns_at-keeps : (o : Option Peer) (change : Peer → Peer) (m : Machine) → ((p : Peer) → (change p).addr ≡ p.addr) → IsOrdered m →
+    Keeps 0 m (turns_at o change m).machine
+turns_at-keeps None change m same h = keeps_nothing m h
+turns_at-keeps (Some p) change m same h = peers-keeps (with_peer_in (change p) m.peers) m h (with_peer-apart (change p) m.peers h.formed.peers)
 
-pub changes-keeps : (addr : Addr) (change : Peer → Peer) (m : Machine) → IsOrdered m → Keeps 0 m (peer_changes addr change m).machine
-changes-keeps addr change m h = turns_at-keeps (peer_at addr m) change m h
+pub changes-keeps : (addr : Addr) (change : Peer → Peer) (m : Machine) → ((p : Peer) → (change p).addr ≡ p.addr) → IsOrdered m →
+    Keeps 0 m (peer_changes addr change m).machine
+changes-keeps addr change m same h = turns_at-keeps (peer_at addr m) change m same h
 
 pub note-machine : (added : Added) (addr : Addr) (m : Machine) → (note_of_coming added addr m).machine ≡ m
 note-machine New addr m = refl
@@ -149,7 +163,7 @@ note-machine Full addr m = refl
 pub peer_comes-keeps : (big : Bool) (addr : Addr) (m : Machine) → IsOrdered m → Keeps 0 m (peer_comes big addr m).machine
 peer_comes-keeps big addr m h =
     rw (note-machine (entry_of addr m.peers) addr (record m { peers = entered (new_peer big addr) m.peers }))
-    (peers-keeps (entered (new_peer big addr) m.peers) m h)
+    (peers-keeps (entered (new_peer big addr) m.peers) m h (entered-apart (new_peer big addr) m.peers h.formed.peers))
 
 -- ---- one part for each of a list
 

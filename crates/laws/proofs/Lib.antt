@@ -10,6 +10,11 @@ pub mod Settings
 mod Finds
 mod Shapes
 mod Effects
+mod Chosen
+mod Governing
+mod GroupsApart
+mod Orders
+mod PeersApart
 mod Keeping
 mod WholeMoves
 mod Trims
@@ -18,3 +23,5 @@ mod Talks
 mod Streams
 mod WholeEvents
 mod WholeRuns
+mod Promotions
+mod Picks

@@ -1,5 +1,6 @@
 -- One element of a list: what is found, what takes its place, and the list without it.
-use Rattle.std.proofs.Common.{ℕ, zero, suc, ◌+◌, ◌<◌, ◌≤◌, ◌≡◌, Bool, true, false, cond, not, List, [], ◌∷◌, length, map, filter, find, set, remove, get_or, Some, None, All, AllPairs, sum_by, count_by, flat_map, if◌then◌else◌, refl, sym, ap, ◌∙◌, subst, arith}
+use Rattle.std.proofs.Common.{ℕ, zero, suc, ◌+◌, ◌<◌, ◌≤◌, ◌≡◌, Bool, true, false, cond, not, List, [], ◌∷◌, ◌++◌, length, map, filter, find, set, remove, get_or, Some, None, All, AllPairs, sum_by, count_by, flat_map, if◌then◌else◌, refl, sym, ap, ◌∙◌, subst, arith}
+use Rattle.std.specs.List.{AllByRecursion}
 use Rattle.std.proofs.lemmas.Bool.{false_from_ne_true, both_ways}
 use Rattle.std.proofs.lemmas.List.Elements.{All-head, All-tail, All-cons, All-nil, All-set, All-weaker}
 use Rattle.std.proofs.lemmas.List.Kept.{AllPairs-cons}
@@ -193,3 +194,13 @@ count_by-all_fail p (x ∷ xs) h =
     let first : cond {A = ℕ} (p x) 1 0 ≡ 0 = rw here refl in
     let rest : count_by p xs ≡ 0 = count_by-all_fail p xs (All-tail (λ y. p y ≡ false) x xs h) in
     omega (arith, sum_by-cons (λ y. cond (p y) 1 0) x xs)
+
+-- ---- every element, by recursion
+
+pub all-weaker : {X : Type 0} (P Q : X → Type 0) → ((x : X) → P x → Q x) → (xs : List X) → AllByRecursion P xs → AllByRecursion Q xs
+all-weaker P Q gives [] h = tt
+all-weaker P Q gives (x ∷ xs) h = (gives x h.0, all-weaker P Q gives xs h.1)
+
+pub all-appended : {X : Type 0} (P : X → Type 0) (xs ys : List X) → AllByRecursion P xs → AllByRecursion P ys → AllByRecursion P (xs ++ ys)
+all-appended P [] ys h k = k
+all-appended P (x ∷ xs) ys h k = (h.0, all-appended P xs ys h.1 k)

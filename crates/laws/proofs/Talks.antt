@@ -135,7 +135,7 @@ runs-some protocol r h = runs-some_by r (protocol == 2) (protocol == 3) (protoco
 
 -- ---- what is found once a connection was pruned
 
-turns_at-connections : (o : Option Peer) (change : Peer → Peer) (m : Machine) → (turns_at o change m).machine.connections ≡ m.connections
+pub turns_at-connections : (o : Option Peer) (change : Peer → Peer) (m : Machine) → (turns_at o change m).machine.connections ≡ m.connections
 turns_at-connections None change m = refl
 turns_at-connections (Some p) change m = refl
 
@@ -304,7 +304,7 @@ brings-trimmed : (protocol : ℕ) (body : List ℕ) (e : Entry) (m : Machine) �
 brings-trimmed protocol body e m h within =
     cond_both (protocol == 2) (peer_becomes Hot e.facts.addr m) (if protocol == 8 then nothing_more m else takes_addresses (share_of body) m)
     (λ effect. Trimmed m effect.machine)
-    (λ on_2. keeps-trimmed m (peer_becomes Hot e.facts.addr m).machine within (changes-keeps e.facts.addr (λ p. record p { temp = Hot }) m h))
+    (λ on_2. keeps-trimmed m (peer_becomes Hot e.facts.addr m).machine within (changes-keeps e.facts.addr (λ p. record p { temp = Hot }) m (λ p. refl) h))
     (λ not_2. cond_both (protocol == 8) (nothing_more m) (takes_addresses (share_of body) m) (λ effect. Trimmed m effect.machine)
     (λ on_8. keeps-trimmed m m within (keeps_nothing m h)) (λ not_8. takes-trimmed (share_of body) m h within))
 

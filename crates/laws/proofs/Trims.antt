@@ -91,7 +91,7 @@ goes_among (x ∷ es) c e = by_head (candidate_of x.facts) refl (goes_among es) 
 
 -- ---- one less is counted
 
-turns_at-counted : (o : Option Peer) (change : Peer → Peer) (m : Machine) → counted_in (turns_at o change m).machine ≡ counted_in m
+pub turns_at-counted : (o : Option Peer) (change : Peer → Peer) (m : Machine) → counted_in (turns_at o change m).machine ≡ counted_in m
 turns_at-counted None change m = refl
 turns_at-counted (Some p) change m = refl
 

@@ -1,4 +1,4 @@
--- Each event of the whole machine but the governor's.
+-- Each event of the whole machine.
 use Rattle.std.proofs.Common.{ℕ, zero, suc, ◌+◌, ◌≤◌, ◌≡◌, Bool, true, false, cond, nat_le, if◌then◌else◌, List, [], ◌∷◌, length, Option, Some, None, refl, sym, ap, subst, arith}
 use Rattle.std.proofs.lemmas.Bool.{cond_both, false≢true}
 use Rattle.std.proofs.lemmas.List.Elements.{All-push}
@@ -31,9 +31,12 @@ use Rattle.machine.specs.Peers.{peer_is_ordinary, peer_comes}
 use Rattle.machine.specs.Connections.{entry_turns, closing_entry, grace_over, ending, vanishes, dial_opens, dial_fails}
 use Rattle.machine.specs.Deadlines.{deadlines, due, fires_as, fires_on, fires, fires_some, fire_due, fire_all}
 use Rattle.machine.specs.Events.{clock_shows, turned_away, admitted, crossed, accepted_beside, accepted_through, peer_connects, closed_at, peer_closes, dial_ends_at, dial_ends}
+use Rattle.machine.specs.Govern.{govern}
 use Rattle.machine.specs.Provided.{targets_are, big_targets_are, comes_ordinary, locals_are, is_wanted_big, comes_big, bigs_are, roots_say, roots_answer}
 use Rattle.machine.specs.Whole.{whole_step}
-use Rattle.laws.specs.Whole.{IsShaped, AreShaped, IsSteady, IsUngoverned}
+use Rattle.laws.specs.Whole.{IsShaped, IsFormed, IsSteady}
+use Rattle.laws.proofs.Governing.{govern-trimmed}
+use Rattle.laws.proofs.GroupsApart.{cleaned-apart}
 use Rattle.laws.proofs.Counts.{counted_of, late_in, counted-expired, counted-closing, late-expired, late-closing}
 use Rattle.laws.proofs.Effects.{one_if-not_counted}
 use Rattle.laws.proofs.Events.{StaysSound, admitted_entry, at_moment, at_moment-orderly, ahead-none_late, none_late-ahead, peer_connects-sound, clock_shows-sound}
@@ -51,13 +54,13 @@ comes_ordinary-keeps : (addr : Addr) (m : Machine) → IsOrdered m → Keeps 0 m
 comes_ordinary-keeps addr m h = peer_comes-keeps false addr m h
 
 ordinary-keeps : (addr : Addr) (m : Machine) → IsOrdered m → Keeps 0 m (peer_is_ordinary addr m).machine
-ordinary-keeps addr m h = changes-keeps addr (λ p. record p { big = false }) m h
+ordinary-keeps addr m h = changes-keeps addr (λ p. record p { big = false }) m (λ p. refl) h
 
 locals-keeps : (groups : List Group) (m : Machine) → IsOrdered m → Keeps 0 m (locals_are groups m).machine
 locals-keeps groups m h =
     let kept : List Group = cleaned m.settings.own groups in
     let n : Machine = record m { groups = kept } in
-    let first : Keeps 0 m n = elsewhere-keeps m.targets m.big_targets kept m.roots m.peers m h in
+    let first : Keeps 0 m n = elsewhere-keeps m.targets m.big_targets kept m.roots m.peers m h (cleaned-apart m.settings.own groups) h.formed.peers in
     let o : Machine = (for_each peer_is_ordinary (members_of kept) n).machine in
     let second : Keeps 0 n o = for_each-keeps peer_is_ordinary ordinary-keeps (members_of kept) n first.ordered in
     let third : Keeps 0 o (for_each comes_ordinary (members_of kept) o).machine = for_each-keeps comes_ordinary comes_ordinary-keeps (members_of kept) o second.ordered in
@@ -75,9 +78,9 @@ roots_say-keeps : (answer : RootAnswer) (m : Machine) → IsOrdered m → Keeps 
 roots_say-keeps (Found ttl addrs) m h =
     let publics : List Addr = publics_of m.settings.own m.targets.root addrs in
     let n : Machine = record m { roots = found m.now ttl publics m.roots } in
-    let first : Keeps 0 m n = elsewhere-keeps m.targets m.big_targets m.groups (found m.now ttl publics m.roots) m.peers m h in
+    let first : Keeps 0 m n = elsewhere-keeps m.targets m.big_targets m.groups (found m.now ttl publics m.roots) m.peers m h h.formed.groups h.formed.peers in
     keeps_then 0 0 m n (for_each comes_ordinary publics n).machine first (for_each-keeps comes_ordinary comes_ordinary-keeps publics n first.ordered)
-roots_say-keeps Failed m h = elsewhere-keeps m.targets m.big_targets m.groups (failed m.now m.settings.backoff m.roots) m.peers m h
+roots_say-keeps Failed m h = elsewhere-keeps m.targets m.big_targets m.groups (failed m.now m.settings.backoff m.roots) m.peers m h h.formed.groups h.formed.peers
 
 roots-keeps : (job : Job) (answer : RootAnswer) (m : Machine) → IsOrdered m → Keeps 0 m (roots_answer job answer m).machine
 roots-keeps job answer m h = cond_both (awaits job.0 m.roots) (roots_say answer m) (nothing_more m) (λ effect. Keeps 0 m effect.machine)
@@ -112,35 +115,38 @@ closes-keeps cid m h = by_entry (entry_at cid.0 m) refl
 
 -- ---- a peer connects
 
-admitted-shaped : (addr : Addr) (m : Machine) → AreShaped m → AreShaped (admitted addr m).machine
-admitted-shaped addr m h =
-    All-push (λ e. IsShaped e.facts) m.connections (admitted_entry addr m) h
-    (accepted-shaped m.next_id addr (m.now + m.settings.handshake))
+admitted-formed : (addr : Addr) (m : Machine) → IsFormed m → IsFormed (admitted addr m).machine
+admitted-formed addr m h = record {
+  shaped = All-push (λ e. IsShaped e.facts) m.connections (admitted_entry addr m) h.shaped
+      (accepted-shaped m.next_id addr (m.now + m.settings.handshake));
+  peers = h.peers;
+  groups = h.groups;
+}
 
-crossed-shaped : (addr : Addr) (m : Machine) (e : Entry) (k : ℕ) → IsOrdered m → StandsAt m.connections k e → AreShaped (crossed addr e m).machine
-crossed-shaped addr m e k h s = cond_both (address_below addr m.settings.own) (then_do (ending Overwritten e m) (admitted addr)) (turned_away Crossed m)
-    (λ effect. AreShaped effect.machine)
-    (λ below. admitted-shaped addr (ending Overwritten e m).machine (ending-keeps Overwritten m e k h s).ordered.shaped) (λ above. h.shaped)
+crossed-formed : (addr : Addr) (m : Machine) (e : Entry) (k : ℕ) → IsOrdered m → StandsAt m.connections k e → IsFormed (crossed addr e m).machine
+crossed-formed addr m e k h s = cond_both (address_below addr m.settings.own) (then_do (ending Overwritten e m) (admitted addr)) (turned_away Crossed m)
+    (λ effect. IsFormed effect.machine)
+    (λ below. admitted-formed addr (ending Overwritten e m).machine (ending-keeps Overwritten m e k h s).ordered.formed) (λ above. h.formed)
 
-beside-shaped : (addr : Addr) (m : Machine) → IsOrdered m → AreShaped (accepted_beside (live_entry_at addr m) addr m).machine
-beside-shaped addr m h = by_live (live_entry_at addr m) refl
+beside-formed : (addr : Addr) (m : Machine) → IsOrdered m → IsFormed (accepted_beside (live_entry_at addr m) addr m).machine
+beside-formed addr m h = by_live (live_entry_at addr m) refl
   where
-    by_live : (o : Option Entry) → live_entry_at addr m ≡ o → AreShaped (accepted_beside o addr m).machine
-    by_live None is = admitted-shaped addr m h.shaped
+    by_live : (o : Option Entry) → live_entry_at addr m ≡ o → IsFormed (accepted_beside o addr m).machine
+    by_live None is = admitted-formed addr m h.formed
     by_live (Some e) is =
         let at = find_some (λ y. is_live_at addr y.facts) m.connections e is in
-        cond_both (is_pending e.facts) (crossed addr e m) (turned_away Present m) (λ effect. AreShaped effect.machine)
-        (λ pending. crossed-shaped addr m e at.place h at.stands) (λ other. h.shaped)
+        cond_both (is_pending e.facts) (crossed addr e m) (turned_away Present m) (λ effect. IsFormed effect.machine)
+        (λ pending. crossed-formed addr m e at.place h at.stands) (λ other. h.formed)
 
-through-shaped : (g : Gate) (addr : Addr) (m : Machine) → IsOrdered m → AreShaped (accepted_through g addr m).machine
-through-shaped Free addr m h = beside-shaped addr m h
-through-shaped (PauseFor delay) addr m h = beside-shaped addr m h
-through-shaped NoRoom addr m h = h.shaped
+through-formed : (g : Gate) (addr : Addr) (m : Machine) → IsOrdered m → IsFormed (accepted_through g addr m).machine
+through-formed Free addr m h = beside-formed addr m h
+through-formed (PauseFor delay) addr m h = beside-formed addr m h
+through-formed NoRoom addr m h = h.formed
 
-connects-shaped : (addr : Addr) (m : Machine) → IsOrdered m → AreShaped (peer_connects addr m).machine
-connects-shaped addr m h = cond_both (same_address addr m.settings.own) (turned_away OwnAddr m)
-    (accepted_through (gate_of m.settings (counted_in m)) addr m) (λ effect. AreShaped effect.machine)
-    (λ own. h.shaped) (λ other. through-shaped (gate_of m.settings (counted_in m)) addr m h)
+connects-formed : (addr : Addr) (m : Machine) → IsOrdered m → IsFormed (peer_connects addr m).machine
+connects-formed addr m h = cond_both (same_address addr m.settings.own) (turned_away OwnAddr m)
+    (accepted_through (gate_of m.settings (counted_in m)) addr m) (λ effect. IsFormed effect.machine)
+    (λ own. h.formed) (λ other. through-formed (gate_of m.settings (counted_in m)) addr m h)
 
 -- ---- the clock
 
@@ -199,11 +205,14 @@ fire_due-keeps (suc n) m h = by_due (due m) (fire_due-keeps n)
         let first : Keeps 0 m (fires d m).machine = fires-keeps d m h in
         keeps_then 0 0 m (fires d m).machine (fire_due n (fires d m).machine).machine first (later (fires d m).machine first.ordered)
 
-clock-shaped : (t : ℕ) (m : Machine) → IsOrdered m → AreShaped (clock_shows t m).machine
-clock-shaped t m h =
+formed_at_moment : (t : ℕ) (m : Machine) → IsFormed m → IsFormed (at_moment t m)
+formed_at_moment t m h = record { shaped = h.shaped; peers = h.peers; groups = h.groups }
+
+clock-formed : (t : ℕ) (m : Machine) → IsOrdered m → IsFormed (clock_shows t m).machine
+clock-formed t m h =
     let n : Machine = at_moment t m in
-    cond_both (nat_le t m.now) (nothing_more m) (fire_all n) (λ effect. AreShaped effect.machine) (λ past. h.shaped)
-    (λ later. (fire_due-keeps (length (deadlines n)) n (record { orderly = at_moment-orderly t m h.orderly; shaped = h.shaped })).ordered.shaped)
+    cond_both (nat_le t m.now) (nothing_more m) (fire_all n) (λ effect. IsFormed effect.machine) (λ past. h.formed)
+    (λ later. (fire_due-keeps (length (deadlines n)) n (record { orderly = at_moment-orderly t m h.orderly; formed = formed_at_moment t m h.formed })).ordered.formed)
 
 -- ---- each event
 
@@ -213,7 +222,7 @@ pub record StaysSteady (before after : Machine) : Type 0 where
   pub settings : after.settings ≡ before.settings
 
 ordered_of : (m : Machine) → IsSteady m → IsOrdered m
-ordered_of m h = record { orderly = h.sound.orderly; shaped = h.shaped }
+ordered_of m h = record { orderly = h.sound.orderly; formed = h.formed }
 
 trimmed-steady : (m n : Machine) → IsSteady m → Trimmed m n → StaysSteady m n
 trimmed-steady m n h t =
@@ -225,7 +234,7 @@ trimmed-steady m n h t =
           counted = subst (λ s. counted_in n ≤ s.hard) (sym t.settings) t.counted;
           deadlines = none_late-ahead n (omega (arith, t.late, none));
         };
-        shaped = t.ordered.shaped;
+        formed = t.ordered.formed;
       };
       settings = t.settings;
     }
@@ -233,18 +242,18 @@ trimmed-steady m n h t =
 kept-steady : (m n : Machine) → IsSteady m → Keeps 0 m n → StaysSteady m n
 kept-steady m n h k = trimmed-steady m n h (keeps-trimmed m n h.sound.counted k)
 
-stays-steady : (m n : Machine) → StaysSound m n → AreShaped n → StaysSteady m n
-stays-steady m n sound shaped = record { steady = record { sound = sound.sound; shaped = shaped }; settings = sound.settings }
+stays-steady : (m n : Machine) → StaysSound m n → IsFormed n → StaysSteady m n
+stays-steady m n sound formed = record { steady = record { sound = sound.sound; formed = formed }; settings = sound.settings }
 
-pub whole_step-steady : (m : Machine) (event : Event) → IsSteady m → IsUngoverned event → StaysSteady m (whole_step m event).machine
-whole_step-steady m (Now t) h u = stays-steady m (clock_shows t m).machine (clock_shows-sound t m h.sound) (clock-shaped t m (ordered_of m h))
-whole_step-steady m (Govern word) h u = elim u [ ]
-whole_step-steady m (Accepted addr) h u = stays-steady m (peer_connects addr m).machine (peer_connects-sound addr m h.sound) (connects-shaped addr m (ordered_of m h))
-whole_step-steady m (Dialed cid opened) h u = kept-steady m (dial_ends cid opened m).machine h (dial_ends-keeps cid opened m (ordered_of m h))
-whole_step-steady m (Bytes cid bytes) h u = trimmed-steady m (whole_step m (Bytes cid bytes)).machine h (bytes_come_in-trimmed cid bytes m (ordered_of m h) h.sound.counted)
-whole_step-steady m (Closed cid) h u = kept-steady m (peer_closes cid m).machine h (closes-keeps cid m (ordered_of m h))
-whole_step-steady m (Aims targets) h u = kept-steady m (targets_are targets m).machine h (elsewhere-keeps targets m.big_targets m.groups m.roots m.peers m (ordered_of m h))
-whole_step-steady m (Locals groups) h u = kept-steady m (locals_are groups m).machine h (locals-keeps groups m (ordered_of m h))
-whole_step-steady m (Roots job answer) h u = kept-steady m (roots_answer job answer m).machine h (roots-keeps job answer m (ordered_of m h))
-whole_step-steady m (BigAims targets) h u = kept-steady m (big_targets_are targets m).machine h (elsewhere-keeps m.targets targets m.groups m.roots m.peers m (ordered_of m h))
-whole_step-steady m (Bigs addrs) h u = kept-steady m (bigs_are addrs m).machine h (for_each-keeps comes_big comes_big-keeps addrs m (ordered_of m h))
+pub whole_step-steady : (m : Machine) (event : Event) → IsSteady m → StaysSteady m (whole_step m event).machine
+whole_step-steady m (Now t) h = stays-steady m (clock_shows t m).machine (clock_shows-sound t m h.sound) (clock-formed t m (ordered_of m h))
+whole_step-steady m (Govern word) h = trimmed-steady m (govern word m).machine h (govern-trimmed word m (ordered_of m h) h.sound.counted)
+whole_step-steady m (Accepted addr) h = stays-steady m (peer_connects addr m).machine (peer_connects-sound addr m h.sound) (connects-formed addr m (ordered_of m h))
+whole_step-steady m (Dialed cid opened) h = kept-steady m (dial_ends cid opened m).machine h (dial_ends-keeps cid opened m (ordered_of m h))
+whole_step-steady m (Bytes cid bytes) h = trimmed-steady m (whole_step m (Bytes cid bytes)).machine h (bytes_come_in-trimmed cid bytes m (ordered_of m h) h.sound.counted)
+whole_step-steady m (Closed cid) h = kept-steady m (peer_closes cid m).machine h (closes-keeps cid m (ordered_of m h))
+whole_step-steady m (Aims targets) h = kept-steady m (targets_are targets m).machine h (elsewhere-keeps targets m.big_targets m.groups m.roots m.peers m (ordered_of m h) h.formed.groups h.formed.peers)
+whole_step-steady m (Locals groups) h = kept-steady m (locals_are groups m).machine h (locals-keeps groups m (ordered_of m h))
+whole_step-steady m (Roots job answer) h = kept-steady m (roots_answer job answer m).machine h (roots-keeps job answer m (ordered_of m h))
+whole_step-steady m (BigAims targets) h = kept-steady m (big_targets_are targets m).machine h (elsewhere-keeps m.targets targets m.groups m.roots m.peers m (ordered_of m h) h.formed.groups h.formed.peers)
+whole_step-steady m (Bigs addrs) h = kept-steady m (bigs_are addrs m).machine h (for_each-keeps comes_big comes_big-keeps addrs m (ordered_of m h))

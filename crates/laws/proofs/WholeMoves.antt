@@ -45,7 +45,7 @@ reply-positive s h = interval-positive s.reply (first_failing-none (settings_tes
 
 pub lost-keeps : (f : Facts) (m : Machine) → IsOrdered m → Keeps 0 m (lost f m).machine
 lost-keeps f m h = cond_both (is_missed f) (peer_fails f.addr m) (nothing_more m) (λ effect. Keeps 0 m effect.machine)
-    (λ missed. changes-keeps f.addr (failed_peer m.now m.settings.backoff) m h) (λ other. keeps_nothing m h)
+    (λ missed. changes-keeps f.addr (failed_peer m.now m.settings.backoff) m (λ p. refl) h) (λ other. keeps_nothing m h)
 
 lost_by-keeps : (cause : CloseCause) (f : Facts) (m : Machine) → IsOrdered m → Keeps 0 m (lost_by cause f m).machine
 lost_by-keeps Unused f m h = lost-keeps f m h
@@ -100,7 +100,7 @@ negotiated-live (Closing until) h = absurd (false≢true h)
 
 -- what stands is in shape
 pub stands-shaped : (m : Machine) (e : Entry) (k : ℕ) → IsOrdered m → StandsAt m.connections k e → IsShaped e.facts
-stands-shaped m e k h s = All-stands (λ x. IsShaped x.facts) m.connections k e s h.shaped
+stands-shaped m e k h s = All-stands (λ x. IsShaped x.facts) m.connections k e s h.formed.shaped
 
 -- the dialed socket is open
 pub connects-keeps : (m : Machine) (e : Entry) (k : ℕ) → IsOrdered m → StandsAt m.connections k e → is_dialing e.facts ≡ true →
@@ -145,7 +145,7 @@ used-keeps f m e k h s cid addr live shaped fewer phase grace =
     let same : owed_late m.now f.cid e.owed ≡ owed_late m.now e.facts.cid e.owed = ap (λ c. owed_late m.now c e.owed) cid in
     let turns : Keeps 0 m n = turns-keeps 0 m e new k h s (record { same_id = cid; same_addr = addr; live = live }) shaped (omega (arith, fewer))
     (late-fewer m.now e new phase grace (omega (arith, owed, same))) in
-    keeps_then 0 0 m n (peer_succeeds f.addr n).machine turns (changes-keeps f.addr (λ p. record p { temp = Warm; failures = 0 }) n turns.ordered)
+    keeps_then 0 0 m n (peer_succeeds f.addr n).machine turns (changes-keeps f.addr (λ p. record p { temp = Warm; failures = 0 }) n (λ p. refl) turns.ordered)
 
 -- this node takes a connection that stands into use
 pub acquire-keeps : (m : Machine) (e : Entry) (k : ℕ) → IsOrdered m → StandsAt m.connections k e → is_acquirable e.facts ≡ true →

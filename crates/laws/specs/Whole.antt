@@ -1,9 +1,13 @@
--- What holds in every record that a run of the whole machine reaches before its governor has acted.
+-- What holds in every record that a run of the whole machine reaches.
 use Rattle.std.specs.Prelude.{◌≡◌, true, false, not, ◌||◌, List, [], ◌∷◌, All, None}
+use Rattle.std.specs.List.{AllByRecursion}
+use Rattle.net_base.specs.Address.{same_address}
+use Rattle.net_base.specs.declared.address.Addr.{Addr}
+use Rattle.net_base.specs.declared.peer.Peer.{Peer}
+use Rattle.root_groups.specs.Cleaned.{members_of}
 use Rattle.net_base.specs.declared.connection.Facts.{Facts}
 use Rattle.net_base.specs.declared.connection.Grace.TheVariants.{Off}
 use Rattle.net_base.specs.declared.event.Event.{Event}
-use Rattle.net_base.specs.declared.event.Event.TheVariants.{Now, Govern, Accepted, Dialed, Bytes, Closed, Aims, Locals, Roots, BigAims, Bigs}
 use Rattle.conn_state.specs.Use.{is_dialing, is_duplex, is_for_local, is_for_remote, is_negotiated, is_outbound, some_runs}
 use Rattle.machine.specs.Machine.{Machine}
 use Rattle.machine.specs.Whole.{whole_step}
@@ -38,29 +42,28 @@ pub record IsShaped (f : Facts) : Type 0 where
 abbrev pub AreShaped : Machine → Type 0
 AreShaped m = All (λ e. IsShaped e.facts) m.connections
 
+-- ---- peers and groups
+
+-- no two peers have one address
+abbrev pub ArePeersApart : List Peer → Type 0
+ArePeersApart [] = Unit {0}
+ArePeersApart (p ∷ ps) = AllByRecursion (λ q. same_address q.addr p.addr ≡ false) ps × ArePeersApart ps
+
+-- no address is in two groups
+abbrev pub AreApart : List Addr → Type 0
+AreApart [] = Unit {0}
+AreApart (a ∷ addrs) = AllByRecursion (λ b. same_address b a ≡ false) addrs × AreApart addrs
+
 -- ---- the record
+
+pub record IsFormed (m : Machine) : Type 0 where
+  pub shaped : AreShaped m
+  pub peers : ArePeersApart m.peers
+  pub groups : AreApart (members_of m.groups)
 
 pub record IsSteady (m : Machine) : Type 0 where
   pub sound : IsSound m
-  pub shaped : AreShaped m
-
--- every event but the governor's
-abbrev pub IsUngoverned : Event → Type 0
-IsUngoverned (Now t) = Unit {0}
-IsUngoverned (Govern word) = ⊥
-IsUngoverned (Accepted addr) = Unit {0}
-IsUngoverned (Dialed cid opened) = Unit {0}
-IsUngoverned (Bytes cid bytes) = Unit {0}
-IsUngoverned (Closed cid) = Unit {0}
-IsUngoverned (Aims targets) = Unit {0}
-IsUngoverned (Locals groups) = Unit {0}
-IsUngoverned (Roots job answer) = Unit {0}
-IsUngoverned (BigAims targets) = Unit {0}
-IsUngoverned (Bigs addrs) = Unit {0}
-
-abbrev pub AreUngoverned : List Event → Type 0
-AreUngoverned [] = Unit {0}
-AreUngoverned (event ∷ events) = IsUngoverned event × AreUngoverned events
+  pub formed : IsFormed m
 
 -- the whole machine after all of the events
 unfoldable pub whole_after : Machine → List Event → Machine

@@ -9,7 +9,7 @@ ghost use Rattle.machine.specs.Run.{after_all};
 ghost use Rattle.machine.specs.Whole.{whole_step};
 ghost use Rattle.laws.specs.Laws.{LiveAddressesDistinct, WithinHardLimit, DeadlinesAhead};
 ghost use Rattle.laws.specs.Sound.{IsOrderly, IsSound};
-ghost use Rattle.laws.specs.Whole.{IsSteady, IsUngoverned, AreUngoverned, whole_after};
+ghost use Rattle.laws.specs.Whole.{IsSteady, whole_after};
 
 /// The laws, for all settings that the check passes and every list of events. Any beginning of a list of events
 /// is one too, so the laws hold after each event.
@@ -35,18 +35,17 @@ pub fn all_due_fires()
     ensures clock { (t : ℕ) (m : Machine) → IsSound m → DeadlinesAhead (clock_shows t m).machine }
 {}
 
-/// The laws of the whole machine over every list of events without the governor's.
-pub fn laws_of_ungoverned_runs()
-    ensures distinct { (settings : Settings) (events : List Event) → AreSound settings → AreUngoverned events → LiveAddressesDistinct (whole_after (start_of settings) events) }
-    ensures limit { (settings : Settings) (events : List Event) → AreSound settings → AreUngoverned events → WithinHardLimit (whole_after (start_of settings) events) }
-    ensures deadlines { (settings : Settings) (events : List Event) → AreSound settings → AreUngoverned events → DeadlinesAhead (whole_after (start_of settings) events) }
-    ensures settings { (settings : Settings) (events : List Event) → AreSound settings → AreUngoverned events → (whole_after (start_of settings) events).settings ≡ settings }
+/// The laws of the whole machine, over every list of events.
+pub fn laws_of_whole_runs()
+    ensures distinct { (settings : Settings) (events : List Event) → AreSound settings → LiveAddressesDistinct (whole_after (start_of settings) events) }
+    ensures limit { (settings : Settings) (events : List Event) → AreSound settings → WithinHardLimit (whole_after (start_of settings) events) }
+    ensures deadlines { (settings : Settings) (events : List Event) → AreSound settings → DeadlinesAhead (whole_after (start_of settings) events) }
+    ensures settings { (settings : Settings) (events : List Event) → AreSound settings → (whole_after (start_of settings) events).settings ≡ settings }
 {}
 
-/// What carries them: a record is steady at the start, and after each event but the governor's where it was before,
-/// whatever stands in it.
+/// What carries them: a record is steady at the start, and after each event where it was before, whatever stands in it.
 pub fn steadiness_kept()
     ensures start { (settings : Settings) → AreSound settings → IsSteady (start_of settings) }
-    ensures kept { (m : Machine) (event : Event) → IsSteady m → IsUngoverned event → IsSteady (whole_step m event).machine }
-    ensures settings { (m : Machine) (event : Event) → IsSteady m → IsUngoverned event → (whole_step m event).machine.settings ≡ m.settings }
+    ensures kept { (m : Machine) (event : Event) → IsSteady m → IsSteady (whole_step m event).machine }
+    ensures settings { (m : Machine) (event : Event) → IsSteady m → (whole_step m event).machine.settings ≡ m.settings }
 {}

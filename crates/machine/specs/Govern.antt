@@ -1,7 +1,7 @@
 -- The governor: the rules in their order, each on the machine that the one before it left.
-use Rattle.std.specs.Prelude.{ℕ, ◌+◌, List, [], ◌∷◌, map, is_some, if◌then◌else◌, Option, Some, None}
+use Rattle.std.specs.Prelude.{ℕ, ◌+◌, Bool, ◌&&◌, List, [], ◌∷◌, find, map, is_some, if◌then◌else◌, Option, Some, None}
 use Rattle.churn_clock.specs.Windows.{effective_of, effective_big_of}
-use Rattle.conn_state.specs.Use.{is_live, is_acquirable, is_pending, agreed_sharing}
+use Rattle.conn_state.specs.Use.{is_live, is_live_at, is_acquirable, is_pending, agreed_sharing}
 use Rattle.govern_rules.specs.BigRules.{big_orders}
 use Rattle.govern_rules.specs.Rules.{g2_orders, g3_orders, g4_orders, g5_orders, g6_orders, g7_orders, g8_orders, g9_orders}
 use Rattle.govern_rules.specs.declared.big_rule.BigRule.TheVariants.{B3, B5, B6, B8, B9}
@@ -60,9 +60,12 @@ abbrev pub on_entry : Option Entry → (Entry → Machine → Effect) → Machin
 on_entry None act m = nothing_more m
 on_entry (Some entry) act m = act entry m
 
--- on the live connection of an address
-abbrev pub on_live : Addr → (Entry → Machine → Effect) → Machine → Effect
-on_live addr act m = on_entry (live_entry_at addr m) act m
+-- on the connection of an address that is in local use
+abbrev pub is_used_at : Addr → Entry → Bool
+is_used_at addr entry = is_live_at addr entry.facts && entry.facts.local
+
+abbrev pub on_used : Addr → (Entry → Machine → Effect) → Machine → Effect
+on_used addr act m = on_entry (find (is_used_at addr) m.connections) act m
 
 -- A peer is asked for addresses, and not again for a while.
 abbrev pub asks_peer : ℕ → Entry → Machine → Effect
@@ -76,7 +79,7 @@ activates entry m = then_do (asks entry.facts.cid 2 find_intersect m)
     (λ m. entry_turns entry (owing 2 0 m entry) m)
 
 abbrev pub activate : Addr → Machine → Effect
-activate addr m = as_move (activated addr) m (on_live addr activates m)
+activate addr m = as_move (activated addr) m (on_used addr activates m)
 
 -- A hot peer is told that chain-sync is done, and is warm.
 abbrev pub deactivates : Entry → Machine → Effect
@@ -84,12 +87,12 @@ deactivates entry m = then_do (asks entry.facts.cid 2 chain_sync_done m)
     (peer_becomes Warm entry.facts.addr)
 
 abbrev pub carries_out : Order → Machine → Effect
-carries_out (Ask addr n) m = on_live addr (asks_peer n) m
+carries_out (Ask addr n) m = on_used addr (asks_peer n) m
 carries_out (Forget addr) m = peer_goes addr m
 carries_out (Promote addr) m = promote addr m
-carries_out (Release addr) m = on_live addr release m
+carries_out (Release addr) m = on_used addr release m
 carries_out (Activate addr) m = activate addr m
-carries_out (Deactivate addr) m = on_live addr deactivates m
+carries_out (Deactivate addr) m = on_used addr deactivates m
 
 -- ---- the rules
 

@@ -6,7 +6,7 @@ pub returns-clause-start : goal.returns-clause-start
 returns-clause-start c = start-steady
 
 pub returns-clause-kept : goal.returns-clause-kept
-returns-clause-kept c m event h u = (whole_step-steady m event h u).steady
+returns-clause-kept c m event h = (whole_step-steady m event h).steady
 
 pub returns-clause-settings : goal.returns-clause-settings
-returns-clause-settings c m event h u = (whole_step-steady m event h u).settings
+returns-clause-settings c m event h = (whole_step-steady m event h).settings

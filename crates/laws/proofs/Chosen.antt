@@ -1,0 +1,119 @@
+-- The peers that orders go to: no address twice, and of a group members only.
+use Rattle.std.proofs.Common.{ℕ, ◌≡◌, Bool, true, false, ◌&&◌, ◌||◌, List, [], ◌∷◌, ◌++◌, filter, flat_map, refl, sym, subst}
+use Rattle.std.specs.List.{AllByRecursion}
+use Rattle.std.proofs.lemmas.Bool.{both_ways, and_parts, false_from_ne_true}
+use Rattle.net_base.specs.Address.{same_address}
+use Rattle.net_base.specs.declared.address.Addr.{Addr}
+use Rattle.net_base.specs.declared.event.Group.{Group}
+use Rattle.net_base.specs.declared.peer.Peer.{Peer}
+use Rattle.peer_book.specs.Book.{is_of}
+use Rattle.root_groups.specs.Cleaned.{is_listed, members_of}
+use Rattle.govern_rules.specs.Orders.{picks_of}
+use Rattle.laws.specs.Whole.{ArePeersApart, AreApart}
+use Rattle.laws.proofs.Addresses.{same_address-true}
+use Rattle.laws.proofs.GroupsApart.{append-apart}
+use Rattle.laws.proofs.Lists.{all-weaker, all-appended}
+use Rattle.laws.proofs.PeersApart.{same_turned, filter-apart}
+use Rattle.laws.proofs.Picks.{filter-passing, picks-apart, picks-all}
+
+-- ---- of all peers
+
+-- those of a class that pass a test, and that are picked
+abbrev pub chosen : Bool → ℕ → ℕ → (Peer → Bool) → List Peer → List Addr
+chosen big word number test peers = picks_of big word number (filter (λ p. is_of big p && test p) peers)
+
+pub chosen-apart : (big : Bool) (word number : ℕ) (test : Peer → Bool) (peers : List Peer) → ArePeersApart peers → AreApart (chosen big word number test peers)
+chosen-apart big word number test peers h =
+    let passes : Peer → Bool = λ p. is_of big p && test p in
+    picks-apart big word number (filter passes peers) (filter-apart passes peers h)
+
+pub chosen-all : (P : Addr → Type 0) (big : Bool) (word number : ℕ) (test : Peer → Bool) (peers : List Peer) → ((p : Peer) → test p ≡ true → P p.addr) →
+    AllByRecursion P (chosen big word number test peers)
+chosen-all P big word number test peers gives =
+    let passes : Peer → Bool = λ p. is_of big p && test p in
+    picks-all P big word number (filter passes peers)
+    (all-weaker (λ p. passes p ≡ true) (λ p. P p.addr) (λ p h. gives p (and_parts (is_of big p) (test p) h).1) (filter passes peers) (filter-passing passes peers))
+
+-- ---- of each group
+
+listed_front : (a : Addr) (xs ys : List Addr) → is_listed a xs ≡ true → is_listed a (xs ++ ys) ≡ true
+listed_front a [] ys h = absurd cc
+listed_front a (x ∷ xs) ys h = by_test (same_address a x) refl h (listed_front a xs ys)
+  where
+    by_test : (b : Bool) → same_address a x ≡ b → (b || is_listed a xs) ≡ true → (is_listed a xs ≡ true → is_listed a (xs ++ ys) ≡ true) →
+        (b || is_listed a (xs ++ ys)) ≡ true
+    by_test true e here later = refl
+    by_test false e there later = later there
+
+listed_behind : (a : Addr) (xs ys : List Addr) → is_listed a ys ≡ true → is_listed a (xs ++ ys) ≡ true
+listed_behind a [] ys h = h
+listed_behind a (x ∷ xs) ys h = or_right (same_address a x) (is_listed a (xs ++ ys)) (listed_behind a xs ys h)
+  where
+    or_right : (b c : Bool) → c ≡ true → (b || c) ≡ true
+    or_right true c e = refl
+    or_right false c e = e
+
+all-behind : (P : Addr → Type 0) (xs ys : List Addr) → AllByRecursion P (xs ++ ys) → AllByRecursion P ys
+all-behind P [] ys h = h
+all-behind P (x ∷ xs) ys h = all-behind P xs ys h.1
+
+apart-behind : (xs ys : List Addr) → AreApart (xs ++ ys) → AreApart ys
+apart-behind [] ys h = h
+apart-behind (x ∷ xs) ys h = apart-behind xs ys h.1
+
+-- whoever differs from all of them is not among them
+not_among : (a : Addr) (ys : List Addr) → AllByRecursion (λ b. same_address b a ≡ false) ys → is_listed a ys ≡ false
+not_among a [] h = refl
+not_among a (y ∷ ys) h = or_false (same_address a y) (is_listed a ys) (same_turned y a h.0) (not_among a ys h.1)
+  where
+    or_false : (b c : Bool) → b ≡ false → c ≡ false → (b || c) ≡ false
+    or_false b c d e = subst (λ x. (x || c) ≡ false) (sym d) e
+
+-- an address of the front is none behind it
+front-not_behind : (a : Addr) (xs ys : List Addr) → AreApart (xs ++ ys) → is_listed a xs ≡ true → is_listed a ys ≡ false
+front-not_behind a [] ys h listed = absurd cc
+front-not_behind a (x ∷ xs) ys h listed = by_test (same_address a x) refl listed (front-not_behind a xs ys h.1)
+  where
+    by_test : (b : Bool) → same_address a x ≡ b → (b || is_listed a xs) ≡ true → (is_listed a xs ≡ true → is_listed a ys ≡ false) →
+        is_listed a ys ≡ false
+    by_test true e here later =
+        subst (λ z. is_listed z ys ≡ false) (sym (same_address-true a x e))
+        (not_among x ys (all-behind (λ b. same_address b x ≡ false) xs ys h.0))
+    by_test false e there later = later there
+
+others : (front behind : List Addr) (a b : Addr) → AreApart (front ++ behind) → is_listed a front ≡ true → is_listed b behind ≡ true → same_address b a ≡ false
+others front behind a b h one two = false_from_ne_true (same_address b a) (λ same.
+  both_ways (is_listed b behind)
+  (subst (λ z. is_listed z behind ≡ false) (sym (same_address-true b a same)) (front-not_behind a front behind h one)) two)
+
+-- each group's picks are members of it, and apart
+pub record PicksMembers (pick : Group → List Addr) : Type 0 where
+  pub apart : (group : Group) → AreApart (pick group)
+  pub members : (group : Group) → AllByRecursion (λ a. is_listed a group.members ≡ true) (pick group)
+
+picks-listed : (pick : Group → List Addr) (groups : List Group) → PicksMembers pick →
+    AllByRecursion (λ a. is_listed a (members_of groups) ≡ true) (flat_map pick groups)
+picks-listed pick [] h = tt
+picks-listed pick (g ∷ groups) h =
+    let rest : List Addr = members_of groups in
+    all-appended (λ a. is_listed a (g.members ++ rest) ≡ true) (pick g) (flat_map pick groups)
+    (all-weaker (λ a. is_listed a g.members ≡ true) (λ a. is_listed a (g.members ++ rest) ≡ true)
+    (λ a listed. listed_front a g.members rest listed) (pick g) (h.members g))
+    (all-weaker (λ a. is_listed a rest ≡ true) (λ a. is_listed a (g.members ++ rest) ≡ true)
+    (λ a listed. listed_behind a g.members rest listed) (flat_map pick groups) (picks-listed pick groups h))
+
+pub groups_picks-apart : (pick : Group → List Addr) (groups : List Group) → PicksMembers pick → AreApart (members_of groups) → AreApart (flat_map pick groups)
+groups_picks-apart pick [] h apart = tt
+groups_picks-apart pick (g ∷ groups) h apart =
+    let rest : List Addr = members_of groups in
+    append-apart (pick g) (flat_map pick groups) (h.apart g) (groups_picks-apart pick groups h (apart-behind g.members rest apart))
+    (all-weaker (λ b. is_listed b rest ≡ true) (λ b. is_listed b (pick g) ≡ false)
+    (λ b there. not_among b (pick g)
+      (all-weaker (λ a. is_listed a g.members ≡ true) (λ a. same_address a b ≡ false)
+      (λ a here. same_turned b a (others g.members rest a b apart here there)) (pick g) (h.members g)))
+    (flat_map pick groups) (picks-listed pick groups h))
+
+pub groups_picks-all : (P : Addr → Type 0) (pick : Group → List Addr) (groups : List Group) → ((group : Group) → AllByRecursion P (pick group)) →
+    AllByRecursion P (flat_map pick groups)
+groups_picks-all P pick [] each = tt
+groups_picks-all P pick (g ∷ groups) each = all-appended P (pick g) (flat_map pick groups) (each g) (groups_picks-all P pick groups each)

@@ -1,0 +1,109 @@
+-- Cleaned groups have no address twice.
+use Rattle.std.proofs.Common.{◌≡◌, Bool, true, false, ◌||◌, List, [], ◌∷◌, ◌++◌, if◌then◌else◌, refl, sym, subst}
+use Rattle.std.specs.List.{AllByRecursion}
+use Rattle.std.proofs.lemmas.Bool.{false≢true}
+use Rattle.net_base.specs.Address.{same_address}
+use Rattle.net_base.specs.declared.address.Addr.{Addr}
+use Rattle.net_base.specs.declared.event.Group.{Group}
+use Rattle.root_groups.specs.Cleaned.{is_listed, first_places, cleaned_after, cleaned, members_of}
+use Rattle.laws.specs.Whole.{AreApart}
+use Rattle.laws.proofs.Lists.{all-weaker, all-appended}
+
+-- none of some addresses is listed among others
+NoneListed : List Addr → List Addr → Type 0
+NoneListed before addrs = AllByRecursion (λ a. is_listed a before ≡ false) addrs
+
+or_split : (a b : Bool) → (a || b) ≡ false → (a ≡ false) × (b ≡ false)
+or_split true b h = absurd (false≢true (sym h))
+or_split false b h = (refl, h)
+
+-- an address that is not listed in a longer list is not listed in its front, and is not its last
+unlisted_push : (a last : Addr) (before : List Addr) → is_listed a (before ++ last ∷ []) ≡ false →
+    (is_listed a before ≡ false) × (same_address a last ≡ false)
+unlisted_push a last [] h = (refl, (or_split (same_address a last) false h).0)
+unlisted_push a last (x ∷ before) h =
+    let parts = or_split (same_address a x) (is_listed a (before ++ last ∷ [])) h in
+    let rest = unlisted_push a last before parts.1 in
+    (by_both (same_address a x) (is_listed a before) parts.0 rest.0, rest.1)
+  where
+    by_both : (b c : Bool) → b ≡ false → c ≡ false → (b || c) ≡ false
+    by_both b c d e = subst (λ x. (x || c) ≡ false) (sym d) e
+
+unlisted_append : (a : Addr) (before more : List Addr) → is_listed a (before ++ more) ≡ false → (is_listed a before ≡ false) × (is_listed a more ≡ false)
+unlisted_append a [] more h = (refl, h)
+unlisted_append a (x ∷ before) more h =
+    let parts = or_split (same_address a x) (is_listed a (before ++ more)) h in
+    let rest = unlisted_append a before more parts.1 in
+    (subst (λ b. (b || is_listed a before) ≡ false) (sym parts.0) rest.0, rest.1)
+
+-- ---- one list
+
+first_places-none : (before addrs : List Addr) → NoneListed before (first_places before addrs)
+unfolding first_places NoneListed
+first_places-none before [] = tt
+first_places-none before (a ∷ addrs) = by_test (is_listed a before) refl (first_places-none before addrs) (first_places-none (before ++ a ∷ []) addrs)
+  where
+    by_test : (b : Bool) → is_listed a before ≡ b → AllByRecursion (λ x. is_listed x before ≡ false) (first_places before addrs) →
+        AllByRecursion (λ x. is_listed x (before ++ a ∷ []) ≡ false) (first_places (before ++ a ∷ []) addrs) →
+        AllByRecursion (λ x. is_listed x before ≡ false) (if b then first_places before addrs else a ∷ first_places (before ++ a ∷ []) addrs)
+    by_test true e skipped kept = skipped
+    by_test false e skipped kept =
+        (e, all-weaker (λ x. is_listed x (before ++ a ∷ []) ≡ false) (λ x. is_listed x before ≡ false)
+        (λ x h. (unlisted_push x a before h).0) (first_places (before ++ a ∷ []) addrs) kept)
+
+first_places-apart : (before addrs : List Addr) → AreApart (first_places before addrs)
+unfolding first_places NoneListed
+first_places-apart before [] = tt
+first_places-apart before (a ∷ addrs) = by_test (is_listed a before) (first_places-apart before addrs)
+    (first_places-none (before ++ a ∷ []) addrs) (first_places-apart (before ++ a ∷ []) addrs)
+  where
+    by_test : (b : Bool) → AreApart (first_places before addrs) →
+        AllByRecursion (λ x. is_listed x (before ++ a ∷ []) ≡ false) (first_places (before ++ a ∷ []) addrs) →
+        AreApart (first_places (before ++ a ∷ []) addrs) →
+        AreApart (if b then first_places before addrs else a ∷ first_places (before ++ a ∷ []) addrs)
+    by_test true skipped none kept = skipped
+    by_test false skipped none kept =
+        (all-weaker (λ x. is_listed x (before ++ a ∷ []) ≡ false) (λ x. same_address x a ≡ false)
+        (λ x h. (unlisted_push x a before h).1) (first_places (before ++ a ∷ []) addrs) none, kept)
+
+-- ---- all groups
+
+cleaned-none : (before : List Addr) (groups : List Group) → NoneListed before (members_of (cleaned_after before groups))
+unfolding cleaned_after NoneListed
+cleaned-none before [] = tt
+cleaned-none before (g ∷ groups) =
+    let here : List Addr = first_places before g.members in
+    let rest : List Addr = members_of (cleaned_after (before ++ here) groups) in
+    all-appended (λ x. is_listed x before ≡ false) here rest (none_here before g.members)
+    (all-weaker (λ x. is_listed x (before ++ here) ≡ false) (λ x. is_listed x before ≡ false)
+    (λ x h. (unlisted_append x before here h).0) rest (cleaned-none (before ++ here) groups))
+  where
+    none_here : (before addrs : List Addr) → AllByRecursion (λ x. is_listed x before ≡ false) (first_places before addrs)
+    none_here before addrs = first_places-none before addrs
+
+listed_of : (y : Addr) (xs ys : List Addr) → AllByRecursion (λ z. is_listed z (y ∷ xs) ≡ false) ys →
+    AllByRecursion (λ z. same_address z y ≡ false) ys × AllByRecursion (λ z. is_listed z xs ≡ false) ys
+listed_of y xs [] h = (tt, tt)
+listed_of y xs (z ∷ ys) h =
+    let parts = or_split (same_address z y) (is_listed z xs) h.0 in
+    let rest = listed_of y xs ys h.1 in
+    ((parts.0, rest.0), (parts.1, rest.1))
+
+pub append-apart : (xs ys : List Addr) → AreApart xs → AreApart ys → AllByRecursion (λ z. is_listed z xs ≡ false) ys → AreApart (xs ++ ys)
+append-apart [] ys h k n = k
+append-apart (x ∷ xs) ys h k n =
+    let parts = listed_of x xs ys n in
+    (all-appended (λ z. same_address z x ≡ false) xs ys h.0 parts.0, append-apart xs ys h.1 k parts.1)
+
+cleaned_after-apart : (before : List Addr) (groups : List Group) → AreApart (members_of (cleaned_after before groups))
+unfolding cleaned_after NoneListed
+cleaned_after-apart before [] = tt
+cleaned_after-apart before (g ∷ groups) =
+    let here : List Addr = first_places before g.members in
+    let rest : List Addr = members_of (cleaned_after (before ++ here) groups) in
+    append-apart here rest (first_places-apart before g.members) (cleaned_after-apart (before ++ here) groups)
+    (all-weaker (λ x. is_listed x (before ++ here) ≡ false) (λ x. is_listed x here ≡ false)
+    (λ x h. (unlisted_append x before here h).1) rest (cleaned-none (before ++ here) groups))
+
+pub cleaned-apart : (own : Addr) (groups : List Group) → AreApart (members_of (cleaned own groups))
+cleaned-apart own groups = cleaned_after-apart (own ∷ []) groups
