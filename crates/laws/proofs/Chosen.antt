@@ -83,8 +83,8 @@ front-not_behind a (x ∷ xs) ys h listed = by_test (same_address a x) refl list
 
 others : (front behind : List Addr) (a b : Addr) → AreApart (front ++ behind) → is_listed a front ≡ true → is_listed b behind ≡ true → same_address b a ≡ false
 others front behind a b h one two = false_from_ne_true (same_address b a) (λ same.
-  both_ways (is_listed b behind)
-  (subst (λ z. is_listed z behind ≡ false) (sym (same_address-true b a same)) (front-not_behind a front behind h one)) two)
+    both_ways (is_listed b behind)
+    (subst (λ z. is_listed z behind ≡ false) (sym (same_address-true b a same)) (front-not_behind a front behind h one)) two)
 
 -- each group's picks are members of it, and apart
 pub record PicksMembers (pick : Group → List Addr) : Type 0 where
@@ -109,8 +109,8 @@ groups_picks-apart pick (g ∷ groups) h apart =
     append-apart (pick g) (flat_map pick groups) (h.apart g) (groups_picks-apart pick groups h (apart-behind g.members rest apart))
     (all-weaker (λ b. is_listed b rest ≡ true) (λ b. is_listed b (pick g) ≡ false)
     (λ b there. not_among b (pick g)
-      (all-weaker (λ a. is_listed a g.members ≡ true) (λ a. same_address a b ≡ false)
-      (λ a here. same_turned b a (others g.members rest a b apart here there)) (pick g) (h.members g)))
+    (all-weaker (λ a. is_listed a g.members ≡ true) (λ a. same_address a b ≡ false)
+    (λ a here. same_turned b a (others g.members rest a b apart here there)) (pick g) (h.members g)))
     (flat_map pick groups) (picks-listed pick groups h))
 
 pub groups_picks-all : (P : Addr → Type 0) (pick : Group → List Addr) (groups : List Group) → ((group : Group) → AllByRecursion P (pick group)) →

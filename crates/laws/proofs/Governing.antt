@@ -125,7 +125,7 @@ members-trimmed word m h within =
     (keeps-trimmed m (for_each carries_out (map Promote addrs) m).machine within
     (promotes-keeps addrs m h (groups_picks-apart pick m.groups picks h.formed.groups)
     (groups_picks-all (MayPromote m) pick m.groups (λ g. chosen-all (MayPromote m) false word (number g) (test g) m.peers
-      (λ p passes. eligible-may m.now p m h (and_parts (is_listed p.addr g.members) (is_eligible m.now (map link_of m.connections) p) passes).1)))))
+    (λ p passes. eligible-may m.now p m h (and_parts (is_listed p.addr g.members) (is_eligible m.now (map link_of m.connections) p) passes).1)))))
 
 -- ---- all rules
 
@@ -144,25 +144,45 @@ all-rules (r ∷ rs) h m o within =
 
 big-rules : (word : ℕ) → AllByRecursion Rules (big_rules word)
 unfolding Rules Easy
-big-rules word =
-    ((λ m h within. forgets-easy _ m h within),
-    ((λ m h within. promotes-trimmed true word _ _ m h within (λ p passes. passes)),
-    ((λ m h within. releases-easy _ m h within),
-    ((λ m h within. activates-easy _ m h within),
-    ((λ m h within. deactivates-easy _ m h within), tt)))))
+big-rules word = (
+  (λ m h within. forgets-easy _ m h within),
+  (
+    (λ m h within. promotes-trimmed true word _ _ m h within (λ p passes. passes)),
+    (
+      (λ m h within. releases-easy _ m h within),
+      (
+        (λ m h within. activates-easy _ m h within),
+        ((λ m h within. deactivates-easy _ m h within), tt),
+      ),
+    ),
+  ),
+)
 
 ordinary-rules : (word : ℕ) → AllByRecursion Rules (ordinary_rules word)
 unfolding Rules Easy
-ordinary-rules word =
-    ((λ m h within. asks-easy _ _ m h within),
-    ((λ m h within. forgets-easy _ m h within),
-    ((λ m h within. members-trimmed word m h within),
-    ((λ m h within. promotes-trimmed false word _ _ m h within
-      (λ p passes. (and_parts (is_not_local m.groups p.addr) (is_eligible m.now (map link_of m.connections) p) passes).1)),
-    ((λ m h within. releases-easy _ m h within),
-    ((λ m h within. activate_members m h within),
-    ((λ m h within. activates-easy _ m h within),
-    ((λ m h within. deactivate_all m h within), tt))))))))
+ordinary-rules word = (
+  (λ m h within. asks-easy _ _ m h within),
+  (
+    (λ m h within. forgets-easy _ m h within),
+    (
+      (λ m h within. members-trimmed word m h within),
+      (
+        (λ m h within. promotes-trimmed false word _ _ m h within
+            (λ p passes. (and_parts (is_not_local m.groups p.addr) (is_eligible m.now (map link_of m.connections) p) passes).1)),
+        (
+          (λ m h within. releases-easy _ m h within),
+          (
+            (λ m h within. activate_members m h within),
+            (
+              (λ m h within. activates-easy _ m h within),
+              ((λ m h within. deactivate_all m h within), tt),
+            ),
+          ),
+        ),
+      ),
+    ),
+  ),
+)
   where
     activate_members : (m : Machine) → IsOrdered m → counted_in m ≤ m.settings.hard →
         Trimmed m (for_each carries_out (g7_orders (view_of word m) m.peers m.groups) m).machine

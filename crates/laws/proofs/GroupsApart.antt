@@ -47,9 +47,11 @@ first_places-none before (a ∷ addrs) = by_test (is_listed a before) refl (firs
         AllByRecursion (λ x. is_listed x (before ++ a ∷ []) ≡ false) (first_places (before ++ a ∷ []) addrs) →
         AllByRecursion (λ x. is_listed x before ≡ false) (if b then first_places before addrs else a ∷ first_places (before ++ a ∷ []) addrs)
     by_test true e skipped kept = skipped
-    by_test false e skipped kept =
-        (e, all-weaker (λ x. is_listed x (before ++ a ∷ []) ≡ false) (λ x. is_listed x before ≡ false)
-        (λ x h. (unlisted_push x a before h).0) (first_places (before ++ a ∷ []) addrs) kept)
+    by_test false e skipped kept = (
+      e,
+      all-weaker (λ x. is_listed x (before ++ a ∷ []) ≡ false) (λ x. is_listed x before ≡ false)
+          (λ x h. (unlisted_push x a before h).0) (first_places (before ++ a ∷ []) addrs) kept,
+    )
 
 first_places-apart : (before addrs : List Addr) → AreApart (first_places before addrs)
 unfolding first_places NoneListed
@@ -62,9 +64,11 @@ first_places-apart before (a ∷ addrs) = by_test (is_listed a before) (first_pl
         AreApart (first_places (before ++ a ∷ []) addrs) →
         AreApart (if b then first_places before addrs else a ∷ first_places (before ++ a ∷ []) addrs)
     by_test true skipped none kept = skipped
-    by_test false skipped none kept =
-        (all-weaker (λ x. is_listed x (before ++ a ∷ []) ≡ false) (λ x. same_address x a ≡ false)
-        (λ x h. (unlisted_push x a before h).1) (first_places (before ++ a ∷ []) addrs) none, kept)
+    by_test false skipped none kept = (
+      all-weaker (λ x. is_listed x (before ++ a ∷ []) ≡ false) (λ x. same_address x a ≡ false)
+          (λ x h. (unlisted_push x a before h).1) (first_places (before ++ a ∷ []) addrs) none,
+      kept,
+    )
 
 -- ---- all groups
 

@@ -95,7 +95,7 @@ release-acts m e k h within s local =
       same = refl;
       counted = unless_false (is_counted new.facts)
           (λ none. let zero : counted_of new ≡ 0 = one_if-not_counted new.facts none in
-            absurd (omega (arith, over, alike, counts, before, after, limit, within, zero)));
+          absurd (omega (arith, over, alike, counts, before, after, limit, within, zero)));
     }) in
     subst (λ x. Trimmed m (releasing e x).machine) (sym (says_done-machine e.facts m))
     (raised_then_trimmed m o (trim e.facts.cid o).machine within raised trimmed)

@@ -35,9 +35,10 @@ with_peer-others new addr (p ∷ ps) h =
 
 pub with_peer-apart : (new : Peer) (ps : List Peer) → ArePeersApart ps → ArePeersApart (with_peer new ps)
 with_peer-apart new [] h = tt
-with_peer-apart new (p ∷ ps) h =
-    (subst (λ a. AllByRecursion (λ q. same_address q.addr a ≡ false) (with_peer new ps)) (sym (replaced-addr new p)) (with_peer-others new p.addr ps h.0),
-     with_peer-apart new ps h.1)
+with_peer-apart new (p ∷ ps) h = (
+  subst (λ a. AllByRecursion (λ q. same_address q.addr a ≡ false) (with_peer new ps)) (sym (replaced-addr new p)) (with_peer-others new p.addr ps h.0),
+  with_peer-apart new ps h.1,
+)
 
 -- a new one at its place
 put_in-others : (new : Peer) (addr : Addr) (ps : List Peer) → same_address new.addr addr ≡ false →

@@ -53,18 +53,20 @@ pub least-all : {X : Type 0} (P : X → Type 0) (below : X → X → Bool) (k : 
 unfolding least_by
 least-all P below zero xs h = tt
 least-all P below (suc k) [] h = tt
-least-all P below (suc k) (x ∷ xs) h =
-    (best-all P below x xs h.0 h.1,
-     least-all P below k (filter (below (best_of below x xs)) (x ∷ xs)) (filter-all P (below (best_of below x xs)) (x ∷ xs) h))
+least-all P below (suc k) (x ∷ xs) h = (
+  best-all P below x xs h.0 h.1,
+  least-all P below k (filter (below (best_of below x xs)) (x ∷ xs)) (filter-all P (below (best_of below x xs)) (x ∷ xs) h),
+)
 
 pub least-rises : {X : Type 0} (below : X → X → Bool) (k : ℕ) (xs : List X) → RisesBy below (least_by below k xs)
 unfolding least_by RisesBy
 least-rises below zero xs = tt
 least-rises below (suc k) [] = tt
 least-rises below (suc k) (x ∷ xs) =
-    let best = best_of below x xs in
-    (least-all (λ y. below best y ≡ true) below k (filter (below best) (x ∷ xs)) (filter-passing (below best) (x ∷ xs)),
-     least-rises below k (filter (below best) (x ∷ xs)))
+    let best = best_of below x xs in (
+      least-all (λ y. below best y ≡ true) below k (filter (below best) (x ∷ xs)) (filter-passing (below best) (x ∷ xs)),
+      least-rises below k (filter (below best) (x ∷ xs)),
+    )
 
 -- ---- no address is below itself
 
@@ -94,15 +96,16 @@ pair_below-self n a = or_both_false (nat_lt n n) (n == n && address_below a a) (
 
 below-other : (word : ℕ) (a b : Addr) → scores_below word a b ≡ true → same_address b a ≡ false
 below-other word a b h = false_from_ne_true (same_address b a) (λ same.
-  both_ways (scores_below word a a) (pair_below-self (score_of word a) a)
-  (subst (λ x. scores_below word a x ≡ true) (same_address-true b a same) h))
+    both_ways (scores_below word a a) (pair_below-self (score_of word a) a)
+    (subst (λ x. scores_below word a x ≡ true) (same_address-true b a same) h))
 
 scores-apart : (word : ℕ) (addrs : List Addr) → RisesBy (scores_below word) addrs → AreApart addrs
 unfolding RisesBy
 scores-apart word [] h = tt
-scores-apart word (a ∷ addrs) h =
-    (all-weaker (λ b. scores_below word a b ≡ true) (λ b. same_address b a ≡ false) (λ b below. below-other word a b below) addrs h.0,
-     scores-apart word addrs h.1)
+scores-apart word (a ∷ addrs) h = (
+  all-weaker (λ b. scores_below word a b ≡ true) (λ b. same_address b a ≡ false) (λ b below. below-other word a b below) addrs h.0,
+  scores-apart word addrs h.1,
+)
 
 -- ---- picks of big ledger peers
 
@@ -115,13 +118,14 @@ record FoundAs (peers : List Peer) (r : Rated) : Type 0 where
 found_behind : (p : Peer) (ps qs : List Peer) → AllByRecursion (λ q. same_address q.addr p.addr ≡ false) qs →
     AllByRecursion (FoundAs ps) (map rated_of qs) → AllByRecursion (FoundAs (p ∷ ps)) (map rated_of qs)
 found_behind p ps [] others h = tt
-found_behind p ps (q ∷ qs) others h =
-    (record {
-       peer = h.0.peer;
-       found = rw (same_turned q.addr p.addr others.0) h.0.found;
-       is = h.0.is;
-     },
-     found_behind p ps qs others.1 h.1)
+found_behind p ps (q ∷ qs) others h = (
+  record {
+    peer = h.0.peer;
+    found = rw (same_turned q.addr p.addr others.0) h.0.found;
+    is = h.0.is;
+  },
+  found_behind p ps qs others.1 h.1,
+)
 
 all_found : (ps : List Peer) → ArePeersApart ps → AllByRecursion (FoundAs ps) (map rated_of ps)
 all_found [] h = tt
@@ -131,12 +135,12 @@ all_found (p ∷ ps) h =
 rates-other : (word : ℕ) (peers : List Peer) (r s : Rated) → FoundAs peers r → FoundAs peers s → rates_below word r s ≡ true →
     same_address s.addr r.addr ≡ false
 rates-other word peers r s fr fs h = false_from_ne_true (same_address s.addr r.addr) (λ same.
-  let addr : s.addr ≡ r.addr = same_address-true s.addr r.addr same in
-  let one : Some fs.peer ≡ Some fr.peer = sym fs.found ∙ ap (λ a. peer_at a peers) addr ∙ fr.found in
-  let peer : fs.peer ≡ fr.peer = some_same fs.peer fr.peer one in
-  let all : s ≡ r = fs.is ∙ ap rated_of peer ∙ sym fr.is in
-  both_ways (rates_below word r r) (pair_below-self (ranked_score_of word r.failures r.addr) r.addr)
-  (subst (λ x. rates_below word r x ≡ true) all h))
+    let addr : s.addr ≡ r.addr = same_address-true s.addr r.addr same in
+    let one : Some fs.peer ≡ Some fr.peer = sym fs.found ∙ ap (λ a. peer_at a peers) addr ∙ fr.found in
+    let peer : fs.peer ≡ fr.peer = some_same fs.peer fr.peer one in
+    let all : s ≡ r = fs.is ∙ ap rated_of peer ∙ sym fr.is in
+    both_ways (rates_below word r r) (pair_below-self (ranked_score_of word r.failures r.addr) r.addr)
+    (subst (λ x. rates_below word r x ≡ true) all h))
   where
     some_same : (a b : Peer) → Some a ≡ Some b → a ≡ b
     some_same a b e = cc

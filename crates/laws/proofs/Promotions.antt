@@ -150,12 +150,12 @@ promotes-keeps (a ∷ addrs) m h apart may =
 live_one : (addr : Addr) (m : Machine) → LiveAddressesDistinct m → OnePasses (λ e. is_live_at addr e.facts) m.connections
 live_one addr m h i j d before inside here =
     false_from_ne_true (is_live_at addr (get_or m.connections j d).facts) (λ there.
-      let e : Entry = get_or m.connections i d in
-      let f : Entry = get_or m.connections j d in
-      let one = and_parts (same_address e.facts.addr addr) (is_live e.facts) here in
-      let two = and_parts (same_address f.facts.addr addr) (is_live f.facts) there in
-      h i j d before inside one.1 two.1
-      (same_address-true e.facts.addr addr one.0 ∙ sym (same_address-true f.facts.addr addr two.0)))
+    let e : Entry = get_or m.connections i d in
+    let f : Entry = get_or m.connections j d in
+    let one = and_parts (same_address e.facts.addr addr) (is_live e.facts) here in
+    let two = and_parts (same_address f.facts.addr addr) (is_live f.facts) there in
+    h i j d before inside one.1 two.1
+    (same_address-true e.facts.addr addr one.0 ∙ sym (same_address-true f.facts.addr addr two.0)))
 
 unlinked-none : (addr : Addr) (es : List Entry) → is_linked (map link_of es) addr ≡ false → find (λ e. is_live_at addr e.facts) es ≡ None
 unlinked-none addr [] h = refl
