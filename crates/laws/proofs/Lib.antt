@@ -25,3 +25,4 @@ mod WholeEvents
 mod WholeRuns
 mod Promotions
 mod Picks
+mod Ties

@@ -35,6 +35,7 @@ use Rattle.laws.proofs.Keeping.{IsOrdered, Keeps, keeps_nothing, keeps_then}
 use Rattle.laws.proofs.Lists.{StandsAt, stands_next, OnePasses, FoundIn, find_some, find_none, find_only}
 use Rattle.laws.proofs.PeersApart.{same_turned}
 use Rattle.laws.proofs.Shapes.{dialing-shaped, can_acquire}
+use Rattle.laws.proofs.Ties.{live_one}
 use Rattle.laws.proofs.Talks.{turns_at-connections}
 use Rattle.laws.proofs.WholeMoves.{acquire-keeps}
 
@@ -145,17 +146,6 @@ promotes-keeps (a ∷ addrs) m h apart may =
     (promotes-keeps addrs n first.keeps.ordered apart.1 (still_may m n a addrs first.elsewhere apart.0 may.1))
 
 -- ---- who is eligible may be promoted
-
--- at most one connection of an address is live
-live_one : (addr : Addr) (m : Machine) → LiveAddressesDistinct m → OnePasses (λ e. is_live_at addr e.facts) m.connections
-live_one addr m h i j d before inside here =
-    false_from_ne_true (is_live_at addr (get_or m.connections j d).facts) (λ there.
-    let e : Entry = get_or m.connections i d in
-    let f : Entry = get_or m.connections j d in
-    let one = and_parts (same_address e.facts.addr addr) (is_live e.facts) here in
-    let two = and_parts (same_address f.facts.addr addr) (is_live f.facts) there in
-    h i j d before inside one.1 two.1
-    (same_address-true e.facts.addr addr one.0 ∙ sym (same_address-true f.facts.addr addr two.0)))
 
 unlinked-none : (addr : Addr) (es : List Entry) → is_linked (map link_of es) addr ≡ false → find (λ e. is_live_at addr e.facts) es ≡ None
 unlinked-none addr [] h = refl

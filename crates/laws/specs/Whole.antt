@@ -1,5 +1,5 @@
 -- What holds in every record that a run of the whole machine reaches.
-use Rattle.std.specs.Prelude.{◌≡◌, true, false, not, ◌||◌, List, [], ◌∷◌, All, None}
+use Rattle.std.specs.Prelude.{ℕ, ◌≡◌, ◌≤◌, true, false, not, ◌||◌, List, [], ◌∷◌, All, Option, Some, None, is_some}
 use Rattle.std.specs.List.{AllByRecursion}
 use Rattle.net_base.specs.Address.{same_address}
 use Rattle.net_base.specs.declared.address.Addr.{Addr}
@@ -8,8 +8,12 @@ use Rattle.root_groups.specs.Cleaned.{members_of}
 use Rattle.net_base.specs.declared.connection.Facts.{Facts}
 use Rattle.net_base.specs.declared.connection.Grace.TheVariants.{Off}
 use Rattle.net_base.specs.declared.event.Event.{Event}
-use Rattle.conn_state.specs.Use.{is_dialing, is_duplex, is_for_local, is_for_remote, is_negotiated, is_outbound, some_runs}
-use Rattle.machine.specs.Machine.{Machine}
+use Rattle.net_base.specs.declared.peer.Temp.TheVariants.{Warm}
+use Rattle.peer_book.specs.Book.{is_established}
+use Rattle.conn_state.specs.Use.{is_dialing, is_duplex, is_for_local, is_for_remote, is_negotiated, is_outbound, is_pending, some_runs}
+use Rattle.machine.specs.Machine.{Machine, Entry, live_entry_at}
+use Rattle.machine.specs.Peers.{peer_at}
+use Rattle.machine.specs.Replies.{reply_on}
 use Rattle.machine.specs.Whole.{whole_step}
 use Rattle.laws.specs.Sound.{IsSound}
 
@@ -53,6 +57,32 @@ ArePeersApart (p ∷ ps) = AllByRecursion (λ q. same_address q.addr p.addr ≡ 
 abbrev pub AreApart : List Addr → Type 0
 AreApart [] = Unit {0}
 AreApart (a ∷ addrs) = AllByRecursion (λ b. same_address b a ≡ false) addrs × AreApart addrs
+
+-- ---- a peer and the live connection of its address
+
+pub record AreTied (now : ℕ) (p : Peer) (e : Entry) : Type 0 where
+  -- the peer is established exactly where the connection is in local use
+  pub established : is_established p.temp ≡ e.facts.local
+  -- a peer that is used, or on its way to it, is out of its back-off
+  pub in_use : e.facts.local ≡ true → p.not_before ≤ now
+  pub on_its_way : is_pending e.facts ≡ true → p.not_before ≤ now
+  -- a peer that was asked to become hot is warm
+  pub asked : is_some (reply_on 2 e) ≡ true → p.temp ≡ Warm
+
+-- a connection whose peer is not known is neither used nor dialed
+pub record IsAlone (e : Entry) : Type 0 where
+  pub unused : e.facts.local ≡ false
+  pub not_dialed : is_pending e.facts ≡ false
+  pub not_asked : is_some (reply_on 2 e) ≡ false
+
+abbrev pub TiedBy : ℕ → Option Peer → Option Entry → Type 0
+TiedBy now None None = Unit {0}
+TiedBy now (Some p) None = is_established p.temp ≡ false
+TiedBy now None (Some e) = IsAlone e
+TiedBy now (Some p) (Some e) = AreTied now p e
+
+abbrev pub IsTied : Machine → Type 0
+IsTied m = (addr : Addr) → TiedBy m.now (peer_at addr m) (live_entry_at addr m)
 
 -- ---- the record
 

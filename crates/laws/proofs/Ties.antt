@@ -1,0 +1,209 @@
+-- What ties a peer to the live connection of its address, through each change of either.
+use Rattle.std.proofs.Common.{ℕ, ◌+◌, ◌≤◌, ◌≡◌, Bool, true, false, cond, not, ◌&&◌, ◌||◌, if◌then◌else◌, List, [], ◌∷◌, ◌++◌, get_or, map, filter, find, set, remove, Option, Some, None, is_some, refl, sym, ap, ◌∙◌, subst, arith}
+use Rattle.std.proofs.lemmas.Bool.{both_ways, false≢true, and_parts, and_from, false_from_ne_true}
+use Rattle.net_base.specs.Address.{same_address, address_below}
+use Rattle.net_base.specs.declared.address.Addr.{Addr}
+use Rattle.net_base.specs.declared.connection.Facts.{Facts}
+use Rattle.net_base.specs.declared.peer.Peer.{Peer}
+use Rattle.conn_state.specs.Use.{is_live, is_live_at}
+use Rattle.peer_book.specs.Book.{has_address, peer_at as peer_in, with_peer as with_peer_in, with_new as with_new_in, without_peer}
+use Rattle.machine.specs.Machine.{Machine, Entry, live_entry_at}
+use Rattle.machine.specs.Peers.{peer_at, turns_at, peer_changes}
+use Rattle.machine.specs.Connections.{with_entry, without_entry}
+use Rattle.laws.specs.Laws.{LiveAddressesDistinct}
+use Rattle.laws.specs.Sound.{IsOrderly}
+use Rattle.laws.specs.Whole.{TiedBy, IsTied}
+use Rattle.laws.proofs.Addresses.{same_address-self, same_address-true}
+use Rattle.laws.proofs.Entries.{TurnsInto, turned-connections, gone-connections, with_new}
+use Rattle.laws.proofs.Finds.{find-set_other, find-set_here, find-set_gone, find-remove_other, find-remove_here}
+use Rattle.laws.proofs.Lists.{StandsAt, OnePasses, FoundIn, find_some, find_only}
+use Rattle.laws.proofs.PeersApart.{same_turned}
+
+-- ---- all but one address stay
+
+pub tied_but : (a : Addr) (m n : Machine) → n.now ≡ m.now →
+    ((b : Addr) → same_address b a ≡ false → peer_at b n ≡ peer_at b m) →
+    ((b : Addr) → same_address b a ≡ false → live_entry_at b n ≡ live_entry_at b m) →
+    TiedBy n.now (peer_at a n) (live_entry_at a n) → IsTied m → IsTied n
+tied_but a m n now peers lives here h b = by_test (same_address b a) refl
+  where
+    by_test : (c : Bool) → same_address b a ≡ c → TiedBy n.now (peer_at b n) (live_entry_at b n)
+    by_test true e = subst (λ x. TiedBy n.now (peer_at x n) (live_entry_at x n)) (sym (same_address-true b a e)) here
+    by_test false e =
+        subst (λ t. TiedBy t (peer_at b n) (live_entry_at b n)) (sym now)
+        (subst (λ o. TiedBy m.now o (live_entry_at b n)) (sym (peers b e)) (subst (λ o. TiedBy m.now (peer_at b m) o) (sym (lives b e)) (h b)))
+
+-- ---- the live connection of an address
+
+-- at most one is
+pub live_one : (addr : Addr) (m : Machine) → LiveAddressesDistinct m → OnePasses (λ e. is_live_at addr e.facts) m.connections
+live_one addr m h i j d before inside here =
+    false_from_ne_true (is_live_at addr (get_or m.connections j d).facts) (λ there.
+    let e : Entry = get_or m.connections i d in
+    let f : Entry = get_or m.connections j d in
+    let one = and_parts (same_address e.facts.addr addr) (is_live e.facts) here in
+    let two = and_parts (same_address f.facts.addr addr) (is_live f.facts) there in
+    h i j d before inside one.1 two.1
+    (same_address-true e.facts.addr addr one.0 ∙ sym (same_address-true f.facts.addr addr two.0)))
+
+pub live_here : (m : Machine) (e : Entry) (k : ℕ) → IsOrderly m → StandsAt m.connections k e → is_live e.facts ≡ true → live_entry_at e.facts.addr m ≡ Some e
+live_here m e k h s live =
+    let a : Addr = e.facts.addr in
+    find_only (λ x. is_live_at a x.facts) e m.connections k (live_one a m h.addresses) s (and_from (same_address a a) (is_live e.facts) (same_address-self a) live)
+
+not_at : (f : Facts) (b : Addr) → same_address b f.addr ≡ false → is_live_at b f ≡ false
+not_at f b h = ap (λ x. x && is_live f) (same_turned b f.addr h)
+
+not_live : (f : Facts) (b : Addr) → is_live f ≡ false → is_live_at b f ≡ false
+not_live f b h = by_test (same_address f.addr b)
+  where
+    by_test : (c : Bool) → (c && is_live f) ≡ false
+    by_test true = h
+    by_test false = refl
+
+-- the connection that is found there once one of that address has changed
+abbrev pub live_of : Entry → Option Entry
+live_of new = if is_live new.facts then Some new else None
+
+pub turned_elsewhere : (m : Machine) (e new : Entry) (k : ℕ) → IsOrderly m → StandsAt m.connections k e → TurnsInto e new → (b : Addr) →
+    same_address b e.facts.addr ≡ false → live_entry_at b (with_entry new m) ≡ live_entry_at b m
+turned_elsewhere m e new k h s t b other =
+    ap (find (λ x. is_live_at b x.facts)) (turned-connections m e new k h s t)
+    ∙ find-set_other (λ x. is_live_at b x.facts) new e m.connections k s (not_at e.facts b other)
+    (not_at new.facts b (subst (λ a. same_address b a ≡ false) (sym t.same_addr) other))
+
+stays_dead : (e new : Entry) → TurnsInto e new → is_live e.facts ≡ false → is_live new.facts ≡ false
+stays_dead e new t dead = false_from_ne_true (is_live new.facts) (λ live. both_ways (is_live e.facts) dead (t.live live))
+
+pub turned_dead : (m : Machine) (e new : Entry) (k : ℕ) → IsOrderly m → StandsAt m.connections k e → TurnsInto e new → is_live e.facts ≡ false →
+    (b : Addr) → live_entry_at b (with_entry new m) ≡ live_entry_at b m
+turned_dead m e new k h s t dead b =
+    ap (find (λ x. is_live_at b x.facts)) (turned-connections m e new k h s t)
+    ∙ find-set_other (λ x. is_live_at b x.facts) new e m.connections k s (not_live e.facts b dead) (not_live new.facts b (stays_dead e new t dead))
+
+pub turned_here : (m : Machine) (e new : Entry) (k : ℕ) → IsOrderly m → StandsAt m.connections k e → TurnsInto e new → is_live e.facts ≡ true →
+    live_entry_at e.facts.addr (with_entry new m) ≡ live_of new
+turned_here m e new k h s t live =
+    ap (find (λ x. is_live_at e.facts.addr x.facts)) (turned-connections m e new k h s t) ∙ by_live (is_live new.facts) refl
+  where
+    before : is_live_at e.facts.addr e.facts ≡ true
+    before = and_from (same_address e.facts.addr e.facts.addr) (is_live e.facts) (same_address-self e.facts.addr) live
+
+    by_live : (b : Bool) → is_live new.facts ≡ b → find (λ x. is_live_at e.facts.addr x.facts) (set m.connections k new) ≡ (if b then Some new else None)
+    by_live true is = find-set_here (λ x. is_live_at e.facts.addr x.facts) new e m.connections k (live_one e.facts.addr m h.addresses) s before
+        (and_from (same_address new.facts.addr e.facts.addr) (is_live new.facts)
+        (subst (λ a. same_address a e.facts.addr ≡ true) (sym t.same_addr) (same_address-self e.facts.addr)) is)
+    by_live false is = find-set_gone (λ x. is_live_at e.facts.addr x.facts) new e m.connections k (live_one e.facts.addr m h.addresses) s before
+        (not_live new.facts e.facts.addr is)
+
+pub gone_elsewhere : (m : Machine) (e : Entry) (k : ℕ) → IsOrderly m → StandsAt m.connections k e → (b : Addr) →
+    same_address b e.facts.addr ≡ false → live_entry_at b (without_entry e.facts.cid.0 m) ≡ live_entry_at b m
+gone_elsewhere m e k h s b other =
+    ap (find (λ x. is_live_at b x.facts)) (gone-connections m e k h s)
+    ∙ find-remove_other (λ x. is_live_at b x.facts) e m.connections k s (not_at e.facts b other)
+
+pub gone_dead : (m : Machine) (e : Entry) (k : ℕ) → IsOrderly m → StandsAt m.connections k e → is_live e.facts ≡ false →
+    (b : Addr) → live_entry_at b (without_entry e.facts.cid.0 m) ≡ live_entry_at b m
+gone_dead m e k h s dead b =
+    ap (find (λ x. is_live_at b x.facts)) (gone-connections m e k h s)
+    ∙ find-remove_other (λ x. is_live_at b x.facts) e m.connections k s (not_live e.facts b dead)
+
+pub gone_here : (m : Machine) (e : Entry) (k : ℕ) → IsOrderly m → StandsAt m.connections k e → is_live e.facts ≡ true →
+    live_entry_at e.facts.addr (without_entry e.facts.cid.0 m) ≡ None
+gone_here m e k h s live =
+    ap (find (λ x. is_live_at e.facts.addr x.facts)) (gone-connections m e k h s)
+    ∙ find-remove_here (λ x. is_live_at e.facts.addr x.facts) e m.connections k (live_one e.facts.addr m h.addresses) s
+    (and_from (same_address e.facts.addr e.facts.addr) (is_live e.facts) (same_address-self e.facts.addr) live)
+
+-- ---- the peer of an address
+
+pub peer_elsewhere : (new : Peer) (b : Addr) (ps : List Peer) → same_address b new.addr ≡ false → peer_in b (with_peer_in new ps) ≡ peer_in b ps
+peer_elsewhere new b [] other = refl
+peer_elsewhere new b (p ∷ ps) other = by_test (has_address new.addr p) refl (peer_elsewhere new b ps other)
+  where
+    by_test : (c : Bool) → has_address new.addr p ≡ c → peer_in b (with_peer_in new ps) ≡ peer_in b ps →
+        peer_in b ((if c then new else p) ∷ with_peer_in new ps) ≡ peer_in b (p ∷ ps)
+    by_test true e rest =
+        let here : same_address new.addr b ≡ false = same_turned b new.addr other in
+        let same : same_address p.addr b ≡ false = subst (λ a. same_address a b ≡ false) (sym (same_address-true p.addr new.addr e)) here in
+        rw (here, same) rest
+    by_test false e rest = ap (λ o. cond (has_address b p) (Some p) o) rest
+
+pub peer_here : (new p : Peer) (ps : List Peer) → peer_in new.addr ps ≡ Some p → peer_in new.addr (with_peer_in new ps) ≡ Some new
+peer_here new p [] found = absurd cc
+peer_here new p (q ∷ ps) found = by_test (has_address new.addr q) refl found (peer_here new p ps)
+  where
+    by_test : (c : Bool) → has_address new.addr q ≡ c → cond c (Some q) (peer_in new.addr ps) ≡ Some p →
+        (peer_in new.addr ps ≡ Some p → peer_in new.addr (with_peer_in new ps) ≡ Some new) →
+        peer_in new.addr ((if c then new else q) ∷ with_peer_in new ps) ≡ Some new
+    by_test true e f later = rw (same_address-self new.addr) refl
+    by_test false e f later = rw e (later f)
+
+found-addr : (a : Addr) (ps : List Peer) (p : Peer) → peer_in a ps ≡ Some p → p.addr ≡ a
+found-addr a ps p found =
+    let at : FoundIn (has_address a) ps p = find_some (has_address a) ps p found in
+    same_address-true p.addr a at.passes
+
+-- ---- changes
+
+-- a connection changes
+pub turned-ties : (m : Machine) (e new : Entry) (k : ℕ) → IsOrderly m → StandsAt m.connections k e → TurnsInto e new →
+    (is_live e.facts ≡ true → (o : Option Peer) → TiedBy m.now o (Some e) → TiedBy m.now o (live_of new)) → IsTied m → IsTied (with_entry new m)
+turned-ties m e new k h s t step ties = by_live (is_live e.facts) refl
+  where
+    by_live : (b : Bool) → is_live e.facts ≡ b → IsTied (with_entry new m)
+    by_live true live =
+        tied_but e.facts.addr m (with_entry new m) refl (λ b other. refl) (turned_elsewhere m e new k h s t)
+        (subst (λ o. TiedBy m.now (peer_at e.facts.addr m) o) (sym (turned_here m e new k h s t live))
+        (step live (peer_at e.facts.addr m) (subst (λ o. TiedBy m.now (peer_at e.facts.addr m) o) (live_here m e k h s live) (ties e.facts.addr)))) ties
+    by_live false dead =
+        λ b. subst (λ o. TiedBy m.now (peer_at b m) o) (sym (turned_dead m e new k h s t dead b)) (ties b)
+
+-- a connection goes
+pub gone-ties : (m : Machine) (e : Entry) (k : ℕ) → IsOrderly m → StandsAt m.connections k e →
+    (is_live e.facts ≡ true → e.facts.local ≡ false) → IsTied m → IsTied (without_entry e.facts.cid.0 m)
+gone-ties m e k h s unused ties = by_live (is_live e.facts) refl
+  where
+    step : (o : Option Peer) → e.facts.local ≡ false → TiedBy m.now o (Some e) → TiedBy m.now o None
+    step None unused tie = tt
+    step (Some p) unused tie = tie.established ∙ unused
+
+    by_live : (b : Bool) → is_live e.facts ≡ b → IsTied (without_entry e.facts.cid.0 m)
+    by_live true live =
+        tied_but e.facts.addr m (without_entry e.facts.cid.0 m) refl (λ b other. refl) (gone_elsewhere m e k h s)
+        (subst (λ o. TiedBy m.now (peer_at e.facts.addr m) o) (sym (gone_here m e k h s live))
+        (step (peer_at e.facts.addr m) (unused live) (subst (λ o. TiedBy m.now (peer_at e.facts.addr m) o) (live_here m e k h s live) (ties e.facts.addr)))) ties
+    by_live false dead =
+        λ b. subst (λ o. TiedBy m.now (peer_at b m) o) (sym (gone_dead m e k h s dead b)) (ties b)
+
+-- A peer changes, from one record to another in which its connection may have changed too.
+pub changed-ties : (a : Addr) (change : Peer → Peer) (m n : Machine) → ((p : Peer) → (change p).addr ≡ p.addr) → n.now ≡ m.now → n.peers ≡ m.peers →
+    ((b : Addr) → same_address b a ≡ false → live_entry_at b n ≡ live_entry_at b m) →
+    (TiedBy m.now None (live_entry_at a m) → TiedBy m.now None (live_entry_at a n)) →
+    ((p : Peer) → TiedBy m.now (Some p) (live_entry_at a m) → TiedBy m.now (Some (change p)) (live_entry_at a n)) →
+    IsTied m → IsTied (peer_changes a change n).machine
+changed-ties a change m n same now peers lives alone step ties = by_peer (peer_at a n) refl
+  where
+    book : (b : Addr) → peer_at b n ≡ peer_at b m
+    book b = ap (peer_in b) peers
+
+    was : (o : Option Peer) → peer_at a n ≡ o → TiedBy m.now o (live_entry_at a m)
+    was o is = subst (λ x. TiedBy m.now x (live_entry_at a m)) (sym (book a) ∙ is) (ties a)
+
+    by_peer : (o : Option Peer) → peer_at a n ≡ o → IsTied (turns_at o change n).machine
+    by_peer None is =
+        tied_but a m n now (λ b other. book b) lives
+        (subst (λ t. TiedBy t (peer_at a n) (live_entry_at a n)) (sym now) (subst (λ o. TiedBy m.now o (live_entry_at a n)) (sym is) (alone (was None is)))) ties
+    by_peer (Some p) is =
+        let new : Peer = change p in
+        let here : new.addr ≡ a = same p ∙ found-addr a n.peers p is in
+        let o : Machine = (turns_at (Some p) change n).machine in
+        tied_but a m o now
+        (λ b other. peer_elsewhere new b n.peers (subst (λ x. same_address b x ≡ false) (sym here) other) ∙ book b) lives
+        (subst (λ t. TiedBy t (peer_at a o) (live_entry_at a o)) (sym now)
+        (subst (λ q. TiedBy m.now q (live_entry_at a n)) (sym (found_new a new here p is)) (step p (was (Some p) is)))) ties
+      where
+        found_new : (a : Addr) (new : Peer) → new.addr ≡ a → (p : Peer) → peer_in a n.peers ≡ Some p → peer_in a (with_peer_in new n.peers) ≡ Some new
+        found_new a new here p is =
+            subst (λ x. peer_in x (with_peer_in new n.peers) ≡ Some new) here
+            (peer_here new p n.peers (subst (λ x. peer_in x n.peers ≡ Some p) (sym here) is))
