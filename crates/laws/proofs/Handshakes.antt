@@ -31,7 +31,7 @@ use Rattle.machine.specs.Greeting.{role_of, is_awaited, fits_side, told, judged,
 use Rattle.laws.proofs.Keeping.{IsOrdered}
 use Rattle.laws.proofs.Lists.{StandsAt}
 use Rattle.laws.proofs.Trims.{Trimmed, keeps-trimmed}
-use Rattle.laws.proofs.WholeMoves.{ending-keeps, agrees_inbound-keeps, agrees_outbound-keeps}
+use Rattle.laws.proofs.WholeMoves.{IsLost, ending-keeps, agrees_inbound-keeps, agrees_outbound-keeps}
 
 -- ---- who comes to which verdict
 
@@ -118,20 +118,20 @@ record Greets (m : Machine) (e : Entry) (k : ℕ) : Type 0 where
   stands : StandsAt m.connections k e
   greeting : is_greeting e.facts ≡ true
 
-ends : (cause : CloseCause) (m : Machine) (e : Entry) (k : ℕ) → Greets m e k → Trimmed m (ending cause e m).machine
-ends cause m e k g = keeps-trimmed m (ending cause e m).machine g.within (ending-keeps cause m e k g.ordered g.stands)
+ends : (cause : CloseCause) → IsLost cause → (m : Machine) (e : Entry) (k : ℕ) → Greets m e k → Trimmed m (ending cause e m).machine
+ends cause loses m e k g = keeps-trimmed m (ending cause e m).machine g.within (ending-keeps cause loses m e k g.ordered g.stands)
 
 judged-trimmed : (v : Verdict) (m : Machine) (e : Entry) (k : ℕ) → Greets m e k → (is_accept v ≡ true → is_outbound e.facts ≡ false) →
     (is_agree v ≡ true → is_outbound e.facts ≡ true) → Trimmed m (judged v e m).machine
 unfolding is_accept is_agree
 judged-trimmed (verdict.Accept agreed) m e k g accepts agrees =
     keeps-trimmed m (judged (verdict.Accept agreed) e m).machine g.within (agrees_inbound-keeps agreed m e k g.ordered g.stands g.greeting (accepts refl))
-judged-trimmed (verdict.Refuse reason) m e k g accepts agrees = ends cause.Refused m e k g
-judged-trimmed verdict.Query m e k g accepts agrees = ends cause.Query m e k g
+judged-trimmed (verdict.Refuse reason) m e k g accepts agrees = ends cause.Refused refl m e k g
+judged-trimmed verdict.Query m e k g accepts agrees = ends cause.Query refl m e k g
 judged-trimmed (verdict.Agree agreed) m e k g accepts agrees =
     keeps-trimmed m (judged (verdict.Agree agreed) e m).machine g.within (agrees_outbound-keeps agreed m e k g.ordered g.stands g.greeting (agrees refl))
-judged-trimmed verdict.Refused m e k g accepts agrees = ends cause.Refused m e k g
-judged-trimmed verdict.Wrong m e k g accepts agrees = ends (cause.Fault Protocol) m e k g
+judged-trimmed verdict.Refused m e k g accepts agrees = ends cause.Refused refl m e k g
+judged-trimmed verdict.Wrong m e k g accepts agrees = ends (cause.Fault Protocol) refl m e k g
 
 accepts-inbound : (own : VersionInfo) (p : Provenance) (msg : Message) → is_accept (verdict_of (role_of p) own msg) ≡ true → is_outbound_by p ≡ false
 accepts-inbound own FromRemote msg h = refl
@@ -150,11 +150,11 @@ decided-trimmed msg m e k g =
     (judged-trimmed v m e k g (accepts-inbound own e.facts.provenance msg) (agrees-outbound own e.facts.provenance msg))
 
 greeted_by-trimmed : (o : Option Message) (side : ℕ) (m : Machine) (e : Entry) (k : ℕ) → Greets m e k → Trimmed m (greeted_by o side e m).machine
-greeted_by-trimmed None side m e k g = ends (cause.Fault Malformed) m e k g
+greeted_by-trimmed None side m e k g = ends (cause.Fault Malformed) refl m e k g
 greeted_by-trimmed (Some msg) side m e k g =
     let role : Role = role_of e.facts.provenance in
     cond_both (fits_side role side msg) (decided (verdict_of role (own_info m.settings) msg) e m) (ending (cause.Fault Protocol) e m)
-    (λ effect. Trimmed m effect.machine) (λ fits. decided-trimmed msg m e k g) (λ other. ends (cause.Fault Protocol) m e k g)
+    (λ effect. Trimmed m effect.machine) (λ fits. decided-trimmed msg m e k g) (λ other. ends (cause.Fault Protocol) refl m e k g)
 
 -- an item comes in
 pub greets-trimmed : (item : Item) (m : Machine) (e : Entry) (k : ℕ) → IsOrdered m → counted_in m ≤ m.settings.hard →
@@ -163,4 +163,4 @@ greets-trimmed item m e k h within s greeting =
     let g : Greets m e k = record { ordered = h; within = within; stands = s; greeting = greeting } in
     cond_both (item.id == 0 && is_awaited (role_of e.facts.provenance) item.side) (greeted_by (message_of item.body) item.side e m)
     (ending (cause.Fault Protocol) e m) (λ effect. Trimmed m effect.machine)
-    (λ awaited. greeted_by-trimmed (message_of item.body) item.side m e k g) (λ other. ends (cause.Fault Protocol) m e k g)
+    (λ awaited. greeted_by-trimmed (message_of item.body) item.side m e k g) (λ other. ends (cause.Fault Protocol) refl m e k g)

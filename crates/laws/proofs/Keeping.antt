@@ -3,7 +3,7 @@ use Rattle.std.proofs.Common.{ℕ, ◌+◌, ◌≤◌, ◌≡◌, Bool, not, Lis
 use Rattle.std.proofs.lemmas.List.Elements.{All-set, All-filter}
 use Rattle.net_base.specs.declared.peer.Peer.{Peer}
 use Rattle.machine.specs.Connections.{with_entry, without_entry}
-use Rattle.machine.specs.Machine.{Machine, Entry, counted_in}
+use Rattle.machine.specs.Machine.{Machine, Entry, counted_in, live_entry_at}
 use Rattle.machine.specs.Effect.{Effect, for_each}
 use Rattle.machine.specs.Peers.{turns_at, peer_at, peer_changes, note_of_coming, peer_comes}
 use Rattle.net_base.specs.Shared.{RootState}
@@ -16,11 +16,12 @@ use Rattle.peer_book.specs.declared.added.Added.{Added}
 use Rattle.peer_book.specs.declared.added.Added.TheVariants.{New, Present, Full}
 use Rattle.conn_state.specs.Use.{has_id}
 use Rattle.laws.specs.Sound.{IsOrderly}
-use Rattle.laws.specs.Whole.{IsShaped, IsFormed, ArePeersApart, AreApart}
+use Rattle.laws.specs.Whole.{IsShaped, IsFormed, ArePeersApart, AreApart, TiedBy, IsTied}
 use Rattle.laws.proofs.Counts.{counted_of, counted_in-sum, late_of, late_in, late_in-sum}
 use Rattle.laws.proofs.Entries.{TurnsInto, turned-connections, turned-orderly, turned-sum, gone-orderly, gone-sum}
 use Rattle.laws.proofs.Lists.{StandsAt}
 use Rattle.laws.proofs.PeersApart.{with_peer-apart, entered-apart}
+use Rattle.laws.proofs.Ties.{changed-ties, comes-ties}
 use Rattle.root_groups.specs.Cleaned.{members_of}
 
 -- what holds at every moment of the connections alone
@@ -28,17 +29,41 @@ pub record IsOrdered (m : Machine) : Type 0 where
   pub orderly : IsOrderly m
   pub formed : IsFormed m
 
--- From one record to another: both hold at every moment, no more than so many connections come to be counted, and no
--- more deadlines are late.
-pub record Keeps (raised : ℕ) (before after : Machine) : Type 0 where
+-- From one record to another, by what may be a part of a move: both hold at every moment, no more than so many
+-- connections come to be counted, and no more deadlines are late.
+pub record Moves (raised : ℕ) (before after : Machine) : Type 0 where
   pub ordered : IsOrdered after
   pub settings : after.settings ≡ before.settings
   pub now : after.now ≡ before.now
   pub counted : counted_in after ≤ counted_in before + raised
   pub late : late_in after ≤ late_in before
 
+-- By a whole move: peers stay tied to their connections, too.
+pub record Keeps (raised : ℕ) (before after : Machine) : Type 0 where
+  pub ordered : IsOrdered after
+  pub settings : after.settings ≡ before.settings
+  pub now : after.now ≡ before.now
+  pub counted : counted_in after ≤ counted_in before + raised
+  pub late : late_in after ≤ late_in before
+  pub ties : IsTied before → IsTied after
+
+pub moves-keeps : (raised : ℕ) (m n : Machine) → Moves raised m n → (IsTied m → IsTied n) → Keeps raised m n
+moves-keeps raised m n h ties = record { ordered = h.ordered; settings = h.settings; now = h.now; counted = h.counted; late = h.late; ties = ties }
+
+pub moves_then : (i j : ℕ) (m n o : Machine) → Moves i m n → Moves j n o → Moves (i + j) m o
+moves_then i j m n o first second = record {
+  ordered = second.ordered;
+  settings = second.settings ∙ first.settings;
+  now = second.now ∙ first.now;
+  counted = omega arith;
+  late = omega arith;
+}
+
+pub moves_nothing : (m : Machine) → IsOrdered m → Moves 0 m m
+moves_nothing m h = record { ordered = h; settings = refl; now = refl; counted = omega arith; late = omega arith }
+
 pub keeps_nothing : (m : Machine) → IsOrdered m → Keeps 0 m m
-keeps_nothing m h = record { ordered = h; settings = refl; now = refl; counted = omega arith; late = omega arith }
+keeps_nothing m h = moves-keeps 0 m m (moves_nothing m h) (λ ties. ties)
 
 -- one part after another
 pub keeps_then : (i j : ℕ) (m n o : Machine) → Keeps i m n → Keeps j n o → Keeps (i + j) m o
@@ -48,6 +73,7 @@ keeps_then i j m n o first second = record {
   now = second.now ∙ first.now;
   counted = omega arith;
   late = omega arith;
+  ties = λ h. second.ties (first.ties h);
 }
 
 pub keeps_more : (i j : ℕ) (m n : Machine) → i ≤ j → Keeps i m n → Keeps j m n
@@ -57,13 +83,14 @@ keeps_more i j m n le h = record {
   now = h.now;
   counted = omega arith;
   late = h.late;
+  ties = h.ties;
 }
 
 -- a connection turns into another
-pub turns-keeps : (raised : ℕ) (m : Machine) (old new : Entry) (k : ℕ) → IsOrdered m → StandsAt m.connections k old →
+pub turns-moves : (raised : ℕ) (m : Machine) (old new : Entry) (k : ℕ) → IsOrdered m → StandsAt m.connections k old →
     TurnsInto old new → IsShaped new.facts → counted_of new ≤ counted_of old + raised → late_of m.now new ≤ late_of m.now old →
-    Keeps raised m (with_entry new m)
-turns-keeps raised m old new k h s t shaped more later =
+    Moves raised m (with_entry new m)
+turns-moves raised m old new k h s t shaped more later =
     let n : Machine = with_entry new m in
     let o : IsOrderly m = h.orderly in
     let list : set m.connections k new ≡ n.connections = sym (turned-connections m old new k o s t) in
@@ -92,9 +119,9 @@ turns-keeps raised m old new k h s t shaped more later =
     }
 
 -- a connection goes
-pub goes-keeps : (m : Machine) (e : Entry) (k : ℕ) → IsOrdered m → StandsAt m.connections k e →
-    Keeps 0 m (without_entry e.facts.cid.0 m)
-goes-keeps m e k h s =
+pub goes-moves : (m : Machine) (e : Entry) (k : ℕ) → IsOrdered m → StandsAt m.connections k e →
+    Moves 0 m (without_entry e.facts.cid.0 m)
+goes-moves m e k h s =
     let n : Machine = without_entry e.facts.cid.0 m in
     let counts : sum_by counted_of n.connections + counted_of e ≡ sum_by counted_of m.connections =
     gone-sum counted_of m e k h.orderly s in
@@ -120,10 +147,10 @@ goes-keeps m e k h s =
     }
 
 -- what is no connection is no matter of them
-pub elsewhere-keeps : (targets : Targets) (big : BigTargets) (groups : List Group) (roots : RootState) (peers : List Peer) (m : Machine) →
+pub elsewhere-moves : (targets : Targets) (big : BigTargets) (groups : List Group) (roots : RootState) (peers : List Peer) (m : Machine) →
     IsOrdered m → AreApart (members_of groups) → ArePeersApart peers →
-    Keeps 0 m (record m { targets = targets; big_targets = big; groups = groups; roots = roots; peers = peers })
-elsewhere-keeps targets big groups roots peers m h members apart = record {
+    Moves 0 m (record m { targets = targets; big_targets = big; groups = groups; roots = roots; peers = peers })
+elsewhere-moves targets big groups roots peers m h members apart = record {
   ordered = record {
     orderly = record {
       settings = h.orderly.settings;
@@ -140,20 +167,33 @@ elsewhere-keeps targets big groups roots peers m h members apart = record {
   late = omega arith;
 }
 
-pub peers-keeps : (peers : List Peer) (m : Machine) → IsOrdered m → ArePeersApart peers → Keeps 0 m (record m { peers = peers })
-peers-keeps peers m h apart = elsewhere-keeps m.targets m.big_targets m.groups m.roots peers m h h.formed.groups apart
+-- what is neither a connection nor a peer is no matter of either
+pub elsewhere-keeps : (targets : Targets) (big : BigTargets) (groups : List Group) (roots : RootState) (m : Machine) →
+    IsOrdered m → AreApart (members_of groups) → Keeps 0 m (record m { targets = targets; big_targets = big; groups = groups; roots = roots })
+elsewhere-keeps targets big groups roots m h members =
+    moves-keeps 0 m (record m { targets = targets; big_targets = big; groups = groups; roots = roots })
+    (elsewhere-moves targets big groups roots m.peers m h members h.formed.peers) (λ ties. ties)
+
+pub peers-moves : (peers : List Peer) (m : Machine) → IsOrdered m → ArePeersApart peers → Moves 0 m (record m { peers = peers })
+peers-moves peers m h apart = elsewhere-moves m.targets m.big_targets m.groups m.roots peers m h h.formed.groups apart
 
 -- ---- peers
 
 -- a change that keeps addresses
-pub turns_at-keeps : (o : Option Peer) (change : Peer → Peer) (m : Machine) → ((p : Peer) → (change p).addr ≡ p.addr) → IsOrdered m →
-    Keeps 0 m (turns_at o change m).machine
-turns_at-keeps None change m same h = keeps_nothing m h
-turns_at-keeps (Some p) change m same h = peers-keeps (with_peer_in (change p) m.peers) m h (with_peer-apart (change p) m.peers h.formed.peers)
+pub turns_at-moves : (o : Option Peer) (change : Peer → Peer) (m : Machine) → IsOrdered m → Moves 0 m (turns_at o change m).machine
+turns_at-moves None change m h = moves_nothing m h
+turns_at-moves (Some p) change m h = peers-moves (with_peer_in (change p) m.peers) m h (with_peer-apart (change p) m.peers h.formed.peers)
 
-pub changes-keeps : (addr : Addr) (change : Peer → Peer) (m : Machine) → ((p : Peer) → (change p).addr ≡ p.addr) → IsOrdered m →
+pub changes-moves : (addr : Addr) (change : Peer → Peer) (m : Machine) → IsOrdered m → Moves 0 m (peer_changes addr change m).machine
+changes-moves addr change m h = turns_at-moves (peer_at addr m) change m h
+
+-- which leaves the peer tied to its connection
+pub changes-keeps : (addr : Addr) (change : Peer → Peer) (m : Machine) → ((p : Peer) → (change p).addr ≡ p.addr) →
+    ((p : Peer) → TiedBy m.now (Some p) (live_entry_at addr m) → TiedBy m.now (Some (change p)) (live_entry_at addr m)) → IsOrdered m →
     Keeps 0 m (peer_changes addr change m).machine
-changes-keeps addr change m same h = turns_at-keeps (peer_at addr m) change m same h
+changes-keeps addr change m same step h =
+    moves-keeps 0 m (peer_changes addr change m).machine (changes-moves addr change m h)
+    (changed-ties addr change m m same refl refl (λ b other. refl) (λ none alone. alone) (λ p found tie. step p tie))
 
 pub note-machine : (added : Added) (addr : Addr) (m : Machine) → (note_of_coming added addr m).machine ≡ m
 note-machine New addr m = refl
@@ -163,7 +203,9 @@ note-machine Full addr m = refl
 pub peer_comes-keeps : (big : Bool) (addr : Addr) (m : Machine) → IsOrdered m → Keeps 0 m (peer_comes big addr m).machine
 peer_comes-keeps big addr m h =
     rw (note-machine (entry_of addr m.peers) addr (record m { peers = entered (new_peer big addr) m.peers }))
-    (peers-keeps (entered (new_peer big addr) m.peers) m h (entered-apart (new_peer big addr) m.peers h.formed.peers))
+    (moves-keeps 0 m (record m { peers = entered (new_peer big addr) m.peers })
+    (peers-moves (entered (new_peer big addr) m.peers) m h (entered-apart (new_peer big addr) m.peers h.formed.peers))
+    (comes-ties big addr m))
 
 -- ---- one part for each of a list
 

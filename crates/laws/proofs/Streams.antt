@@ -46,7 +46,7 @@ faulted-trimmed cid fault m h within = by_entry (entry_at cid m) refl fault
     by_entry (Some e) is None = keeps-trimmed m m within (keeps_nothing m h)
     by_entry (Some e) is (Some f) =
         let at = find_some (λ y. has_id cid y.facts) m.connections e is in
-        keeps-trimmed m (ending (Fault (kind_of f)) e m).machine within (ending-keeps (Fault (kind_of f)) m e at.place h at.stands)
+        keeps-trimmed m (ending (Fault (kind_of f)) e m).machine within (ending-keeps (Fault (kind_of f)) refl m e at.place h at.stands)
 
 fed_with-trimmed : (fed : FedBy) (m : Machine) (e : Entry) (k : ℕ) → IsOrdered m → counted_in m ≤ m.settings.hard → StandsAt m.connections k e →
     Trimmed m (fed_with fed e m).machine

@@ -38,7 +38,7 @@ use Rattle.laws.proofs.Finds.{find-remove_other, find-remove_here}
 use Rattle.laws.proofs.Keeping.{IsOrdered, Keeps, keeps_nothing, changes-keeps, peer_comes-keeps}
 use Rattle.laws.proofs.Lists.{StandsAt, stands-set, find_some, find_only}
 use Rattle.laws.proofs.Trims.{Trimmed, HasMoved, keeps-trimmed, trimmed_then, trimmed-within, raised_then_trimmed, trim-trims, for_each-trimmed}
-use Rattle.laws.proofs.WholeMoves.{ending-keeps, awakes-keeps, idles-keeps, pays-keeps}
+use Rattle.laws.proofs.WholeMoves.{IsLost, ending-keeps, awakes-keeps, idles-keeps, pays-keeps}
 
 -- ---- only known protocols are answered
 
@@ -189,8 +189,8 @@ pub record Talking (m : Machine) (e : Entry) (k : ℕ) : Type 0 where
   pub stands : StandsAt m.connections k e
   pub negotiated : is_negotiated e.facts ≡ true
 
-ends : (cause : CloseCause) (m : Machine) (e : Entry) (k : ℕ) → Talking m e k → Trimmed m (ending cause e m).machine
-ends cause m e k t = keeps-trimmed m (ending cause e m).machine t.within (ending-keeps cause m e k t.ordered t.stands)
+ends : (cause : CloseCause) → IsLost cause → (m : Machine) (e : Entry) (k : ℕ) → Talking m e k → Trimmed m (ending cause e m).machine
+ends cause loses m e k t = keeps-trimmed m (ending cause e m).machine t.within (ending-keeps cause loses m e k t.ordered t.stands)
 
 -- the record after a responder has started, and what is found in it
 record Begun (cid : ℕ) (before after : Machine) : Type 0 where
@@ -272,7 +272,7 @@ served-trimmed seen protocol cid m h within runs = by_entry (entry_at cid m) ref
 
 pub asked_as-trimmed : (r : Result Seen FaultKind) (item : List ℕ) (sharing : Bool) (protocol : ℕ) (m : Machine) (e : Entry) (k : ℕ) →
     watched protocol sharing item ≡ r → Talking m e k → Trimmed m (asked_as r protocol e m).machine
-asked_as-trimmed (Err kind) item sharing protocol m e k is t = ends (Fault kind) m e k t
+asked_as-trimmed (Err kind) item sharing protocol m e k is t = ends (Fault kind) refl m e k t
 asked_as-trimmed (Ok seen) item sharing protocol m e k is t = by_test (takes_requests e) refl
   where
     known : has_responder protocol ≡ true
@@ -285,7 +285,7 @@ asked_as-trimmed (Ok seen) item sharing protocol m e k is t = by_test (takes_req
         let begun : Begun e.facts.cid.0 m n = begins-begun protocol m e k t serves known in
         trimmed_then m n (served_at (entry_at e.facts.cid.0 n) seen protocol n).machine begun.trimmed
         (served-trimmed seen protocol e.facts.cid.0 n begun.trimmed.ordered (trimmed-within m n begun.trimmed) begun.runs)
-    by_test false serves = ends (Fault Protocol) m e k t
+    by_test false serves = ends (Fault Protocol) refl m e k t
 
 -- ---- the other side answers
 
@@ -309,7 +309,7 @@ brings-trimmed protocol body e m h within =
     (λ on_8. keeps-trimmed m m within (keeps_nothing m h)) (λ not_8. takes-trimmed (share_of body) m h within))
 
 answered_as-trimmed : (o : Option Owed) (item : Item) (m : Machine) (e : Entry) (k : ℕ) → Talking m e k → Trimmed m (answered_as o item e m).machine
-answered_as-trimmed None item m e k t = ends (Fault Protocol) m e k t
+answered_as-trimmed None item m e k t = ends (Fault Protocol) refl m e k t
 answered_as-trimmed (Some owed) item m e k t =
     cond_both (pays owed item.body) (then_do (entry_turns e (paid item.id e) m) (brings item.id item.body e)) (ending (Fault Protocol) e m)
     (λ effect. Trimmed m effect.machine)
@@ -318,7 +318,7 @@ answered_as-trimmed (Some owed) item m e k t =
     let first : Trimmed m n = keeps-trimmed m n t.within (pays-keeps item.id m e k t.ordered t.stands) in
     trimmed_then m n (brings item.id item.body e n).machine first
     (brings-trimmed item.id item.body e n first.ordered (trimmed-within m n first)))
-    (λ other. ends (Fault Protocol) m e k t)
+    (λ other. ends (Fault Protocol) refl m e k t)
 
 -- an item comes in
 pub talks-trimmed : (item : Item) (m : Machine) (e : Entry) (k : ℕ) → Talking m e k → Trimmed m (talks item e m).machine

@@ -1,14 +1,16 @@
 -- What ties a peer to the live connection of its address, through each change of either.
-use Rattle.std.proofs.Common.{ℕ, ◌+◌, ◌≤◌, ◌≡◌, Bool, true, false, cond, not, ◌&&◌, ◌||◌, if◌then◌else◌, List, [], ◌∷◌, ◌++◌, get_or, map, filter, find, set, remove, Option, Some, None, is_some, refl, sym, ap, ◌∙◌, subst, arith}
-use Rattle.std.proofs.lemmas.Bool.{both_ways, false≢true, and_parts, and_from, false_from_ne_true}
+use Rattle.std.proofs.Common.{ℕ, ◌+◌, ◌≤◌, ◌≡◌, Bool, true, false, cond, not, ◌&&◌, ◌||◌, if◌then◌else◌, nat_le, List, [], ◌∷◌, ◌++◌, length, get_or, map, filter, find, set, remove, Option, Some, None, is_some, refl, sym, ap, ◌∙◌, subst, arith}
+use Rattle.std.proofs.lemmas.Bool.{cond_both, both_ways, false≢true, and_parts, and_from, false_from_ne_true}
 use Rattle.net_base.specs.Address.{same_address, address_below}
 use Rattle.net_base.specs.declared.address.Addr.{Addr}
 use Rattle.net_base.specs.declared.connection.Facts.{Facts}
 use Rattle.net_base.specs.declared.peer.Peer.{Peer}
-use Rattle.conn_state.specs.Use.{is_live, is_live_at}
-use Rattle.peer_book.specs.Book.{has_address, peer_at as peer_in, with_peer as with_peer_in, with_new as with_new_in, without_peer}
+use Rattle.conn_state.specs.Use.{is_live, is_live_at, is_pending}
+use Rattle.peer_book.specs.Book.{has_address, peer_at as peer_in, with_peer as with_peer_in, with_new as with_new_in, without_peer, new_peer, entry_of, entered_by, entered, most_peers}
+use Rattle.peer_book.specs.declared.added.Added.TheVariants.{New, Present, Full}
 use Rattle.machine.specs.Machine.{Machine, Entry, live_entry_at}
 use Rattle.machine.specs.Peers.{peer_at, turns_at, peer_changes}
+use Rattle.machine.specs.Replies.{reply_on}
 use Rattle.machine.specs.Connections.{with_entry, without_entry}
 use Rattle.laws.specs.Laws.{LiveAddressesDistinct}
 use Rattle.laws.specs.Sound.{IsOrderly}
@@ -179,8 +181,8 @@ gone-ties m e k h s unused ties = by_live (is_live e.facts) refl
 -- A peer changes, from one record to another in which its connection may have changed too.
 pub changed-ties : (a : Addr) (change : Peer → Peer) (m n : Machine) → ((p : Peer) → (change p).addr ≡ p.addr) → n.now ≡ m.now → n.peers ≡ m.peers →
     ((b : Addr) → same_address b a ≡ false → live_entry_at b n ≡ live_entry_at b m) →
-    (TiedBy m.now None (live_entry_at a m) → TiedBy m.now None (live_entry_at a n)) →
-    ((p : Peer) → TiedBy m.now (Some p) (live_entry_at a m) → TiedBy m.now (Some (change p)) (live_entry_at a n)) →
+    (peer_at a m ≡ None → TiedBy m.now None (live_entry_at a m) → TiedBy m.now None (live_entry_at a n)) →
+    ((p : Peer) → peer_at a m ≡ Some p → TiedBy m.now (Some p) (live_entry_at a m) → TiedBy m.now (Some (change p)) (live_entry_at a n)) →
     IsTied m → IsTied (peer_changes a change n).machine
 changed-ties a change m n same now peers lives alone step ties = by_peer (peer_at a n) refl
   where
@@ -193,7 +195,7 @@ changed-ties a change m n same now peers lives alone step ties = by_peer (peer_a
     by_peer : (o : Option Peer) → peer_at a n ≡ o → IsTied (turns_at o change n).machine
     by_peer None is =
         tied_but a m n now (λ b other. book b) lives
-        (subst (λ t. TiedBy t (peer_at a n) (live_entry_at a n)) (sym now) (subst (λ o. TiedBy m.now o (live_entry_at a n)) (sym is) (alone (was None is)))) ties
+        (subst (λ t. TiedBy t (peer_at a n) (live_entry_at a n)) (sym now) (subst (λ o. TiedBy m.now o (live_entry_at a n)) (sym is) (alone (sym (book a) ∙ is) (was None is)))) ties
     by_peer (Some p) is =
         let new : Peer = change p in
         let here : new.addr ≡ a = same p ∙ found-addr a n.peers p is in
@@ -201,9 +203,92 @@ changed-ties a change m n same now peers lives alone step ties = by_peer (peer_a
         tied_but a m o now
         (λ b other. peer_elsewhere new b n.peers (subst (λ x. same_address b x ≡ false) (sym here) other) ∙ book b) lives
         (subst (λ t. TiedBy t (peer_at a o) (live_entry_at a o)) (sym now)
-        (subst (λ q. TiedBy m.now q (live_entry_at a n)) (sym (found_new a new here p is)) (step p (was (Some p) is)))) ties
+        (subst (λ q. TiedBy m.now q (live_entry_at a n)) (sym (found_new a new here p is)) (step p (sym (book a) ∙ is) (was (Some p) is)))) ties
       where
         found_new : (a : Addr) (new : Peer) → new.addr ≡ a → (p : Peer) → peer_in a n.peers ≡ Some p → peer_in a (with_peer_in new n.peers) ≡ Some new
         found_new a new here p is =
             subst (λ x. peer_in x (with_peer_in new n.peers) ≡ Some new) here
             (peer_here new p n.peers (subst (λ x. peer_in x n.peers ≡ Some p) (sym here) is))
+
+-- ---- a peer comes, and one goes
+
+put_in-elsewhere : (new : Peer) (b : Addr) (ps : List Peer) → same_address b new.addr ≡ false → peer_in b (with_new_in new ps) ≡ peer_in b ps
+put_in-elsewhere new b [] other = rw (same_turned b new.addr other) refl
+put_in-elsewhere new b (p ∷ ps) other = by_test (address_below p.addr new.addr) (put_in-elsewhere new b ps other)
+  where
+    by_test : (c : Bool) → peer_in b (with_new_in new ps) ≡ peer_in b ps →
+        peer_in b (if c then p ∷ with_new_in new ps else new ∷ p ∷ ps) ≡ peer_in b (p ∷ ps)
+    by_test true rest = ap (λ o. cond (has_address b p) (Some p) o) rest
+    by_test false rest = rw (same_turned b new.addr other) refl
+
+put_in-here : (new : Peer) (ps : List Peer) → peer_in new.addr ps ≡ None → peer_in new.addr (with_new_in new ps) ≡ Some new
+put_in-here new [] none = rw (same_address-self new.addr) refl
+put_in-here new (p ∷ ps) none = by_there (has_address new.addr p) refl none (put_in-here new ps)
+  where
+    by_there : (c : Bool) → has_address new.addr p ≡ c → cond c (Some p) (peer_in new.addr ps) ≡ None →
+        (peer_in new.addr ps ≡ None → peer_in new.addr (with_new_in new ps) ≡ Some new) → peer_in new.addr (with_new_in new (p ∷ ps)) ≡ Some new
+    by_there true e f later = absurd cc
+    by_there false e f later = by_test (address_below p.addr new.addr) (later f)
+      where
+        by_test : (c : Bool) → peer_in new.addr (with_new_in new ps) ≡ Some new →
+            peer_in new.addr (if c then p ∷ with_new_in new ps else new ∷ p ∷ ps) ≡ Some new
+        by_test true rest = rw e rest
+        by_test false rest = rw (same_address-self new.addr) refl
+
+none_there : (o : Option Peer) → is_some o ≡ false → o ≡ None
+none_there None h = refl
+none_there (Some p) h = absurd (false≢true (sym h))
+
+-- a cold one, which is not asked anything
+new-tied : (big : Bool) (addr : Addr) (now : ℕ) (o : Option Entry) → TiedBy now None o → TiedBy now (Some (new_peer big addr)) o
+new-tied big addr now None tie = refl
+new-tied big addr now (Some e) tie = record {
+  established = sym tie.unused;
+  in_use = λ local. absurd (both_ways e.facts.local tie.unused local);
+  on_its_way = λ pending. absurd (both_ways (is_pending e.facts) tie.not_dialed pending);
+  asked = λ asked. absurd (both_ways (is_some (reply_on 2 e)) tie.not_asked asked);
+}
+
+pub comes-ties : (big : Bool) (addr : Addr) (m : Machine) → IsTied m → IsTied (record m { peers = entered (new_peer big addr) m.peers })
+comes-ties big addr m ties = by_there (is_some (peer_in addr m.peers)) refl
+  where
+    new : Peer
+    new = new_peer big addr
+
+    comes : peer_in addr m.peers ≡ None → IsTied (record m { peers = with_new_in new m.peers })
+    comes none =
+        tied_but addr m (record m { peers = with_new_in new m.peers }) refl (λ b other. put_in-elsewhere new b m.peers other) (λ b other. refl)
+        (subst (λ o. TiedBy m.now o (live_entry_at addr m)) (sym (put_in-here new m.peers none))
+        (new-tied big addr m.now (live_entry_at addr m) (subst (λ o. TiedBy m.now o (live_entry_at addr m)) none (ties addr)))) ties
+
+    by_there : (b : Bool) → is_some (peer_in addr m.peers) ≡ b →
+        IsTied (record m { peers = entered_by (if b then Present else if nat_le most_peers (length m.peers) then Full else New) new m.peers })
+    by_there true e = ties
+    by_there false e =
+        cond_both (nat_le most_peers (length m.peers)) Full New (λ added. IsTied (record m { peers = entered_by added new m.peers }))
+        (λ full. ties) (λ room. comes (none_there (peer_in addr m.peers) e))
+
+taken-elsewhere : (addr b : Addr) (ps : List Peer) → same_address b addr ≡ false → peer_in b (without_peer addr ps) ≡ peer_in b ps
+taken-elsewhere addr b [] other = refl
+taken-elsewhere addr b (p ∷ ps) other = by_test (same_address p.addr addr) refl (taken-elsewhere addr b ps other)
+  where
+    by_test : (c : Bool) → same_address p.addr addr ≡ c → peer_in b (without_peer addr ps) ≡ peer_in b ps →
+        peer_in b (cond (not c) (p ∷ without_peer addr ps) (without_peer addr ps)) ≡ peer_in b (p ∷ ps)
+    by_test true e rest =
+        let same : same_address p.addr b ≡ false = subst (λ a. same_address a b ≡ false) (sym (same_address-true p.addr addr e)) (same_turned b addr other) in
+        rw same rest
+    by_test false e rest = ap (λ o. cond (has_address b p) (Some p) o) rest
+
+taken-here : (addr : Addr) (ps : List Peer) → peer_in addr (without_peer addr ps) ≡ None
+taken-here addr [] = refl
+taken-here addr (p ∷ ps) = by_test (same_address p.addr addr) refl (taken-here addr ps)
+  where
+    by_test : (c : Bool) → same_address p.addr addr ≡ c → peer_in addr (without_peer addr ps) ≡ None →
+        peer_in addr (cond (not c) (p ∷ without_peer addr ps) (without_peer addr ps)) ≡ None
+    by_test true e rest = rest
+    by_test false e rest = rw e rest
+
+pub taken-ties : (addr : Addr) (m : Machine) → TiedBy m.now None (live_entry_at addr m) → IsTied m → IsTied (record m { peers = without_peer addr m.peers })
+taken-ties addr m alone ties =
+    tied_but addr m (record m { peers = without_peer addr m.peers }) refl (λ b other. taken-elsewhere addr b m.peers other) (λ b other. refl)
+    (subst (λ o. TiedBy m.now o (live_entry_at addr m)) (sym (taken-here addr m.peers)) alone) ties

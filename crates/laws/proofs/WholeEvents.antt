@@ -177,12 +177,12 @@ grace_over-keeps m e k h s = cond_both e.facts.local (entry_turns e (record e { 
         (then_do (tells (Close e.facts.cid Unused ∷ []) m) (entry_turns e (closing_entry m e)))
 
 fires_as-keeps : (kind : Kind) (m : Machine) (e : Entry) (k : ℕ) → IsOrdered m → StandsAt m.connections k e → Keeps 0 m (fires_as kind e m).machine
-fires_as-keeps Handshake = ending-keeps (Fault HandshakeWait)
+fires_as-keeps Handshake = ending-keeps (Fault HandshakeWait) refl
 fires_as-keeps GraceKind = grace_over-keeps
 fires_as-keeps TimeWait = goes-keeps
-fires_as-keeps Reply2 = ending-keeps (Fault ReplyWait)
-fires_as-keeps Reply8 = ending-keeps (Fault ReplyWait)
-fires_as-keeps Reply10 = ending-keeps (Fault ReplyWait)
+fires_as-keeps Reply2 = ending-keeps (Fault ReplyWait) refl
+fires_as-keeps Reply8 = ending-keeps (Fault ReplyWait) refl
+fires_as-keeps Reply10 = ending-keeps (Fault ReplyWait) refl
 
 fires-keeps : (d : Deadline) (m : Machine) → IsOrdered m → Keeps 0 m (fires d m).machine
 fires-keeps d m h = by_entry (entry_at d.cid.0 m) refl

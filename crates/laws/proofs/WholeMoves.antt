@@ -1,6 +1,6 @@
 -- The moves of connections in the whole machine: what each keeps, and by how much it may raise the counted ones.
-use Rattle.std.proofs.Common.{ℕ, ◌+◌, ◌%◌, ◌≤◌, ◌≡◌, Bool, true, false, ◌||◌, nat_le, if◌then◌else◌, count_by, refl, sym, ap, ◌∙◌, arith}
-use Rattle.std.proofs.lemmas.Bool.{cond_both, false≢true}
+use Rattle.std.proofs.Common.{ℕ, ◌+◌, ◌%◌, ◌≤◌, ◌≡◌, Bool, true, false, ◌&&◌, ◌||◌, nat_le, nat_lt, not, cond, ◌==◌, if◌then◌else◌, count_by, List, [], ◌∷◌, ◌++◌, Option, Some, None, is_some, find, filter, subst, refl, sym, ap, ◌∙◌, arith}
+use Rattle.std.proofs.lemmas.Bool.{cond_both, both_ways, and_parts, and_from, false≢true, false_from_ne_true}
 use Rattle.net_base.specs.declared.action.CloseCause.{CloseCause}
 use Rattle.net_base.specs.declared.action.CloseCause.TheVariants.{Unused, Pruned, Overwritten, Refused, Query, Fault}
 use Rattle.net_base.specs.declared.connection.Agreed.{Agreed}
@@ -11,27 +11,29 @@ use Rattle.net_base.specs.declared.connection.Grace.{Grace}
 use Rattle.net_base.specs.declared.connection.Grace.TheVariants.{Off, ForRemote, ForLocal}
 use Rattle.net_base.specs.declared.connection.Phase.{Phase}
 use Rattle.net_base.specs.declared.connection.Phase.TheVariants.{Dialing, Greeting, Negotiated, Closing}
+use Rattle.net_base.specs.declared.peer.Peer.{Peer}
 use Rattle.net_base.specs.declared.peer.Temp.TheVariants.{Warm}
 use Rattle.net_base.specs.declared.settings.Settings.{Settings}
 use Rattle.net_base.specs.declared.settings.Field.TheVariants.{Version}
 use Rattle.net_base.specs.Bounds.{AreSound, settings_tests}
 use Rattle.net_base.specs.Peer.{failed_peer}
 use Rattle.conn_state.specs.Moves.{connected, agreed_inbound, agreed_outbound, acquired, released, awakened, idled}
-use Rattle.conn_state.specs.Use.{is_negotiated, is_negotiated_phase, is_dialing, is_dialing_phase, is_greeting, is_greeting_phase, live_phase, is_outbound, is_for_remote, some_runs, is_acquirable, is_live}
-use Rattle.machine.specs.Machine.{Machine, Entry}
+use Rattle.conn_state.specs.Use.{is_pending, opening_phase, is_negotiated, is_negotiated_phase, is_dialing, is_dialing_phase, is_greeting, is_greeting_phase, live_phase, is_outbound, is_for_remote, some_runs, is_acquirable, is_live}
+use Rattle.machine.specs.Machine.{Machine, Entry, Owed, live_entry_at}
 use Rattle.machine.specs.Effect.{nothing_more}
-use Rattle.machine.specs.Peers.{peer_fails, peer_succeeds}
-use Rattle.machine.specs.Replies.{owing, paid}
+use Rattle.machine.specs.Peers.{peer_at, peer_fails, peer_succeeds}
+use Rattle.machine.specs.Replies.{reply_on, with_reply, owing, paid}
 use Rattle.machine.specs.Connections.{with_entry, without_entry, is_missed, lost, lost_by, ending, vanishes, is_used, is_agreed_inbound, is_agreed_outbound, acquire, idle}
-use Rattle.laws.specs.Whole.{IsShaped, IsUnused}
+use Rattle.laws.specs.Whole.{IsShaped, IsUnused, AreTied, IsAlone, TiedBy, IsTied}
 use Rattle.machine.specs.Deadlines.{grace_deadlines}
 use Rattle.laws.proofs.Counts.{counted_of, one_if_counted, is_late, grace_late_of}
 use Rattle.laws.proofs.Effects.{at_most_one, one_if-counted, one_if-not_counted, counted-connected, counted-greeting, counted-agreed_outbound, fewer-acquired, counted-running, phase_late_of, owed_late, late-fewer, ahead, phase-ahead, remote-ahead, local-ahead, owing-fewer, paid-fewer}
 use Rattle.laws.proofs.Entries.{TurnsInto}
-use Rattle.laws.proofs.Keeping.{IsOrdered, Keeps, keeps_nothing, keeps_then, turns-keeps, goes-keeps, changes-keeps}
+use Rattle.laws.proofs.Keeping.{IsOrdered, Moves, Keeps, moves_nothing, moves_then, moves-keeps, turns-moves, goes-moves, changes-moves}
 use Rattle.laws.proofs.Lists.{StandsAt, All-stands}
+use Rattle.laws.proofs.Ties.{live_of, turned-ties, gone-ties, changed-ties, gone_here, gone_elsewhere, tied_but, turned_here, turned_elsewhere, turned_dead, live_here}
 use Rattle.laws.proofs.Settings.{first_failing-none, interval-positive, handshake-positive}
-use Rattle.laws.proofs.Shapes.{connected-shaped, agreed_inbound-shaped, agreed_outbound-shaped, acquired-shaped, released-shaped, awakened-shaped, idled-shaped, running-negotiated, greeting-unnegotiated, serves_remote}
+use Rattle.laws.proofs.Shapes.{connected-shaped, agreed_inbound-shaped, agreed_outbound-shaped, acquired-shaped, released-shaped, awakened-shaped, idled-shaped, running-negotiated, greeting-unnegotiated, serves_remote, can_acquire}
 
 -- ---- intervals
 
@@ -41,33 +43,93 @@ idle-positive s h = interval-positive s.idle (first_failing-none (settings_tests
 pub reply-positive : (s : Settings) → AreSound s → 1 ≤ s.reply
 reply-positive s h = interval-positive s.reply (first_failing-none (settings_tests s) h 10 (Version, true) (omega arith))
 
+-- ---- one connection
+
+-- what stands is in shape
+pub stands-shaped : (m : Machine) (e : Entry) (k : ℕ) → IsOrdered m → StandsAt m.connections k e → IsShaped e.facts
+stands-shaped m e k h s = All-stands (λ x. IsShaped x.facts) m.connections k e s h.formed.shaped
+
+and_false_right : (a b : Bool) → b ≡ false → (a && b) ≡ false
+and_false_right true b h = h
+and_false_right false b h = refl
+
+pending-unnegotiated : (f : Facts) → is_pending f ≡ true → is_negotiated f ≡ false
+pending-unnegotiated f h = by_phase f.phase refl (and_parts (is_outbound f) (opening_phase f.phase) h).1
+  where
+    by_phase : (p : Phase) → f.phase ≡ p → opening_phase f.phase ≡ true → is_negotiated f ≡ false
+    by_phase Dialing is opening = ap is_negotiated_phase is
+    by_phase (Greeting until) is opening = ap is_negotiated_phase is
+    by_phase Negotiated is opening = absurd (both_ways (opening_phase f.phase) (ap opening_phase is) opening)
+    by_phase (Closing until) is opening = ap is_negotiated_phase is
+
 -- ---- a connection goes
 
-pub lost-keeps : (f : Facts) (m : Machine) → IsOrdered m → Keeps 0 m (lost f m).machine
-lost-keeps f m h = cond_both (is_missed f) (peer_fails f.addr m) (nothing_more m) (λ effect. Keeps 0 m effect.machine)
-    (λ missed. changes-keeps f.addr (failed_peer m.now m.settings.backoff) m (λ p. refl) h) (λ other. keeps_nothing m h)
+missed-live : (f : Facts) → IsShaped f → is_missed f ≡ true → is_live f ≡ true
+missed-live f shape missed = by_phase f.phase refl
+  where
+    dead : is_negotiated f ≡ false → is_pending f ≡ false → is_missed f ≡ false
+    dead unused idle = rw ((shape.unused unused).local, idle) refl
 
-lost_by-keeps : (cause : CloseCause) (f : Facts) (m : Machine) → IsOrdered m → Keeps 0 m (lost_by cause f m).machine
-lost_by-keeps Unused f m h = lost-keeps f m h
-lost_by-keeps Pruned f m h = lost-keeps f m h
-lost_by-keeps Overwritten f m h = keeps_nothing m h
-lost_by-keeps Refused f m h = lost-keeps f m h
-lost_by-keeps Query f m h = lost-keeps f m h
-lost_by-keeps (Fault kind) f m h = lost-keeps f m h
+    by_phase : (p : Phase) → f.phase ≡ p → is_live f ≡ true
+    by_phase Dialing is = ap live_phase is
+    by_phase (Greeting until) is = ap live_phase is
+    by_phase Negotiated is = ap live_phase is
+    by_phase (Closing until) is =
+        absurd (both_ways (is_missed f)
+        (dead (ap is_negotiated_phase is) (and_false_right (is_outbound f) (opening_phase f.phase) (ap opening_phase is))) missed)
 
-pub ending-keeps : (cause : CloseCause) (m : Machine) (e : Entry) (k : ℕ) → IsOrdered m → StandsAt m.connections k e →
-    Keeps 0 m (ending cause e m).machine
-ending-keeps cause m e k h s =
+not_missed-unused : (f : Facts) → is_missed f ≡ false → f.local ≡ false
+not_missed-unused f h = by_local f.local h
+  where
+    by_local : (b : Bool) → (b || is_pending f) ≡ false → b ≡ false
+    by_local true h = absurd (false≢true (sym h))
+    by_local false h = refl
+
+pub lost-moves : (f : Facts) (m : Machine) → IsOrdered m → Moves 0 m (lost f m).machine
+lost-moves f m h = cond_both (is_missed f) (peer_fails f.addr m) (nothing_more m) (λ effect. Moves 0 m effect.machine)
+    (λ missed. changes-moves f.addr (failed_peer m.now m.settings.backoff) m h) (λ other. moves_nothing m h)
+
+lost-ties : (m : Machine) (e : Entry) (k : ℕ) → IsOrdered m → StandsAt m.connections k e → IsTied m →
+    IsTied (lost e.facts (without_entry e.facts.cid.0 m)).machine
+lost-ties m e k h s ties =
     let n : Machine = without_entry e.facts.cid.0 m in
-    let goes : Keeps 0 m n = goes-keeps m e k h s in
-    keeps_then 0 0 m n (lost_by cause e.facts n).machine goes (lost_by-keeps cause e.facts n goes.ordered)
+    let shape : IsShaped e.facts = stands-shaped m e k h s in
+    cond_both (is_missed e.facts) (peer_fails e.facts.addr n) (nothing_more n) (λ effect. IsTied effect.machine)
+    (λ missed.
+    let live : is_live e.facts ≡ true = missed-live e.facts shape missed in
+    let none : live_entry_at e.facts.addr n ≡ None = gone_here m e k h.orderly s live in
+    changed-ties e.facts.addr (failed_peer n.now n.settings.backoff) m n (λ p. refl) refl refl (gone_elsewhere m e k h.orderly s)
+    (λ no_peer alone. subst (λ o. TiedBy m.now None o) (sym none) tt)
+    (λ p found tie. subst (λ o. TiedBy m.now (Some (failed_peer n.now n.settings.backoff p)) o) (sym none) refl) ties)
+    (λ other. gone-ties m e k h.orderly s (λ live. not_missed-unused e.facts other) ties)
+
+-- it is ended or has vanished, and its peer fails where it is missed
+gone_lost-keeps : (m : Machine) (e : Entry) (k : ℕ) → IsOrdered m → StandsAt m.connections k e →
+    Keeps 0 m (lost e.facts (without_entry e.facts.cid.0 m)).machine
+gone_lost-keeps m e k h s =
+    let n : Machine = without_entry e.facts.cid.0 m in
+    let goes : Moves 0 m n = goes-moves m e k h s in
+    moves-keeps 0 m (lost e.facts n).machine (moves_then 0 0 m n (lost e.facts n).machine goes (lost-moves e.facts n goes.ordered)) (lost-ties m e k h s)
+
+-- a cause for which a peer fails
+abbrev pub IsLost : CloseCause → Type 0
+IsLost cause = lost_by cause ≡ lost
+
+pub ending-keeps : (cause : CloseCause) → IsLost cause → (m : Machine) (e : Entry) (k : ℕ) → IsOrdered m → StandsAt m.connections k e →
+    Keeps 0 m (ending cause e m).machine
+ending-keeps cause loses m e k h s =
+    subst (λ act. Keeps 0 m (act e.facts (without_entry e.facts.cid.0 m)).machine) (sym loses) (gone_lost-keeps m e k h s)
+
+-- one that gives way to another
+pub overwritten-keeps : (m : Machine) (e : Entry) (k : ℕ) → IsOrdered m → StandsAt m.connections k e → is_pending e.facts ≡ true →
+    Keeps 0 m (ending Overwritten e m).machine
+overwritten-keeps m e k h s pending =
+    moves-keeps 0 m (ending Overwritten e m).machine (goes-moves m e k h s)
+    (gone-ties m e k h.orderly s (λ live. ((stands-shaped m e k h s).unused (pending-unnegotiated e.facts pending)).local))
 
 pub vanishes-keeps : (m : Machine) (e : Entry) (k : ℕ) → IsOrdered m → StandsAt m.connections k e →
     Keeps 0 m (vanishes e m).machine
-vanishes-keeps m e k h s =
-    let n : Machine = without_entry e.facts.cid.0 m in
-    let goes : Keeps 0 m n = goes-keeps m e k h s in
-    keeps_then 0 0 m n (lost e.facts n).machine goes (lost-keeps e.facts n goes.ordered)
+vanishes-keeps m e k h s = gone_lost-keeps m e k h s
 
 -- ---- a connection turns
 
@@ -79,6 +141,75 @@ same_entry e f cid addr live new is = record {
   same_addr = ap (λ g. g.addr) is ∙ addr;
   live = λ l. live (ap is_live (sym is) ∙ l);
 }
+
+-- a reply on chain-sync that is owed after a change was owed before it
+some_filter : {X : Type 0} (q r : X → Bool) (xs : List X) → is_some (find q (filter r xs)) ≡ true → is_some (find q xs) ≡ true
+some_filter q r [] h = h
+some_filter {X} q r (x ∷ xs) h = by_kept (r x) h (some_filter q r xs)
+  where
+    either : (b : Bool) → is_some (find q xs) ≡ true → is_some (cond b (Some x) (find q xs)) ≡ true
+    either true rest = refl
+    either false rest = rest
+
+    by_found : (b : Bool) → is_some (cond b (Some x) (find q (filter r xs))) ≡ true → (is_some (find q (filter r xs)) ≡ true → is_some (find q xs) ≡ true) →
+        is_some (cond b (Some x) (find q xs)) ≡ true
+    by_found true h later = refl
+    by_found false h later = later h
+
+    by_kept : (b : Bool) → is_some (find q (cond b (x ∷ filter r xs) (filter r xs))) ≡ true →
+        (is_some (find q (filter r xs)) ≡ true → is_some (find q xs) ≡ true) → is_some (find q (x ∷ xs)) ≡ true
+    by_kept true h later = by_found (q x) h later
+    by_kept false h later = either (q x) (later h)
+
+some_append : {X : Type 0} (Z : Type 0) (q : X → Bool) (xs ys : List X) → (is_some (find q xs) ≡ true → Z) → (is_some (find q ys) ≡ true → Z) →
+    is_some (find q (xs ++ ys)) ≡ true → Z
+some_append Z q [] ys front behind h = behind h
+some_append {X} Z q (x ∷ xs) ys front behind h = by_test (q x) front h (some_append Z q xs ys)
+  where
+    by_test : (b : Bool) → (is_some (cond b (Some x) (find q xs)) ≡ true → Z) → is_some (cond b (Some x) (find q (xs ++ ys))) ≡ true →
+        ((is_some (find q xs) ≡ true → Z) → (is_some (find q ys) ≡ true → Z) → is_some (find q (xs ++ ys)) ≡ true → Z) → Z
+    by_test true front h later = front refl
+    by_test false front h later = later front behind h
+
+with_reply-asked : (new : Owed) (owed : List Owed) → (new.protocol == 2) ≡ false →
+    is_some (find (λ o. o.protocol == 2) (with_reply new owed)) ≡ true → is_some (find (λ o. o.protocol == 2) owed) ≡ true
+with_reply-asked new owed other h =
+    some_append (is_some (find (λ o. o.protocol == 2) owed) ≡ true) (λ o. o.protocol == 2)
+    (filter (λ o. nat_lt o.protocol new.protocol) owed) (new ∷ filter (λ o. nat_lt new.protocol o.protocol) owed)
+    (some_filter (λ o. o.protocol == 2) (λ o. nat_lt o.protocol new.protocol) owed) (λ found. behind (new.protocol == 2) other found) h
+  where
+    behind : (b : Bool) → b ≡ false → is_some (cond b (Some new) (find (λ o. o.protocol == 2) (filter (λ o. nat_lt new.protocol o.protocol) owed))) ≡ true →
+        is_some (find (λ o. o.protocol == 2) owed) ≡ true
+    behind true other found = absurd (false≢true (sym other))
+    behind false other found = some_filter (λ o. o.protocol == 2) (λ o. nat_lt new.protocol o.protocol) owed found
+
+paid-asked : (protocol : ℕ) (e : Entry) → is_some (reply_on 2 (paid protocol e)) ≡ true → is_some (reply_on 2 e) ≡ true
+paid-asked protocol e h = some_filter (λ o. o.protocol == 2) (λ o. not (o.protocol == protocol)) e.owed h
+
+-- what is as it was for its peer
+pub record IsAlike (old new : Entry) : Type 0 where
+  pub local : new.facts.local ≡ old.facts.local
+  pub pending : is_pending new.facts ≡ is_pending old.facts
+  pub live : is_live new.facts ≡ is_live old.facts
+  pub asked : is_some (reply_on 2 new) ≡ true → is_some (reply_on 2 old) ≡ true
+
+alike-tied : (now : ℕ) (o : Option Peer) (old new : Entry) → IsAlike old new → TiedBy now o (Some old) → TiedBy now o (Some new)
+alike-tied now None old new a tie = record {
+  unused = a.local ∙ tie.unused;
+  not_dialed = a.pending ∙ tie.not_dialed;
+  not_asked = false_from_ne_true (is_some (reply_on 2 new)) (λ asked. both_ways (is_some (reply_on 2 old)) tie.not_asked (a.asked asked));
+}
+alike-tied now (Some p) old new a tie = record {
+  established = tie.established ∙ sym a.local;
+  in_use = λ local. tie.in_use (sym a.local ∙ local);
+  on_its_way = λ pending. tie.on_its_way (sym a.pending ∙ pending);
+  asked = λ asked. tie.asked (a.asked asked);
+}
+
+pub alike-ties : (m : Machine) (e new : Entry) (k : ℕ) → IsOrdered m → StandsAt m.connections k e → TurnsInto e new → IsAlike e new →
+    IsTied m → IsTied (with_entry new m)
+alike-ties m e new k h s t a ties = turned-ties m e new k h.orderly s t
+    (λ live o tie. subst (λ b. TiedBy m.now o (if b then Some new else None)) (sym (a.live ∙ live)) (alike-tied m.now o e new a tie)) ties
 
 dialing-live : (p : Phase) → is_dialing_phase p ≡ true → live_phase p ≡ true
 dialing-live Dialing h = refl
@@ -98,9 +229,11 @@ negotiated-live (Greeting until) h = absurd (false≢true h)
 negotiated-live Negotiated h = refl
 negotiated-live (Closing until) h = absurd (false≢true h)
 
--- what stands is in shape
-pub stands-shaped : (m : Machine) (e : Entry) (k : ℕ) → IsOrdered m → StandsAt m.connections k e → IsShaped e.facts
-stands-shaped m e k h s = All-stands (λ x. IsShaped x.facts) m.connections k e s h.formed.shaped
+dialing-opening : (p : Phase) → is_dialing_phase p ≡ true → opening_phase p ≡ true
+dialing-opening Dialing h = refl
+dialing-opening (Greeting until) h = absurd (false≢true h)
+dialing-opening Negotiated h = absurd (false≢true h)
+dialing-opening (Closing until) h = absurd (false≢true h)
 
 -- the dialed socket is open
 pub connects-keeps : (m : Machine) (e : Entry) (k : ℕ) → IsOrdered m → StandsAt m.connections k e → is_dialing e.facts ≡ true →
@@ -111,9 +244,14 @@ connects-keeps m e k h s dials =
     let shape : IsShaped e.facts = stands-shaped m e k h s in
     let none : counted_of new ≡ 0 = one_if-not_counted new.facts (counted-connected until e.facts (shape.dialing dials)) in
     let later : phase_late_of m.now new ≡ 0 = phase-ahead m.now until e.facts.cid (ahead m.now m.settings.handshake (handshake-positive m.settings h.orderly.settings)) in
-    turns-keeps 0 m e new k h s (record { same_id = refl; same_addr = refl; live = λ l. dialing-live e.facts.phase dials })
-    (connected-shaped until e.facts shape dials) (omega arith)
-    (late-fewer m.now e new (omega arith) (omega arith) (omega arith))
+    let live : is_live e.facts ≡ true = dialing-live e.facts.phase dials in
+    let turns : TurnsInto e new = record { same_id = refl; same_addr = refl; live = λ l. live } in
+    let pending : is_pending e.facts ≡ true = and_from (is_outbound e.facts) (opening_phase e.facts.phase) (shape.dialing dials) (dialing-opening e.facts.phase dials) in
+    let still : is_pending new.facts ≡ true = and_from (is_outbound e.facts) true (shape.dialing dials) refl in
+    moves-keeps 0 m (with_entry new m)
+    (turns-moves 0 m e new k h s turns (connected-shaped until e.facts shape dials) (omega arith)
+    (late-fewer m.now e new (omega arith) (omega arith) (omega arith)))
+    (alike-ties m e new k h s turns (record { local = refl; pending = still ∙ sym pending; live = sym live; asked = λ asked. asked }))
 
 -- the handshake of a peer that connected is done
 pub agrees_inbound-keeps : (agreed : Agreed) (m : Machine) (e : Entry) (k : ℕ) → IsOrdered m → StandsAt m.connections k e →
@@ -125,34 +263,82 @@ agrees_inbound-keeps agreed m e k h s greets inbound =
     let before : counted_of e ≡ 1 = one_if-counted e.facts (counted-greeting e.facts greets inbound) in
     let after : counted_of new ≤ 1 = at_most_one new.facts in
     let later : grace_late_of m.now new ≡ 0 = remote-ahead m.now until e.facts.cid (ahead m.now m.settings.idle (idle-positive m.settings h.orderly.settings)) in
-    turns-keeps 0 m e new k h s (record { same_id = refl; same_addr = refl; live = λ l. greeting-live e.facts.phase greets })
-    (agreed_inbound-shaped agreed until e.facts shape greets inbound) (omega arith)
-    (late-fewer m.now e new (omega arith) (omega arith) (omega arith))
+    let live : is_live e.facts ≡ true = greeting-live e.facts.phase greets in
+    let turns : TurnsInto e new = record { same_id = refl; same_addr = refl; live = λ l. live } in
+    let idle : is_pending e.facts ≡ false = ap (λ b. b && opening_phase e.facts.phase) inbound in
+    let still : is_pending new.facts ≡ false = ap (λ b. b && false) inbound in
+    moves-keeps 0 m (with_entry new m)
+    (turns-moves 0 m e new k h s turns (agreed_inbound-shaped agreed until e.facts shape greets inbound) (omega arith)
+    (late-fewer m.now e new (omega arith) (omega arith) (omega arith)))
+    (alike-ties m e new k h s turns (record { local = refl; pending = still ∙ sym idle; live = sym live; asked = λ asked. asked }))
+
+-- The peer of an address is there, and out of its back-off.
+abbrev pub IsReady : ℕ → Option Peer → Type 0
+IsReady now None = ⊥
+IsReady now (Some p) = p.not_before ≤ now
 
 -- a connection comes into use, with facts that are in shape and raise nothing
-pub used-keeps : (f : Facts) (m : Machine) (e : Entry) (k : ℕ) → IsOrdered m → StandsAt m.connections k e →
-    f.cid ≡ e.facts.cid → f.addr ≡ e.facts.addr → (is_live f ≡ true → is_live e.facts ≡ true) → IsShaped f →
-    one_if_counted f ≤ one_if_counted e.facts →
-    phase_late_of m.now (record e { facts = f }) ≤ phase_late_of m.now e → grace_late_of m.now (record e { facts = f }) ≤ grace_late_of m.now e →
-    Keeps 0 m (is_used f e m).machine
-used-keeps f m e k h s cid addr live shaped fewer phase grace =
+record Uses (m : Machine) (e : Entry) (f : Facts) : Type 0 where
+  cid : f.cid ≡ e.facts.cid
+  addr : f.addr ≡ e.facts.addr
+  was_live : is_live e.facts ≡ true
+  live : is_live f ≡ true
+  local : f.local ≡ true
+  shaped : IsShaped f
+  fewer : one_if_counted f ≤ one_if_counted e.facts
+  phase : phase_late_of m.now (record e { facts = f }) ≤ phase_late_of m.now e
+  grace : grace_late_of m.now (record e { facts = f }) ≤ grace_late_of m.now e
+  ready : (o : Option Peer) → peer_at e.facts.addr m ≡ o → TiedBy m.now o (Some e) → IsReady m.now o
+
+used-keeps : (f : Facts) (m : Machine) (e : Entry) (k : ℕ) → IsOrdered m → StandsAt m.connections k e → Uses m e f → Keeps 0 m (is_used f e m).machine
+used-keeps f m e k h s u =
     let cookie : ℕ = f.cid.0 % 65536 in
     let new : Entry = owing 8 cookie m (record e { facts = f }) in
     let n : Machine = with_entry new m in
     let later : nat_le (m.now + m.settings.reply) m.now ≡ false = ahead m.now m.settings.reply (reply-positive m.settings h.orderly.settings) in
     let owed : owed_late m.now f.cid new.owed ≤ owed_late m.now f.cid e.owed =
     owing-fewer m.now f.cid (record { protocol = 8; until = m.now + m.settings.reply; asked = cookie }) e.owed later in
-    let same : owed_late m.now f.cid e.owed ≡ owed_late m.now e.facts.cid e.owed = ap (λ c. owed_late m.now c e.owed) cid in
-    let turns : Keeps 0 m n = turns-keeps 0 m e new k h s (record { same_id = cid; same_addr = addr; live = live }) shaped (omega (arith, fewer))
-    (late-fewer m.now e new phase grace (omega (arith, owed, same))) in
-    keeps_then 0 0 m n (peer_succeeds f.addr n).machine turns (changes-keeps f.addr (λ p. record p { temp = Warm; failures = 0 }) n (λ p. refl) turns.ordered)
+    let same : owed_late m.now f.cid e.owed ≡ owed_late m.now e.facts.cid e.owed = ap (λ c. owed_late m.now c e.owed) u.cid in
+    let fewer = u.fewer in
+    let turns : TurnsInto e new = record { same_id = u.cid; same_addr = u.addr; live = λ l. u.was_live } in
+    let turned : Moves 0 m n = turns-moves 0 m e new k h s turns u.shaped (omega (arith, fewer))
+    (late-fewer m.now e new u.phase u.grace (omega (arith, owed, same))) in
+    let warm : Peer → Peer = λ p. record p { temp = Warm; failures = 0 } in
+    let here : live_entry_at e.facts.addr n ≡ Some new =
+    turned_here m e new k h.orderly s turns u.was_live ∙ ap (λ b. if b then Some new else None) u.live in
+    let was : live_entry_at e.facts.addr m ≡ Some e = live_here m e k h.orderly s u.was_live in
+    subst (λ a. Keeps 0 m (peer_succeeds a n).machine) (sym u.addr)
+    (moves-keeps 0 m (peer_succeeds e.facts.addr n).machine
+    (moves_then 0 0 m n (peer_succeeds e.facts.addr n).machine turned (changes-moves e.facts.addr warm n turned.ordered))
+    (changed-ties e.facts.addr warm m n (λ p. refl) refl refl (turned_elsewhere m e new k h.orderly s turns)
+    (λ none alone. nobody (u.ready None none (subst (λ o. TiedBy m.now None o) was alone)))
+    (λ p found tie. subst (λ o. TiedBy m.now (Some (warm p)) o) (sym here)
+      (in_use new p u.local (u.ready (Some p) found (subst (λ o. TiedBy m.now (Some p) o) was tie))))))
+  where
+    nobody : {Z : Type 0} → ⊥ → Z
+    nobody never = elim never [ ]
+
+    in_use : (new : Entry) (p : Peer) → new.facts.local ≡ true → p.not_before ≤ m.now → AreTied m.now (record p { temp = Warm; failures = 0 }) new
+    in_use new p local ready = record { established = sym local; in_use = λ l. ready; on_its_way = λ w. ready; asked = λ a. refl }
 
 -- this node takes a connection that stands into use
 pub acquire-keeps : (m : Machine) (e : Entry) (k : ℕ) → IsOrdered m → StandsAt m.connections k e → is_acquirable e.facts ≡ true →
-    Keeps 0 m (acquire e m).machine
-acquire-keeps m e k h s may =
-    used-keeps (acquired e.facts) m e k h s refl refl (λ l. l) (acquired-shaped e.facts (stands-shaped m e k h s) may)
-    (fewer-acquired e.facts) (omega arith) (omega arith)
+    IsReady m.now (peer_at e.facts.addr m) → Keeps 0 m (acquire e m).machine
+acquire-keeps m e k h s may ready =
+    let shape : IsShaped e.facts = stands-shaped m e k h s in
+    let live : is_live e.facts ≡ true = negotiated-live e.facts.phase (can_acquire e.facts may).negotiated in
+    used-keeps (acquired e.facts) m e k h s (record {
+      cid = refl;
+      addr = refl;
+      was_live = live;
+      live = live;
+      local = refl;
+      shaped = acquired-shaped e.facts shape may;
+      fewer = fewer-acquired e.facts;
+      phase = omega arith;
+      grace = omega arith;
+      ready = λ o is tie. subst (IsReady m.now) is ready;
+    })
 
 outbound_grace-late : (now until : ℕ) (cid : Cid) (uni : Bool) → nat_le until now ≡ false →
     count_by (is_late now) (grace_deadlines cid (if uni then Off else ForRemote until)) ≡ 0
@@ -170,8 +356,30 @@ agrees_outbound-keeps agreed m e k h s greets outbound =
     let none : one_if_counted f ≡ 0 = one_if-not_counted f (counted-agreed_outbound agreed until e.facts outbound unused.running) in
     let later : grace_late_of m.now (record e { facts = f }) ≡ 0 =
     outbound_grace-late m.now until e.facts.cid agreed.initiator_only (ahead m.now m.settings.idle (idle-positive m.settings h.orderly.settings)) in
-    used-keeps f m e k h s refl refl (λ l. greeting-live e.facts.phase greets)
-    (agreed_outbound-shaped agreed until e.facts shape greets outbound) (omega arith) (omega arith) (omega arith)
+    let live : is_live e.facts ≡ true = greeting-live e.facts.phase greets in
+    let pending : is_pending e.facts ≡ true = and_from (is_outbound e.facts) (opening_phase e.facts.phase) outbound (greeting-opening e.facts.phase greets) in
+    used-keeps f m e k h s (record {
+      cid = refl;
+      addr = refl;
+      was_live = live;
+      live = refl;
+      local = refl;
+      shaped = agreed_outbound-shaped agreed until e.facts shape greets outbound;
+      fewer = omega arith;
+      phase = omega arith;
+      grace = omega arith;
+      ready = λ o is tie. on_its_way pending o tie;
+    })
+  where
+    greeting-opening : (p : Phase) → is_greeting_phase p ≡ true → opening_phase p ≡ true
+    greeting-opening Dialing h = absurd (false≢true h)
+    greeting-opening (Greeting until) h = refl
+    greeting-opening Negotiated h = absurd (false≢true h)
+    greeting-opening (Closing until) h = absurd (false≢true h)
+
+    on_its_way : is_pending e.facts ≡ true → (o : Option Peer) → TiedBy m.now o (Some e) → IsReady m.now o
+    on_its_way pending None tie = absurd (both_ways (is_pending e.facts) tie.not_dialed pending)
+    on_its_way pending (Some p) tie = tie.on_its_way pending
 
 -- a responder starts: one connection more may be counted
 pub awakes-keeps : (protocol : ℕ) (m : Machine) (e : Entry) (k : ℕ) → IsOrdered m → StandsAt m.connections k e →
@@ -180,9 +388,11 @@ pub awakes-keeps : (protocol : ℕ) (m : Machine) (e : Entry) (k : ℕ) → IsOr
 awakes-keeps protocol m e k h s negotiated serves runs =
     let new : Entry = record e { facts = awakened protocol e.facts } in
     let after : counted_of new ≤ 1 = at_most_one new.facts in
-    turns-keeps 1 m e new k h s (record { same_id = refl; same_addr = refl; live = λ l. l })
+    moves-keeps 1 m (with_entry new m)
+    (turns-moves 1 m e new k h s (record { same_id = refl; same_addr = refl; live = λ l. l })
     (awakened-shaped protocol e.facts (stands-shaped m e k h s) negotiated serves runs) (omega arith)
-    (late-fewer m.now e new (omega arith) (omega arith) (omega arith))
+    (late-fewer m.now e new (omega arith) (omega arith) (omega arith)))
+    (alike-ties m e new k h s (record { same_id = refl; same_addr = refl; live = λ l. l }) (record { local = refl; pending = refl; live = refl; asked = λ asked. asked }))
 
 idled_grace-late : (now until : ℕ) (cid : Cid) (still : Bool) (grace : Grace) → nat_le until now ≡ false →
     count_by (is_late now) (grace_deadlines cid (if still then grace else ForRemote until)) ≤ count_by (is_late now) (grace_deadlines cid grace)
@@ -200,9 +410,11 @@ idles-keeps protocol m e k h s runs =
     let after : counted_of new ≤ 1 = at_most_one new.facts in
     let grace : grace_late_of m.now new ≤ grace_late_of m.now e =
     idled_grace-late m.now until e.facts.cid (some_runs new.facts.running) e.facts.grace (ahead m.now m.settings.idle (idle-positive m.settings h.orderly.settings)) in
-    turns-keeps 0 m e new k h s (record { same_id = refl; same_addr = refl; live = λ l. l })
+    moves-keeps 0 m (with_entry new m)
+    (turns-moves 0 m e new k h s (record { same_id = refl; same_addr = refl; live = λ l. l })
     (idled-shaped protocol until e.facts shape runs) (omega arith)
-    (late-fewer m.now e new (omega arith) grace (omega arith))
+    (late-fewer m.now e new (omega arith) grace (omega arith)))
+    (alike-ties m e new k h s (record { same_id = refl; same_addr = refl; live = λ l. l }) (record { local = refl; pending = refl; live = refl; asked = λ asked. asked }))
 
 released_grace-late : (now until : ℕ) (cid : Cid) (stays : Bool) (grace : Grace) → nat_le until now ≡ false →
     count_by (is_late now) (grace_deadlines cid (if stays then grace else ForLocal until)) ≤ count_by (is_late now) (grace_deadlines cid grace)
@@ -210,15 +422,15 @@ released_grace-late now until cid true grace later = omega arith
 released_grace-late now until cid false grace later = let none = local-ahead now until cid later in omega (arith, none)
 
 -- this node gives a connection out of its use: one more may be counted
-pub releases-keeps : (m : Machine) (e : Entry) (k : ℕ) → IsOrdered m → StandsAt m.connections k e → e.facts.local ≡ true →
-    Keeps 1 m (with_entry (record e { facts = released (m.now + m.settings.idle) e.facts }) m)
-releases-keeps m e k h s local =
+pub releases-moves : (m : Machine) (e : Entry) (k : ℕ) → IsOrdered m → StandsAt m.connections k e → e.facts.local ≡ true →
+    Moves 1 m (with_entry (record e { facts = released (m.now + m.settings.idle) e.facts }) m)
+releases-moves m e k h s local =
     let until : ℕ = m.now + m.settings.idle in
     let new : Entry = record e { facts = released until e.facts } in
     let after : counted_of new ≤ 1 = at_most_one new.facts in
     let grace : grace_late_of m.now new ≤ grace_late_of m.now e =
     released_grace-late m.now until e.facts.cid (some_runs e.facts.running || is_for_remote e.facts.grace) e.facts.grace (ahead m.now m.settings.idle (idle-positive m.settings h.orderly.settings)) in
-    turns-keeps 1 m e new k h s (record { same_id = refl; same_addr = refl; live = λ l. l })
+    turns-moves 1 m e new k h s (record { same_id = refl; same_addr = refl; live = λ l. l })
     (released-shaped until e.facts (stands-shaped m e k h s) local) (omega arith)
     (late-fewer m.now e new (omega arith) grace (omega arith))
 
@@ -226,24 +438,76 @@ releases-keeps m e k h s local =
 pub pays-keeps : (protocol : ℕ) (m : Machine) (e : Entry) (k : ℕ) → IsOrdered m → StandsAt m.connections k e →
     Keeps 0 m (with_entry (paid protocol e) m)
 pays-keeps protocol m e k h s =
-    turns-keeps 0 m e (paid protocol e) k h s (record { same_id = refl; same_addr = refl; live = λ l. l })
+    moves-keeps 0 m (with_entry (paid protocol e) m)
+    (turns-moves 0 m e (paid protocol e) k h s (record { same_id = refl; same_addr = refl; live = λ l. l })
     (stands-shaped m e k h s) (omega arith)
-    (late-fewer m.now e (paid protocol e) (omega arith) (omega arith) (paid-fewer m.now protocol e.facts.cid e.owed))
+    (late-fewer m.now e (paid protocol e) (omega arith) (omega arith) (paid-fewer m.now protocol e.facts.cid e.owed)))
+    (alike-ties m e (paid protocol e) k h s (record { same_id = refl; same_addr = refl; live = λ l. l })
+    (record { local = refl; pending = refl; live = refl; asked = paid-asked protocol e }))
 
 -- a reply comes to be owed
-pub owes-keeps : (protocol asked : ℕ) (m : Machine) (e : Entry) (k : ℕ) → IsOrdered m → StandsAt m.connections k e →
-    Keeps 0 m (with_entry (owing protocol asked m e) m)
-owes-keeps protocol asked m e k h s =
+pub owes-moves : (protocol asked : ℕ) (m : Machine) (e : Entry) (k : ℕ) → IsOrdered m → StandsAt m.connections k e →
+    Moves 0 m (with_entry (owing protocol asked m e) m)
+owes-moves protocol asked m e k h s =
     let later : nat_le (m.now + m.settings.reply) m.now ≡ false = ahead m.now m.settings.reply (reply-positive m.settings h.orderly.settings) in
-    turns-keeps 0 m e (owing protocol asked m e) k h s (record { same_id = refl; same_addr = refl; live = λ l. l })
+    turns-moves 0 m e (owing protocol asked m e) k h s (record { same_id = refl; same_addr = refl; live = λ l. l })
     (stands-shaped m e k h s) (omega arith)
     (late-fewer m.now e (owing protocol asked m e) (omega arith) (omega arith)
     (owing-fewer m.now e.facts.cid (record { protocol = protocol; until = m.now + m.settings.reply; asked = asked }) e.owed later))
+
+-- but on chain-sync
+pub owes-keeps : (protocol asked : ℕ) (m : Machine) (e : Entry) (k : ℕ) → IsOrdered m → StandsAt m.connections k e → (protocol == 2) ≡ false →
+    Keeps 0 m (with_entry (owing protocol asked m e) m)
+owes-keeps protocol asked m e k h s other =
+    moves-keeps 0 m (with_entry (owing protocol asked m e) m) (owes-moves protocol asked m e k h s)
+    (alike-ties m e (owing protocol asked m e) k h s (record { same_id = refl; same_addr = refl; live = λ l. l })
+    (record {
+      local = refl;
+      pending = refl;
+      live = refl;
+      asked = with_reply-asked (record { protocol = protocol; until = m.now + m.settings.reply; asked = asked }) e.owed other;
+    }))
+
+-- On chain-sync only a peer that is warm is asked.
+abbrev pub IsWarm : Option Peer → Type 0
+IsWarm None = ⊥
+IsWarm (Some p) = p.temp ≡ Warm
+
+pub asks_warm-keeps : (asked : ℕ) (m : Machine) (e : Entry) (k : ℕ) → IsOrdered m → StandsAt m.connections k e → IsWarm (peer_at e.facts.addr m) →
+    Keeps 0 m (with_entry (owing 2 asked m e) m)
+asks_warm-keeps asked m e k h s warm =
+    let new : Entry = owing 2 asked m e in
+    let n : Machine = with_entry new m in
+    let turns : TurnsInto e new = record { same_id = refl; same_addr = refl; live = λ l. l } in
+    moves-keeps 0 m n (owes-moves 2 asked m e k h s) (λ ties. by_live turns (is_live e.facts) refl ties)
+  where
+    step : (new : Entry) → new.facts ≡ e.facts → (o : Option Peer) → IsWarm o → TiedBy m.now o (Some e) → TiedBy m.now o (Some new)
+    step new same None warm tie = elim warm [ ]
+    step new same (Some p) warm tie = record {
+      established = tie.established ∙ ap (λ f. f.local) (sym same);
+      in_use = λ local. tie.in_use (ap (λ f. f.local) (sym same) ∙ local);
+      on_its_way = λ pending. tie.on_its_way (ap is_pending (sym same) ∙ pending);
+      asked = λ a. warm;
+    }
+
+    by_live : TurnsInto e (owing 2 asked m e) → (b : Bool) → is_live e.facts ≡ b → IsTied m → IsTied (with_entry (owing 2 asked m e) m)
+    by_live turns true live ties =
+        let new : Entry = owing 2 asked m e in
+        let n : Machine = with_entry new m in
+        tied_but e.facts.addr m n refl (λ b other. refl) (turned_elsewhere m e new k h.orderly s turns)
+        (subst (λ o. TiedBy m.now (peer_at e.facts.addr m) o)
+        (sym (turned_here m e new k h.orderly s turns live ∙ ap (λ b. if b then Some new else None) live))
+        (step new refl (peer_at e.facts.addr m) warm
+        (subst (λ o. TiedBy m.now (peer_at e.facts.addr m) o) (live_here m e k h.orderly s live) (ties e.facts.addr)))) ties
+    by_live turns false dead ties = λ b. subst (λ o. TiedBy m.now (peer_at b m) o) (sym (turned_dead m e (owing 2 asked m e) k h.orderly s turns dead b)) (ties b)
 
 -- what is not decoded is no matter of the counts
 pub decodes-keeps : (undecoded : Undecoded) (m : Machine) (e : Entry) (k : ℕ) → IsOrdered m → StandsAt m.connections k e →
     Keeps 0 m (with_entry (record e { undecoded = undecoded }) m)
 decodes-keeps undecoded m e k h s =
-    turns-keeps 0 m e (record e { undecoded = undecoded }) k h s (record { same_id = refl; same_addr = refl; live = λ l. l })
+    moves-keeps 0 m (with_entry (record e { undecoded = undecoded }) m)
+    (turns-moves 0 m e (record e { undecoded = undecoded }) k h s (record { same_id = refl; same_addr = refl; live = λ l. l })
     (stands-shaped m e k h s) (omega arith)
-    (late-fewer m.now e (record e { undecoded = undecoded }) (omega arith) (omega arith) (omega arith))
+    (late-fewer m.now e (record e { undecoded = undecoded }) (omega arith) (omega arith) (omega arith)))
+    (alike-ties m e (record e { undecoded = undecoded }) k h s (record { same_id = refl; same_addr = refl; live = λ l. l })
+    (record { local = refl; pending = refl; live = refl; asked = λ asked. asked }))
