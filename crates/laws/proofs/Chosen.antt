@@ -1,20 +1,20 @@
 -- The peers that orders go to: no address twice, and of a group members only.
-use Rattle.std.proofs.Common.{ℕ, ◌≡◌, Bool, true, false, ◌&&◌, ◌||◌, List, [], ◌∷◌, ◌++◌, filter, flat_map, refl, sym, subst}
+use Rattle.std.proofs.Common.{ℕ, ◌≡◌, Bool, true, false, ◌&&◌, ◌||◌, List, [], ◌∷◌, ◌++◌, filter, flat_map, Some, refl, sym, subst}
 use Rattle.std.specs.List.{AllByRecursion}
 use Rattle.std.proofs.lemmas.Bool.{both_ways, and_parts, false_from_ne_true}
 use Rattle.net_base.specs.Address.{same_address}
 use Rattle.net_base.specs.declared.address.Addr.{Addr}
 use Rattle.net_base.specs.declared.event.Group.{Group}
 use Rattle.net_base.specs.declared.peer.Peer.{Peer}
-use Rattle.peer_book.specs.Book.{is_of}
+use Rattle.peer_book.specs.Book.{is_of, peer_at}
 use Rattle.root_groups.specs.Cleaned.{is_listed, members_of}
 use Rattle.govern_rules.specs.Orders.{picks_of}
 use Rattle.laws.specs.Whole.{ArePeersApart, AreApart}
-use Rattle.laws.proofs.Addresses.{same_address-true}
+use Rattle.laws.proofs.Addresses.{same_address-self, same_address-true}
 use Rattle.laws.proofs.GroupsApart.{append-apart}
 use Rattle.laws.proofs.Lists.{all-weaker, all-appended}
 use Rattle.laws.proofs.PeersApart.{same_turned, filter-apart}
-use Rattle.laws.proofs.Picks.{filter-passing, picks-apart, picks-all}
+use Rattle.laws.proofs.Picks.{filter-all, filter-passing, picks-apart, picks-all}
 
 -- ---- of all peers
 
@@ -27,12 +27,28 @@ chosen-apart big word number test peers h =
     let passes : Peer → Bool = λ p. is_of big p && test p in
     picks-apart big word number (filter passes peers) (filter-apart passes peers h)
 
-pub chosen-all : (P : Addr → Type 0) (big : Bool) (word number : ℕ) (test : Peer → Bool) (peers : List Peer) → ((p : Peer) → test p ≡ true → P p.addr) →
-    AllByRecursion P (chosen big word number test peers)
-chosen-all P big word number test peers gives =
+-- each is found under its address
+found_behind : (p : Peer) (ps qs : List Peer) → AllByRecursion (λ q. same_address q.addr p.addr ≡ false) qs →
+    AllByRecursion (λ q. peer_at q.addr ps ≡ Some q) qs → AllByRecursion (λ q. peer_at q.addr (p ∷ ps) ≡ Some q) qs
+found_behind p ps [] others h = tt
+found_behind p ps (q ∷ qs) others h = (rw (same_turned q.addr p.addr others.0) h.0, found_behind p ps qs others.1 h.1)
+
+all-found : (ps : List Peer) → ArePeersApart ps → AllByRecursion (λ p. peer_at p.addr ps ≡ Some p) ps
+all-found [] h = tt
+all-found (p ∷ ps) h = (rw (same_address-self p.addr) refl, found_behind p ps ps h.0 (all-found ps h.1))
+
+all-both : {X : Type 0} (P Q R : X → Type 0) → ((x : X) → P x → Q x → R x) → (xs : List X) → AllByRecursion P xs → AllByRecursion Q xs → AllByRecursion R xs
+all-both P Q R gives [] h k = tt
+all-both P Q R gives (x ∷ xs) h k = (gives x h.0 k.0, all-both P Q R gives xs h.1 k.1)
+
+pub chosen-all : (P : Addr → Type 0) (big : Bool) (word number : ℕ) (test : Peer → Bool) (peers : List Peer) → ArePeersApart peers →
+    ((p : Peer) → test p ≡ true → peer_at p.addr peers ≡ Some p → P p.addr) → AllByRecursion P (chosen big word number test peers)
+chosen-all P big word number test peers apart gives =
     let passes : Peer → Bool = λ p. is_of big p && test p in
     picks-all P big word number (filter passes peers)
-    (all-weaker (λ p. passes p ≡ true) (λ p. P p.addr) (λ p h. gives p (and_parts (is_of big p) (test p) h).1) (filter passes peers) (filter-passing passes peers))
+    (all-both (λ p. passes p ≡ true) (λ p. peer_at p.addr peers ≡ Some p) (λ p. P p.addr)
+    (λ p h found. gives p (and_parts (is_of big p) (test p) h).1 found) (filter passes peers) (filter-passing passes peers)
+    (filter-all (λ p. peer_at p.addr peers ≡ Some p) passes peers (all-found peers apart)))
 
 -- ---- of each group
 

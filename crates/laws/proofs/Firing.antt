@@ -1,5 +1,5 @@
 -- The deadlines that are due fire, and none is left.
-use Rattle.std.proofs.Common.{ℕ, zero, suc, ◌≤◌, ◌≡◌, ◌≢◌, true, cond, List, [], ◌∷◌, ◌++◌, length, get_or, map, filter, flat_map, count_by, Option, Some, None, All, Contains, ◌==◌, if◌then◌else◌, refl, sym, ap, ◌∙◌, subst, ⊎_elim, arith, eq-eqb}
+use Rattle.std.proofs.Common.{ℕ, zero, suc, ◌≤◌, ◌≡◌, ◌≢◌, true, false, cond, List, [], ◌∷◌, ◌++◌, length, get_or, map, filter, flat_map, count_by, Option, Some, None, All, Contains, ◌==◌, if◌then◌else◌, refl, sym, ap, ◌∙◌, subst, ⊎_elim, arith, eq-eqb}
 use Rattle.std.proofs.lemmas.Bool.{cond_both}
 use Rattle.std.proofs.lemmas.List.{nil_from_length}
 use Rattle.std.proofs.lemmas.List.Elements.{All-nil, All-cons, All-append, All-map, All-filter, All-contains, All-contains_itself, filter_passes, Contains-append_cases, Contains-append_right}
@@ -15,7 +15,7 @@ use Rattle.net_base.specs.declared.timer.Deadline.{Deadline}
 use Rattle.net_base.specs.declared.timer.Kind.{Kind}
 use Rattle.net_base.specs.declared.timer.Kind.TheVariants.{Handshake, Grace as GraceKind, TimeWait, Reply2, Reply8, Reply10}
 use Rattle.net_base.specs.Timer.{deadline_before}
-use Rattle.conn_state.specs.Use.{has_id}
+use Rattle.conn_state.specs.Use.{is_live, live_phase, has_id}
 use Rattle.machine.specs.Machine.{Machine, Entry, entry_at}
 use Rattle.machine.specs.Deadlines.{deadlines, deadlines_of, deadline, phase_deadlines, grace_deadlines, reply_kind, reply_deadline, earlier, least, due, fires_as, fires_on, fires, fires_some, fire_due, fire_all}
 use Rattle.laws.specs.Sound.{IsOrderly}
@@ -216,6 +216,51 @@ due-contains m d e =
           (All-filter (is_late m.now) (Contains (deadlines m)) (deadlines m) (All-contains_itself (deadlines m))) among,
       All-contains (λ x. is_late m.now x ≡ true) late d (filter_passes (is_late m.now) (deadlines m)) among,
     )
+
+-- Only a connection that this side has closed has a time-wait.
+phase-waits : (cid : Cid) (phase : Phase) → All (λ d. d.kind ≡ TimeWait → live_phase phase ≡ false) (phase_deadlines cid phase)
+phase-waits cid Dialing = All-nil (λ d. d.kind ≡ TimeWait → live_phase Dialing ≡ false)
+phase-waits cid (Greeting until) = all_one (λ d. d.kind ≡ TimeWait → true ≡ false) (deadline cid Handshake until) (λ same. absurd cc)
+phase-waits cid Negotiated = All-nil (λ d. d.kind ≡ TimeWait → live_phase Negotiated ≡ false)
+phase-waits cid (Closing until) = all_one (λ d. d.kind ≡ TimeWait → false ≡ false) (deadline cid TimeWait until) (λ same. refl)
+
+grace-waits : (Z : Type 0) (cid : Cid) (grace : Grace) → All (λ d. d.kind ≡ TimeWait → Z) (grace_deadlines cid grace)
+grace-waits Z cid Off = All-nil (λ d. d.kind ≡ TimeWait → Z)
+grace-waits Z cid (ForRemote until) = all_one (λ d. d.kind ≡ TimeWait → Z) (deadline cid GraceKind until) (λ same. absurd cc)
+grace-waits Z cid (ForLocal until) = all_one (λ d. d.kind ≡ TimeWait → Z) (deadline cid GraceKind until) (λ same. absurd cc)
+
+reply-waits : (protocol : ℕ) → reply_kind protocol ≢ TimeWait
+reply-waits protocol = cond_both (protocol == 2) Reply2 (if protocol == 8 then Reply8 else Reply10)
+    (λ kind. kind ≢ TimeWait) (λ on_2 same. cc)
+    (λ not_2. cond_both (protocol == 8) Reply8 Reply10 (λ kind. kind ≢ TimeWait) (λ on_8 same. cc) (λ not_8 same. cc))
+
+deadlines_of-waits : (e : Entry) → All (λ d. d.kind ≡ TimeWait → is_live e.facts ≡ false) (deadlines_of e)
+deadlines_of-waits e = all-deadlines_of (λ d. d.kind ≡ TimeWait → is_live e.facts ≡ false) e (phase-waits e.facts.cid e.facts.phase)
+    (grace-waits (is_live e.facts ≡ false) e.facts.cid e.facts.grace) (λ k d inside same. absurd (reply-waits (get_or e.owed k d).protocol same))
+
+-- the connection whose deadline fires next
+pub record Due (m : Machine) (d : Deadline) : Type 0 where
+  pub owner : Entry
+  pub place : ℕ
+  pub stands : StandsAt m.connections place owner
+  pub found : entry_at d.cid.0 m ≡ Some owner
+  pub waits : d.kind ≡ TimeWait → is_live owner.facts ≡ false
+
+pub due_of : (m : Machine) (d : Deadline) → IsOrderly m → due m ≡ Some d → Due m d
+due_of m d h e =
+    let has : Has m.connections d = has-contains m.connections d (due-contains m d e).0 in
+    let owner : Entry = has.owner in
+    let id : d.cid ≡ owner.facts.cid =
+    All-contains (λ x. x.cid ≡ owner.facts.cid) (deadlines_of owner) d (deadlines_of-cid owner) has.among in
+    record {
+      owner = owner;
+      place = has.place;
+      stands = has.stands;
+      found = find_only (λ x. has_id d.cid.0 x.facts) owner m.connections has.place
+          (one_has_id d.cid.0 m.connections h.ids_rise) has.stands
+          (eq-eqb owner.facts.cid.0 d.cid.0 (sym (ap (λ cid. cid.0) id)));
+      waits = All-contains (λ x. x.kind ≡ TimeWait → is_live owner.facts ≡ false) (deadlines_of owner) d (deadlines_of-waits owner) has.among;
+    }
 
 -- The deadline that fires next leaves fewer that are late.
 pub due-lowers : (m : Machine) (d : Deadline) → IsOrderly m → due m ≡ Some d → Lowers 1 m (fires d m).machine

@@ -50,6 +50,9 @@ pub record Keeps (raised : ℕ) (before after : Machine) : Type 0 where
 pub moves-keeps : (raised : ℕ) (m n : Machine) → Moves raised m n → (IsTied m → IsTied n) → Keeps raised m n
 moves-keeps raised m n h ties = record { ordered = h.ordered; settings = h.settings; now = h.now; counted = h.counted; late = h.late; ties = ties }
 
+pub keeps-moves : (raised : ℕ) (m n : Machine) → Keeps raised m n → Moves raised m n
+keeps-moves raised m n h = record { ordered = h.ordered; settings = h.settings; now = h.now; counted = h.counted; late = h.late }
+
 pub moves_then : (i j : ℕ) (m n o : Machine) → Moves i m n → Moves j n o → Moves (i + j) m o
 moves_then i j m n o first second = record {
   ordered = second.ordered;

@@ -1,128 +1,289 @@
--- The governor's orders, one by one: the connections stay in order and within the limit.
-use Rattle.std.proofs.Common.{ℕ, ◌+◌, ◌≤◌, ◌≡◌, Bool, true, false, not, find, set, sum_by, Option, Some, None, refl, sym, ap, ◌∙◌, subst, arith}
-use Rattle.std.proofs.lemmas.Bool.{cond_both, and_parts}
+-- The governor's orders, one by one: the connections stay in order and within the limit, and peers tied to them.
+use Rattle.std.proofs.Common.{ℕ, ◌+◌, ◌≤◌, ◌<◌, ◌≡◌, Bool, true, false, cond, ◌&&◌, ◌||◌, not, if◌then◌else◌, List, [], ◌∷◌, find, map, set, sum_by, Option, Some, None, is_some, refl, sym, ap, ◌∙◌, subst, arith}
+use Rattle.std.specs.List.{AllByRecursion}
+use Rattle.std.proofs.lemmas.Bool.{cond_both, both_ways, and_parts, and_from, false≢true}
 use Rattle.net_base.specs.Address.{same_address}
 use Rattle.net_base.specs.declared.address.Addr.{Addr}
 use Rattle.net_base.specs.declared.connection.Facts.{Facts}
+use Rattle.net_base.specs.declared.peer.Peer.{Peer}
 use Rattle.net_base.specs.declared.peer.Temp.TheVariants.{Cold, Warm}
 use Rattle.conn_state.specs.Counted.{is_counted}
 use Rattle.conn_state.specs.Moves.{released}
-use Rattle.conn_state.specs.Use.{agreed_sharing, is_live_at}
-use Rattle.machine.specs.Machine.{Machine, Entry, counted_in}
-use Rattle.machine.specs.Effect.{Effect, nothing_more}
+use Rattle.conn_state.specs.Use.{agreed_sharing, is_live, is_live_at, is_pending}
+use Rattle.govern_rules.specs.declared.order.Order.{Order}
+use Rattle.govern_rules.specs.declared.order.Order.TheVariants.{Ask, Forget, Release, Activate, Deactivate}
+use Rattle.peer_book.specs.Book.{without_peer, is_established}
+use Rattle.machine.specs.Machine.{Machine, Entry, counted_in, live_entry_at}
+use Rattle.machine.specs.Effect.{Effect, nothing_more, for_each}
 use Rattle.machine.specs.Peers.{peer_at, peer_becomes, peer_was_asked, peer_goes}
-use Rattle.machine.specs.Replies.{asks, owing, peer_sharing_done}
+use Rattle.machine.specs.Replies.{asks, owing, reply_on, peer_sharing_done}
 use Rattle.machine.specs.Connections.{with_entry, says_done, trim, release}
-use Rattle.machine.specs.Govern.{on_entry, is_used_at, on_used, asks_peer, activates, activate, deactivates}
+use Rattle.machine.specs.Govern.{on_entry, is_used_at, on_used, asks_peer, activates, activate, deactivates, carries_out}
+use Rattle.laws.specs.Whole.{AreApart, AreTied, IsAlone, TiedBy, IsTied}
+use Rattle.laws.proofs.Addresses.{same_address-true}
 use Rattle.laws.proofs.Counts.{counted_of, counted_in-sum}
 use Rattle.laws.proofs.Effects.{one_if-not_counted}
-use Rattle.laws.proofs.Entries.{turned-connections, turned-sum}
-use Rattle.laws.proofs.Keeping.{IsOrdered, Keeps, keeps_nothing, keeps_then, peers-keeps, changes-keeps}
-use Rattle.laws.proofs.Lists.{StandsAt, stands-set, find_some}
-use Rattle.laws.proofs.PeersApart.{filter-apart}
-use Rattle.laws.proofs.Talks.{turns_at-connections}
-use Rattle.laws.proofs.Trims.{Trimmed, keeps-trimmed, raised_then_trimmed, trim-trims, turns_at-counted}
-use Rattle.laws.proofs.WholeMoves.{owes-keeps, releases-keeps}
+use Rattle.laws.proofs.Entries.{TurnsInto, turned-connections, turned-sum}
+use Rattle.laws.proofs.Finds.{find-set_other}
+use Rattle.laws.proofs.Keeping.{IsOrdered, Moves, Keeps, keeps_nothing, keeps_then, moves_then, moves-keeps, peers-moves, changes-moves, changes-keeps}
+use Rattle.laws.proofs.Lists.{StandsAt, FoundIn, stands-set, find_some}
+use Rattle.laws.proofs.PeersApart.{same_turned, filter-apart}
+use Rattle.laws.proofs.Ties.{live_here, turned_here, turned_elsewhere, changed-ties, taken-ties, taken-elsewhere}
+use Rattle.laws.proofs.Trims.{Trimmed, HasMoved, keeps-trimmed, trimmed_then, trimmed-within, raised_then_trimmed, trim-trims, trim-used, turns_at-counted, turns_at-connections}
+use Rattle.laws.proofs.WholeMoves.{owes-keeps, IsWarm, asks_warm-keeps, releases-moves}
+
+-- ---- one order after the other
+
+-- An order was carried out for whom it may be, and may still be carried out for all others for whom it might before.
+pub record Carried (May : Machine → Addr → Type 0) (addr : Addr) (before after : Machine) : Type 0 where
+  pub trimmed : Trimmed before after
+  pub elsewhere : (b : Addr) → same_address b addr ≡ false → May before b → May after b
+
+unfoldable pub Carries : (Machine → Addr → Type 0) → (Addr → Order) → Type 0
+Carries May order = (addr : Addr) (m : Machine) → IsOrdered m → counted_in m ≤ m.settings.hard → May m addr → Carried May addr m (carries_out (order addr) m).machine
+
+still_may : (May : Machine → Addr → Type 0) (m n : Machine) (a : Addr) (addrs : List Addr) →
+    ((b : Addr) → same_address b a ≡ false → May m b → May n b) →
+    AllByRecursion (λ b. same_address b a ≡ false) addrs → AllByRecursion (May m) addrs → AllByRecursion (May n) addrs
+still_may May m n a [] same others h = tt
+still_may May m n a (b ∷ addrs) same others h = (same b others.0 h.0, still_may May m n a addrs same others.1 h.1)
+
+pub orders-trimmed : (May : Machine → Addr → Type 0) (order : Addr → Order) → Carries May order → (addrs : List Addr) (m : Machine) → IsOrdered m →
+    counted_in m ≤ m.settings.hard → AreApart addrs → AllByRecursion (May m) addrs → Trimmed m (for_each carries_out (map order addrs) m).machine
+unfolding for_each Carries
+orders-trimmed May order each [] m h within apart may = keeps-trimmed m m within (keeps_nothing m h)
+orders-trimmed May order each (a ∷ addrs) m h within apart may =
+    let n : Machine = (carries_out (order a) m).machine in
+    let first : Carried May a m n = each a m h within may.0 in
+    trimmed_then m n (for_each carries_out (map order addrs) n).machine first.trimmed
+    (orders-trimmed May order each addrs n first.trimmed.ordered (trimmed-within m n first.trimmed) apart.1
+    (still_may May m n a addrs first.elsewhere apart.0 may.1))
+
+-- where nothing is asked of whom an order is for
+abbrev pub Always : Machine → Addr → Type 0
+Always m addr = Unit {0}
 
 -- ---- on the connection in use
 
--- what acts on a connection in use
-Acts : (Entry → Machine → Effect) → Type 0
-Acts act = (m : Machine) (e : Entry) (k : ℕ) → IsOrdered m → counted_in m ≤ m.settings.hard → StandsAt m.connections k e → e.facts.local ≡ true →
-    Trimmed m (act e m).machine
+-- the connection in use of an address
+record Used (m : Machine) (addr : Addr) (e : Entry) (k : ℕ) : Type 0 where
+  ordered : IsOrdered m
+  within : counted_in m ≤ m.settings.hard
+  stands : StandsAt m.connections k e
+  live : is_live e.facts ≡ true
+  local : e.facts.local ≡ true
+  here : e.facts.addr ≡ addr
+  found : find (is_used_at addr) m.connections ≡ Some e
 
-on_used-trimmed : (addr : Addr) (act : Entry → Machine → Effect) → Acts act → (m : Machine) → IsOrdered m → counted_in m ≤ m.settings.hard →
-    Trimmed m (on_used addr act m).machine
-unfolding Acts
-on_used-trimmed addr act each m h within = by_entry (find (is_used_at addr) m.connections) refl
+on_used-carried : (May : Machine → Addr → Type 0) (addr : Addr) (act : Entry → Machine → Effect) (m : Machine) → IsOrdered m → counted_in m ≤ m.settings.hard →
+    ((e : Entry) (k : ℕ) → Used m addr e k → Carried May addr m (act e m).machine) → Carried May addr m (on_used addr act m).machine
+on_used-carried May addr act m h within each = by_entry (find (is_used_at addr) m.connections) refl
   where
-    by_entry : (o : Option Entry) → find (is_used_at addr) m.connections ≡ o → Trimmed m (on_entry o act m).machine
-    by_entry None is = keeps-trimmed m m within (keeps_nothing m h)
+    by_entry : (o : Option Entry) → find (is_used_at addr) m.connections ≡ o → Carried May addr m (on_entry o act m).machine
+    by_entry None is = record { trimmed = keeps-trimmed m m within (keeps_nothing m h); elsewhere = λ b other may. may }
     by_entry (Some e) is =
-        let at = find_some (is_used_at addr) m.connections e is in
-        each m e at.place h within at.stands (and_parts (is_live_at addr e.facts) e.facts.local at.passes).1
+        let at : FoundIn (is_used_at addr) m.connections e = find_some (is_used_at addr) m.connections e is in
+        let parts = and_parts (is_live_at addr e.facts) e.facts.local at.passes in
+        let lives = and_parts (same_address e.facts.addr addr) (is_live e.facts) parts.0 in
+        each e at.place (record {
+          ordered = h;
+          within = within;
+          stands = at.stands;
+          live = lives.1;
+          local = parts.1;
+          here = same_address-true e.facts.addr addr lives.0;
+          found = is;
+        })
 
-asks_peer-acts : (n : ℕ) → Acts (asks_peer n)
-unfolding Acts
-asks_peer-acts n m e k h within s local =
+-- ---- a peer is asked for addresses
+
+asked-carried : (n : ℕ) (addr : Addr) (m : Machine) (e : Entry) (k : ℕ) → Used m addr e k → Carried Always addr m (asks_peer n e m).machine
+asked-carried n addr m e k u =
     let o : Machine = with_entry (owing 10 n m e) m in
-    let owes : Keeps 0 m o = owes-keeps 10 n m e k h s in
+    let owes : Keeps 0 m o = owes-keeps 10 n m e k u.ordered u.stands refl in
     let next : ℕ = m.now + m.settings.sharegap in
-    keeps-trimmed m (peer_was_asked next e.facts.addr o).machine within
-    (keeps_then 0 0 m o (peer_was_asked next e.facts.addr o).machine owes
-    (changes-keeps e.facts.addr (λ p. record p { share_next = next }) o (λ p. refl) owes.ordered))
+    record {
+      trimmed = keeps-trimmed m (peer_was_asked next e.facts.addr o).machine u.within
+          (keeps_then 0 0 m o (peer_was_asked next e.facts.addr o).machine owes
+          (changes-keeps e.facts.addr (λ p. record p { share_next = next }) o (λ p. refl)
+          (λ p tie. same_peer next o.now p (live_entry_at e.facts.addr o) tie) owes.ordered));
+      elsewhere = λ b other may. tt;
+    }
+  where
+    same_peer : (next now : ℕ) (p : Peer) (x : Option Entry) → TiedBy now (Some p) x → TiedBy now (Some (record p { share_next = next })) x
+    same_peer next now p None tie = tie
+    same_peer next now p (Some x) tie = record { established = tie.established; in_use = tie.in_use; on_its_way = tie.on_its_way; asked = tie.asked }
 
-activates-acts : Acts activates
-unfolding Acts
-activates-acts m e k h within s local = keeps-trimmed m (with_entry (owing 2 0 m e) m) within (owes-keeps 2 0 m e k h s)
+pub ask-carried : (n : ℕ) → Carries Always (λ addr. Ask addr n)
+unfolding Carries
+ask-carried n addr m h within may = on_used-carried Always addr (asks_peer n) m h within (asked-carried n addr m)
 
-deactivates-acts : Acts deactivates
-unfolding Acts
-deactivates-acts m e k h within s local =
-    keeps-trimmed m (peer_becomes Warm e.facts.addr m).machine within (changes-keeps e.facts.addr (λ p. record p { temp = Warm }) m (λ p. refl) h)
+-- ---- a warm peer is to become hot
+
+abbrev pub MayActivate : Machine → Addr → Type 0
+MayActivate m addr = IsWarm (peer_at addr m)
+
+pub activate-carried : Carries MayActivate Activate
+unfolding Carries
+activate-carried addr m h within may = on_used-carried MayActivate addr activates m h within (λ e k u. record {
+  trimmed = keeps-trimmed m (with_entry (owing 2 0 m e) m) within
+      (asks_warm-keeps 0 m e k h u.stands (subst (λ a. IsWarm (peer_at a m)) (sym u.here) may));
+  elsewhere = λ b other warm. warm;
+})
+
+-- ---- a hot peer is to become warm
+
+deactivated-carried : (addr : Addr) (m : Machine) (e : Entry) (k : ℕ) → Used m addr e k → Carried Always addr m (deactivates e m).machine
+deactivated-carried addr m e k u =
+    let was : live_entry_at e.facts.addr m ≡ Some e = live_here m e k u.ordered.orderly u.stands u.live in
+    record {
+      trimmed = keeps-trimmed m (peer_becomes Warm e.facts.addr m).machine u.within
+          (changes-keeps e.facts.addr (λ p. record p { temp = Warm }) m (λ p. refl)
+          (λ p tie. subst (λ o. TiedBy m.now (Some (record p { temp = Warm })) o) (sym was)
+            (warm p (subst (λ o. TiedBy m.now (Some p) o) was tie))) u.ordered);
+      elsewhere = λ b other may. tt;
+    }
+  where
+    warm : (p : Peer) → AreTied m.now p e → AreTied m.now (record p { temp = Warm }) e
+    warm p tie = record { established = sym u.local; in_use = tie.in_use; on_its_way = tie.on_its_way; asked = λ asked. refl }
+
+pub deactivate-carried : Carries Always Deactivate
+unfolding Carries
+deactivate-carried addr m h within may = on_used-carried Always addr deactivates m h within (deactivated-carried addr m)
+
+-- ---- a peer is forgotten
+
+abbrev pub IsCold : Option Peer → Type 0
+IsCold None = ⊥
+IsCold (Some p) = p.temp ≡ Cold
+
+abbrev pub IsIdle : Option Entry → Type 0
+IsIdle None = Unit {0}
+IsIdle (Some e) = is_pending e.facts ≡ false
+
+-- it is cold, and not on its way
+pub record MayForget (m : Machine) (addr : Addr) : Type 0 where
+  pub cold : IsCold (peer_at addr m)
+  pub idle : IsIdle (live_entry_at addr m)
+
+cold-alone : (now : ℕ) (p : Option Peer) (e : Option Entry) → IsCold p → IsIdle e → TiedBy now p e → TiedBy now None e
+cold-alone now None e cold idle tie = elim cold [ ]
+cold-alone now (Some p) None cold idle tie = tt
+cold-alone now (Some p) (Some e) cold idle tie = record {
+  unused = sym tie.established ∙ ap is_established cold;
+  not_dialed = idle;
+  not_asked = by_asked (is_some (reply_on 2 e)) refl;
+}
+  where
+    by_asked : (b : Bool) → is_some (reply_on 2 e) ≡ b → b ≡ false
+    by_asked true is = let none : Cold ≡ Warm = sym cold ∙ tie.asked is in absurd cc
+    by_asked false is = refl
+
+pub forget-carried : Carries MayForget Forget
+unfolding Carries
+forget-carried addr m h within may =
+    let n : Machine = (peer_goes addr m).machine in
+    record {
+      trimmed = keeps-trimmed m n within
+          (moves-keeps 0 m n (peers-moves n.peers m h (filter-apart (λ p. not (same_address p.addr addr)) m.peers h.formed.peers))
+          (λ ties. taken-ties addr m (cold-alone m.now (peer_at addr m) (live_entry_at addr m) may.cold may.idle (ties addr)) ties));
+      elsewhere = λ b other there. record { cold = subst IsCold (sym (taken-elsewhere addr b m.peers other)) there.cold; idle = there.idle };
+    }
 
 -- ---- a release
+
+-- the connection in use owes nothing on chain-sync
+abbrev pub MayRelease : Machine → Addr → Type 0
+MayRelease m addr = (e : Entry) → find (is_used_at addr) m.connections ≡ Some e → is_some (reply_on 2 e) ≡ false
 
 says_done-machine : (f : Facts) (m : Machine) → (says_done f m).machine ≡ m
 says_done-machine f m = cond_both (agreed_sharing f.agreed) (asks f.cid 10 peer_sharing_done m) (nothing_more m) (λ effect. effect.machine ≡ m)
     (λ sharing. refl) (λ other. refl)
 
-release-acts : Acts release
-unfolding Acts
-release-acts m e k h within s local =
+releasing : Entry → Machine → Effect
+releasing e m = trim e.facts.cid
+    (peer_becomes Cold e.facts.addr (with_entry (record e { facts = released (m.now + m.settings.idle) e.facts }) m)).machine
+
+unused_at : (b : Addr) (x : Entry) → x.facts.local ≡ false → is_used_at b x ≡ false
+unused_at b x unused = by_test (is_live_at b x.facts)
+  where
+    by_test : (c : Bool) → (c && x.facts.local) ≡ false
+    by_test true = unused
+    by_test false = refl
+
+other_at : (b : Addr) (x : Entry) → same_address x.facts.addr b ≡ false → is_used_at b x ≡ false
+other_at b x other = ap (λ c. (c && is_live x.facts) && x.facts.local) other
+
+releasing-carried : (addr : Addr) (m : Machine) (e : Entry) (k : ℕ) → Used m addr e k → MayRelease m addr → Carried MayRelease addr m (releasing e m).machine
+unfolding releasing
+releasing-carried addr m e k u may =
+    let h : IsOrdered m = u.ordered in
+    let s = u.stands in
     let new : Entry = record e { facts = released (m.now + m.settings.idle) e.facts } in
+    let cold : Peer → Peer = λ p. record p { temp = Cold } in
     let n : Machine = with_entry new m in
     let o : Machine = (peer_becomes Cold e.facts.addr n).machine in
-    let turns : Keeps 1 m n = releases-keeps m e k h s local in
-    let cold : Keeps 0 n o = changes-keeps e.facts.addr (λ p. record p { temp = Cold }) n (λ p. refl) turns.ordered in
-    let raised : Keeps 1 m o = keeps_then 1 0 m n o turns cold in
-    let list : n.connections ≡ set m.connections k new =
-    turned-connections m e new k h.orderly s (record { same_id = refl; same_addr = refl; live = λ l. l }) in
-    let same : o.connections ≡ set m.connections k new =
-    turns_at-connections (peer_at e.facts.addr n) (λ p. record p { temp = Cold }) n ∙ list in
-    let here : StandsAt o.connections k new = subst (λ es. StandsAt es k new) (sym same) (stands-set m.connections k new e s) in
-    let alike : counted_in o ≡ counted_in n = turns_at-counted (peer_at e.facts.addr n) (λ p. record p { temp = Cold }) n in
+    let t : TurnsInto e new = record { same_id = refl; same_addr = refl; live = λ l. l } in
+    let turned : Moves 1 m n = releases-moves m e k h s u.local in
+    let here : live_entry_at e.facts.addr n ≡ Some new =
+    turned_here m e new k h.orderly s t u.live ∙ ap (λ b. if b then Some new else None) u.live in
+    let was : live_entry_at e.facts.addr m ≡ Some e = live_here m e k h.orderly s u.live in
+    let raised : Keeps 1 m o =
+    moves-keeps 1 m o (moves_then 1 0 m n o turned (changes-moves e.facts.addr cold n turned.ordered))
+    (changed-ties e.facts.addr cold m n (λ p. refl) refl refl (turned_elsewhere m e new k h.orderly s t)
+    (λ none alone. used_by_none (subst (λ x. TiedBy m.now None x) was alone))
+    (λ p found tie. subst (λ x. TiedBy m.now (Some (cold p)) x) (sym here) (is_cold new refl refl refl p (subst (λ x. TiedBy m.now (Some p) x) was tie)))) in
+    let list : n.connections ≡ set m.connections k new = turned-connections m e new k h.orderly s t in
+    let same : o.connections ≡ set m.connections k new = turns_at-connections (peer_at e.facts.addr n) cold n ∙ list in
+    let stands : StandsAt o.connections k new = subst (λ es. StandsAt es k new) (sym same) (stands-set m.connections k new e s) in
+    let alike : counted_in o ≡ counted_in n = turns_at-counted (peer_at e.facts.addr n) cold n in
     let counts : sum_by counted_of n.connections + counted_of e ≡ sum_by counted_of m.connections + counted_of new =
-    turned-sum counted_of m e new k h.orderly s (record { same_id = refl; same_addr = refl; live = λ l. l }) in
+    turned-sum counted_of m e new k h.orderly s t in
     let before = counted_in-sum m in
     let after = counted_in-sum n in
+    let within = u.within in
     let limit : o.settings.hard ≡ m.settings.hard = ap (λ x. x.hard) raised.settings in
     let trimmed : Trimmed o (trim e.facts.cid o).machine =
     trim-trims e.facts.cid o raised.ordered (omega (arith, raised.counted, limit, within)) (λ over. record {
       entry = new;
       place = k;
-      stands = here;
+      stands = stands;
       same = refl;
       counted = unless_false (is_counted new.facts)
           (λ none. let zero : counted_of new ≡ 0 = one_if-not_counted new.facts none in
-          absurd (omega (arith, over, alike, counts, before, after, limit, within, zero)));
+            absurd (omega (arith, over, alike, counts, before, after, limit, within, zero)));
     }) in
-    subst (λ x. Trimmed m (releasing e x).machine) (sym (says_done-machine e.facts m))
-    (raised_then_trimmed m o (trim e.facts.cid o).machine within raised trimmed)
+    record {
+      trimmed = raised_then_trimmed m o (trim e.facts.cid o).machine u.within raised trimmed;
+      elsewhere = λ b other may_b x found.
+          let apart : same_address e.facts.addr b ≡ false = subst (λ a. same_address a b ≡ false) (sym u.here) (same_turned b addr other) in
+          may_b x
+          (sym (trim-used (is_used_at b) (unused_at b) e.facts.cid o new k raised.ordered stands refl refl
+            ∙ ap (find (is_used_at b)) same
+            ∙ find-set_other (is_used_at b) new e m.connections k s (other_at b e apart) (other_at b new apart)) ∙ found);
+    }
   where
-    releasing : Entry → Machine → Effect
-    releasing e m = trim e.facts.cid
-        (peer_becomes Cold e.facts.addr (with_entry (record e { facts = released (m.now + m.settings.idle) e.facts }) m)).machine
-
     unless_false : (b : Bool) → (b ≡ false → b ≡ true) → b ≡ true
     unless_false true gives = refl
     unless_false false gives = gives refl
 
--- ---- each order but a promotion
+    used_by_none : {Z : Type 0} → IsAlone e → Z
+    used_by_none alone = absurd (both_ways e.facts.local alone.unused u.local)
 
-pub ask-trimmed : (n : ℕ) (addr : Addr) (m : Machine) → IsOrdered m → counted_in m ≤ m.settings.hard → Trimmed m (on_used addr (asks_peer n) m).machine
-ask-trimmed n addr m h within = on_used-trimmed addr (asks_peer n) (asks_peer-acts n) m h within
+    is_cold : (new : Entry) → new.facts.local ≡ false → is_pending new.facts ≡ is_pending e.facts → reply_on 2 new ≡ reply_on 2 e →
+        (p : Peer) → AreTied m.now p e → AreTied m.now (record p { temp = Cold }) new
+    is_cold new unused pending owed p tie = record {
+      established = sym unused;
+      in_use = λ local. absurd (both_ways new.facts.local unused local);
+      on_its_way = λ way. tie.on_its_way (sym pending ∙ way);
+      asked = λ asked. absurd (both_ways (is_some (reply_on 2 e)) (may e u.found) (ap is_some (sym owed) ∙ asked));
+    }
 
-pub release-trimmed : (addr : Addr) (m : Machine) → IsOrdered m → counted_in m ≤ m.settings.hard → Trimmed m (on_used addr release m).machine
-release-trimmed addr m h within = on_used-trimmed addr release release-acts m h within
+released-carried : (addr : Addr) (m : Machine) (e : Entry) (k : ℕ) → Used m addr e k → MayRelease m addr → Carried MayRelease addr m (release e m).machine
+unfolding releasing
+released-carried addr m e k u may =
+    subst (λ x. Carried MayRelease addr m (releasing e x).machine) (sym (says_done-machine e.facts m)) (releasing-carried addr m e k u may)
 
-pub activate-trimmed : (addr : Addr) (m : Machine) → IsOrdered m → counted_in m ≤ m.settings.hard → Trimmed m (activate addr m).machine
-activate-trimmed addr m h within = on_used-trimmed addr activates activates-acts m h within
-
-pub deactivate-trimmed : (addr : Addr) (m : Machine) → IsOrdered m → counted_in m ≤ m.settings.hard → Trimmed m (on_used addr deactivates m).machine
-deactivate-trimmed addr m h within = on_used-trimmed addr deactivates deactivates-acts m h within
-
-pub forget-trimmed : (addr : Addr) (m : Machine) → IsOrdered m → counted_in m ≤ m.settings.hard → Trimmed m (peer_goes addr m).machine
-forget-trimmed addr m h within =
-    keeps-trimmed m (peer_goes addr m).machine within
-    (peers-keeps (peer_goes addr m).machine.peers m h (filter-apart (λ p. not (same_address p.addr addr)) m.peers h.formed.peers))
+pub release-carried : Carries MayRelease Release
+unfolding Carries
+release-carried addr m h within may = on_used-carried MayRelease addr release m h within (λ e k u. released-carried addr m e k u may)

@@ -1,5 +1,5 @@
 -- Peers are promoted: a connection that stands comes into use, or an address without one is dialed.
-use Rattle.std.proofs.Common.{ℕ, suc, ◌+◌, ◌%◌, ◌≡◌, Bool, true, false, cond, not, ◌&&◌, ◌||◌, nat_le, List, [], ◌∷◌, ◌++◌, get_or, map, find, set, sum_by, All, Option, Some, None, refl, sym, ap, ◌∙◌, subst, arith}
+use Rattle.std.proofs.Common.{ℕ, suc, ◌+◌, ◌%◌, ◌≤◌, ◌≡◌, Bool, true, false, cond, not, ◌&&◌, ◌||◌, nat_le, List, [], ◌∷◌, ◌++◌, get_or, map, find, set, sum_by, All, Option, Some, None, refl, sym, ap, ◌∙◌, subst, arith, leb-true}
 use Rattle.std.specs.List.{AllByRecursion}
 use Rattle.std.proofs.lemmas.Bool.{both_ways, false≢true, and_parts, and_from, false_from_ne_true}
 use Rattle.std.proofs.lemmas.List.Elements.{All-push, All-weaker}
@@ -19,14 +19,14 @@ use Rattle.govern_rules.specs.declared.link.Link.{Link}
 use Rattle.govern_rules.specs.declared.order.Order.TheVariants.{Promote}
 use Rattle.peer_book.specs.Book.{same_temp}
 use Rattle.net_base.specs.declared.peer.Temp.TheVariants as temp
-use Rattle.machine.specs.Machine.{Machine, Entry, fresh_entry, live_entry_at}
+use Rattle.machine.specs.Machine.{Machine, Entry, fresh_entry, counted_in, live_entry_at}
 use Rattle.machine.specs.Effect.{for_each}
 use Rattle.machine.specs.Peers.{peer_at}
 use Rattle.machine.specs.Replies.{owing}
 use Rattle.machine.specs.Connections.{with_entry, acquire, dial}
 use Rattle.machine.specs.Govern.{link_of, promoted_at, promote, carries_out}
 use Rattle.laws.specs.Laws.{DifferInAddress, LiveAddressesDistinct}
-use Rattle.laws.specs.Whole.{IsShaped, AreApart}
+use Rattle.laws.specs.Whole.{IsShaped, TiedBy}
 use Rattle.laws.proofs.Addresses.{same_address-self, same_address-true}
 use Rattle.laws.proofs.Counts.{counted_of, counted_in-sum, late_of, late_in-sum}
 use Rattle.laws.proofs.Entries.{with_new, come-orderly, turned-connections}
@@ -35,9 +35,10 @@ use Rattle.laws.proofs.Keeping.{IsOrdered, Keeps, keeps_nothing, keeps_then}
 use Rattle.laws.proofs.Lists.{StandsAt, stands_next, OnePasses, FoundIn, find_some, find_none, find_only}
 use Rattle.laws.proofs.PeersApart.{same_turned}
 use Rattle.laws.proofs.Shapes.{dialing-shaped, can_acquire}
-use Rattle.laws.proofs.Ties.{live_one}
-use Rattle.laws.proofs.Talks.{turns_at-connections}
-use Rattle.laws.proofs.WholeMoves.{acquire-keeps}
+use Rattle.laws.proofs.Orders.{Carried, Carries}
+use Rattle.laws.proofs.Ties.{live_one, come-ties, come_elsewhere, turned_elsewhere, turns_at-elsewhere}
+use Rattle.laws.proofs.Trims.{keeps-trimmed, turns_at-connections}
+use Rattle.laws.proofs.WholeMoves.{IsReady, acquire-keeps}
 
 -- ---- a dial
 
@@ -48,8 +49,8 @@ none_live addr m none = All-weaker (λ e. is_live_at addr e.facts ≡ false) (λ
     (subst (λ a. same_address e.facts.addr a ≡ true) same (same_address-self e.facts.addr)) e_live))
     m.connections (find_none (λ e. is_live_at addr e.facts) m.connections none)
 
-dial-keeps : (addr : Addr) (m : Machine) → IsOrdered m → live_entry_at addr m ≡ None → Keeps 0 m (dial addr m).machine
-dial-keeps addr m h none =
+dial-keeps : (addr : Addr) (m : Machine) → IsOrdered m → live_entry_at addr m ≡ None → IsReady m.now (peer_at addr m) → Keeps 0 m (dial addr m).machine
+dial-keeps addr m h none ready =
     let new : Entry = fresh_entry (dialing m.next_id addr) in
     let n : Machine = with_new new m in
     let counts : sum_by counted_of n.connections ≡ sum_by counted_of m.connections + 0 = sum_by_push counted_of m.connections new in
@@ -71,33 +72,34 @@ dial-keeps addr m h none =
       now = refl;
       counted = omega (arith, counts, counted_before, counted_after);
       late = omega (arith, lates, late_before, late_after);
+      ties = come-ties m new refl none (λ tie. on_its_way (peer_at addr m) ready tie);
+    }
+  where
+    on_its_way : (o : Option Peer) → IsReady m.now o → TiedBy m.now o None → TiedBy m.now o (Some (fresh_entry (dialing m.next_id addr)))
+    on_its_way None ready tie = elim ready [ ]
+    on_its_way (Some p) ready tie = record {
+      established = tie;
+      in_use = λ local. absurd (false≢true local);
+      on_its_way = λ pending. ready;
+      asked = λ asked. absurd (false≢true asked);
     }
 
 -- ---- what a promotion leaves at other addresses
 
-find-push_other : {X : Type 0} (p : X → Bool) (new : X) (xs : List X) → p new ≡ false → find p (xs ++ new ∷ []) ≡ find p xs
-find-push_other p new [] h = rw h refl
-find-push_other p new (x ∷ xs) h = ap (λ o. cond (p x) (Some x) o) (find-push_other p new xs h)
-
-not_at : (f : Facts) (b : Addr) → same_address f.addr b ≡ false → is_live_at b f ≡ false
-not_at f b h = ap (λ x. x && is_live f) h
-
 dial-elsewhere : (addr b : Addr) (m : Machine) → same_address b addr ≡ false → live_entry_at b (dial addr m).machine ≡ live_entry_at b m
-dial-elsewhere addr b m other =
-    let new : Entry = fresh_entry (dialing m.next_id addr) in
-    find-push_other (λ e. is_live_at b e.facts) new m.connections (not_at new.facts b (same_turned b addr other))
+dial-elsewhere addr b m other = come_elsewhere m (fresh_entry (dialing m.next_id addr)) b other
 
-acquire-elsewhere : (addr b : Addr) (m : Machine) (e : Entry) (k : ℕ) → IsOrdered m → StandsAt m.connections k e → same_address e.facts.addr b ≡ false →
+acquire-elsewhere : (b : Addr) (m : Machine) (e : Entry) (k : ℕ) → IsOrdered m → StandsAt m.connections k e → same_address b e.facts.addr ≡ false →
     live_entry_at b (acquire e m).machine ≡ live_entry_at b m
-acquire-elsewhere addr b m e k h s other =
+acquire-elsewhere b m e k h s other =
     let new : Entry = owing 8 (e.facts.cid.0 % 65536) m (record e { facts = acquired e.facts }) in
-    let n : Machine = with_entry new m in
-    let list : n.connections ≡ set m.connections k new =
-    turned-connections m e new k h.orderly s (record { same_id = refl; same_addr = refl; live = λ l. l }) in
-    let same : (acquire e m).machine.connections ≡ set m.connections k new =
-    turns_at-connections (peer_at e.facts.addr n) (λ p. record p { temp = Warm; failures = 0 }) n ∙ list in
-    ap (find (λ x. is_live_at b x.facts)) same
-    ∙ find-set_other (λ x. is_live_at b x.facts) new e m.connections k s (not_at e.facts b other) (not_at new.facts b other)
+    ap (find (λ x. is_live_at b x.facts)) (turns_at-connections (peer_at e.facts.addr m) (λ p. record p { temp = Warm; failures = 0 }) (with_entry new m))
+    ∙ turned_elsewhere m e new k h.orderly s (record { same_id = refl; same_addr = refl; live = λ l. l }) b other
+
+acquire-peers : (b : Addr) (m : Machine) (e : Entry) → same_address b e.facts.addr ≡ false → peer_at b (acquire e m).machine ≡ peer_at b m
+acquire-peers b m e other =
+    let new : Entry = owing 8 (e.facts.cid.0 % 65536) m (record e { facts = acquired e.facts }) in
+    turns_at-elsewhere e.facts.addr (λ p. record p { temp = Warm; failures = 0 }) (with_entry new m) (λ p. refl) b other
 
 -- ---- a promotion
 
@@ -106,44 +108,44 @@ abbrev pub MayBy : Option Entry → Type 0
 MayBy None = Unit {0}
 MayBy (Some e) = is_acquirable e.facts ≡ true
 
-abbrev pub MayPromote : Machine → Addr → Type 0
-MayPromote m addr = MayBy (live_entry_at addr m)
+-- and its peer is out of its back-off
+pub record MayPromote (m : Machine) (addr : Addr) : Type 0 where
+  pub free : MayBy (live_entry_at addr m)
+  pub ready : IsReady m.now (peer_at addr m)
 
-record Promoted (addr : Addr) (before after : Machine) : Type 0 where
-  keeps : Keeps 0 before after
-  elsewhere : (b : Addr) → same_address b addr ≡ false → live_entry_at b after ≡ live_entry_at b before
-
-promoted : (addr : Addr) (m : Machine) → IsOrdered m → MayPromote m addr → Promoted addr m (promote addr m).machine
-promoted addr m h may = by_live (live_entry_at addr m) refl may
+promoted : (addr : Addr) (m : Machine) → IsOrdered m → counted_in m ≤ m.settings.hard → MayPromote m addr → Carried MayPromote addr m (promote addr m).machine
+promoted addr m h within may = by_live (live_entry_at addr m) refl may.free
   where
-    by_live : (o : Option Entry) → live_entry_at addr m ≡ o → MayBy o → Promoted addr m (promoted_at o addr m).machine
-    by_live None none may = record { keeps = dial-keeps addr m h none; elsewhere = λ b other. dial-elsewhere addr b m other }
-    by_live (Some e) some may =
+    still : (n : Machine) → n.now ≡ m.now → ((b : Addr) → same_address b addr ≡ false → live_entry_at b n ≡ live_entry_at b m) →
+        ((b : Addr) → same_address b addr ≡ false → peer_at b n ≡ peer_at b m) →
+        (b : Addr) → same_address b addr ≡ false → MayPromote m b → MayPromote n b
+    still n now lives peers b other may = record {
+      free = subst MayBy (sym (lives b other)) may.free;
+      ready = subst (λ t. IsReady t (peer_at b n)) (sym now) (subst (IsReady m.now) (sym (peers b other)) may.ready);
+    }
+
+    by_live : (o : Option Entry) → live_entry_at addr m ≡ o → MayBy o → Carried MayPromote addr m (promoted_at o addr m).machine
+    by_live None none free =
+        let keeps : Keeps 0 m (dial addr m).machine = dial-keeps addr m h none may.ready in
+        record {
+          trimmed = keeps-trimmed m (dial addr m).machine within keeps;
+          elsewhere = still (dial addr m).machine keeps.now (λ b other. dial-elsewhere addr b m other) (λ b other. refl);
+        }
+    by_live (Some e) some free =
         let at : FoundIn (λ x. is_live_at addr x.facts) m.connections e = find_some (λ x. is_live_at addr x.facts) m.connections e some in
         let here : e.facts.addr ≡ addr = same_address-true e.facts.addr addr (and_parts (same_address e.facts.addr addr) (is_live e.facts) at.passes).0 in
-        rw may (record {
-          keeps = acquire-keeps m e at.place h at.stands may;
-          elsewhere = λ b other. acquire-elsewhere addr b m e at.place h at.stands
-              (subst (λ a. same_address a b ≡ false) (sym here) (same_turned b addr other));
+        let keeps : Keeps 0 m (acquire e m).machine =
+        acquire-keeps m e at.place h at.stands free (subst (λ a. IsReady m.now (peer_at a m)) (sym here) may.ready) in
+        rw free (record {
+          trimmed = keeps-trimmed m (acquire e m).machine within keeps;
+          elsewhere = still (acquire e m).machine keeps.now
+              (λ b other. acquire-elsewhere b m e at.place h at.stands (subst (λ a. same_address b a ≡ false) (sym here) other))
+              (λ b other. acquire-peers b m e (subst (λ a. same_address b a ≡ false) (sym here) other));
         })
 
-still_may : (m n : Machine) (a : Addr) (addrs : List Addr) →
-    ((b : Addr) → same_address b a ≡ false → live_entry_at b n ≡ live_entry_at b m) →
-    AllByRecursion (λ b. same_address b a ≡ false) addrs → AllByRecursion (MayPromote m) addrs → AllByRecursion (MayPromote n) addrs
-still_may m n a [] same others h = tt
-still_may m n a (b ∷ addrs) same others h =
-    (subst MayBy (sym (same b others.0)) h.0, still_may m n a addrs same others.1 h.1)
-
--- one after the other
-pub promotes-keeps : (addrs : List Addr) (m : Machine) → IsOrdered m → AreApart addrs → AllByRecursion (MayPromote m) addrs →
-    Keeps 0 m (for_each carries_out (map Promote addrs) m).machine
-unfolding for_each
-promotes-keeps [] m h apart may = keeps_nothing m h
-promotes-keeps (a ∷ addrs) m h apart may =
-    let n : Machine = (promote a m).machine in
-    let first : Promoted a m n = promoted a m h may.0 in
-    keeps_then 0 0 m n (for_each carries_out (map Promote addrs) n).machine first.keeps
-    (promotes-keeps addrs n first.keeps.ordered apart.1 (still_may m n a addrs first.elsewhere apart.0 may.1))
+pub promotes-carried : Carries MayPromote Promote
+unfolding Carries
+promotes-carried = promoted
 
 -- ---- who is eligible may be promoted
 
@@ -183,11 +185,11 @@ negotiated-is_live (Greeting until) h = absurd (false≢true h)
 negotiated-is_live Negotiated h = refl
 negotiated-is_live (Closing until) h = absurd (false≢true h)
 
-linked-may : (addr : Addr) (m : Machine) → IsOrdered m →
-    (not (is_linked (map link_of m.connections) addr) || acquirable_link (map link_of m.connections) addr) ≡ true → MayPromote m addr
-linked-may addr m h either = by_link (is_linked (map link_of m.connections) addr) refl either
+linked-free : (addr : Addr) (m : Machine) → IsOrdered m →
+    (not (is_linked (map link_of m.connections) addr) || acquirable_link (map link_of m.connections) addr) ≡ true → MayBy (live_entry_at addr m)
+linked-free addr m h either = by_link (is_linked (map link_of m.connections) addr) refl either
   where
-    by_link : (b : Bool) → is_linked (map link_of m.connections) addr ≡ b → (not b || acquirable_link (map link_of m.connections) addr) ≡ true → MayPromote m addr
+    by_link : (b : Bool) → is_linked (map link_of m.connections) addr ≡ b → (not b || acquirable_link (map link_of m.connections) addr) ≡ true → MayBy (live_entry_at addr m)
     by_link false is e = subst MayBy (sym (unlinked-none addr m.connections is)) tt
     by_link true is e =
         let a : AcquirableIn addr m.connections = acquirable_in addr m.connections e in
@@ -197,8 +199,14 @@ linked-may addr m h either = by_link (is_linked (map link_of m.connections) addr
         (and_from (same_address a.entry.facts.addr addr) (is_live a.entry.facts) a.at live) in
         subst MayBy (sym found) a.acquirable
 
-pub eligible-may : (moment : ℕ) (p : Peer) (m : Machine) → IsOrdered m → is_eligible moment (map link_of m.connections) p ≡ true → MayPromote m p.addr
-eligible-may moment p m h eligible =
+pub eligible-may : (p : Peer) (m : Machine) → IsOrdered m → is_eligible m.now (map link_of m.connections) p ≡ true → peer_at p.addr m ≡ Some p →
+    MayPromote m p.addr
+eligible-may p m h eligible found =
     let links : List Link = map link_of m.connections in
-    linked-may p.addr m h (and_parts (same_temp p.temp temp.Cold && not (is_pending links p.addr) && nat_le p.not_before moment)
-    (not (is_linked links p.addr) || acquirable_link links p.addr) eligible).1
+    let parts = and_parts (same_temp p.temp temp.Cold && not (is_pending links p.addr) && nat_le p.not_before m.now)
+    (not (is_linked links p.addr) || acquirable_link links p.addr) eligible in
+    let ready = and_parts (same_temp p.temp temp.Cold && not (is_pending links p.addr)) (nat_le p.not_before m.now) parts.0 in
+    record {
+      free = linked-free p.addr m h parts.1;
+      ready = subst (IsReady m.now) (sym found) (leb-true p.not_before m.now ready.1);
+    }

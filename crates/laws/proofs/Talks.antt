@@ -1,7 +1,7 @@
 -- A connection whose handshake is done: whatever comes in, the connections stay in order and within the limit.
-use Rattle.std.proofs.Common.{ℕ, ◌≤◌, ◌≡◌, Bool, true, false, ◌||◌, ◌==◌, nat_le, if◌then◌else◌, List, find, set, remove, Option, Some, None, Result, Ok, Err, refl, sym, ap, ◌∙◌, subst, arith, eqb-true, eq-eqb}
+use Rattle.std.proofs.Common.{ℕ, [], ◌∷◌, cond, not, is_some, filter, ◌≤◌, ◌≡◌, Bool, true, false, ◌||◌, ◌==◌, nat_le, if◌then◌else◌, List, find, set, remove, Option, Some, None, Result, Ok, Err, refl, sym, ap, ◌∙◌, subst, arith, eqb-true, eq-eqb}
 use Rattle.std.specs.Option.{unwrap_or}
-use Rattle.std.proofs.lemmas.Bool.{cond_both, false≢true}
+use Rattle.std.proofs.lemmas.Bool.{cond_both, both_ways, false≢true}
 use Rattle.net_base.specs.declared.action.CloseCause.{CloseCause}
 use Rattle.net_base.specs.declared.action.CloseCause.TheVariants.{Pruned, Fault}
 use Rattle.net_base.specs.declared.action.FaultKind.{FaultKind}
@@ -16,7 +16,7 @@ use Rattle.net_base.specs.Peer.{failed_peer}
 use Rattle.accept_gate.specs.Prune.{choice_of}
 use Rattle.conn_state.specs.Moves.{awakened}
 use Rattle.conn_state.specs.Protocols.{has_responder}
-use Rattle.conn_state.specs.Use.{agreed_sharing, has_id, is_negotiated, runs, some_runs}
+use Rattle.conn_state.specs.Use.{is_live, agreed_sharing, has_id, is_negotiated, runs, some_runs}
 use Rattle.mux_segment.specs.declared.item.Item.{Item}
 use Rattle.remote_watch.specs.Watch.{watched, seen_by_number, chain_sync_seen, block_fetch_seen, tx_submission_seen, keep_alive_seen, peer_sharing_seen}
 use Rattle.remote_watch.specs.declared.reply.Reply.{Reply}
@@ -26,19 +26,22 @@ use Rattle.warm_messages.specs.First.{first_number_of}
 use Rattle.warm_messages.specs.Reading.{alive_of, share_of}
 use Rattle.warm_messages.specs.declared.share.Share.{Share}
 use Rattle.warm_messages.specs.declared.share.Share.TheVariants as share
-use Rattle.machine.specs.Machine.{Machine, Entry, Owed, counted_in, entry_at}
+use Rattle.peer_book.specs.Book.{is_established}
+use Rattle.machine.specs.Machine.{Machine, Entry, Owed, counted_in, entry_at, live_entry_at}
 use Rattle.machine.specs.Effect.{nothing_more, then_do}
 use Rattle.machine.specs.Peers.{turns_at, peer_at, peer_fails, peer_becomes}
 use Rattle.machine.specs.Connections.{with_entry, without_entry, entry_turns, is_missed, lost, ending, pruned_at, candidates_in, trim, awake, idle}
 use Rattle.machine.specs.Talking.{replies, ends_if, served_at, begins, takes_requests, asked_as, shares_address, taken_of, takes_addresses, pays, brings, answered_as, talks}
-use Rattle.machine.specs.Replies.{reply_on, paid}
+use Rattle.machine.specs.Replies.{reply_on, without_reply, paid}
 use Rattle.laws.proofs.Effects.{counted-running}
-use Rattle.laws.proofs.Entries.{gone-connections, one_has_id, turned-connections}
+use Rattle.laws.proofs.Entries.{TurnsInto, gone-connections, one_has_id, turned-connections}
 use Rattle.laws.proofs.Finds.{find-remove_other, find-remove_here}
-use Rattle.laws.proofs.Keeping.{IsOrdered, Keeps, keeps_nothing, changes-keeps, peer_comes-keeps}
+use Rattle.laws.proofs.Keeping.{IsOrdered, Keeps, keeps_nothing, moves_then, moves-keeps, keeps-moves, changes-moves, peer_comes-keeps}
 use Rattle.laws.proofs.Lists.{StandsAt, stands-set, find_some, find_only}
-use Rattle.laws.proofs.Trims.{Trimmed, HasMoved, keeps-trimmed, trimmed_then, trimmed-within, raised_then_trimmed, trim-trims, for_each-trimmed}
-use Rattle.laws.proofs.WholeMoves.{IsLost, ending-keeps, awakes-keeps, idles-keeps, pays-keeps}
+use Rattle.laws.specs.Whole.{AreTied, IsAlone, TiedBy}
+use Rattle.laws.proofs.Ties.{changed-ties, turned_here, turned_elsewhere, live_here}
+use Rattle.laws.proofs.Trims.{turns_at-connections, lost-connections, Trimmed, HasMoved, keeps-trimmed, trimmed_then, trimmed-within, raised_then_trimmed, trim-trims, for_each-trimmed}
+use Rattle.laws.proofs.WholeMoves.{IsLost, negotiated-live, ending-keeps, awakes-keeps, idles-keeps, pays-keeps}
 
 -- ---- only known protocols are answered
 
@@ -134,14 +137,6 @@ pub runs-some : (protocol : ℕ) (r : Responders) → runs protocol r ≡ true �
 runs-some protocol r h = runs-some_by r (protocol == 2) (protocol == 3) (protocol == 4) (protocol == 8) (protocol == 10) h
 
 -- ---- what is found once a connection was pruned
-
-pub turns_at-connections : (o : Option Peer) (change : Peer → Peer) (m : Machine) → (turns_at o change m).machine.connections ≡ m.connections
-turns_at-connections None change m = refl
-turns_at-connections (Some p) change m = refl
-
-lost-connections : (f : Facts) (m : Machine) → (lost f m).machine.connections ≡ m.connections
-lost-connections f m = cond_both (is_missed f) (peer_fails f.addr m) (nothing_more m) (λ effect. effect.machine.connections ≡ m.connections)
-    (λ missed. turns_at-connections (peer_at f.addr m) (failed_peer m.now m.settings.backoff) m) (λ other. refl)
 
 -- what is found after it was found before it
 pruned-found : (m : Machine) (e : Entry) (k : ℕ) (cid : ℕ) (x : Entry) → IsOrdered m → StandsAt m.connections k e →
@@ -299,26 +294,74 @@ takes-trimmed (Some (share.Peers peers)) m h within =
     for_each-trimmed shares_address (λ addr n o w. keeps-trimmed n (shares_address addr n).machine w (shares-keeps addr n o)) (taken_of peers m) m h within
 takes-trimmed (Some share.Done) m h within = keeps-trimmed m m within (keeps_nothing m h)
 
-brings-trimmed : (protocol : ℕ) (body : List ℕ) (e : Entry) (m : Machine) → IsOrdered m → counted_in m ≤ m.settings.hard →
-    Trimmed m (brings protocol body e m).machine
-brings-trimmed protocol body e m h within =
-    cond_both (protocol == 2) (peer_becomes Hot e.facts.addr m) (if protocol == 8 then nothing_more m else takes_addresses (share_of body) m)
-    (λ effect. Trimmed m effect.machine)
-    (λ on_2. keeps-trimmed m (peer_becomes Hot e.facts.addr m).machine within (changes-keeps e.facts.addr (λ p. record p { temp = Hot }) m (λ p. refl) h))
-    (λ not_2. cond_both (protocol == 8) (nothing_more m) (takes_addresses (share_of body) m) (λ effect. Trimmed m effect.machine)
-    (λ on_8. keeps-trimmed m m within (keeps_nothing m h)) (λ not_8. takes-trimmed (share_of body) m h within))
+-- what is asked of a peer is answered: it is hot
+paid-none : (owed : List Owed) → is_some (find (λ o. o.protocol == 2) (without_reply 2 owed)) ≡ false
+paid-none [] = refl
+paid-none (o ∷ owed) = by_test (o.protocol == 2) refl (paid-none owed)
+  where
+    by_test : (b : Bool) → (o.protocol == 2) ≡ b → is_some (find (λ x. x.protocol == 2) (without_reply 2 owed)) ≡ false →
+        is_some (find (λ x. x.protocol == 2) (cond (not b) (o ∷ without_reply 2 owed) (without_reply 2 owed))) ≡ false
+    by_test true is rest = rest
+    by_test false is rest = rw is rest
 
-answered_as-trimmed : (o : Option Owed) (item : Item) (m : Machine) (e : Entry) (k : ℕ) → Talking m e k → Trimmed m (answered_as o item e m).machine
-answered_as-trimmed None item m e k t = ends (Fault Protocol) refl m e k t
-answered_as-trimmed (Some owed) item m e k t =
+hot-keeps : (m : Machine) (e : Entry) (k : ℕ) → IsOrdered m → StandsAt m.connections k e → is_live e.facts ≡ true → is_some (reply_on 2 e) ≡ true →
+    Keeps 0 m (peer_becomes Hot e.facts.addr (with_entry (paid 2 e) m)).machine
+hot-keeps m e k h s live asked =
+    let new : Entry = paid 2 e in
+    let n : Machine = with_entry new m in
+    let hot : Peer → Peer = λ p. record p { temp = Hot } in
+    let turns : TurnsInto e new = record { same_id = refl; same_addr = refl; live = λ l. l } in
+    let pays_it : Keeps 0 m n = pays-keeps 2 m e k h s in
+    let here : live_entry_at e.facts.addr n ≡ Some new =
+    turned_here m e new k h.orderly s turns live ∙ ap (λ b. if b then Some new else None) live in
+    let was : live_entry_at e.facts.addr m ≡ Some e = live_here m e k h.orderly s live in
+    moves-keeps 0 m (peer_becomes Hot e.facts.addr n).machine
+    (moves_then 0 0 m n (peer_becomes Hot e.facts.addr n).machine (keeps-moves 0 m n pays_it) (changes-moves e.facts.addr hot n pays_it.ordered))
+    (changed-ties e.facts.addr hot m n (λ p. refl) refl refl (turned_elsewhere m e new k h.orderly s turns)
+    (λ none alone. asked_of_none (subst (λ o. TiedBy m.now None o) was alone))
+    (λ p found tie. subst (λ o. TiedBy m.now (Some (hot p)) o) (sym here) (is_hot p (subst (λ o. TiedBy m.now (Some p) o) was tie))))
+  where
+    asked_of_none : {Z : Type 0} → IsAlone e → Z
+    asked_of_none alone = absurd (both_ways (is_some (reply_on 2 e)) alone.not_asked asked)
+
+    is_hot : (p : Peer) → AreTied m.now p e → AreTied m.now (record p { temp = Hot }) (paid 2 e)
+    is_hot p tie = record {
+      established = sym (ap is_established (tie.asked asked)) ∙ tie.established;
+      in_use = tie.in_use;
+      on_its_way = tie.on_its_way;
+      asked = λ again. absurd (both_ways (is_some (reply_on 2 (paid 2 e))) (paid-none e.owed) again);
+    }
+
+-- what another answer brings
+brings-trimmed : (protocol : ℕ) (body : List ℕ) (m : Machine) → IsOrdered m → counted_in m ≤ m.settings.hard →
+    Trimmed m (if protocol == 8 then nothing_more m else takes_addresses (share_of body) m).machine
+brings-trimmed protocol body m h within =
+    cond_both (protocol == 8) (nothing_more m) (takes_addresses (share_of body) m) (λ effect. Trimmed m effect.machine)
+    (λ on_8. keeps-trimmed m m within (keeps_nothing m h)) (λ not_8. takes-trimmed (share_of body) m h within)
+
+answered_as-trimmed : (o : Option Owed) (item : Item) (m : Machine) (e : Entry) (k : ℕ) → reply_on item.id e ≡ o → Talking m e k →
+    Trimmed m (answered_as o item e m).machine
+answered_as-trimmed None item m e k is t = ends (Fault Protocol) refl m e k t
+answered_as-trimmed (Some owed) item m e k is t =
+    let n : Machine = with_entry (paid item.id e) m in
     cond_both (pays owed item.body) (then_do (entry_turns e (paid item.id e) m) (brings item.id item.body e)) (ending (Fault Protocol) e m)
     (λ effect. Trimmed m effect.machine)
     (λ pays_it.
-    let n : Machine = with_entry (paid item.id e) m in
+    cond_both (item.id == 2) (peer_becomes Hot e.facts.addr n) (if item.id == 8 then nothing_more n else takes_addresses (share_of item.body) n)
+    (λ effect. Trimmed m effect.machine)
+    (λ on_2. hot (eqb-true item.id 2 on_2))
+    (λ not_2.
     let first : Trimmed m n = keeps-trimmed m n t.within (pays-keeps item.id m e k t.ordered t.stands) in
-    trimmed_then m n (brings item.id item.body e n).machine first
-    (brings-trimmed item.id item.body e n first.ordered (trimmed-within m n first)))
+    trimmed_then m n (if item.id == 8 then nothing_more n else takes_addresses (share_of item.body) n).machine first
+    (brings-trimmed item.id item.body n first.ordered (trimmed-within m n first))))
     (λ other. ends (Fault Protocol) refl m e k t)
+  where
+    hot : item.id ≡ 2 → Trimmed m (peer_becomes Hot e.facts.addr (with_entry (paid item.id e) m)).machine
+    hot id =
+        let asked : is_some (reply_on 2 e) ≡ true = ap is_some (subst (λ i. reply_on i e ≡ Some owed) id is) in
+        subst (λ i. Trimmed m (peer_becomes Hot e.facts.addr (with_entry (paid i e) m)).machine) (sym id)
+        (keeps-trimmed m (peer_becomes Hot e.facts.addr (with_entry (paid 2 e) m)).machine t.within
+        (hot-keeps m e k t.ordered t.stands (negotiated-live e.facts.phase t.negotiated) asked))
 
 -- an item comes in
 pub talks-trimmed : (item : Item) (m : Machine) (e : Entry) (k : ℕ) → Talking m e k → Trimmed m (talks item e m).machine
@@ -327,4 +370,4 @@ talks-trimmed item m e k t =
     cond_both (item.side == 0) (asked_as (watched item.id sharing item.body) item.id e m) (answered_as (reply_on item.id e) item e m)
     (λ effect. Trimmed m effect.machine)
     (λ asks. asked_as-trimmed (watched item.id sharing item.body) item.body sharing item.id m e k refl t)
-    (λ answers. answered_as-trimmed (reply_on item.id e) item m e k t)
+    (λ answers. answered_as-trimmed (reply_on item.id e) item m e k refl t)

@@ -268,7 +268,7 @@ comes-ties big addr m ties = by_there (is_some (peer_in addr m.peers)) refl
         cond_both (nat_le most_peers (length m.peers)) Full New (λ added. IsTied (record m { peers = entered_by added new m.peers }))
         (λ full. ties) (λ room. comes (none_there (peer_in addr m.peers) e))
 
-taken-elsewhere : (addr b : Addr) (ps : List Peer) → same_address b addr ≡ false → peer_in b (without_peer addr ps) ≡ peer_in b ps
+pub taken-elsewhere : (addr b : Addr) (ps : List Peer) → same_address b addr ≡ false → peer_in b (without_peer addr ps) ≡ peer_in b ps
 taken-elsewhere addr b [] other = refl
 taken-elsewhere addr b (p ∷ ps) other = by_test (same_address p.addr addr) refl (taken-elsewhere addr b ps other)
   where
@@ -292,3 +292,41 @@ pub taken-ties : (addr : Addr) (m : Machine) → TiedBy m.now None (live_entry_a
 taken-ties addr m alone ties =
     tied_but addr m (record m { peers = without_peer addr m.peers }) refl (λ b other. taken-elsewhere addr b m.peers other) (λ b other. refl)
     (subst (λ o. TiedBy m.now o (live_entry_at addr m)) (sym (taken-here addr m.peers)) alone) ties
+
+-- ---- a connection comes
+
+find-push_other : {X : Type 0} (p : X → Bool) (new : X) (xs : List X) → p new ≡ false → find p (xs ++ new ∷ []) ≡ find p xs
+find-push_other p new [] h = rw h refl
+find-push_other p new (x ∷ xs) h = ap (λ o. cond (p x) (Some x) o) (find-push_other p new xs h)
+
+find-push_here : {X : Type 0} (p : X → Bool) (new : X) (xs : List X) → find p xs ≡ None → p new ≡ true → find p (xs ++ new ∷ []) ≡ Some new
+find-push_here p new [] none h = rw h refl
+find-push_here {X} p new (x ∷ xs) none h = by_test (p x) none (find-push_here p new xs)
+  where
+    by_test : (b : Bool) → cond b (Some x) (find p xs) ≡ None → (find p xs ≡ None → p new ≡ true → find p (xs ++ new ∷ []) ≡ Some new) →
+        cond b (Some x) (find p (xs ++ new ∷ [])) ≡ Some new
+    by_test true none later = absurd cc
+    by_test false none later = later none h
+
+pub come_elsewhere : (m : Machine) (new : Entry) (b : Addr) → same_address b new.facts.addr ≡ false → live_entry_at b (with_new new m) ≡ live_entry_at b m
+come_elsewhere m new b other = find-push_other (λ e. is_live_at b e.facts) new m.connections (not_at new.facts b other)
+
+pub come-ties : (m : Machine) (new : Entry) → is_live new.facts ≡ true → live_entry_at new.facts.addr m ≡ None →
+    (TiedBy m.now (peer_at new.facts.addr m) None → TiedBy m.now (peer_at new.facts.addr m) (Some new)) → IsTied m → IsTied (with_new new m)
+come-ties m new live none step ties =
+    let a : Addr = new.facts.addr in
+    tied_but a m (with_new new m) refl (λ b other. refl) (λ b other. come_elsewhere m new b other)
+    (subst (λ o. TiedBy m.now (peer_at a m) o)
+    (sym (find-push_here (λ e. is_live_at a e.facts) new m.connections none
+      (and_from (same_address a a) (is_live new.facts) (same_address-self a) live)))
+    (step (subst (λ o. TiedBy m.now (peer_at a m) o) none (ties a)))) ties
+
+-- a change at one address leaves the peers of all others
+pub turns_at-elsewhere : (a : Addr) (change : Peer → Peer) (m : Machine) → ((p : Peer) → (change p).addr ≡ p.addr) → (b : Addr) → same_address b a ≡ false →
+    peer_at b (peer_changes a change m).machine ≡ peer_at b m
+turns_at-elsewhere a change m same b other = by_peer (peer_at a m) refl
+  where
+    by_peer : (o : Option Peer) → peer_at a m ≡ o → peer_at b (turns_at o change m).machine ≡ peer_at b m
+    by_peer None is = refl
+    by_peer (Some p) is =
+        peer_elsewhere (change p) b m.peers (subst (λ x. same_address b x ≡ false) (sym (same p ∙ found-addr a m.peers p is)) other)

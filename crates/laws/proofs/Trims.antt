@@ -1,8 +1,8 @@
 -- Where more connections are counted than the hard limit, one of them goes.
-use Rattle.std.proofs.Common.{ℕ, suc, ◌+◌, ◌≤◌, ◌<◌, ◌≡◌, Bool, true, false, not, nat_le, if◌then◌else◌, List, [], ◌∷◌, map, filter_map, sum_by, Option, Some, None, refl, sym, ap, ◌∙◌, subst, arith, eq-eqb, leb-true, leb-false}
+use Rattle.std.proofs.Common.{ℕ, suc, ◌+◌, ◌≤◌, ◌<◌, ◌≡◌, Bool, true, false, not, nat_le, if◌then◌else◌, List, [], ◌∷◌, map, filter_map, find, sum_by, Option, Some, None, refl, sym, ap, ◌∙◌, subst, arith, eq-eqb, leb-true, leb-false}
 use Rattle.std.specs.List.{cons_option}
 use Rattle.std.specs.Option.{option_map, unwrap_or}
-use Rattle.std.proofs.lemmas.Bool.{cond_both, and_parts}
+use Rattle.std.proofs.lemmas.Bool.{cond_both, and_parts, false≢true}
 use Rattle.net_base.specs.declared.action.CloseCause.TheVariants.{Pruned}
 use Rattle.net_base.specs.declared.connection.Cid.{Cid}
 use Rattle.net_base.specs.declared.connection.Facts.{Facts}
@@ -19,7 +19,8 @@ use Rattle.machine.specs.Connections.{without_entry, is_missed, lost, ending, ca
 use Rattle.laws.specs.Whole.{IsTied}
 use Rattle.laws.proofs.Counts.{counted_of, counted_in-sum, late_in}
 use Rattle.laws.proofs.Effects.{one_if-counted}
-use Rattle.laws.proofs.Entries.{gone-sum, one_has_id}
+use Rattle.laws.proofs.Entries.{gone-connections, gone-sum, one_has_id}
+use Rattle.laws.proofs.Finds.{find-remove_other}
 use Rattle.laws.proofs.Keeping.{IsOrdered, Keeps, keeps_nothing}
 use Rattle.laws.proofs.Lists.{StandsAt, stands_next, find_only}
 use Rattle.laws.proofs.WholeMoves.{ending-keeps}
@@ -32,6 +33,7 @@ record Goes (es : List Entry) (c : Candidate) : Type 0 where
   stands : StandsAt es place entry
   same : entry.facts.cid ≡ c.cid
   counted : is_counted entry.facts ≡ true
+  unused : entry.facts.local ≡ false
 
 goes_next : (e : Entry) (es : List Entry) (c : Candidate) → Goes es c → Goes (e ∷ es) c
 goes_next e es c g = record {
@@ -40,18 +42,25 @@ goes_next e es c g = record {
   stands = stands_next e g.entry es g.place g.stands;
   same = g.same;
   counted = g.counted;
+  unused = g.unused;
 }
 
 abbrev candidates_among : List Entry → List Candidate
 candidates_among es = filter_map candidate_of (map (λ e. e.facts) es)
 
-candidate-counted : (f : Facts) (c : Candidate) → candidate_of f ≡ Some c → (f.cid ≡ c.cid) × (is_counted f ≡ true)
+unless : (b : Bool) → not b ≡ true → b ≡ false
+unless true h = absurd (false≢true h)
+unless false h = refl
+
+candidate-counted : (f : Facts) (c : Candidate) → candidate_of f ≡ Some c → (f.cid ≡ c.cid) × (is_counted f ≡ true) × (f.local ≡ false)
 candidate-counted f c e = by_test (is_candidate f) refl e
   where
     by_test : (b : Bool) → is_candidate f ≡ b →
         option_map (λ rank. record { cid = f.cid; rank = rank }) (if b then Some (rank_of_candidate f) else None) ≡ Some c →
-        (f.cid ≡ c.cid) × (is_counted f ≡ true)
-    by_test true is same = (ap (λ o. cid_of f.cid o) same, (and_parts (is_counted f) (not f.local) is).0)
+        (f.cid ≡ c.cid) × (is_counted f ≡ true) × (f.local ≡ false)
+    by_test true is same =
+        let parts = and_parts (is_counted f) (not f.local) is in
+        (ap (λ o. cid_of f.cid o) same, parts.0, unless f.local parts.1)
       where
         cid_of : Cid → Option Candidate → Cid
         cid_of d None = d
@@ -71,6 +80,7 @@ goes_among (x ∷ es) c e = by_head (candidate_of x.facts) refl (goes_among es) 
           stands = record { inside = omega arith; is = refl };
           same = facts.0 ∙ ap (λ a. a.cid) same;
           counted = facts.1;
+          unused = facts.2;
         }
 
     by_rest : (d : Candidate) (o : Option Candidate) → candidate_of x.facts ≡ Some d →
@@ -166,6 +176,35 @@ trim-trims moved m h most over = cond_both (nat_le (counted_in m) m.settings.har
         let goes : Goes m.connections c = goes_among m.connections c some in
         rw (some, found_by_id m goes.entry goes.place c.cid h goes.stands goes.same)
         (pruned-trims m goes.entry goes.place h goes.stands goes.counted most)
+
+-- ---- who is in local use stays
+
+pub turns_at-connections : (o : Option Peer) (change : Peer → Peer) (m : Machine) → (turns_at o change m).machine.connections ≡ m.connections
+turns_at-connections None change m = refl
+turns_at-connections (Some p) change m = refl
+
+pub lost-connections : (f : Facts) (m : Machine) → (lost f m).machine.connections ≡ m.connections
+lost-connections f m = cond_both (is_missed f) (peer_fails f.addr m) (nothing_more m) (λ effect. effect.machine.connections ≡ m.connections)
+    (λ missed. turns_at-connections (peer_at f.addr m) (failed_peer m.now m.settings.backoff) m) (λ other. refl)
+
+pruned-used : (q : Entry → Bool) → ((x : Entry) → x.facts.local ≡ false → q x ≡ false) → (m : Machine) (e : Entry) (k : ℕ) → IsOrdered m →
+    StandsAt m.connections k e → e.facts.local ≡ false → find q (ending Pruned e m).machine.connections ≡ find q m.connections
+pruned-used q only m e k h s unused =
+    ap (find q) (lost-connections e.facts (without_entry e.facts.cid.0 m) ∙ gone-connections m e k h.orderly s)
+    ∙ find-remove_other q e m.connections k s (only e unused)
+
+pub trim-used : (q : Entry → Bool) → ((x : Entry) → x.facts.local ≡ false → q x ≡ false) → (moved : Cid) (m : Machine) (e : Entry) (k : ℕ) → IsOrdered m →
+    StandsAt m.connections k e → e.facts.cid ≡ moved → e.facts.local ≡ false → find q (trim moved m).machine.connections ≡ find q m.connections
+trim-used q only moved m e k h s same unused = cond_both (nat_le (counted_in m) m.settings.hard) (nothing_more m)
+    (pruned_at (entry_at (unwrap_or (choice_of (candidates_in m)) moved).0 m) m) (λ effect. find q effect.machine.connections ≡ find q m.connections)
+    (λ within. refl) (λ above. by_choice (first_to_go (candidates_in m)) refl)
+  where
+    by_choice : (o : Option Candidate) → first_to_go (candidates_in m) ≡ o →
+        find q (pruned_at (entry_at (unwrap_or (option_map (λ c. c.cid) (first_to_go (candidates_in m))) moved).0 m) m).machine.connections ≡ find q m.connections
+    by_choice None none = rw (none, found_by_id m e k moved h s same) (pruned-used q only m e k h s unused)
+    by_choice (Some c) some =
+        let goes : Goes m.connections c = goes_among m.connections c some in
+        rw (some, found_by_id m goes.entry goes.place c.cid h goes.stands goes.same) (pruned-used q only m goes.entry goes.place h goes.stands goes.unused)
 
 -- ---- within the limit
 

@@ -1,6 +1,6 @@
 -- Each event of the whole machine.
-use Rattle.std.proofs.Common.{ℕ, zero, suc, ◌+◌, ◌≤◌, ◌≡◌, Bool, true, false, cond, nat_le, if◌then◌else◌, List, [], ◌∷◌, length, Option, Some, None, refl, sym, ap, subst, arith}
-use Rattle.std.proofs.lemmas.Bool.{cond_both, false≢true}
+use Rattle.std.proofs.Common.{ℕ, zero, suc, ◌+◌, ◌≤◌, ◌≡◌, Bool, true, false, cond, nat_le, if◌then◌else◌, List, [], ◌∷◌, length, Option, Some, None, refl, sym, ap, ◌∙◌, subst, arith, leb-false}
+use Rattle.std.proofs.lemmas.Bool.{cond_both, both_ways, and_parts, false≢true}
 use Rattle.std.proofs.lemmas.List.Elements.{All-push}
 use Rattle.net_base.specs.Address.{same_address, address_below}
 use Rattle.net_base.specs.declared.action.Away.TheVariants.{OwnAddr, Crossed, Present}
@@ -15,6 +15,7 @@ use Rattle.net_base.specs.declared.event.Group.{Group}
 use Rattle.net_base.specs.declared.event.Job.{Job}
 use Rattle.net_base.specs.declared.event.RootAnswer.{RootAnswer}
 use Rattle.net_base.specs.declared.event.RootAnswer.TheVariants.{Found, Failed}
+use Rattle.net_base.specs.declared.peer.Peer.{Peer}
 use Rattle.net_base.specs.declared.timer.Deadline.{Deadline}
 use Rattle.net_base.specs.declared.timer.Kind.{Kind}
 use Rattle.net_base.specs.declared.timer.Kind.TheVariants.{Handshake, Grace as GraceKind, TimeWait, Reply2, Reply8, Reply10}
@@ -27,26 +28,30 @@ use Rattle.root_groups.specs.Cleaned.{cleaned, members_of}
 use Rattle.root_groups.specs.RootAsk.{awaits, publics_of, found, failed}
 use Rattle.machine.specs.Machine.{Machine, Entry, counted_in, entry_at, live_entry_at}
 use Rattle.machine.specs.Effect.{Effect, shared, unused, nothing_more, tells, then_do, as_move, for_each}
-use Rattle.machine.specs.Peers.{peer_is_ordinary, peer_comes}
-use Rattle.machine.specs.Connections.{entry_turns, closing_entry, grace_over, ending, vanishes, dial_opens, dial_fails}
+use Rattle.machine.specs.Peers.{peer_at, peer_is_ordinary, peer_comes}
+use Rattle.machine.specs.Connections.{with_entry, without_entry, entry_turns, closing_entry, grace_over, ending, vanishes, dial_opens, dial_fails}
 use Rattle.machine.specs.Deadlines.{deadlines, due, fires_as, fires_on, fires, fires_some, fire_due, fire_all}
 use Rattle.machine.specs.Events.{clock_shows, turned_away, admitted, crossed, accepted_beside, accepted_through, peer_connects, closed_at, peer_closes, dial_ends_at, dial_ends}
 use Rattle.machine.specs.Govern.{govern}
 use Rattle.machine.specs.Provided.{targets_are, big_targets_are, comes_ordinary, locals_are, is_wanted_big, comes_big, bigs_are, roots_say, roots_answer}
 use Rattle.machine.specs.Whole.{whole_step}
-use Rattle.laws.specs.Whole.{IsShaped, IsFormed, IsSteady}
+use Rattle.laws.specs.Whole.{IsShaped, IsFormed, IsSteady, TiedBy, IsTied}
+use Rattle.laws.proofs.Addresses.{same_address-true}
+use Rattle.laws.proofs.Entries.{TurnsInto}
+use Rattle.laws.proofs.Firing.{Due, due_of}
+use Rattle.laws.proofs.Ties.{turned-ties, gone-ties, gone_here, come-ties}
 use Rattle.laws.proofs.Governing.{govern-trimmed}
 use Rattle.laws.proofs.GroupsApart.{cleaned-apart}
 use Rattle.laws.proofs.Counts.{counted_of, late_in, counted-expired, counted-closing, late-expired, late-closing}
 use Rattle.laws.proofs.Effects.{one_if-not_counted}
 use Rattle.laws.proofs.Events.{StaysSound, admitted_entry, at_moment, at_moment-orderly, ahead-none_late, none_late-ahead, peer_connects-sound, clock_shows-sound}
-use Rattle.laws.proofs.Keeping.{IsOrdered, Keeps, keeps_nothing, keeps_then, turns-keeps, goes-keeps, elsewhere-keeps, changes-keeps, peer_comes-keeps, for_each-keeps}
+use Rattle.laws.proofs.Keeping.{IsOrdered, Keeps, keeps_nothing, keeps_then, moves-keeps, turns-moves, goes-moves, elsewhere-keeps, changes-keeps, peer_comes-keeps, for_each-keeps}
 use Rattle.laws.proofs.Lists.{StandsAt, find_some}
 use Rattle.laws.proofs.Settings.{timewait-positive}
 use Rattle.laws.proofs.Shapes.{accepted-shaped, expired-shaped, closing-shaped}
 use Rattle.laws.proofs.Streams.{bytes_come_in-trimmed}
 use Rattle.laws.proofs.Trims.{Trimmed, keeps-trimmed}
-use Rattle.laws.proofs.WholeMoves.{ending-keeps, vanishes-keeps, connects-keeps, stands-shaped}
+use Rattle.laws.proofs.WholeMoves.{ending-keeps, overwritten-keeps, vanishes-keeps, connects-keeps, stands-shaped, alike-ties}
 
 -- ---- what is set and provided
 
@@ -54,13 +59,17 @@ comes_ordinary-keeps : (addr : Addr) (m : Machine) → IsOrdered m → Keeps 0 m
 comes_ordinary-keeps addr m h = peer_comes-keeps false addr m h
 
 ordinary-keeps : (addr : Addr) (m : Machine) → IsOrdered m → Keeps 0 m (peer_is_ordinary addr m).machine
-ordinary-keeps addr m h = changes-keeps addr (λ p. record p { big = false }) m (λ p. refl) h
+ordinary-keeps addr m h = changes-keeps addr (λ p. record p { big = false }) m (λ p. refl) (λ p tie. same_peer p (live_entry_at addr m) tie) h
+  where
+    same_peer : (p : Peer) (o : Option Entry) → TiedBy m.now (Some p) o → TiedBy m.now (Some (record p { big = false })) o
+    same_peer p None tie = tie
+    same_peer p (Some e) tie = record { established = tie.established; in_use = tie.in_use; on_its_way = tie.on_its_way; asked = tie.asked }
 
 locals-keeps : (groups : List Group) (m : Machine) → IsOrdered m → Keeps 0 m (locals_are groups m).machine
 locals-keeps groups m h =
     let kept : List Group = cleaned m.settings.own groups in
     let n : Machine = record m { groups = kept } in
-    let first : Keeps 0 m n = elsewhere-keeps m.targets m.big_targets kept m.roots m.peers m h (cleaned-apart m.settings.own groups) h.formed.peers in
+    let first : Keeps 0 m n = elsewhere-keeps m.targets m.big_targets kept m.roots m h (cleaned-apart m.settings.own groups) in
     let o : Machine = (for_each peer_is_ordinary (members_of kept) n).machine in
     let second : Keeps 0 n o = for_each-keeps peer_is_ordinary ordinary-keeps (members_of kept) n first.ordered in
     let third : Keeps 0 o (for_each comes_ordinary (members_of kept) o).machine = for_each-keeps comes_ordinary comes_ordinary-keeps (members_of kept) o second.ordered in
@@ -78,9 +87,9 @@ roots_say-keeps : (answer : RootAnswer) (m : Machine) → IsOrdered m → Keeps 
 roots_say-keeps (Found ttl addrs) m h =
     let publics : List Addr = publics_of m.settings.own m.targets.root addrs in
     let n : Machine = record m { roots = found m.now ttl publics m.roots } in
-    let first : Keeps 0 m n = elsewhere-keeps m.targets m.big_targets m.groups (found m.now ttl publics m.roots) m.peers m h h.formed.groups h.formed.peers in
+    let first : Keeps 0 m n = elsewhere-keeps m.targets m.big_targets m.groups (found m.now ttl publics m.roots) m h h.formed.groups in
     keeps_then 0 0 m n (for_each comes_ordinary publics n).machine first (for_each-keeps comes_ordinary comes_ordinary-keeps publics n first.ordered)
-roots_say-keeps Failed m h = elsewhere-keeps m.targets m.big_targets m.groups (failed m.now m.settings.backoff m.roots) m.peers m h h.formed.groups h.formed.peers
+roots_say-keeps Failed m h = elsewhere-keeps m.targets m.big_targets m.groups (failed m.now m.settings.backoff m.roots) m h h.formed.groups
 
 roots-keeps : (job : Job) (answer : RootAnswer) (m : Machine) → IsOrdered m → Keeps 0 m (roots_answer job answer m).machine
 roots-keeps job answer m h = cond_both (awaits job.0 m.roots) (roots_say answer m) (nothing_more m) (λ effect. Keeps 0 m effect.machine)
@@ -123,10 +132,35 @@ admitted-formed addr m h = record {
   groups = h.groups;
 }
 
-crossed-formed : (addr : Addr) (m : Machine) (e : Entry) (k : ℕ) → IsOrdered m → StandsAt m.connections k e → IsFormed (crossed addr e m).machine
-crossed-formed addr m e k h s = cond_both (address_below addr m.settings.own) (then_do (ending Overwritten e m) (admitted addr)) (turned_away Crossed m)
+crossed-formed : (addr : Addr) (m : Machine) (e : Entry) (k : ℕ) → IsOrdered m → StandsAt m.connections k e → is_pending e.facts ≡ true →
+    IsFormed (crossed addr e m).machine
+crossed-formed addr m e k h s pending = cond_both (address_below addr m.settings.own) (then_do (ending Overwritten e m) (admitted addr)) (turned_away Crossed m)
     (λ effect. IsFormed effect.machine)
-    (λ below. admitted-formed addr (ending Overwritten e m).machine (ending-keeps Overwritten m e k h s).ordered.formed) (λ above. h.formed)
+    (λ below. admitted-formed addr (ending Overwritten e m).machine (overwritten-keeps m e k h s pending).ordered.formed) (λ above. h.formed)
+
+admitted-ties : (addr : Addr) (m : Machine) → live_entry_at addr m ≡ None → IsTied m → IsTied (admitted addr m).machine
+admitted-ties addr m none ties = come-ties m (admitted_entry addr m) refl none (step (peer_at addr m)) ties
+  where
+    step : (o : Option Peer) → TiedBy m.now o None → TiedBy m.now o (Some (admitted_entry addr m))
+    step None tie = record { unused = refl; not_dialed = refl; not_asked = refl }
+    step (Some p) tie = record {
+      established = tie;
+      in_use = λ local. absurd (false≢true local);
+      on_its_way = λ pending. absurd (false≢true pending);
+      asked = λ asked. absurd (false≢true asked);
+    }
+
+crossed-ties : (addr : Addr) (m : Machine) (e : Entry) (k : ℕ) → IsOrdered m → StandsAt m.connections k e → is_pending e.facts ≡ true →
+    is_live_at addr e.facts ≡ true → IsTied m → IsTied (crossed addr e m).machine
+crossed-ties addr m e k h s pending at ties =
+    let n : Machine = (ending Overwritten e m).machine in
+    let parts = and_parts (same_address e.facts.addr addr) (is_live e.facts) at in
+    cond_both (address_below addr m.settings.own) (then_do (ending Overwritten e m) (admitted addr)) (turned_away Crossed m)
+    (λ effect. IsTied effect.machine)
+    (λ below. admitted-ties addr n
+      (subst (λ a. live_entry_at a n ≡ None) (same_address-true e.facts.addr addr parts.0) (gone_here m e k h.orderly s parts.1))
+      ((overwritten-keeps m e k h s pending).ties ties))
+    (λ above. ties)
 
 beside-formed : (addr : Addr) (m : Machine) → IsOrdered m → IsFormed (accepted_beside (live_entry_at addr m) addr m).machine
 beside-formed addr m h = by_live (live_entry_at addr m) refl
@@ -136,7 +170,17 @@ beside-formed addr m h = by_live (live_entry_at addr m) refl
     by_live (Some e) is =
         let at = find_some (λ y. is_live_at addr y.facts) m.connections e is in
         cond_both (is_pending e.facts) (crossed addr e m) (turned_away Present m) (λ effect. IsFormed effect.machine)
-        (λ pending. crossed-formed addr m e at.place h at.stands) (λ other. h.formed)
+        (λ pending. crossed-formed addr m e at.place h at.stands pending) (λ other. h.formed)
+
+beside-ties : (addr : Addr) (m : Machine) → IsOrdered m → IsTied m → IsTied (accepted_beside (live_entry_at addr m) addr m).machine
+beside-ties addr m h ties = by_live (live_entry_at addr m) refl
+  where
+    by_live : (o : Option Entry) → live_entry_at addr m ≡ o → IsTied (accepted_beside o addr m).machine
+    by_live None is = admitted-ties addr m is ties
+    by_live (Some e) is =
+        let at = find_some (λ y. is_live_at addr y.facts) m.connections e is in
+        cond_both (is_pending e.facts) (crossed addr e m) (turned_away Present m) (λ effect. IsTied effect.machine)
+        (λ pending. crossed-ties addr m e at.place h at.stands pending at.passes ties) (λ other. ties)
 
 through-formed : (g : Gate) (addr : Addr) (m : Machine) → IsOrdered m → IsFormed (accepted_through g addr m).machine
 through-formed Free addr m h = beside-formed addr m h
@@ -148,6 +192,16 @@ connects-formed addr m h = cond_both (same_address addr m.settings.own) (turned_
     (accepted_through (gate_of m.settings (counted_in m)) addr m) (λ effect. IsFormed effect.machine)
     (λ own. h.formed) (λ other. through-formed (gate_of m.settings (counted_in m)) addr m h)
 
+through-ties : (g : Gate) (addr : Addr) (m : Machine) → IsOrdered m → IsTied m → IsTied (accepted_through g addr m).machine
+through-ties Free addr m h ties = beside-ties addr m h ties
+through-ties (PauseFor delay) addr m h ties = beside-ties addr m h ties
+through-ties NoRoom addr m h ties = ties
+
+connects-ties : (addr : Addr) (m : Machine) → IsOrdered m → IsTied m → IsTied (peer_connects addr m).machine
+connects-ties addr m h ties = cond_both (same_address addr m.settings.own) (turned_away OwnAddr m)
+    (accepted_through (gate_of m.settings (counted_in m)) addr m) (λ effect. IsTied effect.machine)
+    (λ own. ties) (λ other. through-ties (gate_of m.settings (counted_in m)) addr m h ties)
+
 -- ---- the clock
 
 expires-keeps : (m : Machine) (e : Entry) (k : ℕ) → IsOrdered m → StandsAt m.connections k e → e.facts.local ≡ true →
@@ -156,53 +210,66 @@ expires-keeps m e k h s local =
     let new : Entry = record e { facts = expired e.facts } in
     let same : counted_of new ≡ counted_of e = ap (λ b. cond b 1 0) (counted-expired e.facts local) in
     let late = late-expired m.now e in
-    turns-keeps 0 m e new k h s (record { same_id = refl; same_addr = refl; live = λ l. l })
-    (expired-shaped e.facts (stands-shaped m e k h s) local) (omega arith) (omega (arith, late))
+    let turns : TurnsInto e new = record { same_id = refl; same_addr = refl; live = λ l. l } in
+    moves-keeps 0 m (with_entry new m)
+    (turns-moves 0 m e new k h s turns (expired-shaped e.facts (stands-shaped m e k h s) local) (omega arith) (omega (arith, late)))
+    (alike-ties m e new k h s turns (record { local = refl; pending = refl; live = refl; asked = λ asked. asked }))
 
-closes_entry-keeps : (m : Machine) (e : Entry) (k : ℕ) → IsOrdered m → StandsAt m.connections k e →
+closes_entry-keeps : (m : Machine) (e : Entry) (k : ℕ) → IsOrdered m → StandsAt m.connections k e → e.facts.local ≡ false →
     Keeps 0 m (entry_turns e (closing_entry m e) m).machine
-closes_entry-keeps m e k h s =
+closes_entry-keeps m e k h s idle =
     let until : ℕ = m.now + m.settings.timewait in
     let none : counted_of (closing_entry m e) ≡ 0 = one_if-not_counted (closing_entry m e).facts (counted-closing until e.facts) in
     let late = late-closing m e (timewait-positive m.settings h.orderly.settings) in
-    turns-keeps 0 m e (closing_entry m e) k h s (record { same_id = refl; same_addr = refl; live = λ l. absurd (false≢true l) })
-    (closing-shaped until e.facts) (omega arith) (omega (arith, late))
+    let turns : TurnsInto e (closing_entry m e) = record { same_id = refl; same_addr = refl; live = λ l. absurd (false≢true l) } in
+    moves-keeps 0 m (with_entry (closing_entry m e) m)
+    (turns-moves 0 m e (closing_entry m e) k h s turns (closing-shaped until e.facts) (omega arith) (omega (arith, late)))
+    (turned-ties m e (closing_entry m e) k h.orderly s turns (λ live o tie. gone o tie))
+  where
+    gone : (o : Option Peer) → TiedBy m.now o (Some e) → TiedBy m.now o None
+    gone None tie = tt
+    gone (Some p) tie = tie.established ∙ idle
 
 grace_over-keeps : (m : Machine) (e : Entry) (k : ℕ) → IsOrdered m → StandsAt m.connections k e → Keeps 0 m (grace_over e m).machine
 grace_over-keeps m e k h s = cond_both e.facts.local (entry_turns e (record e { facts = expired e.facts }) m) closed
-    (λ effect. Keeps 0 m effect.machine) (expires-keeps m e k h s) (λ idle. closes_entry-keeps m e k h s)
+    (λ effect. Keeps 0 m effect.machine) (expires-keeps m e k h s) (closes_entry-keeps m e k h s)
   where
     closed : Effect
     closed = as_move (unused e.facts.cid.0) m
         (then_do (tells (Close e.facts.cid Unused ∷ []) m) (entry_turns e (closing_entry m e)))
 
-fires_as-keeps : (kind : Kind) (m : Machine) (e : Entry) (k : ℕ) → IsOrdered m → StandsAt m.connections k e → Keeps 0 m (fires_as kind e m).machine
-fires_as-keeps Handshake = ending-keeps (Fault HandshakeWait) refl
-fires_as-keeps GraceKind = grace_over-keeps
-fires_as-keeps TimeWait = goes-keeps
-fires_as-keeps Reply2 = ending-keeps (Fault ReplyWait) refl
-fires_as-keeps Reply8 = ending-keeps (Fault ReplyWait) refl
-fires_as-keeps Reply10 = ending-keeps (Fault ReplyWait) refl
+-- a time-wait is over
+waits-keeps : (m : Machine) (e : Entry) (k : ℕ) → IsOrdered m → StandsAt m.connections k e → is_live e.facts ≡ false →
+    Keeps 0 m (without_entry e.facts.cid.0 m)
+waits-keeps m e k h s dead =
+    moves-keeps 0 m (without_entry e.facts.cid.0 m) (goes-moves m e k h s)
+    (gone-ties m e k h.orderly s (λ live. absurd (both_ways (is_live e.facts) dead live)))
 
-fires-keeps : (d : Deadline) (m : Machine) → IsOrdered m → Keeps 0 m (fires d m).machine
-fires-keeps d m h = by_entry (entry_at d.cid.0 m) refl
-  where
-    by_entry : (o : Option Entry) → entry_at d.cid.0 m ≡ o → Keeps 0 m (fires_on o d.kind m).machine
-    by_entry None is = keeps_nothing m h
-    by_entry (Some e) is =
-        let at = find_some (λ y. has_id d.cid.0 y.facts) m.connections e is in
-        fires_as-keeps d.kind m e at.place h at.stands
+fires_as-keeps : (kind : Kind) (m : Machine) (e : Entry) (k : ℕ) → IsOrdered m → StandsAt m.connections k e → (kind ≡ TimeWait → is_live e.facts ≡ false) →
+    Keeps 0 m (fires_as kind e m).machine
+fires_as-keeps Handshake m e k h s waits = ending-keeps (Fault HandshakeWait) refl m e k h s
+fires_as-keeps GraceKind m e k h s waits = grace_over-keeps m e k h s
+fires_as-keeps TimeWait m e k h s waits = waits-keeps m e k h s (waits refl)
+fires_as-keeps Reply2 m e k h s waits = ending-keeps (Fault ReplyWait) refl m e k h s
+fires_as-keeps Reply8 m e k h s waits = ending-keeps (Fault ReplyWait) refl m e k h s
+fires_as-keeps Reply10 m e k h s waits = ending-keeps (Fault ReplyWait) refl m e k h s
+
+fires-keeps : (d : Deadline) (m : Machine) → IsOrdered m → due m ≡ Some d → Keeps 0 m (fires d m).machine
+fires-keeps d m h is =
+    let next : Due m d = due_of m d h.orderly is in
+    subst (λ o. Keeps 0 m (fires_on o d.kind m).machine) (sym next.found)
+    (fires_as-keeps d.kind m next.owner next.place h next.stands next.waits)
 
 fire_due-keeps : (n : ℕ) (m : Machine) → IsOrdered m → Keeps 0 m (fire_due n m).machine
 unfolding fire_due
 fire_due-keeps zero m h = keeps_nothing m h
-fire_due-keeps (suc n) m h = by_due (due m) (fire_due-keeps n)
+fire_due-keeps (suc n) m h = by_due (due m) refl (fire_due-keeps n)
   where
-    by_due : (o : Option Deadline) → ((w : Machine) → IsOrdered w → Keeps 0 w (fire_due n w).machine) →
+    by_due : (o : Option Deadline) → due m ≡ o → ((w : Machine) → IsOrdered w → Keeps 0 w (fire_due n w).machine) →
         Keeps 0 m (fires_some o (fire_due n) m).machine
-    by_due None later = keeps_nothing m h
-    by_due (Some d) later =
-        let first : Keeps 0 m (fires d m).machine = fires-keeps d m h in
+    by_due None is later = keeps_nothing m h
+    by_due (Some d) is later =
+        let first : Keeps 0 m (fires d m).machine = fires-keeps d m h is in
         keeps_then 0 0 m (fires d m).machine (fire_due n (fires d m).machine).machine first (later (fires d m).machine first.ordered)
 
 formed_at_moment : (t : ℕ) (m : Machine) → IsFormed m → IsFormed (at_moment t m)
@@ -213,6 +280,24 @@ clock-formed t m h =
     let n : Machine = at_moment t m in
     cond_both (nat_le t m.now) (nothing_more m) (fire_all n) (λ effect. IsFormed effect.machine) (λ past. h.formed)
     (λ later. (fire_due-keeps (length (deadlines n)) n (record { orderly = at_moment-orderly t m h.orderly; formed = formed_at_moment t m h.formed })).ordered.formed)
+
+later-tied : (now t : ℕ) (o : Option Peer) (e : Option Entry) → now ≤ t → TiedBy now o e → TiedBy t o e
+later-tied now t None None past tie = tt
+later-tied now t None (Some e) past tie = tie
+later-tied now t (Some p) None past tie = tie
+later-tied now t (Some p) (Some e) past tie = record {
+  established = tie.established;
+  in_use = λ local. let ready = tie.in_use local in omega (arith, ready, past);
+  on_its_way = λ pending. let ready = tie.on_its_way pending in omega (arith, ready, past);
+  asked = tie.asked;
+}
+
+clock-ties : (t : ℕ) (m : Machine) → IsOrdered m → IsTied m → IsTied (clock_shows t m).machine
+clock-ties t m h ties =
+    let n : Machine = at_moment t m in
+    cond_both (nat_le t m.now) (nothing_more m) (fire_all n) (λ effect. IsTied effect.machine) (λ past. ties)
+    (λ later. (fire_due-keeps (length (deadlines n)) n (record { orderly = at_moment-orderly t m h.orderly; formed = formed_at_moment t m h.formed })).ties
+      (λ b. later-tied m.now t (peer_at b m) (live_entry_at b m) (let above = leb-false t m.now later in omega (arith, above)) (ties b)))
 
 -- ---- each event
 
@@ -235,6 +320,7 @@ trimmed-steady m n h t =
           deadlines = none_late-ahead n (omega (arith, t.late, none));
         };
         formed = t.ordered.formed;
+        tied = t.ties h.tied;
       };
       settings = t.settings;
     }
@@ -242,18 +328,18 @@ trimmed-steady m n h t =
 kept-steady : (m n : Machine) → IsSteady m → Keeps 0 m n → StaysSteady m n
 kept-steady m n h k = trimmed-steady m n h (keeps-trimmed m n h.sound.counted k)
 
-stays-steady : (m n : Machine) → StaysSound m n → IsFormed n → StaysSteady m n
-stays-steady m n sound formed = record { steady = record { sound = sound.sound; formed = formed }; settings = sound.settings }
+stays-steady : (m n : Machine) → StaysSound m n → IsFormed n → IsTied n → StaysSteady m n
+stays-steady m n sound formed tied = record { steady = record { sound = sound.sound; formed = formed; tied = tied }; settings = sound.settings }
 
 pub whole_step-steady : (m : Machine) (event : Event) → IsSteady m → StaysSteady m (whole_step m event).machine
-whole_step-steady m (Now t) h = stays-steady m (clock_shows t m).machine (clock_shows-sound t m h.sound) (clock-formed t m (ordered_of m h))
+whole_step-steady m (Now t) h = stays-steady m (clock_shows t m).machine (clock_shows-sound t m h.sound) (clock-formed t m (ordered_of m h)) (clock-ties t m (ordered_of m h) h.tied)
 whole_step-steady m (Govern word) h = trimmed-steady m (govern word m).machine h (govern-trimmed word m (ordered_of m h) h.sound.counted)
-whole_step-steady m (Accepted addr) h = stays-steady m (peer_connects addr m).machine (peer_connects-sound addr m h.sound) (connects-formed addr m (ordered_of m h))
+whole_step-steady m (Accepted addr) h = stays-steady m (peer_connects addr m).machine (peer_connects-sound addr m h.sound) (connects-formed addr m (ordered_of m h)) (connects-ties addr m (ordered_of m h) h.tied)
 whole_step-steady m (Dialed cid opened) h = kept-steady m (dial_ends cid opened m).machine h (dial_ends-keeps cid opened m (ordered_of m h))
 whole_step-steady m (Bytes cid bytes) h = trimmed-steady m (whole_step m (Bytes cid bytes)).machine h (bytes_come_in-trimmed cid bytes m (ordered_of m h) h.sound.counted)
 whole_step-steady m (Closed cid) h = kept-steady m (peer_closes cid m).machine h (closes-keeps cid m (ordered_of m h))
-whole_step-steady m (Aims targets) h = kept-steady m (targets_are targets m).machine h (elsewhere-keeps targets m.big_targets m.groups m.roots m.peers m (ordered_of m h) h.formed.groups h.formed.peers)
+whole_step-steady m (Aims targets) h = kept-steady m (targets_are targets m).machine h (elsewhere-keeps targets m.big_targets m.groups m.roots m (ordered_of m h) h.formed.groups)
 whole_step-steady m (Locals groups) h = kept-steady m (locals_are groups m).machine h (locals-keeps groups m (ordered_of m h))
 whole_step-steady m (Roots job answer) h = kept-steady m (roots_answer job answer m).machine h (roots-keeps job answer m (ordered_of m h))
-whole_step-steady m (BigAims targets) h = kept-steady m (big_targets_are targets m).machine h (elsewhere-keeps m.targets targets m.groups m.roots m.peers m (ordered_of m h) h.formed.groups h.formed.peers)
+whole_step-steady m (BigAims targets) h = kept-steady m (big_targets_are targets m).machine h (elsewhere-keeps m.targets targets m.groups m.roots m (ordered_of m h) h.formed.groups)
 whole_step-steady m (Bigs addrs) h = kept-steady m (bigs_are addrs m).machine h (for_each-keeps comes_big comes_big-keeps addrs m (ordered_of m h))

@@ -223,7 +223,7 @@ greeting-live (Greeting until) h = refl
 greeting-live Negotiated h = absurd (false≢true h)
 greeting-live (Closing until) h = absurd (false≢true h)
 
-negotiated-live : (p : Phase) → is_negotiated_phase p ≡ true → live_phase p ≡ true
+pub negotiated-live : (p : Phase) → is_negotiated_phase p ≡ true → live_phase p ≡ true
 negotiated-live Dialing h = absurd (false≢true h)
 negotiated-live (Greeting until) h = absurd (false≢true h)
 negotiated-live Negotiated h = refl

@@ -11,7 +11,7 @@ use Rattle.laws.proofs.Runs.{start-sound}
 use Rattle.laws.proofs.WholeEvents.{StaysSteady, whole_step-steady}
 
 pub start-steady : (settings : Settings) → AreSound settings → IsSteady (start_of settings)
-start-steady settings h = record { sound = start-sound settings h; formed = record { shaped = All-nil (λ e. IsShaped e.facts); peers = tt; groups = tt } }
+start-steady settings h = record { sound = start-sound settings h; formed = record { shaped = All-nil (λ e. IsShaped e.facts); peers = tt; groups = tt }; tied = λ addr. tt }
 
 pub run-steady : (m : Machine) (events : List Event) → IsSteady m → StaysSteady m (whole_after m events)
 unfolding whole_after

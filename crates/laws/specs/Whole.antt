@@ -94,6 +94,7 @@ pub record IsFormed (m : Machine) : Type 0 where
 pub record IsSteady (m : Machine) : Type 0 where
   pub sound : IsSound m
   pub formed : IsFormed m
+  pub tied : IsTied m
 
 -- the whole machine after all of the events
 unfoldable pub whole_after : Machine → List Event → Machine
