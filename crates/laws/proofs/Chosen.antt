@@ -10,10 +10,10 @@ use Rattle.peer_book.specs.Book.{is_of, peer_at}
 use Rattle.root_groups.specs.Cleaned.{is_listed, members_of}
 use Rattle.govern_rules.specs.Orders.{picks_of}
 use Rattle.laws.specs.Whole.{ArePeersApart, AreApart}
-use Rattle.laws.proofs.Addresses.{same_address-self, same_address-true}
+use Rattle.laws.proofs.Addresses.{same_address-true}
 use Rattle.laws.proofs.GroupsApart.{append-apart}
 use Rattle.laws.proofs.Lists.{all-weaker, all-appended}
-use Rattle.laws.proofs.PeersApart.{same_turned, filter-apart}
+use Rattle.laws.proofs.PeersApart.{all-found, same_turned, filter-apart}
 use Rattle.laws.proofs.Picks.{filter-all, filter-passing, picks-apart, picks-all}
 
 -- ---- of all peers
@@ -26,16 +26,6 @@ pub chosen-apart : (big : Bool) (word number : ℕ) (test : Peer → Bool) (peer
 chosen-apart big word number test peers h =
     let passes : Peer → Bool = λ p. is_of big p && test p in
     picks-apart big word number (filter passes peers) (filter-apart passes peers h)
-
--- each is found under its address
-found_behind : (p : Peer) (ps qs : List Peer) → AllByRecursion (λ q. same_address q.addr p.addr ≡ false) qs →
-    AllByRecursion (λ q. peer_at q.addr ps ≡ Some q) qs → AllByRecursion (λ q. peer_at q.addr (p ∷ ps) ≡ Some q) qs
-found_behind p ps [] others h = tt
-found_behind p ps (q ∷ qs) others h = (rw (same_turned q.addr p.addr others.0) h.0, found_behind p ps qs others.1 h.1)
-
-all-found : (ps : List Peer) → ArePeersApart ps → AllByRecursion (λ p. peer_at p.addr ps ≡ Some p) ps
-all-found [] h = tt
-all-found (p ∷ ps) h = (rw (same_address-self p.addr) refl, found_behind p ps ps h.0 (all-found ps h.1))
 
 all-both : {X : Type 0} (P Q R : X → Type 0) → ((x : X) → P x → Q x → R x) → (xs : List X) → AllByRecursion P xs → AllByRecursion Q xs → AllByRecursion R xs
 all-both P Q R gives [] h k = tt

@@ -1,5 +1,5 @@
 -- The governor as a whole: each rule, and all of them.
-use Rattle.std.proofs.Common.{ℕ, ◌-◌, ◌≤◌, ◌≡◌, Bool, true, false, cond, not, ◌&&◌, ◌||◌, List, [], ◌∷◌, ◌++◌, map, find, flat_map, if◌then◌else◌, Option, Some, None, is_some, refl, sym, ap, ◌∙◌, subst}
+use Rattle.std.proofs.Common.{ℕ, ◌-◌, ◌≤◌, ◌≡◌, Bool, true, false, cond, not, ◌&&◌, ◌||◌, List, [], ◌∷◌, ◌++◌, map, find, flat_map, Option, Some, None, is_some, refl, sym, ap, subst}
 use Rattle.std.specs.List.{AllByRecursion}
 use Rattle.std.proofs.lemmas.Bool.{cond_both, and_parts, false≢true}
 use Rattle.net_base.specs.Address.{same_address}
@@ -13,7 +13,6 @@ use Rattle.conn_state.specs.Use.{is_live, is_live_at}
 use Rattle.peer_book.specs.Book.{is_established, same_temp}
 use Rattle.root_groups.specs.Cleaned.{is_listed}
 use Rattle.root_groups.specs.RootAsk.{may_ask, asked}
-use Rattle.govern_rules.specs.BigRules.{big_orders, everybody}
 use Rattle.govern_rules.specs.Candidates.{is_eligible, may_be_forgotten, may_be_released, may_be_activated, may_be_deactivated}
 use Rattle.govern_rules.specs.ClassRules.{deactivates}
 use Rattle.govern_rules.specs.Links.{some_link, is_pending as is_pending_link, owes_on_2, owes_a_reply}
@@ -23,7 +22,7 @@ use Rattle.govern_rules.specs.declared.link.Link.{Link}
 use Rattle.govern_rules.specs.declared.order.Order.{Order}
 use Rattle.govern_rules.specs.declared.order.Order.TheVariants.{Ask, Forget, Promote, Release, Activate, Deactivate}
 use Rattle.machine.specs.Machine.{Machine, Entry, counted_in, live_entry_at}
-use Rattle.machine.specs.Effect.{Effect, nothing_more, tells, for_each}
+use Rattle.machine.specs.Effect.{nothing_more, tells, for_each}
 use Rattle.machine.specs.Peers.{peer_at}
 use Rattle.machine.specs.Replies.{reply_on}
 use Rattle.machine.specs.Govern.{link_of, view_of, is_used_at, carries_out, asks_roots, ordinary_rules, big_rules, rules, govern}
@@ -171,7 +170,7 @@ groups-trimmed May order each word number test m h within gives =
     subst (λ orders. Trimmed m (for_each carries_out orders m).machine) (sym (map-groups order pick m.groups))
     (orders-trimmed May order each (flat_map pick m.groups) m h within (groups_picks-apart pick m.groups picks h.formed.groups)
     (groups_picks-all (May m) pick m.groups (λ g. chosen-all (May m) false word (number g) (is_member_and g test) m.peers h.formed.peers
-      (λ p passes found. gives p (and_parts (is_listed p.addr g.members) (test p) passes).1 found))))
+    (λ p passes found. gives p (and_parts (is_listed p.addr g.members) (test p) passes).1 found))))
 
 -- one list of orders after another, where the second may be given at any moment
 for_each-append : (xs ys : List Order) (m : Machine) →
@@ -236,28 +235,48 @@ all-rules (r ∷ rs) h m o within =
 
 big-rules : (word : ℕ) → AllByRecursion Rules (big_rules word)
 unfolding Rules
-big-rules word =
-    ((λ m h within. class-trimmed MayForget Forget forget-carried true word _ _ m h within (forget-gives m)),
-    ((λ m h within. class-trimmed MayPromote Promote promotes-carried true word _ _ m h within (promote-gives m h)),
-    ((λ m h within. class-trimmed MayRelease Release release-carried true word _ _ m h within (release-gives m)),
-    ((λ m h within. class-trimmed MayActivate Activate activate-carried true word _ _ m h within (activate-gives m)),
-    ((λ m h within. always-trimmed Deactivate deactivate-carried _ m h within), tt)))))
+big-rules word = (
+  (λ m h within. class-trimmed MayForget Forget forget-carried true word _ _ m h within (forget-gives m)),
+  (
+    (λ m h within. class-trimmed MayPromote Promote promotes-carried true word _ _ m h within (promote-gives m h)),
+    (
+      (λ m h within. class-trimmed MayRelease Release release-carried true word _ _ m h within (release-gives m)),
+      (
+        (λ m h within. class-trimmed MayActivate Activate activate-carried true word _ _ m h within (activate-gives m)),
+        ((λ m h within. always-trimmed Deactivate deactivate-carried _ m h within), tt),
+      ),
+    ),
+  ),
+)
 
 ordinary-rules : (word : ℕ) → AllByRecursion Rules (ordinary_rules word)
 unfolding Rules
-ordinary-rules word =
-    ((λ m h within. always-trimmed (λ addr. Ask addr _) (ask-carried _) _ m h within),
-    ((λ m h within. class-trimmed MayForget Forget forget-carried false word _ _ m h within
-      (and-gives MayForget (λ p. may_be_dropped m.groups m.roots.publics p.addr) (may_be_forgotten (map link_of m.connections)) m (forget-gives m))),
-    (g4-trimmed word,
-    ((λ m h within. class-trimmed MayPromote Promote promotes-carried false word _ _ m h within
-      (and-gives MayPromote (λ p. is_not_local m.groups p.addr) (is_eligible m.now (map link_of m.connections)) m (promote-gives m h))),
-    ((λ m h within. class-trimmed MayRelease Release release-carried false word _ _ m h within
-      (and-gives MayRelease (λ p. is_not_local m.groups p.addr) (may_be_released (map link_of m.connections)) m (release-gives m))),
-    (g7-trimmed word,
-    ((λ m h within. class-trimmed MayActivate Activate activate-carried false word _ _ m h within
-      (and-gives MayActivate (λ p. is_not_local m.groups p.addr) (may_be_activated (map link_of m.connections)) m (activate-gives m))),
-    (g9-trimmed word, tt))))))))
+ordinary-rules word = (
+  (λ m h within. always-trimmed (λ addr. Ask addr _) (ask-carried _) _ m h within),
+  (
+    (λ m h within. class-trimmed MayForget Forget forget-carried false word _ _ m h within
+        (and-gives MayForget (λ p. may_be_dropped m.groups m.roots.publics p.addr) (may_be_forgotten (map link_of m.connections)) m (forget-gives m))),
+    (
+      g4-trimmed word,
+      (
+        (λ m h within. class-trimmed MayPromote Promote promotes-carried false word _ _ m h within
+            (and-gives MayPromote (λ p. is_not_local m.groups p.addr) (is_eligible m.now (map link_of m.connections)) m (promote-gives m h))),
+        (
+          (λ m h within. class-trimmed MayRelease Release release-carried false word _ _ m h within
+              (and-gives MayRelease (λ p. is_not_local m.groups p.addr) (may_be_released (map link_of m.connections)) m (release-gives m))),
+          (
+            g7-trimmed word,
+            (
+              (λ m h within. class-trimmed MayActivate Activate activate-carried false word _ _ m h within
+                  (and-gives MayActivate (λ p. is_not_local m.groups p.addr) (may_be_activated (map link_of m.connections)) m (activate-gives m))),
+              (g9-trimmed word, tt),
+            ),
+          ),
+        ),
+      ),
+    ),
+  ),
+)
 
 asks_roots-keeps : (m : Machine) → IsOrdered m → Keeps 0 m (asks_roots m).machine
 asks_roots-keeps m h = cond_both (may_ask m.now m.targets.root m.roots)

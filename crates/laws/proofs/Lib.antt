@@ -26,3 +26,4 @@ mod WholeRuns
 mod Promotions
 mod Picks
 mod Ties
+mod PeerLaws

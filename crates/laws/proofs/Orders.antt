@@ -1,7 +1,7 @@
 -- The governor's orders, one by one: the connections stay in order and within the limit, and peers tied to them.
-use Rattle.std.proofs.Common.{ℕ, ◌+◌, ◌≤◌, ◌<◌, ◌≡◌, Bool, true, false, cond, ◌&&◌, ◌||◌, not, if◌then◌else◌, List, [], ◌∷◌, find, map, set, sum_by, Option, Some, None, is_some, refl, sym, ap, ◌∙◌, subst, arith}
+use Rattle.std.proofs.Common.{ℕ, ◌+◌, ◌≤◌, ◌≡◌, Bool, true, false, ◌&&◌, not, if◌then◌else◌, List, [], ◌∷◌, find, map, set, sum_by, Option, Some, None, is_some, refl, sym, ap, ◌∙◌, subst, arith}
 use Rattle.std.specs.List.{AllByRecursion}
-use Rattle.std.proofs.lemmas.Bool.{cond_both, both_ways, and_parts, and_from, false≢true}
+use Rattle.std.proofs.lemmas.Bool.{cond_both, both_ways, and_parts}
 use Rattle.net_base.specs.Address.{same_address}
 use Rattle.net_base.specs.declared.address.Addr.{Addr}
 use Rattle.net_base.specs.declared.connection.Facts.{Facts}
@@ -12,14 +12,14 @@ use Rattle.conn_state.specs.Moves.{released}
 use Rattle.conn_state.specs.Use.{agreed_sharing, is_live, is_live_at, is_pending}
 use Rattle.govern_rules.specs.declared.order.Order.{Order}
 use Rattle.govern_rules.specs.declared.order.Order.TheVariants.{Ask, Forget, Release, Activate, Deactivate}
-use Rattle.peer_book.specs.Book.{without_peer, is_established}
+use Rattle.peer_book.specs.Book.{is_established}
 use Rattle.machine.specs.Machine.{Machine, Entry, counted_in, live_entry_at}
 use Rattle.machine.specs.Effect.{Effect, nothing_more, for_each}
 use Rattle.machine.specs.Peers.{peer_at, peer_becomes, peer_was_asked, peer_goes}
 use Rattle.machine.specs.Replies.{asks, owing, reply_on, peer_sharing_done}
 use Rattle.machine.specs.Connections.{with_entry, says_done, trim, release}
-use Rattle.machine.specs.Govern.{on_entry, is_used_at, on_used, asks_peer, activates, activate, deactivates, carries_out}
-use Rattle.laws.specs.Whole.{AreApart, AreTied, IsAlone, TiedBy, IsTied}
+use Rattle.machine.specs.Govern.{on_entry, is_used_at, on_used, asks_peer, activates, deactivates, carries_out}
+use Rattle.laws.specs.Whole.{AreApart, AreTied, IsAlone, TiedBy}
 use Rattle.laws.proofs.Addresses.{same_address-true}
 use Rattle.laws.proofs.Counts.{counted_of, counted_in-sum}
 use Rattle.laws.proofs.Effects.{one_if-not_counted}
@@ -29,7 +29,7 @@ use Rattle.laws.proofs.Keeping.{IsOrdered, Moves, Keeps, keeps_nothing, keeps_th
 use Rattle.laws.proofs.Lists.{StandsAt, FoundIn, stands-set, find_some}
 use Rattle.laws.proofs.PeersApart.{same_turned, filter-apart}
 use Rattle.laws.proofs.Ties.{live_here, turned_here, turned_elsewhere, changed-ties, taken-ties, taken-elsewhere}
-use Rattle.laws.proofs.Trims.{Trimmed, HasMoved, keeps-trimmed, trimmed_then, trimmed-within, raised_then_trimmed, trim-trims, trim-used, turns_at-counted, turns_at-connections}
+use Rattle.laws.proofs.Trims.{Trimmed, keeps-trimmed, trimmed_then, trimmed-within, raised_then_trimmed, trim-trims, trim-used, turns_at-counted, turns_at-connections}
 use Rattle.laws.proofs.WholeMoves.{owes-keeps, IsWarm, asks_warm-keeps, releases-moves}
 
 -- ---- one order after the other
@@ -140,7 +140,7 @@ deactivated-carried addr m e k u =
       trimmed = keeps-trimmed m (peer_becomes Warm e.facts.addr m).machine u.within
           (changes-keeps e.facts.addr (λ p. record p { temp = Warm }) m (λ p. refl)
           (λ p tie. subst (λ o. TiedBy m.now (Some (record p { temp = Warm })) o) (sym was)
-            (warm p (subst (λ o. TiedBy m.now (Some p) o) was tie))) u.ordered);
+          (warm p (subst (λ o. TiedBy m.now (Some p) o) was tie))) u.ordered);
       elsewhere = λ b other may. tt;
     }
   where
@@ -251,7 +251,7 @@ releasing-carried addr m e k u may =
       same = refl;
       counted = unless_false (is_counted new.facts)
           (λ none. let zero : counted_of new ≡ 0 = one_if-not_counted new.facts none in
-            absurd (omega (arith, over, alike, counts, before, after, limit, within, zero)));
+          absurd (omega (arith, over, alike, counts, before, after, limit, within, zero)));
     }) in
     record {
       trimmed = raised_then_trimmed m o (trim e.facts.cid o).machine u.within raised trimmed;
@@ -259,8 +259,8 @@ releasing-carried addr m e k u may =
           let apart : same_address e.facts.addr b ≡ false = subst (λ a. same_address a b ≡ false) (sym u.here) (same_turned b addr other) in
           may_b x
           (sym (trim-used (is_used_at b) (unused_at b) e.facts.cid o new k raised.ordered stands refl refl
-            ∙ ap (find (is_used_at b)) same
-            ∙ find-set_other (is_used_at b) new e m.connections k s (other_at b e apart) (other_at b new apart)) ∙ found);
+          ∙ ap (find (is_used_at b)) same
+          ∙ find-set_other (is_used_at b) new e m.connections k s (other_at b e apart) (other_at b new apart)) ∙ found);
     }
   where
     unless_false : (b : Bool) → (b ≡ false → b ≡ true) → b ≡ true

@@ -97,3 +97,13 @@ filter-apart q (p ∷ ps) h = by_test (q p) (filter-apart q ps h.1)
     by_test : (b : Bool) → ArePeersApart (filter q ps) → ArePeersApart (cond b (p ∷ filter q ps) (filter q ps))
     by_test true rest = (others-filter p.addr q ps h.0, rest)
     by_test false rest = rest
+
+-- each is found under its address
+found_behind : (p : Peer) (ps qs : List Peer) → AllByRecursion (λ q. same_address q.addr p.addr ≡ false) qs →
+    AllByRecursion (λ q. peer_at q.addr ps ≡ Some q) qs → AllByRecursion (λ q. peer_at q.addr (p ∷ ps) ≡ Some q) qs
+found_behind p ps [] others h = tt
+found_behind p ps (q ∷ qs) others h = (rw (same_turned q.addr p.addr others.0) h.0, found_behind p ps qs others.1 h.1)
+
+pub all-found : (ps : List Peer) → ArePeersApart ps → AllByRecursion (λ p. peer_at p.addr ps ≡ Some p) ps
+all-found [] h = tt
+all-found (p ∷ ps) h = (rw (same_address-self p.addr) refl, found_behind p ps ps h.0 (all-found ps h.1))

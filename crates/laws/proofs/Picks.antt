@@ -13,9 +13,9 @@ use Rattle.pick_policy.specs.declared.rated.Rated.{Rated}
 use Rattle.govern_rules.specs.Orders.{rated_of, picks_of}
 use Rattle.peer_book.specs.Book.{peer_at, addresses_of}
 use Rattle.laws.specs.Whole.{ArePeersApart, AreApart}
-use Rattle.laws.proofs.Addresses.{same_address-self, same_address-true}
+use Rattle.laws.proofs.Addresses.{same_address-true}
 use Rattle.laws.proofs.Lists.{all-weaker}
-use Rattle.laws.proofs.PeersApart.{same_turned}
+use Rattle.laws.proofs.PeersApart.{all-found}
 
 -- ---- the least of several things
 
@@ -115,22 +115,14 @@ record FoundAs (peers : List Peer) (r : Rated) : Type 0 where
   found : peer_at r.addr peers ≡ Some peer
   is : r ≡ rated_of peer
 
-found_behind : (p : Peer) (ps qs : List Peer) → AllByRecursion (λ q. same_address q.addr p.addr ≡ false) qs →
-    AllByRecursion (FoundAs ps) (map rated_of qs) → AllByRecursion (FoundAs (p ∷ ps)) (map rated_of qs)
-found_behind p ps [] others h = tt
-found_behind p ps (q ∷ qs) others h = (
-  record {
-    peer = h.0.peer;
-    found = rw (same_turned q.addr p.addr others.0) h.0.found;
-    is = h.0.is;
-  },
-  found_behind p ps qs others.1 h.1,
-)
+all-map : {X Y : Type 0} (P : Y → Type 0) (g : X → Y) (xs : List X) → AllByRecursion (λ x. P (g x)) xs → AllByRecursion P (map g xs)
+all-map P g [] h = tt
+all-map P g (x ∷ xs) h = (h.0, all-map P g xs h.1)
 
-all_found : (ps : List Peer) → ArePeersApart ps → AllByRecursion (FoundAs ps) (map rated_of ps)
-all_found [] h = tt
-all_found (p ∷ ps) h =
-    (record { peer = p; found = rw (same_address-self p.addr) refl; is = refl }, found_behind p ps ps h.0 (all_found ps h.1))
+all_rated : (ps : List Peer) → ArePeersApart ps → AllByRecursion (FoundAs ps) (map rated_of ps)
+all_rated ps h =
+    all-map (FoundAs ps) rated_of ps
+    (all-weaker (λ p. peer_at p.addr ps ≡ Some p) (λ p. FoundAs ps (rated_of p)) (λ p found. record { peer = p; found = found; is = refl }) ps (all-found ps h))
 
 rates-other : (word : ℕ) (peers : List Peer) (r s : Rated) → FoundAs peers r → FoundAs peers s → rates_below word r s ≡ true →
     same_address s.addr r.addr ≡ false
@@ -158,17 +150,13 @@ rates-apart word peers (r ∷ rs) h f = (others rs h.0 f.1, rates-apart word pee
 
 -- ---- both
 
-all-map : {X Y : Type 0} (P : Y → Type 0) (g : X → Y) (xs : List X) → AllByRecursion (λ x. P (g x)) xs → AllByRecursion P (map g xs)
-all-map P g [] h = tt
-all-map P g (x ∷ xs) h = (h.0, all-map P g xs h.1)
-
 pub picks-apart : (big : Bool) (word number : ℕ) (candidates : List Peer) → ArePeersApart candidates → AreApart (picks_of big word number candidates)
 picks-apart false word number candidates h =
     scores-apart word (least_by (scores_below word) number (addresses_of candidates)) (least-rises (scores_below word) number (addresses_of candidates))
 picks-apart true word number candidates h =
     let rs : List Rated = map rated_of candidates in
     rates-apart word candidates (least_by (rates_below word) number rs) (least-rises (rates_below word) number rs)
-    (least-all (FoundAs candidates) (rates_below word) number rs (all_found candidates h))
+    (least-all (FoundAs candidates) (rates_below word) number rs (all_rated candidates h))
 
 pub picks-all : (P : Addr → Type 0) (big : Bool) (word number : ℕ) (candidates : List Peer) → AllByRecursion (λ p. P p.addr) candidates →
     AllByRecursion P (picks_of big word number candidates)

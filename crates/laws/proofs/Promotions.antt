@@ -1,12 +1,10 @@
 -- Peers are promoted: a connection that stands comes into use, or an address without one is dialed.
-use Rattle.std.proofs.Common.{ℕ, suc, ◌+◌, ◌%◌, ◌≤◌, ◌≡◌, Bool, true, false, cond, not, ◌&&◌, ◌||◌, nat_le, List, [], ◌∷◌, ◌++◌, get_or, map, find, set, sum_by, All, Option, Some, None, refl, sym, ap, ◌∙◌, subst, arith, leb-true}
-use Rattle.std.specs.List.{AllByRecursion}
-use Rattle.std.proofs.lemmas.Bool.{both_ways, false≢true, and_parts, and_from, false_from_ne_true}
+use Rattle.std.proofs.Common.{ℕ, suc, ◌+◌, ◌%◌, ◌≤◌, ◌≡◌, Bool, true, false, not, ◌&&◌, ◌||◌, nat_le, List, [], ◌∷◌, map, find, sum_by, All, Option, Some, None, refl, sym, ap, ◌∙◌, subst, arith, leb-true}
+use Rattle.std.proofs.lemmas.Bool.{both_ways, false≢true, and_parts, and_from}
 use Rattle.std.proofs.lemmas.List.Elements.{All-push, All-weaker}
 use Rattle.std.proofs.lemmas.List.Sums.{sum_by_push}
 use Rattle.net_base.specs.Address.{same_address}
 use Rattle.net_base.specs.declared.address.Addr.{Addr}
-use Rattle.net_base.specs.declared.connection.Facts.{Facts}
 use Rattle.net_base.specs.declared.connection.Phase.{Phase}
 use Rattle.net_base.specs.declared.connection.Phase.TheVariants.{Dialing, Greeting, Negotiated, Closing}
 use Rattle.net_base.specs.declared.peer.Peer.{Peer}
@@ -20,20 +18,17 @@ use Rattle.govern_rules.specs.declared.order.Order.TheVariants.{Promote}
 use Rattle.peer_book.specs.Book.{same_temp}
 use Rattle.net_base.specs.declared.peer.Temp.TheVariants as temp
 use Rattle.machine.specs.Machine.{Machine, Entry, fresh_entry, counted_in, live_entry_at}
-use Rattle.machine.specs.Effect.{for_each}
 use Rattle.machine.specs.Peers.{peer_at}
 use Rattle.machine.specs.Replies.{owing}
 use Rattle.machine.specs.Connections.{with_entry, acquire, dial}
-use Rattle.machine.specs.Govern.{link_of, promoted_at, promote, carries_out}
-use Rattle.laws.specs.Laws.{DifferInAddress, LiveAddressesDistinct}
+use Rattle.machine.specs.Govern.{link_of, promoted_at, promote}
+use Rattle.laws.specs.Laws.{DifferInAddress}
 use Rattle.laws.specs.Whole.{IsShaped, TiedBy}
 use Rattle.laws.proofs.Addresses.{same_address-self, same_address-true}
 use Rattle.laws.proofs.Counts.{counted_of, counted_in-sum, late_of, late_in-sum}
-use Rattle.laws.proofs.Entries.{with_new, come-orderly, turned-connections}
-use Rattle.laws.proofs.Finds.{find-set_other}
-use Rattle.laws.proofs.Keeping.{IsOrdered, Keeps, keeps_nothing, keeps_then}
-use Rattle.laws.proofs.Lists.{StandsAt, stands_next, OnePasses, FoundIn, find_some, find_none, find_only}
-use Rattle.laws.proofs.PeersApart.{same_turned}
+use Rattle.laws.proofs.Entries.{with_new, come-orderly}
+use Rattle.laws.proofs.Keeping.{IsOrdered, Keeps}
+use Rattle.laws.proofs.Lists.{StandsAt, stands_next, FoundIn, find_some, find_none, find_only}
 use Rattle.laws.proofs.Shapes.{dialing-shaped, can_acquire}
 use Rattle.laws.proofs.Orders.{Carried, Carries}
 use Rattle.laws.proofs.Ties.{live_one, come-ties, come_elsewhere, turned_elsewhere, turns_at-elsewhere}

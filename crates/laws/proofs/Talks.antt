@@ -1,5 +1,5 @@
 -- A connection whose handshake is done: whatever comes in, the connections stay in order and within the limit.
-use Rattle.std.proofs.Common.{ℕ, [], ◌∷◌, cond, not, is_some, filter, ◌≤◌, ◌≡◌, Bool, true, false, ◌||◌, ◌==◌, nat_le, if◌then◌else◌, List, find, set, remove, Option, Some, None, Result, Ok, Err, refl, sym, ap, ◌∙◌, subst, arith, eqb-true, eq-eqb}
+use Rattle.std.proofs.Common.{ℕ, [], ◌∷◌, cond, not, is_some, ◌≤◌, ◌≡◌, Bool, true, false, ◌||◌, ◌==◌, nat_le, if◌then◌else◌, List, find, set, remove, Option, Some, None, Result, Ok, Err, refl, sym, ap, ◌∙◌, subst, arith, eqb-true, eq-eqb}
 use Rattle.std.specs.Option.{unwrap_or}
 use Rattle.std.proofs.lemmas.Bool.{cond_both, both_ways, false≢true}
 use Rattle.net_base.specs.declared.action.CloseCause.{CloseCause}
@@ -12,7 +12,6 @@ use Rattle.net_base.specs.declared.connection.Facts.{Facts}
 use Rattle.net_base.specs.declared.connection.Responders.{Responders}
 use Rattle.net_base.specs.declared.peer.Peer.{Peer}
 use Rattle.net_base.specs.declared.peer.Temp.TheVariants.{Hot}
-use Rattle.net_base.specs.Peer.{failed_peer}
 use Rattle.accept_gate.specs.Prune.{choice_of}
 use Rattle.conn_state.specs.Moves.{awakened}
 use Rattle.conn_state.specs.Protocols.{has_responder}
@@ -29,8 +28,8 @@ use Rattle.warm_messages.specs.declared.share.Share.TheVariants as share
 use Rattle.peer_book.specs.Book.{is_established}
 use Rattle.machine.specs.Machine.{Machine, Entry, Owed, counted_in, entry_at, live_entry_at}
 use Rattle.machine.specs.Effect.{nothing_more, then_do}
-use Rattle.machine.specs.Peers.{turns_at, peer_at, peer_fails, peer_becomes}
-use Rattle.machine.specs.Connections.{with_entry, without_entry, entry_turns, is_missed, lost, ending, pruned_at, candidates_in, trim, awake, idle}
+use Rattle.machine.specs.Peers.{peer_becomes}
+use Rattle.machine.specs.Connections.{with_entry, without_entry, entry_turns, ending, pruned_at, candidates_in, trim, awake, idle}
 use Rattle.machine.specs.Talking.{replies, ends_if, served_at, begins, takes_requests, asked_as, shares_address, taken_of, takes_addresses, pays, brings, answered_as, talks}
 use Rattle.machine.specs.Replies.{reply_on, without_reply, paid}
 use Rattle.laws.proofs.Effects.{counted-running}
@@ -40,7 +39,7 @@ use Rattle.laws.proofs.Keeping.{IsOrdered, Keeps, keeps_nothing, moves_then, mov
 use Rattle.laws.proofs.Lists.{StandsAt, stands-set, find_some, find_only}
 use Rattle.laws.specs.Whole.{AreTied, IsAlone, TiedBy}
 use Rattle.laws.proofs.Ties.{changed-ties, turned_here, turned_elsewhere, live_here}
-use Rattle.laws.proofs.Trims.{turns_at-connections, lost-connections, Trimmed, HasMoved, keeps-trimmed, trimmed_then, trimmed-within, raised_then_trimmed, trim-trims, for_each-trimmed}
+use Rattle.laws.proofs.Trims.{lost-connections, Trimmed, HasMoved, keeps-trimmed, trimmed_then, trimmed-within, raised_then_trimmed, trim-trims, for_each-trimmed}
 use Rattle.laws.proofs.WholeMoves.{IsLost, negotiated-live, ending-keeps, awakes-keeps, idles-keeps, pays-keeps}
 
 -- ---- only known protocols are answered

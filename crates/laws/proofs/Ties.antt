@@ -1,12 +1,12 @@
 -- What ties a peer to the live connection of its address, through each change of either.
-use Rattle.std.proofs.Common.{ℕ, ◌+◌, ◌≤◌, ◌≡◌, Bool, true, false, cond, not, ◌&&◌, ◌||◌, if◌then◌else◌, nat_le, List, [], ◌∷◌, ◌++◌, length, get_or, map, filter, find, set, remove, Option, Some, None, is_some, refl, sym, ap, ◌∙◌, subst, arith}
+use Rattle.std.proofs.Common.{ℕ, ◌≡◌, Bool, true, false, cond, not, ◌&&◌, if◌then◌else◌, nat_le, List, [], ◌∷◌, ◌++◌, length, get_or, find, set, Option, Some, None, is_some, refl, sym, ap, ◌∙◌, subst}
 use Rattle.std.proofs.lemmas.Bool.{cond_both, both_ways, false≢true, and_parts, and_from, false_from_ne_true}
 use Rattle.net_base.specs.Address.{same_address, address_below}
 use Rattle.net_base.specs.declared.address.Addr.{Addr}
 use Rattle.net_base.specs.declared.connection.Facts.{Facts}
 use Rattle.net_base.specs.declared.peer.Peer.{Peer}
 use Rattle.conn_state.specs.Use.{is_live, is_live_at, is_pending}
-use Rattle.peer_book.specs.Book.{has_address, peer_at as peer_in, with_peer as with_peer_in, with_new as with_new_in, without_peer, new_peer, entry_of, entered_by, entered, most_peers}
+use Rattle.peer_book.specs.Book.{has_address, peer_at as peer_in, with_peer as with_peer_in, with_new as with_new_in, without_peer, new_peer, entered_by, entered, most_peers}
 use Rattle.peer_book.specs.declared.added.Added.TheVariants.{New, Present, Full}
 use Rattle.machine.specs.Machine.{Machine, Entry, live_entry_at}
 use Rattle.machine.specs.Peers.{peer_at, turns_at, peer_changes}
@@ -318,7 +318,7 @@ come-ties m new live none step ties =
     tied_but a m (with_new new m) refl (λ b other. refl) (λ b other. come_elsewhere m new b other)
     (subst (λ o. TiedBy m.now (peer_at a m) o)
     (sym (find-push_here (λ e. is_live_at a e.facts) new m.connections none
-      (and_from (same_address a a) (is_live new.facts) (same_address-self a) live)))
+    (and_from (same_address a a) (is_live new.facts) (same_address-self a) live)))
     (step (subst (λ o. TiedBy m.now (peer_at a m) o) none (ties a)))) ties
 
 -- a change at one address leaves the peers of all others

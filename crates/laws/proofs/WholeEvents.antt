@@ -158,8 +158,8 @@ crossed-ties addr m e k h s pending at ties =
     cond_both (address_below addr m.settings.own) (then_do (ending Overwritten e m) (admitted addr)) (turned_away Crossed m)
     (λ effect. IsTied effect.machine)
     (λ below. admitted-ties addr n
-      (subst (λ a. live_entry_at a n ≡ None) (same_address-true e.facts.addr addr parts.0) (gone_here m e k h.orderly s parts.1))
-      ((overwritten-keeps m e k h s pending).ties ties))
+    (subst (λ a. live_entry_at a n ≡ None) (same_address-true e.facts.addr addr parts.0) (gone_here m e k h.orderly s parts.1))
+    ((overwritten-keeps m e k h s pending).ties ties))
     (λ above. ties)
 
 beside-formed : (addr : Addr) (m : Machine) → IsOrdered m → IsFormed (accepted_beside (live_entry_at addr m) addr m).machine
@@ -297,7 +297,7 @@ clock-ties t m h ties =
     let n : Machine = at_moment t m in
     cond_both (nat_le t m.now) (nothing_more m) (fire_all n) (λ effect. IsTied effect.machine) (λ past. ties)
     (λ later. (fire_due-keeps (length (deadlines n)) n (record { orderly = at_moment-orderly t m h.orderly; formed = formed_at_moment t m h.formed })).ties
-      (λ b. later-tied m.now t (peer_at b m) (live_entry_at b m) (let above = leb-false t m.now later in omega (arith, above)) (ties b)))
+    (λ b. later-tied m.now t (peer_at b m) (live_entry_at b m) (let above = leb-false t m.now later in omega (arith, above)) (ties b)))
 
 -- ---- each event
 

@@ -2,7 +2,7 @@
 use Rattle.std.proofs.Common.{ℕ, ◌+◌, ◌%◌, ◌≤◌, ◌≡◌, Bool, true, false, ◌&&◌, ◌||◌, nat_le, nat_lt, not, cond, ◌==◌, if◌then◌else◌, count_by, List, [], ◌∷◌, ◌++◌, Option, Some, None, is_some, find, filter, subst, refl, sym, ap, ◌∙◌, arith}
 use Rattle.std.proofs.lemmas.Bool.{cond_both, both_ways, and_parts, and_from, false≢true, false_from_ne_true}
 use Rattle.net_base.specs.declared.action.CloseCause.{CloseCause}
-use Rattle.net_base.specs.declared.action.CloseCause.TheVariants.{Unused, Pruned, Overwritten, Refused, Query, Fault}
+use Rattle.net_base.specs.declared.action.CloseCause.TheVariants.{Overwritten}
 use Rattle.net_base.specs.declared.connection.Agreed.{Agreed}
 use Rattle.net_base.specs.declared.connection.Cid.{Cid}
 use Rattle.net_base.specs.declared.connection.Facts.{Facts}
@@ -24,14 +24,14 @@ use Rattle.machine.specs.Effect.{nothing_more}
 use Rattle.machine.specs.Peers.{peer_at, peer_fails, peer_succeeds}
 use Rattle.machine.specs.Replies.{reply_on, with_reply, owing, paid}
 use Rattle.machine.specs.Connections.{with_entry, without_entry, is_missed, lost, lost_by, ending, vanishes, is_used, is_agreed_inbound, is_agreed_outbound, acquire, idle}
-use Rattle.laws.specs.Whole.{IsShaped, IsUnused, AreTied, IsAlone, TiedBy, IsTied}
+use Rattle.laws.specs.Whole.{IsShaped, IsUnused, AreTied, TiedBy, IsTied}
 use Rattle.machine.specs.Deadlines.{grace_deadlines}
 use Rattle.laws.proofs.Counts.{counted_of, one_if_counted, is_late, grace_late_of}
 use Rattle.laws.proofs.Effects.{at_most_one, one_if-counted, one_if-not_counted, counted-connected, counted-greeting, counted-agreed_outbound, fewer-acquired, counted-running, phase_late_of, owed_late, late-fewer, ahead, phase-ahead, remote-ahead, local-ahead, owing-fewer, paid-fewer}
 use Rattle.laws.proofs.Entries.{TurnsInto}
 use Rattle.laws.proofs.Keeping.{IsOrdered, Moves, Keeps, moves_nothing, moves_then, moves-keeps, turns-moves, goes-moves, changes-moves}
 use Rattle.laws.proofs.Lists.{StandsAt, All-stands}
-use Rattle.laws.proofs.Ties.{live_of, turned-ties, gone-ties, changed-ties, gone_here, gone_elsewhere, tied_but, turned_here, turned_elsewhere, turned_dead, live_here}
+use Rattle.laws.proofs.Ties.{turned-ties, gone-ties, changed-ties, gone_here, gone_elsewhere, tied_but, turned_here, turned_elsewhere, turned_dead, live_here}
 use Rattle.laws.proofs.Settings.{first_failing-none, interval-positive, handshake-positive}
 use Rattle.laws.proofs.Shapes.{connected-shaped, agreed_inbound-shaped, agreed_outbound-shaped, acquired-shaped, released-shaped, awakened-shaped, idled-shaped, running-negotiated, greeting-unnegotiated, serves_remote, can_acquire}
 
@@ -53,7 +53,7 @@ and_false_right : (a b : Bool) → b ≡ false → (a && b) ≡ false
 and_false_right true b h = h
 and_false_right false b h = refl
 
-pending-unnegotiated : (f : Facts) → is_pending f ≡ true → is_negotiated f ≡ false
+pub pending-unnegotiated : (f : Facts) → is_pending f ≡ true → is_negotiated f ≡ false
 pending-unnegotiated f h = by_phase f.phase refl (and_parts (is_outbound f) (opening_phase f.phase) h).1
   where
     by_phase : (p : Phase) → f.phase ≡ p → opening_phase f.phase ≡ true → is_negotiated f ≡ false
@@ -313,7 +313,7 @@ used-keeps f m e k h s u =
     (changed-ties e.facts.addr warm m n (λ p. refl) refl refl (turned_elsewhere m e new k h.orderly s turns)
     (λ none alone. nobody (u.ready None none (subst (λ o. TiedBy m.now None o) was alone)))
     (λ p found tie. subst (λ o. TiedBy m.now (Some (warm p)) o) (sym here)
-      (in_use new p u.local (u.ready (Some p) found (subst (λ o. TiedBy m.now (Some p) o) was tie))))))
+    (in_use new p u.local (u.ready (Some p) found (subst (λ o. TiedBy m.now (Some p) o) was tie))))))
   where
     nobody : {Z : Type 0} → ⊥ → Z
     nobody never = elim never [ ]

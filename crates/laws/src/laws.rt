@@ -7,7 +7,7 @@ ghost use Rattle.machine.specs.Events.{step, clock_shows};
 ghost use Rattle.machine.specs.Machine.{Machine, start_of};
 ghost use Rattle.machine.specs.Run.{after_all};
 ghost use Rattle.machine.specs.Whole.{whole_step};
-ghost use Rattle.laws.specs.Laws.{LiveAddressesDistinct, WithinHardLimit, DeadlinesAhead};
+ghost use Rattle.laws.specs.Laws.{LiveAddressesDistinct, WithinHardLimit, DeadlinesAhead, EstablishedAreUsed, PendingAreCold, UsedAreOutOfBackOff};
 ghost use Rattle.laws.specs.Sound.{IsOrderly, IsSound};
 ghost use Rattle.laws.specs.Whole.{IsSteady, whole_after};
 
@@ -40,6 +40,9 @@ pub fn laws_of_whole_runs()
     ensures distinct { (settings : Settings) (events : List Event) → AreSound settings → LiveAddressesDistinct (whole_after (start_of settings) events) }
     ensures limit { (settings : Settings) (events : List Event) → AreSound settings → WithinHardLimit (whole_after (start_of settings) events) }
     ensures deadlines { (settings : Settings) (events : List Event) → AreSound settings → DeadlinesAhead (whole_after (start_of settings) events) }
+    ensures established { (settings : Settings) (events : List Event) → AreSound settings → EstablishedAreUsed (whole_after (start_of settings) events) }
+    ensures pending { (settings : Settings) (events : List Event) → AreSound settings → PendingAreCold (whole_after (start_of settings) events) }
+    ensures back_off { (settings : Settings) (events : List Event) → AreSound settings → UsedAreOutOfBackOff (whole_after (start_of settings) events) }
     ensures settings { (settings : Settings) (events : List Event) → AreSound settings → (whole_after (start_of settings) events).settings ≡ settings }
 {}
 

@@ -1,0 +1,72 @@
+-- The laws on peers, from what ties them to connections.
+use Rattle.std.proofs.Common.{ℕ, ◌≤◌, ◌≡◌, Bool, true, false, ◌&&◌, ◌||◌, Option, Some, None, refl, sym, ◌∙◌, subst}
+use Rattle.std.proofs.lemmas.Bool.{both_ways, false≢true, and_parts}
+use Rattle.net_base.specs.declared.address.Addr.{Addr}
+use Rattle.net_base.specs.declared.peer.Peer.{Peer}
+use Rattle.net_base.specs.declared.peer.Temp.{Temp}
+use Rattle.net_base.specs.declared.peer.Temp.TheVariants.{Cold, Warm, Hot}
+use Rattle.conn_state.specs.Use.{is_negotiated, is_pending, is_live_at}
+use Rattle.peer_book.specs.Book.{is_established, same_temp}
+use Rattle.machine.specs.Machine.{Machine, Entry, live_entry_at}
+use Rattle.machine.specs.Peers.{peer_at}
+use Rattle.laws.specs.Laws.{is_established_peer, is_cold_peer, is_used_connection, is_pending_connection, EstablishedAreUsed, PendingAreCold, UsedAreOutOfBackOff}
+use Rattle.laws.specs.Whole.{IsShaped, IsFormed, IsSteady, TiedBy}
+use Rattle.laws.proofs.Lists.{FoundIn, find_some, All-stands}
+use Rattle.laws.proofs.WholeMoves.{pending-unnegotiated}
+
+-- the live connection of an address is in shape
+abbrev IsShapedBy : Option Entry → Type 0
+IsShapedBy None = Unit {0}
+IsShapedBy (Some e) = IsShaped e.facts
+
+live-shaped : (addr : Addr) (m : Machine) → IsFormed m → IsShapedBy (live_entry_at addr m)
+live-shaped addr m h = by_live (live_entry_at addr m) refl
+  where
+    by_live : (o : Option Entry) → live_entry_at addr m ≡ o → IsShapedBy o
+    by_live None is = tt
+    by_live (Some e) is =
+        let at : FoundIn (λ x. is_live_at addr x.facts) m.connections e = find_some (λ x. is_live_at addr x.facts) m.connections e is in
+        All-stands (λ x. IsShaped x.facts) m.connections at.place e at.stands h.shaped
+
+-- what is in local use is negotiated
+used_is_local : (e : Entry) → IsShaped e.facts → (is_negotiated e.facts && e.facts.local) ≡ e.facts.local
+used_is_local e shape = by_phase (is_negotiated e.facts) refl
+  where
+    by_phase : (b : Bool) → is_negotiated e.facts ≡ b → (b && e.facts.local) ≡ e.facts.local
+    by_phase true is = refl
+    by_phase false is = sym (shape.unused is).local
+
+established-used : (now : ℕ) (p : Option Peer) (e : Option Entry) → IsShapedBy e → TiedBy now p e → is_established_peer p ≡ is_used_connection e
+established-used now None None shape tie = refl
+established-used now (Some p) None shape tie = tie
+established-used now None (Some e) shape tie = sym tie.unused ∙ sym (used_is_local e shape)
+established-used now (Some p) (Some e) shape tie = tie.established ∙ sym (used_is_local e shape)
+
+cold-unless : (t : Temp) → is_established t ≡ false → same_temp t Cold ≡ true
+cold-unless Cold h = refl
+cold-unless Warm h = absurd (false≢true (sym h))
+cold-unless Hot h = absurd (false≢true (sym h))
+
+pending-cold : (now : ℕ) (p : Option Peer) (e : Option Entry) → IsShapedBy e → TiedBy now p e → is_pending_connection e ≡ true → is_cold_peer p ≡ true
+pending-cold now p None shape tie pending = absurd (false≢true pending)
+pending-cold now None (Some e) shape tie pending = absurd (both_ways (is_pending e.facts) tie.not_dialed pending)
+pending-cold now (Some p) (Some e) shape tie pending =
+    cold-unless p.temp (tie.established ∙ (shape.unused (pending-unnegotiated e.facts pending)).local)
+
+used-rested : (now : ℕ) (p : Peer) (e : Option Entry) → TiedBy now (Some p) e → (is_used_connection e || is_pending_connection e) ≡ true → p.not_before ≤ now
+used-rested now p None tie either = absurd (false≢true either)
+used-rested now p (Some e) tie either = by_used (is_negotiated e.facts && e.facts.local) refl either
+  where
+    by_used : (b : Bool) → (is_negotiated e.facts && e.facts.local) ≡ b → (b || is_pending e.facts) ≡ true → p.not_before ≤ now
+    by_used true is h = tie.in_use (and_parts (is_negotiated e.facts) e.facts.local is).1
+    by_used false is h = tie.on_its_way h
+
+pub steady-established : (m : Machine) → IsSteady m → EstablishedAreUsed m
+steady-established m h addr = established-used m.now (peer_at addr m) (live_entry_at addr m) (live-shaped addr m h.formed) (h.tied addr)
+
+pub steady-pending : (m : Machine) → IsSteady m → PendingAreCold m
+steady-pending m h addr pending = pending-cold m.now (peer_at addr m) (live_entry_at addr m) (live-shaped addr m h.formed) (h.tied addr) pending
+
+pub steady-back_off : (m : Machine) → IsSteady m → UsedAreOutOfBackOff m
+steady-back_off m h addr p found either =
+    used-rested m.now p (live_entry_at addr m) (subst (λ o. TiedBy m.now o (live_entry_at addr m)) found (h.tied addr)) either
