@@ -1,3 +1,4 @@
+pub mod AtMoves
 pub mod Laws
 pub mod Sound
 pub mod Whole

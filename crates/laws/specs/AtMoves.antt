@@ -1,0 +1,248 @@
+-- What an operator counts on at each move of an event: in the record just before it and in the one just after it.
+use Rattle.std.specs.Prelude.{ℕ, ◌+◌, ◌≡◌, ◌≤◌, ◌⊎◌, Bool, true, false, ◌||◌, ◌==◌, List, map, All, Contains, Option, Some, None, if◌then◌else◌, Result, Ok, Err}
+use Rattle.std.specs.List.{list_any}
+use Rattle.churn_clock.specs.Windows.{effective_of, effective_big_of}
+use Rattle.conn_state.specs.Use.{is_negotiated, some_runs, agreed_sharing}
+use Rattle.govern_rules.specs.Rules.{is_not_local, members_count}
+use Rattle.govern_rules.specs.Statuses.{has_status, count_with}
+use Rattle.govern_rules.specs.declared.link.Link.{Link}
+use Rattle.govern_rules.specs.declared.status.Status.{Status}
+use Rattle.govern_rules.specs.declared.status.Status.TheVariants.{EstablishedOrPending, HotOrOwesOn2}
+use Rattle.mux_segment.specs.Protocols.{node_limits}
+use Rattle.mux_segment.specs.Stream.{FedBy, fed_by}
+use Rattle.mux_segment.specs.declared.fault.CutFault.{CutFault}
+use Rattle.mux_segment.specs.declared.item.Item.{Item}
+use Rattle.net_base.specs.declared.action.CloseCause.{CloseCause}
+use Rattle.net_base.specs.declared.action.CloseCause.TheVariants.{Unused, Pruned, Overwritten, Refused, Query, Fault}
+use Rattle.net_base.specs.declared.action.FaultKind.{FaultKind}
+use Rattle.net_base.specs.declared.action.FaultKind.TheVariants.{Protocol, ReplyWait}
+use Rattle.net_base.specs.declared.address.Addr.{Addr}
+use Rattle.net_base.specs.declared.connection.Cid.{Cid}
+use Rattle.net_base.specs.declared.connection.Facts.{Facts}
+use Rattle.net_base.specs.declared.connection.Grace.{Grace}
+use Rattle.net_base.specs.declared.connection.Grace.TheVariants.{Off, ForRemote, ForLocal}
+use Rattle.net_base.specs.declared.event.Event.{Event}
+use Rattle.net_base.specs.declared.event.Event.TheVariants.{Now, Govern, Accepted, Dialed, Bytes, Closed, Aims, Locals, Roots, BigAims, Bigs}
+use Rattle.net_base.specs.declared.event.Group.{Group}
+use Rattle.net_base.specs.declared.peer.Peer.{Peer}
+use Rattle.peer_book.specs.Book.{known_of}
+use Rattle.remote_watch.specs.Watch.{watched}
+use Rattle.remote_watch.specs.declared.seen.Seen.{Seen}
+use Rattle.root_groups.specs.Cleaned.{is_listed}
+use Rattle.machine.specs.Effect.{Happened, Move, promoted, activated, shared, ended, unused, left}
+use Rattle.machine.specs.Govern.{link_of}
+use Rattle.machine.specs.Machine.{Machine, Entry, Owed, counted_in, entry_at}
+use Rattle.machine.specs.Peers.{peer_at}
+use Rattle.machine.specs.Replies.{reply_on}
+use Rattle.machine.specs.Stream.{kind_of}
+use Rattle.machine.specs.Talking.{takes_requests, pays}
+use Rattle.machine.specs.Whole.{whole_step}
+
+-- ---- back-off
+
+-- there is a peer, and it is out of its back-off
+abbrev pub IsReady : ℕ → Option Peer → Type 0
+IsReady now None = ⊥
+IsReady now (Some p) = p.not_before ≤ now
+
+-- Whoever is promoted or activated is out of its back-off at that move.
+abbrev pub OutOfBackOff : Happened → Machine → Type 0
+OutOfBackOff (promoted addr) before = IsReady before.now (peer_at addr before)
+OutOfBackOff (activated addr) before = IsReady before.now (peer_at addr before)
+OutOfBackOff (shared addr) before = Unit {0}
+OutOfBackOff (ended cid cause) before = Unit {0}
+OutOfBackOff (unused cid) before = Unit {0}
+OutOfBackOff (left cid) before = Unit {0}
+
+-- ---- targets and valencies
+
+abbrev pub links_in : Machine → List Link
+links_in m = map link_of m.connections
+
+-- how many peers of a class have a status
+abbrev pub number_with : Status → Bool → Machine → ℕ
+number_with status big m = count_with status big (links_in m) m.peers
+
+-- how many members of a group have a status
+abbrev pub members_with : Status → Group → Machine → ℕ
+members_with status group m = members_count group (has_status status (links_in m)) m.peers
+
+-- the targets of a class in a moment
+abbrev pub known_wanted : Bool → Machine → ℕ
+known_wanted false m = (effective_of m.targets m.now).known
+known_wanted true m = (effective_big_of m.big_targets m.now).known
+
+abbrev pub established_wanted : Bool → Machine → ℕ
+established_wanted false m = (effective_of m.targets m.now).established
+established_wanted true m = (effective_big_of m.big_targets m.now).established
+
+abbrev pub active_wanted : Bool → Machine → ℕ
+active_wanted false m = (effective_of m.targets m.now).active
+active_wanted true m = (effective_big_of m.big_targets m.now).active
+
+-- After a move on a peer so many are wanted at least as have a status: of its class where it is no local peer, of the
+-- members of its group where it is one. No address is in two groups.
+pub record IsWanted (status : Status) (wanted : Bool → Machine → ℕ) (valency : Group → ℕ) (addr : Addr) (before after : Machine) : Type 0 where
+  pub by_target : (p : Peer) → peer_at addr before ≡ Some p → (p.big || is_not_local before.groups addr) ≡ true →
+    number_with status p.big after ≤ wanted p.big after
+  pub by_valency : (p : Peer) → peer_at addr before ≡ Some p → p.big ≡ false →
+    All (λ group. is_listed addr group.members ≡ true → members_with status group after ≤ valency group) before.groups
+
+-- After an address has come into the book, no more are known of its class than wanted.
+abbrev pub IsWantedNew : Addr → Machine → Machine → Type 0
+IsWantedNew addr before after = peer_at addr before ≡ None → (p : Peer) → peer_at addr after ≡ Some p → known_of p.big after.peers ≤ known_wanted p.big after
+
+-- Nobody is promoted or activated, and no address that was told is taken, beyond what is wanted.
+abbrev pub WithinTargets : Happened → Machine → Machine → Type 0
+WithinTargets (promoted addr) before after = IsWanted EstablishedOrPending established_wanted (λ group. group.warm) addr before after
+WithinTargets (activated addr) before after = IsWanted HotOrOwesOn2 active_wanted (λ group. group.hot) addr before after
+WithinTargets (shared addr) before after = IsWantedNew addr before after
+WithinTargets (ended cid cause) before after = Unit {0}
+WithinTargets (unused cid) before after = Unit {0}
+WithinTargets (left cid) before after = Unit {0}
+
+-- ---- why a connection ends
+
+-- which faults there are, in a machine and on a connection
+abbrev pub Faults : Type 1
+Faults = Machine → Entry → FaultKind → Type 0
+
+-- For these causes this node ends a connection whose handshake is done: more than the hard limit are counted, or there
+-- is a fault.
+abbrev pub MayEnd : Faults → CloseCause → Entry → Machine → Type 0
+MayEnd faults Unused e m = ⊥
+MayEnd faults Pruned e m = counted_in m ≡ m.settings.hard + 1
+MayEnd faults Overwritten e m = ⊥
+MayEnd faults Refused e m = ⊥
+MayEnd faults Query e m = ⊥
+MayEnd faults (Fault kind) e m = faults m e kind
+
+abbrev pub IsPast : ℕ → Grace → Type 0
+IsPast now Off = ⊥
+IsPast now (ForRemote until) = until ≤ now
+IsPast now (ForLocal until) = until ≤ now
+
+-- nobody uses it, and its grace is over
+pub record IsOver (now : ℕ) (f : Facts) : Type 0 where
+  pub local : f.local ≡ false
+  pub running : some_runs f.running ≡ false
+  pub grace : IsPast now f.grace
+
+abbrev pub OnEntry : Option Entry → (Entry → Type 0) → Type 0
+OnEntry None law = ⊥
+OnEntry (Some e) law = law e
+
+-- No connection whose handshake is done ends but unused past its grace, pruned, or for a fault.
+abbrev pub ForCause : Faults → Happened → Machine → Type 0
+ForCause faults (promoted addr) before = Unit {0}
+ForCause faults (activated addr) before = Unit {0}
+ForCause faults (shared addr) before = Unit {0}
+ForCause faults (ended cid cause) before = OnEntry (entry_at cid before) (λ e. is_negotiated e.facts ≡ true → MayEnd faults cause e before)
+ForCause faults (unused cid) before = OnEntry (entry_at cid before) (λ e. IsOver before.now e.facts)
+ForCause faults (left cid) before = OnEntry (entry_at cid before) (λ e. is_negotiated e.facts ≡ false)
+
+-- ---- which faults there are in an event
+
+-- a reply is owed, and its time is over
+pub record IsLate (now : ℕ) (e : Entry) (kind : FaultKind) : Type 0 where
+  pub waited : kind ≡ ReplyWait
+  pub owed : Owed
+  pub among : Contains e.owed owed
+  pub late : owed.until ≤ now
+
+-- the fault that an item is on a connection whose handshake is done, if it is one
+abbrev pub fault_of_request : Result Seen FaultKind → Entry → Option FaultKind
+fault_of_request (Err kind) e = Some kind
+fault_of_request (Ok seen) e = if takes_requests e then None else Some Protocol
+
+abbrev pub fault_of_answer : Option Owed → List ℕ → Option FaultKind
+fault_of_answer None body = Some Protocol
+fault_of_answer (Some owed) body = if pays owed body then None else Some Protocol
+
+abbrev pub fault_of : Item → Entry → Option FaultKind
+fault_of item e =
+    if item.side == 0 then fault_of_request (watched item.id (agreed_sharing e.facts.agreed) item.body) e
+    else fault_of_answer (reply_on item.id e) item.body
+
+-- one of the items is it
+pub record IsByItem (items : List Item) (e : Entry) (kind : FaultKind) : Type 0 where
+  pub item : Item
+  pub among : Contains items item
+  pub fault : fault_of item e ≡ Some kind
+
+-- the bytes make no whole items
+abbrev pub IsByStream : Option CutFault → FaultKind → Type 0
+IsByStream None kind = ⊥
+IsByStream (Some fault) kind = kind_of fault ≡ kind
+
+-- what came in, after what was not decoded yet
+abbrev pub fed_on : Entry → List ℕ → FedBy
+fed_on e bytes = fed_by node_limits (record { undecoded = e.undecoded; fault = None }) bytes
+
+abbrev pub IsByBytes : Option Entry → Cid → List ℕ → Entry → FaultKind → Type 0
+IsByBytes None cid bytes e kind = ⊥
+IsByBytes (Some first) cid bytes e kind =
+    e.facts.cid ≡ cid × (IsByItem (fed_on first bytes).items e kind ⊎ IsByStream (fed_on first bytes).state.fault kind)
+
+-- Only the clock and bytes bring faults: a reply that is late, an item that breaks the rules, or bytes that are none.
+abbrev pub faults_of : Machine → Event → Faults
+faults_of start (Now t) m e kind = IsLate m.now e kind
+faults_of start (Govern word) m e kind = ⊥
+faults_of start (Accepted addr) m e kind = ⊥
+faults_of start (Dialed cid opened) m e kind = ⊥
+faults_of start (Bytes cid bytes) m e kind = IsByBytes (entry_at cid.0 start) cid bytes e kind
+faults_of start (Closed cid) m e kind = ⊥
+faults_of start (Aims targets) m e kind = ⊥
+faults_of start (Locals groups) m e kind = ⊥
+faults_of start (Roots job answer) m e kind = ⊥
+faults_of start (BigAims targets) m e kind = ⊥
+faults_of start (Bigs addrs) m e kind = ⊥
+
+-- ---- each move, and each event
+
+pub record IsLawful (faults : Faults) (move : Move) : Type 0 where
+  pub back_off : OutOfBackOff move.happened move.before
+  pub targets : WithinTargets move.happened move.before move.after
+  pub cause : ForCause faults move.happened move.before
+
+abbrev pub is_negotiated_entry : Option Entry → Bool
+is_negotiated_entry None = false
+is_negotiated_entry (Some e) = is_negotiated e.facts
+
+abbrev pub is_negotiated_at : ℕ → Machine → Bool
+is_negotiated_at cid m = is_negotiated_entry (entry_at cid m)
+
+-- this node ended the connection in that move
+abbrev pub ends : ℕ → Happened → Bool
+ends cid (promoted addr) = false
+ends cid (activated addr) = false
+ends cid (shared addr) = false
+ends cid (ended old cause) = old == cid
+ends cid (unused old) = old == cid
+ends cid (left old) = false
+
+abbrev pub is_ended_in : ℕ → List Move → Bool
+is_ended_in cid moves = list_any (λ move. ends cid move.happened) moves
+
+-- the other side ended it
+abbrev pub is_closed_by : ℕ → Event → Bool
+is_closed_by cid (Now t) = false
+is_closed_by cid (Govern word) = false
+is_closed_by cid (Accepted addr) = false
+is_closed_by cid (Dialed old opened) = false
+is_closed_by cid (Bytes old bytes) = false
+is_closed_by cid (Closed old) = old.0 == cid
+is_closed_by cid (Aims targets) = false
+is_closed_by cid (Locals groups) = false
+is_closed_by cid (Roots job answer) = false
+is_closed_by cid (BigAims targets) = false
+is_closed_by cid (Bigs addrs) = false
+
+-- Each move of an event is lawful.
+abbrev pub MovesAreLawful : Machine → Event → Type 0
+MovesAreLawful m event = All (IsLawful (faults_of m event)) (whole_step m event).moves
+
+-- A connection whose handshake is done stays so, or a move of this node ended it, or the other side did.
+abbrev pub EndsAreMoves : Machine → Event → Type 0
+EndsAreMoves m event = (cid : ℕ) → is_negotiated_at cid m ≡ true →
+    (is_negotiated_at cid (whole_step m event).machine || is_ended_in cid (whole_step m event).moves || is_closed_by cid event) ≡ true
