@@ -12,7 +12,7 @@ use Rattle.govern_rules.specs.Orders.{picks_of}
 use Rattle.laws.specs.Whole.{ArePeersApart, AreApart}
 use Rattle.laws.proofs.Addresses.{same_address-true}
 use Rattle.laws.proofs.GroupsApart.{append-apart}
-use Rattle.laws.proofs.Lists.{all-weaker, all-appended}
+use Rattle.laws.proofs.Lists.{all-weaker, all-appended, all-both}
 use Rattle.laws.proofs.PeersApart.{all-found, same_turned, filter-apart}
 use Rattle.laws.proofs.Picks.{filter-all, filter-passing, picks-apart, picks-all}
 
@@ -26,10 +26,6 @@ pub chosen-apart : (big : Bool) (word number : ℕ) (test : Peer → Bool) (peer
 chosen-apart big word number test peers h =
     let passes : Peer → Bool = λ p. is_of big p && test p in
     picks-apart big word number (filter passes peers) (filter-apart passes peers h)
-
-all-both : {X : Type 0} (P Q R : X → Type 0) → ((x : X) → P x → Q x → R x) → (xs : List X) → AllByRecursion P xs → AllByRecursion Q xs → AllByRecursion R xs
-all-both P Q R gives [] h k = tt
-all-both P Q R gives (x ∷ xs) h k = (gives x h.0 k.0, all-both P Q R gives xs h.1 k.1)
 
 pub chosen-all : (P : Addr → Type 0) (big : Bool) (word number : ℕ) (test : Peer → Bool) (peers : List Peer) → ArePeersApart peers →
     ((p : Peer) → test p ≡ true → peer_at p.addr peers ≡ Some p → P p.addr) → AllByRecursion P (chosen big word number test peers)

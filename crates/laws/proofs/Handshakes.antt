@@ -1,5 +1,5 @@
 -- A connection in its handshake: whatever comes in, the connections stay in order and within the limit.
-use Rattle.std.proofs.Common.{ℕ, ◌≤◌, ◌≡◌, Bool, true, false, not, ◌&&◌, ◌==◌, if◌then◌else◌, List, Option, Some, None, refl, sym, subst}
+use Rattle.std.proofs.Common.{ℕ, ◌+◌, ◌≤◌, ◌≡◌, Bool, true, false, not, ◌&&◌, ◌==◌, if◌then◌else◌, List, Option, Some, None, refl, sym, subst}
 use Rattle.std.proofs.lemmas.Bool.{cond_both, both_ways}
 use Rattle.hs_decide.specs.Agreement.{accepts_info, accepts_offer, agrees_info, agrees_on, meets_joined, meets_info, meets_offer, verdict_of, common_in, joined, same_magic}
 use Rattle.hs_decide.specs.Answers.{answer_of}
@@ -23,15 +23,20 @@ use Rattle.net_base.specs.declared.action.FaultKind.TheVariants.{Malformed, Prot
 use Rattle.net_base.specs.declared.connection.Cid.{Cid}
 use Rattle.net_base.specs.declared.connection.Provenance.{Provenance}
 use Rattle.net_base.specs.declared.connection.Provenance.TheVariants.{FromRemote, FromLocal}
-use Rattle.conn_state.specs.Use.{is_greeting, is_outbound, is_outbound_by}
+use Rattle.conn_state.specs.Moves.{agreed_inbound, agreed_outbound}
+use Rattle.conn_state.specs.Use.{is_greeting, is_negotiated, is_outbound, is_outbound_by}
 use Rattle.machine.specs.Machine.{Machine, Entry, counted_in}
+use Rattle.machine.specs.Effect.{Effect}
 use Rattle.machine.specs.Own.{own_info}
 use Rattle.machine.specs.Connections.{ending}
 use Rattle.machine.specs.Greeting.{role_of, is_awaited, fits_side, told, judged, decided, greeted_by, greets}
-use Rattle.laws.proofs.Keeping.{IsOrdered}
+use Rattle.laws.specs.AtMoves.{Faults, IsLawful}
+use Rattle.laws.proofs.Keeping.{IsOrdered, Keeps, keeps_nothing}
+use Rattle.laws.proofs.Lawful.{IsQuiet, quiet-obeys, ending-obeys, ended-lawful, turns-obeys, used-obeys}
 use Rattle.laws.proofs.Lists.{StandsAt}
-use Rattle.laws.proofs.Trims.{Trimmed, keeps-trimmed}
-use Rattle.laws.proofs.WholeMoves.{IsLost, ending-keeps, agrees_inbound-keeps, agrees_outbound-keeps}
+use Rattle.laws.proofs.Shapes.{greeting-unnegotiated}
+use Rattle.laws.proofs.Trims.{Trimmed, keeps-trimmed, trimmed_then}
+use Rattle.laws.proofs.WholeMoves.{IsLost, greeting-live, ending-keeps, agrees_inbound-keeps, agrees_outbound-keeps}
 
 -- ---- who comes to which verdict
 
@@ -111,6 +116,10 @@ told-machine : (o : Option (List ℕ)) (cid : Cid) (m : Machine) → (told o cid
 told-machine None cid m = refl
 told-machine (Some bytes) cid m = refl
 
+told-quiet : (o : Option (List ℕ)) (cid : Cid) (m : Machine) → IsQuiet m (told o cid m)
+told-quiet None cid m = record { moves = refl; connections = refl }
+told-quiet (Some bytes) cid m = record { moves = refl; connections = refl }
+
 -- who answers a greeting: an acceptor was dialed, and a dialer has dialed
 record Greets (m : Machine) (e : Entry) (k : ℕ) : Type 0 where
   ordered : IsOrdered m
@@ -118,20 +127,29 @@ record Greets (m : Machine) (e : Entry) (k : ℕ) : Type 0 where
   stands : StandsAt m.connections k e
   greeting : is_greeting e.facts ≡ true
 
-ends : (cause : CloseCause) → IsLost cause → (m : Machine) (e : Entry) (k : ℕ) → Greets m e k → Trimmed m (ending cause e m).machine
-ends cause loses m e k g = keeps-trimmed m (ending cause e m).machine g.within (ending-keeps cause loses m e k g.ordered g.stands)
+-- that its handshake is not done is cause enough
+ends : (faults : Faults) (cause : CloseCause) → IsLost cause → (m : Machine) (e : Entry) (k : ℕ) → Greets m e k → Trimmed (IsLawful faults) m (ending cause e m)
+ends faults cause loses m e k g =
+    keeps-trimmed (IsLawful faults) m (ending cause e m) g.within (ending-keeps cause loses m e k g.ordered g.stands)
+    (ending-obeys (IsLawful faults) cause m e k g.ordered.orderly g.stands
+    (ended-lawful faults cause m (ending cause e m).machine e k g.ordered.orderly g.stands
+    (λ negotiated. absurd (both_ways (is_negotiated e.facts) (greeting-unnegotiated e.facts.phase g.greeting) negotiated))))
 
-judged-trimmed : (v : Verdict) (m : Machine) (e : Entry) (k : ℕ) → Greets m e k → (is_accept v ≡ true → is_outbound e.facts ≡ false) →
-    (is_agree v ≡ true → is_outbound e.facts ≡ true) → Trimmed m (judged v e m).machine
+judged-trimmed : (faults : Faults) (v : Verdict) (m : Machine) (e : Entry) (k : ℕ) → Greets m e k → (is_accept v ≡ true → is_outbound e.facts ≡ false) →
+    (is_agree v ≡ true → is_outbound e.facts ≡ true) → Trimmed (IsLawful faults) m (judged v e m)
 unfolding is_accept is_agree
-judged-trimmed (verdict.Accept agreed) m e k g accepts agrees =
-    keeps-trimmed m (judged (verdict.Accept agreed) e m).machine g.within (agrees_inbound-keeps agreed m e k g.ordered g.stands g.greeting (accepts refl))
-judged-trimmed (verdict.Refuse reason) m e k g accepts agrees = ends cause.Refused refl m e k g
-judged-trimmed verdict.Query m e k g accepts agrees = ends cause.Query refl m e k g
-judged-trimmed (verdict.Agree agreed) m e k g accepts agrees =
-    keeps-trimmed m (judged (verdict.Agree agreed) e m).machine g.within (agrees_outbound-keeps agreed m e k g.ordered g.stands g.greeting (agrees refl))
-judged-trimmed verdict.Refused m e k g accepts agrees = ends cause.Refused refl m e k g
-judged-trimmed verdict.Wrong m e k g accepts agrees = ends (cause.Fault Protocol) refl m e k g
+judged-trimmed faults (verdict.Accept agreed) m e k g accepts agrees =
+    keeps-trimmed (IsLawful faults) m (judged (verdict.Accept agreed) e m) g.within (agrees_inbound-keeps agreed m e k g.ordered g.stands g.greeting (accepts refl))
+    (turns-obeys (IsLawful faults) m e (record e { facts = agreed_inbound agreed (m.now + m.settings.idle) e.facts }) k g.ordered.orderly g.stands
+    (record { same_id = refl; same_addr = refl; live = λ l. greeting-live e.facts.phase g.greeting }) (λ was. refl))
+judged-trimmed faults (verdict.Refuse reason) m e k g accepts agrees = ends faults cause.Refused refl m e k g
+judged-trimmed faults verdict.Query m e k g accepts agrees = ends faults cause.Query refl m e k g
+judged-trimmed faults (verdict.Agree agreed) m e k g accepts agrees =
+    keeps-trimmed (IsLawful faults) m (judged (verdict.Agree agreed) e m) g.within (agrees_outbound-keeps agreed m e k g.ordered g.stands g.greeting (agrees refl))
+    (used-obeys (IsLawful faults) (agreed_outbound agreed (m.now + m.settings.idle) e.facts) m e k g.ordered.orderly g.stands refl refl
+    (greeting-live e.facts.phase g.greeting) refl)
+judged-trimmed faults verdict.Refused m e k g accepts agrees = ends faults cause.Refused refl m e k g
+judged-trimmed faults verdict.Wrong m e k g accepts agrees = ends faults (cause.Fault Protocol) refl m e k g
 
 accepts-inbound : (own : VersionInfo) (p : Provenance) (msg : Message) → is_accept (verdict_of (role_of p) own msg) ≡ true → is_outbound_by p ≡ false
 accepts-inbound own FromRemote msg h = refl
@@ -141,26 +159,31 @@ agrees-outbound : (own : VersionInfo) (p : Provenance) (msg : Message) → is_ag
 agrees-outbound own FromLocal msg h = refl
 agrees-outbound own FromRemote msg h = absurd (both_ways (is_agree (verdict_of Acceptor own msg)) (acceptor-no_agree own msg) h)
 
-decided-trimmed : (msg : Message) (m : Machine) (e : Entry) (k : ℕ) → Greets m e k →
-    Trimmed m (decided (verdict_of (role_of e.facts.provenance) (own_info m.settings) msg) e m).machine
-decided-trimmed msg m e k g =
+decided-trimmed : (faults : Faults) (msg : Message) (m : Machine) (e : Entry) (k : ℕ) → Greets m e k →
+    Trimmed (IsLawful faults) m (decided (verdict_of (role_of e.facts.provenance) (own_info m.settings) msg) e m)
+decided-trimmed faults msg m e k g =
     let own : VersionInfo = own_info m.settings in
     let v : Verdict = verdict_of (role_of e.facts.provenance) own msg in
-    subst (λ n. Trimmed m (judged v e n).machine) (sym (told-machine (answer_of v own) e.facts.cid m))
-    (judged-trimmed v m e k g (accepts-inbound own e.facts.provenance msg) (agrees-outbound own e.facts.provenance msg))
+    let first : Effect = told (answer_of v own) e.facts.cid m in
+    let same : m ≡ first.machine = sym (told-machine (answer_of v own) e.facts.cid m) in
+    trimmed_then (IsLawful faults) m first (judged v e)
+    (keeps-trimmed (IsLawful faults) m first g.within (subst (Keeps 0 m) same (keeps_nothing m g.ordered))
+    (quiet-obeys (IsLawful faults) m first (told-quiet (answer_of v own) e.facts.cid m)))
+    (subst (λ n. Trimmed (IsLawful faults) n (judged v e n)) same
+    (judged-trimmed faults v m e k g (accepts-inbound own e.facts.provenance msg) (agrees-outbound own e.facts.provenance msg)))
 
-greeted_by-trimmed : (o : Option Message) (side : ℕ) (m : Machine) (e : Entry) (k : ℕ) → Greets m e k → Trimmed m (greeted_by o side e m).machine
-greeted_by-trimmed None side m e k g = ends (cause.Fault Malformed) refl m e k g
-greeted_by-trimmed (Some msg) side m e k g =
+greeted_by-trimmed : (faults : Faults) (o : Option Message) (side : ℕ) (m : Machine) (e : Entry) (k : ℕ) → Greets m e k → Trimmed (IsLawful faults) m (greeted_by o side e m)
+greeted_by-trimmed faults None side m e k g = ends faults (cause.Fault Malformed) refl m e k g
+greeted_by-trimmed faults (Some msg) side m e k g =
     let role : Role = role_of e.facts.provenance in
     cond_both (fits_side role side msg) (decided (verdict_of role (own_info m.settings) msg) e m) (ending (cause.Fault Protocol) e m)
-    (λ effect. Trimmed m effect.machine) (λ fits. decided-trimmed msg m e k g) (λ other. ends (cause.Fault Protocol) refl m e k g)
+    (Trimmed (IsLawful faults) m) (λ fits. decided-trimmed faults msg m e k g) (λ other. ends faults (cause.Fault Protocol) refl m e k g)
 
 -- an item comes in
-pub greets-trimmed : (item : Item) (m : Machine) (e : Entry) (k : ℕ) → IsOrdered m → counted_in m ≤ m.settings.hard →
-    StandsAt m.connections k e → is_greeting e.facts ≡ true → Trimmed m (greets item e m).machine
-greets-trimmed item m e k h within s greeting =
+pub greets-trimmed : (faults : Faults) (item : Item) (m : Machine) (e : Entry) (k : ℕ) → IsOrdered m → counted_in m ≤ m.settings.hard →
+    StandsAt m.connections k e → is_greeting e.facts ≡ true → Trimmed (IsLawful faults) m (greets item e m)
+greets-trimmed faults item m e k h within s greeting =
     let g : Greets m e k = record { ordered = h; within = within; stands = s; greeting = greeting } in
     cond_both (item.id == 0 && is_awaited (role_of e.facts.provenance) item.side) (greeted_by (message_of item.body) item.side e m)
-    (ending (cause.Fault Protocol) e m) (λ effect. Trimmed m effect.machine)
-    (λ awaited. greeted_by-trimmed (message_of item.body) item.side m e k g) (λ other. ends (cause.Fault Protocol) refl m e k g)
+    (ending (cause.Fault Protocol) e m) (Trimmed (IsLawful faults) m)
+    (λ awaited. greeted_by-trimmed faults (message_of item.body) item.side m e k g) (λ other. ends faults (cause.Fault Protocol) refl m e k g)

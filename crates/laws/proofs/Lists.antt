@@ -204,3 +204,12 @@ all-weaker P Q gives (x ∷ xs) h = (gives x h.0, all-weaker P Q gives xs h.1)
 pub all-appended : {X : Type 0} (P : X → Type 0) (xs ys : List X) → AllByRecursion P xs → AllByRecursion P ys → AllByRecursion P (xs ++ ys)
 all-appended P [] ys h k = k
 all-appended P (x ∷ xs) ys h k = (h.0, all-appended P xs ys h.1 k)
+
+pub all-both : {X : Type 0} (P Q R : X → Type 0) → ((x : X) → P x → Q x → R x) → (xs : List X) → AllByRecursion P xs → AllByRecursion Q xs → AllByRecursion R xs
+all-both P Q R gives [] h k = tt
+all-both P Q R gives (x ∷ xs) h k = (gives x h.0 k.0, all-both P Q R gives xs h.1 k.1)
+
+-- what holds of everything
+pub all-always : {X : Type 0} {P : X → Type 0} → ((x : X) → P x) → (xs : List X) → AllByRecursion P xs
+all-always each [] = tt
+all-always each (x ∷ xs) = (each x, all-always each xs)

@@ -13,7 +13,7 @@ use Rattle.net_base.specs.declared.connection.Responders.{Responders}
 use Rattle.net_base.specs.declared.peer.Peer.{Peer}
 use Rattle.net_base.specs.declared.peer.Temp.TheVariants.{Hot}
 use Rattle.accept_gate.specs.Prune.{choice_of}
-use Rattle.conn_state.specs.Moves.{awakened}
+use Rattle.conn_state.specs.Moves.{awakened, idled}
 use Rattle.conn_state.specs.Protocols.{has_responder}
 use Rattle.conn_state.specs.Use.{is_live, agreed_sharing, has_id, is_negotiated, runs, some_runs}
 use Rattle.mux_segment.specs.declared.item.Item.{Item}
@@ -27,20 +27,23 @@ use Rattle.warm_messages.specs.declared.share.Share.{Share}
 use Rattle.warm_messages.specs.declared.share.Share.TheVariants as share
 use Rattle.peer_book.specs.Book.{is_established}
 use Rattle.machine.specs.Machine.{Machine, Entry, Owed, counted_in, entry_at, live_entry_at}
-use Rattle.machine.specs.Effect.{nothing_more, then_do}
-use Rattle.machine.specs.Peers.{peer_becomes}
+use Rattle.machine.specs.Effect.{Effect, Move, shared, nothing_more, then_do}
+use Rattle.machine.specs.Peers.{peer_at, peer_becomes, peer_comes}
 use Rattle.machine.specs.Connections.{with_entry, without_entry, entry_turns, ending, pruned_at, candidates_in, trim, awake, idle}
 use Rattle.machine.specs.Talking.{replies, ends_if, served_at, begins, takes_requests, asked_as, shares_address, taken_of, takes_addresses, pays, brings, answered_as, talks}
 use Rattle.machine.specs.Replies.{reply_on, without_reply, paid}
 use Rattle.laws.proofs.Effects.{counted-running}
 use Rattle.laws.proofs.Entries.{TurnsInto, gone-connections, one_has_id, turned-connections}
 use Rattle.laws.proofs.Finds.{find-remove_other, find-remove_here}
+use Rattle.laws.specs.AtMoves.{Faults, fault_of_request, fault_of_answer, fault_of, IsLawful}
+use Rattle.laws.proofs.KnownWanted.{takes-within}
+use Rattle.laws.proofs.Lawful.{accounts_same, Obeys, obeys_then, IsQuiet, quiet-obeys, turns_at-quiet, comes-quiet, ending-obeys, ended-lawful, turns-obeys, IsAllowed, Within, allowed_within, as_move-obeys}
 use Rattle.laws.proofs.Keeping.{IsOrdered, Keeps, keeps_nothing, moves_then, moves-keeps, keeps-moves, changes-moves, peer_comes-keeps}
-use Rattle.laws.proofs.Lists.{StandsAt, stands-set, find_some, find_only}
+use Rattle.laws.proofs.Lists.{StandsAt, stands-set, find_some, find_only, all-always}
 use Rattle.laws.specs.Whole.{AreTied, IsAlone, TiedBy}
 use Rattle.laws.proofs.Ties.{changed-ties, turned_here, turned_elsewhere, live_here}
-use Rattle.laws.proofs.Trims.{lost-connections, Trimmed, HasMoved, keeps-trimmed, trimmed_then, trimmed-within, raised_then_trimmed, trim-trims, for_each-trimmed}
-use Rattle.laws.proofs.WholeMoves.{IsLost, negotiated-live, ending-keeps, awakes-keeps, idles-keeps, pays-keeps}
+use Rattle.laws.proofs.Trims.{lost-connections, Trimmed, HasMoved, keeps-trimmed, nothing-trimmed, trimmed_both, trimmed_then, trimmed-within, raised_then_trimmed, trim-trims, for_each-trimmed}
+use Rattle.laws.proofs.WholeMoves.{negotiated-live, ending-keeps, awakes-keeps, idles-keeps, pays-keeps}
 
 -- ---- only known protocols are answered
 
@@ -183,13 +186,16 @@ pub record Talking (m : Machine) (e : Entry) (k : ℕ) : Type 0 where
   pub stands : StandsAt m.connections k e
   pub negotiated : is_negotiated e.facts ≡ true
 
-ends : (cause : CloseCause) → IsLost cause → (m : Machine) (e : Entry) (k : ℕ) → Talking m e k → Trimmed m (ending cause e m).machine
-ends cause loses m e k t = keeps-trimmed m (ending cause e m).machine t.within (ending-keeps cause loses m e k t.ordered t.stands)
+ends : (faults : Faults) (kind : FaultKind) (m : Machine) (e : Entry) (k : ℕ) → Talking m e k → faults m e kind → Trimmed (IsLawful faults) m (ending (Fault kind) e m)
+ends faults kind m e k t given =
+    keeps-trimmed (IsLawful faults) m (ending (Fault kind) e m) t.within (ending-keeps (Fault kind) refl m e k t.ordered t.stands)
+    (ending-obeys (IsLawful faults) (Fault kind) m e k t.ordered.orderly t.stands
+    (ended-lawful faults (Fault kind) m (ending (Fault kind) e m).machine e k t.ordered.orderly t.stands (λ negotiated. given)))
 
 -- the record after a responder has started, and what is found in it
-record Begun (cid : ℕ) (before after : Machine) : Type 0 where
-  trimmed : Trimmed before after
-  runs : (x : Entry) → entry_at cid after ≡ Some x → some_runs x.facts.running ≡ true
+record Begun (faults : Faults) (cid : ℕ) (before : Machine) (effect : Effect) : Type 0 where
+  trimmed : Trimmed (IsLawful faults) before effect
+  runs : (x : Entry) → entry_at cid effect.machine ≡ Some x → some_runs x.facts.running ≡ true
 
 found_is : (m : Machine) (e x : Entry) (k : ℕ) → IsOrdered m → StandsAt m.connections k e → entry_at e.facts.cid.0 m ≡ Some x → x ≡ e
 found_is m e x k h s found =
@@ -200,35 +206,36 @@ found_is m e x k h s found =
     some_same : Some x ≡ Some e → x ≡ e
     some_same e2 = cc
 
-awake-begun : (protocol : ℕ) (m : Machine) (e : Entry) (k : ℕ) → Talking m e k → takes_requests e ≡ true → has_responder protocol ≡ true →
-    Begun e.facts.cid.0 m (awake protocol e m).machine
-awake-begun protocol m e k t serves known =
+awake-begun : (faults : Faults) (protocol : ℕ) (m : Machine) (e : Entry) (k : ℕ) → Talking m e k → takes_requests e ≡ true → has_responder protocol ≡ true →
+    Begun faults e.facts.cid.0 m (awake protocol e m)
+awake-begun faults protocol m e k t serves known =
     let new : Entry = record e { facts = awakened protocol e.facts } in
     let n : Machine = with_entry new m in
+    let turns : TurnsInto e new = record { same_id = refl; same_addr = refl; live = λ l. l } in
     let runs : some_runs new.facts.running ≡ true = woken-runs protocol e.facts known in
     let raised : Keeps 1 m n = awakes-keeps protocol m e k t.ordered t.stands t.negotiated serves runs in
-    let list : n.connections ≡ set m.connections k new =
-    turned-connections m e new k t.ordered.orderly t.stands (record { same_id = refl; same_addr = refl; live = λ l. l }) in
+    let list : n.connections ≡ set m.connections k new = turned-connections m e new k t.ordered.orderly t.stands turns in
     let here : StandsAt n.connections k new = subst (λ es. StandsAt es k new) (sym list) (stands-set m.connections k new e t.stands) in
     let moved : HasMoved e.facts.cid n = record { entry = new; place = k; stands = here; same = refl; counted = counted-running new.facts t.negotiated runs } in
-    let trimmed : Trimmed n (trim e.facts.cid n).machine =
-    trim-trims e.facts.cid n raised.ordered (omega (arith, raised.counted, t.within)) (λ over. moved) in
+    let trimmed : Trimmed (IsLawful faults) n (trim e.facts.cid n) =
+    trim-trims faults e.facts.cid n raised.ordered (omega (arith, raised.counted, t.within)) (λ over. moved) in
     record {
-      trimmed = raised_then_trimmed m n (trim e.facts.cid n).machine t.within raised trimmed;
+      trimmed = raised_then_trimmed (IsLawful faults) m (entry_turns e new m) (trim e.facts.cid) raised
+          (turns-obeys (IsLawful faults) m e new k t.ordered.orderly t.stands turns (λ negotiated. negotiated)) trimmed;
       runs = λ x found.
           let was : entry_at e.facts.cid.0 n ≡ Some x = trim-found e.facts.cid e.facts.cid.0 x n raised.ordered found in
           ap (λ y. some_runs y.facts.running) (found_is n new x k raised.ordered here was) ∙ runs;
     }
 
-begins-begun : (protocol : ℕ) (m : Machine) (e : Entry) (k : ℕ) → Talking m e k → takes_requests e ≡ true → has_responder protocol ≡ true →
-    Begun e.facts.cid.0 m (begins protocol e m).machine
-begins-begun protocol m e k t serves known = cond_both (runs protocol e.facts.running) (nothing_more m) (awake protocol e m)
-    (λ effect. Begun e.facts.cid.0 m effect.machine)
+begins-begun : (faults : Faults) (protocol : ℕ) (m : Machine) (e : Entry) (k : ℕ) → Talking m e k → takes_requests e ≡ true → has_responder protocol ≡ true →
+    Begun faults e.facts.cid.0 m (begins protocol e m)
+begins-begun faults protocol m e k t serves known = cond_both (runs protocol e.facts.running) (nothing_more m) (awake protocol e m)
+    (Begun faults e.facts.cid.0 m)
     (λ running. record {
-      trimmed = keeps-trimmed m m t.within (keeps_nothing m t.ordered);
+      trimmed = nothing-trimmed (IsLawful faults) m t.within t.ordered;
       runs = λ x found. ap (λ y. some_runs y.facts.running) (found_is m e x k t.ordered t.stands found) ∙ runs-some protocol e.facts.running running;
     })
-    (λ silent. awake-begun protocol m e k t serves known)
+    (λ silent. awake-begun faults protocol m e k t serves known)
 
 replies-machine : (r : Reply) (protocol : ℕ) (e : Entry) (m : Machine) → (replies r protocol e m).machine ≡ m
 replies-machine reply.Nothing protocol e m = refl
@@ -238,60 +245,82 @@ replies-machine reply.NoIntersect protocol e m = refl
 replies-machine reply.Await protocol e m = refl
 replies-machine reply.NoBlocks protocol e m = refl
 
-ends_if-trimmed : (done : Bool) (protocol cid : ℕ) (m : Machine) → IsOrdered m → counted_in m ≤ m.settings.hard →
-    ((x : Entry) → entry_at cid m ≡ Some x → some_runs x.facts.running ≡ true) →
-    Trimmed m (ends_if done protocol (entry_at cid m) m).machine
-ends_if-trimmed false protocol cid m h within runs = keeps-trimmed m m within (keeps_nothing m h)
-ends_if-trimmed true protocol cid m h within runs = by_entry (entry_at cid m) refl
+-- what is told is no matter of the connections either
+replies-quiet : (r : Reply) (protocol : ℕ) (e : Entry) (m : Machine) → IsQuiet m (replies r protocol e m)
+replies-quiet reply.Nothing protocol e m = record { moves = refl; connections = refl }
+replies-quiet (reply.Alive cookie) protocol e m = record { moves = refl; connections = refl }
+replies-quiet (reply.Share n) protocol e m = record { moves = refl; connections = refl }
+replies-quiet reply.NoIntersect protocol e m = record { moves = refl; connections = refl }
+replies-quiet reply.Await protocol e m = record { moves = refl; connections = refl }
+replies-quiet reply.NoBlocks protocol e m = record { moves = refl; connections = refl }
+
+ends_if-trimmed : (faults : Faults) (done : Bool) (protocol cid : ℕ) (m : Machine) → IsOrdered m → counted_in m ≤ m.settings.hard →
+    ((x : Entry) → entry_at cid m ≡ Some x → some_runs x.facts.running ≡ true) → Trimmed (IsLawful faults) m (ends_if done protocol (entry_at cid m) m)
+ends_if-trimmed faults false protocol cid m h within running = nothing-trimmed (IsLawful faults) m within h
+ends_if-trimmed faults true protocol cid m h within running = by_entry (entry_at cid m) refl
   where
-    by_entry : (o : Option Entry) → entry_at cid m ≡ o → Trimmed m (ends_if true protocol o m).machine
-    by_entry None is = keeps-trimmed m m within (keeps_nothing m h)
+    by_entry : (o : Option Entry) → entry_at cid m ≡ o → Trimmed (IsLawful faults) m (ends_if true protocol o m)
+    by_entry None is = nothing-trimmed (IsLawful faults) m within h
     by_entry (Some x) is =
         let at = find_some (λ y. has_id cid y.facts) m.connections x is in
-        keeps-trimmed m (idle protocol x m).machine within (idles-keeps protocol m x at.place h at.stands (runs x is))
+        keeps-trimmed (IsLawful faults) m (idle protocol x m) within (idles-keeps protocol m x at.place h at.stands (running x is))
+        (turns-obeys (IsLawful faults) m x (record x { facts = idled protocol (m.now + m.settings.idle) x.facts }) at.place h.orderly at.stands
+        (record { same_id = refl; same_addr = refl; live = λ l. l }) (λ negotiated. negotiated))
 
-served-trimmed : (seen : Seen) (protocol cid : ℕ) (m : Machine) → IsOrdered m → counted_in m ≤ m.settings.hard →
+served-trimmed : (faults : Faults) (seen : Seen) (protocol cid : ℕ) (m : Machine) → IsOrdered m → counted_in m ≤ m.settings.hard →
     ((x : Entry) → entry_at cid m ≡ Some x → some_runs x.facts.running ≡ true) →
-    Trimmed m (served_at (entry_at cid m) seen protocol m).machine
-served-trimmed seen protocol cid m h within runs = by_entry (entry_at cid m) refl
+    Trimmed (IsLawful faults) m (served_at (entry_at cid m) seen protocol m)
+served-trimmed faults seen protocol cid m h within running = by_entry (entry_at cid m) refl
   where
-    by_entry : (o : Option Entry) → entry_at cid m ≡ o → Trimmed m (served_at o seen protocol m).machine
-    by_entry None is = keeps-trimmed m m within (keeps_nothing m h)
+    by_entry : (o : Option Entry) → entry_at cid m ≡ o → Trimmed (IsLawful faults) m (served_at o seen protocol m)
+    by_entry None is = nothing-trimmed (IsLawful faults) m within h
     by_entry (Some e) is =
         let at = find_some (λ y. has_id cid y.facts) m.connections e is in
         let own : e.facts.cid.0 ≡ cid = eqb-true e.facts.cid.0 cid at.passes in
-        subst (λ n. Trimmed m (ends_if seen.done protocol (entry_at e.facts.cid.0 n) n).machine) (sym (replies-machine seen.reply protocol e m))
-        (subst (λ c. Trimmed m (ends_if seen.done protocol (entry_at c m) m).machine) (sym own)
-        (ends_if-trimmed seen.done protocol cid m h within runs))
+        let first : Effect = replies seen.reply protocol e m in
+        let same : m ≡ first.machine = sym (replies-machine seen.reply protocol e m) in
+        trimmed_then (IsLawful faults) m first (λ n. ends_if seen.done protocol (entry_at e.facts.cid.0 n) n)
+        (keeps-trimmed (IsLawful faults) m first within (subst (Keeps 0 m) same (keeps_nothing m h))
+        (quiet-obeys (IsLawful faults) m first (replies-quiet seen.reply protocol e m)))
+        (subst (λ n. Trimmed (IsLawful faults) n (ends_if seen.done protocol (entry_at e.facts.cid.0 n) n)) same
+        (subst (λ c. Trimmed (IsLawful faults) m (ends_if seen.done protocol (entry_at c m) m)) (sym own)
+        (ends_if-trimmed faults seen.done protocol cid m h within running)))
 
-pub asked_as-trimmed : (r : Result Seen FaultKind) (item : List ℕ) (sharing : Bool) (protocol : ℕ) (m : Machine) (e : Entry) (k : ℕ) →
-    watched protocol sharing item ≡ r → Talking m e k → Trimmed m (asked_as r protocol e m).machine
-asked_as-trimmed (Err kind) item sharing protocol m e k is t = ends (Fault kind) refl m e k t
-asked_as-trimmed (Ok seen) item sharing protocol m e k is t = by_test (takes_requests e) refl
+asked_as-trimmed : (faults : Faults) (r : Result Seen FaultKind) (item : List ℕ) (sharing : Bool) (protocol : ℕ) (m : Machine) (e : Entry) (k : ℕ) →
+    watched protocol sharing item ≡ r → Talking m e k → ((kind : FaultKind) → fault_of_request r e ≡ Some kind → faults m e kind) →
+    Trimmed (IsLawful faults) m (asked_as r protocol e m)
+asked_as-trimmed faults (Err kind) item sharing protocol m e k is t given = ends faults kind m e k t (given kind refl)
+asked_as-trimmed faults (Ok seen) item sharing protocol m e k is t given = by_test (takes_requests e) refl given
   where
     known : has_responder protocol ≡ true
     known = seen-known protocol sharing item seen is
 
-    by_test : (b : Bool) → takes_requests e ≡ b →
-        Trimmed m (if b then then_do (begins protocol e m) (λ m. served_at (entry_at e.facts.cid.0 m) seen protocol m) else ending (Fault Protocol) e m).machine
-    by_test true serves =
-        let n : Machine = (begins protocol e m).machine in
-        let begun : Begun e.facts.cid.0 m n = begins-begun protocol m e k t serves known in
-        trimmed_then m n (served_at (entry_at e.facts.cid.0 n) seen protocol n).machine begun.trimmed
-        (served-trimmed seen protocol e.facts.cid.0 n begun.trimmed.ordered (trimmed-within m n begun.trimmed) begun.runs)
-    by_test false serves = ends (Fault Protocol) refl m e k t
+    by_test : (b : Bool) → takes_requests e ≡ b → ((kind : FaultKind) → (if b then None else Some Protocol) ≡ Some kind → faults m e kind) →
+        Trimmed (IsLawful faults) m (if b then then_do (begins protocol e m) (λ m. served_at (entry_at e.facts.cid.0 m) seen protocol m) else ending (Fault Protocol) e m)
+    by_test true serves given =
+        let first : Effect = begins protocol e m in
+        let begun : Begun faults e.facts.cid.0 m first = begins-begun faults protocol m e k t serves known in
+        trimmed_then (IsLawful faults) m first (λ m. served_at (entry_at e.facts.cid.0 m) seen protocol m) begun.trimmed
+        (served-trimmed faults seen protocol e.facts.cid.0 first.machine begun.trimmed.ordered (trimmed-within (IsLawful faults) m first begun.trimmed) begun.runs)
+    by_test false serves given = ends faults Protocol m e k t (given Protocol refl)
 
 -- ---- the other side answers
 
-pub shares-keeps : (addr : Addr) (m : Machine) → IsOrdered m → Keeps 0 m (shares_address addr m).machine
-shares-keeps addr m h = peer_comes-keeps false addr m h
+shared-trimmed : (faults : Faults) (addr : Addr) (m : Machine) → IsOrdered m → counted_in m ≤ m.settings.hard → Trimmed (IsAllowed faults) m (shares_address addr m)
+shared-trimmed faults addr m h within =
+    keeps-trimmed (IsAllowed faults) m (shares_address addr m) within (peer_comes-keeps false addr m h)
+    (as_move-obeys (IsAllowed faults) (shared addr) m (peer_comes false addr m) (comes-quiet false addr m).moves (record { back_off = tt; cause = tt })
+    (accounts_same m (shares_address addr m) (comes-quiet false addr m).connections))
 
-takes-trimmed : (o : Option Share) (m : Machine) → IsOrdered m → counted_in m ≤ m.settings.hard → Trimmed m (takes_addresses o m).machine
-takes-trimmed None m h within = keeps-trimmed m m within (keeps_nothing m h)
-takes-trimmed (Some (share.Request n)) m h within = keeps-trimmed m m within (keeps_nothing m h)
-takes-trimmed (Some (share.Peers peers)) m h within =
-    for_each-trimmed shares_address (λ addr n o w. keeps-trimmed n (shares_address addr n).machine w (shares-keeps addr n o)) (taken_of peers m) m h within
-takes-trimmed (Some share.Done) m h within = keeps-trimmed m m within (keeps_nothing m h)
+takes-trimmed : (faults : Faults) (o : Option Share) (m : Machine) → IsOrdered m → counted_in m ≤ m.settings.hard → Trimmed (IsLawful faults) m (takes_addresses o m)
+takes-trimmed faults o m h within = trimmed_both (IsAllowed faults) Within (IsLawful faults) (allowed_within faults) m (takes_addresses o m) (by_message o) (takes-within o m)
+  where
+    by_message : (o : Option Share) → Trimmed (IsAllowed faults) m (takes_addresses o m)
+    by_message None = nothing-trimmed (IsAllowed faults) m within h
+    by_message (Some (share.Request n)) = nothing-trimmed (IsAllowed faults) m within h
+    by_message (Some (share.Peers told)) =
+        for_each-trimmed (IsAllowed faults) shares_address (taken_of told m) (all-always (shared-trimmed faults) (taken_of told m)) m h within
+    by_message (Some share.Done) = nothing-trimmed (IsAllowed faults) m within h
 
 -- what is asked of a peer is answered: it is hot
 paid-none : (owed : List Owed) → is_some (find (λ o. o.protocol == 2) (without_reply 2 owed)) ≡ false
@@ -332,41 +361,56 @@ hot-keeps m e k h s live asked =
     }
 
 -- what another answer brings
-brings-trimmed : (protocol : ℕ) (body : List ℕ) (m : Machine) → IsOrdered m → counted_in m ≤ m.settings.hard →
-    Trimmed m (if protocol == 8 then nothing_more m else takes_addresses (share_of body) m).machine
-brings-trimmed protocol body m h within =
-    cond_both (protocol == 8) (nothing_more m) (takes_addresses (share_of body) m) (λ effect. Trimmed m effect.machine)
-    (λ on_8. keeps-trimmed m m within (keeps_nothing m h)) (λ not_8. takes-trimmed (share_of body) m h within)
+brings-trimmed : (faults : Faults) (protocol : ℕ) (body : List ℕ) (m : Machine) → IsOrdered m → counted_in m ≤ m.settings.hard →
+    Trimmed (IsLawful faults) m (if protocol == 8 then nothing_more m else takes_addresses (share_of body) m)
+brings-trimmed faults protocol body m h within =
+    cond_both (protocol == 8) (nothing_more m) (takes_addresses (share_of body) m) (Trimmed (IsLawful faults) m)
+    (λ on_8. nothing-trimmed (IsLawful faults) m within h) (λ not_8. takes-trimmed faults (share_of body) m h within)
 
-answered_as-trimmed : (o : Option Owed) (item : Item) (m : Machine) (e : Entry) (k : ℕ) → reply_on item.id e ≡ o → Talking m e k →
-    Trimmed m (answered_as o item e m).machine
-answered_as-trimmed None item m e k is t = ends (Fault Protocol) refl m e k t
-answered_as-trimmed (Some owed) item m e k is t =
-    let n : Machine = with_entry (paid item.id e) m in
-    cond_both (pays owed item.body) (then_do (entry_turns e (paid item.id e) m) (brings item.id item.body e)) (ending (Fault Protocol) e m)
-    (λ effect. Trimmed m effect.machine)
-    (λ pays_it.
-    cond_both (item.id == 2) (peer_becomes Hot e.facts.addr n) (if item.id == 8 then nothing_more n else takes_addresses (share_of item.body) n)
-    (λ effect. Trimmed m effect.machine)
-    (λ on_2. hot (eqb-true item.id 2 on_2))
-    (λ not_2.
-    let first : Trimmed m n = keeps-trimmed m n t.within (pays-keeps item.id m e k t.ordered t.stands) in
-    trimmed_then m n (if item.id == 8 then nothing_more n else takes_addresses (share_of item.body) n).machine first
-    (brings-trimmed item.id item.body n first.ordered (trimmed-within m n first))))
-    (λ other. ends (Fault Protocol) refl m e k t)
+paid-obeys : (Law : Move → Type 0) (protocol : ℕ) (m : Machine) (e : Entry) (k : ℕ) → IsOrdered m → StandsAt m.connections k e →
+    Obeys Law m (entry_turns e (paid protocol e) m)
+paid-obeys Law protocol m e k h s =
+    turns-obeys Law m e (paid protocol e) k h.orderly s (record { same_id = refl; same_addr = refl; live = λ l. l }) (λ negotiated. negotiated)
+
+answered_as-trimmed : (faults : Faults) (o : Option Owed) (item : Item) (m : Machine) (e : Entry) (k : ℕ) → reply_on item.id e ≡ o → Talking m e k →
+    ((kind : FaultKind) → fault_of_answer o item.body ≡ Some kind → faults m e kind) → Trimmed (IsLawful faults) m (answered_as o item e m)
+answered_as-trimmed faults None item m e k is t given = ends faults Protocol m e k t (given Protocol refl)
+answered_as-trimmed faults (Some owed) item m e k is t given = by_test (pays owed item.body) given
   where
-    hot : item.id ≡ 2 → Trimmed m (peer_becomes Hot e.facts.addr (with_entry (paid item.id e) m)).machine
+    hot : item.id ≡ 2 → Trimmed (IsLawful faults) m (then_do (entry_turns e (paid item.id e) m) (peer_becomes Hot e.facts.addr))
     hot id =
         let asked : is_some (reply_on 2 e) ≡ true = ap is_some (subst (λ i. reply_on i e ≡ Some owed) id is) in
-        subst (λ i. Trimmed m (peer_becomes Hot e.facts.addr (with_entry (paid i e) m)).machine) (sym id)
-        (keeps-trimmed m (peer_becomes Hot e.facts.addr (with_entry (paid 2 e) m)).machine t.within
-        (hot-keeps m e k t.ordered t.stands (negotiated-live e.facts.phase t.negotiated) asked))
+        let n : Machine = with_entry (paid 2 e) m in
+        subst (λ i. Trimmed (IsLawful faults) m (then_do (entry_turns e (paid i e) m) (peer_becomes Hot e.facts.addr))) (sym id)
+        (keeps-trimmed (IsLawful faults) m (then_do (entry_turns e (paid 2 e) m) (peer_becomes Hot e.facts.addr)) t.within
+        (hot-keeps m e k t.ordered t.stands (negotiated-live e.facts.phase t.negotiated) asked)
+        (obeys_then (IsLawful faults) m (entry_turns e (paid 2 e) m) (peer_becomes Hot e.facts.addr) (paid-obeys (IsLawful faults) 2 m e k t.ordered t.stands)
+        (quiet-obeys (IsLawful faults) n (peer_becomes Hot e.facts.addr n) (turns_at-quiet (peer_at e.facts.addr n) (λ p. record p { temp = Hot }) n))))
+
+    by_protocol : (b : Bool) → (item.id == 2) ≡ b →
+        Trimmed (IsLawful faults) m (then_do (entry_turns e (paid item.id e) m)
+        (λ n. if b then peer_becomes Hot e.facts.addr n else if item.id == 8 then nothing_more n else takes_addresses (share_of item.body) n))
+    by_protocol true on_2 = hot (eqb-true item.id 2 on_2)
+    by_protocol false not_2 =
+        let first : Effect = entry_turns e (paid item.id e) m in
+        let one : Trimmed (IsLawful faults) m first =
+        keeps-trimmed (IsLawful faults) m first t.within (pays-keeps item.id m e k t.ordered t.stands) (paid-obeys (IsLawful faults) item.id m e k t.ordered t.stands) in
+        trimmed_then (IsLawful faults) m first (λ n. if item.id == 8 then nothing_more n else takes_addresses (share_of item.body) n) one
+        (brings-trimmed faults item.id item.body first.machine one.ordered (trimmed-within (IsLawful faults) m first one))
+
+    by_test : (b : Bool) → ((kind : FaultKind) → (if b then None else Some Protocol) ≡ Some kind → faults m e kind) →
+        Trimmed (IsLawful faults) m (if b then then_do (entry_turns e (paid item.id e) m) (brings item.id item.body e) else ending (Fault Protocol) e m)
+    by_test true given = by_protocol (item.id == 2) refl
+    by_test false given = ends faults Protocol m e k t (given Protocol refl)
 
 -- an item comes in
-pub talks-trimmed : (item : Item) (m : Machine) (e : Entry) (k : ℕ) → Talking m e k → Trimmed m (talks item e m).machine
-talks-trimmed item m e k t =
+pub talks-trimmed : (faults : Faults) (item : Item) (m : Machine) (e : Entry) (k : ℕ) → Talking m e k →
+    ((kind : FaultKind) → fault_of item e ≡ Some kind → faults m e kind) → Trimmed (IsLawful faults) m (talks item e m)
+talks-trimmed faults item m e k t given =
     let sharing : Bool = agreed_sharing e.facts.agreed in
+    let choose : Bool → Option FaultKind =
+    λ b. if b then fault_of_request (watched item.id sharing item.body) e else fault_of_answer (reply_on item.id e) item.body in
     cond_both (item.side == 0) (asked_as (watched item.id sharing item.body) item.id e m) (answered_as (reply_on item.id e) item e m)
-    (λ effect. Trimmed m effect.machine)
-    (λ asks. asked_as-trimmed (watched item.id sharing item.body) item.body sharing item.id m e k refl t)
-    (λ answers. answered_as-trimmed (reply_on item.id e) item m e k refl t)
+    (Trimmed (IsLawful faults) m)
+    (λ asks. asked_as-trimmed faults (watched item.id sharing item.body) item.body sharing item.id m e k refl t (λ kind is. given kind (ap choose asks ∙ is)))
+    (λ answers. answered_as-trimmed faults (reply_on item.id e) item m e k refl t (λ kind is. given kind (ap choose answers ∙ is)))

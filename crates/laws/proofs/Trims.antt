@@ -1,6 +1,6 @@
 -- Where more connections are counted than the hard limit, one of them goes.
 use Rattle.std.proofs.Common.{ℕ, suc, ◌+◌, ◌≤◌, ◌<◌, ◌≡◌, Bool, true, false, not, nat_le, if◌then◌else◌, List, [], ◌∷◌, map, filter_map, find, sum_by, Option, Some, None, refl, sym, ap, ◌∙◌, subst, arith, eq-eqb, leb-true, leb-false}
-use Rattle.std.specs.List.{cons_option}
+use Rattle.std.specs.List.{AllByRecursion, cons_option}
 use Rattle.std.specs.Option.{option_map, unwrap_or}
 use Rattle.std.proofs.lemmas.Bool.{cond_both, and_parts, false≢true}
 use Rattle.net_base.specs.declared.action.CloseCause.TheVariants.{Pruned}
@@ -13,16 +13,18 @@ use Rattle.conn_state.specs.Counted.{is_counted}
 use Rattle.conn_state.specs.Use.{has_id}
 use Rattle.net_base.specs.Peer.{failed_peer}
 use Rattle.machine.specs.Machine.{Machine, Entry, counted_in, entry_at}
-use Rattle.machine.specs.Effect.{Effect, nothing_more, for_each}
+use Rattle.machine.specs.Effect.{Effect, Move, nothing_more, then_do, for_each}
 use Rattle.machine.specs.Peers.{turns_at, peer_at, peer_fails}
 use Rattle.machine.specs.Connections.{without_entry, is_missed, lost, ending, candidate_of, candidates_in, pruned_at, trim}
+use Rattle.laws.specs.AtMoves.{Faults, IsLawful}
 use Rattle.laws.specs.Whole.{IsTied}
 use Rattle.laws.proofs.Counts.{counted_of, counted_in-sum, late_in}
 use Rattle.laws.proofs.Effects.{one_if-counted}
 use Rattle.laws.proofs.Entries.{gone-connections, gone-sum, one_has_id}
 use Rattle.laws.proofs.Finds.{find-remove_other}
 use Rattle.laws.proofs.Keeping.{IsOrdered, Keeps, keeps_nothing}
-use Rattle.laws.proofs.Lists.{StandsAt, stands_next, find_only}
+use Rattle.laws.proofs.Lawful.{Accounts, accounts_then, Obeys, obeys_nothing, ending-obeys, ended-lawful}
+use Rattle.laws.proofs.Lists.{StandsAt, stands_next, find_only, all-appended, all-both}
 use Rattle.laws.proofs.WholeMoves.{ending-keeps}
 
 -- ---- whoever is chosen is counted
@@ -121,20 +123,41 @@ pruned-drops m e k h s =
     let after : counted_in (lost e.facts n).machine ≡ counted_in n = lost-counted e.facts n in
     omega (arith, counts, before, gone, after)
 
--- no more are counted than the hard limit says, and the rest is kept
-pub record Trimmed (before after : Machine) : Type 0 where
-  pub ordered : IsOrdered after
-  pub settings : after.settings ≡ before.settings
-  pub now : after.now ≡ before.now
-  pub counted : counted_in after ≤ before.settings.hard
-  pub late : late_in after ≤ late_in before
+-- no more are counted than the hard limit says, the rest is kept, and each move keeps a law
+pub record Trimmed (Law : Move → Type 0) (before : Machine) (effect : Effect) : Type 0 where
+  pub ordered : IsOrdered effect.machine
+  pub settings : effect.machine.settings ≡ before.settings
+  pub now : effect.machine.now ≡ before.now
+  pub counted : counted_in effect.machine ≤ before.settings.hard
+  pub late : late_in effect.machine ≤ late_in before
   -- and peers stay tied to their connections
-  pub ties : IsTied before → IsTied after
+  pub ties : IsTied before → IsTied effect.machine
+  pub lawful : IsTied before → AllByRecursion Law effect.moves
+  pub accounted : Accounts before effect
 
-pruned-trims : (m : Machine) (e : Entry) (k : ℕ) → IsOrdered m → StandsAt m.connections k e → is_counted e.facts ≡ true →
-    counted_in m ≤ m.settings.hard + 1 → Trimmed m (ending Pruned e m).machine
-pruned-trims m e k h s counted most =
+pub keeps-trimmed : (Law : Move → Type 0) (m : Machine) (effect : Effect) → counted_in m ≤ m.settings.hard → Keeps 0 m effect.machine → Obeys Law m effect →
+    Trimmed Law m effect
+keeps-trimmed Law m effect within h obeys = record {
+  ordered = h.ordered;
+  settings = h.settings;
+  now = h.now;
+  counted = omega (arith, h.counted, within);
+  late = h.late;
+  ties = h.ties;
+  lawful = λ ties. obeys.lawful;
+  accounted = obeys.accounted;
+}
+
+pub nothing-trimmed : (Law : Move → Type 0) (m : Machine) → counted_in m ≤ m.settings.hard → IsOrdered m → Trimmed Law m (nothing_more m)
+nothing-trimmed Law m within h = keeps-trimmed Law m (nothing_more m) within (keeps_nothing m h) (obeys_nothing Law m)
+
+pruned-trims : (faults : Faults) (m : Machine) (e : Entry) (k : ℕ) → IsOrdered m → StandsAt m.connections k e → is_counted e.facts ≡ true →
+    counted_in m ≡ m.settings.hard + 1 → Trimmed (IsLawful faults) m (ending Pruned e m)
+pruned-trims faults m e k h s counted most =
     let keeps : Keeps 0 m (ending Pruned e m).machine = ending-keeps Pruned refl m e k h s in
+    let obeys : Obeys (IsLawful faults) m (ending Pruned e m) =
+    ending-obeys (IsLawful faults) Pruned m e k h.orderly s
+    (ended-lawful faults Pruned m (ending Pruned e m).machine e k h.orderly s (λ negotiated. most)) in
     let drops = pruned-drops m e k h s in
     let one : counted_of e ≡ 1 = one_if-counted e.facts counted in
     record {
@@ -144,6 +167,8 @@ pruned-trims m e k h s counted most =
       counted = omega (arith, drops, one, most);
       late = keeps.late;
       ties = keeps.ties;
+      lawful = λ ties. obeys.lawful;
+      accounted = obeys.accounted;
     }
 
 -- the connection that moved stands, and is counted
@@ -160,22 +185,23 @@ found_by_id m e k cid h s same =
     find_only (λ x. has_id cid.0 x.facts) e m.connections k (one_has_id cid.0 m.connections h.orderly.ids_rise) s
     (eq-eqb e.facts.cid.0 cid.0 (ap (λ c. c.0) same))
 
-pub trim-trims : (moved : Cid) (m : Machine) → IsOrdered m → counted_in m ≤ m.settings.hard + 1 →
-    (m.settings.hard < counted_in m → HasMoved moved m) → Trimmed m (trim moved m).machine
-trim-trims moved m h most over = cond_both (nat_le (counted_in m) m.settings.hard) (nothing_more m)
-    (pruned_at (entry_at (unwrap_or (choice_of (candidates_in m)) moved).0 m) m) (λ effect. Trimmed m effect.machine)
-    (λ within. record { ordered = h; settings = refl; now = refl; counted = leb-true (counted_in m) m.settings.hard within; late = omega arith; ties = λ ties. ties })
-    (λ above. by_choice (first_to_go (candidates_in m)) refl (over (leb-false (counted_in m) m.settings.hard above)))
+pub trim-trims : (faults : Faults) (moved : Cid) (m : Machine) → IsOrdered m → counted_in m ≤ m.settings.hard + 1 →
+    (m.settings.hard < counted_in m → HasMoved moved m) → Trimmed (IsLawful faults) m (trim moved m)
+trim-trims faults moved m h most over = cond_both (nat_le (counted_in m) m.settings.hard) (nothing_more m)
+    (pruned_at (entry_at (unwrap_or (choice_of (candidates_in m)) moved).0 m) m) (λ effect. Trimmed (IsLawful faults) m effect)
+    (λ within. nothing-trimmed (IsLawful faults) m (leb-true (counted_in m) m.settings.hard within) h)
+    (λ above. let more : m.settings.hard < counted_in m = leb-false (counted_in m) m.settings.hard above in
+    by_choice (omega (arith, most, more)) (first_to_go (candidates_in m)) refl (over more))
   where
-    by_choice : (o : Option Candidate) → first_to_go (candidates_in m) ≡ o → HasMoved moved m →
-        Trimmed m (pruned_at (entry_at (unwrap_or (option_map (λ c. c.cid) (first_to_go (candidates_in m))) moved).0 m) m).machine
-    by_choice None none own =
+    by_choice : counted_in m ≡ m.settings.hard + 1 → (o : Option Candidate) → first_to_go (candidates_in m) ≡ o → HasMoved moved m →
+        Trimmed (IsLawful faults) m (pruned_at (entry_at (unwrap_or (option_map (λ c. c.cid) (first_to_go (candidates_in m))) moved).0 m) m)
+    by_choice one_more None none own =
         rw (none, found_by_id m own.entry own.place moved h own.stands own.same)
-        (pruned-trims m own.entry own.place h own.stands own.counted most)
-    by_choice (Some c) some own =
+        (pruned-trims faults m own.entry own.place h own.stands own.counted one_more)
+    by_choice one_more (Some c) some own =
         let goes : Goes m.connections c = goes_among m.connections c some in
         rw (some, found_by_id m goes.entry goes.place c.cid h goes.stands goes.same)
-        (pruned-trims m goes.entry goes.place h goes.stands goes.counted most)
+        (pruned-trims faults m goes.entry goes.place h goes.stands goes.counted one_more)
 
 -- ---- who is in local use stays
 
@@ -206,49 +232,63 @@ trim-used q only moved m e k h s same unused = cond_both (nat_le (counted_in m) 
         let goes : Goes m.connections c = goes_among m.connections c some in
         rw (some, found_by_id m goes.entry goes.place c.cid h goes.stands goes.same) (pruned-used q only m goes.entry goes.place h goes.stands goes.unused)
 
--- ---- within the limit
+-- ---- one part after another
 
-pub keeps-trimmed : (m n : Machine) → counted_in m ≤ m.settings.hard → Keeps 0 m n → Trimmed m n
-keeps-trimmed m n within h = record {
+-- the limit stands after it as before it
+pub trimmed-within : (Law : Move → Type 0) (m : Machine) (effect : Effect) → Trimmed Law m effect → counted_in effect.machine ≤ effect.machine.settings.hard
+trimmed-within Law m effect h = subst (λ s. counted_in effect.machine ≤ s.hard) (sym h.settings) h.counted
+
+pub trimmed_then : (Law : Move → Type 0) (m : Machine) (first : Effect) (next : Machine → Effect) → Trimmed Law m first →
+    Trimmed Law first.machine (next first.machine) → Trimmed Law m (then_do first next)
+trimmed_then Law m first next one two =
+    let second : Effect = next first.machine in
+    record {
+      ordered = two.ordered;
+      settings = two.settings ∙ one.settings;
+      now = two.now ∙ one.now;
+      counted = subst (λ s. counted_in second.machine ≤ s.hard) one.settings two.counted;
+      late = omega (arith, one.late, two.late);
+      ties = λ h. two.ties (one.ties h);
+      lawful = λ h. all-appended Law first.moves second.moves (one.lawful h) (two.lawful (one.ties h));
+      accounted = accounts_then m first next one.accounted two.accounted;
+    }
+
+-- one more may be counted, and is trimmed
+pub raised_then_trimmed : (Law : Move → Type 0) (m : Machine) (first : Effect) (next : Machine → Effect) → Keeps 1 m first.machine → Obeys Law m first →
+    Trimmed Law first.machine (next first.machine) → Trimmed Law m (then_do first next)
+raised_then_trimmed Law m first next raised obeys trimmed =
+    let second : Effect = next first.machine in
+    record {
+      ordered = trimmed.ordered;
+      settings = trimmed.settings ∙ raised.settings;
+      now = trimmed.now ∙ raised.now;
+      counted = subst (λ s. counted_in second.machine ≤ s.hard) raised.settings trimmed.counted;
+      late = omega (arith, trimmed.late, raised.late);
+      ties = λ h. trimmed.ties (raised.ties h);
+      lawful = λ h. all-appended Law first.moves second.moves obeys.lawful (trimmed.lawful (raised.ties h));
+      accounted = accounts_then m first next obeys.accounted trimmed.accounted;
+    }
+
+pub for_each-trimmed : {X : Type 0} (Law : Move → Type 0) (act : X → Machine → Effect) (xs : List X) →
+    AllByRecursion (λ x. (m : Machine) → IsOrdered m → counted_in m ≤ m.settings.hard → Trimmed Law m (act x m)) xs →
+    (m : Machine) → IsOrdered m → counted_in m ≤ m.settings.hard → Trimmed Law m (for_each act xs m)
+unfolding for_each
+for_each-trimmed Law act [] each m h within = nothing-trimmed Law m within h
+for_each-trimmed Law act (x ∷ xs) each m h within =
+    let first : Trimmed Law m (act x m) = each.0 m h within in
+    trimmed_then Law m (act x m) (for_each act xs) first
+    (for_each-trimmed Law act xs each.1 (act x m).machine first.ordered (trimmed-within Law m (act x m) first))
+
+-- every move keeps another law that the first one and a second one give
+pub trimmed_both : (P Q R : Move → Type 0) → ((move : Move) → P move → Q move → R move) → (m : Machine) (effect : Effect) → Trimmed P m effect →
+    AllByRecursion Q effect.moves → Trimmed R m effect
+trimmed_both P Q R gives m effect h also = record {
   ordered = h.ordered;
   settings = h.settings;
   now = h.now;
-  counted = omega (arith, h.counted, within);
+  counted = h.counted;
   late = h.late;
   ties = h.ties;
+  lawful = λ ties. all-both P Q R gives effect.moves (h.lawful ties) also;
+  accounted = h.accounted;
 }
-
--- the limit stands after it as before it
-pub trimmed-within : (m n : Machine) → Trimmed m n → counted_in n ≤ n.settings.hard
-trimmed-within m n h = subst (λ s. counted_in n ≤ s.hard) (sym h.settings) h.counted
-
-pub trimmed_then : (m n o : Machine) → Trimmed m n → Trimmed n o → Trimmed m o
-trimmed_then m n o first second = record {
-  ordered = second.ordered;
-  settings = second.settings ∙ first.settings;
-  now = second.now ∙ first.now;
-  counted = subst (λ s. counted_in o ≤ s.hard) first.settings second.counted;
-  late = omega (arith, first.late, second.late);
-  ties = λ h. second.ties (first.ties h);
-}
-
--- one more may be counted, and is trimmed
-pub raised_then_trimmed : (m n o : Machine) → counted_in m ≤ m.settings.hard → Keeps 1 m n → Trimmed n o → Trimmed m o
-raised_then_trimmed m n o within raised trimmed = record {
-  ordered = trimmed.ordered;
-  settings = trimmed.settings ∙ raised.settings;
-  now = trimmed.now ∙ raised.now;
-  counted = subst (λ s. counted_in o ≤ s.hard) raised.settings trimmed.counted;
-  late = omega (arith, trimmed.late, raised.late);
-  ties = λ h. trimmed.ties (raised.ties h);
-}
-
-pub for_each-trimmed : {X : Type 0} (act : X → Machine → Effect) →
-    ((x : X) (m : Machine) → IsOrdered m → counted_in m ≤ m.settings.hard → Trimmed m (act x m).machine) →
-    (xs : List X) (m : Machine) → IsOrdered m → counted_in m ≤ m.settings.hard → Trimmed m (for_each act xs m).machine
-unfolding for_each
-for_each-trimmed act each [] m h within = keeps-trimmed m m within (keeps_nothing m h)
-for_each-trimmed act each (x ∷ xs) m h within =
-    let first : Trimmed m (act x m).machine = each x m h within in
-    trimmed_then m (act x m).machine (for_each act xs (act x m).machine).machine first
-    (for_each-trimmed act each xs (act x m).machine first.ordered (trimmed-within m (act x m).machine first))

@@ -217,7 +217,7 @@ dialing-live (Greeting until) h = absurd (false≢true h)
 dialing-live Negotiated h = absurd (false≢true h)
 dialing-live (Closing until) h = absurd (false≢true h)
 
-greeting-live : (p : Phase) → is_greeting_phase p ≡ true → live_phase p ≡ true
+pub greeting-live : (p : Phase) → is_greeting_phase p ≡ true → live_phase p ≡ true
 greeting-live Dialing h = absurd (false≢true h)
 greeting-live (Greeting until) h = refl
 greeting-live Negotiated h = absurd (false≢true h)
