@@ -27,3 +27,4 @@ mod Promotions
 mod Picks
 mod Ties
 mod PeerLaws
+mod KnownWanted
