@@ -221,7 +221,7 @@ put_in-elsewhere new b (p ∷ ps) other = by_test (address_below p.addr new.addr
     by_test true rest = ap (λ o. cond (has_address b p) (Some p) o) rest
     by_test false rest = rw (same_turned b new.addr other) refl
 
-put_in-here : (new : Peer) (ps : List Peer) → peer_in new.addr ps ≡ None → peer_in new.addr (with_new_in new ps) ≡ Some new
+pub put_in-here : (new : Peer) (ps : List Peer) → peer_in new.addr ps ≡ None → peer_in new.addr (with_new_in new ps) ≡ Some new
 put_in-here new [] none = rw (same_address-self new.addr) refl
 put_in-here new (p ∷ ps) none = by_there (has_address new.addr p) refl none (put_in-here new ps)
   where

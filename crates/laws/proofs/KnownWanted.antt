@@ -1,0 +1,145 @@
+-- No more addresses come into the book than are wanted.
+use Rattle.std.proofs.Common.{ℕ, ◌+◌, ◌-◌, ◌≤◌, ◌<◌, ◌≡◌, Bool, true, false, cond, not, ◌&&◌, nat_lt, if◌then◌else◌, List, [], ◌∷◌, length, take, Option, Some, None, is_some, refl, sym, ap, ◌∙◌, subst, arith, ltb-true}
+use Rattle.std.specs.List.{AllByRecursion}
+use Rattle.std.proofs.lemmas.Bool.{and_parts}
+use Rattle.std.proofs.lemmas.List.{length-take}
+use Rattle.net_base.specs.Address.{same_address}
+use Rattle.net_base.specs.declared.address.Addr.{Addr}
+use Rattle.net_base.specs.declared.peer.Peer.{Peer}
+use Rattle.churn_clock.specs.Windows.{effective_big_of}
+use Rattle.peer_book.specs.Book.{is_of, known_of, peer_at as peer_in, new_peer, entry_of, entered_by, entered}
+use Rattle.peer_book.specs.declared.added.Added.{Added}
+use Rattle.peer_book.specs.declared.added.Added.TheVariants.{New, Present, Full}
+use Rattle.peer_book.proofs.Edits.{count_by-put_in}
+use Rattle.root_groups.specs.Cleaned.{group_of}
+use Rattle.share_rounds.specs.Rounds.{room_for, is_new, taken_after}
+use Rattle.warm_messages.specs.declared.share.Share.{Share}
+use Rattle.warm_messages.specs.declared.share.Share.TheVariants.{Request, Peers, Done}
+use Rattle.machine.specs.Machine.{Machine}
+use Rattle.machine.specs.Effect.{Effect, Move, shared, nothing_more, as_move, for_each}
+use Rattle.machine.specs.Peers.{peer_at, note_of_coming, peer_comes}
+use Rattle.machine.specs.Provided.{is_wanted_big, comes_big, bigs_are}
+use Rattle.machine.specs.Talking.{shares_address, taken_of, takes_addresses}
+use Rattle.laws.specs.AtMoves.{known_wanted, IsWantedNew, WithinTargets}
+use Rattle.laws.proofs.Keeping.{note-machine}
+use Rattle.laws.proofs.Lists.{all-appended}
+use Rattle.laws.proofs.Ties.{put_in-here}
+
+abbrev pub Within : Move → Type 0
+Within move = WithinTargets move.happened move.before move.after
+
+-- ---- an address comes into the book
+
+abbrev came : Bool → Addr → Machine → Machine
+came big addr m = record m { peers = entered (new_peer big addr) m.peers }
+
+comes-machine : (big : Bool) (addr : Addr) (m : Machine) → (peer_comes big addr m).machine ≡ came big addr m
+comes-machine big addr m = note-machine (entry_of addr m.peers) addr (came big addr m)
+
+note-moves : (added : Added) (addr : Addr) (m : Machine) → (note_of_coming added addr m).moves ≡ []
+note-moves New addr m = refl
+note-moves Present addr m = refl
+note-moves Full addr m = refl
+
+comes-moves : (big : Bool) (addr : Addr) (m : Machine) → (peer_comes big addr m).moves ≡ []
+comes-moves big addr m = note-moves (entry_of addr m.peers) addr (came big addr m)
+
+-- at most one more is known of its class
+entered-known : (big : Bool) (addr : Addr) (ps : List Peer) → known_of big (entered (new_peer big addr) ps) ≤ known_of big ps + 1
+entered-known big addr ps = by_added (entry_of addr ps)
+  where
+    one : (b : Bool) → cond {A = ℕ} b 1 0 ≤ 1
+    one true = omega arith
+    one false = omega arith
+
+    by_added : (added : Added) → known_of big (entered_by added (new_peer big addr) ps) ≤ known_of big ps + 1
+    by_added New =
+        let count = count_by-put_in (λ p. p.addr) (is_of big) (new_peer big addr) ps in
+        omega (arith, count, one (is_of big (new_peer big addr)))
+    by_added Present = omega arith
+    by_added Full = omega arith
+
+-- whoever was not there and is found is of its class
+entered-class : (big : Bool) (addr : Addr) (ps : List Peer) (p : Peer) → peer_in addr ps ≡ None → peer_in addr (entered (new_peer big addr) ps) ≡ Some p →
+    p.big ≡ big
+entered-class big addr ps p none found = by_added (entry_of addr ps) found
+  where
+    by_added : (added : Added) → peer_in addr (entered_by added (new_peer big addr) ps) ≡ Some p → p.big ≡ big
+    by_added New found =
+        let here : peer_in addr (entered_by New (new_peer big addr) ps) ≡ Some (new_peer big addr) = put_in-here (new_peer big addr) ps none in
+        let same : Some p ≡ Some (new_peer big addr) = sym found ∙ here in
+        ap (λ q. q.big) (some_same p (new_peer big addr) same)
+      where
+        some_same : (a b : Peer) → Some a ≡ Some b → a ≡ b
+        some_same a b e = cc
+    by_added Present found = let never : None ≡ Some p = sym none ∙ found in absurd cc
+    by_added Full found = let never : None ≡ Some p = sym none ∙ found in absurd cc
+
+came-within : (big : Bool) (addr : Addr) (m : Machine) → known_of big m.peers < known_wanted big m → IsWantedNew addr m (came big addr m)
+came-within big addr m fewer none p found =
+    let class : p.big ≡ big = entered-class big addr m.peers p none found in
+    let most = entered-known big addr m.peers in
+    let same : known_wanted big (came big addr m) ≡ known_wanted big m = wanted-same big in
+    subst (λ b. known_of b (came big addr m).peers ≤ known_wanted b (came big addr m)) (sym class) (omega (arith, most, same, fewer))
+  where
+    wanted-same : (b : Bool) → known_wanted b (came big addr m) ≡ known_wanted b m
+    wanted-same true = refl
+    wanted-same false = refl
+
+-- an address that comes as a move
+abbrev coming : Bool → Addr → Machine → Effect
+coming big addr m = as_move (shared addr) m (peer_comes big addr m)
+
+coming-within : (big : Bool) (addr : Addr) (m : Machine) → known_of big m.peers < known_wanted big m → AllByRecursion Within (coming big addr m).moves
+coming-within big addr m fewer =
+    subst (λ moves. AllByRecursion Within moves) (sym only)
+    (subst (λ n. IsWantedNew addr m n) (sym (comes-machine big addr m)) (came-within big addr m fewer), tt)
+  where
+    only : (coming big addr m).moves ≡ record { happened = shared addr; before = m; after = (peer_comes big addr m).machine } ∷ []
+    only = rw (comes-moves big addr m) refl
+
+-- ---- addresses that a peer told
+
+pub shares-within : (addrs : List Addr) (m : Machine) → length addrs ≤ known_wanted false m - known_of false m.peers →
+    AllByRecursion Within (for_each shares_address addrs m).moves
+unfolding for_each
+shares-within [] m h = tt
+shares-within (a ∷ addrs) m h =
+    let n : Machine = (shares_address a m).machine in
+    all-appended Within (shares_address a m).moves (for_each shares_address addrs n).moves
+    (coming-within false a m (omega (arith, h)))
+    (shares-within addrs n (subst (λ o. length addrs ≤ known_wanted false o - known_of false o.peers) (sym (comes-machine false a m))
+    (let most = entered-known false a m.peers in omega (arith, h, most))))
+
+pub takes-within : (o : Option Share) (m : Machine) → AllByRecursion Within (takes_addresses o m).moves
+takes-within None m = tt
+takes-within (Some (Request n)) m = tt
+takes-within (Some Done) m = tt
+takes-within (Some (Peers told)) m =
+    shares-within (taken_of told m) m
+    (few (room_for (known_wanted false m) m.peers) (taken_after [] (is_new m.settings.own m.settings.version m.peers) told) room)
+  where
+    few : (k : ℕ) (addrs : List Addr) → k ≤ known_wanted false m - known_of false m.peers → length (take k addrs) ≤ known_wanted false m - known_of false m.peers
+    few k addrs h = let most = length-take k addrs in omega (arith, most, h)
+
+    room : room_for (known_wanted false m) m.peers ≤ known_wanted false m - known_of false m.peers
+    room = omega arith
+
+-- ---- big ledger peers that are set
+
+comes_big-within : (addr : Addr) (m : Machine) → AllByRecursion Within (comes_big addr m).moves
+comes_big-within addr m = by_test (is_wanted_big addr m) refl
+  where
+    by_test : (b : Bool) → is_wanted_big addr m ≡ b → AllByRecursion Within (if b then coming true addr m else nothing_more m).moves
+    by_test false other = tt
+    by_test true wanted =
+        let parts = and_parts (not (same_address addr m.settings.own) && not (is_some (peer_at addr m)) && not (is_some (group_of addr m.groups)))
+        (nat_lt (known_of true m.peers) (effective_big_of m.big_targets m.now).known) wanted in
+        coming-within true addr m (ltb-true (known_of true m.peers) (effective_big_of m.big_targets m.now).known parts.1)
+
+pub bigs-within : (addrs : List Addr) (m : Machine) → AllByRecursion Within (bigs_are addrs m).moves
+unfolding for_each
+bigs-within [] m = tt
+bigs-within (a ∷ addrs) m =
+    let n : Machine = (comes_big a m).machine in
+    all-appended Within (comes_big a m).moves (bigs_are addrs n).moves (comes_big-within a m) (bigs-within addrs n)
