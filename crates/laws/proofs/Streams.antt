@@ -1,83 +1,131 @@
 -- Bytes come in on a connection.
-use Rattle.std.proofs.Common.{ℕ, ◌≤◌, ◌≡◌, List, Option, Some, None, refl, ap}
+use Rattle.std.proofs.Common.{ℕ, ◌≤◌, ◌≡◌, List, Option, Some, None, Contains, refl, sym, ap, subst, inl, inr, eqb-true}
+use Rattle.std.specs.List.{AllByRecursion}
 use Rattle.mux_segment.specs.Stream.{FedBy, fed_by}
 use Rattle.mux_segment.specs.Protocols.{node_limits}
 use Rattle.mux_segment.specs.declared.fault.CutFault.{CutFault}
 use Rattle.mux_segment.specs.declared.item.Item.{Item}
 use Rattle.net_base.specs.declared.action.CloseCause.TheVariants.{Fault}
+use Rattle.net_base.specs.declared.action.FaultKind.{FaultKind}
 use Rattle.net_base.specs.declared.connection.Cid.{Cid}
 use Rattle.net_base.specs.declared.connection.Phase.{Phase}
 use Rattle.net_base.specs.declared.connection.Phase.TheVariants.{Dialing, Greeting, Negotiated, Closing}
+use Rattle.net_base.specs.declared.event.Event.TheVariants.{Bytes}
 use Rattle.conn_state.specs.Use.{has_id, is_greeting_phase, is_negotiated_phase}
 use Rattle.machine.specs.Machine.{Machine, Entry, counted_in, entry_at}
-use Rattle.machine.specs.Effect.{for_each}
-use Rattle.machine.specs.Connections.{with_entry, ending}
+use Rattle.machine.specs.Effect.{Effect, then_do, for_each}
+use Rattle.machine.specs.Connections.{entry_turns, ending}
 use Rattle.machine.specs.Stream.{handled_in, handled_at, handles, kind_of, faulted_at, fed_with, feeds, comes_in_phase, comes_in_at, bytes_come_in}
+use Rattle.laws.specs.AtMoves.{Faults, fault_of, IsByStream, fed_on, IsByBytes, faults_of, IsLawful}
 use Rattle.laws.proofs.Handshakes.{greets-trimmed}
-use Rattle.laws.proofs.Keeping.{IsOrdered, keeps_nothing}
-use Rattle.laws.proofs.Lists.{StandsAt, find_some}
+use Rattle.laws.proofs.Keeping.{IsOrdered}
+use Rattle.laws.proofs.Lawful.{ending-obeys, ended-lawful, turns-obeys}
+use Rattle.laws.proofs.Lists.{StandsAt, find_some, all-weaker, all-contained}
 use Rattle.laws.proofs.Talks.{talks-trimmed}
-use Rattle.laws.proofs.Trims.{Trimmed, keeps-trimmed, trimmed_then, trimmed-within, for_each-trimmed}
+use Rattle.laws.proofs.Trims.{Trimmed, keeps-trimmed, nothing-trimmed, trimmed_then, trimmed-within, for_each-trimmed}
 use Rattle.laws.proofs.WholeMoves.{ending-keeps, decodes-keeps}
 
-handled_in-trimmed : (p : Phase) (item : Item) (m : Machine) (e : Entry) (k : ℕ) → e.facts.phase ≡ p → IsOrdered m → counted_in m ≤ m.settings.hard →
-    StandsAt m.connections k e → Trimmed m (handled_in p item e m).machine
-handled_in-trimmed Dialing item m e k is h within s = keeps-trimmed m m within (keeps_nothing m h)
-handled_in-trimmed (Greeting until) item m e k is h within s = greets-trimmed item m e k h within s (ap is_greeting_phase is)
-handled_in-trimmed Negotiated item m e k is h within s =
-    talks-trimmed item m e k (record { ordered = h; within = within; stands = s; negotiated = ap is_negotiated_phase is })
-handled_in-trimmed (Closing until) item m e k is h within s = keeps-trimmed m m within (keeps_nothing m h)
+-- whatever fault an item is on the connection, it is one of those
+abbrev GivesItem : Faults → Cid → Item → Type 0
+GivesItem faults cid item = (m : Machine) (e : Entry) (kind : FaultKind) → e.facts.cid ≡ cid → fault_of item e ≡ Some kind → faults m e kind
 
-handles-trimmed : (cid : Cid) (item : Item) (m : Machine) → IsOrdered m → counted_in m ≤ m.settings.hard → Trimmed m (handles cid item m).machine
-handles-trimmed cid item m h within = by_entry (entry_at cid.0 m) refl
+-- and whatever fault the stream has
+abbrev GivesStream : Faults → Cid → Option CutFault → Type 0
+GivesStream faults cid fault = (m : Machine) (e : Entry) (kind : FaultKind) → e.facts.cid ≡ cid → IsByStream fault kind → faults m e kind
+
+handled_in-trimmed : (faults : Faults) (p : Phase) (item : Item) (m : Machine) (e : Entry) (k : ℕ) → e.facts.phase ≡ p → IsOrdered m → counted_in m ≤ m.settings.hard →
+    StandsAt m.connections k e → ((kind : FaultKind) → fault_of item e ≡ Some kind → faults m e kind) → Trimmed (IsLawful faults) m (handled_in p item e m)
+handled_in-trimmed faults Dialing item m e k is h within s given = nothing-trimmed (IsLawful faults) m within h
+handled_in-trimmed faults (Greeting until) item m e k is h within s given = greets-trimmed faults item m e k h within s (ap is_greeting_phase is)
+handled_in-trimmed faults Negotiated item m e k is h within s given =
+    talks-trimmed faults item m e k (record { ordered = h; within = within; stands = s; negotiated = ap is_negotiated_phase is }) given
+handled_in-trimmed faults (Closing until) item m e k is h within s given = nothing-trimmed (IsLawful faults) m within h
+
+-- who is found by an id has it
+found-cid : (cid : Cid) (m : Machine) (e : Entry) → entry_at cid.0 m ≡ Some e → e.facts.cid ≡ cid
+found-cid cid m e is =
+    let same : e.facts.cid.0 ≡ cid.0 = eqb-true e.facts.cid.0 cid.0 (find_some (λ y. has_id cid.0 y.facts) m.connections e is).passes in
+    ap cid_of same
   where
-    by_entry : (o : Option Entry) → entry_at cid.0 m ≡ o → Trimmed m (handled_at o item m).machine
-    by_entry None is = keeps-trimmed m m within (keeps_nothing m h)
+    cid_of : ℕ → Cid
+    cid_of n = record { 0 = n }
+
+handles-trimmed : (faults : Faults) (cid : Cid) (item : Item) → GivesItem faults cid item → (m : Machine) → IsOrdered m → counted_in m ≤ m.settings.hard →
+    Trimmed (IsLawful faults) m (handles cid item m)
+handles-trimmed faults cid item gives m h within = by_entry (entry_at cid.0 m) refl
+  where
+    by_entry : (o : Option Entry) → entry_at cid.0 m ≡ o → Trimmed (IsLawful faults) m (handled_at o item m)
+    by_entry None is = nothing-trimmed (IsLawful faults) m within h
     by_entry (Some e) is =
         let at = find_some (λ y. has_id cid.0 y.facts) m.connections e is in
-        handled_in-trimmed e.facts.phase item m e at.place refl h within at.stands
+        handled_in-trimmed faults e.facts.phase item m e at.place refl h within at.stands (λ kind fault. gives m e kind (found-cid cid m e is) fault)
 
-faulted-trimmed : (cid : ℕ) (fault : Option CutFault) (m : Machine) → IsOrdered m → counted_in m ≤ m.settings.hard →
-    Trimmed m (faulted_at (entry_at cid m) fault m).machine
-faulted-trimmed cid fault m h within = by_entry (entry_at cid m) refl fault
+faulted-trimmed : (faults : Faults) (cid : Cid) (fault : Option CutFault) → GivesStream faults cid fault → (m : Machine) → IsOrdered m → counted_in m ≤ m.settings.hard →
+    Trimmed (IsLawful faults) m (faulted_at (entry_at cid.0 m) fault m)
+faulted-trimmed faults cid fault gives m h within = by_entry (entry_at cid.0 m) refl fault gives
   where
-    by_entry : (o : Option Entry) → entry_at cid m ≡ o → (f : Option CutFault) → Trimmed m (faulted_at o f m).machine
-    by_entry None is f = keeps-trimmed m m within (keeps_nothing m h)
-    by_entry (Some e) is None = keeps-trimmed m m within (keeps_nothing m h)
-    by_entry (Some e) is (Some f) =
-        let at = find_some (λ y. has_id cid y.facts) m.connections e is in
-        keeps-trimmed m (ending (Fault (kind_of f)) e m).machine within (ending-keeps (Fault (kind_of f)) refl m e at.place h at.stands)
+    by_entry : (o : Option Entry) → entry_at cid.0 m ≡ o → (f : Option CutFault) → GivesStream faults cid f → Trimmed (IsLawful faults) m (faulted_at o f m)
+    by_entry None is f gives = nothing-trimmed (IsLawful faults) m within h
+    by_entry (Some e) is None gives = nothing-trimmed (IsLawful faults) m within h
+    by_entry (Some e) is (Some f) gives =
+        let at = find_some (λ y. has_id cid.0 y.facts) m.connections e is in
+        keeps-trimmed (IsLawful faults) m (ending (Fault (kind_of f)) e m) within (ending-keeps (Fault (kind_of f)) refl m e at.place h at.stands)
+        (ending-obeys (IsLawful faults) (Fault (kind_of f)) m e at.place h.orderly at.stands
+        (ended-lawful faults (Fault (kind_of f)) m (ending (Fault (kind_of f)) e m).machine e at.place h.orderly at.stands
+        (λ negotiated. gives m e (kind_of f) (found-cid cid m e is) refl)))
 
-fed_with-trimmed : (fed : FedBy) (m : Machine) (e : Entry) (k : ℕ) → IsOrdered m → counted_in m ≤ m.settings.hard → StandsAt m.connections k e →
-    Trimmed m (fed_with fed e m).machine
-fed_with-trimmed fed m e k h within s =
-    let n : Machine = with_entry (record e { undecoded = fed.state.undecoded }) m in
-    let first : Trimmed m n = keeps-trimmed m n within (decodes-keeps fed.state.undecoded m e k h s) in
-    let o : Machine = (for_each (handles e.facts.cid) fed.items n).machine in
-    let items : Trimmed n o = for_each-trimmed (handles e.facts.cid) (handles-trimmed e.facts.cid) fed.items n first.ordered (trimmed-within m n first) in
-    let fault : Trimmed o (faulted_at (entry_at e.facts.cid.0 o) fed.state.fault o).machine =
-    faulted-trimmed e.facts.cid.0 fed.state.fault o items.ordered (trimmed-within n o items) in
-    trimmed_then m n (faulted_at (entry_at e.facts.cid.0 o) fed.state.fault o).machine first
-    (trimmed_then n o (faulted_at (entry_at e.facts.cid.0 o) fed.state.fault o).machine items fault)
+fed_with-trimmed : (faults : Faults) (fed : FedBy) (m : Machine) (e : Entry) (k : ℕ) → IsOrdered m → counted_in m ≤ m.settings.hard → StandsAt m.connections k e →
+    AllByRecursion (GivesItem faults e.facts.cid) fed.items → GivesStream faults e.facts.cid fed.state.fault → Trimmed (IsLawful faults) m (fed_with fed e m)
+fed_with-trimmed faults fed m e k h within s by_items by_stream =
+    let new : Entry = record e { undecoded = fed.state.undecoded } in
+    let first : Effect = entry_turns e new m in
+    let fault : Machine → Effect = λ m. faulted_at (entry_at e.facts.cid.0 m) fed.state.fault m in
+    let one : Trimmed (IsLawful faults) m first = keeps-trimmed (IsLawful faults) m first within (decodes-keeps fed.state.undecoded m e k h s)
+    (turns-obeys (IsLawful faults) m e new k h.orderly s (record { same_id = refl; same_addr = refl; live = λ l. l }) (λ negotiated. negotiated)) in
+    let n : Machine = first.machine in
+    let second : Effect = for_each (handles e.facts.cid) fed.items n in
+    let two : Trimmed (IsLawful faults) n second =
+    for_each-trimmed (IsLawful faults) (handles e.facts.cid) fed.items
+    (all-weaker (GivesItem faults e.facts.cid)
+    (λ item. (m : Machine) → IsOrdered m → counted_in m ≤ m.settings.hard → Trimmed (IsLawful faults) m (handles e.facts.cid item m))
+    (handles-trimmed faults e.facts.cid) fed.items by_items) n one.ordered (trimmed-within (IsLawful faults) m first one) in
+    trimmed_then (IsLawful faults) m first (λ m. then_do (for_each (handles e.facts.cid) fed.items m) fault) one
+    (trimmed_then (IsLawful faults) n second fault two
+    (faulted-trimmed faults e.facts.cid fed.state.fault by_stream second.machine two.ordered (trimmed-within (IsLawful faults) n second two)))
 
-feeds-trimmed : (bytes : List ℕ) (m : Machine) (e : Entry) (k : ℕ) → IsOrdered m → counted_in m ≤ m.settings.hard → StandsAt m.connections k e →
-    Trimmed m (feeds bytes e m).machine
-feeds-trimmed bytes m e k h within s =
-    fed_with-trimmed (fed_by node_limits (record { undecoded = e.undecoded; fault = None }) bytes) m e k h within s
+-- what the bytes bring, on the connection that they come in on
+GivesFed : Faults → Cid → FedBy → Type 0
+GivesFed faults cid fed = AllByRecursion (GivesItem faults cid) fed.items × GivesStream faults cid fed.state.fault
 
-comes_in_phase-trimmed : (p : Phase) (bytes : List ℕ) (m : Machine) (e : Entry) (k : ℕ) → IsOrdered m → counted_in m ≤ m.settings.hard →
-    StandsAt m.connections k e → Trimmed m (comes_in_phase p bytes e m).machine
-comes_in_phase-trimmed Dialing bytes m e k h within s = keeps-trimmed m m within (keeps_nothing m h)
-comes_in_phase-trimmed (Greeting until) bytes m e k h within s = feeds-trimmed bytes m e k h within s
-comes_in_phase-trimmed Negotiated bytes m e k h within s = feeds-trimmed bytes m e k h within s
-comes_in_phase-trimmed (Closing until) bytes m e k h within s = keeps-trimmed m m within (keeps_nothing m h)
+comes_in_phase-trimmed : (faults : Faults) (p : Phase) (bytes : List ℕ) (m : Machine) (e : Entry) (k : ℕ) → IsOrdered m → counted_in m ≤ m.settings.hard →
+    StandsAt m.connections k e → GivesFed faults e.facts.cid (fed_on e bytes) → Trimmed (IsLawful faults) m (comes_in_phase p bytes e m)
+unfolding GivesFed
+comes_in_phase-trimmed faults Dialing bytes m e k h within s gives = nothing-trimmed (IsLawful faults) m within h
+comes_in_phase-trimmed faults (Greeting until) bytes m e k h within s gives = fed_with-trimmed faults (fed_on e bytes) m e k h within s gives.0 gives.1
+comes_in_phase-trimmed faults Negotiated bytes m e k h within s gives = fed_with-trimmed faults (fed_on e bytes) m e k h within s gives.0 gives.1
+comes_in_phase-trimmed faults (Closing until) bytes m e k h within s gives = nothing-trimmed (IsLawful faults) m within h
+
+-- the faults of the event are what the bytes bring
+fed-gives : (start : Machine) (cid : Cid) (bytes : List ℕ) (first : Entry) → entry_at cid.0 start ≡ Some first →
+    GivesFed (faults_of start (Bytes cid bytes)) cid (fed_on first bytes)
+unfolding GivesFed
+fed-gives start cid bytes first is = (
+  all-weaker (Contains (fed_on first bytes).items) (GivesItem (faults_of start (Bytes cid bytes)) cid)
+      (λ item among m e kind own fault. given e kind (own, inl (record { item = item; among = among; fault = fault })))
+      (fed_on first bytes).items (all-contained (fed_on first bytes).items),
+  (λ m e kind own fault. given e kind (own, inr fault)),
+)
+  where
+    given : (e : Entry) (kind : FaultKind) → IsByBytes (Some first) cid bytes e kind → IsByBytes (entry_at cid.0 start) cid bytes e kind
+    given e kind h = subst (λ o. IsByBytes o cid bytes e kind) (sym is) h
 
 pub bytes_come_in-trimmed : (cid : Cid) (bytes : List ℕ) (m : Machine) → IsOrdered m → counted_in m ≤ m.settings.hard →
-    Trimmed m (bytes_come_in cid bytes m).machine
+    Trimmed (IsLawful (faults_of m (Bytes cid bytes))) m (bytes_come_in cid bytes m)
 bytes_come_in-trimmed cid bytes m h within = by_entry (entry_at cid.0 m) refl
   where
-    by_entry : (o : Option Entry) → entry_at cid.0 m ≡ o → Trimmed m (comes_in_at o bytes m).machine
-    by_entry None is = keeps-trimmed m m within (keeps_nothing m h)
+    by_entry : (o : Option Entry) → entry_at cid.0 m ≡ o → Trimmed (IsLawful (faults_of m (Bytes cid bytes))) m (comes_in_at o bytes m)
+    by_entry None is = nothing-trimmed (IsLawful (faults_of m (Bytes cid bytes))) m within h
     by_entry (Some e) is =
         let at = find_some (λ y. has_id cid.0 y.facts) m.connections e is in
-        comes_in_phase-trimmed e.facts.phase bytes m e at.place h within at.stands
+        comes_in_phase-trimmed (faults_of m (Bytes cid bytes)) e.facts.phase bytes m e at.place h within at.stands
+        (subst (λ c. GivesFed (faults_of m (Bytes cid bytes)) c (fed_on e bytes)) (sym (found-cid cid m e is)) (fed-gives m cid bytes e is))
