@@ -62,6 +62,17 @@ accounts_then m first next one two cid h =
         by_after false e = or_right (is_ended_in cid first.moves) d e
     by_first false is c d later here = or_right c (is_ended_in cid first.moves || d) (or_left (is_ended_in cid first.moves) d here)
 
+-- more moves account for more
+pub accounts_move : (happened : Happened) (m : Machine) (effect : Effect) → Accounts m effect → Accounts m (as_move happened m effect)
+accounts_move happened m effect h cid before =
+    let move : Move = record { happened = happened; before = m; after = effect.machine } in
+    subst (λ b. (is_negotiated_at cid effect.machine || b) ≡ true) (sym (any_append (λ x. ends cid x.happened) effect.moves (move ∷ [])))
+    (more (is_negotiated_at cid effect.machine) (is_ended_in cid effect.moves) (list_any (λ x. ends cid x.happened) (move ∷ [])) (h cid before))
+  where
+    more : (a b c : Bool) → (a || b) ≡ true → (a || (b || c)) ≡ true
+    more true b c e = refl
+    more false b c e = or_left b c e
+
 pub accounts_same : (m : Machine) (effect : Effect) → effect.machine.connections ≡ m.connections → Accounts m effect
 accounts_same m effect same cid h =
     or_left (is_negotiated_at cid effect.machine) (is_ended_in cid effect.moves)

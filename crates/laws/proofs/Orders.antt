@@ -14,11 +14,14 @@ use Rattle.govern_rules.specs.declared.order.Order.{Order}
 use Rattle.govern_rules.specs.declared.order.Order.TheVariants.{Ask, Forget, Release, Activate, Deactivate}
 use Rattle.peer_book.specs.Book.{is_established}
 use Rattle.machine.specs.Machine.{Machine, Entry, counted_in, live_entry_at}
-use Rattle.machine.specs.Effect.{Effect, nothing_more, for_each}
+use Rattle.machine.specs.Effect.{Effect, Move, activated, nothing_more, then_do, for_each}
 use Rattle.machine.specs.Peers.{peer_at, peer_becomes, peer_was_asked, peer_goes}
-use Rattle.machine.specs.Replies.{asks, owing, reply_on, peer_sharing_done}
-use Rattle.machine.specs.Connections.{with_entry, says_done, trim, release}
+use Rattle.machine.specs.Replies.{asks, owing, reply_on, peer_sharing_done, chain_sync_done}
+use Rattle.machine.specs.Connections.{with_entry, entry_turns, says_done, trim, release}
 use Rattle.machine.specs.Govern.{on_entry, is_used_at, on_used, asks_peer, activates, deactivates, carries_out}
+use Rattle.warm_messages.specs.Writing.{written_alive}
+use Rattle.warm_messages.specs.declared.alive.Alive.TheVariants.{Done}
+use Rattle.laws.specs.AtMoves.{IsReady, Faults, IsLawful}
 use Rattle.laws.specs.Whole.{AreApart, AreTied, IsAlone, TiedBy}
 use Rattle.laws.proofs.Addresses.{same_address-true}
 use Rattle.laws.proofs.Counts.{counted_of, counted_in-sum}
@@ -26,21 +29,23 @@ use Rattle.laws.proofs.Effects.{one_if-not_counted}
 use Rattle.laws.proofs.Entries.{TurnsInto, turned-connections, turned-sum}
 use Rattle.laws.proofs.Finds.{find-set_other}
 use Rattle.laws.proofs.Keeping.{IsOrdered, Moves, Keeps, keeps_nothing, keeps_then, moves_then, moves-keeps, peers-moves, changes-moves, changes-keeps}
+use Rattle.laws.proofs.Lawful.{Obeys, IsQuiet, quiet-obeys, quiet_then, turns_at-quiet, turns-obeys, turned_then-obeys, IsAllowed}
 use Rattle.laws.proofs.Lists.{StandsAt, FoundIn, stands-set, find_some}
 use Rattle.laws.proofs.PeersApart.{same_turned, filter-apart}
 use Rattle.laws.proofs.Ties.{live_here, turned_here, turned_elsewhere, changed-ties, taken-ties, taken-elsewhere}
-use Rattle.laws.proofs.Trims.{Trimmed, keeps-trimmed, trimmed_then, trimmed-within, raised_then_trimmed, trim-trims, trim-used, turns_at-counted, turns_at-connections}
+use Rattle.laws.proofs.Trims.{Trimmed, keeps-trimmed, nothing-trimmed, trimmed_then, trimmed-within, as_move-trimmed, raised_twice_then_trimmed, trim-trims, trim-used, turns_at-counted, turns_at-connections}
 use Rattle.laws.proofs.WholeMoves.{owes-keeps, IsWarm, asks_warm-keeps, releases-moves}
 
 -- ---- one order after the other
 
 -- An order was carried out for whom it may be, and may still be carried out for all others for whom it might before.
-pub record Carried (May : Machine → Addr → Type 0) (addr : Addr) (before after : Machine) : Type 0 where
-  pub trimmed : Trimmed before after
-  pub elsewhere : (b : Addr) → same_address b addr ≡ false → May before b → May after b
+pub record Carried (Law : Move → Type 0) (May : Machine → Addr → Type 0) (addr : Addr) (before : Machine) (effect : Effect) : Type 0 where
+  pub trimmed : Trimmed Law before effect
+  pub elsewhere : (b : Addr) → same_address b addr ≡ false → May before b → May effect.machine b
 
-unfoldable pub Carries : (Machine → Addr → Type 0) → (Addr → Order) → Type 0
-Carries May order = (addr : Addr) (m : Machine) → IsOrdered m → counted_in m ≤ m.settings.hard → May m addr → Carried May addr m (carries_out (order addr) m).machine
+unfoldable pub Carries : (Move → Type 0) → (Machine → Addr → Type 0) → (Addr → Order) → Type 0
+Carries Law May order =
+    (addr : Addr) (m : Machine) → IsOrdered m → counted_in m ≤ m.settings.hard → May m addr → Carried Law May addr m (carries_out (order addr) m)
 
 still_may : (May : Machine → Addr → Type 0) (m n : Machine) (a : Addr) (addrs : List Addr) →
     ((b : Addr) → same_address b a ≡ false → May m b → May n b) →
@@ -48,16 +53,16 @@ still_may : (May : Machine → Addr → Type 0) (m n : Machine) (a : Addr) (addr
 still_may May m n a [] same others h = tt
 still_may May m n a (b ∷ addrs) same others h = (same b others.0 h.0, still_may May m n a addrs same others.1 h.1)
 
-pub orders-trimmed : (May : Machine → Addr → Type 0) (order : Addr → Order) → Carries May order → (addrs : List Addr) (m : Machine) → IsOrdered m →
-    counted_in m ≤ m.settings.hard → AreApart addrs → AllByRecursion (May m) addrs → Trimmed m (for_each carries_out (map order addrs) m).machine
+pub orders-trimmed : (Law : Move → Type 0) (May : Machine → Addr → Type 0) (order : Addr → Order) → Carries Law May order → (addrs : List Addr) (m : Machine) →
+    IsOrdered m → counted_in m ≤ m.settings.hard → AreApart addrs → AllByRecursion (May m) addrs → Trimmed Law m (for_each carries_out (map order addrs) m)
 unfolding for_each Carries
-orders-trimmed May order each [] m h within apart may = keeps-trimmed m m within (keeps_nothing m h)
-orders-trimmed May order each (a ∷ addrs) m h within apart may =
-    let n : Machine = (carries_out (order a) m).machine in
-    let first : Carried May a m n = each a m h within may.0 in
-    trimmed_then m n (for_each carries_out (map order addrs) n).machine first.trimmed
-    (orders-trimmed May order each addrs n first.trimmed.ordered (trimmed-within m n first.trimmed) apart.1
-    (still_may May m n a addrs first.elsewhere apart.0 may.1))
+orders-trimmed Law May order each [] m h within apart may = nothing-trimmed Law m within h
+orders-trimmed Law May order each (a ∷ addrs) m h within apart may =
+    let effect : Effect = carries_out (order a) m in
+    let first : Carried Law May a m effect = each a m h within may.0 in
+    trimmed_then Law m effect (for_each carries_out (map order addrs)) first.trimmed
+    (orders-trimmed Law May order each addrs effect.machine first.trimmed.ordered (trimmed-within Law m effect first.trimmed) apart.1
+    (still_may May m effect.machine a addrs first.elsewhere apart.0 may.1))
 
 -- where nothing is asked of whom an order is for
 abbrev pub Always : Machine → Addr → Type 0
@@ -75,12 +80,12 @@ record Used (m : Machine) (addr : Addr) (e : Entry) (k : ℕ) : Type 0 where
   here : e.facts.addr ≡ addr
   found : find (is_used_at addr) m.connections ≡ Some e
 
-on_used-carried : (May : Machine → Addr → Type 0) (addr : Addr) (act : Entry → Machine → Effect) (m : Machine) → IsOrdered m → counted_in m ≤ m.settings.hard →
-    ((e : Entry) (k : ℕ) → Used m addr e k → Carried May addr m (act e m).machine) → Carried May addr m (on_used addr act m).machine
-on_used-carried May addr act m h within each = by_entry (find (is_used_at addr) m.connections) refl
+on_used-carried : (Law : Move → Type 0) (May : Machine → Addr → Type 0) (addr : Addr) (act : Entry → Machine → Effect) (m : Machine) → IsOrdered m →
+    counted_in m ≤ m.settings.hard → ((e : Entry) (k : ℕ) → Used m addr e k → Carried Law May addr m (act e m)) → Carried Law May addr m (on_used addr act m)
+on_used-carried Law May addr act m h within each = by_entry (find (is_used_at addr) m.connections) refl
   where
-    by_entry : (o : Option Entry) → find (is_used_at addr) m.connections ≡ o → Carried May addr m (on_entry o act m).machine
-    by_entry None is = record { trimmed = keeps-trimmed m m within (keeps_nothing m h); elsewhere = λ b other may. may }
+    by_entry : (o : Option Entry) → find (is_used_at addr) m.connections ≡ o → Carried Law May addr m (on_entry o act m)
+    by_entry None is = record { trimmed = nothing-trimmed Law m within h; elsewhere = λ b other may. may }
     by_entry (Some e) is =
         let at : FoundIn (is_used_at addr) m.connections e = find_some (is_used_at addr) m.connections e is in
         let parts = and_parts (is_live_at addr e.facts) e.facts.local at.passes in
@@ -97,16 +102,26 @@ on_used-carried May addr act m h within each = by_entry (find (is_used_at addr) 
 
 -- ---- a peer is asked for addresses
 
-asked-carried : (n : ℕ) (addr : Addr) (m : Machine) (e : Entry) (k : ℕ) → Used m addr e k → Carried Always addr m (asks_peer n e m).machine
-asked-carried n addr m e k u =
+asked-obeys : (Law : Move → Type 0) (n : ℕ) (m : Machine) (e : Entry) (k : ℕ) → IsOrdered m → StandsAt m.connections k e → Obeys Law m (asks_peer n e m)
+asked-obeys Law n m e k h s =
+    let o : Machine = with_entry (owing 10 n m e) m in
+    let asked : Machine → Effect = λ m. peer_was_asked (m.now + m.settings.sharegap) e.facts.addr m in
+    let rest : Obeys Law m (then_do (entry_turns e (owing 10 n m e) m) asked) =
+    turned_then-obeys Law m e (owing 10 n m e) k asked h.orderly s (record { same_id = refl; same_addr = refl; live = λ l. l }) (λ negotiated. negotiated)
+    (turns_at-quiet (peer_at e.facts.addr o) (λ p. record p { share_next = m.now + m.settings.sharegap }) o) in
+    record { lawful = rest.lawful; accounted = rest.accounted }
+
+asked-carried : (Law : Move → Type 0) (n : ℕ) (addr : Addr) (m : Machine) (e : Entry) (k : ℕ) → Used m addr e k → Carried Law Always addr m (asks_peer n e m)
+asked-carried Law n addr m e k u =
     let o : Machine = with_entry (owing 10 n m e) m in
     let owes : Keeps 0 m o = owes-keeps 10 n m e k u.ordered u.stands refl in
     let next : ℕ = m.now + m.settings.sharegap in
     record {
-      trimmed = keeps-trimmed m (peer_was_asked next e.facts.addr o).machine u.within
+      trimmed = keeps-trimmed Law m (asks_peer n e m) u.within
           (keeps_then 0 0 m o (peer_was_asked next e.facts.addr o).machine owes
           (changes-keeps e.facts.addr (λ p. record p { share_next = next }) o (λ p. refl)
-          (λ p tie. same_peer next o.now p (live_entry_at e.facts.addr o) tie) owes.ordered));
+          (λ p tie. same_peer next o.now p (live_entry_at e.facts.addr o) tie) owes.ordered))
+          (asked-obeys Law n m e k u.ordered u.stands);
       elsewhere = λ b other may. tt;
     }
   where
@@ -114,42 +129,71 @@ asked-carried n addr m e k u =
     same_peer next now p None tie = tie
     same_peer next now p (Some x) tie = record { established = tie.established; in_use = tie.in_use; on_its_way = tie.on_its_way; asked = tie.asked }
 
-pub ask-carried : (n : ℕ) → Carries Always (λ addr. Ask addr n)
+pub ask-carried : (Law : Move → Type 0) (n : ℕ) → Carries Law Always (λ addr. Ask addr n)
 unfolding Carries
-ask-carried n addr m h within may = on_used-carried Always addr (asks_peer n) m h within (asked-carried n addr m)
+ask-carried Law n addr m h within may = on_used-carried Law Always addr (asks_peer n) m h within (asked-carried Law n addr m)
 
 -- ---- a warm peer is to become hot
 
 abbrev pub MayActivate : Machine → Addr → Type 0
 MayActivate m addr = IsWarm (peer_at addr m)
 
-pub activate-carried : Carries MayActivate Activate
-unfolding Carries
-activate-carried addr m h within may = on_used-carried MayActivate addr activates m h within (λ e k u. record {
-  trimmed = keeps-trimmed m (with_entry (owing 2 0 m e) m) within
-      (asks_warm-keeps 0 m e k h u.stands (subst (λ a. IsWarm (peer_at a m)) (sym u.here) may));
+-- a peer that is in use is out of its back-off
+warm-ready : (now : ℕ) (o : Option Peer) (x : Option Entry) → IsWarm o → TiedBy now o x → IsReady now o
+warm-ready now None x warm tie = elim warm [ ]
+warm-ready now (Some p) None warm tie = absurd (both_ways (is_established p.temp) tie (ap is_established warm))
+warm-ready now (Some p) (Some e) warm tie = tie.in_use (sym tie.established ∙ ap is_established warm)
+
+activated-carried : (Law : Move → Type 0) (addr : Addr) (m : Machine) → IsOrdered m → counted_in m ≤ m.settings.hard → MayActivate m addr →
+    Carried Law MayActivate addr m (on_used addr activates m)
+activated-carried Law addr m h within may = on_used-carried Law MayActivate addr activates m h within (λ e k u. record {
+  trimmed = keeps-trimmed Law m (activates e m) within
+      (asks_warm-keeps 0 m e k h u.stands (subst (λ a. IsWarm (peer_at a m)) (sym u.here) may)) (obeys e k u.stands);
   elsewhere = λ b other warm. warm;
 })
+  where
+    obeys : (e : Entry) (k : ℕ) → StandsAt m.connections k e → Obeys Law m (activates e m)
+    obeys e k s =
+        let turns : Obeys Law m (entry_turns e (owing 2 0 m e) m) =
+        turns-obeys Law m e (owing 2 0 m e) k h.orderly s (record { same_id = refl; same_addr = refl; live = λ l. l }) (λ negotiated. negotiated) in
+        record { lawful = turns.lawful; accounted = turns.accounted }
+
+pub activate-carried : (faults : Faults) → Carries (IsAllowed faults) MayActivate Activate
+unfolding Carries
+activate-carried faults addr m h within may =
+    let inner : Carried (IsAllowed faults) MayActivate addr m (on_used addr activates m) = activated-carried (IsAllowed faults) addr m h within may in
+    record {
+      trimmed = as_move-trimmed (IsAllowed faults) (activated addr) m (on_used addr activates m) inner.trimmed
+          (λ ties. record { back_off = warm-ready m.now (peer_at addr m) (live_entry_at addr m) may (ties addr); cause = tt });
+      elsewhere = inner.elsewhere;
+    }
 
 -- ---- a hot peer is to become warm
 
-deactivated-carried : (addr : Addr) (m : Machine) (e : Entry) (k : ℕ) → Used m addr e k → Carried Always addr m (deactivates e m).machine
-deactivated-carried addr m e k u =
+deactivated-obeys : (Law : Move → Type 0) (m : Machine) (e : Entry) → Obeys Law m (deactivates e m)
+deactivated-obeys Law m e =
+    quiet-obeys Law m (deactivates e m)
+    (quiet_then m (asks e.facts.cid 2 chain_sync_done m) (peer_becomes Warm e.facts.addr) (record { moves = refl; connections = refl })
+    (turns_at-quiet (peer_at e.facts.addr m) (λ p. record p { temp = Warm }) m))
+
+deactivated-carried : (Law : Move → Type 0) (addr : Addr) (m : Machine) (e : Entry) (k : ℕ) → Used m addr e k → Carried Law Always addr m (deactivates e m)
+deactivated-carried Law addr m e k u =
     let was : live_entry_at e.facts.addr m ≡ Some e = live_here m e k u.ordered.orderly u.stands u.live in
     record {
-      trimmed = keeps-trimmed m (peer_becomes Warm e.facts.addr m).machine u.within
+      trimmed = keeps-trimmed Law m (deactivates e m) u.within
           (changes-keeps e.facts.addr (λ p. record p { temp = Warm }) m (λ p. refl)
           (λ p tie. subst (λ o. TiedBy m.now (Some (record p { temp = Warm })) o) (sym was)
-          (warm p (subst (λ o. TiedBy m.now (Some p) o) was tie))) u.ordered);
+          (warm p (subst (λ o. TiedBy m.now (Some p) o) was tie))) u.ordered)
+          (deactivated-obeys Law m e);
       elsewhere = λ b other may. tt;
     }
   where
     warm : (p : Peer) → AreTied m.now p e → AreTied m.now (record p { temp = Warm }) e
     warm p tie = record { established = sym u.local; in_use = tie.in_use; on_its_way = tie.on_its_way; asked = λ asked. refl }
 
-pub deactivate-carried : Carries Always Deactivate
+pub deactivate-carried : (Law : Move → Type 0) → Carries Law Always Deactivate
 unfolding Carries
-deactivate-carried addr m h within may = on_used-carried Always addr deactivates m h within (deactivated-carried addr m)
+deactivate-carried Law addr m h within may = on_used-carried Law Always addr deactivates m h within (deactivated-carried Law addr m)
 
 -- ---- a peer is forgotten
 
@@ -179,14 +223,15 @@ cold-alone now (Some p) (Some e) cold idle tie = record {
     by_asked true is = let none : Cold ≡ Warm = sym cold ∙ tie.asked is in absurd cc
     by_asked false is = refl
 
-pub forget-carried : Carries MayForget Forget
+pub forget-carried : (Law : Move → Type 0) → Carries Law MayForget Forget
 unfolding Carries
-forget-carried addr m h within may =
+forget-carried Law addr m h within may =
     let n : Machine = (peer_goes addr m).machine in
     record {
-      trimmed = keeps-trimmed m n within
+      trimmed = keeps-trimmed Law m (peer_goes addr m) within
           (moves-keeps 0 m n (peers-moves n.peers m h (filter-apart (λ p. not (same_address p.addr addr)) m.peers h.formed.peers))
-          (λ ties. taken-ties addr m (cold-alone m.now (peer_at addr m) (live_entry_at addr m) may.cold may.idle (ties addr)) ties));
+          (λ ties. taken-ties addr m (cold-alone m.now (peer_at addr m) (live_entry_at addr m) may.cold may.idle (ties addr)) ties))
+          (quiet-obeys Law m (peer_goes addr m) (record { moves = refl; connections = refl }));
       elsewhere = λ b other there. record { cold = subst IsCold (sym (taken-elsewhere addr b m.peers other)) there.cold; idle = there.idle };
     }
 
@@ -196,13 +241,20 @@ forget-carried addr m h within may =
 abbrev pub MayRelease : Machine → Addr → Type 0
 MayRelease m addr = (e : Entry) → find (is_used_at addr) m.connections ≡ Some e → is_some (reply_on 2 e) ≡ false
 
+says_done-quiet : (f : Facts) (m : Machine) → IsQuiet m (says_done f m)
+says_done-quiet f m =
+    quiet_then m (if agreed_sharing f.agreed then asks f.cid 10 peer_sharing_done m else nothing_more m) (asks f.cid 8 (written_alive Done))
+    (cond_both (agreed_sharing f.agreed) (asks f.cid 10 peer_sharing_done m) (nothing_more m) (IsQuiet m)
+    (λ sharing. record { moves = refl; connections = refl }) (λ other. record { moves = refl; connections = refl }))
+    (record { moves = refl; connections = refl })
+
 says_done-machine : (f : Facts) (m : Machine) → (says_done f m).machine ≡ m
 says_done-machine f m = cond_both (agreed_sharing f.agreed) (asks f.cid 10 peer_sharing_done m) (nothing_more m) (λ effect. effect.machine ≡ m)
     (λ sharing. refl) (λ other. refl)
 
 releasing : Entry → Machine → Effect
-releasing e m = trim e.facts.cid
-    (peer_becomes Cold e.facts.addr (with_entry (record e { facts = released (m.now + m.settings.idle) e.facts }) m)).machine
+releasing e m = then_do (entry_turns e (record e { facts = released (m.now + m.settings.idle) e.facts }) m)
+    (λ m. then_do (peer_becomes Cold e.facts.addr m) (trim e.facts.cid))
 
 unused_at : (b : Addr) (x : Entry) → x.facts.local ≡ false → is_used_at b x ≡ false
 unused_at b x unused = by_test (is_live_at b x.facts)
@@ -214,9 +266,10 @@ unused_at b x unused = by_test (is_live_at b x.facts)
 other_at : (b : Addr) (x : Entry) → same_address x.facts.addr b ≡ false → is_used_at b x ≡ false
 other_at b x other = ap (λ c. (c && is_live x.facts) && x.facts.local) other
 
-releasing-carried : (addr : Addr) (m : Machine) (e : Entry) (k : ℕ) → Used m addr e k → MayRelease m addr → Carried MayRelease addr m (releasing e m).machine
+releasing-carried : (faults : Faults) (addr : Addr) (m : Machine) (e : Entry) (k : ℕ) → Used m addr e k → MayRelease m addr →
+    Carried (IsLawful faults) MayRelease addr m (releasing e m)
 unfolding releasing
-releasing-carried addr m e k u may =
+releasing-carried faults addr m e k u may =
     let h : IsOrdered m = u.ordered in
     let s = u.stands in
     let new : Entry = record e { facts = released (m.now + m.settings.idle) e.facts } in
@@ -243,8 +296,8 @@ releasing-carried addr m e k u may =
     let after = counted_in-sum n in
     let within = u.within in
     let limit : o.settings.hard ≡ m.settings.hard = ap (λ x. x.hard) raised.settings in
-    let trimmed : Trimmed o (trim e.facts.cid o).machine =
-    trim-trims e.facts.cid o raised.ordered (omega (arith, raised.counted, limit, within)) (λ over. record {
+    let trimmed : Trimmed (IsLawful faults) o (trim e.facts.cid o) =
+    trim-trims faults e.facts.cid o raised.ordered (omega (arith, raised.counted, limit, within)) (λ over. record {
       entry = new;
       place = k;
       stands = stands;
@@ -254,7 +307,9 @@ releasing-carried addr m e k u may =
           absurd (omega (arith, over, alike, counts, before, after, limit, within, zero)));
     }) in
     record {
-      trimmed = raised_then_trimmed m o (trim e.facts.cid o).machine u.within raised trimmed;
+      trimmed = raised_twice_then_trimmed (IsLawful faults) m (entry_turns e new m) (peer_becomes Cold e.facts.addr) (trim e.facts.cid) raised
+          (turns-obeys (IsLawful faults) m e new k h.orderly s t (λ negotiated. negotiated))
+          (quiet-obeys (IsLawful faults) n (peer_becomes Cold e.facts.addr n) (turns_at-quiet (peer_at e.facts.addr n) cold n)) trimmed;
       elsewhere = λ b other may_b x found.
           let apart : same_address e.facts.addr b ≡ false = subst (λ a. same_address a b ≡ false) (sym u.here) (same_turned b addr other) in
           may_b x
@@ -279,11 +334,21 @@ releasing-carried addr m e k u may =
       asked = λ asked. absurd (both_ways (is_some (reply_on 2 e)) (may e u.found) (ap is_some (sym owed) ∙ asked));
     }
 
-released-carried : (addr : Addr) (m : Machine) (e : Entry) (k : ℕ) → Used m addr e k → MayRelease m addr → Carried MayRelease addr m (release e m).machine
+released-carried : (faults : Faults) (addr : Addr) (m : Machine) (e : Entry) (k : ℕ) → Used m addr e k → MayRelease m addr →
+    Carried (IsLawful faults) MayRelease addr m (release e m)
 unfolding releasing
-released-carried addr m e k u may =
-    subst (λ x. Carried MayRelease addr m (releasing e x).machine) (sym (says_done-machine e.facts m)) (releasing-carried addr m e k u may)
+released-carried faults addr m e k u may =
+    let first : Effect = says_done e.facts m in
+    let same : m ≡ first.machine = sym (says_done-machine e.facts m) in
+    let rest : Carried (IsLawful faults) MayRelease addr m (releasing e m) = releasing-carried faults addr m e k u may in
+    record {
+      trimmed = trimmed_then (IsLawful faults) m first (releasing e)
+          (keeps-trimmed (IsLawful faults) m first u.within (subst (Keeps 0 m) same (keeps_nothing m u.ordered))
+          (quiet-obeys (IsLawful faults) m first (says_done-quiet e.facts m)))
+          (subst (λ n. Trimmed (IsLawful faults) n (releasing e n)) same rest.trimmed);
+      elsewhere = subst (λ n. (b : Addr) → same_address b addr ≡ false → MayRelease m b → MayRelease (releasing e n).machine b) same rest.elsewhere;
+    }
 
-pub release-carried : Carries MayRelease Release
+pub release-carried : (faults : Faults) → Carries (IsLawful faults) MayRelease Release
 unfolding Carries
-release-carried addr m h within may = on_used-carried MayRelease addr release m h within (λ e k u. released-carried addr m e k u may)
+release-carried faults addr m h within may = on_used-carried (IsLawful faults) MayRelease addr release m h within (λ e k u. released-carried faults addr m e k u may)

@@ -10,7 +10,7 @@ use Rattle.net_base.specs.declared.connection.Phase.TheVariants.{Dialing, Greeti
 use Rattle.net_base.specs.declared.peer.Peer.{Peer}
 use Rattle.net_base.specs.declared.peer.Temp.TheVariants.{Warm}
 use Rattle.conn_state.specs.Moves.{dialing, acquired}
-use Rattle.conn_state.specs.Use.{is_live, is_live_at, is_acquirable, is_negotiated_phase, live_phase}
+use Rattle.conn_state.specs.Use.{is_live, is_live_at, is_acquirable, is_negotiated, is_negotiated_phase, live_phase}
 use Rattle.govern_rules.specs.Candidates.{is_eligible}
 use Rattle.govern_rules.specs.Links.{is_linked, is_pending, is_acquirable as acquirable_link}
 use Rattle.govern_rules.specs.declared.link.Link.{Link}
@@ -21,19 +21,22 @@ use Rattle.machine.specs.Machine.{Machine, Entry, fresh_entry, counted_in, live_
 use Rattle.machine.specs.Peers.{peer_at}
 use Rattle.machine.specs.Replies.{owing}
 use Rattle.machine.specs.Connections.{with_entry, acquire, dial}
-use Rattle.machine.specs.Govern.{link_of, promoted_at, promote}
+use Rattle.machine.specs.Effect.{Move, promoted}
+use Rattle.machine.specs.Govern.{link_of, promoted_at}
+use Rattle.laws.specs.AtMoves.{IsReady, Faults}
 use Rattle.laws.specs.Laws.{DifferInAddress}
 use Rattle.laws.specs.Whole.{IsShaped, TiedBy}
 use Rattle.laws.proofs.Addresses.{same_address-self, same_address-true}
 use Rattle.laws.proofs.Counts.{counted_of, counted_in-sum, late_of, late_in-sum}
 use Rattle.laws.proofs.Entries.{with_new, come-orderly}
 use Rattle.laws.proofs.Keeping.{IsOrdered, Keeps}
+use Rattle.laws.proofs.Lawful.{Obeys, accounts_come, used-obeys, IsAllowed}
 use Rattle.laws.proofs.Lists.{StandsAt, stands_next, FoundIn, find_some, find_none, find_only}
 use Rattle.laws.proofs.Shapes.{dialing-shaped, can_acquire}
 use Rattle.laws.proofs.Orders.{Carried, Carries}
 use Rattle.laws.proofs.Ties.{live_one, come-ties, come_elsewhere, turned_elsewhere, turns_at-elsewhere}
-use Rattle.laws.proofs.Trims.{keeps-trimmed, turns_at-connections}
-use Rattle.laws.proofs.WholeMoves.{IsReady, acquire-keeps}
+use Rattle.laws.proofs.Trims.{keeps-trimmed, as_move-trimmed, turns_at-connections}
+use Rattle.laws.proofs.WholeMoves.{negotiated-live, acquire-keeps}
 
 -- ---- a dial
 
@@ -96,6 +99,16 @@ acquire-peers b m e other =
     let new : Entry = owing 8 (e.facts.cid.0 % 65536) m (record e { facts = acquired e.facts }) in
     turns_at-elsewhere e.facts.addr (λ p. record p { temp = Warm; failures = 0 }) (with_entry new m) (λ p. refl) b other
 
+-- ---- no connection is gone
+
+dial-obeys : (Law : Move → Type 0) (addr : Addr) (m : Machine) → Obeys Law m (dial addr m)
+dial-obeys Law addr m = record { lawful = tt; accounted = accounts_come m (fresh_entry (dialing m.next_id addr)) (dial addr m) refl }
+
+acquire-obeys : (Law : Move → Type 0) (m : Machine) (e : Entry) (k : ℕ) → IsOrdered m → StandsAt m.connections k e → is_acquirable e.facts ≡ true → Obeys Law m (acquire e m)
+acquire-obeys Law m e k h s free =
+    let negotiated : is_negotiated e.facts ≡ true = (can_acquire e.facts free).negotiated in
+    used-obeys Law (acquired e.facts) m e k h.orderly s refl refl (negotiated-live e.facts.phase negotiated) negotiated
+
 -- ---- a promotion
 
 -- no live connection has the address, or one that can be taken into use
@@ -108,8 +121,9 @@ pub record MayPromote (m : Machine) (addr : Addr) : Type 0 where
   pub free : MayBy (live_entry_at addr m)
   pub ready : IsReady m.now (peer_at addr m)
 
-promoted : (addr : Addr) (m : Machine) → IsOrdered m → counted_in m ≤ m.settings.hard → MayPromote m addr → Carried MayPromote addr m (promote addr m).machine
-promoted addr m h within may = by_live (live_entry_at addr m) refl may.free
+promoted-carried : (Law : Move → Type 0) (addr : Addr) (m : Machine) → IsOrdered m → counted_in m ≤ m.settings.hard → MayPromote m addr →
+    Carried Law MayPromote addr m (promoted_at (live_entry_at addr m) addr m)
+promoted-carried Law addr m h within may = by_live (live_entry_at addr m) refl may.free
   where
     still : (n : Machine) → n.now ≡ m.now → ((b : Addr) → same_address b addr ≡ false → live_entry_at b n ≡ live_entry_at b m) →
         ((b : Addr) → same_address b addr ≡ false → peer_at b n ≡ peer_at b m) →
@@ -119,11 +133,11 @@ promoted addr m h within may = by_live (live_entry_at addr m) refl may.free
       ready = subst (λ t. IsReady t (peer_at b n)) (sym now) (subst (IsReady m.now) (sym (peers b other)) may.ready);
     }
 
-    by_live : (o : Option Entry) → live_entry_at addr m ≡ o → MayBy o → Carried MayPromote addr m (promoted_at o addr m).machine
+    by_live : (o : Option Entry) → live_entry_at addr m ≡ o → MayBy o → Carried Law MayPromote addr m (promoted_at o addr m)
     by_live None none free =
         let keeps : Keeps 0 m (dial addr m).machine = dial-keeps addr m h none may.ready in
         record {
-          trimmed = keeps-trimmed m (dial addr m).machine within keeps;
+          trimmed = keeps-trimmed Law m (dial addr m) within keeps (dial-obeys Law addr m);
           elsewhere = still (dial addr m).machine keeps.now (λ b other. dial-elsewhere addr b m other) (λ b other. refl);
         }
     by_live (Some e) some free =
@@ -132,15 +146,21 @@ promoted addr m h within may = by_live (live_entry_at addr m) refl may.free
         let keeps : Keeps 0 m (acquire e m).machine =
         acquire-keeps m e at.place h at.stands free (subst (λ a. IsReady m.now (peer_at a m)) (sym here) may.ready) in
         rw free (record {
-          trimmed = keeps-trimmed m (acquire e m).machine within keeps;
+          trimmed = keeps-trimmed Law m (acquire e m) within keeps (acquire-obeys Law m e at.place h at.stands free);
           elsewhere = still (acquire e m).machine keeps.now
               (λ b other. acquire-elsewhere b m e at.place h at.stands (subst (λ a. same_address b a ≡ false) (sym here) other))
               (λ b other. acquire-peers b m e (subst (λ a. same_address b a ≡ false) (sym here) other));
         })
 
-pub promotes-carried : Carries MayPromote Promote
+pub promotes-carried : (faults : Faults) → Carries (IsAllowed faults) MayPromote Promote
 unfolding Carries
-promotes-carried = promoted
+promotes-carried faults addr m h within may =
+    let inner : Carried (IsAllowed faults) MayPromote addr m (promoted_at (live_entry_at addr m) addr m) = promoted-carried (IsAllowed faults) addr m h within may in
+    record {
+      trimmed = as_move-trimmed (IsAllowed faults) (promoted addr) m (promoted_at (live_entry_at addr m) addr m) inner.trimmed
+          (λ ties. record { back_off = may.ready; cause = tt });
+      elsewhere = inner.elsewhere;
+    }
 
 -- ---- who is eligible may be promoted
 
@@ -174,12 +194,6 @@ acquirable_in addr (e ∷ es) h = by_test (same_address e.facts.addr addr && is_
         let rest : AcquirableIn addr es = later found in
         record { entry = rest.entry; place = suc rest.place; stands = stands_next e rest.entry es rest.place rest.stands; at = rest.at; acquirable = rest.acquirable }
 
-negotiated-is_live : (p : Phase) → is_negotiated_phase p ≡ true → live_phase p ≡ true
-negotiated-is_live Dialing h = absurd (false≢true h)
-negotiated-is_live (Greeting until) h = absurd (false≢true h)
-negotiated-is_live Negotiated h = refl
-negotiated-is_live (Closing until) h = absurd (false≢true h)
-
 linked-free : (addr : Addr) (m : Machine) → IsOrdered m →
     (not (is_linked (map link_of m.connections) addr) || acquirable_link (map link_of m.connections) addr) ≡ true → MayBy (live_entry_at addr m)
 linked-free addr m h either = by_link (is_linked (map link_of m.connections) addr) refl either
@@ -188,7 +202,7 @@ linked-free addr m h either = by_link (is_linked (map link_of m.connections) add
     by_link false is e = subst MayBy (sym (unlinked-none addr m.connections is)) tt
     by_link true is e =
         let a : AcquirableIn addr m.connections = acquirable_in addr m.connections e in
-        let live : is_live a.entry.facts ≡ true = negotiated-is_live a.entry.facts.phase (can_acquire a.entry.facts a.acquirable).negotiated in
+        let live : is_live a.entry.facts ≡ true = negotiated-live a.entry.facts.phase (can_acquire a.entry.facts a.acquirable).negotiated in
         let found : live_entry_at addr m ≡ Some a.entry =
         find_only (λ x. is_live_at addr x.facts) a.entry m.connections a.place (live_one addr m h.orderly.addresses) a.stands
         (and_from (same_address a.entry.facts.addr addr) (is_live a.entry.facts) a.at live) in

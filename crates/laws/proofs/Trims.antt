@@ -1,5 +1,5 @@
 -- Where more connections are counted than the hard limit, one of them goes.
-use Rattle.std.proofs.Common.{ℕ, suc, ◌+◌, ◌≤◌, ◌<◌, ◌≡◌, Bool, true, false, not, nat_le, if◌then◌else◌, List, [], ◌∷◌, map, filter_map, find, sum_by, Option, Some, None, refl, sym, ap, ◌∙◌, subst, arith, eq-eqb, leb-true, leb-false}
+use Rattle.std.proofs.Common.{ℕ, suc, ◌+◌, ◌≤◌, ◌<◌, ◌≡◌, Bool, true, false, not, nat_le, if◌then◌else◌, List, [], ◌∷◌, ◌++◌, map, filter_map, find, sum_by, Option, Some, None, refl, sym, ap, ◌∙◌, subst, arith, eq-eqb, leb-true, leb-false}
 use Rattle.std.specs.List.{AllByRecursion, cons_option}
 use Rattle.std.specs.Option.{option_map, unwrap_or}
 use Rattle.std.proofs.lemmas.Bool.{cond_both, and_parts, false≢true}
@@ -13,7 +13,7 @@ use Rattle.conn_state.specs.Counted.{is_counted}
 use Rattle.conn_state.specs.Use.{has_id}
 use Rattle.net_base.specs.Peer.{failed_peer}
 use Rattle.machine.specs.Machine.{Machine, Entry, counted_in, entry_at}
-use Rattle.machine.specs.Effect.{Effect, Move, nothing_more, then_do, for_each}
+use Rattle.machine.specs.Effect.{Effect, Happened, Move, nothing_more, then_do, as_move, for_each}
 use Rattle.machine.specs.Peers.{turns_at, peer_at, peer_fails}
 use Rattle.machine.specs.Connections.{without_entry, is_missed, lost, ending, candidate_of, candidates_in, pruned_at, trim}
 use Rattle.laws.specs.AtMoves.{Faults, IsLawful}
@@ -23,7 +23,7 @@ use Rattle.laws.proofs.Effects.{one_if-counted}
 use Rattle.laws.proofs.Entries.{gone-connections, gone-sum, one_has_id}
 use Rattle.laws.proofs.Finds.{find-remove_other}
 use Rattle.laws.proofs.Keeping.{IsOrdered, Keeps, keeps_nothing}
-use Rattle.laws.proofs.Lawful.{Accounts, accounts_then, Obeys, obeys_nothing, ending-obeys, ended-lawful}
+use Rattle.laws.proofs.Lawful.{Accounts, accounts_then, accounts_move, Obeys, obeys_nothing, ending-obeys, ended-lawful}
 use Rattle.laws.proofs.Lists.{StandsAt, stands_next, find_only, all-appended, all-both}
 use Rattle.laws.proofs.WholeMoves.{ending-keeps}
 
@@ -267,6 +267,42 @@ raised_then_trimmed Law m first next raised obeys trimmed =
       ties = λ h. trimmed.ties (raised.ties h);
       lawful = λ h. all-appended Law first.moves second.moves obeys.lawful (trimmed.lawful (raised.ties h));
       accounted = accounts_then m first next obeys.accounted trimmed.accounted;
+    }
+
+-- and so where two parts together raise it
+pub raised_twice_then_trimmed : (Law : Move → Type 0) (m : Machine) (first : Effect) (next last : Machine → Effect) → Keeps 1 m (next first.machine).machine →
+    Obeys Law m first → Obeys Law first.machine (next first.machine) → Trimmed Law (next first.machine).machine (last (next first.machine).machine) →
+    Trimmed Law m (then_do first (λ n. then_do (next n) last))
+raised_twice_then_trimmed Law m first next last raised one two trimmed =
+    let second : Effect = next first.machine in
+    let third : Effect = last second.machine in
+    record {
+      ordered = trimmed.ordered;
+      settings = trimmed.settings ∙ raised.settings;
+      now = trimmed.now ∙ raised.now;
+      counted = subst (λ s. counted_in third.machine ≤ s.hard) raised.settings trimmed.counted;
+      late = omega (arith, trimmed.late, raised.late);
+      ties = λ h. trimmed.ties (raised.ties h);
+      lawful = λ h. all-appended Law first.moves (second.moves ++ third.moves) one.lawful
+          (all-appended Law second.moves third.moves two.lawful (trimmed.lawful (raised.ties h)));
+      accounted = accounts_then m first (λ n. then_do (next n) last) one.accounted
+          (accounts_then first.machine second last two.accounted trimmed.accounted);
+    }
+
+-- the part as a whole is a move
+pub as_move-trimmed : (Law : Move → Type 0) (happened : Happened) (m : Machine) (effect : Effect) → Trimmed Law m effect →
+    (IsTied m → Law (record { happened = happened; before = m; after = effect.machine })) → Trimmed Law m (as_move happened m effect)
+as_move-trimmed Law happened m effect h law =
+    let move : Move = record { happened = happened; before = m; after = effect.machine } in
+    record {
+      ordered = h.ordered;
+      settings = h.settings;
+      now = h.now;
+      counted = h.counted;
+      late = h.late;
+      ties = h.ties;
+      lawful = λ ties. all-appended Law effect.moves (move ∷ []) (h.lawful ties) (law ties, tt);
+      accounted = accounts_move happened m effect h.accounted;
     }
 
 pub for_each-trimmed : {X : Type 0} (Law : Move → Type 0) (act : X → Machine → Effect) (xs : List X) →

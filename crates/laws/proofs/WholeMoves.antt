@@ -24,6 +24,7 @@ use Rattle.machine.specs.Effect.{nothing_more}
 use Rattle.machine.specs.Peers.{peer_at, peer_fails, peer_succeeds}
 use Rattle.machine.specs.Replies.{reply_on, with_reply, owing, paid}
 use Rattle.machine.specs.Connections.{with_entry, without_entry, is_missed, lost, lost_by, ending, vanishes, is_used, is_agreed_inbound, is_agreed_outbound, acquire, idle}
+use Rattle.laws.specs.AtMoves.{IsReady}
 use Rattle.laws.specs.Whole.{IsShaped, IsUnused, AreTied, TiedBy, IsTied}
 use Rattle.machine.specs.Deadlines.{grace_deadlines}
 use Rattle.laws.proofs.Counts.{counted_of, one_if_counted, is_late, grace_late_of}
@@ -271,11 +272,6 @@ agrees_inbound-keeps agreed m e k h s greets inbound =
     (turns-moves 0 m e new k h s turns (agreed_inbound-shaped agreed until e.facts shape greets inbound) (omega arith)
     (late-fewer m.now e new (omega arith) (omega arith) (omega arith)))
     (alike-ties m e new k h s turns (record { local = refl; pending = still ∙ sym idle; live = sym live; asked = λ asked. asked }))
-
--- The peer of an address is there, and out of its back-off.
-abbrev pub IsReady : ℕ → Option Peer → Type 0
-IsReady now None = ⊥
-IsReady now (Some p) = p.not_before ≤ now
 
 -- a connection comes into use, with facts that are in shape and raise nothing
 record Uses (m : Machine) (e : Entry) (f : Facts) : Type 0 where
