@@ -117,7 +117,7 @@ has-contains (e ∷ es) d c =
     }
 
 -- what every deadline of a connection has, in each of their three places
-all-deadlines_of : (P : Deadline → Type 0) (e : Entry) → All P (phase_deadlines e.facts.cid e.facts.phase) →
+pub all-deadlines_of : (P : Deadline → Type 0) (e : Entry) → All P (phase_deadlines e.facts.cid e.facts.phase) →
     All P (grace_deadlines e.facts.cid e.facts.grace) → All (λ owed. P (reply_deadline e.facts.cid owed)) e.owed →
     All P (deadlines_of e)
 all-deadlines_of P e phase grace owed =
@@ -126,7 +126,7 @@ all-deadlines_of P e phase grace owed =
     All-append P (opening ++ unused) (map (reply_deadline e.facts.cid) e.owed) (All-append P opening unused phase grace)
     (All-map P (reply_deadline e.facts.cid) e.owed owed)
 
-all_one : {X : Type 0} (P : X → Type 0) (x : X) → P x → All P (x ∷ [])
+pub all_one : {X : Type 0} (P : X → Type 0) (x : X) → P x → All P (x ∷ [])
 all_one P x h = All-cons P x [] h (All-nil P)
 
 phase-cid : (cid : Cid) (phase : Phase) → All (λ d. d.cid ≡ cid) (phase_deadlines cid phase)
@@ -245,14 +245,19 @@ pub record Due (m : Machine) (d : Deadline) : Type 0 where
   pub stands : StandsAt m.connections place owner
   pub found : entry_at d.cid.0 m ≡ Some owner
   pub waits : d.kind ≡ TimeWait → is_live owner.facts ≡ false
+  pub among : Contains (deadlines_of owner) d
+  pub late : is_late m.now d ≡ true
 
 pub due_of : (m : Machine) (d : Deadline) → IsOrderly m → due m ≡ Some d → Due m d
 due_of m d h e =
-    let has : Has m.connections d = has-contains m.connections d (due-contains m d e).0 in
+    let known = due-contains m d e in
+    let has : Has m.connections d = has-contains m.connections d known.0 in
     let owner : Entry = has.owner in
     let id : d.cid ≡ owner.facts.cid =
     All-contains (λ x. x.cid ≡ owner.facts.cid) (deadlines_of owner) d (deadlines_of-cid owner) has.among in
     record {
+      among = has.among;
+      late = known.1;
       owner = owner;
       place = has.place;
       stands = has.stands;
@@ -265,19 +270,11 @@ due_of m d h e =
 -- The deadline that fires next leaves fewer that are late.
 pub due-lowers : (m : Machine) (d : Deadline) → IsOrderly m → due m ≡ Some d → Lowers 1 m (fires d m).machine
 due-lowers m d h e =
-    let known = due-contains m d e in
-    let has : Has m.connections d = has-contains m.connections d known.0 in
-    let owner : Entry = has.owner in
-    let id : d.cid ≡ owner.facts.cid =
-    All-contains (λ x. x.cid ≡ owner.facts.cid) (deadlines_of owner) d (deadlines_of-cid owner) has.among in
-    let found : entry_at d.cid.0 m ≡ Some owner =
-    find_only (λ x. has_id d.cid.0 x.facts) owner m.connections has.place
-    (one_has_id d.cid.0 m.connections h.ids_rise) has.stands
-    (eq-eqb owner.facts.cid.0 d.cid.0 (sym (ap (λ cid. cid.0) id))) in
-    subst (λ o. Lowers 1 m (fires_on o d.kind m).machine) (sym found)
-    (lowers_less 1 (fired_of d.kind m.now owner) m (fires_as d.kind owner m).machine
-    (fired_of-positive m.now owner d has.among known.1)
-    (fires_as-lowers d.kind m owner has.place h has.stands))
+    let next : Due m d = due_of m d h e in
+    subst (λ o. Lowers 1 m (fires_on o d.kind m).machine) (sym next.found)
+    (lowers_less 1 (fired_of d.kind m.now next.owner) m (fires_as d.kind next.owner m).machine
+    (fired_of-positive m.now next.owner d next.among next.late)
+    (fires_as-lowers d.kind m next.owner next.place h next.stands))
 
 -- where no deadline is to fire, none is late
 due-none : (m : Machine) → due m ≡ None → late_in m ≡ 0

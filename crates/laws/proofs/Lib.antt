@@ -29,3 +29,4 @@ mod Ties
 mod PeerLaws
 mod Lawful
 mod KnownWanted
+mod Clock

@@ -254,7 +254,7 @@ fires_as-keeps Reply2 m e k h s waits = ending-keeps (Fault ReplyWait) refl m e 
 fires_as-keeps Reply8 m e k h s waits = ending-keeps (Fault ReplyWait) refl m e k h s
 fires_as-keeps Reply10 m e k h s waits = ending-keeps (Fault ReplyWait) refl m e k h s
 
-fires-keeps : (d : Deadline) (m : Machine) → IsOrdered m → due m ≡ Some d → Keeps 0 m (fires d m).machine
+pub fires-keeps : (d : Deadline) (m : Machine) → IsOrdered m → due m ≡ Some d → Keeps 0 m (fires d m).machine
 fires-keeps d m h is =
     let next : Due m d = due_of m d h.orderly is in
     subst (λ o. Keeps 0 m (fires_on o d.kind m).machine) (sym next.found)
