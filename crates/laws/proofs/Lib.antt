@@ -28,3 +28,4 @@ mod Picks
 mod Ties
 mod PeerLaws
 mod KnownWanted
+mod Spending
