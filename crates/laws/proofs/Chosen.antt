@@ -27,7 +27,7 @@ chosen-apart big word number test peers h =
     let passes : Peer → Bool = λ p. is_of big p && test p in
     picks-apart big word number (filter passes peers) (filter-apart passes peers h)
 
-all-both : {X : Type 0} (P Q R : X → Type 0) → ((x : X) → P x → Q x → R x) → (xs : List X) → AllByRecursion P xs → AllByRecursion Q xs → AllByRecursion R xs
+pub all-both : {X : Type 0} (P Q R : X → Type 0) → ((x : X) → P x → Q x → R x) → (xs : List X) → AllByRecursion P xs → AllByRecursion Q xs → AllByRecursion R xs
 all-both P Q R gives [] h k = tt
 all-both P Q R gives (x ∷ xs) h k = (gives x h.0 k.0, all-both P Q R gives xs h.1 k.1)
 
@@ -63,7 +63,7 @@ all-behind : (P : Addr → Type 0) (xs ys : List Addr) → AllByRecursion P (xs 
 all-behind P [] ys h = h
 all-behind P (x ∷ xs) ys h = all-behind P xs ys h.1
 
-apart-behind : (xs ys : List Addr) → AreApart (xs ++ ys) → AreApart ys
+pub apart-behind : (xs ys : List Addr) → AreApart (xs ++ ys) → AreApart ys
 apart-behind [] ys h = h
 apart-behind (x ∷ xs) ys h = apart-behind xs ys h.1
 
@@ -76,7 +76,7 @@ not_among a (y ∷ ys) h = or_false (same_address a y) (is_listed a ys) (same_tu
     or_false b c d e = subst (λ x. (x || c) ≡ false) (sym d) e
 
 -- an address of the front is none behind it
-front-not_behind : (a : Addr) (xs ys : List Addr) → AreApart (xs ++ ys) → is_listed a xs ≡ true → is_listed a ys ≡ false
+pub front-not_behind : (a : Addr) (xs ys : List Addr) → AreApart (xs ++ ys) → is_listed a xs ≡ true → is_listed a ys ≡ false
 front-not_behind a [] ys h listed = absurd cc
 front-not_behind a (x ∷ xs) ys h listed = by_test (same_address a x) refl listed (front-not_behind a xs ys h.1)
   where
@@ -97,7 +97,7 @@ pub record PicksMembers (pick : Group → List Addr) : Type 0 where
   pub apart : (group : Group) → AreApart (pick group)
   pub members : (group : Group) → AllByRecursion (λ a. is_listed a group.members ≡ true) (pick group)
 
-picks-listed : (pick : Group → List Addr) (groups : List Group) → PicksMembers pick →
+pub picks-listed : (pick : Group → List Addr) (groups : List Group) → PicksMembers pick →
     AllByRecursion (λ a. is_listed a (members_of groups) ≡ true) (flat_map pick groups)
 picks-listed pick [] h = tt
 picks-listed pick (g ∷ groups) h =

@@ -29,3 +29,4 @@ mod Ties
 mod PeerLaws
 mod KnownWanted
 mod Spending
+mod Wanted

@@ -42,7 +42,7 @@ pub record Carried (May : Machine → Addr → Type 0) (addr : Addr) (before aft
 unfoldable pub Carries : (Machine → Addr → Type 0) → (Addr → Order) → Type 0
 Carries May order = (addr : Addr) (m : Machine) → IsOrdered m → counted_in m ≤ m.settings.hard → May m addr → Carried May addr m (carries_out (order addr) m).machine
 
-still_may : (May : Machine → Addr → Type 0) (m n : Machine) (a : Addr) (addrs : List Addr) →
+pub still_may : (May : Machine → Addr → Type 0) (m n : Machine) (a : Addr) (addrs : List Addr) →
     ((b : Addr) → same_address b a ≡ false → May m b → May n b) →
     AllByRecursion (λ b. same_address b a ≡ false) addrs → AllByRecursion (May m) addrs → AllByRecursion (May n) addrs
 still_may May m n a [] same others h = tt

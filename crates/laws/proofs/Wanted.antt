@@ -1,0 +1,128 @@
+-- Nobody is promoted or activated beyond what is wanted: the numbers of a rule are what its orders use up.
+use Rattle.std.proofs.Common.{ℕ, ◌+◌, ◌-◌, ◌%◌, ◌≤◌, ◌<◌, ◌≡◌, Bool, true, false, cond, not, ◌&&◌, ◌||◌, if◌then◌else◌, List, [], ◌∷◌, ◌++◌, length, map, filter, find, flat_map, count_by, get_or, All, Option, Some, None, is_some, refl, sym, ap, ◌∙◌, subst, arith, inl, inr}
+use Rattle.std.specs.List.{AllByRecursion, position, position_or_len}
+use Rattle.std.specs.Option.{option_map}
+use Rattle.std.proofs.lemmas.Bool.{cond_both, both_ways, and_parts, or_parts, or_from, false≢true, cases_Bool, ltb-false}
+use Rattle.std.proofs.lemmas.List.Elements.{All-from_recursion, recursion_from_All, All-weaker}
+use Rattle.std.proofs.lemmas.List.Sums.{sum_by-cons, sum_by-append, count_by-le-length, fails_before_first}
+use Rattle.net_base.specs.Address.{same_address}
+use Rattle.net_base.specs.declared.address.Addr.{Addr}
+use Rattle.net_base.specs.declared.event.Group.{Group}
+use Rattle.net_base.specs.declared.peer.Peer.{Peer}
+use Rattle.net_base.specs.declared.peer.Temp.{Temp}
+use Rattle.net_base.specs.declared.peer.Temp.TheVariants.{Cold, Warm, Hot}
+use Rattle.churn_clock.specs.Windows.{effective_of, effective_big_of}
+use Rattle.conn_state.specs.Moves.{acquired}
+use Rattle.conn_state.specs.Use.{is_acquirable}
+use Rattle.govern_rules.specs.Candidates.{is_eligible, may_be_activated}
+use Rattle.govern_rules.specs.ClassRules.{established_target, active_target, count_of, promotes, activates as activates_class}
+use Rattle.govern_rules.specs.Links.{is_pending, owes_on_2}
+use Rattle.govern_rules.specs.Orders.{picks_of}
+use Rattle.govern_rules.specs.Rules.{is_not_local, is_member_and, g4_orders, g7_orders}
+use Rattle.govern_rules.specs.declared.order.Order.{Order}
+use Rattle.govern_rules.specs.declared.order.Order.TheVariants.{Promote, Activate}
+use Rattle.govern_rules.specs.declared.status.Status.{Status}
+use Rattle.govern_rules.specs.declared.status.Status.TheVariants.{EstablishedOrPending, HotOrOwesOn2}
+use Rattle.peer_book.specs.Book.{is_of, is_established, is_active, same_temp, established_of, active_of, peer_at as peer_in}
+use Rattle.pick_policy.proofs.LeastLaws.{count_none}
+use Rattle.pick_policy.proofs.PickFacts.{length-picked, length-ranked}
+use Rattle.govern_rules.specs.Orders.{rated_of}
+use Rattle.peer_book.specs.Book.{addresses_of}
+use Rattle.root_groups.specs.Cleaned.{is_listed, members_of, group_of}
+use Rattle.machine.specs.Machine.{Machine, Entry, counted_in, live_entry_at}
+use Rattle.machine.specs.Effect.{promoted, activated, for_each}
+use Rattle.machine.specs.Replies.{owing}
+use Rattle.machine.specs.Peers.{turns_at, peer_at}
+use Rattle.machine.specs.Connections.{with_entry, acquire, dial}
+use Rattle.machine.specs.Govern.{link_of, view_of, promoted_at, is_used_at, on_entry, on_used, activates, carries_out}
+use Rattle.laws.specs.AtMoves.{number_with, members_with, established_wanted, active_wanted, IsWanted}
+use Rattle.laws.specs.Whole.{ArePeersApart, AreApart}
+use Rattle.laws.proofs.Chosen.{chosen, chosen-apart, chosen-all, all-both, PicksMembers, picks-listed, groups_picks-apart, groups_picks-all, apart-behind, front-not_behind}
+use Rattle.laws.proofs.GroupsApart.{unlisted_append}
+use Rattle.laws.proofs.Keeping.{IsOrdered}
+use Rattle.laws.proofs.KnownWanted.{Within, move-within}
+use Rattle.laws.proofs.Lists.{all-weaker, all-appended}
+use Rattle.laws.proofs.Orders.{Carried, Carries, still_may, MayActivate, activate-carried}
+use Rattle.laws.proofs.PeersApart.{all-found}
+use Rattle.laws.proofs.Picks.{filter-all, filter-passing, picks-all}
+use Rattle.laws.proofs.Promotions.{MayPromote, promotes-carried, eligible-may}
+use Rattle.laws.proofs.Spending.{ChangesAt, class_at, same_but-class, number-one, members-one, members-none, promote-changes, activate-changes}
+use Rattle.laws.proofs.Trims.{trimmed-within}
+use Rattle.laws.proofs.WholeMoves.{IsWarm}
+
+-- ---- an order that uses up what is wanted
+
+-- a promotion, or an activation: it changes one address, and is within what is wanted where its move is
+record Uses (status : Status) (wanted : Bool → Machine → ℕ) (valency : Group → ℕ) (May : Machine → Addr → Type 0) (order : Addr → Order) : Type 0 where
+  carried : Carries May order
+  changes : (addr : Addr) (m : Machine) → IsOrdered m → ChangesAt addr m (carries_out (order addr) m).machine
+  within : (addr : Addr) (m : Machine) → IsWanted status wanted valency addr m (carries_out (order addr) m).machine →
+      AllByRecursion Within (carries_out (order addr) m).moves
+  stays : (big : Bool) (addr : Addr) (m n : Machine) → ChangesAt addr m n → wanted big n ≡ wanted big m
+
+established-stays : (big : Bool) (addr : Addr) (m n : Machine) → ChangesAt addr m n → established_wanted big n ≡ established_wanted big m
+established-stays false addr m n h = λ i. (effective_of (h.targets i) (h.now i)).established
+established-stays true addr m n h = λ i. (effective_big_of (h.big_targets i) (h.now i)).established
+
+active-stays : (big : Bool) (addr : Addr) (m n : Machine) → ChangesAt addr m n → active_wanted big n ≡ active_wanted big m
+active-stays false addr m n h = λ i. (effective_of (h.targets i) (h.now i)).active
+active-stays true addr m n h = λ i. (effective_big_of (h.big_targets i) (h.now i)).active
+
+acquire-moves : (e : Entry) (m : Machine) → (acquire e m).moves ≡ []
+acquire-moves e m = by_peer (peer_at e.facts.addr m)
+  where
+    by_peer : (o : Option Peer) →
+        (turns_at o (λ p. record p { temp = Warm; failures = 0 }) (with_entry (owing 8 (e.facts.cid.0 % 65536) m (record e { facts = acquired e.facts })) m)).moves ++ [] ≡ []
+    by_peer None = refl
+    by_peer (Some p) = refl
+
+promoted_at-moves : (o : Option Entry) (addr : Addr) (m : Machine) → (promoted_at o addr m).moves ≡ []
+promoted_at-moves None addr m = refl
+promoted_at-moves (Some e) addr m = cond_both (is_acquirable e.facts) (acquire e m) (dial addr m) (λ effect. effect.moves ≡ [])
+    (λ may. acquire-moves e m) (λ other. refl)
+
+on_used-moves : (addr : Addr) (m : Machine) → (on_used addr activates m).moves ≡ []
+on_used-moves addr m = by_entry (find (is_used_at addr) m.connections)
+  where
+    by_entry : (o : Option Entry) → (on_entry o activates m).moves ≡ []
+    by_entry None = refl
+    by_entry (Some e) = refl
+
+promotes-use : Uses EstablishedOrPending established_wanted (λ group. group.warm) MayPromote Promote
+promotes-use = record {
+  carried = promotes-carried;
+  changes = promote-changes;
+  within = λ addr m wanted.
+      move-within (promoted addr) m (promoted_at (live_entry_at addr m) addr m) (promoted_at-moves (live_entry_at addr m) addr m) wanted;
+  stays = established-stays;
+}
+
+activates-use : Uses HotOrOwesOn2 active_wanted (λ group. group.hot) MayActivate Activate
+activates-use = record {
+  carried = activate-carried;
+  changes = activate-changes;
+  within = λ addr m wanted. move-within (activated addr) m (on_used addr activates m) (on_used-moves addr m) wanted;
+  stays = active-stays;
+}
+
+-- ---- one order after the other
+
+module _ {status : Status} {wanted : Bool → Machine → ℕ} {valency : Group → ℕ} {May : Machine → Addr → Type 0} {order : Addr → Order}
+    (uses : Uses status wanted valency May order) where
+
+  -- what is left for the orders that are still to come lets the first of them through, and is left for the rest
+  abbrev Lets : (List Addr → Machine → Type 0) → Type 0
+  Lets Left = (a : Addr) (addrs : List Addr) (m n : Machine) → IsOrdered m → ChangesAt a m n → Left (a ∷ addrs) m →
+      IsWanted status wanted valency a m n × Left addrs n
+
+  orders-within : (Left : List Addr → Machine → Type 0) → Lets Left → (addrs : List Addr) (m : Machine) → IsOrdered m → counted_in m ≤ m.settings.hard →
+      AreApart addrs → AllByRecursion (May m) addrs → Left addrs m → AllByRecursion Within (for_each carries_out (map order addrs) m).moves
+  unfolding for_each Carries
+  orders-within Left lets [] m h within apart may left = tt
+  orders-within Left lets (a ∷ addrs) m h within apart may left =
+      let n : Machine = (carries_out (order a) m).machine in
+      let first = uses.carried a m h within may.0 in
+      let step = lets a addrs m n h (uses.changes a m h) left in
+      all-appended Within (carries_out (order a) m).moves (for_each carries_out (map order addrs) n).moves (uses.within a m step.0)
+      (orders-within Left lets addrs n first.trimmed.ordered (trimmed-within m n first.trimmed) apart.1
+      (still_may May m n a addrs first.elsewhere apart.0 may.1) step.1)
