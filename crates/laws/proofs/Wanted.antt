@@ -1,5 +1,5 @@
 -- Nobody is promoted or activated beyond what is wanted: the numbers of a rule are what its orders use up.
-use Rattle.std.proofs.Common.{ℕ, ◌+◌, ◌-◌, ◌%◌, ◌≤◌, ◌<◌, ◌≡◌, Bool, true, false, cond, not, ◌&&◌, ◌||◌, if◌then◌else◌, List, [], ◌∷◌, ◌++◌, length, map, filter, find, flat_map, count_by, get_or, All, Option, Some, None, is_some, refl, sym, ap, ◌∙◌, subst, arith, inl, inr}
+use Rattle.std.proofs.Common.{ℕ, ◌+◌, ◌-◌, ◌%◌, ◌≤◌, ◌<◌, ◌≡◌, Bool, true, false, cond, not, nat_lt, ◌&&◌, ◌||◌, if◌then◌else◌, List, [], ◌∷◌, ◌++◌, length, map, filter, find, flat_map, count_by, get_or, All, Option, Some, None, is_some, refl, sym, ap, ◌∙◌, subst, arith, inl, inr}
 use Rattle.std.specs.List.{AllByRecursion, position, position_or_len}
 use Rattle.std.specs.Option.{option_map}
 use Rattle.std.proofs.lemmas.Bool.{cond_both, both_ways, and_parts, or_parts, or_from, false≢true, cases_Bool, ltb-false}
@@ -105,6 +105,29 @@ activates-use = record {
   stays = active-stays;
 }
 
+-- ---- the class of an address, and its group
+
+class-is : (a : Addr) (ps : List Peer) (p : Peer) (big : Bool) → peer_in a ps ≡ Some p → class_at a ps ≡ Some big → p.big ≡ big
+class-is a ps p big found class =
+    let same : Some p.big ≡ Some big = sym (ap (option_map (λ q. q.big)) found) ∙ class in
+    some_same p.big big same
+  where
+    some_same : (b c : Bool) → Some b ≡ Some c → b ≡ c
+    some_same b c e = cc
+
+unplaced : {X : Type 0} (p : X → Bool) (xs : List X) → is_some (position p xs) ≡ false → All (λ x. p x ≡ false) xs
+unplaced p xs none k d inside = elim (cases_Bool (nat_lt (position_or_len p xs) (length xs))) [
+  | inl within ↦ let some : true ≡ false = rw within at none in absurd cc
+  | inr past ↦ fails_before_first p xs k d (omega (arith, ltb-false (position_or_len p xs) (length xs) past, inside))
+]
+
+not_local-unlisted : (a : Addr) (groups : List Group) → is_not_local groups a ≡ true → All (λ group. is_listed a group.members ≡ false) groups
+not_local-unlisted a groups h = unplaced (λ group. is_listed a group.members) groups (not_true (is_some (group_of a groups)) h)
+  where
+    not_true : (b : Bool) → not b ≡ true → b ≡ false
+    not_true true h = absurd (false≢true h)
+    not_true false h = refl
+
 -- ---- one order after the other
 
 module _ {status : Status} {wanted : Bool → Machine → ℕ} {valency : Group → ℕ} {May : Machine → Addr → Type 0} {order : Addr → Order}
@@ -126,3 +149,36 @@ module _ {status : Status} {wanted : Bool → Machine → ℕ} {valency : Group 
       all-appended Within (carries_out (order a) m).moves (for_each carries_out (map order addrs) n).moves (uses.within a m step.0)
       (orders-within Left lets addrs n first.trimmed.ordered (trimmed-within m n first.trimmed) apart.1
       (still_may May m n a addrs first.elsewhere apart.0 may.1) step.1)
+
+  -- ---- by the targets of a class
+
+  -- at least as many more are wanted of a class as orders are still to come, each for a peer of it
+  record ClassLeft (big : Bool) (addrs : List Addr) (m : Machine) : Type 0 where
+    number : length addrs ≤ wanted big m - number_with status big m
+    class : AllByRecursion (λ a. class_at a m.peers ≡ Some big) addrs
+    among : AllByRecursion (λ a. (big || is_not_local m.groups a) ≡ true) addrs
+
+  class-lets : (big : Bool) → Lets (ClassLeft big)
+  class-lets big a addrs m n h changes left =
+      let more = number-one status big a m n h.formed.peers changes in
+      let number = left.number in
+      let same = uses.stays big a m n changes in
+      (
+        record {
+          by_target = λ p found either.
+              subst (λ b. number_with status b n ≤ wanted b n) (sym (class_of p found)) (omega (arith, more, number, same));
+          by_valency = λ p found ordinary. All-weaker (λ group. is_listed a group.members ≡ false)
+              (λ group. is_listed a group.members ≡ true → members_with status group n ≤ valency group)
+              (λ group unlisted listed. absurd (both_ways (is_listed a group.members) unlisted listed)) m.groups
+              (not_local-unlisted a m.groups (subst (λ b. (b || is_not_local m.groups a) ≡ true) (sym (class_of p found) ∙ ordinary) left.among.0));
+        },
+        record {
+          number = omega (arith, more, number, same);
+          class = all-weaker (λ b. class_at b m.peers ≡ Some big) (λ b. class_at b n.peers ≡ Some big)
+              (λ b is. same_but-class a b m.peers n.peers changes.peers ∙ is) addrs left.class.1;
+          among = subst (λ groups. AllByRecursion (λ b. (big || is_not_local groups b) ≡ true) addrs) (sym changes.groups) left.among.1;
+        },
+      )
+    where
+      class_of : (p : Peer) → peer_at a m ≡ Some p → p.big ≡ big
+      class_of p found = class-is a m.peers p big found left.class.0
