@@ -17,7 +17,7 @@ use Rattle.conn_state.specs.Use.{is_acquirable}
 use Rattle.govern_rules.specs.Candidates.{is_eligible, may_be_activated}
 use Rattle.govern_rules.specs.ClassRules.{established_target, active_target, count_of, promotes, activates as activates_class}
 use Rattle.govern_rules.specs.Links.{is_pending, owes_on_2}
-use Rattle.govern_rules.specs.Orders.{picks_of}
+use Rattle.govern_rules.specs.Orders.{picks_of, orders_for}
 use Rattle.govern_rules.specs.Rules.{is_not_local, is_member_and, g4_orders, g7_orders}
 use Rattle.govern_rules.specs.declared.order.Order.{Order}
 use Rattle.govern_rules.specs.declared.order.Order.TheVariants.{Promote, Activate}
@@ -128,6 +128,29 @@ not_local-unlisted a groups h = unplaced (λ group. is_listed a group.members) g
     not_true true h = absurd (false≢true h)
     not_true false h = refl
 
+-- ---- who is picked
+
+picks-most : (big : Bool) (word number : ℕ) (candidates : List Peer) → length (picks_of big word number candidates) ≤ number
+picks-most false word number candidates = length-picked (addresses_of candidates) number word
+picks-most true word number candidates = length-ranked (map rated_of candidates) number word
+
+of-class : (big : Bool) (p : Peer) → is_of big p ≡ true → p.big ≡ big
+of-class true p h = h
+of-class false p h = by_class p.big h
+  where
+    by_class : (b : Bool) → not b ≡ true → b ≡ false
+    by_class true h = absurd (false≢true h)
+    by_class false h = refl
+
+chosen-class : (big : Bool) (word number : ℕ) (test : Peer → Bool) (ps : List Peer) → ArePeersApart ps →
+    AllByRecursion (λ a. class_at a ps ≡ Some big) (chosen big word number test ps)
+chosen-class big word number test ps apart =
+    let passes : Peer → Bool = λ p. is_of big p && test p in
+    picks-all (λ a. class_at a ps ≡ Some big) big word number (filter passes ps)
+    (all-both (λ p. passes p ≡ true) (λ p. peer_in p.addr ps ≡ Some p) (λ p. class_at p.addr ps ≡ Some big)
+    (λ p h found. ap (option_map (λ q. q.big)) found ∙ ap Some (of-class big p (and_parts (is_of big p) (test p) h).0)) (filter passes ps)
+    (filter-passing passes ps) (filter-all (λ p. peer_in p.addr ps ≡ Some p) passes ps (all-found ps apart)))
+
 -- ---- one order after the other
 
 module _ {status : Status} {wanted : Bool → Machine → ℕ} {valency : Group → ℕ} {May : Machine → Addr → Type 0} {order : Addr → Order}
@@ -182,3 +205,101 @@ module _ {status : Status} {wanted : Bool → Machine → ℕ} {valency : Group 
     where
       class_of : (p : Peer) → peer_at a m ≡ Some p → p.big ≡ big
       class_of p found = class-is a m.peers p big found left.class.0
+
+  class-within : (big : Bool) (word number : ℕ) (test : Peer → Bool) (m : Machine) → IsOrdered m → counted_in m ≤ m.settings.hard →
+      number ≤ wanted big m - number_with status big m →
+      ((p : Peer) → test p ≡ true → peer_at p.addr m ≡ Some p → May m p.addr) → ((p : Peer) → test p ≡ true → (big || is_not_local m.groups p.addr) ≡ true) →
+      AllByRecursion Within (for_each carries_out (orders_for big word order number test m.peers) m).moves
+  class-within big word number test m h within few may among =
+      let picks : List Addr = chosen big word number test m.peers in
+      let most = picks-most big word number (filter (λ p. is_of big p && test p) m.peers) in
+      orders-within (ClassLeft big) (class-lets big) picks m h within (chosen-apart big word number test m.peers h.formed.peers)
+      (chosen-all (May m) big word number test m.peers h.formed.peers may)
+      (record {
+        number = omega (arith, most, few);
+        class = chosen-class big word number test m.peers h.formed.peers;
+        among = chosen-all (λ a. (big || is_not_local m.groups a) ≡ true) big word number test m.peers h.formed.peers (λ p passes found. among p passes);
+      })
+
+-- ---- the numbers of the rules
+
+-- whoever has one of two statuses has the first or the second
+count_by-either : {X : Type 0} (c s t : X → Bool) (xs : List X) →
+    count_by (λ x. c x && (s x || t x)) xs ≤ count_by (λ x. c x && s x) xs + count_by (λ x. c x && t x) xs
+count_by-either c s t [] = omega arith
+count_by-either {X} c s t (x ∷ xs) =
+    let both = sum_by-cons (λ y. cond {A = ℕ} (c y && (s y || t y)) 1 0) x xs in
+    let first = sum_by-cons (λ y. cond {A = ℕ} (c y && s y) 1 0) x xs in
+    let second = sum_by-cons (λ y. cond {A = ℕ} (c y && t y) 1 0) x xs in
+    omega (arith, both, first, second, one (c x) (s x) (t x), count_by-either c s t xs)
+  where
+    one : (i j k : Bool) → cond {A = ℕ} (i && (j || k)) 1 0 ≤ cond {A = ℕ} (i && j) 1 0 + cond {A = ℕ} (i && k) 1 0
+    one true true k = omega arith
+    one true false k = omega arith
+    one false j k = omega arith
+
+promotes-number : (big : Bool) (word : ℕ) (m : Machine) →
+    established_target big (view_of word m) - established_of big m.peers - count_of big (is_pending (map link_of m.connections)) m.peers
+    ≤ established_wanted big m - number_with EstablishedOrPending big m
+promotes-number big word m =
+    let split = count_by-either (is_of big) (λ p. is_established p.temp) (λ p. is_pending (map link_of m.connections) p.addr) m.peers in
+    let same : established_target big (view_of word m) ≡ established_wanted big m = by_class big in
+    omega (arith, split, same)
+  where
+    by_class : (b : Bool) → established_target b (view_of word m) ≡ established_wanted b m
+    by_class true = refl
+    by_class false = refl
+
+active-hot : (t : Temp) → is_active t ≡ same_temp t Hot
+active-hot Cold = refl
+active-hot Warm = refl
+active-hot Hot = refl
+
+activates-number : (big : Bool) (word : ℕ) (m : Machine) →
+    active_target big (view_of word m) - active_of big m.peers - count_of big (owes_on_2 (map link_of m.connections)) m.peers
+    ≤ active_wanted big m - number_with HotOrOwesOn2 big m
+activates-number big word m =
+    let split = count_by-either (is_of big) (λ p. same_temp p.temp Hot) (λ p. owes_on_2 (map link_of m.connections) p.addr) m.peers in
+    let hot : active_of big m.peers ≡ count_by (λ p. is_of big p && same_temp p.temp Hot) m.peers = λ i. count_by (λ p. is_of big p && active-hot p.temp i) m.peers in
+    let same : active_target big (view_of word m) ≡ active_wanted big m = by_class big in
+    omega (arith, split, hot, same)
+  where
+    by_class : (b : Bool) → active_target b (view_of word m) ≡ active_wanted b m
+    by_class true = refl
+    by_class false = refl
+
+-- ---- who may be activated
+
+activate-may : (p : Peer) (m : Machine) → may_be_activated (map link_of m.connections) p ≡ true → peer_at p.addr m ≡ Some p → MayActivate m p.addr
+activate-may p m passes found =
+    subst IsWarm (sym found) (is_warm p.temp (and_parts (same_temp p.temp Warm) (not (owes_on_2 (map link_of m.connections) p.addr)) passes).0)
+  where
+    is_warm : (t : Temp) → same_temp t Warm ≡ true → t ≡ Warm
+    is_warm Cold h = absurd (false≢true h)
+    is_warm Warm h = refl
+    is_warm Hot h = absurd (false≢true h)
+
+-- ---- rules by the targets
+
+-- of big ledger peers, or of ordinary ones among those that are no local peers
+pub promotes-within : (big : Bool) (among : Addr → Bool) (word : ℕ) (m : Machine) →
+    ((a : Addr) → among a ≡ true → (big || is_not_local m.groups a) ≡ true) → IsOrdered m → counted_in m ≤ m.settings.hard →
+    AllByRecursion Within (for_each carries_out (promotes big among (view_of word m) m.peers) m).moves
+promotes-within big among word m only h within =
+    let eligible : Peer → Bool = is_eligible m.now (map link_of m.connections) in
+    class-within promotes-use big word
+    (established_target big (view_of word m) - established_of big m.peers - count_of big (is_pending (map link_of m.connections)) m.peers)
+    (λ p. among p.addr && eligible p) m h within (promotes-number big word m)
+    (λ p passes found. eligible-may p m h (and_parts (among p.addr) (eligible p) passes).1 found)
+    (λ p passes. only p.addr (and_parts (among p.addr) (eligible p) passes).0)
+
+pub activates-within : (big : Bool) (among : Addr → Bool) (word : ℕ) (m : Machine) →
+    ((a : Addr) → among a ≡ true → (big || is_not_local m.groups a) ≡ true) → IsOrdered m → counted_in m ≤ m.settings.hard →
+    AllByRecursion Within (for_each carries_out (activates_class big among (view_of word m) m.peers) m).moves
+activates-within big among word m only h within =
+    let warm : Peer → Bool = may_be_activated (map link_of m.connections) in
+    class-within activates-use big word
+    (active_target big (view_of word m) - active_of big m.peers - count_of big (owes_on_2 (map link_of m.connections)) m.peers)
+    (λ p. among p.addr && warm p) m h within (activates-number big word m)
+    (λ p passes found. activate-may p m (and_parts (among p.addr) (warm p) passes).1 found)
+    (λ p passes. only p.addr (and_parts (among p.addr) (warm p) passes).0)
