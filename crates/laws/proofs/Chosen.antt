@@ -1,5 +1,5 @@
 -- The peers that orders go to: no address twice, and of a group members only.
-use Rattle.std.proofs.Common.{ℕ, ◌≡◌, Bool, true, false, ◌&&◌, ◌||◌, List, [], ◌∷◌, ◌++◌, filter, flat_map, Some, refl, sym, subst}
+use Rattle.std.proofs.Common.{ℕ, ◌≡◌, Bool, true, false, ◌&&◌, ◌||◌, List, [], ◌∷◌, ◌++◌, map, filter, flat_map, Some, refl, sym, ap, subst}
 use Rattle.std.specs.List.{AllByRecursion}
 use Rattle.std.proofs.lemmas.Bool.{both_ways, and_parts, false_from_ne_true}
 use Rattle.net_base.specs.Address.{same_address}
@@ -9,6 +9,7 @@ use Rattle.net_base.specs.declared.peer.Peer.{Peer}
 use Rattle.peer_book.specs.Book.{is_of, peer_at}
 use Rattle.root_groups.specs.Cleaned.{is_listed, members_of}
 use Rattle.govern_rules.specs.Orders.{picks_of}
+use Rattle.govern_rules.specs.declared.order.Order.{Order}
 use Rattle.laws.specs.Whole.{ArePeersApart, AreApart}
 use Rattle.laws.proofs.Addresses.{same_address-true}
 use Rattle.laws.proofs.GroupsApart.{append-apart}
@@ -123,3 +124,14 @@ pub groups_picks-all : (P : Addr → Type 0) (pick : Group → List Addr) (group
     AllByRecursion P (flat_map pick groups)
 groups_picks-all P pick [] each = tt
 groups_picks-all P pick (g ∷ groups) each = all-appended P (pick g) (flat_map pick groups) (each g) (groups_picks-all P pick groups each)
+
+-- one list of orders for the picks of all groups
+pub map-groups : (order : Addr → Order) (pick : Group → List Addr) (groups : List Group) →
+    flat_map (λ g. map order (pick g)) groups ≡ map order (flat_map pick groups)
+map-groups order pick [] = refl
+map-groups order pick (g ∷ groups) = by_picks (pick g) (map-groups order pick groups)
+  where
+    by_picks : (xs : List Addr) → flat_map (λ x. map order (pick x)) groups ≡ map order (flat_map pick groups) →
+        map order xs ++ flat_map (λ x. map order (pick x)) groups ≡ map order (xs ++ flat_map pick groups)
+    by_picks [] rest = rest
+    by_picks (x ∷ xs) rest = ap (λ orders. order x ∷ orders) (by_picks xs rest)

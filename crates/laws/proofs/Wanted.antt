@@ -1,8 +1,8 @@
 -- Nobody is promoted or activated beyond what is wanted: the numbers of a rule are what its orders use up.
-use Rattle.std.proofs.Common.{ℕ, ◌+◌, ◌-◌, ◌%◌, ◌≤◌, ◌<◌, ◌≡◌, Bool, true, false, cond, not, nat_lt, ◌&&◌, ◌||◌, if◌then◌else◌, List, [], ◌∷◌, ◌++◌, length, map, filter, find, flat_map, count_by, get_or, All, Option, Some, None, is_some, refl, sym, ap, ◌∙◌, subst, arith, inl, inr}
+use Rattle.std.proofs.Common.{ℕ, ◌+◌, ◌-◌, ◌%◌, ◌≤◌, ◌≡◌, Bool, true, false, cond, not, nat_lt, ◌&&◌, ◌||◌, List, [], ◌∷◌, ◌++◌, length, map, filter, find, flat_map, count_by, All, Option, Some, None, is_some, refl, sym, ap, ◌∙◌, subst, arith, inl, inr}
 use Rattle.std.specs.List.{AllByRecursion, position, position_or_len}
 use Rattle.std.specs.Option.{option_map}
-use Rattle.std.proofs.lemmas.Bool.{cond_both, both_ways, and_parts, or_parts, or_from, false≢true, cases_Bool, ltb-false}
+use Rattle.std.proofs.lemmas.Bool.{cond_both, both_ways, and_parts, or_parts, or_from, false_from_ne_true, false≢true, not-true, cases_Bool, ltb-false}
 use Rattle.std.proofs.lemmas.List.Elements.{All-from_recursion, recursion_from_All, All-weaker}
 use Rattle.std.proofs.lemmas.List.Sums.{sum_by-cons, sum_by-append, count_by-le-length, fails_before_first}
 use Rattle.net_base.specs.Address.{same_address}
@@ -37,12 +37,12 @@ use Rattle.machine.specs.Connections.{with_entry, acquire, dial}
 use Rattle.machine.specs.Govern.{link_of, view_of, promoted_at, is_used_at, on_entry, on_used, activates, carries_out}
 use Rattle.laws.specs.AtMoves.{number_with, members_with, established_wanted, active_wanted, IsWanted}
 use Rattle.laws.specs.Whole.{ArePeersApart, AreApart}
-use Rattle.laws.proofs.Chosen.{chosen, chosen-apart, chosen-all, all-both, PicksMembers, picks-listed, groups_picks-apart, groups_picks-all, apart-behind, front-not_behind}
+use Rattle.laws.proofs.Chosen.{chosen, chosen-apart, chosen-all, all-both, PicksMembers, picks-listed, groups_picks-apart, groups_picks-all, apart-behind, front-not_behind, map-groups}
 use Rattle.laws.proofs.GroupsApart.{unlisted_append}
 use Rattle.laws.proofs.Keeping.{IsOrdered}
 use Rattle.laws.proofs.KnownWanted.{Within, move-within}
 use Rattle.laws.proofs.Lists.{all-weaker, all-appended}
-use Rattle.laws.proofs.Orders.{Carried, Carries, still_may, MayActivate, activate-carried}
+use Rattle.laws.proofs.Orders.{Carries, still_may, MayActivate, activate-carried}
 use Rattle.laws.proofs.PeersApart.{all-found}
 use Rattle.laws.proofs.Picks.{filter-all, filter-passing, picks-all}
 use Rattle.laws.proofs.Promotions.{MayPromote, promotes-carried, eligible-may}
@@ -122,11 +122,7 @@ unplaced p xs none k d inside = elim (cases_Bool (nat_lt (position_or_len p xs) 
 ]
 
 not_local-unlisted : (a : Addr) (groups : List Group) → is_not_local groups a ≡ true → All (λ group. is_listed a group.members ≡ false) groups
-not_local-unlisted a groups h = unplaced (λ group. is_listed a group.members) groups (not_true (is_some (group_of a groups)) h)
-  where
-    not_true : (b : Bool) → not b ≡ true → b ≡ false
-    not_true true h = absurd (false≢true h)
-    not_true false h = refl
+not_local-unlisted a groups h = unplaced (λ group. is_listed a group.members) groups (not-true (is_some (group_of a groups)) h)
 
 -- ---- who is picked
 
@@ -136,11 +132,7 @@ picks-most true word number candidates = length-ranked (map rated_of candidates)
 
 of-class : (big : Bool) (p : Peer) → is_of big p ≡ true → p.big ≡ big
 of-class true p h = h
-of-class false p h = by_class p.big h
-  where
-    by_class : (b : Bool) → not b ≡ true → b ≡ false
-    by_class true h = absurd (false≢true h)
-    by_class false h = refl
+of-class false p h = not-true p.big h
 
 chosen-class : (big : Bool) (word number : ℕ) (test : Peer → Bool) (ps : List Peer) → ArePeersApart ps →
     AllByRecursion (λ a. class_at a ps ≡ Some big) (chosen big word number test ps)
@@ -151,11 +143,59 @@ chosen-class big word number test ps apart =
     (λ p h found. ap (option_map (λ q. q.big)) found ∙ ap Some (of-class big p (and_parts (is_of big p) (test p) h).0)) (filter passes ps)
     (filter-passing passes ps) (filter-all (λ p. peer_in p.addr ps ≡ Some p) passes ps (all-found ps apart)))
 
+-- ---- the picks of groups
+
+not_in-both : (a : Addr) (xs ys : List Addr) → is_listed a xs ≡ false → is_listed a ys ≡ false → is_listed a (xs ++ ys) ≡ false
+not_in-both a [] ys h k = k
+not_in-both a (x ∷ xs) ys h k =
+    let parts = or_parts (same_address a x) (is_listed a xs) h in
+    or_from (same_address a x) (is_listed a (xs ++ ys)) parts.0 (not_in-both a xs ys parts.1 k)
+
+not_in-all : (a : Addr) (groups : List Group) → AllByRecursion (λ group. is_listed a group.members ≡ false) groups → is_listed a (members_of groups) ≡ false
+not_in-all a [] h = refl
+not_in-all a (g ∷ groups) h = not_in-both a g.members (members_of groups) h.0 (not_in-all a groups h.1)
+
+-- addresses that are in no group count for none
+none_in-each : (addrs : List Addr) (groups : List Group) → AllByRecursion (λ a. is_listed a (members_of groups) ≡ false) addrs →
+    AllByRecursion (λ group. count_by (λ a. is_listed a group.members) addrs ≡ 0) groups
+none_in-each addrs [] h = tt
+none_in-each addrs (g ∷ groups) h = (
+  count_none (λ a. is_listed a g.members) addrs
+      (all-weaker (λ a. is_listed a (g.members ++ members_of groups) ≡ false) (λ a. is_listed a g.members ≡ false)
+      (λ a none. (unlisted_append a g.members (members_of groups) none).0) addrs h),
+  none_in-each addrs groups
+      (all-weaker (λ a. is_listed a (g.members ++ members_of groups) ≡ false) (λ a. is_listed a (members_of groups) ≡ false)
+      (λ a none. (unlisted_append a g.members (members_of groups) none).1) addrs h),
+)
+
+-- of all picks only a group's own are its members
+own_picks : (pick : Group → List Addr) (groups : List Group) → PicksMembers pick → AreApart (members_of groups) →
+    AllByRecursion (λ group. count_by (λ a. is_listed a group.members) (flat_map pick groups) ≤ length (pick group)) groups
+own_picks pick [] h apart = tt
+own_picks pick (g ∷ groups) h apart =
+    let rest : List Addr = members_of groups in
+    let others : List Addr = flat_map pick groups in
+    let all = count_by-le-length (λ a. is_listed a g.members) (pick g) in
+    let none : count_by (λ a. is_listed a g.members) others ≡ 0 =
+    count_none (λ a. is_listed a g.members) others
+    (all-weaker (λ a. is_listed a rest ≡ true) (λ a. is_listed a g.members ≡ false)
+    (λ a there. false_from_ne_true (is_listed a g.members) (λ here. both_ways (is_listed a rest) (front-not_behind a g.members rest apart here) there))
+    others (picks-listed pick groups h)) in
+    let both = sum_by-append (λ a. cond {A = ℕ} (is_listed a g.members) 1 0) (pick g) others in (
+      omega (arith, all, none, both),
+      all-both (λ x. count_by (λ a. is_listed a x.members) (pick g) ≡ 0) (λ x. count_by (λ a. is_listed a x.members) others ≤ length (pick x))
+          (λ x. count_by (λ a. is_listed a x.members) (pick g ++ others) ≤ length (pick x))
+          (λ x zero few. let parts = sum_by-append (λ a. cond {A = ℕ} (is_listed a x.members) 1 0) (pick g) others in omega (arith, zero, few, parts)) groups
+          (none_in-each (pick g) groups
+          (all-weaker (λ a. is_listed a g.members ≡ true) (λ a. is_listed a rest ≡ false) (λ a here. front-not_behind a g.members rest apart here) (pick g)
+          (h.members g)))
+          (own_picks pick groups h (apart-behind g.members rest apart)),
+    )
+
 -- ---- one order after the other
 
 module _ {status : Status} {wanted : Bool → Machine → ℕ} {valency : Group → ℕ} {May : Machine → Addr → Type 0} {order : Addr → Order}
     (uses : Uses status wanted valency May order) where
-
   -- what is left for the orders that are still to come lets the first of them through, and is left for the rest
   abbrev Lets : (List Addr → Machine → Type 0) → Type 0
   Lets Left = (a : Addr) (addrs : List Addr) (m n : Machine) → IsOrdered m → ChangesAt a m n → Left (a ∷ addrs) m →
@@ -185,8 +225,7 @@ module _ {status : Status} {wanted : Bool → Machine → ℕ} {valency : Group 
   class-lets big a addrs m n h changes left =
       let more = number-one status big a m n h.formed.peers changes in
       let number = left.number in
-      let same = uses.stays big a m n changes in
-      (
+      let same = uses.stays big a m n changes in (
         record {
           by_target = λ p found either.
               subst (λ b. number_with status b n ≤ wanted b n) (sym (class_of p found)) (omega (arith, more, number, same));
@@ -220,6 +259,84 @@ module _ {status : Status} {wanted : Bool → Machine → ℕ} {valency : Group 
         class = chosen-class big word number test m.peers h.formed.peers;
         among = chosen-all (λ a. (big || is_not_local m.groups a) ≡ true) big word number test m.peers h.formed.peers (λ p passes found. among p passes);
       })
+
+  -- ---- by the valencies of groups
+
+  -- as many more members are wanted at least as orders are still to come for members
+  abbrev HasLeft : List Addr → Machine → Group → Type 0
+  HasLeft addrs m group = count_by (λ a. is_listed a group.members) addrs ≤ valency group - members_with status group m
+
+  record GroupsLeft (addrs : List Addr) (m : Machine) : Type 0 where
+    numbers : AllByRecursion (HasLeft addrs m) m.groups
+    class : AllByRecursion (λ a. class_at a m.peers ≡ Some false) addrs
+    among : AllByRecursion (λ a. is_listed a (members_of m.groups) ≡ true) addrs
+
+  groups-lets : Lets GroupsLeft
+  groups-lets a addrs m n h changes left = (
+    record {
+      by_target = λ p found either.
+          let unlisted : is_listed a (members_of m.groups) ≡ false =
+          not_in-all a m.groups (recursion_from_All (λ group. is_listed a group.members ≡ false) m.groups
+          (not_local-unlisted a m.groups (subst (λ b. (b || is_not_local m.groups a) ≡ true) (class_of p found) either))) in
+          absurd (both_ways (is_listed a (members_of m.groups)) unlisted left.among.0);
+      by_valency = λ p found ordinary. All-from_recursion Within_valency m.groups
+          (all-weaker (HasLeft (a ∷ addrs) m) Within_valency (λ group left listed. listed-within group left listed) m.groups left.numbers);
+    },
+    record {
+      numbers = subst (AllByRecursion (HasLeft addrs n)) (sym changes.groups)
+          (all-weaker (HasLeft (a ∷ addrs) m) (HasLeft addrs n) (λ group left. still_left group left (is_listed a group.members) refl) m.groups left.numbers);
+      class = all-weaker (λ b. class_at b m.peers ≡ Some false) (λ b. class_at b n.peers ≡ Some false)
+          (λ b is. same_but-class a b m.peers n.peers changes.peers ∙ is) addrs left.class.1;
+      among = subst (λ groups. AllByRecursion (λ b. is_listed b (members_of groups) ≡ true) addrs) (sym changes.groups) left.among.1;
+    },
+  )
+    where
+      Within_valency : Group → Type 0
+      Within_valency group = is_listed a group.members ≡ true → members_with status group n ≤ valency group
+
+      class_of : (p : Peer) → peer_at a m ≡ Some p → p.big ≡ false
+      class_of p found = class-is a m.peers p false found left.class.0
+
+      one-of : (b : Bool) → b ≡ true → cond {A = ℕ} b 1 0 ≡ 1
+      one-of b is = ap (λ c. cond {A = ℕ} c 1 0) is
+
+      listed-within : (group : Group) → HasLeft (a ∷ addrs) m group → is_listed a group.members ≡ true → members_with status group n ≤ valency group
+      listed-within group number listed =
+          let first = sum_by-cons (λ b. cond {A = ℕ} (is_listed b group.members) 1 0) a addrs in
+          omega (arith, number, first, one-of (is_listed a group.members) listed, members-one status group a m n h.formed.peers changes)
+
+      still_left : (group : Group) → HasLeft (a ∷ addrs) m group → (b : Bool) → is_listed a group.members ≡ b → HasLeft addrs n group
+      still_left group number true listed =
+          let first = sum_by-cons (λ b. cond {A = ℕ} (is_listed b group.members) 1 0) a addrs in
+          omega (arith, number, first, one-of (is_listed a group.members) listed, members-one status group a m n h.formed.peers changes)
+      still_left group number false unlisted =
+          let first = sum_by-cons (λ b. cond {A = ℕ} (is_listed b group.members) 1 0) a addrs in
+          omega (arith, number, first, members-none status group a m n unlisted changes)
+
+  groups-within : (word : ℕ) (test : Peer → Bool) (m : Machine) → IsOrdered m → counted_in m ≤ m.settings.hard →
+      ((p : Peer) → test p ≡ true → peer_at p.addr m ≡ Some p → May m p.addr) →
+      AllByRecursion Within (for_each carries_out
+      (flat_map (λ g. orders_for false word order (valency g - members_with status g m) (is_member_and g test) m.peers) m.groups) m).moves
+  groups-within word test m h within may =
+      let number : Group → ℕ = λ g. valency g - members_with status g m in
+      let pick : Group → List Addr = λ g. chosen false word (number g) (is_member_and g test) m.peers in
+      let picks : PicksMembers pick = record {
+        apart = λ g. chosen-apart false word (number g) (is_member_and g test) m.peers h.formed.peers;
+        members = λ g. chosen-all (λ a. is_listed a g.members ≡ true) false word (number g) (is_member_and g test) m.peers h.formed.peers
+            (λ p passes found. (and_parts (is_listed p.addr g.members) (test p) passes).0);
+      } in
+      subst (λ orders. AllByRecursion Within (for_each carries_out orders m).moves) (sym (map-groups order pick m.groups))
+      (orders-within GroupsLeft groups-lets (flat_map pick m.groups) m h within (groups_picks-apart pick m.groups picks h.formed.groups)
+      (groups_picks-all (May m) pick m.groups (λ g. chosen-all (May m) false word (number g) (is_member_and g test) m.peers h.formed.peers
+      (λ p passes found. may p (and_parts (is_listed p.addr g.members) (test p) passes).1 found)))
+      (record {
+        numbers = all-weaker (λ g. count_by (λ a. is_listed a g.members) (flat_map pick m.groups) ≤ length (pick g)) (HasLeft (flat_map pick m.groups) m)
+            (λ g own. let most = picks-most false word (number g) (filter (λ p. is_of false p && is_member_and g test p) m.peers) in omega (arith, own, most))
+            m.groups (own_picks pick m.groups picks h.formed.groups);
+        class = groups_picks-all (λ a. class_at a m.peers ≡ Some false) pick m.groups
+            (λ g. chosen-class false word (number g) (is_member_and g test) m.peers h.formed.peers);
+        among = picks-listed pick m.groups picks;
+      }))
 
 -- ---- the numbers of the rules
 
@@ -303,3 +420,15 @@ activates-within big among word m only h within =
     (λ p. among p.addr && warm p) m h within (activates-number big word m)
     (λ p passes found. activate-may p m (and_parts (among p.addr) (warm p) passes).1 found)
     (λ p passes. only p.addr (and_parts (among p.addr) (warm p) passes).0)
+
+-- ---- rules by the valencies
+
+pub groups_promotes-within : (word : ℕ) (m : Machine) → IsOrdered m → counted_in m ≤ m.settings.hard →
+    AllByRecursion Within (for_each carries_out (g4_orders (view_of word m) m.peers m.groups) m).moves
+groups_promotes-within word m h within =
+    groups-within promotes-use word (is_eligible m.now (map link_of m.connections)) m h within (λ p passes found. eligible-may p m h passes found)
+
+pub groups_activates-within : (word : ℕ) (m : Machine) → IsOrdered m → counted_in m ≤ m.settings.hard →
+    AllByRecursion Within (for_each carries_out (g7_orders (view_of word m) m.peers m.groups) m).moves
+groups_activates-within word m h within =
+    groups-within activates-use word (may_be_activated (map link_of m.connections)) m h within (λ p passes found. activate-may p m passes found)
