@@ -1,5 +1,5 @@
 -- The peers that orders go to: no address twice, and of a group members only.
-use Rattle.std.proofs.Common.{ℕ, ◌≡◌, Bool, true, false, ◌&&◌, ◌||◌, List, [], ◌∷◌, ◌++◌, filter, flat_map, Some, refl, sym, subst}
+use Rattle.std.proofs.Common.{ℕ, ◌≡◌, Bool, true, false, ◌&&◌, ◌||◌, List, [], ◌∷◌, ◌++◌, map, filter, flat_map, Some, refl, sym, ap, subst}
 use Rattle.std.specs.List.{AllByRecursion}
 use Rattle.std.proofs.lemmas.Bool.{both_ways, and_parts, false_from_ne_true}
 use Rattle.net_base.specs.Address.{same_address}
@@ -9,6 +9,7 @@ use Rattle.net_base.specs.declared.peer.Peer.{Peer}
 use Rattle.peer_book.specs.Book.{is_of, peer_at}
 use Rattle.root_groups.specs.Cleaned.{is_listed, members_of}
 use Rattle.govern_rules.specs.Orders.{picks_of}
+use Rattle.govern_rules.specs.declared.order.Order.{Order}
 use Rattle.laws.specs.Whole.{ArePeersApart, AreApart}
 use Rattle.laws.proofs.Addresses.{same_address-true}
 use Rattle.laws.proofs.GroupsApart.{append-apart}
@@ -59,7 +60,7 @@ all-behind : (P : Addr → Type 0) (xs ys : List Addr) → AllByRecursion P (xs 
 all-behind P [] ys h = h
 all-behind P (x ∷ xs) ys h = all-behind P xs ys h.1
 
-apart-behind : (xs ys : List Addr) → AreApart (xs ++ ys) → AreApart ys
+pub apart-behind : (xs ys : List Addr) → AreApart (xs ++ ys) → AreApart ys
 apart-behind [] ys h = h
 apart-behind (x ∷ xs) ys h = apart-behind xs ys h.1
 
@@ -72,7 +73,7 @@ not_among a (y ∷ ys) h = or_false (same_address a y) (is_listed a ys) (same_tu
     or_false b c d e = subst (λ x. (x || c) ≡ false) (sym d) e
 
 -- an address of the front is none behind it
-front-not_behind : (a : Addr) (xs ys : List Addr) → AreApart (xs ++ ys) → is_listed a xs ≡ true → is_listed a ys ≡ false
+pub front-not_behind : (a : Addr) (xs ys : List Addr) → AreApart (xs ++ ys) → is_listed a xs ≡ true → is_listed a ys ≡ false
 front-not_behind a [] ys h listed = absurd cc
 front-not_behind a (x ∷ xs) ys h listed = by_test (same_address a x) refl listed (front-not_behind a xs ys h.1)
   where
@@ -93,7 +94,7 @@ pub record PicksMembers (pick : Group → List Addr) : Type 0 where
   pub apart : (group : Group) → AreApart (pick group)
   pub members : (group : Group) → AllByRecursion (λ a. is_listed a group.members ≡ true) (pick group)
 
-picks-listed : (pick : Group → List Addr) (groups : List Group) → PicksMembers pick →
+pub picks-listed : (pick : Group → List Addr) (groups : List Group) → PicksMembers pick →
     AllByRecursion (λ a. is_listed a (members_of groups) ≡ true) (flat_map pick groups)
 picks-listed pick [] h = tt
 picks-listed pick (g ∷ groups) h =
@@ -119,3 +120,14 @@ pub groups_picks-all : (P : Addr → Type 0) (pick : Group → List Addr) (group
     AllByRecursion P (flat_map pick groups)
 groups_picks-all P pick [] each = tt
 groups_picks-all P pick (g ∷ groups) each = all-appended P (pick g) (flat_map pick groups) (each g) (groups_picks-all P pick groups each)
+
+-- one list of orders for the picks of all groups
+pub map-groups : (order : Addr → Order) (pick : Group → List Addr) (groups : List Group) →
+    flat_map (λ g. map order (pick g)) groups ≡ map order (flat_map pick groups)
+map-groups order pick [] = refl
+map-groups order pick (g ∷ groups) = by_picks (pick g) (map-groups order pick groups)
+  where
+    by_picks : (xs : List Addr) → flat_map (λ x. map order (pick x)) groups ≡ map order (flat_map pick groups) →
+        map order xs ++ flat_map (λ x. map order (pick x)) groups ≡ map order (xs ++ flat_map pick groups)
+    by_picks [] rest = rest
+    by_picks (x ∷ xs) rest = ap (λ orders. order x ∷ orders) (by_picks xs rest)

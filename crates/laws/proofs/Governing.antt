@@ -13,24 +13,29 @@ use Rattle.conn_state.specs.Use.{is_live, is_live_at}
 use Rattle.peer_book.specs.Book.{is_established, same_temp}
 use Rattle.root_groups.specs.Cleaned.{is_listed}
 use Rattle.root_groups.specs.RootAsk.{may_ask, asked}
+use Rattle.govern_rules.specs.BigRules.{everybody, big_orders}
+use Rattle.govern_rules.specs.declared.big_rule.BigRule.TheVariants.{B5, B8}
 use Rattle.govern_rules.specs.Candidates.{is_eligible, may_be_forgotten, may_be_released, may_be_activated, may_be_deactivated}
 use Rattle.govern_rules.specs.ClassRules.{deactivates}
 use Rattle.govern_rules.specs.Links.{some_link, is_pending as is_pending_link, owes_on_2, owes_a_reply}
 use Rattle.govern_rules.specs.Orders.{orders_for}
-use Rattle.govern_rules.specs.Rules.{is_not_local, may_be_dropped, is_member_and, members_count, deactivates_members, g4_orders, g7_orders, g9_orders}
+use Rattle.govern_rules.specs.Rules.{is_not_local, may_be_dropped, is_member_and, members_count, deactivates_members, g4_orders, g5_orders, g7_orders, g8_orders, g9_orders}
 use Rattle.govern_rules.specs.declared.link.Link.{Link}
 use Rattle.govern_rules.specs.declared.order.Order.{Order}
 use Rattle.govern_rules.specs.declared.order.Order.TheVariants.{Ask, Forget, Promote, Release, Activate, Deactivate}
 use Rattle.machine.specs.Machine.{Machine, Entry, counted_in, live_entry_at}
-use Rattle.machine.specs.Effect.{nothing_more, tells, for_each}
+use Rattle.machine.specs.Effect.{Effect, Move, nothing_more, tells, then_do, for_each}
 use Rattle.machine.specs.Peers.{peer_at}
 use Rattle.machine.specs.Replies.{reply_on}
 use Rattle.machine.specs.Govern.{link_of, view_of, is_used_at, carries_out, asks_roots, ordinary_rules, big_rules, rules, govern}
-use Rattle.laws.proofs.Chosen.{chosen, chosen-apart, chosen-all, PicksMembers, groups_picks-apart, groups_picks-all}
+use Rattle.laws.specs.AtMoves.{Faults, IsLawful}
+use Rattle.laws.proofs.Chosen.{chosen, chosen-apart, chosen-all, PicksMembers, groups_picks-apart, groups_picks-all, map-groups}
 use Rattle.laws.proofs.Keeping.{IsOrdered, Keeps, keeps_nothing, elsewhere-keeps}
+use Rattle.laws.proofs.Lawful.{IsQuiet, quiet-obeys, IsAllowed, Within, allowed_within}
 use Rattle.laws.proofs.Orders.{Carries, orders-trimmed, Always, ask-carried, IsCold, IsIdle, MayForget, forget-carried, MayRelease, release-carried, MayActivate, activate-carried, deactivate-carried}
 use Rattle.laws.proofs.Promotions.{MayPromote, promotes-carried, eligible-may}
-use Rattle.laws.proofs.Trims.{Trimmed, keeps-trimmed, trimmed_then, trimmed-within}
+use Rattle.laws.proofs.Trims.{Trimmed, keeps-trimmed, nothing-trimmed, trimmed_then, trimmed_both, trimmed-within}
+use Rattle.laws.proofs.Wanted.{promotes-within, activates-within, groups_promotes-within, groups_activates-within}
 use Rattle.laws.proofs.WholeMoves.{IsWarm}
 
 -- ---- what the links say
@@ -118,10 +123,6 @@ activate-gives m p passes found =
     subst IsWarm (sym found)
     (is_temp p.temp Warm (and_parts (same_temp p.temp Warm) (not (owes_on_2 (map link_of m.connections) p.addr)) passes).0)
 
-always-gives : (test : Peer → Bool) (m : Machine) → Gives Always test m
-unfolding Gives
-always-gives test m p passes found = tt
-
 -- a stricter test gives it too
 and-gives : (May : Machine → Addr → Type 0) (among : Peer → Bool) (test : Peer → Bool) (m : Machine) → Gives May test m →
     Gives May (λ p. among p && test p) m
@@ -130,11 +131,12 @@ and-gives May among test m gives p passes found = gives p (and_parts (among p) (
 
 -- ---- rules by the targets
 
-class-trimmed : (May : Machine → Addr → Type 0) (order : Addr → Order) → Carries May order → (big : Bool) (word number : ℕ) (test : Peer → Bool) (m : Machine) →
-    IsOrdered m → counted_in m ≤ m.settings.hard → Gives May test m → Trimmed m (for_each carries_out (orders_for big word order number test m.peers) m).machine
+class-trimmed : (Law : Move → Type 0) (May : Machine → Addr → Type 0) (order : Addr → Order) → Carries Law May order → (big : Bool) (word number : ℕ) (test : Peer → Bool)
+    (m : Machine) → IsOrdered m → counted_in m ≤ m.settings.hard → Gives May test m →
+    Trimmed Law m (for_each carries_out (orders_for big word order number test m.peers) m)
 unfolding Gives
-class-trimmed May order each big word number test m h within gives =
-    orders-trimmed May order each (chosen big word number test m.peers) m h within (chosen-apart big word number test m.peers h.formed.peers)
+class-trimmed Law May order each big word number test m h within gives =
+    orders-trimmed Law May order each (chosen big word number test m.peers) m h within (chosen-apart big word number test m.peers h.formed.peers)
     (chosen-all (May m) big word number test m.peers h.formed.peers gives)
 
 -- ---- rules by the valencies
@@ -146,132 +148,156 @@ members_orders order word number test m g = orders_for false word order (number 
 abbrev members_chosen : ℕ → (Group → ℕ) → (Peer → Bool) → Machine → Group → List Addr
 members_chosen word number test m g = chosen false word (number g) (is_member_and g test) m.peers
 
-map-groups : (order : Addr → Order) (pick : Group → List Addr) (groups : List Group) →
-    flat_map (λ g. map order (pick g)) groups ≡ map order (flat_map pick groups)
-map-groups order pick [] = refl
-map-groups order pick (g ∷ groups) = by_picks (pick g) (map-groups order pick groups)
-  where
-    by_picks : (xs : List Addr) → flat_map (λ x. map order (pick x)) groups ≡ map order (flat_map pick groups) →
-        map order xs ++ flat_map (λ x. map order (pick x)) groups ≡ map order (xs ++ flat_map pick groups)
-    by_picks [] rest = rest
-    by_picks (x ∷ xs) rest = ap (λ orders. order x ∷ orders) (by_picks xs rest)
-
-groups-trimmed : (May : Machine → Addr → Type 0) (order : Addr → Order) → Carries May order → (word : ℕ) (number : Group → ℕ) (test : Peer → Bool) (m : Machine) →
-    IsOrdered m → counted_in m ≤ m.settings.hard → Gives May test m →
-    Trimmed m (for_each carries_out (flat_map (members_orders order word number test m) m.groups) m).machine
+groups-trimmed : (Law : Move → Type 0) (May : Machine → Addr → Type 0) (order : Addr → Order) → Carries Law May order → (word : ℕ) (number : Group → ℕ) (test : Peer → Bool)
+    (m : Machine) → IsOrdered m → counted_in m ≤ m.settings.hard → Gives May test m →
+    Trimmed Law m (for_each carries_out (flat_map (members_orders order word number test m) m.groups) m)
 unfolding Gives
-groups-trimmed May order each word number test m h within gives =
+groups-trimmed Law May order each word number test m h within gives =
     let pick : Group → List Addr = members_chosen word number test m in
     let picks : PicksMembers pick = record {
       apart = λ g. chosen-apart false word (number g) (is_member_and g test) m.peers h.formed.peers;
       members = λ g. chosen-all (λ a. is_listed a g.members ≡ true) false word (number g) (is_member_and g test) m.peers h.formed.peers
           (λ p passes found. (and_parts (is_listed p.addr g.members) (test p) passes).0);
     } in
-    subst (λ orders. Trimmed m (for_each carries_out orders m).machine) (sym (map-groups order pick m.groups))
-    (orders-trimmed May order each (flat_map pick m.groups) m h within (groups_picks-apart pick m.groups picks h.formed.groups)
+    subst (λ orders. Trimmed Law m (for_each carries_out orders m)) (sym (map-groups order pick m.groups))
+    (orders-trimmed Law May order each (flat_map pick m.groups) m h within (groups_picks-apart pick m.groups picks h.formed.groups)
     (groups_picks-all (May m) pick m.groups (λ g. chosen-all (May m) false word (number g) (is_member_and g test) m.peers h.formed.peers
     (λ p passes found. gives p (and_parts (is_listed p.addr g.members) (test p) passes).1 found))))
 
--- one list of orders after another, where the second may be given at any moment
-for_each-append : (xs ys : List Order) (m : Machine) →
-    (for_each carries_out (xs ++ ys) m).machine ≡ (for_each carries_out ys (for_each carries_out xs m).machine).machine
-unfolding for_each
-for_each-append [] ys m = refl
-for_each-append (x ∷ xs) ys m = for_each-append xs ys (carries_out x m).machine
-
-always-trimmed : (order : Addr → Order) → Carries Always order → (addrs : List Addr) (m : Machine) → IsOrdered m → counted_in m ≤ m.settings.hard →
-    Trimmed m (for_each carries_out (map order addrs) m).machine
+-- where an order may be given at any moment
+always-trimmed : (Law : Move → Type 0) (order : Addr → Order) → Carries Law Always order → (addrs : List Addr) (m : Machine) → IsOrdered m →
+    counted_in m ≤ m.settings.hard → Trimmed Law m (for_each carries_out (map order addrs) m)
 unfolding for_each Carries
-always-trimmed order each [] m h within = keeps-trimmed m m within (keeps_nothing m h)
-always-trimmed order each (a ∷ addrs) m h within =
-    let n : Machine = (carries_out (order a) m).machine in
-    let first : Trimmed m n = (each a m h within tt).trimmed in
-    trimmed_then m n (for_each carries_out (map order addrs) n).machine first
-    (always-trimmed order each addrs n first.ordered (trimmed-within m n first))
+always-trimmed Law order each [] m h within = nothing-trimmed Law m within h
+always-trimmed Law order each (a ∷ addrs) m h within =
+    let effect : Effect = carries_out (order a) m in
+    let first : Trimmed Law m effect = (each a m h within tt).trimmed in
+    trimmed_then Law m effect (for_each carries_out (map order addrs)) first
+    (always-trimmed Law order each addrs effect.machine first.ordered (trimmed-within Law m effect first))
+
+-- one list of orders after another
+appended-trimmed : (Law : Move → Type 0) (xs ys : List Order) (m : Machine) → Trimmed Law m (for_each carries_out xs m) →
+    Trimmed Law (for_each carries_out xs m).machine (for_each carries_out ys (for_each carries_out xs m).machine) → Trimmed Law m (for_each carries_out (xs ++ ys) m)
+appended-trimmed Law xs ys m one two = APPEND
 
 -- ---- each rule
+
+-- what a rule does with a machine that is in order and within the limit
+DoesLawful : Faults → (Machine → Effect) → Type 0
+DoesLawful faults act = (m : Machine) → IsOrdered m → counted_in m ≤ m.settings.hard → Trimmed (IsLawful faults) m (act m)
+
+-- promotions and activations are lawful where they are within what is wanted
+wanted-lawful : (faults : Faults) (m : Machine) (effect : Effect) → Trimmed (IsAllowed faults) m effect → AllByRecursion Within effect.moves → Trimmed (IsLawful faults) m effect
+wanted-lawful faults m effect allowed within = trimmed_both (IsAllowed faults) Within (IsLawful faults) (allowed_within faults) m effect allowed within
 
 abbrev deactivated_members : ℕ → Machine → Group → List Addr
 deactivated_members word m g =
     chosen false word (members_count g may_be_deactivated m.peers - g.hot) (is_member_and g may_be_deactivated) m.peers
 
-g4-trimmed : (word : ℕ) (m : Machine) → IsOrdered m → counted_in m ≤ m.settings.hard → Trimmed m (for_each carries_out (g4_orders (view_of word m) m.peers m.groups) m).machine
-g4-trimmed word m h within =
-    groups-trimmed MayPromote Promote promotes-carried word
+g4-trimmed : (faults : Faults) (word : ℕ) → DoesLawful faults (rules (λ m. g4_orders (view_of word m) m.peers m.groups))
+unfolding DoesLawful
+g4-trimmed faults word m h within =
+    wanted-lawful faults m (rules (λ m. g4_orders (view_of word m) m.peers m.groups) m)
+    (groups-trimmed (IsAllowed faults) MayPromote Promote (promotes-carried faults) word
     (λ g. g.warm - members_count g (λ p. is_established p.temp || is_pending_link (map link_of m.connections) p.addr) m.peers)
-    (is_eligible m.now (map link_of m.connections)) m h within (promote-gives m h)
+    (is_eligible m.now (map link_of m.connections)) m h within (promote-gives m h))
+    (groups_promotes-within word m h within)
 
-g7-trimmed : (word : ℕ) (m : Machine) → IsOrdered m → counted_in m ≤ m.settings.hard → Trimmed m (for_each carries_out (g7_orders (view_of word m) m.peers m.groups) m).machine
-g7-trimmed word m h within =
-    groups-trimmed MayActivate Activate activate-carried word
+g5-trimmed : (faults : Faults) (word : ℕ) → DoesLawful faults (rules (λ m. g5_orders (view_of word m) m.peers m.groups))
+unfolding DoesLawful
+g5-trimmed faults word m h within =
+    wanted-lawful faults m (rules (λ m. g5_orders (view_of word m) m.peers m.groups) m)
+    (class-trimmed (IsAllowed faults) MayPromote Promote (promotes-carried faults) false word _ _ m h within
+    (and-gives MayPromote (λ p. is_not_local m.groups p.addr) (is_eligible m.now (map link_of m.connections)) m (promote-gives m h)))
+    (promotes-within false (is_not_local m.groups) word m (λ a other. other) h within)
+
+g7-trimmed : (faults : Faults) (word : ℕ) → DoesLawful faults (rules (λ m. g7_orders (view_of word m) m.peers m.groups))
+unfolding DoesLawful
+g7-trimmed faults word m h within =
+    wanted-lawful faults m (rules (λ m. g7_orders (view_of word m) m.peers m.groups) m)
+    (groups-trimmed (IsAllowed faults) MayActivate Activate (activate-carried faults) word
     (λ g. g.hot - members_count g (λ p. same_temp p.temp Hot || owes_on_2 (map link_of m.connections) p.addr) m.peers)
-    (may_be_activated (map link_of m.connections)) m h within (activate-gives m)
+    (may_be_activated (map link_of m.connections)) m h within (activate-gives m))
+    (groups_activates-within word m h within)
 
-g9-trimmed : (word : ℕ) (m : Machine) → IsOrdered m → counted_in m ≤ m.settings.hard → Trimmed m (for_each carries_out (g9_orders (view_of word m) m.peers m.groups) m).machine
-g9-trimmed word m h within =
+g8-trimmed : (faults : Faults) (word : ℕ) → DoesLawful faults (rules (λ m. g8_orders (view_of word m) m.peers m.groups))
+unfolding DoesLawful
+g8-trimmed faults word m h within =
+    wanted-lawful faults m (rules (λ m. g8_orders (view_of word m) m.peers m.groups) m)
+    (class-trimmed (IsAllowed faults) MayActivate Activate (activate-carried faults) false word _ _ m h within
+    (and-gives MayActivate (λ p. is_not_local m.groups p.addr) (may_be_activated (map link_of m.connections)) m (activate-gives m)))
+    (activates-within false (is_not_local m.groups) word m (λ a other. other) h within)
+
+g9-trimmed : (faults : Faults) (word : ℕ) → DoesLawful faults (rules (λ m. g9_orders (view_of word m) m.peers m.groups))
+unfolding DoesLawful
+g9-trimmed faults word m h within =
     let first : List Order = deactivates false (is_not_local m.groups) (view_of word m) m.peers in
     let members : List Order = flat_map (deactivates_members (view_of word m) m.peers) m.groups in
-    let n : Machine = (for_each carries_out first m).machine in
-    let one : Trimmed m n = always-trimmed Deactivate deactivate-carried _ m h within in
-    let two : Trimmed n (for_each carries_out members n).machine =
-    subst (λ orders. Trimmed n (for_each carries_out orders n).machine) (sym (map-groups Deactivate (deactivated_members word m) m.groups))
-    (always-trimmed Deactivate deactivate-carried (flat_map (deactivated_members word m) m.groups) n one.ordered (trimmed-within m n one)) in
-    subst (λ o. Trimmed m o) (sym (for_each-append first members m)) (trimmed_then m n (for_each carries_out members n).machine one two)
+    let effect : Effect = for_each carries_out first m in
+    let one : Trimmed (IsLawful faults) m effect = always-trimmed (IsLawful faults) Deactivate (deactivate-carried (IsLawful faults)) _ m h within in
+    let two : Trimmed (IsLawful faults) effect.machine (for_each carries_out members effect.machine) =
+    subst (λ orders. Trimmed (IsLawful faults) effect.machine (for_each carries_out orders effect.machine))
+    (sym (map-groups Deactivate (deactivated_members word m) m.groups))
+    (always-trimmed (IsLawful faults) Deactivate (deactivate-carried (IsLawful faults)) (flat_map (deactivated_members word m) m.groups) effect.machine one.ordered
+    (trimmed-within (IsLawful faults) m effect one)) in
+    appended-trimmed (IsLawful faults) first members m one two
+
+b5-trimmed : (faults : Faults) (word : ℕ) → DoesLawful faults (rules (λ m. big_orders B5 (view_of word m) m.peers))
+unfolding DoesLawful
+b5-trimmed faults word m h within =
+    wanted-lawful faults m (rules (λ m. big_orders B5 (view_of word m) m.peers) m)
+    (class-trimmed (IsAllowed faults) MayPromote Promote (promotes-carried faults) true word _ _ m h within (promote-gives m h))
+    (promotes-within true everybody word m (λ a other. refl) h within)
+
+b8-trimmed : (faults : Faults) (word : ℕ) → DoesLawful faults (rules (λ m. big_orders B8 (view_of word m) m.peers))
+unfolding DoesLawful
+b8-trimmed faults word m h within =
+    wanted-lawful faults m (rules (λ m. big_orders B8 (view_of word m) m.peers) m)
+    (class-trimmed (IsAllowed faults) MayActivate Activate (activate-carried faults) true word _ _ m h within (activate-gives m))
+    (activates-within true everybody word m (λ a other. refl) h within)
 
 -- ---- all rules
 
--- a rule's orders, at the moment in which they are given
-Rules : (Machine → List Order) → Type 0
-Rules orders = (m : Machine) → IsOrdered m → counted_in m ≤ m.settings.hard → Trimmed m (rules orders m).machine
+all-rules : (faults : Faults) (each : List (Machine → List Order)) → AllByRecursion (λ orders. DoesLawful faults (rules orders)) each → DoesLawful faults (for_each rules each)
+unfolding for_each DoesLawful
+all-rules faults [] h m o within = nothing-trimmed (IsLawful faults) m within o
+all-rules faults (r ∷ rs) h m o within =
+    let effect : Effect = rules r m in
+    let first : Trimmed (IsLawful faults) m effect = h.0 m o within in
+    trimmed_then (IsLawful faults) m effect (for_each rules rs) first
+    (all-rules faults rs h.1 effect.machine first.ordered (trimmed-within (IsLawful faults) m effect first))
 
-all-rules : (each : List (Machine → List Order)) → AllByRecursion Rules each → (m : Machine) → IsOrdered m → counted_in m ≤ m.settings.hard →
-    Trimmed m (for_each rules each m).machine
-unfolding for_each Rules
-all-rules [] h m o within = keeps-trimmed m m within (keeps_nothing m o)
-all-rules (r ∷ rs) h m o within =
-    let n : Machine = (rules r m).machine in
-    let first : Trimmed m n = h.0 m o within in
-    trimmed_then m n (for_each rules rs n).machine first (all-rules rs h.1 n first.ordered (trimmed-within m n first))
-
-big-rules : (word : ℕ) → AllByRecursion Rules (big_rules word)
-unfolding Rules
-big-rules word = (
-  (λ m h within. class-trimmed MayForget Forget forget-carried true word _ _ m h within (forget-gives m)),
+big-rules : (faults : Faults) (word : ℕ) → AllByRecursion (λ orders. DoesLawful faults (rules orders)) (big_rules word)
+unfolding DoesLawful
+big-rules faults word = (
+  (λ m h within. class-trimmed (IsLawful faults) MayForget Forget (forget-carried (IsLawful faults)) true word _ _ m h within (forget-gives m)),
   (
-    (λ m h within. class-trimmed MayPromote Promote promotes-carried true word _ _ m h within (promote-gives m h)),
+    b5-trimmed faults word,
     (
-      (λ m h within. class-trimmed MayRelease Release release-carried true word _ _ m h within (release-gives m)),
+      (λ m h within. class-trimmed (IsLawful faults) MayRelease Release (release-carried faults) true word _ _ m h within (release-gives m)),
       (
-        (λ m h within. class-trimmed MayActivate Activate activate-carried true word _ _ m h within (activate-gives m)),
-        ((λ m h within. always-trimmed Deactivate deactivate-carried _ m h within), tt),
+        b8-trimmed faults word,
+        ((λ m h within. always-trimmed (IsLawful faults) Deactivate (deactivate-carried (IsLawful faults)) _ m h within), tt),
       ),
     ),
   ),
 )
 
-ordinary-rules : (word : ℕ) → AllByRecursion Rules (ordinary_rules word)
-unfolding Rules
-ordinary-rules word = (
-  (λ m h within. always-trimmed (λ addr. Ask addr _) (ask-carried _) _ m h within),
+ordinary-rules : (faults : Faults) (word : ℕ) → AllByRecursion (λ orders. DoesLawful faults (rules orders)) (ordinary_rules word)
+unfolding DoesLawful
+ordinary-rules faults word = (
+  (λ m h within. always-trimmed (IsLawful faults) (λ addr. Ask addr _) (ask-carried (IsLawful faults) _) _ m h within),
   (
-    (λ m h within. class-trimmed MayForget Forget forget-carried false word _ _ m h within
+    (λ m h within. class-trimmed (IsLawful faults) MayForget Forget (forget-carried (IsLawful faults)) false word _ _ m h within
         (and-gives MayForget (λ p. may_be_dropped m.groups m.roots.publics p.addr) (may_be_forgotten (map link_of m.connections)) m (forget-gives m))),
     (
-      g4-trimmed word,
+      g4-trimmed faults word,
       (
-        (λ m h within. class-trimmed MayPromote Promote promotes-carried false word _ _ m h within
-            (and-gives MayPromote (λ p. is_not_local m.groups p.addr) (is_eligible m.now (map link_of m.connections)) m (promote-gives m h))),
+        g5-trimmed faults word,
         (
-          (λ m h within. class-trimmed MayRelease Release release-carried false word _ _ m h within
+          (λ m h within. class-trimmed (IsLawful faults) MayRelease Release (release-carried faults) false word _ _ m h within
               (and-gives MayRelease (λ p. is_not_local m.groups p.addr) (may_be_released (map link_of m.connections)) m (release-gives m))),
-          (
-            g7-trimmed word,
-            (
-              (λ m h within. class-trimmed MayActivate Activate activate-carried false word _ _ m h within
-                  (and-gives MayActivate (λ p. is_not_local m.groups p.addr) (may_be_activated (map link_of m.connections)) m (activate-gives m))),
-              (g9-trimmed word, tt),
-            ),
-          ),
+          (g7-trimmed faults word, (g8-trimmed faults word, (g9-trimmed faults word, tt))),
         ),
       ),
     ),
@@ -285,12 +311,20 @@ asks_roots-keeps m h = cond_both (may_ask m.now m.targets.root m.roots)
     (λ too_few. elsewhere-keeps m.targets m.big_targets m.groups (asked m.roots) m h h.formed.groups)
     (λ enough. keeps_nothing m h)
 
-pub govern-trimmed : (word : ℕ) (m : Machine) → IsOrdered m → counted_in m ≤ m.settings.hard → Trimmed m (govern word m).machine
-govern-trimmed word m h within =
-    let n : Machine = (asks_roots m).machine in
-    let o : Machine = (for_each rules (ordinary_rules word) n).machine in
-    let roots : Trimmed m n = keeps-trimmed m n within (asks_roots-keeps m h) in
-    let ordinary : Trimmed n o = all-rules (ordinary_rules word) (ordinary-rules word) n roots.ordered (trimmed-within m n roots) in
-    let both : Trimmed m o = trimmed_then m n o roots ordinary in
-    trimmed_then m o (for_each rules (big_rules word) o).machine both
-    (all-rules (big_rules word) (big-rules word) o both.ordered (trimmed-within m o both))
+asks_roots-quiet : (m : Machine) → IsQuiet m (asks_roots m)
+asks_roots-quiet m = cond_both (may_ask m.now m.targets.root m.roots)
+    (tells (AskRoots (record { 0 = m.roots.next_job }) ∷ []) (record m { roots = asked m.roots })) (nothing_more m) (IsQuiet m)
+    (λ too_few. record { moves = refl; connections = refl }) (λ enough. record { moves = refl; connections = refl })
+
+pub govern-trimmed : (faults : Faults) (word : ℕ) (m : Machine) → IsOrdered m → counted_in m ≤ m.settings.hard → Trimmed (IsLawful faults) m (govern word m)
+unfolding DoesLawful
+govern-trimmed faults word m h within =
+    let first : Effect = asks_roots m in
+    let one : Trimmed (IsLawful faults) m first =
+    keeps-trimmed (IsLawful faults) m first within (asks_roots-keeps m h) (quiet-obeys (IsLawful faults) m first (asks_roots-quiet m)) in
+    let second : Effect = for_each rules (ordinary_rules word) first.machine in
+    let two : Trimmed (IsLawful faults) first.machine second =
+    all-rules faults (ordinary_rules word) (ordinary-rules faults word) first.machine one.ordered (trimmed-within (IsLawful faults) m first one) in
+    trimmed_then (IsLawful faults) m first (λ m. then_do (for_each rules (ordinary_rules word) m) (for_each rules (big_rules word))) one
+    (trimmed_then (IsLawful faults) first.machine second (for_each rules (big_rules word)) two
+    (all-rules faults (big_rules word) (big-rules faults word) second.machine two.ordered (trimmed-within (IsLawful faults) first.machine second two)))

@@ -29,7 +29,7 @@ unlisted_push a last (x ∷ before) h =
     by_both : (b c : Bool) → b ≡ false → c ≡ false → (b || c) ≡ false
     by_both b c d e = subst (λ x. (x || c) ≡ false) (sym d) e
 
-unlisted_append : (a : Addr) (before more : List Addr) → is_listed a (before ++ more) ≡ false → (is_listed a before ≡ false) × (is_listed a more ≡ false)
+pub unlisted_append : (a : Addr) (before more : List Addr) → is_listed a (before ++ more) ≡ false → (is_listed a before ≡ false) × (is_listed a more ≡ false)
 unlisted_append a [] more h = (refl, h)
 unlisted_append a (x ∷ before) more h =
     let parts = or_split (same_address a x) (is_listed a (before ++ more)) h in

@@ -1,5 +1,5 @@
 -- No more addresses come into the book than are wanted.
-use Rattle.std.proofs.Common.{ℕ, ◌+◌, ◌-◌, ◌≤◌, ◌<◌, ◌≡◌, Bool, true, false, cond, not, ◌&&◌, nat_lt, if◌then◌else◌, List, [], ◌∷◌, length, take, Option, Some, None, is_some, refl, sym, ap, ◌∙◌, subst, arith, ltb-true}
+use Rattle.std.proofs.Common.{ℕ, ◌+◌, ◌-◌, ◌≤◌, ◌<◌, ◌≡◌, Bool, true, false, cond, not, ◌&&◌, nat_lt, if◌then◌else◌, List, [], ◌∷◌, ◌++◌, length, take, Option, Some, None, is_some, refl, sym, ap, ◌∙◌, subst, arith, ltb-true}
 use Rattle.std.specs.List.{AllByRecursion}
 use Rattle.std.proofs.lemmas.Bool.{and_parts}
 use Rattle.std.proofs.lemmas.List.{length-take}
@@ -16,7 +16,7 @@ use Rattle.share_rounds.specs.Rounds.{room_for, is_new, taken_after}
 use Rattle.warm_messages.specs.declared.share.Share.{Share}
 use Rattle.warm_messages.specs.declared.share.Share.TheVariants.{Request, Peers, Done}
 use Rattle.machine.specs.Machine.{Machine}
-use Rattle.machine.specs.Effect.{Effect, Move, shared, nothing_more, as_move, for_each}
+use Rattle.machine.specs.Effect.{Effect, Happened, Move, shared, nothing_more, as_move, for_each}
 use Rattle.machine.specs.Peers.{peer_at, note_of_coming, peer_comes}
 use Rattle.machine.specs.Provided.{is_wanted_big, comes_big, bigs_are}
 use Rattle.machine.specs.Talking.{shares_address, taken_of, takes_addresses}
@@ -27,6 +27,12 @@ use Rattle.laws.proofs.Ties.{put_in-here}
 
 abbrev pub Within : Move → Type 0
 Within move = WithinTargets move.happened move.before move.after
+
+-- a part that is one move
+pub move-within : (happened : Happened) (before : Machine) (effect : Effect) → effect.moves ≡ [] → WithinTargets happened before effect.machine →
+    AllByRecursion Within (as_move happened before effect).moves
+move-within happened before effect none within =
+    subst (λ moves. AllByRecursion Within (moves ++ record { happened = happened; before = before; after = effect.machine } ∷ [])) (sym none) (within, tt)
 
 -- ---- an address comes into the book
 
@@ -92,11 +98,8 @@ coming big addr m = as_move (shared addr) m (peer_comes big addr m)
 
 coming-within : (big : Bool) (addr : Addr) (m : Machine) → known_of big m.peers < known_wanted big m → AllByRecursion Within (coming big addr m).moves
 coming-within big addr m fewer =
-    subst (λ moves. AllByRecursion Within moves) (sym only)
-    (subst (λ n. IsWantedNew addr m n) (sym (comes-machine big addr m)) (came-within big addr m fewer), tt)
-  where
-    only : (coming big addr m).moves ≡ record { happened = shared addr; before = m; after = (peer_comes big addr m).machine } ∷ []
-    only = rw (comes-moves big addr m) refl
+    move-within (shared addr) m (peer_comes big addr m) (comes-moves big addr m)
+    (subst (λ n. IsWantedNew addr m n) (sym (comes-machine big addr m)) (came-within big addr m fewer))
 
 -- ---- addresses that a peer told
 

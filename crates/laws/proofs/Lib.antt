@@ -30,3 +30,5 @@ mod PeerLaws
 mod Lawful
 mod KnownWanted
 mod Clock
+mod Spending
+mod Wanted

@@ -47,7 +47,7 @@ unfoldable pub Carries : (Move → Type 0) → (Machine → Addr → Type 0) →
 Carries Law May order =
     (addr : Addr) (m : Machine) → IsOrdered m → counted_in m ≤ m.settings.hard → May m addr → Carried Law May addr m (carries_out (order addr) m)
 
-still_may : (May : Machine → Addr → Type 0) (m n : Machine) (a : Addr) (addrs : List Addr) →
+pub still_may : (May : Machine → Addr → Type 0) (m n : Machine) (a : Addr) (addrs : List Addr) →
     ((b : Addr) → same_address b a ≡ false → May m b → May n b) →
     AllByRecursion (λ b. same_address b a ≡ false) addrs → AllByRecursion (May m) addrs → AllByRecursion (May n) addrs
 still_may May m n a [] same others h = tt

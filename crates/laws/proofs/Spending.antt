@@ -1,0 +1,321 @@
+-- A move at one address raises what is counted by one at most.
+use Rattle.std.proofs.Common.{ℕ, zero, suc, ◌+◌, ◌%◌, ◌≤◌, ◌≡◌, Bool, true, false, cond, ◌&&◌, ◌||◌, if◌then◌else◌, set, List, [], ◌∷◌, ◌++◌, map, find, count_by, Option, Some, None, refl, sym, ap, ◌∙◌, subst, arith}
+use Rattle.std.specs.List.{AllByRecursion}
+use Rattle.std.specs.Option.{option_map}
+use Rattle.std.proofs.lemmas.Bool.{and_parts}
+use Rattle.std.proofs.lemmas.List.Sums.{sum_by-cons}
+use Rattle.net_base.specs.Address.{same_address}
+use Rattle.net_base.specs.declared.address.Addr.{Addr}
+use Rattle.net_base.specs.declared.event.Group.{Group}
+use Rattle.net_base.specs.declared.peer.Peer.{Peer}
+use Rattle.net_base.specs.declared.peer.Temp.TheVariants.{Warm}
+use Rattle.conn_state.specs.Moves.{dialing, acquired}
+use Rattle.conn_state.specs.Use.{is_live, is_live_at, is_acquirable}
+use Rattle.govern_rules.specs.Links.{some_link}
+use Rattle.govern_rules.specs.Statuses.{has_status}
+use Rattle.govern_rules.specs.declared.link.Link.{Link}
+use Rattle.govern_rules.specs.declared.status.Status.{Status}
+use Rattle.govern_rules.specs.declared.status.Status.TheVariants.{Pending, OwesOn2, OwesOn10, EstablishedOrPending, HotOrOwesOn2, Hot}
+use Rattle.peer_book.specs.Book.{has_address, is_of, is_established, same_temp, peer_at as peer_in, with_peer}
+use Rattle.net_base.specs.declared.peer.Temp.TheVariants as temp
+use Rattle.root_groups.specs.Cleaned.{is_listed}
+use Rattle.machine.specs.Machine.{Machine, Entry, fresh_entry, live_entry_at}
+use Rattle.machine.specs.Replies.{owing}
+use Rattle.machine.specs.Peers.{turns_at, peer_at}
+use Rattle.machine.specs.Connections.{with_entry, acquire, dial}
+use Rattle.machine.specs.Govern.{link_of, promoted_at, promote, is_used_at, on_entry, activates, activate}
+use Rattle.laws.specs.AtMoves.{links_in, number_with, members_with}
+use Rattle.laws.specs.Whole.{ArePeersApart}
+use Rattle.laws.proofs.Addresses.{same_address-true}
+use Rattle.laws.proofs.Entries.{TurnsInto, turned-connections}
+use Rattle.laws.proofs.Keeping.{IsOrdered}
+use Rattle.laws.proofs.Lists.{StandsAt, stands_before, FoundIn, find_some}
+use Rattle.laws.proofs.PeersApart.{same_turned}
+
+-- ---- books that differ at one address
+
+-- a peer that stays, or stays of its class where it has the address
+pub record IsSameBut (addr : Addr) (p q : Peer) : Type 0 where
+  pub same_addr : q.addr ≡ p.addr
+  pub same_class : q.big ≡ p.big
+  pub elsewhere : same_address p.addr addr ≡ false → q ≡ p
+
+pub AreSameBut : Addr → List Peer → List Peer → Type 0
+AreSameBut addr [] [] = Unit {0}
+AreSameBut addr [] (q ∷ qs) = ⊥
+AreSameBut addr (p ∷ ps) [] = ⊥
+AreSameBut addr (p ∷ ps) (q ∷ qs) = IsSameBut addr p q × AreSameBut addr ps qs
+
+same_but-self : (addr : Addr) (p : Peer) → IsSameBut addr p p
+same_but-self addr p = record { same_addr = refl; same_class = refl; elsewhere = λ other. refl }
+
+pub all_same : (addr : Addr) (ps : List Peer) → AreSameBut addr ps ps
+unfolding AreSameBut
+all_same addr [] = tt
+all_same addr (p ∷ ps) = (same_but-self addr p, all_same addr ps)
+
+-- one takes the place of the peer with its address
+with_peer-same : (new : Peer) (ps : List Peer) → AllByRecursion (λ q. same_address q.addr new.addr ≡ false) ps → AreSameBut new.addr ps (with_peer new ps)
+unfolding AreSameBut
+with_peer-same new [] others = tt
+with_peer-same new (p ∷ ps) others =
+    (subst (λ b. IsSameBut new.addr p (if b then new else p)) (sym others.0) (same_but-self new.addr p), with_peer-same new ps others.1)
+
+pub with_peer-same_but : (new p : Peer) (ps : List Peer) → ArePeersApart ps → peer_in new.addr ps ≡ Some p → new.big ≡ p.big →
+    AreSameBut new.addr ps (with_peer new ps)
+unfolding AreSameBut
+with_peer-same_but new p [] apart found class = tt
+with_peer-same_but new p (q ∷ ps) apart found class = by_test (has_address new.addr q) refl found (with_peer-same_but new p ps apart.1)
+  where
+    by_test : (b : Bool) → has_address new.addr q ≡ b → cond b (Some q) (peer_in new.addr ps) ≡ Some p →
+        (peer_in new.addr ps ≡ Some p → new.big ≡ p.big → AreSameBut new.addr ps (with_peer new ps)) →
+        IsSameBut new.addr q (if b then new else q) × AreSameBut new.addr ps (with_peer new ps)
+    by_test true here found later =
+        let same : q ≡ p = cc in
+        let addr : q.addr ≡ new.addr = same_address-true q.addr new.addr here in (
+          record {
+            same_addr = sym addr;
+            same_class = class ∙ ap (λ x. x.big) (sym same);
+            elsewhere = λ other. let never : true ≡ false = sym here ∙ other in absurd cc;
+          },
+          with_peer-same new ps (subst (λ a. AllByRecursion (λ x. same_address x.addr a ≡ false) ps) addr apart.0),
+        )
+    by_test false other found later = (same_but-self new.addr q, later found class)
+
+-- ---- the class of an address
+
+abbrev pub class_at : Addr → List Peer → Option Bool
+class_at addr ps = option_map (λ p. p.big) (peer_in addr ps)
+
+pub same_but-class : (addr b : Addr) (ps qs : List Peer) → AreSameBut addr ps qs → class_at b qs ≡ class_at b ps
+unfolding AreSameBut
+same_but-class addr b [] [] h = refl
+same_but-class addr b [] (q ∷ qs) h = elim h [ ]
+same_but-class addr b (p ∷ ps) [] h = elim h [ ]
+same_but-class addr b (p ∷ ps) (q ∷ qs) h =
+    ap (λ a. option_map (λ x. x.big) (cond (same_address a b) (Some q) (peer_in b qs))) h.0.same_addr
+    ∙ by_test (same_address p.addr b) (same_but-class addr b ps qs h.1)
+  where
+    by_test : (c : Bool) → class_at b qs ≡ class_at b ps →
+        option_map (λ x. x.big) (cond c (Some q) (peer_in b qs)) ≡ option_map (λ x. x.big) (cond c (Some p) (peer_in b ps))
+    by_test true rest = ap Some h.0.same_class
+    by_test false rest = rest
+
+-- ---- what is counted
+
+one-most : (b : Bool) → cond {A = ℕ} b 1 0 ≤ 1
+one-most true = omega arith
+one-most false = omega arith
+
+-- none is counted anew where whoever has the address fails
+pub counted-none : (addr : Addr) (s t : Peer → Bool) (ps qs : List Peer) → AreSameBut addr ps qs →
+    ((p : Peer) → same_address p.addr addr ≡ false → t p ≡ s p) → ((q : Peer) → same_address q.addr addr ≡ true → t q ≡ false) →
+    count_by t qs ≤ count_by s ps
+unfolding AreSameBut
+counted-none addr s t [] [] h other fails = omega arith
+counted-none addr s t [] (q ∷ qs) h other fails = elim h [ ]
+counted-none addr s t (p ∷ ps) [] h other fails = elim h [ ]
+counted-none addr s t (p ∷ ps) (q ∷ qs) h other fails =
+    let here : cond {A = ℕ} (t q) 1 0 ≤ cond {A = ℕ} (s p) 1 0 = by_test (same_address p.addr addr) refl in
+    let rest = counted-none addr s t ps qs h.1 other fails in
+    let before = sum_by-cons (λ x. cond {A = ℕ} (s x) 1 0) p ps in
+    let after = sum_by-cons (λ x. cond {A = ℕ} (t x) 1 0) q qs in
+    omega (arith, here, rest, before, after)
+  where
+    by_test : (b : Bool) → same_address p.addr addr ≡ b → cond {A = ℕ} (t q) 1 0 ≤ cond {A = ℕ} (s p) 1 0
+    by_test true at =
+        let none : t q ≡ false = fails q (ap (λ a. same_address a addr) h.0.same_addr ∙ at) in
+        subst (λ b. cond {A = ℕ} b 1 0 ≤ cond {A = ℕ} (s p) 1 0) (sym none) (omega arith)
+    by_test false elsewhere =
+        let same : t q ≡ s p = ap t (h.0.elsewhere elsewhere) ∙ other p elsewhere in
+        subst (λ b. cond {A = ℕ} b 1 0 ≤ cond {A = ℕ} (s p) 1 0) (sym same) (omega arith)
+
+counted-others : (addr : Addr) (s t : Peer → Bool) (ps qs : List Peer) → AreSameBut addr ps qs →
+    ((p : Peer) → same_address p.addr addr ≡ false → t p ≡ s p) → AllByRecursion (λ p. same_address p.addr addr ≡ false) ps →
+    count_by t qs ≤ count_by s ps
+unfolding AreSameBut
+counted-others addr s t [] [] h other apart = omega arith
+counted-others addr s t [] (q ∷ qs) h other apart = elim h [ ]
+counted-others addr s t (p ∷ ps) [] h other apart = elim h [ ]
+counted-others addr s t (p ∷ ps) (q ∷ qs) h other apart =
+    let same : cond {A = ℕ} (t q) 1 0 ≡ cond {A = ℕ} (s p) 1 0 = ap (λ b. cond {A = ℕ} b 1 0) (ap t (h.0.elsewhere apart.0) ∙ other p apart.0) in
+    let rest = counted-others addr s t ps qs h.1 other apart.1 in
+    let before = sum_by-cons (λ x. cond {A = ℕ} (s x) 1 0) p ps in
+    let after = sum_by-cons (λ x. cond {A = ℕ} (t x) 1 0) q qs in
+    omega (arith, same, rest, before, after)
+
+-- at most one more, since no two peers have one address
+pub counted-one : (addr : Addr) (s t : Peer → Bool) (ps qs : List Peer) → ArePeersApart ps → AreSameBut addr ps qs →
+    ((p : Peer) → same_address p.addr addr ≡ false → t p ≡ s p) → count_by t qs ≤ count_by s ps + 1
+unfolding AreSameBut
+counted-one addr s t [] [] apart h other = omega arith
+counted-one addr s t [] (q ∷ qs) apart h other = elim h [ ]
+counted-one addr s t (p ∷ ps) [] apart h other = elim h [ ]
+counted-one addr s t (p ∷ ps) (q ∷ qs) apart h other =
+    let before = sum_by-cons (λ x. cond {A = ℕ} (s x) 1 0) p ps in
+    let after = sum_by-cons (λ x. cond {A = ℕ} (t x) 1 0) q qs in
+    by_test (same_address p.addr addr) refl before after (counted-one addr s t ps qs apart.1 h.1 other)
+  where
+    by_test : (b : Bool) → same_address p.addr addr ≡ b → count_by s (p ∷ ps) ≡ cond {A = ℕ} (s p) 1 0 + count_by s ps →
+        count_by t (q ∷ qs) ≡ cond {A = ℕ} (t q) 1 0 + count_by t qs → count_by t qs ≤ count_by s ps + 1 → count_by t (q ∷ qs) ≤ count_by s (p ∷ ps) + 1
+    by_test true at before after later =
+        let rest = counted-others addr s t ps qs h.1 other
+        (subst (λ a. AllByRecursion (λ x. same_address x.addr a ≡ false) ps) (same_address-true p.addr addr at) apart.0) in
+        omega (arith, one-most (t q), rest, before, after)
+    by_test false elsewhere before after later =
+        let same : cond {A = ℕ} (t q) 1 0 ≡ cond {A = ℕ} (s p) 1 0 = ap (λ b. cond {A = ℕ} b 1 0) (ap t (h.0.elsewhere elsewhere) ∙ other p elsewhere) in
+        omega (arith, same, later, before, after)
+
+-- ---- records that differ at one address
+
+pub record ChangesAt (addr : Addr) (before after : Machine) : Type 0 where
+  pub now : after.now ≡ before.now
+  pub targets : after.targets ≡ before.targets
+  pub big_targets : after.big_targets ≡ before.big_targets
+  pub groups : after.groups ≡ before.groups
+  pub peers : AreSameBut addr before.peers after.peers
+  pub links : (test : Link → Bool) (b : Addr) → same_address b addr ≡ false → some_link test (links_in after) b ≡ some_link test (links_in before) b
+
+statuses-same : (status : Status) (addr : Addr) (m n : Machine) → ChangesAt addr m n → (p : Peer) → same_address p.addr addr ≡ false →
+    has_status status (links_in n) p ≡ has_status status (links_in m) p
+statuses-same Pending addr m n h p other = h.links (λ l. l.pending) p.addr other
+statuses-same OwesOn2 addr m n h p other = h.links (λ l. l.owes2) p.addr other
+statuses-same OwesOn10 addr m n h p other = h.links (λ l. l.owes10) p.addr other
+statuses-same EstablishedOrPending addr m n h p other = ap (λ b. is_established p.temp || b) (h.links (λ l. l.pending) p.addr other)
+statuses-same HotOrOwesOn2 addr m n h p other = ap (λ b. same_temp p.temp temp.Hot || b) (h.links (λ l. l.owes2) p.addr other)
+statuses-same Hot addr m n h p other = refl
+
+-- one more of a class at most has a status
+pub number-one : (status : Status) (big : Bool) (addr : Addr) (m n : Machine) → ArePeersApart m.peers → ChangesAt addr m n →
+    number_with status big n ≤ number_with status big m + 1
+number-one status big addr m n apart h =
+    counted-one addr (λ p. is_of big p && has_status status (links_in m) p) (λ p. is_of big p && has_status status (links_in n) p) m.peers n.peers apart h.peers
+    (λ p other. ap (λ b. is_of big p && b) (statuses-same status addr m n h p other))
+
+members-same : (status : Status) (group : Group) (addr : Addr) (m n : Machine) → ChangesAt addr m n → (p : Peer) → same_address p.addr addr ≡ false →
+    (is_of false p && (is_listed p.addr group.members && has_status status (links_in n) p))
+    ≡ (is_of false p && (is_listed p.addr group.members && has_status status (links_in m) p))
+members-same status group addr m n h p other =
+    ap (λ b. is_of false p && (is_listed p.addr group.members && b)) (statuses-same status addr m n h p other)
+
+-- one more member at most
+pub members-one : (status : Status) (group : Group) (addr : Addr) (m n : Machine) → ArePeersApart m.peers → ChangesAt addr m n →
+    members_with status group n ≤ members_with status group m + 1
+members-one status group addr m n apart h =
+    counted-one addr (λ p. is_of false p && (is_listed p.addr group.members && has_status status (links_in m) p))
+    (λ p. is_of false p && (is_listed p.addr group.members && has_status status (links_in n) p)) m.peers n.peers apart h.peers
+    (members-same status group addr m n h)
+
+-- and none where the address is no member's
+pub members-none : (status : Status) (group : Group) (addr : Addr) (m n : Machine) → is_listed addr group.members ≡ false → ChangesAt addr m n →
+    members_with status group n ≤ members_with status group m
+members-none status group addr m n unlisted h =
+    counted-none addr (λ p. is_of false p && (is_listed p.addr group.members && has_status status (links_in m) p))
+    (λ p. is_of false p && (is_listed p.addr group.members && has_status status (links_in n) p)) m.peers n.peers h.peers
+    (members-same status group addr m n h)
+    (λ q at. fails (is_of false q) (is_listed q.addr group.members) (has_status status (links_in n) q)
+    (subst (λ a. is_listed a group.members ≡ false) (sym (same_address-true q.addr addr at)) unlisted))
+  where
+    fails : (a b c : Bool) → b ≡ false → (a && (b && c)) ≡ false
+    fails true true c h = absurd cc
+    fails true false c h = refl
+    fails false b c h = refl
+
+-- ---- what the links say of other addresses
+
+link-other : (test : Link → Bool) (e : Entry) (b : Addr) → same_address e.facts.addr b ≡ false → (same_address e.facts.addr b && test (link_of e)) ≡ false
+link-other test e b other = ap (λ c. c && test (link_of e)) other
+
+links-push : (test : Link → Bool) (b : Addr) (new : Entry) (es : List Entry) → same_address new.facts.addr b ≡ false →
+    some_link test (map link_of (es ++ new ∷ [])) b ≡ some_link test (map link_of es) b
+links-push test b new [] other = ap (λ c. c || false) (link-other test new b other)
+links-push test b new (e ∷ es) other = ap (λ c. (same_address e.facts.addr b && test (link_of e)) || c) (links-push test b new es other)
+
+links-set : (test : Link → Bool) (b : Addr) (new e : Entry) (es : List Entry) (k : ℕ) → StandsAt es k e → same_address e.facts.addr b ≡ false →
+    same_address new.facts.addr b ≡ false → some_link test (map link_of (set es k new)) b ≡ some_link test (map link_of es) b
+links-set test b new e [] k s old_other new_other = absurd (omega (arith, s.inside))
+links-set test b new e (x ∷ es) zero s old_other new_other =
+    let here : same_address x.facts.addr b ≡ false = ap (λ y. same_address y.facts.addr b) s.is ∙ old_other in
+    ap (λ c. c || some_link test (map link_of es) b) (link-other test new b new_other ∙ sym (link-other test x b here))
+links-set test b new e (x ∷ es) (suc k) s old_other new_other =
+    ap (λ c. (same_address x.facts.addr b && test (link_of x)) || c) (links-set test b new e es k (stands_before x e es k s) old_other new_other)
+
+pub links-turned : (m : Machine) (e new : Entry) (k : ℕ) → IsOrdered m → StandsAt m.connections k e → TurnsInto e new → (test : Link → Bool) (b : Addr) →
+    same_address b e.facts.addr ≡ false → some_link test (links_in (with_entry new m)) b ≡ some_link test (links_in m) b
+links-turned m e new k h s t test b other =
+    let here : same_address e.facts.addr b ≡ false = same_turned b e.facts.addr other in
+    ap (λ es. some_link test (map link_of es) b) (turned-connections m e new k h.orderly s t)
+    ∙ links-set test b new e m.connections k s here (subst (λ a. same_address a b ≡ false) (sym t.same_addr) here)
+
+-- ---- a promotion
+
+dial-changes : (addr : Addr) (m : Machine) → ChangesAt addr m (dial addr m).machine
+dial-changes addr m = record {
+  now = refl;
+  targets = refl;
+  big_targets = refl;
+  groups = refl;
+  peers = all_same addr m.peers;
+  links = λ test b other. links-push test b (fresh_entry (dialing m.next_id addr)) m.connections (same_turned b addr other);
+}
+
+acquire-changes : (m : Machine) (e : Entry) (k : ℕ) → IsOrdered m → StandsAt m.connections k e → ChangesAt e.facts.addr m (acquire e m).machine
+acquire-changes m e k h s = by_peer (peer_at e.facts.addr m) refl
+  where
+    new : Entry
+    new = owing 8 (e.facts.cid.0 % 65536) m (record e { facts = acquired e.facts })
+
+    warm : Peer → Peer
+    warm = λ p. record p { temp = Warm; failures = 0 }
+
+    links : (test : Link → Bool) (b : Addr) → same_address b e.facts.addr ≡ false → some_link test (links_in (with_entry new m)) b ≡ some_link test (links_in m) b
+    links = links-turned m e new k h s (record { same_id = refl; same_addr = refl; live = λ l. l })
+
+    by_peer : (o : Option Peer) → peer_at e.facts.addr m ≡ o → ChangesAt e.facts.addr m (turns_at o warm (with_entry new m)).machine
+    by_peer None is = record { now = refl; targets = refl; big_targets = refl; groups = refl; peers = all_same e.facts.addr m.peers; links = links }
+    by_peer (Some p) is =
+        let here : p.addr ≡ e.facts.addr = same_address-true p.addr e.facts.addr (find_some (has_address e.facts.addr) m.peers p is).passes in
+        record {
+          now = refl;
+          targets = refl;
+          big_targets = refl;
+          groups = refl;
+          peers = subst (λ a. AreSameBut a m.peers (with_peer (warm p) m.peers)) here
+              (with_peer-same_but (warm p) p m.peers h.formed.peers (subst (λ a. peer_in a m.peers ≡ Some p) (sym here) is) refl);
+          links = links;
+        }
+
+pub promote-changes : (addr : Addr) (m : Machine) → IsOrdered m → ChangesAt addr m (promote addr m).machine
+promote-changes addr m h = by_live (live_entry_at addr m) refl
+  where
+    by_live : (o : Option Entry) → live_entry_at addr m ≡ o → ChangesAt addr m (promoted_at o addr m).machine
+    by_live None is = dial-changes addr m
+    by_live (Some e) is =
+        let at : FoundIn (λ x. is_live_at addr x.facts) m.connections e = find_some (λ x. is_live_at addr x.facts) m.connections e is in
+        let here : e.facts.addr ≡ addr = same_address-true e.facts.addr addr (and_parts (same_address e.facts.addr addr) (is_live e.facts) at.passes).0 in
+        by_test (is_acquirable e.facts) (subst (λ a. ChangesAt a m (acquire e m).machine) here (acquire-changes m e at.place h at.stands))
+      where
+        by_test : (b : Bool) → ChangesAt addr m (acquire e m).machine → ChangesAt addr m (if b then acquire e m else dial addr m).machine
+        by_test true acquired = acquired
+        by_test false acquired = dial-changes addr m
+
+-- ---- an activation
+
+pub activate-changes : (addr : Addr) (m : Machine) → IsOrdered m → ChangesAt addr m (activate addr m).machine
+activate-changes addr m h = by_entry (find (is_used_at addr) m.connections) refl
+  where
+    by_entry : (o : Option Entry) → find (is_used_at addr) m.connections ≡ o → ChangesAt addr m (on_entry o activates m).machine
+    by_entry None is = record { now = refl; targets = refl; big_targets = refl; groups = refl; peers = all_same addr m.peers; links = λ test b other. refl }
+    by_entry (Some e) is =
+        let at : FoundIn (is_used_at addr) m.connections e = find_some (is_used_at addr) m.connections e is in
+        let lives = and_parts (same_address e.facts.addr addr) (is_live e.facts) (and_parts (is_live_at addr e.facts) e.facts.local at.passes).0 in
+        let here : e.facts.addr ≡ addr = same_address-true e.facts.addr addr lives.0 in
+        record {
+          now = refl;
+          targets = refl;
+          big_targets = refl;
+          groups = refl;
+          peers = all_same addr m.peers;
+          links = λ test b other. links-turned m e (owing 2 0 m e) at.place h at.stands (record { same_id = refl; same_addr = refl; live = λ l. l }) test b
+              (subst (λ a. same_address b a ≡ false) (sym here) other);
+        }
