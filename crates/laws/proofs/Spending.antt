@@ -9,6 +9,7 @@ use Rattle.net_base.specs.declared.address.Addr.{Addr}
 use Rattle.net_base.specs.declared.event.Group.{Group}
 use Rattle.net_base.specs.declared.peer.Peer.{Peer}
 use Rattle.net_base.specs.declared.peer.Temp.TheVariants.{Warm}
+use Rattle.net_base.specs.declared.peer.Temp.TheVariants as temp
 use Rattle.conn_state.specs.Moves.{dialing, acquired}
 use Rattle.conn_state.specs.Use.{is_live, is_live_at, is_acquirable}
 use Rattle.govern_rules.specs.Links.{some_link}
@@ -17,7 +18,6 @@ use Rattle.govern_rules.specs.declared.link.Link.{Link}
 use Rattle.govern_rules.specs.declared.status.Status.{Status}
 use Rattle.govern_rules.specs.declared.status.Status.TheVariants.{Pending, OwesOn2, OwesOn10, EstablishedOrPending, HotOrOwesOn2, Hot}
 use Rattle.peer_book.specs.Book.{has_address, is_of, is_established, same_temp, peer_at as peer_in, with_peer}
-use Rattle.net_base.specs.declared.peer.Temp.TheVariants as temp
 use Rattle.root_groups.specs.Cleaned.{is_listed}
 use Rattle.machine.specs.Machine.{Machine, Entry, fresh_entry, live_entry_at}
 use Rattle.machine.specs.Replies.{owing}

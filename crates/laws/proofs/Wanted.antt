@@ -17,17 +17,15 @@ use Rattle.conn_state.specs.Use.{is_acquirable}
 use Rattle.govern_rules.specs.Candidates.{is_eligible, may_be_activated}
 use Rattle.govern_rules.specs.ClassRules.{established_target, active_target, count_of, promotes, activates as activates_class}
 use Rattle.govern_rules.specs.Links.{is_pending, owes_on_2}
-use Rattle.govern_rules.specs.Orders.{picks_of, orders_for}
+use Rattle.govern_rules.specs.Orders.{rated_of, picks_of, orders_for}
 use Rattle.govern_rules.specs.Rules.{is_not_local, is_member_and, g4_orders, g7_orders}
 use Rattle.govern_rules.specs.declared.order.Order.{Order}
 use Rattle.govern_rules.specs.declared.order.Order.TheVariants.{Promote, Activate}
 use Rattle.govern_rules.specs.declared.status.Status.{Status}
 use Rattle.govern_rules.specs.declared.status.Status.TheVariants.{EstablishedOrPending, HotOrOwesOn2}
-use Rattle.peer_book.specs.Book.{is_of, is_established, is_active, same_temp, established_of, active_of, peer_at as peer_in}
+use Rattle.peer_book.specs.Book.{is_of, is_established, is_active, same_temp, established_of, active_of, addresses_of, peer_at as peer_in}
 use Rattle.pick_policy.proofs.LeastLaws.{count_none}
 use Rattle.pick_policy.proofs.PickFacts.{length-picked, length-ranked}
-use Rattle.govern_rules.specs.Orders.{rated_of}
-use Rattle.peer_book.specs.Book.{addresses_of}
 use Rattle.root_groups.specs.Cleaned.{is_listed, members_of, group_of}
 use Rattle.machine.specs.Machine.{Machine, Entry, counted_in, live_entry_at}
 use Rattle.machine.specs.Effect.{promoted, activated, for_each}
