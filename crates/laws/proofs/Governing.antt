@@ -1,5 +1,5 @@
 -- The governor as a whole: each rule, and all of them.
-use Rattle.std.proofs.Common.{ℕ, ◌-◌, ◌≤◌, ◌≡◌, Bool, true, false, cond, not, ◌&&◌, ◌||◌, List, [], ◌∷◌, ◌++◌, map, find, flat_map, Option, Some, None, is_some, refl, sym, ap, subst}
+use Rattle.std.proofs.Common.{ℕ, ◌-◌, ◌≤◌, ◌≡◌, Bool, true, false, cond, not, ◌&&◌, ◌||◌, List, [], ◌∷◌, ◌++◌, map, find, flat_map, Option, Some, None, is_some, refl, sym, ap, ◌∙◌, subst}
 use Rattle.std.specs.List.{AllByRecursion}
 use Rattle.std.proofs.lemmas.Bool.{cond_both, and_parts, false≢true}
 use Rattle.net_base.specs.Address.{same_address}
@@ -10,13 +10,13 @@ use Rattle.net_base.specs.declared.peer.Peer.{Peer}
 use Rattle.net_base.specs.declared.peer.Temp.{Temp}
 use Rattle.net_base.specs.declared.peer.Temp.TheVariants.{Cold, Warm, Hot}
 use Rattle.conn_state.specs.Use.{is_live, is_live_at}
-use Rattle.peer_book.specs.Book.{is_established, same_temp}
+use Rattle.peer_book.specs.Book.{active_of, is_established, same_temp}
 use Rattle.root_groups.specs.Cleaned.{is_listed}
 use Rattle.root_groups.specs.RootAsk.{may_ask, asked}
 use Rattle.govern_rules.specs.BigRules.{everybody, big_orders}
 use Rattle.govern_rules.specs.declared.big_rule.BigRule.TheVariants.{B5, B8}
 use Rattle.govern_rules.specs.Candidates.{is_eligible, may_be_forgotten, may_be_released, may_be_activated, may_be_deactivated}
-use Rattle.govern_rules.specs.ClassRules.{deactivates}
+use Rattle.govern_rules.specs.ClassRules.{active_target}
 use Rattle.govern_rules.specs.Links.{some_link, is_pending as is_pending_link, owes_on_2, owes_a_reply}
 use Rattle.govern_rules.specs.Orders.{orders_for}
 use Rattle.govern_rules.specs.Rules.{is_not_local, may_be_dropped, is_member_and, members_count, deactivates_members, g4_orders, g5_orders, g7_orders, g8_orders, g9_orders}
@@ -175,10 +175,9 @@ always-trimmed Law order each (a ∷ addrs) m h within =
     trimmed_then Law m effect (for_each carries_out (map order addrs)) first
     (always-trimmed Law order each addrs effect.machine first.ordered (trimmed-within Law m effect first))
 
--- one list of orders after another
-appended-trimmed : (Law : Move → Type 0) (xs ys : List Order) (m : Machine) → Trimmed Law m (for_each carries_out xs m) →
-    Trimmed Law (for_each carries_out xs m).machine (for_each carries_out ys (for_each carries_out xs m).machine) → Trimmed Law m (for_each carries_out (xs ++ ys) m)
-appended-trimmed Law xs ys m one two = APPEND
+map-append : (order : Addr → Order) (xs ys : List Addr) → map order (xs ++ ys) ≡ map order xs ++ map order ys
+map-append order [] ys = refl
+map-append order (x ∷ xs) ys = ap (λ orders. order x ∷ orders) (map-append order xs ys)
 
 -- ---- each rule
 
@@ -231,16 +230,12 @@ g8-trimmed faults word m h within =
 g9-trimmed : (faults : Faults) (word : ℕ) → DoesLawful faults (rules (λ m. g9_orders (view_of word m) m.peers m.groups))
 unfolding DoesLawful
 g9-trimmed faults word m h within =
-    let first : List Order = deactivates false (is_not_local m.groups) (view_of word m) m.peers in
-    let members : List Order = flat_map (deactivates_members (view_of word m) m.peers) m.groups in
-    let effect : Effect = for_each carries_out first m in
-    let one : Trimmed (IsLawful faults) m effect = always-trimmed (IsLawful faults) Deactivate (deactivate-carried (IsLawful faults)) _ m h within in
-    let two : Trimmed (IsLawful faults) effect.machine (for_each carries_out members effect.machine) =
-    subst (λ orders. Trimmed (IsLawful faults) effect.machine (for_each carries_out orders effect.machine))
-    (sym (map-groups Deactivate (deactivated_members word m) m.groups))
-    (always-trimmed (IsLawful faults) Deactivate (deactivate-carried (IsLawful faults)) (flat_map (deactivated_members word m) m.groups) effect.machine one.ordered
-    (trimmed-within (IsLawful faults) m effect one)) in
-    appended-trimmed (IsLawful faults) first members m one two
+    let beyond : List Addr = chosen false word (active_of false m.peers - active_target false (view_of word m)) (λ p. is_not_local m.groups p.addr && may_be_deactivated p) m.peers in
+    let members : List Addr = flat_map (deactivated_members word m) m.groups in
+    let same : map Deactivate (beyond ++ members) ≡ g9_orders (view_of word m) m.peers m.groups =
+    map-append Deactivate beyond members ∙ ap (λ orders. map Deactivate beyond ++ orders) (sym (map-groups Deactivate (deactivated_members word m) m.groups)) in
+    subst (λ orders. Trimmed (IsLawful faults) m (for_each carries_out orders m)) same
+    (always-trimmed (IsLawful faults) Deactivate (deactivate-carried (IsLawful faults)) (beyond ++ members) m h within)
 
 b5-trimmed : (faults : Faults) (word : ℕ) → DoesLawful faults (rules (λ m. big_orders B5 (view_of word m) m.peers))
 unfolding DoesLawful

@@ -22,11 +22,9 @@ use Rattle.machine.specs.Provided.{is_wanted_big, comes_big, bigs_are}
 use Rattle.machine.specs.Talking.{shares_address, taken_of, takes_addresses}
 use Rattle.laws.specs.AtMoves.{known_wanted, IsWantedNew, WithinTargets}
 use Rattle.laws.proofs.Keeping.{note-machine}
+use Rattle.laws.proofs.Lawful.{Within}
 use Rattle.laws.proofs.Lists.{all-appended}
 use Rattle.laws.proofs.Ties.{put_in-here}
-
-abbrev pub Within : Move → Type 0
-Within move = WithinTargets move.happened move.before move.after
 
 -- a part that is one move
 pub move-within : (happened : Happened) (before : Machine) (effect : Effect) → effect.moves ≡ [] → WithinTargets happened before effect.machine →

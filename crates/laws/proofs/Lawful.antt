@@ -264,6 +264,10 @@ used-obeys Law f m e k h s cid addr live negotiated =
 
 -- ---- targets aside
 
+-- where nothing is a fault
+abbrev pub no_faults : Faults
+no_faults m e kind = ⊥
+
 -- a law on moves but for targets and valencies
 pub record IsAllowed (faults : Faults) (move : Move) : Type 0 where
   pub back_off : OutOfBackOff move.happened move.before

@@ -32,3 +32,4 @@ mod KnownWanted
 mod Clock
 mod Spending
 mod Wanted
+mod EventMoves

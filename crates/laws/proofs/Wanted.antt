@@ -28,7 +28,7 @@ use Rattle.pick_policy.proofs.LeastLaws.{count_none}
 use Rattle.pick_policy.proofs.PickFacts.{length-picked, length-ranked}
 use Rattle.root_groups.specs.Cleaned.{is_listed, members_of, group_of}
 use Rattle.machine.specs.Machine.{Machine, Entry, counted_in, live_entry_at}
-use Rattle.machine.specs.Effect.{promoted, activated, for_each}
+use Rattle.machine.specs.Effect.{Effect, promoted, activated, for_each}
 use Rattle.machine.specs.Replies.{owing}
 use Rattle.machine.specs.Peers.{turns_at, peer_at}
 use Rattle.machine.specs.Connections.{with_entry, acquire, dial}
@@ -38,8 +38,9 @@ use Rattle.laws.specs.Whole.{ArePeersApart, AreApart}
 use Rattle.laws.proofs.Chosen.{chosen, chosen-apart, chosen-all, PicksMembers, picks-listed, groups_picks-apart, groups_picks-all, apart-behind, front-not_behind, map-groups}
 use Rattle.laws.proofs.GroupsApart.{unlisted_append}
 use Rattle.laws.proofs.Keeping.{IsOrdered}
-use Rattle.laws.proofs.KnownWanted.{Within, move-within}
-use Rattle.laws.proofs.Lists.{all-weaker, all-appended}
+use Rattle.laws.proofs.KnownWanted.{move-within}
+use Rattle.laws.proofs.Lawful.{IsAllowed, Within, no_faults}
+use Rattle.laws.proofs.Lists.{all-weaker, all-appended, all-both}
 use Rattle.laws.proofs.Orders.{Carries, still_may, MayActivate, activate-carried}
 use Rattle.laws.proofs.PeersApart.{all-found}
 use Rattle.laws.proofs.Picks.{filter-all, filter-passing, picks-all}

@@ -27,14 +27,16 @@ use Rattle.conn_state.specs.Use.{is_live, is_live_at, is_pending, is_dialing, ha
 use Rattle.root_groups.specs.Cleaned.{cleaned, members_of}
 use Rattle.root_groups.specs.RootAsk.{awaits, publics_of, found, failed}
 use Rattle.machine.specs.Machine.{Machine, Entry, counted_in, entry_at, live_entry_at}
-use Rattle.machine.specs.Effect.{Effect, shared, unused, nothing_more, tells, then_do, as_move, for_each}
+use Rattle.machine.specs.Effect.{Effect, Move, shared, unused, nothing_more, tells, then_do, as_move, for_each}
 use Rattle.machine.specs.Peers.{peer_at, peer_is_ordinary, peer_comes}
 use Rattle.machine.specs.Connections.{with_entry, without_entry, entry_turns, closing_entry, grace_over, ending, vanishes, dial_opens, dial_fails}
 use Rattle.machine.specs.Deadlines.{deadlines, due, fires_as, fires_on, fires, fires_some, fire_due, fire_all}
 use Rattle.machine.specs.Events.{clock_shows, turned_away, admitted, crossed, accepted_beside, accepted_through, peer_connects, closed_at, peer_closes, dial_ends_at, dial_ends}
 use Rattle.machine.specs.Govern.{govern}
 use Rattle.machine.specs.Provided.{targets_are, big_targets_are, comes_ordinary, locals_are, is_wanted_big, comes_big, bigs_are, roots_say, roots_answer}
+use Rattle.machine.specs.Stream.{bytes_come_in}
 use Rattle.machine.specs.Whole.{whole_step}
+use Rattle.laws.specs.AtMoves.{IsLawful, faults_of}
 use Rattle.laws.specs.Whole.{IsShaped, IsFormed, IsSteady, TiedBy, IsTied}
 use Rattle.laws.proofs.Addresses.{same_address-true}
 use Rattle.laws.proofs.Entries.{TurnsInto}
@@ -46,11 +48,12 @@ use Rattle.laws.proofs.Counts.{counted_of, late_in, counted-expired, counted-clo
 use Rattle.laws.proofs.Effects.{one_if-not_counted}
 use Rattle.laws.proofs.Events.{StaysSound, admitted_entry, at_moment, at_moment-orderly, ahead-none_late, none_late-ahead, peer_connects-sound, clock_shows-sound}
 use Rattle.laws.proofs.Keeping.{IsOrdered, Keeps, keeps_nothing, keeps_then, moves-keeps, turns-moves, goes-moves, elsewhere-keeps, changes-keeps, peer_comes-keeps, for_each-keeps}
+use Rattle.laws.proofs.Lawful.{no_faults}
 use Rattle.laws.proofs.Lists.{StandsAt, find_some}
 use Rattle.laws.proofs.Settings.{timewait-positive}
 use Rattle.laws.proofs.Shapes.{accepted-shaped, expired-shaped, closing-shaped}
 use Rattle.laws.proofs.Streams.{bytes_come_in-trimmed}
-use Rattle.laws.proofs.Trims.{Trimmed, keeps-trimmed}
+use Rattle.laws.proofs.Trims.{Trimmed}
 use Rattle.laws.proofs.WholeMoves.{ending-keeps, overwritten-keeps, vanishes-keeps, connects-keeps, stands-shaped, alike-ties}
 
 -- ---- what is set and provided
@@ -272,7 +275,7 @@ fire_due-keeps (suc n) m h = by_due (due m) refl (fire_due-keeps n)
         let first : Keeps 0 m (fires d m).machine = fires-keeps d m h is in
         keeps_then 0 0 m (fires d m).machine (fire_due n (fires d m).machine).machine first (later (fires d m).machine first.ordered)
 
-formed_at_moment : (t : ℕ) (m : Machine) → IsFormed m → IsFormed (at_moment t m)
+pub formed_at_moment : (t : ℕ) (m : Machine) → IsFormed m → IsFormed (at_moment t m)
 formed_at_moment t m h = record { shaped = h.shaped; peers = h.peers; groups = h.groups }
 
 clock-formed : (t : ℕ) (m : Machine) → IsOrdered m → IsFormed (clock_shows t m).machine
@@ -306,37 +309,41 @@ pub record StaysSteady (before after : Machine) : Type 0 where
   pub steady : IsSteady after
   pub settings : after.settings ≡ before.settings
 
-ordered_of : (m : Machine) → IsSteady m → IsOrdered m
+pub ordered_of : (m : Machine) → IsSteady m → IsOrdered m
 ordered_of m h = record { orderly = h.sound.orderly; formed = h.formed }
 
-trimmed-steady : (m n : Machine) → IsSteady m → Trimmed m n → StaysSteady m n
-trimmed-steady m n h t =
+steady_after : (m n : Machine) → IsSteady m → IsOrdered n → n.settings ≡ m.settings → counted_in n ≤ m.settings.hard → late_in n ≤ late_in m → IsTied n →
+    StaysSteady m n
+steady_after m n h ordered settings counted late tied =
     let none : late_in m ≡ 0 = ahead-none_late m h.sound.deadlines in
     record {
       steady = record {
         sound = record {
-          orderly = t.ordered.orderly;
-          counted = subst (λ s. counted_in n ≤ s.hard) (sym t.settings) t.counted;
-          deadlines = none_late-ahead n (omega (arith, t.late, none));
+          orderly = ordered.orderly;
+          counted = subst (λ s. counted_in n ≤ s.hard) (sym settings) counted;
+          deadlines = none_late-ahead n (omega (arith, late, none));
         };
-        formed = t.ordered.formed;
-        tied = t.ties h.tied;
+        formed = ordered.formed;
+        tied = tied;
       };
-      settings = t.settings;
+      settings = settings;
     }
 
+trimmed-steady : (Law : Move → Type 0) (m : Machine) (effect : Effect) → IsSteady m → Trimmed Law m effect → StaysSteady m effect.machine
+trimmed-steady Law m effect h t = steady_after m effect.machine h t.ordered t.settings t.counted t.late (t.ties h.tied)
+
 kept-steady : (m n : Machine) → IsSteady m → Keeps 0 m n → StaysSteady m n
-kept-steady m n h k = trimmed-steady m n h (keeps-trimmed m n h.sound.counted k)
+kept-steady m n h k = steady_after m n h k.ordered k.settings (omega (arith, k.counted, h.sound.counted)) k.late (k.ties h.tied)
 
 stays-steady : (m n : Machine) → StaysSound m n → IsFormed n → IsTied n → StaysSteady m n
 stays-steady m n sound formed tied = record { steady = record { sound = sound.sound; formed = formed; tied = tied }; settings = sound.settings }
 
 pub whole_step-steady : (m : Machine) (event : Event) → IsSteady m → StaysSteady m (whole_step m event).machine
 whole_step-steady m (Now t) h = stays-steady m (clock_shows t m).machine (clock_shows-sound t m h.sound) (clock-formed t m (ordered_of m h)) (clock-ties t m (ordered_of m h) h.tied)
-whole_step-steady m (Govern word) h = trimmed-steady m (govern word m).machine h (govern-trimmed word m (ordered_of m h) h.sound.counted)
+whole_step-steady m (Govern word) h = trimmed-steady (IsLawful no_faults) m (govern word m) h (govern-trimmed no_faults word m (ordered_of m h) h.sound.counted)
 whole_step-steady m (Accepted addr) h = stays-steady m (peer_connects addr m).machine (peer_connects-sound addr m h.sound) (connects-formed addr m (ordered_of m h)) (connects-ties addr m (ordered_of m h) h.tied)
 whole_step-steady m (Dialed cid opened) h = kept-steady m (dial_ends cid opened m).machine h (dial_ends-keeps cid opened m (ordered_of m h))
-whole_step-steady m (Bytes cid bytes) h = trimmed-steady m (whole_step m (Bytes cid bytes)).machine h (bytes_come_in-trimmed cid bytes m (ordered_of m h) h.sound.counted)
+whole_step-steady m (Bytes cid bytes) h = trimmed-steady (IsLawful (faults_of m (Bytes cid bytes))) m (bytes_come_in cid bytes m) h (bytes_come_in-trimmed cid bytes m (ordered_of m h) h.sound.counted)
 whole_step-steady m (Closed cid) h = kept-steady m (peer_closes cid m).machine h (closes-keeps cid m (ordered_of m h))
 whole_step-steady m (Aims targets) h = kept-steady m (targets_are targets m).machine h (elsewhere-keeps targets m.big_targets m.groups m.roots m (ordered_of m h) h.formed.groups)
 whole_step-steady m (Locals groups) h = kept-steady m (locals_are groups m).machine h (locals-keeps groups m (ordered_of m h))

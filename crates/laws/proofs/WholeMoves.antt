@@ -212,7 +212,7 @@ pub alike-ties : (m : Machine) (e new : Entry) (k : ℕ) → IsOrdered m → Sta
 alike-ties m e new k h s t a ties = turned-ties m e new k h.orderly s t
     (λ live o tie. subst (λ b. TiedBy m.now o (if b then Some new else None)) (sym (a.live ∙ live)) (alike-tied m.now o e new a tie)) ties
 
-dialing-live : (p : Phase) → is_dialing_phase p ≡ true → live_phase p ≡ true
+pub dialing-live : (p : Phase) → is_dialing_phase p ≡ true → live_phase p ≡ true
 dialing-live Dialing h = refl
 dialing-live (Greeting until) h = absurd (false≢true h)
 dialing-live Negotiated h = absurd (false≢true h)
