@@ -33,7 +33,7 @@ use Rattle.machine.specs.Govern.{govern}
 use Rattle.machine.specs.Provided.{comes_ordinary, locals_are, is_wanted_big, comes_big, bigs_are, roots_say, roots_answer}
 use Rattle.machine.specs.Stream.{bytes_come_in}
 use Rattle.machine.specs.Whole.{whole_step}
-use Rattle.laws.specs.AtMoves.{Faults, faults_of, IsLawful, is_negotiated_entry, is_negotiated_at, is_ended_in, is_closed_by, EndsAreMoves}
+use Rattle.laws.specs.AtMoves.{Faults, faults_of, IsLawful, is_negotiated_entry, is_negotiated_at, is_ended_in, is_closed_by, MovesAreLawful, EndsAreMoves}
 use Rattle.laws.specs.Whole.{IsSteady}
 use Rattle.laws.proofs.Clock.{fire_due-obeys}
 use Rattle.laws.proofs.Entries.{gone-connections, one_has_id}
@@ -43,7 +43,7 @@ use Rattle.laws.proofs.Governing.{govern-trimmed}
 use Rattle.laws.proofs.Keeping.{IsOrdered}
 use Rattle.laws.proofs.KnownWanted.{bigs-within}
 use Rattle.laws.proofs.Lawful.{Accounts, accounts_same, accounts_come, accounts_gone, Obeys, obeys_then, obeys_nothing, IsQuiet, quiet-obeys, quiet_then, turns_at-quiet, comes-quiet, lost_by-quiet, ending-obeys, ended-lawful, on_stands, turned_then-obeys, as_move-obeys, IsAllowed, Within, allowed_within}
-use Rattle.laws.proofs.Lists.{StandsAt, find_some, find_only, all-both}
+use Rattle.laws.proofs.Lists.{StandsAt, find_some, find_only, all-both, all-placed}
 use Rattle.laws.proofs.Shapes.{dialing-unnegotiated}
 use Rattle.laws.proofs.Streams.{bytes_come_in-trimmed}
 use Rattle.laws.proofs.WholeEvents.{ordered_of, formed_at_moment}
@@ -271,3 +271,6 @@ whole_step-known m (Locals groups) h = quiet-known m (Locals groups) (locals-qui
 whole_step-known m (Roots job answer) h = quiet-known m (Roots job answer) (roots-quiet job answer m)
 whole_step-known m (BigAims targets) h = quiet-known m (BigAims targets) (record { moves = refl; connections = refl })
 whole_step-known m (Bigs addrs) h = obeys-known m (Bigs addrs) (bigs-obeys (faults_of m (Bigs addrs)) addrs m)
+
+pub moves-lawful : (m : Machine) (event : Event) → IsSteady m → MovesAreLawful m event
+moves-lawful m event h = all-placed (IsLawful (faults_of m event)) (whole_step m event).moves (whole_step-known m event h).lawful

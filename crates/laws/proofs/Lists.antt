@@ -221,3 +221,8 @@ all-contained (x ∷ xs) = (
   (0, omega arith, refl),
   all-weaker (Contains xs) (Contains (x ∷ xs)) (λ y among. Contains-append_right (x ∷ []) xs y among) xs (all-contained xs),
 )
+
+-- by places, too
+pub all-placed : {X : Type 0} (P : X → Type 0) (xs : List X) → AllByRecursion P xs → All P xs
+all-placed P [] h = All-nil P
+all-placed P (x ∷ xs) h = All-cons P x xs h.0 (all-placed P xs h.1)
