@@ -1,5 +1,5 @@
 -- The governor as a whole: each rule, and all of them.
-use Rattle.std.proofs.Common.{ℕ, ◌-◌, ◌≤◌, ◌≡◌, Bool, true, false, cond, not, ◌&&◌, ◌||◌, List, [], ◌∷◌, ◌++◌, map, find, flat_map, Option, Some, None, is_some, refl, sym, ap, subst}
+use Rattle.std.proofs.Common.{ℕ, ◌-◌, ◌≤◌, ◌≡◌, Bool, true, false, cond, not, ◌&&◌, ◌||◌, List, [], ◌∷◌, ◌++◌, map, find, flat_map, Option, Some, None, is_some, refl, sym, ap, subst, arith}
 use Rattle.std.specs.List.{AllByRecursion}
 use Rattle.std.proofs.lemmas.Bool.{cond_both, and_parts, false≢true}
 use Rattle.net_base.specs.Address.{same_address}
@@ -117,10 +117,6 @@ unfolding Gives
 activate-gives m p passes found =
     subst IsWarm (sym found)
     (is_temp p.temp Warm (and_parts (same_temp p.temp Warm) (not (owes_on_2 (map link_of m.connections) p.addr)) passes).0)
-
-always-gives : (test : Peer → Bool) (m : Machine) → Gives Always test m
-unfolding Gives
-always-gives test m p passes found = tt
 
 -- a stricter test gives it too
 and-gives : (May : Machine → Addr → Type 0) (among : Peer → Bool) (test : Peer → Bool) (m : Machine) → Gives May test m →
@@ -282,7 +278,7 @@ asks_roots-keeps : (m : Machine) → IsOrdered m → Keeps 0 m (asks_roots m).ma
 asks_roots-keeps m h = cond_both (may_ask m.now m.targets.root m.roots)
     (tells (AskRoots (record { 0 = m.roots.next_job }) ∷ []) (record m { roots = asked m.roots })) (nothing_more m)
     (λ effect. Keeps 0 m effect.machine)
-    (λ too_few. elsewhere-keeps m.targets m.big_targets m.groups (asked m.roots) m h h.formed.groups)
+    (λ too_few. elsewhere-keeps m.targets m.big_targets (asked m.roots) m h (λ job same. let is : m.roots.next_job ≡ job = cc in omega (arith, is)))
     (λ enough. keeps_nothing m h)
 
 pub govern-trimmed : (word : ℕ) (m : Machine) → IsOrdered m → counted_in m ≤ m.settings.hard → Trimmed m (govern word m).machine

@@ -1,6 +1,7 @@
 -- A part of a step of the whole machine: what it keeps, and by how much it may raise the counted connections.
-use Rattle.std.proofs.Common.{ℕ, ◌+◌, ◌≤◌, ◌≡◌, Bool, not, List, [], ◌∷◌, set, All, sum_by, Option, Some, None, refl, sym, ◌∙◌, subst, arith}
-use Rattle.std.proofs.lemmas.List.Elements.{All-set, All-filter}
+use Rattle.std.proofs.Common.{ℕ, ◌+◌, ◌<◌, ◌≤◌, ◌≡◌, Bool, false, not, List, [], ◌∷◌, set, All, sum_by, Option, Some, None, refl, sym, ◌∙◌, subst, arith}
+use Rattle.std.proofs.lemmas.List.Elements.{All-head, All-tail, All-set, All-filter}
+use Rattle.net_base.specs.Address.{same_address}
 use Rattle.net_base.specs.declared.peer.Peer.{Peer}
 use Rattle.machine.specs.Connections.{with_entry, without_entry}
 use Rattle.machine.specs.Machine.{Machine, Entry, counted_in, live_entry_at}
@@ -8,7 +9,7 @@ use Rattle.machine.specs.Effect.{Effect, for_each}
 use Rattle.machine.specs.Peers.{turns_at, peer_at, peer_changes, note_of_coming, peer_comes}
 use Rattle.net_base.specs.Shared.{RootState}
 use Rattle.net_base.specs.declared.address.Addr.{Addr}
-use Rattle.net_base.specs.declared.event.Group.{Group}
+use Rattle.net_base.specs.declared.settings.Settings.{Settings}
 use Rattle.net_base.specs.declared.targets.BigTargets.{BigTargets}
 use Rattle.net_base.specs.declared.targets.Targets.{Targets}
 use Rattle.peer_book.specs.Book.{with_peer as with_peer_in, new_peer, entry_of, entered}
@@ -16,13 +17,12 @@ use Rattle.peer_book.specs.declared.added.Added.{Added}
 use Rattle.peer_book.specs.declared.added.Added.TheVariants.{New, Present, Full}
 use Rattle.conn_state.specs.Use.{has_id}
 use Rattle.laws.specs.Sound.{IsOrderly}
-use Rattle.laws.specs.Whole.{IsShaped, IsFormed, ArePeersApart, AreApart, TiedBy, IsTied}
+use Rattle.laws.specs.Whole.{IsShaped, IsFormed, TiedBy, IsTied}
+use Rattle.laws.proofs.Books.{IsBook, book_of, with_peer-book, entered-book}
 use Rattle.laws.proofs.Counts.{counted_of, counted_in-sum, late_of, late_in, late_in-sum}
 use Rattle.laws.proofs.Entries.{TurnsInto, turned-connections, turned-orderly, turned-sum, gone-orderly, gone-sum}
-use Rattle.laws.proofs.Lists.{StandsAt}
-use Rattle.laws.proofs.PeersApart.{with_peer-apart, entered-apart}
+use Rattle.laws.proofs.Lists.{StandsAt, All-stands}
 use Rattle.laws.proofs.Ties.{changed-ties, comes-ties}
-use Rattle.root_groups.specs.Cleaned.{members_of}
 
 -- what holds at every moment of the connections alone
 pub record IsOrdered (m : Machine) : Type 0 where
@@ -79,16 +79,6 @@ keeps_then i j m n o first second = record {
   ties = λ h. second.ties (first.ties h);
 }
 
-pub keeps_more : (i j : ℕ) (m n : Machine) → i ≤ j → Keeps i m n → Keeps j m n
-keeps_more i j m n le h = record {
-  ordered = h.ordered;
-  settings = h.settings;
-  now = h.now;
-  counted = omega arith;
-  late = h.late;
-  ties = h.ties;
-}
-
 -- a connection turns into another
 pub turns-moves : (raised : ℕ) (m : Machine) (old new : Entry) (k : ℕ) → IsOrdered m → StandsAt m.connections k old →
     TurnsInto old new → IsShaped new.facts → counted_of new ≤ counted_of old + raised → late_of m.now new ≤ late_of m.now old →
@@ -96,6 +86,9 @@ pub turns-moves : (raised : ℕ) (m : Machine) (old new : Entry) (k : ℕ) → I
 turns-moves raised m old new k h s t shaped more later =
     let n : Machine = with_entry new m in
     let o : IsOrderly m = h.orderly in
+    let own : Addr = m.settings.own in
+    let other : same_address new.facts.addr own ≡ false = subst (λ a. same_address a own ≡ false) (sym t.same_addr)
+    (All-stands (λ e. same_address e.facts.addr own ≡ false) m.connections k old s h.formed.other_connections) in
     let list : set m.connections k new ≡ n.connections = sym (turned-connections m old new k o s t) in
     let counts : sum_by counted_of n.connections + counted_of old ≡ sum_by counted_of m.connections + counted_of new =
     turned-sum counted_of m old new k o s t in
@@ -113,6 +106,11 @@ turns-moves raised m old new k h s t shaped more later =
           shaped = subst (All (λ e. IsShaped e.facts)) list (All-set (λ e. IsShaped e.facts) m.connections k new shaped h.formed.shaped);
           peers = h.formed.peers;
           groups = h.formed.groups;
+          other_peers = h.formed.other_peers;
+          other_connections = subst (All (λ e. same_address e.facts.addr own ≡ false)) list
+              (All-set (λ e. same_address e.facts.addr own ≡ false) m.connections k new other h.formed.other_connections);
+          room = h.formed.room;
+          pending_job = h.formed.pending_job;
         };
       };
       settings = refl;
@@ -141,6 +139,11 @@ goes-moves m e k h s =
           shaped = All-filter (λ x. not (has_id e.facts.cid.0 x.facts)) (λ x. IsShaped x.facts) m.connections h.formed.shaped;
           peers = h.formed.peers;
           groups = h.formed.groups;
+          other_peers = h.formed.other_peers;
+          other_connections = All-filter (λ x. not (has_id e.facts.cid.0 x.facts)) (λ x. same_address x.facts.addr m.settings.own ≡ false)
+              m.connections h.formed.other_connections;
+          room = h.formed.room;
+          pending_job = h.formed.pending_job;
         };
       };
       settings = refl;
@@ -149,11 +152,15 @@ goes-moves m e k h s =
       late = omega arith;
     }
 
+-- the question that is pending was numbered
+abbrev pub IsNumbered : RootState → Type 0
+IsNumbered roots = (job : ℕ) → roots.pending ≡ Some job → job < roots.next_job
+
 -- what is no connection is no matter of them
-pub elsewhere-moves : (targets : Targets) (big : BigTargets) (groups : List Group) (roots : RootState) (peers : List Peer) (m : Machine) →
-    IsOrdered m → AreApart (members_of groups) → ArePeersApart peers →
-    Moves 0 m (record m { targets = targets; big_targets = big; groups = groups; roots = roots; peers = peers })
-elsewhere-moves targets big groups roots peers m h members apart = record {
+pub elsewhere-moves : (targets : Targets) (big : BigTargets) (roots : RootState) (peers : List Peer) (m : Machine) →
+    IsOrdered m → IsNumbered roots → IsBook m.settings.own peers →
+    Moves 0 m (record m { targets = targets; big_targets = big; roots = roots; peers = peers })
+elsewhere-moves targets big roots peers m h numbered book = record {
   ordered = record {
     orderly = record {
       settings = h.orderly.settings;
@@ -162,7 +169,15 @@ elsewhere-moves targets big groups roots peers m h members apart = record {
       ids_rise = h.orderly.ids_rise;
       addresses = h.orderly.addresses;
     };
-    formed = record { shaped = h.formed.shaped; peers = apart; groups = members };
+    formed = record {
+      shaped = h.formed.shaped;
+      peers = book.apart;
+      groups = h.formed.groups;
+      other_peers = book.others;
+      other_connections = h.formed.other_connections;
+      room = book.room;
+      pending_job = numbered;
+    };
   };
   settings = refl;
   now = refl;
@@ -171,21 +186,22 @@ elsewhere-moves targets big groups roots peers m h members apart = record {
 }
 
 -- what is neither a connection nor a peer is no matter of either
-pub elsewhere-keeps : (targets : Targets) (big : BigTargets) (groups : List Group) (roots : RootState) (m : Machine) →
-    IsOrdered m → AreApart (members_of groups) → Keeps 0 m (record m { targets = targets; big_targets = big; groups = groups; roots = roots })
-elsewhere-keeps targets big groups roots m h members =
-    moves-keeps 0 m (record m { targets = targets; big_targets = big; groups = groups; roots = roots })
-    (elsewhere-moves targets big groups roots m.peers m h members h.formed.peers) (λ ties. ties)
+pub elsewhere-keeps : (targets : Targets) (big : BigTargets) (roots : RootState) (m : Machine) →
+    IsOrdered m → IsNumbered roots → Keeps 0 m (record m { targets = targets; big_targets = big; roots = roots })
+elsewhere-keeps targets big roots m h numbered =
+    moves-keeps 0 m (record m { targets = targets; big_targets = big; roots = roots })
+    (elsewhere-moves targets big roots m.peers m h numbered (book_of m h.formed)) (λ ties. ties)
 
-pub peers-moves : (peers : List Peer) (m : Machine) → IsOrdered m → ArePeersApart peers → Moves 0 m (record m { peers = peers })
-peers-moves peers m h apart = elsewhere-moves m.targets m.big_targets m.groups m.roots peers m h h.formed.groups apart
+pub peers-moves : (peers : List Peer) (m : Machine) → IsOrdered m → IsBook m.settings.own peers → Moves 0 m (record m { peers = peers })
+peers-moves peers m h book = elsewhere-moves m.targets m.big_targets m.roots peers m h h.formed.pending_job book
 
 -- ---- peers
 
 -- a change that keeps addresses
 pub turns_at-moves : (o : Option Peer) (change : Peer → Peer) (m : Machine) → IsOrdered m → Moves 0 m (turns_at o change m).machine
 turns_at-moves None change m h = moves_nothing m h
-turns_at-moves (Some p) change m h = peers-moves (with_peer_in (change p) m.peers) m h (with_peer-apart (change p) m.peers h.formed.peers)
+turns_at-moves (Some p) change m h =
+    peers-moves (with_peer_in (change p) m.peers) m h (with_peer-book m.settings.own (change p) m.peers (book_of m h.formed))
 
 pub changes-moves : (addr : Addr) (change : Peer → Peer) (m : Machine) → IsOrdered m → Moves 0 m (peer_changes addr change m).machine
 changes-moves addr change m h = turns_at-moves (peer_at addr m) change m h
@@ -203,20 +219,29 @@ note-machine New addr m = refl
 note-machine Present addr m = refl
 note-machine Full addr m = refl
 
-pub peer_comes-keeps : (big : Bool) (addr : Addr) (m : Machine) → IsOrdered m → Keeps 0 m (peer_comes big addr m).machine
-peer_comes-keeps big addr m h =
+-- it is not the own address
+pub peer_comes-keeps : (big : Bool) (addr : Addr) (m : Machine) → IsOrdered m → same_address addr m.settings.own ≡ false →
+    Keeps 0 m (peer_comes big addr m).machine
+peer_comes-keeps big addr m h other =
     rw (note-machine (entry_of addr m.peers) addr (record m { peers = entered (new_peer big addr) m.peers }))
     (moves-keeps 0 m (record m { peers = entered (new_peer big addr) m.peers })
-    (peers-moves (entered (new_peer big addr) m.peers) m h (entered-apart (new_peer big addr) m.peers h.formed.peers))
+    (peers-moves (entered (new_peer big addr) m.peers) m h (entered-book m.settings.own (new_peer big addr) m.peers other (book_of m h.formed)))
     (comes-ties big addr m))
 
 -- ---- one part for each of a list
 
+-- that may need something of each
+pub for_each_that-keeps : {X : Type 0} (P : Settings → X → Type 0) (act : X → Machine → Effect) →
+    ((x : X) (m : Machine) → IsOrdered m → P m.settings x → Keeps 0 m (act x m).machine) →
+    (xs : List X) (m : Machine) → IsOrdered m → All (P m.settings) xs → Keeps 0 m (for_each act xs m).machine
+unfolding for_each
+for_each_that-keeps P act each [] m h all = keeps_nothing m h
+for_each_that-keeps P act each (x ∷ xs) m h all =
+    let n : Machine = (act x m).machine in
+    let first : Keeps 0 m n = each x m h (All-head (P m.settings) x xs all) in
+    keeps_then 0 0 m n (for_each act xs n).machine first
+    (for_each_that-keeps P act each xs n first.ordered (subst (λ s. All (P s) xs) (sym first.settings) (All-tail (P m.settings) x xs all)))
+
 pub for_each-keeps : {X : Type 0} (act : X → Machine → Effect) → ((x : X) (m : Machine) → IsOrdered m → Keeps 0 m (act x m).machine) →
     (xs : List X) (m : Machine) → IsOrdered m → Keeps 0 m (for_each act xs m).machine
-unfolding for_each
-for_each-keeps act each [] m h = keeps_nothing m h
-for_each-keeps act each (x ∷ xs) m h =
-    let first : Keeps 0 m (act x m).machine = each x m h in
-    keeps_then 0 0 m (act x m).machine (for_each act xs (act x m).machine).machine first
-    (for_each-keeps act each xs (act x m).machine first.ordered)
+for_each-keeps act each xs m h = for_each_that-keeps (λ s x. Unit {0}) act (λ x n o any. each x n o) xs m h (λ k d inside. tt)

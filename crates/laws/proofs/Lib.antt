@@ -15,6 +15,8 @@ mod Governing
 mod GroupsApart
 mod Orders
 mod PeersApart
+mod Books
+mod OwnAddress
 mod Keeping
 mod WholeMoves
 mod Trims

@@ -21,13 +21,14 @@ use Rattle.machine.specs.Connections.{with_entry, says_done, trim, release}
 use Rattle.machine.specs.Govern.{on_entry, is_used_at, on_used, asks_peer, activates, deactivates, carries_out}
 use Rattle.laws.specs.Whole.{AreApart, AreTied, IsAlone, TiedBy}
 use Rattle.laws.proofs.Addresses.{same_address-true}
+use Rattle.laws.proofs.Books.{book_of, filter-book}
 use Rattle.laws.proofs.Counts.{counted_of, counted_in-sum}
 use Rattle.laws.proofs.Effects.{one_if-not_counted}
 use Rattle.laws.proofs.Entries.{TurnsInto, turned-connections, turned-sum}
 use Rattle.laws.proofs.Finds.{find-set_other}
 use Rattle.laws.proofs.Keeping.{IsOrdered, Moves, Keeps, keeps_nothing, keeps_then, moves_then, moves-keeps, peers-moves, changes-moves, changes-keeps}
 use Rattle.laws.proofs.Lists.{StandsAt, FoundIn, stands-set, find_some}
-use Rattle.laws.proofs.PeersApart.{same_turned, filter-apart}
+use Rattle.laws.proofs.PeersApart.{same_turned}
 use Rattle.laws.proofs.Ties.{live_here, turned_here, turned_elsewhere, changed-ties, taken-ties, taken-elsewhere}
 use Rattle.laws.proofs.Trims.{Trimmed, keeps-trimmed, trimmed_then, trimmed-within, raised_then_trimmed, trim-trims, trim-used, turns_at-counted, turns_at-connections}
 use Rattle.laws.proofs.WholeMoves.{owes-keeps, IsWarm, asks_warm-keeps, releases-moves}
@@ -185,7 +186,7 @@ forget-carried addr m h within may =
     let n : Machine = (peer_goes addr m).machine in
     record {
       trimmed = keeps-trimmed m n within
-          (moves-keeps 0 m n (peers-moves n.peers m h (filter-apart (λ p. not (same_address p.addr addr)) m.peers h.formed.peers))
+          (moves-keeps 0 m n (peers-moves n.peers m h (filter-book m.settings.own (λ p. not (same_address p.addr addr)) m.peers (book_of m h.formed)))
           (λ ties. taken-ties addr m (cold-alone m.now (peer_at addr m) (live_entry_at addr m) may.cold may.idle (ties addr)) ties));
       elsewhere = λ b other there. record { cold = subst IsCold (sym (taken-elsewhere addr b m.peers other)) there.cold; idle = there.idle };
     }

@@ -25,6 +25,7 @@ use Rattle.machine.specs.Govern.{link_of, promoted_at, promote}
 use Rattle.laws.specs.Laws.{DifferInAddress}
 use Rattle.laws.specs.Whole.{IsShaped, TiedBy}
 use Rattle.laws.proofs.Addresses.{same_address-self, same_address-true}
+use Rattle.laws.proofs.Books.{found-other}
 use Rattle.laws.proofs.Counts.{counted_of, counted_in-sum, late_of, late_in-sum}
 use Rattle.laws.proofs.Entries.{with_new, come-orderly}
 use Rattle.laws.proofs.Keeping.{IsOrdered, Keeps}
@@ -61,6 +62,11 @@ dial-keeps addr m h none ready =
           shaped = All-push (λ e. IsShaped e.facts) m.connections new h.formed.shaped (dialing-shaped m.next_id addr);
           peers = h.formed.peers;
           groups = h.formed.groups;
+          other_peers = h.formed.other_peers;
+          other_connections = All-push (λ e. same_address e.facts.addr m.settings.own ≡ false) m.connections new h.formed.other_connections
+              (known-other (peer_at addr m) refl ready);
+          room = h.formed.room;
+          pending_job = h.formed.pending_job;
         };
       };
       settings = refl;
@@ -70,6 +76,10 @@ dial-keeps addr m h none ready =
       ties = come-ties m new refl none (λ tie. on_its_way (peer_at addr m) ready tie);
     }
   where
+    known-other : (o : Option Peer) → peer_at addr m ≡ o → IsReady m.now o → same_address addr m.settings.own ≡ false
+    known-other None is ready = elim ready [ ]
+    known-other (Some p) is ready = found-other m.settings.own addr m.peers p h.formed.other_peers is
+
     on_its_way : (o : Option Peer) → IsReady m.now o → TiedBy m.now o None → TiedBy m.now o (Some (fresh_entry (dialing m.next_id addr)))
     on_its_way None ready tie = elim ready [ ]
     on_its_way (Some p) ready tie = record {

@@ -13,6 +13,7 @@ use Rattle.net_base.specs.declared.connection.Responders.{Responders}
 use Rattle.net_base.specs.declared.peer.Peer.{Peer}
 use Rattle.net_base.specs.declared.peer.Temp.TheVariants.{Hot}
 use Rattle.accept_gate.specs.Prune.{choice_of}
+use Rattle.churn_clock.specs.Windows.{effective_of}
 use Rattle.conn_state.specs.Moves.{awakened}
 use Rattle.conn_state.specs.Protocols.{has_responder}
 use Rattle.conn_state.specs.Use.{is_live, agreed_sharing, has_id, is_negotiated, runs, some_runs}
@@ -37,9 +38,10 @@ use Rattle.laws.proofs.Entries.{TurnsInto, gone-connections, one_has_id, turned-
 use Rattle.laws.proofs.Finds.{find-remove_other, find-remove_here}
 use Rattle.laws.proofs.Keeping.{IsOrdered, Keeps, keeps_nothing, moves_then, moves-keeps, keeps-moves, changes-moves, peer_comes-keeps}
 use Rattle.laws.proofs.Lists.{StandsAt, stands-set, find_some, find_only}
+use Rattle.laws.proofs.OwnAddress.{IsOther, taken-other}
 use Rattle.laws.specs.Whole.{AreTied, IsAlone, TiedBy}
 use Rattle.laws.proofs.Ties.{changed-ties, turned_here, turned_elsewhere, live_here}
-use Rattle.laws.proofs.Trims.{lost-connections, Trimmed, HasMoved, keeps-trimmed, trimmed_then, trimmed-within, raised_then_trimmed, trim-trims, for_each-trimmed}
+use Rattle.laws.proofs.Trims.{lost-connections, Trimmed, HasMoved, keeps-trimmed, trimmed_then, trimmed-within, raised_then_trimmed, trim-trims, for_each_that-trimmed}
 use Rattle.laws.proofs.WholeMoves.{IsLost, negotiated-live, ending-keeps, awakes-keeps, idles-keeps, pays-keeps}
 
 -- ---- only known protocols are answered
@@ -283,14 +285,15 @@ asked_as-trimmed (Ok seen) item sharing protocol m e k is t = by_test (takes_req
 
 -- ---- the other side answers
 
-pub shares-keeps : (addr : Addr) (m : Machine) → IsOrdered m → Keeps 0 m (shares_address addr m).machine
-shares-keeps addr m h = peer_comes-keeps false addr m h
+pub shares-keeps : (addr : Addr) (m : Machine) → IsOrdered m → IsOther m.settings addr → Keeps 0 m (shares_address addr m).machine
+shares-keeps addr m h other = peer_comes-keeps false addr m h other
 
 takes-trimmed : (o : Option Share) (m : Machine) → IsOrdered m → counted_in m ≤ m.settings.hard → Trimmed m (takes_addresses o m).machine
 takes-trimmed None m h within = keeps-trimmed m m within (keeps_nothing m h)
 takes-trimmed (Some (share.Request n)) m h within = keeps-trimmed m m within (keeps_nothing m h)
 takes-trimmed (Some (share.Peers peers)) m h within =
-    for_each-trimmed shares_address (λ addr n o w. keeps-trimmed n (shares_address addr n).machine w (shares-keeps addr n o)) (taken_of peers m) m h within
+    for_each_that-trimmed IsOther shares_address (λ addr n o w other. keeps-trimmed n (shares_address addr n).machine w (shares-keeps addr n o other))
+    (taken_of peers m) m h within (taken-other m.settings (effective_of m.targets m.now).known m.peers peers)
 takes-trimmed (Some share.Done) m h within = keeps-trimmed m m within (keeps_nothing m h)
 
 -- what is asked of a peer is answered: it is hot

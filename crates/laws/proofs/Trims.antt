@@ -1,8 +1,10 @@
 -- Where more connections are counted than the hard limit, one of them goes.
-use Rattle.std.proofs.Common.{ℕ, suc, ◌+◌, ◌≤◌, ◌<◌, ◌≡◌, Bool, true, false, not, nat_le, if◌then◌else◌, List, [], ◌∷◌, map, filter_map, find, sum_by, Option, Some, None, refl, sym, ap, ◌∙◌, subst, arith, eq-eqb, leb-true, leb-false}
+use Rattle.std.proofs.Common.{ℕ, suc, ◌+◌, ◌≤◌, ◌<◌, ◌≡◌, Bool, true, false, not, nat_le, if◌then◌else◌, List, [], ◌∷◌, map, filter_map, find, sum_by, All, Option, Some, None, refl, sym, ap, ◌∙◌, subst, arith, eq-eqb, leb-true, leb-false}
 use Rattle.std.specs.List.{cons_option}
 use Rattle.std.specs.Option.{option_map, unwrap_or}
 use Rattle.std.proofs.lemmas.Bool.{cond_both, and_parts, false≢true}
+use Rattle.std.proofs.lemmas.List.Elements.{All-head, All-tail}
+use Rattle.net_base.specs.declared.settings.Settings.{Settings}
 use Rattle.net_base.specs.declared.action.CloseCause.TheVariants.{Pruned}
 use Rattle.net_base.specs.declared.connection.Cid.{Cid}
 use Rattle.net_base.specs.declared.connection.Facts.{Facts}
@@ -243,12 +245,19 @@ raised_then_trimmed m n o within raised trimmed = record {
   ties = λ h. trimmed.ties (raised.ties h);
 }
 
+-- that may need something of each
+pub for_each_that-trimmed : {X : Type 0} (P : Settings → X → Type 0) (act : X → Machine → Effect) →
+    ((x : X) (m : Machine) → IsOrdered m → counted_in m ≤ m.settings.hard → P m.settings x → Trimmed m (act x m).machine) →
+    (xs : List X) (m : Machine) → IsOrdered m → counted_in m ≤ m.settings.hard → All (P m.settings) xs → Trimmed m (for_each act xs m).machine
+unfolding for_each
+for_each_that-trimmed P act each [] m h within all = keeps-trimmed m m within (keeps_nothing m h)
+for_each_that-trimmed P act each (x ∷ xs) m h within all =
+    let first : Trimmed m (act x m).machine = each x m h within (All-head (P m.settings) x xs all) in
+    trimmed_then m (act x m).machine (for_each act xs (act x m).machine).machine first
+    (for_each_that-trimmed P act each xs (act x m).machine first.ordered (trimmed-within m (act x m).machine first)
+    (subst (λ s. All (P s) xs) (sym first.settings) (All-tail (P m.settings) x xs all)))
+
 pub for_each-trimmed : {X : Type 0} (act : X → Machine → Effect) →
     ((x : X) (m : Machine) → IsOrdered m → counted_in m ≤ m.settings.hard → Trimmed m (act x m).machine) →
     (xs : List X) (m : Machine) → IsOrdered m → counted_in m ≤ m.settings.hard → Trimmed m (for_each act xs m).machine
-unfolding for_each
-for_each-trimmed act each [] m h within = keeps-trimmed m m within (keeps_nothing m h)
-for_each-trimmed act each (x ∷ xs) m h within =
-    let first : Trimmed m (act x m).machine = each x m h within in
-    trimmed_then m (act x m).machine (for_each act xs (act x m).machine).machine first
-    (for_each-trimmed act each xs (act x m).machine first.ordered (trimmed-within m (act x m).machine first))
+for_each-trimmed act each xs m h within = for_each_that-trimmed (λ s x. Unit {0}) act (λ x n o w any. each x n o w) xs m h within (λ k d inside. tt)

@@ -1,5 +1,5 @@
 -- Each event of the whole machine.
-use Rattle.std.proofs.Common.{ℕ, zero, suc, ◌+◌, ◌≤◌, ◌≡◌, Bool, true, false, cond, nat_le, if◌then◌else◌, List, [], ◌∷◌, length, Option, Some, None, refl, sym, ap, ◌∙◌, subst, arith, leb-false}
+use Rattle.std.proofs.Common.{ℕ, zero, suc, ◌+◌, ◌≤◌, ◌≡◌, Bool, true, false, cond, nat_le, if◌then◌else◌, List, [], ◌∷◌, length, All, Option, Some, None, refl, sym, ap, ◌∙◌, subst, arith, leb-false}
 use Rattle.std.proofs.lemmas.Bool.{cond_both, both_ways, and_parts, false≢true}
 use Rattle.std.proofs.lemmas.List.Elements.{All-push}
 use Rattle.net_base.specs.Address.{same_address, address_below}
@@ -35,7 +35,7 @@ use Rattle.machine.specs.Events.{clock_shows, turned_away, admitted, crossed, ac
 use Rattle.machine.specs.Govern.{govern}
 use Rattle.machine.specs.Provided.{targets_are, big_targets_are, comes_ordinary, locals_are, is_wanted_big, comes_big, bigs_are, roots_say, roots_answer}
 use Rattle.machine.specs.Whole.{whole_step}
-use Rattle.laws.specs.Whole.{IsShaped, IsFormed, IsSteady, TiedBy, IsTied}
+use Rattle.laws.specs.Whole.{AreApart, IsShaped, IsFormed, IsSteady, TiedBy, IsTied}
 use Rattle.laws.proofs.Addresses.{same_address-true}
 use Rattle.laws.proofs.Entries.{TurnsInto}
 use Rattle.laws.proofs.Firing.{Due, due_of}
@@ -45,8 +45,9 @@ use Rattle.laws.proofs.GroupsApart.{cleaned-apart}
 use Rattle.laws.proofs.Counts.{counted_of, late_in, counted-expired, counted-closing, late-expired, late-closing}
 use Rattle.laws.proofs.Effects.{one_if-not_counted}
 use Rattle.laws.proofs.Events.{StaysSound, admitted_entry, at_moment, at_moment-orderly, ahead-none_late, none_late-ahead, peer_connects-sound, clock_shows-sound}
-use Rattle.laws.proofs.Keeping.{IsOrdered, Keeps, keeps_nothing, keeps_then, moves-keeps, turns-moves, goes-moves, elsewhere-keeps, changes-keeps, peer_comes-keeps, for_each-keeps}
+use Rattle.laws.proofs.Keeping.{IsOrdered, Keeps, keeps_nothing, keeps_then, moves-keeps, turns-moves, goes-moves, elsewhere-keeps, changes-keeps, peer_comes-keeps, for_each_that-keeps, for_each-keeps}
 use Rattle.laws.proofs.Lists.{StandsAt, find_some}
+use Rattle.laws.proofs.OwnAddress.{IsOther, members-other, publics-other, wanted-other}
 use Rattle.laws.proofs.Settings.{timewait-positive}
 use Rattle.laws.proofs.Shapes.{accepted-shaped, expired-shaped, closing-shaped}
 use Rattle.laws.proofs.Streams.{bytes_come_in-trimmed}
@@ -55,8 +56,8 @@ use Rattle.laws.proofs.WholeMoves.{ending-keeps, overwritten-keeps, vanishes-kee
 
 -- ---- what is set and provided
 
-comes_ordinary-keeps : (addr : Addr) (m : Machine) → IsOrdered m → Keeps 0 m (comes_ordinary addr m).machine
-comes_ordinary-keeps addr m h = peer_comes-keeps false addr m h
+comes_ordinary-keeps : (addr : Addr) (m : Machine) → IsOrdered m → IsOther m.settings addr → Keeps 0 m (comes_ordinary addr m).machine
+comes_ordinary-keeps addr m h other = peer_comes-keeps false addr m h other
 
 ordinary-keeps : (addr : Addr) (m : Machine) → IsOrdered m → Keeps 0 m (peer_is_ordinary addr m).machine
 ordinary-keeps addr m h = changes-keeps addr (λ p. record p { big = false }) m (λ p. refl) (λ p tie. same_peer p (live_entry_at addr m) tie) h
@@ -65,31 +66,62 @@ ordinary-keeps addr m h = changes-keeps addr (λ p. record p { big = false }) m 
     same_peer p None tie = tie
     same_peer p (Some e) tie = record { established = tie.established; in_use = tie.in_use; on_its_way = tie.on_its_way; asked = tie.asked }
 
+-- the groups alone are set
+grouped-ordered : (groups : List Group) (m : Machine) → IsOrdered m → AreApart (members_of groups) → IsOrdered (record m { groups = groups })
+grouped-ordered groups m h apart = record {
+  orderly = record {
+    settings = h.orderly.settings;
+    next_id = h.orderly.next_id;
+    ids_given = h.orderly.ids_given;
+    ids_rise = h.orderly.ids_rise;
+    addresses = h.orderly.addresses;
+  };
+  formed = record {
+    shaped = h.formed.shaped;
+    peers = h.formed.peers;
+    groups = apart;
+    other_peers = h.formed.other_peers;
+    other_connections = h.formed.other_connections;
+    room = h.formed.room;
+    pending_job = h.formed.pending_job;
+  };
+}
+
 locals-keeps : (groups : List Group) (m : Machine) → IsOrdered m → Keeps 0 m (locals_are groups m).machine
 locals-keeps groups m h =
     let kept : List Group = cleaned m.settings.own groups in
     let n : Machine = record m { groups = kept } in
-    let first : Keeps 0 m n = elsewhere-keeps m.targets m.big_targets kept m.roots m h (cleaned-apart m.settings.own groups) in
     let o : Machine = (for_each peer_is_ordinary (members_of kept) n).machine in
-    let second : Keeps 0 n o = for_each-keeps peer_is_ordinary ordinary-keeps (members_of kept) n first.ordered in
-    let third : Keeps 0 o (for_each comes_ordinary (members_of kept) o).machine = for_each-keeps comes_ordinary comes_ordinary-keeps (members_of kept) o second.ordered in
-    keeps_then 0 0 m n (for_each comes_ordinary (members_of kept) o).machine first
-    (keeps_then 0 0 n o (for_each comes_ordinary (members_of kept) o).machine second third)
+    let p : Machine = (for_each comes_ordinary (members_of kept) o).machine in
+    let first : Keeps 0 n o =
+    for_each-keeps peer_is_ordinary ordinary-keeps (members_of kept) n (grouped-ordered kept m h (cleaned-apart m.settings.own groups)) in
+    let second : Keeps 0 o p = for_each_that-keeps IsOther comes_ordinary comes_ordinary-keeps (members_of kept) o first.ordered
+    (subst (λ s. All (IsOther s) (members_of kept)) (sym first.settings) (members-other m.settings groups)) in
+    let both : Keeps 0 n p = keeps_then 0 0 n o p first second in
+    record {
+      ordered = both.ordered;
+      settings = both.settings;
+      now = both.now;
+      counted = both.counted;
+      late = both.late;
+      ties = both.ties;
+    }
 
 comes_big-keeps : (addr : Addr) (m : Machine) → IsOrdered m → Keeps 0 m (comes_big addr m).machine
-comes_big-keeps addr m h = by_test (is_wanted_big addr m)
+comes_big-keeps addr m h = by_test (is_wanted_big addr m) refl
   where
-    by_test : (b : Bool) → Keeps 0 m (if b then as_move (shared addr) m (peer_comes true addr m) else nothing_more m).machine
-    by_test true = peer_comes-keeps true addr m h
-    by_test false = keeps_nothing m h
+    by_test : (b : Bool) → is_wanted_big addr m ≡ b → Keeps 0 m (if b then as_move (shared addr) m (peer_comes true addr m) else nothing_more m).machine
+    by_test true wanted = peer_comes-keeps true addr m h (wanted-other addr m wanted)
+    by_test false unwanted = keeps_nothing m h
 
 roots_say-keeps : (answer : RootAnswer) (m : Machine) → IsOrdered m → Keeps 0 m (roots_say answer m).machine
 roots_say-keeps (Found ttl addrs) m h =
     let publics : List Addr = publics_of m.settings.own m.targets.root addrs in
     let n : Machine = record m { roots = found m.now ttl publics m.roots } in
-    let first : Keeps 0 m n = elsewhere-keeps m.targets m.big_targets m.groups (found m.now ttl publics m.roots) m h h.formed.groups in
-    keeps_then 0 0 m n (for_each comes_ordinary publics n).machine first (for_each-keeps comes_ordinary comes_ordinary-keeps publics n first.ordered)
-roots_say-keeps Failed m h = elsewhere-keeps m.targets m.big_targets m.groups (failed m.now m.settings.backoff m.roots) m h h.formed.groups
+    let first : Keeps 0 m n = elsewhere-keeps m.targets m.big_targets (found m.now ttl publics m.roots) m h (λ job never. absurd cc) in
+    keeps_then 0 0 m n (for_each comes_ordinary publics n).machine first
+    (for_each_that-keeps IsOther comes_ordinary comes_ordinary-keeps publics n first.ordered (publics-other m.settings m.targets.root addrs))
+roots_say-keeps Failed m h = elsewhere-keeps m.targets m.big_targets (failed m.now m.settings.backoff m.roots) m h (λ job never. absurd cc)
 
 roots-keeps : (job : Job) (answer : RootAnswer) (m : Machine) → IsOrdered m → Keeps 0 m (roots_answer job answer m).machine
 roots-keeps job answer m h = cond_both (awaits job.0 m.roots) (roots_say answer m) (nothing_more m) (λ effect. Keeps 0 m effect.machine)
@@ -124,19 +156,23 @@ closes-keeps cid m h = by_entry (entry_at cid.0 m) refl
 
 -- ---- a peer connects
 
-admitted-formed : (addr : Addr) (m : Machine) → IsFormed m → IsFormed (admitted addr m).machine
-admitted-formed addr m h = record {
+admitted-formed : (addr : Addr) (m : Machine) → IsOther m.settings addr → IsFormed m → IsFormed (admitted addr m).machine
+admitted-formed addr m other h = record {
   shaped = All-push (λ e. IsShaped e.facts) m.connections (admitted_entry addr m) h.shaped
       (accepted-shaped m.next_id addr (m.now + m.settings.handshake));
   peers = h.peers;
   groups = h.groups;
+  other_peers = h.other_peers;
+  other_connections = All-push (λ e. same_address e.facts.addr m.settings.own ≡ false) m.connections (admitted_entry addr m) h.other_connections other;
+  room = h.room;
+  pending_job = h.pending_job;
 }
 
-crossed-formed : (addr : Addr) (m : Machine) (e : Entry) (k : ℕ) → IsOrdered m → StandsAt m.connections k e → is_pending e.facts ≡ true →
+crossed-formed : (addr : Addr) (m : Machine) (e : Entry) (k : ℕ) → IsOther m.settings addr → IsOrdered m → StandsAt m.connections k e → is_pending e.facts ≡ true →
     IsFormed (crossed addr e m).machine
-crossed-formed addr m e k h s pending = cond_both (address_below addr m.settings.own) (then_do (ending Overwritten e m) (admitted addr)) (turned_away Crossed m)
+crossed-formed addr m e k other h s pending = cond_both (address_below addr m.settings.own) (then_do (ending Overwritten e m) (admitted addr)) (turned_away Crossed m)
     (λ effect. IsFormed effect.machine)
-    (λ below. admitted-formed addr (ending Overwritten e m).machine (overwritten-keeps m e k h s pending).ordered.formed) (λ above. h.formed)
+    (λ below. admitted-formed addr (ending Overwritten e m).machine other (overwritten-keeps m e k h s pending).ordered.formed) (λ above. h.formed)
 
 admitted-ties : (addr : Addr) (m : Machine) → live_entry_at addr m ≡ None → IsTied m → IsTied (admitted addr m).machine
 admitted-ties addr m none ties = come-ties m (admitted_entry addr m) refl none (step (peer_at addr m)) ties
@@ -162,15 +198,15 @@ crossed-ties addr m e k h s pending at ties =
     ((overwritten-keeps m e k h s pending).ties ties))
     (λ above. ties)
 
-beside-formed : (addr : Addr) (m : Machine) → IsOrdered m → IsFormed (accepted_beside (live_entry_at addr m) addr m).machine
-beside-formed addr m h = by_live (live_entry_at addr m) refl
+beside-formed : (addr : Addr) (m : Machine) → IsOther m.settings addr → IsOrdered m → IsFormed (accepted_beside (live_entry_at addr m) addr m).machine
+beside-formed addr m other h = by_live (live_entry_at addr m) refl
   where
     by_live : (o : Option Entry) → live_entry_at addr m ≡ o → IsFormed (accepted_beside o addr m).machine
-    by_live None is = admitted-formed addr m h.formed
+    by_live None is = admitted-formed addr m other h.formed
     by_live (Some e) is =
         let at = find_some (λ y. is_live_at addr y.facts) m.connections e is in
         cond_both (is_pending e.facts) (crossed addr e m) (turned_away Present m) (λ effect. IsFormed effect.machine)
-        (λ pending. crossed-formed addr m e at.place h at.stands pending) (λ other. h.formed)
+        (λ pending. crossed-formed addr m e at.place other h at.stands pending) (λ there. h.formed)
 
 beside-ties : (addr : Addr) (m : Machine) → IsOrdered m → IsTied m → IsTied (accepted_beside (live_entry_at addr m) addr m).machine
 beside-ties addr m h ties = by_live (live_entry_at addr m) refl
@@ -182,15 +218,15 @@ beside-ties addr m h ties = by_live (live_entry_at addr m) refl
         cond_both (is_pending e.facts) (crossed addr e m) (turned_away Present m) (λ effect. IsTied effect.machine)
         (λ pending. crossed-ties addr m e at.place h at.stands pending at.passes ties) (λ other. ties)
 
-through-formed : (g : Gate) (addr : Addr) (m : Machine) → IsOrdered m → IsFormed (accepted_through g addr m).machine
-through-formed Free addr m h = beside-formed addr m h
-through-formed (PauseFor delay) addr m h = beside-formed addr m h
-through-formed NoRoom addr m h = h.formed
+through-formed : (g : Gate) (addr : Addr) (m : Machine) → IsOther m.settings addr → IsOrdered m → IsFormed (accepted_through g addr m).machine
+through-formed Free addr m other h = beside-formed addr m other h
+through-formed (PauseFor delay) addr m other h = beside-formed addr m other h
+through-formed NoRoom addr m other h = h.formed
 
 connects-formed : (addr : Addr) (m : Machine) → IsOrdered m → IsFormed (peer_connects addr m).machine
 connects-formed addr m h = cond_both (same_address addr m.settings.own) (turned_away OwnAddr m)
     (accepted_through (gate_of m.settings (counted_in m)) addr m) (λ effect. IsFormed effect.machine)
-    (λ own. h.formed) (λ other. through-formed (gate_of m.settings (counted_in m)) addr m h)
+    (λ own. h.formed) (λ other. through-formed (gate_of m.settings (counted_in m)) addr m other h)
 
 through-ties : (g : Gate) (addr : Addr) (m : Machine) → IsOrdered m → IsTied m → IsTied (accepted_through g addr m).machine
 through-ties Free addr m h ties = beside-ties addr m h ties
@@ -273,7 +309,15 @@ fire_due-keeps (suc n) m h = by_due (due m) refl (fire_due-keeps n)
         keeps_then 0 0 m (fires d m).machine (fire_due n (fires d m).machine).machine first (later (fires d m).machine first.ordered)
 
 formed_at_moment : (t : ℕ) (m : Machine) → IsFormed m → IsFormed (at_moment t m)
-formed_at_moment t m h = record { shaped = h.shaped; peers = h.peers; groups = h.groups }
+formed_at_moment t m h = record {
+  shaped = h.shaped;
+  peers = h.peers;
+  groups = h.groups;
+  other_peers = h.other_peers;
+  other_connections = h.other_connections;
+  room = h.room;
+  pending_job = h.pending_job;
+}
 
 clock-formed : (t : ℕ) (m : Machine) → IsOrdered m → IsFormed (clock_shows t m).machine
 clock-formed t m h =
@@ -338,8 +382,8 @@ whole_step-steady m (Accepted addr) h = stays-steady m (peer_connects addr m).ma
 whole_step-steady m (Dialed cid opened) h = kept-steady m (dial_ends cid opened m).machine h (dial_ends-keeps cid opened m (ordered_of m h))
 whole_step-steady m (Bytes cid bytes) h = trimmed-steady m (whole_step m (Bytes cid bytes)).machine h (bytes_come_in-trimmed cid bytes m (ordered_of m h) h.sound.counted)
 whole_step-steady m (Closed cid) h = kept-steady m (peer_closes cid m).machine h (closes-keeps cid m (ordered_of m h))
-whole_step-steady m (Aims targets) h = kept-steady m (targets_are targets m).machine h (elsewhere-keeps targets m.big_targets m.groups m.roots m (ordered_of m h) h.formed.groups)
+whole_step-steady m (Aims targets) h = kept-steady m (targets_are targets m).machine h (elsewhere-keeps targets m.big_targets m.roots m (ordered_of m h) h.formed.pending_job)
 whole_step-steady m (Locals groups) h = kept-steady m (locals_are groups m).machine h (locals-keeps groups m (ordered_of m h))
 whole_step-steady m (Roots job answer) h = kept-steady m (roots_answer job answer m).machine h (roots-keeps job answer m (ordered_of m h))
-whole_step-steady m (BigAims targets) h = kept-steady m (big_targets_are targets m).machine h (elsewhere-keeps m.targets targets m.groups m.roots m (ordered_of m h) h.formed.groups)
+whole_step-steady m (BigAims targets) h = kept-steady m (big_targets_are targets m).machine h (elsewhere-keeps m.targets targets m.roots m (ordered_of m h) h.formed.pending_job)
 whole_step-steady m (Bigs addrs) h = kept-steady m (bigs_are addrs m).machine h (for_each-keeps comes_big comes_big-keeps addrs m (ordered_of m h))

@@ -133,15 +133,6 @@ vanishes-keeps m e k h s = gone_lost-keeps m e k h s
 
 -- ---- a connection turns
 
--- it stays the same connection, and live where it was
-pub same_entry : (e : Entry) (f : Facts) → f.cid ≡ e.facts.cid → f.addr ≡ e.facts.addr →
-    (is_live f ≡ true → is_live e.facts ≡ true) → (new : Entry) → new.facts ≡ f → TurnsInto e new
-same_entry e f cid addr live new is = record {
-  same_id = ap (λ g. g.cid) is ∙ cid;
-  same_addr = ap (λ g. g.addr) is ∙ addr;
-  live = λ l. live (ap is_live (sym is) ∙ l);
-}
-
 -- a reply on chain-sync that is owed after a change was owed before it
 some_filter : {X : Type 0} (q r : X → Bool) (xs : List X) → is_some (find q (filter r xs)) ≡ true → is_some (find q xs) ≡ true
 some_filter q r [] h = h

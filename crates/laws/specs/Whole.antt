@@ -1,5 +1,5 @@
 -- What holds in every record that a run of the whole machine reaches.
-use Rattle.std.specs.Prelude.{ℕ, ◌≡◌, ◌≤◌, true, false, not, ◌||◌, List, [], ◌∷◌, All, Option, Some, None, is_some}
+use Rattle.std.specs.Prelude.{ℕ, ◌≡◌, ◌<◌, ◌≤◌, true, false, not, ◌||◌, List, [], ◌∷◌, length, All, Option, Some, None, is_some}
 use Rattle.std.specs.List.{AllByRecursion}
 use Rattle.net_base.specs.Address.{same_address}
 use Rattle.net_base.specs.declared.address.Addr.{Addr}
@@ -9,7 +9,7 @@ use Rattle.net_base.specs.declared.connection.Facts.{Facts}
 use Rattle.net_base.specs.declared.connection.Grace.TheVariants.{Off}
 use Rattle.net_base.specs.declared.event.Event.{Event}
 use Rattle.net_base.specs.declared.peer.Temp.TheVariants.{Warm}
-use Rattle.peer_book.specs.Book.{is_established}
+use Rattle.peer_book.specs.Book.{is_established, most_peers}
 use Rattle.conn_state.specs.Use.{is_dialing, is_duplex, is_for_local, is_for_remote, is_negotiated, is_outbound, is_pending, some_runs}
 use Rattle.machine.specs.Machine.{Machine, Entry, live_entry_at}
 use Rattle.machine.specs.Peers.{peer_at}
@@ -90,6 +90,13 @@ pub record IsFormed (m : Machine) : Type 0 where
   pub shaped : AreShaped m
   pub peers : ArePeersApart m.peers
   pub groups : AreApart (members_of m.groups)
+  -- neither a peer nor a connection has the own address
+  pub other_peers : AllByRecursion (λ p. same_address p.addr m.settings.own ≡ false) m.peers
+  pub other_connections : All (λ e. same_address e.facts.addr m.settings.own ≡ false) m.connections
+  -- the book is not too full
+  pub room : length m.peers ≤ most_peers
+  -- the question that is pending was numbered
+  pub pending_job : (job : ℕ) → m.roots.pending ≡ Some job → job < m.roots.next_job
 
 pub record IsSteady (m : Machine) : Type 0 where
   pub sound : IsSound m
