@@ -1,7 +1,7 @@
 -- The governor as a whole: each rule, and all of them.
-use Rattle.std.proofs.Common.{ℕ, ◌-◌, ◌≤◌, ◌≡◌, Bool, true, false, cond, not, ◌&&◌, ◌||◌, List, [], ◌∷◌, ◌++◌, map, find, flat_map, Option, Some, None, is_some, refl, sym, ap, subst, arith}
+use Rattle.std.proofs.Common.{ℕ, ◌-◌, ◌≤◌, ◌≡◌, Bool, true, false, cond, not, nat_le, ◌&&◌, ◌||◌, List, [], ◌∷◌, ◌++◌, map, find, flat_map, Option, Some, None, is_some, refl, sym, ap, subst, arith}
 use Rattle.std.specs.List.{AllByRecursion}
-use Rattle.std.proofs.lemmas.Bool.{cond_both, and_parts, false≢true}
+use Rattle.std.proofs.lemmas.Bool.{cond_both, and_parts, or_parts, false≢true}
 use Rattle.net_base.specs.Address.{same_address}
 use Rattle.net_base.specs.declared.address.Addr.{Addr}
 use Rattle.net_base.specs.declared.action.Action.TheVariants.{AskRoots}
@@ -13,9 +13,9 @@ use Rattle.conn_state.specs.Use.{is_live, is_live_at}
 use Rattle.peer_book.specs.Book.{is_established, same_temp}
 use Rattle.root_groups.specs.Cleaned.{is_listed}
 use Rattle.root_groups.specs.RootAsk.{may_ask, asked}
-use Rattle.govern_rules.specs.Candidates.{is_eligible, may_be_forgotten, may_be_released, may_be_activated, may_be_deactivated}
+use Rattle.govern_rules.specs.Candidates.{may_be_asked, is_eligible, may_be_forgotten, may_be_released, may_be_activated, may_be_deactivated}
 use Rattle.govern_rules.specs.ClassRules.{deactivates}
-use Rattle.govern_rules.specs.Links.{some_link, is_pending as is_pending_link, owes_on_2, owes_a_reply}
+use Rattle.govern_rules.specs.Links.{some_link, can_share, is_pending as is_pending_link, owes_on_2, owes_a_reply}
 use Rattle.govern_rules.specs.Orders.{orders_for}
 use Rattle.govern_rules.specs.Rules.{is_not_local, may_be_dropped, is_member_and, members_count, deactivates_members, g4_orders, g7_orders, g9_orders}
 use Rattle.govern_rules.specs.declared.link.Link.{Link}
@@ -28,8 +28,9 @@ use Rattle.machine.specs.Replies.{reply_on}
 use Rattle.machine.specs.Govern.{link_of, view_of, is_used_at, carries_out, asks_roots, ordinary_rules, big_rules, rules, govern}
 use Rattle.laws.proofs.Chosen.{chosen, chosen-apart, chosen-all, PicksMembers, groups_picks-apart, groups_picks-all}
 use Rattle.laws.proofs.Keeping.{IsOrdered, Keeps, keeps_nothing, elsewhere-keeps}
-use Rattle.laws.proofs.Orders.{Carries, orders-trimmed, Always, ask-carried, IsCold, IsIdle, MayForget, forget-carried, MayRelease, release-carried, MayActivate, activate-carried, deactivate-carried}
+use Rattle.laws.proofs.Orders.{Carries, orders-trimmed, Always, MayAsk, ask-carried, IsCold, IsIdle, MayForget, forget-carried, MayRelease, release-carried, MayActivate, activate-carried, deactivate-carried}
 use Rattle.laws.proofs.Promotions.{MayPromote, promotes-carried, eligible-may}
+use Rattle.laws.proofs.Sharing.{shares-may}
 use Rattle.laws.proofs.Trims.{Trimmed, keeps-trimmed, trimmed_then, trimmed-within}
 use Rattle.laws.proofs.WholeMoves.{IsWarm}
 
@@ -43,20 +44,12 @@ unlinked test addr q at (x ∷ es) e none found =
     let parts = or_parts (same_address x.facts.addr addr && test (link_of x)) (some_link test (map link_of es) addr) none in
     by_test (q x) refl found parts.0 (unlinked test addr q at es e parts.1)
   where
-    or_parts : (a b : Bool) → (a || b) ≡ false → (a ≡ false) × (b ≡ false)
-    or_parts true b h = absurd (false≢true (sym h))
-    or_parts false b h = (refl, h)
-
     by_test : (b : Bool) → q x ≡ b → cond b (Some x) (find q es) ≡ Some e → (same_address x.facts.addr addr && test (link_of x)) ≡ false →
         (find q es ≡ Some e → test (link_of e) ≡ false) → test (link_of e) ≡ false
     by_test true is found fails later =
         let same : x ≡ e = cc in
         subst (λ y. test (link_of y) ≡ false) same (subst (λ b. (b && test (link_of x)) ≡ false) (at x is) fails)
     by_test false is found fails later = later found
-
-or_first : (a b : Bool) → (a || b) ≡ false → a ≡ false
-or_first true b h = h
-or_first false b h = refl
 
 not_false : (b : Bool) → not b ≡ true → b ≡ false
 not_false true h = absurd (false≢true h)
@@ -100,6 +93,13 @@ forget-gives m p passes found =
         unlinked (λ l. l.pending) p.addr (λ x. is_live_at p.addr x.facts)
         (λ x at. (and_parts (same_address x.facts.addr p.addr) (is_live x.facts) at).0) m.connections e none is
 
+ask-gives : (m : Machine) → IsOrdered m → Gives MayAsk (may_be_asked m.now (map link_of m.connections)) m
+unfolding Gives
+ask-gives m h p passes found =
+    let links : List Link = map link_of m.connections in
+    let parts = and_parts (is_established p.temp && can_share links p.addr) (nat_le p.share_next m.now) passes in
+    shares-may m h p.addr (and_parts (is_established p.temp) (can_share links p.addr) parts.0).1
+
 release-gives : (m : Machine) → Gives MayRelease (may_be_released (map link_of m.connections)) m
 unfolding Gives
 release-gives m p passes found e is =
@@ -109,8 +109,9 @@ release-gives m p passes found e is =
     unlinked (λ l. l.owes2 || l.owes8 || l.owes10) p.addr (is_used_at p.addr)
     (λ x at. (and_parts (same_address x.facts.addr p.addr) (is_live x.facts) (and_parts (is_live_at p.addr x.facts) x.facts.local at).0).0)
     m.connections e (not_false (owes_a_reply links p.addr) parts.1) is in
-    or_first (is_some (reply_on 2 e)) (is_some (reply_on 8 e))
-    (or_first (is_some (reply_on 2 e) || is_some (reply_on 8 e)) (is_some (reply_on 10 e)) none)
+    let early = or_parts (is_some (reply_on 2 e) || is_some (reply_on 8 e)) (is_some (reply_on 10 e)) none in
+    let two = or_parts (is_some (reply_on 2 e)) (is_some (reply_on 8 e)) early.0 in
+    record { on_2 = two.0; on_8 = two.1; on_10 = early.1 }
 
 activate-gives : (m : Machine) → Gives MayActivate (may_be_activated (map link_of m.connections)) m
 unfolding Gives
@@ -248,7 +249,7 @@ big-rules word = (
 ordinary-rules : (word : ℕ) → AllByRecursion Rules (ordinary_rules word)
 unfolding Rules
 ordinary-rules word = (
-  (λ m h within. always-trimmed (λ addr. Ask addr _) (ask-carried _) _ m h within),
+  (λ m h within. class-trimmed MayAsk (λ addr. Ask addr _) (ask-carried _) false word _ _ m h within (ask-gives m h)),
   (
     (λ m h within. class-trimmed MayForget Forget forget-carried false word _ _ m h within
         (and-gives MayForget (λ p. may_be_dropped m.groups m.roots.publics p.addr) (may_be_forgotten (map link_of m.connections)) m (forget-gives m))),

@@ -13,7 +13,7 @@ use Rattle.laws.proofs.Lists.{all-weaker, all-appended}
 abbrev pub NoneListed : List Addr → List Addr → Type 0
 NoneListed before addrs = AllByRecursion (λ a. is_listed a before ≡ false) addrs
 
-pub or_split : (a b : Bool) → (a || b) ≡ false → (a ≡ false) × (b ≡ false)
+or_split : (a b : Bool) → (a || b) ≡ false → (a ≡ false) × (b ≡ false)
 or_split true b h = absurd (false≢true (sym h))
 or_split false b h = (refl, h)
 

@@ -17,7 +17,7 @@ use Rattle.peer_book.specs.declared.added.Added.{Added}
 use Rattle.peer_book.specs.declared.added.Added.TheVariants.{New, Present, Full}
 use Rattle.conn_state.specs.Use.{has_id}
 use Rattle.laws.specs.Sound.{IsOrderly}
-use Rattle.laws.specs.Whole.{IsShaped, IsFormed, TiedBy, IsTied}
+use Rattle.laws.specs.Whole.{IsShaped, IsOwing, IsFormed, TiedBy, IsTied}
 use Rattle.laws.proofs.Books.{IsBook, book_of, with_peer-book, entered-book}
 use Rattle.laws.proofs.Counts.{counted_of, counted_in-sum, late_of, late_in, late_in-sum}
 use Rattle.laws.proofs.Entries.{TurnsInto, turned-connections, turned-orderly, turned-sum, gone-orderly, gone-sum}
@@ -81,9 +81,9 @@ keeps_then i j m n o first second = record {
 
 -- a connection turns into another
 pub turns-moves : (raised : ℕ) (m : Machine) (old new : Entry) (k : ℕ) → IsOrdered m → StandsAt m.connections k old →
-    TurnsInto old new → IsShaped new.facts → counted_of new ≤ counted_of old + raised → late_of m.now new ≤ late_of m.now old →
+    TurnsInto old new → IsShaped new.facts → IsOwing new → counted_of new ≤ counted_of old + raised → late_of m.now new ≤ late_of m.now old →
     Moves raised m (with_entry new m)
-turns-moves raised m old new k h s t shaped more later =
+turns-moves raised m old new k h s t shaped owes more later =
     let n : Machine = with_entry new m in
     let o : IsOrderly m = h.orderly in
     let own : Addr = m.settings.own in
@@ -104,6 +104,7 @@ turns-moves raised m old new k h s t shaped more later =
         orderly = turned-orderly m old new k o s t;
         formed = record {
           shaped = subst (All (λ e. IsShaped e.facts)) list (All-set (λ e. IsShaped e.facts) m.connections k new shaped h.formed.shaped);
+          owing = subst (All IsOwing) list (All-set IsOwing m.connections k new owes h.formed.owing);
           peers = h.formed.peers;
           groups = h.formed.groups;
           other_peers = h.formed.other_peers;
@@ -137,6 +138,7 @@ goes-moves m e k h s =
         orderly = gone-orderly m e.facts.cid.0 h.orderly;
         formed = record {
           shaped = All-filter (λ x. not (has_id e.facts.cid.0 x.facts)) (λ x. IsShaped x.facts) m.connections h.formed.shaped;
+          owing = All-filter (λ x. not (has_id e.facts.cid.0 x.facts)) IsOwing m.connections h.formed.owing;
           peers = h.formed.peers;
           groups = h.formed.groups;
           other_peers = h.formed.other_peers;
@@ -171,6 +173,7 @@ elsewhere-moves targets big roots peers m h numbered book = record {
     };
     formed = record {
       shaped = h.formed.shaped;
+      owing = h.formed.owing;
       peers = book.apart;
       groups = h.formed.groups;
       other_peers = book.others;

@@ -16,6 +16,8 @@ mod GroupsApart
 mod Orders
 mod PeersApart
 mod Books
+mod Owing
+mod Sharing
 mod OwnAddress
 mod Keeping
 mod WholeMoves

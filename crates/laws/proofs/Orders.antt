@@ -28,6 +28,7 @@ use Rattle.laws.proofs.Entries.{TurnsInto, turned-connections, turned-sum}
 use Rattle.laws.proofs.Finds.{find-set_other}
 use Rattle.laws.proofs.Keeping.{IsOrdered, Moves, Keeps, keeps_nothing, keeps_then, moves_then, moves-keeps, peers-moves, changes-moves, changes-keeps}
 use Rattle.laws.proofs.Lists.{StandsAt, FoundIn, stands-set, find_some}
+use Rattle.laws.proofs.Owing.{OwesNothing}
 use Rattle.laws.proofs.PeersApart.{same_turned}
 use Rattle.laws.proofs.Ties.{live_here, turned_here, turned_elsewhere, changed-ties, taken-ties, taken-elsewhere}
 use Rattle.laws.proofs.Trims.{Trimmed, keeps-trimmed, trimmed_then, trimmed-within, raised_then_trimmed, trim-trims, trim-used, turns_at-counted, turns_at-connections}
@@ -96,28 +97,43 @@ on_used-carried May addr act m h within each = by_entry (find (is_used_at addr) 
           found = is;
         })
 
+-- a connection of another address is not it
+other_at : (b : Addr) (x : Entry) → same_address x.facts.addr b ≡ false → is_used_at b x ≡ false
+other_at b x other = ap (λ c. (c && is_live x.facts) && x.facts.local) other
+
 -- ---- a peer is asked for addresses
 
-asked-carried : (n : ℕ) (addr : Addr) (m : Machine) (e : Entry) (k : ℕ) → Used m addr e k → Carried Always addr m (asks_peer n e m).machine
-asked-carried n addr m e k u =
-    let o : Machine = with_entry (owing 10 n m e) m in
-    let owes : Keeps 0 m o = owes-keeps 10 n m e k u.ordered u.stands refl in
+-- the connection in use has agreed on peer sharing
+abbrev pub MayAsk : Machine → Addr → Type 0
+MayAsk m addr = (e : Entry) → find (is_used_at addr) m.connections ≡ Some e → agreed_sharing e.facts.agreed ≡ true
+
+asked-carried : (n : ℕ) (addr : Addr) (m : Machine) (e : Entry) (k : ℕ) → Used m addr e k → MayAsk m addr → Carried MayAsk addr m (asks_peer n e m).machine
+asked-carried n addr m e k u may =
+    let new : Entry = owing 10 n m e in
+    let o : Machine = with_entry new m in
+    let owes : Keeps 0 m o =
+    owes-keeps 10 n m e k u.ordered u.stands (record { known = refl; local = u.local; sharing = λ on_10. may e u.found }) refl in
     let next : ℕ = m.now + m.settings.sharegap in
     record {
       trimmed = keeps-trimmed m (peer_was_asked next e.facts.addr o).machine u.within
           (keeps_then 0 0 m o (peer_was_asked next e.facts.addr o).machine owes
           (changes-keeps e.facts.addr (λ p. record p { share_next = next }) o (λ p. refl)
           (λ p tie. same_peer next o.now p (live_entry_at e.facts.addr o) tie) owes.ordered));
-      elsewhere = λ b other may. tt;
+      elsewhere = λ b other may_b x found.
+          let apart : same_address e.facts.addr b ≡ false = subst (λ a. same_address a b ≡ false) (sym u.here) (same_turned b addr other) in
+          may_b x
+          (sym (ap (find (is_used_at b)) (turns_at-connections (peer_at e.facts.addr o) (λ p. record p { share_next = next }) o
+          ∙ turned-connections m e new k u.ordered.orderly u.stands (record { same_id = refl; same_addr = refl; live = λ l. l }))
+          ∙ find-set_other (is_used_at b) new e m.connections k u.stands (other_at b e apart) (other_at b new apart)) ∙ found);
     }
   where
     same_peer : (next now : ℕ) (p : Peer) (x : Option Entry) → TiedBy now (Some p) x → TiedBy now (Some (record p { share_next = next })) x
     same_peer next now p None tie = tie
     same_peer next now p (Some x) tie = record { established = tie.established; in_use = tie.in_use; on_its_way = tie.on_its_way; asked = tie.asked }
 
-pub ask-carried : (n : ℕ) → Carries Always (λ addr. Ask addr n)
+pub ask-carried : (n : ℕ) → Carries MayAsk (λ addr. Ask addr n)
 unfolding Carries
-ask-carried n addr m h within may = on_used-carried Always addr (asks_peer n) m h within (asked-carried n addr m)
+ask-carried n addr m h within may = on_used-carried MayAsk addr (asks_peer n) m h within (λ e k u. asked-carried n addr m e k u may)
 
 -- ---- a warm peer is to become hot
 
@@ -128,7 +144,7 @@ pub activate-carried : Carries MayActivate Activate
 unfolding Carries
 activate-carried addr m h within may = on_used-carried MayActivate addr activates m h within (λ e k u. record {
   trimmed = keeps-trimmed m (with_entry (owing 2 0 m e) m) within
-      (asks_warm-keeps 0 m e k h u.stands (subst (λ a. IsWarm (peer_at a m)) (sym u.here) may));
+      (asks_warm-keeps 0 m e k h u.stands u.local (subst (λ a. IsWarm (peer_at a m)) (sym u.here) may));
   elsewhere = λ b other warm. warm;
 })
 
@@ -193,9 +209,9 @@ forget-carried addr m h within may =
 
 -- ---- a release
 
--- the connection in use owes nothing on chain-sync
+-- nothing is owed on the connection in use
 abbrev pub MayRelease : Machine → Addr → Type 0
-MayRelease m addr = (e : Entry) → find (is_used_at addr) m.connections ≡ Some e → is_some (reply_on 2 e) ≡ false
+MayRelease m addr = (e : Entry) → find (is_used_at addr) m.connections ≡ Some e → OwesNothing e
 
 says_done-machine : (f : Facts) (m : Machine) → (says_done f m).machine ≡ m
 says_done-machine f m = cond_both (agreed_sharing f.agreed) (asks f.cid 10 peer_sharing_done m) (nothing_more m) (λ effect. effect.machine ≡ m)
@@ -212,9 +228,6 @@ unused_at b x unused = by_test (is_live_at b x.facts)
     by_test true = unused
     by_test false = refl
 
-other_at : (b : Addr) (x : Entry) → same_address x.facts.addr b ≡ false → is_used_at b x ≡ false
-other_at b x other = ap (λ c. (c && is_live x.facts) && x.facts.local) other
-
 releasing-carried : (addr : Addr) (m : Machine) (e : Entry) (k : ℕ) → Used m addr e k → MayRelease m addr → Carried MayRelease addr m (releasing e m).machine
 unfolding releasing
 releasing-carried addr m e k u may =
@@ -225,7 +238,7 @@ releasing-carried addr m e k u may =
     let n : Machine = with_entry new m in
     let o : Machine = (peer_becomes Cold e.facts.addr n).machine in
     let t : TurnsInto e new = record { same_id = refl; same_addr = refl; live = λ l. l } in
-    let turned : Moves 1 m n = releases-moves m e k h s u.local in
+    let turned : Moves 1 m n = releases-moves m e k h s u.local (may e u.found) in
     let here : live_entry_at e.facts.addr n ≡ Some new =
     turned_here m e new k h.orderly s t u.live ∙ ap (λ b. if b then Some new else None) u.live in
     let was : live_entry_at e.facts.addr m ≡ Some e = live_here m e k h.orderly s u.live in
@@ -277,7 +290,7 @@ releasing-carried addr m e k u may =
       established = sym unused;
       in_use = λ local. absurd (both_ways new.facts.local unused local);
       on_its_way = λ way. tie.on_its_way (sym pending ∙ way);
-      asked = λ asked. absurd (both_ways (is_some (reply_on 2 e)) (may e u.found) (ap is_some (sym owed) ∙ asked));
+      asked = λ asked. absurd (both_ways (is_some (reply_on 2 e)) (may e u.found).on_2 (ap is_some (sym owed) ∙ asked));
     }
 
 released-carried : (addr : Addr) (m : Machine) (e : Entry) (k : ℕ) → Used m addr e k → MayRelease m addr → Carried MayRelease addr m (release e m).machine

@@ -1,6 +1,6 @@
 -- The own address is neither among the members of the groups, nor a public root peer, nor taken of what a peer told.
-use Rattle.std.proofs.Common.{ℕ, ◌≡◌, Bool, true, false, ◌&&◌, not, nat_lt, is_some, List, [], ◌∷◌, All, refl}
-use Rattle.std.proofs.lemmas.Bool.{and_parts, false≢true}
+use Rattle.std.proofs.Common.{ℕ, ◌≡◌, Bool, true, false, ◌&&◌, not, nat_lt, is_some, List, [], ◌∷◌, All}
+use Rattle.std.proofs.lemmas.Bool.{and_parts, or_parts, not-true}
 use Rattle.std.proofs.lemmas.List.Elements.{All-weaker, All-take, All-from_recursion}
 use Rattle.net_base.specs.Address.{same_address}
 use Rattle.net_base.specs.declared.address.Addr.{Addr}
@@ -16,7 +16,7 @@ use Rattle.root_groups.specs.Cleaned.{is_listed, first_places, cleaned, members_
 use Rattle.root_groups.specs.RootAsk.{publics_of}
 use Rattle.share_rounds.specs.Rounds.{fits_version, is_new, fresh_of}
 use Rattle.share_rounds.proofs.Rules.{taken_are_new}
-use Rattle.laws.proofs.GroupsApart.{NoneListed, or_split, first_places-none, cleaned-none}
+use Rattle.laws.proofs.GroupsApart.{NoneListed, first_places-none, cleaned-none}
 
 -- an address is another one than the own
 abbrev pub IsOther : Settings → Addr → Type 0
@@ -24,7 +24,7 @@ IsOther settings addr = same_address addr settings.own ≡ false
 
 unlisted-other : (settings : Settings) (addrs : List Addr) → NoneListed (settings.own ∷ []) addrs → All (IsOther settings) addrs
 unlisted-other settings addrs h = All-weaker (λ a. is_listed a (settings.own ∷ []) ≡ false) (IsOther settings)
-    (λ a none. (or_split (same_address a settings.own) false none).0) addrs
+    (λ a none. (or_parts (same_address a settings.own) false none).0) addrs
     (All-from_recursion (λ a. is_listed a (settings.own ∷ []) ≡ false) addrs h)
 
 pub members-other : (settings : Settings) (groups : List Group) → All (IsOther settings) (members_of (cleaned settings.own groups))
@@ -35,10 +35,6 @@ publics-other settings target addrs =
     let firsts : List Addr = first_places (settings.own ∷ []) addrs in
     All-take (IsOther settings) target firsts (unlisted-other settings firsts (first_places-none (settings.own ∷ []) addrs))
 
-not_own : (b : Bool) → not b ≡ true → b ≡ false
-not_own true h = absurd (false≢true h)
-not_own false h = refl
-
 pub taken-other : (settings : Settings) (target : ℕ) (peers : List Peer) (told : List Addr) →
     All (IsOther settings) (fresh_of settings.own target settings.version peers told)
 taken-other settings target peers told = All-weaker (λ a. is_new settings.own settings.version peers a ≡ true) (IsOther settings) each
@@ -47,7 +43,7 @@ taken-other settings target peers told = All-weaker (λ a. is_new settings.own s
     each : (a : Addr) → is_new settings.own settings.version peers a ≡ true → IsOther settings a
     each a h =
         let fits = and_parts (fits_version settings.version a && not (same_address a settings.own)) (not (is_some (peer_in a peers))) h in
-        not_own (same_address a settings.own) (and_parts (fits_version settings.version a) (not (same_address a settings.own)) fits.0).1
+        not-true (same_address a settings.own) (and_parts (fits_version settings.version a) (not (same_address a settings.own)) fits.0).1
 
 -- nor wanted as that of a big ledger peer
 pub wanted-other : (addr : Addr) (m : Machine) → is_wanted_big addr m ≡ true → IsOther m.settings addr
@@ -57,4 +53,4 @@ wanted-other addr m h =
     let local : Bool = not (is_some (group_of addr m.groups)) in
     let one = and_parts (own && known && local) (nat_lt (known_of true m.peers) (effective_big_of m.big_targets m.now).known) h in
     let two = and_parts (own && known) local one.0 in
-    not_own (same_address addr m.settings.own) (and_parts own known two.0).0
+    not-true (same_address addr m.settings.own) (and_parts own known two.0).0

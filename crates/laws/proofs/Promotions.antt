@@ -23,13 +23,14 @@ use Rattle.machine.specs.Replies.{owing}
 use Rattle.machine.specs.Connections.{with_entry, acquire, dial}
 use Rattle.machine.specs.Govern.{link_of, promoted_at, promote}
 use Rattle.laws.specs.Laws.{DifferInAddress}
-use Rattle.laws.specs.Whole.{IsShaped, TiedBy}
+use Rattle.laws.specs.Whole.{IsShaped, IsOwing, TiedBy}
 use Rattle.laws.proofs.Addresses.{same_address-self, same_address-true}
 use Rattle.laws.proofs.Books.{found-other}
 use Rattle.laws.proofs.Counts.{counted_of, counted_in-sum, late_of, late_in-sum}
 use Rattle.laws.proofs.Entries.{with_new, come-orderly}
 use Rattle.laws.proofs.Keeping.{IsOrdered, Keeps}
 use Rattle.laws.proofs.Lists.{StandsAt, stands_next, FoundIn, find_some, find_none, find_only}
+use Rattle.laws.proofs.Owing.{nothing-owing}
 use Rattle.laws.proofs.Shapes.{dialing-shaped, can_acquire}
 use Rattle.laws.proofs.Orders.{Carried, Carries}
 use Rattle.laws.proofs.Ties.{live_one, come-ties, come_elsewhere, turned_elsewhere, turns_at-elsewhere}
@@ -60,6 +61,7 @@ dial-keeps addr m h none ready =
         orderly = come-orderly m new h.orderly refl (none_live addr m none);
         formed = record {
           shaped = All-push (λ e. IsShaped e.facts) m.connections new h.formed.shaped (dialing-shaped m.next_id addr);
+          owing = All-push IsOwing m.connections new h.formed.owing (nothing-owing new refl);
           peers = h.formed.peers;
           groups = h.formed.groups;
           other_peers = h.formed.other_peers;

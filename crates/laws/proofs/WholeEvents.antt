@@ -35,7 +35,7 @@ use Rattle.machine.specs.Events.{clock_shows, turned_away, admitted, crossed, ac
 use Rattle.machine.specs.Govern.{govern}
 use Rattle.machine.specs.Provided.{targets_are, big_targets_are, comes_ordinary, locals_are, is_wanted_big, comes_big, bigs_are, roots_say, roots_answer}
 use Rattle.machine.specs.Whole.{whole_step}
-use Rattle.laws.specs.Whole.{AreApart, IsShaped, IsFormed, IsSteady, TiedBy, IsTied}
+use Rattle.laws.specs.Whole.{AreApart, IsOwing, IsShaped, IsFormed, IsSteady, TiedBy, IsTied}
 use Rattle.laws.proofs.Addresses.{same_address-true}
 use Rattle.laws.proofs.Entries.{TurnsInto}
 use Rattle.laws.proofs.Firing.{Due, due_of}
@@ -47,12 +47,13 @@ use Rattle.laws.proofs.Effects.{one_if-not_counted}
 use Rattle.laws.proofs.Events.{StaysSound, admitted_entry, at_moment, at_moment-orderly, ahead-none_late, none_late-ahead, peer_connects-sound, clock_shows-sound}
 use Rattle.laws.proofs.Keeping.{IsOrdered, Keeps, keeps_nothing, keeps_then, moves-keeps, turns-moves, goes-moves, elsewhere-keeps, changes-keeps, peer_comes-keeps, for_each_that-keeps, for_each-keeps}
 use Rattle.laws.proofs.Lists.{StandsAt, find_some}
+use Rattle.laws.proofs.Owing.{nothing-owing, alike-owing}
 use Rattle.laws.proofs.OwnAddress.{IsOther, members-other, publics-other, wanted-other}
 use Rattle.laws.proofs.Settings.{timewait-positive}
 use Rattle.laws.proofs.Shapes.{accepted-shaped, expired-shaped, closing-shaped}
 use Rattle.laws.proofs.Streams.{bytes_come_in-trimmed}
 use Rattle.laws.proofs.Trims.{Trimmed, keeps-trimmed}
-use Rattle.laws.proofs.WholeMoves.{ending-keeps, overwritten-keeps, vanishes-keeps, connects-keeps, stands-shaped, alike-ties}
+use Rattle.laws.proofs.WholeMoves.{ending-keeps, overwritten-keeps, vanishes-keeps, connects-keeps, stands-shaped, stands-owing, alike-ties}
 
 -- ---- what is set and provided
 
@@ -78,6 +79,7 @@ grouped-ordered groups m h apart = record {
   };
   formed = record {
     shaped = h.formed.shaped;
+    owing = h.formed.owing;
     peers = h.formed.peers;
     groups = apart;
     other_peers = h.formed.other_peers;
@@ -160,6 +162,7 @@ admitted-formed : (addr : Addr) (m : Machine) → IsOther m.settings addr → Is
 admitted-formed addr m other h = record {
   shaped = All-push (λ e. IsShaped e.facts) m.connections (admitted_entry addr m) h.shaped
       (accepted-shaped m.next_id addr (m.now + m.settings.handshake));
+  owing = All-push IsOwing m.connections (admitted_entry addr m) h.owing (nothing-owing (admitted_entry addr m) refl);
   peers = h.peers;
   groups = h.groups;
   other_peers = h.other_peers;
@@ -248,7 +251,8 @@ expires-keeps m e k h s local =
     let late = late-expired m.now e in
     let turns : TurnsInto e new = record { same_id = refl; same_addr = refl; live = λ l. l } in
     moves-keeps 0 m (with_entry new m)
-    (turns-moves 0 m e new k h s turns (expired-shaped e.facts (stands-shaped m e k h s) local) (omega arith) (omega (arith, late)))
+    (turns-moves 0 m e new k h s turns (expired-shaped e.facts (stands-shaped m e k h s) local)
+    (alike-owing e new refl refl refl (stands-owing m e k h s)) (omega arith) (omega (arith, late)))
     (alike-ties m e new k h s turns (record { local = refl; pending = refl; live = refl; asked = λ asked. asked }))
 
 closes_entry-keeps : (m : Machine) (e : Entry) (k : ℕ) → IsOrdered m → StandsAt m.connections k e → e.facts.local ≡ false →
@@ -259,7 +263,8 @@ closes_entry-keeps m e k h s idle =
     let late = late-closing m e (timewait-positive m.settings h.orderly.settings) in
     let turns : TurnsInto e (closing_entry m e) = record { same_id = refl; same_addr = refl; live = λ l. absurd (false≢true l) } in
     moves-keeps 0 m (with_entry (closing_entry m e) m)
-    (turns-moves 0 m e (closing_entry m e) k h s turns (closing-shaped until e.facts) (omega arith) (omega (arith, late)))
+    (turns-moves 0 m e (closing_entry m e) k h s turns (closing-shaped until e.facts)
+    (nothing-owing (closing_entry m e) ((stands-owing m e k h s).used idle)) (omega arith) (omega (arith, late)))
     (turned-ties m e (closing_entry m e) k h.orderly s turns (λ live o tie. gone o tie))
   where
     gone : (o : Option Peer) → TiedBy m.now o (Some e) → TiedBy m.now o None
@@ -311,6 +316,7 @@ fire_due-keeps (suc n) m h = by_due (due m) refl (fire_due-keeps n)
 formed_at_moment : (t : ℕ) (m : Machine) → IsFormed m → IsFormed (at_moment t m)
 formed_at_moment t m h = record {
   shaped = h.shaped;
+  owing = h.owing;
   peers = h.peers;
   groups = h.groups;
   other_peers = h.other_peers;

@@ -7,7 +7,7 @@ use Rattle.net_base.specs.declared.event.Event.{Event}
 use Rattle.net_base.specs.declared.settings.Settings.{Settings}
 use Rattle.machine.specs.Machine.{Machine, start_of}
 use Rattle.machine.specs.Whole.{whole_step}
-use Rattle.laws.specs.Whole.{IsShaped, IsSteady, whole_after}
+use Rattle.laws.specs.Whole.{IsShaped, IsOwing, IsSteady, whole_after}
 use Rattle.laws.proofs.Runs.{start-sound}
 use Rattle.laws.proofs.WholeEvents.{StaysSteady, whole_step-steady}
 
@@ -16,6 +16,7 @@ start-steady settings h = record {
   sound = start-sound settings h;
   formed = record {
     shaped = All-nil (λ e. IsShaped e.facts);
+    owing = All-nil IsOwing;
     peers = tt;
     groups = tt;
     other_peers = tt;
