@@ -16,12 +16,15 @@ use Rattle.peer_book.specs.Book.{with_peer as with_peer_in, new_peer, entry_of, 
 use Rattle.peer_book.specs.declared.added.Added.{Added}
 use Rattle.peer_book.specs.declared.added.Added.TheVariants.{New, Present, Full}
 use Rattle.conn_state.specs.Use.{has_id}
+use Rattle.govern_rules.specs.Rules.{is_not_local}
+use Rattle.laws.specs.Laws.{LocalsAreOrdinary}
 use Rattle.laws.specs.Sound.{IsOrderly}
 use Rattle.laws.specs.Whole.{IsShaped, IsOwing, IsFormed, TiedBy, IsTied}
 use Rattle.laws.proofs.Books.{IsBook, book_of, with_peer-book, entered-book}
 use Rattle.laws.proofs.Counts.{counted_of, counted_in-sum, late_of, late_in, late_in-sum}
 use Rattle.laws.proofs.Entries.{TurnsInto, turned-connections, turned-orderly, turned-sum, gone-orderly, gone-sum}
 use Rattle.laws.proofs.Lists.{StandsAt, All-stands}
+use Rattle.laws.proofs.Ordinary.{turned-classes, comes-classes}
 use Rattle.laws.proofs.Ties.{changed-ties, comes-ties}
 
 -- what holds at every moment of the connections alone
@@ -37,6 +40,8 @@ pub record Moves (raised : ℕ) (before after : Machine) : Type 0 where
   pub now : after.now ≡ before.now
   pub counted : counted_in after ≤ counted_in before + raised
   pub late : late_in after ≤ late_in before
+  -- local peers stay ordinary ones
+  pub classes : LocalsAreOrdinary before → LocalsAreOrdinary after
 
 -- By a whole move: peers stay tied to their connections, too.
 pub record Keeps (raised : ℕ) (before after : Machine) : Type 0 where
@@ -45,13 +50,22 @@ pub record Keeps (raised : ℕ) (before after : Machine) : Type 0 where
   pub now : after.now ≡ before.now
   pub counted : counted_in after ≤ counted_in before + raised
   pub late : late_in after ≤ late_in before
+  pub classes : LocalsAreOrdinary before → LocalsAreOrdinary after
   pub ties : IsTied before → IsTied after
 
 pub moves-keeps : (raised : ℕ) (m n : Machine) → Moves raised m n → (IsTied m → IsTied n) → Keeps raised m n
-moves-keeps raised m n h ties = record { ordered = h.ordered; settings = h.settings; now = h.now; counted = h.counted; late = h.late; ties = ties }
+moves-keeps raised m n h ties = record {
+  ordered = h.ordered;
+  settings = h.settings;
+  now = h.now;
+  counted = h.counted;
+  late = h.late;
+  classes = h.classes;
+  ties = ties;
+}
 
 pub keeps-moves : (raised : ℕ) (m n : Machine) → Keeps raised m n → Moves raised m n
-keeps-moves raised m n h = record { ordered = h.ordered; settings = h.settings; now = h.now; counted = h.counted; late = h.late }
+keeps-moves raised m n h = record { ordered = h.ordered; settings = h.settings; now = h.now; counted = h.counted; late = h.late; classes = h.classes }
 
 pub moves_then : (i j : ℕ) (m n o : Machine) → Moves i m n → Moves j n o → Moves (i + j) m o
 moves_then i j m n o first second = record {
@@ -60,10 +74,11 @@ moves_then i j m n o first second = record {
   now = second.now ∙ first.now;
   counted = omega arith;
   late = omega arith;
+  classes = λ h. second.classes (first.classes h);
 }
 
 pub moves_nothing : (m : Machine) → IsOrdered m → Moves 0 m m
-moves_nothing m h = record { ordered = h; settings = refl; now = refl; counted = omega arith; late = omega arith }
+moves_nothing m h = record { ordered = h; settings = refl; now = refl; counted = omega arith; late = omega arith; classes = λ locals. locals }
 
 pub keeps_nothing : (m : Machine) → IsOrdered m → Keeps 0 m m
 keeps_nothing m h = moves-keeps 0 m m (moves_nothing m h) (λ ties. ties)
@@ -76,6 +91,7 @@ keeps_then i j m n o first second = record {
   now = second.now ∙ first.now;
   counted = omega arith;
   late = omega arith;
+  classes = λ h. second.classes (first.classes h);
   ties = λ h. second.ties (first.ties h);
 }
 
@@ -118,6 +134,7 @@ turns-moves raised m old new k h s t shaped owes more later =
       now = refl;
       counted = omega arith;
       late = omega arith;
+      classes = λ locals. locals;
     }
 
 -- a connection goes
@@ -152,6 +169,7 @@ goes-moves m e k h s =
       now = refl;
       counted = omega arith;
       late = omega arith;
+      classes = λ locals. locals;
     }
 
 -- the question that is pending was numbered
@@ -160,9 +178,9 @@ IsNumbered roots = (job : ℕ) → roots.pending ≡ Some job → job < roots.ne
 
 -- what is no connection is no matter of them
 pub elsewhere-moves : (targets : Targets) (big : BigTargets) (roots : RootState) (peers : List Peer) (m : Machine) →
-    IsOrdered m → IsNumbered roots → IsBook m.settings.own peers →
+    IsOrdered m → IsNumbered roots → IsBook m.settings.own peers → (LocalsAreOrdinary m → LocalsAreOrdinary (record m { peers = peers })) →
     Moves 0 m (record m { targets = targets; big_targets = big; roots = roots; peers = peers })
-elsewhere-moves targets big roots peers m h numbered book = record {
+elsewhere-moves targets big roots peers m h numbered book classes = record {
   ordered = record {
     orderly = record {
       settings = h.orderly.settings;
@@ -186,6 +204,7 @@ elsewhere-moves targets big roots peers m h numbered book = record {
   now = refl;
   counted = omega arith;
   late = omega arith;
+  classes = classes;
 }
 
 -- what is neither a connection nor a peer is no matter of either
@@ -193,28 +212,32 @@ pub elsewhere-keeps : (targets : Targets) (big : BigTargets) (roots : RootState)
     IsOrdered m → IsNumbered roots → Keeps 0 m (record m { targets = targets; big_targets = big; roots = roots })
 elsewhere-keeps targets big roots m h numbered =
     moves-keeps 0 m (record m { targets = targets; big_targets = big; roots = roots })
-    (elsewhere-moves targets big roots m.peers m h numbered (book_of m h.formed)) (λ ties. ties)
+    (elsewhere-moves targets big roots m.peers m h numbered (book_of m h.formed) (λ locals. locals)) (λ ties. ties)
 
-pub peers-moves : (peers : List Peer) (m : Machine) → IsOrdered m → IsBook m.settings.own peers → Moves 0 m (record m { peers = peers })
-peers-moves peers m h book = elsewhere-moves m.targets m.big_targets m.roots peers m h h.formed.pending_job book
+pub peers-moves : (peers : List Peer) (m : Machine) → IsOrdered m → IsBook m.settings.own peers →
+    (LocalsAreOrdinary m → LocalsAreOrdinary (record m { peers = peers })) → Moves 0 m (record m { peers = peers })
+peers-moves peers m h book classes = elsewhere-moves m.targets m.big_targets m.roots peers m h h.formed.pending_job book classes
 
 -- ---- peers
 
--- a change that keeps addresses
-pub turns_at-moves : (o : Option Peer) (change : Peer → Peer) (m : Machine) → IsOrdered m → Moves 0 m (turns_at o change m).machine
-turns_at-moves None change m h = moves_nothing m h
-turns_at-moves (Some p) change m h =
-    peers-moves (with_peer_in (change p) m.peers) m h (with_peer-book m.settings.own (change p) m.peers (book_of m h.formed))
-
-pub changes-moves : (addr : Addr) (change : Peer → Peer) (m : Machine) → IsOrdered m → Moves 0 m (peer_changes addr change m).machine
-changes-moves addr change m h = turns_at-moves (peer_at addr m) change m h
+-- a change that keeps addresses, and makes no big ledger peer
+pub changes-moves : (addr : Addr) (change : Peer → Peer) (m : Machine) → ((p : Peer) → (change p).addr ≡ p.addr) →
+    ((p : Peer) → p.big ≡ false → (change p).big ≡ false) → IsOrdered m → Moves 0 m (peer_changes addr change m).machine
+changes-moves addr change m same class h = by_peer (peer_at addr m) refl
+  where
+    by_peer : (o : Option Peer) → peer_at addr m ≡ o → Moves 0 m (turns_at o change m).machine
+    by_peer None is = moves_nothing m h
+    by_peer (Some p) is =
+        peers-moves (with_peer_in (change p) m.peers) m h (with_peer-book m.settings.own (change p) m.peers (book_of m h.formed))
+        (turned-classes addr change m same class p is)
 
 -- which leaves the peer tied to its connection
 pub changes-keeps : (addr : Addr) (change : Peer → Peer) (m : Machine) → ((p : Peer) → (change p).addr ≡ p.addr) →
+    ((p : Peer) → p.big ≡ false → (change p).big ≡ false) →
     ((p : Peer) → TiedBy m.now (Some p) (live_entry_at addr m) → TiedBy m.now (Some (change p)) (live_entry_at addr m)) → IsOrdered m →
     Keeps 0 m (peer_changes addr change m).machine
-changes-keeps addr change m same step h =
-    moves-keeps 0 m (peer_changes addr change m).machine (changes-moves addr change m h)
+changes-keeps addr change m same class step h =
+    moves-keeps 0 m (peer_changes addr change m).machine (changes-moves addr change m same class h)
     (changed-ties addr change m m same refl refl (λ b other. refl) (λ none alone. alone) (λ p found tie. step p tie))
 
 pub note-machine : (added : Added) (addr : Addr) (m : Machine) → (note_of_coming added addr m).machine ≡ m
@@ -222,13 +245,13 @@ note-machine New addr m = refl
 note-machine Present addr m = refl
 note-machine Full addr m = refl
 
--- it is not the own address
+-- it is not the own address, and no big ledger peer's where it is local
 pub peer_comes-keeps : (big : Bool) (addr : Addr) (m : Machine) → IsOrdered m → same_address addr m.settings.own ≡ false →
-    Keeps 0 m (peer_comes big addr m).machine
-peer_comes-keeps big addr m h other =
+    (is_not_local m.groups addr ≡ false → big ≡ false) → Keeps 0 m (peer_comes big addr m).machine
+peer_comes-keeps big addr m h other class =
     rw (note-machine (entry_of addr m.peers) addr (record m { peers = entered (new_peer big addr) m.peers }))
     (moves-keeps 0 m (record m { peers = entered (new_peer big addr) m.peers })
-    (peers-moves (entered (new_peer big addr) m.peers) m h (entered-book m.settings.own (new_peer big addr) m.peers other (book_of m h.formed)))
+    (peers-moves (entered (new_peer big addr) m.peers) m h (entered-book m.settings.own (new_peer big addr) m.peers other (book_of m h.formed)) (comes-classes big addr m class))
     (comes-ties big addr m))
 
 -- ---- one part for each of a list

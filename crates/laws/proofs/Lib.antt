@@ -18,6 +18,7 @@ mod PeersApart
 mod Books
 mod Owing
 mod Sharing
+mod Ordinary
 mod OwnAddress
 mod Keeping
 mod WholeMoves

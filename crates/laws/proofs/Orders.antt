@@ -28,6 +28,7 @@ use Rattle.laws.proofs.Entries.{TurnsInto, turned-connections, turned-sum}
 use Rattle.laws.proofs.Finds.{find-set_other}
 use Rattle.laws.proofs.Keeping.{IsOrdered, Moves, Keeps, keeps_nothing, keeps_then, moves_then, moves-keeps, peers-moves, changes-moves, changes-keeps}
 use Rattle.laws.proofs.Lists.{StandsAt, FoundIn, stands-set, find_some}
+use Rattle.laws.proofs.Ordinary.{taken-classes}
 use Rattle.laws.proofs.Owing.{OwesNothing}
 use Rattle.laws.proofs.PeersApart.{same_turned}
 use Rattle.laws.proofs.Ties.{live_here, turned_here, turned_elsewhere, changed-ties, taken-ties, taken-elsewhere}
@@ -117,7 +118,7 @@ asked-carried n addr m e k u may =
     record {
       trimmed = keeps-trimmed m (peer_was_asked next e.facts.addr o).machine u.within
           (keeps_then 0 0 m o (peer_was_asked next e.facts.addr o).machine owes
-          (changes-keeps e.facts.addr (λ p. record p { share_next = next }) o (λ p. refl)
+          (changes-keeps e.facts.addr (λ p. record p { share_next = next }) o (λ p. refl) (λ p ordinary. ordinary)
           (λ p tie. same_peer next o.now p (live_entry_at e.facts.addr o) tie) owes.ordered));
       elsewhere = λ b other may_b x found.
           let apart : same_address e.facts.addr b ≡ false = subst (λ a. same_address a b ≡ false) (sym u.here) (same_turned b addr other) in
@@ -155,7 +156,7 @@ deactivated-carried addr m e k u =
     let was : live_entry_at e.facts.addr m ≡ Some e = live_here m e k u.ordered.orderly u.stands u.live in
     record {
       trimmed = keeps-trimmed m (peer_becomes Warm e.facts.addr m).machine u.within
-          (changes-keeps e.facts.addr (λ p. record p { temp = Warm }) m (λ p. refl)
+          (changes-keeps e.facts.addr (λ p. record p { temp = Warm }) m (λ p. refl) (λ p ordinary. ordinary)
           (λ p tie. subst (λ o. TiedBy m.now (Some (record p { temp = Warm })) o) (sym was)
           (warm p (subst (λ o. TiedBy m.now (Some p) o) was tie))) u.ordered);
       elsewhere = λ b other may. tt;
@@ -202,7 +203,8 @@ forget-carried addr m h within may =
     let n : Machine = (peer_goes addr m).machine in
     record {
       trimmed = keeps-trimmed m n within
-          (moves-keeps 0 m n (peers-moves n.peers m h (filter-book m.settings.own (λ p. not (same_address p.addr addr)) m.peers (book_of m h.formed)))
+          (moves-keeps 0 m n (peers-moves n.peers m h (filter-book m.settings.own (λ p. not (same_address p.addr addr)) m.peers (book_of m h.formed))
+          (taken-classes addr m))
           (λ ties. taken-ties addr m (cold-alone m.now (peer_at addr m) (live_entry_at addr m) may.cold may.idle (ties addr)) ties));
       elsewhere = λ b other there. record { cold = subst IsCold (sym (taken-elsewhere addr b m.peers other)) there.cold; idle = there.idle };
     }
@@ -243,7 +245,7 @@ releasing-carried addr m e k u may =
     turned_here m e new k h.orderly s t u.live ∙ ap (λ b. if b then Some new else None) u.live in
     let was : live_entry_at e.facts.addr m ≡ Some e = live_here m e k h.orderly s u.live in
     let raised : Keeps 1 m o =
-    moves-keeps 1 m o (moves_then 1 0 m n o turned (changes-moves e.facts.addr cold n turned.ordered))
+    moves-keeps 1 m o (moves_then 1 0 m n o turned (changes-moves e.facts.addr cold n (λ p. refl) (λ p ordinary. ordinary) turned.ordered))
     (changed-ties e.facts.addr cold m n (λ p. refl) refl refl (turned_elsewhere m e new k h.orderly s t)
     (λ none alone. used_by_none (subst (λ x. TiedBy m.now None x) was alone))
     (λ p found tie. subst (λ x. TiedBy m.now (Some (cold p)) x) (sym here) (is_cold new refl refl refl p (subst (λ x. TiedBy m.now (Some p) x) was tie)))) in

@@ -7,12 +7,13 @@ use Rattle.net_base.specs.declared.address.Addr.{Addr}
 use Rattle.net_base.specs.declared.event.Group.{Group}
 use Rattle.net_base.specs.declared.peer.Peer.{Peer}
 use Rattle.net_base.specs.declared.settings.Settings.{Settings}
+use Rattle.govern_rules.specs.Rules.{is_not_local}
 use Rattle.peer_book.specs.Book.{peer_at as peer_in, known_of}
 use Rattle.machine.specs.Machine.{Machine}
 use Rattle.machine.specs.Peers.{peer_at}
 use Rattle.machine.specs.Provided.{is_wanted_big}
 use Rattle.churn_clock.specs.Windows.{effective_big_of}
-use Rattle.root_groups.specs.Cleaned.{is_listed, first_places, cleaned, members_of, group_of}
+use Rattle.root_groups.specs.Cleaned.{is_listed, first_places, cleaned, members_of}
 use Rattle.root_groups.specs.RootAsk.{publics_of}
 use Rattle.share_rounds.specs.Rounds.{fits_version, is_new, fresh_of}
 use Rattle.share_rounds.proofs.Rules.{taken_are_new}
@@ -45,12 +46,19 @@ taken-other settings target peers told = All-weaker (λ a. is_new settings.own s
         let fits = and_parts (fits_version settings.version a && not (same_address a settings.own)) (not (is_some (peer_in a peers))) h in
         not-true (same_address a settings.own) (and_parts (fits_version settings.version a) (not (same_address a settings.own)) fits.0).1
 
--- nor wanted as that of a big ledger peer
-pub wanted-other : (addr : Addr) (m : Machine) → is_wanted_big addr m ≡ true → IsOther m.settings addr
-wanted-other addr m h =
+-- Nor is it wanted as that of a big ledger peer, and the address of a local peer is not, either.
+wanted_parts : (addr : Addr) (m : Machine) → is_wanted_big addr m ≡ true →
+    (not (same_address addr m.settings.own) ≡ true) × (is_not_local m.groups addr ≡ true)
+wanted_parts addr m h =
     let own : Bool = not (same_address addr m.settings.own) in
     let known : Bool = not (is_some (peer_at addr m)) in
-    let local : Bool = not (is_some (group_of addr m.groups)) in
-    let one = and_parts (own && known && local) (nat_lt (known_of true m.peers) (effective_big_of m.big_targets m.now).known) h in
-    let two = and_parts (own && known) local one.0 in
-    not-true (same_address addr m.settings.own) (and_parts own known two.0).0
+    let local : Bool = is_not_local m.groups addr in
+    let room = and_parts (own && known && local) (nat_lt (known_of true m.peers) (effective_big_of m.big_targets m.now).known) h in
+    let parts = and_parts (own && known) local room.0 in
+    ((and_parts own known parts.0).0, parts.1)
+
+pub wanted-other : (addr : Addr) (m : Machine) → is_wanted_big addr m ≡ true → IsOther m.settings addr
+wanted-other addr m h = not-true (same_address addr m.settings.own) (wanted_parts addr m h).0
+
+pub wanted-not_local : (addr : Addr) (m : Machine) → is_wanted_big addr m ≡ true → is_not_local m.groups addr ≡ true
+wanted-not_local addr m h = (wanted_parts addr m h).1

@@ -75,6 +75,7 @@ dial-keeps addr m h none ready =
       now = refl;
       counted = omega (arith, counts, counted_before, counted_after);
       late = omega (arith, lates, late_before, late_after);
+      classes = λ locals. locals;
       ties = come-ties m new refl none (λ tie. on_its_way (peer_at addr m) ready tie);
     }
   where

@@ -286,7 +286,7 @@ asked_as-trimmed (Ok seen) item sharing protocol m e k is t = by_test (takes_req
 -- ---- the other side answers
 
 pub shares-keeps : (addr : Addr) (m : Machine) → IsOrdered m → IsOther m.settings addr → Keeps 0 m (shares_address addr m).machine
-shares-keeps addr m h other = peer_comes-keeps false addr m h other
+shares-keeps addr m h other = peer_comes-keeps false addr m h other (λ local. refl)
 
 takes-trimmed : (o : Option Share) (m : Machine) → IsOrdered m → counted_in m ≤ m.settings.hard → Trimmed m (takes_addresses o m).machine
 takes-trimmed None m h within = keeps-trimmed m m within (keeps_nothing m h)
@@ -318,7 +318,7 @@ hot-keeps m e k h s live asked =
     turned_here m e new k h.orderly s turns live ∙ ap (λ b. if b then Some new else None) live in
     let was : live_entry_at e.facts.addr m ≡ Some e = live_here m e k h.orderly s live in
     moves-keeps 0 m (peer_becomes Hot e.facts.addr n).machine
-    (moves_then 0 0 m n (peer_becomes Hot e.facts.addr n).machine (keeps-moves 0 m n pays_it) (changes-moves e.facts.addr hot n pays_it.ordered))
+    (moves_then 0 0 m n (peer_becomes Hot e.facts.addr n).machine (keeps-moves 0 m n pays_it) (changes-moves e.facts.addr hot n (λ p. refl) (λ p ordinary. ordinary) pays_it.ordered))
     (changed-ties e.facts.addr hot m n (λ p. refl) refl refl (turned_elsewhere m e new k h.orderly s turns)
     (λ none alone. asked_of_none (subst (λ o. TiedBy m.now None o) was alone))
     (λ p found tie. subst (λ o. TiedBy m.now (Some (hot p)) o) (sym here) (is_hot p (subst (λ o. TiedBy m.now (Some p) o) was tie))))

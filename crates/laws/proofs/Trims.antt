@@ -18,6 +18,7 @@ use Rattle.machine.specs.Machine.{Machine, Entry, counted_in, entry_at}
 use Rattle.machine.specs.Effect.{Effect, nothing_more, for_each}
 use Rattle.machine.specs.Peers.{turns_at, peer_at, peer_fails}
 use Rattle.machine.specs.Connections.{without_entry, is_missed, lost, ending, candidate_of, candidates_in, pruned_at, trim}
+use Rattle.laws.specs.Laws.{LocalsAreOrdinary}
 use Rattle.laws.specs.Whole.{IsTied}
 use Rattle.laws.proofs.Counts.{counted_of, counted_in-sum, late_in}
 use Rattle.laws.proofs.Effects.{one_if-counted}
@@ -130,7 +131,8 @@ pub record Trimmed (before after : Machine) : Type 0 where
   pub now : after.now ≡ before.now
   pub counted : counted_in after ≤ before.settings.hard
   pub late : late_in after ≤ late_in before
-  -- and peers stay tied to their connections
+  -- local peers stay ordinary ones, and peers tied to their connections
+  pub classes : LocalsAreOrdinary before → LocalsAreOrdinary after
   pub ties : IsTied before → IsTied after
 
 pruned-trims : (m : Machine) (e : Entry) (k : ℕ) → IsOrdered m → StandsAt m.connections k e → is_counted e.facts ≡ true →
@@ -145,6 +147,7 @@ pruned-trims m e k h s counted most =
       now = keeps.now;
       counted = omega (arith, drops, one, most);
       late = keeps.late;
+      classes = keeps.classes;
       ties = keeps.ties;
     }
 
@@ -166,7 +169,7 @@ pub trim-trims : (moved : Cid) (m : Machine) → IsOrdered m → counted_in m �
     (m.settings.hard < counted_in m → HasMoved moved m) → Trimmed m (trim moved m).machine
 trim-trims moved m h most over = cond_both (nat_le (counted_in m) m.settings.hard) (nothing_more m)
     (pruned_at (entry_at (unwrap_or (choice_of (candidates_in m)) moved).0 m) m) (λ effect. Trimmed m effect.machine)
-    (λ within. record { ordered = h; settings = refl; now = refl; counted = leb-true (counted_in m) m.settings.hard within; late = omega arith; ties = λ ties. ties })
+    (λ within. record { ordered = h; settings = refl; now = refl; counted = leb-true (counted_in m) m.settings.hard within; late = omega arith; classes = λ locals. locals; ties = λ ties. ties })
     (λ above. by_choice (first_to_go (candidates_in m)) refl (over (leb-false (counted_in m) m.settings.hard above)))
   where
     by_choice : (o : Option Candidate) → first_to_go (candidates_in m) ≡ o → HasMoved moved m →
@@ -217,6 +220,7 @@ keeps-trimmed m n within h = record {
   now = h.now;
   counted = omega (arith, h.counted, within);
   late = h.late;
+  classes = h.classes;
   ties = h.ties;
 }
 
@@ -231,6 +235,7 @@ trimmed_then m n o first second = record {
   now = second.now ∙ first.now;
   counted = subst (λ s. counted_in o ≤ s.hard) first.settings second.counted;
   late = omega (arith, first.late, second.late);
+  classes = λ h. second.classes (first.classes h);
   ties = λ h. second.ties (first.ties h);
 }
 
@@ -242,6 +247,7 @@ raised_then_trimmed m n o within raised trimmed = record {
   now = trimmed.now ∙ raised.now;
   counted = subst (λ s. counted_in o ≤ s.hard) raised.settings trimmed.counted;
   late = omega (arith, trimmed.late, raised.late);
+  classes = λ h. trimmed.classes (raised.classes h);
   ties = λ h. trimmed.ties (raised.ties h);
 }
 

@@ -35,6 +35,8 @@ use Rattle.machine.specs.Events.{clock_shows, turned_away, admitted, crossed, ac
 use Rattle.machine.specs.Govern.{govern}
 use Rattle.machine.specs.Provided.{targets_are, big_targets_are, comes_ordinary, locals_are, is_wanted_big, comes_big, bigs_are, roots_say, roots_answer}
 use Rattle.machine.specs.Whole.{whole_step}
+use Rattle.govern_rules.specs.Rules.{is_not_local}
+use Rattle.laws.specs.Laws.{LocalsAreOrdinary}
 use Rattle.laws.specs.Whole.{AreApart, IsOwing, IsShaped, IsFormed, IsSteady, TiedBy, IsTied}
 use Rattle.laws.proofs.Addresses.{same_address-true}
 use Rattle.laws.proofs.Entries.{TurnsInto}
@@ -47,8 +49,9 @@ use Rattle.laws.proofs.Effects.{one_if-not_counted}
 use Rattle.laws.proofs.Events.{StaysSound, admitted_entry, at_moment, at_moment-orderly, ahead-none_late, none_late-ahead, peer_connects-sound, clock_shows-sound}
 use Rattle.laws.proofs.Keeping.{IsOrdered, Keeps, keeps_nothing, keeps_then, moves-keeps, turns-moves, goes-moves, elsewhere-keeps, changes-keeps, peer_comes-keeps, for_each_that-keeps, for_each-keeps}
 use Rattle.laws.proofs.Lists.{StandsAt, find_some}
+use Rattle.laws.proofs.Ordinary.{members-classes, connects-classes}
 use Rattle.laws.proofs.Owing.{nothing-owing, alike-owing}
-use Rattle.laws.proofs.OwnAddress.{IsOther, members-other, publics-other, wanted-other}
+use Rattle.laws.proofs.OwnAddress.{IsOther, members-other, publics-other, wanted-other, wanted-not_local}
 use Rattle.laws.proofs.Settings.{timewait-positive}
 use Rattle.laws.proofs.Shapes.{accepted-shaped, expired-shaped, closing-shaped}
 use Rattle.laws.proofs.Streams.{bytes_come_in-trimmed}
@@ -58,10 +61,10 @@ use Rattle.laws.proofs.WholeMoves.{ending-keeps, overwritten-keeps, vanishes-kee
 -- ---- what is set and provided
 
 comes_ordinary-keeps : (addr : Addr) (m : Machine) → IsOrdered m → IsOther m.settings addr → Keeps 0 m (comes_ordinary addr m).machine
-comes_ordinary-keeps addr m h other = peer_comes-keeps false addr m h other
+comes_ordinary-keeps addr m h other = peer_comes-keeps false addr m h other (λ local. refl)
 
 ordinary-keeps : (addr : Addr) (m : Machine) → IsOrdered m → Keeps 0 m (peer_is_ordinary addr m).machine
-ordinary-keeps addr m h = changes-keeps addr (λ p. record p { big = false }) m (λ p. refl) (λ p tie. same_peer p (live_entry_at addr m) tie) h
+ordinary-keeps addr m h = changes-keeps addr (λ p. record p { big = false }) m (λ p. refl) (λ p ordinary. refl) (λ p tie. same_peer p (live_entry_at addr m) tie) h
   where
     same_peer : (p : Peer) (o : Option Entry) → TiedBy m.now (Some p) o → TiedBy m.now (Some (record p { big = false })) o
     same_peer p None tie = tie
@@ -106,6 +109,7 @@ locals-keeps groups m h =
       now = both.now;
       counted = both.counted;
       late = both.late;
+      classes = λ before. second.classes (members-classes n);
       ties = both.ties;
     }
 
@@ -114,6 +118,7 @@ comes_big-keeps addr m h = by_test (is_wanted_big addr m) refl
   where
     by_test : (b : Bool) → is_wanted_big addr m ≡ b → Keeps 0 m (if b then as_move (shared addr) m (peer_comes true addr m) else nothing_more m).machine
     by_test true wanted = peer_comes-keeps true addr m h (wanted-other addr m wanted)
+        (λ local. absurd (both_ways (is_not_local m.groups addr) local (wanted-not_local addr m wanted)))
     by_test false unwanted = keeps_nothing m h
 
 roots_say-keeps : (answer : RootAnswer) (m : Machine) → IsOrdered m → Keeps 0 m (roots_say answer m).machine
@@ -349,6 +354,12 @@ clock-ties t m h ties =
     (λ later. (fire_due-keeps (length (deadlines n)) n (record { orderly = at_moment-orderly t m h.orderly; formed = formed_at_moment t m h.formed })).ties
     (λ b. later-tied m.now t (peer_at b m) (live_entry_at b m) (let above = leb-false t m.now later in omega (arith, above)) (ties b)))
 
+clock-classes : (t : ℕ) (m : Machine) → IsOrdered m → LocalsAreOrdinary m → LocalsAreOrdinary (clock_shows t m).machine
+clock-classes t m h locals =
+    let n : Machine = at_moment t m in
+    cond_both (nat_le t m.now) (nothing_more m) (fire_all n) (λ effect. LocalsAreOrdinary effect.machine) (λ past. locals)
+    (λ later. (fire_due-keeps (length (deadlines n)) n (record { orderly = at_moment-orderly t m h.orderly; formed = formed_at_moment t m h.formed })).classes locals)
+
 -- ---- each event
 
 -- what an event does to a steady record
@@ -371,6 +382,7 @@ trimmed-steady m n h t =
         };
         formed = t.ordered.formed;
         tied = t.ties h.tied;
+        locals = t.classes h.locals;
       };
       settings = t.settings;
     }
@@ -378,13 +390,15 @@ trimmed-steady m n h t =
 kept-steady : (m n : Machine) → IsSteady m → Keeps 0 m n → StaysSteady m n
 kept-steady m n h k = trimmed-steady m n h (keeps-trimmed m n h.sound.counted k)
 
-stays-steady : (m n : Machine) → StaysSound m n → IsFormed n → IsTied n → StaysSteady m n
-stays-steady m n sound formed tied = record { steady = record { sound = sound.sound; formed = formed; tied = tied }; settings = sound.settings }
+stays-steady : (m n : Machine) → StaysSound m n → IsFormed n → IsTied n → LocalsAreOrdinary n → StaysSteady m n
+stays-steady m n sound formed tied locals = record { steady = record { sound = sound.sound; formed = formed; tied = tied; locals = locals }; settings = sound.settings }
 
 pub whole_step-steady : (m : Machine) (event : Event) → IsSteady m → StaysSteady m (whole_step m event).machine
 whole_step-steady m (Now t) h = stays-steady m (clock_shows t m).machine (clock_shows-sound t m h.sound) (clock-formed t m (ordered_of m h)) (clock-ties t m (ordered_of m h) h.tied)
+    (clock-classes t m (ordered_of m h) h.locals)
 whole_step-steady m (Govern word) h = trimmed-steady m (govern word m).machine h (govern-trimmed word m (ordered_of m h) h.sound.counted)
 whole_step-steady m (Accepted addr) h = stays-steady m (peer_connects addr m).machine (peer_connects-sound addr m h.sound) (connects-formed addr m (ordered_of m h)) (connects-ties addr m (ordered_of m h) h.tied)
+    (connects-classes addr m h.locals)
 whole_step-steady m (Dialed cid opened) h = kept-steady m (dial_ends cid opened m).machine h (dial_ends-keeps cid opened m (ordered_of m h))
 whole_step-steady m (Bytes cid bytes) h = trimmed-steady m (whole_step m (Bytes cid bytes)).machine h (bytes_come_in-trimmed cid bytes m (ordered_of m h) h.sound.counted)
 whole_step-steady m (Closed cid) h = kept-steady m (peer_closes cid m).machine h (closes-keeps cid m (ordered_of m h))

@@ -92,7 +92,7 @@ not_missed-unused f h = by_local f.local h
 
 pub lost-moves : (f : Facts) (m : Machine) → IsOrdered m → Moves 0 m (lost f m).machine
 lost-moves f m h = cond_both (is_missed f) (peer_fails f.addr m) (nothing_more m) (λ effect. Moves 0 m effect.machine)
-    (λ missed. changes-moves f.addr (failed_peer m.now m.settings.backoff) m h) (λ other. moves_nothing m h)
+    (λ missed. changes-moves f.addr (failed_peer m.now m.settings.backoff) m (λ p. refl) (λ p ordinary. ordinary) h) (λ other. moves_nothing m h)
 
 lost-ties : (m : Machine) (e : Entry) (k : ℕ) → IsOrdered m → StandsAt m.connections k e → IsTied m →
     IsTied (lost e.facts (without_entry e.facts.cid.0 m)).machine
@@ -266,7 +266,7 @@ used-keeps f m e k h s u =
     let was : live_entry_at e.facts.addr m ≡ Some e = live_here m e k h.orderly s u.was_live in
     subst (λ a. Keeps 0 m (peer_succeeds a n).machine) (sym u.addr)
     (moves-keeps 0 m (peer_succeeds e.facts.addr n).machine
-    (moves_then 0 0 m n (peer_succeeds e.facts.addr n).machine turned (changes-moves e.facts.addr warm n turned.ordered))
+    (moves_then 0 0 m n (peer_succeeds e.facts.addr n).machine turned (changes-moves e.facts.addr warm n (λ p. refl) (λ p ordinary. ordinary) turned.ordered))
     (changed-ties e.facts.addr warm m n (λ p. refl) refl refl (turned_elsewhere m e new k h.orderly s turns)
     (λ none alone. nobody (u.ready None none (subst (λ o. TiedBy m.now None o) was alone)))
     (λ p found tie. subst (λ o. TiedBy m.now (Some (warm p)) o) (sym here)

@@ -25,6 +25,7 @@ start-steady settings h = record {
     pending_job = λ job never. absurd cc;
   };
   tied = λ addr. tt;
+  locals = λ addr p found local. absurd cc;
 }
 
 pub run-steady : (m : Machine) (events : List Event) → IsSteady m → StaysSteady m (whole_after m events)

@@ -15,6 +15,7 @@ use Rattle.machine.specs.Machine.{Machine, Entry, live_entry_at}
 use Rattle.machine.specs.Peers.{peer_at}
 use Rattle.machine.specs.Replies.{reply_on}
 use Rattle.machine.specs.Whole.{whole_step}
+use Rattle.laws.specs.Laws.{LocalsAreOrdinary}
 use Rattle.laws.specs.Sound.{IsSound}
 
 -- ---- the facts of one connection
@@ -118,6 +119,8 @@ pub record IsSteady (m : Machine) : Type 0 where
   pub sound : IsSound m
   pub formed : IsFormed m
   pub tied : IsTied m
+  -- not in the middle of an event that sets the groups
+  pub locals : LocalsAreOrdinary m
 
 -- the whole machine after all of the events
 unfoldable pub whole_after : Machine → List Event → Machine
