@@ -30,7 +30,7 @@ use Rattle.laws.proofs.Ties.{found-addr, peer_elsewhere, peer_here, put_in-elsew
 -- ---- one peer
 
 -- the peer of an address, if there is one, is an ordinary one
-abbrev pub IsOrdinaryIn : List Peer → Addr → Type 0
+abbrev IsOrdinaryIn : List Peer → Addr → Type 0
 IsOrdinaryIn peers addr = (p : Peer) → peer_in addr peers ≡ Some p → p.big ≡ false
 
 same_peer : (p q : Peer) → Some p ≡ Some q → p ≡ q
@@ -49,7 +49,7 @@ with_peer-ordinary new p ps found keeps b h q is = by_test (same_address b new.a
     by_test false e = h q (sym (peer_elsewhere new b ps e) ∙ is)
 
 -- a change that makes no big ledger peer, at the address of a peer
-pub turned-ordinary : (a : Addr) (change : Peer → Peer) (m : Machine) → ((p : Peer) → (change p).addr ≡ p.addr) →
+turned-ordinary : (a : Addr) (change : Peer → Peer) (m : Machine) → ((p : Peer) → (change p).addr ≡ p.addr) →
     ((p : Peer) → p.big ≡ false → (change p).big ≡ false) → (o : Option Peer) → peer_at a m ≡ o → (b : Addr) →
     IsOrdinaryIn m.peers b → IsOrdinaryIn (turns_at o change m).machine.peers b
 turned-ordinary a change m same keeps None is b h = h

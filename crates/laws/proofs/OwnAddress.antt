@@ -1,4 +1,5 @@
--- The own address is neither among the members of the groups, nor a public root peer, nor taken of what a peer told.
+-- The own address is neither a member of the groups, nor a public root peer, nor taken of what a peer told, nor wanted
+-- as that of a big ledger peer.
 use Rattle.std.proofs.Common.{ℕ, ◌≡◌, Bool, true, false, ◌&&◌, not, nat_lt, is_some, List, [], ◌∷◌, All}
 use Rattle.std.proofs.lemmas.Bool.{and_parts, or_parts, not-true}
 use Rattle.std.proofs.lemmas.List.Elements.{All-weaker, All-take, All-from_recursion}
@@ -46,7 +47,7 @@ taken-other settings target peers told = All-weaker (λ a. is_new settings.own s
         let fits = and_parts (fits_version settings.version a && not (same_address a settings.own)) (not (is_some (peer_in a peers))) h in
         not-true (same_address a settings.own) (and_parts (fits_version settings.version a) (not (same_address a settings.own)) fits.0).1
 
--- Nor is it wanted as that of a big ledger peer, and the address of a local peer is not, either.
+-- neither is the address of a local peer
 wanted_parts : (addr : Addr) (m : Machine) → is_wanted_big addr m ≡ true →
     (not (same_address addr m.settings.own) ≡ true) × (is_not_local m.groups addr ≡ true)
 wanted_parts addr m h =

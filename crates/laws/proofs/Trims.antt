@@ -251,7 +251,7 @@ raised_then_trimmed m n o within raised trimmed = record {
   ties = λ h. trimmed.ties (raised.ties h);
 }
 
--- that may need something of each
+-- one part for each of a list, which may need something of each
 pub for_each_that-trimmed : {X : Type 0} (P : Settings → X → Type 0) (act : X → Machine → Effect) →
     ((x : X) (m : Machine) → IsOrdered m → counted_in m ≤ m.settings.hard → P m.settings x → Trimmed m (act x m).machine) →
     (xs : List X) (m : Machine) → IsOrdered m → counted_in m ≤ m.settings.hard → All (P m.settings) xs → Trimmed m (for_each act xs m).machine

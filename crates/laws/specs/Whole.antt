@@ -119,7 +119,7 @@ pub record IsSteady (m : Machine) : Type 0 where
   pub sound : IsSound m
   pub formed : IsFormed m
   pub tied : IsTied m
-  -- not in the middle of an event that sets the groups
+  -- after each event, but not in the middle of one that sets the groups
   pub locals : LocalsAreOrdinary m
 
 -- the whole machine after all of the events
