@@ -27,10 +27,6 @@ one_if-counted f h = rw h refl
 pub one_if-not_counted : (f : Facts) → is_counted f ≡ false → one_if_counted f ≡ 0
 one_if-not_counted f h = rw h refl
 
-and_false : (b : Bool) → (b && false) ≡ false
-and_false true = refl
-and_false false = refl
-
 pub counted-connected : (until : ℕ) (f : Facts) → is_outbound f ≡ true → is_counted (connected until f) ≡ false
 counted-connected until f outbound = rw outbound refl
 

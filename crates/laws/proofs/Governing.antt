@@ -1,7 +1,7 @@
 -- The governor as a whole: each rule, and all of them.
-use Rattle.std.proofs.Common.{ℕ, ◌-◌, ◌≤◌, ◌≡◌, Bool, true, false, cond, not, ◌&&◌, ◌||◌, List, [], ◌∷◌, ◌++◌, map, find, flat_map, Option, Some, None, is_some, refl, sym, ap, ◌∙◌, subst}
+use Rattle.std.proofs.Common.{ℕ, ◌-◌, ◌≤◌, ◌≡◌, Bool, true, false, cond, not, ◌&&◌, ◌||◌, List, [], ◌∷◌, ◌++◌, map, find, flat_map, Option, Some, None, is_some, refl, sym, ap, ◌∙◌, subst, nat_le, arith}
 use Rattle.std.specs.List.{AllByRecursion}
-use Rattle.std.proofs.lemmas.Bool.{cond_both, and_parts, false≢true}
+use Rattle.std.proofs.lemmas.Bool.{cond_both, and_parts, or_parts, false≢true}
 use Rattle.net_base.specs.Address.{same_address}
 use Rattle.net_base.specs.declared.address.Addr.{Addr}
 use Rattle.net_base.specs.declared.action.Action.TheVariants.{AskRoots}
@@ -15,9 +15,9 @@ use Rattle.root_groups.specs.Cleaned.{is_listed}
 use Rattle.root_groups.specs.RootAsk.{may_ask, asked}
 use Rattle.govern_rules.specs.BigRules.{everybody, big_orders}
 use Rattle.govern_rules.specs.declared.big_rule.BigRule.TheVariants.{B5, B8}
-use Rattle.govern_rules.specs.Candidates.{is_eligible, may_be_forgotten, may_be_released, may_be_activated, may_be_deactivated}
-use Rattle.govern_rules.specs.ClassRules.{active_target}
-use Rattle.govern_rules.specs.Links.{some_link, is_pending as is_pending_link, owes_on_2, owes_a_reply}
+use Rattle.govern_rules.specs.Candidates.{is_eligible, may_be_forgotten, may_be_released, may_be_activated, may_be_deactivated, may_be_asked}
+use Rattle.govern_rules.specs.ClassRules.{active_target, deactivates}
+use Rattle.govern_rules.specs.Links.{some_link, is_pending as is_pending_link, owes_on_2, owes_a_reply, can_share}
 use Rattle.govern_rules.specs.Orders.{orders_for}
 use Rattle.govern_rules.specs.Rules.{is_not_local, may_be_dropped, is_member_and, members_count, deactivates_members, g4_orders, g5_orders, g7_orders, g8_orders, g9_orders}
 use Rattle.govern_rules.specs.declared.link.Link.{Link}
@@ -32,10 +32,11 @@ use Rattle.laws.specs.AtMoves.{Faults, IsLawful}
 use Rattle.laws.proofs.Chosen.{chosen, chosen-apart, chosen-all, PicksMembers, groups_picks-apart, groups_picks-all, map-groups}
 use Rattle.laws.proofs.Keeping.{IsOrdered, Keeps, keeps_nothing, elsewhere-keeps}
 use Rattle.laws.proofs.Lawful.{IsQuiet, quiet-obeys, IsAllowed, Within, allowed_within}
-use Rattle.laws.proofs.Orders.{Carries, orders-trimmed, Always, ask-carried, IsCold, IsIdle, MayForget, forget-carried, MayRelease, release-carried, MayActivate, activate-carried, deactivate-carried}
+use Rattle.laws.proofs.Orders.{Carries, orders-trimmed, Always, ask-carried, IsCold, IsIdle, MayForget, forget-carried, MayRelease, release-carried, MayActivate, activate-carried, deactivate-carried, MayAsk}
 use Rattle.laws.proofs.Promotions.{MayPromote, promotes-carried, eligible-may}
 use Rattle.laws.proofs.Trims.{Trimmed, keeps-trimmed, nothing-trimmed, trimmed_then, trimmed_both, trimmed-within}
 use Rattle.laws.proofs.Wanted.{promotes-within, activates-within, groups_promotes-within, groups_activates-within}
+use Rattle.laws.proofs.Sharing.{shares-may}
 use Rattle.laws.proofs.WholeMoves.{IsWarm}
 
 -- ---- what the links say
@@ -48,20 +49,12 @@ unlinked test addr q at (x ∷ es) e none found =
     let parts = or_parts (same_address x.facts.addr addr && test (link_of x)) (some_link test (map link_of es) addr) none in
     by_test (q x) refl found parts.0 (unlinked test addr q at es e parts.1)
   where
-    or_parts : (a b : Bool) → (a || b) ≡ false → (a ≡ false) × (b ≡ false)
-    or_parts true b h = absurd (false≢true (sym h))
-    or_parts false b h = (refl, h)
-
     by_test : (b : Bool) → q x ≡ b → cond b (Some x) (find q es) ≡ Some e → (same_address x.facts.addr addr && test (link_of x)) ≡ false →
         (find q es ≡ Some e → test (link_of e) ≡ false) → test (link_of e) ≡ false
     by_test true is found fails later =
         let same : x ≡ e = cc in
         subst (λ y. test (link_of y) ≡ false) same (subst (λ b. (b && test (link_of x)) ≡ false) (at x is) fails)
     by_test false is found fails later = later found
-
-or_first : (a b : Bool) → (a || b) ≡ false → a ≡ false
-or_first true b h = h
-or_first false b h = refl
 
 not_false : (b : Bool) → not b ≡ true → b ≡ false
 not_false true h = absurd (false≢true h)
@@ -105,6 +98,13 @@ forget-gives m p passes found =
         unlinked (λ l. l.pending) p.addr (λ x. is_live_at p.addr x.facts)
         (λ x at. (and_parts (same_address x.facts.addr p.addr) (is_live x.facts) at).0) m.connections e none is
 
+ask-gives : (m : Machine) → IsOrdered m → Gives MayAsk (may_be_asked m.now (map link_of m.connections)) m
+unfolding Gives
+ask-gives m h p passes found =
+    let links : List Link = map link_of m.connections in
+    let parts = and_parts (is_established p.temp && can_share links p.addr) (nat_le p.share_next m.now) passes in
+    shares-may m h p.addr (and_parts (is_established p.temp) (can_share links p.addr) parts.0).1
+
 release-gives : (m : Machine) → Gives MayRelease (may_be_released (map link_of m.connections)) m
 unfolding Gives
 release-gives m p passes found e is =
@@ -114,8 +114,9 @@ release-gives m p passes found e is =
     unlinked (λ l. l.owes2 || l.owes8 || l.owes10) p.addr (is_used_at p.addr)
     (λ x at. (and_parts (same_address x.facts.addr p.addr) (is_live x.facts) (and_parts (is_live_at p.addr x.facts) x.facts.local at).0).0)
     m.connections e (not_false (owes_a_reply links p.addr) parts.1) is in
-    or_first (is_some (reply_on 2 e)) (is_some (reply_on 8 e))
-    (or_first (is_some (reply_on 2 e) || is_some (reply_on 8 e)) (is_some (reply_on 10 e)) none)
+    let early = or_parts (is_some (reply_on 2 e) || is_some (reply_on 8 e)) (is_some (reply_on 10 e)) none in
+    let two = or_parts (is_some (reply_on 2 e)) (is_some (reply_on 8 e)) early.0 in
+    record { on_2 = two.0; on_8 = two.1; on_10 = early.1 }
 
 activate-gives : (m : Machine) → Gives MayActivate (may_be_activated (map link_of m.connections)) m
 unfolding Gives
@@ -281,7 +282,7 @@ big-rules faults word = (
 ordinary-rules : (faults : Faults) (word : ℕ) → AllByRecursion (λ orders. DoesLawful faults (rules orders)) (ordinary_rules word)
 unfolding DoesLawful
 ordinary-rules faults word = (
-  (λ m h within. always-trimmed (IsLawful faults) (λ addr. Ask addr _) (ask-carried (IsLawful faults) _) _ m h within),
+  (λ m h within. class-trimmed (IsLawful faults) MayAsk (λ addr. Ask addr _) (ask-carried (IsLawful faults) _) false word _ _ m h within (ask-gives m h)),
   (
     (λ m h within. class-trimmed (IsLawful faults) MayForget Forget (forget-carried (IsLawful faults)) false word _ _ m h within
         (and-gives MayForget (λ p. may_be_dropped m.groups m.roots.publics p.addr) (may_be_forgotten (map link_of m.connections)) m (forget-gives m))),
@@ -303,7 +304,7 @@ asks_roots-keeps : (m : Machine) → IsOrdered m → Keeps 0 m (asks_roots m).ma
 asks_roots-keeps m h = cond_both (may_ask m.now m.targets.root m.roots)
     (tells (AskRoots (record { 0 = m.roots.next_job }) ∷ []) (record m { roots = asked m.roots })) (nothing_more m)
     (λ effect. Keeps 0 m effect.machine)
-    (λ too_few. elsewhere-keeps m.targets m.big_targets m.groups (asked m.roots) m h h.formed.groups)
+    (λ too_few. elsewhere-keeps m.targets m.big_targets (asked m.roots) m h (λ job same. let is : m.roots.next_job ≡ job = cc in omega (arith, is)))
     (λ enough. keeps_nothing m h)
 
 asks_roots-quiet : (m : Machine) → IsQuiet m (asks_roots m)

@@ -10,7 +10,7 @@ use Rattle.laws.specs.Whole.{AreApart}
 use Rattle.laws.proofs.Lists.{all-weaker, all-appended}
 
 -- none of some addresses is listed among others
-NoneListed : List Addr → List Addr → Type 0
+abbrev pub NoneListed : List Addr → List Addr → Type 0
 NoneListed before addrs = AllByRecursion (λ a. is_listed a before ≡ false) addrs
 
 or_split : (a b : Bool) → (a || b) ≡ false → (a ≡ false) × (b ≡ false)
@@ -38,8 +38,8 @@ unlisted_append a (x ∷ before) more h =
 
 -- ---- one list
 
-first_places-none : (before addrs : List Addr) → NoneListed before (first_places before addrs)
-unfolding first_places NoneListed
+pub first_places-none : (before addrs : List Addr) → NoneListed before (first_places before addrs)
+unfolding first_places
 first_places-none before [] = tt
 first_places-none before (a ∷ addrs) = by_test (is_listed a before) refl (first_places-none before addrs) (first_places-none (before ++ a ∷ []) addrs)
   where
@@ -54,7 +54,7 @@ first_places-none before (a ∷ addrs) = by_test (is_listed a before) refl (firs
     )
 
 first_places-apart : (before addrs : List Addr) → AreApart (first_places before addrs)
-unfolding first_places NoneListed
+unfolding first_places
 first_places-apart before [] = tt
 first_places-apart before (a ∷ addrs) = by_test (is_listed a before) (first_places-apart before addrs)
     (first_places-none (before ++ a ∷ []) addrs) (first_places-apart (before ++ a ∷ []) addrs)
@@ -72,8 +72,8 @@ first_places-apart before (a ∷ addrs) = by_test (is_listed a before) (first_pl
 
 -- ---- all groups
 
-cleaned-none : (before : List Addr) (groups : List Group) → NoneListed before (members_of (cleaned_after before groups))
-unfolding cleaned_after NoneListed
+pub cleaned-none : (before : List Addr) (groups : List Group) → NoneListed before (members_of (cleaned_after before groups))
+unfolding cleaned_after
 cleaned-none before [] = tt
 cleaned-none before (g ∷ groups) =
     let here : List Addr = first_places before g.members in
@@ -100,7 +100,7 @@ append-apart (x ∷ xs) ys h k n =
     (all-appended (λ z. same_address z x ≡ false) xs ys h.0 parts.0, append-apart xs ys h.1 k parts.1)
 
 cleaned_after-apart : (before : List Addr) (groups : List Group) → AreApart (members_of (cleaned_after before groups))
-unfolding cleaned_after NoneListed
+unfolding cleaned_after
 cleaned_after-apart before [] = tt
 cleaned_after-apart before (g ∷ groups) =
     let here : List Addr = first_places before g.members in

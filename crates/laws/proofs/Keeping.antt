@@ -1,6 +1,7 @@
 -- A part of a step of the whole machine: what it keeps, and by how much it may raise the counted connections.
-use Rattle.std.proofs.Common.{ℕ, ◌+◌, ◌≤◌, ◌≡◌, Bool, not, List, [], ◌∷◌, set, All, sum_by, Option, Some, None, refl, sym, ◌∙◌, subst, arith}
-use Rattle.std.proofs.lemmas.List.Elements.{All-set, All-filter}
+use Rattle.std.proofs.Common.{ℕ, ◌+◌, ◌<◌, ◌≤◌, ◌≡◌, Bool, false, not, List, [], ◌∷◌, set, All, sum_by, Option, Some, None, refl, sym, ◌∙◌, subst, arith}
+use Rattle.std.proofs.lemmas.List.Elements.{All-head, All-tail, All-set, All-filter}
+use Rattle.net_base.specs.Address.{same_address}
 use Rattle.net_base.specs.declared.peer.Peer.{Peer}
 use Rattle.machine.specs.Connections.{with_entry, without_entry}
 use Rattle.machine.specs.Machine.{Machine, Entry, counted_in, live_entry_at}
@@ -8,21 +9,23 @@ use Rattle.machine.specs.Effect.{Effect, for_each}
 use Rattle.machine.specs.Peers.{turns_at, peer_at, peer_changes, note_of_coming, peer_comes}
 use Rattle.net_base.specs.Shared.{RootState}
 use Rattle.net_base.specs.declared.address.Addr.{Addr}
-use Rattle.net_base.specs.declared.event.Group.{Group}
+use Rattle.net_base.specs.declared.settings.Settings.{Settings}
 use Rattle.net_base.specs.declared.targets.BigTargets.{BigTargets}
 use Rattle.net_base.specs.declared.targets.Targets.{Targets}
 use Rattle.peer_book.specs.Book.{with_peer as with_peer_in, new_peer, entry_of, entered}
 use Rattle.peer_book.specs.declared.added.Added.{Added}
 use Rattle.peer_book.specs.declared.added.Added.TheVariants.{New, Present, Full}
 use Rattle.conn_state.specs.Use.{has_id}
+use Rattle.govern_rules.specs.Rules.{is_not_local}
+use Rattle.laws.specs.Laws.{LocalsAreOrdinary}
 use Rattle.laws.specs.Sound.{IsOrderly}
-use Rattle.laws.specs.Whole.{IsShaped, IsFormed, ArePeersApart, AreApart, TiedBy, IsTied}
+use Rattle.laws.specs.Whole.{IsShaped, IsOwing, IsFormed, TiedBy, IsTied}
+use Rattle.laws.proofs.Books.{IsBook, book_of, with_peer-book, entered-book}
 use Rattle.laws.proofs.Counts.{counted_of, counted_in-sum, late_of, late_in, late_in-sum}
 use Rattle.laws.proofs.Entries.{TurnsInto, turned-connections, turned-orderly, turned-sum, gone-orderly, gone-sum}
-use Rattle.laws.proofs.Lists.{StandsAt}
-use Rattle.laws.proofs.PeersApart.{with_peer-apart, entered-apart}
+use Rattle.laws.proofs.Lists.{StandsAt, All-stands}
+use Rattle.laws.proofs.Ordinary.{turned-classes, comes-classes}
 use Rattle.laws.proofs.Ties.{changed-ties, comes-ties}
-use Rattle.root_groups.specs.Cleaned.{members_of}
 
 -- what holds at every moment of the connections alone
 pub record IsOrdered (m : Machine) : Type 0 where
@@ -37,6 +40,8 @@ pub record Moves (raised : ℕ) (before after : Machine) : Type 0 where
   pub now : after.now ≡ before.now
   pub counted : counted_in after ≤ counted_in before + raised
   pub late : late_in after ≤ late_in before
+  -- local peers stay ordinary ones
+  pub classes : LocalsAreOrdinary before → LocalsAreOrdinary after
 
 -- By a whole move: peers stay tied to their connections, too.
 pub record Keeps (raised : ℕ) (before after : Machine) : Type 0 where
@@ -45,13 +50,22 @@ pub record Keeps (raised : ℕ) (before after : Machine) : Type 0 where
   pub now : after.now ≡ before.now
   pub counted : counted_in after ≤ counted_in before + raised
   pub late : late_in after ≤ late_in before
+  pub classes : LocalsAreOrdinary before → LocalsAreOrdinary after
   pub ties : IsTied before → IsTied after
 
 pub moves-keeps : (raised : ℕ) (m n : Machine) → Moves raised m n → (IsTied m → IsTied n) → Keeps raised m n
-moves-keeps raised m n h ties = record { ordered = h.ordered; settings = h.settings; now = h.now; counted = h.counted; late = h.late; ties = ties }
+moves-keeps raised m n h ties = record {
+  ordered = h.ordered;
+  settings = h.settings;
+  now = h.now;
+  counted = h.counted;
+  late = h.late;
+  classes = h.classes;
+  ties = ties;
+}
 
 pub keeps-moves : (raised : ℕ) (m n : Machine) → Keeps raised m n → Moves raised m n
-keeps-moves raised m n h = record { ordered = h.ordered; settings = h.settings; now = h.now; counted = h.counted; late = h.late }
+keeps-moves raised m n h = record { ordered = h.ordered; settings = h.settings; now = h.now; counted = h.counted; late = h.late; classes = h.classes }
 
 pub moves_then : (i j : ℕ) (m n o : Machine) → Moves i m n → Moves j n o → Moves (i + j) m o
 moves_then i j m n o first second = record {
@@ -60,10 +74,11 @@ moves_then i j m n o first second = record {
   now = second.now ∙ first.now;
   counted = omega arith;
   late = omega arith;
+  classes = λ h. second.classes (first.classes h);
 }
 
 pub moves_nothing : (m : Machine) → IsOrdered m → Moves 0 m m
-moves_nothing m h = record { ordered = h; settings = refl; now = refl; counted = omega arith; late = omega arith }
+moves_nothing m h = record { ordered = h; settings = refl; now = refl; counted = omega arith; late = omega arith; classes = λ locals. locals }
 
 pub keeps_nothing : (m : Machine) → IsOrdered m → Keeps 0 m m
 keeps_nothing m h = moves-keeps 0 m m (moves_nothing m h) (λ ties. ties)
@@ -76,26 +91,20 @@ keeps_then i j m n o first second = record {
   now = second.now ∙ first.now;
   counted = omega arith;
   late = omega arith;
+  classes = λ h. second.classes (first.classes h);
   ties = λ h. second.ties (first.ties h);
-}
-
-pub keeps_more : (i j : ℕ) (m n : Machine) → i ≤ j → Keeps i m n → Keeps j m n
-keeps_more i j m n le h = record {
-  ordered = h.ordered;
-  settings = h.settings;
-  now = h.now;
-  counted = omega arith;
-  late = h.late;
-  ties = h.ties;
 }
 
 -- a connection turns into another
 pub turns-moves : (raised : ℕ) (m : Machine) (old new : Entry) (k : ℕ) → IsOrdered m → StandsAt m.connections k old →
-    TurnsInto old new → IsShaped new.facts → counted_of new ≤ counted_of old + raised → late_of m.now new ≤ late_of m.now old →
+    TurnsInto old new → IsShaped new.facts → IsOwing new → counted_of new ≤ counted_of old + raised → late_of m.now new ≤ late_of m.now old →
     Moves raised m (with_entry new m)
-turns-moves raised m old new k h s t shaped more later =
+turns-moves raised m old new k h s t shaped owes more later =
     let n : Machine = with_entry new m in
     let o : IsOrderly m = h.orderly in
+    let own : Addr = m.settings.own in
+    let other : same_address new.facts.addr own ≡ false = subst (λ a. same_address a own ≡ false) (sym t.same_addr)
+    (All-stands (λ e. same_address e.facts.addr own ≡ false) m.connections k old s h.formed.other_connections) in
     let list : set m.connections k new ≡ n.connections = sym (turned-connections m old new k o s t) in
     let counts : sum_by counted_of n.connections + counted_of old ≡ sum_by counted_of m.connections + counted_of new =
     turned-sum counted_of m old new k o s t in
@@ -111,14 +120,21 @@ turns-moves raised m old new k h s t shaped more later =
         orderly = turned-orderly m old new k o s t;
         formed = record {
           shaped = subst (All (λ e. IsShaped e.facts)) list (All-set (λ e. IsShaped e.facts) m.connections k new shaped h.formed.shaped);
+          owing = subst (All IsOwing) list (All-set IsOwing m.connections k new owes h.formed.owing);
           peers = h.formed.peers;
           groups = h.formed.groups;
+          other_peers = h.formed.other_peers;
+          other_connections = subst (All (λ e. same_address e.facts.addr own ≡ false)) list
+              (All-set (λ e. same_address e.facts.addr own ≡ false) m.connections k new other h.formed.other_connections);
+          room = h.formed.room;
+          pending_job = h.formed.pending_job;
         };
       };
       settings = refl;
       now = refl;
       counted = omega arith;
       late = omega arith;
+      classes = λ locals. locals;
     }
 
 -- a connection goes
@@ -139,21 +155,32 @@ goes-moves m e k h s =
         orderly = gone-orderly m e.facts.cid.0 h.orderly;
         formed = record {
           shaped = All-filter (λ x. not (has_id e.facts.cid.0 x.facts)) (λ x. IsShaped x.facts) m.connections h.formed.shaped;
+          owing = All-filter (λ x. not (has_id e.facts.cid.0 x.facts)) IsOwing m.connections h.formed.owing;
           peers = h.formed.peers;
           groups = h.formed.groups;
+          other_peers = h.formed.other_peers;
+          other_connections = All-filter (λ x. not (has_id e.facts.cid.0 x.facts)) (λ x. same_address x.facts.addr m.settings.own ≡ false)
+              m.connections h.formed.other_connections;
+          room = h.formed.room;
+          pending_job = h.formed.pending_job;
         };
       };
       settings = refl;
       now = refl;
       counted = omega arith;
       late = omega arith;
+      classes = λ locals. locals;
     }
 
+-- the question that is pending was numbered
+abbrev pub IsNumbered : RootState → Type 0
+IsNumbered roots = (job : ℕ) → roots.pending ≡ Some job → job < roots.next_job
+
 -- what is no connection is no matter of them
-pub elsewhere-moves : (targets : Targets) (big : BigTargets) (groups : List Group) (roots : RootState) (peers : List Peer) (m : Machine) →
-    IsOrdered m → AreApart (members_of groups) → ArePeersApart peers →
-    Moves 0 m (record m { targets = targets; big_targets = big; groups = groups; roots = roots; peers = peers })
-elsewhere-moves targets big groups roots peers m h members apart = record {
+pub elsewhere-moves : (targets : Targets) (big : BigTargets) (roots : RootState) (peers : List Peer) (m : Machine) →
+    IsOrdered m → IsNumbered roots → IsBook m.settings.own peers → (LocalsAreOrdinary m → LocalsAreOrdinary (record m { peers = peers })) →
+    Moves 0 m (record m { targets = targets; big_targets = big; roots = roots; peers = peers })
+elsewhere-moves targets big roots peers m h numbered book classes = record {
   ordered = record {
     orderly = record {
       settings = h.orderly.settings;
@@ -162,40 +189,55 @@ elsewhere-moves targets big groups roots peers m h members apart = record {
       ids_rise = h.orderly.ids_rise;
       addresses = h.orderly.addresses;
     };
-    formed = record { shaped = h.formed.shaped; peers = apart; groups = members };
+    formed = record {
+      shaped = h.formed.shaped;
+      owing = h.formed.owing;
+      peers = book.apart;
+      groups = h.formed.groups;
+      other_peers = book.others;
+      other_connections = h.formed.other_connections;
+      room = book.room;
+      pending_job = numbered;
+    };
   };
   settings = refl;
   now = refl;
   counted = omega arith;
   late = omega arith;
+  classes = classes;
 }
 
 -- what is neither a connection nor a peer is no matter of either
-pub elsewhere-keeps : (targets : Targets) (big : BigTargets) (groups : List Group) (roots : RootState) (m : Machine) →
-    IsOrdered m → AreApart (members_of groups) → Keeps 0 m (record m { targets = targets; big_targets = big; groups = groups; roots = roots })
-elsewhere-keeps targets big groups roots m h members =
-    moves-keeps 0 m (record m { targets = targets; big_targets = big; groups = groups; roots = roots })
-    (elsewhere-moves targets big groups roots m.peers m h members h.formed.peers) (λ ties. ties)
+pub elsewhere-keeps : (targets : Targets) (big : BigTargets) (roots : RootState) (m : Machine) →
+    IsOrdered m → IsNumbered roots → Keeps 0 m (record m { targets = targets; big_targets = big; roots = roots })
+elsewhere-keeps targets big roots m h numbered =
+    moves-keeps 0 m (record m { targets = targets; big_targets = big; roots = roots })
+    (elsewhere-moves targets big roots m.peers m h numbered (book_of m h.formed) (λ locals. locals)) (λ ties. ties)
 
-pub peers-moves : (peers : List Peer) (m : Machine) → IsOrdered m → ArePeersApart peers → Moves 0 m (record m { peers = peers })
-peers-moves peers m h apart = elsewhere-moves m.targets m.big_targets m.groups m.roots peers m h h.formed.groups apart
+pub peers-moves : (peers : List Peer) (m : Machine) → IsOrdered m → IsBook m.settings.own peers →
+    (LocalsAreOrdinary m → LocalsAreOrdinary (record m { peers = peers })) → Moves 0 m (record m { peers = peers })
+peers-moves peers m h book classes = elsewhere-moves m.targets m.big_targets m.roots peers m h h.formed.pending_job book classes
 
 -- ---- peers
 
--- a change that keeps addresses
-pub turns_at-moves : (o : Option Peer) (change : Peer → Peer) (m : Machine) → IsOrdered m → Moves 0 m (turns_at o change m).machine
-turns_at-moves None change m h = moves_nothing m h
-turns_at-moves (Some p) change m h = peers-moves (with_peer_in (change p) m.peers) m h (with_peer-apart (change p) m.peers h.formed.peers)
-
-pub changes-moves : (addr : Addr) (change : Peer → Peer) (m : Machine) → IsOrdered m → Moves 0 m (peer_changes addr change m).machine
-changes-moves addr change m h = turns_at-moves (peer_at addr m) change m h
+-- a change that keeps addresses, and makes no big ledger peer
+pub changes-moves : (addr : Addr) (change : Peer → Peer) (m : Machine) → ((p : Peer) → (change p).addr ≡ p.addr) →
+    ((p : Peer) → p.big ≡ false → (change p).big ≡ false) → IsOrdered m → Moves 0 m (peer_changes addr change m).machine
+changes-moves addr change m same class h = by_peer (peer_at addr m) refl
+  where
+    by_peer : (o : Option Peer) → peer_at addr m ≡ o → Moves 0 m (turns_at o change m).machine
+    by_peer None is = moves_nothing m h
+    by_peer (Some p) is =
+        peers-moves (with_peer_in (change p) m.peers) m h (with_peer-book m.settings.own (change p) m.peers (book_of m h.formed))
+        (turned-classes addr change m same class p is)
 
 -- which leaves the peer tied to its connection
 pub changes-keeps : (addr : Addr) (change : Peer → Peer) (m : Machine) → ((p : Peer) → (change p).addr ≡ p.addr) →
+    ((p : Peer) → p.big ≡ false → (change p).big ≡ false) →
     ((p : Peer) → TiedBy m.now (Some p) (live_entry_at addr m) → TiedBy m.now (Some (change p)) (live_entry_at addr m)) → IsOrdered m →
     Keeps 0 m (peer_changes addr change m).machine
-changes-keeps addr change m same step h =
-    moves-keeps 0 m (peer_changes addr change m).machine (changes-moves addr change m h)
+changes-keeps addr change m same class step h =
+    moves-keeps 0 m (peer_changes addr change m).machine (changes-moves addr change m same class h)
     (changed-ties addr change m m same refl refl (λ b other. refl) (λ none alone. alone) (λ p found tie. step p tie))
 
 pub note-machine : (added : Added) (addr : Addr) (m : Machine) → (note_of_coming added addr m).machine ≡ m
@@ -203,20 +245,29 @@ note-machine New addr m = refl
 note-machine Present addr m = refl
 note-machine Full addr m = refl
 
-pub peer_comes-keeps : (big : Bool) (addr : Addr) (m : Machine) → IsOrdered m → Keeps 0 m (peer_comes big addr m).machine
-peer_comes-keeps big addr m h =
+-- it is not the own address, and no big ledger peer's where it is local
+pub peer_comes-keeps : (big : Bool) (addr : Addr) (m : Machine) → IsOrdered m → same_address addr m.settings.own ≡ false →
+    (is_not_local m.groups addr ≡ false → big ≡ false) → Keeps 0 m (peer_comes big addr m).machine
+peer_comes-keeps big addr m h other class =
     rw (note-machine (entry_of addr m.peers) addr (record m { peers = entered (new_peer big addr) m.peers }))
     (moves-keeps 0 m (record m { peers = entered (new_peer big addr) m.peers })
-    (peers-moves (entered (new_peer big addr) m.peers) m h (entered-apart (new_peer big addr) m.peers h.formed.peers))
+    (peers-moves (entered (new_peer big addr) m.peers) m h (entered-book m.settings.own (new_peer big addr) m.peers other (book_of m h.formed)) (comes-classes big addr m class))
     (comes-ties big addr m))
 
 -- ---- one part for each of a list
 
+-- that may need something of each
+pub for_each_that-keeps : {X : Type 0} (P : Settings → X → Type 0) (act : X → Machine → Effect) →
+    ((x : X) (m : Machine) → IsOrdered m → P m.settings x → Keeps 0 m (act x m).machine) →
+    (xs : List X) (m : Machine) → IsOrdered m → All (P m.settings) xs → Keeps 0 m (for_each act xs m).machine
+unfolding for_each
+for_each_that-keeps P act each [] m h all = keeps_nothing m h
+for_each_that-keeps P act each (x ∷ xs) m h all =
+    let n : Machine = (act x m).machine in
+    let first : Keeps 0 m n = each x m h (All-head (P m.settings) x xs all) in
+    keeps_then 0 0 m n (for_each act xs n).machine first
+    (for_each_that-keeps P act each xs n first.ordered (subst (λ s. All (P s) xs) (sym first.settings) (All-tail (P m.settings) x xs all)))
+
 pub for_each-keeps : {X : Type 0} (act : X → Machine → Effect) → ((x : X) (m : Machine) → IsOrdered m → Keeps 0 m (act x m).machine) →
     (xs : List X) (m : Machine) → IsOrdered m → Keeps 0 m (for_each act xs m).machine
-unfolding for_each
-for_each-keeps act each [] m h = keeps_nothing m h
-for_each-keeps act each (x ∷ xs) m h =
-    let first : Keeps 0 m (act x m).machine = each x m h in
-    keeps_then 0 0 m (act x m).machine (for_each act xs (act x m).machine).machine first
-    (for_each-keeps act each xs (act x m).machine first.ordered)
+for_each-keeps act each xs m h = for_each_that-keeps (λ s x. Unit {0}) act (λ x n o any. each x n o) xs m h (λ k d inside. tt)

@@ -15,6 +15,11 @@ mod Governing
 mod GroupsApart
 mod Orders
 mod PeersApart
+mod Books
+mod Owing
+mod Sharing
+mod Ordinary
+mod OwnAddress
 mod Keeping
 mod WholeMoves
 mod Trims

@@ -24,6 +24,7 @@ use Rattle.warm_messages.specs.declared.alive.Alive.TheVariants.{Done}
 use Rattle.laws.specs.AtMoves.{IsReady, Faults, IsLawful}
 use Rattle.laws.specs.Whole.{AreApart, AreTied, IsAlone, TiedBy}
 use Rattle.laws.proofs.Addresses.{same_address-true}
+use Rattle.laws.proofs.Books.{book_of, filter-book}
 use Rattle.laws.proofs.Counts.{counted_of, counted_in-sum}
 use Rattle.laws.proofs.Effects.{one_if-not_counted}
 use Rattle.laws.proofs.Entries.{TurnsInto, turned-connections, turned-sum}
@@ -31,7 +32,9 @@ use Rattle.laws.proofs.Finds.{find-set_other}
 use Rattle.laws.proofs.Keeping.{IsOrdered, Moves, Keeps, keeps_nothing, keeps_then, moves_then, moves-keeps, peers-moves, changes-moves, changes-keeps}
 use Rattle.laws.proofs.Lawful.{Obeys, IsQuiet, quiet-obeys, quiet_then, turns_at-quiet, turns-obeys, turned_then-obeys, IsAllowed}
 use Rattle.laws.proofs.Lists.{StandsAt, FoundIn, stands-set, find_some}
-use Rattle.laws.proofs.PeersApart.{same_turned, filter-apart}
+use Rattle.laws.proofs.Ordinary.{taken-classes}
+use Rattle.laws.proofs.Owing.{OwesNothing}
+use Rattle.laws.proofs.PeersApart.{same_turned}
 use Rattle.laws.proofs.Ties.{live_here, turned_here, turned_elsewhere, changed-ties, taken-ties, taken-elsewhere}
 use Rattle.laws.proofs.Trims.{Trimmed, keeps-trimmed, nothing-trimmed, trimmed_then, trimmed-within, as_move-trimmed, raised_twice_then_trimmed, trim-trims, trim-used, turns_at-counted, turns_at-connections}
 use Rattle.laws.proofs.WholeMoves.{owes-keeps, IsWarm, asks_warm-keeps, releases-moves}
@@ -100,6 +103,10 @@ on_used-carried Law May addr act m h within each = by_entry (find (is_used_at ad
           found = is;
         })
 
+-- a connection of another address is not it
+other_at : (b : Addr) (x : Entry) → same_address x.facts.addr b ≡ false → is_used_at b x ≡ false
+other_at b x other = ap (λ c. (c && is_live x.facts) && x.facts.local) other
+
 -- ---- a peer is asked for addresses
 
 asked-obeys : (Law : Move → Type 0) (n : ℕ) (m : Machine) (e : Entry) (k : ℕ) → IsOrdered m → StandsAt m.connections k e → Obeys Law m (asks_peer n e m)
@@ -111,27 +118,39 @@ asked-obeys Law n m e k h s =
     (turns_at-quiet (peer_at e.facts.addr o) (λ p. record p { share_next = m.now + m.settings.sharegap }) o) in
     record { lawful = rest.lawful; accounted = rest.accounted }
 
-asked-carried : (Law : Move → Type 0) (n : ℕ) (addr : Addr) (m : Machine) (e : Entry) (k : ℕ) → Used m addr e k → Carried Law Always addr m (asks_peer n e m)
-asked-carried Law n addr m e k u =
-    let o : Machine = with_entry (owing 10 n m e) m in
-    let owes : Keeps 0 m o = owes-keeps 10 n m e k u.ordered u.stands refl in
+-- the connection in use has agreed on peer sharing
+abbrev pub MayAsk : Machine → Addr → Type 0
+MayAsk m addr = (e : Entry) → find (is_used_at addr) m.connections ≡ Some e → agreed_sharing e.facts.agreed ≡ true
+
+asked-carried : (Law : Move → Type 0) (n : ℕ) (addr : Addr) (m : Machine) (e : Entry) (k : ℕ) → Used m addr e k → MayAsk m addr →
+    Carried Law MayAsk addr m (asks_peer n e m)
+asked-carried Law n addr m e k u may =
+    let new : Entry = owing 10 n m e in
+    let o : Machine = with_entry new m in
+    let owes : Keeps 0 m o =
+    owes-keeps 10 n m e k u.ordered u.stands (record { known = refl; local = u.local; sharing = λ on_10. may e u.found }) refl in
     let next : ℕ = m.now + m.settings.sharegap in
     record {
       trimmed = keeps-trimmed Law m (asks_peer n e m) u.within
           (keeps_then 0 0 m o (peer_was_asked next e.facts.addr o).machine owes
-          (changes-keeps e.facts.addr (λ p. record p { share_next = next }) o (λ p. refl)
+          (changes-keeps e.facts.addr (λ p. record p { share_next = next }) o (λ p. refl) (λ p ordinary. ordinary)
           (λ p tie. same_peer next o.now p (live_entry_at e.facts.addr o) tie) owes.ordered))
           (asked-obeys Law n m e k u.ordered u.stands);
-      elsewhere = λ b other may. tt;
+      elsewhere = λ b other may_b x found.
+          let apart : same_address e.facts.addr b ≡ false = subst (λ a. same_address a b ≡ false) (sym u.here) (same_turned b addr other) in
+          may_b x
+          (sym (ap (find (is_used_at b)) (turns_at-connections (peer_at e.facts.addr o) (λ p. record p { share_next = next }) o
+          ∙ turned-connections m e new k u.ordered.orderly u.stands (record { same_id = refl; same_addr = refl; live = λ l. l }))
+          ∙ find-set_other (is_used_at b) new e m.connections k u.stands (other_at b e apart) (other_at b new apart)) ∙ found);
     }
   where
     same_peer : (next now : ℕ) (p : Peer) (x : Option Entry) → TiedBy now (Some p) x → TiedBy now (Some (record p { share_next = next })) x
     same_peer next now p None tie = tie
     same_peer next now p (Some x) tie = record { established = tie.established; in_use = tie.in_use; on_its_way = tie.on_its_way; asked = tie.asked }
 
-pub ask-carried : (Law : Move → Type 0) (n : ℕ) → Carries Law Always (λ addr. Ask addr n)
+pub ask-carried : (Law : Move → Type 0) (n : ℕ) → Carries Law MayAsk (λ addr. Ask addr n)
 unfolding Carries
-ask-carried Law n addr m h within may = on_used-carried Law Always addr (asks_peer n) m h within (asked-carried Law n addr m)
+ask-carried Law n addr m h within may = on_used-carried Law MayAsk addr (asks_peer n) m h within (λ e k u. asked-carried Law n addr m e k u may)
 
 -- ---- a warm peer is to become hot
 
@@ -148,7 +167,7 @@ activated-carried : (Law : Move → Type 0) (addr : Addr) (m : Machine) → IsOr
     Carried Law MayActivate addr m (on_used addr activates m)
 activated-carried Law addr m h within may = on_used-carried Law MayActivate addr activates m h within (λ e k u. record {
   trimmed = keeps-trimmed Law m (activates e m) within
-      (asks_warm-keeps 0 m e k h u.stands (subst (λ a. IsWarm (peer_at a m)) (sym u.here) may)) (obeys e k u.stands);
+      (asks_warm-keeps 0 m e k h u.stands u.local (subst (λ a. IsWarm (peer_at a m)) (sym u.here) may)) (obeys e k u.stands);
   elsewhere = λ b other warm. warm;
 })
   where
@@ -181,7 +200,7 @@ deactivated-carried Law addr m e k u =
     let was : live_entry_at e.facts.addr m ≡ Some e = live_here m e k u.ordered.orderly u.stands u.live in
     record {
       trimmed = keeps-trimmed Law m (deactivates e m) u.within
-          (changes-keeps e.facts.addr (λ p. record p { temp = Warm }) m (λ p. refl)
+          (changes-keeps e.facts.addr (λ p. record p { temp = Warm }) m (λ p. refl) (λ p ordinary. ordinary)
           (λ p tie. subst (λ o. TiedBy m.now (Some (record p { temp = Warm })) o) (sym was)
           (warm p (subst (λ o. TiedBy m.now (Some p) o) was tie))) u.ordered)
           (deactivated-obeys Law m e);
@@ -229,7 +248,8 @@ forget-carried Law addr m h within may =
     let n : Machine = (peer_goes addr m).machine in
     record {
       trimmed = keeps-trimmed Law m (peer_goes addr m) within
-          (moves-keeps 0 m n (peers-moves n.peers m h (filter-apart (λ p. not (same_address p.addr addr)) m.peers h.formed.peers))
+          (moves-keeps 0 m n (peers-moves n.peers m h (filter-book m.settings.own (λ p. not (same_address p.addr addr)) m.peers (book_of m h.formed))
+          (taken-classes addr m))
           (λ ties. taken-ties addr m (cold-alone m.now (peer_at addr m) (live_entry_at addr m) may.cold may.idle (ties addr)) ties))
           (quiet-obeys Law m (peer_goes addr m) (record { moves = refl; connections = refl }));
       elsewhere = λ b other there. record { cold = subst IsCold (sym (taken-elsewhere addr b m.peers other)) there.cold; idle = there.idle };
@@ -237,9 +257,9 @@ forget-carried Law addr m h within may =
 
 -- ---- a release
 
--- the connection in use owes nothing on chain-sync
+-- nothing is owed on the connection in use
 abbrev pub MayRelease : Machine → Addr → Type 0
-MayRelease m addr = (e : Entry) → find (is_used_at addr) m.connections ≡ Some e → is_some (reply_on 2 e) ≡ false
+MayRelease m addr = (e : Entry) → find (is_used_at addr) m.connections ≡ Some e → OwesNothing e
 
 says_done-quiet : (f : Facts) (m : Machine) → IsQuiet m (says_done f m)
 says_done-quiet f m =
@@ -263,9 +283,6 @@ unused_at b x unused = by_test (is_live_at b x.facts)
     by_test true = unused
     by_test false = refl
 
-other_at : (b : Addr) (x : Entry) → same_address x.facts.addr b ≡ false → is_used_at b x ≡ false
-other_at b x other = ap (λ c. (c && is_live x.facts) && x.facts.local) other
-
 releasing-carried : (faults : Faults) (addr : Addr) (m : Machine) (e : Entry) (k : ℕ) → Used m addr e k → MayRelease m addr →
     Carried (IsLawful faults) MayRelease addr m (releasing e m)
 unfolding releasing
@@ -277,12 +294,12 @@ releasing-carried faults addr m e k u may =
     let n : Machine = with_entry new m in
     let o : Machine = (peer_becomes Cold e.facts.addr n).machine in
     let t : TurnsInto e new = record { same_id = refl; same_addr = refl; live = λ l. l } in
-    let turned : Moves 1 m n = releases-moves m e k h s u.local in
+    let turned : Moves 1 m n = releases-moves m e k h s u.local (may e u.found) in
     let here : live_entry_at e.facts.addr n ≡ Some new =
     turned_here m e new k h.orderly s t u.live ∙ ap (λ b. if b then Some new else None) u.live in
     let was : live_entry_at e.facts.addr m ≡ Some e = live_here m e k h.orderly s u.live in
     let raised : Keeps 1 m o =
-    moves-keeps 1 m o (moves_then 1 0 m n o turned (changes-moves e.facts.addr cold n turned.ordered))
+    moves-keeps 1 m o (moves_then 1 0 m n o turned (changes-moves e.facts.addr cold n (λ p. refl) (λ p ordinary. ordinary) turned.ordered))
     (changed-ties e.facts.addr cold m n (λ p. refl) refl refl (turned_elsewhere m e new k h.orderly s t)
     (λ none alone. used_by_none (subst (λ x. TiedBy m.now None x) was alone))
     (λ p found tie. subst (λ x. TiedBy m.now (Some (cold p)) x) (sym here) (is_cold new refl refl refl p (subst (λ x. TiedBy m.now (Some p) x) was tie)))) in
@@ -331,7 +348,7 @@ releasing-carried faults addr m e k u may =
       established = sym unused;
       in_use = λ local. absurd (both_ways new.facts.local unused local);
       on_its_way = λ way. tie.on_its_way (sym pending ∙ way);
-      asked = λ asked. absurd (both_ways (is_some (reply_on 2 e)) (may e u.found) (ap is_some (sym owed) ∙ asked));
+      asked = λ asked. absurd (both_ways (is_some (reply_on 2 e)) (may e u.found).on_2 (ap is_some (sym owed) ∙ asked));
     }
 
 released-carried : (faults : Faults) (addr : Addr) (m : Machine) (e : Entry) (k : ℕ) → Used m addr e k → MayRelease m addr →

@@ -27,7 +27,7 @@ replaced-addr new p = by_test (has_address new.addr p) refl
     by_test true e = sym (same_address-true p.addr new.addr e)
     by_test false e = refl
 
-with_peer-others : (new : Peer) (addr : Addr) (ps : List Peer) → AllByRecursion (λ q. same_address q.addr addr ≡ false) ps →
+pub with_peer-others : (new : Peer) (addr : Addr) (ps : List Peer) → AllByRecursion (λ q. same_address q.addr addr ≡ false) ps →
     AllByRecursion (λ q. same_address q.addr addr ≡ false) (with_peer new ps)
 with_peer-others new addr [] h = tt
 with_peer-others new addr (p ∷ ps) h =
@@ -41,7 +41,7 @@ with_peer-apart new (p ∷ ps) h = (
 )
 
 -- a new one at its place
-put_in-others : (new : Peer) (addr : Addr) (ps : List Peer) → same_address new.addr addr ≡ false →
+pub put_in-others : (new : Peer) (addr : Addr) (ps : List Peer) → same_address new.addr addr ≡ false →
     AllByRecursion (λ q. same_address q.addr addr ≡ false) ps → AllByRecursion (λ q. same_address q.addr addr ≡ false) (with_new new ps)
 put_in-others new addr [] n h = (n, tt)
 put_in-others new addr (p ∷ ps) n h = by_test (address_below p.addr new.addr) (put_in-others new addr ps n h.1)
@@ -80,7 +80,7 @@ entered-apart new ps h = by_there (is_some (peer_at new.addr ps)) refl
         (λ full. h) (λ room. with_new-apart new ps (none_found new.addr ps e) h)
 
 -- one goes
-others-filter : (addr : Addr) (q : Peer → Bool) (ps : List Peer) → AllByRecursion (λ x. same_address x.addr addr ≡ false) ps →
+pub others-filter : (addr : Addr) (q : Peer → Bool) (ps : List Peer) → AllByRecursion (λ x. same_address x.addr addr ≡ false) ps →
     AllByRecursion (λ x. same_address x.addr addr ≡ false) (filter q ps)
 others-filter addr q [] h = tt
 others-filter addr q (p ∷ ps) h = by_test (q p) (others-filter addr q ps h.1)

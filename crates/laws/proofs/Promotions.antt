@@ -25,13 +25,15 @@ use Rattle.machine.specs.Effect.{Move, promoted}
 use Rattle.machine.specs.Govern.{link_of, promoted_at}
 use Rattle.laws.specs.AtMoves.{IsReady, Faults}
 use Rattle.laws.specs.Laws.{DifferInAddress}
-use Rattle.laws.specs.Whole.{IsShaped, TiedBy}
+use Rattle.laws.specs.Whole.{IsShaped, IsOwing, TiedBy}
 use Rattle.laws.proofs.Addresses.{same_address-self, same_address-true}
+use Rattle.laws.proofs.Books.{found-other}
 use Rattle.laws.proofs.Counts.{counted_of, counted_in-sum, late_of, late_in-sum}
 use Rattle.laws.proofs.Entries.{with_new, come-orderly}
 use Rattle.laws.proofs.Keeping.{IsOrdered, Keeps}
 use Rattle.laws.proofs.Lawful.{Obeys, accounts_come, used-obeys, IsAllowed}
 use Rattle.laws.proofs.Lists.{StandsAt, stands_next, FoundIn, find_some, find_none, find_only}
+use Rattle.laws.proofs.Owing.{nothing-owing}
 use Rattle.laws.proofs.Shapes.{dialing-shaped, can_acquire}
 use Rattle.laws.proofs.Orders.{Carried, Carries}
 use Rattle.laws.proofs.Ties.{live_one, come-ties, come_elsewhere, turned_elsewhere, turns_at-elsewhere}
@@ -62,17 +64,28 @@ dial-keeps addr m h none ready =
         orderly = come-orderly m new h.orderly refl (none_live addr m none);
         formed = record {
           shaped = All-push (λ e. IsShaped e.facts) m.connections new h.formed.shaped (dialing-shaped m.next_id addr);
+          owing = All-push IsOwing m.connections new h.formed.owing (nothing-owing new refl);
           peers = h.formed.peers;
           groups = h.formed.groups;
+          other_peers = h.formed.other_peers;
+          other_connections = All-push (λ e. same_address e.facts.addr m.settings.own ≡ false) m.connections new h.formed.other_connections
+              (known-other (peer_at addr m) refl ready);
+          room = h.formed.room;
+          pending_job = h.formed.pending_job;
         };
       };
       settings = refl;
       now = refl;
       counted = omega (arith, counts, counted_before, counted_after);
       late = omega (arith, lates, late_before, late_after);
+      classes = λ locals. locals;
       ties = come-ties m new refl none (λ tie. on_its_way (peer_at addr m) ready tie);
     }
   where
+    known-other : (o : Option Peer) → peer_at addr m ≡ o → IsReady m.now o → same_address addr m.settings.own ≡ false
+    known-other None is ready = elim ready [ ]
+    known-other (Some p) is ready = found-other m.settings.own addr m.peers p h.formed.other_peers is
+
     on_its_way : (o : Option Peer) → IsReady m.now o → TiedBy m.now o None → TiedBy m.now o (Some (fresh_entry (dialing m.next_id addr)))
     on_its_way None ready tie = elim ready [ ]
     on_its_way (Some p) ready tie = record {

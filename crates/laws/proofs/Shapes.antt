@@ -62,9 +62,6 @@ closing-shaped until f =
 
 -- ---- the end of a handshake
 
-abbrev true_is_false : true ≡ false → {P : Type 0} → P
-true_is_false e = absurd (false≢true (sym e))
-
 pub agreed_inbound-shaped : (agreed : Agreed) (until : ℕ) (f : Facts) → IsShaped f → is_greeting f ≡ true →
     is_outbound f ≡ false → IsShaped (agreed_inbound agreed until f)
 agreed_inbound-shaped agreed until f h greets inbound =

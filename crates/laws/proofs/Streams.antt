@@ -1,6 +1,6 @@
 -- Bytes come in on a connection.
-use Rattle.std.proofs.Common.{ℕ, ◌≤◌, ◌≡◌, List, Option, Some, None, Contains, refl, sym, ap, subst, inl, inr, eqb-true}
-use Rattle.std.specs.List.{AllByRecursion}
+use Rattle.std.proofs.Common.{ℕ, ◌≤◌, ◌≡◌, List, Option, Some, None, All, Contains, refl, sym, ap, subst, inl, inr, eqb-true}
+use Rattle.std.proofs.lemmas.List.Elements.{All-weaker, All-contains_itself}
 use Rattle.mux_segment.specs.Stream.{FedBy, fed_by}
 use Rattle.mux_segment.specs.Protocols.{node_limits}
 use Rattle.mux_segment.specs.declared.fault.CutFault.{CutFault}
@@ -20,9 +20,9 @@ use Rattle.laws.specs.AtMoves.{Faults, fault_of, IsByStream, fed_on, IsByBytes, 
 use Rattle.laws.proofs.Handshakes.{greets-trimmed}
 use Rattle.laws.proofs.Keeping.{IsOrdered}
 use Rattle.laws.proofs.Lawful.{ending-obeys, ended-lawful, turns-obeys}
-use Rattle.laws.proofs.Lists.{StandsAt, find_some, all-weaker, all-contained}
+use Rattle.laws.proofs.Lists.{StandsAt, find_some}
 use Rattle.laws.proofs.Talks.{talks-trimmed}
-use Rattle.laws.proofs.Trims.{Trimmed, keeps-trimmed, nothing-trimmed, trimmed_then, trimmed-within, for_each-trimmed}
+use Rattle.laws.proofs.Trims.{Trimmed, keeps-trimmed, nothing-trimmed, trimmed_then, trimmed-within, for_each_that-trimmed}
 use Rattle.laws.proofs.WholeMoves.{ending-keeps, decodes-keeps}
 
 -- whatever fault an item is on the connection, it is one of those
@@ -50,9 +50,9 @@ found-cid cid m e is =
     cid_of : ℕ → Cid
     cid_of n = record { 0 = n }
 
-handles-trimmed : (faults : Faults) (cid : Cid) (item : Item) → GivesItem faults cid item → (m : Machine) → IsOrdered m → counted_in m ≤ m.settings.hard →
+handles-trimmed : (faults : Faults) (cid : Cid) (item : Item) (m : Machine) → IsOrdered m → counted_in m ≤ m.settings.hard → GivesItem faults cid item →
     Trimmed (IsLawful faults) m (handles cid item m)
-handles-trimmed faults cid item gives m h within = by_entry (entry_at cid.0 m) refl
+handles-trimmed faults cid item m h within gives = by_entry (entry_at cid.0 m) refl
   where
     by_entry : (o : Option Entry) → entry_at cid.0 m ≡ o → Trimmed (IsLawful faults) m (handled_at o item m)
     by_entry None is = nothing-trimmed (IsLawful faults) m within h
@@ -75,7 +75,7 @@ faulted-trimmed faults cid fault gives m h within = by_entry (entry_at cid.0 m) 
         (λ negotiated. gives m e (kind_of f) (found-cid cid m e is) refl)))
 
 fed_with-trimmed : (faults : Faults) (fed : FedBy) (m : Machine) (e : Entry) (k : ℕ) → IsOrdered m → counted_in m ≤ m.settings.hard → StandsAt m.connections k e →
-    AllByRecursion (GivesItem faults e.facts.cid) fed.items → GivesStream faults e.facts.cid fed.state.fault → Trimmed (IsLawful faults) m (fed_with fed e m)
+    All (GivesItem faults e.facts.cid) fed.items → GivesStream faults e.facts.cid fed.state.fault → Trimmed (IsLawful faults) m (fed_with fed e m)
 fed_with-trimmed faults fed m e k h within s by_items by_stream =
     let new : Entry = record e { undecoded = fed.state.undecoded } in
     let first : Effect = entry_turns e new m in
@@ -85,17 +85,15 @@ fed_with-trimmed faults fed m e k h within s by_items by_stream =
     let n : Machine = first.machine in
     let second : Effect = for_each (handles e.facts.cid) fed.items n in
     let two : Trimmed (IsLawful faults) n second =
-    for_each-trimmed (IsLawful faults) (handles e.facts.cid) fed.items
-    (all-weaker (GivesItem faults e.facts.cid)
-    (λ item. (m : Machine) → IsOrdered m → counted_in m ≤ m.settings.hard → Trimmed (IsLawful faults) m (handles e.facts.cid item m))
-    (handles-trimmed faults e.facts.cid) fed.items by_items) n one.ordered (trimmed-within (IsLawful faults) m first one) in
+    for_each_that-trimmed (IsLawful faults) (λ settings. GivesItem faults e.facts.cid) (handles e.facts.cid) (handles-trimmed faults e.facts.cid)
+    fed.items n one.ordered (trimmed-within (IsLawful faults) m first one) by_items in
     trimmed_then (IsLawful faults) m first (λ m. then_do (for_each (handles e.facts.cid) fed.items m) fault) one
     (trimmed_then (IsLawful faults) n second fault two
     (faulted-trimmed faults e.facts.cid fed.state.fault by_stream second.machine two.ordered (trimmed-within (IsLawful faults) n second two)))
 
 -- what the bytes bring, on the connection that they come in on
 GivesFed : Faults → Cid → FedBy → Type 0
-GivesFed faults cid fed = AllByRecursion (GivesItem faults cid) fed.items × GivesStream faults cid fed.state.fault
+GivesFed faults cid fed = All (GivesItem faults cid) fed.items × GivesStream faults cid fed.state.fault
 
 comes_in_phase-trimmed : (faults : Faults) (p : Phase) (bytes : List ℕ) (m : Machine) (e : Entry) (k : ℕ) → IsOrdered m → counted_in m ≤ m.settings.hard →
     StandsAt m.connections k e → GivesFed faults e.facts.cid (fed_on e bytes) → Trimmed (IsLawful faults) m (comes_in_phase p bytes e m)
@@ -110,9 +108,9 @@ fed-gives : (start : Machine) (cid : Cid) (bytes : List ℕ) (first : Entry) →
     GivesFed (faults_of start (Bytes cid bytes)) cid (fed_on first bytes)
 unfolding GivesFed
 fed-gives start cid bytes first is = (
-  all-weaker (Contains (fed_on first bytes).items) (GivesItem (faults_of start (Bytes cid bytes)) cid)
+  All-weaker (Contains (fed_on first bytes).items) (GivesItem (faults_of start (Bytes cid bytes)) cid)
       (λ item among m e kind own fault. given e kind (own, inl (record { item = item; among = among; fault = fault })))
-      (fed_on first bytes).items (all-contained (fed_on first bytes).items),
+      (fed_on first bytes).items (All-contains_itself (fed_on first bytes).items),
   (λ m e kind own fault. given e kind (own, inr fault)),
 )
   where

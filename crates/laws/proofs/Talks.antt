@@ -14,6 +14,7 @@ use Rattle.net_base.specs.declared.peer.Peer.{Peer}
 use Rattle.net_base.specs.declared.peer.Temp.TheVariants.{Hot}
 use Rattle.accept_gate.specs.Prune.{choice_of}
 use Rattle.conn_state.specs.Moves.{awakened, idled}
+use Rattle.churn_clock.specs.Windows.{effective_of}
 use Rattle.conn_state.specs.Protocols.{has_responder}
 use Rattle.conn_state.specs.Use.{is_live, agreed_sharing, has_id, is_negotiated, runs, some_runs}
 use Rattle.mux_segment.specs.declared.item.Item.{Item}
@@ -39,11 +40,12 @@ use Rattle.laws.specs.AtMoves.{Faults, fault_of_request, fault_of_answer, fault_
 use Rattle.laws.proofs.KnownWanted.{takes-within}
 use Rattle.laws.proofs.Lawful.{accounts_same, Obeys, obeys_then, IsQuiet, quiet-obeys, turns_at-quiet, comes-quiet, ending-obeys, ended-lawful, turns-obeys, IsAllowed, Within, allowed_within, as_move-obeys}
 use Rattle.laws.proofs.Keeping.{IsOrdered, Keeps, keeps_nothing, moves_then, moves-keeps, keeps-moves, changes-moves, peer_comes-keeps}
-use Rattle.laws.proofs.Lists.{StandsAt, stands-set, find_some, find_only, all-always}
+use Rattle.laws.proofs.Lists.{StandsAt, stands-set, find_some, find_only}
 use Rattle.laws.specs.Whole.{AreTied, IsAlone, TiedBy}
 use Rattle.laws.proofs.Ties.{changed-ties, turned_here, turned_elsewhere, live_here}
-use Rattle.laws.proofs.Trims.{lost-connections, Trimmed, HasMoved, keeps-trimmed, nothing-trimmed, trimmed_both, trimmed_then, trimmed-within, raised_then_trimmed, trim-trims, for_each-trimmed}
-use Rattle.laws.proofs.WholeMoves.{negotiated-live, ending-keeps, awakes-keeps, idles-keeps, pays-keeps}
+use Rattle.laws.proofs.Trims.{lost-connections, Trimmed, HasMoved, keeps-trimmed, nothing-trimmed, trimmed_both, trimmed_then, trimmed-within, raised_then_trimmed, trim-trims, for_each_that-trimmed}
+use Rattle.laws.proofs.WholeMoves.{negotiated-live, ending-keeps, awakes-keeps, idles-keeps, pays-keeps, IsLost}
+use Rattle.laws.proofs.OwnAddress.{IsOther, taken-other}
 
 -- ---- only known protocols are answered
 
@@ -306,9 +308,10 @@ asked_as-trimmed faults (Ok seen) item sharing protocol m e k is t given = by_te
 
 -- ---- the other side answers
 
-shared-trimmed : (faults : Faults) (addr : Addr) (m : Machine) → IsOrdered m → counted_in m ≤ m.settings.hard → Trimmed (IsAllowed faults) m (shares_address addr m)
-shared-trimmed faults addr m h within =
-    keeps-trimmed (IsAllowed faults) m (shares_address addr m) within (peer_comes-keeps false addr m h)
+shared-trimmed : (faults : Faults) (addr : Addr) (m : Machine) → IsOrdered m → counted_in m ≤ m.settings.hard → IsOther m.settings addr →
+    Trimmed (IsAllowed faults) m (shares_address addr m)
+shared-trimmed faults addr m h within other =
+    keeps-trimmed (IsAllowed faults) m (shares_address addr m) within (peer_comes-keeps false addr m h other (λ local. refl))
     (as_move-obeys (IsAllowed faults) (shared addr) m (peer_comes false addr m) (comes-quiet false addr m).moves (record { back_off = tt; cause = tt })
     (accounts_same m (shares_address addr m) (comes-quiet false addr m).connections))
 
@@ -319,7 +322,8 @@ takes-trimmed faults o m h within = trimmed_both (IsAllowed faults) Within (IsLa
     by_message None = nothing-trimmed (IsAllowed faults) m within h
     by_message (Some (share.Request n)) = nothing-trimmed (IsAllowed faults) m within h
     by_message (Some (share.Peers told)) =
-        for_each-trimmed (IsAllowed faults) shares_address (taken_of told m) (all-always (shared-trimmed faults) (taken_of told m)) m h within
+        for_each_that-trimmed (IsAllowed faults) IsOther shares_address (shared-trimmed faults) (taken_of told m) m h within
+        (taken-other m.settings (effective_of m.targets m.now).known m.peers told)
     by_message (Some share.Done) = nothing-trimmed (IsAllowed faults) m within h
 
 -- what is asked of a peer is answered: it is hot
@@ -344,7 +348,7 @@ hot-keeps m e k h s live asked =
     turned_here m e new k h.orderly s turns live ∙ ap (λ b. if b then Some new else None) live in
     let was : live_entry_at e.facts.addr m ≡ Some e = live_here m e k h.orderly s live in
     moves-keeps 0 m (peer_becomes Hot e.facts.addr n).machine
-    (moves_then 0 0 m n (peer_becomes Hot e.facts.addr n).machine (keeps-moves 0 m n pays_it) (changes-moves e.facts.addr hot n pays_it.ordered))
+    (moves_then 0 0 m n (peer_becomes Hot e.facts.addr n).machine (keeps-moves 0 m n pays_it) (changes-moves e.facts.addr hot n (λ p. refl) (λ p ordinary. ordinary) pays_it.ordered))
     (changed-ties e.facts.addr hot m n (λ p. refl) refl refl (turned_elsewhere m e new k h.orderly s turns)
     (λ none alone. asked_of_none (subst (λ o. TiedBy m.now None o) was alone))
     (λ p found tie. subst (λ o. TiedBy m.now (Some (hot p)) o) (sym here) (is_hot p (subst (λ o. TiedBy m.now (Some p) o) was tie))))

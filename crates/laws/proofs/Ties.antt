@@ -141,7 +141,7 @@ peer_here new p (q ∷ ps) found = by_test (has_address new.addr q) refl found (
     by_test true e f later = rw (same_address-self new.addr) refl
     by_test false e f later = rw e (later f)
 
-found-addr : (a : Addr) (ps : List Peer) (p : Peer) → peer_in a ps ≡ Some p → p.addr ≡ a
+pub found-addr : (a : Addr) (ps : List Peer) (p : Peer) → peer_in a ps ≡ Some p → p.addr ≡ a
 found-addr a ps p found =
     let at : FoundIn (has_address a) ps p = find_some (has_address a) ps p found in
     same_address-true p.addr a at.passes
@@ -212,7 +212,7 @@ changed-ties a change m n same now peers lives alone step ties = by_peer (peer_a
 
 -- ---- a peer comes, and one goes
 
-put_in-elsewhere : (new : Peer) (b : Addr) (ps : List Peer) → same_address b new.addr ≡ false → peer_in b (with_new_in new ps) ≡ peer_in b ps
+pub put_in-elsewhere : (new : Peer) (b : Addr) (ps : List Peer) → same_address b new.addr ≡ false → peer_in b (with_new_in new ps) ≡ peer_in b ps
 put_in-elsewhere new b [] other = rw (same_turned b new.addr other) refl
 put_in-elsewhere new b (p ∷ ps) other = by_test (address_below p.addr new.addr) (put_in-elsewhere new b ps other)
   where
@@ -235,7 +235,7 @@ put_in-here new (p ∷ ps) none = by_there (has_address new.addr p) refl none (p
         by_test true rest = rw e rest
         by_test false rest = rw (same_address-self new.addr) refl
 
-none_there : (o : Option Peer) → is_some o ≡ false → o ≡ None
+pub none_there : (o : Option Peer) → is_some o ≡ false → o ≡ None
 none_there None h = refl
 none_there (Some p) h = absurd (false≢true (sym h))
 
@@ -279,7 +279,7 @@ taken-elsewhere addr b (p ∷ ps) other = by_test (same_address p.addr addr) ref
         rw same rest
     by_test false e rest = ap (λ o. cond (has_address b p) (Some p) o) rest
 
-taken-here : (addr : Addr) (ps : List Peer) → peer_in addr (without_peer addr ps) ≡ None
+pub taken-here : (addr : Addr) (ps : List Peer) → peer_in addr (without_peer addr ps) ≡ None
 taken-here addr [] = refl
 taken-here addr (p ∷ ps) = by_test (same_address p.addr addr) refl (taken-here addr ps)
   where

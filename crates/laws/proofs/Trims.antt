@@ -1,8 +1,10 @@
 -- Where more connections are counted than the hard limit, one of them goes.
-use Rattle.std.proofs.Common.{ℕ, suc, ◌+◌, ◌≤◌, ◌<◌, ◌≡◌, Bool, true, false, not, nat_le, if◌then◌else◌, List, [], ◌∷◌, ◌++◌, map, filter_map, find, sum_by, Option, Some, None, refl, sym, ap, ◌∙◌, subst, arith, eq-eqb, leb-true, leb-false}
+use Rattle.std.proofs.Common.{ℕ, suc, ◌+◌, ◌≤◌, ◌<◌, ◌≡◌, Bool, true, false, not, nat_le, if◌then◌else◌, List, [], ◌∷◌, ◌++◌, map, filter_map, find, sum_by, Option, Some, None, refl, sym, ap, ◌∙◌, subst, arith, eq-eqb, leb-true, leb-false, All}
 use Rattle.std.specs.List.{AllByRecursion, cons_option}
 use Rattle.std.specs.Option.{option_map, unwrap_or}
 use Rattle.std.proofs.lemmas.Bool.{cond_both, and_parts, false≢true}
+use Rattle.std.proofs.lemmas.List.Elements.{All-head, All-tail}
+use Rattle.net_base.specs.declared.settings.Settings.{Settings}
 use Rattle.net_base.specs.declared.action.CloseCause.TheVariants.{Pruned}
 use Rattle.net_base.specs.declared.connection.Cid.{Cid}
 use Rattle.net_base.specs.declared.connection.Facts.{Facts}
@@ -17,6 +19,7 @@ use Rattle.machine.specs.Effect.{Effect, Happened, Move, nothing_more, then_do, 
 use Rattle.machine.specs.Peers.{turns_at, peer_at, peer_fails}
 use Rattle.machine.specs.Connections.{without_entry, is_missed, lost, ending, candidate_of, candidates_in, pruned_at, trim}
 use Rattle.laws.specs.AtMoves.{Faults, IsLawful}
+use Rattle.laws.specs.Laws.{LocalsAreOrdinary}
 use Rattle.laws.specs.Whole.{IsTied}
 use Rattle.laws.proofs.Counts.{counted_of, counted_in-sum, late_in}
 use Rattle.laws.proofs.Effects.{one_if-counted}
@@ -130,7 +133,8 @@ pub record Trimmed (Law : Move → Type 0) (before : Machine) (effect : Effect) 
   pub now : effect.machine.now ≡ before.now
   pub counted : counted_in effect.machine ≤ before.settings.hard
   pub late : late_in effect.machine ≤ late_in before
-  -- and peers stay tied to their connections
+  -- local peers stay ordinary ones, and peers tied to their connections
+  pub classes : LocalsAreOrdinary before → LocalsAreOrdinary effect.machine
   pub ties : IsTied before → IsTied effect.machine
   pub lawful : IsTied before → AllByRecursion Law effect.moves
   pub accounted : Accounts before effect
@@ -143,6 +147,7 @@ keeps-trimmed Law m effect within h obeys = record {
   now = h.now;
   counted = omega (arith, h.counted, within);
   late = h.late;
+  classes = h.classes;
   ties = h.ties;
   lawful = λ ties. obeys.lawful;
   accounted = obeys.accounted;
@@ -166,6 +171,7 @@ pruned-trims faults m e k h s counted most =
       now = keeps.now;
       counted = omega (arith, drops, one, most);
       late = keeps.late;
+      classes = keeps.classes;
       ties = keeps.ties;
       lawful = λ ties. obeys.lawful;
       accounted = obeys.accounted;
@@ -248,6 +254,7 @@ trimmed_then Law m first next one two =
       now = two.now ∙ one.now;
       counted = subst (λ s. counted_in second.machine ≤ s.hard) one.settings two.counted;
       late = omega (arith, one.late, two.late);
+      classes = λ h. two.classes (one.classes h);
       ties = λ h. two.ties (one.ties h);
       lawful = λ h. all-appended Law first.moves second.moves (one.lawful h) (two.lawful (one.ties h));
       accounted = accounts_then m first next one.accounted two.accounted;
@@ -264,6 +271,7 @@ raised_then_trimmed Law m first next raised obeys trimmed =
       now = trimmed.now ∙ raised.now;
       counted = subst (λ s. counted_in second.machine ≤ s.hard) raised.settings trimmed.counted;
       late = omega (arith, trimmed.late, raised.late);
+      classes = λ h. trimmed.classes (raised.classes h);
       ties = λ h. trimmed.ties (raised.ties h);
       lawful = λ h. all-appended Law first.moves second.moves obeys.lawful (trimmed.lawful (raised.ties h));
       accounted = accounts_then m first next obeys.accounted trimmed.accounted;
@@ -282,6 +290,7 @@ raised_twice_then_trimmed Law m first next last raised one two trimmed =
       now = trimmed.now ∙ raised.now;
       counted = subst (λ s. counted_in third.machine ≤ s.hard) raised.settings trimmed.counted;
       late = omega (arith, trimmed.late, raised.late);
+      classes = λ h. trimmed.classes (raised.classes h);
       ties = λ h. trimmed.ties (raised.ties h);
       lawful = λ h. all-appended Law first.moves (second.moves ++ third.moves) one.lawful
           (all-appended Law second.moves third.moves two.lawful (trimmed.lawful (raised.ties h)));
@@ -300,20 +309,23 @@ as_move-trimmed Law happened m effect h law =
       now = h.now;
       counted = h.counted;
       late = h.late;
+      classes = h.classes;
       ties = h.ties;
       lawful = λ ties. all-appended Law effect.moves (move ∷ []) (h.lawful ties) (law ties, tt);
       accounted = accounts_move happened m effect h.accounted;
     }
 
-pub for_each-trimmed : {X : Type 0} (Law : Move → Type 0) (act : X → Machine → Effect) (xs : List X) →
-    AllByRecursion (λ x. (m : Machine) → IsOrdered m → counted_in m ≤ m.settings.hard → Trimmed Law m (act x m)) xs →
-    (m : Machine) → IsOrdered m → counted_in m ≤ m.settings.hard → Trimmed Law m (for_each act xs m)
+-- one part for each of a list, which may need something of each
+pub for_each_that-trimmed : {X : Type 0} (Law : Move → Type 0) (P : Settings → X → Type 0) (act : X → Machine → Effect) →
+    ((x : X) (m : Machine) → IsOrdered m → counted_in m ≤ m.settings.hard → P m.settings x → Trimmed Law m (act x m)) →
+    (xs : List X) (m : Machine) → IsOrdered m → counted_in m ≤ m.settings.hard → All (P m.settings) xs → Trimmed Law m (for_each act xs m)
 unfolding for_each
-for_each-trimmed Law act [] each m h within = nothing-trimmed Law m within h
-for_each-trimmed Law act (x ∷ xs) each m h within =
-    let first : Trimmed Law m (act x m) = each.0 m h within in
+for_each_that-trimmed Law P act each [] m h within all = nothing-trimmed Law m within h
+for_each_that-trimmed Law P act each (x ∷ xs) m h within all =
+    let first : Trimmed Law m (act x m) = each x m h within (All-head (P m.settings) x xs all) in
     trimmed_then Law m (act x m) (for_each act xs) first
-    (for_each-trimmed Law act xs each.1 (act x m).machine first.ordered (trimmed-within Law m (act x m) first))
+    (for_each_that-trimmed Law P act each xs (act x m).machine first.ordered (trimmed-within Law m (act x m) first)
+    (subst (λ s. All (P s) xs) (sym first.settings) (All-tail (P m.settings) x xs all)))
 
 -- every move keeps another law that the first one and a second one give
 pub trimmed_both : (P Q R : Move → Type 0) → ((move : Move) → P move → Q move → R move) → (m : Machine) (effect : Effect) → Trimmed P m effect →
@@ -324,6 +336,7 @@ trimmed_both P Q R gives m effect h also = record {
   now = h.now;
   counted = h.counted;
   late = h.late;
+  classes = h.classes;
   ties = h.ties;
   lawful = λ ties. all-both P Q R gives effect.moves (h.lawful ties) also;
   accounted = h.accounted;

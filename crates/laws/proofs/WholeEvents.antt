@@ -1,5 +1,5 @@
 -- Each event of the whole machine.
-use Rattle.std.proofs.Common.{ℕ, zero, suc, ◌+◌, ◌≤◌, ◌≡◌, Bool, true, false, cond, nat_le, if◌then◌else◌, List, [], ◌∷◌, length, Option, Some, None, refl, sym, ap, ◌∙◌, subst, arith, leb-false}
+use Rattle.std.proofs.Common.{ℕ, zero, suc, ◌+◌, ◌≤◌, ◌≡◌, Bool, true, false, cond, nat_le, if◌then◌else◌, List, [], ◌∷◌, length, All, Option, Some, None, refl, sym, ap, ◌∙◌, subst, arith, leb-false}
 use Rattle.std.proofs.lemmas.Bool.{cond_both, both_ways, and_parts, false≢true}
 use Rattle.std.proofs.lemmas.List.Elements.{All-push}
 use Rattle.net_base.specs.Address.{same_address, address_below}
@@ -37,7 +37,9 @@ use Rattle.machine.specs.Provided.{targets_are, big_targets_are, comes_ordinary,
 use Rattle.machine.specs.Stream.{bytes_come_in}
 use Rattle.machine.specs.Whole.{whole_step}
 use Rattle.laws.specs.AtMoves.{IsLawful, faults_of}
-use Rattle.laws.specs.Whole.{IsShaped, IsFormed, IsSteady, TiedBy, IsTied}
+use Rattle.laws.specs.Whole.{IsShaped, IsFormed, IsSteady, TiedBy, IsTied, AreApart, IsOwing}
+use Rattle.govern_rules.specs.Rules.{is_not_local}
+use Rattle.laws.specs.Laws.{LocalsAreOrdinary}
 use Rattle.laws.proofs.Addresses.{same_address-true}
 use Rattle.laws.proofs.Entries.{TurnsInto}
 use Rattle.laws.proofs.Firing.{Due, due_of}
@@ -47,52 +49,89 @@ use Rattle.laws.proofs.GroupsApart.{cleaned-apart}
 use Rattle.laws.proofs.Counts.{counted_of, late_in, counted-expired, counted-closing, late-expired, late-closing}
 use Rattle.laws.proofs.Effects.{one_if-not_counted}
 use Rattle.laws.proofs.Events.{StaysSound, admitted_entry, at_moment, at_moment-orderly, ahead-none_late, none_late-ahead, peer_connects-sound, clock_shows-sound}
-use Rattle.laws.proofs.Keeping.{IsOrdered, Keeps, keeps_nothing, keeps_then, moves-keeps, turns-moves, goes-moves, elsewhere-keeps, changes-keeps, peer_comes-keeps, for_each-keeps}
+use Rattle.laws.proofs.Keeping.{IsOrdered, Keeps, keeps_nothing, keeps_then, moves-keeps, turns-moves, goes-moves, elsewhere-keeps, changes-keeps, peer_comes-keeps, for_each-keeps, for_each_that-keeps}
 use Rattle.laws.proofs.Lawful.{no_faults}
 use Rattle.laws.proofs.Lists.{StandsAt, find_some}
+use Rattle.laws.proofs.Ordinary.{members-classes, connects-classes}
+use Rattle.laws.proofs.Owing.{nothing-owing, alike-owing}
+use Rattle.laws.proofs.OwnAddress.{IsOther, members-other, publics-other, wanted-other, wanted-not_local}
 use Rattle.laws.proofs.Settings.{timewait-positive}
 use Rattle.laws.proofs.Shapes.{accepted-shaped, expired-shaped, closing-shaped}
 use Rattle.laws.proofs.Streams.{bytes_come_in-trimmed}
-use Rattle.laws.proofs.Trims.{Trimmed}
-use Rattle.laws.proofs.WholeMoves.{ending-keeps, overwritten-keeps, vanishes-keeps, connects-keeps, stands-shaped, alike-ties}
+use Rattle.laws.proofs.Trims.{Trimmed, keeps-trimmed}
+use Rattle.laws.proofs.WholeMoves.{ending-keeps, overwritten-keeps, vanishes-keeps, connects-keeps, stands-shaped, alike-ties, stands-owing}
 
 -- ---- what is set and provided
 
-comes_ordinary-keeps : (addr : Addr) (m : Machine) → IsOrdered m → Keeps 0 m (comes_ordinary addr m).machine
-comes_ordinary-keeps addr m h = peer_comes-keeps false addr m h
+comes_ordinary-keeps : (addr : Addr) (m : Machine) → IsOrdered m → IsOther m.settings addr → Keeps 0 m (comes_ordinary addr m).machine
+comes_ordinary-keeps addr m h other = peer_comes-keeps false addr m h other (λ local. refl)
 
 ordinary-keeps : (addr : Addr) (m : Machine) → IsOrdered m → Keeps 0 m (peer_is_ordinary addr m).machine
-ordinary-keeps addr m h = changes-keeps addr (λ p. record p { big = false }) m (λ p. refl) (λ p tie. same_peer p (live_entry_at addr m) tie) h
+ordinary-keeps addr m h = changes-keeps addr (λ p. record p { big = false }) m (λ p. refl) (λ p ordinary. refl) (λ p tie. same_peer p (live_entry_at addr m) tie) h
   where
     same_peer : (p : Peer) (o : Option Entry) → TiedBy m.now (Some p) o → TiedBy m.now (Some (record p { big = false })) o
     same_peer p None tie = tie
     same_peer p (Some e) tie = record { established = tie.established; in_use = tie.in_use; on_its_way = tie.on_its_way; asked = tie.asked }
 
+-- the groups alone are set
+grouped-ordered : (groups : List Group) (m : Machine) → IsOrdered m → AreApart (members_of groups) → IsOrdered (record m { groups = groups })
+grouped-ordered groups m h apart = record {
+  orderly = record {
+    settings = h.orderly.settings;
+    next_id = h.orderly.next_id;
+    ids_given = h.orderly.ids_given;
+    ids_rise = h.orderly.ids_rise;
+    addresses = h.orderly.addresses;
+  };
+  formed = record {
+    shaped = h.formed.shaped;
+    owing = h.formed.owing;
+    peers = h.formed.peers;
+    groups = apart;
+    other_peers = h.formed.other_peers;
+    other_connections = h.formed.other_connections;
+    room = h.formed.room;
+    pending_job = h.formed.pending_job;
+  };
+}
+
 locals-keeps : (groups : List Group) (m : Machine) → IsOrdered m → Keeps 0 m (locals_are groups m).machine
 locals-keeps groups m h =
     let kept : List Group = cleaned m.settings.own groups in
     let n : Machine = record m { groups = kept } in
-    let first : Keeps 0 m n = elsewhere-keeps m.targets m.big_targets kept m.roots m h (cleaned-apart m.settings.own groups) in
     let o : Machine = (for_each peer_is_ordinary (members_of kept) n).machine in
-    let second : Keeps 0 n o = for_each-keeps peer_is_ordinary ordinary-keeps (members_of kept) n first.ordered in
-    let third : Keeps 0 o (for_each comes_ordinary (members_of kept) o).machine = for_each-keeps comes_ordinary comes_ordinary-keeps (members_of kept) o second.ordered in
-    keeps_then 0 0 m n (for_each comes_ordinary (members_of kept) o).machine first
-    (keeps_then 0 0 n o (for_each comes_ordinary (members_of kept) o).machine second third)
+    let p : Machine = (for_each comes_ordinary (members_of kept) o).machine in
+    let first : Keeps 0 n o =
+    for_each-keeps peer_is_ordinary ordinary-keeps (members_of kept) n (grouped-ordered kept m h (cleaned-apart m.settings.own groups)) in
+    let second : Keeps 0 o p = for_each_that-keeps IsOther comes_ordinary comes_ordinary-keeps (members_of kept) o first.ordered
+    (subst (λ s. All (IsOther s) (members_of kept)) (sym first.settings) (members-other m.settings groups)) in
+    let both : Keeps 0 n p = keeps_then 0 0 n o p first second in
+    record {
+      ordered = both.ordered;
+      settings = both.settings;
+      now = both.now;
+      counted = both.counted;
+      late = both.late;
+      classes = λ before. second.classes (members-classes n);
+      ties = both.ties;
+    }
 
 comes_big-keeps : (addr : Addr) (m : Machine) → IsOrdered m → Keeps 0 m (comes_big addr m).machine
-comes_big-keeps addr m h = by_test (is_wanted_big addr m)
+comes_big-keeps addr m h = by_test (is_wanted_big addr m) refl
   where
-    by_test : (b : Bool) → Keeps 0 m (if b then as_move (shared addr) m (peer_comes true addr m) else nothing_more m).machine
-    by_test true = peer_comes-keeps true addr m h
-    by_test false = keeps_nothing m h
+    by_test : (b : Bool) → is_wanted_big addr m ≡ b → Keeps 0 m (if b then as_move (shared addr) m (peer_comes true addr m) else nothing_more m).machine
+    by_test true wanted = peer_comes-keeps true addr m h (wanted-other addr m wanted)
+        (λ local. absurd (both_ways (is_not_local m.groups addr) local (wanted-not_local addr m wanted)))
+    by_test false unwanted = keeps_nothing m h
 
 roots_say-keeps : (answer : RootAnswer) (m : Machine) → IsOrdered m → Keeps 0 m (roots_say answer m).machine
 roots_say-keeps (Found ttl addrs) m h =
     let publics : List Addr = publics_of m.settings.own m.targets.root addrs in
     let n : Machine = record m { roots = found m.now ttl publics m.roots } in
-    let first : Keeps 0 m n = elsewhere-keeps m.targets m.big_targets m.groups (found m.now ttl publics m.roots) m h h.formed.groups in
-    keeps_then 0 0 m n (for_each comes_ordinary publics n).machine first (for_each-keeps comes_ordinary comes_ordinary-keeps publics n first.ordered)
-roots_say-keeps Failed m h = elsewhere-keeps m.targets m.big_targets m.groups (failed m.now m.settings.backoff m.roots) m h h.formed.groups
+    let first : Keeps 0 m n = elsewhere-keeps m.targets m.big_targets (found m.now ttl publics m.roots) m h (λ job never. absurd cc) in
+    keeps_then 0 0 m n (for_each comes_ordinary publics n).machine first
+    (for_each_that-keeps IsOther comes_ordinary comes_ordinary-keeps publics n first.ordered (publics-other m.settings m.targets.root addrs))
+roots_say-keeps Failed m h = elsewhere-keeps m.targets m.big_targets (failed m.now m.settings.backoff m.roots) m h (λ job never. absurd cc)
 
 roots-keeps : (job : Job) (answer : RootAnswer) (m : Machine) → IsOrdered m → Keeps 0 m (roots_answer job answer m).machine
 roots-keeps job answer m h = cond_both (awaits job.0 m.roots) (roots_say answer m) (nothing_more m) (λ effect. Keeps 0 m effect.machine)
@@ -127,19 +166,24 @@ closes-keeps cid m h = by_entry (entry_at cid.0 m) refl
 
 -- ---- a peer connects
 
-admitted-formed : (addr : Addr) (m : Machine) → IsFormed m → IsFormed (admitted addr m).machine
-admitted-formed addr m h = record {
+admitted-formed : (addr : Addr) (m : Machine) → IsOther m.settings addr → IsFormed m → IsFormed (admitted addr m).machine
+admitted-formed addr m other h = record {
   shaped = All-push (λ e. IsShaped e.facts) m.connections (admitted_entry addr m) h.shaped
       (accepted-shaped m.next_id addr (m.now + m.settings.handshake));
+  owing = All-push IsOwing m.connections (admitted_entry addr m) h.owing (nothing-owing (admitted_entry addr m) refl);
   peers = h.peers;
   groups = h.groups;
+  other_peers = h.other_peers;
+  other_connections = All-push (λ e. same_address e.facts.addr m.settings.own ≡ false) m.connections (admitted_entry addr m) h.other_connections other;
+  room = h.room;
+  pending_job = h.pending_job;
 }
 
-crossed-formed : (addr : Addr) (m : Machine) (e : Entry) (k : ℕ) → IsOrdered m → StandsAt m.connections k e → is_pending e.facts ≡ true →
+crossed-formed : (addr : Addr) (m : Machine) (e : Entry) (k : ℕ) → IsOther m.settings addr → IsOrdered m → StandsAt m.connections k e → is_pending e.facts ≡ true →
     IsFormed (crossed addr e m).machine
-crossed-formed addr m e k h s pending = cond_both (address_below addr m.settings.own) (then_do (ending Overwritten e m) (admitted addr)) (turned_away Crossed m)
+crossed-formed addr m e k other h s pending = cond_both (address_below addr m.settings.own) (then_do (ending Overwritten e m) (admitted addr)) (turned_away Crossed m)
     (λ effect. IsFormed effect.machine)
-    (λ below. admitted-formed addr (ending Overwritten e m).machine (overwritten-keeps m e k h s pending).ordered.formed) (λ above. h.formed)
+    (λ below. admitted-formed addr (ending Overwritten e m).machine other (overwritten-keeps m e k h s pending).ordered.formed) (λ above. h.formed)
 
 admitted-ties : (addr : Addr) (m : Machine) → live_entry_at addr m ≡ None → IsTied m → IsTied (admitted addr m).machine
 admitted-ties addr m none ties = come-ties m (admitted_entry addr m) refl none (step (peer_at addr m)) ties
@@ -165,15 +209,15 @@ crossed-ties addr m e k h s pending at ties =
     ((overwritten-keeps m e k h s pending).ties ties))
     (λ above. ties)
 
-beside-formed : (addr : Addr) (m : Machine) → IsOrdered m → IsFormed (accepted_beside (live_entry_at addr m) addr m).machine
-beside-formed addr m h = by_live (live_entry_at addr m) refl
+beside-formed : (addr : Addr) (m : Machine) → IsOther m.settings addr → IsOrdered m → IsFormed (accepted_beside (live_entry_at addr m) addr m).machine
+beside-formed addr m other h = by_live (live_entry_at addr m) refl
   where
     by_live : (o : Option Entry) → live_entry_at addr m ≡ o → IsFormed (accepted_beside o addr m).machine
-    by_live None is = admitted-formed addr m h.formed
+    by_live None is = admitted-formed addr m other h.formed
     by_live (Some e) is =
         let at = find_some (λ y. is_live_at addr y.facts) m.connections e is in
         cond_both (is_pending e.facts) (crossed addr e m) (turned_away Present m) (λ effect. IsFormed effect.machine)
-        (λ pending. crossed-formed addr m e at.place h at.stands pending) (λ other. h.formed)
+        (λ pending. crossed-formed addr m e at.place other h at.stands pending) (λ there. h.formed)
 
 beside-ties : (addr : Addr) (m : Machine) → IsOrdered m → IsTied m → IsTied (accepted_beside (live_entry_at addr m) addr m).machine
 beside-ties addr m h ties = by_live (live_entry_at addr m) refl
@@ -185,15 +229,15 @@ beside-ties addr m h ties = by_live (live_entry_at addr m) refl
         cond_both (is_pending e.facts) (crossed addr e m) (turned_away Present m) (λ effect. IsTied effect.machine)
         (λ pending. crossed-ties addr m e at.place h at.stands pending at.passes ties) (λ other. ties)
 
-through-formed : (g : Gate) (addr : Addr) (m : Machine) → IsOrdered m → IsFormed (accepted_through g addr m).machine
-through-formed Free addr m h = beside-formed addr m h
-through-formed (PauseFor delay) addr m h = beside-formed addr m h
-through-formed NoRoom addr m h = h.formed
+through-formed : (g : Gate) (addr : Addr) (m : Machine) → IsOther m.settings addr → IsOrdered m → IsFormed (accepted_through g addr m).machine
+through-formed Free addr m other h = beside-formed addr m other h
+through-formed (PauseFor delay) addr m other h = beside-formed addr m other h
+through-formed NoRoom addr m other h = h.formed
 
 connects-formed : (addr : Addr) (m : Machine) → IsOrdered m → IsFormed (peer_connects addr m).machine
 connects-formed addr m h = cond_both (same_address addr m.settings.own) (turned_away OwnAddr m)
     (accepted_through (gate_of m.settings (counted_in m)) addr m) (λ effect. IsFormed effect.machine)
-    (λ own. h.formed) (λ other. through-formed (gate_of m.settings (counted_in m)) addr m h)
+    (λ own. h.formed) (λ other. through-formed (gate_of m.settings (counted_in m)) addr m other h)
 
 through-ties : (g : Gate) (addr : Addr) (m : Machine) → IsOrdered m → IsTied m → IsTied (accepted_through g addr m).machine
 through-ties Free addr m h ties = beside-ties addr m h ties
@@ -215,7 +259,8 @@ expires-keeps m e k h s local =
     let late = late-expired m.now e in
     let turns : TurnsInto e new = record { same_id = refl; same_addr = refl; live = λ l. l } in
     moves-keeps 0 m (with_entry new m)
-    (turns-moves 0 m e new k h s turns (expired-shaped e.facts (stands-shaped m e k h s) local) (omega arith) (omega (arith, late)))
+    (turns-moves 0 m e new k h s turns (expired-shaped e.facts (stands-shaped m e k h s) local)
+    (alike-owing e new refl refl refl (stands-owing m e k h s)) (omega arith) (omega (arith, late)))
     (alike-ties m e new k h s turns (record { local = refl; pending = refl; live = refl; asked = λ asked. asked }))
 
 closes_entry-keeps : (m : Machine) (e : Entry) (k : ℕ) → IsOrdered m → StandsAt m.connections k e → e.facts.local ≡ false →
@@ -226,7 +271,8 @@ closes_entry-keeps m e k h s idle =
     let late = late-closing m e (timewait-positive m.settings h.orderly.settings) in
     let turns : TurnsInto e (closing_entry m e) = record { same_id = refl; same_addr = refl; live = λ l. absurd (false≢true l) } in
     moves-keeps 0 m (with_entry (closing_entry m e) m)
-    (turns-moves 0 m e (closing_entry m e) k h s turns (closing-shaped until e.facts) (omega arith) (omega (arith, late)))
+    (turns-moves 0 m e (closing_entry m e) k h s turns (closing-shaped until e.facts)
+    (nothing-owing (closing_entry m e) ((stands-owing m e k h s).used idle)) (omega arith) (omega (arith, late)))
     (turned-ties m e (closing_entry m e) k h.orderly s turns (λ live o tie. gone o tie))
   where
     gone : (o : Option Peer) → TiedBy m.now o (Some e) → TiedBy m.now o None
@@ -276,7 +322,16 @@ fire_due-keeps (suc n) m h = by_due (due m) refl (fire_due-keeps n)
         keeps_then 0 0 m (fires d m).machine (fire_due n (fires d m).machine).machine first (later (fires d m).machine first.ordered)
 
 pub formed_at_moment : (t : ℕ) (m : Machine) → IsFormed m → IsFormed (at_moment t m)
-formed_at_moment t m h = record { shaped = h.shaped; peers = h.peers; groups = h.groups }
+formed_at_moment t m h = record {
+  shaped = h.shaped;
+  owing = h.owing;
+  peers = h.peers;
+  groups = h.groups;
+  other_peers = h.other_peers;
+  other_connections = h.other_connections;
+  room = h.room;
+  pending_job = h.pending_job;
+}
 
 clock-formed : (t : ℕ) (m : Machine) → IsOrdered m → IsFormed (clock_shows t m).machine
 clock-formed t m h =
@@ -302,6 +357,12 @@ clock-ties t m h ties =
     (λ later. (fire_due-keeps (length (deadlines n)) n (record { orderly = at_moment-orderly t m h.orderly; formed = formed_at_moment t m h.formed })).ties
     (λ b. later-tied m.now t (peer_at b m) (live_entry_at b m) (let above = leb-false t m.now later in omega (arith, above)) (ties b)))
 
+clock-classes : (t : ℕ) (m : Machine) → IsOrdered m → LocalsAreOrdinary m → LocalsAreOrdinary (clock_shows t m).machine
+clock-classes t m h locals =
+    let n : Machine = at_moment t m in
+    cond_both (nat_le t m.now) (nothing_more m) (fire_all n) (λ effect. LocalsAreOrdinary effect.machine) (λ past. locals)
+    (λ later. (fire_due-keeps (length (deadlines n)) n (record { orderly = at_moment-orderly t m h.orderly; formed = formed_at_moment t m h.formed })).classes locals)
+
 -- ---- each event
 
 -- what an event does to a steady record
@@ -313,8 +374,8 @@ pub ordered_of : (m : Machine) → IsSteady m → IsOrdered m
 ordered_of m h = record { orderly = h.sound.orderly; formed = h.formed }
 
 steady_after : (m n : Machine) → IsSteady m → IsOrdered n → n.settings ≡ m.settings → counted_in n ≤ m.settings.hard → late_in n ≤ late_in m → IsTied n →
-    StaysSteady m n
-steady_after m n h ordered settings counted late tied =
+    LocalsAreOrdinary n → StaysSteady m n
+steady_after m n h ordered settings counted late tied locals =
     let none : late_in m ≡ 0 = ahead-none_late m h.sound.deadlines in
     record {
       steady = record {
@@ -325,28 +386,31 @@ steady_after m n h ordered settings counted late tied =
         };
         formed = ordered.formed;
         tied = tied;
+        locals = locals;
       };
       settings = settings;
     }
 
 trimmed-steady : (Law : Move → Type 0) (m : Machine) (effect : Effect) → IsSteady m → Trimmed Law m effect → StaysSteady m effect.machine
-trimmed-steady Law m effect h t = steady_after m effect.machine h t.ordered t.settings t.counted t.late (t.ties h.tied)
+trimmed-steady Law m effect h t = steady_after m effect.machine h t.ordered t.settings t.counted t.late (t.ties h.tied) (t.classes h.locals)
 
 kept-steady : (m n : Machine) → IsSteady m → Keeps 0 m n → StaysSteady m n
-kept-steady m n h k = steady_after m n h k.ordered k.settings (omega (arith, k.counted, h.sound.counted)) k.late (k.ties h.tied)
+kept-steady m n h k = steady_after m n h k.ordered k.settings (omega (arith, k.counted, h.sound.counted)) k.late (k.ties h.tied) (k.classes h.locals)
 
-stays-steady : (m n : Machine) → StaysSound m n → IsFormed n → IsTied n → StaysSteady m n
-stays-steady m n sound formed tied = record { steady = record { sound = sound.sound; formed = formed; tied = tied }; settings = sound.settings }
+stays-steady : (m n : Machine) → StaysSound m n → IsFormed n → IsTied n → LocalsAreOrdinary n → StaysSteady m n
+stays-steady m n sound formed tied locals = record { steady = record { sound = sound.sound; formed = formed; tied = tied; locals = locals }; settings = sound.settings }
 
 pub whole_step-steady : (m : Machine) (event : Event) → IsSteady m → StaysSteady m (whole_step m event).machine
 whole_step-steady m (Now t) h = stays-steady m (clock_shows t m).machine (clock_shows-sound t m h.sound) (clock-formed t m (ordered_of m h)) (clock-ties t m (ordered_of m h) h.tied)
+    (clock-classes t m (ordered_of m h) h.locals)
 whole_step-steady m (Govern word) h = trimmed-steady (IsLawful no_faults) m (govern word m) h (govern-trimmed no_faults word m (ordered_of m h) h.sound.counted)
 whole_step-steady m (Accepted addr) h = stays-steady m (peer_connects addr m).machine (peer_connects-sound addr m h.sound) (connects-formed addr m (ordered_of m h)) (connects-ties addr m (ordered_of m h) h.tied)
+    (connects-classes addr m h.locals)
 whole_step-steady m (Dialed cid opened) h = kept-steady m (dial_ends cid opened m).machine h (dial_ends-keeps cid opened m (ordered_of m h))
 whole_step-steady m (Bytes cid bytes) h = trimmed-steady (IsLawful (faults_of m (Bytes cid bytes))) m (bytes_come_in cid bytes m) h (bytes_come_in-trimmed cid bytes m (ordered_of m h) h.sound.counted)
 whole_step-steady m (Closed cid) h = kept-steady m (peer_closes cid m).machine h (closes-keeps cid m (ordered_of m h))
-whole_step-steady m (Aims targets) h = kept-steady m (targets_are targets m).machine h (elsewhere-keeps targets m.big_targets m.groups m.roots m (ordered_of m h) h.formed.groups)
+whole_step-steady m (Aims targets) h = kept-steady m (targets_are targets m).machine h (elsewhere-keeps targets m.big_targets m.roots m (ordered_of m h) h.formed.pending_job)
 whole_step-steady m (Locals groups) h = kept-steady m (locals_are groups m).machine h (locals-keeps groups m (ordered_of m h))
 whole_step-steady m (Roots job answer) h = kept-steady m (roots_answer job answer m).machine h (roots-keeps job answer m (ordered_of m h))
-whole_step-steady m (BigAims targets) h = kept-steady m (big_targets_are targets m).machine h (elsewhere-keeps m.targets targets m.groups m.roots m (ordered_of m h) h.formed.groups)
+whole_step-steady m (BigAims targets) h = kept-steady m (big_targets_are targets m).machine h (elsewhere-keeps m.targets targets m.roots m (ordered_of m h) h.formed.pending_job)
 whole_step-steady m (Bigs addrs) h = kept-steady m (bigs_are addrs m).machine h (for_each-keeps comes_big comes_big-keeps addrs m (ordered_of m h))

@@ -1,5 +1,5 @@
 -- The moves of connections in the whole machine: what each keeps, and by how much it may raise the counted ones.
-use Rattle.std.proofs.Common.{ℕ, ◌+◌, ◌%◌, ◌≤◌, ◌≡◌, Bool, true, false, ◌&&◌, ◌||◌, nat_le, nat_lt, not, cond, ◌==◌, if◌then◌else◌, count_by, List, [], ◌∷◌, ◌++◌, Option, Some, None, is_some, find, filter, subst, refl, sym, ap, ◌∙◌, arith}
+use Rattle.std.proofs.Common.{ℕ, ◌+◌, ◌%◌, ◌≤◌, ◌≡◌, Bool, true, false, ◌&&◌, ◌||◌, nat_le, ◌==◌, if◌then◌else◌, count_by, Option, Some, None, is_some, subst, refl, sym, ap, ◌∙◌, arith}
 use Rattle.std.proofs.lemmas.Bool.{cond_both, both_ways, and_parts, and_from, false≢true, false_from_ne_true}
 use Rattle.net_base.specs.declared.action.CloseCause.{CloseCause}
 use Rattle.net_base.specs.declared.action.CloseCause.TheVariants.{Overwritten}
@@ -18,20 +18,21 @@ use Rattle.net_base.specs.declared.settings.Field.TheVariants.{Version}
 use Rattle.net_base.specs.Bounds.{AreSound, settings_tests}
 use Rattle.net_base.specs.Peer.{failed_peer}
 use Rattle.conn_state.specs.Moves.{connected, agreed_inbound, agreed_outbound, acquired, released, awakened, idled}
-use Rattle.conn_state.specs.Use.{is_pending, opening_phase, is_negotiated, is_negotiated_phase, is_dialing, is_dialing_phase, is_greeting, is_greeting_phase, live_phase, is_outbound, is_for_remote, some_runs, is_acquirable, is_live}
-use Rattle.machine.specs.Machine.{Machine, Entry, Owed, live_entry_at}
+use Rattle.conn_state.specs.Use.{agreed_sharing, is_pending, opening_phase, is_negotiated, is_negotiated_phase, is_dialing, is_dialing_phase, is_greeting, is_greeting_phase, live_phase, is_outbound, is_for_remote, some_runs, is_acquirable, is_live}
+use Rattle.machine.specs.Machine.{Machine, Entry, live_entry_at}
 use Rattle.machine.specs.Effect.{nothing_more}
 use Rattle.machine.specs.Peers.{peer_at, peer_fails, peer_succeeds}
-use Rattle.machine.specs.Replies.{reply_on, with_reply, owing, paid}
+use Rattle.machine.specs.Replies.{reply_on, owing, paid}
 use Rattle.machine.specs.Connections.{with_entry, without_entry, is_missed, lost, lost_by, ending, vanishes, is_used, is_agreed_inbound, is_agreed_outbound, acquire, idle}
 use Rattle.laws.specs.AtMoves.{IsReady}
-use Rattle.laws.specs.Whole.{IsShaped, IsUnused, AreTied, TiedBy, IsTied}
+use Rattle.laws.specs.Whole.{IsShaped, IsUnused, AreTied, TiedBy, IsTied, is_owed_on, IsOwing}
 use Rattle.machine.specs.Deadlines.{grace_deadlines}
 use Rattle.laws.proofs.Counts.{counted_of, one_if_counted, is_late, grace_late_of}
 use Rattle.laws.proofs.Effects.{at_most_one, one_if-counted, one_if-not_counted, counted-connected, counted-greeting, counted-agreed_outbound, fewer-acquired, counted-running, phase_late_of, owed_late, late-fewer, ahead, phase-ahead, remote-ahead, local-ahead, owing-fewer, paid-fewer}
 use Rattle.laws.proofs.Entries.{TurnsInto}
 use Rattle.laws.proofs.Keeping.{IsOrdered, Moves, Keeps, moves_nothing, moves_then, moves-keeps, turns-moves, goes-moves, changes-moves}
 use Rattle.laws.proofs.Lists.{StandsAt, All-stands}
+use Rattle.laws.proofs.Owing.{OwesNothing, nothing-owing, nothing_owed, alike-owing, paid-owing, owing-owing, with_reply-some, paid-some}
 use Rattle.laws.proofs.Ties.{turned-ties, gone-ties, changed-ties, gone_here, gone_elsewhere, tied_but, turned_here, turned_elsewhere, turned_dead, live_here}
 use Rattle.laws.proofs.Settings.{first_failing-none, interval-positive, handshake-positive}
 use Rattle.laws.proofs.Shapes.{connected-shaped, agreed_inbound-shaped, agreed_outbound-shaped, acquired-shaped, released-shaped, awakened-shaped, idled-shaped, running-negotiated, greeting-unnegotiated, serves_remote, can_acquire}
@@ -49,6 +50,10 @@ reply-positive s h = interval-positive s.reply (first_failing-none (settings_tes
 -- what stands is in shape
 pub stands-shaped : (m : Machine) (e : Entry) (k : ℕ) → IsOrdered m → StandsAt m.connections k e → IsShaped e.facts
 stands-shaped m e k h s = All-stands (λ x. IsShaped x.facts) m.connections k e s h.formed.shaped
+
+-- and owes only what it may
+pub stands-owing : (m : Machine) (e : Entry) (k : ℕ) → IsOrdered m → StandsAt m.connections k e → IsOwing e
+stands-owing m e k h s = All-stands IsOwing m.connections k e s h.formed.owing
 
 and_false_right : (a b : Bool) → b ≡ false → (a && b) ≡ false
 and_false_right true b h = h
@@ -88,7 +93,7 @@ not_missed-unused f h = by_local f.local h
 
 pub lost-moves : (f : Facts) (m : Machine) → IsOrdered m → Moves 0 m (lost f m).machine
 lost-moves f m h = cond_both (is_missed f) (peer_fails f.addr m) (nothing_more m) (λ effect. Moves 0 m effect.machine)
-    (λ missed. changes-moves f.addr (failed_peer m.now m.settings.backoff) m h) (λ other. moves_nothing m h)
+    (λ missed. changes-moves f.addr (failed_peer m.now m.settings.backoff) m (λ p. refl) (λ p ordinary. ordinary) h) (λ other. moves_nothing m h)
 
 lost-ties : (m : Machine) (e : Entry) (k : ℕ) → IsOrdered m → StandsAt m.connections k e → IsTied m →
     IsTied (lost e.facts (without_entry e.facts.cid.0 m)).machine
@@ -133,59 +138,6 @@ pub vanishes-keeps : (m : Machine) (e : Entry) (k : ℕ) → IsOrdered m → Sta
 vanishes-keeps m e k h s = gone_lost-keeps m e k h s
 
 -- ---- a connection turns
-
--- it stays the same connection, and live where it was
-pub same_entry : (e : Entry) (f : Facts) → f.cid ≡ e.facts.cid → f.addr ≡ e.facts.addr →
-    (is_live f ≡ true → is_live e.facts ≡ true) → (new : Entry) → new.facts ≡ f → TurnsInto e new
-same_entry e f cid addr live new is = record {
-  same_id = ap (λ g. g.cid) is ∙ cid;
-  same_addr = ap (λ g. g.addr) is ∙ addr;
-  live = λ l. live (ap is_live (sym is) ∙ l);
-}
-
--- a reply on chain-sync that is owed after a change was owed before it
-some_filter : {X : Type 0} (q r : X → Bool) (xs : List X) → is_some (find q (filter r xs)) ≡ true → is_some (find q xs) ≡ true
-some_filter q r [] h = h
-some_filter {X} q r (x ∷ xs) h = by_kept (r x) h (some_filter q r xs)
-  where
-    either : (b : Bool) → is_some (find q xs) ≡ true → is_some (cond b (Some x) (find q xs)) ≡ true
-    either true rest = refl
-    either false rest = rest
-
-    by_found : (b : Bool) → is_some (cond b (Some x) (find q (filter r xs))) ≡ true → (is_some (find q (filter r xs)) ≡ true → is_some (find q xs) ≡ true) →
-        is_some (cond b (Some x) (find q xs)) ≡ true
-    by_found true h later = refl
-    by_found false h later = later h
-
-    by_kept : (b : Bool) → is_some (find q (cond b (x ∷ filter r xs) (filter r xs))) ≡ true →
-        (is_some (find q (filter r xs)) ≡ true → is_some (find q xs) ≡ true) → is_some (find q (x ∷ xs)) ≡ true
-    by_kept true h later = by_found (q x) h later
-    by_kept false h later = either (q x) (later h)
-
-some_append : {X : Type 0} (Z : Type 0) (q : X → Bool) (xs ys : List X) → (is_some (find q xs) ≡ true → Z) → (is_some (find q ys) ≡ true → Z) →
-    is_some (find q (xs ++ ys)) ≡ true → Z
-some_append Z q [] ys front behind h = behind h
-some_append {X} Z q (x ∷ xs) ys front behind h = by_test (q x) front h (some_append Z q xs ys)
-  where
-    by_test : (b : Bool) → (is_some (cond b (Some x) (find q xs)) ≡ true → Z) → is_some (cond b (Some x) (find q (xs ++ ys))) ≡ true →
-        ((is_some (find q xs) ≡ true → Z) → (is_some (find q ys) ≡ true → Z) → is_some (find q (xs ++ ys)) ≡ true → Z) → Z
-    by_test true front h later = front refl
-    by_test false front h later = later front behind h
-
-with_reply-asked : (new : Owed) (owed : List Owed) → (new.protocol == 2) ≡ false →
-    is_some (find (λ o. o.protocol == 2) (with_reply new owed)) ≡ true → is_some (find (λ o. o.protocol == 2) owed) ≡ true
-with_reply-asked new owed other h =
-    some_append (is_some (find (λ o. o.protocol == 2) owed) ≡ true) (λ o. o.protocol == 2)
-    (filter (λ o. nat_lt o.protocol new.protocol) owed) (new ∷ filter (λ o. nat_lt new.protocol o.protocol) owed)
-    (some_filter (λ o. o.protocol == 2) (λ o. nat_lt o.protocol new.protocol) owed) (λ found. behind (new.protocol == 2) other found) h
-  where
-    behind : (b : Bool) → b ≡ false → is_some (cond b (Some new) (find (λ o. o.protocol == 2) (filter (λ o. nat_lt new.protocol o.protocol) owed))) ≡ true →
-        is_some (find (λ o. o.protocol == 2) owed) ≡ true
-    behind true other found = absurd (false≢true (sym other))
-    behind false other found = some_filter (λ o. o.protocol == 2) (λ o. nat_lt new.protocol o.protocol) owed found
-
-paid-asked : (protocol : ℕ) (e : Entry) → is_some (reply_on 2 (paid protocol e)) ≡ true → is_some (reply_on 2 e) ≡ true
-paid-asked protocol e h = some_filter (λ o. o.protocol == 2) (λ o. not (o.protocol == protocol)) e.owed h
 
 -- what is as it was for its peer
 pub record IsAlike (old new : Entry) : Type 0 where
@@ -250,7 +202,8 @@ connects-keeps m e k h s dials =
     let pending : is_pending e.facts ≡ true = and_from (is_outbound e.facts) (opening_phase e.facts.phase) (shape.dialing dials) (dialing-opening e.facts.phase dials) in
     let still : is_pending new.facts ≡ true = and_from (is_outbound e.facts) true (shape.dialing dials) refl in
     moves-keeps 0 m (with_entry new m)
-    (turns-moves 0 m e new k h s turns (connected-shaped until e.facts shape dials) (omega arith)
+    (turns-moves 0 m e new k h s turns (connected-shaped until e.facts shape dials)
+    (alike-owing e new refl refl refl (stands-owing m e k h s)) (omega arith)
     (late-fewer m.now e new (omega arith) (omega arith) (omega arith)))
     (alike-ties m e new k h s turns (record { local = refl; pending = still ∙ sym pending; live = sym live; asked = λ asked. asked }))
 
@@ -269,7 +222,8 @@ agrees_inbound-keeps agreed m e k h s greets inbound =
     let idle : is_pending e.facts ≡ false = ap (λ b. b && opening_phase e.facts.phase) inbound in
     let still : is_pending new.facts ≡ false = ap (λ b. b && false) inbound in
     moves-keeps 0 m (with_entry new m)
-    (turns-moves 0 m e new k h s turns (agreed_inbound-shaped agreed until e.facts shape greets inbound) (omega arith)
+    (turns-moves 0 m e new k h s turns (agreed_inbound-shaped agreed until e.facts shape greets inbound)
+    (nothing-owing new ((stands-owing m e k h s).used (shape.unused (greeting-unnegotiated e.facts.phase greets)).local)) (omega arith)
     (late-fewer m.now e new (omega arith) (omega arith) (omega arith)))
     (alike-ties m e new k h s turns (record { local = refl; pending = still ∙ sym idle; live = sym live; asked = λ asked. asked }))
 
@@ -278,6 +232,7 @@ record Uses (m : Machine) (e : Entry) (f : Facts) : Type 0 where
   cid : f.cid ≡ e.facts.cid
   addr : f.addr ≡ e.facts.addr
   was_live : is_live e.facts ≡ true
+  unused : e.facts.local ≡ false
   live : is_live f ≡ true
   local : f.local ≡ true
   shaped : IsShaped f
@@ -297,7 +252,9 @@ used-keeps f m e k h s u =
     let same : owed_late m.now f.cid e.owed ≡ owed_late m.now e.facts.cid e.owed = ap (λ c. owed_late m.now c e.owed) u.cid in
     let fewer = u.fewer in
     let turns : TurnsInto e new = record { same_id = u.cid; same_addr = u.addr; live = λ l. u.was_live } in
-    let turned : Moves 0 m n = turns-moves 0 m e new k h s turns u.shaped (omega (arith, fewer))
+    let turned : Moves 0 m n = turns-moves 0 m e new k h s turns u.shaped
+    (owing-owing 8 cookie m (record e { facts = f }) refl u.local (λ on_10. absurd (false≢true on_10))
+    (nothing-owing (record e { facts = f }) ((stands-owing m e k h s).used u.unused))) (omega (arith, fewer))
     (late-fewer m.now e new u.phase u.grace (omega (arith, owed, same))) in
     let warm : Peer → Peer = λ p. record p { temp = Warm; failures = 0 } in
     let here : live_entry_at e.facts.addr n ≡ Some new =
@@ -305,7 +262,7 @@ used-keeps f m e k h s u =
     let was : live_entry_at e.facts.addr m ≡ Some e = live_here m e k h.orderly s u.was_live in
     subst (λ a. Keeps 0 m (peer_succeeds a n).machine) (sym u.addr)
     (moves-keeps 0 m (peer_succeeds e.facts.addr n).machine
-    (moves_then 0 0 m n (peer_succeeds e.facts.addr n).machine turned (changes-moves e.facts.addr warm n turned.ordered))
+    (moves_then 0 0 m n (peer_succeeds e.facts.addr n).machine turned (changes-moves e.facts.addr warm n (λ p. refl) (λ p ordinary. ordinary) turned.ordered))
     (changed-ties e.facts.addr warm m n (λ p. refl) refl refl (turned_elsewhere m e new k h.orderly s turns)
     (λ none alone. nobody (u.ready None none (subst (λ o. TiedBy m.now None o) was alone)))
     (λ p found tie. subst (λ o. TiedBy m.now (Some (warm p)) o) (sym here)
@@ -327,6 +284,7 @@ acquire-keeps m e k h s may ready =
       cid = refl;
       addr = refl;
       was_live = live;
+      unused = (can_acquire e.facts may).idle;
       live = live;
       local = refl;
       shaped = acquired-shaped e.facts shape may;
@@ -358,6 +316,7 @@ agrees_outbound-keeps agreed m e k h s greets outbound =
       cid = refl;
       addr = refl;
       was_live = live;
+      unused = unused.local;
       live = refl;
       local = refl;
       shaped = agreed_outbound-shaped agreed until e.facts shape greets outbound;
@@ -386,7 +345,8 @@ awakes-keeps protocol m e k h s negotiated serves runs =
     let after : counted_of new ≤ 1 = at_most_one new.facts in
     moves-keeps 1 m (with_entry new m)
     (turns-moves 1 m e new k h s (record { same_id = refl; same_addr = refl; live = λ l. l })
-    (awakened-shaped protocol e.facts (stands-shaped m e k h s) negotiated serves runs) (omega arith)
+    (awakened-shaped protocol e.facts (stands-shaped m e k h s) negotiated serves runs)
+    (alike-owing e new refl refl refl (stands-owing m e k h s)) (omega arith)
     (late-fewer m.now e new (omega arith) (omega arith) (omega arith)))
     (alike-ties m e new k h s (record { same_id = refl; same_addr = refl; live = λ l. l }) (record { local = refl; pending = refl; live = refl; asked = λ asked. asked }))
 
@@ -408,7 +368,7 @@ idles-keeps protocol m e k h s runs =
     idled_grace-late m.now until e.facts.cid (some_runs new.facts.running) e.facts.grace (ahead m.now m.settings.idle (idle-positive m.settings h.orderly.settings)) in
     moves-keeps 0 m (with_entry new m)
     (turns-moves 0 m e new k h s (record { same_id = refl; same_addr = refl; live = λ l. l })
-    (idled-shaped protocol until e.facts shape runs) (omega arith)
+    (idled-shaped protocol until e.facts shape runs) (alike-owing e new refl refl refl (stands-owing m e k h s)) (omega arith)
     (late-fewer m.now e new (omega arith) grace (omega arith)))
     (alike-ties m e new k h s (record { same_id = refl; same_addr = refl; live = λ l. l }) (record { local = refl; pending = refl; live = refl; asked = λ asked. asked }))
 
@@ -417,17 +377,18 @@ released_grace-late : (now until : ℕ) (cid : Cid) (stays : Bool) (grace : Grac
 released_grace-late now until cid true grace later = omega arith
 released_grace-late now until cid false grace later = let none = local-ahead now until cid later in omega (arith, none)
 
--- this node gives a connection out of its use: one more may be counted
-pub releases-moves : (m : Machine) (e : Entry) (k : ℕ) → IsOrdered m → StandsAt m.connections k e → e.facts.local ≡ true →
+-- this node gives a connection out of its use, where nothing is owed: one more may be counted
+pub releases-moves : (m : Machine) (e : Entry) (k : ℕ) → IsOrdered m → StandsAt m.connections k e → e.facts.local ≡ true → OwesNothing e →
     Moves 1 m (with_entry (record e { facts = released (m.now + m.settings.idle) e.facts }) m)
-releases-moves m e k h s local =
+releases-moves m e k h s local owes =
     let until : ℕ = m.now + m.settings.idle in
     let new : Entry = record e { facts = released until e.facts } in
     let after : counted_of new ≤ 1 = at_most_one new.facts in
     let grace : grace_late_of m.now new ≤ grace_late_of m.now e =
     released_grace-late m.now until e.facts.cid (some_runs e.facts.running || is_for_remote e.facts.grace) e.facts.grace (ahead m.now m.settings.idle (idle-positive m.settings h.orderly.settings)) in
     turns-moves 1 m e new k h s (record { same_id = refl; same_addr = refl; live = λ l. l })
-    (released-shaped until e.facts (stands-shaped m e k h s) local) (omega arith)
+    (released-shaped until e.facts (stands-shaped m e k h s) local)
+    (nothing-owing new (nothing_owed e (stands-owing m e k h s) owes)) (omega arith)
     (late-fewer m.now e new (omega arith) grace (omega arith))
 
 -- a reply is paid
@@ -436,32 +397,38 @@ pub pays-keeps : (protocol : ℕ) (m : Machine) (e : Entry) (k : ℕ) → IsOrde
 pays-keeps protocol m e k h s =
     moves-keeps 0 m (with_entry (paid protocol e) m)
     (turns-moves 0 m e (paid protocol e) k h s (record { same_id = refl; same_addr = refl; live = λ l. l })
-    (stands-shaped m e k h s) (omega arith)
+    (stands-shaped m e k h s) (paid-owing protocol e (stands-owing m e k h s)) (omega arith)
     (late-fewer m.now e (paid protocol e) (omega arith) (omega arith) (paid-fewer m.now protocol e.facts.cid e.owed)))
     (alike-ties m e (paid protocol e) k h s (record { same_id = refl; same_addr = refl; live = λ l. l })
-    (record { local = refl; pending = refl; live = refl; asked = paid-asked protocol e }))
+    (record { local = refl; pending = refl; live = refl; asked = paid-some (λ o. o.protocol == 2) protocol e.owed }))
+
+-- what may be asked on a protocol, and where
+pub record MayOwe (protocol : ℕ) (e : Entry) : Type 0 where
+  pub known : is_owed_on protocol ≡ true
+  pub local : e.facts.local ≡ true
+  pub sharing : (protocol == 10) ≡ true → agreed_sharing e.facts.agreed ≡ true
 
 -- a reply comes to be owed
-pub owes-moves : (protocol asked : ℕ) (m : Machine) (e : Entry) (k : ℕ) → IsOrdered m → StandsAt m.connections k e →
+pub owes-moves : (protocol asked : ℕ) (m : Machine) (e : Entry) (k : ℕ) → IsOrdered m → StandsAt m.connections k e → MayOwe protocol e →
     Moves 0 m (with_entry (owing protocol asked m e) m)
-owes-moves protocol asked m e k h s =
+owes-moves protocol asked m e k h s may =
     let later : nat_le (m.now + m.settings.reply) m.now ≡ false = ahead m.now m.settings.reply (reply-positive m.settings h.orderly.settings) in
     turns-moves 0 m e (owing protocol asked m e) k h s (record { same_id = refl; same_addr = refl; live = λ l. l })
-    (stands-shaped m e k h s) (omega arith)
+    (stands-shaped m e k h s) (owing-owing protocol asked m e may.known may.local may.sharing (stands-owing m e k h s)) (omega arith)
     (late-fewer m.now e (owing protocol asked m e) (omega arith) (omega arith)
     (owing-fewer m.now e.facts.cid (record { protocol = protocol; until = m.now + m.settings.reply; asked = asked }) e.owed later))
 
 -- but on chain-sync
-pub owes-keeps : (protocol asked : ℕ) (m : Machine) (e : Entry) (k : ℕ) → IsOrdered m → StandsAt m.connections k e → (protocol == 2) ≡ false →
+pub owes-keeps : (protocol asked : ℕ) (m : Machine) (e : Entry) (k : ℕ) → IsOrdered m → StandsAt m.connections k e → MayOwe protocol e → (protocol == 2) ≡ false →
     Keeps 0 m (with_entry (owing protocol asked m e) m)
-owes-keeps protocol asked m e k h s other =
-    moves-keeps 0 m (with_entry (owing protocol asked m e) m) (owes-moves protocol asked m e k h s)
+owes-keeps protocol asked m e k h s may other =
+    moves-keeps 0 m (with_entry (owing protocol asked m e) m) (owes-moves protocol asked m e k h s may)
     (alike-ties m e (owing protocol asked m e) k h s (record { same_id = refl; same_addr = refl; live = λ l. l })
     (record {
       local = refl;
       pending = refl;
       live = refl;
-      asked = with_reply-asked (record { protocol = protocol; until = m.now + m.settings.reply; asked = asked }) e.owed other;
+      asked = with_reply-some (λ o. o.protocol == 2) (record { protocol = protocol; until = m.now + m.settings.reply; asked = asked }) e.owed other;
     }))
 
 -- On chain-sync only a peer that is warm is asked.
@@ -469,13 +436,14 @@ abbrev pub IsWarm : Option Peer → Type 0
 IsWarm None = ⊥
 IsWarm (Some p) = p.temp ≡ Warm
 
-pub asks_warm-keeps : (asked : ℕ) (m : Machine) (e : Entry) (k : ℕ) → IsOrdered m → StandsAt m.connections k e → IsWarm (peer_at e.facts.addr m) →
-    Keeps 0 m (with_entry (owing 2 asked m e) m)
-asks_warm-keeps asked m e k h s warm =
+pub asks_warm-keeps : (asked : ℕ) (m : Machine) (e : Entry) (k : ℕ) → IsOrdered m → StandsAt m.connections k e → e.facts.local ≡ true →
+    IsWarm (peer_at e.facts.addr m) → Keeps 0 m (with_entry (owing 2 asked m e) m)
+asks_warm-keeps asked m e k h s local warm =
     let new : Entry = owing 2 asked m e in
     let n : Machine = with_entry new m in
     let turns : TurnsInto e new = record { same_id = refl; same_addr = refl; live = λ l. l } in
-    moves-keeps 0 m n (owes-moves 2 asked m e k h s) (λ ties. by_live turns (is_live e.facts) refl ties)
+    moves-keeps 0 m n (owes-moves 2 asked m e k h s (record { known = refl; local = local; sharing = λ on_10. absurd (false≢true on_10) }))
+    (λ ties. by_live turns (is_live e.facts) refl ties)
   where
     step : (new : Entry) → new.facts ≡ e.facts → (o : Option Peer) → IsWarm o → TiedBy m.now o (Some e) → TiedBy m.now o (Some new)
     step new same None warm tie = elim warm [ ]
@@ -503,7 +471,7 @@ pub decodes-keeps : (undecoded : Undecoded) (m : Machine) (e : Entry) (k : ℕ) 
 decodes-keeps undecoded m e k h s =
     moves-keeps 0 m (with_entry (record e { undecoded = undecoded }) m)
     (turns-moves 0 m e (record e { undecoded = undecoded }) k h s (record { same_id = refl; same_addr = refl; live = λ l. l })
-    (stands-shaped m e k h s) (omega arith)
+    (stands-shaped m e k h s) (alike-owing e (record e { undecoded = undecoded }) refl refl refl (stands-owing m e k h s)) (omega arith)
     (late-fewer m.now e (record e { undecoded = undecoded }) (omega arith) (omega arith) (omega arith)))
     (alike-ties m e (record e { undecoded = undecoded }) k h s (record { same_id = refl; same_addr = refl; live = λ l. l })
     (record { local = refl; pending = refl; live = refl; asked = λ asked. asked }))

@@ -1,17 +1,32 @@
 -- Every run of the whole machine.
-use Rattle.std.proofs.Common.{List, [], ◌∷◌, refl, ◌∙◌}
+use Rattle.std.proofs.Common.{◌≡◌, false, arith, List, [], ◌∷◌, refl, ◌∙◌}
 use Rattle.std.proofs.lemmas.List.Elements.{All-nil}
+use Rattle.net_base.specs.Address.{same_address}
 use Rattle.net_base.specs.Bounds.{AreSound}
 use Rattle.net_base.specs.declared.event.Event.{Event}
 use Rattle.net_base.specs.declared.settings.Settings.{Settings}
 use Rattle.machine.specs.Machine.{Machine, start_of}
 use Rattle.machine.specs.Whole.{whole_step}
-use Rattle.laws.specs.Whole.{IsShaped, IsSteady, whole_after}
+use Rattle.laws.specs.Whole.{IsShaped, IsOwing, IsSteady, whole_after}
 use Rattle.laws.proofs.Runs.{start-sound}
 use Rattle.laws.proofs.WholeEvents.{StaysSteady, whole_step-steady}
 
 pub start-steady : (settings : Settings) → AreSound settings → IsSteady (start_of settings)
-start-steady settings h = record { sound = start-sound settings h; formed = record { shaped = All-nil (λ e. IsShaped e.facts); peers = tt; groups = tt }; tied = λ addr. tt }
+start-steady settings h = record {
+  sound = start-sound settings h;
+  formed = record {
+    shaped = All-nil (λ e. IsShaped e.facts);
+    owing = All-nil IsOwing;
+    peers = tt;
+    groups = tt;
+    other_peers = tt;
+    other_connections = All-nil (λ e. same_address e.facts.addr settings.own ≡ false);
+    room = omega arith;
+    pending_job = λ job never. absurd cc;
+  };
+  tied = λ addr. tt;
+  locals = λ addr p found local. absurd cc;
+}
 
 pub run-steady : (m : Machine) (events : List Event) → IsSteady m → StaysSteady m (whole_after m events)
 unfolding whole_after

@@ -84,9 +84,9 @@ active_wanted true m = (effective_big_of m.big_targets m.now).active
 -- members of its group where it is one. No address is in two groups.
 pub record IsWanted (status : Status) (wanted : Bool → Machine → ℕ) (valency : Group → ℕ) (addr : Addr) (before after : Machine) : Type 0 where
   pub by_target : (p : Peer) → peer_at addr before ≡ Some p → (p.big || is_not_local before.groups addr) ≡ true →
-    number_with status p.big after ≤ wanted p.big after
+      number_with status p.big after ≤ wanted p.big after
   pub by_valency : (p : Peer) → peer_at addr before ≡ Some p → p.big ≡ false →
-    All (λ group. is_listed addr group.members ≡ true → members_with status group after ≤ valency group) before.groups
+      All (λ group. is_listed addr group.members ≡ true → members_with status group after ≤ valency group) before.groups
 
 -- After an address has come into the book, no more are known of its class than wanted.
 abbrev pub IsWantedNew : Addr → Machine → Machine → Type 0

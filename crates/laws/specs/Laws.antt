@@ -1,6 +1,7 @@
 -- What an operator counts on after each event.
 use Rattle.std.specs.Prelude.{◌≡◌, ◌<◌, ◌≤◌, ◌≢◌, Bool, true, false, ◌&&◌, ◌||◌, IsTrue, All, AllPairs, Option, Some, None}
 use Rattle.conn_state.specs.Use.{is_live, is_negotiated, is_pending}
+use Rattle.govern_rules.specs.Rules.{is_not_local}
 use Rattle.machine.specs.Deadlines.{deadlines}
 use Rattle.machine.specs.Machine.{Machine, Entry, counted_in, live_entry_at}
 use Rattle.machine.specs.Peers.{peer_at}
@@ -57,3 +58,7 @@ PendingAreCold m = (addr : Addr) → is_pending_connection (live_entry_at addr m
 abbrev pub UsedAreOutOfBackOff : Machine → Type 0
 UsedAreOutOfBackOff m = (addr : Addr) (p : Peer) → peer_at addr m ≡ Some p →
     (is_used_connection (live_entry_at addr m) || is_pending_connection (live_entry_at addr m)) ≡ true → p.not_before ≤ m.now
+
+-- Each local peer is an ordinary one.
+abbrev pub LocalsAreOrdinary : Machine → Type 0
+LocalsAreOrdinary m = (addr : Addr) (p : Peer) → peer_at addr m ≡ Some p → is_not_local m.groups addr ≡ false → p.big ≡ false

@@ -1,5 +1,5 @@
 -- What holds in every record that a run of the whole machine reaches.
-use Rattle.std.specs.Prelude.{ℕ, ◌≡◌, ◌≤◌, true, false, not, ◌||◌, List, [], ◌∷◌, All, Option, Some, None, is_some}
+use Rattle.std.specs.Prelude.{ℕ, ◌≡◌, ◌<◌, ◌≤◌, Bool, true, false, not, ◌||◌, ◌==◌, List, [], ◌∷◌, length, All, AllPairs, Option, Some, None, is_some}
 use Rattle.std.specs.List.{AllByRecursion}
 use Rattle.net_base.specs.Address.{same_address}
 use Rattle.net_base.specs.declared.address.Addr.{Addr}
@@ -9,12 +9,13 @@ use Rattle.net_base.specs.declared.connection.Facts.{Facts}
 use Rattle.net_base.specs.declared.connection.Grace.TheVariants.{Off}
 use Rattle.net_base.specs.declared.event.Event.{Event}
 use Rattle.net_base.specs.declared.peer.Temp.TheVariants.{Warm}
-use Rattle.peer_book.specs.Book.{is_established}
-use Rattle.conn_state.specs.Use.{is_dialing, is_duplex, is_for_local, is_for_remote, is_negotiated, is_outbound, is_pending, some_runs}
+use Rattle.peer_book.specs.Book.{is_established, most_peers}
+use Rattle.conn_state.specs.Use.{agreed_sharing, is_dialing, is_duplex, is_for_local, is_for_remote, is_negotiated, is_outbound, is_pending, some_runs}
 use Rattle.machine.specs.Machine.{Machine, Entry, live_entry_at}
 use Rattle.machine.specs.Peers.{peer_at}
 use Rattle.machine.specs.Replies.{reply_on}
 use Rattle.machine.specs.Whole.{whole_step}
+use Rattle.laws.specs.Laws.{LocalsAreOrdinary}
 use Rattle.laws.specs.Sound.{IsSound}
 
 -- ---- the facts of one connection
@@ -45,6 +46,21 @@ pub record IsShaped (f : Facts) : Type 0 where
 
 abbrev pub AreShaped : Machine → Type 0
 AreShaped m = All (λ e. IsShaped e.facts) m.connections
+
+-- ---- what is owed on a connection
+
+-- replies are owed on chain-sync, keep-alive and peer-sharing
+abbrev pub is_owed_on : ℕ → Bool
+is_owed_on protocol = protocol == 2 || protocol == 8 || protocol == 10
+
+pub record IsOwing (e : Entry) : Type 0 where
+  pub protocols : All (λ o. is_owed_on o.protocol ≡ true) e.owed
+  -- in order of protocol, so at most one on each
+  pub rises : AllPairs (λ o q. o.protocol < q.protocol) e.owed
+  -- only while this side uses the connection
+  pub used : e.facts.local ≡ false → e.owed ≡ []
+  -- on peer-sharing only where that was agreed on
+  pub shares : is_some (reply_on 10 e) ≡ true → agreed_sharing e.facts.agreed ≡ true
 
 -- ---- peers and groups
 
@@ -88,13 +104,23 @@ IsTied m = (addr : Addr) → TiedBy m.now (peer_at addr m) (live_entry_at addr m
 
 pub record IsFormed (m : Machine) : Type 0 where
   pub shaped : AreShaped m
+  pub owing : All IsOwing m.connections
   pub peers : ArePeersApart m.peers
   pub groups : AreApart (members_of m.groups)
+  -- neither a peer nor a connection has the own address
+  pub other_peers : AllByRecursion (λ p. same_address p.addr m.settings.own ≡ false) m.peers
+  pub other_connections : All (λ e. same_address e.facts.addr m.settings.own ≡ false) m.connections
+  -- the book is not too full
+  pub room : length m.peers ≤ most_peers
+  -- the question that is pending was numbered
+  pub pending_job : (job : ℕ) → m.roots.pending ≡ Some job → job < m.roots.next_job
 
 pub record IsSteady (m : Machine) : Type 0 where
   pub sound : IsSound m
   pub formed : IsFormed m
   pub tied : IsTied m
+  -- after each event, but not in the middle of one that sets the groups
+  pub locals : LocalsAreOrdinary m
 
 -- the whole machine after all of the events
 unfoldable pub whole_after : Machine → List Event → Machine

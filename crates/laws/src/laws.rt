@@ -8,7 +8,7 @@ ghost use Rattle.machine.specs.Machine.{Machine, start_of};
 ghost use Rattle.machine.specs.Run.{after_all};
 ghost use Rattle.machine.specs.Whole.{whole_step};
 ghost use Rattle.laws.specs.AtMoves.{OutOfBackOff, WithinTargets, ForCause, faults_of, MovesAreLawful, EndsAreMoves};
-ghost use Rattle.laws.specs.Laws.{LiveAddressesDistinct, WithinHardLimit, DeadlinesAhead, EstablishedAreUsed, PendingAreCold, UsedAreOutOfBackOff};
+ghost use Rattle.laws.specs.Laws.{LiveAddressesDistinct, WithinHardLimit, DeadlinesAhead, EstablishedAreUsed, PendingAreCold, UsedAreOutOfBackOff, LocalsAreOrdinary};
 ghost use Rattle.laws.specs.Sound.{IsOrderly, IsSound};
 ghost use Rattle.laws.specs.Whole.{IsSteady, whole_after};
 
@@ -44,6 +44,7 @@ pub fn laws_of_whole_runs()
     ensures established { (settings : Settings) (events : List Event) → AreSound settings → EstablishedAreUsed (whole_after (start_of settings) events) }
     ensures pending { (settings : Settings) (events : List Event) → AreSound settings → PendingAreCold (whole_after (start_of settings) events) }
     ensures back_off { (settings : Settings) (events : List Event) → AreSound settings → UsedAreOutOfBackOff (whole_after (start_of settings) events) }
+    ensures ordinary { (settings : Settings) (events : List Event) → AreSound settings → LocalsAreOrdinary (whole_after (start_of settings) events) }
     ensures settings { (settings : Settings) (events : List Event) → AreSound settings → (whole_after (start_of settings) events).settings ≡ settings }
 {}
 

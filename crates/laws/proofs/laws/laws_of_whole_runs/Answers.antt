@@ -24,3 +24,6 @@ returns-clause-pending c settings events h = steady-pending (whole_after (start_
 
 pub returns-clause-back_off : goal.returns-clause-back_off
 returns-clause-back_off c settings events h = steady-back_off (whole_after (start_of settings) events) (whole_after-steady settings events h).steady
+
+pub returns-clause-ordinary : goal.returns-clause-ordinary
+returns-clause-ordinary c settings events h = (whole_after-steady settings events h).steady.locals

@@ -1,0 +1,87 @@
+-- What holds of the book of peers, through each change of it.
+use Rattle.std.proofs.Common.{◌+◌, ◌≤◌, ◌≡◌, Bool, true, false, cond, nat_le, List, [], ◌∷◌, length, filter, Some, is_some, if◌then◌else◌, refl, subst, arith, leb-false}
+use Rattle.std.specs.List.{AllByRecursion}
+use Rattle.std.proofs.lemmas.Bool.{cond_both}
+use Rattle.std.proofs.lemmas.List.{length-map}
+use Rattle.net_base.specs.Address.{same_address, address_below}
+use Rattle.net_base.specs.declared.address.Addr.{Addr}
+use Rattle.net_base.specs.declared.peer.Peer.{Peer}
+use Rattle.peer_book.specs.Book.{has_address, peer_at, with_peer, with_new, entered_by, entered, most_peers}
+use Rattle.peer_book.specs.declared.added.Added.TheVariants.{New, Present, Full}
+use Rattle.peer_book.proofs.Edits.{filter-within}
+use Rattle.machine.specs.Machine.{Machine}
+use Rattle.laws.specs.Whole.{ArePeersApart, IsFormed}
+use Rattle.laws.proofs.Addresses.{same_address-true}
+use Rattle.laws.proofs.PeersApart.{with_peer-others, with_peer-apart, put_in-others, entered-apart, others-filter, filter-apart}
+
+pub record IsBook (own : Addr) (peers : List Peer) : Type 0 where
+  pub apart : ArePeersApart peers
+  pub others : AllByRecursion (λ p. same_address p.addr own ≡ false) peers
+  pub room : length peers ≤ most_peers
+
+pub book_of : (m : Machine) → IsFormed m → IsBook m.settings.own m.peers
+book_of m h = record { apart = h.peers; others = h.other_peers; room = h.room }
+
+-- whoever is in the book has not the own address
+pub found-other : (own a : Addr) (ps : List Peer) (p : Peer) → AllByRecursion (λ q. same_address q.addr own ≡ false) ps → peer_at a ps ≡ Some p →
+    same_address a own ≡ false
+found-other own a [] p h found = absurd cc
+found-other own a (q ∷ ps) p h found = by_test (has_address a q) refl found (found-other own a ps p h.1)
+  where
+    by_test : (b : Bool) → has_address a q ≡ b → cond b (Some q) (peer_at a ps) ≡ Some p → (peer_at a ps ≡ Some p → same_address a own ≡ false) →
+        same_address a own ≡ false
+    by_test true is f later = subst (λ x. same_address x own ≡ false) (same_address-true q.addr a is) h.0
+    by_test false is f later = later f
+
+-- a peer in place of the one with its address
+pub with_peer-book : (own : Addr) (new : Peer) (ps : List Peer) → IsBook own ps → IsBook own (with_peer new ps)
+with_peer-book own new ps h =
+    let same = length-map ps (λ p. if has_address new.addr p then new else p) in
+    record {
+      apart = with_peer-apart new ps h.apart;
+      others = with_peer-others new own ps h.others;
+      room = omega (arith, same, h.room);
+    }
+
+-- a new one
+with_new-longer : (new : Peer) (ps : List Peer) → length (with_new new ps) ≡ length ps + 1
+with_new-longer new [] = refl
+with_new-longer new (p ∷ ps) = by_test (address_below p.addr new.addr) (with_new-longer new ps)
+  where
+    by_test : (b : Bool) → length (with_new new ps) ≡ length ps + 1 →
+        length (if b then p ∷ with_new new ps else new ∷ p ∷ ps) ≡ length (p ∷ ps) + 1
+    by_test true rest = omega (arith, rest)
+    by_test false rest = omega arith
+
+entered-others : (own : Addr) (new : Peer) (ps : List Peer) → same_address new.addr own ≡ false → AllByRecursion (λ p. same_address p.addr own ≡ false) ps →
+    AllByRecursion (λ p. same_address p.addr own ≡ false) (entered new ps)
+entered-others own new ps other h = cond_both (is_some (peer_at new.addr ps)) Present (if nat_le most_peers (length ps) then Full else New)
+    (λ added. AllByRecursion (λ p. same_address p.addr own ≡ false) (entered_by added new ps)) (λ there. h)
+    (λ none. cond_both (nat_le most_peers (length ps)) Full New
+    (λ added. AllByRecursion (λ p. same_address p.addr own ≡ false) (entered_by added new ps)) (λ full. h)
+    (λ room. put_in-others new own ps other h))
+
+entered-room : (new : Peer) (ps : List Peer) → length ps ≤ most_peers → length (entered new ps) ≤ most_peers
+entered-room new ps h = cond_both (is_some (peer_at new.addr ps)) Present (if nat_le most_peers (length ps) then Full else New)
+    (λ added. length (entered_by added new ps) ≤ most_peers) (λ there. h)
+    (λ none. cond_both (nat_le most_peers (length ps)) Full New (λ added. length (entered_by added new ps) ≤ most_peers) (λ full. h)
+    (λ room. let below = leb-false most_peers (length ps) room in
+    let longer = with_new-longer new ps in
+    omega (arith, below, longer)))
+
+pub entered-book : (own : Addr) (new : Peer) (ps : List Peer) → same_address new.addr own ≡ false → IsBook own ps → IsBook own (entered new ps)
+entered-book own new ps other h = record {
+  apart = entered-apart new ps h.apart;
+  others = entered-others own new ps other h.others;
+  room = entered-room new ps h.room;
+}
+
+-- some go
+pub filter-book : (own : Addr) (q : Peer → Bool) (ps : List Peer) → IsBook own ps → IsBook own (filter q ps)
+filter-book own q ps h =
+    let fewer = filter-within q ps in
+    record {
+      apart = filter-apart q ps h.apart;
+      others = others-filter own q ps h.others;
+      room = omega (arith, fewer, h.room);
+    }

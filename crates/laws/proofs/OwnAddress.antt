@@ -1,0 +1,65 @@
+-- The own address is neither a member of the groups, nor a public root peer, nor taken of what a peer told, nor wanted
+-- as that of a big ledger peer.
+use Rattle.std.proofs.Common.{ℕ, ◌≡◌, Bool, true, false, ◌&&◌, not, nat_lt, is_some, List, [], ◌∷◌, All}
+use Rattle.std.proofs.lemmas.Bool.{and_parts, or_parts, not-true}
+use Rattle.std.proofs.lemmas.List.Elements.{All-weaker, All-take, All-from_recursion}
+use Rattle.net_base.specs.Address.{same_address}
+use Rattle.net_base.specs.declared.address.Addr.{Addr}
+use Rattle.net_base.specs.declared.event.Group.{Group}
+use Rattle.net_base.specs.declared.peer.Peer.{Peer}
+use Rattle.net_base.specs.declared.settings.Settings.{Settings}
+use Rattle.govern_rules.specs.Rules.{is_not_local}
+use Rattle.peer_book.specs.Book.{peer_at as peer_in, known_of}
+use Rattle.machine.specs.Machine.{Machine}
+use Rattle.machine.specs.Peers.{peer_at}
+use Rattle.machine.specs.Provided.{is_wanted_big}
+use Rattle.churn_clock.specs.Windows.{effective_big_of}
+use Rattle.root_groups.specs.Cleaned.{is_listed, first_places, cleaned, members_of}
+use Rattle.root_groups.specs.RootAsk.{publics_of}
+use Rattle.share_rounds.specs.Rounds.{fits_version, is_new, fresh_of}
+use Rattle.share_rounds.proofs.Rules.{taken_are_new}
+use Rattle.laws.proofs.GroupsApart.{NoneListed, first_places-none, cleaned-none}
+
+-- an address is another one than the own
+abbrev pub IsOther : Settings → Addr → Type 0
+IsOther settings addr = same_address addr settings.own ≡ false
+
+unlisted-other : (settings : Settings) (addrs : List Addr) → NoneListed (settings.own ∷ []) addrs → All (IsOther settings) addrs
+unlisted-other settings addrs h = All-weaker (λ a. is_listed a (settings.own ∷ []) ≡ false) (IsOther settings)
+    (λ a none. (or_parts (same_address a settings.own) false none).0) addrs
+    (All-from_recursion (λ a. is_listed a (settings.own ∷ []) ≡ false) addrs h)
+
+pub members-other : (settings : Settings) (groups : List Group) → All (IsOther settings) (members_of (cleaned settings.own groups))
+members-other settings groups = unlisted-other settings (members_of (cleaned settings.own groups)) (cleaned-none (settings.own ∷ []) groups)
+
+pub publics-other : (settings : Settings) (target : ℕ) (addrs : List Addr) → All (IsOther settings) (publics_of settings.own target addrs)
+publics-other settings target addrs =
+    let firsts : List Addr = first_places (settings.own ∷ []) addrs in
+    All-take (IsOther settings) target firsts (unlisted-other settings firsts (first_places-none (settings.own ∷ []) addrs))
+
+pub taken-other : (settings : Settings) (target : ℕ) (peers : List Peer) (told : List Addr) →
+    All (IsOther settings) (fresh_of settings.own target settings.version peers told)
+taken-other settings target peers told = All-weaker (λ a. is_new settings.own settings.version peers a ≡ true) (IsOther settings) each
+    (fresh_of settings.own target settings.version peers told) (taken_are_new settings.own target settings.version peers told)
+  where
+    each : (a : Addr) → is_new settings.own settings.version peers a ≡ true → IsOther settings a
+    each a h =
+        let fits = and_parts (fits_version settings.version a && not (same_address a settings.own)) (not (is_some (peer_in a peers))) h in
+        not-true (same_address a settings.own) (and_parts (fits_version settings.version a) (not (same_address a settings.own)) fits.0).1
+
+-- neither is the address of a local peer
+wanted_parts : (addr : Addr) (m : Machine) → is_wanted_big addr m ≡ true →
+    (not (same_address addr m.settings.own) ≡ true) × (is_not_local m.groups addr ≡ true)
+wanted_parts addr m h =
+    let own : Bool = not (same_address addr m.settings.own) in
+    let known : Bool = not (is_some (peer_at addr m)) in
+    let local : Bool = is_not_local m.groups addr in
+    let room = and_parts (own && known && local) (nat_lt (known_of true m.peers) (effective_big_of m.big_targets m.now).known) h in
+    let parts = and_parts (own && known) local room.0 in
+    ((and_parts own known parts.0).0, parts.1)
+
+pub wanted-other : (addr : Addr) (m : Machine) → is_wanted_big addr m ≡ true → IsOther m.settings addr
+wanted-other addr m h = not-true (same_address addr m.settings.own) (wanted_parts addr m h).0
+
+pub wanted-not_local : (addr : Addr) (m : Machine) → is_wanted_big addr m ≡ true → is_not_local m.groups addr ≡ true
+wanted-not_local addr m h = (wanted_parts addr m h).1
