@@ -1,12 +1,11 @@
 -- The moves of the clock: a reply is late, a grace is over, a handshake was not done in time, a time-wait is over.
-use Rattle.std.proofs.Common.{ℕ, zero, suc, ◌+◌, ◌≤◌, ◌≡◌, Bool, true, false, ◌||◌, ◌==◌, nat_le, if◌then◌else◌, List, [], ◌∷◌, length, map, Option, Some, None, All, Contains, refl, sym, ap, subst, eq-eqb, leb-true}
+use Rattle.std.proofs.Common.{ℕ, zero, suc, ◌≡◌, Bool, true, false, ◌||◌, ◌==◌, if◌then◌else◌, [], ◌∷◌, Option, Some, None, All, Contains, refl, sym, ap, subst, eq-eqb, leb-true}
 use Rattle.std.proofs.lemmas.Bool.{cond_both, both_ways, false≢true}
-use Rattle.std.proofs.lemmas.List.Elements.{All-nil, All-map, All-weaker, All-contains, All-contains_itself}
+use Rattle.std.proofs.lemmas.List.Elements.{All-nil, All-weaker, All-contains, All-contains_itself}
 use Rattle.net_base.specs.declared.action.Action.TheVariants.{Close}
 use Rattle.net_base.specs.declared.action.CloseCause.TheVariants.{Unused, Fault}
 use Rattle.net_base.specs.declared.action.FaultKind.{FaultKind}
 use Rattle.net_base.specs.declared.action.FaultKind.TheVariants.{HandshakeWait, ReplyWait}
-use Rattle.net_base.specs.declared.connection.Cid.{Cid}
 use Rattle.net_base.specs.declared.connection.Facts.{Facts}
 use Rattle.net_base.specs.declared.connection.Grace.{Grace}
 use Rattle.net_base.specs.declared.connection.Grace.TheVariants.{Off, ForRemote, ForLocal}
@@ -20,12 +19,11 @@ use Rattle.conn_state.specs.Use.{is_live, live_phase, is_negotiated, is_negotiat
 use Rattle.machine.specs.Machine.{Machine, Entry, Owed}
 use Rattle.machine.specs.Effect.{Effect, unused, left, tells, then_do, as_move}
 use Rattle.machine.specs.Connections.{entry_turns, entry_goes, closing_entry, ending, grace_over, wait_over}
-use Rattle.machine.specs.Deadlines.{deadline, deadlines, deadlines_of, phase_deadlines, grace_deadlines, reply_deadline, due, fires_as, fires_on, fires, fires_some, fire_due, fire_all}
-use Rattle.laws.specs.AtMoves.{Faults, IsPast, IsOver, IsLate, IsLawful, is_ended_in}
+use Rattle.machine.specs.Deadlines.{deadline, deadlines_of, phase_deadlines, grace_deadlines, reply_deadline, due, fires_as, fires_on, fires, fires_some, fire_due}
+use Rattle.laws.specs.AtMoves.{Faults, IsPast, IsOver, IsLate, IsLawful}
 use Rattle.laws.specs.Whole.{IsShaped}
 use Rattle.laws.proofs.Counts.{is_late}
-use Rattle.laws.proofs.Entries.{TurnsInto}
-use Rattle.laws.proofs.Firing.{all_one, all-deadlines_of, grace-among, Due, due_of}
+use Rattle.laws.proofs.Firing.{all_one, all-deadlines_of, Due, due_of}
 use Rattle.laws.proofs.Keeping.{IsOrdered, Keeps}
 use Rattle.laws.proofs.Lawful.{Obeys, obeys_then, obeys_nothing, accounts_turned, accounts_gone, ending-obeys, ended-lawful, on_stands, turns-obeys, as_move-obeys}
 use Rattle.laws.proofs.Lists.{StandsAt}

@@ -1,5 +1,5 @@
 -- The moves of each event.
-use Rattle.std.proofs.Common.{ℕ, ◌+◌, ◌≤◌, ◌≡◌, Bool, true, false, ◌||◌, ◌==◌, nat_le, if◌then◌else◌, List, [], ◌∷◌, ◌++◌, length, find, remove, Option, Some, None, refl, sym, ap, ◌∙◌, subst, eqb-true, eq-eqb}
+use Rattle.std.proofs.Common.{ℕ, ◌+◌, ◌≡◌, Bool, true, false, ◌||◌, ◌==◌, nat_le, if◌then◌else◌, List, [], ◌∷◌, length, find, Option, Some, None, refl, sym, ap, ◌∙◌, subst, eqb-true, eq-eqb}
 use Rattle.std.specs.List.{AllByRecursion}
 use Rattle.std.proofs.lemmas.Bool.{cond_both, both_ways, false≢true}
 use Rattle.accept_gate.specs.Gate.{gate_of}
@@ -26,28 +26,26 @@ use Rattle.machine.specs.Effect.{Effect, Move, shared, left, nothing_more, then_
 use Rattle.machine.specs.Own.{own_info}
 use Rattle.machine.specs.Peers.{peer_at, peer_comes, peer_is_ordinary}
 use Rattle.machine.specs.Replies.{asks}
-use Rattle.machine.specs.Connections.{without_entry, entry_turns, ending, vanishes, dial_opens, dial_fails}
+use Rattle.machine.specs.Connections.{without_entry, ending, vanishes, dial_opens, dial_fails}
 use Rattle.machine.specs.Deadlines.{deadlines, fire_all}
 use Rattle.machine.specs.Events.{clock_shows, turned_away, admitted, crossed, accepted_beside, accepted_through, peer_connects, closed_at, peer_closes, dial_ends_at, dial_ends}
-use Rattle.machine.specs.Govern.{govern}
 use Rattle.machine.specs.Provided.{comes_ordinary, locals_are, is_wanted_big, comes_big, bigs_are, roots_say, roots_answer}
-use Rattle.machine.specs.Stream.{bytes_come_in}
 use Rattle.machine.specs.Whole.{whole_step}
 use Rattle.laws.specs.AtMoves.{Faults, faults_of, IsLawful, is_negotiated_entry, is_negotiated_at, is_ended_in, is_closed_by, MovesAreLawful, EndsAreMoves}
 use Rattle.laws.specs.Whole.{IsSteady}
 use Rattle.laws.proofs.Clock.{fire_due-obeys}
-use Rattle.laws.proofs.Entries.{gone-connections, one_has_id}
+use Rattle.laws.proofs.Entries.{gone-connections}
 use Rattle.laws.proofs.Events.{admitted_entry, at_moment, at_moment-orderly}
 use Rattle.laws.proofs.Finds.{find-remove_other}
 use Rattle.laws.proofs.Governing.{govern-trimmed}
 use Rattle.laws.proofs.Keeping.{IsOrdered}
 use Rattle.laws.proofs.KnownWanted.{bigs-within}
-use Rattle.laws.proofs.Lawful.{Accounts, accounts_same, accounts_come, accounts_gone, Obeys, obeys_then, obeys_nothing, IsQuiet, quiet-obeys, quiet_then, turns_at-quiet, comes-quiet, lost_by-quiet, ending-obeys, ended-lawful, on_stands, turned_then-obeys, as_move-obeys, IsAllowed, Within, allowed_within}
-use Rattle.laws.proofs.Lists.{StandsAt, find_some, find_only, all-both, all-placed}
+use Rattle.laws.proofs.Lawful.{accounts_same, accounts_come, accounts_gone, Obeys, obeys_then, obeys_nothing, IsQuiet, quiet-obeys, quiet_then, turns_at-quiet, comes-quiet, lost_by-quiet, ending-obeys, ended-lawful, on_stands, turned_then-obeys, as_move-obeys, IsAllowed, Within, allowed_within}
+use Rattle.laws.proofs.Lists.{StandsAt, find_some, all-both, all-placed}
 use Rattle.laws.proofs.Shapes.{dialing-unnegotiated}
 use Rattle.laws.proofs.Streams.{bytes_come_in-trimmed}
 use Rattle.laws.proofs.WholeEvents.{ordered_of, formed_at_moment}
-use Rattle.laws.proofs.WholeMoves.{dialing-live, pending-unnegotiated, stands-shaped}
+use Rattle.laws.proofs.WholeMoves.{dialing-live, pending-unnegotiated}
 
 -- ---- one part for each of a list
 

@@ -16,10 +16,10 @@ use Rattle.root_groups.specs.RootAsk.{may_ask, asked}
 use Rattle.govern_rules.specs.BigRules.{everybody, big_orders}
 use Rattle.govern_rules.specs.declared.big_rule.BigRule.TheVariants.{B5, B8}
 use Rattle.govern_rules.specs.Candidates.{is_eligible, may_be_forgotten, may_be_released, may_be_activated, may_be_deactivated, may_be_asked}
-use Rattle.govern_rules.specs.ClassRules.{active_target, deactivates}
+use Rattle.govern_rules.specs.ClassRules.{active_target}
 use Rattle.govern_rules.specs.Links.{some_link, is_pending as is_pending_link, owes_on_2, owes_a_reply, can_share}
 use Rattle.govern_rules.specs.Orders.{orders_for}
-use Rattle.govern_rules.specs.Rules.{is_not_local, may_be_dropped, is_member_and, members_count, deactivates_members, g4_orders, g5_orders, g7_orders, g8_orders, g9_orders}
+use Rattle.govern_rules.specs.Rules.{is_not_local, may_be_dropped, is_member_and, members_count, g4_orders, g5_orders, g7_orders, g8_orders, g9_orders}
 use Rattle.govern_rules.specs.declared.link.Link.{Link}
 use Rattle.govern_rules.specs.declared.order.Order.{Order}
 use Rattle.govern_rules.specs.declared.order.Order.TheVariants.{Ask, Forget, Promote, Release, Activate, Deactivate}

@@ -16,7 +16,7 @@ use Rattle.share_rounds.specs.Rounds.{room_for, is_new, taken_after}
 use Rattle.warm_messages.specs.declared.share.Share.{Share}
 use Rattle.warm_messages.specs.declared.share.Share.TheVariants.{Request, Peers, Done}
 use Rattle.machine.specs.Machine.{Machine}
-use Rattle.machine.specs.Effect.{Effect, Happened, Move, shared, nothing_more, as_move, for_each}
+use Rattle.machine.specs.Effect.{Effect, Happened, shared, nothing_more, as_move, for_each}
 use Rattle.machine.specs.Peers.{peer_at, note_of_coming, peer_comes}
 use Rattle.machine.specs.Provided.{is_wanted_big, comes_big, bigs_are}
 use Rattle.machine.specs.Talking.{shares_address, taken_of, takes_addresses}

@@ -1,7 +1,7 @@
 -- The moves of a part of a step: each keeps a law, and no connection whose handshake is done is gone without one.
-use Rattle.std.proofs.Common.{ℕ, ◌%◌, ◌≡◌, Bool, true, false, ◌||◌, ◌==◌, not, cond, List, [], ◌∷◌, ◌++◌, find, set, remove, Option, Some, None, refl, sym, ap, ◌∙◌, subst, eqb-true, eq-eqb}
+use Rattle.std.proofs.Common.{ℕ, ◌%◌, ◌≡◌, Bool, true, false, ◌||◌, ◌==◌, cond, List, [], ◌∷◌, ◌++◌, find, set, remove, Option, Some, None, refl, sym, ap, ◌∙◌, subst, eqb-true, eq-eqb}
 use Rattle.std.specs.List.{AllByRecursion, list_any}
-use Rattle.std.proofs.lemmas.Bool.{cond_both, both_ways, false≢true}
+use Rattle.std.proofs.lemmas.Bool.{cond_both, false≢true}
 use Rattle.net_base.specs.declared.action.CloseCause.{CloseCause}
 use Rattle.net_base.specs.declared.action.CloseCause.TheVariants.{Unused, Pruned, Overwritten, Refused, Query, Fault}
 use Rattle.net_base.specs.declared.connection.Facts.{Facts}
@@ -23,7 +23,7 @@ use Rattle.net_base.specs.Peer.{failed_peer}
 use Rattle.laws.specs.AtMoves.{OutOfBackOff, WithinTargets, Faults, MayEnd, OnEntry, ForCause, IsLawful, is_negotiated_entry, is_negotiated_at, ends, is_ended_in}
 use Rattle.laws.specs.Sound.{IsOrderly}
 use Rattle.laws.proofs.Entries.{TurnsInto, turned-connections, gone-connections, one_has_id, has_own_id, with_new}
-use Rattle.laws.proofs.Finds.{find-set_other, find-set_here, find-remove_other, find-remove_here}
+use Rattle.laws.proofs.Finds.{find-set_other, find-set_here, find-remove_other}
 use Rattle.laws.proofs.Lists.{StandsAt, find_only, all-appended}
 
 -- ---- no connection is gone without a move
@@ -227,7 +227,6 @@ ended-lawful faults cause m after e k h s cause_is = record {
   targets = tt;
   cause = on_stands (λ x. is_negotiated x.facts ≡ true → MayEnd faults cause x m) m e k h s cause_is;
 }
-
 
 -- a connection turns, and is still negotiated where it was
 pub turns-obeys : (Law : Move → Type 0) (m : Machine) (e new : Entry) (k : ℕ) → IsOrderly m → StandsAt m.connections k e → TurnsInto e new →

@@ -5,12 +5,10 @@ use Rattle.std.proofs.lemmas.List.Elements.{All-push, All-weaker}
 use Rattle.std.proofs.lemmas.List.Sums.{sum_by_push}
 use Rattle.net_base.specs.Address.{same_address}
 use Rattle.net_base.specs.declared.address.Addr.{Addr}
-use Rattle.net_base.specs.declared.connection.Phase.{Phase}
-use Rattle.net_base.specs.declared.connection.Phase.TheVariants.{Dialing, Greeting, Negotiated, Closing}
 use Rattle.net_base.specs.declared.peer.Peer.{Peer}
 use Rattle.net_base.specs.declared.peer.Temp.TheVariants.{Warm}
 use Rattle.conn_state.specs.Moves.{dialing, acquired}
-use Rattle.conn_state.specs.Use.{is_live, is_live_at, is_acquirable, is_negotiated, is_negotiated_phase, live_phase}
+use Rattle.conn_state.specs.Use.{is_live, is_live_at, is_acquirable, is_negotiated}
 use Rattle.govern_rules.specs.Candidates.{is_eligible}
 use Rattle.govern_rules.specs.Links.{is_linked, is_pending, is_acquirable as acquirable_link}
 use Rattle.govern_rules.specs.declared.link.Link.{Link}

@@ -1,8 +1,7 @@
 -- Bytes come in on a connection.
 use Rattle.std.proofs.Common.{ℕ, ◌≤◌, ◌≡◌, List, Option, Some, None, All, Contains, refl, sym, ap, subst, inl, inr, eqb-true}
 use Rattle.std.proofs.lemmas.List.Elements.{All-weaker, All-contains_itself}
-use Rattle.mux_segment.specs.Stream.{FedBy, fed_by}
-use Rattle.mux_segment.specs.Protocols.{node_limits}
+use Rattle.mux_segment.specs.Stream.{FedBy}
 use Rattle.mux_segment.specs.declared.fault.CutFault.{CutFault}
 use Rattle.mux_segment.specs.declared.item.Item.{Item}
 use Rattle.net_base.specs.declared.action.CloseCause.TheVariants.{Fault}
@@ -15,7 +14,7 @@ use Rattle.conn_state.specs.Use.{has_id, is_greeting_phase, is_negotiated_phase}
 use Rattle.machine.specs.Machine.{Machine, Entry, counted_in, entry_at}
 use Rattle.machine.specs.Effect.{Effect, then_do, for_each}
 use Rattle.machine.specs.Connections.{entry_turns, ending}
-use Rattle.machine.specs.Stream.{handled_in, handled_at, handles, kind_of, faulted_at, fed_with, feeds, comes_in_phase, comes_in_at, bytes_come_in}
+use Rattle.machine.specs.Stream.{handled_in, handled_at, handles, kind_of, faulted_at, fed_with, comes_in_phase, comes_in_at, bytes_come_in}
 use Rattle.laws.specs.AtMoves.{Faults, fault_of, IsByStream, fed_on, IsByBytes, faults_of, IsLawful}
 use Rattle.laws.proofs.Handshakes.{greets-trimmed}
 use Rattle.laws.proofs.Keeping.{IsOrdered}

@@ -2,7 +2,6 @@
 use Rattle.std.proofs.Common.{ℕ, ◌+◌, [], ◌∷◌, cond, not, is_some, ◌≤◌, ◌≡◌, Bool, true, false, ◌||◌, ◌==◌, nat_le, if◌then◌else◌, List, find, set, remove, Option, Some, None, Result, Ok, Err, refl, sym, ap, ◌∙◌, subst, arith, eqb-true, eq-eqb}
 use Rattle.std.specs.Option.{unwrap_or}
 use Rattle.std.proofs.lemmas.Bool.{cond_both, both_ways, false≢true}
-use Rattle.net_base.specs.declared.action.CloseCause.{CloseCause}
 use Rattle.net_base.specs.declared.action.CloseCause.TheVariants.{Pruned, Fault}
 use Rattle.net_base.specs.declared.action.FaultKind.{FaultKind}
 use Rattle.net_base.specs.declared.action.FaultKind.TheVariants.{Protocol, UnknownId}
@@ -44,7 +43,7 @@ use Rattle.laws.proofs.Lists.{StandsAt, stands-set, find_some, find_only}
 use Rattle.laws.specs.Whole.{AreTied, IsAlone, TiedBy}
 use Rattle.laws.proofs.Ties.{changed-ties, turned_here, turned_elsewhere, live_here}
 use Rattle.laws.proofs.Trims.{lost-connections, Trimmed, HasMoved, keeps-trimmed, nothing-trimmed, trimmed_both, trimmed_then, trimmed-within, raised_then_trimmed, trim-trims, for_each_that-trimmed}
-use Rattle.laws.proofs.WholeMoves.{negotiated-live, ending-keeps, awakes-keeps, idles-keeps, pays-keeps, IsLost}
+use Rattle.laws.proofs.WholeMoves.{negotiated-live, ending-keeps, awakes-keeps, idles-keeps, pays-keeps}
 use Rattle.laws.proofs.OwnAddress.{IsOther, taken-other}
 
 -- ---- only known protocols are answered

@@ -58,7 +58,7 @@ use Rattle.laws.proofs.OwnAddress.{IsOther, members-other, publics-other, wanted
 use Rattle.laws.proofs.Settings.{timewait-positive}
 use Rattle.laws.proofs.Shapes.{accepted-shaped, expired-shaped, closing-shaped}
 use Rattle.laws.proofs.Streams.{bytes_come_in-trimmed}
-use Rattle.laws.proofs.Trims.{Trimmed, keeps-trimmed}
+use Rattle.laws.proofs.Trims.{Trimmed}
 use Rattle.laws.proofs.WholeMoves.{ending-keeps, overwritten-keeps, vanishes-keeps, connects-keeps, stands-shaped, alike-ties, stands-owing}
 
 -- ---- what is set and provided

@@ -1,9 +1,8 @@
-use Rattle.std.proofs.Common.{List, All}
+use Rattle.std.proofs.Common.{List}
 use Rattle.std.proofs.lemmas.List.Elements.{All-weaker}
 use Rattle.net_base.specs.Bounds.{AreSound}
 use Rattle.net_base.specs.declared.event.Event.{Event}
 use Rattle.net_base.specs.declared.settings.Settings.{Settings}
-use Rattle.machine.specs.Effect.{Move}
 use Rattle.machine.specs.Machine.{Machine, start_of}
 use Rattle.machine.specs.Whole.{whole_step}
 use Rattle.laws.specs.AtMoves.{OutOfBackOff, WithinTargets, ForCause, faults_of, IsLawful, MovesAreLawful}
