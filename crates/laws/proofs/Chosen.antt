@@ -1,7 +1,7 @@
 -- The peers that orders go to: no address twice, and of a group members only.
 use Rattle.std.proofs.Common.{ℕ, ◌≡◌, Bool, true, false, ◌&&◌, ◌||◌, List, [], ◌∷◌, ◌++◌, map, filter, flat_map, Some, refl, sym, ap, subst}
 use Rattle.std.specs.List.{AllByRecursion}
-use Rattle.std.proofs.lemmas.Bool.{both_ways, and_parts, false_from_ne_true}
+use Rattle.std.proofs.lemmas.Bool.{both_ways, and_parts, false_from_ne_true, or_right, or_from}
 use Rattle.net_base.specs.Address.{same_address}
 use Rattle.net_base.specs.declared.address.Addr.{Addr}
 use Rattle.net_base.specs.declared.event.Group.{Group}
@@ -51,10 +51,6 @@ listed_front a (x ∷ xs) ys h = by_test (same_address a x) refl h (listed_front
 listed_behind : (a : Addr) (xs ys : List Addr) → is_listed a ys ≡ true → is_listed a (xs ++ ys) ≡ true
 listed_behind a [] ys h = h
 listed_behind a (x ∷ xs) ys h = or_right (same_address a x) (is_listed a (xs ++ ys)) (listed_behind a xs ys h)
-  where
-    or_right : (b c : Bool) → c ≡ true → (b || c) ≡ true
-    or_right true c e = refl
-    or_right false c e = e
 
 all-behind : (P : Addr → Type 0) (xs ys : List Addr) → AllByRecursion P (xs ++ ys) → AllByRecursion P ys
 all-behind P [] ys h = h
@@ -67,10 +63,7 @@ apart-behind (x ∷ xs) ys h = apart-behind xs ys h.1
 -- whoever differs from all of them is not among them
 not_among : (a : Addr) (ys : List Addr) → AllByRecursion (λ b. same_address b a ≡ false) ys → is_listed a ys ≡ false
 not_among a [] h = refl
-not_among a (y ∷ ys) h = or_false (same_address a y) (is_listed a ys) (same_turned y a h.0) (not_among a ys h.1)
-  where
-    or_false : (b c : Bool) → b ≡ false → c ≡ false → (b || c) ≡ false
-    or_false b c d e = subst (λ x. (x || c) ≡ false) (sym d) e
+not_among a (y ∷ ys) h = or_from (same_address a y) (is_listed a ys) (same_turned y a h.0) (not_among a ys h.1)
 
 -- an address of the front is none behind it
 pub front-not_behind : (a : Addr) (xs ys : List Addr) → AreApart (xs ++ ys) → is_listed a xs ≡ true → is_listed a ys ≡ false

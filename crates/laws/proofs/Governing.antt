@@ -1,7 +1,7 @@
 -- The governor as a whole: each rule, and all of them.
 use Rattle.std.proofs.Common.{ℕ, ◌-◌, ◌≤◌, ◌≡◌, Bool, true, false, cond, not, ◌&&◌, ◌||◌, List, [], ◌∷◌, ◌++◌, map, find, flat_map, Option, Some, None, is_some, refl, sym, ap, ◌∙◌, subst, nat_le, arith}
 use Rattle.std.specs.List.{AllByRecursion}
-use Rattle.std.proofs.lemmas.Bool.{cond_both, and_parts, or_parts, false≢true}
+use Rattle.std.proofs.lemmas.Bool.{cond_both, and_parts, or_parts, false≢true, not-true}
 use Rattle.net_base.specs.Address.{same_address}
 use Rattle.net_base.specs.declared.address.Addr.{Addr}
 use Rattle.net_base.specs.declared.action.Action.TheVariants.{AskRoots}
@@ -56,10 +56,6 @@ unlinked test addr q at (x ∷ es) e none found =
         subst (λ y. test (link_of y) ≡ false) same (subst (λ b. (b && test (link_of x)) ≡ false) (at x is) fails)
     by_test false is found fails later = later found
 
-not_false : (b : Bool) → not b ≡ true → b ≡ false
-not_false true h = absurd (false≢true h)
-not_false false h = refl
-
 is_temp : (t u : Temp) → same_temp t u ≡ true → t ≡ u
 is_temp Cold Cold h = refl
 is_temp Cold Warm h = absurd (false≢true h)
@@ -86,7 +82,7 @@ unfolding Gives
 forget-gives m p passes found =
     let links : List Link = map link_of m.connections in
     let parts = and_parts (same_temp p.temp Cold) (not (is_pending_link links p.addr)) passes in
-    let none : is_pending_link links p.addr ≡ false = not_false (is_pending_link links p.addr) parts.1 in
+    let none : is_pending_link links p.addr ≡ false = not-true (is_pending_link links p.addr) parts.1 in
     record {
       cold = subst IsCold (sym found) (is_temp p.temp Cold parts.0);
       idle = by_live (live_entry_at p.addr m) refl none;
@@ -113,7 +109,7 @@ release-gives m p passes found e is =
     let none : (is_some (reply_on 2 e) || is_some (reply_on 8 e) || is_some (reply_on 10 e)) ≡ false =
     unlinked (λ l. l.owes2 || l.owes8 || l.owes10) p.addr (is_used_at p.addr)
     (λ x at. (and_parts (same_address x.facts.addr p.addr) (is_live x.facts) (and_parts (is_live_at p.addr x.facts) x.facts.local at).0).0)
-    m.connections e (not_false (owes_a_reply links p.addr) parts.1) is in
+    m.connections e (not-true (owes_a_reply links p.addr) parts.1) is in
     let early = or_parts (is_some (reply_on 2 e) || is_some (reply_on 8 e)) (is_some (reply_on 10 e)) none in
     let two = or_parts (is_some (reply_on 2 e)) (is_some (reply_on 8 e)) early.0 in
     record { on_2 = two.0; on_8 = two.1; on_10 = early.1 }

@@ -1,7 +1,7 @@
 -- Cleaned groups have no address twice.
 use Rattle.std.proofs.Common.{◌≡◌, Bool, true, false, ◌||◌, List, [], ◌∷◌, ◌++◌, if◌then◌else◌, refl, sym, subst}
 use Rattle.std.specs.List.{AllByRecursion}
-use Rattle.std.proofs.lemmas.Bool.{false≢true}
+use Rattle.std.proofs.lemmas.Bool.{or_parts}
 use Rattle.net_base.specs.Address.{same_address}
 use Rattle.net_base.specs.declared.address.Addr.{Addr}
 use Rattle.net_base.specs.declared.event.Group.{Group}
@@ -13,16 +13,12 @@ use Rattle.laws.proofs.Lists.{all-weaker, all-appended}
 abbrev pub NoneListed : List Addr → List Addr → Type 0
 NoneListed before addrs = AllByRecursion (λ a. is_listed a before ≡ false) addrs
 
-or_split : (a b : Bool) → (a || b) ≡ false → (a ≡ false) × (b ≡ false)
-or_split true b h = absurd (false≢true (sym h))
-or_split false b h = (refl, h)
-
 -- an address that is not listed in a longer list is not listed in its front, and is not its last
 unlisted_push : (a last : Addr) (before : List Addr) → is_listed a (before ++ last ∷ []) ≡ false →
     (is_listed a before ≡ false) × (same_address a last ≡ false)
-unlisted_push a last [] h = (refl, (or_split (same_address a last) false h).0)
+unlisted_push a last [] h = (refl, (or_parts (same_address a last) false h).0)
 unlisted_push a last (x ∷ before) h =
-    let parts = or_split (same_address a x) (is_listed a (before ++ last ∷ [])) h in
+    let parts = or_parts (same_address a x) (is_listed a (before ++ last ∷ [])) h in
     let rest = unlisted_push a last before parts.1 in
     (by_both (same_address a x) (is_listed a before) parts.0 rest.0, rest.1)
   where
@@ -32,7 +28,7 @@ unlisted_push a last (x ∷ before) h =
 pub unlisted_append : (a : Addr) (before more : List Addr) → is_listed a (before ++ more) ≡ false → (is_listed a before ≡ false) × (is_listed a more ≡ false)
 unlisted_append a [] more h = (refl, h)
 unlisted_append a (x ∷ before) more h =
-    let parts = or_split (same_address a x) (is_listed a (before ++ more)) h in
+    let parts = or_parts (same_address a x) (is_listed a (before ++ more)) h in
     let rest = unlisted_append a before more parts.1 in
     (subst (λ b. (b || is_listed a before) ≡ false) (sym parts.0) rest.0, rest.1)
 
@@ -89,7 +85,7 @@ listed_of : (y : Addr) (xs ys : List Addr) → AllByRecursion (λ z. is_listed z
     AllByRecursion (λ z. same_address z y ≡ false) ys × AllByRecursion (λ z. is_listed z xs ≡ false) ys
 listed_of y xs [] h = (tt, tt)
 listed_of y xs (z ∷ ys) h =
-    let parts = or_split (same_address z y) (is_listed z xs) h.0 in
+    let parts = or_parts (same_address z y) (is_listed z xs) h.0 in
     let rest = listed_of y xs ys h.1 in
     ((parts.0, rest.0), (parts.1, rest.1))
 

@@ -1,7 +1,7 @@
 -- Picks are of the candidates, and no address is picked twice.
 use Rattle.std.proofs.Common.{ℕ, zero, suc, ◌≡◌, Bool, true, false, cond, ◌&&◌, ◌||◌, ◌==◌, nat_lt, List, [], ◌∷◌, map, filter, Some, refl, sym, ap, ◌∙◌, subst, arith}
 use Rattle.std.specs.List.{AllByRecursion, best_of}
-use Rattle.std.proofs.lemmas.Bool.{both_ways, false_from_ne_true}
+use Rattle.std.proofs.lemmas.Bool.{both_ways, false_from_ne_true, and_right}
 use Rattle.net_base.specs.Address.{address_below, ip_below, same_ip, same_address}
 use Rattle.net_base.specs.declared.address.Ip.{Ip}
 use Rattle.net_base.specs.declared.address.Ip.TheVariants.{V4, V6}
@@ -77,20 +77,16 @@ ip_below-self : (ip : Ip) → ip_below ip ip ≡ false
 ip_below-self (V4 n) = lt-self n
 ip_below-self (V6 n) = lt-self n
 
-and_false_right : (a b : Bool) → b ≡ false → (a && b) ≡ false
-and_false_right true b h = h
-and_false_right false b h = refl
-
 or_both_false : (a b : Bool) → a ≡ false → b ≡ false → (a || b) ≡ false
 or_both_false a b h k = subst (λ x. (x || b) ≡ false) (sym h) k
 
 address_below-self : (a : Addr) → address_below a a ≡ false
 address_below-self a = or_both_false (ip_below a.ip a.ip) (same_ip a.ip a.ip && nat_lt a.port a.port) (ip_below-self a.ip)
-    (and_false_right (same_ip a.ip a.ip) (nat_lt a.port a.port) (lt-self a.port))
+    (and_right (same_ip a.ip a.ip) (nat_lt a.port a.port) (lt-self a.port))
 
 pair_below-self : (n : ℕ) (a : Addr) → pair_below n a n a ≡ false
 pair_below-self n a = or_both_false (nat_lt n n) (n == n && address_below a a) (lt-self n)
-    (and_false_right (n == n) (address_below a a) (address_below-self a))
+    (and_right (n == n) (address_below a a) (address_below-self a))
 
 -- ---- picks of ordinary peers
 

@@ -1,6 +1,6 @@
 -- Each move keeps the facts of a connection in shape.
 use Rattle.std.proofs.Common.{ℕ, ◌≡◌, Bool, true, false, not, ◌||◌, ◌&&◌, if◌then◌else◌, refl, sym, ap, ◌∙◌}
-use Rattle.std.proofs.lemmas.Bool.{false≢true, both_ways, and_parts}
+use Rattle.std.proofs.lemmas.Bool.{false≢true, both_ways, and_parts, not-true, or_right, or_left}
 use Rattle.net_base.specs.declared.address.Addr.{Addr}
 use Rattle.net_base.specs.declared.connection.Agreed.{Agreed}
 use Rattle.net_base.specs.declared.connection.Facts.{Facts}
@@ -121,21 +121,9 @@ running-negotiated f h runs = by_phase (is_negotiated f) refl
 abbrev pub serves_remote : Facts → Bool
 serves_remote f = not (is_outbound f) || is_duplex f
 
-or_true : (b : Bool) → (b || true) ≡ true
-or_true true = refl
-or_true false = refl
-
 or_false : (b : Bool) → (b || false) ≡ true → b ≡ true
 or_false true e = refl
 or_false false e = e
-
-or_left : (b c : Bool) → b ≡ true → (b || c) ≡ true
-or_left true c e = refl
-or_left false c e = absurd (false≢true e)
-
-not_true : (b : Bool) → not b ≡ true → b ≡ false
-not_true true e = absurd (false≢true e)
-not_true false e = refl
 
 -- ---- moves of one that is negotiated
 
@@ -150,7 +138,7 @@ can_acquire f h =
     let last = and_parts (is_negotiated f && is_duplex f && not f.local) (not (is_for_local f.grace)) h in
     let third = and_parts (is_negotiated f && is_duplex f) (not f.local) last.0 in
     let first = and_parts (is_negotiated f) (is_duplex f) third.0 in
-    record { negotiated = first.0; duplex = first.1; idle = not_true f.local third.1; not_kept = not_true (is_for_local f.grace) last.1 }
+    record { negotiated = first.0; duplex = first.1; idle = not-true f.local third.1; not_kept = not-true (is_for_local f.grace) last.1 }
 
 pub acquired-shaped : (f : Facts) → IsShaped f → is_acquirable f ≡ true → IsShaped (acquired f)
 acquired-shaped f h may =
@@ -161,7 +149,7 @@ acquired-shaped f h may =
       kept = λ local. c.not_kept;
       idle = λ phase local runs. absurd (false≢true (sym local));
       serves_remote = h.serves_remote;
-      serves_local = λ local. rw c.duplex (or_true (is_outbound f));
+      serves_local = λ local. rw c.duplex (or_right (is_outbound f) true refl);
     }
 
 released-remote : (runs : Bool) (grace : Grace) (until : ℕ) → (runs ≡ true → grace ≡ Off) → runs ≡ true →

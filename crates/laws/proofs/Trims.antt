@@ -2,7 +2,7 @@
 use Rattle.std.proofs.Common.{ℕ, suc, ◌+◌, ◌≤◌, ◌<◌, ◌≡◌, Bool, true, false, not, nat_le, if◌then◌else◌, List, [], ◌∷◌, ◌++◌, map, filter_map, find, sum_by, Option, Some, None, refl, sym, ap, ◌∙◌, subst, arith, eq-eqb, leb-true, leb-false, All}
 use Rattle.std.specs.List.{AllByRecursion, cons_option}
 use Rattle.std.specs.Option.{option_map, unwrap_or}
-use Rattle.std.proofs.lemmas.Bool.{cond_both, and_parts, false≢true}
+use Rattle.std.proofs.lemmas.Bool.{cond_both, and_parts, not-true}
 use Rattle.std.proofs.lemmas.List.Elements.{All-head, All-tail}
 use Rattle.net_base.specs.declared.settings.Settings.{Settings}
 use Rattle.net_base.specs.declared.action.CloseCause.TheVariants.{Pruned}
@@ -53,10 +53,6 @@ goes_next e es c g = record {
 abbrev candidates_among : List Entry → List Candidate
 candidates_among es = filter_map candidate_of (map (λ e. e.facts) es)
 
-unless : (b : Bool) → not b ≡ true → b ≡ false
-unless true h = absurd (false≢true h)
-unless false h = refl
-
 candidate-counted : (f : Facts) (c : Candidate) → candidate_of f ≡ Some c → (f.cid ≡ c.cid) × (is_counted f ≡ true) × (f.local ≡ false)
 candidate-counted f c e = by_test (is_candidate f) refl e
   where
@@ -65,7 +61,7 @@ candidate-counted f c e = by_test (is_candidate f) refl e
         (f.cid ≡ c.cid) × (is_counted f ≡ true) × (f.local ≡ false)
     by_test true is same =
         let parts = and_parts (is_counted f) (not f.local) is in
-        (ap (λ o. cid_of f.cid o) same, parts.0, unless f.local parts.1)
+        (ap (λ o. cid_of f.cid o) same, parts.0, not-true f.local parts.1)
       where
         cid_of : Cid → Option Candidate → Cid
         cid_of d None = d

@@ -1,6 +1,6 @@
 -- The moves of connections in the whole machine: what each keeps, and by how much it may raise the counted ones.
 use Rattle.std.proofs.Common.{ℕ, ◌+◌, ◌%◌, ◌≤◌, ◌≡◌, Bool, true, false, ◌&&◌, ◌||◌, nat_le, ◌==◌, if◌then◌else◌, count_by, Option, Some, None, is_some, subst, refl, sym, ap, ◌∙◌, arith}
-use Rattle.std.proofs.lemmas.Bool.{cond_both, both_ways, and_parts, and_from, false≢true, false_from_ne_true}
+use Rattle.std.proofs.lemmas.Bool.{cond_both, both_ways, and_parts, and_from, false≢true, false_from_ne_true, and_right}
 use Rattle.net_base.specs.declared.action.CloseCause.{CloseCause}
 use Rattle.net_base.specs.declared.action.CloseCause.TheVariants.{Overwritten}
 use Rattle.net_base.specs.declared.connection.Agreed.{Agreed}
@@ -55,10 +55,6 @@ stands-shaped m e k h s = All-stands (λ x. IsShaped x.facts) m.connections k e 
 pub stands-owing : (m : Machine) (e : Entry) (k : ℕ) → IsOrdered m → StandsAt m.connections k e → IsOwing e
 stands-owing m e k h s = All-stands IsOwing m.connections k e s h.formed.owing
 
-and_false_right : (a b : Bool) → b ≡ false → (a && b) ≡ false
-and_false_right true b h = h
-and_false_right false b h = refl
-
 pub pending-unnegotiated : (f : Facts) → is_pending f ≡ true → is_negotiated f ≡ false
 pending-unnegotiated f h = by_phase f.phase refl (and_parts (is_outbound f) (opening_phase f.phase) h).1
   where
@@ -82,7 +78,7 @@ missed-live f shape missed = by_phase f.phase refl
     by_phase Negotiated is = ap live_phase is
     by_phase (Closing until) is =
         absurd (both_ways (is_missed f)
-        (dead (ap is_negotiated_phase is) (and_false_right (is_outbound f) (opening_phase f.phase) (ap opening_phase is))) missed)
+        (dead (ap is_negotiated_phase is) (and_right (is_outbound f) (opening_phase f.phase) (ap opening_phase is))) missed)
 
 not_missed-unused : (f : Facts) → is_missed f ≡ false → f.local ≡ false
 not_missed-unused f h = by_local f.local h
