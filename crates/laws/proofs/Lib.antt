@@ -31,6 +31,7 @@ mod WholeRuns
 mod Promotions
 mod Picks
 mod Ties
+mod Rises
 mod PeerLaws
 mod Lawful
 mod KnownWanted
