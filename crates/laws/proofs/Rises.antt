@@ -15,7 +15,7 @@ use Rattle.machine.specs.Peers.{peer_at, turns_at, peer_changes}
 use Rattle.machine.specs.Connections.{with_entry, without_entry}
 use Rattle.laws.specs.AtMoves.{is_up_connection, is_up, is_hot_peer, is_asked_connection, is_hot_or_asked, is_known, promotes, activates, shares}
 use Rattle.laws.specs.Sound.{IsOrderly}
-use Rattle.laws.proofs.Addresses.{same_address-self, same_address-true}
+use Rattle.laws.proofs.Addresses.{same_address-true}
 use Rattle.laws.proofs.Entries.{TurnsInto, with_new}
 use Rattle.laws.proofs.Lists.{StandsAt}
 use Rattle.laws.proofs.PeersApart.{same_turned}
@@ -74,6 +74,24 @@ rises_move happened m effect h = record {
   arrivals = rises_by_move is_known shares happened m effect h.arrivals;
 }
 
+-- what a move says
+said : (says : Addr → Happened → Bool) (happened : Happened) (m : Machine) (effect : Effect) (addr : Addr) → says addr happened ≡ true →
+    list_any (λ move. says addr move.happened) (as_move happened m effect).moves ≡ true
+said says happened m effect addr h =
+    let move : Move = record { happened = happened; before = m; after = effect.machine } in
+    list_any-append (λ x. says addr x.happened) effect.moves (move ∷ [])
+    ∙ or_right (list_any (λ x. says addr x.happened) effect.moves) (says addr happened || false) (or_left (says addr happened) false h)
+
+-- whoever comes up is the one that the move is of
+pub rises_said : (is : Addr → Machine → Bool) (says : Addr → Happened → Bool) (happened : Happened) (m : Machine) (effect : Effect) →
+    ((addr : Addr) → says addr happened ≡ false → is addr effect.machine ≡ true → is addr m ≡ true) → RisesBy is says m (as_move happened m effect)
+rises_said is says happened m effect others addr h = by_move (says addr happened) refl
+  where
+    by_move : (b : Bool) → says addr happened ≡ b → (is addr m || list_any (λ move. says addr move.happened) (as_move happened m effect).moves) ≡ true
+    by_move true e =
+        or_right (is addr m) (list_any (λ move. says addr move.happened) (as_move happened m effect).moves) (said says happened m effect addr e)
+    by_move false e = or_left (is addr m) (list_any (λ move. says addr move.happened) (as_move happened m effect).moves) (others addr e h)
+
 -- ---- nobody comes up
 
 -- Whoever is so after was so before.
@@ -91,14 +109,14 @@ pub record NoneConnected (before after : Machine) : Type 0 where
   pub up : StaysDown is_up before after
   pub asked : StaysDown is_asked before after
 
-either : (a b c d : Bool) → (a ≡ true → c ≡ true) → (b ≡ true → d ≡ true) → (a || b) ≡ true → (c || d) ≡ true
-either true b c d one two h = or_left c d (one refl)
-either false b c d one two h = or_right c d (two h)
+pub or_each : (a b c d : Bool) → (a ≡ true → c ≡ true) → (b ≡ true → d ≡ true) → (a || b) ≡ true → (c || d) ≡ true
+or_each true b c d one two h = or_left c d (one refl)
+or_each false b c d one two h = or_right c d (two h)
 
-hot_or_asked-down : (m n : Machine) → StaysDown is_hot m n → StaysDown is_asked m n → StaysDown is_hot_or_asked m n
-hot_or_asked-down m n hot asked addr h = either (is_hot addr n) (is_asked addr n) (is_hot addr m) (is_asked addr m) (hot addr) (asked addr) h
+pub hot_or_asked-down : (m n : Machine) → StaysDown is_hot m n → StaysDown is_asked m n → StaysDown is_hot_or_asked m n
+hot_or_asked-down m n hot asked addr h = or_each (is_hot addr n) (is_asked addr n) (is_hot addr m) (is_asked addr m) (hot addr) (asked addr) h
 
-rises_nowhere : (is : Addr → Machine → Bool) (says : Addr → Happened → Bool) (m : Machine) (effect : Effect) → StaysDown is m effect.machine → RisesBy is says m effect
+pub rises_nowhere : (is : Addr → Machine → Bool) (says : Addr → Happened → Bool) (m : Machine) (effect : Effect) → StaysDown is m effect.machine → RisesBy is says m effect
 rises_nowhere is says m effect down addr h = or_left (is addr m) (list_any (λ move. says addr move.happened) effect.moves) (down addr h)
 
 pub rises_none : (m : Machine) (effect : Effect) → NoneConnected m effect.machine → StaysDown is_hot m effect.machine → StaysDown is_known m effect.machine →
@@ -112,7 +130,7 @@ rises_none m effect connected hot known = record {
 -- ---- connections
 
 -- what a test finds of the connection of an address
-abbrev of_connection : (Option Entry → Bool) → Addr → Machine → Bool
+abbrev pub of_connection : (Option Entry → Bool) → Addr → Machine → Bool
 of_connection q addr m = q (live_entry_at addr m)
 
 pub same-connected : (m n : Machine) → n.connections ≡ m.connections → NoneConnected m n
@@ -132,7 +150,7 @@ pub record IsNoHigher (old new : Entry) : Type 0 where
   pub up : is_up_connection (Some new) ≡ true → is_up_connection (Some old) ≡ true
   pub asked : is_asked_connection (Some new) ≡ true → is_asked_connection (Some old) ≡ true
 
-turned-down : (q : Option Entry → Bool) → q None ≡ false → (m : Machine) (e new : Entry) (k : ℕ) → IsOrderly m → StandsAt m.connections k e → TurnsInto e new →
+pub turned-down : (q : Option Entry → Bool) → q None ≡ false → (m : Machine) (e new : Entry) (k : ℕ) → IsOrderly m → StandsAt m.connections k e → TurnsInto e new →
     (q (Some new) ≡ true → q (Some e) ≡ true) → StaysDown (of_connection q) m (with_entry new m)
 turned-down q none m e new k h s t lower addr = by_live (is_live e.facts) refl
   where
@@ -196,12 +214,9 @@ pushed-down {X} q p new (x ∷ xs) none lower is = by_test (p x) is (pushed-down
     by_test true is later = is
     by_test false is later = later is
 
--- a connection comes that is neither up nor asked
-pub come-connected : (m : Machine) (new : Entry) → is_up_connection (Some new) ≡ false → is_asked_connection (Some new) ≡ false → NoneConnected m (with_new new m)
-come-connected m new up asked = record {
-  up = λ addr h. pushed-down is_up_connection (λ e. is_live_at addr e.facts) new m.connections refl up h;
-  asked = λ addr h. pushed-down is_asked_connection (λ e. is_live_at addr e.facts) new m.connections refl asked h;
-}
+-- a connection comes
+pub come-down : (q : Option Entry → Bool) → q None ≡ false → (m : Machine) (new : Entry) → q (Some new) ≡ false → StaysDown (of_connection q) m (with_new new m)
+come-down q none m new lower addr h = pushed-down q (λ e. is_live_at addr e.facts) new m.connections none lower h
 
 -- ---- peers
 
