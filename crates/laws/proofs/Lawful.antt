@@ -165,7 +165,7 @@ accounts_turned m e new k effect h s t lower same still = record {
       (subst (StaysDown is_hot m) (sym same) (λ addr hot. hot)) (subst (StaysDown is_known m) (sym same) (λ addr known. known));
 }
 
--- a connection goes, and what follows is quiet
+-- a connection goes, and nobody comes up by what follows
 pub accounts_gone : (m : Machine) (e : Entry) (k : ℕ) (effect : Effect) → IsOrderly m → StandsAt m.connections k e →
     effect.machine.connections ≡ (without_entry e.facts.cid.0 m).connections → StaysDown is_hot m effect.machine → StaysDown is_known m effect.machine →
     (is_negotiated e.facts ≡ true → is_ended_in e.facts.cid.0 effect.moves ≡ true) → Accounts m effect
@@ -263,7 +263,7 @@ lost-quiet f m = cond_both (is_missed f) (peer_fails f.addr m) (nothing_more m) 
     (λ missed. changes-quiet f.addr (failed_peer m.now m.settings.backoff) m (record { addr = λ p. refl; hot = λ p hot. absurd (false≢true hot) }))
     (λ other. tells-quiet [] m)
 
-pub lost_by-quiet : (cause : CloseCause) (f : Facts) (m : Machine) → IsQuiet m (lost_by cause f m)
+lost_by-quiet : (cause : CloseCause) (f : Facts) (m : Machine) → IsQuiet m (lost_by cause f m)
 lost_by-quiet Unused f m = lost-quiet f m
 lost_by-quiet Pruned f m = lost-quiet f m
 lost_by-quiet Overwritten f m = tells-quiet [] m

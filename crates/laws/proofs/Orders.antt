@@ -180,7 +180,7 @@ activated-allowed : (faults : Faults) (addr : Addr) (m after : Machine) → MayA
     IsAllowed faults (record { happened = activated addr; before = m; after = after })
 activated-allowed faults addr m after may ties = record { back_off = warm-ready m.now (peer_at addr m) (live_entry_at addr m) may (ties addr); cause = tt }
 
--- whoever is asked, the move is of it
+-- only whom the move is of is asked
 activates-accounts : (addr : Addr) (m : Machine) (e : Entry) (k : ℕ) → Used m addr e k → Accounts m (as_move (activated addr) m (activates e m))
 activates-accounts addr m e k u =
     let new : Entry = owing 2 0 m e in

@@ -74,7 +74,7 @@ rises_move happened m effect h = record {
   arrivals = rises_by_move is_known shares happened m effect h.arrivals;
 }
 
--- what a move says
+-- a move says of itself
 said : (says : Addr → Happened → Bool) (happened : Happened) (m : Machine) (effect : Effect) (addr : Addr) → says addr happened ≡ true →
     list_any (λ move. says addr move.happened) (as_move happened m effect).moves ≡ true
 said says happened m effect addr h =
@@ -82,7 +82,7 @@ said says happened m effect addr h =
     list_any-append (λ x. says addr x.happened) effect.moves (move ∷ [])
     ∙ or_right (list_any (λ x. says addr x.happened) effect.moves) (says addr happened || false) (or_left (says addr happened) false h)
 
--- whoever comes up is the one that the move is of
+-- only whom the move is of comes up
 pub rises_said : (is : Addr → Machine → Bool) (says : Addr → Happened → Bool) (happened : Happened) (m : Machine) (effect : Effect) →
     ((addr : Addr) → says addr happened ≡ false → is addr effect.machine ≡ true → is addr m ≡ true) → RisesBy is says m (as_move happened m effect)
 rises_said is says happened m effect others addr h = by_move (says addr happened) refl
