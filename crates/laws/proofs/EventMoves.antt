@@ -31,8 +31,9 @@ use Rattle.machine.specs.Deadlines.{deadlines, fire_all}
 use Rattle.machine.specs.Events.{clock_shows, turned_away, admitted, crossed, accepted_beside, accepted_through, peer_connects, closed_at, peer_closes, dial_ends_at, dial_ends}
 use Rattle.machine.specs.Provided.{comes_ordinary, locals_are, is_wanted_big, comes_big, bigs_are, roots_say, roots_answer}
 use Rattle.machine.specs.Whole.{whole_step}
-use Rattle.laws.specs.AtMoves.{Faults, faults_of, IsLawful, is_negotiated_entry, is_negotiated_at, is_ended_in, is_closed_by, MovesAreLawful, EndsAreMoves, is_up_connection, is_up, is_hot_or_asked, is_known, promotes, activates, is_shared_in, is_provided, PromotionsAreMoves, ActivationsAreMoves, ArrivalsAreMoves}
+use Rattle.laws.specs.AtMoves.{Faults, faults_of, IsLawful, is_negotiated_entry, is_negotiated_at, is_ended_in, is_closed_by, MovesAreLawful, EndsAreMoves, is_up_connection, is_up, is_hot_or_asked, is_known, promotes, activates, is_shared_in, is_provided_by, PromotionsAreMoves, ActivationsAreMoves, ArrivalsAreMoves}
 use Rattle.laws.specs.Whole.{IsSteady}
+use Rattle.laws.proofs.Arrivals.{locals-known, roots-known}
 use Rattle.laws.proofs.Clock.{fire_due-obeys}
 use Rattle.laws.proofs.Entries.{gone-connections}
 use Rattle.laws.proofs.Events.{admitted_entry, at_moment, at_moment-orderly}
@@ -42,7 +43,7 @@ use Rattle.laws.proofs.Keeping.{IsOrdered}
 use Rattle.laws.proofs.KnownWanted.{bigs-within}
 use Rattle.laws.proofs.Lawful.{EndsBy, ends_same, Accounts, accounts_come, accounts_gone, Obeys, obeys_then, obeys_nothing, IsQuiet, quiet-lawful, quiet-obeys, elsewhere-quiet, tells-quiet, changes-quiet, lost-quiet, IsProviding, comes-providing, shared-accounts, ending-obeys, ended-lawful, on_stands, turned_then-obeys, as_move-obeys, IsAllowed, Within, allowed_within}
 use Rattle.laws.proofs.Lists.{StandsAt, find_some, all-both, all-placed}
-use Rattle.laws.proofs.Rises.{Rises, NoneConnected, hot_or_asked-down, rises_nowhere, rises_none, same-connected, connected_then, gone-connected}
+use Rattle.laws.proofs.Rises.{Rises, or_each, NoneConnected, hot_or_asked-down, rises_nowhere, rises_none, same-connected, connected_then, gone-connected}
 use Rattle.laws.proofs.Shapes.{dialing-unnegotiated}
 use Rattle.laws.proofs.Streams.{bytes_come_in-trimmed}
 use Rattle.laws.proofs.WholeEvents.{ordered_of, formed_at_moment}
@@ -290,7 +291,7 @@ ends-known m event ends cid before =
 
 arrivals-known : (m : Machine) (event : Event) → Rises m (whole_step m event) → ArrivalsAreMoves m event
 arrivals-known m event rises addr known =
-    or_left (is_known addr m || is_shared_in addr (whole_step m event).moves) (is_provided event) (rises.arrivals addr known)
+    or_left (is_known addr m || is_shared_in addr (whole_step m event).moves) (is_provided_by addr event) (rises.arrivals addr known)
 
 obeys-known : (m : Machine) (event : Event) → Obeys (IsLawful (faults_of m event)) m (whole_step m event) → IsKnown m event
 obeys-known m event h = record {
@@ -304,8 +305,9 @@ obeys-known m event h = record {
 quiet-known : (m : Machine) (event : Event) → IsQuiet m (whole_step m event) → IsKnown m event
 quiet-known m event q = obeys-known m event (quiet-obeys (IsLawful (faults_of m event)) m (whole_step m event) q)
 
-providing-known : (m : Machine) (event : Event) → IsProviding m (whole_step m event) → is_provided event ≡ true → IsKnown m event
-providing-known m event p provided =
+providing-known : (m : Machine) (event : Event) → IsProviding m (whole_step m event) →
+    ((addr : Addr) → is_known addr (whole_step m event).machine ≡ true → (is_known addr m || is_provided_by addr event) ≡ true) → IsKnown m event
+providing-known m event p named =
     let effect : Effect = whole_step m event in
     let connected : NoneConnected m effect.machine = same-connected m effect.machine p.connections in
     record {
@@ -313,7 +315,8 @@ providing-known m event p provided =
       ends = ends-known m event (ends_same m effect p.connections);
       promotions = rises_nowhere is_up promotes m effect connected.up;
       activations = rises_nowhere is_hot_or_asked activates m effect (hot_or_asked-down m effect.machine p.hot connected.asked);
-      arrivals = λ addr known. or_right (is_known addr m || is_shared_in addr effect.moves) (is_provided event) provided;
+      arrivals = λ addr known. or_each (is_known addr m) (is_provided_by addr event) (is_known addr m || is_shared_in addr effect.moves) (is_provided_by addr event)
+          (λ before. or_left (is_known addr m) (is_shared_in addr effect.moves) before) (λ is. is) (named addr known);
     }
 
 pub whole_step-known : (m : Machine) (event : Event) → IsSteady m → IsKnown m event
@@ -336,8 +339,8 @@ whole_step-known m (Closed cid) h =
       arrivals = arrivals-known m (Closed cid) rises;
     }
 whole_step-known m (Aims targets) h = quiet-known m (Aims targets) (elsewhere-quiet m (whole_step m (Aims targets)) refl refl refl)
-whole_step-known m (Locals groups) h = providing-known m (Locals groups) (locals-providing groups m) refl
-whole_step-known m (Roots job answer) h = providing-known m (Roots job answer) (roots-providing job answer m) refl
+whole_step-known m (Locals groups) h = providing-known m (Locals groups) (locals-providing groups m) (locals-known groups m)
+whole_step-known m (Roots job answer) h = providing-known m (Roots job answer) (roots-providing job answer m) (roots-known job answer m)
 whole_step-known m (BigAims targets) h = quiet-known m (BigAims targets) (elsewhere-quiet m (whole_step m (BigAims targets)) refl refl refl)
 whole_step-known m (Bigs addrs) h = obeys-known m (Bigs addrs) (bigs-obeys (faults_of m (Bigs addrs)) addrs m)
 

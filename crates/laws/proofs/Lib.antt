@@ -32,6 +32,7 @@ mod Promotions
 mod Picks
 mod Ties
 mod Rises
+mod Arrivals
 mod PeerLaws
 mod Lawful
 mod KnownWanted

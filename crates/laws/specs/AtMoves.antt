@@ -25,11 +25,13 @@ use Rattle.net_base.specs.declared.connection.Grace.TheVariants.{Off, ForRemote,
 use Rattle.net_base.specs.declared.event.Event.{Event}
 use Rattle.net_base.specs.declared.event.Event.TheVariants.{Now, Govern, Accepted, Dialed, Bytes, Closed, Aims, Locals, Roots, BigAims, Bigs}
 use Rattle.net_base.specs.declared.event.Group.{Group}
+use Rattle.net_base.specs.declared.event.RootAnswer.{RootAnswer}
+use Rattle.net_base.specs.declared.event.RootAnswer.TheVariants.{Found, Failed}
 use Rattle.net_base.specs.declared.peer.Peer.{Peer}
 use Rattle.peer_book.specs.Book.{is_active, known_of}
 use Rattle.remote_watch.specs.Watch.{watched}
 use Rattle.remote_watch.specs.declared.seen.Seen.{Seen}
-use Rattle.root_groups.specs.Cleaned.{is_listed}
+use Rattle.root_groups.specs.Cleaned.{is_listed, members_of}
 use Rattle.machine.specs.Effect.{Happened, Move, promoted, activated, shared, ended, unused, left}
 use Rattle.machine.specs.Govern.{link_of}
 use Rattle.machine.specs.Machine.{Machine, Entry, Owed, counted_in, entry_at, live_entry_at}
@@ -309,19 +311,23 @@ is_activated_in addr moves = list_any (λ move. activates addr move.happened) mo
 abbrev pub is_shared_in : Addr → List Move → Bool
 is_shared_in addr moves = list_any (λ move. shares addr move.happened) moves
 
--- the event sets the local root peers, or brings public ones
-abbrev pub is_provided : Event → Bool
-is_provided (Now t) = false
-is_provided (Govern word) = false
-is_provided (Accepted addr) = false
-is_provided (Dialed cid opened) = false
-is_provided (Bytes cid bytes) = false
-is_provided (Closed cid) = false
-is_provided (Aims targets) = false
-is_provided (Locals groups) = true
-is_provided (Roots job answer) = true
-is_provided (BigAims targets) = false
-is_provided (Bigs addrs) = false
+abbrev pub is_found_in : Addr → RootAnswer → Bool
+is_found_in addr (Found ttl addrs) = is_listed addr addrs
+is_found_in addr Failed = false
+
+-- the event names it, as a local root peer or a public one
+abbrev pub is_provided_by : Addr → Event → Bool
+is_provided_by addr (Now t) = false
+is_provided_by addr (Govern word) = false
+is_provided_by addr (Accepted other) = false
+is_provided_by addr (Dialed cid opened) = false
+is_provided_by addr (Bytes cid bytes) = false
+is_provided_by addr (Closed cid) = false
+is_provided_by addr (Aims targets) = false
+is_provided_by addr (Locals groups) = is_listed addr (members_of groups)
+is_provided_by addr (Roots job answer) = is_found_in addr answer
+is_provided_by addr (BigAims targets) = false
+is_provided_by addr (Bigs addrs) = false
 
 -- Whoever is used, or on its way to it, was so before the event, or a move promoted it.
 abbrev pub PromotionsAreMoves : Machine → Event → Type 0
@@ -333,7 +339,8 @@ abbrev pub ActivationsAreMoves : Machine → Event → Type 0
 ActivationsAreMoves m event = (addr : Addr) → is_hot_or_asked addr (whole_step m event).machine ≡ true →
     (is_hot_or_asked addr m || is_activated_in addr (whole_step m event).moves) ≡ true
 
--- Whoever is known was so before the event, or a move shared its address, or the event provides peers.
+-- Whoever is known was so before the event, or a move shared its address, or the event names it as a local
+-- or a public root peer.
 abbrev pub ArrivalsAreMoves : Machine → Event → Type 0
 ArrivalsAreMoves m event = (addr : Addr) → is_known addr (whole_step m event).machine ≡ true →
-    (is_known addr m || is_shared_in addr (whole_step m event).moves || is_provided event) ≡ true
+    (is_known addr m || is_shared_in addr (whole_step m event).moves || is_provided_by addr event) ≡ true

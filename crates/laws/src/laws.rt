@@ -51,7 +51,7 @@ pub fn laws_of_whole_runs()
 /// The laws on the moves of an event, after every list of events: promotions and activations are out of back-off and
 /// within what is wanted, no connection whose handshake is done ends without a cause, and none is gone without a move
 /// but where the other side has closed it. Nobody comes into use or becomes hot without a move either, nor is an address
-/// known without one but where the event provides peers.
+/// known without one but where the event names it as a root peer's.
 pub fn laws_of_moves()
     ensures back_off { (settings : Settings) (events : List Event) (event : Event) → AreSound settings → All (λ move. OutOfBackOff move.happened move.before) (whole_step (whole_after (start_of settings) events) event).moves }
     ensures targets { (settings : Settings) (events : List Event) (event : Event) → AreSound settings → All (λ move. WithinTargets move.happened move.before move.after) (whole_step (whole_after (start_of settings) events) event).moves }
