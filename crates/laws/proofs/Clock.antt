@@ -1,6 +1,6 @@
 -- The moves of the clock: a reply is late, a grace is over, a handshake was not done in time, a time-wait is over.
-use Rattle.std.proofs.Common.{ℕ, zero, suc, ◌≡◌, Bool, true, false, ◌||◌, ◌==◌, if◌then◌else◌, [], ◌∷◌, Option, Some, None, All, Contains, refl, sym, ap, subst, eq-eqb, leb-true}
-use Rattle.std.proofs.lemmas.Bool.{cond_both, both_ways, false≢true}
+use Rattle.std.proofs.Common.{ℕ, zero, suc, ◌≡◌, Bool, true, false, ◌&&◌, ◌||◌, ◌==◌, if◌then◌else◌, [], ◌∷◌, Option, Some, None, All, Contains, refl, sym, ap, subst, eq-eqb, leb-true}
+use Rattle.std.proofs.lemmas.Bool.{cond_both, both_ways, false≢true, and_right}
 use Rattle.std.proofs.lemmas.List.Elements.{All-nil, All-weaker, All-contains, All-contains_itself}
 use Rattle.net_base.specs.declared.action.Action.TheVariants.{Close}
 use Rattle.net_base.specs.declared.action.CloseCause.TheVariants.{Unused, Fault}
@@ -15,7 +15,7 @@ use Rattle.net_base.specs.declared.timer.Deadline.{Deadline}
 use Rattle.net_base.specs.declared.timer.Kind.{Kind}
 use Rattle.net_base.specs.declared.timer.Kind.TheVariants.{Handshake, Grace as GraceKind, TimeWait, Reply2, Reply8, Reply10}
 use Rattle.conn_state.specs.Moves.{expired}
-use Rattle.conn_state.specs.Use.{is_live, live_phase, is_negotiated, is_negotiated_phase, some_runs}
+use Rattle.conn_state.specs.Use.{is_live, live_phase, is_negotiated, is_negotiated_phase, is_outbound, some_runs}
 use Rattle.machine.specs.Machine.{Machine, Entry, Owed}
 use Rattle.machine.specs.Effect.{Effect, unused, left, tells, then_do, as_move}
 use Rattle.machine.specs.Connections.{entry_turns, entry_goes, closing_entry, ending, grace_over, wait_over}
@@ -88,14 +88,15 @@ grace_over-obeys : (faults : Faults) (m : Machine) (e : Entry) (k : ℕ) → IsO
 grace_over-obeys faults m e k h s past =
     cond_both e.facts.local (entry_turns e (record e { facts = expired e.facts }) m) closed (Obeys (IsLawful faults) m)
     (λ local. turns-obeys (IsLawful faults) m e (record e { facts = expired e.facts }) k h.orderly s
-    (record { same_id = refl; same_addr = refl; live = λ l. l }) (λ negotiated. negotiated))
+    (record { same_id = refl; same_addr = refl; live = λ l. l }) (record { up = λ up. up; asked = λ asked. asked }) (λ negotiated. negotiated))
     (λ idle. as_move-obeys (IsLawful faults) (unused e.facts.cid.0) m closes refl
     (record {
       back_off = tt;
       targets = tt;
       cause = on_stands (λ x. IsOver m.now x.facts) m e k h.orderly s (over m.now e.facts (stands-shaped m e k h s) idle past);
     })
-    (accounts_turned m e (closing_entry m e) k closed h.orderly s (record { same_id = refl; same_addr = refl; live = λ l. absurd (false≢true l) }) refl
+    (accounts_turned m e (closing_entry m e) k closed h.orderly s (record { same_id = refl; same_addr = refl; live = λ l. absurd (false≢true l) })
+    (record { up = λ up. absurd (both_ways (is_outbound e.facts && false) (and_right (is_outbound e.facts) false refl) up); asked = λ asked. asked }) refl
     (λ negotiated. ap (λ b. b || false) (eq-eqb e.facts.cid.0 e.facts.cid.0 refl))))
   where
     closes : Effect
@@ -117,7 +118,7 @@ wait_over-obeys faults m e k h s dead =
     let closed : is_negotiated e.facts ≡ false = live-negotiated e.facts dead in
     as_move-obeys (IsLawful faults) (left e.facts.cid.0) m (entry_goes e m) refl
     (record { back_off = tt; targets = tt; cause = on_stands (λ x. is_negotiated x.facts ≡ false) m e k h.orderly s closed })
-    (accounts_gone m e k (wait_over e m) h.orderly s refl (λ negotiated. absurd (both_ways (is_negotiated e.facts) closed negotiated)))
+    (accounts_gone m e k (wait_over e m) h.orderly s refl (λ addr hot. hot) (λ addr known. known) (λ negotiated. absurd (both_ways (is_negotiated e.facts) closed negotiated)))
 
 fault-obeys : (faults : Faults) (kind : FaultKind) (m : Machine) (e : Entry) (k : ℕ) → IsOrdered m → StandsAt m.connections k e →
     (is_negotiated e.facts ≡ true → faults m e kind) → Obeys (IsLawful faults) m (ending (Fault kind) e m)

@@ -31,7 +31,7 @@ use Rattle.machine.specs.Govern.{link_of, view_of, is_used_at, carries_out, asks
 use Rattle.laws.specs.AtMoves.{Faults, IsLawful}
 use Rattle.laws.proofs.Chosen.{chosen, chosen-apart, chosen-all, PicksMembers, groups_picks-apart, groups_picks-all, map-groups}
 use Rattle.laws.proofs.Keeping.{IsOrdered, Keeps, keeps_nothing, elsewhere-keeps}
-use Rattle.laws.proofs.Lawful.{IsQuiet, quiet-obeys, IsAllowed, Within, allowed_within}
+use Rattle.laws.proofs.Lawful.{IsQuiet, quiet-obeys, elsewhere-quiet, tells-quiet, IsAllowed, Within, allowed_within}
 use Rattle.laws.proofs.Orders.{Carries, orders-trimmed, Always, ask-carried, IsCold, IsIdle, MayForget, forget-carried, MayRelease, release-carried, MayActivate, activate-carried, deactivate-carried, MayAsk}
 use Rattle.laws.proofs.Promotions.{MayPromote, promotes-carried, eligible-may}
 use Rattle.laws.proofs.Trims.{Trimmed, keeps-trimmed, nothing-trimmed, trimmed_then, trimmed_both, trimmed-within}
@@ -306,7 +306,9 @@ asks_roots-keeps m h = cond_both (may_ask m.now m.targets.root m.roots)
 asks_roots-quiet : (m : Machine) → IsQuiet m (asks_roots m)
 asks_roots-quiet m = cond_both (may_ask m.now m.targets.root m.roots)
     (tells (AskRoots (record { 0 = m.roots.next_job }) ∷ []) (record m { roots = asked m.roots })) (nothing_more m) (IsQuiet m)
-    (λ too_few. record { moves = refl; connections = refl }) (λ enough. record { moves = refl; connections = refl })
+    (λ too_few.
+    elsewhere-quiet m (tells (AskRoots (record { 0 = m.roots.next_job }) ∷ []) (record m { roots = asked m.roots })) refl refl refl)
+    (λ enough. tells-quiet [] m)
 
 pub govern-trimmed : (faults : Faults) (word : ℕ) (m : Machine) → IsOrdered m → counted_in m ≤ m.settings.hard → Trimmed (IsLawful faults) m (govern word m)
 unfolding DoesLawful

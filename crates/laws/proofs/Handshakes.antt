@@ -1,6 +1,6 @@
 -- A connection in its handshake: whatever comes in, the connections stay in order and within the limit.
-use Rattle.std.proofs.Common.{ℕ, ◌+◌, ◌≤◌, ◌≡◌, Bool, true, false, not, ◌&&◌, ◌==◌, if◌then◌else◌, List, Option, Some, None, refl, sym, subst}
-use Rattle.std.proofs.lemmas.Bool.{cond_both, both_ways}
+use Rattle.std.proofs.Common.{ℕ, ◌+◌, ◌≤◌, ◌≡◌, Bool, true, false, not, ◌&&◌, ◌==◌, if◌then◌else◌, List, [], Option, Some, None, refl, sym, subst}
+use Rattle.std.proofs.lemmas.Bool.{cond_both, both_ways, false≢true, and_from, and_right, or_from, or_right}
 use Rattle.hs_decide.specs.Agreement.{accepts_info, accepts_offer, agrees_info, agrees_on, meets_joined, meets_info, meets_offer, verdict_of, common_in, joined, same_magic}
 use Rattle.hs_decide.specs.Answers.{answer_of}
 use Rattle.hs_decide.specs.declared.role.Role.{Role}
@@ -20,23 +20,28 @@ use Rattle.mux_segment.specs.declared.item.Item.{Item}
 use Rattle.net_base.specs.declared.action.CloseCause.{CloseCause}
 use Rattle.net_base.specs.declared.action.CloseCause.TheVariants as cause
 use Rattle.net_base.specs.declared.action.FaultKind.TheVariants.{Malformed, Protocol}
+use Rattle.net_base.specs.declared.connection.Agreed.{Agreed}
 use Rattle.net_base.specs.declared.connection.Cid.{Cid}
+use Rattle.net_base.specs.declared.connection.Phase.{Phase}
+use Rattle.net_base.specs.declared.connection.Phase.TheVariants.{Dialing, Greeting, Negotiated, Closing}
 use Rattle.net_base.specs.declared.connection.Provenance.{Provenance}
 use Rattle.net_base.specs.declared.connection.Provenance.TheVariants.{FromRemote, FromLocal}
 use Rattle.conn_state.specs.Moves.{agreed_inbound, agreed_outbound}
-use Rattle.conn_state.specs.Use.{is_greeting, is_negotiated, is_outbound, is_outbound_by}
+use Rattle.conn_state.specs.Use.{is_greeting, is_greeting_phase, is_negotiated, opening_phase, is_outbound, is_outbound_by, is_pending}
 use Rattle.machine.specs.Machine.{Machine, Entry, counted_in}
+use Rattle.machine.specs.Replies.{answers}
 use Rattle.machine.specs.Effect.{Effect}
 use Rattle.machine.specs.Own.{own_info}
 use Rattle.machine.specs.Connections.{ending}
 use Rattle.machine.specs.Greeting.{role_of, is_awaited, fits_side, told, judged, decided, greeted_by, greets}
-use Rattle.laws.specs.AtMoves.{Faults, IsLawful}
+use Rattle.laws.specs.AtMoves.{Faults, IsLawful, is_up_connection}
+use Rattle.laws.specs.Whole.{IsShaped}
 use Rattle.laws.proofs.Keeping.{IsOrdered, Keeps, keeps_nothing}
-use Rattle.laws.proofs.Lawful.{IsQuiet, quiet-obeys, ending-obeys, ended-lawful, turns-obeys, used-obeys}
+use Rattle.laws.proofs.Lawful.{IsQuiet, quiet-obeys, tells-quiet, ending-obeys, ended-lawful, turns-obeys, used-obeys}
 use Rattle.laws.proofs.Lists.{StandsAt}
 use Rattle.laws.proofs.Shapes.{greeting-unnegotiated}
 use Rattle.laws.proofs.Trims.{Trimmed, keeps-trimmed, trimmed_then}
-use Rattle.laws.proofs.WholeMoves.{IsLost, greeting-live, ending-keeps, agrees_inbound-keeps, agrees_outbound-keeps}
+use Rattle.laws.proofs.WholeMoves.{stands-shaped, IsLost, greeting-live, ending-keeps, agrees_inbound-keeps, agrees_outbound-keeps}
 
 -- ---- who comes to which verdict
 
@@ -117,8 +122,8 @@ told-machine None cid m = refl
 told-machine (Some bytes) cid m = refl
 
 told-quiet : (o : Option (List ℕ)) (cid : Cid) (m : Machine) → IsQuiet m (told o cid m)
-told-quiet None cid m = record { moves = refl; connections = refl }
-told-quiet (Some bytes) cid m = record { moves = refl; connections = refl }
+told-quiet None cid m = tells-quiet [] m
+told-quiet (Some bytes) cid m = tells-quiet (answers cid 0 bytes m).actions m
 
 -- who answers a greeting: an acceptor was dialed, and a dialer has dialed
 record Greets (m : Machine) (e : Entry) (k : ℕ) : Type 0 where
@@ -135,19 +140,40 @@ ends faults cause loses m e k g =
     (ended-lawful faults cause m (ending cause e m).machine e k g.ordered.orderly g.stands
     (λ negotiated. absurd (both_ways (is_negotiated e.facts) (greeting-unnegotiated e.facts.phase g.greeting) negotiated))))
 
+-- who was dialed by the other side is not used
+agreed_inbound-down : (agreed : Agreed) (until : ℕ) (e : Entry) → is_greeting e.facts ≡ true → IsShaped e.facts →
+    is_up_connection (Some (record e { facts = agreed_inbound agreed until e.facts })) ≡ true → is_up_connection (Some e) ≡ true
+agreed_inbound-down agreed until e greeting shape up =
+    let unused : e.facts.local ≡ false = (shape.unused (greeting-unnegotiated e.facts.phase greeting)).local in
+    absurd (both_ways (is_up_connection (Some (record e { facts = agreed_inbound agreed until e.facts })))
+    (or_from e.facts.local (is_outbound e.facts && false) unused (and_right (is_outbound e.facts) false refl)) up)
+
+greeting-opening : (p : Phase) → is_greeting_phase p ≡ true → opening_phase p ≡ true
+greeting-opening Dialing h = absurd (false≢true h)
+greeting-opening (Greeting until) h = refl
+greeting-opening Negotiated h = absurd (false≢true h)
+greeting-opening (Closing until) h = absurd (false≢true h)
+
+-- and who was dialed by this node is on its way
+greeting-up : (e : Entry) → is_greeting e.facts ≡ true → is_outbound e.facts ≡ true → is_up_connection (Some e) ≡ true
+greeting-up e greeting outbound =
+    or_right (is_negotiated e.facts && e.facts.local) (is_pending e.facts)
+    (and_from (is_outbound e.facts) (opening_phase e.facts.phase) outbound (greeting-opening e.facts.phase greeting))
+
 judged-trimmed : (faults : Faults) (v : Verdict) (m : Machine) (e : Entry) (k : ℕ) → Greets m e k → (is_accept v ≡ true → is_outbound e.facts ≡ false) →
     (is_agree v ≡ true → is_outbound e.facts ≡ true) → Trimmed (IsLawful faults) m (judged v e m)
 unfolding is_accept is_agree
 judged-trimmed faults (verdict.Accept agreed) m e k g accepts agrees =
     keeps-trimmed (IsLawful faults) m (judged (verdict.Accept agreed) e m) g.within (agrees_inbound-keeps agreed m e k g.ordered g.stands g.greeting (accepts refl))
     (turns-obeys (IsLawful faults) m e (record e { facts = agreed_inbound agreed (m.now + m.settings.idle) e.facts }) k g.ordered.orderly g.stands
-    (record { same_id = refl; same_addr = refl; live = λ l. greeting-live e.facts.phase g.greeting }) (λ was. refl))
+    (record { same_id = refl; same_addr = refl; live = λ l. greeting-live e.facts.phase g.greeting })
+    (record { up = agreed_inbound-down agreed (m.now + m.settings.idle) e g.greeting (stands-shaped m e k g.ordered g.stands); asked = λ asked. asked }) (λ was. refl))
 judged-trimmed faults (verdict.Refuse reason) m e k g accepts agrees = ends faults cause.Refused refl m e k g
 judged-trimmed faults verdict.Query m e k g accepts agrees = ends faults cause.Query refl m e k g
 judged-trimmed faults (verdict.Agree agreed) m e k g accepts agrees =
     keeps-trimmed (IsLawful faults) m (judged (verdict.Agree agreed) e m) g.within (agrees_outbound-keeps agreed m e k g.ordered g.stands g.greeting (agrees refl))
     (used-obeys (IsLawful faults) (agreed_outbound agreed (m.now + m.settings.idle) e.facts) m e k g.ordered.orderly g.stands refl refl
-    (greeting-live e.facts.phase g.greeting) refl)
+    (greeting-live e.facts.phase g.greeting) refl (greeting-up e g.greeting (agrees refl)))
 judged-trimmed faults verdict.Refused m e k g accepts agrees = ends faults cause.Refused refl m e k g
 judged-trimmed faults verdict.Wrong m e k g accepts agrees = ends faults (cause.Fault Protocol) refl m e k g
 

@@ -17,12 +17,11 @@ use Rattle.warm_messages.specs.declared.share.Share.{Share}
 use Rattle.warm_messages.specs.declared.share.Share.TheVariants.{Request, Peers, Done}
 use Rattle.machine.specs.Machine.{Machine}
 use Rattle.machine.specs.Effect.{Effect, Happened, shared, nothing_more, as_move, for_each}
-use Rattle.machine.specs.Peers.{peer_at, note_of_coming, peer_comes}
+use Rattle.machine.specs.Peers.{peer_at, peer_comes}
 use Rattle.machine.specs.Provided.{is_wanted_big, comes_big, bigs_are}
 use Rattle.machine.specs.Talking.{shares_address, taken_of, takes_addresses}
 use Rattle.laws.specs.AtMoves.{known_wanted, IsWantedNew, WithinTargets}
-use Rattle.laws.proofs.Keeping.{note-machine}
-use Rattle.laws.proofs.Lawful.{Within}
+use Rattle.laws.proofs.Lawful.{comes-machine, comes-providing, Within}
 use Rattle.laws.proofs.Lists.{all-appended}
 use Rattle.laws.proofs.Ties.{put_in-here}
 
@@ -36,17 +35,6 @@ move-within happened before effect none within =
 
 abbrev came : Bool → Addr → Machine → Machine
 came big addr m = record m { peers = entered (new_peer big addr) m.peers }
-
-comes-machine : (big : Bool) (addr : Addr) (m : Machine) → (peer_comes big addr m).machine ≡ came big addr m
-comes-machine big addr m = note-machine (entry_of addr m.peers) addr (came big addr m)
-
-note-moves : (added : Added) (addr : Addr) (m : Machine) → (note_of_coming added addr m).moves ≡ []
-note-moves New addr m = refl
-note-moves Present addr m = refl
-note-moves Full addr m = refl
-
-comes-moves : (big : Bool) (addr : Addr) (m : Machine) → (peer_comes big addr m).moves ≡ []
-comes-moves big addr m = note-moves (entry_of addr m.peers) addr (came big addr m)
 
 -- at most one more is known of its class
 entered-known : (big : Bool) (addr : Addr) (ps : List Peer) → known_of big (entered (new_peer big addr) ps) ≤ known_of big ps + 1
@@ -96,7 +84,7 @@ coming big addr m = as_move (shared addr) m (peer_comes big addr m)
 
 coming-within : (big : Bool) (addr : Addr) (m : Machine) → known_of big m.peers < known_wanted big m → AllByRecursion Within (coming big addr m).moves
 coming-within big addr m fewer =
-    move-within (shared addr) m (peer_comes big addr m) (comes-moves big addr m)
+    move-within (shared addr) m (peer_comes big addr m) (comes-providing big addr m).moves
     (subst (λ n. IsWantedNew addr m n) (sym (comes-machine big addr m)) (came-within big addr m fewer))
 
 -- ---- addresses that a peer told

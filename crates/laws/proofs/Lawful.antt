@@ -1,17 +1,21 @@
--- The moves of a part of a step: each keeps a law, and no connection whose handshake is done is gone without one.
-use Rattle.std.proofs.Common.{ℕ, ◌%◌, ◌≡◌, Bool, true, false, ◌||◌, ◌==◌, cond, List, [], ◌∷◌, ◌++◌, find, set, remove, Option, Some, None, refl, sym, ap, ◌∙◌, subst, eqb-true, eq-eqb}
+-- The moves of a part of a step: each keeps a law, no connection whose handshake is done is gone without one, and nobody
+-- comes up without one.
+use Rattle.std.proofs.Common.{ℕ, ◌+◌, ◌%◌, ◌≡◌, Bool, true, false, ◌||◌, ◌==◌, cond, List, [], ◌∷◌, ◌++◌, find, set, remove, Option, Some, None, is_some, refl, sym, ap, ◌∙◌, subst, eqb-true, eq-eqb}
 use Rattle.std.specs.List.{AllByRecursion, list_any}
-use Rattle.std.proofs.lemmas.Bool.{cond_both, false≢true}
+use Rattle.std.proofs.lemmas.Bool.{cond_both, false≢true, or_left, or_right}
+use Rattle.std.proofs.lemmas.List.Folds.{list_any-append}
+use Rattle.net_base.specs.Address.{same_address}
+use Rattle.net_base.specs.declared.action.Action.{Action}
 use Rattle.net_base.specs.declared.action.CloseCause.{CloseCause}
 use Rattle.net_base.specs.declared.action.CloseCause.TheVariants.{Unused, Pruned, Overwritten, Refused, Query, Fault}
 use Rattle.net_base.specs.declared.connection.Facts.{Facts}
 use Rattle.net_base.specs.declared.peer.Peer.{Peer}
 use Rattle.conn_state.specs.Use.{has_id, is_live, is_negotiated}
 use Rattle.machine.specs.Machine.{Machine, Entry, entry_at}
-use Rattle.machine.specs.Effect.{Effect, Happened, Move, ended, nothing_more, then_do, as_move}
-use Rattle.machine.specs.Peers.{turns_at, peer_at, peer_fails, peer_succeeds, note_of_coming, peer_comes}
+use Rattle.machine.specs.Effect.{Effect, Happened, Move, promoted, shared, ended, nothing_more, tells, then_do, as_move}
+use Rattle.machine.specs.Peers.{turns_at, peer_at, peer_changes, peer_fails, peer_succeeds, note_of_coming, peer_comes}
 use Rattle.net_base.specs.declared.address.Addr.{Addr}
-use Rattle.peer_book.specs.Book.{new_peer, entry_of, entered}
+use Rattle.peer_book.specs.Book.{peer_at as peer_in, new_peer, entry_of, entered}
 use Rattle.peer_book.specs.declared.added.Added.{Added}
 use Rattle.peer_book.specs.declared.added.Added.TheVariants.{New, Present, Full}
 use Rattle.machine.specs.Replies.{owing, asks}
@@ -20,37 +24,26 @@ use Rattle.net_base.specs.declared.peer.Temp.TheVariants.{Warm}
 use Rattle.warm_messages.specs.Writing.{written_alive}
 use Rattle.warm_messages.specs.declared.alive.Alive.TheVariants.{Ask}
 use Rattle.net_base.specs.Peer.{failed_peer}
-use Rattle.laws.specs.AtMoves.{OutOfBackOff, WithinTargets, Faults, MayEnd, OnEntry, ForCause, IsLawful, is_negotiated_entry, is_negotiated_at, ends, is_ended_in}
+use Rattle.laws.specs.AtMoves.{OutOfBackOff, WithinTargets, Faults, MayEnd, OnEntry, ForCause, IsLawful, is_negotiated_entry, is_negotiated_at, ends, is_ended_in, is_up_connection, is_up, is_hot_peer, is_asked_connection, is_hot_or_asked, is_known, promotes, activates, shares}
 use Rattle.laws.specs.Sound.{IsOrderly}
 use Rattle.laws.proofs.Entries.{TurnsInto, turned-connections, gone-connections, one_has_id, has_own_id, with_new}
 use Rattle.laws.proofs.Finds.{find-set_other, find-set_here, find-remove_other}
+use Rattle.laws.proofs.Keeping.{note-machine}
 use Rattle.laws.proofs.Lists.{StandsAt, find_only, all-appended}
+use Rattle.laws.proofs.Owing.{with_reply-some}
+use Rattle.laws.proofs.PeersApart.{same_turned}
+use Rattle.laws.proofs.Rises.{Rises, rises_then, rises_move, rises_said, StaysDown, is_hot, NoneConnected, hot_or_asked-down, rises_nowhere, rises_none, same-connected, connected_then, IsNoHigher, turned-down, turned-connected, gone-connected, come-down, IsCooling, changed-hot, changed-known, entered-hot, entered-known}
+use Rattle.laws.proofs.Ties.{turned_elsewhere}
 
 -- ---- no connection is gone without a move
 
-abbrev pub Accounts : Machine → Effect → Type 0
-Accounts before effect = (cid : ℕ) → is_negotiated_at cid before ≡ true → (is_negotiated_at cid effect.machine || is_ended_in cid effect.moves) ≡ true
+abbrev pub EndsBy : Machine → Effect → Type 0
+EndsBy before effect = (cid : ℕ) → is_negotiated_at cid before ≡ true → (is_negotiated_at cid effect.machine || is_ended_in cid effect.moves) ≡ true
 
-any_append : {X : Type 0} (p : X → Bool) (xs ys : List X) → list_any p (xs ++ ys) ≡ (list_any p xs || list_any p ys)
-any_append p [] ys = refl
-any_append p (x ∷ xs) ys = by_head (p x) (any_append p xs ys)
-  where
-    by_head : (b : Bool) → list_any p (xs ++ ys) ≡ (list_any p xs || list_any p ys) → (b || list_any p (xs ++ ys)) ≡ (b || list_any p xs || list_any p ys)
-    by_head true rest = refl
-    by_head false rest = rest
-
-or_left : (a b : Bool) → a ≡ true → (a || b) ≡ true
-or_left true b h = refl
-or_left false b h = absurd (false≢true h)
-
-or_right : (a b : Bool) → b ≡ true → (a || b) ≡ true
-or_right true b h = refl
-or_right false b h = h
-
-pub accounts_then : (m : Machine) (first : Effect) (next : Machine → Effect) → Accounts m first → Accounts first.machine (next first.machine) → Accounts m (then_do first next)
-accounts_then m first next one two cid h =
+pub ends_then : (m : Machine) (first : Effect) (next : Machine → Effect) → EndsBy m first → EndsBy first.machine (next first.machine) → EndsBy m (then_do first next)
+ends_then m first next one two cid h =
     let second : Effect = next first.machine in
-    subst (λ b. (is_negotiated_at cid second.machine || b) ≡ true) (sym (any_append (λ move. ends cid move.happened) first.moves second.moves))
+    subst (λ b. (is_negotiated_at cid second.machine || b) ≡ true) (sym (list_any-append (λ move. ends cid move.happened) first.moves second.moves))
     (by_first (is_negotiated_at cid first.machine) refl (is_negotiated_at cid second.machine) (is_ended_in cid second.moves) (two cid) (one cid h))
   where
     by_first : (b : Bool) → is_negotiated_at cid first.machine ≡ b → (c d : Bool) → (is_negotiated_at cid first.machine ≡ true → (c || d) ≡ true) →
@@ -63,26 +56,26 @@ accounts_then m first next one two cid h =
     by_first false is c d later here = or_right c (is_ended_in cid first.moves || d) (or_left (is_ended_in cid first.moves) d here)
 
 -- more moves account for more
-pub accounts_move : (happened : Happened) (m : Machine) (effect : Effect) → Accounts m effect → Accounts m (as_move happened m effect)
-accounts_move happened m effect h cid before =
+pub ends_move : (happened : Happened) (m : Machine) (effect : Effect) → EndsBy m effect → EndsBy m (as_move happened m effect)
+ends_move happened m effect h cid before =
     let move : Move = record { happened = happened; before = m; after = effect.machine } in
-    subst (λ b. (is_negotiated_at cid effect.machine || b) ≡ true) (sym (any_append (λ x. ends cid x.happened) effect.moves (move ∷ [])))
+    subst (λ b. (is_negotiated_at cid effect.machine || b) ≡ true) (sym (list_any-append (λ x. ends cid x.happened) effect.moves (move ∷ [])))
     (more (is_negotiated_at cid effect.machine) (is_ended_in cid effect.moves) (list_any (λ x. ends cid x.happened) (move ∷ [])) (h cid before))
   where
     more : (a b c : Bool) → (a || b) ≡ true → (a || (b || c)) ≡ true
     more true b c e = refl
     more false b c e = or_left b c e
 
-pub accounts_same : (m : Machine) (effect : Effect) → effect.machine.connections ≡ m.connections → Accounts m effect
-accounts_same m effect same cid h =
+pub ends_same : (m : Machine) (effect : Effect) → effect.machine.connections ≡ m.connections → EndsBy m effect
+ends_same m effect same cid h =
     or_left (is_negotiated_at cid effect.machine) (is_ended_in cid effect.moves)
     (ap (λ es. is_negotiated_entry (find (λ e. has_id cid e.facts) es)) same ∙ h)
 
 -- a connection turns, and is still negotiated where it was
-pub accounts_turned : (m : Machine) (e new : Entry) (k : ℕ) (effect : Effect) → IsOrderly m → StandsAt m.connections k e → TurnsInto e new →
+pub ends_turned : (m : Machine) (e new : Entry) (k : ℕ) (effect : Effect) → IsOrderly m → StandsAt m.connections k e → TurnsInto e new →
     effect.machine.connections ≡ (with_entry new m).connections →
-    (is_negotiated e.facts ≡ true → (is_negotiated new.facts || is_ended_in e.facts.cid.0 effect.moves) ≡ true) → Accounts m effect
-accounts_turned m e new k effect h s t same still cid before =
+    (is_negotiated e.facts ≡ true → (is_negotiated new.facts || is_ended_in e.facts.cid.0 effect.moves) ≡ true) → EndsBy m effect
+ends_turned m e new k effect h s t same still cid before =
     let list : effect.machine.connections ≡ set m.connections k new = same ∙ turned-connections m e new k h s t in
     by_id (has_id cid e.facts) refl list
   where
@@ -107,10 +100,10 @@ accounts_turned m e new k effect h s t same still cid before =
         or_left (is_negotiated_at cid effect.machine) (is_ended_in cid effect.moves) (ap is_negotiated_entry now ∙ before)
 
 -- a connection goes, which a move tells where it is negotiated
-pub accounts_gone : (m : Machine) (e : Entry) (k : ℕ) (effect : Effect) → IsOrderly m → StandsAt m.connections k e →
+ends_gone : (m : Machine) (e : Entry) (k : ℕ) (effect : Effect) → IsOrderly m → StandsAt m.connections k e →
     effect.machine.connections ≡ (without_entry e.facts.cid.0 m).connections →
-    (is_negotiated e.facts ≡ true → is_ended_in e.facts.cid.0 effect.moves ≡ true) → Accounts m effect
-accounts_gone m e k effect h s same told cid before =
+    (is_negotiated e.facts ≡ true → is_ended_in e.facts.cid.0 effect.moves ≡ true) → EndsBy m effect
+ends_gone m e k effect h s same told cid before =
     by_id (has_id cid e.facts) refl (same ∙ gone-connections m e k h s)
   where
     by_id : (b : Bool) → has_id cid e.facts ≡ b → effect.machine.connections ≡ remove m.connections k →
@@ -134,8 +127,8 @@ find-front {X} p (y ∷ xs) ys x h = by_head (p y) h (find-front p xs ys x)
     by_head true e later = e
     by_head false e later = later e
 
-pub accounts_come : (m : Machine) (new : Entry) (effect : Effect) → effect.machine.connections ≡ (with_new new m).connections → Accounts m effect
-accounts_come m new effect same cid before = by_entry (entry_at cid m) refl before
+pub ends_come : (m : Machine) (new : Entry) (effect : Effect) → effect.machine.connections ≡ (with_new new m).connections → EndsBy m effect
+ends_come m new effect same cid before = by_entry (entry_at cid m) refl before
   where
     by_entry : (o : Option Entry) → entry_at cid m ≡ o → is_negotiated_entry o ≡ true → (is_negotiated_at cid effect.machine || is_ended_in cid effect.moves) ≡ true
     by_entry None is h = absurd (false≢true h)
@@ -143,6 +136,54 @@ accounts_come m new effect same cid before = by_entry (entry_at cid m) refl befo
         let now : entry_at cid effect.machine ≡ Some e =
         ap (find (λ x. has_id cid x.facts)) same ∙ find-front (λ x. has_id cid x.facts) m.connections (new ∷ []) e is in
         or_left (is_negotiated_at cid effect.machine) (is_ended_in cid effect.moves) (ap is_negotiated_entry now ∙ h)
+
+-- ---- nor does anybody come up without one
+
+pub record Accounts (before : Machine) (effect : Effect) : Type 0 where
+  pub ends : EndsBy before effect
+  pub rises : Rises before effect
+
+pub accounts_then : (m : Machine) (first : Effect) (next : Machine → Effect) → Accounts m first → Accounts first.machine (next first.machine) → Accounts m (then_do first next)
+accounts_then m first next one two = record {
+  ends = ends_then m first next one.ends two.ends;
+  rises = rises_then m first next one.rises two.rises;
+}
+
+-- more moves account for more
+pub accounts_move : (happened : Happened) (m : Machine) (effect : Effect) → Accounts m effect → Accounts m (as_move happened m effect)
+accounts_move happened m effect h = record {
+  ends = ends_move happened m effect h.ends;
+  rises = rises_move happened m effect h.rises;
+}
+
+-- a connection turns
+pub accounts_turned : (m : Machine) (e new : Entry) (k : ℕ) (effect : Effect) → IsOrderly m → StandsAt m.connections k e → TurnsInto e new → IsNoHigher e new →
+    effect.machine ≡ with_entry new m → (is_negotiated e.facts ≡ true → (is_negotiated new.facts || is_ended_in e.facts.cid.0 effect.moves) ≡ true) → Accounts m effect
+accounts_turned m e new k effect h s t lower same still = record {
+  ends = ends_turned m e new k effect h s t (ap (λ n. n.connections) same) still;
+  rises = rises_none m effect (subst (NoneConnected m) (sym same) (turned-connected m e new k h s t lower))
+      (subst (StaysDown is_hot m) (sym same) (λ addr hot. hot)) (subst (StaysDown is_known m) (sym same) (λ addr known. known));
+}
+
+-- a connection goes, and nobody comes up by what follows
+pub accounts_gone : (m : Machine) (e : Entry) (k : ℕ) (effect : Effect) → IsOrderly m → StandsAt m.connections k e →
+    effect.machine.connections ≡ (without_entry e.facts.cid.0 m).connections → StaysDown is_hot m effect.machine → StaysDown is_known m effect.machine →
+    (is_negotiated e.facts ≡ true → is_ended_in e.facts.cid.0 effect.moves ≡ true) → Accounts m effect
+accounts_gone m e k effect h s same hot known told = record {
+  ends = ends_gone m e k effect h s same told;
+  rises = rises_none m effect (connected_then m (without_entry e.facts.cid.0 m) effect.machine (gone-connected m e k h s)
+      (same-connected (without_entry e.facts.cid.0 m) effect.machine same)) hot known;
+}
+
+-- a connection comes that is neither up nor asked
+pub accounts_come : (m : Machine) (new : Entry) (effect : Effect) → is_up_connection (Some new) ≡ false → is_asked_connection (Some new) ≡ false →
+    effect.machine ≡ with_new new m → Accounts m effect
+accounts_come m new effect up asked same = record {
+  ends = ends_come m new effect (ap (λ n. n.connections) same);
+  rises = rises_none m effect
+      (subst (NoneConnected m) (sym same) (record { up = come-down is_up_connection refl m new up; asked = come-down is_asked_connection refl m new asked }))
+      (subst (StaysDown is_hot m) (sym same) (λ addr hot. hot)) (subst (StaysDown is_known m) (sym same) (λ addr known. known));
+}
 
 -- ---- each move keeps a law
 
@@ -157,46 +198,119 @@ obeys_then Law m first next one two = record {
   accounted = accounts_then m first next one.accounted two.accounted;
 }
 
-pub obeys_nothing : (Law : Move → Type 0) (m : Machine) → Obeys Law m (nothing_more m)
-obeys_nothing Law m = record { lawful = tt; accounted = accounts_same m (nothing_more m) refl }
-
--- what makes no move and leaves the connections
+-- what makes no move, leaves the connections, and lets nobody come up
 pub record IsQuiet (before : Machine) (effect : Effect) : Type 0 where
   pub moves : effect.moves ≡ []
   pub connections : effect.machine.connections ≡ before.connections
+  pub hot : StaysDown is_hot before effect.machine
+  pub known : StaysDown is_known before effect.machine
+
+quiet-accounts : (m : Machine) (effect : Effect) → IsQuiet m effect → Accounts m effect
+quiet-accounts m effect q = record {
+  ends = ends_same m effect q.connections;
+  rises = rises_none m effect (same-connected m effect.machine q.connections) q.hot q.known;
+}
 
 pub quiet-lawful : (Law : Move → Type 0) (effect : Effect) → effect.moves ≡ [] → AllByRecursion Law effect.moves
 quiet-lawful Law effect none = subst (AllByRecursion Law) (sym none) tt
 
 pub quiet-obeys : (Law : Move → Type 0) (m : Machine) (effect : Effect) → IsQuiet m effect → Obeys Law m effect
-quiet-obeys Law m effect q = record { lawful = quiet-lawful Law effect q.moves; accounted = accounts_same m effect q.connections }
+quiet-obeys Law m effect q = record { lawful = quiet-lawful Law effect q.moves; accounted = quiet-accounts m effect q }
 
-pub turns_at-quiet : (o : Option Peer) (change : Peer → Peer) (m : Machine) → IsQuiet m (turns_at o change m)
-turns_at-quiet None change m = record { moves = refl; connections = refl }
-turns_at-quiet (Some p) change m = record { moves = refl; connections = refl }
+-- what is neither a connection nor a peer is no matter of either
+pub elsewhere-quiet : (m : Machine) (effect : Effect) → effect.moves ≡ [] → effect.machine.connections ≡ m.connections → effect.machine.peers ≡ m.peers → IsQuiet m effect
+elsewhere-quiet m effect none connections peers = record {
+  moves = none;
+  connections = connections;
+  hot = λ addr hot. subst (λ ps. is_hot_peer (peer_in addr ps) ≡ true) peers hot;
+  known = λ addr known. subst (λ ps. is_some (peer_in addr ps) ≡ true) peers known;
+}
 
-note-quiet : (added : Added) (addr : Addr) (m : Machine) → IsQuiet m (note_of_coming added addr m)
-note-quiet New addr m = record { moves = refl; connections = refl }
-note-quiet Present addr m = record { moves = refl; connections = refl }
-note-quiet Full addr m = record { moves = refl; connections = refl }
+-- what is only told
+pub tells-quiet : (actions : List Action) (m : Machine) → IsQuiet m (tells actions m)
+tells-quiet actions m = elsewhere-quiet m (tells actions m) refl refl refl
 
--- a peer comes
-pub comes-quiet : (big : Bool) (addr : Addr) (m : Machine) → IsQuiet m (peer_comes big addr m)
-comes-quiet big addr m =
-    let q = note-quiet (entry_of addr m.peers) addr (record m { peers = entered (new_peer big addr) m.peers }) in
-    record { moves = q.moves; connections = q.connections }
+pub obeys_nothing : (Law : Move → Type 0) (m : Machine) → Obeys Law m (nothing_more m)
+obeys_nothing Law m = quiet-obeys Law m (nothing_more m) (tells-quiet [] m)
 
-lost-quiet : (f : Facts) (m : Machine) → IsQuiet m (lost f m)
+pub quiet_then : (m : Machine) (first : Effect) (next : Machine → Effect) → IsQuiet m first → IsQuiet first.machine (next first.machine) → IsQuiet m (then_do first next)
+quiet_then m first next one two = record {
+  moves = ap (λ ms. ms ++ (next first.machine).moves) one.moves ∙ two.moves;
+  connections = two.connections ∙ one.connections;
+  hot = λ addr h. one.hot addr (two.hot addr h);
+  known = λ addr h. one.known addr (two.known addr h);
+}
+
+pub turns_at-moves : (o : Option Peer) (change : Peer → Peer) (m : Machine) → (turns_at o change m).moves ≡ []
+turns_at-moves None change m = refl
+turns_at-moves (Some p) change m = refl
+
+pub turns_at-connections : (o : Option Peer) (change : Peer → Peer) (m : Machine) → (turns_at o change m).machine.connections ≡ m.connections
+turns_at-connections None change m = refl
+turns_at-connections (Some p) change m = refl
+
+-- a peer changes, and does not become hot
+pub changes-quiet : (a : Addr) (change : Peer → Peer) (m : Machine) → IsCooling change → IsQuiet m (peer_changes a change m)
+changes-quiet a change m cools = record {
+  moves = turns_at-moves (peer_at a m) change m;
+  connections = turns_at-connections (peer_at a m) change m;
+  hot = changed-hot a change m cools;
+  known = changed-known a change m cools.addr;
+}
+
+pub lost-quiet : (f : Facts) (m : Machine) → IsQuiet m (lost f m)
 lost-quiet f m = cond_both (is_missed f) (peer_fails f.addr m) (nothing_more m) (λ effect. IsQuiet m effect)
-    (λ missed. turns_at-quiet (peer_at f.addr m) (failed_peer m.now m.settings.backoff) m) (λ other. record { moves = refl; connections = refl })
+    (λ missed. changes-quiet f.addr (failed_peer m.now m.settings.backoff) m (record { addr = λ p. refl; hot = λ p hot. absurd (false≢true hot) }))
+    (λ other. tells-quiet [] m)
 
-pub lost_by-quiet : (cause : CloseCause) (f : Facts) (m : Machine) → IsQuiet m (lost_by cause f m)
+lost_by-quiet : (cause : CloseCause) (f : Facts) (m : Machine) → IsQuiet m (lost_by cause f m)
 lost_by-quiet Unused f m = lost-quiet f m
 lost_by-quiet Pruned f m = lost-quiet f m
-lost_by-quiet Overwritten f m = record { moves = refl; connections = refl }
+lost_by-quiet Overwritten f m = tells-quiet [] m
 lost_by-quiet Refused f m = lost-quiet f m
 lost_by-quiet Query f m = lost-quiet f m
 lost_by-quiet (Fault kind) f m = lost-quiet f m
+
+-- ---- an address comes into the book
+
+-- what makes no move, leaves the connections, and makes no peer hot
+pub record IsProviding (before : Machine) (effect : Effect) : Type 0 where
+  pub moves : effect.moves ≡ []
+  pub connections : effect.machine.connections ≡ before.connections
+  pub hot : StaysDown is_hot before effect.machine
+
+note-moves : (added : Added) (addr : Addr) (m : Machine) → (note_of_coming added addr m).moves ≡ []
+note-moves New addr m = refl
+note-moves Present addr m = refl
+note-moves Full addr m = refl
+
+pub comes-machine : (big : Bool) (addr : Addr) (m : Machine) → (peer_comes big addr m).machine ≡ record m { peers = entered (new_peer big addr) m.peers }
+comes-machine big addr m = note-machine (entry_of addr m.peers) addr (record m { peers = entered (new_peer big addr) m.peers })
+
+pub comes-providing : (big : Bool) (addr : Addr) (m : Machine) → IsProviding m (peer_comes big addr m)
+comes-providing big addr m = record {
+  moves = note-moves (entry_of addr m.peers) addr (record m { peers = entered (new_peer big addr) m.peers });
+  connections = ap (λ n. n.connections) (comes-machine big addr m);
+  hot = subst (StaysDown is_hot m) (sym (comes-machine big addr m)) (entered-hot big addr m);
+}
+
+-- as a move
+pub shared-accounts : (big : Bool) (addr : Addr) (m : Machine) → Accounts m (as_move (shared addr) m (peer_comes big addr m))
+shared-accounts big addr m =
+    let effect : Effect = peer_comes big addr m in
+    let provides : IsProviding m effect = comes-providing big addr m in
+    let connected : NoneConnected m effect.machine = same-connected m effect.machine provides.connections in
+    record {
+      ends = ends_same m (as_move (shared addr) m effect) provides.connections;
+      rises = record {
+        promotions = rises_nowhere is_up promotes m (as_move (shared addr) m effect) connected.up;
+        activations = rises_nowhere is_hot_or_asked activates m (as_move (shared addr) m effect) (hot_or_asked-down m effect.machine provides.hot connected.asked);
+        arrivals = rises_said is_known shares (shared addr) m effect
+            (λ b other known. entered-known big addr b m other (subst (λ n. is_known b n ≡ true) (comes-machine big addr m) known));
+      };
+    }
+
+-- ---- a connection turns or goes
 
 -- what stands is found by its id
 pub stands-found : (m : Machine) (e : Entry) (k : ℕ) → IsOrderly m → StandsAt m.connections k e → entry_at e.facts.cid.0 m ≡ Some e
@@ -215,7 +329,7 @@ ending-obeys Law cause m e k h s law =
     let moves : (ending cause e m).moves ≡ move ∷ [] = ap (λ ms. ms ++ move ∷ []) q.moves in
     record {
       lawful = subst (AllByRecursion Law) (sym moves) (law, tt);
-      accounted = accounts_gone m e k (ending cause e m) h s q.connections
+      accounted = accounts_gone m e k (ending cause e m) h s q.connections q.hot q.known
           (λ negotiated. subst (λ ms. is_ended_in e.facts.cid.0 ms ≡ true) (sym moves)
           (ap (λ b. b || false) (eq-eqb e.facts.cid.0 e.facts.cid.0 refl)));
     }
@@ -229,37 +343,43 @@ ended-lawful faults cause m after e k h s cause_is = record {
 }
 
 -- a connection turns, and is still negotiated where it was
-pub turns-obeys : (Law : Move → Type 0) (m : Machine) (e new : Entry) (k : ℕ) → IsOrderly m → StandsAt m.connections k e → TurnsInto e new →
+pub turns-obeys : (Law : Move → Type 0) (m : Machine) (e new : Entry) (k : ℕ) → IsOrderly m → StandsAt m.connections k e → TurnsInto e new → IsNoHigher e new →
     (is_negotiated e.facts ≡ true → is_negotiated new.facts ≡ true) → Obeys Law m (entry_turns e new m)
-turns-obeys Law m e new k h s t still = record {
+turns-obeys Law m e new k h s t lower still = record {
   lawful = tt;
-  accounted = accounts_turned m e new k (entry_turns e new m) h s t refl (λ negotiated. or_left (is_negotiated new.facts) false (still negotiated));
+  accounted = accounts_turned m e new k (entry_turns e new m) h s t lower refl (λ negotiated. or_left (is_negotiated new.facts) false (still negotiated));
 }
 
 -- and then something that is quiet
 pub turned_then-obeys : (Law : Move → Type 0) (m : Machine) (e new : Entry) (k : ℕ) (next : Machine → Effect) → IsOrderly m → StandsAt m.connections k e → TurnsInto e new →
-    (is_negotiated e.facts ≡ true → is_negotiated new.facts ≡ true) → IsQuiet (with_entry new m) (next (with_entry new m)) →
+    IsNoHigher e new → (is_negotiated e.facts ≡ true → is_negotiated new.facts ≡ true) → IsQuiet (with_entry new m) (next (with_entry new m)) →
     Obeys Law m (then_do (entry_turns e new m) next)
-turned_then-obeys Law m e new k next h s t still quiet =
-    obeys_then Law m (entry_turns e new m) next (turns-obeys Law m e new k h s t still) (quiet-obeys Law (with_entry new m) (next (with_entry new m)) quiet)
+turned_then-obeys Law m e new k next h s t lower still quiet =
+    obeys_then Law m (entry_turns e new m) next (turns-obeys Law m e new k h s t lower still) (quiet-obeys Law (with_entry new m) (next (with_entry new m)) quiet)
 
-pub quiet_then : (m : Machine) (first : Effect) (next : Machine → Effect) → IsQuiet m first → IsQuiet first.machine (next first.machine) → IsQuiet m (then_do first next)
-quiet_then m first next one two = record {
-  moves = ap (λ ms. ms ++ (next first.machine).moves) one.moves ∙ two.moves;
-  connections = two.connections ∙ one.connections;
-}
+-- ---- a connection comes into use
 
--- a connection comes into use
+-- what follows on the connection
+succeeds-quiet : (f : Facts) (m : Machine) → IsQuiet m (then_do (peer_succeeds f.addr m) (asks f.cid 8 (written_alive (Ask (f.cid.0 % 65536)))))
+succeeds-quiet f m =
+    let warm : Peer → Peer = λ p. record p { temp = Warm; failures = 0 } in
+    let first : Effect = peer_changes f.addr warm m in
+    quiet_then m first (asks f.cid 8 (written_alive (Ask (f.cid.0 % 65536))))
+    (changes-quiet f.addr warm m (record { addr = λ p. refl; hot = λ p hot. absurd (false≢true hot) }))
+    (tells-quiet (asks f.cid 8 (written_alive (Ask (f.cid.0 % 65536))) first.machine).actions first.machine)
+
+asked-before : (m : Machine) (e : Entry) (f : Facts) → is_asked_connection (Some (owing 8 (f.cid.0 % 65536) m (record e { facts = f }))) ≡ true → is_asked_connection (Some e) ≡ true
+asked-before m e f =
+    with_reply-some (λ o. o.protocol == 2) (record { protocol = 8; until = m.now + m.settings.reply; asked = f.cid.0 % 65536 }) e.owed refl
+
+-- one that was on its way
 pub used-obeys : (Law : Move → Type 0) (f : Facts) (m : Machine) (e : Entry) (k : ℕ) → IsOrderly m → StandsAt m.connections k e → f.cid ≡ e.facts.cid → f.addr ≡ e.facts.addr →
-    is_live e.facts ≡ true → is_negotiated f ≡ true → Obeys Law m (is_used f e m)
-used-obeys Law f m e k h s cid addr live negotiated =
-    let cookie : ℕ = f.cid.0 % 65536 in
-    let new : Entry = owing 8 cookie m (record e { facts = f }) in
-    let n : Machine = with_entry new m in
-    turned_then-obeys Law m e new k (λ m. then_do (peer_succeeds f.addr m) (asks f.cid 8 (written_alive (Ask cookie)))) h s
-    (record { same_id = cid; same_addr = addr; live = λ l. live }) (λ was. negotiated)
-    (quiet_then n (peer_succeeds f.addr n) (asks f.cid 8 (written_alive (Ask cookie)))
-    (turns_at-quiet (peer_at f.addr n) (λ p. record p { temp = Warm; failures = 0 }) n) (record { moves = refl; connections = refl }))
+    is_live e.facts ≡ true → is_negotiated f ≡ true → is_up_connection (Some e) ≡ true → Obeys Law m (is_used f e m)
+used-obeys Law f m e k h s cid addr live negotiated up =
+    let new : Entry = owing 8 (f.cid.0 % 65536) m (record e { facts = f }) in
+    turned_then-obeys Law m e new k (λ m. then_do (peer_succeeds f.addr m) (asks f.cid 8 (written_alive (Ask (f.cid.0 % 65536))))) h s
+    (record { same_id = cid; same_addr = addr; live = λ l. live }) (record { up = λ rises. up; asked = asked-before m e f }) (λ was. negotiated)
+    (succeeds-quiet f (with_entry new m))
 
 -- ---- targets aside
 
@@ -285,3 +405,30 @@ as_move-obeys Law happened m effect none law accounted =
     let move : Move = record { happened = happened; before = m; after = effect.machine } in
     let moves : (as_move happened m effect).moves ≡ move ∷ [] = ap (λ ms. ms ++ move ∷ []) none in
     record { lawful = subst (AllByRecursion Law) (sym moves) (law, tt); accounted = accounted }
+
+-- a connection that stood comes into use, as a promotion of its address
+pub promoted-obeys : (Law : Move → Type 0) (f : Facts) (m : Machine) (e : Entry) (k : ℕ) (a : Addr) → IsOrderly m → StandsAt m.connections k e → f.cid ≡ e.facts.cid → f.addr ≡ e.facts.addr →
+    e.facts.addr ≡ a → is_live e.facts ≡ true → is_negotiated f ≡ true →
+    Law (record { happened = promoted a; before = m; after = (is_used f e m).machine }) → Obeys Law m (as_move (promoted a) m (is_used f e m))
+promoted-obeys Law f m e k a h s cid addr here live negotiated law =
+    let new : Entry = owing 8 (f.cid.0 % 65536) m (record e { facts = f }) in
+    let n : Machine = with_entry new m in
+    let next : Machine → Effect = λ m. then_do (peer_succeeds f.addr m) (asks f.cid 8 (written_alive (Ask (f.cid.0 % 65536)))) in
+    let effect : Effect = is_used f e m in
+    let quiet : IsQuiet n (next n) = succeeds-quiet f n in
+    let turns : TurnsInto e new = record { same_id = cid; same_addr = addr; live = λ l. live } in
+    let after : NoneConnected n effect.machine = same-connected n effect.machine quiet.connections in
+    as_move-obeys Law (promoted a) m effect quiet.moves law (record {
+      ends = ends_move (promoted a) m effect
+          (ends_then m (entry_turns e new m) next
+          (ends_turned m e new k (entry_turns e new m) h s turns refl (λ was. or_left (is_negotiated f) false negotiated)) (ends_same n (next n) quiet.connections));
+      rises = record {
+        promotions = rises_said is_up promotes (promoted a) m effect
+            (λ b other up. ap is_up_connection (sym (turned_elsewhere m e new k h s turns b
+            (same_turned e.facts.addr b (subst (λ x. same_address x b ≡ false) (sym here) other)))) ∙ after.up b up);
+        activations = rises_nowhere is_hot_or_asked activates m (as_move (promoted a) m effect)
+            (hot_or_asked-down m effect.machine quiet.hot
+            (λ b asked. turned-down is_asked_connection refl m e new k h s turns (asked-before m e f) b (after.asked b asked)));
+        arrivals = rises_nowhere is_known shares m (as_move (promoted a) m effect) quiet.known;
+      };
+    })

@@ -31,6 +31,8 @@ mod WholeRuns
 mod Promotions
 mod Picks
 mod Ties
+mod Rises
+mod Arrivals
 mod PeerLaws
 mod Lawful
 mod KnownWanted

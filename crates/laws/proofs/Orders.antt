@@ -1,7 +1,7 @@
 -- The governor's orders, one by one: the connections stay in order and within the limit, and peers tied to them.
-use Rattle.std.proofs.Common.{ℕ, ◌+◌, ◌≤◌, ◌≡◌, Bool, true, false, ◌&&◌, not, if◌then◌else◌, List, [], ◌∷◌, find, map, set, sum_by, Option, Some, None, is_some, refl, sym, ap, ◌∙◌, subst, arith}
+use Rattle.std.proofs.Common.{ℕ, ◌+◌, ◌≤◌, ◌≡◌, Bool, true, false, ◌&&◌, not, ◌||◌, ◌==◌, if◌then◌else◌, List, [], ◌∷◌, find, map, set, sum_by, Option, Some, None, is_some, refl, sym, ap, ◌∙◌, subst, arith}
 use Rattle.std.specs.List.{AllByRecursion}
-use Rattle.std.proofs.lemmas.Bool.{cond_both, both_ways, and_parts}
+use Rattle.std.proofs.lemmas.Bool.{cond_both, both_ways, false≢true, and_parts, or_left, or_right}
 use Rattle.net_base.specs.Address.{same_address}
 use Rattle.net_base.specs.declared.address.Addr.{Addr}
 use Rattle.net_base.specs.declared.connection.Facts.{Facts}
@@ -9,20 +9,20 @@ use Rattle.net_base.specs.declared.peer.Peer.{Peer}
 use Rattle.net_base.specs.declared.peer.Temp.TheVariants.{Cold, Warm}
 use Rattle.conn_state.specs.Counted.{is_counted}
 use Rattle.conn_state.specs.Moves.{released}
-use Rattle.conn_state.specs.Use.{agreed_sharing, is_live, is_live_at, is_pending}
+use Rattle.conn_state.specs.Use.{agreed_sharing, is_live, is_live_at, is_negotiated, is_pending}
 use Rattle.govern_rules.specs.declared.order.Order.{Order}
 use Rattle.govern_rules.specs.declared.order.Order.TheVariants.{Ask, Forget, Release, Activate, Deactivate}
 use Rattle.peer_book.specs.Book.{is_established}
 use Rattle.machine.specs.Machine.{Machine, Entry, counted_in, live_entry_at}
-use Rattle.machine.specs.Effect.{Effect, Move, activated, nothing_more, then_do, for_each}
+use Rattle.machine.specs.Effect.{Effect, Move, activated, nothing_more, then_do, as_move, for_each}
 use Rattle.machine.specs.Peers.{peer_at, peer_becomes, peer_was_asked, peer_goes}
 use Rattle.machine.specs.Replies.{asks, owing, reply_on, peer_sharing_done, chain_sync_done}
 use Rattle.machine.specs.Connections.{with_entry, entry_turns, says_done, trim, release}
 use Rattle.machine.specs.Govern.{on_entry, is_used_at, on_used, asks_peer, activates, deactivates, carries_out}
-use Rattle.warm_messages.specs.Writing.{written_alive}
+use Rattle.warm_messages.specs.Writing.{written_alive, written_request}
 use Rattle.warm_messages.specs.declared.alive.Alive.TheVariants.{Done}
-use Rattle.laws.specs.AtMoves.{IsReady, Faults, IsLawful}
-use Rattle.laws.specs.Whole.{AreApart, AreTied, IsAlone, TiedBy}
+use Rattle.laws.specs.AtMoves.{IsReady, Faults, IsLawful, is_up_connection, is_up, is_hot_peer, is_asked_connection, is_hot_or_asked, is_known, promotes, activates as activation, shares}
+use Rattle.laws.specs.Whole.{AreApart, AreTied, IsAlone, TiedBy, IsTied}
 use Rattle.laws.proofs.Addresses.{same_address-true}
 use Rattle.laws.proofs.Books.{book_of, filter-book}
 use Rattle.laws.proofs.Counts.{counted_of, counted_in-sum}
@@ -30,13 +30,14 @@ use Rattle.laws.proofs.Effects.{one_if-not_counted}
 use Rattle.laws.proofs.Entries.{TurnsInto, turned-connections, turned-sum}
 use Rattle.laws.proofs.Finds.{find-set_other}
 use Rattle.laws.proofs.Keeping.{IsOrdered, Moves, Keeps, keeps_nothing, keeps_then, moves_then, moves-keeps, peers-moves, changes-moves, changes-keeps}
-use Rattle.laws.proofs.Lawful.{Obeys, IsQuiet, quiet-obeys, quiet_then, turns_at-quiet, turns-obeys, turned_then-obeys, IsAllowed}
+use Rattle.laws.proofs.Lawful.{ends_move, ends_turned, Accounts, Obeys, obeys_then, IsQuiet, quiet-obeys, tells-quiet, quiet_then, turns_at-connections, changes-quiet, turns-obeys, turned_then-obeys, IsAllowed}
 use Rattle.laws.proofs.Lists.{StandsAt, FoundIn, stands-set, find_some}
 use Rattle.laws.proofs.Ordinary.{taken-classes}
-use Rattle.laws.proofs.Owing.{OwesNothing}
+use Rattle.laws.proofs.Owing.{OwesNothing, with_reply-some}
 use Rattle.laws.proofs.PeersApart.{same_turned}
+use Rattle.laws.proofs.Rises.{rises_said, rises_nowhere, turned-down, taken-hot, taken-known}
 use Rattle.laws.proofs.Ties.{live_here, turned_here, turned_elsewhere, changed-ties, taken-ties, taken-elsewhere}
-use Rattle.laws.proofs.Trims.{Trimmed, keeps-trimmed, nothing-trimmed, trimmed_then, trimmed-within, as_move-trimmed, raised_twice_then_trimmed, trim-trims, trim-used, turns_at-counted, turns_at-connections}
+use Rattle.laws.proofs.Trims.{Trimmed, tied-trimmed, keeps-trimmed, nothing-trimmed, trimmed_then, trimmed-within, as_move-trimmed, raised_twice_then_trimmed, trim-trims, trim-used, turns_at-counted}
 use Rattle.laws.proofs.WholeMoves.{owes-keeps, IsWarm, asks_warm-keeps, releases-moves}
 
 -- ---- one order after the other
@@ -83,12 +84,14 @@ record Used (m : Machine) (addr : Addr) (e : Entry) (k : ℕ) : Type 0 where
   here : e.facts.addr ≡ addr
   found : find (is_used_at addr) m.connections ≡ Some e
 
-on_used-carried : (Law : Move → Type 0) (May : Machine → Addr → Type 0) (addr : Addr) (act : Entry → Machine → Effect) (m : Machine) → IsOrdered m →
-    counted_in m ≤ m.settings.hard → ((e : Entry) (k : ℕ) → Used m addr e k → Carried Law May addr m (act e m)) → Carried Law May addr m (on_used addr act m)
-on_used-carried Law May addr act m h within each = by_entry (find (is_used_at addr) m.connections) refl
+-- what is done on it may be a part of something
+on_used_by-carried : (Law : Move → Type 0) (May : Machine → Addr → Type 0) (addr : Addr) (whole : Effect → Effect) (act : Entry → Machine → Effect) (m : Machine) →
+    IsOrdered m → counted_in m ≤ m.settings.hard → Carried Law May addr m (whole (nothing_more m)) →
+    ((e : Entry) (k : ℕ) → Used m addr e k → Carried Law May addr m (whole (act e m))) → Carried Law May addr m (whole (on_used addr act m))
+on_used_by-carried Law May addr whole act m h within none each = by_entry (find (is_used_at addr) m.connections) refl
   where
-    by_entry : (o : Option Entry) → find (is_used_at addr) m.connections ≡ o → Carried Law May addr m (on_entry o act m)
-    by_entry None is = record { trimmed = nothing-trimmed Law m within h; elsewhere = λ b other may. may }
+    by_entry : (o : Option Entry) → find (is_used_at addr) m.connections ≡ o → Carried Law May addr m (whole (on_entry o act m))
+    by_entry None is = none
     by_entry (Some e) is =
         let at : FoundIn (is_used_at addr) m.connections e = find_some (is_used_at addr) m.connections e is in
         let parts = and_parts (is_live_at addr e.facts) e.facts.local at.passes in
@@ -103,6 +106,11 @@ on_used-carried Law May addr act m h within each = by_entry (find (is_used_at ad
           found = is;
         })
 
+on_used-carried : (Law : Move → Type 0) (May : Machine → Addr → Type 0) (addr : Addr) (act : Entry → Machine → Effect) (m : Machine) → IsOrdered m →
+    counted_in m ≤ m.settings.hard → ((e : Entry) (k : ℕ) → Used m addr e k → Carried Law May addr m (act e m)) → Carried Law May addr m (on_used addr act m)
+on_used-carried Law May addr act m h within each = on_used_by-carried Law May addr (λ effect. effect) act m h within
+    (record { trimmed = nothing-trimmed Law m within h; elsewhere = λ b other may. may }) each
+
 -- a connection of another address is not it
 other_at : (b : Addr) (x : Entry) → same_address x.facts.addr b ≡ false → is_used_at b x ≡ false
 other_at b x other = ap (λ c. (c && is_live x.facts) && x.facts.local) other
@@ -111,12 +119,17 @@ other_at b x other = ap (λ c. (c && is_live x.facts) && x.facts.local) other
 
 asked-obeys : (Law : Move → Type 0) (n : ℕ) (m : Machine) (e : Entry) (k : ℕ) → IsOrdered m → StandsAt m.connections k e → Obeys Law m (asks_peer n e m)
 asked-obeys Law n m e k h s =
-    let o : Machine = with_entry (owing 10 n m e) m in
-    let asked : Machine → Effect = λ m. peer_was_asked (m.now + m.settings.sharegap) e.facts.addr m in
-    let rest : Obeys Law m (then_do (entry_turns e (owing 10 n m e) m) asked) =
-    turned_then-obeys Law m e (owing 10 n m e) k asked h.orderly s (record { same_id = refl; same_addr = refl; live = λ l. l }) (λ negotiated. negotiated)
-    (turns_at-quiet (peer_at e.facts.addr o) (λ p. record p { share_next = m.now + m.settings.sharegap }) o) in
-    record { lawful = rest.lawful; accounted = rest.accounted }
+    let request : Effect = asks e.facts.cid 10 (written_request n) m in
+    let new : Entry = owing 10 n m e in
+    let asked : Machine → Effect = λ o. peer_was_asked (o.now + o.settings.sharegap) e.facts.addr o in
+    obeys_then Law m request (λ o. then_do (entry_turns e (owing 10 n o e) o) asked) (quiet-obeys Law m request (tells-quiet request.actions m))
+    (turned_then-obeys Law m e new k asked h.orderly s (record { same_id = refl; same_addr = refl; live = λ l. l })
+    (record {
+      up = λ up. up;
+      asked = with_reply-some (λ o. o.protocol == 2) (record { protocol = 10; until = m.now + m.settings.reply; asked = n }) e.owed refl;
+    })
+    (λ negotiated. negotiated)
+    (changes-quiet e.facts.addr (λ p. record p { share_next = m.now + m.settings.sharegap }) (with_entry new m) (record { addr = λ p. refl; hot = λ p hot. hot })))
 
 -- the connection in use has agreed on peer sharing
 abbrev pub MayAsk : Machine → Addr → Type 0
@@ -163,37 +176,55 @@ warm-ready now None x warm tie = elim warm [ ]
 warm-ready now (Some p) None warm tie = absurd (both_ways (is_established p.temp) tie (ap is_established warm))
 warm-ready now (Some p) (Some e) warm tie = tie.in_use (sym tie.established ∙ ap is_established warm)
 
-activated-carried : (Law : Move → Type 0) (addr : Addr) (m : Machine) → IsOrdered m → counted_in m ≤ m.settings.hard → MayActivate m addr →
-    Carried Law MayActivate addr m (on_used addr activates m)
-activated-carried Law addr m h within may = on_used-carried Law MayActivate addr activates m h within (λ e k u. record {
-  trimmed = keeps-trimmed Law m (activates e m) within
-      (asks_warm-keeps 0 m e k h u.stands u.local (subst (λ a. IsWarm (peer_at a m)) (sym u.here) may)) (obeys e k u.stands);
+activated-allowed : (faults : Faults) (addr : Addr) (m after : Machine) → MayActivate m addr → IsTied m →
+    IsAllowed faults (record { happened = activated addr; before = m; after = after })
+activated-allowed faults addr m after may ties = record { back_off = warm-ready m.now (peer_at addr m) (live_entry_at addr m) may (ties addr); cause = tt }
+
+-- only whom the move is of is asked
+activates-accounts : (addr : Addr) (m : Machine) (e : Entry) (k : ℕ) → Used m addr e k → Accounts m (as_move (activated addr) m (activates e m))
+activates-accounts addr m e k u =
+    let new : Entry = owing 2 0 m e in
+    let effect : Effect = activates e m in
+    let turns : TurnsInto e new = record { same_id = refl; same_addr = refl; live = λ l. l } in
+    record {
+      ends = ends_move (activated addr) m effect (ends_turned m e new k effect u.ordered.orderly u.stands turns refl (λ was. or_left (is_negotiated e.facts) false was));
+      rises = record {
+        promotions = rises_nowhere is_up promotes m (as_move (activated addr) m effect)
+            (turned-down is_up_connection refl m e new k u.ordered.orderly u.stands turns (λ up. up));
+        activations = rises_said is_hot_or_asked activation (activated addr) m effect
+            (λ b other h. subst (λ o. (is_hot_peer (peer_at b m) || is_asked_connection o) ≡ true)
+            (turned_elsewhere m e new k u.ordered.orderly u.stands turns b (same_turned e.facts.addr b (subst (λ x. same_address x b ≡ false) (sym u.here) other))) h);
+        arrivals = rises_nowhere is_known shares m (as_move (activated addr) m effect) (λ b known. known);
+      };
+    }
+
+activated-carried : (faults : Faults) (addr : Addr) (m : Machine) (e : Entry) (k : ℕ) → Used m addr e k → MayActivate m addr →
+    Carried (IsAllowed faults) MayActivate addr m (as_move (activated addr) m (activates e m))
+activated-carried faults addr m e k u may = record {
+  trimmed = tied-trimmed (IsAllowed faults) m (as_move (activated addr) m (activates e m)) u.within
+      (asks_warm-keeps 0 m e k u.ordered u.stands u.local (subst (λ a. IsWarm (peer_at a m)) (sym u.here) may))
+      (λ ties. (activated-allowed faults addr m (activates e m).machine may ties, tt)) (activates-accounts addr m e k u);
   elsewhere = λ b other warm. warm;
-})
-  where
-    obeys : (e : Entry) (k : ℕ) → StandsAt m.connections k e → Obeys Law m (activates e m)
-    obeys e k s =
-        let turns : Obeys Law m (entry_turns e (owing 2 0 m e) m) =
-        turns-obeys Law m e (owing 2 0 m e) k h.orderly s (record { same_id = refl; same_addr = refl; live = λ l. l }) (λ negotiated. negotiated) in
-        record { lawful = turns.lawful; accounted = turns.accounted }
+}
 
 pub activate-carried : (faults : Faults) → Carries (IsAllowed faults) MayActivate Activate
 unfolding Carries
-activate-carried faults addr m h within may =
-    let inner : Carried (IsAllowed faults) MayActivate addr m (on_used addr activates m) = activated-carried (IsAllowed faults) addr m h within may in
-    record {
-      trimmed = as_move-trimmed (IsAllowed faults) (activated addr) m (on_used addr activates m) inner.trimmed
-          (λ ties. record { back_off = warm-ready m.now (peer_at addr m) (live_entry_at addr m) may (ties addr); cause = tt });
-      elsewhere = inner.elsewhere;
-    }
+activate-carried faults addr m h within may = on_used_by-carried (IsAllowed faults) MayActivate addr (as_move (activated addr) m) activates m h within
+    (record {
+      trimmed = as_move-trimmed (IsAllowed faults) (activated addr) m (nothing_more m) (nothing-trimmed (IsAllowed faults) m within h)
+          (λ ties. activated-allowed faults addr m m may ties);
+      elsewhere = λ b other warm. warm;
+    })
+    (λ e k u. activated-carried faults addr m e k u may)
 
 -- ---- a hot peer is to become warm
 
 deactivated-obeys : (Law : Move → Type 0) (m : Machine) (e : Entry) → Obeys Law m (deactivates e m)
 deactivated-obeys Law m e =
+    let notice : Effect = asks e.facts.cid 2 chain_sync_done m in
     quiet-obeys Law m (deactivates e m)
-    (quiet_then m (asks e.facts.cid 2 chain_sync_done m) (peer_becomes Warm e.facts.addr) (record { moves = refl; connections = refl })
-    (turns_at-quiet (peer_at e.facts.addr m) (λ p. record p { temp = Warm }) m))
+    (quiet_then m notice (peer_becomes Warm e.facts.addr) (tells-quiet notice.actions m)
+    (changes-quiet e.facts.addr (λ p. record p { temp = Warm }) m (record { addr = λ p. refl; hot = λ p hot. absurd (false≢true hot) })))
 
 deactivated-carried : (Law : Move → Type 0) (addr : Addr) (m : Machine) (e : Entry) (k : ℕ) → Used m addr e k → Carried Law Always addr m (deactivates e m)
 deactivated-carried Law addr m e k u =
@@ -251,7 +282,7 @@ forget-carried Law addr m h within may =
           (moves-keeps 0 m n (peers-moves n.peers m h (filter-book m.settings.own (λ p. not (same_address p.addr addr)) m.peers (book_of m h.formed))
           (taken-classes addr m))
           (λ ties. taken-ties addr m (cold-alone m.now (peer_at addr m) (live_entry_at addr m) may.cold may.idle (ties addr)) ties))
-          (quiet-obeys Law m (peer_goes addr m) (record { moves = refl; connections = refl }));
+          (quiet-obeys Law m (peer_goes addr m) (record { moves = refl; connections = refl; hot = taken-hot addr m; known = taken-known addr m }));
       elsewhere = λ b other there. record { cold = subst IsCold (sym (taken-elsewhere addr b m.peers other)) there.cold; idle = there.idle };
     }
 
@@ -263,10 +294,11 @@ MayRelease m addr = (e : Entry) → find (is_used_at addr) m.connections ≡ Som
 
 says_done-quiet : (f : Facts) (m : Machine) → IsQuiet m (says_done f m)
 says_done-quiet f m =
-    quiet_then m (if agreed_sharing f.agreed then asks f.cid 10 peer_sharing_done m else nothing_more m) (asks f.cid 8 (written_alive Done))
-    (cond_both (agreed_sharing f.agreed) (asks f.cid 10 peer_sharing_done m) (nothing_more m) (IsQuiet m)
-    (λ sharing. record { moves = refl; connections = refl }) (λ other. record { moves = refl; connections = refl }))
-    (record { moves = refl; connections = refl })
+    let sharing_done : Effect = asks f.cid 10 peer_sharing_done m in
+    let first : Effect = if agreed_sharing f.agreed then sharing_done else nothing_more m in
+    quiet_then m first (asks f.cid 8 (written_alive Done))
+    (cond_both (agreed_sharing f.agreed) sharing_done (nothing_more m) (IsQuiet m) (λ sharing. tells-quiet sharing_done.actions m) (λ other. tells-quiet [] m))
+    (tells-quiet (asks f.cid 8 (written_alive Done) first.machine).actions first.machine)
 
 says_done-machine : (f : Facts) (m : Machine) → (says_done f m).machine ≡ m
 says_done-machine f m = cond_both (agreed_sharing f.agreed) (asks f.cid 10 peer_sharing_done m) (nothing_more m) (λ effect. effect.machine ≡ m)
@@ -282,6 +314,14 @@ unused_at b x unused = by_test (is_live_at b x.facts)
     by_test : (c : Bool) → (c && x.facts.local) ≡ false
     by_test true = unused
     by_test false = refl
+
+-- whoever is on its way afterwards was so before
+released-down : (until : ℕ) (e : Entry) → is_up_connection (Some (record e { facts = released until e.facts })) ≡ true → is_up_connection (Some e) ≡ true
+released-down until e up = by_used (is_negotiated e.facts) e.facts.local (is_pending e.facts) up
+  where
+    by_used : (a b c : Bool) → ((a && false) || c) ≡ true → ((a && b) || c) ≡ true
+    by_used true b c is = or_right b c is
+    by_used false b c is = is
 
 releasing-carried : (faults : Faults) (addr : Addr) (m : Machine) (e : Entry) (k : ℕ) → Used m addr e k → MayRelease m addr →
     Carried (IsLawful faults) MayRelease addr m (releasing e m)
@@ -325,8 +365,9 @@ releasing-carried faults addr m e k u may =
     }) in
     record {
       trimmed = raised_twice_then_trimmed (IsLawful faults) m (entry_turns e new m) (peer_becomes Cold e.facts.addr) (trim e.facts.cid) raised
-          (turns-obeys (IsLawful faults) m e new k h.orderly s t (λ negotiated. negotiated))
-          (quiet-obeys (IsLawful faults) n (peer_becomes Cold e.facts.addr n) (turns_at-quiet (peer_at e.facts.addr n) cold n)) trimmed;
+          (turns-obeys (IsLawful faults) m e new k h.orderly s t (record { up = released-down (m.now + m.settings.idle) e; asked = λ asked. asked }) (λ negotiated. negotiated))
+          (quiet-obeys (IsLawful faults) n (peer_becomes Cold e.facts.addr n)
+          (changes-quiet e.facts.addr cold n (record { addr = λ p. refl; hot = λ p hot. absurd (false≢true hot) }))) trimmed;
       elsewhere = λ b other may_b x found.
           let apart : same_address e.facts.addr b ≡ false = subst (λ a. same_address a b ≡ false) (sym u.here) (same_turned b addr other) in
           may_b x

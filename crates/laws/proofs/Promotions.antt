@@ -19,9 +19,9 @@ use Rattle.machine.specs.Machine.{Machine, Entry, fresh_entry, counted_in, live_
 use Rattle.machine.specs.Peers.{peer_at}
 use Rattle.machine.specs.Replies.{owing}
 use Rattle.machine.specs.Connections.{with_entry, acquire, dial}
-use Rattle.machine.specs.Effect.{Move, promoted}
-use Rattle.machine.specs.Govern.{link_of, promoted_at}
-use Rattle.laws.specs.AtMoves.{IsReady, Faults}
+use Rattle.machine.specs.Effect.{Effect, Move, promoted, as_move}
+use Rattle.machine.specs.Govern.{link_of, promoted_at, promote}
+use Rattle.laws.specs.AtMoves.{IsReady, Faults, is_up_connection, is_up, is_asked_connection, is_hot_or_asked, is_known, promotes, activates, shares}
 use Rattle.laws.specs.Laws.{DifferInAddress}
 use Rattle.laws.specs.Whole.{IsShaped, IsOwing, TiedBy}
 use Rattle.laws.proofs.Addresses.{same_address-self, same_address-true}
@@ -29,13 +29,15 @@ use Rattle.laws.proofs.Books.{found-other}
 use Rattle.laws.proofs.Counts.{counted_of, counted_in-sum, late_of, late_in-sum}
 use Rattle.laws.proofs.Entries.{with_new, come-orderly}
 use Rattle.laws.proofs.Keeping.{IsOrdered, Keeps}
-use Rattle.laws.proofs.Lawful.{Obeys, accounts_come, used-obeys, IsAllowed}
+use Rattle.laws.proofs.Lawful.{ends_move, ends_come, Accounts, Obeys, turns_at-connections, IsAllowed, as_move-obeys, promoted-obeys}
 use Rattle.laws.proofs.Lists.{StandsAt, stands_next, FoundIn, find_some, find_none, find_only}
 use Rattle.laws.proofs.Owing.{nothing-owing}
 use Rattle.laws.proofs.Shapes.{dialing-shaped, can_acquire}
 use Rattle.laws.proofs.Orders.{Carried, Carries}
+use Rattle.laws.proofs.PeersApart.{same_turned}
+use Rattle.laws.proofs.Rises.{rises_said, hot_or_asked-down, rises_nowhere, come-down}
 use Rattle.laws.proofs.Ties.{live_one, come-ties, come_elsewhere, turned_elsewhere, turns_at-elsewhere}
-use Rattle.laws.proofs.Trims.{keeps-trimmed, as_move-trimmed, turns_at-connections}
+use Rattle.laws.proofs.Trims.{keeps-trimmed}
 use Rattle.laws.proofs.WholeMoves.{negotiated-live, acquire-keeps}
 
 -- ---- a dial
@@ -110,15 +112,28 @@ acquire-peers b m e other =
     let new : Entry = owing 8 (e.facts.cid.0 % 65536) m (record e { facts = acquired e.facts }) in
     turns_at-elsewhere e.facts.addr (λ p. record p { temp = Warm; failures = 0 }) (with_entry new m) (λ p. refl) b other
 
--- ---- no connection is gone
+-- ---- what a promotion tells
 
-dial-obeys : (Law : Move → Type 0) (addr : Addr) (m : Machine) → Obeys Law m (dial addr m)
-dial-obeys Law addr m = record { lawful = tt; accounted = accounts_come m (fresh_entry (dialing m.next_id addr)) (dial addr m) refl }
+dial-accounts : (addr : Addr) (m : Machine) → Accounts m (as_move (promoted addr) m (dial addr m))
+dial-accounts addr m =
+    let new : Entry = fresh_entry (dialing m.next_id addr) in
+    let effect : Effect = dial addr m in
+    record {
+      ends = ends_move (promoted addr) m effect (ends_come m new effect refl);
+      rises = record {
+        promotions = rises_said is_up promotes (promoted addr) m effect
+            (λ b other up. ap is_up_connection (sym (dial-elsewhere addr b m (same_turned addr b other))) ∙ up);
+        activations = rises_nowhere is_hot_or_asked activates m (as_move (promoted addr) m effect)
+            (hot_or_asked-down m effect.machine (λ b hot. hot) (come-down is_asked_connection refl m new refl));
+        arrivals = rises_nowhere is_known shares m (as_move (promoted addr) m effect) (λ b known. known);
+      };
+    }
 
-acquire-obeys : (Law : Move → Type 0) (m : Machine) (e : Entry) (k : ℕ) → IsOrdered m → StandsAt m.connections k e → is_acquirable e.facts ≡ true → Obeys Law m (acquire e m)
-acquire-obeys Law m e k h s free =
+acquire-obeys : (Law : Move → Type 0) (addr : Addr) (m : Machine) (e : Entry) (k : ℕ) → IsOrdered m → StandsAt m.connections k e → is_acquirable e.facts ≡ true →
+    e.facts.addr ≡ addr → Law (record { happened = promoted addr; before = m; after = (acquire e m).machine }) → Obeys Law m (as_move (promoted addr) m (acquire e m))
+acquire-obeys Law addr m e k h s free here law =
     let negotiated : is_negotiated e.facts ≡ true = (can_acquire e.facts free).negotiated in
-    used-obeys Law (acquired e.facts) m e k h.orderly s refl refl (negotiated-live e.facts.phase negotiated) negotiated
+    promoted-obeys Law (acquired e.facts) m e k addr h.orderly s refl refl here (negotiated-live e.facts.phase negotiated) negotiated law
 
 -- ---- a promotion
 
@@ -132,9 +147,9 @@ pub record MayPromote (m : Machine) (addr : Addr) : Type 0 where
   pub free : MayBy (live_entry_at addr m)
   pub ready : IsReady m.now (peer_at addr m)
 
-promoted-carried : (Law : Move → Type 0) (addr : Addr) (m : Machine) → IsOrdered m → counted_in m ≤ m.settings.hard → MayPromote m addr →
-    Carried Law MayPromote addr m (promoted_at (live_entry_at addr m) addr m)
-promoted-carried Law addr m h within may = by_live (live_entry_at addr m) refl may.free
+promoted-carried : (faults : Faults) (addr : Addr) (m : Machine) → IsOrdered m → counted_in m ≤ m.settings.hard → MayPromote m addr →
+    Carried (IsAllowed faults) MayPromote addr m (promote addr m)
+promoted-carried faults addr m h within may = by_live (live_entry_at addr m) refl may.free
   where
     still : (n : Machine) → n.now ≡ m.now → ((b : Addr) → same_address b addr ≡ false → live_entry_at b n ≡ live_entry_at b m) →
         ((b : Addr) → same_address b addr ≡ false → peer_at b n ≡ peer_at b m) →
@@ -144,34 +159,33 @@ promoted-carried Law addr m h within may = by_live (live_entry_at addr m) refl m
       ready = subst (λ t. IsReady t (peer_at b n)) (sym now) (subst (IsReady m.now) (sym (peers b other)) may.ready);
     }
 
-    by_live : (o : Option Entry) → live_entry_at addr m ≡ o → MayBy o → Carried Law MayPromote addr m (promoted_at o addr m)
+    allowed : (after : Machine) → IsAllowed faults (record { happened = promoted addr; before = m; after = after })
+    allowed after = record { back_off = may.ready; cause = tt }
+
+    by_live : (o : Option Entry) → live_entry_at addr m ≡ o → MayBy o → Carried (IsAllowed faults) MayPromote addr m (as_move (promoted addr) m (promoted_at o addr m))
     by_live None none free =
-        let keeps : Keeps 0 m (dial addr m).machine = dial-keeps addr m h none may.ready in
+        let n : Machine = (dial addr m).machine in
+        let keeps : Keeps 0 m n = dial-keeps addr m h none may.ready in
         record {
-          trimmed = keeps-trimmed Law m (dial addr m) within keeps (dial-obeys Law addr m);
-          elsewhere = still (dial addr m).machine keeps.now (λ b other. dial-elsewhere addr b m other) (λ b other. refl);
+          trimmed = keeps-trimmed (IsAllowed faults) m (as_move (promoted addr) m (dial addr m)) within keeps
+              (as_move-obeys (IsAllowed faults) (promoted addr) m (dial addr m) refl (allowed n) (dial-accounts addr m));
+          elsewhere = still n keeps.now (λ b other. dial-elsewhere addr b m other) (λ b other. refl);
         }
     by_live (Some e) some free =
         let at : FoundIn (λ x. is_live_at addr x.facts) m.connections e = find_some (λ x. is_live_at addr x.facts) m.connections e some in
         let here : e.facts.addr ≡ addr = same_address-true e.facts.addr addr (and_parts (same_address e.facts.addr addr) (is_live e.facts) at.passes).0 in
-        let keeps : Keeps 0 m (acquire e m).machine =
-        acquire-keeps m e at.place h at.stands free (subst (λ a. IsReady m.now (peer_at a m)) (sym here) may.ready) in
+        let n : Machine = (acquire e m).machine in
+        let keeps : Keeps 0 m n = acquire-keeps m e at.place h at.stands free (subst (λ a. IsReady m.now (peer_at a m)) (sym here) may.ready) in
         rw free (record {
-          trimmed = keeps-trimmed Law m (acquire e m) within keeps (acquire-obeys Law m e at.place h at.stands free);
-          elsewhere = still (acquire e m).machine keeps.now
-              (λ b other. acquire-elsewhere b m e at.place h at.stands (subst (λ a. same_address b a ≡ false) (sym here) other))
+          trimmed = keeps-trimmed (IsAllowed faults) m (as_move (promoted addr) m (acquire e m)) within keeps
+              (acquire-obeys (IsAllowed faults) addr m e at.place h at.stands free here (allowed n));
+          elsewhere = still n keeps.now (λ b other. acquire-elsewhere b m e at.place h at.stands (subst (λ a. same_address b a ≡ false) (sym here) other))
               (λ b other. acquire-peers b m e (subst (λ a. same_address b a ≡ false) (sym here) other));
         })
 
 pub promotes-carried : (faults : Faults) → Carries (IsAllowed faults) MayPromote Promote
 unfolding Carries
-promotes-carried faults addr m h within may =
-    let inner : Carried (IsAllowed faults) MayPromote addr m (promoted_at (live_entry_at addr m) addr m) = promoted-carried (IsAllowed faults) addr m h within may in
-    record {
-      trimmed = as_move-trimmed (IsAllowed faults) (promoted addr) m (promoted_at (live_entry_at addr m) addr m) inner.trimmed
-          (λ ties. record { back_off = may.ready; cause = tt });
-      elsewhere = inner.elsewhere;
-    }
+promotes-carried faults addr m h within may = promoted-carried faults addr m h within may
 
 -- ---- who is eligible may be promoted
 

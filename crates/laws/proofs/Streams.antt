@@ -80,7 +80,7 @@ fed_with-trimmed faults fed m e k h within s by_items by_stream =
     let first : Effect = entry_turns e new m in
     let fault : Machine → Effect = λ m. faulted_at (entry_at e.facts.cid.0 m) fed.state.fault m in
     let one : Trimmed (IsLawful faults) m first = keeps-trimmed (IsLawful faults) m first within (decodes-keeps fed.state.undecoded m e k h s)
-    (turns-obeys (IsLawful faults) m e new k h.orderly s (record { same_id = refl; same_addr = refl; live = λ l. l }) (λ negotiated. negotiated)) in
+    (turns-obeys (IsLawful faults) m e new k h.orderly s (record { same_id = refl; same_addr = refl; live = λ l. l }) (record { up = λ up. up; asked = λ asked. asked }) (λ negotiated. negotiated)) in
     let n : Machine = first.machine in
     let second : Effect = for_each (handles e.facts.cid) fed.items n in
     let two : Trimmed (IsLawful faults) n second =

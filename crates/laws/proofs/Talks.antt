@@ -1,7 +1,8 @@
 -- A connection whose handshake is done: whatever comes in, the connections stay in order and within the limit.
 use Rattle.std.proofs.Common.{ℕ, ◌+◌, [], ◌∷◌, cond, not, is_some, ◌≤◌, ◌≡◌, Bool, true, false, ◌||◌, ◌==◌, nat_le, if◌then◌else◌, List, find, set, remove, Option, Some, None, Result, Ok, Err, refl, sym, ap, ◌∙◌, subst, arith, eqb-true, eq-eqb}
 use Rattle.std.specs.Option.{unwrap_or}
-use Rattle.std.proofs.lemmas.Bool.{cond_both, both_ways, false≢true}
+use Rattle.std.proofs.lemmas.Bool.{cond_both, both_ways, false≢true, or_left, or_right}
+use Rattle.net_base.specs.Address.{same_address}
 use Rattle.net_base.specs.declared.action.CloseCause.TheVariants.{Pruned, Fault}
 use Rattle.net_base.specs.declared.action.FaultKind.{FaultKind}
 use Rattle.net_base.specs.declared.action.FaultKind.TheVariants.{Protocol, UnknownId}
@@ -35,13 +36,16 @@ use Rattle.machine.specs.Replies.{reply_on, without_reply, paid}
 use Rattle.laws.proofs.Effects.{counted-running}
 use Rattle.laws.proofs.Entries.{TurnsInto, gone-connections, one_has_id, turned-connections}
 use Rattle.laws.proofs.Finds.{find-remove_other, find-remove_here}
-use Rattle.laws.specs.AtMoves.{Faults, fault_of_request, fault_of_answer, fault_of, IsLawful}
+use Rattle.laws.specs.AtMoves.{Faults, fault_of_request, fault_of_answer, fault_of, IsLawful, is_up, is_hot_peer, is_asked_connection, is_hot_or_asked, is_known, promotes, activates, shares}
 use Rattle.laws.proofs.KnownWanted.{takes-within}
-use Rattle.laws.proofs.Lawful.{accounts_same, Obeys, obeys_then, IsQuiet, quiet-obeys, turns_at-quiet, comes-quiet, ending-obeys, ended-lawful, turns-obeys, IsAllowed, Within, allowed_within, as_move-obeys}
+use Rattle.laws.proofs.Lawful.{ends_then, ends_same, ends_turned, Accounts, Obeys, IsQuiet, quiet-lawful, quiet-obeys, tells-quiet, turns_at-moves, turns_at-connections, comes-providing, shared-accounts, ending-obeys, ended-lawful, turns-obeys, IsAllowed, Within, allowed_within, as_move-obeys}
 use Rattle.laws.proofs.Keeping.{IsOrdered, Keeps, keeps_nothing, moves_then, moves-keeps, keeps-moves, changes-moves, peer_comes-keeps}
 use Rattle.laws.proofs.Lists.{StandsAt, stands-set, find_some, find_only}
 use Rattle.laws.specs.Whole.{AreTied, IsAlone, TiedBy}
-use Rattle.laws.proofs.Ties.{changed-ties, turned_here, turned_elsewhere, live_here}
+use Rattle.laws.proofs.Addresses.{same_address-true}
+use Rattle.laws.proofs.Owing.{paid-some}
+use Rattle.laws.proofs.Rises.{is_asked, is_hot, NoneConnected, or_each, rises_nowhere, same-connected, connected_then, IsNoHigher, turned-connected, changed-known}
+use Rattle.laws.proofs.Ties.{changed-ties, turned_here, turned_elsewhere, live_here, turns_at-elsewhere}
 use Rattle.laws.proofs.Trims.{lost-connections, Trimmed, HasMoved, keeps-trimmed, nothing-trimmed, trimmed_both, trimmed_then, trimmed-within, raised_then_trimmed, trim-trims, for_each_that-trimmed}
 use Rattle.laws.proofs.WholeMoves.{negotiated-live, ending-keeps, awakes-keeps, idles-keeps, pays-keeps}
 use Rattle.laws.proofs.OwnAddress.{IsOther, taken-other}
@@ -222,7 +226,7 @@ awake-begun faults protocol m e k t serves known =
     trim-trims faults e.facts.cid n raised.ordered (omega (arith, raised.counted, t.within)) (λ over. moved) in
     record {
       trimmed = raised_then_trimmed (IsLawful faults) m (entry_turns e new m) (trim e.facts.cid) raised
-          (turns-obeys (IsLawful faults) m e new k t.ordered.orderly t.stands turns (λ negotiated. negotiated)) trimmed;
+          (turns-obeys (IsLawful faults) m e new k t.ordered.orderly t.stands turns (record { up = λ up. up; asked = λ asked. asked }) (λ negotiated. negotiated)) trimmed;
       runs = λ x found.
           let was : entry_at e.facts.cid.0 n ≡ Some x = trim-found e.facts.cid e.facts.cid.0 x n raised.ordered found in
           ap (λ y. some_runs y.facts.running) (found_is n new x k raised.ordered here was) ∙ runs;
@@ -248,12 +252,12 @@ replies-machine reply.NoBlocks protocol e m = refl
 
 -- what is told is no matter of the connections either
 replies-quiet : (r : Reply) (protocol : ℕ) (e : Entry) (m : Machine) → IsQuiet m (replies r protocol e m)
-replies-quiet reply.Nothing protocol e m = record { moves = refl; connections = refl }
-replies-quiet (reply.Alive cookie) protocol e m = record { moves = refl; connections = refl }
-replies-quiet (reply.Share n) protocol e m = record { moves = refl; connections = refl }
-replies-quiet reply.NoIntersect protocol e m = record { moves = refl; connections = refl }
-replies-quiet reply.Await protocol e m = record { moves = refl; connections = refl }
-replies-quiet reply.NoBlocks protocol e m = record { moves = refl; connections = refl }
+replies-quiet reply.Nothing protocol e m = tells-quiet (replies reply.Nothing protocol e m).actions m
+replies-quiet (reply.Alive cookie) protocol e m = tells-quiet (replies (reply.Alive cookie) protocol e m).actions m
+replies-quiet (reply.Share n) protocol e m = tells-quiet (replies (reply.Share n) protocol e m).actions m
+replies-quiet reply.NoIntersect protocol e m = tells-quiet (replies reply.NoIntersect protocol e m).actions m
+replies-quiet reply.Await protocol e m = tells-quiet (replies reply.Await protocol e m).actions m
+replies-quiet reply.NoBlocks protocol e m = tells-quiet (replies reply.NoBlocks protocol e m).actions m
 
 ends_if-trimmed : (faults : Faults) (done : Bool) (protocol cid : ℕ) (m : Machine) → IsOrdered m → counted_in m ≤ m.settings.hard →
     ((x : Entry) → entry_at cid m ≡ Some x → some_runs x.facts.running ≡ true) → Trimmed (IsLawful faults) m (ends_if done protocol (entry_at cid m) m)
@@ -266,7 +270,7 @@ ends_if-trimmed faults true protocol cid m h within running = by_entry (entry_at
         let at = find_some (λ y. has_id cid y.facts) m.connections x is in
         keeps-trimmed (IsLawful faults) m (idle protocol x m) within (idles-keeps protocol m x at.place h at.stands (running x is))
         (turns-obeys (IsLawful faults) m x (record x { facts = idled protocol (m.now + m.settings.idle) x.facts }) at.place h.orderly at.stands
-        (record { same_id = refl; same_addr = refl; live = λ l. l }) (λ negotiated. negotiated))
+        (record { same_id = refl; same_addr = refl; live = λ l. l }) (record { up = λ up. up; asked = λ asked. asked }) (λ negotiated. negotiated))
 
 served-trimmed : (faults : Faults) (seen : Seen) (protocol cid : ℕ) (m : Machine) → IsOrdered m → counted_in m ≤ m.settings.hard →
     ((x : Entry) → entry_at cid m ≡ Some x → some_runs x.facts.running ≡ true) →
@@ -311,8 +315,8 @@ shared-trimmed : (faults : Faults) (addr : Addr) (m : Machine) → IsOrdered m �
     Trimmed (IsAllowed faults) m (shares_address addr m)
 shared-trimmed faults addr m h within other =
     keeps-trimmed (IsAllowed faults) m (shares_address addr m) within (peer_comes-keeps false addr m h other (λ local. refl))
-    (as_move-obeys (IsAllowed faults) (shared addr) m (peer_comes false addr m) (comes-quiet false addr m).moves (record { back_off = tt; cause = tt })
-    (accounts_same m (shares_address addr m) (comes-quiet false addr m).connections))
+    (as_move-obeys (IsAllowed faults) (shared addr) m (peer_comes false addr m) (comes-providing false addr m).moves (record { back_off = tt; cause = tt })
+    (shared-accounts false addr m))
 
 takes-trimmed : (faults : Faults) (o : Option Share) (m : Machine) → IsOrdered m → counted_in m ≤ m.settings.hard → Trimmed (IsLawful faults) m (takes_addresses o m)
 takes-trimmed faults o m h within = trimmed_both (IsAllowed faults) Within (IsLawful faults) (allowed_within faults) m (takes_addresses o m) (by_message o) (takes-within o m)
@@ -370,10 +374,46 @@ brings-trimmed faults protocol body m h within =
     cond_both (protocol == 8) (nothing_more m) (takes_addresses (share_of body) m) (Trimmed (IsLawful faults) m)
     (λ on_8. nothing-trimmed (IsLawful faults) m within h) (λ not_8. takes-trimmed faults (share_of body) m h within)
 
+paid-lower : (protocol : ℕ) (e : Entry) → IsNoHigher e (paid protocol e)
+paid-lower protocol e = record { up = λ up. up; asked = paid-some (λ o. o.protocol == 2) protocol e.owed }
+
+-- whoever becomes hot was asked to
+hot-accounts : (m : Machine) (e : Entry) (k : ℕ) → IsOrdered m → StandsAt m.connections k e → is_live e.facts ≡ true → is_some (reply_on 2 e) ≡ true →
+    Accounts m (then_do (entry_turns e (paid 2 e) m) (peer_becomes Hot e.facts.addr))
+hot-accounts m e k h s live asked =
+    let new : Entry = paid 2 e in
+    let n : Machine = with_entry new m in
+    let hot : Peer → Peer = λ p. record p { temp = Hot } in
+    let last : Machine → Effect = peer_becomes Hot e.facts.addr in
+    let effect : Effect = then_do (entry_turns e new m) last in
+    let turns : TurnsInto e new = record { same_id = refl; same_addr = refl; live = λ l. l } in
+    let same : (last n).machine.connections ≡ n.connections = turns_at-connections (peer_at e.facts.addr n) hot n in
+    let connected : NoneConnected m effect.machine =
+    connected_then m n effect.machine (turned-connected m e new k h.orderly s turns (paid-lower 2 e)) (same-connected n effect.machine same) in
+    record {
+      ends = ends_then m (entry_turns e new m) last
+          (ends_turned m e new k (entry_turns e new m) h.orderly s turns refl (λ was. or_left (is_negotiated e.facts) false was)) (ends_same n (last n) same);
+      rises = record {
+        promotions = rises_nowhere is_up promotes m effect connected.up;
+        activations = rises_nowhere is_hot_or_asked activates m effect (λ b. by_address b effect.machine
+            (λ other. turns_at-elsewhere e.facts.addr hot n (λ p. refl) b other) connected (same_address b e.facts.addr) refl);
+        arrivals = rises_nowhere is_known shares m effect (changed-known e.facts.addr hot n (λ p. refl));
+      };
+    }
+  where
+    here : is_hot_or_asked e.facts.addr m ≡ true
+    here = or_right (is_hot e.facts.addr m) (is_asked e.facts.addr m) (ap is_asked_connection (live_here m e k h.orderly s live) ∙ asked)
+
+    by_address : (b : Addr) (o : Machine) → (same_address b e.facts.addr ≡ false → peer_at b o ≡ peer_at b m) → NoneConnected m o →
+        (c : Bool) → same_address b e.facts.addr ≡ c → is_hot_or_asked b o ≡ true → is_hot_or_asked b m ≡ true
+    by_address b o elsewhere connected true is rises = subst (λ a. is_hot_or_asked a m ≡ true) (sym (same_address-true b e.facts.addr is)) here
+    by_address b o elsewhere connected false other rises =
+        or_each (is_hot b o) (is_asked b o) (is_hot b m) (is_asked b m) (λ hot. ap is_hot_peer (sym (elsewhere other)) ∙ hot) (connected.asked b) rises
+
 paid-obeys : (Law : Move → Type 0) (protocol : ℕ) (m : Machine) (e : Entry) (k : ℕ) → IsOrdered m → StandsAt m.connections k e →
     Obeys Law m (entry_turns e (paid protocol e) m)
 paid-obeys Law protocol m e k h s =
-    turns-obeys Law m e (paid protocol e) k h.orderly s (record { same_id = refl; same_addr = refl; live = λ l. l }) (λ negotiated. negotiated)
+    turns-obeys Law m e (paid protocol e) k h.orderly s (record { same_id = refl; same_addr = refl; live = λ l. l }) (paid-lower protocol e) (λ negotiated. negotiated)
 
 answered_as-trimmed : (faults : Faults) (o : Option Owed) (item : Item) (m : Machine) (e : Entry) (k : ℕ) → reply_on item.id e ≡ o → Talking m e k →
     ((kind : FaultKind) → fault_of_answer o item.body ≡ Some kind → faults m e kind) → Trimmed (IsLawful faults) m (answered_as o item e m)
@@ -387,8 +427,10 @@ answered_as-trimmed faults (Some owed) item m e k is t given = by_test (pays owe
         subst (λ i. Trimmed (IsLawful faults) m (then_do (entry_turns e (paid i e) m) (peer_becomes Hot e.facts.addr))) (sym id)
         (keeps-trimmed (IsLawful faults) m (then_do (entry_turns e (paid 2 e) m) (peer_becomes Hot e.facts.addr)) t.within
         (hot-keeps m e k t.ordered t.stands (negotiated-live e.facts.phase t.negotiated) asked)
-        (obeys_then (IsLawful faults) m (entry_turns e (paid 2 e) m) (peer_becomes Hot e.facts.addr) (paid-obeys (IsLawful faults) 2 m e k t.ordered t.stands)
-        (quiet-obeys (IsLawful faults) n (peer_becomes Hot e.facts.addr n) (turns_at-quiet (peer_at e.facts.addr n) (λ p. record p { temp = Hot }) n))))
+        (record {
+          lawful = quiet-lawful (IsLawful faults) (peer_becomes Hot e.facts.addr n) (turns_at-moves (peer_at e.facts.addr n) (λ p. record p { temp = Hot }) n);
+          accounted = hot-accounts m e k t.ordered t.stands (negotiated-live e.facts.phase t.negotiated) asked;
+        }))
 
     by_protocol : (b : Bool) → (item.id == 2) ≡ b →
         Trimmed (IsLawful faults) m (then_do (entry_turns e (paid item.id e) m)

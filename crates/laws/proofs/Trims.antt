@@ -26,7 +26,7 @@ use Rattle.laws.proofs.Effects.{one_if-counted}
 use Rattle.laws.proofs.Entries.{gone-connections, gone-sum, one_has_id}
 use Rattle.laws.proofs.Finds.{find-remove_other}
 use Rattle.laws.proofs.Keeping.{IsOrdered, Keeps, keeps_nothing}
-use Rattle.laws.proofs.Lawful.{Accounts, accounts_then, accounts_move, Obeys, obeys_nothing, ending-obeys, ended-lawful}
+use Rattle.laws.proofs.Lawful.{Accounts, accounts_then, accounts_move, Obeys, obeys_nothing, turns_at-connections, ending-obeys, ended-lawful}
 use Rattle.laws.proofs.Lists.{StandsAt, stands_next, find_only, all-appended, all-both}
 use Rattle.laws.proofs.WholeMoves.{ending-keeps}
 
@@ -135,9 +135,10 @@ pub record Trimmed (Law : Move → Type 0) (before : Machine) (effect : Effect) 
   pub lawful : IsTied before → AllByRecursion Law effect.moves
   pub accounted : Accounts before effect
 
-pub keeps-trimmed : (Law : Move → Type 0) (m : Machine) (effect : Effect) → counted_in m ≤ m.settings.hard → Keeps 0 m effect.machine → Obeys Law m effect →
-    Trimmed Law m effect
-keeps-trimmed Law m effect within h obeys = record {
+-- where each move keeps it while peers are tied to their connections
+pub tied-trimmed : (Law : Move → Type 0) (m : Machine) (effect : Effect) → counted_in m ≤ m.settings.hard → Keeps 0 m effect.machine →
+    (IsTied m → AllByRecursion Law effect.moves) → Accounts m effect → Trimmed Law m effect
+tied-trimmed Law m effect within h lawful accounted = record {
   ordered = h.ordered;
   settings = h.settings;
   now = h.now;
@@ -145,9 +146,13 @@ keeps-trimmed Law m effect within h obeys = record {
   late = h.late;
   classes = h.classes;
   ties = h.ties;
-  lawful = λ ties. obeys.lawful;
-  accounted = obeys.accounted;
+  lawful = lawful;
+  accounted = accounted;
 }
+
+pub keeps-trimmed : (Law : Move → Type 0) (m : Machine) (effect : Effect) → counted_in m ≤ m.settings.hard → Keeps 0 m effect.machine → Obeys Law m effect →
+    Trimmed Law m effect
+keeps-trimmed Law m effect within h obeys = tied-trimmed Law m effect within h (λ ties. obeys.lawful) obeys.accounted
 
 pub nothing-trimmed : (Law : Move → Type 0) (m : Machine) → counted_in m ≤ m.settings.hard → IsOrdered m → Trimmed Law m (nothing_more m)
 nothing-trimmed Law m within h = keeps-trimmed Law m (nothing_more m) within (keeps_nothing m h) (obeys_nothing Law m)
@@ -206,10 +211,6 @@ trim-trims faults moved m h most over = cond_both (nat_le (counted_in m) m.setti
         (pruned-trims faults m goes.entry goes.place h goes.stands goes.counted one_more)
 
 -- ---- who is in local use stays
-
-pub turns_at-connections : (o : Option Peer) (change : Peer → Peer) (m : Machine) → (turns_at o change m).machine.connections ≡ m.connections
-turns_at-connections None change m = refl
-turns_at-connections (Some p) change m = refl
 
 pub lost-connections : (f : Facts) (m : Machine) → (lost f m).machine.connections ≡ m.connections
 lost-connections f m = cond_both (is_missed f) (peer_fails f.addr m) (nothing_more m) (λ effect. effect.machine.connections ≡ m.connections)

@@ -178,7 +178,7 @@ negotiated-live (Greeting until) h = absurd (false≢true h)
 negotiated-live Negotiated h = refl
 negotiated-live (Closing until) h = absurd (false≢true h)
 
-dialing-opening : (p : Phase) → is_dialing_phase p ≡ true → opening_phase p ≡ true
+pub dialing-opening : (p : Phase) → is_dialing_phase p ≡ true → opening_phase p ≡ true
 dialing-opening Dialing h = refl
 dialing-opening (Greeting until) h = absurd (false≢true h)
 dialing-opening Negotiated h = absurd (false≢true h)

@@ -1,5 +1,5 @@
 -- What an operator counts on at each move of an event: in the record just before it and in the one just after it.
-use Rattle.std.specs.Prelude.{ℕ, ◌+◌, ◌≡◌, ◌≤◌, ◌⊎◌, Bool, true, false, ◌||◌, ◌==◌, List, map, All, Contains, Option, Some, None, if◌then◌else◌, Result, Ok, Err}
+use Rattle.std.specs.Prelude.{ℕ, ◌+◌, ◌≡◌, ◌≤◌, ◌⊎◌, Bool, true, false, ◌||◌, ◌==◌, List, map, All, Contains, Option, Some, None, is_some, if◌then◌else◌, Result, Ok, Err}
 use Rattle.std.specs.List.{list_any}
 use Rattle.churn_clock.specs.Windows.{effective_of, effective_big_of}
 use Rattle.conn_state.specs.Use.{is_negotiated, some_runs, agreed_sharing}
@@ -12,6 +12,7 @@ use Rattle.mux_segment.specs.Protocols.{node_limits}
 use Rattle.mux_segment.specs.Stream.{FedBy, fed_by}
 use Rattle.mux_segment.specs.declared.fault.CutFault.{CutFault}
 use Rattle.mux_segment.specs.declared.item.Item.{Item}
+use Rattle.net_base.specs.Address.{same_address}
 use Rattle.net_base.specs.declared.action.CloseCause.{CloseCause}
 use Rattle.net_base.specs.declared.action.CloseCause.TheVariants.{Unused, Pruned, Overwritten, Refused, Query, Fault}
 use Rattle.net_base.specs.declared.action.FaultKind.{FaultKind}
@@ -24,19 +25,22 @@ use Rattle.net_base.specs.declared.connection.Grace.TheVariants.{Off, ForRemote,
 use Rattle.net_base.specs.declared.event.Event.{Event}
 use Rattle.net_base.specs.declared.event.Event.TheVariants.{Now, Govern, Accepted, Dialed, Bytes, Closed, Aims, Locals, Roots, BigAims, Bigs}
 use Rattle.net_base.specs.declared.event.Group.{Group}
+use Rattle.net_base.specs.declared.event.RootAnswer.{RootAnswer}
+use Rattle.net_base.specs.declared.event.RootAnswer.TheVariants.{Found, Failed}
 use Rattle.net_base.specs.declared.peer.Peer.{Peer}
-use Rattle.peer_book.specs.Book.{known_of}
+use Rattle.peer_book.specs.Book.{is_active, known_of}
 use Rattle.remote_watch.specs.Watch.{watched}
 use Rattle.remote_watch.specs.declared.seen.Seen.{Seen}
-use Rattle.root_groups.specs.Cleaned.{is_listed}
+use Rattle.root_groups.specs.Cleaned.{is_listed, members_of}
 use Rattle.machine.specs.Effect.{Happened, Move, promoted, activated, shared, ended, unused, left}
 use Rattle.machine.specs.Govern.{link_of}
-use Rattle.machine.specs.Machine.{Machine, Entry, Owed, counted_in, entry_at}
+use Rattle.machine.specs.Machine.{Machine, Entry, Owed, counted_in, entry_at, live_entry_at}
 use Rattle.machine.specs.Peers.{peer_at}
 use Rattle.machine.specs.Replies.{reply_on}
 use Rattle.machine.specs.Stream.{kind_of}
 use Rattle.machine.specs.Talking.{takes_requests, pays}
 use Rattle.machine.specs.Whole.{whole_step}
+use Rattle.laws.specs.Laws.{is_used_connection, is_pending_connection}
 
 -- ---- back-off
 
@@ -246,3 +250,97 @@ MovesAreLawful m event = All (IsLawful (faults_of m event)) (whole_step m event)
 abbrev pub EndsAreMoves : Machine → Event → Type 0
 EndsAreMoves m event = (cid : ℕ) → is_negotiated_at cid m ≡ true →
     (is_negotiated_at cid (whole_step m event).machine || is_ended_in cid (whole_step m event).moves || is_closed_by cid event) ≡ true
+
+-- ---- who comes up
+
+-- used by this node, or on its way to it
+abbrev pub is_up_connection : Option Entry → Bool
+is_up_connection e = is_used_connection e || is_pending_connection e
+
+abbrev pub is_up : Addr → Machine → Bool
+is_up addr m = is_up_connection (live_entry_at addr m)
+
+abbrev pub is_hot_peer : Option Peer → Bool
+is_hot_peer None = false
+is_hot_peer (Some p) = is_active p.temp
+
+-- the peer was asked on it to become hot, and has not answered
+abbrev pub is_asked_connection : Option Entry → Bool
+is_asked_connection None = false
+is_asked_connection (Some e) = is_some (reply_on 2 e)
+
+-- hot, or asked to become so
+abbrev pub is_hot_or_asked : Addr → Machine → Bool
+is_hot_or_asked addr m = is_hot_peer (peer_at addr m) || is_asked_connection (live_entry_at addr m)
+
+-- in the book
+abbrev pub is_known : Addr → Machine → Bool
+is_known addr m = is_some (peer_at addr m)
+
+-- the move is of that kind, and of that address
+abbrev pub promotes : Addr → Happened → Bool
+promotes addr (promoted other) = same_address other addr
+promotes addr (activated other) = false
+promotes addr (shared other) = false
+promotes addr (ended cid cause) = false
+promotes addr (unused cid) = false
+promotes addr (left cid) = false
+
+abbrev pub activates : Addr → Happened → Bool
+activates addr (promoted other) = false
+activates addr (activated other) = same_address other addr
+activates addr (shared other) = false
+activates addr (ended cid cause) = false
+activates addr (unused cid) = false
+activates addr (left cid) = false
+
+abbrev pub shares : Addr → Happened → Bool
+shares addr (promoted other) = false
+shares addr (activated other) = false
+shares addr (shared other) = same_address other addr
+shares addr (ended cid cause) = false
+shares addr (unused cid) = false
+shares addr (left cid) = false
+
+abbrev pub is_promoted_in : Addr → List Move → Bool
+is_promoted_in addr moves = list_any (λ move. promotes addr move.happened) moves
+
+abbrev pub is_activated_in : Addr → List Move → Bool
+is_activated_in addr moves = list_any (λ move. activates addr move.happened) moves
+
+abbrev pub is_shared_in : Addr → List Move → Bool
+is_shared_in addr moves = list_any (λ move. shares addr move.happened) moves
+
+abbrev pub is_found_in : Addr → RootAnswer → Bool
+is_found_in addr (Found ttl addrs) = is_listed addr addrs
+is_found_in addr Failed = false
+
+-- the event names it, as a local root peer or a public one
+abbrev pub is_provided_by : Addr → Event → Bool
+is_provided_by addr (Now t) = false
+is_provided_by addr (Govern word) = false
+is_provided_by addr (Accepted other) = false
+is_provided_by addr (Dialed cid opened) = false
+is_provided_by addr (Bytes cid bytes) = false
+is_provided_by addr (Closed cid) = false
+is_provided_by addr (Aims targets) = false
+is_provided_by addr (Locals groups) = is_listed addr (members_of groups)
+is_provided_by addr (Roots job answer) = is_found_in addr answer
+is_provided_by addr (BigAims targets) = false
+is_provided_by addr (Bigs addrs) = false
+
+-- Whoever is used, or on its way to it, was so before the event, or a move promoted it.
+abbrev pub PromotionsAreMoves : Machine → Event → Type 0
+PromotionsAreMoves m event = (addr : Addr) → is_up addr (whole_step m event).machine ≡ true →
+    (is_up addr m || is_promoted_in addr (whole_step m event).moves) ≡ true
+
+-- Whoever is hot, or asked to become so, was one of both before the event, or a move activated it.
+abbrev pub ActivationsAreMoves : Machine → Event → Type 0
+ActivationsAreMoves m event = (addr : Addr) → is_hot_or_asked addr (whole_step m event).machine ≡ true →
+    (is_hot_or_asked addr m || is_activated_in addr (whole_step m event).moves) ≡ true
+
+-- Whoever is known was so before the event, or a move shared its address, or the event names it as a local
+-- or a public root peer.
+abbrev pub ArrivalsAreMoves : Machine → Event → Type 0
+ArrivalsAreMoves m event = (addr : Addr) → is_known addr (whole_step m event).machine ≡ true →
+    (is_known addr m || is_shared_in addr (whole_step m event).moves || is_provided_by addr event) ≡ true

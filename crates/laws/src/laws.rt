@@ -7,7 +7,7 @@ ghost use Rattle.machine.specs.Events.{step, clock_shows};
 ghost use Rattle.machine.specs.Machine.{Machine, start_of};
 ghost use Rattle.machine.specs.Run.{after_all};
 ghost use Rattle.machine.specs.Whole.{whole_step};
-ghost use Rattle.laws.specs.AtMoves.{OutOfBackOff, WithinTargets, ForCause, faults_of, MovesAreLawful, EndsAreMoves};
+ghost use Rattle.laws.specs.AtMoves.{OutOfBackOff, WithinTargets, ForCause, faults_of, MovesAreLawful, EndsAreMoves, PromotionsAreMoves, ActivationsAreMoves, ArrivalsAreMoves};
 ghost use Rattle.laws.specs.Laws.{LiveAddressesDistinct, WithinHardLimit, DeadlinesAhead, EstablishedAreUsed, PendingAreCold, UsedAreOutOfBackOff, LocalsAreOrdinary};
 ghost use Rattle.laws.specs.Sound.{IsOrderly, IsSound};
 ghost use Rattle.laws.specs.Whole.{IsSteady, whole_after};
@@ -50,20 +50,27 @@ pub fn laws_of_whole_runs()
 
 /// The laws on the moves of an event, after every list of events: promotions and activations are out of back-off and
 /// within what is wanted, no connection whose handshake is done ends without a cause, and none is gone without a move
-/// but where the other side has closed it.
+/// but where the other side has closed it. Nobody comes into use or becomes hot without a move either, nor is an address
+/// known without one but where the event names it as a root peer's.
 pub fn laws_of_moves()
     ensures back_off { (settings : Settings) (events : List Event) (event : Event) → AreSound settings → All (λ move. OutOfBackOff move.happened move.before) (whole_step (whole_after (start_of settings) events) event).moves }
     ensures targets { (settings : Settings) (events : List Event) (event : Event) → AreSound settings → All (λ move. WithinTargets move.happened move.before move.after) (whole_step (whole_after (start_of settings) events) event).moves }
     ensures cause { (settings : Settings) (events : List Event) (event : Event) → AreSound settings → All (λ move. ForCause (faults_of (whole_after (start_of settings) events) event) move.happened move.before) (whole_step (whole_after (start_of settings) events) event).moves }
     ensures ends { (settings : Settings) (events : List Event) (event : Event) → AreSound settings → EndsAreMoves (whole_after (start_of settings) events) event }
+    ensures promotions { (settings : Settings) (events : List Event) (event : Event) → AreSound settings → PromotionsAreMoves (whole_after (start_of settings) events) event }
+    ensures activations { (settings : Settings) (events : List Event) (event : Event) → AreSound settings → ActivationsAreMoves (whole_after (start_of settings) events) event }
+    ensures arrivals { (settings : Settings) (events : List Event) (event : Event) → AreSound settings → ArrivalsAreMoves (whole_after (start_of settings) events) event }
 {}
 
 /// What carries them: a record is steady at the start, and after each event where it was before, whatever stands in it;
-/// and where it is, each move of an event is lawful.
+/// and where it is, each move of an event is lawful, and what goes or comes up does so by a move.
 pub fn steadiness_kept()
     ensures start { (settings : Settings) → AreSound settings → IsSteady (start_of settings) }
     ensures kept { (m : Machine) (event : Event) → IsSteady m → IsSteady (whole_step m event).machine }
     ensures settings { (m : Machine) (event : Event) → IsSteady m → (whole_step m event).machine.settings ≡ m.settings }
     ensures moves { (m : Machine) (event : Event) → IsSteady m → MovesAreLawful m event }
     ensures ends { (m : Machine) (event : Event) → IsSteady m → EndsAreMoves m event }
+    ensures promotions { (m : Machine) (event : Event) → IsSteady m → PromotionsAreMoves m event }
+    ensures activations { (m : Machine) (event : Event) → IsSteady m → ActivationsAreMoves m event }
+    ensures arrivals { (m : Machine) (event : Event) → IsSteady m → ArrivalsAreMoves m event }
 {}

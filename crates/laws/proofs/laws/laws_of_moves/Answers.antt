@@ -7,13 +7,17 @@ use Rattle.machine.specs.Machine.{Machine, start_of}
 use Rattle.machine.specs.Whole.{whole_step}
 use Rattle.laws.specs.AtMoves.{OutOfBackOff, WithinTargets, ForCause, faults_of, IsLawful, MovesAreLawful}
 use Rattle.laws.specs.Whole.{whole_after}
-use Rattle.laws.proofs.EventMoves.{whole_step-known, moves-lawful}
+use Rattle.laws.proofs.EventMoves.{IsKnown, whole_step-known, moves-lawful}
 use Rattle.laws.proofs.WholeRuns.{whole_after-steady}
 use Rattle.laws.proofs.laws.laws_of_moves.Goals as goal
 
 -- each move of an event after a run is lawful
 run-lawful : (settings : Settings) (events : List Event) (event : Event) → AreSound settings → MovesAreLawful (whole_after (start_of settings) events) event
 run-lawful settings events event h = moves-lawful (whole_after (start_of settings) events) event (whole_after-steady settings events h).steady
+
+-- and nothing is gone or comes up without one
+run-known : (settings : Settings) (events : List Event) (event : Event) → AreSound settings → IsKnown (whole_after (start_of settings) events) event
+run-known settings events event h = whole_step-known (whole_after (start_of settings) events) event (whole_after-steady settings events h).steady
 
 pub returns-clause-back_off : goal.returns-clause-back_off
 returns-clause-back_off c settings events event h =
@@ -34,5 +38,13 @@ returns-clause-cause c settings events event h =
     (whole_step m event).moves (run-lawful settings events event h)
 
 pub returns-clause-ends : goal.returns-clause-ends
-returns-clause-ends c settings events event h =
-    (whole_step-known (whole_after (start_of settings) events) event (whole_after-steady settings events h).steady).ends
+returns-clause-ends c settings events event h = (run-known settings events event h).ends
+
+pub returns-clause-promotions : goal.returns-clause-promotions
+returns-clause-promotions c settings events event h = (run-known settings events event h).promotions
+
+pub returns-clause-activations : goal.returns-clause-activations
+returns-clause-activations c settings events event h = (run-known settings events event h).activations
+
+pub returns-clause-arrivals : goal.returns-clause-arrivals
+returns-clause-arrivals c settings events event h = (run-known settings events event h).arrivals

@@ -17,3 +17,12 @@ returns-clause-moves c m event h = moves-lawful m event h
 
 pub returns-clause-ends : goal.returns-clause-ends
 returns-clause-ends c m event h = (whole_step-known m event h).ends
+
+pub returns-clause-promotions : goal.returns-clause-promotions
+returns-clause-promotions c m event h = (whole_step-known m event h).promotions
+
+pub returns-clause-activations : goal.returns-clause-activations
+returns-clause-activations c m event h = (whole_step-known m event h).activations
+
+pub returns-clause-arrivals : goal.returns-clause-arrivals
+returns-clause-arrivals c m event h = (whole_step-known m event h).arrivals

@@ -1,0 +1,293 @@
+-- Who comes up in a part of a step: one is used or on its way to it, is hot or asked to become so, or is known.
+use Rattle.std.proofs.Common.{ℕ, ◌≡◌, Bool, true, false, cond, ◌||◌, if◌then◌else◌, nat_le, List, [], ◌∷◌, ◌++◌, length, find, Option, Some, None, is_some, refl, sym, ap, ◌∙◌, subst}
+use Rattle.std.specs.List.{list_any}
+use Rattle.std.proofs.lemmas.Bool.{cond_both, both_ways, false≢true, or_left, or_right}
+use Rattle.std.proofs.lemmas.List.Folds.{list_any-append}
+use Rattle.net_base.specs.Address.{same_address}
+use Rattle.net_base.specs.declared.address.Addr.{Addr}
+use Rattle.net_base.specs.declared.peer.Peer.{Peer}
+use Rattle.conn_state.specs.Use.{is_live, is_live_at}
+use Rattle.peer_book.specs.Book.{peer_at as peer_in, with_peer as with_peer_in, with_new as with_new_in, without_peer, new_peer, entered_by, entered, most_peers}
+use Rattle.peer_book.specs.declared.added.Added.TheVariants.{New, Present, Full}
+use Rattle.machine.specs.Machine.{Machine, Entry, live_entry_at}
+use Rattle.machine.specs.Effect.{Effect, Happened, Move, then_do, as_move}
+use Rattle.machine.specs.Peers.{peer_at, turns_at, peer_changes}
+use Rattle.machine.specs.Connections.{with_entry, without_entry}
+use Rattle.laws.specs.AtMoves.{is_up_connection, is_up, is_hot_peer, is_asked_connection, is_hot_or_asked, is_known, promotes, activates, shares}
+use Rattle.laws.specs.Sound.{IsOrderly}
+use Rattle.laws.proofs.Addresses.{same_address-true}
+use Rattle.laws.proofs.Entries.{TurnsInto, with_new}
+use Rattle.laws.proofs.Lists.{StandsAt}
+use Rattle.laws.proofs.PeersApart.{same_turned}
+use Rattle.laws.proofs.Ties.{live_here, turned_here, turned_elsewhere, turned_dead, gone_here, gone_elsewhere, gone_dead, found-addr, peer_here, put_in-elsewhere, put_in-here, none_there, taken-elsewhere, taken-here, turns_at-elsewhere}
+
+-- ---- a move says so
+
+-- Whoever is so after was so before, or a move says so.
+abbrev pub RisesBy : (Addr → Machine → Bool) → (Addr → Happened → Bool) → Machine → Effect → Type 0
+RisesBy is says before effect = (addr : Addr) → is addr effect.machine ≡ true → (is addr before || list_any (λ move. says addr move.happened) effect.moves) ≡ true
+
+pub record Rises (before : Machine) (effect : Effect) : Type 0 where
+  pub promotions : RisesBy is_up promotes before effect
+  pub activations : RisesBy is_hot_or_asked activates before effect
+  pub arrivals : RisesBy is_known shares before effect
+
+rises_by_then : (is : Addr → Machine → Bool) (says : Addr → Happened → Bool) (m : Machine) (first : Effect) (next : Machine → Effect) → RisesBy is says m first →
+    RisesBy is says first.machine (next first.machine) → RisesBy is says m (then_do first next)
+rises_by_then is says m first next one two addr h =
+    let second : Effect = next first.machine in
+    let early : Bool = list_any (λ move. says addr move.happened) first.moves in
+    let late : Bool = list_any (λ move. says addr move.happened) second.moves in
+    subst (λ b. (is addr m || b) ≡ true) (sym (list_any-append (λ move. says addr move.happened) first.moves second.moves))
+    (by_first (is addr first.machine) (is addr m) early late (one addr) (two addr h))
+  where
+    by_first : (b before early late : Bool) → (b ≡ true → (before || early) ≡ true) → (b || late) ≡ true → (before || (early || late)) ≡ true
+    by_first b true early late one two = refl
+    by_first b false true late one two = refl
+    by_first true false false late one two = absurd (false≢true (one refl))
+    by_first false false false late one two = two
+
+-- more moves say more
+rises_by_move : (is : Addr → Machine → Bool) (says : Addr → Happened → Bool) (happened : Happened) (m : Machine) (effect : Effect) → RisesBy is says m effect →
+    RisesBy is says m (as_move happened m effect)
+rises_by_move is says happened m effect rises addr h =
+    let move : Move = record { happened = happened; before = m; after = effect.machine } in
+    subst (λ b. (is addr m || b) ≡ true) (sym (list_any-append (λ x. says addr x.happened) effect.moves (move ∷ [])))
+    (more (is addr m) (list_any (λ x. says addr x.happened) effect.moves) (list_any (λ x. says addr x.happened) (move ∷ [])) (rises addr h))
+  where
+    more : (a b c : Bool) → (a || b) ≡ true → (a || (b || c)) ≡ true
+    more true b c is = refl
+    more false true c is = refl
+    more false false c is = absurd (false≢true is)
+
+pub rises_then : (m : Machine) (first : Effect) (next : Machine → Effect) → Rises m first → Rises first.machine (next first.machine) → Rises m (then_do first next)
+rises_then m first next one two = record {
+  promotions = rises_by_then is_up promotes m first next one.promotions two.promotions;
+  activations = rises_by_then is_hot_or_asked activates m first next one.activations two.activations;
+  arrivals = rises_by_then is_known shares m first next one.arrivals two.arrivals;
+}
+
+pub rises_move : (happened : Happened) (m : Machine) (effect : Effect) → Rises m effect → Rises m (as_move happened m effect)
+rises_move happened m effect h = record {
+  promotions = rises_by_move is_up promotes happened m effect h.promotions;
+  activations = rises_by_move is_hot_or_asked activates happened m effect h.activations;
+  arrivals = rises_by_move is_known shares happened m effect h.arrivals;
+}
+
+-- a move says of itself
+said : (says : Addr → Happened → Bool) (happened : Happened) (m : Machine) (effect : Effect) (addr : Addr) → says addr happened ≡ true →
+    list_any (λ move. says addr move.happened) (as_move happened m effect).moves ≡ true
+said says happened m effect addr h =
+    let move : Move = record { happened = happened; before = m; after = effect.machine } in
+    list_any-append (λ x. says addr x.happened) effect.moves (move ∷ [])
+    ∙ or_right (list_any (λ x. says addr x.happened) effect.moves) (says addr happened || false) (or_left (says addr happened) false h)
+
+-- only whom the move is of comes up
+pub rises_said : (is : Addr → Machine → Bool) (says : Addr → Happened → Bool) (happened : Happened) (m : Machine) (effect : Effect) →
+    ((addr : Addr) → says addr happened ≡ false → is addr effect.machine ≡ true → is addr m ≡ true) → RisesBy is says m (as_move happened m effect)
+rises_said is says happened m effect others addr h = by_move (says addr happened) refl
+  where
+    by_move : (b : Bool) → says addr happened ≡ b → (is addr m || list_any (λ move. says addr move.happened) (as_move happened m effect).moves) ≡ true
+    by_move true e =
+        or_right (is addr m) (list_any (λ move. says addr move.happened) (as_move happened m effect).moves) (said says happened m effect addr e)
+    by_move false e = or_left (is addr m) (list_any (λ move. says addr move.happened) (as_move happened m effect).moves) (others addr e h)
+
+-- ---- nobody comes up
+
+-- Whoever is so after was so before.
+abbrev pub StaysDown : (Addr → Machine → Bool) → Machine → Machine → Type 0
+StaysDown is before after = (addr : Addr) → is addr after ≡ true → is addr before ≡ true
+
+abbrev pub is_asked : Addr → Machine → Bool
+is_asked addr m = is_asked_connection (live_entry_at addr m)
+
+abbrev pub is_hot : Addr → Machine → Bool
+is_hot addr m = is_hot_peer (peer_at addr m)
+
+-- Nobody comes up by a change of the connections.
+pub record NoneConnected (before after : Machine) : Type 0 where
+  pub up : StaysDown is_up before after
+  pub asked : StaysDown is_asked before after
+
+pub or_each : (a b c d : Bool) → (a ≡ true → c ≡ true) → (b ≡ true → d ≡ true) → (a || b) ≡ true → (c || d) ≡ true
+or_each true b c d one two h = or_left c d (one refl)
+or_each false b c d one two h = or_right c d (two h)
+
+pub hot_or_asked-down : (m n : Machine) → StaysDown is_hot m n → StaysDown is_asked m n → StaysDown is_hot_or_asked m n
+hot_or_asked-down m n hot asked addr h = or_each (is_hot addr n) (is_asked addr n) (is_hot addr m) (is_asked addr m) (hot addr) (asked addr) h
+
+pub rises_nowhere : (is : Addr → Machine → Bool) (says : Addr → Happened → Bool) (m : Machine) (effect : Effect) → StaysDown is m effect.machine → RisesBy is says m effect
+rises_nowhere is says m effect down addr h = or_left (is addr m) (list_any (λ move. says addr move.happened) effect.moves) (down addr h)
+
+pub rises_none : (m : Machine) (effect : Effect) → NoneConnected m effect.machine → StaysDown is_hot m effect.machine → StaysDown is_known m effect.machine →
+    Rises m effect
+rises_none m effect connected hot known = record {
+  promotions = rises_nowhere is_up promotes m effect connected.up;
+  activations = rises_nowhere is_hot_or_asked activates m effect (hot_or_asked-down m effect.machine hot connected.asked);
+  arrivals = rises_nowhere is_known shares m effect known;
+}
+
+-- ---- connections
+
+-- what a test finds of the connection of an address
+abbrev pub of_connection : (Option Entry → Bool) → Addr → Machine → Bool
+of_connection q addr m = q (live_entry_at addr m)
+
+pub same-connected : (m n : Machine) → n.connections ≡ m.connections → NoneConnected m n
+same-connected m n same = record {
+  up = λ addr h. ap (λ es. is_up_connection (find (λ e. is_live_at addr e.facts) es)) (sym same) ∙ h;
+  asked = λ addr h. ap (λ es. is_asked_connection (find (λ e. is_live_at addr e.facts) es)) (sym same) ∙ h;
+}
+
+pub connected_then : (m n o : Machine) → NoneConnected m n → NoneConnected n o → NoneConnected m o
+connected_then m n o one two = record {
+  up = λ addr h. one.up addr (two.up addr h);
+  asked = λ addr h. one.asked addr (two.asked addr h);
+}
+
+-- the new one is up, or asked, only where the old one was
+pub record IsNoHigher (old new : Entry) : Type 0 where
+  pub up : is_up_connection (Some new) ≡ true → is_up_connection (Some old) ≡ true
+  pub asked : is_asked_connection (Some new) ≡ true → is_asked_connection (Some old) ≡ true
+
+pub turned-down : (q : Option Entry → Bool) → q None ≡ false → (m : Machine) (e new : Entry) (k : ℕ) → IsOrderly m → StandsAt m.connections k e → TurnsInto e new →
+    (q (Some new) ≡ true → q (Some e) ≡ true) → StaysDown (of_connection q) m (with_entry new m)
+turned-down q none m e new k h s t lower addr = by_live (is_live e.facts) refl
+  where
+    by_new : (b : Bool) → is_live e.facts ≡ true → q (if b then Some new else None) ≡ true → q (live_entry_at e.facts.addr m) ≡ true
+    by_new true live is = subst (λ o. q o ≡ true) (sym (live_here m e k h s live)) (lower is)
+    by_new false live is = absurd (false≢true (sym none ∙ is))
+
+    by_address : is_live e.facts ≡ true → (b : Bool) → same_address addr e.facts.addr ≡ b → q (live_entry_at addr (with_entry new m)) ≡ true → q (live_entry_at addr m) ≡ true
+    by_address live true same is =
+        subst (λ a. q (live_entry_at a (with_entry new m)) ≡ true → q (live_entry_at a m) ≡ true) (sym (same_address-true addr e.facts.addr same))
+        (λ there. by_new (is_live new.facts) live (ap q (sym (turned_here m e new k h s t live)) ∙ there)) is
+    by_address live false other is = ap q (sym (turned_elsewhere m e new k h s t addr other)) ∙ is
+
+    by_live : (b : Bool) → is_live e.facts ≡ b → q (live_entry_at addr (with_entry new m)) ≡ true → q (live_entry_at addr m) ≡ true
+    by_live true live is = by_address live (same_address addr e.facts.addr) refl is
+    by_live false dead is = ap q (sym (turned_dead m e new k h s t dead addr)) ∙ is
+
+-- a connection turns
+pub turned-connected : (m : Machine) (e new : Entry) (k : ℕ) → IsOrderly m → StandsAt m.connections k e → TurnsInto e new → IsNoHigher e new →
+    NoneConnected m (with_entry new m)
+turned-connected m e new k h s t lower = record {
+  up = turned-down is_up_connection refl m e new k h s t lower.up;
+  asked = turned-down is_asked_connection refl m e new k h s t lower.asked;
+}
+
+gone-down : (q : Option Entry → Bool) → q None ≡ false → (m : Machine) (e : Entry) (k : ℕ) → IsOrderly m → StandsAt m.connections k e →
+    StaysDown (of_connection q) m (without_entry e.facts.cid.0 m)
+gone-down q none m e k h s addr = by_live (is_live e.facts) refl
+  where
+    gone : Machine
+    gone = without_entry e.facts.cid.0 m
+
+    by_address : is_live e.facts ≡ true → (b : Bool) → same_address addr e.facts.addr ≡ b → q (live_entry_at addr gone) ≡ true → q (live_entry_at addr m) ≡ true
+    by_address live true same is =
+        let here : live_entry_at addr gone ≡ None = subst (λ a. live_entry_at a gone ≡ None) (sym (same_address-true addr e.facts.addr same)) (gone_here m e k h s live) in
+        absurd (false≢true (sym none ∙ ap q (sym here) ∙ is))
+    by_address live false other is = ap q (sym (gone_elsewhere m e k h s addr other)) ∙ is
+
+    by_live : (b : Bool) → is_live e.facts ≡ b → q (live_entry_at addr gone) ≡ true → q (live_entry_at addr m) ≡ true
+    by_live true live is = by_address live (same_address addr e.facts.addr) refl is
+    by_live false dead is = ap q (sym (gone_dead m e k h s dead addr)) ∙ is
+
+-- a connection goes
+pub gone-connected : (m : Machine) (e : Entry) (k : ℕ) → IsOrderly m → StandsAt m.connections k e → NoneConnected m (without_entry e.facts.cid.0 m)
+gone-connected m e k h s = record {
+  up = gone-down is_up_connection refl m e k h s;
+  asked = gone-down is_asked_connection refl m e k h s;
+}
+
+pushed-down : {X : Type 0} (q : Option X → Bool) (p : X → Bool) (new : X) (xs : List X) → q None ≡ false → q (Some new) ≡ false →
+    q (find p (xs ++ new ∷ [])) ≡ true → q (find p xs) ≡ true
+pushed-down {X} q p new [] none lower is = by_test (p new) is
+  where
+    by_test : (b : Bool) → q (cond b (Some new) None) ≡ true → q None ≡ true
+    by_test true is = absurd (false≢true (sym lower ∙ is))
+    by_test false is = is
+pushed-down {X} q p new (x ∷ xs) none lower is = by_test (p x) is (pushed-down q p new xs none lower)
+  where
+    by_test : (b : Bool) → q (cond b (Some x) (find p (xs ++ new ∷ []))) ≡ true → (q (find p (xs ++ new ∷ [])) ≡ true → q (find p xs) ≡ true) →
+        q (cond b (Some x) (find p xs)) ≡ true
+    by_test true is later = is
+    by_test false is later = later is
+
+-- a connection comes
+pub come-down : (q : Option Entry → Bool) → q None ≡ false → (m : Machine) (new : Entry) → q (Some new) ≡ false → StaysDown (of_connection q) m (with_new new m)
+come-down q none m new lower addr h = pushed-down q (λ e. is_live_at addr e.facts) new m.connections none lower h
+
+-- ---- peers
+
+-- a change that leaves the address, and makes no peer hot
+pub record IsCooling (change : Peer → Peer) : Type 0 where
+  pub addr : (p : Peer) → (change p).addr ≡ p.addr
+  pub hot : (p : Peer) → is_hot_peer (Some (change p)) ≡ true → is_hot_peer (Some p) ≡ true
+
+changed-down : (q : Option Peer → Bool) (a : Addr) (change : Peer → Peer) (m : Machine) → ((p : Peer) → (change p).addr ≡ p.addr) →
+    ((p : Peer) → q (Some (change p)) ≡ true → q (Some p) ≡ true) → (b : Addr) → q (peer_at b (peer_changes a change m).machine) ≡ true → q (peer_at b m) ≡ true
+changed-down q a change m same lower b = by_address (same_address b a) refl
+  where
+    by_peer : (o : Option Peer) → peer_at a m ≡ o → q (peer_at a (turns_at o change m).machine) ≡ true → q (peer_at a m) ≡ true
+    by_peer None is h = h
+    by_peer (Some p) is h =
+        let new : Peer = change p in
+        let here : new.addr ≡ a = same p ∙ found-addr a m.peers p is in
+        let found : peer_in a (with_peer_in new m.peers) ≡ Some new =
+        subst (λ x. peer_in x (with_peer_in new m.peers) ≡ Some new) here (peer_here new p m.peers (subst (λ x. peer_in x m.peers ≡ Some p) (sym here) is)) in
+        ap q is ∙ lower p (ap q (sym found) ∙ h)
+
+    by_address : (c : Bool) → same_address b a ≡ c → q (peer_at b (peer_changes a change m).machine) ≡ true → q (peer_at b m) ≡ true
+    by_address true e h =
+        subst (λ x. q (peer_at x (peer_changes a change m).machine) ≡ true → q (peer_at x m) ≡ true) (sym (same_address-true b a e)) (by_peer (peer_at a m) refl) h
+    by_address false e h = ap q (sym (turns_at-elsewhere a change m same b e)) ∙ h
+
+pub changed-hot : (a : Addr) (change : Peer → Peer) (m : Machine) → IsCooling change → StaysDown is_hot m (peer_changes a change m).machine
+changed-hot a change m cools = changed-down is_hot_peer a change m cools.addr cools.hot
+
+pub changed-known : (a : Addr) (change : Peer → Peer) (m : Machine) → ((p : Peer) → (change p).addr ≡ p.addr) → StaysDown is_known m (peer_changes a change m).machine
+changed-known a change m same = changed-down is_some a change m same (λ p known. refl)
+
+-- an address comes into the book: at all others nothing changes, and a peer that is new there is cold
+entered-down : (q : Option Peer → Bool) (new : Peer) (ps : List Peer) (b : Addr) → (same_address new.addr b ≡ true → q (Some new) ≡ false) →
+    q (peer_in b (entered new ps)) ≡ true → q (peer_in b ps) ≡ true
+entered-down q new ps b lower = by_there (is_some (peer_in new.addr ps)) refl
+  where
+    comes : peer_in new.addr ps ≡ None → (c : Bool) → same_address new.addr b ≡ c → q (peer_in b (with_new_in new ps)) ≡ true → q (peer_in b ps) ≡ true
+    comes none true e is =
+        let at : new.addr ≡ b = same_address-true new.addr b e in
+        let here : peer_in b (with_new_in new ps) ≡ Some new = subst (λ a. peer_in a (with_new_in new ps) ≡ Some new) at (put_in-here new ps none) in
+        absurd (false≢true (sym (lower e) ∙ ap q (sym here) ∙ is))
+    comes none false e is = ap q (sym (put_in-elsewhere new b ps (same_turned new.addr b e))) ∙ is
+
+    by_there : (c : Bool) → is_some (peer_in new.addr ps) ≡ c →
+        q (peer_in b (entered_by (if c then Present else if nat_le most_peers (length ps) then Full else New) new ps)) ≡ true → q (peer_in b ps) ≡ true
+    by_there true e is = is
+    by_there false e is =
+        cond_both (nat_le most_peers (length ps)) Full New (λ added. q (peer_in b (entered_by added new ps)) ≡ true → q (peer_in b ps) ≡ true)
+        (λ full there. there) (λ room. comes (none_there (peer_in new.addr ps) e) (same_address new.addr b) refl) is
+
+pub entered-hot : (big : Bool) (a : Addr) (m : Machine) → StaysDown is_hot m (record m { peers = entered (new_peer big a) m.peers })
+entered-hot big a m addr h = entered-down is_hot_peer (new_peer big a) m.peers addr (λ same. refl) h
+
+-- and whoever is known afterwards is the one that came, or was known
+pub entered-known : (big : Bool) (a b : Addr) (m : Machine) → same_address a b ≡ false → is_known b (record m { peers = entered (new_peer big a) m.peers }) ≡ true →
+    is_known b m ≡ true
+entered-known big a b m other h = entered-down is_some (new_peer big a) m.peers b (λ same. absurd (both_ways (same_address a b) other same)) h
+
+taken-down : (q : Option Peer → Bool) → q None ≡ false → (a : Addr) (ps : List Peer) (b : Addr) → q (peer_in b (without_peer a ps)) ≡ true → q (peer_in b ps) ≡ true
+taken-down q none a ps b = by_address (same_address b a) refl
+  where
+    by_address : (c : Bool) → same_address b a ≡ c → q (peer_in b (without_peer a ps)) ≡ true → q (peer_in b ps) ≡ true
+    by_address true e is =
+        let here : peer_in b (without_peer a ps) ≡ None = subst (λ x. peer_in x (without_peer a ps) ≡ None) (sym (same_address-true b a e)) (taken-here a ps) in
+        absurd (false≢true (sym none ∙ ap q (sym here) ∙ is))
+    by_address false e is = ap q (sym (taken-elsewhere a b ps e)) ∙ is
+
+-- a peer goes
+pub taken-hot : (a : Addr) (m : Machine) → StaysDown is_hot m (record m { peers = without_peer a m.peers })
+taken-hot a m addr h = taken-down is_hot_peer refl a m.peers addr h
+
+pub taken-known : (a : Addr) (m : Machine) → StaysDown is_known m (record m { peers = without_peer a m.peers })
+taken-known a m addr h = taken-down is_some refl a m.peers addr h
