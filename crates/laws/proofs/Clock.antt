@@ -4,7 +4,6 @@ use Rattle.std.proofs.lemmas.Bool.{cond_both, both_ways, false≢true, and_right
 use Rattle.std.proofs.lemmas.List.Elements.{All-nil, All-weaker, All-contains, All-contains_itself}
 use Rattle.net_base.specs.declared.action.Action.TheVariants.{Close}
 use Rattle.net_base.specs.declared.action.CloseCause.TheVariants.{Unused, Fault}
-use Rattle.net_base.specs.declared.action.FaultKind.{FaultKind}
 use Rattle.net_base.specs.declared.action.FaultKind.TheVariants.{HandshakeWait, ReplyWait}
 use Rattle.net_base.specs.declared.connection.Facts.{Facts}
 use Rattle.net_base.specs.declared.connection.Grace.{Grace}
@@ -18,14 +17,14 @@ use Rattle.conn_state.specs.Moves.{expired}
 use Rattle.conn_state.specs.Use.{is_live, live_phase, is_negotiated, is_negotiated_phase, is_outbound, some_runs}
 use Rattle.machine.specs.Machine.{Machine, Entry, Owed}
 use Rattle.machine.specs.Effect.{Effect, unused, left, tells, then_do, as_move}
-use Rattle.machine.specs.Connections.{entry_turns, entry_goes, closing_entry, ending, grace_over, wait_over}
+use Rattle.machine.specs.Connections.{entry_turns, entry_goes, closing_entry, grace_over, wait_over}
 use Rattle.machine.specs.Deadlines.{deadline, deadlines_of, phase_deadlines, grace_deadlines, reply_deadline, due, fires_as, fires_on, fires, fires_some, fire_due}
 use Rattle.laws.specs.AtMoves.{Faults, IsPast, IsOver, IsLate, IsLawful}
 use Rattle.laws.specs.Whole.{IsShaped}
 use Rattle.laws.proofs.Counts.{is_late}
 use Rattle.laws.proofs.Firing.{all_one, all-deadlines_of, Due, due_of}
 use Rattle.laws.proofs.Keeping.{IsOrdered, Keeps}
-use Rattle.laws.proofs.Lawful.{Obeys, obeys_then, obeys_nothing, accounts_turned, accounts_gone, ending-obeys, ended-lawful, on_stands, turns-obeys, as_move-obeys}
+use Rattle.laws.proofs.Lawful.{Obeys, obeys_then, obeys_nothing, accounts_turned, accounts_gone, ending-obeys, on_stands, turns-obeys, as_move-obeys}
 use Rattle.laws.proofs.Lists.{StandsAt}
 use Rattle.laws.proofs.WholeEvents.{fires-keeps}
 use Rattle.laws.proofs.WholeMoves.{stands-shaped, negotiated-live}
@@ -120,22 +119,16 @@ wait_over-obeys faults m e k h s dead =
     (record { back_off = tt; targets = tt; cause = on_stands (λ x. is_negotiated x.facts ≡ false) m e k h.orderly s closed })
     (accounts_gone m e k (wait_over e m) h.orderly s refl (λ addr hot. hot) (λ addr known. known) (λ negotiated. absurd (both_ways (is_negotiated e.facts) closed negotiated)))
 
-fault-obeys : (faults : Faults) (kind : FaultKind) (m : Machine) (e : Entry) (k : ℕ) → IsOrdered m → StandsAt m.connections k e →
-    (is_negotiated e.facts ≡ true → faults m e kind) → Obeys (IsLawful faults) m (ending (Fault kind) e m)
-fault-obeys faults kind m e k h s given =
-    ending-obeys (IsLawful faults) (Fault kind) m e k h.orderly s
-    (ended-lawful faults (Fault kind) m (ending (Fault kind) e m).machine e k h.orderly s given)
-
 fires_as-obeys : (faults : Faults) (kind : Kind) (m : Machine) (e : Entry) (k : ℕ) → IsOrdered m → StandsAt m.connections k e → LateAs m.now e kind →
     (IsLate m.now e ReplyWait → faults m e ReplyWait) → Obeys (IsLawful faults) m (fires_as kind e m)
 unfolding LateAs
 fires_as-obeys faults Handshake m e k h s late given =
-    fault-obeys faults HandshakeWait m e k h s (λ negotiated. absurd (both_ways (is_negotiated e.facts) late negotiated))
+    ending-obeys faults (Fault HandshakeWait) m e k h.orderly s (λ negotiated. absurd (both_ways (is_negotiated e.facts) late negotiated))
 fires_as-obeys faults GraceKind m e k h s late given = grace_over-obeys faults m e k h s late
 fires_as-obeys faults TimeWait m e k h s late given = wait_over-obeys faults m e k h s late
-fires_as-obeys faults Reply2 m e k h s late given = fault-obeys faults ReplyWait m e k h s (λ negotiated. given late)
-fires_as-obeys faults Reply8 m e k h s late given = fault-obeys faults ReplyWait m e k h s (λ negotiated. given late)
-fires_as-obeys faults Reply10 m e k h s late given = fault-obeys faults ReplyWait m e k h s (λ negotiated. given late)
+fires_as-obeys faults Reply2 m e k h s late given = ending-obeys faults (Fault ReplyWait) m e k h.orderly s (λ negotiated. given late)
+fires_as-obeys faults Reply8 m e k h s late given = ending-obeys faults (Fault ReplyWait) m e k h.orderly s (λ negotiated. given late)
+fires_as-obeys faults Reply10 m e k h s late given = ending-obeys faults (Fault ReplyWait) m e k h.orderly s (λ negotiated. given late)
 
 -- ---- all that are due
 

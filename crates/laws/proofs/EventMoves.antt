@@ -41,7 +41,7 @@ use Rattle.laws.proofs.Finds.{find-remove_other}
 use Rattle.laws.proofs.Governing.{govern-trimmed}
 use Rattle.laws.proofs.Keeping.{IsOrdered}
 use Rattle.laws.proofs.KnownWanted.{bigs-within}
-use Rattle.laws.proofs.Lawful.{EndsBy, ends_same, Accounts, accounts_come, accounts_gone, Obeys, obeys_then, obeys_nothing, IsQuiet, quiet-lawful, quiet-obeys, elsewhere-quiet, tells-quiet, changes-quiet, lost-quiet, IsProviding, comes-providing, shared-accounts, ending-obeys, ended-lawful, on_stands, turned_then-obeys, as_move-obeys, IsAllowed, Within, allowed_within}
+use Rattle.laws.proofs.Lawful.{EndsBy, ends_same, Accounts, accounts_come, accounts_gone, Obeys, obeys_then, obeys_nothing, IsQuiet, quiet-lawful, quiet-obeys, elsewhere-quiet, tells-quiet, changes-quiet, lost-quiet, IsProviding, comes-providing, shared-accounts, ending-obeys, on_stands, turned_then-obeys, as_move-obeys, IsAllowed, Within, allowed_within}
 use Rattle.laws.proofs.Lists.{StandsAt, find_some, all-both, all-placed}
 use Rattle.laws.proofs.Rises.{Rises, or_each, NoneConnected, hot_or_asked-down, rises_nowhere, rises_none, same-connected, connected_then, gone-connected}
 use Rattle.laws.proofs.Shapes.{dialing-unnegotiated}
@@ -166,9 +166,8 @@ crossed-obeys faults addr m e k h s pending =
     let n : Machine = (ending Overwritten e m).machine in
     cond_both (address_below addr m.settings.own) (then_do (ending Overwritten e m) (admitted addr)) (turned_away Crossed m) (Obeys (IsLawful faults) m)
     (λ below. obeys_then (IsLawful faults) m (ending Overwritten e m) (admitted addr)
-    (ending-obeys (IsLawful faults) Overwritten m e k h.orderly s
-    (ended-lawful faults Overwritten m n e k h.orderly s
-    (λ negotiated. absurd (both_ways (is_negotiated e.facts) (pending-unnegotiated e.facts pending) negotiated))))
+    (ending-obeys faults Overwritten m e k h.orderly s
+    (λ negotiated. absurd (both_ways (is_negotiated e.facts) (pending-unnegotiated e.facts pending) negotiated)))
     (admitted-obeys (IsLawful faults) addr n))
     (λ above. quiet-obeys (IsLawful faults) m (turned_away Crossed m) (tells-quiet (turned_away Crossed m).actions m))
 

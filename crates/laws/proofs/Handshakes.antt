@@ -37,11 +37,11 @@ use Rattle.machine.specs.Greeting.{role_of, is_awaited, fits_side, told, judged,
 use Rattle.laws.specs.AtMoves.{Faults, IsLawful, is_up_connection}
 use Rattle.laws.specs.Whole.{IsShaped}
 use Rattle.laws.proofs.Keeping.{IsOrdered, Keeps, keeps_nothing}
-use Rattle.laws.proofs.Lawful.{IsQuiet, quiet-obeys, tells-quiet, ending-obeys, ended-lawful, turns-obeys, used-obeys}
+use Rattle.laws.proofs.Lawful.{IsQuiet, quiet-obeys, tells-quiet, turns-obeys, used-obeys}
 use Rattle.laws.proofs.Lists.{StandsAt}
 use Rattle.laws.proofs.Shapes.{greeting-unnegotiated}
-use Rattle.laws.proofs.Trims.{Trimmed, keeps-trimmed, trimmed_then}
-use Rattle.laws.proofs.WholeMoves.{stands-shaped, IsLost, greeting-live, ending-keeps, agrees_inbound-keeps, agrees_outbound-keeps}
+use Rattle.laws.proofs.Trims.{Trimmed, keeps-trimmed, ending-trimmed, trimmed_then}
+use Rattle.laws.proofs.WholeMoves.{stands-shaped, IsLost, greeting-live, agrees_inbound-keeps, agrees_outbound-keeps}
 
 -- ---- who comes to which verdict
 
@@ -135,10 +135,8 @@ record Greets (m : Machine) (e : Entry) (k : ℕ) : Type 0 where
 -- that its handshake is not done is cause enough
 ends : (faults : Faults) (cause : CloseCause) → IsLost cause → (m : Machine) (e : Entry) (k : ℕ) → Greets m e k → Trimmed (IsLawful faults) m (ending cause e m)
 ends faults cause loses m e k g =
-    keeps-trimmed (IsLawful faults) m (ending cause e m) g.within (ending-keeps cause loses m e k g.ordered g.stands)
-    (ending-obeys (IsLawful faults) cause m e k g.ordered.orderly g.stands
-    (ended-lawful faults cause m (ending cause e m).machine e k g.ordered.orderly g.stands
-    (λ negotiated. absurd (both_ways (is_negotiated e.facts) (greeting-unnegotiated e.facts.phase g.greeting) negotiated))))
+    ending-trimmed faults cause loses m e k g.ordered g.within g.stands
+    (λ negotiated. absurd (both_ways (is_negotiated e.facts) (greeting-unnegotiated e.facts.phase g.greeting) negotiated))
 
 -- who was dialed by the other side is not used
 agreed_inbound-down : (agreed : Agreed) (until : ℕ) (e : Entry) → is_greeting e.facts ≡ true → IsShaped e.facts →

@@ -319,28 +319,28 @@ stands-found m e k h s = find_only (λ x. has_id e.facts.cid.0 x.facts) e m.conn
 pub on_stands : (law : Entry → Type 0) (m : Machine) (e : Entry) (k : ℕ) → IsOrderly m → StandsAt m.connections k e → law e → OnEntry (entry_at e.facts.cid.0 m) law
 on_stands law m e k h s holds = subst (λ o. OnEntry o law) (sym (stands-found m e k h s)) holds
 
--- a connection is ended
-pub ending-obeys : (Law : Move → Type 0) (cause : CloseCause) (m : Machine) (e : Entry) (k : ℕ) → IsOrderly m → StandsAt m.connections k e →
-    Law (record { happened = ended e.facts.cid.0 cause; before = m; after = (ending cause e m).machine }) → Obeys Law m (ending cause e m)
-ending-obeys Law cause m e k h s law =
+-- a connection is ended, for a cause where its handshake was done
+ended-lawful : (faults : Faults) (cause : CloseCause) (m after : Machine) (e : Entry) (k : ℕ) → IsOrderly m → StandsAt m.connections k e →
+    (is_negotiated e.facts ≡ true → MayEnd faults cause e m) → IsLawful faults (record { happened = ended e.facts.cid.0 cause; before = m; after = after })
+ended-lawful faults cause m after e k h s may = record {
+  back_off = tt;
+  targets = tt;
+  cause = on_stands (λ x. is_negotiated x.facts ≡ true → MayEnd faults cause x m) m e k h s may;
+}
+
+pub ending-obeys : (faults : Faults) (cause : CloseCause) (m : Machine) (e : Entry) (k : ℕ) → IsOrderly m → StandsAt m.connections k e →
+    (is_negotiated e.facts ≡ true → MayEnd faults cause e m) → Obeys (IsLawful faults) m (ending cause e m)
+ending-obeys faults cause m e k h s may =
     let n : Machine = without_entry e.facts.cid.0 m in
     let q : IsQuiet n (lost_by cause e.facts n) = lost_by-quiet cause e.facts n in
     let move : Move = record { happened = ended e.facts.cid.0 cause; before = m; after = (ending cause e m).machine } in
     let moves : (ending cause e m).moves ≡ move ∷ [] = ap (λ ms. ms ++ move ∷ []) q.moves in
     record {
-      lawful = subst (AllByRecursion Law) (sym moves) (law, tt);
+      lawful = subst (AllByRecursion (IsLawful faults)) (sym moves) (ended-lawful faults cause m (ending cause e m).machine e k h s may, tt);
       accounted = accounts_gone m e k (ending cause e m) h s q.connections q.hot q.known
           (λ negotiated. subst (λ ms. is_ended_in e.facts.cid.0 ms ≡ true) (sym moves)
           (ap (λ b. b || false) (eq-eqb e.facts.cid.0 e.facts.cid.0 refl)));
     }
-
-pub ended-lawful : (faults : Faults) (cause : CloseCause) (m after : Machine) (e : Entry) (k : ℕ) → IsOrderly m → StandsAt m.connections k e →
-    (is_negotiated e.facts ≡ true → MayEnd faults cause e m) → IsLawful faults (record { happened = ended e.facts.cid.0 cause; before = m; after = after })
-ended-lawful faults cause m after e k h s cause_is = record {
-  back_off = tt;
-  targets = tt;
-  cause = on_stands (λ x. is_negotiated x.facts ≡ true → MayEnd faults cause x m) m e k h s cause_is;
-}
 
 -- a connection turns, and is still negotiated where it was
 pub turns-obeys : (Law : Move → Type 0) (m : Machine) (e new : Entry) (k : ℕ) → IsOrderly m → StandsAt m.connections k e → TurnsInto e new → IsNoHigher e new →

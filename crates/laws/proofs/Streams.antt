@@ -13,16 +13,16 @@ use Rattle.net_base.specs.declared.event.Event.TheVariants.{Bytes}
 use Rattle.conn_state.specs.Use.{has_id, is_greeting_phase, is_negotiated_phase}
 use Rattle.machine.specs.Machine.{Machine, Entry, counted_in, entry_at}
 use Rattle.machine.specs.Effect.{Effect, then_do, for_each}
-use Rattle.machine.specs.Connections.{entry_turns, ending}
+use Rattle.machine.specs.Connections.{entry_turns}
 use Rattle.machine.specs.Stream.{handled_in, handled_at, handles, kind_of, faulted_at, fed_with, comes_in_phase, comes_in_at, bytes_come_in}
 use Rattle.laws.specs.AtMoves.{Faults, fault_of, IsByStream, fed_on, IsByBytes, faults_of, IsLawful}
 use Rattle.laws.proofs.Handshakes.{greets-trimmed}
 use Rattle.laws.proofs.Keeping.{IsOrdered}
-use Rattle.laws.proofs.Lawful.{ending-obeys, ended-lawful, turns-obeys}
+use Rattle.laws.proofs.Lawful.{turns-obeys}
 use Rattle.laws.proofs.Lists.{StandsAt, find_some}
 use Rattle.laws.proofs.Talks.{talks-trimmed}
-use Rattle.laws.proofs.Trims.{Trimmed, keeps-trimmed, nothing-trimmed, trimmed_then, trimmed-within, for_each_that-trimmed}
-use Rattle.laws.proofs.WholeMoves.{ending-keeps, decodes-keeps}
+use Rattle.laws.proofs.Trims.{Trimmed, keeps-trimmed, ending-trimmed, nothing-trimmed, trimmed_then, trimmed-within, for_each_that-trimmed}
+use Rattle.laws.proofs.WholeMoves.{decodes-keeps}
 
 -- whatever fault an item is on the connection, it is one of those
 abbrev GivesItem : Faults → Cid → Item → Type 0
@@ -68,10 +68,7 @@ faulted-trimmed faults cid fault gives m h within = by_entry (entry_at cid.0 m) 
     by_entry (Some e) is None gives = nothing-trimmed (IsLawful faults) m within h
     by_entry (Some e) is (Some f) gives =
         let at = find_some (λ y. has_id cid.0 y.facts) m.connections e is in
-        keeps-trimmed (IsLawful faults) m (ending (Fault (kind_of f)) e m) within (ending-keeps (Fault (kind_of f)) refl m e at.place h at.stands)
-        (ending-obeys (IsLawful faults) (Fault (kind_of f)) m e at.place h.orderly at.stands
-        (ended-lawful faults (Fault (kind_of f)) m (ending (Fault (kind_of f)) e m).machine e at.place h.orderly at.stands
-        (λ negotiated. gives m e (kind_of f) (found-cid cid m e is) refl)))
+        ending-trimmed faults (Fault (kind_of f)) refl m e at.place h within at.stands (λ negotiated. gives m e (kind_of f) (found-cid cid m e is) refl)
 
 fed_with-trimmed : (faults : Faults) (fed : FedBy) (m : Machine) (e : Entry) (k : ℕ) → IsOrdered m → counted_in m ≤ m.settings.hard → StandsAt m.connections k e →
     All (GivesItem faults e.facts.cid) fed.items → GivesStream faults e.facts.cid fed.state.fault → Trimmed (IsLawful faults) m (fed_with fed e m)

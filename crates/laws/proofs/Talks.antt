@@ -38,7 +38,7 @@ use Rattle.laws.proofs.Entries.{TurnsInto, gone-connections, one_has_id, turned-
 use Rattle.laws.proofs.Finds.{find-remove_other, find-remove_here}
 use Rattle.laws.specs.AtMoves.{Faults, fault_of_request, fault_of_answer, fault_of, IsLawful, is_up, is_hot_peer, is_asked_connection, is_hot_or_asked, is_known, promotes, activates, shares}
 use Rattle.laws.proofs.KnownWanted.{takes-within}
-use Rattle.laws.proofs.Lawful.{ends_then, ends_same, ends_turned, Accounts, Obeys, IsQuiet, quiet-lawful, quiet-obeys, tells-quiet, turns_at-moves, turns_at-connections, comes-providing, shared-accounts, ending-obeys, ended-lawful, turns-obeys, IsAllowed, Within, allowed_within, as_move-obeys}
+use Rattle.laws.proofs.Lawful.{ends_then, ends_same, ends_turned, Accounts, Obeys, IsQuiet, quiet-lawful, quiet-obeys, tells-quiet, turns_at-moves, turns_at-connections, comes-providing, shared-accounts, turns-obeys, IsAllowed, Within, allowed_within, as_move-obeys}
 use Rattle.laws.proofs.Keeping.{IsOrdered, Keeps, keeps_nothing, moves_then, moves-keeps, keeps-moves, changes-moves, peer_comes-keeps}
 use Rattle.laws.proofs.Lists.{StandsAt, stands-set, find_some, find_only}
 use Rattle.laws.specs.Whole.{AreTied, IsAlone, TiedBy}
@@ -46,8 +46,8 @@ use Rattle.laws.proofs.Addresses.{same_address-true}
 use Rattle.laws.proofs.Owing.{paid-some}
 use Rattle.laws.proofs.Rises.{is_asked, is_hot, NoneConnected, or_each, rises_nowhere, same-connected, connected_then, IsNoHigher, turned-connected, changed-known}
 use Rattle.laws.proofs.Ties.{changed-ties, turned_here, turned_elsewhere, live_here, turns_at-elsewhere}
-use Rattle.laws.proofs.Trims.{lost-connections, Trimmed, HasMoved, keeps-trimmed, nothing-trimmed, trimmed_both, trimmed_then, trimmed-within, raised_then_trimmed, trim-trims, for_each_that-trimmed}
-use Rattle.laws.proofs.WholeMoves.{negotiated-live, ending-keeps, awakes-keeps, idles-keeps, pays-keeps}
+use Rattle.laws.proofs.Trims.{lost-connections, Trimmed, HasMoved, keeps-trimmed, ending-trimmed, nothing-trimmed, trimmed_both, trimmed_then, trimmed-within, raised_then_trimmed, trim-trims, for_each_that-trimmed}
+use Rattle.laws.proofs.WholeMoves.{negotiated-live, awakes-keeps, idles-keeps, pays-keeps}
 use Rattle.laws.proofs.OwnAddress.{IsOther, taken-other}
 
 -- ---- only known protocols are answered
@@ -193,9 +193,7 @@ pub record Talking (m : Machine) (e : Entry) (k : ℕ) : Type 0 where
 
 ends : (faults : Faults) (kind : FaultKind) (m : Machine) (e : Entry) (k : ℕ) → Talking m e k → faults m e kind → Trimmed (IsLawful faults) m (ending (Fault kind) e m)
 ends faults kind m e k t given =
-    keeps-trimmed (IsLawful faults) m (ending (Fault kind) e m) t.within (ending-keeps (Fault kind) refl m e k t.ordered t.stands)
-    (ending-obeys (IsLawful faults) (Fault kind) m e k t.ordered.orderly t.stands
-    (ended-lawful faults (Fault kind) m (ending (Fault kind) e m).machine e k t.ordered.orderly t.stands (λ negotiated. given)))
+    ending-trimmed faults (Fault kind) refl m e k t.ordered t.within t.stands (λ negotiated. given)
 
 -- the record after a responder has started, and what is found in it
 record Begun (faults : Faults) (cid : ℕ) (before : Machine) (effect : Effect) : Type 0 where

@@ -5,6 +5,7 @@ use Rattle.std.specs.Option.{option_map, unwrap_or}
 use Rattle.std.proofs.lemmas.Bool.{cond_both, and_parts, not-true}
 use Rattle.std.proofs.lemmas.List.Elements.{All-head, All-tail}
 use Rattle.net_base.specs.declared.settings.Settings.{Settings}
+use Rattle.net_base.specs.declared.action.CloseCause.{CloseCause}
 use Rattle.net_base.specs.declared.action.CloseCause.TheVariants.{Pruned}
 use Rattle.net_base.specs.declared.connection.Cid.{Cid}
 use Rattle.net_base.specs.declared.connection.Facts.{Facts}
@@ -12,13 +13,13 @@ use Rattle.net_base.specs.declared.peer.Peer.{Peer}
 use Rattle.accept_gate.specs.Prune.{is_candidate, rank_of_candidate, goes_before, first_of, first_to_go, choice_of}
 use Rattle.accept_gate.specs.declared.prune.Candidate.{Candidate}
 use Rattle.conn_state.specs.Counted.{is_counted}
-use Rattle.conn_state.specs.Use.{has_id}
+use Rattle.conn_state.specs.Use.{has_id, is_negotiated}
 use Rattle.net_base.specs.Peer.{failed_peer}
 use Rattle.machine.specs.Machine.{Machine, Entry, counted_in, entry_at}
 use Rattle.machine.specs.Effect.{Effect, Happened, Move, nothing_more, then_do, as_move, for_each}
 use Rattle.machine.specs.Peers.{turns_at, peer_at, peer_fails}
 use Rattle.machine.specs.Connections.{without_entry, is_missed, lost, ending, candidate_of, candidates_in, pruned_at, trim}
-use Rattle.laws.specs.AtMoves.{Faults, IsLawful}
+use Rattle.laws.specs.AtMoves.{Faults, MayEnd, IsLawful}
 use Rattle.laws.specs.Laws.{LocalsAreOrdinary}
 use Rattle.laws.specs.Whole.{IsTied}
 use Rattle.laws.proofs.Counts.{counted_of, counted_in-sum, late_in}
@@ -26,9 +27,9 @@ use Rattle.laws.proofs.Effects.{one_if-counted}
 use Rattle.laws.proofs.Entries.{gone-connections, gone-sum, one_has_id}
 use Rattle.laws.proofs.Finds.{find-remove_other}
 use Rattle.laws.proofs.Keeping.{IsOrdered, Keeps, keeps_nothing}
-use Rattle.laws.proofs.Lawful.{Accounts, accounts_then, accounts_move, Obeys, obeys_nothing, turns_at-connections, ending-obeys, ended-lawful}
+use Rattle.laws.proofs.Lawful.{Accounts, accounts_then, accounts_move, Obeys, obeys_nothing, turns_at-connections, ending-obeys}
 use Rattle.laws.proofs.Lists.{StandsAt, stands_next, find_only, all-appended, all-both}
-use Rattle.laws.proofs.WholeMoves.{ending-keeps}
+use Rattle.laws.proofs.WholeMoves.{IsLost, ending-keeps}
 
 -- ---- whoever is chosen is counted
 
@@ -154,6 +155,12 @@ pub keeps-trimmed : (Law : Move → Type 0) (m : Machine) (effect : Effect) → 
     Trimmed Law m effect
 keeps-trimmed Law m effect within h obeys = tied-trimmed Law m effect within h (λ ties. obeys.lawful) obeys.accounted
 
+-- a connection is ended
+pub ending-trimmed : (faults : Faults) (cause : CloseCause) → IsLost cause → (m : Machine) (e : Entry) (k : ℕ) → IsOrdered m → counted_in m ≤ m.settings.hard →
+    StandsAt m.connections k e → (is_negotiated e.facts ≡ true → MayEnd faults cause e m) → Trimmed (IsLawful faults) m (ending cause e m)
+ending-trimmed faults cause loses m e k h within s may =
+    keeps-trimmed (IsLawful faults) m (ending cause e m) within (ending-keeps cause loses m e k h s) (ending-obeys faults cause m e k h.orderly s may)
+
 pub nothing-trimmed : (Law : Move → Type 0) (m : Machine) → counted_in m ≤ m.settings.hard → IsOrdered m → Trimmed Law m (nothing_more m)
 nothing-trimmed Law m within h = keeps-trimmed Law m (nothing_more m) within (keeps_nothing m h) (obeys_nothing Law m)
 
@@ -162,8 +169,7 @@ pruned-trims : (faults : Faults) (m : Machine) (e : Entry) (k : ℕ) → IsOrder
 pruned-trims faults m e k h s counted most =
     let keeps : Keeps 0 m (ending Pruned e m).machine = ending-keeps Pruned refl m e k h s in
     let obeys : Obeys (IsLawful faults) m (ending Pruned e m) =
-    ending-obeys (IsLawful faults) Pruned m e k h.orderly s
-    (ended-lawful faults Pruned m (ending Pruned e m).machine e k h.orderly s (λ negotiated. most)) in
+    ending-obeys faults Pruned m e k h.orderly s (λ negotiated. most) in
     let drops = pruned-drops m e k h s in
     let one : counted_of e ≡ 1 = one_if-counted e.facts counted in
     record {
