@@ -95,5 +95,6 @@ all_run = record {
     big_fewer_failures_first_runs = refl;
     big_made_ordinary_by_locals_runs = refl;
     big_counted_apart_runs = refl;
+    big_forgotten_apart_runs = refl;
   };
 }

@@ -83,3 +83,21 @@ big_counted_apart = record {
       ∷ brings (Govern 0) []
       ∷ [];
 }
+
+-- and each forgets by its own
+abbrev pub big_forgotten_apart : Trace
+big_forgotten_apart = record {
+  settings = record usual { version = 2 };
+  happenings =
+      brings (Aims (aims 0 1 0 0)) []
+      ∷ brings (Locals (group 0 1 true (node 3002 ∷ []) ∷ [])) (Peer (node 3002) note.Known ∷ [])
+      ∷ brings (Locals []) []
+      ∷ brings (BigAims (big_aims 1 0 0)) []
+      ∷ brings (Bigs (node 3003 ∷ [])) (Peer (node 3003) note.Known ∷ [])
+      ∷ brings (Govern 0) []
+      ∷ brings (Aims (aims 0 0 0 0)) []
+      ∷ brings (Govern 0) (Peer (node 3002) note.Forgotten ∷ [])
+      ∷ brings (BigAims (big_aims 0 0 0)) []
+      ∷ brings (Govern 0) (Peer (node 3003) note.Forgotten ∷ [])
+      ∷ [];
+}

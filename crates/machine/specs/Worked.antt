@@ -7,7 +7,7 @@ use Rattle.machine.specs.CrossingTraces.{crossing_own_lower, crossing_own_higher
 use Rattle.machine.specs.LimitTraces.{accept_limits, prune_newest_greeting, prune_idle_before_greeting, prune_the_woken_itself}
 use Rattle.machine.specs.GovernorTraces.{targets_ask_roots_and_dial, release_least_score, release_score_wraps, pending_counts, backoff_first, backoff_seven_failures, local_valency_above_target, locals_cleaned, one_round}
 use Rattle.machine.specs.SharingTraces.{share_answer_adds_peer, share_answer_too_many, share_request_of_one, share_answer_above_target, share_served_without_asker, share_answer_ipv6_taken, share_answer_ipv6_passed_over}
-use Rattle.machine.specs.BigPeerTraces.{big_fewer_failures_first, big_made_ordinary_by_locals, big_counted_apart}
+use Rattle.machine.specs.BigPeerTraces.{big_fewer_failures_first, big_made_ordinary_by_locals, big_counted_apart, big_forgotten_apart}
 
 pub record HandshakesRun : Type 0 where
   pub inbound_duplex_accept_runs : IsRun inbound_duplex_accept
@@ -81,6 +81,7 @@ pub record BigPeersRun : Type 0 where
   pub big_fewer_failures_first_runs : IsRun big_fewer_failures_first
   pub big_made_ordinary_by_locals_runs : IsRun big_made_ordinary_by_locals
   pub big_counted_apart_runs : IsRun big_counted_apart
+  pub big_forgotten_apart_runs : IsRun big_forgotten_apart
 
 pub record AllRun : Type 0 where
   pub handshakes : HandshakesRun
