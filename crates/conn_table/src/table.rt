@@ -7,7 +7,7 @@ ghost use Rattle.conn_state.specs.Use.{facts_at, live_at, is_dialing, is_greetin
 ghost use Rattle.conn_table.specs.Answers.{any_at, any_acquirable, acquire_of, after_acquire, is_leased, may_acquire, lease_of, is_due, grace_end_of};
 ghost use Rattle.conn_table.specs.Conditions.{CanAwake};
 ghost use Rattle.conn_table.specs.Index.{index_of, IsRising};
-ghost use Rattle.conn_table.specs.Finds.{if_live};
+ghost use Rattle.conn_table.specs.Finds.{if_live, id_place};
 ghost use Rattle.conn_table.specs.Table.{empty_table, with_accepted, with_dialing, with_moved, without, IdsRise};
 ghost use Rattle.net_base.specs.Bounds.{AreSound};
 
@@ -247,6 +247,13 @@ impl ConnTable {
         ensures { slice_get self.now.facts place ≡ Some result }
     {
         self.kept.states[place].facts()
+    }
+
+    /// How many connections have a lower id. The one with the id stands at that place, where there is one.
+    pub fn place_of(&self, cid: Cid) -> usize
+        ensures { result ≡ id_place cid.0 self.now.facts }
+    {
+        self.kept.place_of(cid)
     }
 
     // The live connection of an address. There is no other one that may be taken into use.
