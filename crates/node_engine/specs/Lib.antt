@@ -1,2 +1,5 @@
+pub mod Owed
+pub mod Standing
 pub mod State
+pub mod Talks
 pub mod Tally

@@ -1,12 +1,20 @@
 //! The engine of a node: one step for each event.
 #![tactic(auto)]
 
+mod connections;
 mod engine;
 mod node_state;
 mod refusal;
+mod replies;
+mod reply;
+mod talk;
 mod tally;
 
+pub use connections::Connections;
 pub use engine::Engine;
 pub use node_state::NodeState;
 pub use refusal::NewRefusal;
+pub use replies::Replies;
+pub use reply::Reply;
+pub use talk::Talk;
 pub use tally::Tally;
