@@ -5,3 +5,5 @@ pub mod CloseLemmas
 pub mod EntryLemmas
 pub mod FindLemmas
 pub mod FireLemmas
+pub mod TalkFinds
+pub mod TalkPairs
