@@ -6,4 +6,6 @@ pub mod EntryLemmas
 pub mod FindLemmas
 pub mod FireLemmas
 pub mod TalkFinds
+pub mod TalkMoves
 pub mod TalkPairs
+pub mod TalkTurns

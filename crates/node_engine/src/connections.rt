@@ -8,6 +8,8 @@ ghost use Rattle.conn_table.specs.Table.{IdsRise};
 ghost use Rattle.net_base.specs.Bounds.{AreSound};
 ghost use Rattle.node_engine.specs.Standing.{none_standing, facts_in, entry_with, live_entry, used_entry, if_used};
 
+mod moves;
+
 use crate::Talk;
 use conn_table::ConnTable;
 use net_base::{Addr, Cid, Facts, Settings};

@@ -41,50 +41,50 @@ pub fn push_within(talks: &mut Vec<Talk>, talk: Talk)
 }
 
 // This node uses a connection from now on.
-pub fn lend(talks: &mut [Talk], place: usize, lease: LocalLease)
-    requires { place < length talks.old }
-    ensures { TurnsAt place (with_lease (Some lease)) talks.old talks.new }
+pub fn lend(talks: &mut Vec<Talk>, place: usize, lease: LocalLease)
+    requires { place < length talks.old.items }
+    ensures { TurnsAt place (with_lease (Some lease)) talks.old.items talks.new.items }
 {
     let talk = &mut talks[place];
     talk.lease = Some(lease);
 }
 
 // This node gives a connection out of its use.
-pub fn take_lease(talks: &mut [Talk], place: usize) -> Option<LocalLease>
-    requires { place < length talks.old }
-    ensures lease { IfSome (slice_get talks.old place) (λ t. result ≡ t.lease) }
-    ensures talks { TurnsAt place (with_lease None) talks.old talks.new }
+pub fn take_lease(talks: &mut Vec<Talk>, place: usize) -> Option<LocalLease>
+    requires { place < length talks.old.items }
+    ensures lease { IfSome (slice_get talks.old.items place) (λ t. result ≡ t.lease) }
+    ensures talks { TurnsAt place (with_lease None) talks.old.items talks.new.items }
 {
     let talk = &mut talks[place];
     mem::replace(&mut talk.lease, None)
 }
 
 // Another cutter goes on with a stream.
-pub fn swap_cutter(talks: &mut [Talk], place: usize, cutter: Cutter) -> Cutter
-    requires { place < length talks.old }
-    ensures old { IfSome (slice_get talks.old place) (λ t. result ≡ t.cutter) }
-    ensures talks { TurnsAt place (with_cutter cutter) talks.old talks.new }
+pub fn swap_cutter(talks: &mut Vec<Talk>, place: usize, cutter: Cutter) -> Cutter
+    requires { place < length talks.old.items }
+    ensures old { IfSome (slice_get talks.old.items place) (λ t. result ≡ t.cutter) }
+    ensures talks { TurnsAt place (with_cutter cutter) talks.old.items talks.new.items }
 {
     let talk = &mut talks[place];
     mem::replace(&mut talk.cutter, cutter)
 }
 
 // A reply comes to be owed.
-pub fn owe_at(talks: &mut [Talk], place: usize, protocol: u16, reply: Reply)
-    requires inside { place < length talks.old }
+pub fn owe_at(talks: &mut Vec<Talk>, place: usize, protocol: u16, reply: Reply)
+    requires inside { place < length talks.old.items }
     requires asked { is_asked_on protocol ≡ true }
     ensures { TurnsAt place
         (with_owed (with_reply (record { protocol = protocol; until = reply.until; asked = reply.asked })))
-        talks.old talks.new }
+        talks.old.items talks.new.items }
 {
     let talk = &mut talks[place];
     talk.replies.owe(protocol, reply);
 }
 
 // A reply is owed no more.
-pub fn pay_at(talks: &mut [Talk], place: usize, protocol: u16)
-    requires { place < length talks.old }
-    ensures { TurnsAt place (with_owed (without_reply protocol)) talks.old talks.new }
+pub fn pay_at(talks: &mut Vec<Talk>, place: usize, protocol: u16)
+    requires { place < length talks.old.items }
+    ensures { TurnsAt place (with_owed (without_reply protocol)) talks.old.items talks.new.items }
 {
     let talk = &mut talks[place];
     talk.replies.pay(protocol);
