@@ -5,6 +5,7 @@ pub mod CloseLemmas
 pub mod EntryLemmas
 pub mod FindLemmas
 pub mod FireLemmas
+pub mod TalkFeeds
 pub mod TalkFinds
 pub mod TalkMoves
 pub mod TalkPairs

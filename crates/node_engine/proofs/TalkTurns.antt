@@ -37,6 +37,9 @@ found P cid t ts s stands is h =
     let at = stands_at cid 0 t.given t.facts ts some.0 stands.ids_rise stands.talks_are some.1 in
     record { facts = some.0; talk = at.0; at = at.1; holds = some.2 }
 
+abbrev pub Any : Facts → Type 0
+Any f = Unit {0}
+
 -- the connection stands: nothing more is asked of it
 pub some_one : (cid : ℕ) (s : Standing) → IsSome (entry_with cid s) → IsSomeAnd (entry_with cid s) (λ e. Unit {0})
 some_one cid s h = some (entry_with cid s) h

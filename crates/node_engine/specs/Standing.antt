@@ -5,6 +5,8 @@ use Rattle.conn_state.specs.Use.{has_id, is_live_at}
 use Rattle.machine.specs.Govern.{is_used_at}
 use Rattle.machine.specs.Machine.{Entry, fresh_entry}
 use Rattle.machine.specs.Replies.{with_reply}
+use Rattle.mux_segment.specs.Protocols.{node_limits}
+use Rattle.mux_segment.specs.Stream.{FedBy, fed_by}
 use Rattle.net_base.specs.Shared.{nothing_undecoded}
 use Rattle.net_base.specs.declared.address.Addr.{Addr}
 use Rattle.net_base.specs.declared.connection.Facts.{Facts}
@@ -73,3 +75,13 @@ abbrev pub owes : ℕ → ℕ → ℕ → Entry → Entry
 owes protocol asked until entry = record entry {
   owed = with_reply (record { protocol = protocol; until = until; asked = asked }) entry.owed;
 }
+
+-- ---- what comes in
+
+-- what new bytes make of a stream that goes on
+abbrev pub fed_of : List ℕ → Entry → FedBy
+fed_of bytes entry = fed_by node_limits (record { undecoded = entry.undecoded; fault = None }) bytes
+
+-- the bytes that are not decoded yet stay
+abbrev pub fed_entry : List ℕ → Entry → Entry
+fed_entry bytes entry = record entry { undecoded = (fed_of bytes entry).state.undecoded }

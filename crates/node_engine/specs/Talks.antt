@@ -2,7 +2,9 @@
 use Rattle.std.specs.Prelude.{◌≡◌, ℕ, ◌+◌, List, [], ◌∷◌, set, slice_get, Option, Some, None, IfSome, if◌then◌else◌}
 use Rattle.conn_table.specs.Table.{Table, IdsRise}
 use Rattle.machine.specs.Machine.{Entry, Owed}
-use Rattle.mux_segment.specs.Stream.{CutterState, nothing_fed}
+use Rattle.mux_segment.specs.Protocols.{node_limits}
+use Rattle.mux_segment.specs.Stream.{CutterState, FedBy, nothing_fed, fed_by}
+use Rattle.mux_segment.specs.declared.fed.Fed.{Fed}
 use Rattle.net_base.specs.declared.connection.Cid.{Cid}
 use Rattle.net_base.specs.declared.connection.Facts.{Facts}
 use Rattle.node_engine.specs.Standing.{Standing}
@@ -56,3 +58,17 @@ with_owed change talk = record talk { replies = change talk.replies }
 -- nothing came in, nothing is owed, and this node does not use the connection
 abbrev pub fresh_talk : Talk
 fresh_talk = record { cutter = nothing_fed; replies = []; lease = None }
+
+-- ---- what comes in
+
+-- a stream that goes on from here; after a fault nothing of it is left
+abbrev pub going_on : CutterState → CutterState
+going_on state = record { undecoded = state.undecoded; fault = None }
+
+abbrev pub fed_talk : List ℕ → Talk → Talk
+fed_talk bytes talk = with_cutter (going_on (fed_by node_limits talk.cutter bytes).state) talk
+
+-- the answer to new bytes has the items, and the fault of the stream
+pub record IsFed (expected : FedBy) (fed : Fed) : Type 0 where
+  pub items : fed.items ≡ expected.items
+  pub fault : fed.fault ≡ expected.state.fault

@@ -1,11 +1,15 @@
-ghost use Rattle.std.specs.Prelude.{◌≡◌, ◌<◌, ◌++◌, ◌∷◌, [], length, slice_get, None, Some, IfSome, true, vec_len, vec_capacity};
+ghost use Rattle.std.specs.Prelude.{◌≡◌, ◌<◌, ◌++◌, ◌∷◌, [], length, slice_get, None, Some, IfSome, OnOk, OnErr, IfOk, true, vec_len, vec_capacity};
 ghost use Rattle.machine.specs.Replies.{with_reply, without_reply};
 ghost use Rattle.node_engine.specs.Owed.{is_asked_on};
-ghost use Rattle.node_engine.specs.Talks.{TurnsAt, with_lease, with_cutter, with_owed, fresh_talk};
+ghost use Rattle.mux_segment.specs.Protocols.{node_limits};
+ghost use Rattle.mux_segment.specs.Stream.{nothing_fed, fed_by};
+ghost use Rattle.net_base.specs.Shared.{nothing_undecoded};
+ghost use Rattle.node_engine.specs.Talks.{TurnsAt, with_lease, with_cutter, with_owed, fresh_talk, fed_talk, going_on, IsFed};
 
 use crate::{Replies, Reply};
 use conn_table::LocalLease;
-use mux_segment::Cutter;
+use mux_segment::{CutFault, Cutter, Fed};
+use net_base::OutOfMemory;
 use std::alloc::Global;
 use std::mem;
 
@@ -67,6 +71,39 @@ pub fn swap_cutter(talks: &mut Vec<Talk>, place: usize, cutter: Cutter) -> Cutte
 {
     let talk = &mut talks[place];
     mem::replace(&mut talk.cutter, cutter)
+}
+
+// New bytes of a stream that goes on. Where memory is refused, nothing of it is left.
+pub fn feed_at(
+    talks: &mut Vec<Talk>,
+    place: usize,
+    alloc: Global,
+    bytes: &[u8],
+) -> Result<Fed, OutOfMemory>
+    requires inside { place < length talks.old.items }
+    requires goes_on { IfSome (slice_get talks.old.items place) (λ t. t.cutter.fault ≡ None) }
+    ensures ok { OnOk result (TurnsAt place (fed_talk bytes.now) talks.old.items talks.new.items) }
+    ensures gives { IfOk result (λ fed. IfSome (slice_get talks.old.items place)
+        (λ t. IsFed (fed_by node_limits t.cutter bytes.now) fed)) }
+    ensures err { OnErr result (TurnsAt place (with_cutter nothing_fed) talks.old.items talks.new.items) }
+{
+    let cutter = swap_cutter(talks, place, Cutter::new(alloc));
+    let (cutter, fed) = cutter.feed(bytes)?;
+    let cutter = next_cutter(alloc, cutter, fed.fault);
+    swap_cutter(talks, place, cutter);
+    Ok(fed)
+}
+
+// The cutter with which a stream goes on.
+fn next_cutter(alloc: Global, cutter: Cutter, fault: Option<CutFault>) -> Cutter
+    requires same { cutter.fault ≡ fault }
+    requires empty { IfSome fault (λ f. cutter.undecoded ≡ nothing_undecoded) }
+    ensures { result ≡ going_on cutter }
+{
+    match fault {
+        Some(_) => Cutter::new(alloc),
+        None => cutter,
+    }
 }
 
 // A reply comes to be owed.

@@ -5,15 +5,11 @@ use Rattle.conn_state.specs.Use.{facts_at}
 use Rattle.conn_table.specs.Finds.{id_place}
 use Rattle.conn_table.specs.Table.{without}
 use Rattle.conn_table.proofs.IdPlaces.{found_id}
-use Rattle.net_base.specs.declared.connection.Facts.{Facts}
 use Rattle.node_engine.specs.declared.talk.Talk.{Talk}
 use Rattle.node_engine.proofs.TalkMoves.{lent_out, not_lent}
-use Rattle.node_engine.proofs.TalkTurns.{Found, found, some_one, place_inside, IsGoing, going}
+use Rattle.node_engine.proofs.TalkTurns.{Any, Found, found, some_one, place_inside, IsGoing, going}
 use Rattle.node_engine.proofs.connections.Connections.remove.Goals.{After-remove-lease, In-Some, In-None, After-drop_leased, After-drop_conn}
 use Rattle.node_engine.proofs.connections.Connections.remove.Goals as goal
-
-abbrev Any : Facts → Type 0
-Any f = Unit {0}
 
 pub remove-lease-requires : goal.remove-lease-requires
 remove-lease-requires c =
