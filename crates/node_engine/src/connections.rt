@@ -9,6 +9,7 @@ ghost use Rattle.net_base.specs.Bounds.{AreSound};
 ghost use Rattle.node_engine.specs.Standing.{none_standing, facts_in, entry_with, live_entry, used_entry, if_used};
 
 mod moves;
+mod overview;
 mod talking;
 
 use crate::Talk;

@@ -2,7 +2,9 @@
 #![tactic(auto)]
 
 mod connections;
+mod due;
 mod engine;
+mod link;
 mod node_state;
 mod refusal;
 mod replies;
