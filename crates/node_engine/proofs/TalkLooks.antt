@@ -1,15 +1,12 @@
 -- A look through all connections, from the last to the first or from the first to the last.
-use Rattle.std.proofs.Common.{◌≡◌, ℕ, zero, suc, ◌+◌, ◌-◌, ◌*◌, ◌<◌, ◌≤◌, nat_le, Bool, true, false, if◌then◌else◌, List, [], ◌∷◌, ◌++◌, length, map, take, drop, get_or, filter, slice_get, Option, Some, None, refl, sym, ap, subst, ◌∙◌, inl, inr, arith, append_assoc}
+use Rattle.std.proofs.Common.{◌≡◌, ℕ, zero, suc, ◌+◌, ◌-◌, ◌<◌, nat_le, List, [], ◌∷◌, ◌++◌, length, map, take, drop, get_or, filter, slice_get, Option, Some, None, refl, sym, ap, ◌∙◌, arith, append_assoc}
 use Rattle.std.specs.List.{flat_map, filter_map, cons_option}
-use Rattle.std.proofs.lemmas.Bool.{cases_Bool}
 use Rattle.std.proofs.lemmas.List.{append-nil}
-use Rattle.std.proofs.lemmas.Option.{get_or_from_slice_get, slice_get_within, slice_get-get_or}
-use Rattle.accept_gate.specs.Prune.{first_of, first_to_go}
+use Rattle.std.proofs.lemmas.Option.{slice_get-get_or}
+use Rattle.accept_gate.specs.Prune.{first_to_go}
 use Rattle.accept_gate.specs.declared.prune.Candidate.{Candidate}
-use Rattle.govern_rules.specs.declared.link.Link.{Link}
 use Rattle.machine.specs.Connections.{candidate_of}
-use Rattle.machine.specs.Deadlines.{deadlines_of, earlier, least}
-use Rattle.machine.specs.Govern.{link_of}
+use Rattle.machine.specs.Deadlines.{deadlines_of}
 use Rattle.machine.specs.Machine.{Entry}
 use Rattle.net_base.specs.declared.connection.Facts.{Facts}
 use Rattle.net_base.specs.declared.timer.Deadline.{Deadline}

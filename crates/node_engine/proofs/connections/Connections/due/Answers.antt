@@ -1,4 +1,4 @@
-use Rattle.std.proofs.Common.{◌≡◌, ◌<◌, ◌-◌, List, length, drop, drop_of_length-le, Some, slice_get, sym, ap, subst, ◌∙◌, arith}
+use Rattle.std.proofs.Common.{◌≡◌, ◌-◌, List, length, drop_of_length-le, Some, slice_get, sym, ap, ◌∙◌, arith}
 use Rattle.std.specs.List.{flat_map}
 use Rattle.machine.specs.Deadlines.{deadlines_of}
 use Rattle.machine.specs.Machine.{Entry}
@@ -27,7 +27,7 @@ loop-place-preserved c =
     let talks = c.self.inside.talks.items in
     let there : slice_get talks (c.loop-place.place - 1) ≡ Some c.index.result.now =
     read_talk talks (c.loop-place.place - 1) c.index.result.now
-        (omega (arith, same_length fs talks c.self.invariant.talks_are, c.loop-place.invariant.within, c.loop-place-test.true)) c.index.ensures in
+    (omega (arith, same_length fs talks c.self.invariant.talks_are, c.loop-place.invariant.within, c.loop-place-test.true)) c.index.ensures in
     let entry : slice_get (entries_of fs talks) (c.loop-place.place - 1) ≡ Some (entry_of c.at.result c.index.result.now) =
     entry_at_place fs talks (c.loop-place.place - 1) c.at.result c.index.result.now c.at.ensures there in
     record {

@@ -1,4 +1,4 @@
-use Rattle.std.proofs.Common.{◌≡◌, ◌<◌, ◌+◌, ◌++◌, ◌∷◌, [], List, length, map, take, take_all, Some, slice_get, sym, ap, ◌∙◌, arith}
+use Rattle.std.proofs.Common.{◌≡◌, ◌++◌, ◌∷◌, [], List, length, map, take, take_all, Some, slice_get, sym, ap, ◌∙◌, arith}
 use Rattle.machine.specs.Govern.{link_of}
 use Rattle.machine.specs.Machine.{Entry}
 use Rattle.node_engine.specs.Standing.{Standing}
@@ -17,7 +17,7 @@ loop-place-preserved c =
     let talks = c.self.inside.talks.items in
     let there : slice_get talks c.loop-place.place ≡ Some c.index.result.now =
     read_talk talks c.loop-place.place c.index.result.now
-        (omega (arith, same_length fs talks c.self.invariant.talks_are, c.loop-place-test.true, c.len-place-end.ensures)) c.index.ensures in
+    (omega (arith, same_length fs talks c.self.invariant.talks_are, c.loop-place-test.true, c.len-place-end.ensures)) c.index.ensures in
     let entry : slice_get (entries_of fs talks) c.loop-place.place ≡ Some (entry_of c.at.result c.index.result.now) =
     entry_at_place fs talks c.loop-place.place c.at.result c.index.result.now c.at.ensures there in
     c.in_ok-push.ensures.ok
