@@ -12,7 +12,7 @@ mod moves;
 mod overview;
 mod talking;
 
-use crate::Talk;
+use crate::talk::Talk;
 use conn_table::ConnTable;
 use net_base::{Addr, Cid, Facts, Settings};
 use std::alloc::Global;

@@ -2,7 +2,7 @@ ghost use Rattle.std.specs.Prelude.{◌≡◌, ◌≤◌, length};
 ghost use Rattle.machine.specs.Deadlines.{earlier, phase_deadlines, grace_deadlines};
 ghost use Rattle.node_engine.specs.Due.{with_due, due_by, deadlines_by};
 
-use crate::Replies;
+use crate::replies::Replies;
 use net_base::{Cid, Deadline, Facts, Grace, Kind, Phase};
 
 /// The one of two that fires first.

@@ -6,7 +6,7 @@ ghost use Rattle.machine.specs.Govern.{link_of};
 ghost use Rattle.net_base.specs.Shared.{nothing_undecoded};
 ghost use Rattle.node_engine.specs.Overview.{first_with};
 
-use crate::Replies;
+use crate::replies::Replies;
 use accept_gate::{Candidate, first_of, rank};
 use conn_table::{is_acquirable, is_live};
 use govern_rules::Link;
