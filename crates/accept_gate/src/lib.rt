@@ -7,4 +7,4 @@ pub mod law;
 mod prune;
 
 pub use gate::{Gate, verdict};
-pub use prune::{Candidate, prune_choice, rank};
+pub use prune::{Candidate, first_of, prune_choice, rank};

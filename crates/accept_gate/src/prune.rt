@@ -44,7 +44,8 @@ fn first_to_go(candidates: &[Candidate]) -> Option<Candidate>
     first
 }
 
-fn first_of(candidate: Candidate, other: Option<Candidate>) -> Candidate
+/// The one of two that goes first.
+pub fn first_of(candidate: Candidate, other: Option<Candidate>) -> Candidate
     ensures { result ≡ first_of candidate other }
 {
     match other {

@@ -4,14 +4,14 @@ ghost use Rattle.conn_state.specs.Use.{agreed_duplex, is_live, is_acquirable, so
 
 use net_base::{Agreed, Facts, Grace, Phase, Provenance, Responders};
 
-// Whether this side has not closed a connection.
+/// Whether this side has not closed a connection.
 pub fn is_live(facts: &Facts) -> bool
     ensures { result ≡ is_live facts.now }
 {
     !matches!(facts.phase, Phase::Closing(_))
 }
 
-// Whether this side may take a connection into use.
+/// Whether this side may take a connection into use.
 pub fn is_acquirable(facts: &Facts) -> bool
     ensures { result ≡ is_acquirable facts.now }
 {

@@ -122,7 +122,7 @@ impl Kept {
     }
 
     // How many connections have a lower id.
-    fn place_of(&self, cid: Cid) -> usize
+    pub fn place_of(&self, cid: Cid) -> usize
         requires { IsKept self.now }
         ensures { result ≡ id_place cid.0 (facts_kept self.now) }
     {

@@ -12,6 +12,7 @@ mod step;
 mod table;
 
 pub use acquire::Acquire;
+pub use facts::{is_acquirable, is_live};
 pub use grace_end::GraceEnd;
 pub use lease::LocalLease;
 pub use placed::{Placed, PlacedList};

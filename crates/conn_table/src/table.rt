@@ -7,7 +7,8 @@ ghost use Rattle.conn_state.specs.Use.{facts_at, live_at, is_dialing, is_greetin
 ghost use Rattle.conn_table.specs.Answers.{any_at, any_acquirable, acquire_of, after_acquire, is_leased, may_acquire, lease_of, is_due, grace_end_of};
 ghost use Rattle.conn_table.specs.Conditions.{CanAwake};
 ghost use Rattle.conn_table.specs.Index.{index_of, IsRising};
-ghost use Rattle.conn_table.specs.Finds.{if_live};
+ghost use Rattle.conn_table.specs.Finds.{if_live, id_place};
+ghost use Rattle.conn_table.specs.Kept.{OnlyLastLives};
 ghost use Rattle.conn_table.specs.Table.{empty_table, with_accepted, with_dialing, with_moved, without, IdsRise};
 ghost use Rattle.net_base.specs.Bounds.{AreSound};
 
@@ -113,6 +114,7 @@ impl ConnTable {
         ensures answer { result ≡ acquire_of addr self.old.facts }
         ensures table { self.new ≡ after_acquire result self.old }
         ensures leased { is_leased result ≡ any_acquirable addr self.old.facts }
+        ensures last_lives { OnlyLastLives self.old.facts }
     {
         match self.newest_live(addr) {
             None => Acquire::NoSuch,
@@ -191,7 +193,8 @@ impl ConnTable {
 
     /// The id of the live connection with an address. None where there is none.
     pub fn live_of(&self, addr: Addr) -> Option<Cid>
-        ensures { result ≡ option_map (λ f. f.cid) (live_at addr self.now.facts) }
+        ensures value { result ≡ option_map (λ f. f.cid) (live_at addr self.now.facts) }
+        ensures last_lives { OnlyLastLives self.now.facts }
     {
         self.newest_live(addr).map(|facts| facts.cid)
     }
@@ -249,10 +252,18 @@ impl ConnTable {
         self.kept.states[place].facts()
     }
 
+    /// How many connections have a lower id. The one with the id stands at that place, where there is one.
+    pub fn place_of(&self, cid: Cid) -> usize
+        ensures { result ≡ id_place cid.0 self.now.facts }
+    {
+        self.kept.place_of(cid)
+    }
+
     // The live connection of an address. There is no other one that may be taken into use.
     fn newest_live(&self, addr: Addr) -> Option<Facts>
         ensures value { result ≡ live_at addr self.now.facts }
         ensures only { may_acquire result ≡ any_acquirable addr self.now.facts }
+        ensures last_lives { OnlyLastLives self.now.facts }
     {
         live(self.kept.newest(addr))
     }

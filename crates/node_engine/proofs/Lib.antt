@@ -5,3 +5,9 @@ pub mod CloseLemmas
 pub mod EntryLemmas
 pub mod FindLemmas
 pub mod FireLemmas
+pub mod TalkFeeds
+pub mod TalkFinds
+pub mod TalkLooks
+pub mod TalkMoves
+pub mod TalkPairs
+pub mod TalkTurns

@@ -1,11 +1,12 @@
 ghost use Rattle.std.specs.Prelude.{◌≡◌, ◌≤◌, ◌+◌, ◌^◌, [], ◌∷◌, OnOk, IfSome, length};
-ghost use Rattle.machine.specs.Deadlines.{deadlines, deadlines_of, due, earlier, fires, fire_all};
+ghost use Rattle.machine.specs.Deadlines.{deadlines, deadlines_of, due, fires, fire_all};
 ghost use Rattle.machine.specs.Events.{clock_shows};
 ghost use Rattle.machine.specs.Machine.{fresh_entry};
 ghost use Rattle.net_base.specs.declared.timer.Kind.TheVariants.{Handshake};
 ghost use Rattle.node_engine.specs.State.{Does, IsAccepted};
 
 use super::NodeState;
+use crate::due::earlier;
 use net_base::{ActionList, CloseCause, Deadline, Facts, FaultKind, Kind, OutOfMemory, Phase};
 
 impl NodeState {
@@ -90,15 +91,5 @@ fn deadline_of(facts: Facts) -> Deadline
             kind: Kind::Handshake,
         },
         Phase::Dialing | Phase::Negotiated | Phase::Closing(_) => unreachable!(),
-    }
-}
-
-// The one of two that fires first.
-fn earlier(deadline: Deadline, other: Option<Deadline>) -> Deadline
-    ensures { result ≡ earlier deadline other }
-{
-    match other {
-        Some(other) if other < deadline => other,
-        _ => deadline,
     }
 }

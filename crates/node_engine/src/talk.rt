@@ -1,0 +1,129 @@
+ghost use Rattle.std.specs.Prelude.{◌≡◌, ◌<◌, ◌++◌, ◌∷◌, [], length, slice_get, None, Some, IfSome, OnOk, OnErr, IfOk, true, vec_len, vec_capacity};
+ghost use Rattle.machine.specs.Replies.{with_reply, without_reply};
+ghost use Rattle.node_engine.specs.Owed.{is_asked_on};
+ghost use Rattle.mux_segment.specs.Protocols.{node_limits};
+ghost use Rattle.mux_segment.specs.Stream.{nothing_fed, fed_by};
+ghost use Rattle.net_base.specs.Shared.{nothing_undecoded};
+ghost use Rattle.node_engine.specs.Talks.{TurnsAt, with_lease, with_cutter, with_owed, fresh_talk, fed_talk, going_on, IsFed};
+
+use crate::Reply;
+use crate::replies::Replies;
+use conn_table::LocalLease;
+use mux_segment::{CutFault, Cutter, Fed};
+use net_base::OutOfMemory;
+use std::alloc::Global;
+use std::mem;
+
+/// What is kept of a connection beside its facts.
+#[derive(Debug, Drop)]
+pub struct Talk {
+    /// What came in and is not decoded yet.
+    pub cutter: Cutter,
+    pub replies: Replies,
+    /// There where the connection is in local use.
+    pub lease: Option<LocalLease>,
+}
+
+impl Talk {
+    /// Nothing came in, nothing is owed, and this node does not use the connection. Takes no memory.
+    pub fn new(alloc: Global) -> Talk
+        ensures { result ≡ fresh_talk }
+    {
+        Talk {
+            cutter: Cutter::new(alloc),
+            replies: Replies::new(),
+            lease: None,
+        }
+    }
+}
+
+// Puts one at the end, for which there is room.
+pub fn push_within(talks: &mut Vec<Talk>, talk: Talk)
+    requires { vec_len talks.old < vec_capacity talks.old }
+    ensures { talks.new.items ≡ talks.old.items ++ talk ∷ [] }
+{
+    let _ = talks.push(talk);
+}
+
+// This node uses a connection from now on.
+pub fn lend(talks: &mut Vec<Talk>, place: usize, lease: LocalLease)
+    requires { place < length talks.old.items }
+    ensures { TurnsAt place (with_lease (Some lease)) talks.old.items talks.new.items }
+{
+    let talk = &mut talks[place];
+    talk.lease = Some(lease);
+}
+
+// This node gives a connection out of its use.
+pub fn take_lease(talks: &mut Vec<Talk>, place: usize) -> Option<LocalLease>
+    requires { place < length talks.old.items }
+    ensures lease { IfSome (slice_get talks.old.items place) (λ t. result ≡ t.lease) }
+    ensures talks { TurnsAt place (with_lease None) talks.old.items talks.new.items }
+{
+    let talk = &mut talks[place];
+    mem::replace(&mut talk.lease, None)
+}
+
+// Another cutter goes on with a stream.
+pub fn swap_cutter(talks: &mut Vec<Talk>, place: usize, cutter: Cutter) -> Cutter
+    requires { place < length talks.old.items }
+    ensures old { IfSome (slice_get talks.old.items place) (λ t. result ≡ t.cutter) }
+    ensures talks { TurnsAt place (with_cutter cutter) talks.old.items talks.new.items }
+{
+    let talk = &mut talks[place];
+    mem::replace(&mut talk.cutter, cutter)
+}
+
+// New bytes of a stream that goes on. Where memory is refused, nothing of it is left.
+pub fn feed_at(
+    talks: &mut Vec<Talk>,
+    place: usize,
+    alloc: Global,
+    bytes: &[u8],
+) -> Result<Fed, OutOfMemory>
+    requires inside { place < length talks.old.items }
+    requires goes_on { IfSome (slice_get talks.old.items place) (λ t. t.cutter.fault ≡ None) }
+    ensures ok { OnOk result (TurnsAt place (fed_talk bytes.now) talks.old.items talks.new.items) }
+    ensures gives { IfOk result (λ fed. IfSome (slice_get talks.old.items place)
+        (λ t. IsFed (fed_by node_limits t.cutter bytes.now) fed)) }
+    ensures err { OnErr result (TurnsAt place (with_cutter nothing_fed) talks.old.items talks.new.items) }
+{
+    let cutter = swap_cutter(talks, place, Cutter::new(alloc));
+    let (cutter, fed) = cutter.feed(bytes)?;
+    let cutter = next_cutter(alloc, cutter, fed.fault);
+    swap_cutter(talks, place, cutter);
+    Ok(fed)
+}
+
+// The cutter with which a stream goes on.
+fn next_cutter(alloc: Global, cutter: Cutter, fault: Option<CutFault>) -> Cutter
+    requires same { cutter.fault ≡ fault }
+    requires empty { IfSome fault (λ f. cutter.undecoded ≡ nothing_undecoded) }
+    ensures { result ≡ going_on cutter }
+{
+    match fault {
+        Some(_) => Cutter::new(alloc),
+        None => cutter,
+    }
+}
+
+// A reply comes to be owed.
+pub fn owe_at(talks: &mut Vec<Talk>, place: usize, protocol: u16, reply: Reply)
+    requires inside { place < length talks.old.items }
+    requires asked { is_asked_on protocol ≡ true }
+    ensures { TurnsAt place
+        (with_owed (with_reply (record { protocol = protocol; until = reply.until; asked = reply.asked })))
+        talks.old.items talks.new.items }
+{
+    let talk = &mut talks[place];
+    talk.replies.owe(protocol, reply);
+}
+
+// A reply is owed no more.
+pub fn pay_at(talks: &mut Vec<Talk>, place: usize, protocol: u16)
+    requires { place < length talks.old.items }
+    ensures { TurnsAt place (with_owed (without_reply protocol)) talks.old.items talks.new.items }
+{
+    let talk = &mut talks[place];
+    talk.replies.pay(protocol);
+}
