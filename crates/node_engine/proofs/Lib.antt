@@ -1,8 +1,4 @@
-pub mod AcceptLemmas
-pub mod AcceptedLemmas
 pub mod ClockLemmas
-pub mod CloseLemmas
-pub mod EntryLemmas
 pub mod FindLemmas
 pub mod FireLemmas
 pub mod TalkFeeds
