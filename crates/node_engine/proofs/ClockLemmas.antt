@@ -18,7 +18,7 @@ abbrev pub least_among : ℕ → List Facts → Option Deadline
 least_among now fs = least (filter (λ d. nat_le d.at now) (deadlines_among fs))
 
 -- the list from a place on, where the element at that place is known
-pub drop-at : (fs : List Facts) (place : ℕ) (f : Facts) → 0 < place → slice_get fs (place - 1) ≡ Some f →
+pub drop-at : {X : Type 0} (fs : List X) (place : ℕ) (f : X) → 0 < place → slice_get fs (place - 1) ≡ Some f →
     drop (place - 1) fs ≡ f ∷ drop place fs
 drop-at fs place f some at =
     let next : suc (place - 1) ≡ place = omega arith in
@@ -30,7 +30,7 @@ pub record IsLeastAmong (now : ℕ) (fs : List Facts) (found : Option Deadline) 
   pub is_least : found ≡ least_among now fs
   pub is_handshake : IfSome found (λ d. d.kind ≡ Handshake)
 
-least-choice : (b : Bool) (d : Deadline) (ds : List Deadline) →
+pub least-choice : (b : Bool) (d : Deadline) (ds : List Deadline) →
     least (if b then d ∷ ds else ds) ≡ (if b then Some (earlier d (least ds)) else least ds)
 least-choice true d ds = refl
 least-choice false d ds = refl

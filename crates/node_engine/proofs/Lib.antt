@@ -3,6 +3,7 @@ pub mod FindLemmas
 pub mod FireLemmas
 pub mod TalkFeeds
 pub mod TalkFinds
+pub mod TalkLooks
 pub mod TalkMoves
 pub mod TalkPairs
 pub mod TalkTurns
