@@ -1,21 +1,26 @@
 -- Parts of a step that were done.
-use Rattle.std.proofs.Common.{◌≡◌, ℕ, ◌%◌, Bool, true, false, if◌then◌else◌, List, [], ◌∷◌, ◌++◌, map, find, append_assoc, append-nil, Option, Some, None, IfSome, IsSome, IsSomeAnd, refl, sym, ap, subst, ◌∙◌, inl, inr, arith}
+use Rattle.std.proofs.Common.{◌≡◌, ℕ, ◌+◌, ◌%◌, Bool, true, false, if◌then◌else◌, List, [], ◌∷◌, ◌++◌, map, find, append_assoc, append-nil, Option, Some, None, IfSome, IsSome, IsSomeAnd, refl, sym, ap, subst, ◌∙◌, inl, inr, arith, rules, tests}
+use Rattle.std.specs.Option.{option_map}
 use Rattle.std.proofs.lemmas.Bool.{cases_Bool}
 use Rattle.std.proofs.lemmas.Bool.Decides.{nat_tests}
-use Rattle.conn_state.specs.Moves.{negotiated, agreed_inbound, agreed_outbound}
+use Rattle.conn_state.specs.Moves.{released, negotiated, agreed_inbound, agreed_outbound}
 use Rattle.conn_state.specs.Use.{has_id, is_outbound}
 use Rattle.net_base.specs.Shared.{RootState}
 use Rattle.net_base.specs.declared.action.Action.{Action}
 use Rattle.net_base.specs.declared.connection.Agreed.{Agreed}
+use Rattle.net_base.specs.declared.connection.Cid.{Cid}
 use Rattle.net_base.specs.declared.connection.Facts.{Facts}
 use Rattle.net_base.specs.declared.event.Group.{Group}
 use Rattle.net_base.specs.declared.peer.Peer.{Peer}
+use Rattle.net_base.specs.declared.peer.Temp.TheVariants.{Cold}
 use Rattle.net_base.specs.declared.targets.BigTargets.{BigTargets}
 use Rattle.net_base.specs.declared.targets.Targets.{Targets}
-use Rattle.machine.specs.Connections.{entry_turns, with_entry, is_used}
+use Rattle.machine.specs.Connections.{entry_turns, with_entry, is_used, says_done, release, trim}
 use Rattle.machine.specs.Effect.{Effect, then_do, nothing_more}
 use Rattle.machine.specs.Machine.{Machine, Entry, entry_at}
+use Rattle.machine.specs.Peers.{peer_becomes}
 use Rattle.machine.specs.Replies.{owing}
+use Rattle.node_engine.proofs.FindLemmas.{IfSome-find}
 use Rattle.node_engine.specs.Standing.{Standing, entry_with, turned, Turns, moved}
 use Rattle.node_engine.specs.State.{Does, DoesTo, IsKnown, machine_of, name_notice, is_used_from}
 
@@ -41,6 +46,22 @@ known facts m h = some (entry_at facts.cid.0 m) h
     some : (o : Option Entry) → IsSomeAnd o (λ e. e.facts ≡ facts) → (e : Entry) × (o ≡ Some e) × (e.facts ≡ facts)
     some None k = absurd k
     some (Some e) k = (e, refl, k)
+
+-- what is found by an id is known
+same_id : (cid : Cid) (f : Facts) → has_id cid.0 f ≡ true → f.cid ≡ cid
+same_id cid f h = let e : f.cid.0 ≡ cid.0 = search (rules, tests) in ap (λ (n : ℕ). let c : Cid = record { 0 = n } in c) e
+
+pub found_known : (cid : Cid) (m : Machine) (o : Option Facts) → o ≡ option_map (λ e. e.facts) (entry_at cid.0 m) →
+    IfSome o (λ f. (f.cid ≡ cid) × IsKnown f m)
+found_known cid m o is = subst (λ p. IfSome p (λ f. (f.cid ≡ cid) × IsKnown f m)) (sym is) (some (entry_at cid.0 m) refl)
+  where
+    some : (p : Option Entry) → entry_at cid.0 m ≡ p → IfSome (option_map (λ e. e.facts) p) (λ f. (f.cid ≡ cid) × IsKnown f m)
+    some None there = tt
+    some (Some e) there =
+        let own : e.facts.cid ≡ cid = same_id cid e.facts (subst (λ p. IfSome p (λ x. has_id cid.0 x.facts ≡ true)) there
+        (IfSome-find (λ x. has_id cid.0 x.facts) m.connections)) in
+        (own, subst (λ n. IsSomeAnd (entry_at n m) (λ x. x.facts ≡ e.facts)) (ap (λ i. i.0) (sym own))
+        (subst (λ p. IsSomeAnd p (λ x. x.facts ≡ e.facts)) (sym there) refl))
 
 pub at_entry : (P : Entry → Type 0) (o : Option Entry) (e : Entry) → o ≡ Some e → P e → IfSome o P
 at_entry P o e is h = subst (λ p. IfSome p P) (sym is) h
@@ -185,3 +206,26 @@ module _ (now : ℕ) (targets : Targets) (big : BigTargets) (groups : List Group
       subst (λ w. DoesTo facts.cid.0 act before w n after) is
       (at_entry (λ e. Does (act e first) before n after) (entry_with facts.cid.0 s) h.entry h.there
       (subst (λ effect. Does effect before n after) (sym (means h.entry)) used))
+
+-- A connection is given out of use: it is said, the connection turns, its peer is cold, and there may be too many.
+pub released_does : (facts : Facts) (m n o p : Machine) (before said turned cold after : List Action) → IsKnown facts m →
+    Does (says_done facts m) before m said →
+    DoesTo facts.cid.0 (λ e w. entry_turns e (moved (released (w.now + w.settings.idle)) e) w) said m n turned →
+    Does (peer_becomes Cold facts.addr n) turned o cold → Does (trim facts.cid o) cold p after → DoesTo facts.cid.0 release before m p after
+released_does facts m n o p before said turned cold after h says turns becomes trims =
+    let it = known facts m h in
+    let e : Entry = it.0 in
+    let turn : Effect = entry_turns e (moved (released (m.now + m.settings.idle)) e) m in
+    let one : Does turn said n turned = of_entry (λ x. Does (entry_turns x (moved (released (m.now + m.settings.idle)) x) m) said n turned) (entry_at facts.cid.0 m) e it.1 turns in
+    let last : Does (then_do (peer_becomes Cold facts.addr n) (trim facts.cid)) turned p after =
+    does_then (peer_becomes Cold facts.addr n) (trim facts.cid) turned cold after o p becomes trims in
+    let rest : Does (then_do turn (λ w. then_do (peer_becomes Cold facts.addr w) (trim facts.cid))) said p after =
+    does_then turn (λ w. then_do (peer_becomes Cold facts.addr w) (trim facts.cid)) said turned after n p one last in
+    let whole : Does (then_do (says_done facts m)
+    (λ v. then_do (entry_turns e (moved (released (v.now + v.settings.idle)) e) v) (λ w. then_do (peer_becomes Cold facts.addr w) (trim facts.cid)))) before p after =
+    does_then (says_done facts m) (λ v. then_do (entry_turns e (moved (released (v.now + v.settings.idle)) e) v) (λ w. then_do (peer_becomes Cold facts.addr w) (trim facts.cid)))
+    before said after m p says rest in
+    at_entry (λ x. Does (release x m) before p after) (entry_at facts.cid.0 m) e it.1
+    (subst (λ f. Does (then_do (says_done f m)
+    (λ v. then_do (entry_turns e (moved (released (v.now + v.settings.idle)) e) v) (λ w. then_do (peer_becomes Cold f.addr w) (trim f.cid)))) before p after)
+    (sym it.2) whole)
