@@ -1,7 +1,9 @@
 pub mod ClockLemmas
 pub mod Doings
+pub mod Ends
 pub mod FindLemmas
 pub mod FireLemmas
+pub mod Ids
 pub mod TalkFeeds
 pub mod TalkFinds
 pub mod TalkLooks
