@@ -30,7 +30,7 @@ mod WholeEvents
 mod WholeRuns
 mod Promotions
 mod Picks
-mod Ties
+pub mod Ties
 mod Rises
 mod Arrivals
 mod PeerLaws

@@ -1,10 +1,9 @@
-pub mod AcceptLemmas
-pub mod AcceptedLemmas
 pub mod ClockLemmas
-pub mod CloseLemmas
-pub mod EntryLemmas
+pub mod Doings
+pub mod Ends
 pub mod FindLemmas
 pub mod FireLemmas
+pub mod Ids
 pub mod TalkFeeds
 pub mod TalkFinds
 pub mod TalkLooks

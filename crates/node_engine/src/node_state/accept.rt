@@ -1,86 +1,97 @@
-ghost use Rattle.std.specs.Prelude.{◌≡◌, ◌≤◌, ◌<◌, ◌+◌, ◌^◌, ◌++◌, [], ◌∷◌, OnOk, IfOk, None, IsSomeAnd, false};
-ghost use Rattle.std.specs.Bool.{OnTrue, OnFalse};
+ghost use Rattle.std.specs.Prelude.{◌≡◌, ◌≤◌, ◌<◌, ◌^◌, ◌++◌, [], ◌∷◌, OnOk, IfSome, IsSomeAnd, Some, None};
 ghost use Rattle.accept_gate.specs.Gate.{gate_of};
-ghost use Rattle.conn_state.specs.Use.{is_pending};
-ghost use Rattle.machine.specs.Events.{peer_connects, accepted_beside, admitted, turned_away, pause_notice};
-ghost use Rattle.machine.specs.Machine.{counted_in, live_entry_at, next_cid};
+ghost use Rattle.laws.specs.Sound.{IsOrderly};
+ghost use Rattle.machine.specs.Events.{peer_connects, accepted_beside, admitted, crossed, pause_notice};
+ghost use Rattle.machine.specs.Machine.{counted_in, entry_at, live_entry_at};
 ghost use Rattle.net_base.specs.Address.{same_address};
-ghost use Rattle.net_base.specs.declared.action.Action.TheVariants.{Admit, State, Turnaway};
-ghost use Rattle.net_base.specs.declared.action.StateName.TheVariants.{UnnegotiatedInbound};
+ghost use Rattle.net_base.specs.declared.action.Action.TheVariants.{Turnaway};
 ghost use Rattle.node_engine.specs.State.{Does};
 
 use super::NodeState;
+use crate::link::is_pending;
 use accept_gate::{Gate, verdict};
-use net_base::{Action, ActionList, Addr, Away, Cid, OutOfMemory, StateName};
+use net_base::{Action, ActionList, Addr, Away, CloseCause, Facts, OutOfMemory, StateName};
 
 impl NodeState {
     /// A peer has connected.
     pub(super) fn accept(&mut self, addr: Addr, actions: &mut ActionList) -> Result<(), OutOfMemory>
-        requires { self.old.next_id ≤ 2 ^ 48 }
-        ensures does { OnOk result (Does (peer_connects addr self.old) actions.old self.new actions.new) }
-        ensures ids { OnOk result (self.new.next_id ≤ self.old.next_id + 1) }
+        requires orderly { IsOrderly self.old }
+        requires few_ids { self.old.next_id ≤ 2 ^ 48 }
+        ensures { OnOk result (Does (peer_connects addr self.old) actions.old self.new actions.new) }
     {
         if self.is_own(addr) {
             return turn_away(Away::OwnAddr, actions);
         }
         match self.gate() {
             Gate::Full => turn_away(Away::Full, actions),
-            gate => self.accept_beside(addr, gate, actions),
+            Gate::Free | Gate::Pause(_) => self.accept_beside(addr, actions),
         }
     }
 
     // A peer has connected, and the limits let it in.
-    fn accept_beside(
-        &mut self,
-        addr: Addr,
-        gate: Gate,
-        actions: &mut ActionList,
-    ) -> Result<(), OutOfMemory>
+    fn accept_beside(&mut self, addr: Addr, actions: &mut ActionList) -> Result<(), OutOfMemory>
+        requires orderly { IsOrderly self.old }
         requires few_ids { self.old.next_id ≤ 2 ^ 48 }
-        requires gate_is { gate_of self.old.settings (counted_in self.old) ≡ gate }
         requires room { counted_in self.old < self.old.settings.hard }
-        ensures does { OnOk result
+        ensures { OnOk result
             (Does (accepted_beside (live_entry_at addr self.old) addr self.old) actions.old self.new actions.new) }
-        ensures ids { OnOk result (self.new.next_id ≤ self.old.next_id + 1) }
     {
-        if self.has_live(addr) {
-            return turn_away(Away::Present, actions);
+        match self.live(addr) {
+            None => self.admit(addr, actions),
+            Some(facts) if is_pending(&facts) => self.cross(addr, facts, actions),
+            Some(_) => turn_away(Away::Present, actions),
         }
-        let cid = self.take_in(addr)?;
-        tell_admitted(cid, addr, gate, actions)
     }
 
-    // A connection of an address without a live one comes under the next id.
-    fn take_in(&mut self, addr: Addr) -> Result<Cid, OutOfMemory>
+    // Two nodes have dialed each other: the connection that the lower address dialed survives.
+    fn cross(
+        &mut self,
+        addr: Addr,
+        facts: Facts,
+        actions: &mut ActionList,
+    ) -> Result<(), OutOfMemory>
+        requires orderly { IsOrderly self.old }
+        requires few_ids { self.old.next_id ≤ 2 ^ 48 }
+        requires room { counted_in self.old < self.old.settings.hard }
+        requires live { IsSomeAnd (live_entry_at addr self.old) (λ e. e.facts ≡ facts) }
+        requires by_id { IfSome (live_entry_at addr self.old) (λ e. entry_at e.facts.cid.0 self.old ≡ Some e) }
+        ensures { OnOk result (IfSome (live_entry_at addr self.old)
+            (λ e. Does (crossed addr e self.old) actions.old self.new actions.new)) }
+    {
+        if !addr.is_before(&self.connections.settings().own) {
+            return turn_away(Away::Crossed, actions);
+        }
+        self.end(facts, CloseCause::Overwritten, actions)?;
+        self.admit(addr, actions)
+    }
+
+    // An address without a live connection is admitted under the next id, and accepting pauses where the soft limit
+    // is passed.
+    fn admit(&mut self, addr: Addr, actions: &mut ActionList) -> Result<(), OutOfMemory>
         requires few_ids { self.old.next_id ≤ 2 ^ 48 }
         requires no_live { live_entry_at addr self.old ≡ None }
         requires room { counted_in self.old < self.old.settings.hard }
-        ensures id { IfOk result (λ cid. cid ≡ next_cid self.old) }
-        ensures ok { OnOk result (self.new ≡ (admitted addr self.old).machine) }
+        ensures { OnOk result (Does (admitted addr self.old) actions.old self.new actions.new) }
     {
-        self.table.admit(addr, self.moment)
-    }
-
-    // Whether an address has a live connection. No such connection is on its way from this side.
-    fn has_live(&self, addr: Addr) -> bool
-        ensures beside { OnTrue result (IsSomeAnd (live_entry_at addr self.now) (λ e. is_pending e.facts ≡ false)) }
-        ensures alone { OnFalse result (live_entry_at addr self.now ≡ None) }
-    {
-        self.table.live_of(addr).is_some()
+        let gate = self.gate();
+        let cid = self.connections.admit(addr, self.moment)?;
+        actions.push(Action::Admit(cid, addr))?;
+        actions.push(Action::State(cid, StateName::UnnegotiatedInbound))?;
+        tell_pause(gate, actions)
     }
 
     // Whether an address is the node's own.
     fn is_own(&self, addr: Addr) -> bool
         ensures { result ≡ same_address addr self.now.settings.own }
     {
-        addr == self.table.settings().own
+        addr == self.connections.settings().own
     }
 
     // What the limits say of one more connection.
     fn gate(&self) -> Gate
         ensures { result ≡ gate_of self.now.settings (counted_in self.now) }
     {
-        verdict(self.table.settings(), self.table.counted())
+        verdict(self.connections.settings(), self.connections.counted())
     }
 }
 
@@ -91,18 +102,10 @@ fn turn_away(away: Away, actions: &mut ActionList) -> Result<(), OutOfMemory>
     actions.push(Action::Turnaway(away))
 }
 
-// A peer was let in: its admission, its name, and a pause where the gate wants one.
-fn tell_admitted(
-    cid: Cid,
-    addr: Addr,
-    gate: Gate,
-    actions: &mut ActionList,
-) -> Result<(), OutOfMemory>
-    ensures { OnOk result (actions.new ≡ actions.old
-        ++ ((Admit cid addr ∷ State cid UnnegotiatedInbound ∷ []) ++ pause_notice gate)) }
+// A pause, where the gate wants one.
+fn tell_pause(gate: Gate, actions: &mut ActionList) -> Result<(), OutOfMemory>
+    ensures { OnOk result (actions.new ≡ actions.old ++ pause_notice gate) }
 {
-    actions.push(Action::Admit(cid, addr))?;
-    actions.push(Action::State(cid, StateName::UnnegotiatedInbound))?;
     match gate {
         Gate::Pause(delay) => actions.push(Action::Pause(delay)),
         Gate::Free | Gate::Full => Ok(()),

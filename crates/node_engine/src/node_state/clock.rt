@@ -1,13 +1,13 @@
-ghost use Rattle.std.specs.Prelude.{◌≡◌, ◌≤◌, ◌+◌, ◌^◌, [], ◌∷◌, OnOk, IfSome, length};
-ghost use Rattle.machine.specs.Deadlines.{deadlines, deadlines_of, due, fires, fire_all};
+ghost use Rattle.std.specs.Prelude.{◌≡◌, ◌≤◌, ◌^◌, true, OnOk, Some, length};
+ghost use Rattle.conn_table.specs.Answers.{is_due};
+ghost use Rattle.laws.specs.Sound.{IsOrderly};
+ghost use Rattle.machine.specs.Deadlines.{deadlines, due, fires, fires_as, fire_all};
 ghost use Rattle.machine.specs.Events.{clock_shows};
-ghost use Rattle.machine.specs.Machine.{fresh_entry};
-ghost use Rattle.net_base.specs.declared.timer.Kind.TheVariants.{Handshake};
-ghost use Rattle.node_engine.specs.State.{Does, IsAccepted};
+ghost use Rattle.net_base.specs.declared.timer.Kind.TheVariants.{Grace as GraceKind};
+ghost use Rattle.node_engine.specs.State.{Does, DoesTo, IsKnown};
 
 use super::NodeState;
-use crate::due::earlier;
-use net_base::{ActionList, CloseCause, Deadline, Facts, FaultKind, Kind, OutOfMemory, Phase};
+use net_base::{ActionList, CloseCause, Deadline, Facts, FaultKind, Kind, OutOfMemory};
 
 impl NodeState {
     /// The clock shows a moment. Where it is a later one, all that is due by then happens.
@@ -16,9 +16,9 @@ impl NodeState {
         moment: u64,
         actions: &mut ActionList,
     ) -> Result<(), OutOfMemory>
-        requires { moment ≤ 2 ^ 48 }
-        ensures does { OnOk result (Does (clock_shows moment self.old) actions.old self.new actions.new) }
-        ensures ids { OnOk result (self.new.next_id ≡ self.old.next_id) }
+        requires orderly { IsOrderly self.old }
+        requires bound { moment ≤ 2 ^ 48 }
+        ensures { OnOk result (Does (clock_shows moment self.old) actions.old self.new actions.new) }
     {
         if moment <= self.moment {
             return Ok(());
@@ -29,8 +29,8 @@ impl NodeState {
 
     // All deadlines that are due fire, the least one first.
     fn fire_all(&mut self, actions: &mut ActionList) -> Result<(), OutOfMemory>
-        ensures does { OnOk result (Does (fire_all self.old) actions.old self.new actions.new) }
-        ensures ids { OnOk result (self.new.next_id ≡ self.old.next_id) }
+        requires { IsOrderly self.old }
+        ensures { OnOk result (Does (fire_all self.old) actions.old self.new actions.new) }
     {
         let count = self.deadline_count();
         for _fired in 0..count {
@@ -42,54 +42,52 @@ impl NodeState {
         Ok(())
     }
 
-    // A deadline fires.
-    fn fire(&mut self, deadline: Deadline, actions: &mut ActionList) -> Result<(), OutOfMemory>
-        requires { deadline.kind ≡ Handshake }
-        ensures does { OnOk result (Does (fires deadline self.old) actions.old self.new actions.new) }
-        ensures ids { OnOk result (self.new.next_id ≡ self.old.next_id) }
-    {
-        match self.found(deadline.cid) {
-            Some(facts) => self.end(facts, CloseCause::Fault(FaultKind::HandshakeWait), actions),
-            None => Ok(()),
-        }
-    }
-
-    // The deadline that fires next. Only handshakes have deadlines.
+    // The deadline that fires next.
     fn due(&self) -> Option<Deadline>
-        ensures value { result ≡ due self.now }
-        ensures kind { IfSome result (λ d. d.kind ≡ Handshake) }
+        ensures { result ≡ due self.now }
     {
-        // The least of a list is the earlier of its first element and the least of the rest.
-        let mut least = None;
-        for place in (0..self.table.len()).rev() {
-            let deadline = deadline_of(self.table.at(place));
-            if deadline.at <= self.moment {
-                least = Some(earlier(deadline, least));
-            }
-        }
-        least
+        self.connections.due(self.moment)
     }
 
     // How many deadlines there are.
     fn deadline_count(&self) -> usize
         ensures { result ≡ length (deadlines self.now) }
     {
-        self.table.len()
+        self.connections.deadline_count()
     }
-}
 
-// The end of a handshake.
-fn deadline_of(facts: Facts) -> Deadline
-    requires { IsAccepted facts }
-    ensures only { deadlines_of (fresh_entry facts) ≡ result ∷ [] }
-    ensures kind { result.kind ≡ Handshake }
-{
-    match facts.phase {
-        Phase::Greeting(until) => Deadline {
-            at: until,
-            cid: facts.cid,
-            kind: Kind::Handshake,
-        },
-        Phase::Dialing | Phase::Negotiated | Phase::Closing(_) => unreachable!(),
+    // The deadline fires that is the next one.
+    fn fire(&mut self, deadline: Deadline, actions: &mut ActionList) -> Result<(), OutOfMemory>
+        requires orderly { IsOrderly self.old }
+        requires next { due self.old ≡ Some deadline }
+        ensures { OnOk result (Does (fires deadline self.old) actions.old self.new actions.new) }
+    {
+        match self.found(deadline.cid) {
+            Some(facts) => self.fire_on(facts, deadline.kind, actions),
+            None => Ok(()),
+        }
+    }
+
+    // A deadline of a connection fires, by its kind.
+    fn fire_on(
+        &mut self,
+        facts: Facts,
+        kind: Kind,
+        actions: &mut ActionList,
+    ) -> Result<(), OutOfMemory>
+        requires known { IsKnown facts self.old }
+        requires over { kind ≡ GraceKind → is_due self.old.now facts.grace ≡ true }
+        ensures { OnOk result (DoesTo facts.cid.0 (fires_as kind) actions.old self.old self.new actions.new) }
+    {
+        match kind {
+            Kind::Handshake => {
+                self.end(facts, CloseCause::Fault(FaultKind::HandshakeWait), actions)
+            }
+            Kind::Grace => self.grace_over(facts, actions),
+            Kind::TimeWait => self.wait_over(facts, actions),
+            Kind::Reply2 | Kind::Reply8 | Kind::Reply10 => {
+                self.end(facts, CloseCause::Fault(FaultKind::ReplyWait), actions)
+            }
+        }
     }
 }

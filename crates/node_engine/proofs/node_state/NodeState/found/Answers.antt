@@ -1,21 +1,16 @@
-use Rattle.std.proofs.Common.{ap, sym}
+use Rattle.std.proofs.Common.{ap, ◌∙◌}
 use Rattle.std.specs.Option.{option_map}
-use Rattle.conn_state.specs.Use.{has_id}
-use Rattle.machine.specs.Machine.{fresh_entry}
-use Rattle.node_engine.specs.State.{IsAccepted}
-use Rattle.node_engine.proofs.CloseLemmas.{IfSome-facts_at}
-use Rattle.node_engine.proofs.EntryLemmas.{find-entries}
-use Rattle.node_engine.proofs.FindLemmas.{IfSome-find_All}
+use Rattle.std.proofs.lemmas.Option.{IfSome_then}
+use Rattle.machine.specs.Machine.{entry_at}
+use Rattle.node_engine.proofs.Doings.{found_known}
 use Rattle.node_engine.proofs.node_state.NodeState.found.Goals as goal
 
-pub returns-clause-entry : goal.returns-clause-entry
-returns-clause-entry c =
-    rw (← c.self.view_is, find-entries (has_id c.args.cid.0) c.self.inside.table.facts)
-    (ap (option_map fresh_entry) (sym c.facts.ensures))
-
 pub returns-clause-id : goal.returns-clause-id
-returns-clause-id c = rw c.facts.ensures (IfSome-facts_at c.args.cid c.self.inside.table.facts)
+returns-clause-id c = IfSome_then c.facts.result
+    (found_known c.args.cid c.args.self.now c.facts.result (c.facts.ensures ∙ ap (λ m. option_map (λ e. e.facts) (entry_at c.args.cid.0 m)) c.self.view_is))
+    (λ f both. both.0)
 
-pub returns-clause-unused : goal.returns-clause-unused
-returns-clause-unused c = rw c.facts.ensures
-    (IfSome-find_All IsAccepted (has_id c.args.cid.0) c.self.inside.table.facts c.self.invariant.all_accepted)
+pub returns-clause-known : goal.returns-clause-known
+returns-clause-known c = IfSome_then c.facts.result
+    (found_known c.args.cid c.args.self.now c.facts.result (c.facts.ensures ∙ ap (λ m. option_map (λ e. e.facts) (entry_at c.args.cid.0 m)) c.self.view_is))
+    (λ f both. both.1)
