@@ -20,12 +20,13 @@ mod Owing
 mod Sharing
 mod Ordinary
 mod OwnAddress
-mod Keeping
+pub mod Keeping
 mod WholeMoves
 mod Trims
-mod Handshakes
-mod Talks
-mod Streams
+pub mod Remains
+pub mod Handshakes
+pub mod Talks
+pub mod Streams
 mod WholeEvents
 mod WholeRuns
 mod Promotions

@@ -1,17 +1,14 @@
 -- A connection whose handshake is done: whatever comes in, the connections stay in order and within the limit.
-use Rattle.std.proofs.Common.{ℕ, ◌+◌, [], ◌∷◌, cond, not, is_some, ◌≤◌, ◌≡◌, Bool, true, false, ◌||◌, ◌==◌, nat_le, if◌then◌else◌, List, find, set, remove, Option, Some, None, Result, Ok, Err, refl, sym, ap, ◌∙◌, subst, arith, eqb-true, eq-eqb}
-use Rattle.std.specs.Option.{unwrap_or}
+use Rattle.std.proofs.Common.{ℕ, ◌+◌, [], ◌∷◌, cond, not, is_some, ◌≤◌, ◌≡◌, Bool, true, false, ◌||◌, ◌==◌, if◌then◌else◌, List, find, set, Option, Some, None, Result, Ok, Err, refl, sym, ap, ◌∙◌, subst, arith, eqb-true, eq-eqb}
 use Rattle.std.proofs.lemmas.Bool.{cond_both, both_ways, false≢true}
-use Rattle.net_base.specs.declared.action.CloseCause.TheVariants.{Pruned, Fault}
+use Rattle.net_base.specs.declared.action.CloseCause.TheVariants.{Fault}
 use Rattle.net_base.specs.declared.action.FaultKind.{FaultKind}
 use Rattle.net_base.specs.declared.action.FaultKind.TheVariants.{Protocol, UnknownId}
 use Rattle.net_base.specs.declared.address.Addr.{Addr}
-use Rattle.net_base.specs.declared.connection.Cid.{Cid}
 use Rattle.net_base.specs.declared.connection.Facts.{Facts}
 use Rattle.net_base.specs.declared.connection.Responders.{Responders}
 use Rattle.net_base.specs.declared.peer.Peer.{Peer}
 use Rattle.net_base.specs.declared.peer.Temp.TheVariants.{Hot}
-use Rattle.accept_gate.specs.Prune.{choice_of}
 use Rattle.conn_state.specs.Moves.{awakened, idled}
 use Rattle.churn_clock.specs.Windows.{effective_of}
 use Rattle.conn_state.specs.Protocols.{has_responder}
@@ -29,12 +26,11 @@ use Rattle.peer_book.specs.Book.{is_established}
 use Rattle.machine.specs.Machine.{Machine, Entry, Owed, counted_in, entry_at, live_entry_at}
 use Rattle.machine.specs.Effect.{Effect, Move, shared, nothing_more, then_do}
 use Rattle.machine.specs.Peers.{peer_at, peer_becomes, peer_comes}
-use Rattle.machine.specs.Connections.{with_entry, without_entry, entry_turns, ending, pruned_at, candidates_in, trim, awake, idle}
+use Rattle.machine.specs.Connections.{with_entry, entry_turns, ending, trim, awake, idle}
 use Rattle.machine.specs.Talking.{replies, ends_if, served_at, begins, takes_requests, asked_as, shares_address, taken_of, takes_addresses, pays, brings, answered_as, talks}
 use Rattle.machine.specs.Replies.{reply_on, without_reply, paid}
 use Rattle.laws.proofs.Effects.{counted-running}
-use Rattle.laws.proofs.Entries.{TurnsInto, gone-connections, one_has_id, turned-connections}
-use Rattle.laws.proofs.Finds.{find-remove_other, find-remove_here}
+use Rattle.laws.proofs.Entries.{TurnsInto, one_has_id, turned-connections}
 use Rattle.laws.specs.AtMoves.{Faults, fault_of_request, fault_of_answer, fault_of, IsLawful}
 use Rattle.laws.proofs.KnownWanted.{takes-within}
 use Rattle.laws.proofs.Lawful.{accounts_same, Obeys, obeys_then, IsQuiet, quiet-obeys, turns_at-quiet, comes-quiet, ending-obeys, ended-lawful, turns-obeys, IsAllowed, Within, allowed_within, as_move-obeys}
@@ -42,9 +38,10 @@ use Rattle.laws.proofs.Keeping.{IsOrdered, Keeps, keeps_nothing, moves_then, mov
 use Rattle.laws.proofs.Lists.{StandsAt, stands-set, find_some, find_only}
 use Rattle.laws.specs.Whole.{AreTied, IsAlone, TiedBy}
 use Rattle.laws.proofs.Ties.{changed-ties, turned_here, turned_elsewhere, live_here}
-use Rattle.laws.proofs.Trims.{lost-connections, Trimmed, HasMoved, keeps-trimmed, nothing-trimmed, trimmed_both, trimmed_then, trimmed-within, raised_then_trimmed, trim-trims, for_each_that-trimmed}
+use Rattle.laws.proofs.Trims.{Trimmed, HasMoved, keeps-trimmed, nothing-trimmed, trimmed_both, trimmed_then, trimmed-within, raised_then_trimmed, trim-trims, for_each_that-trimmed}
 use Rattle.laws.proofs.WholeMoves.{negotiated-live, ending-keeps, awakes-keeps, idles-keeps, pays-keeps}
 use Rattle.laws.proofs.OwnAddress.{IsOther, taken-other}
+use Rattle.laws.proofs.Remains.{trim-found}
 
 -- ---- only known protocols are answered
 
@@ -139,45 +136,6 @@ runs-some_by r false false false false false h = absurd (false≢true h)
 pub runs-some : (protocol : ℕ) (r : Responders) → runs protocol r ≡ true → some_runs r ≡ true
 runs-some protocol r h = runs-some_by r (protocol == 2) (protocol == 3) (protocol == 4) (protocol == 8) (protocol == 10) h
 
--- ---- what is found once a connection was pruned
-
--- what is found after it was found before it
-pruned-found : (m : Machine) (e : Entry) (k : ℕ) (cid : ℕ) (x : Entry) → IsOrdered m → StandsAt m.connections k e →
-    entry_at cid (ending Pruned e m).machine ≡ Some x → entry_at cid m ≡ Some x
-pruned-found m e k cid x h s found =
-    let p : Entry → Bool = λ y. has_id cid y.facts in
-    let same : find p (remove m.connections k) ≡ Some x =
-    ap (find p) (sym (lost-connections e.facts (without_entry e.facts.cid.0 m) ∙ gone-connections m e k h.orderly s)) ∙ found in
-    by_test (p e) refl same
-  where
-    by_test : (b : Bool) → has_id cid e.facts ≡ b → find (λ y. has_id cid y.facts) (remove m.connections k) ≡ Some x → entry_at cid m ≡ Some x
-    by_test true is same =
-        let none = find-remove_here (λ y. has_id cid y.facts) e m.connections k (one_has_id cid m.connections h.orderly.ids_rise) s is in
-        absurd (none_some (sym none ∙ same))
-      where
-        none_some : None ≡ Some x → ⊥
-        none_some e = cc
-    by_test false is same = sym (find-remove_other (λ y. has_id cid y.facts) e m.connections k s is) ∙ same
-
-pruned_at-found : (id cid : ℕ) (x : Entry) (m : Machine) → IsOrdered m →
-    entry_at cid (pruned_at (entry_at id m) m).machine ≡ Some x → entry_at cid m ≡ Some x
-pruned_at-found id cid x m h = by_entry (entry_at id m) refl
-  where
-    by_entry : (o : Option Entry) → entry_at id m ≡ o → entry_at cid (pruned_at o m).machine ≡ Some x → entry_at cid m ≡ Some x
-    by_entry None is found = found
-    by_entry (Some e) is found =
-        let at = find_some (λ y. has_id id y.facts) m.connections e is in
-        pruned-found m e at.place cid x h at.stands found
-
-trim-found : (moved : Cid) (cid : ℕ) (x : Entry) (m : Machine) → IsOrdered m →
-    entry_at cid (trim moved m).machine ≡ Some x → entry_at cid m ≡ Some x
-trim-found moved cid x m h =
-    cond_both (nat_le (counted_in m) m.settings.hard) (nothing_more m)
-    (pruned_at (entry_at (unwrap_or (choice_of (candidates_in m)) moved).0 m) m)
-    (λ effect. entry_at cid effect.machine ≡ Some x → entry_at cid m ≡ Some x)
-    (λ within found. found)
-    (λ above found. pruned_at-found (unwrap_or (choice_of (candidates_in m)) moved).0 cid x m h found)
-
 -- ---- the other side asks
 
 -- a negotiated connection that stands in a record within the limit
@@ -224,7 +182,7 @@ awake-begun faults protocol m e k t serves known =
       trimmed = raised_then_trimmed (IsLawful faults) m (entry_turns e new m) (trim e.facts.cid) raised
           (turns-obeys (IsLawful faults) m e new k t.ordered.orderly t.stands turns (λ negotiated. negotiated)) trimmed;
       runs = λ x found.
-          let was : entry_at e.facts.cid.0 n ≡ Some x = trim-found e.facts.cid e.facts.cid.0 x n raised.ordered found in
+          let was : entry_at e.facts.cid.0 n ≡ Some x = trim-found e.facts.cid e.facts.cid.0 x n found in
           ap (λ y. some_runs y.facts.running) (found_is n new x k raised.ordered here was) ∙ runs;
     }
 
