@@ -1,4 +1,4 @@
--- A connection that is found by its id after a trim, or once its responder was to start, was found before.
+-- What is found by an id after a trim was found before, and a responder that started runs.
 use Rattle.std.proofs.Common.{ℕ, ◌≡◌, Bool, true, false, ◌||◌, ◌==◌, cond, not, nat_le, if◌then◌else◌, List, [], ◌∷◌, map, filter, find, Option, Some, None, refl, sym, ap, ◌∙◌, eqb-true, eq-eqb}
 use Rattle.std.specs.Option.{unwrap_or}
 use Rattle.std.proofs.lemmas.Bool.{cond_both, false≢true}
@@ -12,7 +12,6 @@ use Rattle.conn_state.specs.Use.{has_id, runs}
 use Rattle.machine.specs.Connections.{with_entry, without_entry, pruned_at, candidates_in, trim, awake}
 use Rattle.machine.specs.Effect.{nothing_more}
 use Rattle.machine.specs.Machine.{Machine, Entry, counted_in, entry_at}
-use Rattle.machine.specs.Talking.{begins}
 use Rattle.laws.proofs.Trims.{lost-connections}
 
 some_same : (x e : Entry) → Some x ≡ Some e → x ≡ e
@@ -106,12 +105,9 @@ woken-runs protocol f known =
     woken-runs_by f.running (protocol == 2) (protocol == 3) (protocol == 4) (protocol == 8) (protocol == 10) known (awakened protocol f).running refl
 
 -- where the connection still stands
-pub begins-runs : (protocol : ℕ) (e x : Entry) (m : Machine) → has_responder protocol ≡ true → entry_at e.facts.cid.0 m ≡ Some e →
-    entry_at e.facts.cid.0 (begins protocol e m).machine ≡ Some x → runs protocol x.facts.running ≡ true
-begins-runs protocol e x m known here = cond_both (runs protocol e.facts.running) (nothing_more m) (awake protocol e m)
-    (λ effect. entry_at e.facts.cid.0 effect.machine ≡ Some x → runs protocol x.facts.running ≡ true)
-    (λ running found. ap (λ y. runs protocol y.facts.running) (some_same x e (sym found ∙ here)) ∙ running)
-    (λ silent found.
+pub awake-runs : (protocol : ℕ) (e x : Entry) (m : Machine) → has_responder protocol ≡ true →
+    entry_at e.facts.cid.0 (awake protocol e m).machine ≡ Some x → runs protocol x.facts.running ≡ true
+awake-runs protocol e x m known found =
     let new : Entry = record e { facts = awakened protocol e.facts } in
     ap (λ y. runs protocol y.facts.running) (turned-found new x m (trim-found e.facts.cid e.facts.cid.0 x (with_entry new m) found))
-    ∙ woken-runs protocol e.facts known)
+    ∙ woken-runs protocol e.facts known

@@ -1,3 +1,4 @@
+pub mod Greets
 pub mod Due
 pub mod Overview
 pub mod Owed

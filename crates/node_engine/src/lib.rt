@@ -6,6 +6,7 @@ mod due;
 mod engine;
 mod link;
 mod node_state;
+mod own;
 mod refusal;
 mod replies;
 mod reply;
