@@ -24,12 +24,12 @@ unfolding for_each
 for_each-nil act m = refl
 
 pub one_more : {X : Type 0} (act : X → Machine → Effect) (xs : List X) (done : ℕ) (first : Machine) (before : List Action) (m : Machine) (after : List Action)
-    (x : X) (n : Machine) (then : List Action) → done < length xs → get_or xs done x ≡ x → IsOnWay act xs done first before m after →
+    (x d : X) (n : Machine) (then : List Action) → done < length xs → get_or xs done d ≡ x → IsOnWay act xs done first before m after →
     Does (act x m) after n then → IsOnWay act xs (done + 1) first before n then
-one_more act xs done first before m after x n then inside is h does =
+one_more act xs done first before m after x d n then inside is h does =
     let next : suc done ≡ done + 1 = omega arith in
     let left : drop done xs ≡ x ∷ drop (done + 1) xs =
-    drop-cons xs done x inside ∙ rw (is, next) refl in
+    drop-cons xs done d inside ∙ rw (is, next) refl in
     let one : for_each act (drop done xs) m ≡ then_do (act x m) (for_each act (drop (done + 1) xs)) =
     ap (λ ys. for_each act ys m) left ∙ for_each-cons act x (drop (done + 1) xs) m in
     record {

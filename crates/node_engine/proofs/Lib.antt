@@ -1,7 +1,10 @@
 pub mod ClockLemmas
+pub mod DoesLemmas
 pub mod EachLemmas
 pub mod FindLemmas
 pub mod FireLemmas
+pub mod GreetLemmas
+pub mod StreamLemmas
 pub mod TalkFeeds
 pub mod TalkFinds
 pub mod TalkLooks
