@@ -5,6 +5,7 @@ mod connections;
 mod due;
 mod engine;
 mod link;
+mod name;
 mod node_state;
 mod own;
 mod refusal;
