@@ -26,7 +26,7 @@ use Rattle.net_base.specs.declared.action.CloseCause.TheVariants as cause
 use Rattle.net_base.specs.declared.action.FaultKind.TheVariants.{Protocol}
 use Rattle.net_base.specs.declared.connection.Facts.{Facts}
 use Rattle.node_engine.specs.State.{Does}
-use Rattle.node_engine.proofs.DoesLemmas.{then_does}
+use Rattle.node_engine.proofs.Doings.{does_then}
 
 -- ---- a version that is accepted is one that this node takes
 
@@ -98,7 +98,7 @@ greeted-does msg side facts e own v m n before mid after same own_is v_is fits o
     let said : Does (told (answer_of v itself) e.facts.cid m) before m mid =
     subst (λ i. Does (told (answer_of v i) e.facts.cid m) before m mid) own_is
     (subst (λ f. Does (told (answer_of v own) f.cid m) before m mid) (sym same) one) in
-    let done : Does (decided v e m) before n after = then_does (told (answer_of v itself) e.facts.cid m) (judged v e) before mid after m n said two in
+    let done : Does (decided v e m) before n after = does_then (told (answer_of v itself) e.facts.cid m) (judged v e) before mid after m n said two in
     let fits_it : fits_side role side msg ≡ true = ap (λ f. fits_side (role_of f.provenance) side msg) same ∙ fits in
     cond_both (fits_side role side msg) (decided (verdict_of role itself msg) e m) (ending (cause.Fault Protocol) e m) (λ effect. Does effect before n after)
     (λ yes. subst (λ w. Does (decided w e m) before n after) (sym verdict_is) done)

@@ -1,7 +1,7 @@
 pub mod ClockLemmas
 pub mod DoesLemmas
-pub mod EachLemmas
 pub mod Doings
+pub mod EachLemmas
 pub mod FindLemmas
 pub mod FireLemmas
 pub mod GreetLemmas

@@ -24,7 +24,8 @@ use Rattle.node_engine.specs.Standing.{fed_of, fed_entry}
 use Rattle.node_engine.specs.State.{Does, DoesSilently}
 use Rattle.node_engine.specs.Talks.{IsFed}
 use Rattle.node_engine.specs.declared.reply.Reply.{Reply}
-use Rattle.node_engine.proofs.DoesLemmas.{then_does, does_silently, does_nothing}
+use Rattle.node_engine.proofs.DoesLemmas.{does_silently}
+use Rattle.node_engine.proofs.Doings.{does_nothing, does_then}
 use Rattle.remote_watch.specs.Watch.{watched}
 
 -- ---- the other side asks
@@ -96,9 +97,9 @@ feeds-does cid bytes fed e m decoded handled n before mid after is turns gives e
     let fault : Does (faulted_at (entry_at e.facts.cid.0 handled) all.state.fault handled) mid n after =
     subst (λ c. Does (faulted_at (entry_at c.0 handled) all.state.fault handled) mid n after) (sym own)
     (subst (λ f. Does (faulted_at (entry_at cid.0 handled) f handled) mid n after) gives.fault last) in
-    then_does (entry_turns e (fed_entry bytes e) m)
+    does_then (entry_turns e (fed_entry bytes e) m)
     (λ k. then_do (for_each (handles e.facts.cid) all.items k) (λ k. faulted_at (entry_at e.facts.cid.0 k) all.state.fault k))
     before before after decoded n
     (does_silently (entry_turns e (fed_entry bytes e) m) before decoded turns)
-    (then_does (for_each (handles e.facts.cid) all.items decoded) (λ k. faulted_at (entry_at e.facts.cid.0 k) all.state.fault k)
+    (does_then (for_each (handles e.facts.cid) all.items decoded) (λ k. faulted_at (entry_at e.facts.cid.0 k) all.state.fault k)
     before mid after handled n items fault)

@@ -6,7 +6,8 @@ use Rattle.machine.specs.Stream.{handles, faulted_at, feeds}
 use Rattle.node_engine.specs.Standing.{fed_of, fed_entry}
 use Rattle.node_engine.specs.State.{Does, DoesSilently, DoesTo}
 use Rattle.node_engine.specs.Talks.{IsFed}
-use Rattle.node_engine.proofs.DoesLemmas.{on_ok, if_found, said_of_found}
+use Rattle.node_engine.proofs.DoesLemmas.{on_ok, if_found}
+use Rattle.node_engine.proofs.Doings.{of_entry}
 use Rattle.node_engine.proofs.StreamLemmas.{feeds-does, no_fault}
 use Rattle.node_engine.proofs.node_state.NodeState.feed.Goals as goal
 
@@ -20,8 +21,8 @@ returns-in-Some c =
     (DoesTo c.args.cid.0 (feeds bytes) c.args.actions.now m c.fail.new.self c.fail.new.actions) c.fail.result
     (λ done. if_found (entry_at c.args.cid.0 m) (λ e. Does (feeds bytes e m) c.args.actions.now c.fail.new.self c.fail.new.actions)
     (λ e is. feeds-does c.args.cid bytes c.in_ok-fed.fed e m decoded handled c.fail.new.self c.args.actions.now c.handle_all.new.actions c.fail.new.actions is
-    (said_of_found (entry_at c.args.cid.0 m) (λ x. DoesSilently (entry_turns x (fed_entry bytes x) m) decoded) e is c.in_ok-fed.ensures.turns)
-    (said_of_found (entry_at c.args.cid.0 m) (λ x. IsFed (fed_of bytes x) c.in_ok-fed.fed) e is c.in_ok-fed.ensures.gives)
+    (of_entry (λ x. DoesSilently (entry_turns x (fed_entry bytes x) m) decoded) (entry_at c.args.cid.0 m) e is c.in_ok-fed.ensures.turns)
+    (of_entry (λ x. IsFed (fed_of bytes x) c.in_ok-fed.fed) (entry_at c.args.cid.0 m) e is c.in_ok-fed.ensures.gives)
     (subst (λ xs. Does (for_each (handles c.args.cid) xs decoded) c.args.actions.now handled c.handle_all.new.actions) c.as_slice.ensures c.in_ok-handle_all.ensures)
     (subst (λ f. Does (faulted_at (entry_at c.args.cid.0 handled) f handled) c.handle_all.new.actions c.fail.new.self c.fail.new.actions) (sym c.in-Some.is) done)))
     c.fail.ensures
@@ -34,7 +35,7 @@ returns c =
     let handled = c.handle_all.new.self in
     if_found (entry_at c.args.cid.0 m) (λ e. Does (feeds bytes e m) c.args.actions.now handled c.handle_all.new.actions)
     (λ e is. feeds-does c.args.cid bytes c.in_ok-fed.fed e m decoded handled handled c.args.actions.now c.handle_all.new.actions c.handle_all.new.actions is
-    (said_of_found (entry_at c.args.cid.0 m) (λ x. DoesSilently (entry_turns x (fed_entry bytes x) m) decoded) e is c.in_ok-fed.ensures.turns)
-    (said_of_found (entry_at c.args.cid.0 m) (λ x. IsFed (fed_of bytes x) c.in_ok-fed.fed) e is c.in_ok-fed.ensures.gives)
+    (of_entry (λ x. DoesSilently (entry_turns x (fed_entry bytes x) m) decoded) (entry_at c.args.cid.0 m) e is c.in_ok-fed.ensures.turns)
+    (of_entry (λ x. IsFed (fed_of bytes x) c.in_ok-fed.fed) (entry_at c.args.cid.0 m) e is c.in_ok-fed.ensures.gives)
     (subst (λ xs. Does (for_each (handles c.args.cid) xs decoded) c.args.actions.now handled c.handle_all.new.actions) c.as_slice.ensures c.in_ok-handle_all.ensures)
     (no_fault c.args.cid c.in_ok-fed.fed.fault handled c.handle_all.new.actions c.in-None.is))
