@@ -1,6 +1,5 @@
-ghost use Rattle.std.specs.Prelude.{◌≡◌, ◌==◌, true, Some, IsSome, IfSome, OnOk, IfOk};
+ghost use Rattle.std.specs.Prelude.{◌≡◌, Some, IsSome, IfSome, OnOk, IfOk};
 ghost use Rattle.std.specs.Option.{option_map};
-ghost use Rattle.conn_state.specs.Use.{is_negotiated};
 ghost use Rattle.machine.specs.Machine.{entry_at, fresh_entry};
 ghost use Rattle.machine.specs.Replies.{reply_on};
 ghost use Rattle.machine.specs.Effect.{for_each};

@@ -1,9 +1,8 @@
-ghost use Rattle.std.specs.Prelude.{◌≡◌, true, Some, OnOk, IfOk};
-ghost use Rattle.conn_state.specs.Use.{is_greeting, is_outbound};
+ghost use Rattle.std.specs.Prelude.{◌≡◌, true, Some, OnOk};
+ghost use Rattle.conn_state.specs.Use.{is_greeting};
 ghost use Rattle.hs_decide.specs.Answers.{answer_of, CanAnswer};
-ghost use Rattle.hs_decide.specs.Agreement.{verdict_of};
 ghost use Rattle.hs_message.specs.Reading.{message_of};
-ghost use Rattle.machine.specs.Greeting.{role_of, is_proposal, is_awaited, fits_side, told, judged, decided, greeted_by, greets};
+ghost use Rattle.machine.specs.Greeting.{role_of, is_awaited, fits_side, told, judged, greeted_by, greets};
 ghost use Rattle.machine.specs.Own.{own_info};
 ghost use Rattle.node_engine.specs.Greets.{CanJudge};
 ghost use Rattle.node_engine.specs.State.{Does, DoesTo, IsKnown};

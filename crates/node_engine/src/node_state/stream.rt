@@ -2,7 +2,7 @@ ghost use Rattle.std.specs.Prelude.{◌≡◌, Some, IsSome, IfSome, OnOk, IfOk}
 ghost use Rattle.machine.specs.Connections.{entry_turns};
 ghost use Rattle.machine.specs.Effect.{for_each};
 ghost use Rattle.machine.specs.Machine.{entry_at};
-ghost use Rattle.machine.specs.Stream.{handled_in, handled_at, handles, kind_of, faulted_at, feeds, comes_in_phase, bytes_come_in};
+ghost use Rattle.machine.specs.Stream.{handled_in, handles, kind_of, faulted_at, feeds, comes_in_phase, bytes_come_in};
 ghost use Rattle.node_engine.specs.Standing.{fed_of, fed_entry};
 ghost use Rattle.node_engine.specs.State.{Does, DoesTo, DoesSilently, IsKnown};
 ghost use Rattle.node_engine.specs.Talks.{IsFed};

@@ -1,7 +1,7 @@
-ghost use Rattle.std.specs.Prelude.{◌≡◌, ◌==◌, true, false, Some, Ok, IfSome, OnOk, IfOk};
+ghost use Rattle.std.specs.Prelude.{◌≡◌, true, Ok, IfSome, OnOk, IfOk};
 ghost use Rattle.conn_state.specs.Protocols.{has_responder};
 ghost use Rattle.conn_state.specs.Shapes.{serves_remote};
-ghost use Rattle.conn_state.specs.Use.{is_negotiated, is_outbound, is_duplex, agreed_sharing, runs};
+ghost use Rattle.conn_state.specs.Use.{is_negotiated, is_duplex, agreed_sharing, runs};
 ghost use Rattle.machine.specs.Machine.{entry_at};
 ghost use Rattle.machine.specs.Talking.{told_peers, replies, served_at, begins, asked_as, talks};
 ghost use Rattle.node_engine.specs.State.{Does, DoesTo, IsKnown};

@@ -1,4 +1,3 @@
-use Rattle.std.proofs.Common.{◌≤◌, length}
 use Rattle.machine.specs.Talking.{shares_address}
 use Rattle.node_engine.proofs.EachLemmas.{IsOnWay}
 use Rattle.node_engine.proofs.node_state.NodeState.take_told.Given as goal
