@@ -7,6 +7,7 @@ pub mod FindLemmas
 pub mod FireLemmas
 pub mod GreetLemmas
 pub mod Ids
+pub mod StreamIds
 pub mod StreamLemmas
 pub mod TalkFeeds
 pub mod TalkFinds

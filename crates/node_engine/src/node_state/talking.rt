@@ -1,13 +1,15 @@
 ghost use Rattle.std.specs.Prelude.{◌≡◌, true, Ok, IfSome, OnOk, IfOk};
 ghost use Rattle.conn_state.specs.Protocols.{has_responder};
 ghost use Rattle.conn_state.specs.Shapes.{serves_remote};
-ghost use Rattle.conn_state.specs.Use.{is_negotiated, is_duplex, agreed_sharing, runs};
+ghost use Rattle.conn_state.specs.Use.{is_negotiated, agreed_sharing, runs};
 ghost use Rattle.machine.specs.Machine.{entry_at};
 ghost use Rattle.machine.specs.Talking.{told_peers, replies, served_at, begins, asked_as, talks};
 ghost use Rattle.node_engine.specs.State.{Does, DoesTo, IsKnown};
 ghost use Rattle.remote_watch.specs.Watch.{watched};
 
 use super::NodeState;
+use crate::link::shares;
+use crate::name::is_duplex;
 use mux_segment::Item;
 use net_base::{
     ActionList, Addr, AddrList, Cid, CloseCause, Facts, FaultKind, OutOfMemory, Provenance,
@@ -48,7 +50,12 @@ impl NodeState {
             (asked_as (watched item.now.id (agreed_sharing facts.agreed) item.now.body) item.now.id)
             actions.old self.old self.new actions.new) }
     {
-        match watch(self.alloc, item.id, shares(&facts), item.body.as_slice()) {
+        match watch(
+            self.alloc,
+            item.id,
+            shares(facts.agreed),
+            item.body.as_slice(),
+        ) {
             Ok(seen) => self.take_request(facts, item.id, seen, actions),
             Err(WatchRefusal::Fault(kind)) => self.end(facts, CloseCause::Fault(kind), actions),
             Err(WatchRefusal::OutOfMemory) => Err(OutOfMemory),
@@ -170,26 +177,6 @@ fn takes_requests(facts: &Facts) -> bool
     ensures { result ≡ serves_remote facts.now }
 {
     matches!(facts.provenance, Provenance::FromRemote) || is_duplex(facts)
-}
-
-// Both sides may run protocols.
-fn is_duplex(facts: &Facts) -> bool
-    ensures { result ≡ is_duplex facts.now }
-{
-    match facts.agreed {
-        Some(agreed) => !agreed.initiator_only,
-        None => false,
-    }
-}
-
-// Peer sharing was agreed on.
-fn shares(facts: &Facts) -> bool
-    ensures { result ≡ agreed_sharing facts.now.agreed }
-{
-    match facts.agreed {
-        Some(agreed) => agreed.sharing,
-        None => false,
-    }
 }
 
 // Whether the responder of a protocol runs.
