@@ -10,7 +10,7 @@ use Rattle.machine.specs.Connections.{entry_turns, awake}
 use Rattle.machine.specs.Effect.{nothing_more, then_do, for_each}
 use Rattle.machine.specs.Machine.{Machine, Entry, Owed, entry_at}
 use Rattle.machine.specs.Replies.{reply_on}
-use Rattle.machine.specs.Stream.{handles, faulted_at, feeds, fed_with}
+use Rattle.machine.specs.Stream.{handles, faulted_at, feeds}
 use Rattle.machine.specs.Talking.{asked_as, answered_as, talks}
 use Rattle.mux_segment.specs.Stream.{FedBy}
 use Rattle.mux_segment.specs.declared.fault.CutFault.{CutFault}

@@ -1,4 +1,4 @@
-use Rattle.std.proofs.Common.{◌≡◌, Ok, Err, OnOk, sym, ap, subst, ◌∙◌}
+use Rattle.std.proofs.Common.{◌≡◌, Ok, Err, OnOk, sym, subst}
 use Rattle.conn_state.specs.Use.{agreed_sharing}
 use Rattle.machine.specs.Talking.{asked_as}
 use Rattle.node_engine.specs.State.{DoesTo}
