@@ -1,5 +1,5 @@
 -- A connection in its handshake: whatever comes in, the connections stay in order and within the limit.
-use Rattle.std.proofs.Common.{ℕ, ◌+◌, ◌≤◌, ◌≡◌, Bool, true, false, not, ◌&&◌, ◌==◌, if◌then◌else◌, List, Option, Some, None, refl, sym, ap, subst}
+use Rattle.std.proofs.Common.{ℕ, ◌+◌, ◌≤◌, ◌≡◌, Bool, true, false, not, ◌&&◌, ◌==◌, if◌then◌else◌, List, Option, Some, None, refl, sym, subst}
 use Rattle.std.proofs.lemmas.Bool.{cond_both, both_ways}
 use Rattle.hs_decide.specs.Agreement.{accepts_info, accepts_offer, agrees_info, agrees_on, meets_joined, meets_info, meets_offer, verdict_of, common_in, joined, same_magic}
 use Rattle.hs_decide.specs.Answers.{answer_of}
@@ -20,7 +20,6 @@ use Rattle.mux_segment.specs.declared.item.Item.{Item}
 use Rattle.net_base.specs.declared.action.CloseCause.{CloseCause}
 use Rattle.net_base.specs.declared.action.CloseCause.TheVariants as cause
 use Rattle.net_base.specs.declared.action.FaultKind.TheVariants.{Malformed, Protocol}
-use Rattle.net_base.specs.declared.connection.Agreed.{Agreed}
 use Rattle.net_base.specs.declared.connection.Cid.{Cid}
 use Rattle.net_base.specs.declared.connection.Provenance.{Provenance}
 use Rattle.net_base.specs.declared.connection.Provenance.TheVariants.{FromRemote, FromLocal}
@@ -159,17 +158,6 @@ accepts-inbound own FromLocal msg h = absurd (both_ways (is_accept (verdict_of D
 agrees-outbound : (own : VersionInfo) (p : Provenance) (msg : Message) → is_agree (verdict_of (role_of p) own msg) ≡ true → is_outbound_by p ≡ true
 agrees-outbound own FromLocal msg h = refl
 agrees-outbound own FromRemote msg h = absurd (both_ways (is_agree (verdict_of Acceptor own msg)) (acceptor-no_agree own msg) h)
-
--- who takes a proposal was dialed, and who agrees has dialed
-pub accepted-inbound : (own : VersionInfo) (p : Provenance) (msg : Message) (agreed : Agreed) →
-    verdict_of (role_of p) own msg ≡ verdict.Accept agreed → is_outbound_by p ≡ false
-unfolding is_accept
-accepted-inbound own p msg agreed is = accepts-inbound own p msg (ap is_accept is)
-
-pub agreed-outbound : (own : VersionInfo) (p : Provenance) (msg : Message) (agreed : Agreed) →
-    verdict_of (role_of p) own msg ≡ verdict.Agree agreed → is_outbound_by p ≡ true
-unfolding is_agree
-agreed-outbound own p msg agreed is = agrees-outbound own p msg (ap is_agree is)
 
 decided-trimmed : (faults : Faults) (msg : Message) (m : Machine) (e : Entry) (k : ℕ) → Greets m e k →
     Trimmed (IsLawful faults) m (decided (verdict_of (role_of e.facts.provenance) (own_info m.settings) msg) e m)

@@ -20,12 +20,12 @@ mod Owing
 mod Sharing
 mod Ordinary
 mod OwnAddress
-pub mod Keeping
+mod Keeping
 mod WholeMoves
 mod Trims
 pub mod Remains
-pub mod Handshakes
-pub mod Talks
+mod Handshakes
+mod Talks
 pub mod Streams
 mod WholeEvents
 mod WholeRuns

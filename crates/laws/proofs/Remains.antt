@@ -18,10 +18,7 @@ some_same : (x e : Entry) → Some x ≡ Some e → x ≡ e
 some_same x e same = cc
 
 nothing_found : {Z : Type 0} (x : Entry) → None ≡ Some x → Z
-nothing_found x same = absurd (never same)
-  where
-    never : None ≡ Some x → ⊥
-    never e = cc
+nothing_found x same = absurd cc
 
 -- ---- once others went
 
