@@ -1,7 +1,6 @@
 -- What is known of the element that a search finds.
-use Rattle.std.proofs.Common.{◌≡◌, Bool, true, false, if◌then◌else◌, List, [], ◌∷◌, Option, Some, IfSome, All, map, find, refl, ap, ◌∙◌}
+use Rattle.std.proofs.Common.{◌≡◌, Bool, true, false, if◌then◌else◌, List, [], ◌∷◌, Option, Some, IfSome, map, find, refl, ap, ◌∙◌}
 use Rattle.std.specs.Option.{option_map}
-use Rattle.std.proofs.lemmas.List.Elements.{All-head, All-tail}
 use Rattle.machine.specs.Machine.{Entry}
 use Rattle.net_base.specs.declared.connection.Facts.{Facts}
 
@@ -13,11 +12,6 @@ choice-of P false x o here later = later
 pub IfSome-find : {X : Type 0} (p : X → Bool) (xs : List X) → IfSome (find p xs) (λ x. p x ≡ true)
 IfSome-find p [] = tt
 IfSome-find p (x ∷ xs) = choice-of (λ y. p y ≡ true) (p x) x (find p xs) (λ h. h) (IfSome-find p xs)
-
-pub IfSome-find_All : {X : Type 0} (P : X → Type 0) (p : X → Bool) (xs : List X) → All P xs → IfSome (find p xs) P
-IfSome-find_All P p [] all = tt
-IfSome-find_All P p (x ∷ xs) all =
-    choice-of P (p x) x (find p xs) (λ _. All-head P x xs all) (IfSome-find_All P p xs (All-tail P x xs all))
 
 -- what is found among the facts is what is known of the connection that is found
 pub find-facts : (p : Facts → Bool) (es : List Entry) → find p (map (λ e. e.facts) es) ≡ option_map (λ e. e.facts) (find (λ e. p e.facts) es)
