@@ -23,9 +23,10 @@ mod OwnAddress
 mod Keeping
 mod WholeMoves
 mod Trims
+pub mod Remains
 mod Handshakes
 mod Talks
-mod Streams
+pub mod Streams
 mod WholeEvents
 mod WholeRuns
 mod Promotions

@@ -41,7 +41,7 @@ handled_in-trimmed faults Negotiated item m e k is h within s given =
 handled_in-trimmed faults (Closing until) item m e k is h within s given = nothing-trimmed (IsLawful faults) m within h
 
 -- who is found by an id has it
-found-cid : (cid : Cid) (m : Machine) (e : Entry) → entry_at cid.0 m ≡ Some e → e.facts.cid ≡ cid
+pub found-cid : (cid : Cid) (m : Machine) (e : Entry) → entry_at cid.0 m ≡ Some e → e.facts.cid ≡ cid
 found-cid cid m e is =
     let same : e.facts.cid.0 ≡ cid.0 = eqb-true e.facts.cid.0 cid.0 (find_some (λ y. has_id cid.0 y.facts) m.connections e is).passes in
     ap cid_of same

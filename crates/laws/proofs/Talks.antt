@@ -7,12 +7,10 @@ use Rattle.net_base.specs.declared.action.CloseCause.TheVariants.{Pruned, Fault}
 use Rattle.net_base.specs.declared.action.FaultKind.{FaultKind}
 use Rattle.net_base.specs.declared.action.FaultKind.TheVariants.{Protocol, UnknownId}
 use Rattle.net_base.specs.declared.address.Addr.{Addr}
-use Rattle.net_base.specs.declared.connection.Cid.{Cid}
 use Rattle.net_base.specs.declared.connection.Facts.{Facts}
 use Rattle.net_base.specs.declared.connection.Responders.{Responders}
 use Rattle.net_base.specs.declared.peer.Peer.{Peer}
 use Rattle.net_base.specs.declared.peer.Temp.TheVariants.{Hot}
-use Rattle.accept_gate.specs.Prune.{choice_of}
 use Rattle.conn_state.specs.Moves.{awakened, idled}
 use Rattle.churn_clock.specs.Windows.{effective_of}
 use Rattle.conn_state.specs.Protocols.{has_responder}
@@ -30,7 +28,7 @@ use Rattle.peer_book.specs.Book.{is_established}
 use Rattle.machine.specs.Machine.{Machine, Entry, Owed, counted_in, entry_at, live_entry_at}
 use Rattle.machine.specs.Effect.{Effect, Move, shared, nothing_more, then_do}
 use Rattle.machine.specs.Peers.{peer_at, peer_becomes, peer_comes}
-use Rattle.machine.specs.Connections.{with_entry, without_entry, entry_turns, ending, pruned_at, candidates_in, trim, awake, idle}
+use Rattle.machine.specs.Connections.{with_entry, entry_turns, ending, trim, awake, idle}
 use Rattle.machine.specs.Talking.{replies, ends_if, served_at, begins, takes_requests, asked_as, shares_address, taken_of, takes_addresses, pays, brings, answered_as, talks}
 use Rattle.machine.specs.Replies.{reply_on, without_reply, paid}
 use Rattle.laws.proofs.Effects.{counted-running}
@@ -47,8 +45,9 @@ use Rattle.laws.proofs.Owing.{paid-some}
 use Rattle.laws.proofs.Rises.{is_asked, is_hot, NoneConnected, or_each, rises_nowhere, same-connected, connected_then, IsNoHigher, turned-connected, changed-known}
 use Rattle.laws.proofs.Ties.{changed-ties, turned_here, turned_elsewhere, live_here, turns_at-elsewhere}
 use Rattle.laws.proofs.Trims.{lost-connections, Trimmed, HasMoved, keeps-trimmed, ending-trimmed, nothing-trimmed, trimmed_both, trimmed_then, trimmed-within, raised_then_trimmed, trim-trims, for_each_that-trimmed}
-use Rattle.laws.proofs.WholeMoves.{negotiated-live, awakes-keeps, idles-keeps, pays-keeps}
+use Rattle.laws.proofs.WholeMoves.{negotiated-live, awakes-keeps, idles-keeps, pays-keeps, ending-keeps}
 use Rattle.laws.proofs.OwnAddress.{IsOther, taken-other}
+use Rattle.laws.proofs.Remains.{trim-found}
 
 -- ---- only known protocols are answered
 
@@ -143,45 +142,6 @@ runs-some_by r false false false false false h = absurd (false≢true h)
 pub runs-some : (protocol : ℕ) (r : Responders) → runs protocol r ≡ true → some_runs r ≡ true
 runs-some protocol r h = runs-some_by r (protocol == 2) (protocol == 3) (protocol == 4) (protocol == 8) (protocol == 10) h
 
--- ---- what is found once a connection was pruned
-
--- what is found after it was found before it
-pruned-found : (m : Machine) (e : Entry) (k : ℕ) (cid : ℕ) (x : Entry) → IsOrdered m → StandsAt m.connections k e →
-    entry_at cid (ending Pruned e m).machine ≡ Some x → entry_at cid m ≡ Some x
-pruned-found m e k cid x h s found =
-    let p : Entry → Bool = λ y. has_id cid y.facts in
-    let same : find p (remove m.connections k) ≡ Some x =
-    ap (find p) (sym (lost-connections e.facts (without_entry e.facts.cid.0 m) ∙ gone-connections m e k h.orderly s)) ∙ found in
-    by_test (p e) refl same
-  where
-    by_test : (b : Bool) → has_id cid e.facts ≡ b → find (λ y. has_id cid y.facts) (remove m.connections k) ≡ Some x → entry_at cid m ≡ Some x
-    by_test true is same =
-        let none = find-remove_here (λ y. has_id cid y.facts) e m.connections k (one_has_id cid m.connections h.orderly.ids_rise) s is in
-        absurd (none_some (sym none ∙ same))
-      where
-        none_some : None ≡ Some x → ⊥
-        none_some e = cc
-    by_test false is same = sym (find-remove_other (λ y. has_id cid y.facts) e m.connections k s is) ∙ same
-
-pruned_at-found : (id cid : ℕ) (x : Entry) (m : Machine) → IsOrdered m →
-    entry_at cid (pruned_at (entry_at id m) m).machine ≡ Some x → entry_at cid m ≡ Some x
-pruned_at-found id cid x m h = by_entry (entry_at id m) refl
-  where
-    by_entry : (o : Option Entry) → entry_at id m ≡ o → entry_at cid (pruned_at o m).machine ≡ Some x → entry_at cid m ≡ Some x
-    by_entry None is found = found
-    by_entry (Some e) is found =
-        let at = find_some (λ y. has_id id y.facts) m.connections e is in
-        pruned-found m e at.place cid x h at.stands found
-
-trim-found : (moved : Cid) (cid : ℕ) (x : Entry) (m : Machine) → IsOrdered m →
-    entry_at cid (trim moved m).machine ≡ Some x → entry_at cid m ≡ Some x
-trim-found moved cid x m h =
-    cond_both (nat_le (counted_in m) m.settings.hard) (nothing_more m)
-    (pruned_at (entry_at (unwrap_or (choice_of (candidates_in m)) moved).0 m) m)
-    (λ effect. entry_at cid effect.machine ≡ Some x → entry_at cid m ≡ Some x)
-    (λ within found. found)
-    (λ above found. pruned_at-found (unwrap_or (choice_of (candidates_in m)) moved).0 cid x m h found)
-
 -- ---- the other side asks
 
 -- a negotiated connection that stands in a record within the limit
@@ -226,7 +186,7 @@ awake-begun faults protocol m e k t serves known =
       trimmed = raised_then_trimmed (IsLawful faults) m (entry_turns e new m) (trim e.facts.cid) raised
           (turns-obeys (IsLawful faults) m e new k t.ordered.orderly t.stands turns (record { up = λ up. up; asked = λ asked. asked }) (λ negotiated. negotiated)) trimmed;
       runs = λ x found.
-          let was : entry_at e.facts.cid.0 n ≡ Some x = trim-found e.facts.cid e.facts.cid.0 x n raised.ordered found in
+          let was : entry_at e.facts.cid.0 n ≡ Some x = trim-found e.facts.cid e.facts.cid.0 x n found in
           ap (λ y. some_runs y.facts.running) (found_is n new x k raised.ordered here was) ∙ runs;
     }
 

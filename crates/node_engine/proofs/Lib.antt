@@ -1,9 +1,14 @@
 pub mod ClockLemmas
+pub mod DoesLemmas
 pub mod Doings
+pub mod EachLemmas
 pub mod Ends
 pub mod FindLemmas
 pub mod FireLemmas
+pub mod GreetLemmas
 pub mod Ids
+pub mod StreamIds
+pub mod StreamLemmas
 pub mod TalkFeeds
 pub mod TalkFinds
 pub mod TalkLooks

@@ -1,4 +1,5 @@
 pub mod Due
+pub mod Greets
 pub mod Overview
 pub mod Owed
 pub mod Standing

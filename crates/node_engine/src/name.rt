@@ -70,7 +70,8 @@ fn some_runs(running: Responders) -> bool
         || running.peer_sharing
 }
 
-fn is_duplex(facts: &Facts) -> bool
+/// Whether both sides may run protocols.
+pub fn is_duplex(facts: &Facts) -> bool
     ensures { result ≡ is_duplex facts.now }
 {
     match facts.agreed {

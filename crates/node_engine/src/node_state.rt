@@ -9,6 +9,7 @@ ghost use Rattle.node_engine.specs.State.{Does};
 ghost use Rattle.node_engine.specs.Tally.{tally_of};
 
 mod accept;
+mod answers;
 mod clock;
 mod close;
 mod dialed;
@@ -16,9 +17,12 @@ mod dials;
 mod ending;
 mod found;
 mod grace;
+mod greeting;
 mod moves;
 mod peers;
 mod sends;
+mod stream;
+mod talking;
 mod trim;
 mod turns;
 
