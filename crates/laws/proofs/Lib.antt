@@ -10,6 +10,7 @@ pub mod Settings
 mod Finds
 mod Shapes
 mod Effects
+mod Carrying
 mod Chosen
 mod Governing
 mod GroupsApart

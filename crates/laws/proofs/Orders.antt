@@ -268,7 +268,7 @@ says_done-quiet f m =
     (λ sharing. record { moves = refl; connections = refl }) (λ other. record { moves = refl; connections = refl }))
     (record { moves = refl; connections = refl })
 
-says_done-machine : (f : Facts) (m : Machine) → (says_done f m).machine ≡ m
+pub says_done-machine : (f : Facts) (m : Machine) → (says_done f m).machine ≡ m
 says_done-machine f m = cond_both (agreed_sharing f.agreed) (asks f.cid 10 peer_sharing_done m) (nothing_more m) (λ effect. effect.machine ≡ m)
     (λ sharing. refl) (λ other. refl)
 
