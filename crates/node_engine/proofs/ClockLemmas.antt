@@ -10,7 +10,6 @@ use Rattle.net_base.specs.declared.timer.Kind.TheVariants.{Handshake}
 use Rattle.net_base.specs.Timer.{deadline_before}
 use Rattle.machine.specs.Deadlines.{deadlines_of, earlier, least}
 use Rattle.machine.specs.Machine.{fresh_entry}
-use Rattle.node_engine.specs.State.{IsAccepted}
 
 abbrev pub deadlines_among : List Facts → List Deadline
 deadlines_among fs = flat_map deadlines_of (map fresh_entry fs)
@@ -18,35 +17,20 @@ deadlines_among fs = flat_map deadlines_of (map fresh_entry fs)
 abbrev pub least_among : ℕ → List Facts → Option Deadline
 least_among now fs = least (filter (λ d. nat_le d.at now) (deadlines_among fs))
 
-length-deadlines_of : (f : Facts) → IsAccepted f → (rest : List Deadline) →
-    length (deadlines_of (fresh_entry f) ++ rest) ≡ suc (length rest)
-length-deadlines_of f unused rest = ap (λ (g : Facts). length (deadlines_of (fresh_entry g) ++ rest)) unused.1
-
-pub length-deadlines_among : (fs : List Facts) → All IsAccepted fs → length (deadlines_among fs) ≡ length fs
-length-deadlines_among [] all = refl
-length-deadlines_among (f ∷ fs) all =
-    length-deadlines_of f (All-head IsAccepted f fs all) (deadlines_among fs)
-    ∙ ap suc (length-deadlines_among fs (All-tail IsAccepted f fs all))
-
 -- the list from a place on, where the element at that place is known
-pub drop-at : (fs : List Facts) (place : ℕ) (f : Facts) → 0 < place → slice_get fs (place - 1) ≡ Some f →
+pub drop-at : {X : Type 0} (fs : List X) (place : ℕ) (f : X) → 0 < place → slice_get fs (place - 1) ≡ Some f →
     drop (place - 1) fs ≡ f ∷ drop place fs
 drop-at fs place f some at =
     let next : suc (place - 1) ≡ place = omega arith in
     drop-cons fs (place - 1) f (slice_get_within fs (place - 1) f at)
     ∙ rw (get_or_from_slice_get fs (place - 1) f f at, next)
 
--- what holds of each connection holds of the one at a place
-pub IsAccepted-at : (fs : List Facts) (place : ℕ) (f : Facts) → All IsAccepted fs → slice_get fs place ≡ Some f → IsAccepted f
-IsAccepted-at fs place f all at =
-    subst IsAccepted (get_or_from_slice_get fs place f f at) (all place f (slice_get_within fs place f at))
-
 -- the least deadline of some connections that is due
 pub record IsLeastAmong (now : ℕ) (fs : List Facts) (found : Option Deadline) : Type 0 where
   pub is_least : found ≡ least_among now fs
   pub is_handshake : IfSome found (λ d. d.kind ≡ Handshake)
 
-least-choice : (b : Bool) (d : Deadline) (ds : List Deadline) →
+pub least-choice : (b : Bool) (d : Deadline) (ds : List Deadline) →
     least (if b then d ∷ ds else ds) ≡ (if b then Some (earlier d (least ds)) else least ds)
 least-choice true d ds = refl
 least-choice false d ds = refl

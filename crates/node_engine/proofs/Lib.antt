@@ -1,12 +1,9 @@
-pub mod AcceptLemmas
-pub mod AcceptedLemmas
 pub mod ClockLemmas
-pub mod CloseLemmas
-pub mod EntryLemmas
 pub mod FindLemmas
 pub mod FireLemmas
 pub mod TalkFeeds
 pub mod TalkFinds
+pub mod TalkLooks
 pub mod TalkMoves
 pub mod TalkPairs
 pub mod TalkTurns

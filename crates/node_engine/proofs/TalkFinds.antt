@@ -3,6 +3,7 @@ use Rattle.std.proofs.Common.{◌≡◌, ℕ, ◌<◌, Bool, true, false, ◌&&�
 use Rattle.std.specs.Option.{option_map}
 use Rattle.std.proofs.lemmas.Bool.{cases_Bool, true≢false, and_parts}
 use Rattle.std.proofs.lemmas.Bool.Decides.{nat_tests}
+use Rattle.std.proofs.lemmas.Option.{none-some, same_Some}
 use Rattle.conn_state.specs.Use.{has_id, facts_at, is_live, live_phase, is_negotiated_phase, is_live_at, live_at, is_acquirable}
 use Rattle.conn_table.specs.Answers.{any_at, has_address}
 use Rattle.conn_table.specs.Kept.{OnlyLastLives}
@@ -20,28 +21,22 @@ use Rattle.node_engine.specs.Talks.{entries_of, AreTalksOf}
 use Rattle.node_engine.specs.declared.talk.Talk.{Talk}
 use Rattle.node_engine.proofs.TalkPairs.{facts_paired}
 
-some_same : {X : Type 0} (x y : X) → Some x ≡ Some y → x ≡ y
-some_same x y e = cc
-
-nothing_found : {X : Type 0} (x : X) → None ≡ Some x → ⊥
-nothing_found x e = cc
-
 -- ---- what is found has its own id, and no other one has it
 
 found_above : {X : Type 0} (facts : X → Facts) (p : X → Bool) (above most : ℕ) (xs : List X) (x : X) →
     IdsRise above most (map facts xs) → find p xs ≡ Some x → above < (facts x).cid.0
-found_above facts p above most [] x rises found = absurd (nothing_found x found)
+found_above facts p above most [] x rises found = absurd (none-some x found)
 found_above facts p above most (y ∷ ys) x rises found = elim (cases_Bool (p y)) [
-  | inl here ↦ subst (λ z. above < (facts z).cid.0) (some_same y x (rw here at found)) rises.0
+  | inl here ↦ subst (λ z. above < (facts z).cid.0) (same_Some y x (rw here at found)) rises.0
   | inr other ↦ omega (arith, rises.0, found_above facts p (facts y).cid.0 most ys x rises.1 (rw other at found))
 ]
 
 found_by_id : {X : Type 0} (facts : X → Facts) (p : X → Bool) (above most : ℕ) (xs : List X) (x : X) →
     IdsRise above most (map facts xs) → find p xs ≡ Some x → find (λ y. has_id (facts x).cid.0 (facts y)) xs ≡ Some x
-found_by_id facts p above most [] x rises found = absurd (nothing_found x found)
+found_by_id facts p above most [] x rises found = absurd (none-some x found)
 found_by_id facts p above most (y ∷ ys) x rises found = elim (cases_Bool (p y)) [
   | inl here ↦
-      let same : y ≡ x = some_same y x (rw here at found) in
+      let same : y ≡ x = same_Some y x (rw here at found) in
       subst (λ z. find (λ w. has_id (facts z).cid.0 (facts w)) (y ∷ ys) ≡ Some z) same (rw (itself (facts y)) refl)
   | inr other ↦
       let later : find p ys ≡ Some x = rw other at found in
@@ -58,7 +53,7 @@ map_itself : (fs : List Facts) → map (λ f. f) fs ≡ fs
 map_itself [] = refl
 map_itself (f ∷ fs) = ap (λ gs. f ∷ gs) (map_itself fs)
 
-pub facts_by_id : (p : Facts → Bool) (above most : ℕ) (fs : List Facts) (f : Facts) → IdsRise above most fs → find p fs ≡ Some f →
+facts_by_id : (p : Facts → Bool) (above most : ℕ) (fs : List Facts) (f : Facts) → IdsRise above most fs → find p fs ≡ Some f →
     facts_at f.cid.0 fs ≡ Some f
 facts_by_id p above most fs f rises found =
     found_by_id (λ g. g) p above most fs f (subst (IdsRise above most) (sym (map_itself fs)) rises) found
@@ -81,8 +76,8 @@ none_of None e = refl
 none_of (Some f) e = cc
 
 some_of : (o : Option Facts) (cid : Cid) → option_map (λ f. f.cid) o ≡ Some cid → (f : Facts) × (o ≡ Some f) × (f.cid ≡ cid)
-some_of None cid e = absurd (nothing_found cid e)
-some_of (Some f) cid e = (f, refl, some_same f.cid cid e)
+some_of None cid e = absurd (none-some cid e)
+some_of (Some f) cid e = (f, refl, same_Some f.cid cid e)
 
 pub live_by_id : (addr : Addr) (most : ℕ) (fs : List Facts) (cid : Cid) → IdsRise 0 most fs →
     option_map (λ f. f.cid) (live_at addr fs) ≡ Some cid → facts_at cid.0 fs ≡ live_at addr fs
@@ -93,7 +88,7 @@ live_by_id addr most fs cid rises e =
 
 -- a connection that this side has not closed is the live one of its address
 any_found : (cid : ℕ) (fs : List Facts) (f : Facts) → facts_at cid fs ≡ Some f → any_at f.addr fs ≡ true
-any_found cid [] f found = absurd (nothing_found f found)
+any_found cid [] f found = absurd (none-some f found)
 any_found cid (g ∷ gs) f found = elim (cases_Bool (has_address f.addr g)) [
   | inl at ↦ rw at refl
   | inr apart ↦ elim (cases_Bool (has_id cid g)) [
@@ -106,7 +101,7 @@ any_found cid (g ∷ gs) f found = elim (cases_Bool (has_address f.addr g)) [
 
 pub live_there : (cid : ℕ) (fs : List Facts) (f : Facts) → OnlyLastLives fs → facts_at cid fs ≡ Some f → is_live f ≡ true →
     live_at f.addr fs ≡ Some f
-live_there cid [] f only found lives = absurd (nothing_found f found)
+live_there cid [] f only found lives = absurd (none-some f found)
 live_there cid (g ∷ gs) f only found lives = elim (cases_Bool (has_id cid g)) [
   | inl here ↦
       let same : g ≡ f = found_here cid g f gs found here in

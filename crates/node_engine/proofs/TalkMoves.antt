@@ -1,6 +1,7 @@
 -- What each move leaves of what is kept beside the facts.
 use Rattle.std.proofs.Common.{◌≡◌, ℕ, true, false, if◌then◌else◌, Some, None, refl, sym, ap, ◌∙◌, inl, inr}
 use Rattle.std.proofs.lemmas.Bool.{cases_Bool}
+use Rattle.std.proofs.lemmas.Option.{none-some, same_Some}
 use Rattle.conn_state.specs.Moves.{negotiated, released, acquired, expired, grace_ended}
 use Rattle.conn_state.specs.Use.{is_outbound}
 use Rattle.conn_table.specs.Answers.{lease_of}
@@ -14,12 +15,6 @@ use Rattle.node_engine.specs.Talks.{entry_of, IsTalkOf, with_lease, with_cutter}
 use Rattle.node_engine.specs.Standing.{closed}
 use Rattle.node_engine.specs.declared.talk.Talk.{Talk}
 
-some_same : {X : Type 0} (x y : X) → Some x ≡ Some y → x ≡ y
-some_same x y e = cc
-
-nothing_some : {X : Type 0} (x : X) → Some x ≡ None → ⊥
-nothing_some x e = cc
-
 -- ---- the handshake is over
 
 pub keeps_negotiated : (agreed : Agreed) (until : ℕ) (f : Facts) → (negotiated agreed until f).cid ≡ f.cid
@@ -29,13 +24,13 @@ pub leased : (agreed : Agreed) (until : ℕ) (f : Facts) (talk : Talk) (lease : 
     IsTalkOf (negotiated agreed until f) (with_lease (Some lease) talk)
 leased agreed until f talk lease e belongs = elim (cases_Bool (is_outbound f)) [
   | inl out ↦ record { lease = rw out (rw out at e); no_fault = belongs.no_fault }
-  | inr inbound ↦ absurd (nothing_some lease (rw inbound at e))
+  | inr inbound ↦ absurd (none-some lease (sym (rw inbound at e)))
 ]
 
 pub unleased : (agreed : Agreed) (until : ℕ) (f : Facts) (talk : Talk) → None ≡ lease_of f → IsTalkOf f talk →
     IsTalkOf (negotiated agreed until f) talk
 unleased agreed until f talk e belongs = elim (cases_Bool (is_outbound f)) [
-  | inl out ↦ absurd (nothing_some f.cid (sym (rw out at e)))
+  | inl out ↦ absurd (none-some f.cid (rw out at e))
   | inr inbound ↦ record { lease = rw inbound belongs.lease; no_fault = belongs.no_fault }
 ]
 
@@ -45,17 +40,17 @@ unleased agreed until f talk e belongs = elim (cases_Bool (is_outbound f)) [
 pub lease_is : (f : Facts) (talk : Talk) (lease : Cid) → f.local ≡ true → IsTalkOf f talk → Some lease ≡ talk.lease → lease ≡ f.cid
 lease_is f talk lease used belongs e =
     let own : talk.lease ≡ Some f.cid = belongs.lease ∙ rw used refl in
-    some_same lease f.cid (e ∙ own)
+    same_Some lease f.cid (e ∙ own)
 
 pub lease_there : (f : Facts) (talk : Talk) → f.local ≡ true → IsTalkOf f talk → None ≡ talk.lease → ⊥
 lease_there f talk used belongs e =
     let own : talk.lease ≡ Some f.cid = belongs.lease ∙ rw used refl in
-    nothing_some f.cid (sym (e ∙ own))
+    none-some f.cid (e ∙ own)
 
 pub lent_out : (f : Facts) (talk : Talk) (lease : Cid) → IsTalkOf f talk → Some lease ≡ talk.lease → (f.local ≡ true) × (lease ≡ f.cid)
 lent_out f talk lease belongs e = elim (cases_Bool f.local) [
   | inl used ↦ (used, lease_is f talk lease used belongs e)
-  | inr unused ↦ absurd (nothing_some lease (e ∙ (belongs.lease ∙ ap (λ b. if b then Some f.cid else None) unused)))
+  | inr unused ↦ absurd (none-some lease (sym (e ∙ (belongs.lease ∙ ap (λ b. if b then Some f.cid else None) unused))))
 ]
 
 pub not_lent : (f : Facts) (talk : Talk) → IsTalkOf f talk → None ≡ talk.lease → f.local ≡ false

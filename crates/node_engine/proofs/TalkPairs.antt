@@ -4,6 +4,7 @@ use Rattle.std.specs.List.{remove}
 use Rattle.std.specs.Option.{option_map}
 use Rattle.std.proofs.lemmas.Bool.{cases_Bool}
 use Rattle.std.proofs.lemmas.Bool.Decides.{nat_tests}
+use Rattle.std.proofs.lemmas.Option.{none-some}
 use Rattle.conn_state.specs.Use.{has_id, facts_at}
 use Rattle.conn_table.specs.Finds.{id_place}
 use Rattle.conn_table.specs.Table.{IdsRise, moved_at, without_at}
@@ -60,11 +61,8 @@ place_later : (cid above most : ℕ) (g f : Facts) (fs : List Facts) → IdsRise
     id_place cid (g ∷ fs) ≡ suc (id_place cid fs)
 place_later cid above most g f fs rises found = elim (cases_Bool (nat_lt g.cid.0 cid)) [
   | inl low ↦ rw low (one_more (id_place cid fs))
-  | inr high ↦ absurd (nothing (sym (none_above cid g.cid.0 most fs rises.1 (over_is cid g high)) ∙ found))
+  | inr high ↦ absurd (none-some f (sym (none_above cid g.cid.0 most fs rises.1 (over_is cid g high)) ∙ found))
 ]
-  where
-    nothing : None ≡ Some f → ⊥
-    nothing h = cc
 
 -- what stands at the place of an id
 pub record StandsAt (cid : ℕ) (fs : List Facts) (ts : List Talk) (f : Facts) (talk : Talk) : Type 0 where
@@ -75,10 +73,7 @@ pub record StandsAt (cid : ℕ) (fs : List Facts) (ts : List Talk) (f : Facts) (
 
 pub stands_at : (cid above most : ℕ) (fs : List Facts) (ts : List Talk) (f : Facts) → IdsRise above most fs → AreTalksOf fs ts →
     facts_at cid fs ≡ Some f → (talk : Talk) × StandsAt cid fs ts f talk
-stands_at cid above most [] ts f rises are found = absurd (nothing found)
-  where
-    nothing : None ≡ Some f → ⊥
-    nothing h = cc
+stands_at cid above most [] ts f rises are found = absurd (none-some f found)
 stands_at cid above most (g ∷ gs) [] f rises are found = absurd are
 stands_at cid above most (g ∷ gs) (t ∷ ts) f rises are found = elim (cases_Bool (has_id cid g)) [
   | inl here ↦
@@ -140,10 +135,7 @@ pub paired_turned : (cid above most : ℕ) (move : Facts → Facts) (fs : List F
     IdsRise above most fs → AreTalksOf fs ts → facts_at cid fs ≡ Some f → IsTalkOf (move f) new →
     ArePaired (map (λ e. if has_id cid e.facts then entry_of (move f) new else e) (entries_of fs ts))
     (moved_at cid move fs) (set ts (id_place cid fs) new)
-paired_turned cid above most move [] ts f new rises are found belongs = absurd (nothing found)
-  where
-    nothing : None ≡ Some f → ⊥
-    nothing h = cc
+paired_turned cid above most move [] ts f new rises are found belongs = absurd (none-some f found)
 paired_turned cid above most move (g ∷ gs) [] f new rises are found belongs = absurd are
 paired_turned cid above most move (g ∷ gs) (t ∷ ts) f new rises are found belongs = elim (cases_Bool (has_id cid g)) [
   | inl here ↦
@@ -170,10 +162,7 @@ paired_turned cid above most move (g ∷ gs) (t ∷ ts) f new rises are found be
 pub paired_without : (cid above most : ℕ) (fs : List Facts) (ts : List Talk) (f : Facts) →
     IdsRise above most fs → AreTalksOf fs ts → facts_at cid fs ≡ Some f →
     ArePaired (filter (λ e. not (has_id cid e.facts)) (entries_of fs ts)) (without_at cid fs) (remove ts (id_place cid fs))
-paired_without cid above most [] ts f rises are found = absurd (nothing found)
-  where
-    nothing : None ≡ Some f → ⊥
-    nothing h = cc
+paired_without cid above most [] ts f rises are found = absurd (none-some f found)
 paired_without cid above most (g ∷ gs) [] f rises are found = absurd are
 paired_without cid above most (g ∷ gs) (t ∷ ts) f rises are found = elim (cases_Bool (has_id cid g)) [
   | inl here ↦

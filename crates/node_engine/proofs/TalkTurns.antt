@@ -7,6 +7,7 @@ use Rattle.conn_state.specs.Use.{has_id, facts_at}
 use Rattle.conn_table.specs.Finds.{id_place}
 use Rattle.conn_table.specs.Table.{Table, IdsRise, moved_at, with_moved, without}
 use Rattle.conn_table.proofs.IdPlaces.{found_id, IdsRise-push, IdsRise-filter, IdsRise-moved}
+use Rattle.conn_table.proofs.StateFacts.{some_with}
 use Rattle.machine.specs.Machine.{Entry}
 use Rattle.net_base.specs.declared.connection.Facts.{Facts}
 use Rattle.node_engine.specs.Standing.{Standing, entry_with, turned, come, gone, Turns}
@@ -21,10 +22,6 @@ pub record Found (P : Facts → Type 0) (cid : ℕ) (t : Table) (ts : List Talk)
   pub talk : Talk
   pub at : StandsAt cid t.facts ts facts talk
   pub holds : P facts
-
-some_with : (P : Facts → Type 0) (o : Option Facts) → IsSomeAnd o P → (f : Facts) × (o ≡ Some f) × P f
-some_with P None h = absurd h
-some_with P (Some f) h = (f, refl, h)
 
 pub found : (P : Facts → Type 0) (cid : ℕ) (t : Table) (ts : List Talk) (s : Standing) → IsStanding t ts → standing_of t ts ≡ s →
     IsSomeAnd (entry_with cid s) (λ e. P e.facts) → Found P cid t ts

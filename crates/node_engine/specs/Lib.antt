@@ -1,3 +1,5 @@
+pub mod Due
+pub mod Overview
 pub mod Owed
 pub mod Standing
 pub mod State

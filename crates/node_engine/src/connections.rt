@@ -9,9 +9,10 @@ ghost use Rattle.net_base.specs.Bounds.{AreSound};
 ghost use Rattle.node_engine.specs.Standing.{none_standing, facts_in, entry_with, live_entry, used_entry, if_used};
 
 mod moves;
+mod overview;
 mod talking;
 
-use crate::Talk;
+use crate::talk::Talk;
 use conn_table::ConnTable;
 use net_base::{Addr, Cid, Facts, Settings};
 use std::alloc::Global;

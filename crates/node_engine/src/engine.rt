@@ -15,7 +15,7 @@ use net_base::{ActionList, Cid, Event, Facts, OutOfMemory, Settings};
 use std::alloc::Global;
 
 /// A node's engine: the machine's record, and how many events it took. An event gives out at most 20,000 ids.
-#[derive(Debug, Drop)]
+#[derive(Drop)]
 pub struct Engine {
     pub machine: NodeState,
     pub events: u64,

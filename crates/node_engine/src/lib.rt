@@ -2,7 +2,9 @@
 #![tactic(auto)]
 
 mod connections;
+mod due;
 mod engine;
+mod link;
 mod node_state;
 mod refusal;
 mod replies;
@@ -14,7 +16,5 @@ pub use connections::Connections;
 pub use engine::Engine;
 pub use node_state::NodeState;
 pub use refusal::NewRefusal;
-pub use replies::Replies;
 pub use reply::Reply;
-pub use talk::Talk;
 pub use tally::Tally;

@@ -1,5 +1,6 @@
 ghost use Rattle.std.specs.Prelude.{◌≡◌, ◌≤◌, ◌+◌, ◌^◌, OnOk, IfOk};
 ghost use Rattle.conn_state.specs.Use.{facts_at};
+ghost use Rattle.laws.specs.Sound.{IsOrderly};
 ghost use Rattle.machine.specs.Events.{step};
 ghost use Rattle.machine.specs.Machine.{start_of, facts_of};
 ghost use Rattle.net_base.specs.Bounds.{AreSound};
@@ -10,30 +11,49 @@ ghost use Rattle.node_engine.specs.Tally.{tally_of};
 mod accept;
 mod clock;
 mod close;
+mod dialed;
+mod dials;
+mod ending;
+mod found;
+mod grace;
+mod moves;
+mod peers;
+mod sends;
+mod trim;
+mod turns;
 
-use crate::Tally;
-use conn_table::ConnTable;
-use net_base::{ActionList, Cid, Event, Facts, OutOfMemory, Sequence, Settings};
+use crate::{Connections, Tally};
+use net_base::{
+    ActionList, BigTargets, Cid, Event, Facts, OutOfMemory, Sequence, Settings, Targets,
+};
+use peer_book::PeerBook;
+use root_groups::{Groups, Roots};
 use std::alloc::Global;
 use std::marker::Model;
 
 /// What a node knows. Contracts see the machine's record.
-#[derive(Debug, Drop)]
+#[derive(Drop)]
 pub struct NodeState {
     alloc: Global,
     moment: u64,
-    table: ConnTable,
+    targets: Targets,
+    big_targets: BigTargets,
+    groups: Groups,
+    roots: Roots,
+    book: PeerBook,
+    connections: Connections,
 }
 
 impl Model for NodeState {
+    ghost use Rattle.std.specs.Prelude.{◌≤◌, ◌^◌};
     ghost use Rattle.machine.specs.Machine.{Machine};
-    ghost use Rattle.node_engine.specs.State.{machine_of, IsKept};
+    ghost use Rattle.node_engine.specs.State.{machine_of};
 
     ghost Value = { Machine };
 
-    ghost view = { λ s. machine_of s.moment s.table };
+    ghost view = { λ s. machine_of s.moment s.targets s.big_targets s.groups s.roots s.book s.connections };
 
-    ghost invariant = { λ s. IsKept s.moment s.table };
+    ghost invariant = { λ s. s.moment ≤ 2 ^ 48 };
 }
 
 impl NodeState {
@@ -45,17 +65,31 @@ impl NodeState {
         NodeState {
             alloc,
             moment: 0,
-            table: ConnTable::new(alloc, settings),
+            targets: Targets {
+                root: 0,
+                known: 0,
+                established: 0,
+                active: 0,
+            },
+            big_targets: BigTargets {
+                known: 0,
+                established: 0,
+                active: 0,
+            },
+            groups: Groups::new(alloc),
+            roots: Roots::new(alloc),
+            book: PeerBook::new(alloc),
+            connections: Connections::new(alloc, settings),
         }
     }
 
     /// What happens to the node, and what it does about it.
     pub(crate) fn handle(&mut self, event: Event) -> Result<ActionList, OutOfMemory>
+        requires orderly { IsOrderly self.old }
         requires few_ids { self.old.next_id ≤ 2 ^ 48 }
         requires within { IsWithinLimits event }
         ensures machine { OnOk result (self.new ≡ (step self.old event).machine) }
         ensures actions { IfOk result (λ actions. actions ≡ (step self.old event).actions) }
-        ensures ids { OnOk result (self.new.next_id ≤ self.old.next_id + 1) }
     {
         let mut actions = Sequence::new(self.alloc);
         self.respond(event, &mut actions)?;
@@ -64,10 +98,10 @@ impl NodeState {
 
     // What happens to the node, with what it does about it behind the actions before.
     fn respond(&mut self, event: Event, actions: &mut ActionList) -> Result<(), OutOfMemory>
+        requires orderly { IsOrderly self.old }
         requires few_ids { self.old.next_id ≤ 2 ^ 48 }
         requires within { IsWithinLimits event }
-        ensures does { OnOk result (Does (step self.old event) actions.old self.new actions.new) }
-        ensures ids { OnOk result (self.new.next_id ≤ self.old.next_id + 1) }
+        ensures { OnOk result (Does (step self.old event) actions.old self.new actions.new) }
     {
         match event {
             Event::Now(moment) => self.clock_shows(moment, actions),
@@ -90,7 +124,7 @@ impl NodeState {
     pub(crate) fn facts(&self, cid: Cid) -> Option<Facts>
         ensures { result ≡ facts_at cid.0 (facts_of self.now) }
     {
-        self.table.facts(cid)
+        self.connections.facts(cid)
     }
 
     /// How many peers and connections there are.
@@ -98,13 +132,13 @@ impl NodeState {
         ensures { result ≡ tally_of self.now }
     {
         Tally {
-            known: 0,
-            established: 0,
-            active: 0,
-            counted: self.table.counted(),
-            big_known: 0,
-            big_established: 0,
-            big_active: 0,
+            known: self.book.known(),
+            established: self.book.established(),
+            active: self.book.active(),
+            counted: self.connections.counted(),
+            big_known: self.book.big_known(),
+            big_established: self.book.big_established(),
+            big_active: self.book.big_active(),
         }
     }
 }

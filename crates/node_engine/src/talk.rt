@@ -6,7 +6,8 @@ ghost use Rattle.mux_segment.specs.Stream.{nothing_fed, fed_by};
 ghost use Rattle.net_base.specs.Shared.{nothing_undecoded};
 ghost use Rattle.node_engine.specs.Talks.{TurnsAt, with_lease, with_cutter, with_owed, fresh_talk, fed_talk, going_on, IsFed};
 
-use crate::{Replies, Reply};
+use crate::Reply;
+use crate::replies::Replies;
 use conn_table::LocalLease;
 use mux_segment::{CutFault, Cutter, Fed};
 use net_base::OutOfMemory;

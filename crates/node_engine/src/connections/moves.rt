@@ -111,7 +111,7 @@ impl Connections {
         self.table.idle(cid, protocol, now);
     }
 
-    /// The grace of a connection is over that this node uses.
+    /// The grace of a connection in local use is over: it goes on without one.
     pub fn expire(&mut self, cid: Cid, now: u64)
         requires over { IsSomeAnd (entry_with cid.0 self.old)
             (λ e. (is_due now e.facts.grace ≡ true) × (e.facts.local ≡ true)) }
@@ -121,7 +121,8 @@ impl Connections {
         self.table.grace_over(cid, now);
     }
 
-    /// The grace of a connection is over that nobody uses: this side closes it, and keeps it for the time-wait.
+    /// The grace of a connection that this node does not use is over: this side closes it, and keeps it for the
+    /// time-wait.
     pub fn close(&mut self, cid: Cid, now: u64)
         requires over { IsSomeAnd (entry_with cid.0 self.old)
             (λ e. (is_due now e.facts.grace ≡ true) × (e.facts.local ≡ false)) }

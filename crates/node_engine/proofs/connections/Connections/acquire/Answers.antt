@@ -1,5 +1,5 @@
 use Rattle.std.proofs.Common.{◌≡◌, ℕ, ◌<◌, ◌⊎◌, inl, inr, true, Some, if◌then◌else◌, length, slice_get, refl, sym, ap, subst, ◌∙◌}
-use Rattle.std.proofs.lemmas.Option.{slice_get_within}
+use Rattle.std.proofs.lemmas.Option.{same_Some, slice_get_within}
 use Rattle.conn_state.specs.Moves.{acquired}
 use Rattle.conn_state.specs.Names.{name_of}
 use Rattle.conn_state.specs.Use.{is_acquirable, live_at}
@@ -10,7 +10,6 @@ use Rattle.conn_table.specs.declared.acquire.Acquire.TheVariants.{Leased, NoSuch
 use Rattle.conn_table.proofs.IdPlaces.{get-place, found_id}
 use Rattle.net_base.specs.declared.action.StateName.{StateName}
 use Rattle.net_base.specs.declared.connection.Cid.{Cid}
-use Rattle.net_base.specs.declared.connection.Facts.{Facts}
 use Rattle.node_engine.specs.Standing.{moved}
 use Rattle.node_engine.proofs.TalkFinds.{live_there, acquirable_lives}
 use Rattle.node_engine.proofs.TalkMoves.{taken}
@@ -30,9 +29,6 @@ lend-requires c =
     let it = found (λ f. is_acquirable f ≡ true) _ _ _ _ c.self.invariant c.self.view_is c.requires in
     place_inside _ _ _ _ it.facts it.talk c.place_of-place.ensures it.at
 
-some_same : (f g : Facts) → Some f ≡ Some g → f ≡ g
-some_same f g e = cc
-
 same_cid : (a b : Cid) → a.0 ≡ b.0 → a ≡ b
 same_cid a b e = ap (λ (n : ℕ). let d : Cid = record { 0 = n } in d) e
 
@@ -43,7 +39,7 @@ answer c =
     let fs = c.self.inside.table.facts in
     let there : slice_get fs (id_place c.args.cid.0 fs) ≡ Some it.facts =
     get-place c.args.cid.0 0 c.self.inside.table.given fs it.facts c.self.invariant.ids_rise it.at.facts_there in
-    let same : c.at-facts.result ≡ it.facts = some_same _ _ (sym c.at-facts.ensures ∙ (ap (slice_get fs) c.place_of-place.ensures ∙ there)) in
+    let same : c.at-facts.result ≡ it.facts = same_Some _ _ (sym c.at-facts.ensures ∙ (ap (slice_get fs) c.place_of-place.ensures ∙ there)) in
     let live : live_at it.facts.addr fs ≡ Some it.facts =
     live_there c.args.cid.0 fs it.facts c.acquire.ensures.last_lives it.at.facts_there (acquirable_lives it.facts it.holds) in
     let own : it.facts.cid ≡ c.args.cid = same_cid it.facts.cid c.args.cid (found_id c.args.cid.0 fs it.facts it.at.facts_there) in

@@ -1,0 +1,16 @@
+ghost use Rattle.std.specs.Prelude.{OnOk};
+ghost use Rattle.machine.specs.Connections.{trim};
+ghost use Rattle.node_engine.specs.State.{Does};
+
+use super::NodeState;
+use net_base::{ActionList, Cid, CloseCause, OutOfMemory};
+
+impl NodeState {
+    /// Where more connections are counted than the hard limit, one of them goes: the first of those that may, else
+    /// the one that moved.
+    pub(super) fn trim(&mut self, moved: Cid, actions: &mut ActionList) -> Result<(), OutOfMemory>
+        ensures { OnOk result (Does (trim moved self.old) actions.old self.new actions.new) }
+    {
+        unreachable!()
+    }
+}
