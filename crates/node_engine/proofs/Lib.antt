@@ -1,6 +1,7 @@
 pub mod ClockLemmas
 pub mod FindLemmas
 pub mod FireLemmas
+pub mod Going
 pub mod TalkFeeds
 pub mod TalkFinds
 pub mod TalkLooks

@@ -9,6 +9,7 @@ mod node_state;
 mod refusal;
 mod replies;
 mod reply;
+mod rule;
 mod talk;
 mod tally;
 
