@@ -1,4 +1,5 @@
 pub mod ClockLemmas
+pub mod Doings
 pub mod FindLemmas
 pub mod FireLemmas
 pub mod Going

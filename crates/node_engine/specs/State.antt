@@ -1,15 +1,28 @@
 -- What stands for the machine's record, and what a part of a step does to it.
-use Rattle.std.specs.Prelude.{◌≡◌, ℕ, List, ◌++◌, IfSome, IsSomeAnd}
+use Rattle.std.specs.Prelude.{◌≡◌, ℕ, ◌%◌, List, [], ◌∷◌, ◌++◌, IfSome, IsSomeAnd, if◌then◌else◌}
+use Rattle.conn_state.specs.Names.{name_of, same_name}
 use Rattle.net_base.specs.Shared.{RootState}
 use Rattle.net_base.specs.declared.action.Action.{Action}
+use Rattle.net_base.specs.declared.action.Action.TheVariants.{Peer as TellPeer, State}
+use Rattle.net_base.specs.declared.action.PeerNote.TheVariants.{Known}
+use Rattle.net_base.specs.declared.address.Addr.{Addr}
 use Rattle.net_base.specs.declared.connection.Facts.{Facts}
 use Rattle.net_base.specs.declared.event.Group.{Group}
 use Rattle.net_base.specs.declared.peer.Peer.{Peer}
+use Rattle.net_base.specs.declared.peer.Temp.{Temp}
 use Rattle.net_base.specs.declared.targets.BigTargets.{BigTargets}
 use Rattle.net_base.specs.declared.targets.Targets.{Targets}
-use Rattle.machine.specs.Effect.{Effect}
+use Rattle.machine.specs.Connections.{with_entry}
+use Rattle.machine.specs.Effect.{Effect, tells, then_do}
 use Rattle.machine.specs.Machine.{Machine, Entry, entry_at}
+use Rattle.machine.specs.Peers.{note_of, peer_succeeds}
+use Rattle.machine.specs.Replies.{owing, asks}
 use Rattle.node_engine.specs.Standing.{Standing}
+use Rattle.peer_book.specs.Book.{same_temp}
+use Rattle.peer_book.specs.declared.added.Added.{Added}
+use Rattle.peer_book.specs.declared.added.Added.TheVariants.{New, Present, Full}
+use Rattle.warm_messages.specs.Writing.{written_alive}
+use Rattle.warm_messages.specs.declared.alive.Alive.TheVariants.{Ask}
 
 abbrev pub machine_of : ℕ → Targets → BigTargets → List Group → RootState → List Peer → Standing → Machine
 machine_of now targets big groups roots peers s = record {
@@ -41,3 +54,30 @@ IsKnown facts m = IsSomeAnd (entry_at facts.cid.0 m) (λ e. e.facts ≡ facts)
 -- A part of a step that is about the connection with an id did that.
 abbrev pub DoesTo : ℕ → (Entry → Machine → Effect) → List Action → Machine → Machine → List Action → Type 0
 DoesTo cid act before old new after = IfSome (entry_at cid old) (λ e. Does (act e old) before new after)
+
+-- ---- what is told
+
+-- a peer's temperature, where it is another one than before
+abbrev pub temp_notice : Addr → Temp → Temp → List Action
+temp_notice addr old new = if same_temp old new then [] else TellPeer addr (note_of new) ∷ []
+
+-- that an address is known, where it is new in the book
+abbrev pub coming_notice : Added → Addr → List Action
+coming_notice New addr = TellPeer addr Known ∷ []
+coming_notice Present addr = []
+coming_notice Full addr = []
+
+-- a connection's name, where it is another one than before
+abbrev pub name_notice : Facts → Facts → List Action
+name_notice old new = if same_name (name_of old) (name_of new) then [] else State old.cid (name_of new) ∷ []
+
+-- ---- parts of moves
+
+-- A connection has come into use, which told and did nothing more than that yet: its name is told, its peer is warm,
+-- and a keep-alive is sent, to which a reply is owed.
+abbrev pub is_used_from : Facts → Entry → Machine → Effect
+is_used_from before entry m =
+    let cookie = before.cid.0 % 65536 in
+    then_do (tells (name_notice before entry.facts) (with_entry (owing 8 cookie m entry) m))
+    (λ m. then_do (peer_succeeds before.addr m)
+    (asks before.cid 8 (written_alive (Ask cookie))))

@@ -30,16 +30,16 @@ pub fn link_of(facts: &Facts, replies: &Replies) -> Link
     }
 }
 
-// Whether a connection was dialed and is on its way.
-fn is_pending(facts: &Facts) -> bool
+/// Whether a connection was dialed and is on its way.
+pub fn is_pending(facts: &Facts) -> bool
     ensures { result ≡ is_pending facts.now }
 {
     matches!(facts.provenance, Provenance::FromLocal)
         && matches!(facts.phase, Phase::Dialing | Phase::Greeting(_))
 }
 
-// Whether peer sharing was agreed on.
-fn shares(agreed: Option<Agreed>) -> bool
+/// Whether peer sharing was agreed on.
+pub fn shares(agreed: Option<Agreed>) -> bool
     ensures { result ≡ agreed_sharing agreed }
 {
     match agreed {

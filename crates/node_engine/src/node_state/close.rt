@@ -3,6 +3,7 @@ ghost use Rattle.machine.specs.Events.{peer_closes};
 ghost use Rattle.node_engine.specs.State.{Does};
 
 use super::NodeState;
+use conn_table::is_live;
 use net_base::{ActionList, Cid, OutOfMemory};
 
 impl NodeState {
@@ -10,6 +11,9 @@ impl NodeState {
     pub(super) fn close(&mut self, cid: Cid, actions: &mut ActionList) -> Result<(), OutOfMemory>
         ensures { OnOk result (Does (peer_closes cid self.old) actions.old self.new actions.new) }
     {
-        unreachable!()
+        match self.found(cid) {
+            Some(facts) if is_live(&facts) => self.vanish(facts, actions),
+            Some(_) | None => Ok(()),
+        }
     }
 }

@@ -1,9 +1,10 @@
 ghost use Rattle.std.specs.Prelude.{OnOk};
-ghost use Rattle.machine.specs.Events.{dial_ends};
-ghost use Rattle.node_engine.specs.State.{Does};
+ghost use Rattle.machine.specs.Events.{dial_ends, dial_ends_at};
+ghost use Rattle.machine.specs.Machine.{entry_at};
+ghost use Rattle.node_engine.specs.State.{Does, IsKnown};
 
 use super::NodeState;
-use net_base::{ActionList, Cid, OutOfMemory};
+use net_base::{ActionList, Cid, Facts, OutOfMemory, Phase};
 
 impl NodeState {
     /// A dial of this node's has ended.
@@ -15,6 +16,30 @@ impl NodeState {
     ) -> Result<(), OutOfMemory>
         ensures { OnOk result (Does (dial_ends cid opened self.old) actions.old self.new actions.new) }
     {
-        unreachable!()
+        match self.found(cid) {
+            Some(facts) => self.dial_ends_of(facts, opened, actions),
+            None => Ok(()),
+        }
+    }
+
+    // A dial has ended, where the connection is still on its way.
+    fn dial_ends_of(
+        &mut self,
+        facts: Facts,
+        opened: bool,
+        actions: &mut ActionList,
+    ) -> Result<(), OutOfMemory>
+        requires { IsKnown facts self.old }
+        ensures { OnOk result (Does (dial_ends_at (entry_at facts.cid.0 self.old) opened self.old)
+            actions.old self.new actions.new) }
+    {
+        if !matches!(facts.phase, Phase::Dialing) {
+            return Ok(());
+        }
+        if opened {
+            self.dial_opens(facts, actions)
+        } else {
+            self.dial_fails(facts, actions)
+        }
     }
 }

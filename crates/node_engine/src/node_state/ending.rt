@@ -1,8 +1,9 @@
-ghost use Rattle.std.specs.Prelude.{◌≡◌, OnOk};
-ghost use Rattle.machine.specs.Connections.{ending, entry_goes, lost, lost_by, vanishes};
+ghost use Rattle.std.specs.Prelude.{OnOk};
+ghost use Rattle.machine.specs.Connections.{ending, entry_goes, lost, vanishes};
 ghost use Rattle.node_engine.specs.State.{Does, DoesTo, IsKnown};
 
 use super::NodeState;
+use crate::link::is_pending;
 use net_base::{Action, ActionList, CloseCause, Facts, OutOfMemory, StateName};
 
 impl NodeState {
@@ -16,7 +17,12 @@ impl NodeState {
         requires { IsKnown facts self.old }
         ensures { OnOk result (DoesTo facts.cid.0 (ending cause) actions.old self.old self.new actions.new) }
     {
-        unreachable!()
+        actions.push(Action::Close(facts.cid, cause))?;
+        self.let_go(facts, actions)?;
+        match cause {
+            CloseCause::Overwritten => Ok(()),
+            _ => self.lose(facts, actions),
+        }
     }
 
     /// A connection goes without this node's doing.
@@ -28,6 +34,31 @@ impl NodeState {
         requires { IsKnown facts self.old }
         ensures { OnOk result (DoesTo facts.cid.0 vanishes actions.old self.old self.new actions.new) }
     {
-        unreachable!()
+        self.let_go(facts, actions)?;
+        self.lose(facts, actions)
+    }
+
+    /// A connection goes.
+    pub(super) fn let_go(
+        &mut self,
+        facts: Facts,
+        actions: &mut ActionList,
+    ) -> Result<(), OutOfMemory>
+        requires { IsKnown facts self.old }
+        ensures { OnOk result (DoesTo facts.cid.0 entry_goes actions.old self.old self.new actions.new) }
+    {
+        self.connections.remove(facts.cid);
+        actions.push(Action::State(facts.cid, StateName::Terminated))
+    }
+
+    // The peer of a connection that went has failed where this node used it or was on its way to it.
+    fn lose(&mut self, facts: Facts, actions: &mut ActionList) -> Result<(), OutOfMemory>
+        ensures { OnOk result (Does (lost facts self.old) actions.old self.new actions.new) }
+    {
+        if facts.local || is_pending(&facts) {
+            self.peer_fails(facts.addr, actions)
+        } else {
+            Ok(())
+        }
     }
 }

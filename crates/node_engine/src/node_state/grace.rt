@@ -17,7 +17,14 @@ impl NodeState {
         requires over { is_due self.old.now facts.grace ≡ true }
         ensures { OnOk result (DoesTo facts.cid.0 grace_over actions.old self.old self.new actions.new) }
     {
-        unreachable!()
+        if facts.local {
+            self.connections.expire(facts.cid, self.moment);
+            self.tell_turn(facts, actions)
+        } else {
+            actions.push(Action::Close(facts.cid, CloseCause::Unused))?;
+            self.connections.close(facts.cid, self.moment);
+            self.tell_turn(facts, actions)
+        }
     }
 
     /// The time-wait of a connection is over.
@@ -29,6 +36,6 @@ impl NodeState {
         requires { IsKnown facts self.old }
         ensures { OnOk result (DoesTo facts.cid.0 wait_over actions.old self.old self.new actions.new) }
     {
-        unreachable!()
+        self.let_go(facts, actions)
     }
 }

@@ -11,6 +11,13 @@ impl NodeState {
     pub(super) fn trim(&mut self, moved: Cid, actions: &mut ActionList) -> Result<(), OutOfMemory>
         ensures { OnOk result (Does (trim moved self.old) actions.old self.new actions.new) }
     {
-        unreachable!()
+        if self.connections.counted() <= self.connections.settings().hard {
+            return Ok(());
+        }
+        let cid = self.connections.prune_choice().unwrap_or(moved);
+        match self.found(cid) {
+            Some(facts) => self.end(facts, CloseCause::Pruned, actions),
+            None => Ok(()),
+        }
     }
 }

@@ -1,12 +1,13 @@
-ghost use Rattle.std.specs.Prelude.{◌≡◌, true, IsSome, IfSome, OnOk};
+ghost use Rattle.std.specs.Prelude.{◌≡◌, ◌++◌, true, IsSome, IfSome, OnOk};
 ghost use Rattle.machine.specs.Connections.{entry_turns};
 ghost use Rattle.machine.specs.Machine.{entry_at};
 ghost use Rattle.machine.specs.Replies.{owing, paid};
 ghost use Rattle.node_engine.specs.Owed.{is_asked_on};
-ghost use Rattle.node_engine.specs.State.{DoesSilently};
+ghost use Rattle.node_engine.specs.State.{DoesSilently, name_notice};
 
 use super::NodeState;
-use net_base::Cid;
+use crate::name::name_of;
+use net_base::{Action, ActionList, Cid, Facts, OutOfMemory};
 
 impl NodeState {
     /// A reply on a protocol comes to be owed from now on, for what was asked. Nothing is told of that.
@@ -16,7 +17,7 @@ impl NodeState {
         ensures { IfSome (entry_at cid.0 self.old)
             (λ e. DoesSilently (entry_turns e (owing protocol asked self.old e) self.old) self.new) }
     {
-        unreachable!()
+        self.connections.owe(cid, protocol, asked, self.moment);
     }
 
     /// The reply on a protocol is there. Nothing is told of that.
@@ -25,6 +26,29 @@ impl NodeState {
         ensures { IfSome (entry_at cid.0 self.old)
             (λ e. DoesSilently (entry_turns e (paid protocol e) self.old) self.new) }
     {
-        unreachable!()
+        self.connections.pay(cid, protocol);
     }
+
+    /// A connection has turned: its name is told, where it is another one than before.
+    pub(super) fn tell_turn(&self, old: Facts, actions: &mut ActionList) -> Result<(), OutOfMemory>
+        requires { IsSome (entry_at old.cid.0 self.now) }
+        ensures { OnOk result (IfSome (entry_at old.cid.0 self.now)
+            (λ e. actions.new ≡ actions.old ++ name_notice old e.facts)) }
+    {
+        match self.connections.facts(old.cid) {
+            Some(new) => tell_name(old, new, actions),
+            None => unreachable!(),
+        }
+    }
+}
+
+// The name of a connection is told where it is another one than before.
+fn tell_name(old: Facts, new: Facts, actions: &mut ActionList) -> Result<(), OutOfMemory>
+    ensures { OnOk result (actions.new ≡ actions.old ++ name_notice old new) }
+{
+    let name = name_of(&new);
+    if name_of(&old) == name {
+        return Ok(());
+    }
+    actions.push(Action::State(old.cid, name))
 }
