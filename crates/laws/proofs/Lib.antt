@@ -31,7 +31,7 @@ mod WholeEvents
 mod WholeRuns
 mod Promotions
 mod Picks
-mod Ties
+pub mod Ties
 mod PeerLaws
 mod Lawful
 mod KnownWanted

@@ -58,7 +58,7 @@ impl NodeState {
         requires known { IsKnown facts self.old }
         requires dialing { is_dialing facts ≡ true }
         ensures { OnOk result (DoesTo facts.cid.0
-            (λ e. entry_turns e (moved (connected (self.old.now + self.old.settings.handshake)) e))
+            (λ e m. entry_turns e (moved (connected (m.now + m.settings.handshake)) e) m)
             actions.old self.old self.new actions.new) }
     {
         self.connections.connected(facts.cid, self.moment);

@@ -158,7 +158,7 @@ impl NodeState {
         requires known { IsKnown facts self.old }
         requires used { facts.local ≡ true }
         ensures { OnOk result (DoesTo facts.cid.0
-            (λ e. entry_turns e (moved (released (self.old.now + self.old.settings.idle)) e))
+            (λ e m. entry_turns e (moved (released (m.now + m.settings.idle)) e) m)
             actions.old self.old self.new actions.new) }
     {
         self.connections.release(facts.cid, self.moment);

@@ -1,0 +1,20 @@
+use Rattle.std.proofs.Common.{◌≡◌, ◌+◌, refl, ap}
+use Rattle.std.proofs.lemmas.Result.{on_ok_weaker}
+use Rattle.conn_state.specs.Moves.{agreed_outbound}
+use Rattle.machine.specs.Connections.{is_agreed_outbound}
+use Rattle.node_engine.specs.Standing.{moved}
+use Rattle.node_engine.proofs.Doings.{HasTurned, has_turned, turned_as, on_some, used_does, negotiated_keeps, negotiated_outbound}
+use Rattle.node_engine.proofs.node_state.NodeState.agree_outbound.Goals.{After-negotiated}
+use Rattle.node_engine.proofs.node_state.NodeState.agree_outbound.Goals as goal
+
+turned : (c : After-negotiated) → HasTurned c.args.facts (moved (agreed_outbound c.args.agreed (c.self.inside.moment + c.self.inside.connections.settings.idle))) c.self.inside.connections c.negotiated.new.self
+turned c = turned_as _ _ _ _ _
+    (has_turned _ _ c.args.self.now _ _ c.requires.known (ap (λ m. m.connections) c.self.view_is) (negotiated_keeps _ _) c.negotiated.ensures)
+    (λ e is. negotiated_outbound _ _ c.args.facts e c.requires.outbound is)
+
+pub comes_into_use-requires : goal.comes_into_use-requires
+comes_into_use-requires c = on_some _ _ (turned (goal.at.comes_into_use-requires c).After-negotiated).next_there
+
+pub returns : goal.returns
+returns c = on_ok_weaker c.comes_into_use.result (used_does _ _ _ _ _ _ _ _ _ _ (is_agreed_outbound c.args.agreed) _ _ _ _ (λ e. refl) c.self.view_is
+    (turned (goal.at.returns c).After-negotiated) refl refl) c.comes_into_use.ensures
