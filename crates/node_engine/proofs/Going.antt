@@ -1,5 +1,5 @@
 -- One part after another for each of a list: what is left of it after some of them.
-use Rattle.std.proofs.Common.{◌≡◌, ℕ, suc, ◌+◌, ◌<◌, ◌≤◌, List, [], ◌∷◌, ◌++◌, length, drop, drop-cons, drop_of_length-le, get_or, append_assoc, append-nil, refl, sym, ap, subst, ◌∙◌, arith}
+use Rattle.std.proofs.Common.{◌≡◌, List, [], ◌∷◌, ◌++◌, append_assoc, append-nil, refl, sym, ap, subst, ◌∙◌}
 use Rattle.net_base.specs.declared.action.Action.{Action}
 use Rattle.govern_rules.specs.declared.order.Order.{Order}
 use Rattle.machine.specs.Effect.{Effect, for_each}
@@ -81,13 +81,3 @@ unfolding MayFollow
 follow-more rest more orders m n after told next may does =
     let h : MayFollow (orders ∷ more) m = subst (λ os. MayFollow os m) next may in
     subst (MayFollow more) (sym does.machine_is) h.1
-
--- ---- by places
-
-pub drop-next : {X : Type 0} (xs : List X) (i : ℕ) (d : X) → i < length xs → drop i xs ≡ get_or xs i d ∷ drop (i + 1) xs
-drop-next xs i d inside =
-    let same : suc i ≡ i + 1 = omega arith in
-    drop-cons xs i d inside ∙ ap (λ j. get_or xs i d ∷ drop j xs) same
-
-pub drop-all : {X : Type 0} (xs : List X) (i : ℕ) → length xs ≤ i → drop i xs ≡ []
-drop-all xs i over = drop_of_length-le xs over

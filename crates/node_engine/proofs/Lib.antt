@@ -3,6 +3,8 @@ pub mod Doings
 pub mod FindLemmas
 pub mod FireLemmas
 pub mod Going
+pub mod LocalUse
+pub mod RuleSteps
 pub mod TalkFeeds
 pub mod TalkFinds
 pub mod TalkLooks
