@@ -1,8 +1,10 @@
 pub mod ClockLemmas
 pub mod Doings
+pub mod Ends
 pub mod FindLemmas
 pub mod FireLemmas
 pub mod Going
+pub mod Ids
 pub mod LocalUse
 pub mod RuleSteps
 pub mod TalkFeeds

@@ -1,7 +1,7 @@
-ghost use Rattle.std.specs.Prelude.{◌≡◌, ◌≤◌, ◌^◌, true, OnOk, Some};
+ghost use Rattle.std.specs.Prelude.{◌≡◌, ◌≤◌, ◌^◌, true, OnOk, Some, length};
 ghost use Rattle.conn_table.specs.Answers.{is_due};
 ghost use Rattle.laws.specs.Sound.{IsOrderly};
-ghost use Rattle.machine.specs.Deadlines.{due, fires, fires_as, fire_all};
+ghost use Rattle.machine.specs.Deadlines.{deadlines, due, fires, fires_as, fire_all};
 ghost use Rattle.machine.specs.Events.{clock_shows};
 ghost use Rattle.net_base.specs.declared.timer.Kind.TheVariants.{Grace as GraceKind};
 ghost use Rattle.node_engine.specs.State.{Does, DoesTo, IsKnown};
@@ -32,7 +32,7 @@ impl NodeState {
         requires { IsOrderly self.old }
         ensures { OnOk result (Does (fire_all self.old) actions.old self.new actions.new) }
     {
-        let count = self.connections.deadline_count();
+        let count = self.deadline_count();
         for _fired in 0..count {
             match self.due() {
                 Some(deadline) => self.fire(deadline, actions)?,
@@ -47,6 +47,13 @@ impl NodeState {
         ensures { result ≡ due self.now }
     {
         self.connections.due(self.moment)
+    }
+
+    // How many deadlines there are.
+    fn deadline_count(&self) -> usize
+        ensures { result ≡ length (deadlines self.now) }
+    {
+        self.connections.deadline_count()
     }
 
     // The deadline fires that is the next one.
