@@ -1,5 +1,5 @@
 -- A connection that was found to be in local use is.
-use Rattle.std.proofs.Common.{◌≡◌, true, List, find, Option, Some, None, IfSome, sym, ap, ◌∙◌}
+use Rattle.std.proofs.Common.{◌≡◌, true, List, find, Option, Some, None, IfSome, ap, ◌∙◌}
 use Rattle.std.specs.Option.{option_map}
 use Rattle.std.proofs.lemmas.Bool.{and_parts}
 use Rattle.conn_state.specs.Use.{is_live_at}

@@ -1,5 +1,5 @@
 -- The governor's rules, by their numbers.
-use Rattle.std.specs.Prelude.{ℕ, List, [], ◌∷◌}
+use Rattle.std.specs.Prelude.{ℕ, List}
 use Rattle.govern_rules.specs.BigRules.{big_orders}
 use Rattle.govern_rules.specs.Rules.{g2_orders, g3_orders, g4_orders, g5_orders, g6_orders, g7_orders, g8_orders, g9_orders}
 use Rattle.govern_rules.specs.declared.big_rule.BigRule.{BigRule}

@@ -3,13 +3,11 @@ ghost use Rattle.machine.specs.Effect.{for_each};
 ghost use Rattle.machine.specs.Peers.{peer_is_ordinary};
 ghost use Rattle.machine.specs.Provided.{targets_are, big_targets_are, comes_ordinary, locals_are, is_wanted_big, comes_big, bigs_are};
 ghost use Rattle.node_engine.specs.State.{Does, DoesSilently};
-ghost use Rattle.root_groups.specs.Cleaned.{members_of};
+ghost use Rattle.root_groups.specs.Cleaned.{cleaned, members_of};
 
 use super::NodeState;
 use churn_clock::effective_big;
-use net_base::{
-    ActionList, Addr, AddrList, BigTargets, GroupList, OutOfMemory, Targets,
-};
+use net_base::{ActionList, Addr, AddrList, BigTargets, GroupList, OutOfMemory, Targets};
 use root_groups::Groups;
 use std::alloc::Global;
 
@@ -38,11 +36,19 @@ impl NodeState {
     ) -> Result<(), OutOfMemory>
         ensures { OnOk result (Does (locals_are groups.now self.old) actions.old self.new actions.new) }
     {
-        let own = self.connections.settings().own;
-        self.groups = Groups::replace(self.alloc, groups, own)?;
+        self.keep_groups(groups)?;
         let members = members_of(self.alloc, &self.groups)?;
         self.are_ordinary(members.as_slice());
         self.come_ordinary(members.as_slice(), actions)
+    }
+
+    // No address is kept twice, nor the own one.
+    fn keep_groups(&mut self, groups: &GroupList) -> Result<(), OutOfMemory>
+        ensures { OnOk result (self.new ≡ record self.old { groups = cleaned self.old.settings.own groups.now }) }
+    {
+        let own = self.connections.settings().own;
+        self.groups = Groups::replace(self.alloc, groups, own)?;
+        Ok(())
     }
 
     // Big ledger peers with some addresses become ordinary ones.

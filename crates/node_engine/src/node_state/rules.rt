@@ -99,12 +99,7 @@ impl NodeState {
     }
 
     // What a rule for ordinary peers orders.
-    fn orders_by(
-        &self,
-        rule: Rule,
-        word: u64,
-        picker: &Picker,
-    ) -> Result<OrderList, OutOfMemory>
+    fn orders_by(&self, rule: Rule, word: u64, picker: &Picker) -> Result<OrderList, OutOfMemory>
         ensures { IfOk result (λ orders. orders ≡ orders_by word rule self.now) }
     {
         let alloc = self.alloc;
