@@ -59,11 +59,9 @@ found_known cid m o is = subst (λ p. IfSome p (λ f. (f.cid ≡ cid) × IsKnown
     some None there = tt
     some (Some e) there =
         let own : e.facts.cid ≡ cid = same_id cid e.facts (subst (λ p. IfSome p (λ x. has_id cid.0 x.facts ≡ true)) there
-        (IfSome-find (λ x. has_id cid.0 x.facts) m.connections)) in (
-          own,
-          subst (λ n. IsSomeAnd (entry_at n m) (λ x. x.facts ≡ e.facts)) (ap (λ i. i.0) (sym own))
-              (subst (λ p. IsSomeAnd p (λ x. x.facts ≡ e.facts)) (sym there) refl),
-        )
+        (IfSome-find (λ x. has_id cid.0 x.facts) m.connections)) in
+        (own, subst (λ n. IsSomeAnd (entry_at n m) (λ x. x.facts ≡ e.facts)) (ap (λ i. i.0) (sym own))
+        (subst (λ p. IsSomeAnd p (λ x. x.facts ≡ e.facts)) (sym there) refl))
 
 pub at_entry : (P : Entry → Type 0) (o : Option Entry) (e : Entry) → o ≡ Some e → P e → IfSome o P
 at_entry P o e is h = subst (λ p. IfSome p P) (sym is) h

@@ -1,5 +1,5 @@
 -- Connections that end: one of too many, one that gives way to another, one whose time is over.
-use Rattle.std.proofs.Common.{◌≡◌, ℕ, ◌<◌, ◌≤◌, true, List, Option, Some, None, IfSome, IsSomeAnd, All, refl, sym, ap, subst, ◌∙◌}
+use Rattle.std.proofs.Common.{◌≡◌, ℕ, ◌<◌, ◌≤◌, true, false, List, Option, Some, None, IfSome, IsSomeAnd, All, refl, sym, ap, subst, ◌∙◌, arith}
 use Rattle.std.specs.Option.{unwrap_or}
 use Rattle.std.proofs.lemmas.Bool.{lt-leb, and_parts}
 use Rattle.std.proofs.lemmas.List.Elements.{All-nil, All-contains}

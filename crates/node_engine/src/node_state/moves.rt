@@ -111,7 +111,11 @@ impl NodeState {
 
     // A connection has come into this node's use: its name is told, its peer is warm, and a keep-alive is sent, to
     // which a reply is owed.
-    fn comes_into_use(&mut self, before: Facts, actions: &mut ActionList) -> Result<(), OutOfMemory>
+    fn comes_into_use(
+        &mut self,
+        before: Facts,
+        actions: &mut ActionList,
+    ) -> Result<(), OutOfMemory>
         requires { IsSome (entry_at before.cid.0 self.old) }
         ensures { OnOk result (DoesTo before.cid.0 (is_used_from before) actions.old self.old self.new actions.new) }
     {
@@ -146,7 +150,11 @@ impl NodeState {
     }
 
     // A connection is given out of use.
-    fn let_use_go(&mut self, facts: Facts, actions: &mut ActionList) -> Result<(), OutOfMemory>
+    fn let_use_go(
+        &mut self,
+        facts: Facts,
+        actions: &mut ActionList,
+    ) -> Result<(), OutOfMemory>
         requires known { IsKnown facts self.old }
         requires used { facts.local ≡ true }
         ensures { OnOk result (DoesTo facts.cid.0

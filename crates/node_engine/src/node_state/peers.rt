@@ -105,7 +105,12 @@ impl NodeState {
 }
 
 // The temperature of a peer is told where it is another one than before.
-fn tell_temp(addr: Addr, old: Temp, new: Temp, actions: &mut ActionList) -> Result<(), OutOfMemory>
+fn tell_temp(
+    addr: Addr,
+    old: Temp,
+    new: Temp,
+    actions: &mut ActionList,
+) -> Result<(), OutOfMemory>
     ensures { OnOk result (actions.new ≡ actions.old ++ temp_notice addr old new) }
 {
     if old == new {

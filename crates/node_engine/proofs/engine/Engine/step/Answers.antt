@@ -1,5 +1,6 @@
 use Rattle.std.proofs.Common.{ap, arith}
 use Rattle.laws.proofs.Events.{step-sound}
+use Rattle.machine.specs.Events.{step}
 use Rattle.machine.specs.Machine.{Machine}
 use Rattle.node_engine.proofs.Ids.{step-ids}
 use Rattle.node_engine.proofs.engine.Engine.step.Goals as goal

@@ -1,5 +1,6 @@
-use Rattle.std.proofs.Common.{◌≡◌, true, ap, sym, ◌∙◌, arith}
+use Rattle.std.proofs.Common.{◌≡◌, ◌<◌, true, ap, subst, sym, ◌∙◌, arith}
 use Rattle.std.proofs.lemmas.Result.{on_ok_weaker}
+use Rattle.machine.specs.Machine.{counted_in}
 use Rattle.net_base.specs.Address.{address_below}
 use Rattle.node_engine.proofs.Ends.{GivesWay, gives_way, cross_does}
 use Rattle.node_engine.proofs.node_state.NodeState.cross.Goals.{In_ok-end}

@@ -1,4 +1,4 @@
-use Rattle.std.proofs.Common.{ap, sym, ◌∙◌}
+use Rattle.std.proofs.Common.{◌≡◌, ap, sym, ◌∙◌}
 use Rattle.conn_state.specs.Use.{has_id, facts_at}
 use Rattle.machine.specs.Machine.{facts_of}
 use Rattle.node_engine.proofs.FindLemmas.{find-facts}

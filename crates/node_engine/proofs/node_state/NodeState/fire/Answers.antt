@@ -1,3 +1,4 @@
+use Rattle.std.proofs.Common.{◌≡◌}
 use Rattle.node_engine.proofs.Ends.{grace_due}
 use Rattle.node_engine.proofs.node_state.NodeState.fire.Goals as goal
 

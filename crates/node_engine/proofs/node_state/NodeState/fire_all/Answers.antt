@@ -1,7 +1,7 @@
 use Rattle.std.proofs.Common.{◌∙◌, sym, subst}
 use Rattle.laws.specs.Sound.{IsOrderly}
 use Rattle.laws.proofs.Firing.{fires-lowers}
-use Rattle.node_engine.proofs.FireLemmas.{IsFiring-more, Does-when_none, Does-when_all}
+use Rattle.node_engine.proofs.FireLemmas.{IsFiring-none, IsFiring-more, Does-when_none, Does-when_all}
 use Rattle.node_engine.proofs.node_state.NodeState.fire_all.Goals as goal
 
 pub returns-in-None : goal.returns-in-None

@@ -1,3 +1,4 @@
+use Rattle.std.proofs.Common.{◌≡◌}
 use Rattle.laws.specs.Sound.{IsOrderly}
 use Rattle.node_engine.proofs.FireLemmas.{IsFiring}
 use Rattle.node_engine.proofs.node_state.NodeState.fire_all.Given as goal

@@ -1,3 +1,4 @@
+use Rattle.std.proofs.Common.{◌≡◌}
 use Rattle.std.proofs.lemmas.Result.{on_ok_weaker}
 use Rattle.node_engine.proofs.Doings.{released_does}
 use Rattle.node_engine.proofs.node_state.NodeState.release.Goals as goal
