@@ -70,14 +70,14 @@ is_temp Hot Hot h = refl
 -- ---- who may be given an order
 
 -- a test of a rule gives what its order needs
-Gives : (Machine → Addr → Type 0) → (Peer → Bool) → Machine → Type 0
+unfoldable pub Gives : (Machine → Addr → Type 0) → (Peer → Bool) → Machine → Type 0
 Gives May test m = (p : Peer) → test p ≡ true → peer_at p.addr m ≡ Some p → May m p.addr
 
 promote-gives : (m : Machine) → IsOrdered m → Gives MayPromote (is_eligible m.now (map link_of m.connections)) m
 unfolding Gives
 promote-gives m h p passes found = eligible-may p m h passes found
 
-forget-gives : (m : Machine) → Gives MayForget (may_be_forgotten (map link_of m.connections)) m
+pub forget-gives : (m : Machine) → Gives MayForget (may_be_forgotten (map link_of m.connections)) m
 unfolding Gives
 forget-gives m p passes found =
     let links : List Link = map link_of m.connections in
@@ -121,7 +121,7 @@ activate-gives m p passes found =
     (is_temp p.temp Warm (and_parts (same_temp p.temp Warm) (not (owes_on_2 (map link_of m.connections) p.addr)) passes).0)
 
 -- a stricter test gives it too
-and-gives : (May : Machine → Addr → Type 0) (among : Peer → Bool) (test : Peer → Bool) (m : Machine) → Gives May test m →
+pub and-gives : (May : Machine → Addr → Type 0) (among : Peer → Bool) (test : Peer → Bool) (m : Machine) → Gives May test m →
     Gives May (λ p. among p && test p) m
 unfolding Gives
 and-gives May among test m gives p passes found = gives p (and_parts (among p) (test p) passes).1 found
@@ -139,11 +139,18 @@ class-trimmed Law May order each big word number test m h within gives =
 -- ---- rules by the valencies
 
 -- the orders of a group
-abbrev members_orders : (Addr → Order) → ℕ → (Group → ℕ) → (Peer → Bool) → Machine → Group → List Order
+abbrev pub members_orders : (Addr → Order) → ℕ → (Group → ℕ) → (Peer → Bool) → Machine → Group → List Order
 members_orders order word number test m g = orders_for false word order (number g) (is_member_and g test) m.peers
 
-abbrev members_chosen : ℕ → (Group → ℕ) → (Peer → Bool) → Machine → Group → List Addr
+abbrev pub members_chosen : ℕ → (Group → ℕ) → (Peer → Bool) → Machine → Group → List Addr
 members_chosen word number test m g = chosen false word (number g) (is_member_and g test) m.peers
+
+pub members_picks : (word : ℕ) (number : Group → ℕ) (test : Peer → Bool) (m : Machine) → IsOrdered m → PicksMembers (members_chosen word number test m)
+members_picks word number test m h = record {
+  apart = λ g. chosen-apart false word (number g) (is_member_and g test) m.peers h.formed.peers;
+  members = λ g. chosen-all (λ a. is_listed a g.members ≡ true) false word (number g) (is_member_and g test) m.peers h.formed.peers
+      (λ p passes found. (and_parts (is_listed p.addr g.members) (test p) passes).0);
+}
 
 groups-trimmed : (Law : Move → Type 0) (May : Machine → Addr → Type 0) (order : Addr → Order) → Carries Law May order → (word : ℕ) (number : Group → ℕ) (test : Peer → Bool)
     (m : Machine) → IsOrdered m → counted_in m ≤ m.settings.hard → Gives May test m →
@@ -151,13 +158,8 @@ groups-trimmed : (Law : Move → Type 0) (May : Machine → Addr → Type 0) (or
 unfolding Gives
 groups-trimmed Law May order each word number test m h within gives =
     let pick : Group → List Addr = members_chosen word number test m in
-    let picks : PicksMembers pick = record {
-      apart = λ g. chosen-apart false word (number g) (is_member_and g test) m.peers h.formed.peers;
-      members = λ g. chosen-all (λ a. is_listed a g.members ≡ true) false word (number g) (is_member_and g test) m.peers h.formed.peers
-          (λ p passes found. (and_parts (is_listed p.addr g.members) (test p) passes).0);
-    } in
     subst (λ orders. Trimmed Law m (for_each carries_out orders m)) (sym (map-groups order pick m.groups))
-    (orders-trimmed Law May order each (flat_map pick m.groups) m h within (groups_picks-apart pick m.groups picks h.formed.groups)
+    (orders-trimmed Law May order each (flat_map pick m.groups) m h within (groups_picks-apart pick m.groups (members_picks word number test m h) h.formed.groups)
     (groups_picks-all (May m) pick m.groups (λ g. chosen-all (May m) false word (number g) (is_member_and g test) m.peers h.formed.peers
     (λ p passes found. gives p (and_parts (is_listed p.addr g.members) (test p) passes).1 found))))
 
@@ -179,7 +181,7 @@ map-append order (x ∷ xs) ys = ap (λ orders. order x ∷ orders) (map-append 
 -- ---- each rule
 
 -- what a rule does with a machine that is in order and within the limit
-DoesLawful : Faults → (Machine → Effect) → Type 0
+unfoldable pub DoesLawful : Faults → (Machine → Effect) → Type 0
 DoesLawful faults act = (m : Machine) → IsOrdered m → counted_in m ≤ m.settings.hard → Trimmed (IsLawful faults) m (act m)
 
 -- promotions and activations are lawful where they are within what is wanted
@@ -259,7 +261,7 @@ all-rules faults (r ∷ rs) h m o within =
     trimmed_then (IsLawful faults) m effect (for_each rules rs) first
     (all-rules faults rs h.1 effect.machine first.ordered (trimmed-within (IsLawful faults) m effect first))
 
-big-rules : (faults : Faults) (word : ℕ) → AllByRecursion (λ orders. DoesLawful faults (rules orders)) (big_rules word)
+pub big-rules : (faults : Faults) (word : ℕ) → AllByRecursion (λ orders. DoesLawful faults (rules orders)) (big_rules word)
 unfolding DoesLawful
 big-rules faults word = (
   (λ m h within. class-trimmed (IsLawful faults) MayForget Forget (forget-carried (IsLawful faults)) true word _ _ m h within (forget-gives m)),
@@ -275,7 +277,7 @@ big-rules faults word = (
   ),
 )
 
-ordinary-rules : (faults : Faults) (word : ℕ) → AllByRecursion (λ orders. DoesLawful faults (rules orders)) (ordinary_rules word)
+pub ordinary-rules : (faults : Faults) (word : ℕ) → AllByRecursion (λ orders. DoesLawful faults (rules orders)) (ordinary_rules word)
 unfolding DoesLawful
 ordinary-rules faults word = (
   (λ m h within. class-trimmed (IsLawful faults) MayAsk (λ addr. Ask addr _) (ask-carried (IsLawful faults) _) false word _ _ m h within (ask-gives m h)),
@@ -296,7 +298,7 @@ ordinary-rules faults word = (
   ),
 )
 
-asks_roots-keeps : (m : Machine) → IsOrdered m → Keeps 0 m (asks_roots m).machine
+pub asks_roots-keeps : (m : Machine) → IsOrdered m → Keeps 0 m (asks_roots m).machine
 asks_roots-keeps m h = cond_both (may_ask m.now m.targets.root m.roots)
     (tells (AskRoots (record { 0 = m.roots.next_job }) ∷ []) (record m { roots = asked m.roots })) (nothing_more m)
     (λ effect. Keeps 0 m effect.machine)

@@ -10,6 +10,7 @@ pub mod Settings
 mod Finds
 mod Shapes
 mod Effects
+pub mod Carrying
 mod Chosen
 mod Governing
 mod GroupsApart
@@ -20,7 +21,7 @@ mod Owing
 mod Sharing
 mod Ordinary
 mod OwnAddress
-mod Keeping
+pub mod Keeping
 mod WholeMoves
 mod Trims
 pub mod Remains

@@ -97,10 +97,10 @@ dial-keeps addr m h none ready =
 
 -- ---- what a promotion leaves at other addresses
 
-dial-elsewhere : (addr b : Addr) (m : Machine) → same_address b addr ≡ false → live_entry_at b (dial addr m).machine ≡ live_entry_at b m
+pub dial-elsewhere : (addr b : Addr) (m : Machine) → same_address b addr ≡ false → live_entry_at b (dial addr m).machine ≡ live_entry_at b m
 dial-elsewhere addr b m other = come_elsewhere m (fresh_entry (dialing m.next_id addr)) b other
 
-acquire-elsewhere : (b : Addr) (m : Machine) (e : Entry) (k : ℕ) → IsOrdered m → StandsAt m.connections k e → same_address b e.facts.addr ≡ false →
+pub acquire-elsewhere : (b : Addr) (m : Machine) (e : Entry) (k : ℕ) → IsOrdered m → StandsAt m.connections k e → same_address b e.facts.addr ≡ false →
     live_entry_at b (acquire e m).machine ≡ live_entry_at b m
 acquire-elsewhere b m e k h s other =
     let new : Entry = owing 8 (e.facts.cid.0 % 65536) m (record e { facts = acquired e.facts }) in
@@ -219,6 +219,23 @@ acquirable_in addr (e ∷ es) h = by_test (same_address e.facts.addr addr && is_
         let rest : AcquirableIn addr es = later found in
         record { entry = rest.entry; place = suc rest.place; stands = stands_next e rest.entry es rest.place rest.stands; at = rest.at; acquirable = rest.acquirable }
 
+-- what the links call acquirable is the live connection of its address
+pub record TakesAt (addr : Addr) (m : Machine) : Type 0 where
+  pub entry : Entry
+  pub found : live_entry_at addr m ≡ Some entry
+  pub acquirable : is_acquirable entry.facts ≡ true
+
+pub acquirable-live : (addr : Addr) (m : Machine) → IsOrdered m → acquirable_link (map link_of m.connections) addr ≡ true → TakesAt addr m
+acquirable-live addr m h e =
+    let a : AcquirableIn addr m.connections = acquirable_in addr m.connections e in
+    let live : is_live a.entry.facts ≡ true = negotiated-live a.entry.facts.phase (can_acquire a.entry.facts a.acquirable).negotiated in
+    record {
+      entry = a.entry;
+      found = find_only (λ x. is_live_at addr x.facts) a.entry m.connections a.place (live_one addr m h.orderly.addresses) a.stands
+          (and_from (same_address a.entry.facts.addr addr) (is_live a.entry.facts) a.at live);
+      acquirable = a.acquirable;
+    }
+
 linked-free : (addr : Addr) (m : Machine) → IsOrdered m →
     (not (is_linked (map link_of m.connections) addr) || acquirable_link (map link_of m.connections) addr) ≡ true → MayBy (live_entry_at addr m)
 linked-free addr m h either = by_link (is_linked (map link_of m.connections) addr) refl either
@@ -226,12 +243,8 @@ linked-free addr m h either = by_link (is_linked (map link_of m.connections) add
     by_link : (b : Bool) → is_linked (map link_of m.connections) addr ≡ b → (not b || acquirable_link (map link_of m.connections) addr) ≡ true → MayBy (live_entry_at addr m)
     by_link false is e = subst MayBy (sym (unlinked-none addr m.connections is)) tt
     by_link true is e =
-        let a : AcquirableIn addr m.connections = acquirable_in addr m.connections e in
-        let live : is_live a.entry.facts ≡ true = negotiated-live a.entry.facts.phase (can_acquire a.entry.facts a.acquirable).negotiated in
-        let found : live_entry_at addr m ≡ Some a.entry =
-        find_only (λ x. is_live_at addr x.facts) a.entry m.connections a.place (live_one addr m h.orderly.addresses) a.stands
-        (and_from (same_address a.entry.facts.addr addr) (is_live a.entry.facts) a.at live) in
-        subst MayBy (sym found) a.acquirable
+        let a : TakesAt addr m = acquirable-live addr m h e in
+        subst MayBy (sym a.found) a.acquirable
 
 pub eligible-may : (p : Peer) (m : Machine) → IsOrdered m → is_eligible m.now (map link_of m.connections) p ≡ true → peer_at p.addr m ≡ Some p →
     MayPromote m p.addr

@@ -295,7 +295,7 @@ taken-ties addr m alone ties =
 
 -- ---- a connection comes
 
-find-push_other : {X : Type 0} (p : X → Bool) (new : X) (xs : List X) → p new ≡ false → find p (xs ++ new ∷ []) ≡ find p xs
+pub find-push_other : {X : Type 0} (p : X → Bool) (new : X) (xs : List X) → p new ≡ false → find p (xs ++ new ∷ []) ≡ find p xs
 find-push_other p new [] h = rw h refl
 find-push_other p new (x ∷ xs) h = ap (λ o. cond (p x) (Some x) o) (find-push_other p new xs h)
 

@@ -1,4 +1,5 @@
 pub mod AtMoves
+pub mod Carrying
 pub mod Laws
 pub mod Sound
 pub mod Whole

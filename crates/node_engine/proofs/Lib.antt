@@ -9,6 +9,9 @@ pub mod GreetLemmas
 pub mod Ids
 pub mod StreamIds
 pub mod StreamLemmas
+pub mod Going
+pub mod LocalUse
+pub mod RuleSteps
 pub mod TalkFeeds
 pub mod TalkFinds
 pub mod TalkLooks

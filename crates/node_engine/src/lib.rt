@@ -11,6 +11,7 @@ mod own;
 mod refusal;
 mod replies;
 mod reply;
+mod rule;
 mod talk;
 mod tally;
 

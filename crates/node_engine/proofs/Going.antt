@@ -1,0 +1,83 @@
+-- One part after another for each of a list: what is left of it after some of them.
+use Rattle.std.proofs.Common.{◌≡◌, List, [], ◌∷◌, ◌++◌, append_assoc, append-nil, refl, sym, ap, subst, ◌∙◌}
+use Rattle.net_base.specs.declared.action.Action.{Action}
+use Rattle.govern_rules.specs.declared.order.Order.{Order}
+use Rattle.machine.specs.Effect.{Effect, for_each}
+use Rattle.machine.specs.Govern.{carries_out, rules}
+use Rattle.machine.specs.Machine.{Machine}
+use Rattle.laws.specs.Carrying.{MayCarry, MayAll, MayFollow}
+use Rattle.node_engine.specs.State.{Does, DoesSilently}
+
+-- The rest leads where all of them lead.
+pub record IsGoing {X : Type 0} (act : X → Machine → Effect) (all rest : List X) (first : Machine) (before : List Action) (m : Machine) (after : List Action) : Type 0 where
+  pub machine_left : (for_each act all first).machine ≡ (for_each act rest m).machine
+  pub actions_left : before ++ (for_each act all first).actions ≡ after ++ (for_each act rest m).actions
+
+pub going-none : {X : Type 0} (act : X → Machine → Effect) (all : List X) (m : Machine) (before : List Action) → IsGoing act all all m before m before
+going-none act all m before = record { machine_left = refl; actions_left = refl }
+
+pub going-more : {X : Type 0} (act : X → Machine → Effect) (all rest more : List X) (x : X) (first : Machine) (before : List Action)
+    (m : Machine) (after : List Action) (n : Machine) (told : List Action) → rest ≡ x ∷ more → IsGoing act all rest first before m after →
+    Does (act x m) after n told → IsGoing act all more first before n told
+unfolding for_each
+going-more {X} act all rest more x first before m after n told next h does =
+    let k : IsGoing act all (x ∷ more) first before m after = subst (λ (xs : List X). IsGoing act all xs first before m after) next h in
+    record {
+      machine_left = k.machine_left ∙ ap (λ o. (for_each act more o).machine) (sym does.machine_is);
+      actions_left = k.actions_left ∙ rw (does.actions_are, does.machine_is, append_assoc) refl;
+    }
+
+pub going-all : {X : Type 0} (act : X → Machine → Effect) (all rest : List X) (first : Machine) (before : List Action) (m : Machine) (after : List Action) →
+    rest ≡ [] → IsGoing act all rest first before m after → Does (for_each act all first) before m after
+unfolding for_each
+going-all {X} act all rest first before m after done h =
+    let k : IsGoing act all [] first before m after = subst (λ (xs : List X). IsGoing act all xs first before m after) done h in
+    record { machine_is = sym k.machine_left; actions_are = sym (k.actions_left ∙ append-nil after) }
+
+-- the same of parts that tell nothing
+pub record IsGoingSilently {X : Type 0} (act : X → Machine → Effect) (all rest : List X) (first : Machine) (m : Machine) : Type 0 where
+  pub going : (before : List Action) → IsGoing act all rest first before m before
+
+pub silently-none : {X : Type 0} (act : X → Machine → Effect) (all : List X) (m : Machine) → IsGoingSilently act all all m m
+silently-none act all m = record { going = going-none act all m }
+
+pub silently-more : {X : Type 0} (act : X → Machine → Effect) (all rest more : List X) (x : X) (first m n : Machine) → rest ≡ x ∷ more →
+    IsGoingSilently act all rest first m → DoesSilently (act x m) n → IsGoingSilently act all more first n
+silently-more act all rest more x first m n next h does = record {
+  going = λ before. going-more act all rest more x first before m before n before next (h.going before)
+      (record { machine_is = does.machine_is; actions_are = does.tells_nothing before });
+}
+
+pub silently-all : {X : Type 0} (act : X → Machine → Effect) (all rest : List X) (first m : Machine) → rest ≡ [] →
+    IsGoingSilently act all rest first m → DoesSilently (for_each act all first) m
+silently-all act all rest first m done h = record {
+  machine_is = (going-all act all rest first [] m [] done (h.going [])).machine_is;
+  tells_nothing = λ before. (going-all act all rest first before m before done (h.going before)).actions_are;
+}
+
+-- ---- orders that may be carried out
+
+pub may-first : (rest more : List Order) (order : Order) (m : Machine) → rest ≡ order ∷ more → MayAll rest m → MayCarry order m
+unfolding MayAll
+may-first rest more order m next may =
+    let h : MayAll (order ∷ more) m = subst (λ os. MayAll os m) next may in h.0
+
+pub may-more : (rest more : List Order) (order : Order) (m n : Machine) (after told : List Action) → rest ≡ order ∷ more → MayAll rest m →
+    Does (carries_out order m) after n told → MayAll more n
+unfolding MayAll
+may-more rest more order m n after told next may does =
+    let h : MayAll (order ∷ more) m = subst (λ os. MayAll os m) next may in
+    subst (MayAll more) (sym does.machine_is) h.1
+
+pub follow-first : (rest more : List (Machine → List Order)) (orders : Machine → List Order) (m : Machine) → rest ≡ orders ∷ more → MayFollow rest m →
+    MayAll (orders m) m
+unfolding MayFollow
+follow-first rest more orders m next may =
+    let h : MayFollow (orders ∷ more) m = subst (λ os. MayFollow os m) next may in h.0
+
+pub follow-more : (rest more : List (Machine → List Order)) (orders : Machine → List Order) (m n : Machine) (after told : List Action) → rest ≡ orders ∷ more →
+    MayFollow rest m → Does (rules orders m) after n told → MayFollow more n
+unfolding MayFollow
+follow-more rest more orders m n after told next may does =
+    let h : MayFollow (orders ∷ more) m = subst (λ os. MayFollow os m) next may in
+    subst (MayFollow more) (sym does.machine_is) h.1

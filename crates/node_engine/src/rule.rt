@@ -1,0 +1,20 @@
+/// The rules for ordinary peers that give orders, by their numbers.
+#[derive(Clone, Copy, Debug, PartialEq, Eq)]
+pub enum Rule {
+    /// Asks peers for addresses.
+    G2,
+    /// Forgets peers.
+    G3,
+    /// Promotes members of groups.
+    G4,
+    /// Promotes other peers.
+    G5,
+    /// Releases peers.
+    G6,
+    /// Activates members of groups.
+    G7,
+    /// Activates other peers.
+    G8,
+    /// Deactivates peers.
+    G9,
+}
