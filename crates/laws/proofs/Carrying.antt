@@ -42,13 +42,13 @@ use Rattle.laws.proofs.Entries.{turned-connections}
 use Rattle.laws.proofs.Finds.{find-set_other}
 use Rattle.laws.proofs.Governing.{members_picks, Gives, DoesLawful, forget-gives, and-gives, asks_roots-keeps, members_orders, members_chosen, ordinary-rules, big-rules}
 use Rattle.laws.proofs.Keeping.{IsOrdered}
-use Rattle.laws.proofs.Lawful.{no_faults, IsAllowed}
+use Rattle.laws.proofs.Lawful.{no_faults, IsAllowed, turns_at-connections}
 use Rattle.laws.proofs.Lists.{StandsAt, FoundIn, find_some, all-both, all-appended}
 use Rattle.laws.proofs.Orders.{Carries, Carried, still_may, IsCold, MayForget, forget-carried, says_done-machine}
 use Rattle.laws.proofs.PeersApart.{same_turned}
 use Rattle.laws.proofs.Promotions.{MayBy, MayPromote, promotes-carried, eligible-may, TakesAt, acquirable-live, dial-elsewhere, acquire-elsewhere}
 use Rattle.laws.proofs.Ties.{taken-elsewhere, find-push_other}
-use Rattle.laws.proofs.Trims.{Trimmed, trimmed-within, turns_at-connections}
+use Rattle.laws.proofs.Trims.{Trimmed, trimmed-within}
 
 -- ---- ids
 

@@ -74,7 +74,7 @@ impl NodeState {
         let own = own_info(self.connections.settings());
         let verdict = decide(role, &own, message);
         self.say(facts.cid, &verdict, &own, actions)?;
-        self.carry_out(facts, verdict, actions)
+        self.follow_verdict(facts, verdict, actions)
     }
 
     // What is sent before a verdict is carried out.
@@ -96,7 +96,7 @@ impl NodeState {
     }
 
     // A verdict is carried out.
-    fn carry_out(
+    fn follow_verdict(
         &mut self,
         facts: Facts,
         verdict: Verdict,

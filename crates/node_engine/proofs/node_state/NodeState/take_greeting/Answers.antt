@@ -14,11 +14,11 @@ pub returns : goal.returns
 returns c =
     let own_is : c.own_info-own.result ≡ own_info c.args.self.now.settings =
     c.own_info-own.ensures ∙ (ap own_info c.settings.ensures.value ∙ ap (λ m. own_info m.settings) c.self.view_is) in
-    does_other c.carry_out.result c.args.facts (judged c.decide-verdict.result) (greeted_by (Some c.args.message.now) c.args.side)
-    c.args.self.now c.carry_out.new.self c.say.new.actions c.args.actions.now c.carry_out.new.actions c.requires.known
+    does_other c.follow_verdict.result c.args.facts (judged c.decide-verdict.result) (greeted_by (Some c.args.message.now) c.args.side)
+    c.args.self.now c.follow_verdict.new.self c.say.new.actions c.args.actions.now c.follow_verdict.new.actions c.requires.known
     (λ e is same done. greeted-does c.args.message.now c.args.side c.args.facts e c.own_info-own.result c.decide-verdict.result
-    c.args.self.now c.carry_out.new.self c.args.actions.now c.say.new.actions c.carry_out.new.actions same own_is
+    c.args.self.now c.follow_verdict.new.self c.args.actions.now c.say.new.actions c.follow_verdict.new.actions same own_is
     (c.decide-verdict.ensures ∙ ap (λ r. verdict_of r c.own_info-own.result c.args.message.now) c.role_of-role.ensures)
     (sym (c.fits_side.ensures ∙ ap (λ r. fits_side r c.args.side c.args.message.now) c.role_of-role.ensures) ∙ c.if-not-fits_side.false)
     c.in_ok-say.ensures done)
-    c.carry_out.ensures
+    c.follow_verdict.ensures
