@@ -1,9 +1,8 @@
 -- A connection whose handshake is done: whatever comes in, the connections stay in order and within the limit.
-use Rattle.std.proofs.Common.{ℕ, ◌+◌, [], ◌∷◌, cond, not, is_some, ◌≤◌, ◌≡◌, Bool, true, false, ◌||◌, ◌==◌, nat_le, if◌then◌else◌, List, find, set, remove, Option, Some, None, Result, Ok, Err, refl, sym, ap, ◌∙◌, subst, arith, eqb-true, eq-eqb}
-use Rattle.std.specs.Option.{unwrap_or}
+use Rattle.std.proofs.Common.{ℕ, ◌+◌, [], ◌∷◌, cond, not, is_some, ◌≤◌, ◌≡◌, Bool, true, false, ◌||◌, ◌==◌, if◌then◌else◌, List, find, set, Option, Some, None, Result, Ok, Err, refl, sym, ap, ◌∙◌, subst, arith, eqb-true, eq-eqb}
 use Rattle.std.proofs.lemmas.Bool.{cond_both, both_ways, false≢true, or_left, or_right}
 use Rattle.net_base.specs.Address.{same_address}
-use Rattle.net_base.specs.declared.action.CloseCause.TheVariants.{Pruned, Fault}
+use Rattle.net_base.specs.declared.action.CloseCause.TheVariants.{Fault}
 use Rattle.net_base.specs.declared.action.FaultKind.{FaultKind}
 use Rattle.net_base.specs.declared.action.FaultKind.TheVariants.{Protocol, UnknownId}
 use Rattle.net_base.specs.declared.address.Addr.{Addr}
@@ -32,8 +31,7 @@ use Rattle.machine.specs.Connections.{with_entry, entry_turns, ending, trim, awa
 use Rattle.machine.specs.Talking.{replies, ends_if, served_at, begins, takes_requests, asked_as, shares_address, taken_of, takes_addresses, pays, brings, answered_as, talks}
 use Rattle.machine.specs.Replies.{reply_on, without_reply, paid}
 use Rattle.laws.proofs.Effects.{counted-running}
-use Rattle.laws.proofs.Entries.{TurnsInto, gone-connections, one_has_id, turned-connections}
-use Rattle.laws.proofs.Finds.{find-remove_other, find-remove_here}
+use Rattle.laws.proofs.Entries.{TurnsInto, one_has_id, turned-connections}
 use Rattle.laws.specs.AtMoves.{Faults, fault_of_request, fault_of_answer, fault_of, IsLawful, is_up, is_hot_peer, is_asked_connection, is_hot_or_asked, is_known, promotes, activates, shares}
 use Rattle.laws.proofs.KnownWanted.{takes-within}
 use Rattle.laws.proofs.Lawful.{ends_then, ends_same, ends_turned, Accounts, Obeys, IsQuiet, quiet-lawful, quiet-obeys, tells-quiet, turns_at-moves, turns_at-connections, comes-providing, shared-accounts, turns-obeys, IsAllowed, Within, allowed_within, as_move-obeys}
@@ -44,8 +42,8 @@ use Rattle.laws.proofs.Addresses.{same_address-true}
 use Rattle.laws.proofs.Owing.{paid-some}
 use Rattle.laws.proofs.Rises.{is_asked, is_hot, NoneConnected, or_each, rises_nowhere, same-connected, connected_then, IsNoHigher, turned-connected, changed-known}
 use Rattle.laws.proofs.Ties.{changed-ties, turned_here, turned_elsewhere, live_here, turns_at-elsewhere}
-use Rattle.laws.proofs.Trims.{lost-connections, Trimmed, HasMoved, keeps-trimmed, ending-trimmed, nothing-trimmed, trimmed_both, trimmed_then, trimmed-within, raised_then_trimmed, trim-trims, for_each_that-trimmed}
-use Rattle.laws.proofs.WholeMoves.{negotiated-live, awakes-keeps, idles-keeps, pays-keeps, ending-keeps}
+use Rattle.laws.proofs.Trims.{Trimmed, HasMoved, keeps-trimmed, ending-trimmed, nothing-trimmed, trimmed_both, trimmed_then, trimmed-within, raised_then_trimmed, trim-trims, for_each_that-trimmed}
+use Rattle.laws.proofs.WholeMoves.{negotiated-live, awakes-keeps, idles-keeps, pays-keeps}
 use Rattle.laws.proofs.OwnAddress.{IsOther, taken-other}
 use Rattle.laws.proofs.Remains.{trim-found}
 
