@@ -19,7 +19,7 @@ use trace_text::{HeadLine, Line, LineRefusal, Stage, read_line};
 const EVENTS_MOST: u64 = 1_000_000;
 
 /// What is kept of the lines of a trace that were read.
-#[derive(Debug, Drop)]
+#[derive(Drop)]
 pub(crate) struct Playback {
     pub alloc: Global,
     pub stage: Stage,
