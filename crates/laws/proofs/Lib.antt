@@ -40,3 +40,4 @@ mod Clock
 mod Spending
 mod Wanted
 mod EventMoves
+pub mod Ids

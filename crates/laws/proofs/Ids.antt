@@ -1,0 +1,340 @@
+-- How many ids an event gives out.
+use Rattle.std.proofs.Common.{ℕ, zero, suc, ◌+◌, ◌-◌, ◌%◌, ◌≤◌, ◌≡◌, Bool, true, false, cond, not, ◌&&◌, ◌||◌, ◌==◌, nat_le, if◌then◌else◌, List, [], ◌∷◌, ◌++◌, length, map, filter, find, flat_map, count_by, Option, Some, None, is_some, Result, Ok, Err, refl, sym, ap, ◌∙◌, subst, arith}
+use Rattle.std.specs.List.{AllByRecursion}
+use Rattle.std.specs.Option.{unwrap_or}
+use Rattle.std.proofs.lemmas.Bool.{cond_both}
+use Rattle.std.proofs.lemmas.List.{length-map}
+use Rattle.std.proofs.lemmas.List.Sums.{sum_by-cons}
+use Rattle.accept_gate.specs.Gate.{gate_of}
+use Rattle.accept_gate.specs.Prune.{choice_of}
+use Rattle.accept_gate.specs.declared.gate.Gate.{Gate}
+use Rattle.accept_gate.specs.declared.gate.Gate.TheVariants.{Free, Pause as PauseFor, Full as NoRoom}
+use Rattle.conn_state.specs.Moves.{released, acquired, awakened, expired}
+use Rattle.conn_state.specs.Use.{agreed_sharing, is_acquirable, is_live, is_pending, is_dialing, runs}
+use Rattle.hs_decide.specs.Agreement.{verdict_of}
+use Rattle.hs_decide.specs.Answers.{answer_of}
+use Rattle.hs_decide.specs.declared.verdict.Verdict.{Verdict}
+use Rattle.hs_decide.specs.declared.verdict.Verdict.TheVariants as verdict
+use Rattle.hs_message.specs.Reading.{message_of}
+use Rattle.hs_message.specs.declared.message.Message.{Message}
+use Rattle.mux_segment.specs.Protocols.{node_limits}
+use Rattle.mux_segment.specs.Stream.{FedBy, fed_by}
+use Rattle.mux_segment.specs.declared.fault.CutFault.{CutFault}
+use Rattle.mux_segment.specs.declared.item.Item.{Item}
+use Rattle.net_base.specs.Address.{same_address, address_below}
+use Rattle.net_base.specs.Peer.{failed_peer}
+use Rattle.net_base.specs.declared.action.Action.TheVariants.{AskRoots, Close}
+use Rattle.net_base.specs.declared.action.Away.TheVariants.{OwnAddr, Crossed, Present as AlreadyThere}
+use Rattle.net_base.specs.declared.action.CloseCause.{CloseCause}
+use Rattle.net_base.specs.declared.action.CloseCause.TheVariants.{Unused, Pruned, Overwritten, Refused, Query, Fault}
+use Rattle.net_base.specs.declared.action.FaultKind.{FaultKind}
+use Rattle.net_base.specs.declared.action.FaultKind.TheVariants.{Malformed, Protocol, HandshakeWait, ReplyWait}
+use Rattle.net_base.specs.declared.address.Addr.{Addr}
+use Rattle.net_base.specs.declared.connection.Cid.{Cid}
+use Rattle.net_base.specs.declared.connection.Facts.{Facts}
+use Rattle.net_base.specs.declared.connection.Phase.{Phase}
+use Rattle.net_base.specs.declared.connection.Phase.TheVariants.{Dialing, Greeting, Negotiated, Closing}
+use Rattle.net_base.specs.declared.event.Event.{Event}
+use Rattle.net_base.specs.declared.event.Event.TheVariants.{Now, Govern, Accepted, Dialed, Bytes, Closed, Aims, Locals, Roots, BigAims, Bigs}
+use Rattle.net_base.specs.declared.event.Group.{Group}
+use Rattle.net_base.specs.declared.event.Job.{Job}
+use Rattle.net_base.specs.declared.event.RootAnswer.{RootAnswer}
+use Rattle.net_base.specs.declared.event.RootAnswer.TheVariants.{Found, Failed}
+use Rattle.net_base.specs.declared.peer.Peer.{Peer}
+use Rattle.net_base.specs.declared.peer.Temp.TheVariants.{Cold, Warm, Hot}
+use Rattle.net_base.specs.declared.timer.Deadline.{Deadline}
+use Rattle.net_base.specs.declared.timer.Kind.{Kind}
+use Rattle.net_base.specs.declared.timer.Kind.TheVariants.{Handshake, Grace as GraceKind, TimeWait, Reply2, Reply8, Reply10}
+use Rattle.peer_book.specs.Book.{peer_at as peer_in, new_peer, entry_of, entered, with_peer as with_peer_in, without_peer}
+use Rattle.remote_watch.specs.Watch.{watched}
+use Rattle.remote_watch.specs.declared.seen.Seen.{Seen}
+use Rattle.root_groups.specs.Cleaned.{cleaned, is_listed, members_of}
+use Rattle.root_groups.specs.RootAsk.{awaits, publics_of, found, failed, may_ask, asked}
+use Rattle.warm_messages.specs.Reading.{share_of}
+use Rattle.warm_messages.specs.declared.share.Share.{Share}
+use Rattle.warm_messages.specs.declared.share.Share.TheVariants as share
+use Rattle.machine.specs.Machine.{Machine, Entry, Owed, counted_in, entry_at, live_entry_at}
+use Rattle.machine.specs.Effect.{Effect, unused, nothing_more, tells, then_do, as_move, for_each}
+use Rattle.machine.specs.Peers.{turns_at, peer_at, peer_changes, peer_fails, peer_succeeds, peer_becomes, peer_is_ordinary, peer_comes}
+use Rattle.machine.specs.Connections.{with_entry, without_entry, entry_turns, is_missed, lost, lost_by, ending, vanishes, closing_entry, grace_over, is_used, pruned_at, candidates_in, trim, release, awake, idle, dial, dial_opens, dial_fails}
+use Rattle.machine.specs.Deadlines.{due, fires_as, fires_on, fires, fires_some, fire_due, fire_all}
+use Rattle.machine.specs.Events.{clock_shows, turned_away, admitted, crossed, accepted_beside, accepted_through, peer_connects, closed_at, dial_ends_at}
+use Rattle.machine.specs.Greeting.{role_of, is_awaited, fits_side, told, judged, decided, greeted_by, greets}
+use Rattle.machine.specs.Own.{own_info}
+use Rattle.machine.specs.Provided.{comes_ordinary, locals_are, is_wanted_big, comes_big, bigs_are, roots_say, roots_answer}
+use Rattle.machine.specs.Replies.{owing, paid, reply_on}
+use Rattle.machine.specs.Stream.{handled_in, handled_at, handles, kind_of, faulted_at, fed_with, comes_in_phase, comes_in_at, bytes_come_in}
+use Rattle.machine.specs.Talking.{replies, ends_if, served_at, begins, takes_requests, asked_as, shares_address, taken_of, takes_addresses, pays, brings, answered_as, talks}
+use Rattle.machine.specs.Whole.{whole_step}
+use Rattle.laws.specs.Whole.{IsSteady, ArePeersApart, AreApart}
+use Rattle.laws.proofs.Keeping.{note-machine}
+use Rattle.laws.proofs.Talks.{replies-machine}
+
+-- ---- a part that gives no id
+
+abbrev GivesNone : Machine → Machine → Type 0
+GivesNone before after = after.next_id ≤ before.next_id
+
+turns_at-none : (o : Option Peer) (change : Peer → Peer) (m : Machine) → GivesNone m (turns_at o change m).machine
+turns_at-none None change m = omega arith
+turns_at-none (Some p) change m = omega arith
+
+peer_comes-none : (big : Bool) (addr : Addr) (m : Machine) → GivesNone m (peer_comes big addr m).machine
+peer_comes-none big addr m =
+    rw (note-machine (entry_of addr m.peers) addr (record m { peers = entered (new_peer big addr) m.peers })) (omega arith)
+
+for_each-none : {X : Type 0} (act : X → Machine → Effect) → ((x : X) (m : Machine) → GivesNone m (act x m).machine) → (xs : List X) (m : Machine) →
+    GivesNone m (for_each act xs m).machine
+unfolding for_each
+for_each-none act each [] m = omega arith
+for_each-none act each (x ∷ xs) m =
+    let n : Machine = (act x m).machine in
+    omega (arith, each x m, for_each-none act each xs n)
+
+-- ---- a connection goes
+
+lost-none : (f : Facts) (m : Machine) → GivesNone m (lost f m).machine
+lost-none f m = cond_both (is_missed f) (peer_fails f.addr m) (nothing_more m) (λ effect. GivesNone m effect.machine)
+    (λ missed. turns_at-none (peer_at f.addr m) (failed_peer m.now m.settings.backoff) m) (λ other. omega arith)
+
+lost_by-none : (cause : CloseCause) (f : Facts) (m : Machine) → GivesNone m (lost_by cause f m).machine
+lost_by-none Unused f m = lost-none f m
+lost_by-none Pruned f m = lost-none f m
+lost_by-none Overwritten f m = omega arith
+lost_by-none Refused f m = lost-none f m
+lost_by-none Query f m = lost-none f m
+lost_by-none (Fault kind) f m = lost-none f m
+
+ending-none : (cause : CloseCause) (e : Entry) (m : Machine) → GivesNone m (ending cause e m).machine
+ending-none cause e m = lost_by-none cause e.facts (without_entry e.facts.cid.0 m)
+
+vanishes-none : (e : Entry) (m : Machine) → GivesNone m (vanishes e m).machine
+vanishes-none e m = lost-none e.facts (without_entry e.facts.cid.0 m)
+
+pruned_at-none : (o : Option Entry) (m : Machine) → GivesNone m (pruned_at o m).machine
+pruned_at-none None m = omega arith
+pruned_at-none (Some e) m = ending-none Pruned e m
+
+trim-none : (moved : Cid) (m : Machine) → GivesNone m (trim moved m).machine
+trim-none moved m =
+    let pruned : Option Entry = entry_at (unwrap_or (choice_of (candidates_in m)) moved).0 m in
+    cond_both (nat_le (counted_in m) m.settings.hard) (nothing_more m) (pruned_at pruned m) (λ effect. GivesNone m effect.machine)
+    (λ within. omega arith) (λ above. pruned_at-none pruned m)
+
+closed_at-none : (o : Option Entry) (m : Machine) → GivesNone m (closed_at o m).machine
+closed_at-none None m = omega arith
+closed_at-none (Some e) m = cond_both (is_live e.facts) (vanishes e m) (nothing_more m) (λ effect. GivesNone m effect.machine)
+    (λ live. vanishes-none e m) (λ dead. omega arith)
+
+-- ---- the clock
+
+grace_over-none : (e : Entry) (m : Machine) → GivesNone m (grace_over e m).machine
+grace_over-none e m = cond_both e.facts.local (entry_turns e (record e { facts = expired e.facts }) m) closed (λ effect. GivesNone m effect.machine)
+    (λ local. omega arith) (λ idle. omega arith)
+  where
+    closed : Effect
+    closed = as_move (unused e.facts.cid.0) m (then_do (tells (Close e.facts.cid Unused ∷ []) m) (entry_turns e (closing_entry m e)))
+
+fires_as-none : (kind : Kind) (e : Entry) (m : Machine) → GivesNone m (fires_as kind e m).machine
+fires_as-none Handshake e m = ending-none (Fault HandshakeWait) e m
+fires_as-none GraceKind e m = grace_over-none e m
+fires_as-none TimeWait e m = omega arith
+fires_as-none Reply2 e m = ending-none (Fault ReplyWait) e m
+fires_as-none Reply8 e m = ending-none (Fault ReplyWait) e m
+fires_as-none Reply10 e m = ending-none (Fault ReplyWait) e m
+
+fires_on-none : (o : Option Entry) (kind : Kind) (m : Machine) → GivesNone m (fires_on o kind m).machine
+fires_on-none None kind m = omega arith
+fires_on-none (Some e) kind m = fires_as-none kind e m
+
+fire_due-none : (n : ℕ) (m : Machine) → GivesNone m (fire_due n m).machine
+unfolding fire_due
+fire_due-none zero m = omega arith
+fire_due-none (suc n) m = by_due (due m) (fire_due-none n)
+  where
+    by_due : (o : Option Deadline) → ((w : Machine) → GivesNone w (fire_due n w).machine) → GivesNone m (fires_some o (fire_due n) m).machine
+    by_due None later = omega arith
+    by_due (Some d) later =
+        let first = fires_on-none (entry_at d.cid.0 m) d.kind m in
+        omega (arith, first, later (fires d m).machine)
+
+clock_shows-none : (t : ℕ) (m : Machine) → GivesNone m (clock_shows t m).machine
+clock_shows-none t m =
+    let n : Machine = record m { now = t } in
+    cond_both (nat_le t m.now) (nothing_more m) (fire_all n) (λ effect. GivesNone m effect.machine) (λ past. omega arith) (λ later. fire_due-none _ n)
+
+-- ---- a dial ends
+
+dial_ends_at-none : (o : Option Entry) (opened : Bool) (m : Machine) → GivesNone m (dial_ends_at o opened m).machine
+dial_ends_at-none None opened m = omega arith
+dial_ends_at-none (Some e) opened m =
+    cond_both (is_dialing e.facts) (if opened then dial_opens e m else dial_fails e m) (nothing_more m) (λ effect. GivesNone m effect.machine)
+    (λ dials. cond_both opened (dial_opens e m) (dial_fails e m) (λ effect. GivesNone m effect.machine) (λ socket. omega arith) (λ failed. vanishes-none e m))
+    (λ other. omega arith)
+
+-- ---- what is set and provided
+
+comes_big-none : (addr : Addr) (m : Machine) → GivesNone m (comes_big addr m).machine
+comes_big-none addr m = cond_both (is_wanted_big addr m) _ (nothing_more m) (λ effect. GivesNone m effect.machine)
+    (λ wanted. peer_comes-none true addr m) (λ other. omega arith)
+
+locals_are-none : (groups : List Group) (m : Machine) → GivesNone m (locals_are groups m).machine
+locals_are-none groups m =
+    let members : List Addr = members_of (cleaned m.settings.own groups) in
+    let n : Machine = record m { groups = cleaned m.settings.own groups } in
+    let first = for_each-none peer_is_ordinary (λ addr o. turns_at-none (peer_at addr o) (λ p. record p { big = false }) o) members n in
+    let second = for_each-none comes_ordinary (λ addr o. peer_comes-none false addr o) members (for_each peer_is_ordinary members n).machine in
+    omega (arith, first, second)
+
+roots_say-none : (answer : RootAnswer) (m : Machine) → GivesNone m (roots_say answer m).machine
+roots_say-none (Found ttl addrs) m = for_each-none comes_ordinary (λ addr o. peer_comes-none false addr o) _ _
+roots_say-none Failed m = omega arith
+
+roots_answer-none : (job : Job) (answer : RootAnswer) (m : Machine) → GivesNone m (roots_answer job answer m).machine
+roots_answer-none job answer m = cond_both (awaits job.0 m.roots) (roots_say answer m) (nothing_more m) (λ effect. GivesNone m effect.machine)
+    (λ awaited. roots_say-none answer m) (λ other. omega arith)
+
+-- ---- the handshake
+
+is_used-none : (f : Facts) (e : Entry) (m : Machine) → GivesNone m (is_used f e m).machine
+is_used-none f e m = turns_at-none _ _ (with_entry (owing 8 (f.cid.0 % 65536) m (record e { facts = f })) m)
+
+judged-none : (v : Verdict) (e : Entry) (m : Machine) → GivesNone m (judged v e m).machine
+judged-none (verdict.Accept agreed) e m = omega arith
+judged-none (verdict.Refuse why) e m = ending-none Refused e m
+judged-none verdict.Query e m = ending-none Query e m
+judged-none (verdict.Agree agreed) e m = is_used-none _ e m
+judged-none verdict.Refused e m = ending-none Refused e m
+judged-none verdict.Wrong e m = ending-none (Fault Protocol) e m
+
+decided-none : (v : Verdict) (e : Entry) (m : Machine) → GivesNone m (decided v e m).machine
+decided-none v e m =
+    let said : Option (List ℕ) = answer_of v (own_info m.settings) in
+    let first = told-none said in
+    omega (arith, first, judged-none v e (told said e.facts.cid m).machine)
+  where
+    told-none : (o : Option (List ℕ)) → GivesNone m (told o e.facts.cid m).machine
+    told-none None = omega arith
+    told-none (Some bytes) = omega arith
+
+greeted_by-none : (o : Option Message) (side : ℕ) (e : Entry) (m : Machine) → GivesNone m (greeted_by o side e m).machine
+greeted_by-none None side e m = ending-none (Fault Malformed) e m
+greeted_by-none (Some message) side e m =
+    let v : Verdict = verdict_of (role_of e.facts.provenance) (own_info m.settings) message in
+    cond_both (fits_side (role_of e.facts.provenance) side message) (decided v e m) (ending (Fault Protocol) e m) (λ effect. GivesNone m effect.machine)
+    (λ fits. decided-none v e m) (λ other. ending-none (Fault Protocol) e m)
+
+greets-none : (item : Item) (e : Entry) (m : Machine) → GivesNone m (greets item e m).machine
+greets-none item e m = cond_both (item.id == 0 && is_awaited (role_of e.facts.provenance) item.side) (greeted_by (message_of item.body) item.side e m)
+    (ending (Fault Protocol) e m) (λ effect. GivesNone m effect.machine)
+    (λ awaited. greeted_by-none (message_of item.body) item.side e m) (λ other. ending-none (Fault Protocol) e m)
+
+-- ---- after the handshake
+
+awake-none : (protocol : ℕ) (e : Entry) (m : Machine) → GivesNone m (awake protocol e m).machine
+awake-none protocol e m = trim-none e.facts.cid (with_entry (record e { facts = awakened protocol e.facts }) m)
+
+served_at-none : (o : Option Entry) (seen : Seen) (protocol : ℕ) (m : Machine) → GivesNone m (served_at o seen protocol m).machine
+served_at-none None seen protocol m = omega arith
+served_at-none (Some e) seen protocol m =
+    subst (λ n. GivesNone m (ends_if seen.done protocol (entry_at e.facts.cid.0 n) n).machine) (sym (replies-machine seen.reply protocol e m))
+    (ends_if-none seen.done (entry_at e.facts.cid.0 m))
+  where
+    ends_if-none : (done : Bool) (o : Option Entry) → GivesNone m (ends_if done protocol o m).machine
+    ends_if-none true (Some x) = omega arith
+    ends_if-none true None = omega arith
+    ends_if-none false o = omega arith
+
+asked_as-none : (r : Result Seen FaultKind) (protocol : ℕ) (e : Entry) (m : Machine) → GivesNone m (asked_as r protocol e m).machine
+asked_as-none (Err kind) protocol e m = ending-none (Fault kind) e m
+asked_as-none (Ok seen) protocol e m =
+    let n : Machine = (begins protocol e m).machine in
+    let begun : GivesNone m n = cond_both (runs protocol e.facts.running) (nothing_more m) (awake protocol e m) (λ effect. GivesNone m effect.machine)
+    (λ running. omega arith) (λ stopped. awake-none protocol e m) in
+    cond_both (takes_requests e) (then_do (begins protocol e m) (λ o. served_at (entry_at e.facts.cid.0 o) seen protocol o)) (ending (Fault Protocol) e m)
+    (λ effect. GivesNone m effect.machine)
+    (λ takes. omega (arith, begun, served_at-none (entry_at e.facts.cid.0 n) seen protocol n)) (λ other. ending-none (Fault Protocol) e m)
+
+takes_addresses-none : (o : Option Share) (m : Machine) → GivesNone m (takes_addresses o m).machine
+takes_addresses-none None m = omega arith
+takes_addresses-none (Some (share.Request n)) m = omega arith
+takes_addresses-none (Some (share.Peers told)) m = for_each-none shares_address (λ addr o. peer_comes-none false addr o) (taken_of told m) m
+takes_addresses-none (Some share.Done) m = omega arith
+
+brings-none : (protocol : ℕ) (body : List ℕ) (e : Entry) (m : Machine) → GivesNone m (brings protocol body e m).machine
+brings-none protocol body e m =
+    let rest : Effect = if protocol == 8 then nothing_more m else takes_addresses (share_of body) m in
+    cond_both (protocol == 2) (peer_becomes Hot e.facts.addr m) rest (λ effect. GivesNone m effect.machine)
+    (λ chain_sync. turns_at-none (peer_at e.facts.addr m) (λ p. record p { temp = Hot }) m)
+    (λ other. cond_both (protocol == 8) (nothing_more m) (takes_addresses (share_of body) m) (λ effect. GivesNone m effect.machine)
+    (λ keep_alive. omega arith) (λ sharing. takes_addresses-none (share_of body) m))
+
+answered_as-none : (o : Option Owed) (item : Item) (e : Entry) (m : Machine) → GivesNone m (answered_as o item e m).machine
+answered_as-none None item e m = ending-none (Fault Protocol) e m
+answered_as-none (Some owed) item e m =
+    cond_both (pays owed item.body) (then_do (entry_turns e (paid item.id e) m) (brings item.id item.body e)) (ending (Fault Protocol) e m)
+    (λ effect. GivesNone m effect.machine)
+    (λ pays. brings-none item.id item.body e (with_entry (paid item.id e) m)) (λ other. ending-none (Fault Protocol) e m)
+
+talks-none : (item : Item) (e : Entry) (m : Machine) → GivesNone m (talks item e m).machine
+talks-none item e m =
+    let seen : Result Seen FaultKind = watched item.id (agreed_sharing e.facts.agreed) item.body in
+    cond_both (item.side == 0) (asked_as seen item.id e m) (answered_as (reply_on item.id e) item e m) (λ effect. GivesNone m effect.machine)
+    (λ request. asked_as-none seen item.id e m) (λ answer. answered_as-none (reply_on item.id e) item e m)
+
+-- ---- bytes
+
+handled_in-none : (phase : Phase) (item : Item) (e : Entry) (m : Machine) → GivesNone m (handled_in phase item e m).machine
+handled_in-none Dialing item e m = omega arith
+handled_in-none (Greeting until) item e m = greets-none item e m
+handled_in-none Negotiated item e m = talks-none item e m
+handled_in-none (Closing until) item e m = omega arith
+
+handled_at-none : (o : Option Entry) (item : Item) (m : Machine) → GivesNone m (handled_at o item m).machine
+handled_at-none None item m = omega arith
+handled_at-none (Some e) item m = handled_in-none e.facts.phase item e m
+
+faulted_at-none : (o : Option Entry) (fault : Option CutFault) (m : Machine) → GivesNone m (faulted_at o fault m).machine
+faulted_at-none (Some e) (Some fault) m = ending-none (Fault (kind_of fault)) e m
+faulted_at-none (Some e) None m = omega arith
+faulted_at-none None fault m = omega arith
+
+fed_with-none : (fed : FedBy) (e : Entry) (m : Machine) → GivesNone m (fed_with fed e m).machine
+fed_with-none fed e m =
+    let n : Machine = with_entry (record e { undecoded = fed.state.undecoded }) m in
+    let o : Machine = (for_each (handles e.facts.cid) fed.items n).machine in
+    let items = for_each-none (handles e.facts.cid) (λ item w. handled_at-none (entry_at e.facts.cid.0 w) item w) fed.items n in
+    omega (arith, items, faulted_at-none (entry_at e.facts.cid.0 o) fed.state.fault o)
+
+comes_in_phase-none : (phase : Phase) (bytes : List ℕ) (e : Entry) (m : Machine) → GivesNone m (comes_in_phase phase bytes e m).machine
+comes_in_phase-none Dialing bytes e m = omega arith
+comes_in_phase-none (Greeting until) bytes e m = fed_with-none _ e m
+comes_in_phase-none Negotiated bytes e m = fed_with-none _ e m
+comes_in_phase-none (Closing until) bytes e m = omega arith
+
+comes_in_at-none : (o : Option Entry) (bytes : List ℕ) (m : Machine) → GivesNone m (comes_in_at o bytes m).machine
+comes_in_at-none None bytes m = omega arith
+comes_in_at-none (Some e) bytes m = comes_in_phase-none e.facts.phase bytes e m
+
+-- ---- a peer connects
+
+abbrev GivesOne : Machine → Machine → Type 0
+GivesOne before after = after.next_id ≤ before.next_id + 1
+
+crossed-one : (addr : Addr) (e : Entry) (m : Machine) → GivesOne m (crossed addr e m).machine
+crossed-one addr e m = cond_both (address_below addr m.settings.own) (then_do (ending Overwritten e m) (admitted addr)) (turned_away Crossed m)
+    (λ effect. GivesOne m effect.machine) (λ below. omega (arith, ending-none Overwritten e m)) (λ above. omega arith)
+
+accepted_beside-one : (o : Option Entry) (addr : Addr) (m : Machine) → GivesOne m (accepted_beside o addr m).machine
+accepted_beside-one None addr m = omega arith
+accepted_beside-one (Some e) addr m = cond_both (is_pending e.facts) (crossed addr e m) (turned_away AlreadyThere m) (λ effect. GivesOne m effect.machine)
+    (λ pending. crossed-one addr e m) (λ other. omega arith)
+
+accepted_through-one : (gate : Gate) (addr : Addr) (m : Machine) → GivesOne m (accepted_through gate addr m).machine
+accepted_through-one Free addr m = accepted_beside-one (live_entry_at addr m) addr m
+accepted_through-one (PauseFor delay) addr m = accepted_beside-one (live_entry_at addr m) addr m
+accepted_through-one NoRoom addr m = omega arith
+
+peer_connects-one : (addr : Addr) (m : Machine) → GivesOne m (peer_connects addr m).machine
+peer_connects-one addr m = cond_both (same_address addr m.settings.own) (turned_away OwnAddr m) (accepted_through (gate_of m.settings (counted_in m)) addr m)
+    (λ effect. GivesOne m effect.machine) (λ own. omega arith) (λ other. accepted_through-one (gate_of m.settings (counted_in m)) addr m)
