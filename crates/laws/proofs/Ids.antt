@@ -9,7 +9,7 @@ use Rattle.accept_gate.specs.Gate.{gate_of}
 use Rattle.accept_gate.specs.Prune.{choice_of}
 use Rattle.accept_gate.specs.declared.gate.Gate.{Gate}
 use Rattle.accept_gate.specs.declared.gate.Gate.TheVariants.{Free, Pause as PauseFor, Full as NoRoom}
-use Rattle.conn_state.specs.Moves.{released, acquired, awakened, expired}
+use Rattle.conn_state.specs.Moves.{agreed_outbound, released, acquired, awakened, expired}
 use Rattle.conn_state.specs.Use.{agreed_sharing, is_acquirable, is_live, is_pending, is_dialing, runs}
 use Rattle.hs_decide.specs.Agreement.{verdict_of}
 use Rattle.hs_decide.specs.Answers.{answer_of}
@@ -68,9 +68,111 @@ use Rattle.machine.specs.Talking.{replies, ends_if, served_at, begins, takes_req
 use Rattle.machine.specs.Whole.{whole_step}
 use Rattle.laws.specs.Whole.{IsSteady, ArePeersApart, AreApart}
 use Rattle.laws.proofs.Keeping.{note-machine}
+use Rattle.laws.proofs.PeersApart.{with_peer-apart, filter-apart}
+use Rattle.laws.proofs.Spending.{AreSameBut, with_peer-same_but}
 use Rattle.laws.proofs.Talks.{replies-machine}
+use Rattle.laws.proofs.Ties.{found-addr}
 
--- ---- a part that gives no id
+-- ---- a part of a step
+
+-- how many peers have an address and a class that pass a test
+abbrev number_of : (Addr → Bool → Bool) → List Peer → ℕ
+number_of test = count_by (λ p. test p.addr p.big)
+
+-- At most so many ids are given, no peer comes, and none changes its class.
+record Gives (ids : ℕ) (before after : Machine) : Type 0 where
+  next_id : after.next_id ≤ before.next_id + ids
+  groups : after.groups ≡ before.groups
+  apart : ArePeersApart before.peers → ArePeersApart after.peers
+  fewer : ArePeersApart before.peers → (test : Addr → Bool → Bool) → number_of test after.peers ≤ number_of test before.peers
+
+gives_nothing : (m : Machine) → Gives 0 m m
+gives_nothing m = record { next_id = omega arith; groups = refl; apart = λ h. h; fewer = λ h test. omega arith }
+
+gives_then : (i j : ℕ) (m n o : Machine) → Gives i m n → Gives j n o → Gives (i + j) m o
+gives_then i j m n o first second = record {
+  next_id = omega (arith, first.next_id, second.next_id);
+  groups = second.groups ∙ first.groups;
+  apart = λ h. second.apart (first.apart h);
+  fewer = λ h test. omega (arith, first.fewer h test, second.fewer (first.apart h) test);
+}
+
+gives_more : (i j : ℕ) (m n : Machine) → i ≤ j → Gives i m n → Gives j m n
+gives_more i j m n more h = record { next_id = omega (arith, more, h.next_id); groups = h.groups; apart = h.apart; fewer = h.fewer }
+
+connections-gives : (connections : List Entry) (m : Machine) → Gives 0 m (record m { connections = connections })
+connections-gives connections m = record { next_id = omega arith; groups = refl; apart = λ h. h; fewer = λ h test. omega arith }
+
+same_but-number : (test : Addr → Bool → Bool) (addr : Addr) (ps qs : List Peer) → AreSameBut addr ps qs → number_of test qs ≡ number_of test ps
+unfolding AreSameBut
+same_but-number test addr [] [] h = refl
+same_but-number test addr [] (q ∷ qs) h = elim h [ ]
+same_but-number test addr (p ∷ ps) [] h = elim h [ ]
+same_but-number test addr (p ∷ ps) (q ∷ qs) h =
+    let here : cond {A = ℕ} (test q.addr q.big) 1 0 ≡ cond {A = ℕ} (test p.addr p.big) 1 0 =
+    ap (λ a. cond {A = ℕ} (test a q.big) 1 0) h.0.same_addr ∙ ap (λ b. cond {A = ℕ} (test p.addr b) 1 0) h.0.same_class in
+    let rest = same_but-number test addr ps qs h.1 in
+    let before = sum_by-cons (λ x. cond {A = ℕ} (test x.addr x.big) 1 0) p ps in
+    let after = sum_by-cons (λ x. cond {A = ℕ} (test x.addr x.big) 1 0) q qs in
+    omega (arith, here, rest, before, after)
+
+-- a change that keeps addresses and classes
+changes-gives : (addr : Addr) (change : Peer → Peer) (m : Machine) → ((p : Peer) → (change p).addr ≡ p.addr) → ((p : Peer) → (change p).big ≡ p.big) →
+    Gives 0 m (peer_changes addr change m).machine
+changes-gives addr change m same class = by_peer (peer_at addr m) refl
+  where
+    by_peer : (o : Option Peer) → peer_at addr m ≡ o → Gives 0 m (turns_at o change m).machine
+    by_peer None is = gives_nothing m
+    by_peer (Some p) is =
+        let new : Peer = change p in
+        let found : peer_in new.addr m.peers ≡ Some p = subst (λ a. peer_in a m.peers ≡ Some p) (sym (same p ∙ found-addr addr m.peers p is)) is in
+        record {
+          next_id = omega arith;
+          groups = refl;
+          apart = λ h. with_peer-apart new m.peers h;
+          fewer = λ h test.
+              let same_number = same_but-number test new.addr m.peers (with_peer_in new m.peers) (with_peer-same_but new p m.peers h found (class p)) in
+              omega (arith, same_number);
+        }
+
+-- ---- a connection goes
+
+lost-gives : (f : Facts) (m : Machine) → Gives 0 m (lost f m).machine
+lost-gives f m = cond_both (is_missed f) (peer_fails f.addr m) (nothing_more m) (λ effect. Gives 0 m effect.machine)
+    (λ missed. changes-gives f.addr (failed_peer m.now m.settings.backoff) m (λ p. refl) (λ p. refl)) (λ other. gives_nothing m)
+
+lost_by-gives : (cause : CloseCause) (f : Facts) (m : Machine) → Gives 0 m (lost_by cause f m).machine
+lost_by-gives Unused f m = lost-gives f m
+lost_by-gives Pruned f m = lost-gives f m
+lost_by-gives Overwritten f m = gives_nothing m
+lost_by-gives Refused f m = lost-gives f m
+lost_by-gives Query f m = lost-gives f m
+lost_by-gives (Fault kind) f m = lost-gives f m
+
+ending-gives : (cause : CloseCause) (e : Entry) (m : Machine) → Gives 0 m (ending cause e m).machine
+ending-gives cause e m =
+    let n : Machine = without_entry e.facts.cid.0 m in
+    gives_then 0 0 m n (lost_by cause e.facts n).machine (connections-gives n.connections m) (lost_by-gives cause e.facts n)
+
+pruned_at-gives : (o : Option Entry) (m : Machine) → Gives 0 m (pruned_at o m).machine
+pruned_at-gives None m = gives_nothing m
+pruned_at-gives (Some e) m = ending-gives Pruned e m
+
+trim-gives : (moved : Cid) (m : Machine) → Gives 0 m (trim moved m).machine
+trim-gives moved m =
+    let pruned : Option Entry = entry_at (unwrap_or (choice_of (candidates_in m)) moved).0 m in
+    cond_both (nat_le (counted_in m) m.settings.hard) (nothing_more m) (pruned_at pruned m) (λ effect. Gives 0 m effect.machine)
+    (λ within. gives_nothing m) (λ above. pruned_at-gives pruned m)
+
+-- ---- a connection comes into use
+
+is_used-gives : (f : Facts) (e : Entry) (m : Machine) → Gives 0 m (is_used f e m).machine
+is_used-gives f e m =
+    let n : Machine = with_entry (owing 8 (f.cid.0 % 65536) m (record e { facts = f })) m in
+    gives_then 0 0 m n (peer_succeeds f.addr n).machine (connections-gives n.connections m)
+    (changes-gives f.addr (λ p. record p { temp = Warm; failures = 0 }) n (λ p. refl) (λ p. refl))
+
+-- ---- a part that gives no id, whatever comes of the book
 
 abbrev GivesNone : Machine → Machine → Type 0
 GivesNone before after = after.next_id ≤ before.next_id
@@ -91,35 +193,11 @@ for_each-none act each (x ∷ xs) m =
     let n : Machine = (act x m).machine in
     omega (arith, each x m, for_each-none act each xs n)
 
--- ---- a connection goes
-
-lost-none : (f : Facts) (m : Machine) → GivesNone m (lost f m).machine
-lost-none f m = cond_both (is_missed f) (peer_fails f.addr m) (nothing_more m) (λ effect. GivesNone m effect.machine)
-    (λ missed. turns_at-none (peer_at f.addr m) (failed_peer m.now m.settings.backoff) m) (λ other. omega arith)
-
-lost_by-none : (cause : CloseCause) (f : Facts) (m : Machine) → GivesNone m (lost_by cause f m).machine
-lost_by-none Unused f m = lost-none f m
-lost_by-none Pruned f m = lost-none f m
-lost_by-none Overwritten f m = omega arith
-lost_by-none Refused f m = lost-none f m
-lost_by-none Query f m = lost-none f m
-lost_by-none (Fault kind) f m = lost-none f m
-
 ending-none : (cause : CloseCause) (e : Entry) (m : Machine) → GivesNone m (ending cause e m).machine
-ending-none cause e m = lost_by-none cause e.facts (without_entry e.facts.cid.0 m)
+ending-none cause e m = omega (arith, (ending-gives cause e m).next_id)
 
 vanishes-none : (e : Entry) (m : Machine) → GivesNone m (vanishes e m).machine
-vanishes-none e m = lost-none e.facts (without_entry e.facts.cid.0 m)
-
-pruned_at-none : (o : Option Entry) (m : Machine) → GivesNone m (pruned_at o m).machine
-pruned_at-none None m = omega arith
-pruned_at-none (Some e) m = ending-none Pruned e m
-
-trim-none : (moved : Cid) (m : Machine) → GivesNone m (trim moved m).machine
-trim-none moved m =
-    let pruned : Option Entry = entry_at (unwrap_or (choice_of (candidates_in m)) moved).0 m in
-    cond_both (nat_le (counted_in m) m.settings.hard) (nothing_more m) (pruned_at pruned m) (λ effect. GivesNone m effect.machine)
-    (λ within. omega arith) (λ above. pruned_at-none pruned m)
+vanishes-none e m = omega (arith, (lost-gives e.facts (without_entry e.facts.cid.0 m)).next_id)
 
 closed_at-none : (o : Option Entry) (m : Machine) → GivesNone m (closed_at o m).machine
 closed_at-none None m = omega arith
@@ -196,14 +274,11 @@ roots_answer-none job answer m = cond_both (awaits job.0 m.roots) (roots_say ans
 
 -- ---- the handshake
 
-is_used-none : (f : Facts) (e : Entry) (m : Machine) → GivesNone m (is_used f e m).machine
-is_used-none f e m = turns_at-none _ _ (with_entry (owing 8 (f.cid.0 % 65536) m (record e { facts = f })) m)
-
 judged-none : (v : Verdict) (e : Entry) (m : Machine) → GivesNone m (judged v e m).machine
 judged-none (verdict.Accept agreed) e m = omega arith
 judged-none (verdict.Refuse why) e m = ending-none Refused e m
 judged-none verdict.Query e m = ending-none Query e m
-judged-none (verdict.Agree agreed) e m = is_used-none _ e m
+judged-none (verdict.Agree agreed) e m = omega (arith, (is_used-gives (agreed_outbound agreed (m.now + m.settings.idle) e.facts) e m).next_id)
 judged-none verdict.Refused e m = ending-none Refused e m
 judged-none verdict.Wrong e m = ending-none (Fault Protocol) e m
 
@@ -232,7 +307,7 @@ greets-none item e m = cond_both (item.id == 0 && is_awaited (role_of e.facts.pr
 -- ---- after the handshake
 
 awake-none : (protocol : ℕ) (e : Entry) (m : Machine) → GivesNone m (awake protocol e m).machine
-awake-none protocol e m = trim-none e.facts.cid (with_entry (record e { facts = awakened protocol e.facts }) m)
+awake-none protocol e m = omega (arith, (trim-gives e.facts.cid (with_entry (record e { facts = awakened protocol e.facts }) m)).next_id)
 
 served_at-none : (o : Option Entry) (seen : Seen) (protocol : ℕ) (m : Machine) → GivesNone m (served_at o seen protocol m).machine
 served_at-none None seen protocol m = omega arith

@@ -300,7 +300,7 @@ says_done-quiet f m =
     (cond_both (agreed_sharing f.agreed) sharing_done (nothing_more m) (IsQuiet m) (λ sharing. tells-quiet sharing_done.actions m) (λ other. tells-quiet [] m))
     (tells-quiet (asks f.cid 8 (written_alive Done) first.machine).actions first.machine)
 
-says_done-machine : (f : Facts) (m : Machine) → (says_done f m).machine ≡ m
+pub says_done-machine : (f : Facts) (m : Machine) → (says_done f m).machine ≡ m
 says_done-machine f m = cond_both (agreed_sharing f.agreed) (asks f.cid 10 peer_sharing_done m) (nothing_more m) (λ effect. effect.machine ≡ m)
     (λ sharing. refl) (λ other. refl)
 
