@@ -2,7 +2,7 @@
 use Rattle.std.proofs.Common.{ℕ, zero, suc, ◌+◌, ◌-◌, ◌%◌, ◌≤◌, ◌≡◌, Bool, true, false, cond, not, ◌&&◌, ◌||◌, ◌==◌, nat_le, if◌then◌else◌, List, [], ◌∷◌, ◌++◌, length, map, filter, find, flat_map, count_by, Option, Some, None, is_some, Result, Ok, Err, refl, sym, ap, ◌∙◌, subst, arith}
 use Rattle.std.specs.List.{AllByRecursion}
 use Rattle.std.specs.Option.{unwrap_or}
-use Rattle.std.proofs.lemmas.Bool.{cond_both}
+use Rattle.std.proofs.lemmas.Bool.{cond_both, and_parts, and_from, and_right, not-true}
 use Rattle.std.proofs.lemmas.List.{length-map}
 use Rattle.std.proofs.lemmas.List.Sums.{sum_by-cons}
 use Rattle.accept_gate.specs.Gate.{gate_of}
@@ -11,6 +11,13 @@ use Rattle.accept_gate.specs.declared.gate.Gate.{Gate}
 use Rattle.accept_gate.specs.declared.gate.Gate.TheVariants.{Free, Pause as PauseFor, Full as NoRoom}
 use Rattle.conn_state.specs.Moves.{agreed_outbound, released, acquired, awakened, expired}
 use Rattle.conn_state.specs.Use.{agreed_sharing, is_acquirable, is_live, is_pending, is_dialing, runs}
+use Rattle.govern_rules.specs.BigRules.{everybody, big_orders}
+use Rattle.govern_rules.specs.Candidates.{is_eligible, may_be_deactivated}
+use Rattle.govern_rules.specs.Links.{is_pending as is_pending_link}
+use Rattle.govern_rules.specs.Rules.{is_not_local, is_member_and, members_count, g4_orders, g5_orders, g7_orders, g9_orders}
+use Rattle.govern_rules.specs.declared.big_rule.BigRule.TheVariants.{B5}
+use Rattle.govern_rules.specs.declared.order.Order.{Order}
+use Rattle.govern_rules.specs.declared.order.Order.TheVariants.{Ask, Forget, Promote, Release, Activate, Deactivate}
 use Rattle.hs_decide.specs.Agreement.{verdict_of}
 use Rattle.hs_decide.specs.Answers.{answer_of}
 use Rattle.hs_decide.specs.declared.verdict.Verdict.{Verdict}
@@ -45,7 +52,7 @@ use Rattle.net_base.specs.declared.peer.Temp.TheVariants.{Cold, Warm, Hot}
 use Rattle.net_base.specs.declared.timer.Deadline.{Deadline}
 use Rattle.net_base.specs.declared.timer.Kind.{Kind}
 use Rattle.net_base.specs.declared.timer.Kind.TheVariants.{Handshake, Grace as GraceKind, TimeWait, Reply2, Reply8, Reply10}
-use Rattle.peer_book.specs.Book.{peer_at as peer_in, new_peer, entry_of, entered, with_peer as with_peer_in, without_peer}
+use Rattle.peer_book.specs.Book.{is_of, is_established, peer_at as peer_in, new_peer, entry_of, entered, with_peer as with_peer_in, without_peer}
 use Rattle.remote_watch.specs.Watch.{watched}
 use Rattle.remote_watch.specs.declared.seen.Seen.{Seen}
 use Rattle.root_groups.specs.Cleaned.{cleaned, is_listed, members_of}
@@ -55,10 +62,11 @@ use Rattle.warm_messages.specs.declared.share.Share.{Share}
 use Rattle.warm_messages.specs.declared.share.Share.TheVariants as share
 use Rattle.machine.specs.Machine.{Machine, Entry, Owed, counted_in, entry_at, live_entry_at}
 use Rattle.machine.specs.Effect.{Effect, unused, nothing_more, tells, then_do, as_move, for_each}
-use Rattle.machine.specs.Peers.{turns_at, peer_at, peer_changes, peer_fails, peer_succeeds, peer_becomes, peer_is_ordinary, peer_comes}
-use Rattle.machine.specs.Connections.{with_entry, without_entry, entry_turns, is_missed, lost, lost_by, ending, vanishes, closing_entry, grace_over, is_used, pruned_at, candidates_in, trim, release, awake, idle, dial, dial_opens, dial_fails}
+use Rattle.machine.specs.Peers.{turns_at, peer_at, peer_changes, peer_fails, peer_succeeds, peer_becomes, peer_was_asked, peer_is_ordinary, peer_comes, peer_goes}
+use Rattle.machine.specs.Connections.{with_entry, without_entry, entry_turns, is_missed, lost, lost_by, ending, vanishes, closing_entry, grace_over, is_used, pruned_at, candidates_in, trim, acquire, release, awake, idle, dial, dial_opens, dial_fails}
 use Rattle.machine.specs.Deadlines.{due, fires_as, fires_on, fires, fires_some, fire_due, fire_all}
 use Rattle.machine.specs.Events.{clock_shows, turned_away, admitted, crossed, accepted_beside, accepted_through, peer_connects, closed_at, dial_ends_at}
+use Rattle.machine.specs.Govern.{link_of, view_of, promoted_at, promote, on_entry, is_used_at, on_used, asks_peer, activates, deactivates, carries_out, asks_roots, ordinary_rules, big_rules, rules, govern}
 use Rattle.machine.specs.Greeting.{role_of, is_awaited, fits_side, told, judged, decided, greeted_by, greets}
 use Rattle.machine.specs.Own.{own_info}
 use Rattle.machine.specs.Provided.{comes_ordinary, locals_are, is_wanted_big, comes_big, bigs_are, roots_say, roots_answer}
@@ -67,8 +75,12 @@ use Rattle.machine.specs.Stream.{handled_in, handled_at, handles, kind_of, fault
 use Rattle.machine.specs.Talking.{replies, ends_if, served_at, begins, takes_requests, asked_as, shares_address, taken_of, takes_addresses, pays, brings, answered_as, talks}
 use Rattle.machine.specs.Whole.{whole_step}
 use Rattle.laws.specs.Whole.{IsSteady, ArePeersApart, AreApart}
+use Rattle.laws.proofs.Chosen.{chosen, chosen-apart, chosen-all, PicksMembers, picks-listed, groups_picks-apart, groups_picks-all, map-groups}
 use Rattle.laws.proofs.Keeping.{note-machine}
-use Rattle.laws.proofs.PeersApart.{with_peer-apart, filter-apart}
+use Rattle.laws.proofs.Lists.{all-both}
+use Rattle.laws.proofs.Orders.{says_done-machine}
+use Rattle.laws.proofs.PeersApart.{with_peer-apart, filter-apart, all-found}
+use Rattle.laws.proofs.Picks.{filter-all, filter-passing, picks-all}
 use Rattle.laws.proofs.Spending.{AreSameBut, with_peer-same_but}
 use Rattle.laws.proofs.Talks.{replies-machine}
 use Rattle.laws.proofs.Ties.{found-addr}
@@ -413,3 +425,267 @@ accepted_through-one NoRoom addr m = omega arith
 peer_connects-one : (addr : Addr) (m : Machine) → GivesOne m (peer_connects addr m).machine
 peer_connects-one addr m = cond_both (same_address addr m.settings.own) (turned_away OwnAddr m) (accepted_through (gate_of m.settings (counted_in m)) addr m)
     (λ effect. GivesOne m effect.machine) (λ own. omega arith) (λ other. accepted_through-one (gate_of m.settings (counted_in m)) addr m)
+
+-- ---- the governor's orders
+
+release-gives : (e : Entry) (m : Machine) → Gives 0 m (release e m).machine
+release-gives e m = subst (λ n. Gives 0 m (rest n)) (sym (says_done-machine e.facts m)) each
+  where
+    turned : Machine → Machine
+    turned n = with_entry (record e { facts = released (n.now + n.settings.idle) e.facts }) n
+
+    rest : Machine → Machine
+    rest n = (trim e.facts.cid (peer_becomes Cold e.facts.addr (turned n)).machine).machine
+
+    each : Gives 0 m (rest m)
+    each =
+        let n : Machine = turned m in
+        let o : Machine = (peer_becomes Cold e.facts.addr n).machine in
+        gives_then 0 0 m n (rest m) (connections-gives n.connections m)
+        (gives_then 0 0 n o (rest m) (changes-gives e.facts.addr (λ p. record p { temp = Cold }) n (λ p. refl) (λ p. refl)) (trim-gives e.facts.cid o))
+
+asks_peer-gives : (number : ℕ) (e : Entry) (m : Machine) → Gives 0 m (asks_peer number e m).machine
+asks_peer-gives number e m =
+    let n : Machine = with_entry (owing 10 number m e) m in
+    let next : ℕ = m.now + m.settings.sharegap in
+    gives_then 0 0 m n (peer_was_asked next e.facts.addr n).machine (connections-gives n.connections m)
+    (changes-gives e.facts.addr (λ p. record p { share_next = next }) n (λ p. refl) (λ p. refl))
+
+count-filter : (p q : Peer → Bool) (ps : List Peer) → count_by p (filter q ps) ≤ count_by p ps
+count-filter p q [] = omega arith
+count-filter p q (x ∷ ps) = by_test (q x) (count-filter p q ps) (sum_by-cons (λ y. cond {A = ℕ} (p y) 1 0) x ps) (sum_by-cons (λ y. cond {A = ℕ} (p y) 1 0) x (filter q ps))
+  where
+    by_test : (b : Bool) → count_by p (filter q ps) ≤ count_by p ps → count_by p (x ∷ ps) ≡ cond {A = ℕ} (p x) 1 0 + count_by p ps →
+        count_by p (x ∷ filter q ps) ≡ cond {A = ℕ} (p x) 1 0 + count_by p (filter q ps) →
+        count_by p (cond b (x ∷ filter q ps) (filter q ps)) ≤ count_by p (x ∷ ps)
+    by_test true rest before after = omega (arith, rest, before, after)
+    by_test false rest before after = omega (arith, rest, before)
+
+peer_goes-gives : (addr : Addr) (m : Machine) → Gives 0 m (peer_goes addr m).machine
+peer_goes-gives addr m =
+    let stays : Peer → Bool = λ p. not (same_address p.addr addr) in
+    record { next_id = omega arith; groups = refl; apart = λ h. filter-apart stays m.peers h; fewer = λ h test. count-filter (λ p. test p.addr p.big) stays m.peers }
+
+on_used-gives : (addr : Addr) (act : Entry → Machine → Effect) → ((e : Entry) (m : Machine) → Gives 0 m (act e m).machine) → (m : Machine) →
+    Gives 0 m (on_used addr act m).machine
+on_used-gives addr act each m = by_entry (find (is_used_at addr) m.connections)
+  where
+    by_entry : (o : Option Entry) → Gives 0 m (on_entry o act m).machine
+    by_entry None = gives_nothing m
+    by_entry (Some e) = each e m
+
+activates-gives : (e : Entry) (m : Machine) → Gives 0 m (activates e m).machine
+activates-gives e m = connections-gives (with_entry (owing 2 0 m e) m).connections m
+
+deactivates-gives : (e : Entry) (m : Machine) → Gives 0 m (deactivates e m).machine
+deactivates-gives e m = changes-gives e.facts.addr (λ p. record p { temp = Warm }) m (λ p. refl) (λ p. refl)
+
+dial-gives : (addr : Addr) (m : Machine) → Gives 1 m (dial addr m).machine
+dial-gives addr m = record { next_id = omega arith; groups = refl; apart = λ h. h; fewer = λ h test. omega arith }
+
+promote-gives : (addr : Addr) (m : Machine) → Gives 1 m (promote addr m).machine
+promote-gives addr m = by_live (live_entry_at addr m)
+  where
+    by_live : (o : Option Entry) → Gives 1 m (promoted_at o addr m).machine
+    by_live None = dial-gives addr m
+    by_live (Some e) = cond_both (is_acquirable e.facts) (acquire e m) (dial addr m) (λ effect. Gives 1 m effect.machine)
+        (λ free. gives_more 0 1 m (acquire e m).machine (omega arith) (is_used-gives (acquired e.facts) e m)) (λ other. dial-gives addr m)
+
+-- ---- many orders
+
+-- an order that gives no id
+abbrev IsStill : (Addr → Order) → Type 0
+IsStill order = (addr : Addr) (m : Machine) → Gives 0 m (carries_out (order addr) m).machine
+
+still-gives : (order : Addr → Order) → IsStill order → (addrs : List Addr) (m : Machine) → Gives 0 m (for_each carries_out (map order addrs) m).machine
+unfolding for_each
+still-gives order each [] m = gives_nothing m
+still-gives order each (a ∷ addrs) m =
+    let n : Machine = (carries_out (order a) m).machine in
+    gives_then 0 0 m n (for_each carries_out (map order addrs) n).machine (each a m) (still-gives order each addrs n)
+
+promotes-gives : (addrs : List Addr) (m : Machine) → Gives (length addrs) m (for_each carries_out (map Promote addrs) m).machine
+unfolding for_each
+promotes-gives [] m = gives_nothing m
+promotes-gives (a ∷ addrs) m =
+    let n : Machine = (promote a m).machine in
+    let o : Machine = (for_each carries_out (map Promote addrs) n).machine in
+    gives_more (1 + length addrs) (length (a ∷ addrs)) m o (omega arith)
+    (gives_then 1 (length addrs) m n o (promote-gives a m) (promotes-gives addrs n))
+
+-- ---- distinct addresses, each found in the book, are no more than peers
+
+record IsFoundWith (test : Addr → Bool → Bool) (peers : List Peer) (a : Addr) : Type 0 where
+  peer : Peer
+  found : peer_in a peers ≡ Some peer
+  passes : test peer.addr peer.big ≡ true
+
+abbrev except : Addr → (Addr → Bool → Bool) → Addr → Bool → Bool
+except addr test a big = test a big && not (same_address a addr)
+
+and-less : (x y : Bool) → cond {A = ℕ} (x && y) 1 0 ≤ cond {A = ℕ} x 1 0
+and-less true true = omega arith
+and-less true false = omega arith
+and-less false y = omega arith
+
+except-less : (addr : Addr) (test : Addr → Bool → Bool) (ps : List Peer) → number_of (except addr test) ps ≤ number_of test ps
+except-less addr test [] = omega arith
+except-less addr test (p ∷ ps) =
+    let here = and-less (test p.addr p.big) (not (same_address p.addr addr)) in
+    let before = sum_by-cons (λ x. cond {A = ℕ} (test x.addr x.big) 1 0) p ps in
+    let after = sum_by-cons (λ x. cond {A = ℕ} (except addr test x.addr x.big) 1 0) p ps in
+    omega (arith, here, except-less addr test ps, before, after)
+
+except-one_less : (addr : Addr) (test : Addr → Bool → Bool) (ps : List Peer) → IsFoundWith test ps addr → number_of (except addr test) ps + 1 ≤ number_of test ps
+except-one_less addr test ps h = along ps h.found
+  where
+    along : (qs : List Peer) → peer_in addr qs ≡ Some h.peer → number_of (except addr test) qs + 1 ≤ number_of test qs
+    along [] found = absurd cc
+    along (q ∷ qs) found = by_test (same_address q.addr addr) refl found (along qs)
+        (sum_by-cons (λ x. cond {A = ℕ} (test x.addr x.big) 1 0) q qs) (sum_by-cons (λ x. cond {A = ℕ} (except addr test x.addr x.big) 1 0) q qs)
+      where
+        by_test : (b : Bool) → same_address q.addr addr ≡ b → cond b (Some q) (peer_in addr qs) ≡ Some h.peer →
+            (peer_in addr qs ≡ Some h.peer → number_of (except addr test) qs + 1 ≤ number_of test qs) →
+            number_of test (q ∷ qs) ≡ cond {A = ℕ} (test q.addr q.big) 1 0 + number_of test qs →
+            number_of (except addr test) (q ∷ qs) ≡ cond {A = ℕ} (except addr test q.addr q.big) 1 0 + number_of (except addr test) qs →
+            number_of (except addr test) (q ∷ qs) + 1 ≤ number_of test (q ∷ qs)
+        by_test true is found later before after =
+            let same : q ≡ h.peer = cc in
+            let one : cond {A = ℕ} (test q.addr q.big) 1 0 ≡ 1 = ap (λ b. cond {A = ℕ} b 1 0) (ap (λ x. test x.addr x.big) same ∙ h.passes) in
+            let none : cond {A = ℕ} (except addr test q.addr q.big) 1 0 ≡ 0 =
+            ap (λ b. cond {A = ℕ} b 1 0) (and_right (test q.addr q.big) (not (same_address q.addr addr)) (ap not is)) in
+            omega (arith, one, none, except-less addr test qs, before, after)
+        by_test false is found later before after =
+            omega (arith, and-less (test q.addr q.big) (not (same_address q.addr addr)), later found, before, after)
+
+distinct-number : (test : Addr → Bool → Bool) (addrs : List Addr) (ps : List Peer) → AreApart addrs → AllByRecursion (IsFoundWith test ps) addrs →
+    length addrs ≤ number_of test ps
+distinct-number test [] ps apart found = omega arith
+distinct-number test (a ∷ addrs) ps apart found =
+    let others : AllByRecursion (IsFoundWith (except a test) ps) addrs =
+    all-both (λ b. same_address b a ≡ false) (IsFoundWith test ps) (IsFoundWith (except a test) ps) (λ b other h. record {
+      peer = h.peer;
+      found = h.found;
+      passes = and_from (test h.peer.addr h.peer.big) (not (same_address h.peer.addr a)) h.passes
+          (ap not (ap (λ x. same_address x a) (found-addr b ps h.peer h.found) ∙ other));
+    }) addrs apart.0 found.1 in
+    omega (arith, except-one_less a test ps found.0, distinct-number (except a test) addrs ps apart.1 others)
+
+-- ---- whom the rules pick
+
+-- the peers are of three kinds
+abbrev is_local_one : List Group → Addr → Bool → Bool
+is_local_one groups a big = not big && is_listed a (members_of groups)
+
+abbrev is_other_one : List Group → Addr → Bool → Bool
+is_other_one groups a big = not big && not (is_listed a (members_of groups))
+
+abbrev is_big_one : Addr → Bool → Bool
+is_big_one a big = big
+
+kinds-number : (groups : List Group) (ps : List Peer) →
+    number_of (is_local_one groups) ps + number_of (is_other_one groups) ps + number_of is_big_one ps ≤ length ps
+kinds-number groups [] = omega arith
+kinds-number groups (p ∷ ps) =
+    let listed : Bool = is_listed p.addr (members_of groups) in
+    let here = one p.big listed in
+    let local = sum_by-cons (λ x. cond {A = ℕ} (is_local_one groups x.addr x.big) 1 0) p ps in
+    let other = sum_by-cons (λ x. cond {A = ℕ} (is_other_one groups x.addr x.big) 1 0) p ps in
+    let big = sum_by-cons (λ x. cond {A = ℕ} (is_big_one x.addr x.big) 1 0) p ps in
+    omega (arith, here, kinds-number groups ps, local, other, big)
+  where
+    one : (b c : Bool) → cond {A = ℕ} (not b && c) 1 0 + cond {A = ℕ} (not b && not c) 1 0 + cond {A = ℕ} b 1 0 ≤ 1
+    one true true = omega arith
+    one true false = omega arith
+    one false true = omega arith
+    one false false = omega arith
+
+-- whoever is picked is of a kind where the candidates are
+chosen-found : (kind : Addr → Bool → Bool) (big : Bool) (word number : ℕ) (test : Peer → Bool) (peers : List Peer) → ArePeersApart peers →
+    ((p : Peer) → (is_of big p && test p) ≡ true → kind p.addr p.big ≡ true) → AllByRecursion (IsFoundWith kind peers) (chosen big word number test peers)
+chosen-found kind big word number test peers apart gives =
+    let candidate : Peer → Bool = λ p. is_of big p && test p in
+    picks-all (IsFoundWith kind peers) big word number (filter candidate peers)
+    (all-both (λ p. candidate p ≡ true) (λ p. peer_in p.addr peers ≡ Some p) (λ p. IsFoundWith kind peers p.addr)
+    (λ p h found. record { peer = p; found = found; passes = gives p h }) (filter candidate peers) (filter-passing candidate peers)
+    (filter-all (λ p. peer_in p.addr peers ≡ Some p) candidate peers (all-found peers apart)))
+
+-- ---- each rule
+
+-- From a record on, after other rules that gave so many ids, a rule gives so many more at most.
+DoesGive : Machine → ℕ → (Machine → Effect) → Type 0
+DoesGive start ids act = (given : ℕ) (m : Machine) → Gives given start m → Gives (given + ids) start (act m).machine
+
+still-rule : (start : Machine) (act : Machine → Effect) → ((m : Machine) → Gives 0 m (act m).machine) → DoesGive start 0 act
+unfolding DoesGive
+still-rule start act each given m h = gives_then given 0 start m (act m).machine h (each m)
+
+no_rules : (start : Machine) → DoesGive start 0 (for_each rules [])
+unfolding DoesGive for_each
+no_rules start given m h = gives_then given 0 start m m h (gives_nothing m)
+
+rule_then : (start : Machine) (i j : ℕ) (r : Machine → List Order) (rs : List (Machine → List Order)) → DoesGive start i (rules r) →
+    DoesGive start j (for_each rules rs) → DoesGive start (i + j) (for_each rules (r ∷ rs))
+unfolding DoesGive for_each
+rule_then start i j r rs first second given m h =
+    let n : Machine = (rules r m).machine in
+    gives_more (given + i + j) (given + (i + j)) start (for_each rules rs n).machine (omega arith) (second (given + i) n (first given m h))
+
+-- addresses that are apart and of a kind are promoted
+kind-rule : (start : Machine) (kind : Addr → Bool → Bool) (addrs : List Addr) (given : ℕ) (m : Machine) → ArePeersApart start.peers → Gives given start m →
+    AreApart addrs → AllByRecursion (IsFoundWith kind m.peers) addrs →
+    Gives (given + number_of kind start.peers) start (for_each carries_out (map Promote addrs) m).machine
+kind-rule start kind addrs given m peers h apart found =
+    let n : Machine = (for_each carries_out (map Promote addrs) m).machine in
+    let picks = distinct-number kind addrs m.peers apart found in
+    let fewer = h.fewer peers kind in
+    gives_then given (number_of kind start.peers) start m n h
+    (gives_more (length addrs) (number_of kind start.peers) m n (omega (arith, picks, fewer)) (promotes-gives addrs m))
+
+of_class : (big : Bool) (p : Peer) → is_of big p ≡ true → p.big ≡ big
+of_class true p h = h
+of_class false p h = not-true p.big h
+
+g4-rule : (start : Machine) (word : ℕ) → ArePeersApart start.peers → AreApart (members_of start.groups) →
+    DoesGive start (number_of (is_local_one start.groups) start.peers) (rules (λ m. g4_orders (view_of word m) m.peers m.groups))
+unfolding DoesGive
+g4-rule start word peers members given m h =
+    subst (λ orders. Gives (given + number_of kind start.peers) start (for_each carries_out orders m).machine) (sym (map-groups Promote pick m.groups))
+    (kind-rule start kind (flat_map pick m.groups) given m peers h (groups_picks-apart pick m.groups picks groups)
+    (all-both (λ a. is_listed a (members_of m.groups) ≡ true) (IsFoundWith is_small m.peers) (IsFoundWith kind m.peers)
+    (λ a listed x. record {
+      peer = x.peer;
+      found = x.found;
+      passes = and_from (not x.peer.big) (is_listed x.peer.addr (members_of start.groups)) x.passes
+          (ap (λ b. is_listed b (members_of start.groups)) (found-addr a m.peers x.peer x.found) ∙ (ap (λ gs. is_listed a (members_of gs)) (sym h.groups) ∙ listed));
+    }) (flat_map pick m.groups) (picks-listed pick m.groups picks)
+    (groups_picks-all (IsFoundWith is_small m.peers) pick m.groups (λ g. chosen-found is_small false word (number g) (is_member_and g eligible) m.peers here
+    (λ p passes. (and_parts (not p.big) (is_member_and g eligible p) passes).0)))))
+  where
+    kind : Addr → Bool → Bool
+    kind = is_local_one start.groups
+
+    is_small : Addr → Bool → Bool
+    is_small a big = not big
+
+    here : ArePeersApart m.peers
+    here = h.apart peers
+
+    groups : AreApart (members_of m.groups)
+    groups = subst (λ gs. AreApart (members_of gs)) (sym h.groups) members
+
+    eligible : Peer → Bool
+    eligible = is_eligible m.now (map link_of m.connections)
+
+    number : Group → ℕ
+    number g = g.warm - members_count g (λ p. is_established p.temp || is_pending_link (map link_of m.connections) p.addr) m.peers
+
+    pick : Group → List Addr
+    pick g = chosen false word (number g) (is_member_and g eligible) m.peers
+
+    picks : PicksMembers pick
+    picks = record {
+      apart = λ g. chosen-apart false word (number g) (is_member_and g eligible) m.peers here;
+      members = λ g. chosen-all (λ a. is_listed a g.members ≡ true) false word (number g) (is_member_and g eligible) m.peers here
+          (λ p passes found. (and_parts (is_listed p.addr g.members) (eligible p) passes).0);
+    }
