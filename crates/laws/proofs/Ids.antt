@@ -2,8 +2,9 @@
 use Rattle.std.proofs.Common.{ℕ, zero, suc, ◌+◌, ◌-◌, ◌%◌, ◌≤◌, ◌≡◌, Bool, true, false, cond, not, ◌&&◌, ◌||◌, ◌==◌, nat_le, if◌then◌else◌, List, [], ◌∷◌, ◌++◌, length, map, filter, find, flat_map, count_by, Option, Some, None, is_some, Result, Ok, Err, refl, sym, ap, ◌∙◌, subst, arith}
 use Rattle.std.specs.List.{AllByRecursion}
 use Rattle.std.specs.Option.{unwrap_or}
-use Rattle.std.proofs.lemmas.Bool.{cond_both, and_parts, and_from, and_right, not-true}
-use Rattle.std.proofs.lemmas.List.{length-map}
+use Rattle.std.proofs.lemmas.Bool.{cond_both, and_parts, and_from, and_right}
+use Rattle.std.proofs.lemmas.List.{map-append}
+use Rattle.std.proofs.lemmas.List.Folds.{list_any_none}
 use Rattle.std.proofs.lemmas.List.Sums.{sum_by-cons}
 use Rattle.accept_gate.specs.Gate.{gate_of}
 use Rattle.accept_gate.specs.Prune.{choice_of}
@@ -13,7 +14,9 @@ use Rattle.conn_state.specs.Moves.{agreed_outbound, released, acquired, awakened
 use Rattle.conn_state.specs.Use.{agreed_sharing, is_acquirable, is_live, is_pending, is_dialing, runs}
 use Rattle.govern_rules.specs.BigRules.{everybody, big_orders}
 use Rattle.govern_rules.specs.Candidates.{is_eligible, may_be_deactivated}
+use Rattle.govern_rules.specs.ClassRules.{active_target}
 use Rattle.govern_rules.specs.Links.{is_pending as is_pending_link}
+use Rattle.govern_rules.specs.Orders.{orders_for}
 use Rattle.govern_rules.specs.Rules.{is_not_local, is_member_and, members_count, g4_orders, g5_orders, g7_orders, g9_orders}
 use Rattle.govern_rules.specs.declared.big_rule.BigRule.TheVariants.{B5}
 use Rattle.govern_rules.specs.declared.order.Order.{Order}
@@ -52,7 +55,7 @@ use Rattle.net_base.specs.declared.peer.Temp.TheVariants.{Cold, Warm, Hot}
 use Rattle.net_base.specs.declared.timer.Deadline.{Deadline}
 use Rattle.net_base.specs.declared.timer.Kind.{Kind}
 use Rattle.net_base.specs.declared.timer.Kind.TheVariants.{Handshake, Grace as GraceKind, TimeWait, Reply2, Reply8, Reply10}
-use Rattle.peer_book.specs.Book.{is_of, is_established, peer_at as peer_in, new_peer, entry_of, entered, with_peer as with_peer_in, without_peer}
+use Rattle.peer_book.specs.Book.{active_of, is_of, is_established, peer_at as peer_in, new_peer, entry_of, entered, with_peer as with_peer_in, without_peer}
 use Rattle.remote_watch.specs.Watch.{watched}
 use Rattle.remote_watch.specs.declared.seen.Seen.{Seen}
 use Rattle.root_groups.specs.Cleaned.{cleaned, is_listed, members_of}
@@ -79,11 +82,13 @@ use Rattle.laws.proofs.Chosen.{chosen, chosen-apart, chosen-all, PicksMembers, p
 use Rattle.laws.proofs.Keeping.{note-machine}
 use Rattle.laws.proofs.Lists.{all-both}
 use Rattle.laws.proofs.Orders.{says_done-machine}
+use Rattle.laws.proofs.Ordinary.{members-any}
 use Rattle.laws.proofs.PeersApart.{with_peer-apart, filter-apart, all-found}
 use Rattle.laws.proofs.Picks.{filter-all, filter-passing, picks-all}
 use Rattle.laws.proofs.Spending.{AreSameBut, with_peer-same_but}
 use Rattle.laws.proofs.Talks.{replies-machine}
 use Rattle.laws.proofs.Ties.{found-addr}
+use Rattle.laws.proofs.Wanted.{not_local-unlisted}
 
 -- ---- a part of a step
 
@@ -642,10 +647,6 @@ kind-rule start kind addrs given m peers h apart found =
     gives_then given (number_of kind start.peers) start m n h
     (gives_more (length addrs) (number_of kind start.peers) m n (omega (arith, picks, fewer)) (promotes-gives addrs m))
 
-of_class : (big : Bool) (p : Peer) → is_of big p ≡ true → p.big ≡ big
-of_class true p h = h
-of_class false p h = not-true p.big h
-
 g4-rule : (start : Machine) (word : ℕ) → ArePeersApart start.peers → AreApart (members_of start.groups) →
     DoesGive start (number_of (is_local_one start.groups) start.peers) (rules (λ m. g4_orders (view_of word m) m.peers m.groups))
 unfolding DoesGive
@@ -689,3 +690,138 @@ g4-rule start word peers members given m h =
       members = λ g. chosen-all (λ a. is_listed a g.members ≡ true) false word (number g) (is_member_and g eligible) m.peers here
           (λ p passes found. (and_parts (is_listed p.addr g.members) (eligible p) passes).0);
     }
+
+-- a rule by the targets
+class-rule : (start : Machine) (kind : Addr → Bool → Bool) (big : Bool) (word number : ℕ) (test : Peer → Bool) (given : ℕ) (m : Machine) →
+    ArePeersApart start.peers → Gives given start m → ((p : Peer) → (is_of big p && test p) ≡ true → kind p.addr p.big ≡ true) →
+    Gives (given + number_of kind start.peers) start (for_each carries_out (orders_for big word Promote number test m.peers) m).machine
+class-rule start kind big word number test given m peers h gives =
+    kind-rule start kind (chosen big word number test m.peers) given m peers h (chosen-apart big word number test m.peers (h.apart peers))
+    (chosen-found kind big word number test m.peers (h.apart peers) gives)
+
+not_local-unlisted_member : (a : Addr) (groups : List Group) → is_not_local groups a ≡ true → is_listed a (members_of groups) ≡ false
+not_local-unlisted_member a groups h =
+    sym (members-any a groups) ∙ list_any_none (λ g. is_listed a g.members) groups (not_local-unlisted a groups h)
+
+g5-rule : (start : Machine) (word : ℕ) → ArePeersApart start.peers →
+    DoesGive start (number_of (is_other_one start.groups) start.peers) (rules (λ m. g5_orders (view_of word m) m.peers m.groups))
+unfolding DoesGive
+g5-rule start word peers given m h = class-rule start (is_other_one start.groups) false word _ _ given m peers h other
+  where
+    eligible : Peer → Bool
+    eligible = is_eligible m.now (map link_of m.connections)
+
+    other : (p : Peer) → (not p.big && (is_not_local m.groups p.addr && eligible p)) ≡ true → is_other_one start.groups p.addr p.big ≡ true
+    other p passes =
+        let parts = and_parts (not p.big) (is_not_local m.groups p.addr && eligible p) passes in
+        and_from (not p.big) (not (is_listed p.addr (members_of start.groups))) parts.0
+        (ap not (not_local-unlisted_member p.addr start.groups
+        (subst (λ gs. is_not_local gs p.addr ≡ true) h.groups (and_parts (is_not_local m.groups p.addr) (eligible p) parts.1).0)))
+
+b5-rule : (start : Machine) (word : ℕ) → ArePeersApart start.peers →
+    DoesGive start (number_of is_big_one start.peers) (rules (λ m. big_orders B5 (view_of word m) m.peers))
+unfolding DoesGive
+b5-rule start word peers given m h = class-rule start is_big_one true word _ _ given m peers h big
+  where
+    big : (p : Peer) → (p.big && is_eligible m.now (map link_of m.connections) p) ≡ true → p.big ≡ true
+    big p passes = (and_parts p.big (is_eligible m.now (map link_of m.connections) p) passes).0
+
+-- orders by the valencies that give no id
+groups-still : (order : Addr → Order) → IsStill order → (word : ℕ) (number : Group → ℕ) (test : Peer → Bool) (m : Machine) →
+    Gives 0 m (for_each carries_out (flat_map (λ g. orders_for false word order (number g) (is_member_and g test) m.peers) m.groups) m).machine
+groups-still order each word number test m =
+    let pick : Group → List Addr = λ g. chosen false word (number g) (is_member_and g test) m.peers in
+    subst (λ orders. Gives 0 m (for_each carries_out orders m).machine) (sym (map-groups order pick m.groups)) (still-gives order each (flat_map pick m.groups) m)
+
+deactivate-still : IsStill Deactivate
+deactivate-still addr m = on_used-gives addr deactivates deactivates-gives m
+
+g9-gives : (word : ℕ) (m : Machine) → Gives 0 m (rules (λ o. g9_orders (view_of word o) o.peers o.groups) m).machine
+g9-gives word m =
+    subst (λ orders. Gives 0 m (for_each carries_out orders m).machine) same (still-gives Deactivate deactivate-still (beyond ++ flat_map members m.groups) m)
+  where
+    beyond : List Addr
+    beyond = chosen false word (active_of false m.peers - active_target false (view_of word m)) (λ p. is_not_local m.groups p.addr && may_be_deactivated p) m.peers
+
+    members : Group → List Addr
+    members g = chosen false word (members_count g may_be_deactivated m.peers - g.hot) (is_member_and g may_be_deactivated) m.peers
+
+    same : map Deactivate (beyond ++ flat_map members m.groups) ≡ g9_orders (view_of word m) m.peers m.groups
+    same = map-append Deactivate beyond (flat_map members m.groups)
+        ∙ ap (λ orders. map Deactivate beyond ++ orders) (sym (map-groups Deactivate members m.groups))
+
+-- ---- all rules
+
+forget-still : IsStill Forget
+forget-still addr m = peer_goes-gives addr m
+
+release-still : IsStill Release
+release-still addr m = on_used-gives addr release release-gives m
+
+activate-still : IsStill Activate
+activate-still addr m = on_used-gives addr activates activates-gives m
+
+ask-still : (number : ℕ) → IsStill (λ addr. Ask addr number)
+ask-still number addr m = on_used-gives addr (asks_peer number) (asks_peer-gives number) m
+
+-- what the rules for a class may give in all
+abbrev ordinary_ids : Machine → ℕ
+ordinary_ids start =
+    0 + (0 + (number_of (is_local_one start.groups) start.peers + (number_of (is_other_one start.groups) start.peers + (0 + (0 + (0 + (0 + 0)))))))
+
+abbrev big_ids : Machine → ℕ
+big_ids start = 0 + (number_of is_big_one start.peers + (0 + (0 + (0 + 0))))
+
+ordinary-give : (start : Machine) (word : ℕ) → ArePeersApart start.peers → AreApart (members_of start.groups) →
+    DoesGive start (ordinary_ids start) (for_each rules (ordinary_rules word))
+ordinary-give start word peers members =
+    rule_then start _ _ _ _ (still-rule start _ (λ m. still-gives (λ addr. Ask addr _) (ask-still _) _ m))
+    (rule_then start _ _ _ _ (still-rule start _ (λ m. still-gives Forget forget-still _ m))
+    (rule_then start _ _ _ _ (g4-rule start word peers members)
+    (rule_then start _ _ _ _ (g5-rule start word peers)
+    (rule_then start _ _ _ _ (still-rule start _ (λ m. still-gives Release release-still _ m))
+    (rule_then start _ _ _ _ (still-rule start _ (λ m. groups-still Activate activate-still word _ _ m))
+    (rule_then start _ _ _ _ (still-rule start _ (λ m. still-gives Activate activate-still _ m))
+    (rule_then start _ _ _ _ (still-rule start _ (g9-gives word)) (no_rules start))))))))
+
+big-give : (start : Machine) (word : ℕ) → ArePeersApart start.peers → DoesGive start (big_ids start) (for_each rules (big_rules word))
+big-give start word peers =
+    rule_then start _ _ _ _ (still-rule start _ (λ m. still-gives Forget forget-still _ m))
+    (rule_then start _ _ _ _ (b5-rule start word peers)
+    (rule_then start _ _ _ _ (still-rule start _ (λ m. still-gives Release release-still _ m))
+    (rule_then start _ _ _ _ (still-rule start _ (λ m. still-gives Activate activate-still _ m))
+    (rule_then start _ _ _ _ (still-rule start _ (λ m. still-gives Deactivate deactivate-still _ m)) (no_rules start)))))
+
+asks_roots-gives : (m : Machine) → Gives 0 m (asks_roots m).machine
+asks_roots-gives m = cond_both (may_ask m.now m.targets.root m.roots)
+    (tells (AskRoots (record { 0 = m.roots.next_job }) ∷ []) (record m { roots = asked m.roots })) (nothing_more m) (λ effect. Gives 0 m effect.machine)
+    (λ too_few. record { next_id = omega arith; groups = refl; apart = λ h. h; fewer = λ h test. omega arith }) (λ enough. gives_nothing m)
+
+-- each peer is dialed once at most
+pub govern-ids : (word : ℕ) (m : Machine) → ArePeersApart m.peers → AreApart (members_of m.groups) →
+    (govern word m).machine.next_id ≤ m.next_id + length m.peers
+unfolding DoesGive
+govern-ids word m peers members =
+    let n : Machine = (asks_roots m).machine in
+    let o : Machine = (for_each rules (ordinary_rules word) n).machine in
+    let ordinary : Gives (0 + ordinary_ids m) m o = ordinary-give m word peers members 0 n (asks_roots-gives m) in
+    let all = big-give m word peers (0 + ordinary_ids m) o ordinary in
+    omega (arith, all.next_id, kinds-number m.groups m.peers)
+
+-- ---- each event
+
+none-few : (m n : Machine) → GivesNone m n → n.next_id ≤ m.next_id + 20000
+none-few m n h = omega (arith, h)
+
+pub whole_step-ids : (m : Machine) (event : Event) → IsSteady m → (whole_step m event).machine.next_id ≤ m.next_id + 20000
+whole_step-ids m (Now t) h = none-few m (clock_shows t m).machine (clock_shows-none t m)
+whole_step-ids m (Govern word) h = omega (arith, govern-ids word m h.formed.peers h.formed.groups, h.formed.room)
+whole_step-ids m (Accepted addr) h = omega (arith, peer_connects-one addr m)
+whole_step-ids m (Dialed cid opened) h = none-few m (dial_ends_at (entry_at cid.0 m) opened m).machine (dial_ends_at-none (entry_at cid.0 m) opened m)
+whole_step-ids m (Bytes cid bytes) h = none-few m (bytes_come_in cid bytes m).machine (comes_in_at-none (entry_at cid.0 m) bytes m)
+whole_step-ids m (Closed cid) h = none-few m (closed_at (entry_at cid.0 m) m).machine (closed_at-none (entry_at cid.0 m) m)
+whole_step-ids m (Aims targets) h = omega arith
+whole_step-ids m (Locals groups) h = none-few m (locals_are groups m).machine (locals_are-none groups m)
+whole_step-ids m (Roots job answer) h = none-few m (roots_answer job answer m).machine (roots_answer-none job answer m)
+whole_step-ids m (BigAims targets) h = omega arith
+whole_step-ids m (Bigs addrs) h = none-few m (bigs_are addrs m).machine (for_each-none comes_big comes_big-none addrs m)
