@@ -1,5 +1,5 @@
 -- How many ids an event gives out.
-use Rattle.std.proofs.Common.{ℕ, zero, suc, ◌+◌, ◌-◌, ◌%◌, ◌≤◌, ◌≡◌, Bool, true, false, cond, not, ◌&&◌, ◌||◌, ◌==◌, nat_le, if◌then◌else◌, List, [], ◌∷◌, ◌++◌, length, map, filter, find, flat_map, count_by, Option, Some, None, is_some, Result, Ok, Err, refl, sym, ap, ◌∙◌, subst, arith}
+use Rattle.std.proofs.Common.{ℕ, zero, suc, ◌+◌, ◌-◌, ◌%◌, ◌≤◌, ◌≡◌, Bool, true, false, cond, not, ◌&&◌, ◌||◌, ◌==◌, nat_le, if◌then◌else◌, List, [], ◌∷◌, ◌++◌, length, map, filter, find, flat_map, count_by, Option, Some, None, Result, Ok, Err, refl, sym, ap, ◌∙◌, subst, arith}
 use Rattle.std.specs.List.{AllByRecursion}
 use Rattle.std.specs.Option.{unwrap_or}
 use Rattle.std.proofs.lemmas.Bool.{cond_both, and_parts, and_from, and_right}
@@ -12,12 +12,12 @@ use Rattle.accept_gate.specs.declared.gate.Gate.{Gate}
 use Rattle.accept_gate.specs.declared.gate.Gate.TheVariants.{Free, Pause as PauseFor, Full as NoRoom}
 use Rattle.conn_state.specs.Moves.{agreed_outbound, released, acquired, awakened, expired}
 use Rattle.conn_state.specs.Use.{agreed_sharing, is_acquirable, is_live, is_pending, is_dialing, runs}
-use Rattle.govern_rules.specs.BigRules.{everybody, big_orders}
+use Rattle.govern_rules.specs.BigRules.{big_orders}
 use Rattle.govern_rules.specs.Candidates.{is_eligible, may_be_deactivated}
 use Rattle.govern_rules.specs.ClassRules.{active_target}
 use Rattle.govern_rules.specs.Links.{is_pending as is_pending_link}
 use Rattle.govern_rules.specs.Orders.{orders_for}
-use Rattle.govern_rules.specs.Rules.{is_not_local, is_member_and, members_count, g4_orders, g5_orders, g7_orders, g9_orders}
+use Rattle.govern_rules.specs.Rules.{is_not_local, is_member_and, members_count, g4_orders, g5_orders, g9_orders}
 use Rattle.govern_rules.specs.declared.big_rule.BigRule.TheVariants.{B5}
 use Rattle.govern_rules.specs.declared.order.Order.{Order}
 use Rattle.govern_rules.specs.declared.order.Order.TheVariants.{Ask, Forget, Promote, Release, Activate, Deactivate}
@@ -27,8 +27,7 @@ use Rattle.hs_decide.specs.declared.verdict.Verdict.{Verdict}
 use Rattle.hs_decide.specs.declared.verdict.Verdict.TheVariants as verdict
 use Rattle.hs_message.specs.Reading.{message_of}
 use Rattle.hs_message.specs.declared.message.Message.{Message}
-use Rattle.mux_segment.specs.Protocols.{node_limits}
-use Rattle.mux_segment.specs.Stream.{FedBy, fed_by}
+use Rattle.mux_segment.specs.Stream.{FedBy}
 use Rattle.mux_segment.specs.declared.fault.CutFault.{CutFault}
 use Rattle.mux_segment.specs.declared.item.Item.{Item}
 use Rattle.net_base.specs.Address.{same_address, address_below}
@@ -55,18 +54,18 @@ use Rattle.net_base.specs.declared.peer.Temp.TheVariants.{Cold, Warm, Hot}
 use Rattle.net_base.specs.declared.timer.Deadline.{Deadline}
 use Rattle.net_base.specs.declared.timer.Kind.{Kind}
 use Rattle.net_base.specs.declared.timer.Kind.TheVariants.{Handshake, Grace as GraceKind, TimeWait, Reply2, Reply8, Reply10}
-use Rattle.peer_book.specs.Book.{active_of, is_of, is_established, peer_at as peer_in, new_peer, entry_of, entered, with_peer as with_peer_in, without_peer}
+use Rattle.peer_book.specs.Book.{active_of, is_of, is_established, peer_at as peer_in, new_peer, entry_of, entered, with_peer as with_peer_in}
 use Rattle.remote_watch.specs.Watch.{watched}
 use Rattle.remote_watch.specs.declared.seen.Seen.{Seen}
 use Rattle.root_groups.specs.Cleaned.{cleaned, is_listed, members_of}
-use Rattle.root_groups.specs.RootAsk.{awaits, publics_of, found, failed, may_ask, asked}
+use Rattle.root_groups.specs.RootAsk.{awaits, may_ask, asked}
 use Rattle.warm_messages.specs.Reading.{share_of}
 use Rattle.warm_messages.specs.declared.share.Share.{Share}
 use Rattle.warm_messages.specs.declared.share.Share.TheVariants as share
 use Rattle.machine.specs.Machine.{Machine, Entry, Owed, counted_in, entry_at, live_entry_at}
 use Rattle.machine.specs.Effect.{Effect, unused, nothing_more, tells, then_do, as_move, for_each}
 use Rattle.machine.specs.Peers.{turns_at, peer_at, peer_changes, peer_fails, peer_succeeds, peer_becomes, peer_was_asked, peer_is_ordinary, peer_comes, peer_goes}
-use Rattle.machine.specs.Connections.{with_entry, without_entry, entry_turns, is_missed, lost, lost_by, ending, vanishes, closing_entry, grace_over, is_used, pruned_at, candidates_in, trim, acquire, release, awake, idle, dial, dial_opens, dial_fails}
+use Rattle.machine.specs.Connections.{with_entry, without_entry, entry_turns, is_missed, lost, lost_by, ending, vanishes, closing_entry, grace_over, is_used, pruned_at, candidates_in, trim, acquire, release, awake, dial, dial_opens, dial_fails}
 use Rattle.machine.specs.Deadlines.{due, fires_as, fires_on, fires, fires_some, fire_due, fire_all}
 use Rattle.machine.specs.Events.{clock_shows, turned_away, admitted, crossed, accepted_beside, accepted_through, peer_connects, closed_at, dial_ends_at}
 use Rattle.machine.specs.Govern.{link_of, view_of, promoted_at, promote, on_entry, is_used_at, on_used, asks_peer, activates, deactivates, carries_out, asks_roots, ordinary_rules, big_rules, rules, govern}
@@ -75,10 +74,11 @@ use Rattle.machine.specs.Own.{own_info}
 use Rattle.machine.specs.Provided.{comes_ordinary, locals_are, is_wanted_big, comes_big, bigs_are, roots_say, roots_answer}
 use Rattle.machine.specs.Replies.{owing, paid, reply_on}
 use Rattle.machine.specs.Stream.{handled_in, handled_at, handles, kind_of, faulted_at, fed_with, comes_in_phase, comes_in_at, bytes_come_in}
-use Rattle.machine.specs.Talking.{replies, ends_if, served_at, begins, takes_requests, asked_as, shares_address, taken_of, takes_addresses, pays, brings, answered_as, talks}
+use Rattle.machine.specs.Talking.{ends_if, served_at, begins, takes_requests, asked_as, shares_address, taken_of, takes_addresses, pays, brings, answered_as, talks}
 use Rattle.machine.specs.Whole.{whole_step}
 use Rattle.laws.specs.Whole.{IsSteady, ArePeersApart, AreApart}
 use Rattle.laws.proofs.Chosen.{chosen, chosen-apart, chosen-all, PicksMembers, picks-listed, groups_picks-apart, groups_picks-all, map-groups}
+use Rattle.laws.proofs.Handshakes.{told-machine}
 use Rattle.laws.proofs.Keeping.{note-machine}
 use Rattle.laws.proofs.Lists.{all-both}
 use Rattle.laws.proofs.Orders.{says_done-machine}
@@ -300,14 +300,7 @@ judged-none verdict.Refused e m = ending-none Refused e m
 judged-none verdict.Wrong e m = ending-none (Fault Protocol) e m
 
 decided-none : (v : Verdict) (e : Entry) (m : Machine) → GivesNone m (decided v e m).machine
-decided-none v e m =
-    let said : Option (List ℕ) = answer_of v (own_info m.settings) in
-    let first = told-none said in
-    omega (arith, first, judged-none v e (told said e.facts.cid m).machine)
-  where
-    told-none : (o : Option (List ℕ)) → GivesNone m (told o e.facts.cid m).machine
-    told-none None = omega arith
-    told-none (Some bytes) = omega arith
+decided-none v e m = subst (λ n. GivesNone m (judged v e n).machine) (sym (told-machine (answer_of v (own_info m.settings)) e.facts.cid m)) (judged-none v e m)
 
 greeted_by-none : (o : Option Message) (side : ℕ) (e : Entry) (m : Machine) → GivesNone m (greeted_by o side e m).machine
 greeted_by-none None side e m = ending-none (Fault Malformed) e m
@@ -578,7 +571,7 @@ distinct-number test (a ∷ addrs) ps apart found =
 
 -- ---- whom the rules pick
 
--- the peers are of three kinds
+-- a peer is a local one, another ordinary one, or a big ledger peer
 abbrev is_local_one : List Group → Addr → Bool → Bool
 is_local_one groups a big = not big && is_listed a (members_of groups)
 
