@@ -117,7 +117,7 @@ acceptor-no_agree own (message.QueryReply table) = refl
 -- ---- what a verdict does
 
 -- what is sent is no matter of the record
-told-machine : (o : Option (List ℕ)) (cid : Cid) (m : Machine) → (told o cid m).machine ≡ m
+pub told-machine : (o : Option (List ℕ)) (cid : Cid) (m : Machine) → (told o cid m).machine ≡ m
 told-machine None cid m = refl
 told-machine (Some bytes) cid m = refl
 

@@ -3,6 +3,7 @@ pub mod Counts
 pub mod Entries
 pub mod Events
 pub mod Firing
+pub mod Ids
 pub mod Lists
 pub mod Moves
 pub mod Runs

@@ -103,7 +103,7 @@ taken-classes addr m h b q is local = by_test (same_address b addr) refl
 
 -- ---- the groups are set
 
-members-any : (addr : Addr) (groups : List Group) → list_any (λ group. is_listed addr group.members) groups ≡ is_listed addr (members_of groups)
+pub members-any : (addr : Addr) (groups : List Group) → list_any (λ group. is_listed addr group.members) groups ≡ is_listed addr (members_of groups)
 members-any addr [] = refl
 members-any addr (g ∷ groups) =
     ap (λ b. is_listed addr g.members || b) (members-any addr groups) ∙ sym (list_any-append (same_address addr) g.members (members_of groups))

@@ -40,7 +40,7 @@ pub record IsSameBut (addr : Addr) (p q : Peer) : Type 0 where
   pub same_class : q.big ≡ p.big
   pub elsewhere : same_address p.addr addr ≡ false → q ≡ p
 
-pub AreSameBut : Addr → List Peer → List Peer → Type 0
+unfoldable pub AreSameBut : Addr → List Peer → List Peer → Type 0
 AreSameBut addr [] [] = Unit {0}
 AreSameBut addr [] (q ∷ qs) = ⊥
 AreSameBut addr (p ∷ ps) [] = ⊥

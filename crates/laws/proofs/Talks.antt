@@ -198,7 +198,7 @@ begins-begun faults protocol m e k t serves known = cond_both (runs protocol e.f
     })
     (λ silent. awake-begun faults protocol m e k t serves known)
 
-replies-machine : (r : Reply) (protocol : ℕ) (e : Entry) (m : Machine) → (replies r protocol e m).machine ≡ m
+pub replies-machine : (r : Reply) (protocol : ℕ) (e : Entry) (m : Machine) → (replies r protocol e m).machine ≡ m
 replies-machine reply.Nothing protocol e m = refl
 replies-machine (reply.Alive cookie) protocol e m = refl
 replies-machine (reply.Share n) protocol e m = refl

@@ -120,7 +120,7 @@ unplaced p xs none k d inside = elim (cases_Bool (nat_lt (position_or_len p xs) 
   | inr past ↦ fails_before_first p xs k d (omega (arith, ltb-false (position_or_len p xs) (length xs) past, inside))
 ]
 
-not_local-unlisted : (a : Addr) (groups : List Group) → is_not_local groups a ≡ true → All (λ group. is_listed a group.members ≡ false) groups
+pub not_local-unlisted : (a : Addr) (groups : List Group) → is_not_local groups a ≡ true → All (λ group. is_listed a group.members ≡ false) groups
 not_local-unlisted a groups h = unplaced (λ group. is_listed a group.members) groups (not-true (is_some (group_of a groups)) h)
 
 -- ---- who is picked

@@ -1,0 +1,820 @@
+-- How many ids an event gives out.
+use Rattle.std.proofs.Common.{ℕ, zero, suc, ◌+◌, ◌-◌, ◌%◌, ◌≤◌, ◌≡◌, Bool, true, false, cond, not, ◌&&◌, ◌||◌, ◌==◌, nat_le, if◌then◌else◌, List, [], ◌∷◌, ◌++◌, length, map, filter, find, flat_map, count_by, Option, Some, None, Result, Ok, Err, refl, sym, ap, ◌∙◌, subst, arith}
+use Rattle.std.specs.List.{AllByRecursion}
+use Rattle.std.specs.Option.{unwrap_or}
+use Rattle.std.proofs.lemmas.Bool.{cond_both, and_parts, and_from, and_right}
+use Rattle.std.proofs.lemmas.List.{map-append}
+use Rattle.std.proofs.lemmas.List.Folds.{list_any_none}
+use Rattle.std.proofs.lemmas.List.Sums.{sum_by-cons}
+use Rattle.accept_gate.specs.Gate.{gate_of}
+use Rattle.accept_gate.specs.Prune.{choice_of}
+use Rattle.accept_gate.specs.declared.gate.Gate.{Gate}
+use Rattle.accept_gate.specs.declared.gate.Gate.TheVariants.{Free, Pause as PauseFor, Full as NoRoom}
+use Rattle.conn_state.specs.Moves.{agreed_outbound, released, acquired, awakened, expired}
+use Rattle.conn_state.specs.Use.{agreed_sharing, is_acquirable, is_live, is_pending, is_dialing, runs}
+use Rattle.govern_rules.specs.BigRules.{big_orders}
+use Rattle.govern_rules.specs.Candidates.{is_eligible, may_be_deactivated}
+use Rattle.govern_rules.specs.ClassRules.{active_target}
+use Rattle.govern_rules.specs.Links.{is_pending as is_pending_link}
+use Rattle.govern_rules.specs.Orders.{orders_for}
+use Rattle.govern_rules.specs.Rules.{is_not_local, is_member_and, members_count, g4_orders, g5_orders, g9_orders}
+use Rattle.govern_rules.specs.declared.big_rule.BigRule.TheVariants.{B5}
+use Rattle.govern_rules.specs.declared.order.Order.{Order}
+use Rattle.govern_rules.specs.declared.order.Order.TheVariants.{Ask, Forget, Promote, Release, Activate, Deactivate}
+use Rattle.hs_decide.specs.Agreement.{verdict_of}
+use Rattle.hs_decide.specs.Answers.{answer_of}
+use Rattle.hs_decide.specs.declared.verdict.Verdict.{Verdict}
+use Rattle.hs_decide.specs.declared.verdict.Verdict.TheVariants as verdict
+use Rattle.hs_message.specs.Reading.{message_of}
+use Rattle.hs_message.specs.declared.message.Message.{Message}
+use Rattle.mux_segment.specs.Stream.{FedBy}
+use Rattle.mux_segment.specs.declared.fault.CutFault.{CutFault}
+use Rattle.mux_segment.specs.declared.item.Item.{Item}
+use Rattle.net_base.specs.Address.{same_address, address_below}
+use Rattle.net_base.specs.Peer.{failed_peer}
+use Rattle.net_base.specs.declared.action.Action.TheVariants.{AskRoots, Close}
+use Rattle.net_base.specs.declared.action.Away.TheVariants.{OwnAddr, Crossed, Present as AlreadyThere}
+use Rattle.net_base.specs.declared.action.CloseCause.{CloseCause}
+use Rattle.net_base.specs.declared.action.CloseCause.TheVariants.{Unused, Pruned, Overwritten, Refused, Query, Fault}
+use Rattle.net_base.specs.declared.action.FaultKind.{FaultKind}
+use Rattle.net_base.specs.declared.action.FaultKind.TheVariants.{Malformed, Protocol, HandshakeWait, ReplyWait}
+use Rattle.net_base.specs.declared.address.Addr.{Addr}
+use Rattle.net_base.specs.declared.connection.Cid.{Cid}
+use Rattle.net_base.specs.declared.connection.Facts.{Facts}
+use Rattle.net_base.specs.declared.connection.Phase.{Phase}
+use Rattle.net_base.specs.declared.connection.Phase.TheVariants.{Dialing, Greeting, Negotiated, Closing}
+use Rattle.net_base.specs.declared.event.Event.{Event}
+use Rattle.net_base.specs.declared.event.Event.TheVariants.{Now, Govern, Accepted, Dialed, Bytes, Closed, Aims, Locals, Roots, BigAims, Bigs}
+use Rattle.net_base.specs.declared.event.Group.{Group}
+use Rattle.net_base.specs.declared.event.Job.{Job}
+use Rattle.net_base.specs.declared.event.RootAnswer.{RootAnswer}
+use Rattle.net_base.specs.declared.event.RootAnswer.TheVariants.{Found, Failed}
+use Rattle.net_base.specs.declared.peer.Peer.{Peer}
+use Rattle.net_base.specs.declared.peer.Temp.TheVariants.{Cold, Warm, Hot}
+use Rattle.net_base.specs.declared.timer.Deadline.{Deadline}
+use Rattle.net_base.specs.declared.timer.Kind.{Kind}
+use Rattle.net_base.specs.declared.timer.Kind.TheVariants.{Handshake, Grace as GraceKind, TimeWait, Reply2, Reply8, Reply10}
+use Rattle.peer_book.specs.Book.{active_of, is_of, is_established, peer_at as peer_in, new_peer, entry_of, entered, with_peer as with_peer_in}
+use Rattle.remote_watch.specs.Watch.{watched}
+use Rattle.remote_watch.specs.declared.seen.Seen.{Seen}
+use Rattle.root_groups.specs.Cleaned.{cleaned, is_listed, members_of}
+use Rattle.root_groups.specs.RootAsk.{awaits, may_ask, asked}
+use Rattle.warm_messages.specs.Reading.{share_of}
+use Rattle.warm_messages.specs.declared.share.Share.{Share}
+use Rattle.warm_messages.specs.declared.share.Share.TheVariants as share
+use Rattle.machine.specs.Machine.{Machine, Entry, Owed, counted_in, entry_at, live_entry_at}
+use Rattle.machine.specs.Effect.{Effect, unused, nothing_more, tells, then_do, as_move, for_each}
+use Rattle.machine.specs.Peers.{turns_at, peer_at, peer_changes, peer_fails, peer_succeeds, peer_becomes, peer_was_asked, peer_is_ordinary, peer_comes, peer_goes}
+use Rattle.machine.specs.Connections.{with_entry, without_entry, entry_turns, is_missed, lost, lost_by, ending, vanishes, closing_entry, grace_over, is_used, pruned_at, candidates_in, trim, acquire, release, awake, dial, dial_opens, dial_fails}
+use Rattle.machine.specs.Deadlines.{due, fires_as, fires_on, fires, fires_some, fire_due, fire_all}
+use Rattle.machine.specs.Events.{clock_shows, turned_away, admitted, crossed, accepted_beside, accepted_through, peer_connects, closed_at, dial_ends_at}
+use Rattle.machine.specs.Govern.{link_of, view_of, promoted_at, promote, on_entry, is_used_at, on_used, asks_peer, activates, deactivates, carries_out, asks_roots, ordinary_rules, big_rules, rules, govern}
+use Rattle.machine.specs.Greeting.{role_of, is_awaited, fits_side, told, judged, decided, greeted_by, greets}
+use Rattle.machine.specs.Own.{own_info}
+use Rattle.machine.specs.Provided.{comes_ordinary, locals_are, is_wanted_big, comes_big, bigs_are, roots_say, roots_answer}
+use Rattle.machine.specs.Replies.{owing, paid, reply_on}
+use Rattle.machine.specs.Stream.{handled_in, handled_at, handles, kind_of, faulted_at, fed_with, comes_in_phase, comes_in_at, bytes_come_in}
+use Rattle.machine.specs.Talking.{ends_if, served_at, begins, takes_requests, asked_as, shares_address, taken_of, takes_addresses, pays, brings, answered_as, talks}
+use Rattle.machine.specs.Whole.{whole_step}
+use Rattle.laws.specs.Whole.{IsSteady, ArePeersApart, AreApart}
+use Rattle.laws.proofs.Chosen.{chosen, chosen-apart, chosen-all, PicksMembers, picks-listed, groups_picks-apart, groups_picks-all, map-groups}
+use Rattle.laws.proofs.Handshakes.{told-machine}
+use Rattle.laws.proofs.Keeping.{note-machine}
+use Rattle.laws.proofs.Lists.{all-both}
+use Rattle.laws.proofs.Orders.{says_done-machine}
+use Rattle.laws.proofs.Ordinary.{members-any}
+use Rattle.laws.proofs.PeersApart.{with_peer-apart, filter-apart, all-found}
+use Rattle.laws.proofs.Picks.{filter-all, filter-passing, picks-all}
+use Rattle.laws.proofs.Spending.{AreSameBut, with_peer-same_but}
+use Rattle.laws.proofs.Talks.{replies-machine}
+use Rattle.laws.proofs.Ties.{found-addr}
+use Rattle.laws.proofs.Wanted.{not_local-unlisted}
+
+-- ---- a part of a step
+
+-- how many peers have an address and a class that pass a test
+abbrev number_of : (Addr → Bool → Bool) → List Peer → ℕ
+number_of test = count_by (λ p. test p.addr p.big)
+
+-- At most so many ids are given, no peer comes, and none changes its class.
+record Gives (ids : ℕ) (before after : Machine) : Type 0 where
+  next_id : after.next_id ≤ before.next_id + ids
+  groups : after.groups ≡ before.groups
+  apart : ArePeersApart before.peers → ArePeersApart after.peers
+  fewer : ArePeersApart before.peers → (test : Addr → Bool → Bool) → number_of test after.peers ≤ number_of test before.peers
+
+gives_nothing : (m : Machine) → Gives 0 m m
+gives_nothing m = record { next_id = omega arith; groups = refl; apart = λ h. h; fewer = λ h test. omega arith }
+
+gives_then : (i j : ℕ) (m n o : Machine) → Gives i m n → Gives j n o → Gives (i + j) m o
+gives_then i j m n o first second = record {
+  next_id = omega (arith, first.next_id, second.next_id);
+  groups = second.groups ∙ first.groups;
+  apart = λ h. second.apart (first.apart h);
+  fewer = λ h test. omega (arith, first.fewer h test, second.fewer (first.apart h) test);
+}
+
+gives_more : (i j : ℕ) (m n : Machine) → i ≤ j → Gives i m n → Gives j m n
+gives_more i j m n more h = record { next_id = omega (arith, more, h.next_id); groups = h.groups; apart = h.apart; fewer = h.fewer }
+
+connections-gives : (connections : List Entry) (m : Machine) → Gives 0 m (record m { connections = connections })
+connections-gives connections m = record { next_id = omega arith; groups = refl; apart = λ h. h; fewer = λ h test. omega arith }
+
+same_but-number : (test : Addr → Bool → Bool) (addr : Addr) (ps qs : List Peer) → AreSameBut addr ps qs → number_of test qs ≡ number_of test ps
+unfolding AreSameBut
+same_but-number test addr [] [] h = refl
+same_but-number test addr [] (q ∷ qs) h = elim h [ ]
+same_but-number test addr (p ∷ ps) [] h = elim h [ ]
+same_but-number test addr (p ∷ ps) (q ∷ qs) h =
+    let here : cond {A = ℕ} (test q.addr q.big) 1 0 ≡ cond {A = ℕ} (test p.addr p.big) 1 0 =
+    ap (λ a. cond {A = ℕ} (test a q.big) 1 0) h.0.same_addr ∙ ap (λ b. cond {A = ℕ} (test p.addr b) 1 0) h.0.same_class in
+    let rest = same_but-number test addr ps qs h.1 in
+    let before = sum_by-cons (λ x. cond {A = ℕ} (test x.addr x.big) 1 0) p ps in
+    let after = sum_by-cons (λ x. cond {A = ℕ} (test x.addr x.big) 1 0) q qs in
+    omega (arith, here, rest, before, after)
+
+-- a change that keeps addresses and classes
+changes-gives : (addr : Addr) (change : Peer → Peer) (m : Machine) → ((p : Peer) → (change p).addr ≡ p.addr) → ((p : Peer) → (change p).big ≡ p.big) →
+    Gives 0 m (peer_changes addr change m).machine
+changes-gives addr change m same class = by_peer (peer_at addr m) refl
+  where
+    by_peer : (o : Option Peer) → peer_at addr m ≡ o → Gives 0 m (turns_at o change m).machine
+    by_peer None is = gives_nothing m
+    by_peer (Some p) is =
+        let new : Peer = change p in
+        let found : peer_in new.addr m.peers ≡ Some p = subst (λ a. peer_in a m.peers ≡ Some p) (sym (same p ∙ found-addr addr m.peers p is)) is in
+        record {
+          next_id = omega arith;
+          groups = refl;
+          apart = λ h. with_peer-apart new m.peers h;
+          fewer = λ h test.
+              let same_number = same_but-number test new.addr m.peers (with_peer_in new m.peers) (with_peer-same_but new p m.peers h found (class p)) in
+              omega (arith, same_number);
+        }
+
+-- ---- a connection goes
+
+lost-gives : (f : Facts) (m : Machine) → Gives 0 m (lost f m).machine
+lost-gives f m = cond_both (is_missed f) (peer_fails f.addr m) (nothing_more m) (λ effect. Gives 0 m effect.machine)
+    (λ missed. changes-gives f.addr (failed_peer m.now m.settings.backoff) m (λ p. refl) (λ p. refl)) (λ other. gives_nothing m)
+
+lost_by-gives : (cause : CloseCause) (f : Facts) (m : Machine) → Gives 0 m (lost_by cause f m).machine
+lost_by-gives Unused f m = lost-gives f m
+lost_by-gives Pruned f m = lost-gives f m
+lost_by-gives Overwritten f m = gives_nothing m
+lost_by-gives Refused f m = lost-gives f m
+lost_by-gives Query f m = lost-gives f m
+lost_by-gives (Fault kind) f m = lost-gives f m
+
+ending-gives : (cause : CloseCause) (e : Entry) (m : Machine) → Gives 0 m (ending cause e m).machine
+ending-gives cause e m =
+    let n : Machine = without_entry e.facts.cid.0 m in
+    gives_then 0 0 m n (lost_by cause e.facts n).machine (connections-gives n.connections m) (lost_by-gives cause e.facts n)
+
+pruned_at-gives : (o : Option Entry) (m : Machine) → Gives 0 m (pruned_at o m).machine
+pruned_at-gives None m = gives_nothing m
+pruned_at-gives (Some e) m = ending-gives Pruned e m
+
+trim-gives : (moved : Cid) (m : Machine) → Gives 0 m (trim moved m).machine
+trim-gives moved m =
+    let pruned : Option Entry = entry_at (unwrap_or (choice_of (candidates_in m)) moved).0 m in
+    cond_both (nat_le (counted_in m) m.settings.hard) (nothing_more m) (pruned_at pruned m) (λ effect. Gives 0 m effect.machine)
+    (λ within. gives_nothing m) (λ above. pruned_at-gives pruned m)
+
+-- ---- a connection comes into use
+
+is_used-gives : (f : Facts) (e : Entry) (m : Machine) → Gives 0 m (is_used f e m).machine
+is_used-gives f e m =
+    let n : Machine = with_entry (owing 8 (f.cid.0 % 65536) m (record e { facts = f })) m in
+    gives_then 0 0 m n (peer_succeeds f.addr n).machine (connections-gives n.connections m)
+    (changes-gives f.addr (λ p. record p { temp = Warm; failures = 0 }) n (λ p. refl) (λ p. refl))
+
+-- ---- a part that gives no id, whatever comes of the book
+
+abbrev GivesNone : Machine → Machine → Type 0
+GivesNone before after = after.next_id ≤ before.next_id
+
+turns_at-none : (o : Option Peer) (change : Peer → Peer) (m : Machine) → GivesNone m (turns_at o change m).machine
+turns_at-none None change m = omega arith
+turns_at-none (Some p) change m = omega arith
+
+peer_comes-none : (big : Bool) (addr : Addr) (m : Machine) → GivesNone m (peer_comes big addr m).machine
+peer_comes-none big addr m =
+    rw (note-machine (entry_of addr m.peers) addr (record m { peers = entered (new_peer big addr) m.peers })) (omega arith)
+
+for_each-none : {X : Type 0} (act : X → Machine → Effect) → ((x : X) (m : Machine) → GivesNone m (act x m).machine) → (xs : List X) (m : Machine) →
+    GivesNone m (for_each act xs m).machine
+unfolding for_each
+for_each-none act each [] m = omega arith
+for_each-none act each (x ∷ xs) m =
+    let n : Machine = (act x m).machine in
+    omega (arith, each x m, for_each-none act each xs n)
+
+ending-none : (cause : CloseCause) (e : Entry) (m : Machine) → GivesNone m (ending cause e m).machine
+ending-none cause e m = omega (arith, (ending-gives cause e m).next_id)
+
+vanishes-none : (e : Entry) (m : Machine) → GivesNone m (vanishes e m).machine
+vanishes-none e m = omega (arith, (lost-gives e.facts (without_entry e.facts.cid.0 m)).next_id)
+
+closed_at-none : (o : Option Entry) (m : Machine) → GivesNone m (closed_at o m).machine
+closed_at-none None m = omega arith
+closed_at-none (Some e) m = cond_both (is_live e.facts) (vanishes e m) (nothing_more m) (λ effect. GivesNone m effect.machine)
+    (λ live. vanishes-none e m) (λ dead. omega arith)
+
+-- ---- the clock
+
+grace_over-none : (e : Entry) (m : Machine) → GivesNone m (grace_over e m).machine
+grace_over-none e m = cond_both e.facts.local (entry_turns e (record e { facts = expired e.facts }) m) closed (λ effect. GivesNone m effect.machine)
+    (λ local. omega arith) (λ idle. omega arith)
+  where
+    closed : Effect
+    closed = as_move (unused e.facts.cid.0) m (then_do (tells (Close e.facts.cid Unused ∷ []) m) (entry_turns e (closing_entry m e)))
+
+fires_as-none : (kind : Kind) (e : Entry) (m : Machine) → GivesNone m (fires_as kind e m).machine
+fires_as-none Handshake e m = ending-none (Fault HandshakeWait) e m
+fires_as-none GraceKind e m = grace_over-none e m
+fires_as-none TimeWait e m = omega arith
+fires_as-none Reply2 e m = ending-none (Fault ReplyWait) e m
+fires_as-none Reply8 e m = ending-none (Fault ReplyWait) e m
+fires_as-none Reply10 e m = ending-none (Fault ReplyWait) e m
+
+fires_on-none : (o : Option Entry) (kind : Kind) (m : Machine) → GivesNone m (fires_on o kind m).machine
+fires_on-none None kind m = omega arith
+fires_on-none (Some e) kind m = fires_as-none kind e m
+
+fire_due-none : (n : ℕ) (m : Machine) → GivesNone m (fire_due n m).machine
+unfolding fire_due
+fire_due-none zero m = omega arith
+fire_due-none (suc n) m = by_due (due m) (fire_due-none n)
+  where
+    by_due : (o : Option Deadline) → ((w : Machine) → GivesNone w (fire_due n w).machine) → GivesNone m (fires_some o (fire_due n) m).machine
+    by_due None later = omega arith
+    by_due (Some d) later =
+        let first = fires_on-none (entry_at d.cid.0 m) d.kind m in
+        omega (arith, first, later (fires d m).machine)
+
+clock_shows-none : (t : ℕ) (m : Machine) → GivesNone m (clock_shows t m).machine
+clock_shows-none t m =
+    let n : Machine = record m { now = t } in
+    cond_both (nat_le t m.now) (nothing_more m) (fire_all n) (λ effect. GivesNone m effect.machine) (λ past. omega arith) (λ later. fire_due-none _ n)
+
+-- ---- a dial ends
+
+dial_ends_at-none : (o : Option Entry) (opened : Bool) (m : Machine) → GivesNone m (dial_ends_at o opened m).machine
+dial_ends_at-none None opened m = omega arith
+dial_ends_at-none (Some e) opened m =
+    cond_both (is_dialing e.facts) (if opened then dial_opens e m else dial_fails e m) (nothing_more m) (λ effect. GivesNone m effect.machine)
+    (λ dials. cond_both opened (dial_opens e m) (dial_fails e m) (λ effect. GivesNone m effect.machine) (λ socket. omega arith) (λ failed. vanishes-none e m))
+    (λ other. omega arith)
+
+-- ---- what is set and provided
+
+comes_big-none : (addr : Addr) (m : Machine) → GivesNone m (comes_big addr m).machine
+comes_big-none addr m = cond_both (is_wanted_big addr m) _ (nothing_more m) (λ effect. GivesNone m effect.machine)
+    (λ wanted. peer_comes-none true addr m) (λ other. omega arith)
+
+locals_are-none : (groups : List Group) (m : Machine) → GivesNone m (locals_are groups m).machine
+locals_are-none groups m =
+    let members : List Addr = members_of (cleaned m.settings.own groups) in
+    let n : Machine = record m { groups = cleaned m.settings.own groups } in
+    let first = for_each-none peer_is_ordinary (λ addr o. turns_at-none (peer_at addr o) (λ p. record p { big = false }) o) members n in
+    let second = for_each-none comes_ordinary (λ addr o. peer_comes-none false addr o) members (for_each peer_is_ordinary members n).machine in
+    omega (arith, first, second)
+
+roots_say-none : (answer : RootAnswer) (m : Machine) → GivesNone m (roots_say answer m).machine
+roots_say-none (Found ttl addrs) m = for_each-none comes_ordinary (λ addr o. peer_comes-none false addr o) _ _
+roots_say-none Failed m = omega arith
+
+roots_answer-none : (job : Job) (answer : RootAnswer) (m : Machine) → GivesNone m (roots_answer job answer m).machine
+roots_answer-none job answer m = cond_both (awaits job.0 m.roots) (roots_say answer m) (nothing_more m) (λ effect. GivesNone m effect.machine)
+    (λ awaited. roots_say-none answer m) (λ other. omega arith)
+
+-- ---- the handshake
+
+judged-none : (v : Verdict) (e : Entry) (m : Machine) → GivesNone m (judged v e m).machine
+judged-none (verdict.Accept agreed) e m = omega arith
+judged-none (verdict.Refuse why) e m = ending-none Refused e m
+judged-none verdict.Query e m = ending-none Query e m
+judged-none (verdict.Agree agreed) e m = omega (arith, (is_used-gives (agreed_outbound agreed (m.now + m.settings.idle) e.facts) e m).next_id)
+judged-none verdict.Refused e m = ending-none Refused e m
+judged-none verdict.Wrong e m = ending-none (Fault Protocol) e m
+
+decided-none : (v : Verdict) (e : Entry) (m : Machine) → GivesNone m (decided v e m).machine
+decided-none v e m = subst (λ n. GivesNone m (judged v e n).machine) (sym (told-machine (answer_of v (own_info m.settings)) e.facts.cid m)) (judged-none v e m)
+
+greeted_by-none : (o : Option Message) (side : ℕ) (e : Entry) (m : Machine) → GivesNone m (greeted_by o side e m).machine
+greeted_by-none None side e m = ending-none (Fault Malformed) e m
+greeted_by-none (Some message) side e m =
+    let v : Verdict = verdict_of (role_of e.facts.provenance) (own_info m.settings) message in
+    cond_both (fits_side (role_of e.facts.provenance) side message) (decided v e m) (ending (Fault Protocol) e m) (λ effect. GivesNone m effect.machine)
+    (λ fits. decided-none v e m) (λ other. ending-none (Fault Protocol) e m)
+
+greets-none : (item : Item) (e : Entry) (m : Machine) → GivesNone m (greets item e m).machine
+greets-none item e m = cond_both (item.id == 0 && is_awaited (role_of e.facts.provenance) item.side) (greeted_by (message_of item.body) item.side e m)
+    (ending (Fault Protocol) e m) (λ effect. GivesNone m effect.machine)
+    (λ awaited. greeted_by-none (message_of item.body) item.side e m) (λ other. ending-none (Fault Protocol) e m)
+
+-- ---- after the handshake
+
+awake-none : (protocol : ℕ) (e : Entry) (m : Machine) → GivesNone m (awake protocol e m).machine
+awake-none protocol e m = omega (arith, (trim-gives e.facts.cid (with_entry (record e { facts = awakened protocol e.facts }) m)).next_id)
+
+served_at-none : (o : Option Entry) (seen : Seen) (protocol : ℕ) (m : Machine) → GivesNone m (served_at o seen protocol m).machine
+served_at-none None seen protocol m = omega arith
+served_at-none (Some e) seen protocol m =
+    subst (λ n. GivesNone m (ends_if seen.done protocol (entry_at e.facts.cid.0 n) n).machine) (sym (replies-machine seen.reply protocol e m))
+    (ends_if-none seen.done (entry_at e.facts.cid.0 m))
+  where
+    ends_if-none : (done : Bool) (o : Option Entry) → GivesNone m (ends_if done protocol o m).machine
+    ends_if-none true (Some x) = omega arith
+    ends_if-none true None = omega arith
+    ends_if-none false o = omega arith
+
+asked_as-none : (r : Result Seen FaultKind) (protocol : ℕ) (e : Entry) (m : Machine) → GivesNone m (asked_as r protocol e m).machine
+asked_as-none (Err kind) protocol e m = ending-none (Fault kind) e m
+asked_as-none (Ok seen) protocol e m =
+    let n : Machine = (begins protocol e m).machine in
+    let begun : GivesNone m n = cond_both (runs protocol e.facts.running) (nothing_more m) (awake protocol e m) (λ effect. GivesNone m effect.machine)
+    (λ running. omega arith) (λ stopped. awake-none protocol e m) in
+    cond_both (takes_requests e) (then_do (begins protocol e m) (λ o. served_at (entry_at e.facts.cid.0 o) seen protocol o)) (ending (Fault Protocol) e m)
+    (λ effect. GivesNone m effect.machine)
+    (λ takes. omega (arith, begun, served_at-none (entry_at e.facts.cid.0 n) seen protocol n)) (λ other. ending-none (Fault Protocol) e m)
+
+takes_addresses-none : (o : Option Share) (m : Machine) → GivesNone m (takes_addresses o m).machine
+takes_addresses-none None m = omega arith
+takes_addresses-none (Some (share.Request n)) m = omega arith
+takes_addresses-none (Some (share.Peers told)) m = for_each-none shares_address (λ addr o. peer_comes-none false addr o) (taken_of told m) m
+takes_addresses-none (Some share.Done) m = omega arith
+
+brings-none : (protocol : ℕ) (body : List ℕ) (e : Entry) (m : Machine) → GivesNone m (brings protocol body e m).machine
+brings-none protocol body e m =
+    let rest : Effect = if protocol == 8 then nothing_more m else takes_addresses (share_of body) m in
+    cond_both (protocol == 2) (peer_becomes Hot e.facts.addr m) rest (λ effect. GivesNone m effect.machine)
+    (λ chain_sync. turns_at-none (peer_at e.facts.addr m) (λ p. record p { temp = Hot }) m)
+    (λ other. cond_both (protocol == 8) (nothing_more m) (takes_addresses (share_of body) m) (λ effect. GivesNone m effect.machine)
+    (λ keep_alive. omega arith) (λ sharing. takes_addresses-none (share_of body) m))
+
+answered_as-none : (o : Option Owed) (item : Item) (e : Entry) (m : Machine) → GivesNone m (answered_as o item e m).machine
+answered_as-none None item e m = ending-none (Fault Protocol) e m
+answered_as-none (Some owed) item e m =
+    cond_both (pays owed item.body) (then_do (entry_turns e (paid item.id e) m) (brings item.id item.body e)) (ending (Fault Protocol) e m)
+    (λ effect. GivesNone m effect.machine)
+    (λ pays. brings-none item.id item.body e (with_entry (paid item.id e) m)) (λ other. ending-none (Fault Protocol) e m)
+
+talks-none : (item : Item) (e : Entry) (m : Machine) → GivesNone m (talks item e m).machine
+talks-none item e m =
+    let seen : Result Seen FaultKind = watched item.id (agreed_sharing e.facts.agreed) item.body in
+    cond_both (item.side == 0) (asked_as seen item.id e m) (answered_as (reply_on item.id e) item e m) (λ effect. GivesNone m effect.machine)
+    (λ request. asked_as-none seen item.id e m) (λ answer. answered_as-none (reply_on item.id e) item e m)
+
+-- ---- bytes
+
+handled_in-none : (phase : Phase) (item : Item) (e : Entry) (m : Machine) → GivesNone m (handled_in phase item e m).machine
+handled_in-none Dialing item e m = omega arith
+handled_in-none (Greeting until) item e m = greets-none item e m
+handled_in-none Negotiated item e m = talks-none item e m
+handled_in-none (Closing until) item e m = omega arith
+
+handled_at-none : (o : Option Entry) (item : Item) (m : Machine) → GivesNone m (handled_at o item m).machine
+handled_at-none None item m = omega arith
+handled_at-none (Some e) item m = handled_in-none e.facts.phase item e m
+
+faulted_at-none : (o : Option Entry) (fault : Option CutFault) (m : Machine) → GivesNone m (faulted_at o fault m).machine
+faulted_at-none (Some e) (Some fault) m = ending-none (Fault (kind_of fault)) e m
+faulted_at-none (Some e) None m = omega arith
+faulted_at-none None fault m = omega arith
+
+fed_with-none : (fed : FedBy) (e : Entry) (m : Machine) → GivesNone m (fed_with fed e m).machine
+fed_with-none fed e m =
+    let n : Machine = with_entry (record e { undecoded = fed.state.undecoded }) m in
+    let o : Machine = (for_each (handles e.facts.cid) fed.items n).machine in
+    let items = for_each-none (handles e.facts.cid) (λ item w. handled_at-none (entry_at e.facts.cid.0 w) item w) fed.items n in
+    omega (arith, items, faulted_at-none (entry_at e.facts.cid.0 o) fed.state.fault o)
+
+comes_in_phase-none : (phase : Phase) (bytes : List ℕ) (e : Entry) (m : Machine) → GivesNone m (comes_in_phase phase bytes e m).machine
+comes_in_phase-none Dialing bytes e m = omega arith
+comes_in_phase-none (Greeting until) bytes e m = fed_with-none _ e m
+comes_in_phase-none Negotiated bytes e m = fed_with-none _ e m
+comes_in_phase-none (Closing until) bytes e m = omega arith
+
+comes_in_at-none : (o : Option Entry) (bytes : List ℕ) (m : Machine) → GivesNone m (comes_in_at o bytes m).machine
+comes_in_at-none None bytes m = omega arith
+comes_in_at-none (Some e) bytes m = comes_in_phase-none e.facts.phase bytes e m
+
+-- ---- a peer connects
+
+abbrev GivesOne : Machine → Machine → Type 0
+GivesOne before after = after.next_id ≤ before.next_id + 1
+
+crossed-one : (addr : Addr) (e : Entry) (m : Machine) → GivesOne m (crossed addr e m).machine
+crossed-one addr e m = cond_both (address_below addr m.settings.own) (then_do (ending Overwritten e m) (admitted addr)) (turned_away Crossed m)
+    (λ effect. GivesOne m effect.machine) (λ below. omega (arith, ending-none Overwritten e m)) (λ above. omega arith)
+
+accepted_beside-one : (o : Option Entry) (addr : Addr) (m : Machine) → GivesOne m (accepted_beside o addr m).machine
+accepted_beside-one None addr m = omega arith
+accepted_beside-one (Some e) addr m = cond_both (is_pending e.facts) (crossed addr e m) (turned_away AlreadyThere m) (λ effect. GivesOne m effect.machine)
+    (λ pending. crossed-one addr e m) (λ other. omega arith)
+
+accepted_through-one : (gate : Gate) (addr : Addr) (m : Machine) → GivesOne m (accepted_through gate addr m).machine
+accepted_through-one Free addr m = accepted_beside-one (live_entry_at addr m) addr m
+accepted_through-one (PauseFor delay) addr m = accepted_beside-one (live_entry_at addr m) addr m
+accepted_through-one NoRoom addr m = omega arith
+
+peer_connects-one : (addr : Addr) (m : Machine) → GivesOne m (peer_connects addr m).machine
+peer_connects-one addr m = cond_both (same_address addr m.settings.own) (turned_away OwnAddr m) (accepted_through (gate_of m.settings (counted_in m)) addr m)
+    (λ effect. GivesOne m effect.machine) (λ own. omega arith) (λ other. accepted_through-one (gate_of m.settings (counted_in m)) addr m)
+
+-- ---- the governor's orders
+
+release-gives : (e : Entry) (m : Machine) → Gives 0 m (release e m).machine
+release-gives e m = subst (λ n. Gives 0 m (rest n)) (sym (says_done-machine e.facts m)) each
+  where
+    turned : Machine → Machine
+    turned n = with_entry (record e { facts = released (n.now + n.settings.idle) e.facts }) n
+
+    rest : Machine → Machine
+    rest n = (trim e.facts.cid (peer_becomes Cold e.facts.addr (turned n)).machine).machine
+
+    each : Gives 0 m (rest m)
+    each =
+        let n : Machine = turned m in
+        let o : Machine = (peer_becomes Cold e.facts.addr n).machine in
+        gives_then 0 0 m n (rest m) (connections-gives n.connections m)
+        (gives_then 0 0 n o (rest m) (changes-gives e.facts.addr (λ p. record p { temp = Cold }) n (λ p. refl) (λ p. refl)) (trim-gives e.facts.cid o))
+
+asks_peer-gives : (number : ℕ) (e : Entry) (m : Machine) → Gives 0 m (asks_peer number e m).machine
+asks_peer-gives number e m =
+    let n : Machine = with_entry (owing 10 number m e) m in
+    let next : ℕ = m.now + m.settings.sharegap in
+    gives_then 0 0 m n (peer_was_asked next e.facts.addr n).machine (connections-gives n.connections m)
+    (changes-gives e.facts.addr (λ p. record p { share_next = next }) n (λ p. refl) (λ p. refl))
+
+count-filter : (p q : Peer → Bool) (ps : List Peer) → count_by p (filter q ps) ≤ count_by p ps
+count-filter p q [] = omega arith
+count-filter p q (x ∷ ps) = by_test (q x) (count-filter p q ps) (sum_by-cons (λ y. cond {A = ℕ} (p y) 1 0) x ps) (sum_by-cons (λ y. cond {A = ℕ} (p y) 1 0) x (filter q ps))
+  where
+    by_test : (b : Bool) → count_by p (filter q ps) ≤ count_by p ps → count_by p (x ∷ ps) ≡ cond {A = ℕ} (p x) 1 0 + count_by p ps →
+        count_by p (x ∷ filter q ps) ≡ cond {A = ℕ} (p x) 1 0 + count_by p (filter q ps) →
+        count_by p (cond b (x ∷ filter q ps) (filter q ps)) ≤ count_by p (x ∷ ps)
+    by_test true rest before after = omega (arith, rest, before, after)
+    by_test false rest before after = omega (arith, rest, before)
+
+peer_goes-gives : (addr : Addr) (m : Machine) → Gives 0 m (peer_goes addr m).machine
+peer_goes-gives addr m =
+    let stays : Peer → Bool = λ p. not (same_address p.addr addr) in
+    record { next_id = omega arith; groups = refl; apart = λ h. filter-apart stays m.peers h; fewer = λ h test. count-filter (λ p. test p.addr p.big) stays m.peers }
+
+on_used-gives : (addr : Addr) (act : Entry → Machine → Effect) → ((e : Entry) (m : Machine) → Gives 0 m (act e m).machine) → (m : Machine) →
+    Gives 0 m (on_used addr act m).machine
+on_used-gives addr act each m = by_entry (find (is_used_at addr) m.connections)
+  where
+    by_entry : (o : Option Entry) → Gives 0 m (on_entry o act m).machine
+    by_entry None = gives_nothing m
+    by_entry (Some e) = each e m
+
+activates-gives : (e : Entry) (m : Machine) → Gives 0 m (activates e m).machine
+activates-gives e m = connections-gives (with_entry (owing 2 0 m e) m).connections m
+
+deactivates-gives : (e : Entry) (m : Machine) → Gives 0 m (deactivates e m).machine
+deactivates-gives e m = changes-gives e.facts.addr (λ p. record p { temp = Warm }) m (λ p. refl) (λ p. refl)
+
+dial-gives : (addr : Addr) (m : Machine) → Gives 1 m (dial addr m).machine
+dial-gives addr m = record { next_id = omega arith; groups = refl; apart = λ h. h; fewer = λ h test. omega arith }
+
+promote-gives : (addr : Addr) (m : Machine) → Gives 1 m (promote addr m).machine
+promote-gives addr m = by_live (live_entry_at addr m)
+  where
+    by_live : (o : Option Entry) → Gives 1 m (promoted_at o addr m).machine
+    by_live None = dial-gives addr m
+    by_live (Some e) = cond_both (is_acquirable e.facts) (acquire e m) (dial addr m) (λ effect. Gives 1 m effect.machine)
+        (λ free. gives_more 0 1 m (acquire e m).machine (omega arith) (is_used-gives (acquired e.facts) e m)) (λ other. dial-gives addr m)
+
+-- ---- many orders
+
+-- an order that gives no id
+abbrev IsStill : (Addr → Order) → Type 0
+IsStill order = (addr : Addr) (m : Machine) → Gives 0 m (carries_out (order addr) m).machine
+
+still-gives : (order : Addr → Order) → IsStill order → (addrs : List Addr) (m : Machine) → Gives 0 m (for_each carries_out (map order addrs) m).machine
+unfolding for_each
+still-gives order each [] m = gives_nothing m
+still-gives order each (a ∷ addrs) m =
+    let n : Machine = (carries_out (order a) m).machine in
+    gives_then 0 0 m n (for_each carries_out (map order addrs) n).machine (each a m) (still-gives order each addrs n)
+
+promotes-gives : (addrs : List Addr) (m : Machine) → Gives (length addrs) m (for_each carries_out (map Promote addrs) m).machine
+unfolding for_each
+promotes-gives [] m = gives_nothing m
+promotes-gives (a ∷ addrs) m =
+    let n : Machine = (promote a m).machine in
+    let o : Machine = (for_each carries_out (map Promote addrs) n).machine in
+    gives_more (1 + length addrs) (length (a ∷ addrs)) m o (omega arith)
+    (gives_then 1 (length addrs) m n o (promote-gives a m) (promotes-gives addrs n))
+
+-- ---- distinct addresses, each found in the book, are no more than peers
+
+record IsFoundWith (test : Addr → Bool → Bool) (peers : List Peer) (a : Addr) : Type 0 where
+  peer : Peer
+  found : peer_in a peers ≡ Some peer
+  passes : test peer.addr peer.big ≡ true
+
+abbrev except : Addr → (Addr → Bool → Bool) → Addr → Bool → Bool
+except addr test a big = test a big && not (same_address a addr)
+
+and-less : (x y : Bool) → cond {A = ℕ} (x && y) 1 0 ≤ cond {A = ℕ} x 1 0
+and-less true true = omega arith
+and-less true false = omega arith
+and-less false y = omega arith
+
+except-less : (addr : Addr) (test : Addr → Bool → Bool) (ps : List Peer) → number_of (except addr test) ps ≤ number_of test ps
+except-less addr test [] = omega arith
+except-less addr test (p ∷ ps) =
+    let here = and-less (test p.addr p.big) (not (same_address p.addr addr)) in
+    let before = sum_by-cons (λ x. cond {A = ℕ} (test x.addr x.big) 1 0) p ps in
+    let after = sum_by-cons (λ x. cond {A = ℕ} (except addr test x.addr x.big) 1 0) p ps in
+    omega (arith, here, except-less addr test ps, before, after)
+
+except-one_less : (addr : Addr) (test : Addr → Bool → Bool) (ps : List Peer) → IsFoundWith test ps addr → number_of (except addr test) ps + 1 ≤ number_of test ps
+except-one_less addr test ps h = along ps h.found
+  where
+    along : (qs : List Peer) → peer_in addr qs ≡ Some h.peer → number_of (except addr test) qs + 1 ≤ number_of test qs
+    along [] found = absurd cc
+    along (q ∷ qs) found = by_test (same_address q.addr addr) refl found (along qs)
+        (sum_by-cons (λ x. cond {A = ℕ} (test x.addr x.big) 1 0) q qs) (sum_by-cons (λ x. cond {A = ℕ} (except addr test x.addr x.big) 1 0) q qs)
+      where
+        by_test : (b : Bool) → same_address q.addr addr ≡ b → cond b (Some q) (peer_in addr qs) ≡ Some h.peer →
+            (peer_in addr qs ≡ Some h.peer → number_of (except addr test) qs + 1 ≤ number_of test qs) →
+            number_of test (q ∷ qs) ≡ cond {A = ℕ} (test q.addr q.big) 1 0 + number_of test qs →
+            number_of (except addr test) (q ∷ qs) ≡ cond {A = ℕ} (except addr test q.addr q.big) 1 0 + number_of (except addr test) qs →
+            number_of (except addr test) (q ∷ qs) + 1 ≤ number_of test (q ∷ qs)
+        by_test true is found later before after =
+            let same : q ≡ h.peer = cc in
+            let one : cond {A = ℕ} (test q.addr q.big) 1 0 ≡ 1 = ap (λ b. cond {A = ℕ} b 1 0) (ap (λ x. test x.addr x.big) same ∙ h.passes) in
+            let none : cond {A = ℕ} (except addr test q.addr q.big) 1 0 ≡ 0 =
+            ap (λ b. cond {A = ℕ} b 1 0) (and_right (test q.addr q.big) (not (same_address q.addr addr)) (ap not is)) in
+            omega (arith, one, none, except-less addr test qs, before, after)
+        by_test false is found later before after =
+            omega (arith, and-less (test q.addr q.big) (not (same_address q.addr addr)), later found, before, after)
+
+distinct-number : (test : Addr → Bool → Bool) (addrs : List Addr) (ps : List Peer) → AreApart addrs → AllByRecursion (IsFoundWith test ps) addrs →
+    length addrs ≤ number_of test ps
+distinct-number test [] ps apart found = omega arith
+distinct-number test (a ∷ addrs) ps apart found =
+    let others : AllByRecursion (IsFoundWith (except a test) ps) addrs =
+    all-both (λ b. same_address b a ≡ false) (IsFoundWith test ps) (IsFoundWith (except a test) ps) (λ b other h. record {
+      peer = h.peer;
+      found = h.found;
+      passes = and_from (test h.peer.addr h.peer.big) (not (same_address h.peer.addr a)) h.passes
+          (ap not (ap (λ x. same_address x a) (found-addr b ps h.peer h.found) ∙ other));
+    }) addrs apart.0 found.1 in
+    omega (arith, except-one_less a test ps found.0, distinct-number (except a test) addrs ps apart.1 others)
+
+-- ---- whom the rules pick
+
+-- a peer is a local one, another ordinary one, or a big ledger peer
+abbrev is_local_one : List Group → Addr → Bool → Bool
+is_local_one groups a big = not big && is_listed a (members_of groups)
+
+abbrev is_other_one : List Group → Addr → Bool → Bool
+is_other_one groups a big = not big && not (is_listed a (members_of groups))
+
+abbrev is_big_one : Addr → Bool → Bool
+is_big_one a big = big
+
+kinds-number : (groups : List Group) (ps : List Peer) →
+    number_of (is_local_one groups) ps + number_of (is_other_one groups) ps + number_of is_big_one ps ≤ length ps
+kinds-number groups [] = omega arith
+kinds-number groups (p ∷ ps) =
+    let listed : Bool = is_listed p.addr (members_of groups) in
+    let here = one p.big listed in
+    let local = sum_by-cons (λ x. cond {A = ℕ} (is_local_one groups x.addr x.big) 1 0) p ps in
+    let other = sum_by-cons (λ x. cond {A = ℕ} (is_other_one groups x.addr x.big) 1 0) p ps in
+    let big = sum_by-cons (λ x. cond {A = ℕ} (is_big_one x.addr x.big) 1 0) p ps in
+    omega (arith, here, kinds-number groups ps, local, other, big)
+  where
+    one : (b c : Bool) → cond {A = ℕ} (not b && c) 1 0 + cond {A = ℕ} (not b && not c) 1 0 + cond {A = ℕ} b 1 0 ≤ 1
+    one true true = omega arith
+    one true false = omega arith
+    one false true = omega arith
+    one false false = omega arith
+
+-- whoever is picked is of a kind where the candidates are
+chosen-found : (kind : Addr → Bool → Bool) (big : Bool) (word number : ℕ) (test : Peer → Bool) (peers : List Peer) → ArePeersApart peers →
+    ((p : Peer) → (is_of big p && test p) ≡ true → kind p.addr p.big ≡ true) → AllByRecursion (IsFoundWith kind peers) (chosen big word number test peers)
+chosen-found kind big word number test peers apart gives =
+    let candidate : Peer → Bool = λ p. is_of big p && test p in
+    picks-all (IsFoundWith kind peers) big word number (filter candidate peers)
+    (all-both (λ p. candidate p ≡ true) (λ p. peer_in p.addr peers ≡ Some p) (λ p. IsFoundWith kind peers p.addr)
+    (λ p h found. record { peer = p; found = found; passes = gives p h }) (filter candidate peers) (filter-passing candidate peers)
+    (filter-all (λ p. peer_in p.addr peers ≡ Some p) candidate peers (all-found peers apart)))
+
+-- ---- each rule
+
+-- From a record on, after other rules that gave so many ids, a rule gives so many more at most.
+DoesGive : Machine → ℕ → (Machine → Effect) → Type 0
+DoesGive start ids act = (given : ℕ) (m : Machine) → Gives given start m → Gives (given + ids) start (act m).machine
+
+still-rule : (start : Machine) (act : Machine → Effect) → ((m : Machine) → Gives 0 m (act m).machine) → DoesGive start 0 act
+unfolding DoesGive
+still-rule start act each given m h = gives_then given 0 start m (act m).machine h (each m)
+
+no_rules : (start : Machine) → DoesGive start 0 (for_each rules [])
+unfolding DoesGive for_each
+no_rules start given m h = gives_then given 0 start m m h (gives_nothing m)
+
+rule_then : (start : Machine) (i j : ℕ) (r : Machine → List Order) (rs : List (Machine → List Order)) → DoesGive start i (rules r) →
+    DoesGive start j (for_each rules rs) → DoesGive start (i + j) (for_each rules (r ∷ rs))
+unfolding DoesGive for_each
+rule_then start i j r rs first second given m h =
+    let n : Machine = (rules r m).machine in
+    gives_more (given + i + j) (given + (i + j)) start (for_each rules rs n).machine (omega arith) (second (given + i) n (first given m h))
+
+-- addresses that are apart and of a kind are promoted
+kind-rule : (start : Machine) (kind : Addr → Bool → Bool) (addrs : List Addr) (given : ℕ) (m : Machine) → ArePeersApart start.peers → Gives given start m →
+    AreApart addrs → AllByRecursion (IsFoundWith kind m.peers) addrs →
+    Gives (given + number_of kind start.peers) start (for_each carries_out (map Promote addrs) m).machine
+kind-rule start kind addrs given m peers h apart found =
+    let n : Machine = (for_each carries_out (map Promote addrs) m).machine in
+    let picks = distinct-number kind addrs m.peers apart found in
+    let fewer = h.fewer peers kind in
+    gives_then given (number_of kind start.peers) start m n h
+    (gives_more (length addrs) (number_of kind start.peers) m n (omega (arith, picks, fewer)) (promotes-gives addrs m))
+
+g4-rule : (start : Machine) (word : ℕ) → ArePeersApart start.peers → AreApart (members_of start.groups) →
+    DoesGive start (number_of (is_local_one start.groups) start.peers) (rules (λ m. g4_orders (view_of word m) m.peers m.groups))
+unfolding DoesGive
+g4-rule start word peers members given m h =
+    subst (λ orders. Gives (given + number_of kind start.peers) start (for_each carries_out orders m).machine) (sym (map-groups Promote pick m.groups))
+    (kind-rule start kind (flat_map pick m.groups) given m peers h (groups_picks-apart pick m.groups picks groups)
+    (all-both (λ a. is_listed a (members_of m.groups) ≡ true) (IsFoundWith is_small m.peers) (IsFoundWith kind m.peers)
+    (λ a listed x. record {
+      peer = x.peer;
+      found = x.found;
+      passes = and_from (not x.peer.big) (is_listed x.peer.addr (members_of start.groups)) x.passes
+          (ap (λ b. is_listed b (members_of start.groups)) (found-addr a m.peers x.peer x.found) ∙ (ap (λ gs. is_listed a (members_of gs)) (sym h.groups) ∙ listed));
+    }) (flat_map pick m.groups) (picks-listed pick m.groups picks)
+    (groups_picks-all (IsFoundWith is_small m.peers) pick m.groups (λ g. chosen-found is_small false word (number g) (is_member_and g eligible) m.peers here
+    (λ p passes. (and_parts (not p.big) (is_member_and g eligible p) passes).0)))))
+  where
+    kind : Addr → Bool → Bool
+    kind = is_local_one start.groups
+
+    is_small : Addr → Bool → Bool
+    is_small a big = not big
+
+    here : ArePeersApart m.peers
+    here = h.apart peers
+
+    groups : AreApart (members_of m.groups)
+    groups = subst (λ gs. AreApart (members_of gs)) (sym h.groups) members
+
+    eligible : Peer → Bool
+    eligible = is_eligible m.now (map link_of m.connections)
+
+    number : Group → ℕ
+    number g = g.warm - members_count g (λ p. is_established p.temp || is_pending_link (map link_of m.connections) p.addr) m.peers
+
+    pick : Group → List Addr
+    pick g = chosen false word (number g) (is_member_and g eligible) m.peers
+
+    picks : PicksMembers pick
+    picks = record {
+      apart = λ g. chosen-apart false word (number g) (is_member_and g eligible) m.peers here;
+      members = λ g. chosen-all (λ a. is_listed a g.members ≡ true) false word (number g) (is_member_and g eligible) m.peers here
+          (λ p passes found. (and_parts (is_listed p.addr g.members) (eligible p) passes).0);
+    }
+
+-- a rule by the targets
+class-rule : (start : Machine) (kind : Addr → Bool → Bool) (big : Bool) (word number : ℕ) (test : Peer → Bool) (given : ℕ) (m : Machine) →
+    ArePeersApart start.peers → Gives given start m → ((p : Peer) → (is_of big p && test p) ≡ true → kind p.addr p.big ≡ true) →
+    Gives (given + number_of kind start.peers) start (for_each carries_out (orders_for big word Promote number test m.peers) m).machine
+class-rule start kind big word number test given m peers h gives =
+    kind-rule start kind (chosen big word number test m.peers) given m peers h (chosen-apart big word number test m.peers (h.apart peers))
+    (chosen-found kind big word number test m.peers (h.apart peers) gives)
+
+not_local-unlisted_member : (a : Addr) (groups : List Group) → is_not_local groups a ≡ true → is_listed a (members_of groups) ≡ false
+not_local-unlisted_member a groups h =
+    sym (members-any a groups) ∙ list_any_none (λ g. is_listed a g.members) groups (not_local-unlisted a groups h)
+
+g5-rule : (start : Machine) (word : ℕ) → ArePeersApart start.peers →
+    DoesGive start (number_of (is_other_one start.groups) start.peers) (rules (λ m. g5_orders (view_of word m) m.peers m.groups))
+unfolding DoesGive
+g5-rule start word peers given m h = class-rule start (is_other_one start.groups) false word _ _ given m peers h other
+  where
+    eligible : Peer → Bool
+    eligible = is_eligible m.now (map link_of m.connections)
+
+    other : (p : Peer) → (not p.big && (is_not_local m.groups p.addr && eligible p)) ≡ true → is_other_one start.groups p.addr p.big ≡ true
+    other p passes =
+        let parts = and_parts (not p.big) (is_not_local m.groups p.addr && eligible p) passes in
+        and_from (not p.big) (not (is_listed p.addr (members_of start.groups))) parts.0
+        (ap not (not_local-unlisted_member p.addr start.groups
+        (subst (λ gs. is_not_local gs p.addr ≡ true) h.groups (and_parts (is_not_local m.groups p.addr) (eligible p) parts.1).0)))
+
+b5-rule : (start : Machine) (word : ℕ) → ArePeersApart start.peers →
+    DoesGive start (number_of is_big_one start.peers) (rules (λ m. big_orders B5 (view_of word m) m.peers))
+unfolding DoesGive
+b5-rule start word peers given m h = class-rule start is_big_one true word _ _ given m peers h big
+  where
+    big : (p : Peer) → (p.big && is_eligible m.now (map link_of m.connections) p) ≡ true → p.big ≡ true
+    big p passes = (and_parts p.big (is_eligible m.now (map link_of m.connections) p) passes).0
+
+-- orders by the valencies that give no id
+groups-still : (order : Addr → Order) → IsStill order → (word : ℕ) (number : Group → ℕ) (test : Peer → Bool) (m : Machine) →
+    Gives 0 m (for_each carries_out (flat_map (λ g. orders_for false word order (number g) (is_member_and g test) m.peers) m.groups) m).machine
+groups-still order each word number test m =
+    let pick : Group → List Addr = λ g. chosen false word (number g) (is_member_and g test) m.peers in
+    subst (λ orders. Gives 0 m (for_each carries_out orders m).machine) (sym (map-groups order pick m.groups)) (still-gives order each (flat_map pick m.groups) m)
+
+deactivate-still : IsStill Deactivate
+deactivate-still addr m = on_used-gives addr deactivates deactivates-gives m
+
+g9-gives : (word : ℕ) (m : Machine) → Gives 0 m (rules (λ o. g9_orders (view_of word o) o.peers o.groups) m).machine
+g9-gives word m =
+    subst (λ orders. Gives 0 m (for_each carries_out orders m).machine) same (still-gives Deactivate deactivate-still (beyond ++ flat_map members m.groups) m)
+  where
+    beyond : List Addr
+    beyond = chosen false word (active_of false m.peers - active_target false (view_of word m)) (λ p. is_not_local m.groups p.addr && may_be_deactivated p) m.peers
+
+    members : Group → List Addr
+    members g = chosen false word (members_count g may_be_deactivated m.peers - g.hot) (is_member_and g may_be_deactivated) m.peers
+
+    same : map Deactivate (beyond ++ flat_map members m.groups) ≡ g9_orders (view_of word m) m.peers m.groups
+    same = map-append Deactivate beyond (flat_map members m.groups)
+        ∙ ap (λ orders. map Deactivate beyond ++ orders) (sym (map-groups Deactivate members m.groups))
+
+-- ---- all rules
+
+forget-still : IsStill Forget
+forget-still addr m = peer_goes-gives addr m
+
+release-still : IsStill Release
+release-still addr m = on_used-gives addr release release-gives m
+
+activate-still : IsStill Activate
+activate-still addr m = on_used-gives addr activates activates-gives m
+
+ask-still : (number : ℕ) → IsStill (λ addr. Ask addr number)
+ask-still number addr m = on_used-gives addr (asks_peer number) (asks_peer-gives number) m
+
+-- what the rules for a class may give in all
+abbrev ordinary_ids : Machine → ℕ
+ordinary_ids start =
+    0 + (0 + (number_of (is_local_one start.groups) start.peers + (number_of (is_other_one start.groups) start.peers + (0 + (0 + (0 + (0 + 0)))))))
+
+abbrev big_ids : Machine → ℕ
+big_ids start = 0 + (number_of is_big_one start.peers + (0 + (0 + (0 + 0))))
+
+ordinary-give : (start : Machine) (word : ℕ) → ArePeersApart start.peers → AreApart (members_of start.groups) →
+    DoesGive start (ordinary_ids start) (for_each rules (ordinary_rules word))
+ordinary-give start word peers members =
+    rule_then start _ _ _ _ (still-rule start _ (λ m. still-gives (λ addr. Ask addr _) (ask-still _) _ m))
+    (rule_then start _ _ _ _ (still-rule start _ (λ m. still-gives Forget forget-still _ m))
+    (rule_then start _ _ _ _ (g4-rule start word peers members)
+    (rule_then start _ _ _ _ (g5-rule start word peers)
+    (rule_then start _ _ _ _ (still-rule start _ (λ m. still-gives Release release-still _ m))
+    (rule_then start _ _ _ _ (still-rule start _ (λ m. groups-still Activate activate-still word _ _ m))
+    (rule_then start _ _ _ _ (still-rule start _ (λ m. still-gives Activate activate-still _ m))
+    (rule_then start _ _ _ _ (still-rule start _ (g9-gives word)) (no_rules start))))))))
+
+big-give : (start : Machine) (word : ℕ) → ArePeersApart start.peers → DoesGive start (big_ids start) (for_each rules (big_rules word))
+big-give start word peers =
+    rule_then start _ _ _ _ (still-rule start _ (λ m. still-gives Forget forget-still _ m))
+    (rule_then start _ _ _ _ (b5-rule start word peers)
+    (rule_then start _ _ _ _ (still-rule start _ (λ m. still-gives Release release-still _ m))
+    (rule_then start _ _ _ _ (still-rule start _ (λ m. still-gives Activate activate-still _ m))
+    (rule_then start _ _ _ _ (still-rule start _ (λ m. still-gives Deactivate deactivate-still _ m)) (no_rules start)))))
+
+asks_roots-gives : (m : Machine) → Gives 0 m (asks_roots m).machine
+asks_roots-gives m = cond_both (may_ask m.now m.targets.root m.roots)
+    (tells (AskRoots (record { 0 = m.roots.next_job }) ∷ []) (record m { roots = asked m.roots })) (nothing_more m) (λ effect. Gives 0 m effect.machine)
+    (λ too_few. record { next_id = omega arith; groups = refl; apart = λ h. h; fewer = λ h test. omega arith }) (λ enough. gives_nothing m)
+
+-- each peer is dialed once at most
+pub govern-ids : (word : ℕ) (m : Machine) → ArePeersApart m.peers → AreApart (members_of m.groups) →
+    (govern word m).machine.next_id ≤ m.next_id + length m.peers
+unfolding DoesGive
+govern-ids word m peers members =
+    let n : Machine = (asks_roots m).machine in
+    let o : Machine = (for_each rules (ordinary_rules word) n).machine in
+    let ordinary : Gives (0 + ordinary_ids m) m o = ordinary-give m word peers members 0 n (asks_roots-gives m) in
+    let all = big-give m word peers (0 + ordinary_ids m) o ordinary in
+    omega (arith, all.next_id, kinds-number m.groups m.peers)
+
+-- ---- each event
+
+none-few : (m n : Machine) → GivesNone m n → n.next_id ≤ m.next_id + 20000
+none-few m n h = omega (arith, h)
+
+pub whole_step-ids : (m : Machine) (event : Event) → IsSteady m → (whole_step m event).machine.next_id ≤ m.next_id + 20000
+whole_step-ids m (Now t) h = none-few m (clock_shows t m).machine (clock_shows-none t m)
+whole_step-ids m (Govern word) h = omega (arith, govern-ids word m h.formed.peers h.formed.groups, h.formed.room)
+whole_step-ids m (Accepted addr) h = omega (arith, peer_connects-one addr m)
+whole_step-ids m (Dialed cid opened) h = none-few m (dial_ends_at (entry_at cid.0 m) opened m).machine (dial_ends_at-none (entry_at cid.0 m) opened m)
+whole_step-ids m (Bytes cid bytes) h = none-few m (bytes_come_in cid bytes m).machine (comes_in_at-none (entry_at cid.0 m) bytes m)
+whole_step-ids m (Closed cid) h = none-few m (closed_at (entry_at cid.0 m) m).machine (closed_at-none (entry_at cid.0 m) m)
+whole_step-ids m (Aims targets) h = omega arith
+whole_step-ids m (Locals groups) h = none-few m (locals_are groups m).machine (locals_are-none groups m)
+whole_step-ids m (Roots job answer) h = none-few m (roots_answer job answer m).machine (roots_answer-none job answer m)
+whole_step-ids m (BigAims targets) h = omega arith
+whole_step-ids m (Bigs addrs) h = none-few m (bigs_are addrs m).machine (for_each-none comes_big comes_big-none addrs m)
