@@ -43,3 +43,5 @@ mod Clock
 mod Spending
 mod Wanted
 mod EventMoves
+mod Telling
+mod ToldMoves

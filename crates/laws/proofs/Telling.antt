@@ -1,0 +1,154 @@
+-- What the actions of a part tell: one part after another, and what tells nothing.
+use Rattle.std.proofs.Common.{ℕ, ◌+◌, ◌≡◌, ◌≤◌, Bool, true, false, nat_lt, List, [], ◌∷◌, ◌++◌, flat_map, refl, sym, ap, ◌∙◌, subst, arith}
+use Rattle.std.proofs.lemmas.Grind.{flat_map-append}
+use Rattle.std.proofs.lemmas.List.{append-nil}
+use Rattle.net_base.specs.declared.action.Action.{Action}
+use Rattle.net_base.specs.declared.action.Action.TheVariants.{Close}
+use Rattle.net_base.specs.declared.action.CloseCause.{CloseCause}
+use Rattle.net_base.specs.declared.address.Addr.{Addr}
+use Rattle.net_base.specs.declared.connection.Cid.{Cid}
+use Rattle.peer_book.specs.Book.{peer_at as peer_in}
+use Rattle.machine.specs.Effect.{Effect, Happened, Move, tells, then_do, as_move}
+use Rattle.machine.specs.Machine.{Machine}
+use Rattle.laws.specs.Stages.{stage_at, causes_by, causes_in, IsLateCause, IsOneEnd}
+use Rattle.laws.specs.Telling.{GoesOn, IsTold}
+use Rattle.laws.specs.Told.{End, closed_by, closes_in, ended_by, ends_in, dialed_by, dials_in, promoted_by_dial, dial_promotions_in, given_by, given_in, CountUp, LeadTo, temp_of, temp_at, notes_by, notes_in, noted, is_change, state_at, names_by, names_in, is_other_name, same_state}
+
+-- ---- one after the other
+
+pub leads_on : {S N : Type 0} (changes : S → N → Bool) (says : N → S) (s t u : S) (ns ms : List N) → LeadTo changes says s ns t → LeadTo changes says t ms u →
+    LeadTo changes says s (ns ++ ms) u
+leads_on changes says s t u [] ms one two = subst (λ x. LeadTo changes says x ms u) (sym one) two
+leads_on changes says s t u (n ∷ ns) ms one two = (one.0, leads_on changes says (says n) t u ns ms one.1 two)
+
+counts_on : (a b c : ℕ) (ns ms : List ℕ) → CountUp a ns b → CountUp b ms c → CountUp a (ns ++ ms) c
+counts_on a b c [] ms one two = subst (λ x. CountUp x ms c) (sym one) two
+counts_on a b c (n ∷ ns) ms one two = (one.0, counts_on (a + 1) b c ns ms one.1 two)
+
+both_joined : {A B C : Type 0} (f : A → List C) (g : B → List C) (xs ys : List A) (ms ns : List B) → flat_map f xs ≡ flat_map g ms → flat_map f ys ≡ flat_map g ns →
+    flat_map f (xs ++ ys) ≡ flat_map g (ms ++ ns)
+both_joined f g xs ys ms ns one two =
+    flat_map-append f xs ys ∙ (ap (λ l. l ++ flat_map f ys) one ∙ (ap (λ l. flat_map g ms ++ l) two ∙ sym (flat_map-append g ms ns)))
+
+abbrev ends_of_move : Move → List End
+ends_of_move move = ended_by move.happened
+
+causes-append : (cid : ℕ) (ms ns : List Move) → causes_in cid (ms ++ ns) ≡ causes_in cid ms ++ causes_in cid ns
+causes-append cid ms ns = ap (flat_map (causes_by cid)) (flat_map-append ends_of_move ms ns) ∙ flat_map-append (causes_by cid) (ends_in ms) (ends_in ns)
+
+one_end_on : (cs ds : List CloseCause) (a b c : ℕ) → a ≤ b → b ≤ c → IsOneEnd cs a b → IsOneEnd ds b c → IsOneEnd (cs ++ ds) a c
+one_end_on [] [] a b c early late one two = tt
+one_end_on [] (d ∷ []) a b c early late one two = (
+  omega (arith, early, two.0),
+  two.1,
+  λ open_. two.2 (let start = two.0 in omega (arith, early, open_, start)),
+)
+one_end_on [] (d ∷ e ∷ ds) a b c early late one two = elim two [ ]
+one_end_on (x ∷ []) [] a b c early late one two = (one.0, (let over = one.1 in omega (arith, over, late)), one.2)
+one_end_on (x ∷ []) (d ∷ []) a b c early late one two = absurd (let over = one.1 in let start = two.0 in omega (arith, over, start))
+one_end_on (x ∷ []) (d ∷ e ∷ ds) a b c early late one two = elim two [ ]
+one_end_on (x ∷ y ∷ cs) ds a b c early late one two = elim one [ ]
+
+pub goes_on_then : (cid : ℕ) (m : Machine) (first : Effect) (next : Machine → Effect) → GoesOn cid m first → GoesOn cid first.machine (next first.machine) →
+    GoesOn cid m (then_do first next)
+goes_on_then cid m first next one two =
+    let second : Effect = next first.machine in
+    record {
+      names = subst (λ names. LeadTo is_other_name same_state (state_at cid m) names (state_at cid second.machine))
+          (sym (flat_map-append (names_by cid) first.actions second.actions))
+          (leads_on is_other_name same_state (state_at cid m) (state_at cid first.machine) (state_at cid second.machine) (names_in cid first.actions)
+          (names_in cid second.actions) one.names two.names);
+      forward = omega (arith, one.forward, two.forward);
+      ends = subst (λ cs. IsOneEnd cs (stage_at cid m) (stage_at cid second.machine)) (sym (causes-append cid first.moves second.moves))
+          (one_end_on (causes_in cid first.moves) (causes_in cid second.moves) (stage_at cid m) (stage_at cid first.machine) (stage_at cid second.machine)
+          one.forward two.forward one.ends two.ends);
+    }
+
+pub told_then : (m : Machine) (first : Effect) (next : Machine → Effect) → IsTold m first → IsTold first.machine (next first.machine) → IsTold m (then_do first next)
+told_then m first next one two =
+    let second : Effect = next first.machine in
+    record {
+      closes = both_joined closed_by ends_of_move first.actions second.actions first.moves second.moves one.closes two.closes;
+      dials = both_joined dialed_by (λ move. promoted_by_dial move.happened move.before.next_id move.after.next_id) first.actions second.actions first.moves
+          second.moves one.dials two.dials;
+      given = subst (λ ns. CountUp m.next_id ns second.machine.next_id) (sym (flat_map-append given_by first.actions second.actions))
+          (counts_on m.next_id first.machine.next_id second.machine.next_id (given_in first.actions) (given_in second.actions) one.given two.given);
+      peers = λ addr. subst (λ ns. LeadTo is_change noted (temp_at addr m) ns (temp_at addr second.machine))
+          (sym (flat_map-append (notes_by addr) first.actions second.actions))
+          (leads_on is_change noted (temp_at addr m) (temp_at addr first.machine) (temp_at addr second.machine) (notes_in addr first.actions)
+          (notes_in addr second.actions) (one.peers addr) (two.peers addr));
+      connections = λ cid. goes_on_then cid m first next (one.connections cid) (two.connections cid);
+    }
+
+-- ---- what tells nothing
+
+-- actions that tell of no connection and no peer
+pub record IsMute (actions : List Action) : Type 0 where
+  pub closes : closes_in actions ≡ []
+  pub dials : dials_in actions ≡ []
+  pub given : given_in actions ≡ []
+  pub notes : (addr : Addr) → notes_in addr actions ≡ []
+  pub names : (cid : ℕ) → names_in cid actions ≡ []
+
+-- nor is there anything to tell
+pub record IsUnchanged (before after : Machine) : Type 0 where
+  pub connections : after.connections ≡ before.connections
+  pub peers : after.peers ≡ before.peers
+  pub next_id : after.next_id ≡ before.next_id
+
+unchanged-state : (cid : ℕ) (m n : Machine) → IsUnchanged m n → state_at cid m ≡ state_at cid n
+unchanged-state cid m n same = ap (λ es. state_at cid (record m { connections = es })) (sym same.connections)
+
+unchanged-stage : (cid : ℕ) (m n : Machine) → IsUnchanged m n → stage_at cid m ≡ stage_at cid n
+unchanged-stage cid m n same =
+    ap (λ es. stage_at cid (record m { connections = es })) (sym same.connections)
+    ∙ ap (λ next. stage_at cid (record m { connections = n.connections; next_id = next })) (sym same.next_id)
+
+pub told_unchanged : (m : Machine) (effect : Effect) → IsMute effect.actions → effect.moves ≡ [] → IsUnchanged m effect.machine → IsTold m effect
+told_unchanged m effect mute none same = record {
+  closes = mute.closes ∙ sym (ap ends_in none);
+  dials = mute.dials ∙ sym (ap dial_promotions_in none);
+  given = subst (λ ns. CountUp m.next_id ns effect.machine.next_id) (sym mute.given) (sym same.next_id);
+  peers = λ addr. subst (λ ns. LeadTo is_change noted (temp_at addr m) ns (temp_at addr effect.machine)) (sym (mute.notes addr))
+      (ap (λ ps. temp_of (peer_in addr ps)) (sym same.peers));
+  connections = λ cid.
+      let stage : stage_at cid m ≡ stage_at cid effect.machine = unchanged-stage cid m effect.machine same in
+      record {
+        names = subst (λ ns. LeadTo is_other_name same_state (state_at cid m) ns (state_at cid effect.machine)) (sym (mute.names cid))
+            (unchanged-state cid m effect.machine same);
+        forward = omega (arith, stage);
+        ends = subst (λ ms. IsOneEnd (causes_in cid ms) (stage_at cid m) (stage_at cid effect.machine)) (sym none) tt;
+      };
+}
+
+pub mute-none : IsMute []
+mute-none = record { closes = refl; dials = refl; given = refl; notes = λ addr. refl; names = λ cid. refl }
+
+pub told_nothing : (m : Machine) → IsTold m (tells [] m)
+told_nothing m = told_unchanged m (tells [] m) mute-none refl (record { connections = refl; peers = refl; next_id = refl })
+
+-- ---- the part as a whole is a move
+
+-- a move that is neither an end nor a dial
+pub told_move : (happened : Happened) (m : Machine) (effect : Effect) → ended_by happened ≡ [] → promoted_by_dial happened m.next_id effect.machine.next_id ≡ [] →
+    IsTold m effect → IsTold m (as_move happened m effect)
+told_move happened m effect no_end no_dial h =
+    let move : Move = record { happened = happened; before = m; after = effect.machine } in
+    let ends : ends_in effect.moves ≡ ends_in (effect.moves ++ move ∷ []) =
+    sym (append-nothing (ends_in effect.moves) (ends_in (move ∷ [])) (ap (λ l. l ++ []) no_end)) ∙ sym (flat_map-append ends_of_move effect.moves (move ∷ [])) in
+    record {
+      closes = h.closes ∙ ends;
+      dials = h.dials
+          ∙ (sym (append-nothing (dial_promotions_in effect.moves) (dial_promotions_in (move ∷ [])) (ap (λ l. l ++ []) no_dial))
+          ∙ sym (flat_map-append (λ x. promoted_by_dial x.happened x.before.next_id x.after.next_id) effect.moves (move ∷ [])));
+      given = h.given;
+      peers = h.peers;
+      connections = λ cid. record {
+        names = (h.connections cid).names;
+        forward = (h.connections cid).forward;
+        ends = subst (λ es. IsOneEnd (flat_map (causes_by cid) es) (stage_at cid m) (stage_at cid effect.machine)) ends (h.connections cid).ends;
+      };
+    }
+  where
+    append-nothing : {X : Type 0} (xs ys : List X) → ys ≡ [] → xs ++ ys ≡ xs
+    append-nothing xs ys none = ap (λ l. xs ++ l) none ∙ append-nil xs

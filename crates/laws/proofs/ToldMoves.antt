@@ -1,0 +1,498 @@
+-- What each change of a connection or a peer tells.
+use Rattle.std.proofs.Common.{ℕ, ◌+◌, ◌≡◌, ◌≤◌, ◌<◌, Bool, true, false, cond, not, ◌==◌, nat_lt, nat_le, if◌then◌else◌, List, [], ◌∷◌, ◌++◌, All, find, get_or, set, remove, length, flat_map, Option, Some, None, is_some, refl, sym, ap, ◌∙◌, subst, arith, eqb-true, eq-eqb, ne_eqb}
+use Rattle.std.proofs.lemmas.Bool.{cond_both, both_ways, false≢true}
+use Rattle.std.proofs.lemmas.List.Elements.{All-weaker}
+use Rattle.std.proofs.lemmas.List.{append-nil}
+use Rattle.std.proofs.lemmas.Grind.{flat_map-append}
+use Rattle.conn_state.specs.Names.{name_of, name_in_phase, name_in_use, name_place, same_name}
+use Rattle.conn_state.specs.Use.{has_id, is_duplex, some_runs}
+use Rattle.net_base.specs.Address.{same_address}
+use Rattle.net_base.specs.declared.action.Action.{Action}
+use Rattle.net_base.specs.declared.action.Action.TheVariants.{Admit, Dial, Close, State, Peer as TellPeer}
+use Rattle.net_base.specs.declared.action.CloseCause.{CloseCause}
+use Rattle.net_base.specs.declared.action.PeerNote.{PeerNote}
+use Rattle.net_base.specs.declared.action.PeerNote.TheVariants as note
+use Rattle.net_base.specs.declared.action.StateName.{StateName}
+use Rattle.net_base.specs.declared.action.StateName.TheVariants.{ReservedOutbound, UnnegotiatedInbound, UnnegotiatedOutbound, Duplex, OutboundUni, OutboundDupTicking, OutboundDupExpired, Inbound, InboundIdle, OutboundIdle, Terminating, Terminated}
+use Rattle.net_base.specs.declared.address.Addr.{Addr}
+use Rattle.net_base.specs.declared.connection.Cid.{Cid}
+use Rattle.net_base.specs.declared.connection.Facts.{Facts}
+use Rattle.net_base.specs.declared.connection.Grace.{Grace}
+use Rattle.net_base.specs.declared.connection.Grace.TheVariants.{Off, ForRemote, ForLocal}
+use Rattle.net_base.specs.declared.connection.Phase.{Phase}
+use Rattle.net_base.specs.declared.connection.Phase.TheVariants.{Dialing, Greeting, Negotiated, Closing}
+use Rattle.net_base.specs.declared.connection.Provenance.{Provenance}
+use Rattle.net_base.specs.declared.connection.Provenance.TheVariants.{FromRemote, FromLocal}
+use Rattle.net_base.specs.declared.peer.Peer.{Peer}
+use Rattle.net_base.specs.declared.peer.Temp.{Temp}
+use Rattle.net_base.specs.declared.peer.Temp.TheVariants.{Cold, Warm, Hot}
+use Rattle.peer_book.specs.Book.{peer_at as peer_in, with_peer as with_peer_in, with_new as with_new_in, without_peer, new_peer, entry_of, entered_by, entered, most_peers, same_temp}
+use Rattle.peer_book.specs.declared.added.Added.{Added}
+use Rattle.peer_book.specs.declared.added.Added.TheVariants.{New, Present, Full}
+use Rattle.machine.specs.Connections.{with_entry, without_entry, entry_turns, entry_comes, entry_goes}
+use Rattle.machine.specs.Effect.{Effect, Happened, Move, promoted, as_move}
+use Rattle.machine.specs.Machine.{Machine, Entry, entry_at}
+use Rattle.machine.specs.Peers.{peer_at, note_of, turns_at, peer_changes, note_of_coming, peer_comes, peer_goes}
+use Rattle.laws.specs.Sound.{HasGivenId, IsOrderly}
+use Rattle.laws.specs.Stages.{stage_of_phase, stage_of, stage_at, causes_by, causes_in, IsLateCause, IsOneEnd}
+use Rattle.laws.specs.Telling.{GoesOn, IsTold}
+use Rattle.laws.specs.Told.{End, Dialed, closes_in, ended_by, ends_in, dials_in, promoted_by_dial, dial_promotions_in, given_in, CountUp, LeadTo, temp_of, temp_at, notes_in, noted, is_change, state_of, state_at, names_in, is_other_name, same_state}
+use Rattle.laws.proofs.Addresses.{same_address-self, same_address-true}
+use Rattle.laws.proofs.Entries.{TurnsInto, one_has_id, turned-connections, gone-connections, with_new}
+use Rattle.laws.proofs.Finds.{find-none_passes, find-set_other, find-set_here, find-remove_other, find-remove_here}
+use Rattle.laws.proofs.Lists.{StandsAt, OnePasses, All-stands, find_only}
+use Rattle.laws.proofs.PeersApart.{same_turned}
+use Rattle.laws.proofs.Telling.{told_unchanged, mute-none}
+use Rattle.laws.proofs.Ties.{found-addr, peer_here, put_in-here, put_in-elsewhere, none_there, taken-here, taken-elsewhere, find-push_other, turns_at-elsewhere}
+
+-- ---- names
+
+abbrev all_names : List StateName
+all_names = ReservedOutbound ∷ UnnegotiatedInbound ∷ UnnegotiatedOutbound ∷ Duplex ∷ OutboundUni ∷ OutboundDupTicking ∷ OutboundDupExpired ∷ Inbound ∷ InboundIdle ∷ OutboundIdle ∷ Terminating ∷ Terminated ∷ []
+
+placed : (a : StateName) → get_or all_names (name_place a) Terminated ≡ a
+placed ReservedOutbound = refl
+placed UnnegotiatedInbound = refl
+placed UnnegotiatedOutbound = refl
+placed Duplex = refl
+placed OutboundUni = refl
+placed OutboundDupTicking = refl
+placed OutboundDupExpired = refl
+placed Inbound = refl
+placed InboundIdle = refl
+placed OutboundIdle = refl
+placed Terminating = refl
+placed Terminated = refl
+
+same_name-true : (a b : StateName) → same_name a b ≡ true → a ≡ b
+same_name-true a b h =
+    sym (placed a) ∙ (ap (λ n. get_or all_names n Terminated) (eqb-true (name_place a) (name_place b) h) ∙ placed b)
+
+-- no entry is called terminated
+stands-named : (f : Facts) → same_name (name_of f) Terminated ≡ false
+stands-named f = by_phase f.phase
+  where
+    by_grace : (l r d : Bool) (g : Grace) → same_name (name_in_use l r d g) Terminated ≡ false
+    by_grace true true d g = refl
+    by_grace true false true Off = refl
+    by_grace true false true (ForRemote until) = refl
+    by_grace true false true (ForLocal until) = refl
+    by_grace true false false g = refl
+    by_grace false true d g = refl
+    by_grace false false d Off = refl
+    by_grace false false d (ForRemote until) = refl
+    by_grace false false d (ForLocal until) = refl
+
+    by_side : (p : Provenance) (until : ℕ) → same_name (name_in_phase (Greeting until) (record f { provenance = p })) Terminated ≡ false
+    by_side FromRemote until = refl
+    by_side FromLocal until = refl
+
+    by_phase : (p : Phase) → same_name (name_in_phase p f) Terminated ≡ false
+    by_phase Dialing = refl
+    by_phase (Greeting until) = by_side f.provenance until
+    by_phase Negotiated = by_grace f.local (some_runs f.running) (is_duplex f) f.grace
+    by_phase (Closing until) = refl
+
+named-stands : (f : Facts) → same_name Terminated (name_of f) ≡ false
+named-stands f = ne_eqb 11 (name_place (name_of f)) (λ same. both_ways (same_name (name_of f) Terminated) (stands-named f) (eq-eqb (name_place (name_of f)) 11 (sym same)))
+
+-- one notice, where it names the connection
+one_name : (cid : ℕ) (other : Cid) (before name : StateName) → (other.0 == cid) ≡ true → same_name before name ≡ false →
+    LeadTo is_other_name same_state before (names_in cid (State other name ∷ [])) name
+one_name cid other before name own differs =
+    subst (λ c. LeadTo is_other_name same_state before ((if c then name ∷ [] else []) ++ []) name) (sym own) (ap not differs, refl)
+
+no_name : (cid : ℕ) (other : Cid) (name : StateName) → (other.0 == cid) ≡ false → names_in cid (State other name ∷ []) ≡ []
+no_name cid other name apart = ap (λ c. (if c then name ∷ [] else []) ++ []) apart
+
+-- ---- what tells of connections alone
+
+record IsNaming (actions : List Action) : Type 0 where
+  closes : closes_in actions ≡ []
+  dials : dials_in actions ≡ []
+  given : given_in actions ≡ []
+  notes : (addr : Addr) → notes_in addr actions ≡ []
+
+turn-naming : (same : Bool) (cid : Cid) (name : StateName) → IsNaming (if same then [] else State cid name ∷ [])
+turn-naming true cid name = record { closes = refl; dials = refl; given = refl; notes = λ addr. refl }
+turn-naming false cid name = record { closes = refl; dials = refl; given = refl; notes = λ addr. refl }
+
+naming-told : (m : Machine) (effect : Effect) → IsNaming effect.actions → effect.moves ≡ [] → effect.machine.peers ≡ m.peers → effect.machine.next_id ≡ m.next_id →
+    ((cid : ℕ) → GoesOn cid m effect) → IsTold m effect
+naming-told m effect naming none peers next_id each = record {
+  closes = naming.closes ∙ sym (ap ends_in none);
+  dials = naming.dials ∙ sym (ap dial_promotions_in none);
+  given = subst (λ ns. CountUp m.next_id ns effect.machine.next_id) (sym naming.given) (sym next_id);
+  peers = λ addr. subst (λ ns. LeadTo is_change noted (temp_at addr m) ns (temp_at addr effect.machine)) (sym (naming.notes addr))
+      (ap (λ ps. temp_of (peer_in addr ps)) (sym peers));
+  connections = each;
+}
+
+-- a connection, as it was and as it is, and what is told of it
+went_on : (cid : ℕ) (m : Machine) (effect : Effect) (o p : Option Entry) → entry_at cid m ≡ o → entry_at cid effect.machine ≡ p → effect.moves ≡ [] →
+    LeadTo is_other_name same_state (state_of o) (names_in cid effect.actions) (state_of p) →
+    stage_of o (nat_lt cid m.next_id) ≤ stage_of p (nat_lt cid effect.machine.next_id) → GoesOn cid m effect
+went_on cid m effect o p was now none names forward =
+    let before : stage_at cid m ≡ stage_of o (nat_lt cid m.next_id) = ap (λ x. stage_of x (nat_lt cid m.next_id)) was in
+    let after : stage_at cid effect.machine ≡ stage_of p (nat_lt cid effect.machine.next_id) = ap (λ x. stage_of x (nat_lt cid effect.machine.next_id)) now in
+    record {
+      names = subst (λ x. LeadTo is_other_name same_state (state_of x) (names_in cid effect.actions) (state_at cid effect.machine)) (sym was)
+          (subst (λ x. LeadTo is_other_name same_state (state_of o) (names_in cid effect.actions) (state_of x)) (sym now) names);
+      forward = omega (arith, before, after, forward);
+      ends = subst (λ ms. IsOneEnd (causes_in cid ms) (stage_at cid m) (stage_at cid effect.machine)) (sym none) tt;
+    }
+
+-- ---- a connection turns
+
+pub turned-told : (m : Machine) (e new : Entry) (k : ℕ) → IsOrderly m → StandsAt m.connections k e → TurnsInto e new →
+    stage_of_phase e.facts.phase ≤ stage_of_phase new.facts.phase → IsTold m (entry_turns e new m)
+turned-told m e new k h s t forward =
+    naming-told m (entry_turns e new m) (turn-naming (same_name (name_of e.facts) (name_of new.facts)) e.facts.cid (name_of new.facts)) refl refl refl
+    (λ cid. by_id cid (has_id cid e.facts) refl)
+  where
+    own_name : (cid : ℕ) → has_id cid e.facts ≡ true → (same : Bool) → same_name (name_of e.facts) (name_of new.facts) ≡ same →
+        LeadTo is_other_name same_state (name_of e.facts) (names_in cid (if same then [] else State e.facts.cid (name_of new.facts) ∷ [])) (name_of new.facts)
+    own_name cid own true is = same_name-true (name_of e.facts) (name_of new.facts) is
+    own_name cid own false is = one_name cid e.facts.cid (name_of e.facts) (name_of new.facts) own is
+
+    other_name : (cid : ℕ) → has_id cid e.facts ≡ false → (same : Bool) → names_in cid (if same then [] else State e.facts.cid (name_of new.facts) ∷ []) ≡ []
+    other_name cid other true = refl
+    other_name cid other false = no_name cid e.facts.cid (name_of new.facts) other
+
+    list : (with_entry new m).connections ≡ set m.connections k new
+    list = turned-connections m e new k h s t
+
+    by_id : (cid : ℕ) (b : Bool) → has_id cid e.facts ≡ b → GoesOn cid m (entry_turns e new m)
+    by_id cid true own =
+        let one : OnePasses (λ x. has_id cid x.facts) m.connections = one_has_id cid m.connections h.ids_rise in
+        let new_own : has_id cid new.facts ≡ true = ap (λ c. c.0 == cid) t.same_id ∙ own in
+        went_on cid m (entry_turns e new m) (Some e) (Some new) (find_only (λ x. has_id cid x.facts) e m.connections k one s own)
+        (ap (find (λ x. has_id cid x.facts)) list ∙ find-set_here (λ x. has_id cid x.facts) new e m.connections k one s own new_own) refl
+        (own_name cid own (same_name (name_of e.facts) (name_of new.facts)) refl) forward
+    by_id cid false other =
+        let new_other : has_id cid new.facts ≡ false = ap (λ c. c.0 == cid) t.same_id ∙ other in
+        went_on cid m (entry_turns e new m) (entry_at cid m) (entry_at cid m) refl
+        (ap (find (λ x. has_id cid x.facts)) list ∙ find-set_other (λ x. has_id cid x.facts) new e m.connections k s other new_other) refl
+        (subst (λ names. LeadTo is_other_name same_state (state_at cid m) names (state_at cid m))
+        (sym (other_name cid other (same_name (name_of e.facts) (name_of new.facts)))) refl)
+        (omega arith)
+
+-- ---- a connection goes
+
+is_given : (m : Machine) (e : Entry) (k : ℕ) (cid : ℕ) → IsOrderly m → StandsAt m.connections k e → has_id cid e.facts ≡ true → nat_lt cid m.next_id ≡ true
+is_given m e k cid h s own =
+    let given : HasGivenId m.next_id e = All-stands (HasGivenId m.next_id) m.connections k e s h.ids_given in
+    let same : e.facts.cid.0 ≡ cid = eqb-true e.facts.cid.0 cid own in
+    let below = given.1 in
+    grind (arith, same, below)
+
+open_stage : (p : Phase) → stage_of_phase p ≤ 4
+open_stage Dialing = omega arith
+open_stage (Greeting until) = omega arith
+open_stage Negotiated = omega arith
+open_stage (Closing until) = omega arith
+
+pub goes-told : (m : Machine) (e : Entry) (k : ℕ) → IsOrderly m → StandsAt m.connections k e → IsTold m (entry_goes e m)
+goes-told m e k h s =
+    naming-told m (entry_goes e m) (turn-naming false e.facts.cid Terminated) refl refl refl (λ cid. by_id cid (has_id cid e.facts) refl)
+  where
+    list : (without_entry e.facts.cid.0 m).connections ≡ remove m.connections k
+    list = gone-connections m e k h s
+
+    by_id : (cid : ℕ) (b : Bool) → has_id cid e.facts ≡ b → GoesOn cid m (entry_goes e m)
+    by_id cid true own =
+        let one : OnePasses (λ x. has_id cid x.facts) m.connections = one_has_id cid m.connections h.ids_rise in
+        let given : nat_lt cid m.next_id ≡ true = is_given m e k cid h s own in
+        let most : stage_of_phase e.facts.phase ≤ 4 = open_stage e.facts.phase in
+        went_on cid m (entry_goes e m) (Some e) None (find_only (λ x. has_id cid x.facts) e m.connections k one s own)
+        (ap (find (λ x. has_id cid x.facts)) list ∙ find-remove_here (λ x. has_id cid x.facts) e m.connections k one s own) refl
+        (one_name cid e.facts.cid (name_of e.facts) Terminated own (stands-named e.facts))
+        (subst (λ b. stage_of_phase e.facts.phase ≤ (if b then 5 else 0)) (sym given) (omega (arith, most)))
+    by_id cid false other =
+        went_on cid m (entry_goes e m) (entry_at cid m) (entry_at cid m) refl
+        (ap (find (λ x. has_id cid x.facts)) list ∙ find-remove_other (λ x. has_id cid x.facts) e m.connections k s other) refl
+        (subst (λ names. LeadTo is_other_name same_state (state_at cid m) names (state_at cid m)) (sym (no_name cid e.facts.cid Terminated other)) refl)
+        (omega arith)
+
+-- ---- a connection is ended
+
+-- One that stands open is closed, and goes or is kept closed.
+pub ended-told : (happened : Happened) (cid : Cid) (cause : CloseCause) (m : Machine) (inner : Effect) → ended_by happened ≡ record { cid = cid.0; cause = cause } ∷ [] →
+    promoted_by_dial happened m.next_id inner.machine.next_id ≡ [] → IsTold m inner → inner.moves ≡ [] →
+    stage_at cid.0 m ≤ 3 → 4 ≤ stage_at cid.0 inner.machine → (stage_at cid.0 m ≡ 3 → IsLateCause cause) →
+    IsTold m (as_move happened m (record { machine = inner.machine; actions = Close cid cause ∷ inner.actions; moves = inner.moves }))
+ended-told happened cid cause m inner is_end no_dial h none early late may =
+    let move : Move = record { happened = happened; before = m; after = inner.machine } in
+    let end : End = record { cid = cid.0; cause = cause } in
+    let no_ends : ends_in inner.moves ≡ [] = ap ends_in none in
+    let ends : ends_in (inner.moves ++ move ∷ []) ≡ end ∷ [] =
+    ap (λ ms. ends_in (ms ++ move ∷ [])) none ∙ ap (λ l. l ++ []) is_end in
+    record {
+      closes = ap (λ l. end ∷ l) (h.closes ∙ no_ends) ∙ sym ends;
+      dials = h.dials
+          ∙ (ap dial_promotions_in none ∙ sym (ap (λ ms. dial_promotions_in (ms ++ move ∷ [])) none ∙ ap (λ l. l ++ []) no_dial));
+      given = h.given;
+      peers = h.peers;
+      connections = λ id. record {
+        names = (h.connections id).names;
+        forward = (h.connections id).forward;
+        ends = subst (λ es. IsOneEnd (flat_map (causes_by id) es) (stage_at id m) (stage_at id inner.machine)) (sym ends) (by_id id (cid.0 == id) refl);
+      };
+    }
+  where
+    by_id : (id : ℕ) (b : Bool) → (cid.0 == id) ≡ b → IsOneEnd ((if b then cause ∷ [] else []) ++ []) (stage_at id m) (stage_at id inner.machine)
+    by_id id true own =
+        subst (λ i. (stage_at i m ≤ 3) × (4 ≤ stage_at i inner.machine) × (stage_at i m ≡ 3 → IsLateCause cause)) (eqb-true cid.0 id own) (early, late, may)
+    by_id id false other = tt
+
+-- ---- a connection comes
+
+find-push_here : {X : Type 0} (p : X → Bool) (new : X) (xs : List X) → find p xs ≡ None → p new ≡ true → find p (xs ++ new ∷ []) ≡ Some new
+find-push_here p new [] none here = rw here refl
+find-push_here {X} p new (x ∷ xs) none here = by_test (p x) none (λ later. find-push_here p new xs later here)
+  where
+    by_test : (b : Bool) → cond b (Some x) (find p xs) ≡ None → (find p xs ≡ None → find p (xs ++ new ∷ []) ≡ Some new) →
+        cond b (Some x) (find p (xs ++ new ∷ [])) ≡ Some new
+    by_test true found later = absurd cc
+    by_test false found later = later found
+
+-- notices of ids alone
+abbrev comes_first : Bool → Cid → Addr → Action
+comes_first true cid addr = Admit cid addr
+comes_first false cid addr = Dial cid addr
+
+given_later : (o : Option Entry) (cid next : ℕ) → stage_of o (nat_lt cid next) ≤ stage_of o (nat_lt cid (next + 1))
+given_later None cid next = by_given (nat_lt cid next) refl
+  where
+    by_given : (b : Bool) → nat_lt cid next ≡ b → (if b then 5 else 0) ≤ (if nat_lt cid (next + 1) then 5 else 0)
+    by_given true is =
+        let later : nat_lt cid (next + 1) ≡ true = grind (arith, is) in
+        subst (λ c. 5 ≤ (if c then 5 else 0)) (sym later) (omega arith)
+    by_given false is = omega arith
+given_later (Some e) cid next = omega arith
+
+-- what is told of it before its name is that it is admitted, or the dial
+pub came-goes_on : (m : Machine) (new : Entry) (effect : Effect) (cid : ℕ) → IsOrderly m → new.facts.cid.0 ≡ m.next_id → effect.machine ≡ with_new new m →
+    effect.moves ≡ [] → names_in cid effect.actions ≡ names_in cid (State new.facts.cid (name_of new.facts) ∷ []) → GoesOn cid m effect
+came-goes_on m new effect cid h id same none named = by_id (has_id cid new.facts) refl
+  where
+    all_others : has_id cid new.facts ≡ true → All (λ e. has_id cid e.facts ≡ false) m.connections
+    all_others own =
+        let here : m.next_id ≡ cid = sym id ∙ eqb-true new.facts.cid.0 cid own in
+        All-weaker (HasGivenId m.next_id) (λ e. has_id cid e.facts ≡ false)
+        (λ e given. ne_eqb e.facts.cid.0 cid (λ is. let below = given.1 in omega (arith, here, below, is))) m.connections h.ids_given
+
+    by_id : (b : Bool) → has_id cid new.facts ≡ b → GoesOn cid m effect
+    by_id true own =
+        let none_before : entry_at cid m ≡ None = find-none_passes (λ x. has_id cid x.facts) m.connections (all_others own) in
+        let here : m.next_id ≡ cid = sym id ∙ eqb-true new.facts.cid.0 cid own in
+        let not_given : nat_lt cid m.next_id ≡ false = grind (arith, here) in
+        went_on cid m effect None (Some new) none_before
+        (ap (entry_at cid) same ∙ find-push_here (λ x. has_id cid x.facts) new m.connections none_before own) none
+        (subst (λ names. LeadTo is_other_name same_state Terminated names (name_of new.facts)) (sym named)
+        (one_name cid new.facts.cid Terminated (name_of new.facts) own (named-stands new.facts)))
+        (subst (λ b. (if b then 5 else 0) ≤ stage_of_phase new.facts.phase) (sym not_given) (omega arith))
+    by_id false other =
+        went_on cid m effect (entry_at cid m) (entry_at cid m) refl
+        (ap (entry_at cid) same ∙ find-push_other (λ x. has_id cid x.facts) new m.connections other) none
+        (subst (λ names. LeadTo is_other_name same_state (state_at cid m) names (state_at cid m))
+        (sym (named ∙ no_name cid new.facts.cid (name_of new.facts) other)) refl)
+        (subst (λ next. stage_at cid m ≤ stage_of (entry_at cid m) (nat_lt cid next)) (sym (ap (λ n. n.next_id) same)) (given_later (entry_at cid m) cid m.next_id))
+
+-- it is admitted
+pub admits-told : (m : Machine) (new : Entry) (addr : Addr) → IsOrderly m → new.facts.cid.0 ≡ m.next_id →
+    IsTold m (entry_comes (Admit (record { 0 = m.next_id }) addr ∷ []) new m)
+admits-told m new addr h id = record {
+  closes = refl;
+  dials = refl;
+  given = (refl, refl);
+  peers = λ a. refl;
+  connections = λ cid. came-goes_on m new (entry_comes (Admit (record { 0 = m.next_id }) addr ∷ []) new m) cid h id refl refl refl;
+}
+
+-- it is dialed, as a promotion
+pub dials-told : (m : Machine) (new : Entry) (addr : Addr) → IsOrderly m → new.facts.cid.0 ≡ m.next_id →
+    IsTold m (as_move (promoted addr) m (entry_comes (Dial (record { 0 = m.next_id }) addr ∷ []) new m))
+dials-told m new addr h id =
+    let more : nat_lt m.next_id (m.next_id + 1) ≡ true = grind arith in
+    let dial : Dialed = record { cid = m.next_id; addr = addr } in
+    record {
+      closes = refl;
+      dials = subst (λ b. dial ∷ [] ≡ (if b then dial ∷ [] else []) ++ []) (sym more) refl;
+      given = (refl, refl);
+      peers = λ a. refl;
+      connections = λ cid.
+          let goes : GoesOn cid m (entry_comes (Dial (record { 0 = m.next_id }) addr ∷ []) new m) =
+          came-goes_on m new (entry_comes (Dial (record { 0 = m.next_id }) addr ∷ []) new m) cid h id refl refl refl in
+          record { names = goes.names; forward = goes.forward; ends = tt };
+    }
+
+-- ---- a peer changes
+
+is_temp : (t u : Temp) → same_temp t u ≡ true → t ≡ u
+is_temp Cold Cold h = refl
+is_temp Cold Warm h = absurd (false≢true h)
+is_temp Cold Hot h = absurd (false≢true h)
+is_temp Warm Cold h = absurd (false≢true h)
+is_temp Warm Warm h = refl
+is_temp Warm Hot h = absurd (false≢true h)
+is_temp Hot Cold h = absurd (false≢true h)
+is_temp Hot Warm h = absurd (false≢true h)
+is_temp Hot Hot h = refl
+
+noted_temp : (t : Temp) → noted (note_of t) ≡ Some t
+noted_temp Cold = refl
+noted_temp Warm = refl
+noted_temp Hot = refl
+
+changes_temp : (t u : Temp) → same_temp t u ≡ false → is_change (Some t) (note_of u) ≡ true
+changes_temp t Cold h = ap not h
+changes_temp t Warm h = ap not h
+changes_temp t Hot h = ap not h
+
+one_note : (a other : Addr) (before after : Option Temp) (note : PeerNote) → same_address other a ≡ true → is_change before note ≡ true → noted note ≡ after →
+    LeadTo is_change noted before (notes_in a (TellPeer other note ∷ [])) after
+one_note a other before after note own changes says =
+    subst (λ c. LeadTo is_change noted before ((if c then note ∷ [] else []) ++ []) after) (sym own) (changes, says)
+
+no_note : (a other : Addr) (note : PeerNote) → same_address other a ≡ false → notes_in a (TellPeer other note ∷ []) ≡ []
+no_note a other note apart = ap (λ c. (if c then note ∷ [] else []) ++ []) apart
+
+-- what tells of peers alone
+pub record IsNoting (actions : List Action) : Type 0 where
+  pub closes : closes_in actions ≡ []
+  pub dials : dials_in actions ≡ []
+  pub given : given_in actions ≡ []
+  pub names : (cid : ℕ) → names_in cid actions ≡ []
+
+pub noting-told : (m : Machine) (effect : Effect) → IsNoting effect.actions → effect.moves ≡ [] → effect.machine.connections ≡ m.connections →
+    effect.machine.next_id ≡ m.next_id →
+    ((addr : Addr) → LeadTo is_change noted (temp_at addr m) (notes_in addr effect.actions) (temp_at addr effect.machine)) → IsTold m effect
+noting-told m effect noting none connections next_id each = record {
+  closes = noting.closes ∙ sym (ap ends_in none);
+  dials = noting.dials ∙ sym (ap dial_promotions_in none);
+  given = subst (λ ns. CountUp m.next_id ns effect.machine.next_id) (sym noting.given) (sym next_id);
+  peers = each;
+  connections = λ cid.
+      let same : entry_at cid effect.machine ≡ entry_at cid m = ap (find (λ e. has_id cid e.facts)) connections in
+      went_on cid m effect (entry_at cid m) (entry_at cid m) refl same none
+      (subst (λ names. LeadTo is_other_name same_state (state_at cid m) names (state_at cid m)) (sym (noting.names cid)) refl)
+      (subst (λ next. stage_at cid m ≤ stage_of (entry_at cid m) (nat_lt cid next)) (sym next_id) (omega arith));
+}
+
+turn-noting : (same : Bool) (addr : Addr) (note : PeerNote) → IsNoting (if same then [] else TellPeer addr note ∷ [])
+turn-noting true addr note = record { closes = refl; dials = refl; given = refl; names = λ cid. refl }
+turn-noting false addr note = record { closes = refl; dials = refl; given = refl; names = λ cid. refl }
+
+turns_at-noting : (o : Option Peer) (change : Peer → Peer) (m : Machine) → IsNoting (turns_at o change m).actions
+turns_at-noting None change m = record { closes = refl; dials = refl; given = refl; names = λ cid. refl }
+turns_at-noting (Some p) change m = turn-noting (same_temp p.temp (change p).temp) p.addr (note_of (change p).temp)
+
+turns_at-none : (o : Option Peer) (change : Peer → Peer) (m : Machine) → (turns_at o change m).moves ≡ []
+turns_at-none None change m = refl
+turns_at-none (Some p) change m = refl
+
+turns_at-held : (o : Option Peer) (change : Peer → Peer) (m : Machine) → (turns_at o change m).machine.connections ≡ m.connections
+turns_at-held None change m = refl
+turns_at-held (Some p) change m = refl
+
+turns_at-next : (o : Option Peer) (change : Peer → Peer) (m : Machine) → (turns_at o change m).machine.next_id ≡ m.next_id
+turns_at-next None change m = refl
+turns_at-next (Some p) change m = refl
+
+-- a change that leaves the address
+pub changes-told : (a : Addr) (change : Peer → Peer) (m : Machine) → ((p : Peer) → (change p).addr ≡ p.addr) → IsTold m (peer_changes a change m)
+changes-told a change m same =
+    noting-told m (peer_changes a change m) (turns_at-noting (peer_at a m) change m) (turns_at-none (peer_at a m) change m) (turns_at-held (peer_at a m) change m)
+    (turns_at-next (peer_at a m) change m) (λ b. by_address b (same_address b a) refl)
+  where
+    own_note : (p : Peer) → peer_at a m ≡ Some p → (still : Bool) → same_temp p.temp (change p).temp ≡ still →
+        LeadTo is_change noted (Some p.temp) (notes_in a (if still then [] else TellPeer p.addr (note_of (change p).temp) ∷ [])) (Some (change p).temp)
+    own_note p is true still = ap Some (is_temp p.temp (change p).temp still)
+    own_note p is false turns =
+        one_note a p.addr (Some p.temp) (Some (change p).temp) (note_of (change p).temp)
+        (subst (λ x. same_address p.addr x ≡ true) (found-addr a m.peers p is) (same_address-self p.addr))
+        (changes_temp p.temp (change p).temp turns) (noted_temp (change p).temp)
+
+    by_peer : (o : Option Peer) → peer_at a m ≡ o → LeadTo is_change noted (temp_of o) (notes_in a (turns_at o change m).actions) (temp_at a (turns_at o change m).machine)
+    by_peer None is = ap temp_of (sym is)
+    by_peer (Some p) is =
+        let new : Peer = change p in
+        let here : new.addr ≡ a = same p ∙ found-addr a m.peers p is in
+        let found : peer_in a (with_peer_in new m.peers) ≡ Some new =
+        subst (λ x. peer_in x (with_peer_in new m.peers) ≡ Some new) here (peer_here new p m.peers (subst (λ x. peer_in x m.peers ≡ Some p) (sym here) is)) in
+        subst (λ o. LeadTo is_change noted (Some p.temp) (notes_in a (turns_at (Some p) change m).actions) (temp_of o)) (sym found)
+        (own_note p is (same_temp p.temp new.temp) refl)
+
+    other_note : (b : Addr) → same_address b a ≡ false → (o : Option Peer) → peer_at a m ≡ o → notes_in b (turns_at o change m).actions ≡ []
+    other_note b other None is = refl
+    other_note b other (Some p) is =
+        let apart : same_address p.addr b ≡ false = subst (λ x. same_address x b ≡ false) (sym (found-addr a m.peers p is)) (same_turned b a other) in
+        cond_both (same_temp p.temp (change p).temp) [] (TellPeer p.addr (note_of (change p).temp) ∷ []) (λ actions. notes_in b actions ≡ [])
+        (λ still. refl) (λ turns. no_note b p.addr (note_of (change p).temp) apart)
+
+    by_address : (b : Addr) (c : Bool) → same_address b a ≡ c →
+        LeadTo is_change noted (temp_at b m) (notes_in b (peer_changes a change m).actions) (temp_at b (peer_changes a change m).machine)
+    by_address b true is =
+        subst (λ x. LeadTo is_change noted (temp_at x m) (notes_in x (peer_changes a change m).actions) (temp_at x (peer_changes a change m).machine))
+        (sym (same_address-true b a is))
+        (subst (λ o. LeadTo is_change noted (temp_of o) (notes_in a (peer_changes a change m).actions) (temp_at a (peer_changes a change m).machine)) refl
+        (by_peer (peer_at a m) refl))
+    by_address b false other =
+        subst (λ notes. LeadTo is_change noted (temp_at b m) notes (temp_at b (peer_changes a change m).machine))
+        (sym (other_note b other (peer_at a m) refl)) (ap temp_of (sym (turns_at-elsewhere a change m same b other)))
+
+-- ---- a peer comes and goes
+
+pub peer_comes-told : (big : Bool) (a : Addr) (m : Machine) → IsTold m (peer_comes big a m)
+peer_comes-told big a m = by_there (is_some (peer_at a m)) refl
+  where
+    new : Peer
+    new = new_peer big a
+
+    came : Added → Effect
+    came added = note_of_coming added a (record m { peers = entered_by added new m.peers })
+
+    stays : IsTold m (came Present)
+    stays = told_unchanged m (came Present) mute-none refl (record { connections = refl; peers = refl; next_id = refl })
+
+    by_address : peer_at a m ≡ None → (b : Addr) (c : Bool) → same_address b a ≡ c →
+        LeadTo is_change noted (temp_at b m) (notes_in b (came New).actions) (temp_at b (came New).machine)
+    by_address none b true is =
+        subst (λ x. LeadTo is_change noted (temp_at x m) (notes_in x (came New).actions) (temp_at x (came New).machine)) (sym (same_address-true b a is))
+        (subst (λ o. LeadTo is_change noted (temp_at a m) (notes_in a (came New).actions) (temp_of o)) (sym (put_in-here new m.peers none))
+        (subst (λ o. LeadTo is_change noted (temp_of o) (notes_in a (came New).actions) (Some Cold)) (sym none)
+        (one_note a a None (Some Cold) note.Known (same_address-self a) refl refl)))
+    by_address none b false other =
+        subst (λ notes. LeadTo is_change noted (temp_at b m) notes (temp_at b (came New).machine)) (sym (no_note b a note.Known (same_turned b a other)))
+        (ap temp_of (sym (put_in-elsewhere new b m.peers other)))
+
+    comes : peer_at a m ≡ None → IsTold m (came New)
+    comes none = noting-told m (came New) (turn-noting false a note.Known) refl refl refl (λ b. by_address none b (same_address b a) refl)
+
+    by_room : peer_at a m ≡ None → (b : Bool) → IsTold m (came (if b then Full else New))
+    by_room none true = told_unchanged m (came Full) mute-none refl (record { connections = refl; peers = refl; next_id = refl })
+    by_room none false = comes none
+
+    by_there : (b : Bool) → is_some (peer_at a m) ≡ b → IsTold m (came (if b then Present else if nat_le most_peers (length m.peers) then Full else New))
+    by_there true is = stays
+    by_there false is = by_room (none_there (peer_at a m) is) (nat_le most_peers (length m.peers))
+
+-- of a peer that is there
+pub peer_goes-told : (a : Addr) (m : Machine) → is_some (peer_at a m) ≡ true → IsTold m (peer_goes a m)
+peer_goes-told a m there =
+    noting-told m (peer_goes a m) (turn-noting false a note.Forgotten) refl refl refl (λ b. by_address b (same_address b a) refl)
+  where
+    was : (o : Option Peer) → is_some o ≡ true → is_change (temp_of o) note.Forgotten ≡ true
+    was None none = none
+    was (Some p) is = refl
+
+    by_address : (b : Addr) (c : Bool) → same_address b a ≡ c →
+        LeadTo is_change noted (temp_at b m) (notes_in b (peer_goes a m).actions) (temp_at b (peer_goes a m).machine)
+    by_address b true is =
+        subst (λ x. LeadTo is_change noted (temp_at x m) (notes_in x (peer_goes a m).actions) (temp_at x (peer_goes a m).machine)) (sym (same_address-true b a is))
+        (one_note a a (temp_at a m) (temp_at a (peer_goes a m).machine) note.Forgotten (same_address-self a) (was (peer_at a m) there)
+        (ap temp_of (sym (taken-here a m.peers))))
+    by_address b false other =
+        subst (λ notes. LeadTo is_change noted (temp_at b m) notes (temp_at b (peer_goes a m).machine)) (sym (no_note b a note.Forgotten (same_turned b a other)))
+        (ap temp_of (sym (taken-elsewhere a b m.peers other)))
