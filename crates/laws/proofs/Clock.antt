@@ -1,5 +1,5 @@
 -- The moves of the clock: a reply is late, a grace is over, a handshake was not done in time, a time-wait is over.
-use Rattle.std.proofs.Common.{ℕ, zero, suc, ◌≡◌, Bool, true, false, ◌&&◌, ◌||◌, ◌==◌, if◌then◌else◌, [], ◌∷◌, Option, Some, None, All, Contains, refl, sym, ap, subst, eq-eqb, leb-true}
+use Rattle.std.proofs.Common.{ℕ, zero, suc, ◌≡◌, ◌≤◌, ◌<◌, arith, Bool, true, false, ◌&&◌, ◌||◌, ◌==◌, if◌then◌else◌, [], ◌∷◌, List, length, Option, Some, None, All, Contains, refl, sym, ap, subst, eq-eqb, leb-true}
 use Rattle.std.proofs.lemmas.Bool.{cond_both, both_ways, false≢true, and_right}
 use Rattle.std.proofs.lemmas.List.Elements.{All-nil, All-weaker, All-contains, All-contains_itself}
 use Rattle.net_base.specs.declared.action.Action.TheVariants.{Close}
@@ -14,26 +14,33 @@ use Rattle.net_base.specs.declared.timer.Deadline.{Deadline}
 use Rattle.net_base.specs.declared.timer.Kind.{Kind}
 use Rattle.net_base.specs.declared.timer.Kind.TheVariants.{Handshake, Grace as GraceKind, TimeWait, Reply2, Reply8, Reply10}
 use Rattle.conn_state.specs.Moves.{expired}
-use Rattle.conn_state.specs.Use.{is_live, live_phase, is_negotiated, is_negotiated_phase, is_outbound, some_runs}
+use Rattle.conn_state.specs.Use.{is_live, live_phase, is_greeting, is_greeting_phase, is_negotiated, is_negotiated_phase, is_outbound, some_runs}
 use Rattle.machine.specs.Machine.{Machine, Entry, Owed}
 use Rattle.machine.specs.Effect.{Effect, unused, left, tells, then_do, as_move}
 use Rattle.machine.specs.Connections.{entry_turns, entry_goes, closing_entry, grace_over, wait_over}
 use Rattle.machine.specs.Deadlines.{deadline, deadlines_of, phase_deadlines, grace_deadlines, reply_deadline, due, fires_as, fires_on, fires, fires_some, fire_due}
 use Rattle.laws.specs.AtMoves.{Faults, IsPast, IsOver, IsLate, IsLawful}
+use Rattle.laws.specs.Sound.{IsOrderly}
+use Rattle.laws.specs.Stages.{stage_of_phase, stage_at}
+use Rattle.laws.specs.Telling.{IsTold}
 use Rattle.laws.specs.Whole.{IsShaped}
 use Rattle.laws.proofs.Counts.{is_late}
 use Rattle.laws.proofs.Firing.{all_one, all-deadlines_of, Due, due_of}
 use Rattle.laws.proofs.Keeping.{IsOrdered, Keeps}
-use Rattle.laws.proofs.Lawful.{Obeys, obeys_then, obeys_nothing, accounts_turned, accounts_gone, ending-obeys, on_stands, turns-obeys, as_move-obeys}
+use Rattle.laws.proofs.Lawful.{Obeys, obeys_then, obeys_nothing, accounts_turned, accounts_gone, live_stage, stands-stage, ending-obeys, on_stands, turns-obeys, as_move-obeys}
+use Rattle.laws.proofs.Entries.{TurnsInto}
 use Rattle.laws.proofs.Lists.{StandsAt}
+use Rattle.laws.proofs.Shapes.{greeting-unnegotiated, local-negotiated}
+use Rattle.laws.proofs.Telling.{told_move}
+use Rattle.laws.proofs.ToldMoves.{turned-told, turned-stage, goes-told, ended-told}
 use Rattle.laws.proofs.WholeEvents.{fires-keeps}
-use Rattle.laws.proofs.WholeMoves.{stands-shaped, negotiated-live}
+use Rattle.laws.proofs.WholeMoves.{stands-shaped, stands-owing, greeting-live, negotiated-live}
 
 -- ---- what it is that is late
 
 -- by the kind of the deadline
 LateAs : ℕ → Entry → Kind → Type 0
-LateAs now e Handshake = is_negotiated e.facts ≡ false
+LateAs now e Handshake = is_greeting e.facts ≡ true
 LateAs now e GraceKind = IsPast now e.facts.grace
 LateAs now e TimeWait = is_live e.facts ≡ false
 LateAs now e Reply2 = IsLate now e ReplyWait
@@ -46,7 +53,7 @@ MeansLate now e d = is_late now d ≡ true → LateAs now e d.kind
 phase-late : (now : ℕ) (e : Entry) (phase : Phase) → e.facts.phase ≡ phase → All (MeansLate now e) (phase_deadlines e.facts.cid phase)
 unfolding MeansLate LateAs
 phase-late now e Dialing is = All-nil (MeansLate now e)
-phase-late now e (Greeting until) is = all_one (MeansLate now e) (deadline e.facts.cid Handshake until) (λ late. ap is_negotiated_phase is)
+phase-late now e (Greeting until) is = all_one (MeansLate now e) (deadline e.facts.cid Handshake until) (λ late. ap is_greeting_phase is)
 phase-late now e Negotiated is = All-nil (MeansLate now e)
 phase-late now e (Closing until) is = all_one (MeansLate now e) (deadline e.facts.cid TimeWait until) (λ late. ap live_phase is)
 
@@ -82,12 +89,31 @@ over now f shape idle past = record { local = idle; running = by_running (some_r
     by_running true is = elim (subst (IsPast now) (shape.remote is) past) [ ]
     by_running false is = refl
 
+-- a grace runs only while the handshake is done
+past-negotiated : (now : ℕ) (f : Facts) → IsShaped f → IsPast now f.grace → is_negotiated f ≡ true
+past-negotiated now f shape past = by_phase (is_negotiated f) refl
+  where
+    by_phase : (b : Bool) → is_negotiated f ≡ b → b ≡ true
+    by_phase true is = refl
+    by_phase false is = elim (subst (IsPast now) (shape.unused is).grace past) [ ]
+
+grace_over-told : (m : Machine) (e : Entry) (k : ℕ) → IsOrderly m → StandsAt m.connections k e → is_live e.facts ≡ true →
+    IsTold m (as_move (unused e.facts.cid.0) m (then_do (tells (Close e.facts.cid Unused ∷ []) m) (entry_turns e (closing_entry m e))))
+grace_over-told m e k h s live =
+    let inner : Effect = entry_turns e (closing_entry m e) m in
+    let early : stage_of_phase e.facts.phase ≤ 3 = live_stage e.facts.phase live in
+    let before : stage_at e.facts.cid.0 m ≡ stage_of_phase e.facts.phase = stands-stage m e k h s in
+    let turns : TurnsInto e (closing_entry m e) = record { same_id = refl; same_addr = refl; live = λ l. absurd (false≢true l) } in
+    let after : stage_at e.facts.cid.0 inner.machine ≡ 4 = turned-stage m e (closing_entry m e) k h s turns in
+    ended-told (unused e.facts.cid.0) e.facts.cid Unused m inner refl refl (turned-told m e (closing_entry m e) k h s turns (omega (arith, early))) refl
+    (omega (arith, before, early)) (omega (arith, after)) (λ open_. tt)
+
 grace_over-obeys : (faults : Faults) (m : Machine) (e : Entry) (k : ℕ) → IsOrdered m → StandsAt m.connections k e → IsPast m.now e.facts.grace →
     Obeys (IsLawful faults) m (grace_over e m)
 grace_over-obeys faults m e k h s past =
     cond_both e.facts.local (entry_turns e (record e { facts = expired e.facts }) m) closed (Obeys (IsLawful faults) m)
     (λ local. turns-obeys (IsLawful faults) m e (record e { facts = expired e.facts }) k h.orderly s
-    (record { same_id = refl; same_addr = refl; live = λ l. l }) (record { up = λ up. up; asked = λ asked. asked }) (λ negotiated. negotiated))
+    (record { same_id = refl; same_addr = refl; live = λ l. l }) (record { up = λ up. up; asked = λ asked. asked }) (λ negotiated. negotiated) (omega arith))
     (λ idle. as_move-obeys (IsLawful faults) (unused e.facts.cid.0) m closes refl
     (record {
       back_off = tt;
@@ -96,7 +122,8 @@ grace_over-obeys faults m e k h s past =
     })
     (accounts_turned m e (closing_entry m e) k closed h.orderly s (record { same_id = refl; same_addr = refl; live = λ l. absurd (false≢true l) })
     (record { up = λ up. absurd (both_ways (is_outbound e.facts && false) (and_right (is_outbound e.facts) false refl) up); asked = λ asked. asked }) refl
-    (λ negotiated. ap (λ b. b || false) (eq-eqb e.facts.cid.0 e.facts.cid.0 refl))))
+    (λ negotiated. ap (λ b. b || false) (eq-eqb e.facts.cid.0 e.facts.cid.0 refl))
+    (grace_over-told m e k h.orderly s (negotiated-live e.facts.phase (past-negotiated m.now e.facts (stands-shaped m e k h s) past)))))
   where
     closes : Effect
     closes = then_do (tells (Close e.facts.cid Unused ∷ []) m) (entry_turns e (closing_entry m e))
@@ -117,18 +144,33 @@ wait_over-obeys faults m e k h s dead =
     let closed : is_negotiated e.facts ≡ false = live-negotiated e.facts dead in
     as_move-obeys (IsLawful faults) (left e.facts.cid.0) m (entry_goes e m) refl
     (record { back_off = tt; targets = tt; cause = on_stands (λ x. is_negotiated x.facts ≡ false) m e k h.orderly s closed })
-    (accounts_gone m e k (wait_over e m) h.orderly s refl (λ addr hot. hot) (λ addr known. known) (λ negotiated. absurd (both_ways (is_negotiated e.facts) closed negotiated)))
+    (accounts_gone m e k (wait_over e m) h.orderly s refl (λ addr hot. hot) (λ addr known. known) (λ negotiated. absurd (both_ways (is_negotiated e.facts) closed negotiated))
+    (told_move (left e.facts.cid.0) m (entry_goes e m) refl refl (goes-told m e k h.orderly s)))
+
+-- a reply is owed only while the connection is used
+late-live : (m : Machine) (e : Entry) (k : ℕ) → IsOrdered m → StandsAt m.connections k e → IsLate m.now e ReplyWait → is_live e.facts ≡ true
+late-live m e k h s late =
+    let shape : IsShaped e.facts = stands-shaped m e k h s in
+    negotiated-live e.facts.phase (local-negotiated e.facts shape (by_local e.facts.local refl))
+  where
+    none : {Z : Type 0} (owed : List Owed) → owed ≡ [] → Contains owed late.owed → Z
+    none owed is among = absurd (let inside : among.0 < length owed = among.1 in let empty : length owed ≡ 0 = ap length is in omega (arith, inside, empty))
+
+    by_local : (b : Bool) → e.facts.local ≡ b → b ≡ true
+    by_local true is = refl
+    by_local false is = none e.owed ((stands-owing m e k h s).used is) late.among
 
 fires_as-obeys : (faults : Faults) (kind : Kind) (m : Machine) (e : Entry) (k : ℕ) → IsOrdered m → StandsAt m.connections k e → LateAs m.now e kind →
     (IsLate m.now e ReplyWait → faults m e ReplyWait) → Obeys (IsLawful faults) m (fires_as kind e m)
 unfolding LateAs
 fires_as-obeys faults Handshake m e k h s late given =
-    ending-obeys faults (Fault HandshakeWait) m e k h.orderly s (λ negotiated. absurd (both_ways (is_negotiated e.facts) late negotiated))
+    ending-obeys faults (Fault HandshakeWait) m e k h.orderly s (greeting-live e.facts.phase late)
+    (λ negotiated. absurd (both_ways (is_negotiated e.facts) (greeting-unnegotiated e.facts.phase late) negotiated))
 fires_as-obeys faults GraceKind m e k h s late given = grace_over-obeys faults m e k h s late
 fires_as-obeys faults TimeWait m e k h s late given = wait_over-obeys faults m e k h s late
-fires_as-obeys faults Reply2 m e k h s late given = ending-obeys faults (Fault ReplyWait) m e k h.orderly s (λ negotiated. given late)
-fires_as-obeys faults Reply8 m e k h s late given = ending-obeys faults (Fault ReplyWait) m e k h.orderly s (λ negotiated. given late)
-fires_as-obeys faults Reply10 m e k h s late given = ending-obeys faults (Fault ReplyWait) m e k h.orderly s (λ negotiated. given late)
+fires_as-obeys faults Reply2 m e k h s late given = ending-obeys faults (Fault ReplyWait) m e k h.orderly s (late-live m e k h s late) (λ negotiated. given late)
+fires_as-obeys faults Reply8 m e k h s late given = ending-obeys faults (Fault ReplyWait) m e k h.orderly s (late-live m e k h s late) (λ negotiated. given late)
+fires_as-obeys faults Reply10 m e k h s late given = ending-obeys faults (Fault ReplyWait) m e k h.orderly s (late-live m e k h s late) (λ negotiated. given late)
 
 -- ---- all that are due
 

@@ -1,12 +1,16 @@
 -- The moves of each event.
-use Rattle.std.proofs.Common.{ℕ, ◌+◌, ◌≡◌, Bool, true, false, ◌&&◌, ◌||◌, ◌==◌, nat_le, if◌then◌else◌, List, [], ◌∷◌, ◌++◌, length, find, Option, Some, None, refl, sym, ap, ◌∙◌, subst, eqb-true, eq-eqb}
+use Rattle.std.proofs.Common.{ℕ, ◌+◌, ◌≡◌, ◌≤◌, arith, Bool, true, false, ◌&&◌, ◌||◌, ◌==◌, nat_le, if◌then◌else◌, List, [], ◌∷◌, ◌++◌, length, find, Option, Some, None, refl, sym, ap, ◌∙◌, subst, eqb-true, eq-eqb}
 use Rattle.std.specs.List.{AllByRecursion}
-use Rattle.std.proofs.lemmas.Bool.{cond_both, both_ways, false≢true, and_from, or_left, or_right}
+use Rattle.std.proofs.lemmas.Bool.{cond_both, both_ways, false≢true, and_parts, and_from, or_left, or_right}
 use Rattle.accept_gate.specs.Gate.{gate_of}
 use Rattle.accept_gate.specs.declared.gate.Gate.{Gate}
 use Rattle.accept_gate.specs.declared.gate.Gate.TheVariants.{Free, Pause as PauseFor, Full as NoRoom}
 use Rattle.conn_state.specs.Moves.{connected}
-use Rattle.conn_state.specs.Use.{has_id, is_live, is_live_at, is_negotiated, is_outbound, is_pending, is_dialing, opening_phase}
+use Rattle.conn_state.specs.Use.{has_id, is_live, live_phase, is_live_at, is_negotiated, is_outbound, is_pending, is_dialing, is_dialing_phase, opening_phase}
+use Rattle.net_base.specs.declared.action.Action.TheVariants.{Admit}
+use Rattle.net_base.specs.declared.connection.Facts.{Facts}
+use Rattle.net_base.specs.declared.connection.Phase.{Phase}
+use Rattle.net_base.specs.declared.connection.Phase.TheVariants.{Dialing, Greeting, Negotiated, Closing}
 use Rattle.net_base.specs.Address.{same_address, address_below}
 use Rattle.net_base.specs.declared.action.Away.TheVariants.{Full, OwnAddr, Crossed, Present}
 use Rattle.net_base.specs.declared.action.CloseCause.TheVariants.{Overwritten}
@@ -22,16 +26,20 @@ use Rattle.root_groups.specs.Cleaned.{cleaned, members_of}
 use Rattle.root_groups.specs.RootAsk.{awaits, publics_of, found}
 use Rattle.hs_decide.specs.Answers.{proposal_of}
 use Rattle.machine.specs.Machine.{Machine, Entry, counted_in, entry_at, live_entry_at}
-use Rattle.machine.specs.Effect.{Effect, Move, shared, left, nothing_more, then_do, as_move, for_each}
+use Rattle.machine.specs.Effect.{Effect, Move, shared, left, becomes, nothing_more, tells, then_do, as_move, for_each}
 use Rattle.machine.specs.Own.{own_info}
 use Rattle.machine.specs.Peers.{peer_comes, peer_is_ordinary}
 use Rattle.machine.specs.Replies.{asks}
-use Rattle.machine.specs.Connections.{with_entry, without_entry, lost, ending, vanishes, dial_opens, dial_fails}
+use Rattle.machine.specs.Connections.{with_entry, without_entry, entry_goes, entry_comes, lost, ending, vanishes, dial_opens, dial_fails}
 use Rattle.machine.specs.Deadlines.{deadlines, fire_all}
-use Rattle.machine.specs.Events.{clock_shows, turned_away, admitted, crossed, accepted_beside, accepted_through, peer_connects, closed_at, peer_closes, dial_ends_at, dial_ends}
+use Rattle.machine.specs.Events.{clock_shows, turned_away, pause_notice, admitted, crossed, accepted_beside, accepted_through, peer_connects, closed_at, peer_closes, dial_ends_at, dial_ends}
 use Rattle.machine.specs.Provided.{comes_ordinary, locals_are, is_wanted_big, comes_big, bigs_are, roots_say, roots_answer}
 use Rattle.machine.specs.Whole.{whole_step}
 use Rattle.laws.specs.AtMoves.{Faults, faults_of, IsLawful, is_negotiated_entry, is_negotiated_at, is_ended_in, is_closed_by, MovesAreLawful, EndsAreMoves, is_up_connection, is_up, is_hot_or_asked, is_known, promotes, activates, is_shared_in, is_provided_by, PromotionsAreMoves, ActivationsAreMoves, ArrivalsAreMoves}
+use Rattle.laws.specs.Sound.{IsOrderly}
+use Rattle.laws.specs.Stages.{stage_of_phase}
+use Rattle.laws.specs.Telling.{IsTold}
+use Rattle.laws.specs.Told.{promoted_by_dial}
 use Rattle.laws.specs.Whole.{IsSteady}
 use Rattle.laws.proofs.Arrivals.{locals-known, roots-known}
 use Rattle.laws.proofs.Clock.{fire_due-obeys}
@@ -46,8 +54,10 @@ use Rattle.laws.proofs.Lists.{StandsAt, find_some, all-both, all-placed}
 use Rattle.laws.proofs.Rises.{Rises, or_each, NoneConnected, hot_or_asked-down, rises_nowhere, rises_none, same-connected, connected_then, gone-connected}
 use Rattle.laws.proofs.Shapes.{dialing-unnegotiated}
 use Rattle.laws.proofs.Streams.{bytes_come_in-trimmed}
+use Rattle.laws.proofs.Telling.{mute-none, told_unchanged, told_nothing, told_then, told_move}
+use Rattle.laws.proofs.ToldMoves.{goes-told, admits-told}
 use Rattle.laws.proofs.WholeEvents.{ordered_of, formed_at_moment}
-use Rattle.laws.proofs.WholeMoves.{stands-shaped, dialing-live, dialing-opening, pending-unnegotiated}
+use Rattle.laws.proofs.WholeMoves.{stands-shaped, dialing-live, dialing-opening, pending-unnegotiated, overwritten-keeps}
 
 -- ---- one part for each of a list
 
@@ -57,12 +67,13 @@ providing_then m first next one two = record {
   moves = ap (λ ms. ms ++ (next first.machine).moves) one.moves ∙ two.moves;
   connections = two.connections ∙ one.connections;
   hot = λ addr h. one.hot addr (two.hot addr h);
+  told = told_then m first next one.told two.told;
 }
 
 for_each-providing : {X : Type 0} (act : X → Machine → Effect) → ((x : X) (m : Machine) → IsProviding m (act x m)) → (xs : List X) (m : Machine) →
     IsProviding m (for_each act xs m)
 unfolding for_each
-for_each-providing act each [] m = record { moves = refl; connections = refl; hot = λ addr hot. hot }
+for_each-providing act each [] m = record { moves = refl; connections = refl; hot = λ addr hot. hot; told = told_nothing m }
 for_each-providing act each (x ∷ xs) m = providing_then m (act x m) (for_each act xs) (each x m) (for_each-providing act each xs (act x m).machine)
 
 for_each-obeys : {X : Type 0} (Law : Move → Type 0) (act : X → Machine → Effect) → ((x : X) (m : Machine) → Obeys Law m (act x m)) → (xs : List X) (m : Machine) →
@@ -73,10 +84,16 @@ for_each-obeys Law act each (x ∷ xs) m = obeys_then Law m (act x m) (for_each 
 
 -- ---- what is set and provided
 
+-- what is neither a connection nor a peer was set before
+set-told : (m n : Machine) (effect : Effect) → n.connections ≡ m.connections → n.peers ≡ m.peers → n.next_id ≡ m.next_id → IsTold n effect → IsTold m effect
+set-told m n effect connections peers next_id h =
+    let first : Effect = becomes n in
+    told_then m first (λ o. effect) (told_unchanged m first mute-none refl (record { connections = connections; peers = peers; next_id = next_id })) h
+
 ordinary-providing : (addr : Addr) (m : Machine) → IsProviding m (peer_is_ordinary addr m)
 ordinary-providing addr m =
     let quiet : IsQuiet m (peer_is_ordinary addr m) = changes-quiet addr (λ p. record p { big = false }) m (record { addr = λ p. refl; hot = λ p hot. hot }) in
-    record { moves = quiet.moves; connections = quiet.connections; hot = quiet.hot }
+    record { moves = quiet.moves; connections = quiet.connections; hot = quiet.hot; told = quiet.told }
 
 locals-providing : (groups : List Group) (m : Machine) → IsProviding m (locals_are groups m)
 locals-providing groups m =
@@ -86,18 +103,28 @@ locals-providing groups m =
     providing_then n (for_each peer_is_ordinary (members_of kept) n) (for_each comes_ordinary (members_of kept))
     (for_each-providing peer_is_ordinary ordinary-providing (members_of kept) n)
     (for_each-providing comes_ordinary (comes-providing false) (members_of kept) (for_each peer_is_ordinary (members_of kept) n).machine) in
-    record { moves = provides.moves; connections = provides.connections; hot = provides.hot }
+    record { moves = provides.moves; connections = provides.connections; hot = provides.hot; told = set-told m n (locals_are groups m) refl refl refl provides.told }
 
 roots_say-providing : (answer : RootAnswer) (m : Machine) → IsProviding m (roots_say answer m)
 roots_say-providing (Found ttl addrs) m =
     let publics : List Addr = publics_of m.settings.own m.targets.root addrs in
     let provides = for_each-providing comes_ordinary (comes-providing false) publics (record m { roots = found m.now ttl publics m.roots }) in
-    record { moves = provides.moves; connections = provides.connections; hot = provides.hot }
-roots_say-providing Failed m = record { moves = refl; connections = refl; hot = λ addr hot. hot }
+    record {
+      moves = provides.moves;
+      connections = provides.connections;
+      hot = provides.hot;
+      told = set-told m (record m { roots = found m.now ttl publics m.roots }) (roots_say (Found ttl addrs) m) refl refl refl provides.told;
+    }
+roots_say-providing Failed m = record {
+  moves = refl;
+  connections = refl;
+  hot = λ addr hot. hot;
+  told = told_unchanged m (roots_say Failed m) mute-none refl (record { connections = refl; peers = refl; next_id = refl });
+}
 
 roots-providing : (job : Job) (answer : RootAnswer) (m : Machine) → IsProviding m (roots_answer job answer m)
 roots-providing job answer m = cond_both (awaits job.0 m.roots) (roots_say answer m) (nothing_more m) (IsProviding m)
-    (λ pending. roots_say-providing answer m) (λ other. record { moves = refl; connections = refl; hot = λ addr hot. hot })
+    (λ pending. roots_say-providing answer m) (λ other. record { moves = refl; connections = refl; hot = λ addr hot. hot; told = told_nothing m })
 
 comes_big-allowed : (faults : Faults) (addr : Addr) (m : Machine) → Obeys (IsAllowed faults) m (comes_big addr m)
 comes_big-allowed faults addr m = cond_both (is_wanted_big addr m) (as_move (shared addr) m (peer_comes true addr m)) (nothing_more m) (Obeys (IsAllowed faults) m)
@@ -120,6 +147,17 @@ dialing-up m e k h s dials =
     or_right (is_negotiated e.facts && e.facts.local) (is_pending e.facts)
     (and_from (is_outbound e.facts) (opening_phase e.facts.phase) ((stands-shaped m e k h s).dialing dials) (dialing-opening e.facts.phase dials))
 
+dialing-stage : (p : Phase) → is_dialing_phase p ≡ true → stage_of_phase p ≤ 2
+dialing-stage Dialing dials = omega arith
+dialing-stage (Greeting until) dials = omega arith
+dialing-stage Negotiated dials = absurd (false≢true dials)
+dialing-stage (Closing until) dials = absurd (false≢true dials)
+
+-- a connection goes, and its peer fails where it is missed
+vanishes-told : (m : Machine) (e : Entry) (k : ℕ) → IsOrdered m → StandsAt m.connections k e → IsTold m (vanishes e m)
+vanishes-told m e k h s =
+    told_then m (entry_goes e m) (lost e.facts) (goes-told m e k h.orderly s) (lost-quiet e.facts (without_entry e.facts.cid.0 m)).told
+
 opens-obeys : (Law : Move → Type 0) (m : Machine) (e : Entry) (k : ℕ) → IsOrdered m → StandsAt m.connections k e → is_dialing e.facts ≡ true → Obeys Law m (dial_opens e m)
 opens-obeys Law m e k h s dials =
     let unnegotiated : is_negotiated e.facts ≡ false = dialing-unnegotiated e.facts.phase dials in
@@ -128,7 +166,8 @@ opens-obeys Law m e k h s dials =
     turned_then-obeys Law m e new k proposal h.orderly s
     (record { same_id = refl; same_addr = refl; live = λ l. dialing-live e.facts.phase dials })
     (record { up = λ up. dialing-up m e k h s dials; asked = λ asked. asked })
-    (λ negotiated. absurd (both_ways (is_negotiated e.facts) unnegotiated negotiated)) (tells-quiet (proposal (with_entry new m)).actions (with_entry new m))
+    (λ negotiated. absurd (both_ways (is_negotiated e.facts) unnegotiated negotiated)) (dialing-stage e.facts.phase dials)
+    (tells-quiet (proposal (with_entry new m)).actions (with_entry new m) refl)
 
 fails-obeys : (faults : Faults) (m : Machine) (e : Entry) (k : ℕ) → IsOrdered m → StandsAt m.connections k e → is_dialing e.facts ≡ true →
     Obeys (IsLawful faults) m (dial_fails e m)
@@ -138,7 +177,11 @@ fails-obeys faults m e k h s dials =
     as_move-obeys (IsLawful faults) (left e.facts.cid.0) m (vanishes e m) lost.moves
     (record { back_off = tt; targets = tt; cause = on_stands (λ x. is_negotiated x.facts ≡ false) m e k h.orderly s unnegotiated })
     (accounts_gone m e k (dial_fails e m) h.orderly s lost.connections lost.hot lost.known
-    (λ negotiated. absurd (both_ways (is_negotiated e.facts) unnegotiated negotiated)))
+    (λ negotiated. absurd (both_ways (is_negotiated e.facts) unnegotiated negotiated))
+    (told_move (left e.facts.cid.0) m (vanishes e m) refl (no_dial (vanishes e m)) (vanishes-told m e k h s)))
+  where
+    no_dial : (effect : Effect) → promoted_by_dial (left e.facts.cid.0) m.next_id effect.machine.next_id ≡ []
+    no_dial effect = refl
 
 dial_ends-obeys : (faults : Faults) (cid : Cid) (opened : Bool) (m : Machine) → IsOrdered m → Obeys (IsLawful faults) m (dial_ends cid opened m)
 dial_ends-obeys faults cid opened m h = by_entry (entry_at cid.0 m) refl opened
@@ -157,8 +200,32 @@ dial_ends-obeys faults cid opened m h = by_entry (entry_at cid.0 m) refl opened
 
 -- ---- a peer connects
 
-admitted-obeys : (Law : Move → Type 0) (addr : Addr) (m : Machine) → Obeys Law m (admitted addr m)
-admitted-obeys Law addr m = record { lawful = tt; accounted = accounts_come m (admitted_entry addr m) (admitted addr m) refl refl refl }
+-- accepting pauses or not
+pause-quiet : (g : Gate) (m : Machine) → IsQuiet m (tells (pause_notice g) m)
+pause-quiet Free m = tells-quiet (pause_notice Free) m refl
+pause-quiet (PauseFor delay) m = tells-quiet (pause_notice (PauseFor delay)) m refl
+pause-quiet NoRoom m = tells-quiet (pause_notice NoRoom) m refl
+
+admitted-told : (addr : Addr) (m : Machine) → IsOrderly m → IsTold m (admitted addr m)
+admitted-told addr m h =
+    let first : Effect = entry_comes (Admit (record { 0 = m.next_id }) addr ∷ []) (admitted_entry addr m) m in
+    let last : Machine → Effect = tells (pause_notice (gate_of m.settings (counted_in m))) in
+    told_then m first last (admits-told m (admitted_entry addr m) addr h refl) (pause-quiet (gate_of m.settings (counted_in m)) first.machine).told
+
+admitted-obeys : (Law : Move → Type 0) (addr : Addr) (m : Machine) → IsOrderly m → Obeys Law m (admitted addr m)
+admitted-obeys Law addr m h = record {
+  lawful = tt;
+  accounted = accounts_come m (admitted_entry addr m) (admitted addr m) refl refl refl (admitted-told addr m h);
+}
+
+pending-live : (f : Facts) → is_pending f ≡ true → is_live f ≡ true
+pending-live f pending = by_phase f.phase (and_parts (is_outbound f) (opening_phase f.phase) pending).1
+  where
+    by_phase : (p : Phase) → opening_phase p ≡ true → live_phase p ≡ true
+    by_phase Dialing opening = refl
+    by_phase (Greeting until) opening = refl
+    by_phase Negotiated opening = refl
+    by_phase (Closing until) opening = opening
 
 crossed-obeys : (faults : Faults) (addr : Addr) (m : Machine) (e : Entry) (k : ℕ) → IsOrdered m → StandsAt m.connections k e → is_pending e.facts ≡ true →
     Obeys (IsLawful faults) m (crossed addr e m)
@@ -166,31 +233,31 @@ crossed-obeys faults addr m e k h s pending =
     let n : Machine = (ending Overwritten e m).machine in
     cond_both (address_below addr m.settings.own) (then_do (ending Overwritten e m) (admitted addr)) (turned_away Crossed m) (Obeys (IsLawful faults) m)
     (λ below. obeys_then (IsLawful faults) m (ending Overwritten e m) (admitted addr)
-    (ending-obeys faults Overwritten m e k h.orderly s
+    (ending-obeys faults Overwritten m e k h.orderly s (pending-live e.facts pending)
     (λ negotiated. absurd (both_ways (is_negotiated e.facts) (pending-unnegotiated e.facts pending) negotiated)))
-    (admitted-obeys (IsLawful faults) addr n))
-    (λ above. quiet-obeys (IsLawful faults) m (turned_away Crossed m) (tells-quiet (turned_away Crossed m).actions m))
+    (admitted-obeys (IsLawful faults) addr n (overwritten-keeps m e k h s pending).ordered.orderly))
+    (λ above. quiet-obeys (IsLawful faults) m (turned_away Crossed m) (tells-quiet (turned_away Crossed m).actions m refl))
 
 beside-obeys : (faults : Faults) (addr : Addr) (m : Machine) → IsOrdered m → Obeys (IsLawful faults) m (accepted_beside (live_entry_at addr m) addr m)
 beside-obeys faults addr m h = by_live (live_entry_at addr m) refl
   where
     by_live : (o : Option Entry) → live_entry_at addr m ≡ o → Obeys (IsLawful faults) m (accepted_beside o addr m)
-    by_live None is = admitted-obeys (IsLawful faults) addr m
+    by_live None is = admitted-obeys (IsLawful faults) addr m h.orderly
     by_live (Some e) is =
         let at = find_some (λ y. is_live_at addr y.facts) m.connections e is in
         cond_both (is_pending e.facts) (crossed addr e m) (turned_away Present m) (Obeys (IsLawful faults) m)
         (λ pending. crossed-obeys faults addr m e at.place h at.stands pending)
-        (λ other. quiet-obeys (IsLawful faults) m (turned_away Present m) (tells-quiet (turned_away Present m).actions m))
+        (λ other. quiet-obeys (IsLawful faults) m (turned_away Present m) (tells-quiet (turned_away Present m).actions m refl))
 
 through-obeys : (faults : Faults) (g : Gate) (addr : Addr) (m : Machine) → IsOrdered m → Obeys (IsLawful faults) m (accepted_through g addr m)
 through-obeys faults Free addr m h = beside-obeys faults addr m h
 through-obeys faults (PauseFor delay) addr m h = beside-obeys faults addr m h
-through-obeys faults NoRoom addr m h = quiet-obeys (IsLawful faults) m (turned_away Full m) (tells-quiet (turned_away Full m).actions m)
+through-obeys faults NoRoom addr m h = quiet-obeys (IsLawful faults) m (turned_away Full m) (tells-quiet (turned_away Full m).actions m refl)
 
 connects-obeys : (faults : Faults) (addr : Addr) (m : Machine) → IsOrdered m → Obeys (IsLawful faults) m (peer_connects addr m)
 connects-obeys faults addr m h = cond_both (same_address addr m.settings.own) (turned_away OwnAddr m)
     (accepted_through (gate_of m.settings (counted_in m)) addr m) (Obeys (IsLawful faults) m)
-    (λ own. quiet-obeys (IsLawful faults) m (turned_away OwnAddr m) (tells-quiet (turned_away OwnAddr m).actions m))
+    (λ own. quiet-obeys (IsLawful faults) m (turned_away OwnAddr m) (tells-quiet (turned_away OwnAddr m).actions m refl))
     (λ other. through-obeys faults (gate_of m.settings (counted_in m)) addr m h)
 
 -- ---- the clock
@@ -210,6 +277,7 @@ clock-obeys start t m h =
       accounted = record {
         ends = accounted.ends;
         rises = record { promotions = accounted.rises.promotions; activations = accounted.rises.activations; arrivals = accounted.rises.arrivals };
+        told = set-told m n (fire_all n) refl refl refl accounted.told;
       };
     })
 
@@ -274,6 +342,15 @@ closes-rises cid m h = by_entry (entry_at cid.0 m) refl
         lost.hot lost.known)
         (λ closed. nothing)
 
+closes-told : (cid : Cid) (m : Machine) → IsOrdered m → IsTold m (peer_closes cid m)
+closes-told cid m h = by_entry (entry_at cid.0 m) refl
+  where
+    by_entry : (o : Option Entry) → entry_at cid.0 m ≡ o → IsTold m (closed_at o m)
+    by_entry None is = told_nothing m
+    by_entry (Some e) is =
+        let at = find_some (λ y. has_id cid.0 y.facts) m.connections e is in
+        cond_both (is_live e.facts) (vanishes e m) (nothing_more m) (IsTold m) (λ live. vanishes-told m e at.place h at.stands) (λ closed. told_nothing m)
+
 -- ---- each event
 
 -- each move is lawful, and without one no connection is gone and nobody comes up
@@ -283,6 +360,7 @@ pub record IsKnown (m : Machine) (event : Event) : Type 0 where
   pub promotions : PromotionsAreMoves m event
   pub activations : ActivationsAreMoves m event
   pub arrivals : ArrivalsAreMoves m event
+  pub told : IsTold m (whole_step m event)
 
 ends-known : (m : Machine) (event : Event) → EndsBy m (whole_step m event) → EndsAreMoves m event
 ends-known m event ends cid before =
@@ -299,6 +377,7 @@ obeys-known m event h = record {
   promotions = h.accounted.rises.promotions;
   activations = h.accounted.rises.activations;
   arrivals = arrivals-known m event h.accounted.rises;
+  told = h.accounted.told;
 }
 
 quiet-known : (m : Machine) (event : Event) → IsQuiet m (whole_step m event) → IsKnown m event
@@ -316,6 +395,7 @@ providing-known m event p named =
       activations = rises_nowhere is_hot_or_asked activates m effect (hot_or_asked-down m effect.machine p.hot connected.asked);
       arrivals = λ addr known. or_each (is_known addr m) (is_provided_by addr event) (is_known addr m || is_shared_in addr effect.moves) (is_provided_by addr event)
           (λ before. or_left (is_known addr m) (is_shared_in addr effect.moves) before) (λ is. is) (named addr known);
+      told = p.told;
     }
 
 pub whole_step-known : (m : Machine) (event : Event) → IsSteady m → IsKnown m event
@@ -336,11 +416,12 @@ whole_step-known m (Closed cid) h =
       promotions = rises.promotions;
       activations = rises.activations;
       arrivals = arrivals-known m (Closed cid) rises;
+      told = closes-told cid m (ordered_of m h);
     }
-whole_step-known m (Aims targets) h = quiet-known m (Aims targets) (elsewhere-quiet m (whole_step m (Aims targets)) refl refl refl)
+whole_step-known m (Aims targets) h = quiet-known m (Aims targets) (elsewhere-quiet m (whole_step m (Aims targets)) refl refl refl refl refl)
 whole_step-known m (Locals groups) h = providing-known m (Locals groups) (locals-providing groups m) (locals-known groups m)
 whole_step-known m (Roots job answer) h = providing-known m (Roots job answer) (roots-providing job answer m) (roots-known job answer m)
-whole_step-known m (BigAims targets) h = quiet-known m (BigAims targets) (elsewhere-quiet m (whole_step m (BigAims targets)) refl refl refl)
+whole_step-known m (BigAims targets) h = quiet-known m (BigAims targets) (elsewhere-quiet m (whole_step m (BigAims targets)) refl refl refl refl refl)
 whole_step-known m (Bigs addrs) h = obeys-known m (Bigs addrs) (bigs-obeys (faults_of m (Bigs addrs)) addrs m)
 
 pub moves-lawful : (m : Machine) (event : Event) → IsSteady m → MovesAreLawful m event

@@ -309,8 +309,8 @@ asks_roots-quiet : (m : Machine) → IsQuiet m (asks_roots m)
 asks_roots-quiet m = cond_both (may_ask m.now m.targets.root m.roots)
     (tells (AskRoots (record { 0 = m.roots.next_job }) ∷ []) (record m { roots = asked m.roots })) (nothing_more m) (IsQuiet m)
     (λ too_few.
-    elsewhere-quiet m (tells (AskRoots (record { 0 = m.roots.next_job }) ∷ []) (record m { roots = asked m.roots })) refl refl refl)
-    (λ enough. tells-quiet [] m)
+    elsewhere-quiet m (tells (AskRoots (record { 0 = m.roots.next_job }) ∷ []) (record m { roots = asked m.roots })) refl refl refl refl refl)
+    (λ enough. tells-quiet [] m refl)
 
 pub govern-trimmed : (faults : Faults) (word : ℕ) (m : Machine) → IsOrdered m → counted_in m ≤ m.settings.hard → Trimmed (IsLawful faults) m (govern word m)
 unfolding DoesLawful

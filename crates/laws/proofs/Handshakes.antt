@@ -37,7 +37,7 @@ use Rattle.machine.specs.Greeting.{role_of, is_awaited, fits_side, told, judged,
 use Rattle.laws.specs.AtMoves.{Faults, IsLawful, is_up_connection}
 use Rattle.laws.specs.Whole.{IsShaped}
 use Rattle.laws.proofs.Keeping.{IsOrdered, Keeps, keeps_nothing}
-use Rattle.laws.proofs.Lawful.{IsQuiet, quiet-obeys, tells-quiet, turns-obeys, used-obeys}
+use Rattle.laws.proofs.Lawful.{IsQuiet, quiet-obeys, tells-quiet, turns-obeys, negotiated-forward, used-obeys}
 use Rattle.laws.proofs.Lists.{StandsAt}
 use Rattle.laws.proofs.Shapes.{greeting-unnegotiated}
 use Rattle.laws.proofs.Trims.{Trimmed, keeps-trimmed, ending-trimmed, trimmed_then}
@@ -122,8 +122,8 @@ told-machine None cid m = refl
 told-machine (Some bytes) cid m = refl
 
 told-quiet : (o : Option (List ℕ)) (cid : Cid) (m : Machine) → IsQuiet m (told o cid m)
-told-quiet None cid m = tells-quiet [] m
-told-quiet (Some bytes) cid m = tells-quiet (answers cid 0 bytes m).actions m
+told-quiet None cid m = tells-quiet [] m refl
+told-quiet (Some bytes) cid m = tells-quiet (answers cid 0 bytes m).actions m refl
 
 -- who answers a greeting: an acceptor was dialed, and a dialer has dialed
 record Greets (m : Machine) (e : Entry) (k : ℕ) : Type 0 where
@@ -135,7 +135,7 @@ record Greets (m : Machine) (e : Entry) (k : ℕ) : Type 0 where
 -- that its handshake is not done is cause enough
 ends : (faults : Faults) (cause : CloseCause) → IsLost cause → (m : Machine) (e : Entry) (k : ℕ) → Greets m e k → Trimmed (IsLawful faults) m (ending cause e m)
 ends faults cause loses m e k g =
-    ending-trimmed faults cause loses m e k g.ordered g.within g.stands
+    ending-trimmed faults cause loses m e k g.ordered g.within g.stands (greeting-live e.facts.phase g.greeting)
     (λ negotiated. absurd (both_ways (is_negotiated e.facts) (greeting-unnegotiated e.facts.phase g.greeting) negotiated))
 
 -- who was dialed by the other side is not used
@@ -165,7 +165,8 @@ judged-trimmed faults (verdict.Accept agreed) m e k g accepts agrees =
     keeps-trimmed (IsLawful faults) m (judged (verdict.Accept agreed) e m) g.within (agrees_inbound-keeps agreed m e k g.ordered g.stands g.greeting (accepts refl))
     (turns-obeys (IsLawful faults) m e (record e { facts = agreed_inbound agreed (m.now + m.settings.idle) e.facts }) k g.ordered.orderly g.stands
     (record { same_id = refl; same_addr = refl; live = λ l. greeting-live e.facts.phase g.greeting })
-    (record { up = agreed_inbound-down agreed (m.now + m.settings.idle) e g.greeting (stands-shaped m e k g.ordered g.stands); asked = λ asked. asked }) (λ was. refl))
+    (record { up = agreed_inbound-down agreed (m.now + m.settings.idle) e g.greeting (stands-shaped m e k g.ordered g.stands); asked = λ asked. asked }) (λ was. refl)
+    (negotiated-forward e.facts.phase Negotiated (greeting-live e.facts.phase g.greeting) refl))
 judged-trimmed faults (verdict.Refuse reason) m e k g accepts agrees = ends faults cause.Refused refl m e k g
 judged-trimmed faults verdict.Query m e k g accepts agrees = ends faults cause.Query refl m e k g
 judged-trimmed faults (verdict.Agree agreed) m e k g accepts agrees =

@@ -1,6 +1,6 @@
 -- The moves of a part of a step: each keeps a law, no connection whose handshake is done is gone without one, and nobody
 -- comes up without one.
-use Rattle.std.proofs.Common.{ℕ, ◌+◌, ◌%◌, ◌≡◌, Bool, true, false, ◌||◌, ◌==◌, cond, List, [], ◌∷◌, ◌++◌, find, set, remove, Option, Some, None, is_some, refl, sym, ap, ◌∙◌, subst, eqb-true, eq-eqb}
+use Rattle.std.proofs.Common.{ℕ, ◌+◌, ◌%◌, ◌≡◌, ◌≤◌, Bool, true, false, ◌||◌, ◌==◌, nat_lt, if◌then◌else◌, arith, cond, List, [], ◌∷◌, ◌++◌, find, set, remove, Option, Some, None, is_some, refl, sym, ap, ◌∙◌, subst, eqb-true, eq-eqb}
 use Rattle.std.specs.List.{AllByRecursion, list_any}
 use Rattle.std.proofs.lemmas.Bool.{cond_both, false≢true, or_left, or_right}
 use Rattle.std.proofs.lemmas.List.Folds.{list_any-append}
@@ -9,8 +9,10 @@ use Rattle.net_base.specs.declared.action.Action.{Action}
 use Rattle.net_base.specs.declared.action.CloseCause.{CloseCause}
 use Rattle.net_base.specs.declared.action.CloseCause.TheVariants.{Unused, Pruned, Overwritten, Refused, Query, Fault}
 use Rattle.net_base.specs.declared.connection.Facts.{Facts}
+use Rattle.net_base.specs.declared.connection.Phase.{Phase}
+use Rattle.net_base.specs.declared.connection.Phase.TheVariants.{Dialing, Greeting, Negotiated, Closing}
 use Rattle.net_base.specs.declared.peer.Peer.{Peer}
-use Rattle.conn_state.specs.Use.{has_id, is_live, is_negotiated}
+use Rattle.conn_state.specs.Use.{has_id, is_live, live_phase, is_negotiated, is_negotiated_phase}
 use Rattle.machine.specs.Machine.{Machine, Entry, entry_at}
 use Rattle.machine.specs.Effect.{Effect, Happened, Move, promoted, shared, ended, nothing_more, tells, then_do, as_move}
 use Rattle.machine.specs.Peers.{turns_at, peer_at, peer_changes, peer_fails, peer_succeeds, note_of_coming, peer_comes}
@@ -19,13 +21,16 @@ use Rattle.peer_book.specs.Book.{peer_at as peer_in, new_peer, entry_of, entered
 use Rattle.peer_book.specs.declared.added.Added.{Added}
 use Rattle.peer_book.specs.declared.added.Added.TheVariants.{New, Present, Full}
 use Rattle.machine.specs.Replies.{owing, asks}
-use Rattle.machine.specs.Connections.{with_entry, without_entry, entry_turns, is_missed, lost, lost_by, ending, is_used}
+use Rattle.machine.specs.Connections.{with_entry, without_entry, entry_turns, entry_goes, is_missed, lost, lost_by, ending, is_used}
 use Rattle.net_base.specs.declared.peer.Temp.TheVariants.{Warm}
 use Rattle.warm_messages.specs.Writing.{written_alive}
 use Rattle.warm_messages.specs.declared.alive.Alive.TheVariants.{Ask}
 use Rattle.net_base.specs.Peer.{failed_peer}
 use Rattle.laws.specs.AtMoves.{OutOfBackOff, WithinTargets, Faults, MayEnd, OnEntry, ForCause, IsLawful, is_negotiated_entry, is_negotiated_at, ends, is_ended_in, is_up_connection, is_up, is_hot_peer, is_asked_connection, is_hot_or_asked, is_known, promotes, activates, shares}
 use Rattle.laws.specs.Sound.{IsOrderly}
+use Rattle.laws.specs.Stages.{stage_of_phase, stage_of, stage_at, IsLateCause}
+use Rattle.laws.specs.Telling.{IsTold}
+use Rattle.laws.specs.Told.{Dialed, ended_by, promoted_by_dial}
 use Rattle.laws.proofs.Entries.{TurnsInto, turned-connections, gone-connections, one_has_id, has_own_id, with_new}
 use Rattle.laws.proofs.Finds.{find-set_other, find-set_here, find-remove_other}
 use Rattle.laws.proofs.Keeping.{note-machine}
@@ -33,7 +38,9 @@ use Rattle.laws.proofs.Lists.{StandsAt, find_only, all-appended}
 use Rattle.laws.proofs.Owing.{with_reply-some}
 use Rattle.laws.proofs.PeersApart.{same_turned}
 use Rattle.laws.proofs.Rises.{Rises, rises_then, rises_move, rises_said, StaysDown, is_hot, NoneConnected, hot_or_asked-down, rises_nowhere, rises_none, same-connected, connected_then, IsNoHigher, turned-down, turned-connected, gone-connected, come-down, IsCooling, changed-hot, changed-known, entered-hot, entered-known}
+use Rattle.laws.proofs.Telling.{are_mute, mute, told_unchanged, told_nothing, told_then, told_move}
 use Rattle.laws.proofs.Ties.{turned_elsewhere}
+use Rattle.laws.proofs.ToldMoves.{turned-told, goes-told, goes-stage, ended-told, changes-told, turns_at-next, peer_comes-told}
 
 -- ---- no connection is gone without a move
 
@@ -142,47 +149,55 @@ ends_come m new effect same cid before = by_entry (entry_at cid m) refl before
 pub record Accounts (before : Machine) (effect : Effect) : Type 0 where
   pub ends : EndsBy before effect
   pub rises : Rises before effect
+  pub told : IsTold before effect
 
 pub accounts_then : (m : Machine) (first : Effect) (next : Machine → Effect) → Accounts m first → Accounts first.machine (next first.machine) → Accounts m (then_do first next)
 accounts_then m first next one two = record {
   ends = ends_then m first next one.ends two.ends;
   rises = rises_then m first next one.rises two.rises;
+  told = told_then m first next one.told two.told;
 }
 
--- more moves account for more
-pub accounts_move : (happened : Happened) (m : Machine) (effect : Effect) → Accounts m effect → Accounts m (as_move happened m effect)
-accounts_move happened m effect h = record {
+-- more moves account for more, where they are neither ends nor dials
+pub accounts_move : (happened : Happened) (m : Machine) (effect : Effect) → ended_by happened ≡ [] → promoted_by_dial happened m.next_id effect.machine.next_id ≡ [] →
+    Accounts m effect → Accounts m (as_move happened m effect)
+accounts_move happened m effect no_end no_dial h = record {
   ends = ends_move happened m effect h.ends;
   rises = rises_move happened m effect h.rises;
+  told = told_move happened m effect no_end no_dial h.told;
 }
 
 -- a connection turns
 pub accounts_turned : (m : Machine) (e new : Entry) (k : ℕ) (effect : Effect) → IsOrderly m → StandsAt m.connections k e → TurnsInto e new → IsNoHigher e new →
-    effect.machine ≡ with_entry new m → (is_negotiated e.facts ≡ true → (is_negotiated new.facts || is_ended_in e.facts.cid.0 effect.moves) ≡ true) → Accounts m effect
-accounts_turned m e new k effect h s t lower same still = record {
+    effect.machine ≡ with_entry new m → (is_negotiated e.facts ≡ true → (is_negotiated new.facts || is_ended_in e.facts.cid.0 effect.moves) ≡ true) → IsTold m effect →
+    Accounts m effect
+accounts_turned m e new k effect h s t lower same still told = record {
   ends = ends_turned m e new k effect h s t (ap (λ n. n.connections) same) still;
   rises = rises_none m effect (subst (NoneConnected m) (sym same) (turned-connected m e new k h s t lower))
       (subst (StaysDown is_hot m) (sym same) (λ addr hot. hot)) (subst (StaysDown is_known m) (sym same) (λ addr known. known));
+  told = told;
 }
 
 -- a connection goes, and nobody comes up by what follows
 pub accounts_gone : (m : Machine) (e : Entry) (k : ℕ) (effect : Effect) → IsOrderly m → StandsAt m.connections k e →
     effect.machine.connections ≡ (without_entry e.facts.cid.0 m).connections → StaysDown is_hot m effect.machine → StaysDown is_known m effect.machine →
-    (is_negotiated e.facts ≡ true → is_ended_in e.facts.cid.0 effect.moves ≡ true) → Accounts m effect
-accounts_gone m e k effect h s same hot known told = record {
-  ends = ends_gone m e k effect h s same told;
+    (is_negotiated e.facts ≡ true → is_ended_in e.facts.cid.0 effect.moves ≡ true) → IsTold m effect → Accounts m effect
+accounts_gone m e k effect h s same hot known by_move told = record {
+  ends = ends_gone m e k effect h s same by_move;
   rises = rises_none m effect (connected_then m (without_entry e.facts.cid.0 m) effect.machine (gone-connected m e k h s)
       (same-connected (without_entry e.facts.cid.0 m) effect.machine same)) hot known;
+  told = told;
 }
 
 -- a connection comes that is neither up nor asked
 pub accounts_come : (m : Machine) (new : Entry) (effect : Effect) → is_up_connection (Some new) ≡ false → is_asked_connection (Some new) ≡ false →
-    effect.machine ≡ with_new new m → Accounts m effect
-accounts_come m new effect up asked same = record {
+    effect.machine ≡ with_new new m → IsTold m effect → Accounts m effect
+accounts_come m new effect up asked same told = record {
   ends = ends_come m new effect (ap (λ n. n.connections) same);
   rises = rises_none m effect
       (subst (NoneConnected m) (sym same) (record { up = come-down is_up_connection refl m new up; asked = come-down is_asked_connection refl m new asked }))
       (subst (StaysDown is_hot m) (sym same) (λ addr hot. hot)) (subst (StaysDown is_known m) (sym same) (λ addr known. known));
+  told = told;
 }
 
 -- ---- each move keeps a law
@@ -204,11 +219,13 @@ pub record IsQuiet (before : Machine) (effect : Effect) : Type 0 where
   pub connections : effect.machine.connections ≡ before.connections
   pub hot : StaysDown is_hot before effect.machine
   pub known : StaysDown is_known before effect.machine
+  pub told : IsTold before effect
 
 quiet-accounts : (m : Machine) (effect : Effect) → IsQuiet m effect → Accounts m effect
 quiet-accounts m effect q = record {
   ends = ends_same m effect q.connections;
   rises = rises_none m effect (same-connected m effect.machine q.connections) q.hot q.known;
+  told = q.told;
 }
 
 pub quiet-lawful : (Law : Move → Type 0) (effect : Effect) → effect.moves ≡ [] → AllByRecursion Law effect.moves
@@ -218,20 +235,22 @@ pub quiet-obeys : (Law : Move → Type 0) (m : Machine) (effect : Effect) → Is
 quiet-obeys Law m effect q = record { lawful = quiet-lawful Law effect q.moves; accounted = quiet-accounts m effect q }
 
 -- what is neither a connection nor a peer is no matter of either
-pub elsewhere-quiet : (m : Machine) (effect : Effect) → effect.moves ≡ [] → effect.machine.connections ≡ m.connections → effect.machine.peers ≡ m.peers → IsQuiet m effect
-elsewhere-quiet m effect none connections peers = record {
+pub elsewhere-quiet : (m : Machine) (effect : Effect) → effect.moves ≡ [] → effect.machine.connections ≡ m.connections → effect.machine.peers ≡ m.peers →
+    effect.machine.next_id ≡ m.next_id → are_mute effect.actions ≡ true → IsQuiet m effect
+elsewhere-quiet m effect none connections peers next_id silent = record {
   moves = none;
   connections = connections;
   hot = λ addr hot. subst (λ ps. is_hot_peer (peer_in addr ps) ≡ true) peers hot;
   known = λ addr known. subst (λ ps. is_some (peer_in addr ps) ≡ true) peers known;
+  told = told_unchanged m effect (mute effect.actions silent) none (record { connections = connections; peers = peers; next_id = next_id });
 }
 
--- what is only told
-pub tells-quiet : (actions : List Action) (m : Machine) → IsQuiet m (tells actions m)
-tells-quiet actions m = elsewhere-quiet m (tells actions m) refl refl refl
+-- what is only sent
+pub tells-quiet : (actions : List Action) (m : Machine) → are_mute actions ≡ true → IsQuiet m (tells actions m)
+tells-quiet actions m silent = elsewhere-quiet m (tells actions m) refl refl refl refl silent
 
 pub obeys_nothing : (Law : Move → Type 0) (m : Machine) → Obeys Law m (nothing_more m)
-obeys_nothing Law m = quiet-obeys Law m (nothing_more m) (tells-quiet [] m)
+obeys_nothing Law m = quiet-obeys Law m (nothing_more m) (tells-quiet [] m refl)
 
 pub quiet_then : (m : Machine) (first : Effect) (next : Machine → Effect) → IsQuiet m first → IsQuiet first.machine (next first.machine) → IsQuiet m (then_do first next)
 quiet_then m first next one two = record {
@@ -239,6 +258,7 @@ quiet_then m first next one two = record {
   connections = two.connections ∙ one.connections;
   hot = λ addr h. one.hot addr (two.hot addr h);
   known = λ addr h. one.known addr (two.known addr h);
+  told = told_then m first next one.told two.told;
 }
 
 pub turns_at-moves : (o : Option Peer) (change : Peer → Peer) (m : Machine) → (turns_at o change m).moves ≡ []
@@ -256,17 +276,18 @@ changes-quiet a change m cools = record {
   connections = turns_at-connections (peer_at a m) change m;
   hot = changed-hot a change m cools;
   known = changed-known a change m cools.addr;
+  told = changes-told a change m cools.addr;
 }
 
 pub lost-quiet : (f : Facts) (m : Machine) → IsQuiet m (lost f m)
 lost-quiet f m = cond_both (is_missed f) (peer_fails f.addr m) (nothing_more m) (λ effect. IsQuiet m effect)
     (λ missed. changes-quiet f.addr (failed_peer m.now m.settings.backoff) m (record { addr = λ p. refl; hot = λ p hot. absurd (false≢true hot) }))
-    (λ other. tells-quiet [] m)
+    (λ other. tells-quiet [] m refl)
 
-lost_by-quiet : (cause : CloseCause) (f : Facts) (m : Machine) → IsQuiet m (lost_by cause f m)
+pub lost_by-quiet : (cause : CloseCause) (f : Facts) (m : Machine) → IsQuiet m (lost_by cause f m)
 lost_by-quiet Unused f m = lost-quiet f m
 lost_by-quiet Pruned f m = lost-quiet f m
-lost_by-quiet Overwritten f m = tells-quiet [] m
+lost_by-quiet Overwritten f m = tells-quiet [] m refl
 lost_by-quiet Refused f m = lost-quiet f m
 lost_by-quiet Query f m = lost-quiet f m
 lost_by-quiet (Fault kind) f m = lost-quiet f m
@@ -278,6 +299,7 @@ pub record IsProviding (before : Machine) (effect : Effect) : Type 0 where
   pub moves : effect.moves ≡ []
   pub connections : effect.machine.connections ≡ before.connections
   pub hot : StaysDown is_hot before effect.machine
+  pub told : IsTold before effect
 
 note-moves : (added : Added) (addr : Addr) (m : Machine) → (note_of_coming added addr m).moves ≡ []
 note-moves New addr m = refl
@@ -292,6 +314,7 @@ comes-providing big addr m = record {
   moves = note-moves (entry_of addr m.peers) addr (record m { peers = entered (new_peer big addr) m.peers });
   connections = ap (λ n. n.connections) (comes-machine big addr m);
   hot = subst (StaysDown is_hot m) (sym (comes-machine big addr m)) (entered-hot big addr m);
+  told = peer_comes-told big addr m;
 }
 
 -- as a move
@@ -308,6 +331,7 @@ shared-accounts big addr m =
         arrivals = rises_said is_known shares (shared addr) m effect
             (λ b other known. entered-known big addr b m other (subst (λ n. is_known b n ≡ true) (comes-machine big addr m) known));
       };
+      told = told_move (shared addr) m effect refl refl provides.told;
     }
 
 -- ---- a connection turns or goes
@@ -328,9 +352,46 @@ ended-lawful faults cause m after e k h s may = record {
   cause = on_stands (λ x. is_negotiated x.facts ≡ true → MayEnd faults cause x m) m e k h s may;
 }
 
-pub ending-obeys : (faults : Faults) (cause : CloseCause) (m : Machine) (e : Entry) (k : ℕ) → IsOrderly m → StandsAt m.connections k e →
+pub live_stage : (p : Phase) → live_phase p ≡ true → stage_of_phase p ≤ 3
+live_stage Dialing live = omega arith
+live_stage (Greeting until) live = omega arith
+live_stage Negotiated live = omega arith
+live_stage (Closing until) live = absurd (false≢true live)
+
+negotiated_stage : (p : Phase) → stage_of_phase p ≡ 3 → is_negotiated_phase p ≡ true
+negotiated_stage Dialing is = absurd (omega (arith, is))
+negotiated_stage (Greeting until) is = absurd (omega (arith, is))
+negotiated_stage Negotiated is = refl
+negotiated_stage (Closing until) is = absurd (omega (arith, is))
+
+late_cause : (faults : Faults) (cause : CloseCause) (e : Entry) (m : Machine) → MayEnd faults cause e m → IsLateCause cause
+late_cause faults Unused e m may = elim may [ ]
+late_cause faults Pruned e m may = tt
+late_cause faults Overwritten e m may = elim may [ ]
+late_cause faults Refused e m may = elim may [ ]
+late_cause faults Query e m may = elim may [ ]
+late_cause faults (Fault kind) e m may = tt
+
+-- the stage of one that stands
+pub stands-stage : (m : Machine) (e : Entry) (k : ℕ) → IsOrderly m → StandsAt m.connections k e → stage_at e.facts.cid.0 m ≡ stage_of_phase e.facts.phase
+stands-stage m e k h s = ap (λ o. stage_of o (nat_lt e.facts.cid.0 m.next_id)) (stands-found m e k h s)
+
+ending-told : (faults : Faults) (cause : CloseCause) (m : Machine) (e : Entry) (k : ℕ) → IsOrderly m → StandsAt m.connections k e → is_live e.facts ≡ true →
+    (is_negotiated e.facts ≡ true → MayEnd faults cause e m) → IsTold m (ending cause e m)
+ending-told faults cause m e k h s live may =
+    let n : Machine = without_entry e.facts.cid.0 m in
+    let q : IsQuiet n (lost_by cause e.facts n) = lost_by-quiet cause e.facts n in
+    let inner : Effect = then_do (entry_goes e m) (lost_by cause e.facts) in
+    let stage : stage_at e.facts.cid.0 m ≡ stage_of_phase e.facts.phase = stands-stage m e k h s in
+    let early : stage_of_phase e.facts.phase ≤ 3 = live_stage e.facts.phase live in
+    let gone : stage_at e.facts.cid.0 n ≡ 5 = goes-stage m e k h s in
+    let over : stage_at e.facts.cid.0 n ≤ stage_at e.facts.cid.0 inner.machine = (q.told.connections e.facts.cid.0).forward in
+    ended-told (ended e.facts.cid.0 cause) e.facts.cid cause m inner refl refl (told_then m (entry_goes e m) (lost_by cause e.facts) (goes-told m e k h s) q.told) q.moves
+    (omega (arith, stage, early)) (omega (arith, gone, over)) (λ open_. late_cause faults cause e m (may (negotiated_stage e.facts.phase (sym stage ∙ open_))))
+
+pub ending-obeys : (faults : Faults) (cause : CloseCause) (m : Machine) (e : Entry) (k : ℕ) → IsOrderly m → StandsAt m.connections k e → is_live e.facts ≡ true →
     (is_negotiated e.facts ≡ true → MayEnd faults cause e m) → Obeys (IsLawful faults) m (ending cause e m)
-ending-obeys faults cause m e k h s may =
+ending-obeys faults cause m e k h s live may =
     let n : Machine = without_entry e.facts.cid.0 m in
     let q : IsQuiet n (lost_by cause e.facts n) = lost_by-quiet cause e.facts n in
     let move : Move = record { happened = ended e.facts.cid.0 cause; before = m; after = (ending cause e m).machine } in
@@ -339,23 +400,25 @@ ending-obeys faults cause m e k h s may =
       lawful = subst (AllByRecursion (IsLawful faults)) (sym moves) (ended-lawful faults cause m (ending cause e m).machine e k h s may, tt);
       accounted = accounts_gone m e k (ending cause e m) h s q.connections q.hot q.known
           (λ negotiated. subst (λ ms. is_ended_in e.facts.cid.0 ms ≡ true) (sym moves)
-          (ap (λ b. b || false) (eq-eqb e.facts.cid.0 e.facts.cid.0 refl)));
+          (ap (λ b. b || false) (eq-eqb e.facts.cid.0 e.facts.cid.0 refl)))
+          (ending-told faults cause m e k h s live may);
     }
 
 -- a connection turns, and is still negotiated where it was
 pub turns-obeys : (Law : Move → Type 0) (m : Machine) (e new : Entry) (k : ℕ) → IsOrderly m → StandsAt m.connections k e → TurnsInto e new → IsNoHigher e new →
-    (is_negotiated e.facts ≡ true → is_negotiated new.facts ≡ true) → Obeys Law m (entry_turns e new m)
-turns-obeys Law m e new k h s t lower still = record {
+    (is_negotiated e.facts ≡ true → is_negotiated new.facts ≡ true) → stage_of_phase e.facts.phase ≤ stage_of_phase new.facts.phase → Obeys Law m (entry_turns e new m)
+turns-obeys Law m e new k h s t lower still forward = record {
   lawful = tt;
-  accounted = accounts_turned m e new k (entry_turns e new m) h s t lower refl (λ negotiated. or_left (is_negotiated new.facts) false (still negotiated));
+  accounted = accounts_turned m e new k (entry_turns e new m) h s t lower refl (λ negotiated. or_left (is_negotiated new.facts) false (still negotiated))
+      (turned-told m e new k h s t forward);
 }
 
 -- and then something that is quiet
 pub turned_then-obeys : (Law : Move → Type 0) (m : Machine) (e new : Entry) (k : ℕ) (next : Machine → Effect) → IsOrderly m → StandsAt m.connections k e → TurnsInto e new →
-    IsNoHigher e new → (is_negotiated e.facts ≡ true → is_negotiated new.facts ≡ true) → IsQuiet (with_entry new m) (next (with_entry new m)) →
-    Obeys Law m (then_do (entry_turns e new m) next)
-turned_then-obeys Law m e new k next h s t lower still quiet =
-    obeys_then Law m (entry_turns e new m) next (turns-obeys Law m e new k h s t lower still) (quiet-obeys Law (with_entry new m) (next (with_entry new m)) quiet)
+    IsNoHigher e new → (is_negotiated e.facts ≡ true → is_negotiated new.facts ≡ true) → stage_of_phase e.facts.phase ≤ stage_of_phase new.facts.phase →
+    IsQuiet (with_entry new m) (next (with_entry new m)) → Obeys Law m (then_do (entry_turns e new m) next)
+turned_then-obeys Law m e new k next h s t lower still forward quiet =
+    obeys_then Law m (entry_turns e new m) next (turns-obeys Law m e new k h s t lower still forward) (quiet-obeys Law (with_entry new m) (next (with_entry new m)) quiet)
 
 -- ---- a connection comes into use
 
@@ -366,11 +429,17 @@ succeeds-quiet f m =
     let first : Effect = peer_changes f.addr warm m in
     quiet_then m first (asks f.cid 8 (written_alive (Ask (f.cid.0 % 65536))))
     (changes-quiet f.addr warm m (record { addr = λ p. refl; hot = λ p hot. absurd (false≢true hot) }))
-    (tells-quiet (asks f.cid 8 (written_alive (Ask (f.cid.0 % 65536))) first.machine).actions first.machine)
+    (tells-quiet (asks f.cid 8 (written_alive (Ask (f.cid.0 % 65536))) first.machine).actions first.machine refl)
 
 asked-before : (m : Machine) (e : Entry) (f : Facts) → is_asked_connection (Some (owing 8 (f.cid.0 % 65536) m (record e { facts = f }))) ≡ true → is_asked_connection (Some e) ≡ true
 asked-before m e f =
     with_reply-some (λ o. o.protocol == 2) (record { protocol = 8; until = m.now + m.settings.reply; asked = f.cid.0 % 65536 }) e.owed refl
+
+pub negotiated-forward : (p q : Phase) → live_phase p ≡ true → is_negotiated_phase q ≡ true → stage_of_phase p ≤ stage_of_phase q
+negotiated-forward p Dialing live negotiated = absurd (false≢true negotiated)
+negotiated-forward p (Greeting until) live negotiated = absurd (false≢true negotiated)
+negotiated-forward p Negotiated live negotiated = live_stage p live
+negotiated-forward p (Closing until) live negotiated = absurd (false≢true negotiated)
 
 -- one that was on its way
 pub used-obeys : (Law : Move → Type 0) (f : Facts) (m : Machine) (e : Entry) (k : ℕ) → IsOrderly m → StandsAt m.connections k e → f.cid ≡ e.facts.cid → f.addr ≡ e.facts.addr →
@@ -379,7 +448,7 @@ used-obeys Law f m e k h s cid addr live negotiated up =
     let new : Entry = owing 8 (f.cid.0 % 65536) m (record e { facts = f }) in
     turned_then-obeys Law m e new k (λ m. then_do (peer_succeeds f.addr m) (asks f.cid 8 (written_alive (Ask (f.cid.0 % 65536))))) h s
     (record { same_id = cid; same_addr = addr; live = λ l. live }) (record { up = λ rises. up; asked = asked-before m e f }) (λ was. negotiated)
-    (succeeds-quiet f (with_entry new m))
+    (negotiated-forward e.facts.phase f.phase live negotiated) (succeeds-quiet f (with_entry new m))
 
 -- ---- targets aside
 
@@ -406,6 +475,21 @@ as_move-obeys Law happened m effect none law accounted =
     let moves : (as_move happened m effect).moves ≡ move ∷ [] = ap (λ ms. ms ++ move ∷ []) none in
     record { lawful = subst (AllByRecursion Law) (sym moves) (law, tt); accounted = accounted }
 
+-- a promotion that gives out no id is no dial
+not_lower : (n : ℕ) → nat_lt n n ≡ false
+not_lower n = grind arith
+
+reuse-told : (a : Addr) (m : Machine) (effect : Effect) → effect.machine.next_id ≡ m.next_id → IsTold m effect → IsTold m (as_move (promoted a) m effect)
+reuse-told a m effect same h =
+    told_move (promoted a) m effect refl (subst (λ next. promoted_by_dial (promoted a) m.next_id next ≡ []) (sym same) (no_dial (nat_lt m.next_id m.next_id) (not_lower m.next_id))) h
+  where
+    dial : Dialed
+    dial = record { cid = m.next_id; addr = a }
+
+    no_dial : (b : Bool) → b ≡ false → (if b then dial ∷ [] else []) ≡ []
+    no_dial true is = absurd (false≢true (sym is))
+    no_dial false is = refl
+
 -- a connection that stood comes into use, as a promotion of its address
 pub promoted-obeys : (Law : Move → Type 0) (f : Facts) (m : Machine) (e : Entry) (k : ℕ) (a : Addr) → IsOrderly m → StandsAt m.connections k e → f.cid ≡ e.facts.cid → f.addr ≡ e.facts.addr →
     e.facts.addr ≡ a → is_live e.facts ≡ true → is_negotiated f ≡ true →
@@ -431,4 +515,6 @@ promoted-obeys Law f m e k a h s cid addr here live negotiated law =
             (λ b asked. turned-down is_asked_connection refl m e new k h s turns (asked-before m e f) b (after.asked b asked)));
         arrivals = rises_nowhere is_known shares m (as_move (promoted a) m effect) quiet.known;
       };
+      told = reuse-told a m effect (turns_at-next (peer_at f.addr n) (λ p. record p { temp = Warm; failures = 0 }) n)
+          (told_then m (entry_turns e new m) next (turned-told m e new k h s turns (negotiated-forward e.facts.phase f.phase live negotiated)) quiet.told);
     })

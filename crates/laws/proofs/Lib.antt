@@ -45,3 +45,4 @@ mod Wanted
 mod EventMoves
 mod Telling
 mod ToldMoves
+mod Open

@@ -16,7 +16,7 @@ use Rattle.peer_book.specs.Book.{is_established}
 use Rattle.machine.specs.Machine.{Machine, Entry, counted_in, live_entry_at}
 use Rattle.machine.specs.Effect.{Effect, Move, activated, nothing_more, then_do, as_move, for_each}
 use Rattle.machine.specs.Peers.{peer_at, peer_becomes, peer_was_asked, peer_goes}
-use Rattle.machine.specs.Replies.{asks, owing, reply_on, peer_sharing_done, chain_sync_done}
+use Rattle.machine.specs.Replies.{asks, owing, reply_on, peer_sharing_done, chain_sync_done, find_intersect}
 use Rattle.machine.specs.Connections.{with_entry, entry_turns, says_done, trim, release}
 use Rattle.machine.specs.Govern.{on_entry, is_used_at, on_used, asks_peer, activates, deactivates, carries_out}
 use Rattle.warm_messages.specs.Writing.{written_alive, written_request}
@@ -36,6 +36,8 @@ use Rattle.laws.proofs.Ordinary.{taken-classes}
 use Rattle.laws.proofs.Owing.{OwesNothing, with_reply-some}
 use Rattle.laws.proofs.PeersApart.{same_turned}
 use Rattle.laws.proofs.Rises.{rises_said, rises_nowhere, turned-down, taken-hot, taken-known}
+use Rattle.laws.proofs.Telling.{told_then, told_move}
+use Rattle.laws.proofs.ToldMoves.{turned-told, peer_goes-told}
 use Rattle.laws.proofs.Ties.{live_here, turned_here, turned_elsewhere, changed-ties, taken-ties, taken-elsewhere}
 use Rattle.laws.proofs.Trims.{Trimmed, tied-trimmed, keeps-trimmed, nothing-trimmed, trimmed_then, trimmed-within, as_move-trimmed, raised_twice_then_trimmed, trim-trims, trim-used, turns_at-counted}
 use Rattle.laws.proofs.WholeMoves.{owes-keeps, IsWarm, asks_warm-keeps, releases-moves}
@@ -122,13 +124,13 @@ asked-obeys Law n m e k h s =
     let request : Effect = asks e.facts.cid 10 (written_request n) m in
     let new : Entry = owing 10 n m e in
     let asked : Machine → Effect = λ o. peer_was_asked (o.now + o.settings.sharegap) e.facts.addr o in
-    obeys_then Law m request (λ o. then_do (entry_turns e (owing 10 n o e) o) asked) (quiet-obeys Law m request (tells-quiet request.actions m))
+    obeys_then Law m request (λ o. then_do (entry_turns e (owing 10 n o e) o) asked) (quiet-obeys Law m request (tells-quiet request.actions m refl))
     (turned_then-obeys Law m e new k asked h.orderly s (record { same_id = refl; same_addr = refl; live = λ l. l })
     (record {
       up = λ up. up;
       asked = with_reply-some (λ o. o.protocol == 2) (record { protocol = 10; until = m.now + m.settings.reply; asked = n }) e.owed refl;
     })
-    (λ negotiated. negotiated)
+    (λ negotiated. negotiated) (omega arith)
     (changes-quiet e.facts.addr (λ p. record p { share_next = m.now + m.settings.sharegap }) (with_entry new m) (record { addr = λ p. refl; hot = λ p hot. hot })))
 
 -- the connection in use has agreed on peer sharing
@@ -185,6 +187,7 @@ activates-accounts : (addr : Addr) (m : Machine) (e : Entry) (k : ℕ) → Used 
 activates-accounts addr m e k u =
     let new : Entry = owing 2 0 m e in
     let effect : Effect = activates e m in
+    let request : Effect = asks e.facts.cid 2 find_intersect m in
     let turns : TurnsInto e new = record { same_id = refl; same_addr = refl; live = λ l. l } in
     record {
       ends = ends_move (activated addr) m effect (ends_turned m e new k effect u.ordered.orderly u.stands turns refl (λ was. or_left (is_negotiated e.facts) false was));
@@ -196,6 +199,9 @@ activates-accounts addr m e k u =
             (turned_elsewhere m e new k u.ordered.orderly u.stands turns b (same_turned e.facts.addr b (subst (λ x. same_address x b ≡ false) (sym u.here) other))) h);
         arrivals = rises_nowhere is_known shares m (as_move (activated addr) m effect) (λ b known. known);
       };
+      told = told_move (activated addr) m effect refl refl
+          (told_then m request (λ n. entry_turns e (owing 2 0 n e) n) (tells-quiet request.actions m refl).told
+          (turned-told m e new k u.ordered.orderly u.stands turns (omega arith)));
     }
 
 activated-carried : (faults : Faults) (addr : Addr) (m : Machine) (e : Entry) (k : ℕ) → Used m addr e k → MayActivate m addr →
@@ -211,7 +217,7 @@ pub activate-carried : (faults : Faults) → Carries (IsAllowed faults) MayActiv
 unfolding Carries
 activate-carried faults addr m h within may = on_used_by-carried (IsAllowed faults) MayActivate addr (as_move (activated addr) m) activates m h within
     (record {
-      trimmed = as_move-trimmed (IsAllowed faults) (activated addr) m (nothing_more m) (nothing-trimmed (IsAllowed faults) m within h)
+      trimmed = as_move-trimmed (IsAllowed faults) (activated addr) m (nothing_more m) refl refl (nothing-trimmed (IsAllowed faults) m within h)
           (λ ties. activated-allowed faults addr m m may ties);
       elsewhere = λ b other warm. warm;
     })
@@ -223,7 +229,7 @@ deactivated-obeys : (Law : Move → Type 0) (m : Machine) (e : Entry) → Obeys 
 deactivated-obeys Law m e =
     let notice : Effect = asks e.facts.cid 2 chain_sync_done m in
     quiet-obeys Law m (deactivates e m)
-    (quiet_then m notice (peer_becomes Warm e.facts.addr) (tells-quiet notice.actions m)
+    (quiet_then m notice (peer_becomes Warm e.facts.addr) (tells-quiet notice.actions m refl)
     (changes-quiet e.facts.addr (λ p. record p { temp = Warm }) m (record { addr = λ p. refl; hot = λ p hot. absurd (false≢true hot) })))
 
 deactivated-carried : (Law : Move → Type 0) (addr : Addr) (m : Machine) (e : Entry) (k : ℕ) → Used m addr e k → Carried Law Always addr m (deactivates e m)
@@ -273,6 +279,10 @@ cold-alone now (Some p) (Some e) cold idle tie = record {
     by_asked true is = let none : Cold ≡ Warm = sym cold ∙ tie.asked is in absurd cc
     by_asked false is = refl
 
+cold-there : (o : Option Peer) → IsCold o → is_some o ≡ true
+cold-there None cold = elim cold [ ]
+cold-there (Some p) cold = refl
+
 pub forget-carried : (Law : Move → Type 0) → Carries Law MayForget Forget
 unfolding Carries
 forget-carried Law addr m h within may =
@@ -282,7 +292,13 @@ forget-carried Law addr m h within may =
           (moves-keeps 0 m n (peers-moves n.peers m h (filter-book m.settings.own (λ p. not (same_address p.addr addr)) m.peers (book_of m h.formed))
           (taken-classes addr m))
           (λ ties. taken-ties addr m (cold-alone m.now (peer_at addr m) (live_entry_at addr m) may.cold may.idle (ties addr)) ties))
-          (quiet-obeys Law m (peer_goes addr m) (record { moves = refl; connections = refl; hot = taken-hot addr m; known = taken-known addr m }));
+          (quiet-obeys Law m (peer_goes addr m) (record {
+        moves = refl;
+        connections = refl;
+        hot = taken-hot addr m;
+        known = taken-known addr m;
+        told = peer_goes-told addr m (cold-there (peer_at addr m) may.cold);
+      }));
       elsewhere = λ b other there. record { cold = subst IsCold (sym (taken-elsewhere addr b m.peers other)) there.cold; idle = there.idle };
     }
 
@@ -297,8 +313,8 @@ says_done-quiet f m =
     let sharing_done : Effect = asks f.cid 10 peer_sharing_done m in
     let first : Effect = if agreed_sharing f.agreed then sharing_done else nothing_more m in
     quiet_then m first (asks f.cid 8 (written_alive Done))
-    (cond_both (agreed_sharing f.agreed) sharing_done (nothing_more m) (IsQuiet m) (λ sharing. tells-quiet sharing_done.actions m) (λ other. tells-quiet [] m))
-    (tells-quiet (asks f.cid 8 (written_alive Done) first.machine).actions first.machine)
+    (cond_both (agreed_sharing f.agreed) sharing_done (nothing_more m) (IsQuiet m) (λ sharing. tells-quiet sharing_done.actions m refl) (λ other. tells-quiet [] m refl))
+    (tells-quiet (asks f.cid 8 (written_alive Done) first.machine).actions first.machine refl)
 
 pub says_done-machine : (f : Facts) (m : Machine) → (says_done f m).machine ≡ m
 says_done-machine f m = cond_both (agreed_sharing f.agreed) (asks f.cid 10 peer_sharing_done m) (nothing_more m) (λ effect. effect.machine ≡ m)
@@ -365,7 +381,8 @@ releasing-carried faults addr m e k u may =
     }) in
     record {
       trimmed = raised_twice_then_trimmed (IsLawful faults) m (entry_turns e new m) (peer_becomes Cold e.facts.addr) (trim e.facts.cid) raised
-          (turns-obeys (IsLawful faults) m e new k h.orderly s t (record { up = released-down (m.now + m.settings.idle) e; asked = λ asked. asked }) (λ negotiated. negotiated))
+          (turns-obeys (IsLawful faults) m e new k h.orderly s t (record { up = released-down (m.now + m.settings.idle) e; asked = λ asked. asked }) (λ negotiated. negotiated)
+          (omega arith))
           (quiet-obeys (IsLawful faults) n (peer_becomes Cold e.facts.addr n)
           (changes-quiet e.facts.addr cold n (record { addr = λ p. refl; hot = λ p hot. absurd (false≢true hot) }))) trimmed;
       elsewhere = λ b other may_b x found.

@@ -37,6 +37,7 @@ use Rattle.laws.proofs.Orders.{Carried, Carries}
 use Rattle.laws.proofs.PeersApart.{same_turned}
 use Rattle.laws.proofs.Rises.{rises_said, hot_or_asked-down, rises_nowhere, come-down}
 use Rattle.laws.proofs.Ties.{live_one, come-ties, come_elsewhere, turned_elsewhere, turns_at-elsewhere}
+use Rattle.laws.proofs.ToldMoves.{dials-told}
 use Rattle.laws.proofs.Trims.{keeps-trimmed}
 use Rattle.laws.proofs.WholeMoves.{negotiated-live, acquire-keeps}
 
@@ -114,8 +115,8 @@ acquire-peers b m e other =
 
 -- ---- what a promotion tells
 
-dial-accounts : (addr : Addr) (m : Machine) → Accounts m (as_move (promoted addr) m (dial addr m))
-dial-accounts addr m =
+dial-accounts : (addr : Addr) (m : Machine) → IsOrdered m → Accounts m (as_move (promoted addr) m (dial addr m))
+dial-accounts addr m h =
     let new : Entry = fresh_entry (dialing m.next_id addr) in
     let effect : Effect = dial addr m in
     record {
@@ -127,6 +128,7 @@ dial-accounts addr m =
             (hot_or_asked-down m effect.machine (λ b hot. hot) (come-down is_asked_connection refl m new refl));
         arrivals = rises_nowhere is_known shares m (as_move (promoted addr) m effect) (λ b known. known);
       };
+      told = dials-told m new addr h.orderly refl;
     }
 
 acquire-obeys : (Law : Move → Type 0) (addr : Addr) (m : Machine) (e : Entry) (k : ℕ) → IsOrdered m → StandsAt m.connections k e → is_acquirable e.facts ≡ true →
@@ -168,7 +170,7 @@ promoted-carried faults addr m h within may = by_live (live_entry_at addr m) ref
         let keeps : Keeps 0 m n = dial-keeps addr m h none may.ready in
         record {
           trimmed = keeps-trimmed (IsAllowed faults) m (as_move (promoted addr) m (dial addr m)) within keeps
-              (as_move-obeys (IsAllowed faults) (promoted addr) m (dial addr m) refl (allowed n) (dial-accounts addr m));
+              (as_move-obeys (IsAllowed faults) (promoted addr) m (dial addr m) refl (allowed n) (dial-accounts addr m h));
           elsewhere = still n keeps.now (λ b other. dial-elsewhere addr b m other) (λ b other. refl);
         }
     by_live (Some e) some free =

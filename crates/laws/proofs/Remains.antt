@@ -47,7 +47,7 @@ found-among cid other x (e ∷ es) found = by_tests (has_id other e.facts) (has_
     by_tests false true stays own later found = sym (rw own refl) ∙ found
     by_tests false false stays own later found = later (rw own at found)
 
-gone-found : (cid other : ℕ) (x : Entry) (m : Machine) → entry_at cid (without_entry other m) ≡ Some x → entry_at cid m ≡ Some x
+pub gone-found : (cid other : ℕ) (x : Entry) (m : Machine) → entry_at cid (without_entry other m) ≡ Some x → entry_at cid m ≡ Some x
 gone-found cid other x m found = found-among cid other x m.connections found
 
 pruned-found : (cid : ℕ) (x : Entry) (m : Machine) (o : Option Entry) → entry_at cid (pruned_at o m).machine ≡ Some x → entry_at cid m ≡ Some x

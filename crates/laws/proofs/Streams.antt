@@ -1,5 +1,5 @@
 -- Bytes come in on a connection.
-use Rattle.std.proofs.Common.{ℕ, ◌≤◌, ◌≡◌, List, Option, Some, None, All, Contains, refl, sym, ap, subst, inl, inr, eqb-true}
+use Rattle.std.proofs.Common.{ℕ, ◌≤◌, ◌≡◌, true, arith, List, Option, Some, None, All, Contains, refl, sym, ap, subst, inl, inr, eqb-true}
 use Rattle.std.proofs.lemmas.List.Elements.{All-weaker, All-contains_itself}
 use Rattle.mux_segment.specs.Stream.{FedBy}
 use Rattle.mux_segment.specs.declared.fault.CutFault.{CutFault}
@@ -10,7 +10,7 @@ use Rattle.net_base.specs.declared.connection.Cid.{Cid}
 use Rattle.net_base.specs.declared.connection.Phase.{Phase}
 use Rattle.net_base.specs.declared.connection.Phase.TheVariants.{Dialing, Greeting, Negotiated, Closing}
 use Rattle.net_base.specs.declared.event.Event.TheVariants.{Bytes}
-use Rattle.conn_state.specs.Use.{has_id, is_greeting_phase, is_negotiated_phase}
+use Rattle.conn_state.specs.Use.{has_id, is_live, live_phase, is_greeting_phase, is_negotiated_phase}
 use Rattle.machine.specs.Machine.{Machine, Entry, counted_in, entry_at}
 use Rattle.machine.specs.Effect.{Effect, then_do, for_each}
 use Rattle.machine.specs.Connections.{entry_turns}
@@ -20,6 +20,7 @@ use Rattle.laws.proofs.Handshakes.{greets-trimmed}
 use Rattle.laws.proofs.Keeping.{IsOrdered}
 use Rattle.laws.proofs.Lawful.{turns-obeys}
 use Rattle.laws.proofs.Lists.{StandsAt, find_some}
+use Rattle.laws.proofs.Open.{IsOpen, turned-open, all_handled-open}
 use Rattle.laws.proofs.Talks.{talks-trimmed}
 use Rattle.laws.proofs.Trims.{Trimmed, keeps-trimmed, ending-trimmed, nothing-trimmed, trimmed_then, trimmed-within, for_each_that-trimmed}
 use Rattle.laws.proofs.WholeMoves.{decodes-keeps}
@@ -60,24 +61,25 @@ handles-trimmed faults cid item m h within gives = by_entry (entry_at cid.0 m) r
         handled_in-trimmed faults e.facts.phase item m e at.place refl h within at.stands (λ kind fault. gives m e kind (found-cid cid m e is) fault)
 
 faulted-trimmed : (faults : Faults) (cid : Cid) (fault : Option CutFault) → GivesStream faults cid fault → (m : Machine) → IsOrdered m → counted_in m ≤ m.settings.hard →
-    Trimmed (IsLawful faults) m (faulted_at (entry_at cid.0 m) fault m)
-faulted-trimmed faults cid fault gives m h within = by_entry (entry_at cid.0 m) refl fault gives
+    IsOpen cid.0 m → Trimmed (IsLawful faults) m (faulted_at (entry_at cid.0 m) fault m)
+faulted-trimmed faults cid fault gives m h within open_ = by_entry (entry_at cid.0 m) refl fault gives
   where
     by_entry : (o : Option Entry) → entry_at cid.0 m ≡ o → (f : Option CutFault) → GivesStream faults cid f → Trimmed (IsLawful faults) m (faulted_at o f m)
     by_entry None is f gives = nothing-trimmed (IsLawful faults) m within h
     by_entry (Some e) is None gives = nothing-trimmed (IsLawful faults) m within h
     by_entry (Some e) is (Some f) gives =
         let at = find_some (λ y. has_id cid.0 y.facts) m.connections e is in
-        ending-trimmed faults (Fault (kind_of f)) refl m e at.place h within at.stands (λ negotiated. gives m e (kind_of f) (found-cid cid m e is) refl)
+        ending-trimmed faults (Fault (kind_of f)) refl m e at.place h within at.stands (open_ e is) (λ negotiated. gives m e (kind_of f) (found-cid cid m e is) refl)
 
-fed_with-trimmed : (faults : Faults) (fed : FedBy) (m : Machine) (e : Entry) (k : ℕ) → IsOrdered m → counted_in m ≤ m.settings.hard → StandsAt m.connections k e →
+fed_with-trimmed : (faults : Faults) (fed : FedBy) (m : Machine) (e : Entry) (k : ℕ) → IsOrdered m → counted_in m ≤ m.settings.hard → StandsAt m.connections k e → is_live e.facts ≡ true →
     All (GivesItem faults e.facts.cid) fed.items → GivesStream faults e.facts.cid fed.state.fault → Trimmed (IsLawful faults) m (fed_with fed e m)
-fed_with-trimmed faults fed m e k h within s by_items by_stream =
+fed_with-trimmed faults fed m e k h within s live by_items by_stream =
     let new : Entry = record e { undecoded = fed.state.undecoded } in
     let first : Effect = entry_turns e new m in
     let fault : Machine → Effect = λ m. faulted_at (entry_at e.facts.cid.0 m) fed.state.fault m in
     let one : Trimmed (IsLawful faults) m first = keeps-trimmed (IsLawful faults) m first within (decodes-keeps fed.state.undecoded m e k h s)
-    (turns-obeys (IsLawful faults) m e new k h.orderly s (record { same_id = refl; same_addr = refl; live = λ l. l }) (record { up = λ up. up; asked = λ asked. asked }) (λ negotiated. negotiated)) in
+    (turns-obeys (IsLawful faults) m e new k h.orderly s (record { same_id = refl; same_addr = refl; live = λ l. l }) (record { up = λ up. up; asked = λ asked. asked }) (λ negotiated. negotiated)
+    (omega arith)) in
     let n : Machine = first.machine in
     let second : Effect = for_each (handles e.facts.cid) fed.items n in
     let two : Trimmed (IsLawful faults) n second =
@@ -85,19 +87,20 @@ fed_with-trimmed faults fed m e k h within s by_items by_stream =
     fed.items n one.ordered (trimmed-within (IsLawful faults) m first one) by_items in
     trimmed_then (IsLawful faults) m first (λ m. then_do (for_each (handles e.facts.cid) fed.items m) fault) one
     (trimmed_then (IsLawful faults) n second fault two
-    (faulted-trimmed faults e.facts.cid fed.state.fault by_stream second.machine two.ordered (trimmed-within (IsLawful faults) n second two)))
+    (faulted-trimmed faults e.facts.cid fed.state.fault by_stream second.machine two.ordered (trimmed-within (IsLawful faults) n second two)
+    (all_handled-open e.facts.cid fed.items n (turned-open new m live))))
 
 -- what the bytes bring, on the connection that they come in on
 GivesFed : Faults → Cid → FedBy → Type 0
 GivesFed faults cid fed = All (GivesItem faults cid) fed.items × GivesStream faults cid fed.state.fault
 
-comes_in_phase-trimmed : (faults : Faults) (p : Phase) (bytes : List ℕ) (m : Machine) (e : Entry) (k : ℕ) → IsOrdered m → counted_in m ≤ m.settings.hard →
+comes_in_phase-trimmed : (faults : Faults) (p : Phase) (bytes : List ℕ) (m : Machine) (e : Entry) (k : ℕ) → e.facts.phase ≡ p → IsOrdered m → counted_in m ≤ m.settings.hard →
     StandsAt m.connections k e → GivesFed faults e.facts.cid (fed_on e bytes) → Trimmed (IsLawful faults) m (comes_in_phase p bytes e m)
 unfolding GivesFed
-comes_in_phase-trimmed faults Dialing bytes m e k h within s gives = nothing-trimmed (IsLawful faults) m within h
-comes_in_phase-trimmed faults (Greeting until) bytes m e k h within s gives = fed_with-trimmed faults (fed_on e bytes) m e k h within s gives.0 gives.1
-comes_in_phase-trimmed faults Negotiated bytes m e k h within s gives = fed_with-trimmed faults (fed_on e bytes) m e k h within s gives.0 gives.1
-comes_in_phase-trimmed faults (Closing until) bytes m e k h within s gives = nothing-trimmed (IsLawful faults) m within h
+comes_in_phase-trimmed faults Dialing bytes m e k is h within s gives = nothing-trimmed (IsLawful faults) m within h
+comes_in_phase-trimmed faults (Greeting until) bytes m e k is h within s gives = fed_with-trimmed faults (fed_on e bytes) m e k h within s (ap live_phase is) gives.0 gives.1
+comes_in_phase-trimmed faults Negotiated bytes m e k is h within s gives = fed_with-trimmed faults (fed_on e bytes) m e k h within s (ap live_phase is) gives.0 gives.1
+comes_in_phase-trimmed faults (Closing until) bytes m e k is h within s gives = nothing-trimmed (IsLawful faults) m within h
 
 -- the faults of the event are what the bytes bring
 fed-gives : (start : Machine) (cid : Cid) (bytes : List ℕ) (first : Entry) → entry_at cid.0 start ≡ Some first →
@@ -121,5 +124,5 @@ bytes_come_in-trimmed cid bytes m h within = by_entry (entry_at cid.0 m) refl
     by_entry None is = nothing-trimmed (IsLawful (faults_of m (Bytes cid bytes))) m within h
     by_entry (Some e) is =
         let at = find_some (λ y. has_id cid.0 y.facts) m.connections e is in
-        comes_in_phase-trimmed (faults_of m (Bytes cid bytes)) e.facts.phase bytes m e at.place h within at.stands
+        comes_in_phase-trimmed (faults_of m (Bytes cid bytes)) e.facts.phase bytes m e at.place refl h within at.stands
         (subst (λ c. GivesFed (faults_of m (Bytes cid bytes)) c (fed_on e bytes)) (sym (found-cid cid m e is)) (fed-gives m cid bytes e is))

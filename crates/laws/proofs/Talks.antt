@@ -41,6 +41,8 @@ use Rattle.laws.specs.Whole.{AreTied, IsAlone, TiedBy}
 use Rattle.laws.proofs.Addresses.{same_address-true}
 use Rattle.laws.proofs.Owing.{paid-some}
 use Rattle.laws.proofs.Rises.{is_asked, is_hot, NoneConnected, or_each, rises_nowhere, same-connected, connected_then, IsNoHigher, turned-connected, changed-known}
+use Rattle.laws.proofs.Telling.{told_then}
+use Rattle.laws.proofs.ToldMoves.{turned-told, changes-told}
 use Rattle.laws.proofs.Ties.{changed-ties, turned_here, turned_elsewhere, live_here, turns_at-elsewhere}
 use Rattle.laws.proofs.Trims.{Trimmed, HasMoved, keeps-trimmed, ending-trimmed, nothing-trimmed, trimmed_both, trimmed_then, trimmed-within, raised_then_trimmed, trim-trims, for_each_that-trimmed}
 use Rattle.laws.proofs.WholeMoves.{negotiated-live, awakes-keeps, idles-keeps, pays-keeps}
@@ -151,7 +153,7 @@ pub record Talking (m : Machine) (e : Entry) (k : ℕ) : Type 0 where
 
 ends : (faults : Faults) (kind : FaultKind) (m : Machine) (e : Entry) (k : ℕ) → Talking m e k → faults m e kind → Trimmed (IsLawful faults) m (ending (Fault kind) e m)
 ends faults kind m e k t given =
-    ending-trimmed faults (Fault kind) refl m e k t.ordered t.within t.stands (λ negotiated. given)
+    ending-trimmed faults (Fault kind) refl m e k t.ordered t.within t.stands (negotiated-live e.facts.phase t.negotiated) (λ negotiated. given)
 
 -- the record after a responder has started, and what is found in it
 record Begun (faults : Faults) (cid : ℕ) (before : Machine) (effect : Effect) : Type 0 where
@@ -182,7 +184,7 @@ awake-begun faults protocol m e k t serves known =
     trim-trims faults e.facts.cid n raised.ordered (omega (arith, raised.counted, t.within)) (λ over. moved) in
     record {
       trimmed = raised_then_trimmed (IsLawful faults) m (entry_turns e new m) (trim e.facts.cid) raised
-          (turns-obeys (IsLawful faults) m e new k t.ordered.orderly t.stands turns (record { up = λ up. up; asked = λ asked. asked }) (λ negotiated. negotiated)) trimmed;
+          (turns-obeys (IsLawful faults) m e new k t.ordered.orderly t.stands turns (record { up = λ up. up; asked = λ asked. asked }) (λ negotiated. negotiated) (omega arith)) trimmed;
       runs = λ x found.
           let was : entry_at e.facts.cid.0 n ≡ Some x = trim-found e.facts.cid e.facts.cid.0 x n found in
           ap (λ y. some_runs y.facts.running) (found_is n new x k raised.ordered here was) ∙ runs;
@@ -208,12 +210,12 @@ replies-machine reply.NoBlocks protocol e m = refl
 
 -- what is told is no matter of the connections either
 replies-quiet : (r : Reply) (protocol : ℕ) (e : Entry) (m : Machine) → IsQuiet m (replies r protocol e m)
-replies-quiet reply.Nothing protocol e m = tells-quiet (replies reply.Nothing protocol e m).actions m
-replies-quiet (reply.Alive cookie) protocol e m = tells-quiet (replies (reply.Alive cookie) protocol e m).actions m
-replies-quiet (reply.Share n) protocol e m = tells-quiet (replies (reply.Share n) protocol e m).actions m
-replies-quiet reply.NoIntersect protocol e m = tells-quiet (replies reply.NoIntersect protocol e m).actions m
-replies-quiet reply.Await protocol e m = tells-quiet (replies reply.Await protocol e m).actions m
-replies-quiet reply.NoBlocks protocol e m = tells-quiet (replies reply.NoBlocks protocol e m).actions m
+replies-quiet reply.Nothing protocol e m = tells-quiet (replies reply.Nothing protocol e m).actions m refl
+replies-quiet (reply.Alive cookie) protocol e m = tells-quiet (replies (reply.Alive cookie) protocol e m).actions m refl
+replies-quiet (reply.Share n) protocol e m = tells-quiet (replies (reply.Share n) protocol e m).actions m refl
+replies-quiet reply.NoIntersect protocol e m = tells-quiet (replies reply.NoIntersect protocol e m).actions m refl
+replies-quiet reply.Await protocol e m = tells-quiet (replies reply.Await protocol e m).actions m refl
+replies-quiet reply.NoBlocks protocol e m = tells-quiet (replies reply.NoBlocks protocol e m).actions m refl
 
 ends_if-trimmed : (faults : Faults) (done : Bool) (protocol cid : ℕ) (m : Machine) → IsOrdered m → counted_in m ≤ m.settings.hard →
     ((x : Entry) → entry_at cid m ≡ Some x → some_runs x.facts.running ≡ true) → Trimmed (IsLawful faults) m (ends_if done protocol (entry_at cid m) m)
@@ -226,7 +228,7 @@ ends_if-trimmed faults true protocol cid m h within running = by_entry (entry_at
         let at = find_some (λ y. has_id cid y.facts) m.connections x is in
         keeps-trimmed (IsLawful faults) m (idle protocol x m) within (idles-keeps protocol m x at.place h at.stands (running x is))
         (turns-obeys (IsLawful faults) m x (record x { facts = idled protocol (m.now + m.settings.idle) x.facts }) at.place h.orderly at.stands
-        (record { same_id = refl; same_addr = refl; live = λ l. l }) (record { up = λ up. up; asked = λ asked. asked }) (λ negotiated. negotiated))
+        (record { same_id = refl; same_addr = refl; live = λ l. l }) (record { up = λ up. up; asked = λ asked. asked }) (λ negotiated. negotiated) (omega arith))
 
 served-trimmed : (faults : Faults) (seen : Seen) (protocol cid : ℕ) (m : Machine) → IsOrdered m → counted_in m ≤ m.settings.hard →
     ((x : Entry) → entry_at cid m ≡ Some x → some_runs x.facts.running ≡ true) →
@@ -355,6 +357,7 @@ hot-accounts m e k h s live asked =
             (λ other. turns_at-elsewhere e.facts.addr hot n (λ p. refl) b other) connected (same_address b e.facts.addr) refl);
         arrivals = rises_nowhere is_known shares m effect (changed-known e.facts.addr hot n (λ p. refl));
       };
+      told = told_then m (entry_turns e new m) last (turned-told m e new k h.orderly s turns (omega arith)) (changes-told e.facts.addr hot n (λ p. refl));
     }
   where
     here : is_hot_or_asked e.facts.addr m ≡ true
@@ -369,7 +372,7 @@ hot-accounts m e k h s live asked =
 paid-obeys : (Law : Move → Type 0) (protocol : ℕ) (m : Machine) (e : Entry) (k : ℕ) → IsOrdered m → StandsAt m.connections k e →
     Obeys Law m (entry_turns e (paid protocol e) m)
 paid-obeys Law protocol m e k h s =
-    turns-obeys Law m e (paid protocol e) k h.orderly s (record { same_id = refl; same_addr = refl; live = λ l. l }) (paid-lower protocol e) (λ negotiated. negotiated)
+    turns-obeys Law m e (paid protocol e) k h.orderly s (record { same_id = refl; same_addr = refl; live = λ l. l }) (paid-lower protocol e) (λ negotiated. negotiated) (omega arith)
 
 answered_as-trimmed : (faults : Faults) (o : Option Owed) (item : Item) (m : Machine) (e : Entry) (k : ℕ) → reply_on item.id e ≡ o → Talking m e k →
     ((kind : FaultKind) → fault_of_answer o item.body ≡ Some kind → faults m e kind) → Trimmed (IsLawful faults) m (answered_as o item e m)

@@ -1,9 +1,10 @@
 -- What the actions of a part tell: one part after another, and what tells nothing.
-use Rattle.std.proofs.Common.{ℕ, ◌+◌, ◌≡◌, ◌≤◌, Bool, true, false, nat_lt, List, [], ◌∷◌, ◌++◌, flat_map, refl, sym, ap, ◌∙◌, subst, arith}
+use Rattle.std.proofs.Common.{ℕ, ◌+◌, ◌≡◌, ◌≤◌, Bool, true, false, ◌&&◌, List, [], ◌∷◌, ◌++◌, flat_map, refl, sym, ap, ◌∙◌, subst, arith}
+use Rattle.std.proofs.lemmas.Bool.{and_parts, false≢true}
 use Rattle.std.proofs.lemmas.Grind.{flat_map-append}
 use Rattle.std.proofs.lemmas.List.{append-nil}
 use Rattle.net_base.specs.declared.action.Action.{Action}
-use Rattle.net_base.specs.declared.action.Action.TheVariants.{Close}
+use Rattle.net_base.specs.declared.action.Action.TheVariants.{Admit, Turnaway, Dial, Send, Close, Pause, AskRoots, State, Peer as TellPeer}
 use Rattle.net_base.specs.declared.action.CloseCause.{CloseCause}
 use Rattle.net_base.specs.declared.address.Addr.{Addr}
 use Rattle.net_base.specs.declared.connection.Cid.{Cid}
@@ -152,3 +153,33 @@ told_move happened m effect no_end no_dial h =
   where
     append-nothing : {X : Type 0} (xs ys : List X) → ys ≡ [] → xs ++ ys ≡ xs
     append-nothing xs ys none = ap (λ l. xs ++ l) none ∙ append-nil xs
+
+-- ---- what is sent, put off, or asked of others
+
+abbrev is_mute : Action → Bool
+is_mute (Send cid payload) = true
+is_mute (Turnaway away) = true
+is_mute (Pause delay) = true
+is_mute (AskRoots job) = true
+is_mute other = false
+
+abbrev pub are_mute : List Action → Bool
+are_mute [] = true
+are_mute (a ∷ actions) = is_mute a && are_mute actions
+
+mute_first : (a : Action) (actions : List Action) → is_mute a ≡ true → IsMute actions → IsMute (a ∷ actions)
+mute_first (Admit cid addr) actions is rest = absurd (false≢true is)
+mute_first (Turnaway away) actions is rest = record { closes = rest.closes; dials = rest.dials; given = rest.given; notes = rest.notes; names = rest.names }
+mute_first (Dial cid addr) actions is rest = absurd (false≢true is)
+mute_first (Send cid payload) actions is rest = record { closes = rest.closes; dials = rest.dials; given = rest.given; notes = rest.notes; names = rest.names }
+mute_first (Close cid cause) actions is rest = absurd (false≢true is)
+mute_first (Pause delay) actions is rest = record { closes = rest.closes; dials = rest.dials; given = rest.given; notes = rest.notes; names = rest.names }
+mute_first (AskRoots job) actions is rest = record { closes = rest.closes; dials = rest.dials; given = rest.given; notes = rest.notes; names = rest.names }
+mute_first (State cid name) actions is rest = absurd (false≢true is)
+mute_first (TellPeer addr note) actions is rest = absurd (false≢true is)
+
+pub mute : (actions : List Action) → are_mute actions ≡ true → IsMute actions
+mute [] h = mute-none
+mute (a ∷ actions) h =
+    let parts = and_parts (is_mute a) (are_mute actions) h in
+    mute_first a actions parts.0 (mute actions parts.1)

@@ -38,7 +38,7 @@ use Rattle.laws.specs.Stages.{stage_of_phase, stage_of, stage_at, causes_by, cau
 use Rattle.laws.specs.Telling.{GoesOn, IsTold}
 use Rattle.laws.specs.Told.{End, Dialed, closes_in, ended_by, ends_in, dials_in, promoted_by_dial, dial_promotions_in, given_in, CountUp, LeadTo, temp_of, temp_at, notes_in, noted, is_change, state_of, state_at, names_in, is_other_name, same_state}
 use Rattle.laws.proofs.Addresses.{same_address-self, same_address-true}
-use Rattle.laws.proofs.Entries.{TurnsInto, one_has_id, turned-connections, gone-connections, with_new}
+use Rattle.laws.proofs.Entries.{TurnsInto, one_has_id, has_own_id, turned-connections, gone-connections, with_new}
 use Rattle.laws.proofs.Finds.{find-none_passes, find-set_other, find-set_here, find-remove_other, find-remove_here}
 use Rattle.laws.proofs.Lists.{StandsAt, OnePasses, All-stands, find_only}
 use Rattle.laws.proofs.PeersApart.{same_turned}
@@ -177,6 +177,15 @@ turned-told m e new k h s t forward =
         (sym (other_name cid other (same_name (name_of e.facts) (name_of new.facts)))) refl)
         (omega arith)
 
+pub turned-stage : (m : Machine) (e new : Entry) (k : ℕ) → IsOrderly m → StandsAt m.connections k e → TurnsInto e new →
+    stage_at e.facts.cid.0 (with_entry new m) ≡ stage_of_phase new.facts.phase
+turned-stage m e new k h s t =
+    let found : entry_at e.facts.cid.0 (with_entry new m) ≡ Some new =
+    ap (find (λ x. has_id e.facts.cid.0 x.facts)) (turned-connections m e new k h s t)
+    ∙ find-set_here (λ x. has_id e.facts.cid.0 x.facts) new e m.connections k (one_has_id e.facts.cid.0 m.connections h.ids_rise) s (has_own_id e)
+    (ap (λ c. c.0 == e.facts.cid.0) t.same_id ∙ has_own_id e) in
+    ap (λ o. stage_of o (nat_lt e.facts.cid.0 m.next_id)) found
+
 -- ---- a connection goes
 
 is_given : (m : Machine) (e : Entry) (k : ℕ) (cid : ℕ) → IsOrderly m → StandsAt m.connections k e → has_id cid e.facts ≡ true → nat_lt cid m.next_id ≡ true
@@ -213,6 +222,14 @@ goes-told m e k h s =
         (ap (find (λ x. has_id cid x.facts)) list ∙ find-remove_other (λ x. has_id cid x.facts) e m.connections k s other) refl
         (subst (λ names. LeadTo is_other_name same_state (state_at cid m) names (state_at cid m)) (sym (no_name cid e.facts.cid Terminated other)) refl)
         (omega arith)
+
+pub goes-stage : (m : Machine) (e : Entry) (k : ℕ) → IsOrderly m → StandsAt m.connections k e → stage_at e.facts.cid.0 (without_entry e.facts.cid.0 m) ≡ 5
+goes-stage m e k h s =
+    let own : has_id e.facts.cid.0 e.facts ≡ true = has_own_id e in
+    let gone : entry_at e.facts.cid.0 (without_entry e.facts.cid.0 m) ≡ None =
+    ap (find (λ x. has_id e.facts.cid.0 x.facts)) (gone-connections m e k h s)
+    ∙ find-remove_here (λ x. has_id e.facts.cid.0 x.facts) e m.connections k (one_has_id e.facts.cid.0 m.connections h.ids_rise) s own in
+    ap (λ o. stage_of o (nat_lt e.facts.cid.0 m.next_id)) gone ∙ ap (λ b. if b then 5 else 0) (is_given m e k e.facts.cid.0 h s own)
 
 -- ---- a connection is ended
 
@@ -396,7 +413,7 @@ turns_at-held : (o : Option Peer) (change : Peer → Peer) (m : Machine) → (tu
 turns_at-held None change m = refl
 turns_at-held (Some p) change m = refl
 
-turns_at-next : (o : Option Peer) (change : Peer → Peer) (m : Machine) → (turns_at o change m).machine.next_id ≡ m.next_id
+pub turns_at-next : (o : Option Peer) (change : Peer → Peer) (m : Machine) → (turns_at o change m).machine.next_id ≡ m.next_id
 turns_at-next None change m = refl
 turns_at-next (Some p) change m = refl
 

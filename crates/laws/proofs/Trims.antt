@@ -1,8 +1,8 @@
 -- Where more connections are counted than the hard limit, one of them goes.
-use Rattle.std.proofs.Common.{ℕ, suc, ◌+◌, ◌≤◌, ◌<◌, ◌≡◌, Bool, true, false, not, nat_le, if◌then◌else◌, List, [], ◌∷◌, ◌++◌, map, filter_map, find, sum_by, Option, Some, None, refl, sym, ap, ◌∙◌, subst, arith, eq-eqb, leb-true, leb-false, All}
+use Rattle.std.proofs.Common.{ℕ, suc, ◌+◌, ◌≤◌, ◌<◌, ◌≡◌, Bool, true, false, not, ◌&&◌, ◌||◌, nat_le, if◌then◌else◌, List, [], ◌∷◌, ◌++◌, map, filter_map, find, sum_by, Option, Some, None, refl, sym, ap, ◌∙◌, subst, arith, eq-eqb, leb-true, leb-false, All}
 use Rattle.std.specs.List.{AllByRecursion, cons_option}
 use Rattle.std.specs.Option.{option_map, unwrap_or}
-use Rattle.std.proofs.lemmas.Bool.{cond_both, and_parts, not-true}
+use Rattle.std.proofs.lemmas.Bool.{cond_both, both_ways, and_parts, not-true}
 use Rattle.std.proofs.lemmas.List.Elements.{All-head, All-tail}
 use Rattle.net_base.specs.declared.settings.Settings.{Settings}
 use Rattle.net_base.specs.declared.action.CloseCause.{CloseCause}
@@ -13,7 +13,9 @@ use Rattle.net_base.specs.declared.peer.Peer.{Peer}
 use Rattle.accept_gate.specs.Prune.{is_candidate, rank_of_candidate, goes_before, first_of, first_to_go, choice_of}
 use Rattle.accept_gate.specs.declared.prune.Candidate.{Candidate}
 use Rattle.conn_state.specs.Counted.{is_counted}
-use Rattle.conn_state.specs.Use.{has_id, is_negotiated}
+use Rattle.conn_state.specs.Use.{has_id, is_live, live_phase, is_greeting, is_greeting_phase, is_negotiated, is_negotiated_phase, is_outbound}
+use Rattle.net_base.specs.declared.connection.Phase.{Phase}
+use Rattle.net_base.specs.declared.connection.Phase.TheVariants.{Dialing, Greeting, Negotiated, Closing}
 use Rattle.net_base.specs.Peer.{failed_peer}
 use Rattle.machine.specs.Machine.{Machine, Entry, counted_in, entry_at}
 use Rattle.machine.specs.Effect.{Effect, Happened, Move, nothing_more, then_do, as_move, for_each}
@@ -21,6 +23,7 @@ use Rattle.machine.specs.Peers.{turns_at, peer_at, peer_fails}
 use Rattle.machine.specs.Connections.{without_entry, is_missed, lost, ending, candidate_of, candidates_in, pruned_at, trim}
 use Rattle.laws.specs.AtMoves.{Faults, MayEnd, IsLawful}
 use Rattle.laws.specs.Laws.{LocalsAreOrdinary}
+use Rattle.laws.specs.Told.{ended_by, promoted_by_dial}
 use Rattle.laws.specs.Whole.{IsTied}
 use Rattle.laws.proofs.Counts.{counted_of, counted_in-sum, late_in}
 use Rattle.laws.proofs.Effects.{one_if-counted}
@@ -157,19 +160,36 @@ keeps-trimmed Law m effect within h obeys = tied-trimmed Law m effect within h (
 
 -- a connection is ended
 pub ending-trimmed : (faults : Faults) (cause : CloseCause) → IsLost cause → (m : Machine) (e : Entry) (k : ℕ) → IsOrdered m → counted_in m ≤ m.settings.hard →
-    StandsAt m.connections k e → (is_negotiated e.facts ≡ true → MayEnd faults cause e m) → Trimmed (IsLawful faults) m (ending cause e m)
-ending-trimmed faults cause loses m e k h within s may =
-    keeps-trimmed (IsLawful faults) m (ending cause e m) within (ending-keeps cause loses m e k h s) (ending-obeys faults cause m e k h.orderly s may)
+    StandsAt m.connections k e → is_live e.facts ≡ true → (is_negotiated e.facts ≡ true → MayEnd faults cause e m) → Trimmed (IsLawful faults) m (ending cause e m)
+ending-trimmed faults cause loses m e k h within s live may =
+    keeps-trimmed (IsLawful faults) m (ending cause e m) within (ending-keeps cause loses m e k h s) (ending-obeys faults cause m e k h.orderly s live may)
 
 pub nothing-trimmed : (Law : Move → Type 0) (m : Machine) → counted_in m ≤ m.settings.hard → IsOrdered m → Trimmed Law m (nothing_more m)
 nothing-trimmed Law m within h = keeps-trimmed Law m (nothing_more m) within (keeps_nothing m h) (obeys_nothing Law m)
+
+-- what is counted stands open
+counted-live : (f : Facts) → is_counted f ≡ true → is_live f ≡ true
+counted-live f h = by_phase f.phase refl
+  where
+    uncounted : is_greeting f ≡ false → is_negotiated f ≡ false → is_counted f ≡ false
+    uncounted g n = rw (g, n) (by_side (not (is_outbound f)))
+      where
+        by_side : (b : Bool) → ((b && false) || false || false) ≡ false
+        by_side true = refl
+        by_side false = refl
+
+    by_phase : (p : Phase) → f.phase ≡ p → is_live f ≡ true
+    by_phase Dialing is = ap live_phase is
+    by_phase (Greeting until) is = ap live_phase is
+    by_phase Negotiated is = ap live_phase is
+    by_phase (Closing until) is = absurd (both_ways (is_counted f) (uncounted (ap is_greeting_phase is) (ap is_negotiated_phase is)) h)
 
 pruned-trims : (faults : Faults) (m : Machine) (e : Entry) (k : ℕ) → IsOrdered m → StandsAt m.connections k e → is_counted e.facts ≡ true →
     counted_in m ≡ m.settings.hard + 1 → Trimmed (IsLawful faults) m (ending Pruned e m)
 pruned-trims faults m e k h s counted most =
     let keeps : Keeps 0 m (ending Pruned e m).machine = ending-keeps Pruned refl m e k h s in
     let obeys : Obeys (IsLawful faults) m (ending Pruned e m) =
-    ending-obeys faults Pruned m e k h.orderly s (λ negotiated. most) in
+    ending-obeys faults Pruned m e k h.orderly s (counted-live e.facts counted) (λ negotiated. most) in
     let drops = pruned-drops m e k h s in
     let one : counted_of e ≡ 1 = one_if-counted e.facts counted in
     record {
@@ -302,9 +322,10 @@ raised_twice_then_trimmed Law m first next last raised one two trimmed =
     }
 
 -- the part as a whole is a move
-pub as_move-trimmed : (Law : Move → Type 0) (happened : Happened) (m : Machine) (effect : Effect) → Trimmed Law m effect →
+pub as_move-trimmed : (Law : Move → Type 0) (happened : Happened) (m : Machine) (effect : Effect) → ended_by happened ≡ [] →
+    promoted_by_dial happened m.next_id effect.machine.next_id ≡ [] → Trimmed Law m effect →
     (IsTied m → Law (record { happened = happened; before = m; after = effect.machine })) → Trimmed Law m (as_move happened m effect)
-as_move-trimmed Law happened m effect h law =
+as_move-trimmed Law happened m effect no_end no_dial h law =
     let move : Move = record { happened = happened; before = m; after = effect.machine } in
     record {
       ordered = h.ordered;
@@ -315,7 +336,7 @@ as_move-trimmed Law happened m effect h law =
       classes = h.classes;
       ties = h.ties;
       lawful = λ ties. all-appended Law effect.moves (move ∷ []) (h.lawful ties) (law ties, tt);
-      accounted = accounts_move happened m effect h.accounted;
+      accounted = accounts_move happened m effect no_end no_dial h.accounted;
     }
 
 -- one part for each of a list, which may need something of each
