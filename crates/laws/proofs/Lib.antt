@@ -46,3 +46,4 @@ mod EventMoves
 mod Telling
 mod ToldMoves
 mod Open
+mod Chain

@@ -1,6 +1,8 @@
+pub mod Acts
 pub mod AtMoves
 pub mod Carrying
 pub mod Laws
+pub mod Parts
 pub mod Sound
 pub mod Stages
 pub mod Told

@@ -1,0 +1,198 @@
+-- An event is its parts, one after the other.
+use Rattle.std.proofs.Common.{ℕ, zero, suc, ◌≡◌, Bool, true, false, nat_le, if◌then◌else◌, List, [], ◌∷◌, ◌++◌, map, length, Option, Some, None, refl, sym, ap, ◌∙◌}
+use Rattle.std.proofs.lemmas.Bool.{cond_both}
+use Rattle.std.proofs.lemmas.List.{append-nil, append_assoc}
+use Rattle.govern_rules.specs.declared.order.Order.{Order}
+use Rattle.mux_segment.specs.Stream.{FedBy}
+use Rattle.net_base.specs.declared.action.Action.{Action}
+use Rattle.net_base.specs.declared.address.Addr.{Addr}
+use Rattle.net_base.specs.declared.connection.Cid.{Cid}
+use Rattle.net_base.specs.declared.connection.Phase.{Phase}
+use Rattle.net_base.specs.declared.connection.Phase.TheVariants.{Dialing, Greeting, Negotiated, Closing}
+use Rattle.net_base.specs.declared.event.Event.{Event}
+use Rattle.net_base.specs.declared.event.Event.TheVariants.{Now, Govern, Accepted, Dialed, Bytes, Closed, Aims, Locals, Roots, BigAims, Bigs}
+use Rattle.net_base.specs.declared.event.Group.{Group}
+use Rattle.net_base.specs.declared.event.RootAnswer.{RootAnswer}
+use Rattle.net_base.specs.declared.event.RootAnswer.TheVariants.{Found, Failed}
+use Rattle.net_base.specs.declared.timer.Deadline.{Deadline}
+use Rattle.root_groups.specs.Cleaned.{cleaned, members_of}
+use Rattle.root_groups.specs.RootAsk.{awaits, publics_of, found}
+use Rattle.conn_state.specs.Use.{has_id}
+use Rattle.machine.specs.Deadlines.{deadlines, due, fires, fires_some, fire_due, fire_all}
+use Rattle.machine.specs.Effect.{Effect, Move, nothing_more, then_do, for_each}
+use Rattle.machine.specs.Events.{clock_shows}
+use Rattle.machine.specs.Govern.{carries_out, asks_roots, ordinary_rules, big_rules, rules, govern}
+use Rattle.machine.specs.Machine.{Machine, Entry, entry_at}
+use Rattle.machine.specs.Peers.{peer_is_ordinary}
+use Rattle.machine.specs.Provided.{comes_ordinary, comes_big, locals_are, roots_say, roots_answer}
+use Rattle.machine.specs.Stream.{handles, fed_with, comes_in_phase, comes_in_at, bytes_come_in}
+use Rattle.machine.specs.Whole.{whole_step}
+use Rattle.laws.specs.Acts.{Act, fires_one, carries, connects, ends_dial, stores, handles_item, ends_stream, is_closed, sets_targets, sets_big_targets, makes_ordinary, provides, provides_big, does, fired_from, fired, orders_of, acts_at_moment, acts_fed, acts_in_phase, acts_of_bytes, acts_of_groups, acts_of_answer, acts}
+use Rattle.laws.specs.AtMoves.{fed_on}
+
+-- ---- one after the other
+
+abbrev with_actions : List Action → List Move → Machine → Effect
+with_actions actions moves m = record { machine = m; actions = actions; moves = moves }
+
+then_nothing : (effect : Effect) → then_do effect nothing_more ≡ effect
+then_nothing effect =
+    ap (λ actions. with_actions actions (effect.moves ++ []) effect.machine) (append-nil effect.actions)
+    ∙ ap (λ moves. with_actions effect.actions moves effect.machine) (append-nil effect.moves)
+
+then_assoc : (effect : Effect) (f g : Machine → Effect) → then_do (then_do effect f) g ≡ then_do effect (λ m. then_do (f m) g)
+then_assoc effect f g =
+    let second : Effect = f effect.machine in
+    let third : Effect = g second.machine in
+    ap (λ actions. with_actions actions (effect.moves ++ second.moves ++ third.moves) third.machine) (append_assoc effect.actions second.actions third.actions)
+    ∙ ap (λ moves. with_actions (effect.actions ++ (second.actions ++ third.actions)) moves third.machine) (append_assoc effect.moves second.moves third.moves)
+
+-- what follows is the same
+then_same : (effect : Effect) (f g : Machine → Effect) → f effect.machine ≡ g effect.machine → then_do effect f ≡ then_do effect g
+then_same effect f g same = ap (λ second. with_actions (effect.actions ++ second.actions) (effect.moves ++ second.moves) second.machine) same
+
+then_of : (one two : Effect) (f g : Machine → Effect) → one ≡ two → f two.machine ≡ g two.machine → then_do one f ≡ then_do two g
+then_of one two f g same later = ap (λ effect. then_do effect f) same ∙ then_same two f g later
+
+each_appended : {X : Type 0} (act : X → Machine → Effect) (xs ys : List X) (m : Machine) →
+    for_each act (xs ++ ys) m ≡ then_do (for_each act xs m) (for_each act ys)
+unfolding for_each
+each_appended act [] ys m = refl
+each_appended act (x ∷ xs) ys m =
+    then_same (act x m) (for_each act (xs ++ ys)) (λ n. then_do (for_each act xs n) (for_each act ys)) (each_appended act xs ys (act x m).machine)
+    ∙ sym (then_assoc (act x m) (for_each act xs) (for_each act ys))
+
+-- an act for each
+each_mapped : {X : Type 0} (name : X → Act) (act : X → Machine → Effect) → ((x : X) (m : Machine) → does (name x) m ≡ act x m) → (xs : List X) (m : Machine) →
+    for_each does (map name xs) m ≡ for_each act xs m
+unfolding for_each
+each_mapped name act same [] m = refl
+each_mapped name act same (x ∷ xs) m =
+    then_of (does (name x) m) (act x m) (for_each does (map name xs)) (for_each act xs) (same x m) (each_mapped name act same xs (act x m).machine)
+
+alone : (act : Act) (m : Machine) → does act m ≡ for_each does (act ∷ []) m
+unfolding for_each
+alone act m = sym (then_nothing (does act m))
+
+first_act : (act : Act) (each : List Act) (m : Machine) → for_each does (act ∷ each) m ≡ then_do (does act m) (for_each does each)
+unfolding for_each
+first_act act each m = refl
+
+no_act : (m : Machine) → nothing_more m ≡ for_each does [] m
+unfolding for_each
+no_act m = refl
+
+-- ---- the clock
+
+fired-chain : (n : ℕ) (m : Machine) → fire_due n m ≡ for_each fires (fired n m) m
+unfolding fire_due fired for_each
+fired-chain zero m = refl
+fired-chain (suc n) m = by_due (due m) (fired-chain n)
+  where
+    by_due : (o : Option Deadline) → ((w : Machine) → fire_due n w ≡ for_each fires (fired n w) w) →
+        fires_some o (fire_due n) m ≡ for_each fires (fired_from o (fired n) m) m
+    by_due None later = refl
+    by_due (Some d) later = then_same (fires d m) (fire_due n) (for_each fires (fired n (fires d m).machine)) (later (fires d m).machine)
+
+clock-chain : (t : ℕ) (m : Machine) → clock_shows t m ≡ for_each does (if nat_le t m.now then [] else acts_at_moment t m) m
+unfolding for_each
+clock-chain t m = by_test (nat_le t m.now)
+  where
+    by_test : (b : Bool) → (if b then nothing_more m else fire_all (record m { now = t })) ≡ for_each does (if b then [] else acts_at_moment t m) m
+    by_test true = refl
+    by_test false =
+        let n : Machine = record m { now = t } in
+        fired-chain (length (deadlines n)) n ∙ sym (each_mapped fires_one fires (λ d w. refl) (fired (length (deadlines n)) n) n)
+
+-- ---- the governor
+
+rules-chain : (each : List (Machine → List Order)) (m : Machine) → for_each rules each m ≡ for_each carries_out (orders_of each m) m
+unfolding for_each orders_of
+rules-chain [] m = refl
+rules-chain (r ∷ each) m =
+    then_same (rules r m) (for_each rules each) (for_each carries_out (orders_of each (rules r m).machine)) (rules-chain each (rules r m).machine)
+    ∙ sym (each_appended carries_out (r m) (orders_of each (rules r m).machine) m)
+
+orders-chain : (each : List (Machine → List Order)) (m : Machine) → for_each rules each m ≡ for_each does (map carries (orders_of each m)) m
+orders-chain each m = rules-chain each m ∙ sym (each_mapped carries carries_out (λ o w. refl) (orders_of each m) m)
+
+govern-chain : (word : ℕ) (m : Machine) → govern word m ≡ for_each does (acts m (Govern word)) m
+unfolding for_each
+govern-chain word m =
+    let n : Machine = (asks_roots m).machine in
+    let o : Machine = (for_each rules (ordinary_rules word) n).machine in
+    let ordinary : List Act = map carries (orders_of (ordinary_rules word) n) in
+    let big : List Act = map carries (orders_of (big_rules word) o) in
+    then_same (asks_roots m) (λ w. then_do (for_each rules (ordinary_rules word) w) (for_each rules (big_rules word))) (for_each does (ordinary ++ big))
+    (then_same (for_each rules (ordinary_rules word) n) (for_each rules (big_rules word)) (for_each does big) (orders-chain (big_rules word) o)
+    ∙ (ap (λ effect. then_do effect (for_each does big)) (orders-chain (ordinary_rules word) n)
+    ∙ sym (each_appended does ordinary big n)))
+
+-- ---- bytes
+
+fed-chain : (fed : FedBy) (e : Entry) (m : Machine) → fed_with fed e m ≡ for_each does (acts_fed fed e) m
+unfolding for_each
+fed-chain fed e m =
+    let cid : Cid = e.facts.cid in
+    let first : Effect = does (stores e fed.state.undecoded) m in
+    let n : Machine = first.machine in
+    let items : List Act = map (handles_item cid) fed.items in
+    let last : Act = ends_stream cid fed.state.fault in
+    let second : Effect = for_each (handles cid) fed.items n in
+    then_same first (λ w. then_do (for_each (handles cid) fed.items w) (does last)) (for_each does (items ++ last ∷ []))
+    (then_same second (does last) (for_each does (last ∷ [])) (alone last second.machine)
+    ∙ (ap (λ effect. then_do effect (for_each does (last ∷ []))) (sym (each_mapped (handles_item cid) (handles cid) (λ item w. refl) fed.items n))
+    ∙ sym (each_appended does items (last ∷ []) n)))
+
+comes-chain : (p : Phase) (bytes : List ℕ) (e : Entry) (m : Machine) → comes_in_phase p bytes e m ≡ for_each does (acts_in_phase p bytes e) m
+comes-chain Dialing bytes e m = no_act m
+comes-chain (Greeting until) bytes e m = fed-chain (fed_on e bytes) e m
+comes-chain Negotiated bytes e m = fed-chain (fed_on e bytes) e m
+comes-chain (Closing until) bytes e m = no_act m
+
+bytes-chain : (o : Option Entry) (bytes : List ℕ) (m : Machine) → comes_in_at o bytes m ≡ for_each does (acts_of_bytes o bytes) m
+bytes-chain None bytes m = no_act m
+bytes-chain (Some e) bytes m = comes-chain e.facts.phase bytes e m
+
+-- ---- what is set and provided
+
+locals-chain : (kept : List Group) (m : Machine) →
+    then_do (for_each peer_is_ordinary (members_of kept) (record m { groups = kept })) (for_each comes_ordinary (members_of kept))
+    ≡ for_each does (acts_of_groups kept) m
+unfolding for_each
+locals-chain kept m =
+    let n : Machine = record m { groups = kept } in
+    let ordinary : List Act = map makes_ordinary (members_of kept) in
+    let provided : List Act = map provides (members_of kept) in
+    let first : Effect = for_each peer_is_ordinary (members_of kept) n in
+    then_same first (for_each comes_ordinary (members_of kept)) (for_each does provided)
+    (sym (each_mapped provides comes_ordinary (λ a w. refl) (members_of kept) first.machine))
+    ∙ (ap (λ effect. then_do effect (for_each does provided)) (sym (each_mapped makes_ordinary peer_is_ordinary (λ a w. refl) (members_of kept) n))
+    ∙ sym (each_appended does ordinary provided n))
+
+answer-chain : (answer : RootAnswer) (m : Machine) → roots_say answer m ≡ for_each does (acts_of_answer answer m) m
+unfolding for_each
+answer-chain (Found ttl addrs) m =
+    let publics : List Addr = publics_of m.settings.own m.targets.root addrs in
+    sym (each_mapped provides comes_ordinary (λ a w. refl) publics (record m { roots = found m.now ttl publics m.roots }))
+answer-chain Failed m = refl
+
+roots-chain : (b : Bool) (answer : RootAnswer) (m : Machine) →
+    (if b then roots_say answer m else nothing_more m) ≡ for_each does (if b then acts_of_answer answer m else []) m
+roots-chain true answer m = answer-chain answer m
+roots-chain false answer m = no_act m
+
+-- ---- each event
+
+pub parts-chain : (m : Machine) (event : Event) → whole_step m event ≡ for_each does (acts m event) m
+parts-chain m (Now t) = clock-chain t m
+parts-chain m (Govern word) = govern-chain word m
+parts-chain m (Accepted addr) = alone (connects addr) m
+parts-chain m (Dialed cid opened) = alone (ends_dial cid opened) m
+parts-chain m (Bytes cid bytes) = bytes-chain (entry_at cid.0 m) bytes m
+parts-chain m (Closed cid) = alone (is_closed cid) m
+parts-chain m (Aims targets) = alone (sets_targets targets) m
+parts-chain m (Locals groups) = locals-chain (cleaned m.settings.own groups) m
+parts-chain m (Roots job answer) = roots-chain (awaits job.0 m.roots) answer m
+parts-chain m (BigAims targets) = alone (sets_big_targets targets) m
+parts-chain m (Bigs addrs) = sym (each_mapped provides_big comes_big (λ a w. refl) addrs m)
