@@ -121,7 +121,7 @@ pub told-machine : (o : Option (List ℕ)) (cid : Cid) (m : Machine) → (told o
 told-machine None cid m = refl
 told-machine (Some bytes) cid m = refl
 
-told-quiet : (o : Option (List ℕ)) (cid : Cid) (m : Machine) → IsQuiet m (told o cid m)
+pub told-quiet : (o : Option (List ℕ)) (cid : Cid) (m : Machine) → IsQuiet m (told o cid m)
 told-quiet None cid m = tells-quiet [] m refl
 told-quiet (Some bytes) cid m = tells-quiet (answers cid 0 bytes m).actions m refl
 

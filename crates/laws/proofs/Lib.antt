@@ -47,3 +47,4 @@ mod Telling
 mod ToldMoves
 mod Open
 mod Chain
+mod Due

@@ -308,7 +308,7 @@ forget-carried Law addr m h within may =
 abbrev pub MayRelease : Machine → Addr → Type 0
 MayRelease m addr = (e : Entry) → find (is_used_at addr) m.connections ≡ Some e → OwesNothing e
 
-says_done-quiet : (f : Facts) (m : Machine) → IsQuiet m (says_done f m)
+pub says_done-quiet : (f : Facts) (m : Machine) → IsQuiet m (says_done f m)
 says_done-quiet f m =
     let sharing_done : Effect = asks f.cid 10 peer_sharing_done m in
     let first : Effect = if agreed_sharing f.agreed then sharing_done else nothing_more m in

@@ -209,7 +209,7 @@ replies-machine reply.Await protocol e m = refl
 replies-machine reply.NoBlocks protocol e m = refl
 
 -- what is told is no matter of the connections either
-replies-quiet : (r : Reply) (protocol : ℕ) (e : Entry) (m : Machine) → IsQuiet m (replies r protocol e m)
+pub replies-quiet : (r : Reply) (protocol : ℕ) (e : Entry) (m : Machine) → IsQuiet m (replies r protocol e m)
 replies-quiet reply.Nothing protocol e m = tells-quiet (replies reply.Nothing protocol e m).actions m refl
 replies-quiet (reply.Alive cookie) protocol e m = tells-quiet (replies (reply.Alive cookie) protocol e m).actions m refl
 replies-quiet (reply.Share n) protocol e m = tells-quiet (replies (reply.Share n) protocol e m).actions m refl
