@@ -330,12 +330,12 @@ take-gives m h p passes found =
 
 -- what it does is lawful, its orders may be carried out, and they give out few ids
 record Serves (few : ℕ) (orders : Machine → List Order) : Type 0 where
-  does : DoesLawful no_faults (rules orders)
+  does : DoesLawful no_faults orders
   may : (m : Machine) → IsOrdered m → counted_in m ≤ m.settings.hard → m.next_id + few ≤ 2 ^ 48 → MayAll (orders m) m
   ids : (m : Machine) → IsOrdered m → sum_by dials (orders m) ≤ few
 
 -- orders that need nothing
-quiet-serves : (orders : Machine → List Order) → DoesLawful no_faults (rules orders) → ((m : Machine) → AllByRecursion NeedsNothing (orders m)) → Serves 0 orders
+quiet-serves : (orders : Machine → List Order) → DoesLawful no_faults orders → ((m : Machine) → AllByRecursion NeedsNothing (orders m)) → Serves 0 orders
 quiet-serves orders does quiet = record {
   does = does;
   may = λ m h within few. nothing-may (orders m) m (quiet m);
@@ -380,7 +380,7 @@ promote-given = record {
 }
 
 picks-serve : (few : ℕ) (May : Machine → Addr → Type 0) (order : Addr → Order) → IsGiven few May order → (orders : Machine → List Order) (picks : Machine → List Addr) →
-    ((m : Machine) → map order (picks m) ≡ orders m) → DoesLawful no_faults (rules orders) → ((m : Machine) → IsOrdered m → AreMeant May (picks m) m) → Serves few orders
+    ((m : Machine) → map order (picks m) ≡ orders m) → DoesLawful no_faults orders → ((m : Machine) → IsOrdered m → AreMeant May (picks m) m) → Serves few orders
 picks-serve few May order given orders picks same does meant = record {
   does = does;
   may = λ m h within room.
@@ -414,14 +414,14 @@ groups_picks-meant May word number test m h gives =
 -- ---- the rules
 
 class-serves : (few : ℕ) (May : Machine → Addr → Type 0) (order : Addr → Order) → IsGiven few May order → (big : Bool) (word : ℕ) (number : Machine → ℕ)
-    (test : Machine → Peer → Bool) → DoesLawful no_faults (rules (λ m. orders_for big word order (number m) (test m) m.peers)) →
+    (test : Machine → Peer → Bool) → DoesLawful no_faults (λ m. orders_for big word order (number m) (test m) m.peers) →
     ((m : Machine) → IsOrdered m → Gives May (test m) m) → Serves few (λ m. orders_for big word order (number m) (test m) m.peers)
 class-serves few May order given big word number test does gives =
     picks-serve few May order given (λ m. orders_for big word order (number m) (test m) m.peers) (λ m. chosen big word (number m) (test m) m.peers)
     (λ m. refl) does (λ m h. class_picks-meant May big word (number m) (test m) m h (gives m h))
 
 groups-serve : (few : ℕ) (May : Machine → Addr → Type 0) (order : Addr → Order) → IsGiven few May order → (word : ℕ) (number : Machine → Group → ℕ)
-    (test : Machine → Peer → Bool) → DoesLawful no_faults (rules (λ m. flat_map (members_orders order word (number m) (test m) m) m.groups)) →
+    (test : Machine → Peer → Bool) → DoesLawful no_faults (λ m. flat_map (members_orders order word (number m) (test m) m) m.groups) →
     ((m : Machine) → IsOrdered m → Gives May (test m) m) → Serves few (λ m. flat_map (members_orders order word (number m) (test m) m) m.groups)
 groups-serve few May order given word number test does gives =
     picks-serve few May order given (λ m. flat_map (members_orders order word (number m) (test m) m) m.groups)
@@ -449,7 +449,7 @@ record IsFollowed (few : ℕ) (m n : Machine) : Type 0 where
 rule-followed : (few : ℕ) (orders : Machine → List Order) → Serves few orders → (m : Machine) → IsOrdered m → counted_in m ≤ m.settings.hard → IsFollowed few m (rules orders m).machine
 unfolding DoesLawful
 rule-followed few orders serves m h within =
-    let does : Trimmed (IsLawful no_faults) m (rules orders m) = serves.does m h within in
+    let does : Trimmed (IsLawful no_faults) m (rules orders m) = (serves.does m h within).trimmed in
     let ids = orders-ids (orders m) m in
     let sum = serves.ids m h in
     record { ordered = does.ordered; within = trimmed-within (IsLawful no_faults) m (rules orders m) does; ids = omega (arith, ids, sum) }

@@ -28,11 +28,12 @@ use Rattle.machine.specs.Effect.{Effect, Move, nothing_more, tells, then_do, for
 use Rattle.machine.specs.Peers.{peer_at}
 use Rattle.machine.specs.Replies.{reply_on}
 use Rattle.machine.specs.Govern.{link_of, view_of, is_used_at, carries_out, asks_roots, ordinary_rules, big_rules, rules, govern}
+use Rattle.laws.specs.Acts.{orders_of}
 use Rattle.laws.specs.AtMoves.{Faults, IsLawful}
 use Rattle.laws.proofs.Chosen.{chosen, chosen-apart, chosen-all, PicksMembers, groups_picks-apart, groups_picks-all, map-groups}
 use Rattle.laws.proofs.Keeping.{IsOrdered, Keeps, keeps_nothing, elsewhere-keeps}
-use Rattle.laws.proofs.Lawful.{IsQuiet, quiet-obeys, elsewhere-quiet, tells-quiet, IsAllowed, Within, allowed_within}
-use Rattle.laws.proofs.Orders.{Carries, orders-trimmed, Always, ask-carried, IsCold, IsIdle, MayForget, forget-carried, MayRelease, release-carried, MayActivate, activate-carried, deactivate-carried, MayAsk}
+use Rattle.laws.proofs.Lawful.{Accounts, IsQuiet, quiet-obeys, elsewhere-quiet, tells-quiet, IsAllowed, Within, allowed_within}
+use Rattle.laws.proofs.Orders.{Carries, EachAccounted, Followed, nothing-followed, first-followed, orders-followed, Always, ask-carried, IsCold, IsIdle, MayForget, forget-carried, MayRelease, release-carried, MayActivate, activate-carried, deactivate-carried, MayAsk}
 use Rattle.laws.proofs.Promotions.{MayPromote, promotes-carried, eligible-may}
 use Rattle.laws.proofs.Trims.{Trimmed, keeps-trimmed, nothing-trimmed, trimmed_then, trimmed_both, trimmed-within}
 use Rattle.laws.proofs.Wanted.{promotes-within, activates-within, groups_promotes-within, groups_activates-within}
@@ -130,10 +131,10 @@ and-gives May among test m gives p passes found = gives p (and_parts (among p) (
 
 class-trimmed : (Law : Move → Type 0) (May : Machine → Addr → Type 0) (order : Addr → Order) → Carries Law May order → (big : Bool) (word number : ℕ) (test : Peer → Bool)
     (m : Machine) → IsOrdered m → counted_in m ≤ m.settings.hard → Gives May test m →
-    Trimmed Law m (for_each carries_out (orders_for big word order number test m.peers) m)
+    Followed Law (orders_for big word order number test m.peers) m
 unfolding Gives
 class-trimmed Law May order each big word number test m h within gives =
-    orders-trimmed Law May order each (chosen big word number test m.peers) m h within (chosen-apart big word number test m.peers h.formed.peers)
+    orders-followed Law May order each (chosen big word number test m.peers) m h within (chosen-apart big word number test m.peers h.formed.peers)
     (chosen-all (May m) big word number test m.peers h.formed.peers gives)
 
 -- ---- rules by the valencies
@@ -154,24 +155,24 @@ members_picks word number test m h = record {
 
 groups-trimmed : (Law : Move → Type 0) (May : Machine → Addr → Type 0) (order : Addr → Order) → Carries Law May order → (word : ℕ) (number : Group → ℕ) (test : Peer → Bool)
     (m : Machine) → IsOrdered m → counted_in m ≤ m.settings.hard → Gives May test m →
-    Trimmed Law m (for_each carries_out (flat_map (members_orders order word number test m) m.groups) m)
+    Followed Law (flat_map (members_orders order word number test m) m.groups) m
 unfolding Gives
 groups-trimmed Law May order each word number test m h within gives =
     let pick : Group → List Addr = members_chosen word number test m in
-    subst (λ orders. Trimmed Law m (for_each carries_out orders m)) (sym (map-groups order pick m.groups))
-    (orders-trimmed Law May order each (flat_map pick m.groups) m h within (groups_picks-apart pick m.groups (members_picks word number test m h) h.formed.groups)
+    subst (λ orders. Followed Law orders m) (sym (map-groups order pick m.groups))
+    (orders-followed Law May order each (flat_map pick m.groups) m h within (groups_picks-apart pick m.groups (members_picks word number test m h) h.formed.groups)
     (groups_picks-all (May m) pick m.groups (λ g. chosen-all (May m) false word (number g) (is_member_and g test) m.peers h.formed.peers
     (λ p passes found. gives p (and_parts (is_listed p.addr g.members) (test p) passes).1 found))))
 
 -- where an order may be given at any moment
 always-trimmed : (Law : Move → Type 0) (order : Addr → Order) → Carries Law Always order → (addrs : List Addr) (m : Machine) → IsOrdered m →
-    counted_in m ≤ m.settings.hard → Trimmed Law m (for_each carries_out (map order addrs) m)
-unfolding for_each Carries
-always-trimmed Law order each [] m h within = nothing-trimmed Law m within h
+    counted_in m ≤ m.settings.hard → Followed Law (map order addrs) m
+unfolding Carries
+always-trimmed Law order each [] m h within = nothing-followed Law m h within
 always-trimmed Law order each (a ∷ addrs) m h within =
     let effect : Effect = carries_out (order a) m in
     let first : Trimmed Law m effect = (each a m h within tt).trimmed in
-    trimmed_then Law m effect (for_each carries_out (map order addrs)) first
+    first-followed Law (order a) (map order addrs) m first
     (always-trimmed Law order each addrs effect.machine first.ordered (trimmed-within Law m effect first))
 
 map-append : (order : Addr → Order) (xs ys : List Addr) → map order (xs ++ ys) ≡ map order xs ++ map order ys
@@ -181,87 +182,106 @@ map-append order (x ∷ xs) ys = ap (λ orders. order x ∷ orders) (map-append 
 -- ---- each rule
 
 -- what a rule does with a machine that is in order and within the limit
-unfoldable pub DoesLawful : Faults → (Machine → Effect) → Type 0
-DoesLawful faults act = (m : Machine) → IsOrdered m → counted_in m ≤ m.settings.hard → Trimmed (IsLawful faults) m (act m)
+unfoldable pub DoesLawful : Faults → (Machine → List Order) → Type 0
+DoesLawful faults orders = (m : Machine) → IsOrdered m → counted_in m ≤ m.settings.hard → Followed (IsLawful faults) (orders m) m
 
 -- promotions and activations are lawful where they are within what is wanted
-wanted-lawful : (faults : Faults) (m : Machine) (effect : Effect) → Trimmed (IsAllowed faults) m effect → AllByRecursion Within effect.moves → Trimmed (IsLawful faults) m effect
-wanted-lawful faults m effect allowed within = trimmed_both (IsAllowed faults) Within (IsLawful faults) (allowed_within faults) m effect allowed within
+wanted-lawful : (faults : Faults) (m : Machine) (orders : List Order) → Followed (IsAllowed faults) orders m →
+    AllByRecursion Within (for_each carries_out orders m).moves → Followed (IsLawful faults) orders m
+wanted-lawful faults m orders allowed within = record {
+  trimmed = trimmed_both (IsAllowed faults) Within (IsLawful faults) (allowed_within faults) m (for_each carries_out orders m) allowed.trimmed within;
+  each = allowed.each;
+}
 
 abbrev deactivated_members : ℕ → Machine → Group → List Addr
 deactivated_members word m g =
     chosen false word (members_count g may_be_deactivated m.peers - g.hot) (is_member_and g may_be_deactivated) m.peers
 
-g4-trimmed : (faults : Faults) (word : ℕ) → DoesLawful faults (rules (λ m. g4_orders (view_of word m) m.peers m.groups))
+g4-trimmed : (faults : Faults) (word : ℕ) → DoesLawful faults (λ m. g4_orders (view_of word m) m.peers m.groups)
 unfolding DoesLawful
 g4-trimmed faults word m h within =
-    wanted-lawful faults m (rules (λ m. g4_orders (view_of word m) m.peers m.groups) m)
+    wanted-lawful faults m (g4_orders (view_of word m) m.peers m.groups)
     (groups-trimmed (IsAllowed faults) MayPromote Promote (promotes-carried faults) word
     (λ g. g.warm - members_count g (λ p. is_established p.temp || is_pending_link (map link_of m.connections) p.addr) m.peers)
     (is_eligible m.now (map link_of m.connections)) m h within (promote-gives m h))
     (groups_promotes-within word m h within)
 
-g5-trimmed : (faults : Faults) (word : ℕ) → DoesLawful faults (rules (λ m. g5_orders (view_of word m) m.peers m.groups))
+g5-trimmed : (faults : Faults) (word : ℕ) → DoesLawful faults (λ m. g5_orders (view_of word m) m.peers m.groups)
 unfolding DoesLawful
 g5-trimmed faults word m h within =
-    wanted-lawful faults m (rules (λ m. g5_orders (view_of word m) m.peers m.groups) m)
+    wanted-lawful faults m (g5_orders (view_of word m) m.peers m.groups)
     (class-trimmed (IsAllowed faults) MayPromote Promote (promotes-carried faults) false word _ _ m h within
     (and-gives MayPromote (λ p. is_not_local m.groups p.addr) (is_eligible m.now (map link_of m.connections)) m (promote-gives m h)))
     (promotes-within false (is_not_local m.groups) word m (λ a other. other) h within)
 
-g7-trimmed : (faults : Faults) (word : ℕ) → DoesLawful faults (rules (λ m. g7_orders (view_of word m) m.peers m.groups))
+g7-trimmed : (faults : Faults) (word : ℕ) → DoesLawful faults (λ m. g7_orders (view_of word m) m.peers m.groups)
 unfolding DoesLawful
 g7-trimmed faults word m h within =
-    wanted-lawful faults m (rules (λ m. g7_orders (view_of word m) m.peers m.groups) m)
+    wanted-lawful faults m (g7_orders (view_of word m) m.peers m.groups)
     (groups-trimmed (IsAllowed faults) MayActivate Activate (activate-carried faults) word
     (λ g. g.hot - members_count g (λ p. same_temp p.temp Hot || owes_on_2 (map link_of m.connections) p.addr) m.peers)
     (may_be_activated (map link_of m.connections)) m h within (activate-gives m))
     (groups_activates-within word m h within)
 
-g8-trimmed : (faults : Faults) (word : ℕ) → DoesLawful faults (rules (λ m. g8_orders (view_of word m) m.peers m.groups))
+g8-trimmed : (faults : Faults) (word : ℕ) → DoesLawful faults (λ m. g8_orders (view_of word m) m.peers m.groups)
 unfolding DoesLawful
 g8-trimmed faults word m h within =
-    wanted-lawful faults m (rules (λ m. g8_orders (view_of word m) m.peers m.groups) m)
+    wanted-lawful faults m (g8_orders (view_of word m) m.peers m.groups)
     (class-trimmed (IsAllowed faults) MayActivate Activate (activate-carried faults) false word _ _ m h within
     (and-gives MayActivate (λ p. is_not_local m.groups p.addr) (may_be_activated (map link_of m.connections)) m (activate-gives m)))
     (activates-within false (is_not_local m.groups) word m (λ a other. other) h within)
 
-g9-trimmed : (faults : Faults) (word : ℕ) → DoesLawful faults (rules (λ m. g9_orders (view_of word m) m.peers m.groups))
+g9-trimmed : (faults : Faults) (word : ℕ) → DoesLawful faults (λ m. g9_orders (view_of word m) m.peers m.groups)
 unfolding DoesLawful
 g9-trimmed faults word m h within =
     let beyond : List Addr = chosen false word (active_of false m.peers - active_target false (view_of word m)) (λ p. is_not_local m.groups p.addr && may_be_deactivated p) m.peers in
     let members : List Addr = flat_map (deactivated_members word m) m.groups in
     let same : map Deactivate (beyond ++ members) ≡ g9_orders (view_of word m) m.peers m.groups =
     map-append Deactivate beyond members ∙ ap (λ orders. map Deactivate beyond ++ orders) (sym (map-groups Deactivate (deactivated_members word m) m.groups)) in
-    subst (λ orders. Trimmed (IsLawful faults) m (for_each carries_out orders m)) same
+    subst (λ orders. Followed (IsLawful faults) orders m) same
     (always-trimmed (IsLawful faults) Deactivate (deactivate-carried (IsLawful faults)) (beyond ++ members) m h within)
 
-b5-trimmed : (faults : Faults) (word : ℕ) → DoesLawful faults (rules (λ m. big_orders B5 (view_of word m) m.peers))
+b5-trimmed : (faults : Faults) (word : ℕ) → DoesLawful faults (λ m. big_orders B5 (view_of word m) m.peers)
 unfolding DoesLawful
 b5-trimmed faults word m h within =
-    wanted-lawful faults m (rules (λ m. big_orders B5 (view_of word m) m.peers) m)
+    wanted-lawful faults m (big_orders B5 (view_of word m) m.peers)
     (class-trimmed (IsAllowed faults) MayPromote Promote (promotes-carried faults) true word _ _ m h within (promote-gives m h))
     (promotes-within true everybody word m (λ a other. refl) h within)
 
-b8-trimmed : (faults : Faults) (word : ℕ) → DoesLawful faults (rules (λ m. big_orders B8 (view_of word m) m.peers))
+b8-trimmed : (faults : Faults) (word : ℕ) → DoesLawful faults (λ m. big_orders B8 (view_of word m) m.peers)
 unfolding DoesLawful
 b8-trimmed faults word m h within =
-    wanted-lawful faults m (rules (λ m. big_orders B8 (view_of word m) m.peers) m)
+    wanted-lawful faults m (big_orders B8 (view_of word m) m.peers)
     (class-trimmed (IsAllowed faults) MayActivate Activate (activate-carried faults) true word _ _ m h within (activate-gives m))
     (activates-within true everybody word m (λ a other. refl) h within)
 
 -- ---- all rules
 
-all-rules : (faults : Faults) (each : List (Machine → List Order)) → AllByRecursion (λ orders. DoesLawful faults (rules orders)) each → DoesLawful faults (for_each rules each)
-unfolding for_each DoesLawful
-all-rules faults [] h m o within = nothing-trimmed (IsLawful faults) m within o
+-- the rules were followed one after the other
+pub record Governed (Law : Move → Type 0) (each : List (Machine → List Order)) (m : Machine) : Type 0 where
+  pub trimmed : Trimmed Law m (for_each rules each m)
+  pub orders : EachAccounted (orders_of each m) m
+
+each_more : (xs ys : List Order) (m : Machine) → EachAccounted xs m → EachAccounted ys (for_each carries_out xs m).machine → EachAccounted (xs ++ ys) m
+unfolding for_each
+each_more [] ys m one two = two
+each_more (x ∷ xs) ys m one two = (one.0, each_more xs ys (carries_out x m).machine one.1 two)
+
+all-rules : (faults : Faults) (each : List (Machine → List Order)) → AllByRecursion (DoesLawful faults) each → (m : Machine) → IsOrdered m →
+    counted_in m ≤ m.settings.hard → Governed (IsLawful faults) each m
+unfolding for_each orders_of DoesLawful
+all-rules faults [] h m o within = record { trimmed = nothing-trimmed (IsLawful faults) m within o; orders = tt }
 all-rules faults (r ∷ rs) h m o within =
     let effect : Effect = rules r m in
-    let first : Trimmed (IsLawful faults) m effect = h.0 m o within in
-    trimmed_then (IsLawful faults) m effect (for_each rules rs) first
-    (all-rules faults rs h.1 effect.machine first.ordered (trimmed-within (IsLawful faults) m effect first))
+    let first : Followed (IsLawful faults) (r m) m = h.0 m o within in
+    let rest : Governed (IsLawful faults) rs effect.machine =
+    all-rules faults rs h.1 effect.machine first.trimmed.ordered (trimmed-within (IsLawful faults) m effect first.trimmed) in
+    record {
+      trimmed = trimmed_then (IsLawful faults) m effect (for_each rules rs) first.trimmed rest.trimmed;
+      orders = each_more (r m) (orders_of rs effect.machine) m first.each rest.orders;
+    }
 
-pub big-rules : (faults : Faults) (word : ℕ) → AllByRecursion (λ orders. DoesLawful faults (rules orders)) (big_rules word)
+pub big-rules : (faults : Faults) (word : ℕ) → AllByRecursion (λ orders. DoesLawful faults orders) (big_rules word)
 unfolding DoesLawful
 big-rules faults word = (
   (λ m h within. class-trimmed (IsLawful faults) MayForget Forget (forget-carried (IsLawful faults)) true word _ _ m h within (forget-gives m)),
@@ -277,7 +297,7 @@ big-rules faults word = (
   ),
 )
 
-pub ordinary-rules : (faults : Faults) (word : ℕ) → AllByRecursion (λ orders. DoesLawful faults (rules orders)) (ordinary_rules word)
+pub ordinary-rules : (faults : Faults) (word : ℕ) → AllByRecursion (λ orders. DoesLawful faults orders) (ordinary_rules word)
 unfolding DoesLawful
 ordinary-rules faults word = (
   (λ m h within. class-trimmed (IsLawful faults) MayAsk (λ addr. Ask addr _) (ask-carried (IsLawful faults) _) false word _ _ m h within (ask-gives m h)),
@@ -312,15 +332,31 @@ asks_roots-quiet m = cond_both (may_ask m.now m.targets.root m.roots)
     elsewhere-quiet m (tells (AskRoots (record { 0 = m.roots.next_job }) ∷ []) (record m { roots = asked m.roots })) refl refl refl refl refl)
     (λ enough. tells-quiet [] m refl)
 
-pub govern-trimmed : (faults : Faults) (word : ℕ) (m : Machine) → IsOrdered m → counted_in m ≤ m.settings.hard → Trimmed (IsLawful faults) m (govern word m)
-unfolding DoesLawful
-govern-trimmed faults word m h within =
+-- what the governor does, and each of its orders
+pub record Governs (faults : Faults) (word : ℕ) (m : Machine) : Type 0 where
+  pub trimmed : Trimmed (IsLawful faults) m (govern word m)
+  pub asked : Accounts m (asks_roots m)
+  pub ordinary : EachAccounted (orders_of (ordinary_rules word) (asks_roots m).machine) (asks_roots m).machine
+  pub big : EachAccounted (orders_of (big_rules word) (for_each rules (ordinary_rules word) (asks_roots m).machine).machine)
+      (for_each rules (ordinary_rules word) (asks_roots m).machine).machine
+
+pub governs : (faults : Faults) (word : ℕ) (m : Machine) → IsOrdered m → counted_in m ≤ m.settings.hard → Governs faults word m
+governs faults word m h within =
     let first : Effect = asks_roots m in
     let one : Trimmed (IsLawful faults) m first =
     keeps-trimmed (IsLawful faults) m first within (asks_roots-keeps m h) (quiet-obeys (IsLawful faults) m first (asks_roots-quiet m)) in
     let second : Effect = for_each rules (ordinary_rules word) first.machine in
-    let two : Trimmed (IsLawful faults) first.machine second =
+    let two : Governed (IsLawful faults) (ordinary_rules word) first.machine =
     all-rules faults (ordinary_rules word) (ordinary-rules faults word) first.machine one.ordered (trimmed-within (IsLawful faults) m first one) in
-    trimmed_then (IsLawful faults) m first (λ m. then_do (for_each rules (ordinary_rules word) m) (for_each rules (big_rules word))) one
-    (trimmed_then (IsLawful faults) first.machine second (for_each rules (big_rules word)) two
-    (all-rules faults (big_rules word) (big-rules faults word) second.machine two.ordered (trimmed-within (IsLawful faults) first.machine second two)))
+    let three : Governed (IsLawful faults) (big_rules word) second.machine =
+    all-rules faults (big_rules word) (big-rules faults word) second.machine two.trimmed.ordered (trimmed-within (IsLawful faults) first.machine second two.trimmed) in
+    record {
+      trimmed = trimmed_then (IsLawful faults) m first (λ m. then_do (for_each rules (ordinary_rules word) m) (for_each rules (big_rules word))) one
+          (trimmed_then (IsLawful faults) first.machine second (for_each rules (big_rules word)) two.trimmed three.trimmed);
+      asked = one.accounted;
+      ordinary = two.orders;
+      big = three.orders;
+    }
+
+pub govern-trimmed : (faults : Faults) (word : ℕ) (m : Machine) → IsOrdered m → counted_in m ≤ m.settings.hard → Trimmed (IsLawful faults) m (govern word m)
+govern-trimmed faults word m h within = (governs faults word m h within).trimmed

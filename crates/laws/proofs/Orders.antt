@@ -59,15 +59,37 @@ pub still_may : (May : Machine → Addr → Type 0) (m n : Machine) (a : Addr) (
 still_may May m n a [] same others h = tt
 still_may May m n a (b ∷ addrs) same others h = (same b others.0 h.0, still_may May m n a addrs same others.1 h.1)
 
-pub orders-trimmed : (Law : Move → Type 0) (May : Machine → Addr → Type 0) (order : Addr → Order) → Carries Law May order → (addrs : List Addr) (m : Machine) →
-    IsOrdered m → counted_in m ≤ m.settings.hard → AreApart addrs → AllByRecursion (May m) addrs → Trimmed Law m (for_each carries_out (map order addrs) m)
-unfolding for_each Carries
-orders-trimmed Law May order each [] m h within apart may = nothing-trimmed Law m within h
-orders-trimmed Law May order each (a ∷ addrs) m h within apart may =
+-- each order accounts for what it does
+abbrev pub EachAccounted : List Order → Machine → Type 0
+EachAccounted [] m = Unit {0}
+EachAccounted (order ∷ orders) m = Accounts m (carries_out order m) × EachAccounted orders (carries_out order m).machine
+
+-- orders were carried out one after the other
+pub record Followed (Law : Move → Type 0) (orders : List Order) (m : Machine) : Type 0 where
+  pub trimmed : Trimmed Law m (for_each carries_out orders m)
+  pub each : EachAccounted orders m
+
+pub nothing-followed : (Law : Move → Type 0) (m : Machine) → IsOrdered m → counted_in m ≤ m.settings.hard → Followed Law [] m
+unfolding for_each
+nothing-followed Law m h within = record { trimmed = nothing-trimmed Law m within h; each = tt }
+
+pub first-followed : (Law : Move → Type 0) (order : Order) (orders : List Order) (m : Machine) → Trimmed Law m (carries_out order m) →
+    Followed Law orders (carries_out order m).machine → Followed Law (order ∷ orders) m
+unfolding for_each
+first-followed Law order orders m first rest = record {
+  trimmed = trimmed_then Law m (carries_out order m) (for_each carries_out orders) first rest.trimmed;
+  each = (first.accounted, rest.each);
+}
+
+pub orders-followed : (Law : Move → Type 0) (May : Machine → Addr → Type 0) (order : Addr → Order) → Carries Law May order → (addrs : List Addr) (m : Machine) →
+    IsOrdered m → counted_in m ≤ m.settings.hard → AreApart addrs → AllByRecursion (May m) addrs → Followed Law (map order addrs) m
+unfolding Carries
+orders-followed Law May order each [] m h within apart may = nothing-followed Law m h within
+orders-followed Law May order each (a ∷ addrs) m h within apart may =
     let effect : Effect = carries_out (order a) m in
     let first : Carried Law May a m effect = each a m h within may.0 in
-    trimmed_then Law m effect (for_each carries_out (map order addrs)) first.trimmed
-    (orders-trimmed Law May order each addrs effect.machine first.trimmed.ordered (trimmed-within Law m effect first.trimmed) apart.1
+    first-followed Law (order a) (map order addrs) m first.trimmed
+    (orders-followed Law May order each addrs effect.machine first.trimmed.ordered (trimmed-within Law m effect first.trimmed) apart.1
     (still_may May m effect.machine a addrs first.elsewhere apart.0 may.1))
 
 -- where nothing is asked of whom an order is for
