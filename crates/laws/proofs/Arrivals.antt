@@ -34,7 +34,7 @@ first_places-listed a before (x ∷ addrs) h =
     by_test false h left_out kept =
         or_each (same_address a x) (is_listed a (first_places (before ++ x ∷ []) addrs)) (same_address a x) (is_listed a addrs) (λ here. here) kept h
 
-cleaned-listed : (a : Addr) (before : List Addr) (groups : List Group) → is_listed a (members_of (cleaned_after before groups)) ≡ true → is_listed a (members_of groups) ≡ true
+pub cleaned-listed : (a : Addr) (before : List Addr) (groups : List Group) → is_listed a (members_of (cleaned_after before groups)) ≡ true → is_listed a (members_of groups) ≡ true
 unfolding cleaned_after
 cleaned-listed a before [] h = h
 cleaned-listed a before (g ∷ groups) h =
@@ -54,9 +54,12 @@ take-listed a zero (x ∷ addrs) h = absurd (false≢true h)
 take-listed a (suc n) (x ∷ addrs) h =
     or_each (same_address a x) (is_listed a (take n addrs)) (same_address a x) (is_listed a addrs) (λ here. here) (take-listed a n addrs) h
 
+pub publics-listed : (a own : Addr) (most : ℕ) (addrs : List Addr) → is_listed a (publics_of own most addrs) ≡ true → is_listed a addrs ≡ true
+publics-listed a own most addrs listed = first_places-listed a (own ∷ []) addrs (take-listed a most (first_places (own ∷ []) addrs) listed)
+
 -- ---- who is known afterwards
 
-comes-known : (a b : Addr) (m : Machine) → is_known b (comes_ordinary a m).machine ≡ true → (is_known b m || same_address b a) ≡ true
+pub comes-known : (a b : Addr) (m : Machine) → is_known b (comes_ordinary a m).machine ≡ true → (is_known b m || same_address b a) ≡ true
 comes-known a b m h = by_test (same_address b a) refl
   where
     by_test : (c : Bool) → same_address b a ≡ c → (is_known b m || c) ≡ true
@@ -96,7 +99,7 @@ roots_say-known : (answer : RootAnswer) (m : Machine) (b : Addr) → is_known b 
 roots_say-known (Found ttl addrs) m b h =
     let publics : List Addr = publics_of m.settings.own m.targets.root addrs in
     or_each (is_known b m) (is_listed b publics) (is_known b m) (is_listed b addrs) (λ known. known)
-    (λ listed. first_places-listed b (m.settings.own ∷ []) addrs (take-listed b m.targets.root (first_places (m.settings.own ∷ []) addrs) listed))
+    (publics-listed b m.settings.own m.targets.root addrs)
     (come-known b publics (record m { roots = found m.now ttl publics m.roots }) h)
 roots_say-known Failed m b h = or_left (is_known b m) false h
 

@@ -63,7 +63,7 @@ each_appended act (x ∷ xs) ys m =
     ∙ sym (then_assoc (act x m) (for_each act xs) (for_each act ys))
 
 -- an act for each
-each_mapped : {X : Type 0} (name : X → Act) (act : X → Machine → Effect) → ((x : X) (m : Machine) → does (name x) m ≡ act x m) → (xs : List X) (m : Machine) →
+pub each_mapped : {X : Type 0} (name : X → Act) (act : X → Machine → Effect) → ((x : X) (m : Machine) → does (name x) m ≡ act x m) → (xs : List X) (m : Machine) →
     for_each does (map name xs) m ≡ for_each act xs m
 unfolding for_each
 each_mapped name act same [] m = refl
@@ -113,7 +113,7 @@ rules-chain (r ∷ each) m =
     then_same (rules r m) (for_each rules each) (for_each carries_out (orders_of each (rules r m).machine)) (rules-chain each (rules r m).machine)
     ∙ sym (each_appended carries_out (r m) (orders_of each (rules r m).machine) m)
 
-orders-chain : (each : List (Machine → List Order)) (m : Machine) → for_each rules each m ≡ for_each does (map carries (orders_of each m)) m
+pub orders-chain : (each : List (Machine → List Order)) (m : Machine) → for_each rules each m ≡ for_each does (map carries (orders_of each m)) m
 orders-chain each m = rules-chain each m ∙ sym (each_mapped carries carries_out (λ o w. refl) (orders_of each m) m)
 
 govern-chain : (word : ℕ) (m : Machine) → govern word m ≡ for_each does (acts m (Govern word)) m

@@ -178,7 +178,7 @@ fires_as-obeys faults Reply10 m e k h s late given = ending-obeys faults (Fault 
 abbrev GivesLate : Faults → Type 0
 GivesLate faults = (m : Machine) (e : Entry) → IsLate m.now e ReplyWait → faults m e ReplyWait
 
-fires-obeys : (faults : Faults) → GivesLate faults → (d : Deadline) (m : Machine) → IsOrdered m → due m ≡ Some d → Obeys (IsLawful faults) m (fires d m)
+pub fires-obeys : (faults : Faults) → GivesLate faults → (d : Deadline) (m : Machine) → IsOrdered m → due m ≡ Some d → Obeys (IsLawful faults) m (fires d m)
 unfolding MeansLate
 fires-obeys faults gives d m h is =
     let next : Due m d = due_of m d h.orderly is in

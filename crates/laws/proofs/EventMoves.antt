@@ -126,7 +126,7 @@ roots-providing : (job : Job) (answer : RootAnswer) (m : Machine) → IsProvidin
 roots-providing job answer m = cond_both (awaits job.0 m.roots) (roots_say answer m) (nothing_more m) (IsProviding m)
     (λ pending. roots_say-providing answer m) (λ other. record { moves = refl; connections = refl; hot = λ addr hot. hot; told = told_nothing m })
 
-comes_big-allowed : (faults : Faults) (addr : Addr) (m : Machine) → Obeys (IsAllowed faults) m (comes_big addr m)
+pub comes_big-allowed : (faults : Faults) (addr : Addr) (m : Machine) → Obeys (IsAllowed faults) m (comes_big addr m)
 comes_big-allowed faults addr m = cond_both (is_wanted_big addr m) (as_move (shared addr) m (peer_comes true addr m)) (nothing_more m) (Obeys (IsAllowed faults) m)
     (λ wanted. as_move-obeys (IsAllowed faults) (shared addr) m (peer_comes true addr m) (comes-providing true addr m).moves (record { back_off = tt; cause = tt })
     (shared-accounts true addr m))
@@ -183,7 +183,7 @@ fails-obeys faults m e k h s dials =
     no_dial : (effect : Effect) → promoted_by_dial (left e.facts.cid.0) m.next_id effect.machine.next_id ≡ []
     no_dial effect = refl
 
-dial_ends-obeys : (faults : Faults) (cid : Cid) (opened : Bool) (m : Machine) → IsOrdered m → Obeys (IsLawful faults) m (dial_ends cid opened m)
+pub dial_ends-obeys : (faults : Faults) (cid : Cid) (opened : Bool) (m : Machine) → IsOrdered m → Obeys (IsLawful faults) m (dial_ends cid opened m)
 dial_ends-obeys faults cid opened m h = by_entry (entry_at cid.0 m) refl opened
   where
     by_end : (e : Entry) (k : ℕ) → StandsAt m.connections k e → is_dialing e.facts ≡ true → (b : Bool) →
@@ -254,7 +254,7 @@ through-obeys faults Free addr m h = beside-obeys faults addr m h
 through-obeys faults (PauseFor delay) addr m h = beside-obeys faults addr m h
 through-obeys faults NoRoom addr m h = quiet-obeys (IsLawful faults) m (turned_away Full m) (tells-quiet (turned_away Full m).actions m refl)
 
-connects-obeys : (faults : Faults) (addr : Addr) (m : Machine) → IsOrdered m → Obeys (IsLawful faults) m (peer_connects addr m)
+pub connects-obeys : (faults : Faults) (addr : Addr) (m : Machine) → IsOrdered m → Obeys (IsLawful faults) m (peer_connects addr m)
 connects-obeys faults addr m h = cond_both (same_address addr m.settings.own) (turned_away OwnAddr m)
     (accepted_through (gate_of m.settings (counted_in m)) addr m) (Obeys (IsLawful faults) m)
     (λ own. quiet-obeys (IsLawful faults) m (turned_away OwnAddr m) (tells-quiet (turned_away OwnAddr m).actions m refl))
@@ -291,7 +291,7 @@ closes-lawful Law cid m = by_entry (entry_at cid.0 m)
     by_entry (Some e) = cond_both (is_live e.facts) (vanishes e m) (nothing_more m) (λ effect. AllByRecursion Law effect.moves)
         (λ live. quiet-lawful Law (vanishes e m) (lost-quiet e.facts (without_entry e.facts.cid.0 m)).moves) (λ closed. tt)
 
-closes-known : (cid : Cid) (m : Machine) → IsOrdered m → EndsAreMoves m (Closed cid)
+pub closes-known : (cid : Cid) (m : Machine) → IsOrdered m → EndsAreMoves m (Closed cid)
 closes-known cid m h id before = by_entry (entry_at cid.0 m) refl
   where
     or_last : (a b : Bool) → (a || b || true) ≡ true
@@ -324,7 +324,7 @@ closes-known cid m h id before = by_entry (entry_at cid.0 m) refl
         (λ live. by_id e at.place at.stands (eqb-true e.facts.cid.0 cid.0 at.passes) (has_id id e.facts) refl)
         (λ closed. or_first (is_negotiated_at id m) false (cid.0 == id) before)
 
-closes-rises : (cid : Cid) (m : Machine) → IsOrdered m → Rises m (peer_closes cid m)
+pub closes-rises : (cid : Cid) (m : Machine) → IsOrdered m → Rises m (peer_closes cid m)
 closes-rises cid m h = by_entry (entry_at cid.0 m) refl
   where
     nothing : Rises m (nothing_more m)
@@ -342,7 +342,7 @@ closes-rises cid m h = by_entry (entry_at cid.0 m) refl
         lost.hot lost.known)
         (λ closed. nothing)
 
-closes-told : (cid : Cid) (m : Machine) → IsOrdered m → IsTold m (peer_closes cid m)
+pub closes-told : (cid : Cid) (m : Machine) → IsOrdered m → IsTold m (peer_closes cid m)
 closes-told cid m h = by_entry (entry_at cid.0 m) refl
   where
     by_entry : (o : Option Entry) → entry_at cid.0 m ≡ o → IsTold m (closed_at o m)

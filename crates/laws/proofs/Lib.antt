@@ -48,3 +48,5 @@ mod ToldMoves
 mod Open
 mod Chain
 mod Due
+mod PartMoves
+mod PartEvents

@@ -14,6 +14,7 @@ use Rattle.machine.specs.Effect.{Effect, Happened, Move, then_do, as_move}
 use Rattle.machine.specs.Peers.{peer_at, turns_at, peer_changes}
 use Rattle.machine.specs.Connections.{with_entry, without_entry}
 use Rattle.laws.specs.AtMoves.{is_up_connection, is_up, is_hot_peer, is_asked_connection, is_hot_or_asked, is_known, promotes, activates, shares}
+use Rattle.laws.specs.Parts.{RisesBy}
 use Rattle.laws.specs.Sound.{IsOrderly}
 use Rattle.laws.proofs.Addresses.{same_address-true}
 use Rattle.laws.proofs.Entries.{TurnsInto, with_new}
@@ -22,10 +23,6 @@ use Rattle.laws.proofs.PeersApart.{same_turned}
 use Rattle.laws.proofs.Ties.{live_here, turned_here, turned_elsewhere, turned_dead, gone_here, gone_elsewhere, gone_dead, found-addr, peer_here, put_in-elsewhere, put_in-here, none_there, taken-elsewhere, taken-here, turns_at-elsewhere}
 
 -- ---- a move says so
-
--- Whoever is so after was so before, or a move says so.
-abbrev pub RisesBy : (Addr → Machine → Bool) → (Addr → Happened → Bool) → Machine → Effect → Type 0
-RisesBy is says before effect = (addr : Addr) → is addr effect.machine ≡ true → (is addr before || list_any (λ move. says addr move.happened) effect.moves) ≡ true
 
 pub record Rises (before : Machine) (effect : Effect) : Type 0 where
   pub promotions : RisesBy is_up promotes before effect

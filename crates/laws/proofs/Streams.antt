@@ -50,7 +50,7 @@ found-cid cid m e is =
     cid_of : ℕ → Cid
     cid_of n = record { 0 = n }
 
-handles-trimmed : (faults : Faults) (cid : Cid) (item : Item) (m : Machine) → IsOrdered m → counted_in m ≤ m.settings.hard → GivesItem faults cid item →
+pub handles-trimmed : (faults : Faults) (cid : Cid) (item : Item) (m : Machine) → IsOrdered m → counted_in m ≤ m.settings.hard → GivesItem faults cid item →
     Trimmed (IsLawful faults) m (handles cid item m)
 handles-trimmed faults cid item m h within gives = by_entry (entry_at cid.0 m) refl
   where
@@ -60,7 +60,7 @@ handles-trimmed faults cid item m h within gives = by_entry (entry_at cid.0 m) r
         let at = find_some (λ y. has_id cid.0 y.facts) m.connections e is in
         handled_in-trimmed faults e.facts.phase item m e at.place refl h within at.stands (λ kind fault. gives m e kind (found-cid cid m e is) fault)
 
-faulted-trimmed : (faults : Faults) (cid : Cid) (fault : Option CutFault) → GivesStream faults cid fault → (m : Machine) → IsOrdered m → counted_in m ≤ m.settings.hard →
+pub faulted-trimmed : (faults : Faults) (cid : Cid) (fault : Option CutFault) → GivesStream faults cid fault → (m : Machine) → IsOrdered m → counted_in m ≤ m.settings.hard →
     IsOpen cid.0 m → Trimmed (IsLawful faults) m (faulted_at (entry_at cid.0 m) fault m)
 faulted-trimmed faults cid fault gives m h within open_ = by_entry (entry_at cid.0 m) refl fault gives
   where

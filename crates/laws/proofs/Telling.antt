@@ -156,7 +156,7 @@ told_move happened m effect no_end no_dial h =
 
 -- ---- what is sent, put off, or asked of others
 
-abbrev is_mute : Action → Bool
+abbrev pub is_mute : Action → Bool
 is_mute (Send cid payload) = true
 is_mute (Turnaway away) = true
 is_mute (Pause delay) = true

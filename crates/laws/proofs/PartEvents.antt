@@ -1,0 +1,271 @@
+-- The parts of each event are lawful.
+use Rattle.std.proofs.Common.{ℕ, zero, suc, ◌≤◌, ◌≡◌, Bool, true, false, ◌||◌, nat_le, if◌then◌else◌, List, [], ◌∷◌, ◌++◌, map, length, All, Option, Some, None, refl, sym, ap, ◌∙◌, subst, arith}
+use Rattle.std.specs.List.{AllByRecursion}
+use Rattle.std.proofs.lemmas.Bool.{cond_both, or_left, or_right, or_parts, false≢true}
+use Rattle.std.proofs.lemmas.List.Elements.{All-weaker, All-contains_itself}
+use Rattle.conn_state.specs.Use.{has_id, is_live, live_phase}
+use Rattle.govern_rules.specs.declared.order.Order.{Order}
+use Rattle.mux_segment.specs.Stream.{FedBy}
+use Rattle.mux_segment.specs.declared.item.Item.{Item}
+use Rattle.net_base.specs.Address.{same_address}
+use Rattle.net_base.specs.declared.address.Addr.{Addr}
+use Rattle.net_base.specs.declared.connection.Cid.{Cid}
+use Rattle.net_base.specs.declared.connection.Phase.{Phase}
+use Rattle.net_base.specs.declared.connection.Phase.TheVariants.{Dialing, Greeting, Negotiated, Closing}
+use Rattle.net_base.specs.declared.event.Event.{Event}
+use Rattle.net_base.specs.declared.event.Event.TheVariants.{Now, Govern, Accepted, Dialed, Bytes, Closed, Aims, Locals, Roots, BigAims, Bigs}
+use Rattle.net_base.specs.declared.event.Group.{Group}
+use Rattle.net_base.specs.declared.event.RootAnswer.{RootAnswer}
+use Rattle.net_base.specs.declared.event.RootAnswer.TheVariants.{Found, Failed}
+use Rattle.net_base.specs.declared.timer.Deadline.{Deadline}
+use Rattle.root_groups.specs.Cleaned.{is_listed, cleaned, members_of}
+use Rattle.root_groups.specs.RootAsk.{awaits, publics_of, found}
+use Rattle.machine.specs.Connections.{with_entry, entry_turns}
+use Rattle.machine.specs.Deadlines.{deadlines, due, fires}
+use Rattle.machine.specs.Effect.{Effect, for_each}
+use Rattle.machine.specs.Govern.{carries_out, asks_roots, ordinary_rules, big_rules, rules}
+use Rattle.machine.specs.Machine.{Machine, Entry, counted_in, entry_at}
+use Rattle.machine.specs.Peers.{peer_is_ordinary}
+use Rattle.machine.specs.Provided.{comes_ordinary, comes_big}
+use Rattle.machine.specs.Stream.{handles}
+use Rattle.laws.specs.Acts.{Act, shows, fires_one, asks_for_roots, carries, connects, ends_dial, stores, handles_item, ends_stream, is_closed, sets_targets, sets_big_targets, sets_groups, sets_roots, makes_ordinary, provides, provides_big, does, fired_from, fired, orders_of, acts_at_moment, acts_fed, acts_in_phase, acts_of_bytes, acts_of_groups, acts_of_answer, acts, parts_of}
+use Rattle.laws.specs.AtMoves.{Faults, IsLawful, is_known, is_provided_by, is_shared_in, fed_on}
+use Rattle.laws.specs.Parts.{IsNext, IsLawfulPart, IsLawfulEvent}
+use Rattle.laws.specs.Whole.{IsSteady}
+use Rattle.laws.proofs.Addresses.{same_address-self, same_address-true}
+use Rattle.laws.proofs.Chain.{orders-chain, each_mapped, parts-chain}
+use Rattle.laws.proofs.EventMoves.{connects-obeys, dial_ends-obeys, comes_big-allowed, closes-told, closes-known, closes-rises, moves-lawful}
+use Rattle.laws.proofs.Clock.{fires-obeys}
+use Rattle.laws.proofs.Events.{at_moment-orderly}
+use Rattle.laws.proofs.Arrivals.{cleaned-listed, publics-listed, comes-known}
+use Rattle.laws.proofs.Governing.{Governs, governs}
+use Rattle.laws.proofs.Keeping.{IsOrdered, Keeps}
+use Rattle.laws.proofs.Lawful.{Accounts, IsQuiet, quiet-obeys, elsewhere-quiet, changes-quiet, comes-providing, turns-obeys}
+use Rattle.laws.proofs.Lists.{StandsAt, find_some}
+use Rattle.laws.proofs.Open.{IsOpen, turned-open, handles-open}
+use Rattle.laws.proofs.Orders.{EachAccounted}
+use Rattle.laws.proofs.PartMoves.{KeepsPart, accounted-part, providing-part, ends-once, AreLawful, no_part, first_part, one_part, more_parts, all_parts}
+use Rattle.laws.proofs.Rises.{Rises}
+use Rattle.laws.proofs.Streams.{handles-trimmed, faulted-trimmed}
+use Rattle.laws.proofs.Telling.{are_mute}
+use Rattle.laws.proofs.Trims.{Trimmed, trimmed-within}
+use Rattle.laws.proofs.WholeEvents.{ordered_of, formed_at_moment, fires-keeps}
+use Rattle.laws.proofs.WholeMoves.{decodes-keeps}
+
+-- where everything is a fault, the rest is kept as well
+abbrev all_faults : Faults
+all_faults m e kind = Unit {0}
+
+-- ---- the clock
+
+fired-parts : (event : Event) (n : ℕ) (m : Machine) → IsOrdered m → AreLawful event (map fires_one (fired n m)) m
+unfolding fired
+fired-parts event zero m h = no_part event m
+fired-parts event (suc n) m h = by_due (due m) refl (fired-parts event n)
+  where
+    by_due : (o : Option Deadline) → due m ≡ o → ((w : Machine) → IsOrdered w → AreLawful event (map fires_one (fired n w)) w) →
+        AreLawful event (map fires_one (fired_from o (fired n) m)) m
+    by_due None is later = no_part event m
+    by_due (Some d) is later =
+        let keeps : Keeps 0 m (fires d m).machine = fires-keeps d m h is in
+        first_part event (fires_one d) (map fires_one (fired n (fires d m).machine)) m is
+        (accounted-part event m (fires d m) (fires-obeys all_faults (λ w e late. tt) d m h is).accounted) (later (fires d m).machine keeps.ordered)
+
+-- what is neither a connection nor a peer is set
+set-part : (event : Event) (act : Act) (m : Machine) → (does act m).moves ≡ [] → (does act m).machine.connections ≡ m.connections →
+    (does act m).machine.peers ≡ m.peers → (does act m).machine.next_id ≡ m.next_id → (does act m).actions ≡ [] → KeepsPart event m (does act m)
+set-part event act m none connections peers next_id silent =
+    accounted-part event m (does act m) (quiet-obeys (λ move. Unit {0}) m (does act m)
+    (elsewhere-quiet m (does act m) none connections peers next_id (ap are_mute silent))).accounted
+
+clock-parts : (t : ℕ) (m : Machine) → IsOrdered m → AreLawful (Now t) (acts m (Now t)) m
+clock-parts t m h = by_test (nat_le t m.now)
+  where
+    n : Machine
+    n = record m { now = t }
+
+    ordered : IsOrdered n
+    ordered = record { orderly = at_moment-orderly t m h.orderly; formed = formed_at_moment t m h.formed }
+
+    by_test : (b : Bool) → AreLawful (Now t) (if b then [] else acts_at_moment t m) m
+    by_test true = no_part (Now t) m
+    by_test false =
+        first_part (Now t) (shows t) (map fires_one (fired (length (deadlines n)) n)) m tt (set-part (Now t) (shows t) m refl refl refl refl refl)
+        (fired-parts (Now t) (length (deadlines n)) n ordered)
+
+-- ---- the governor
+
+orders-parts : (event : Event) (orders : List Order) (m : Machine) → EachAccounted orders m → AreLawful event (map carries orders) m
+orders-parts event [] m h = no_part event m
+orders-parts event (o ∷ orders) m h =
+    first_part event (carries o) (map carries orders) m tt (accounted-part event m (carries_out o m) h.0) (orders-parts event orders (carries_out o m).machine h.1)
+
+govern-parts : (word : ℕ) (m : Machine) → IsOrdered m → counted_in m ≤ m.settings.hard → AreLawful (Govern word) (acts m (Govern word)) m
+govern-parts word m h within =
+    let g : Governs all_faults word m = governs all_faults word m h within in
+    let n : Machine = (asks_roots m).machine in
+    let o : Machine = (for_each rules (ordinary_rules word) n).machine in
+    let ordinary : List Act = map carries (orders_of (ordinary_rules word) n) in
+    let big : List Act = map carries (orders_of (big_rules word) o) in
+    first_part (Govern word) asks_for_roots (ordinary ++ big) m tt (accounted-part (Govern word) m (asks_roots m) g.asked)
+    (more_parts (Govern word) ordinary big n (orders-parts (Govern word) (orders_of (ordinary_rules word) n) n g.ordinary)
+    (subst (λ effect. AreLawful (Govern word) big effect.machine) (orders-chain (ordinary_rules word) n)
+    (orders-parts (Govern word) (orders_of (big_rules word) o) o g.big)))
+
+-- ---- bytes
+
+record Feeding (cid : Cid) (m : Machine) : Type 0 where
+  ordered : IsOrdered m
+  within : counted_in m ≤ m.settings.hard
+  open_ : IsOpen cid.0 m
+
+stream-part : (event : Event) (cid : Cid) (fed : FedBy) (m : Machine) → Feeding cid m → AreLawful event (ends_stream cid fed.state.fault ∷ []) m
+stream-part event cid fed m f =
+    one_part event (ends_stream cid fed.state.fault) m tt
+    (accounted-part event m (does (ends_stream cid fed.state.fault) m)
+    (faulted-trimmed all_faults cid fed.state.fault (λ w e kind own is. tt) m f.ordered f.within f.open_).accounted)
+
+items-parts : (event : Event) (cid : Cid) (fed : FedBy) (items : List Item) (m : Machine) → Feeding cid m →
+    AreLawful event (map (handles_item cid) items ++ ends_stream cid fed.state.fault ∷ []) m
+items-parts event cid fed [] m f = stream-part event cid fed m f
+items-parts event cid fed (item ∷ items) m f =
+    let effect : Effect = handles cid item m in
+    let t : Trimmed (IsLawful all_faults) m effect = handles-trimmed all_faults cid item m f.ordered f.within (λ w e kind own is. tt) in
+    first_part event (handles_item cid item) (map (handles_item cid) items ++ ends_stream cid fed.state.fault ∷ []) m tt
+    (accounted-part event m effect t.accounted)
+    (items-parts event cid fed items effect.machine
+    (record { ordered = t.ordered; within = trimmed-within (IsLawful all_faults) m effect t; open_ = handles-open cid item m f.open_ }))
+
+fed-parts : (event : Event) (fed : FedBy) (m : Machine) (e : Entry) (k : ℕ) → IsOrdered m → counted_in m ≤ m.settings.hard → StandsAt m.connections k e →
+    is_live e.facts ≡ true → AreLawful event (acts_fed fed e) m
+fed-parts event fed m e k h within s live =
+    let new : Entry = record e { undecoded = fed.state.undecoded } in
+    let n : Machine = with_entry new m in
+    let keeps : Keeps 0 m n = decodes-keeps fed.state.undecoded m e k h s in
+    let hard : n.settings.hard ≡ m.settings.hard = ap (λ x. x.hard) keeps.settings in
+    first_part event (stores e fed.state.undecoded) (map (handles_item e.facts.cid) fed.items ++ ends_stream e.facts.cid fed.state.fault ∷ []) m tt
+    (accounted-part event m (entry_turns e new m)
+    (turns-obeys (λ move. Unit {0}) m e new k h.orderly s (record { same_id = refl; same_addr = refl; live = λ l. l }) (record { up = λ up. up; asked = λ asked. asked })
+    (λ negotiated. negotiated) (omega arith)).accounted)
+    (items-parts event e.facts.cid fed fed.items n
+    (record { ordered = keeps.ordered; within = omega (arith, keeps.counted, hard, within); open_ = turned-open new m live }))
+
+bytes-parts : (cid : Cid) (bytes : List ℕ) (m : Machine) → IsOrdered m → counted_in m ≤ m.settings.hard → AreLawful (Bytes cid bytes) (acts m (Bytes cid bytes)) m
+bytes-parts cid bytes m h within = by_entry (entry_at cid.0 m) refl
+  where
+    by_phase : (p : Phase) (e : Entry) (k : ℕ) → e.facts.phase ≡ p → StandsAt m.connections k e → AreLawful (Bytes cid bytes) (acts_in_phase p bytes e) m
+    by_phase Dialing e k is s = no_part (Bytes cid bytes) m
+    by_phase (Greeting until) e k is s = fed-parts (Bytes cid bytes) (fed_on e bytes) m e k h within s (ap live_phase is)
+    by_phase Negotiated e k is s = fed-parts (Bytes cid bytes) (fed_on e bytes) m e k h within s (ap live_phase is)
+    by_phase (Closing until) e k is s = no_part (Bytes cid bytes) m
+
+    by_entry : (o : Option Entry) → entry_at cid.0 m ≡ o → AreLawful (Bytes cid bytes) (acts_of_bytes o bytes) m
+    by_entry None is = no_part (Bytes cid bytes) m
+    by_entry (Some e) is =
+        let at = find_some (λ y. has_id cid.0 y.facts) m.connections e is in
+        by_phase e.facts.phase e at.place refl at.stands
+
+-- ---- what is set and provided
+
+ordinary-accounts : (a : Addr) (m : Machine) → Accounts m (peer_is_ordinary a m)
+ordinary-accounts a m =
+    (quiet-obeys (λ move. Unit {0}) m (peer_is_ordinary a m)
+    (changes-quiet a (λ p. record p { big = false }) m (record { addr = λ p. refl; hot = λ p hot. hot }))).accounted
+
+ordinary-parts : (event : Event) (addrs : List Addr) (m : Machine) → AreLawful event (map makes_ordinary addrs) m
+ordinary-parts event [] m = no_part event m
+ordinary-parts event (a ∷ addrs) m =
+    first_part event (makes_ordinary a) (map makes_ordinary addrs) m tt (accounted-part event m (peer_is_ordinary a m) (ordinary-accounts a m))
+    (ordinary-parts event addrs (peer_is_ordinary a m).machine)
+
+provided-parts : (event : Event) (addrs : List Addr) (m : Machine) → AllByRecursion (λ a. is_provided_by a event ≡ true) addrs → AreLawful event (map provides addrs) m
+provided-parts event [] m named = no_part event m
+provided-parts event (a ∷ addrs) m named =
+    first_part event (provides a) (map provides addrs) m tt (providing-part event m (comes_ordinary a m) (comes-providing false a m) one)
+    (provided-parts event addrs (comes_ordinary a m).machine named.1)
+  where
+    one : (b : Addr) → is_known b (comes_ordinary a m).machine ≡ true → (is_known b m || is_provided_by b event) ≡ true
+    one b known = by_known (is_known b m) (same_address b a) refl (comes-known a b m known)
+      where
+        by_known : (before same : Bool) → same_address b a ≡ same → (before || same) ≡ true → (before || is_provided_by b event) ≡ true
+        by_known true same is h = refl
+        by_known false true is h = subst (λ x. is_provided_by x event ≡ true) (sym (same_address-true b a is)) named.0
+        by_known false false is h = absurd (false≢true h)
+
+all-listed : (whole addrs : List Addr) → ((a : Addr) → is_listed a addrs ≡ true → is_listed a whole ≡ true) → AllByRecursion (λ a. is_listed a whole ≡ true) addrs
+all-listed whole [] among = tt
+all-listed whole (a ∷ addrs) among = (
+  among a (or_left (same_address a a) (is_listed a addrs) (same_address-self a)),
+  all-listed whole addrs (λ b later. among b (or_right (same_address b a) (is_listed b addrs) later)),
+)
+
+locals-parts : (groups : List Group) (m : Machine) → AreLawful (Locals groups) (acts m (Locals groups)) m
+locals-parts groups m =
+    let kept : List Group = cleaned m.settings.own groups in
+    let members : List Addr = members_of kept in
+    let n : Machine = record m { groups = kept } in
+    first_part (Locals groups) (sets_groups kept) (map makes_ordinary members ++ map provides members) m tt
+    (set-part (Locals groups) (sets_groups kept) m refl refl refl refl refl)
+    (more_parts (Locals groups) (map makes_ordinary members) (map provides members) n (ordinary-parts (Locals groups) members n)
+    (provided-parts (Locals groups) members (for_each does (map makes_ordinary members) n).machine
+    (all-listed (members_of groups) members (λ a. cleaned-listed a (m.settings.own ∷ []) groups))))
+
+roots-parts : (event : Event) (answer : RootAnswer) (m : Machine) → ((a : Addr) (ttl : ℕ) (addrs : List Addr) → answer ≡ Found ttl addrs → is_listed a addrs ≡ true → is_provided_by a event ≡ true) →
+    AreLawful event (acts_of_answer answer m) m
+roots-parts event (Found ttl addrs) m named =
+    let publics : List Addr = publics_of m.settings.own m.targets.root addrs in
+    first_part event (sets_roots (found m.now ttl publics m.roots)) (map provides publics) m tt
+    (set-part event (sets_roots (found m.now ttl publics m.roots)) m refl refl refl refl refl)
+    (provided-parts event publics (record m { roots = found m.now ttl publics m.roots })
+    (all-named publics (all-listed addrs publics (λ a. publics-listed a m.settings.own m.targets.root addrs))))
+  where
+    all-named : (xs : List Addr) → AllByRecursion (λ a. is_listed a addrs ≡ true) xs → AllByRecursion (λ a. is_provided_by a event ≡ true) xs
+    all-named [] h = tt
+    all-named (a ∷ xs) h = (named a ttl addrs refl h.0, all-named xs h.1)
+roots-parts event Failed m named = one_part event (sets_roots _) m tt (set-part event (sets_roots _) m refl refl refl refl refl)
+
+bigs-parts : (event : Event) (addrs : List Addr) (m : Machine) → AreLawful event (map provides_big addrs) m
+bigs-parts event [] m = no_part event m
+bigs-parts event (a ∷ addrs) m =
+    first_part event (provides_big a) (map provides_big addrs) m tt (accounted-part event m (comes_big a m) (comes_big-allowed all_faults a m).accounted)
+    (bigs-parts event addrs (comes_big a m).machine)
+
+-- ---- each event
+
+closed-part : (cid : Cid) (m : Machine) → IsOrdered m → KeepsPart (Closed cid) m (does (is_closed cid) m)
+closed-part cid m h =
+    let rises : Rises m (does (is_closed cid) m) = closes-rises cid m h in
+    record {
+      told = closes-told cid m h;
+      done = ends-once (Closed cid) m (does (is_closed cid) m) (closes-told cid m h) (closes-known cid m h);
+      promotions = rises.promotions;
+      activations = rises.activations;
+      arrivals = λ addr known. or_left (is_known addr m || is_shared_in addr (does (is_closed cid) m).moves) (is_provided_by addr (Closed cid)) (rises.arrivals addr known);
+    }
+
+parts-lawful : (m : Machine) (event : Event) → IsSteady m → AreLawful event (acts m event) m
+parts-lawful m (Now t) h = clock-parts t m (ordered_of m h)
+parts-lawful m (Govern word) h = govern-parts word m (ordered_of m h) h.sound.counted
+parts-lawful m (Accepted addr) h =
+    one_part (Accepted addr) (connects addr) m tt (accounted-part (Accepted addr) m (does (connects addr) m) (connects-obeys all_faults addr m (ordered_of m h)).accounted)
+parts-lawful m (Dialed cid opened) h =
+    one_part (Dialed cid opened) (ends_dial cid opened) m tt
+    (accounted-part (Dialed cid opened) m (does (ends_dial cid opened) m) (dial_ends-obeys all_faults cid opened m (ordered_of m h)).accounted)
+parts-lawful m (Bytes cid bytes) h = bytes-parts cid bytes m (ordered_of m h) h.sound.counted
+parts-lawful m (Closed cid) h = one_part (Closed cid) (is_closed cid) m tt (closed-part cid m (ordered_of m h))
+parts-lawful m (Aims targets) h = one_part (Aims targets) (sets_targets targets) m tt (set-part (Aims targets) (sets_targets targets) m refl refl refl refl refl)
+parts-lawful m (Locals groups) h = locals-parts groups m
+parts-lawful m (Roots job answer) h = by_test (awaits job.0 m.roots)
+  where
+    named : (a : Addr) (ttl : ℕ) (addrs : List Addr) → answer ≡ Found ttl addrs → is_listed a addrs ≡ true → is_provided_by a (Roots job answer) ≡ true
+    named a ttl addrs is listed = subst (λ x. is_provided_by a (Roots job x) ≡ true) (sym is) listed
+
+    by_test : (b : Bool) → AreLawful (Roots job answer) (if b then acts_of_answer answer m else []) m
+    by_test true = roots-parts (Roots job answer) answer m named
+    by_test false = no_part (Roots job answer) m
+parts-lawful m (BigAims targets) h =
+    one_part (BigAims targets) (sets_big_targets targets) m tt (set-part (BigAims targets) (sets_big_targets targets) m refl refl refl refl refl)
+parts-lawful m (Bigs addrs) h = bigs-parts (Bigs addrs) addrs m
+
+pub event-lawful : (m : Machine) (event : Event) → IsSteady m → IsLawfulEvent m event
+event-lawful m event h = record { parts = parts-chain m event; each = all_parts event (acts m event) m (parts-lawful m event h); moves = moves-lawful m event h }

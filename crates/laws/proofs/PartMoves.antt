@@ -1,0 +1,157 @@
+-- Each part of an event is lawful.
+use Rattle.std.proofs.Common.{ℕ, zero, suc, ◌≤◌, ◌≡◌, Bool, true, false, ◌||◌, ◌==◌, nat_le, if◌then◌else◌, List, [], ◌∷◌, ◌++◌, map, length, take, All, flat_map, Option, Some, None, refl, sym, ap, ◌∙◌, subst, arith}
+use Rattle.std.specs.List.{AllByRecursion, list_any}
+use Rattle.std.proofs.lemmas.Bool.{cond_both, both_ways, false≢true, or_left, or_right}
+use Rattle.net_base.specs.Address.{same_address}
+use Rattle.net_base.specs.declared.action.CloseCause.{CloseCause}
+use Rattle.net_base.specs.declared.address.Addr.{Addr}
+use Rattle.net_base.specs.declared.connection.Phase.{Phase}
+use Rattle.net_base.specs.declared.connection.Phase.TheVariants.{Dialing, Greeting, Negotiated, Closing}
+use Rattle.net_base.specs.declared.event.Event.{Event}
+use Rattle.conn_state.specs.Use.{is_negotiated_phase}
+use Rattle.root_groups.specs.Cleaned.{is_listed}
+use Rattle.machine.specs.Effect.{Effect, for_each, Happened, Move, promoted, activated, shared, ended, unused, left}
+use Rattle.machine.specs.Machine.{Machine, Entry, entry_at}
+use Rattle.laws.specs.Acts.{Act, does, Part, effect_of, parts_from}
+use Rattle.laws.specs.AtMoves.{is_negotiated_entry, is_negotiated_at, ends, is_ended_in, is_closed_by, is_up, is_hot_or_asked, is_known, promotes, activates, is_shared_in, is_provided_by}
+use Rattle.laws.specs.Parts.{ends_due, but_pruned, IsNext, IsDone, EndsOnce, RisesBy, Arrives, IsLawfulPart}
+use Rattle.laws.specs.Stages.{stage_of_phase, stage_of, stage_at, causes_by, causes_in, IsLateCause, IsOneEnd}
+use Rattle.laws.specs.Telling.{IsTold}
+use Rattle.laws.specs.Told.{End, ended_by, ends_in}
+use Rattle.laws.proofs.Due.{ends-due}
+use Rattle.laws.proofs.Lawful.{Accounts, IsProviding, ends_same}
+use Rattle.laws.proofs.Lists.{all-placed}
+use Rattle.laws.proofs.Rises.{NoneConnected, or_each, hot_or_asked-down, rises_nowhere, same-connected}
+
+-- ---- who was negotiated before it
+
+-- without a cause no move has ended it
+uncaused : (cid : ℕ) (moves : List Move) → causes_in cid moves ≡ [] → is_ended_in cid moves ≡ false
+uncaused cid [] h = refl
+uncaused cid (move ∷ moves) h = by_happened move.happened h (uncaused cid moves)
+  where
+    by_id : (own : Bool) (cause : CloseCause) → ((if own then cause ∷ [] else []) ++ causes_in cid moves) ≡ [] → (causes_in cid moves ≡ [] → is_ended_in cid moves ≡ false) →
+        (own || is_ended_in cid moves) ≡ false
+    by_id true cause some later = absurd cc
+    by_id false cause none later = later none
+
+    by_happened : (happened : Happened) → flat_map (causes_by cid) (ended_by happened ++ ends_in moves) ≡ [] → (causes_in cid moves ≡ [] → is_ended_in cid moves ≡ false) →
+        (ends cid happened || is_ended_in cid moves) ≡ false
+    by_happened (promoted addr) h later = later h
+    by_happened (activated addr) h later = later h
+    by_happened (shared addr) h later = later h
+    by_happened (ended old cause) h later = by_id (old == cid) cause h later
+    by_happened (unused old) h later = by_id (old == cid) _ h later
+    by_happened (left old) h later = later h
+
+negotiated-stage : (o : Option Entry) (given : Bool) → is_negotiated_entry o ≡ true → stage_of o given ≡ 3
+negotiated-stage None given h = absurd (false≢true h)
+negotiated-stage (Some e) given h = by_phase e.facts.phase h
+  where
+    by_phase : (p : Phase) → is_negotiated_phase p ≡ true → stage_of_phase p ≡ 3
+    by_phase Dialing h = absurd (false≢true h)
+    by_phase (Greeting until) h = absurd (false≢true h)
+    by_phase Negotiated h = refl
+    by_phase (Closing until) h = absurd (false≢true h)
+
+pub ends-once : (event : Event) (m : Machine) (effect : Effect) → IsTold m effect →
+    ((cid : ℕ) → is_negotiated_at cid m ≡ true → (is_negotiated_at cid effect.machine || is_ended_in cid effect.moves || is_closed_by cid event) ≡ true) →
+    EndsOnce event m effect
+ends-once event m effect told accounted cid before =
+    by_causes (causes_in cid effect.moves) refl (told.connections cid).ends (accounted cid before)
+  where
+    open_ : stage_at cid m ≡ 3
+    open_ = negotiated-stage (entry_at cid m) _ before
+
+    without : (a b c : Bool) → b ≡ false → (a || b || c) ≡ true → (a || c) ≡ true
+    without true b c none h = refl
+    without false true c none h = absurd (false≢true (sym none))
+    without false false c none h = h
+
+    over : (b : Bool) → is_negotiated_at cid effect.machine ≡ b → 4 ≤ stage_at cid effect.machine → b ≡ false
+    over true is late = let stage : stage_at cid effect.machine ≡ 3 = negotiated-stage (entry_at cid effect.machine) _ is in absurd (omega (arith, stage, late))
+    over false is late = refl
+
+    by_causes : (causes : List CloseCause) → causes_in cid effect.moves ≡ causes → IsOneEnd (causes_in cid effect.moves) (stage_at cid m) (stage_at cid effect.machine) →
+        (is_negotiated_at cid effect.machine || is_ended_in cid effect.moves || is_closed_by cid event) ≡ true →
+        IsDone (causes_in cid effect.moves) (is_negotiated_at cid effect.machine) (is_closed_by cid event)
+    by_causes [] is once h =
+        subst (λ cs. IsDone cs (is_negotiated_at cid effect.machine) (is_closed_by cid event)) (sym is)
+        (without (is_negotiated_at cid effect.machine) (is_ended_in cid effect.moves) (is_closed_by cid event) (uncaused cid effect.moves is) h)
+    by_causes (cause ∷ []) is once h =
+        let one = subst (λ cs. IsOneEnd cs (stage_at cid m) (stage_at cid effect.machine)) is once in
+        subst (λ cs. IsDone cs (is_negotiated_at cid effect.machine) (is_closed_by cid event)) (sym is)
+        (over (is_negotiated_at cid effect.machine) refl one.1, one.2 open_)
+    by_causes (cause ∷ other ∷ causes) is once h =
+        elim (subst (λ cs. IsOneEnd cs (stage_at cid m) (stage_at cid effect.machine)) is once) [ ]
+
+-- ---- what a part keeps
+
+pub record KeepsPart (event : Event) (before : Machine) (effect : Effect) : Type 0 where
+  pub told : IsTold before effect
+  pub done : EndsOnce event before effect
+  pub promotions : RisesBy is_up promotes before effect
+  pub activations : RisesBy is_hot_or_asked activates before effect
+  pub arrivals : Arrives event before effect
+
+pub accounted-part : (event : Event) (m : Machine) (effect : Effect) → Accounts m effect → KeepsPart event m effect
+accounted-part event m effect h = record {
+  told = h.told;
+  done = ends-once event m effect h.told
+      (λ cid before. or_left (is_negotiated_at cid effect.machine || is_ended_in cid effect.moves) (is_closed_by cid event) (h.ends cid before));
+  promotions = h.rises.promotions;
+  activations = h.rises.activations;
+  arrivals = λ addr known. or_left (is_known addr m || is_shared_in addr effect.moves) (is_provided_by addr event) (h.rises.arrivals addr known);
+}
+
+-- it provides only whom the event names
+pub providing-part : (event : Event) (m : Machine) (effect : Effect) → IsProviding m effect →
+    ((addr : Addr) → is_known addr effect.machine ≡ true → (is_known addr m || is_provided_by addr event) ≡ true) → KeepsPart event m effect
+providing-part event m effect p named =
+    let connected : NoneConnected m effect.machine = same-connected m effect.machine p.connections in
+    record {
+      told = p.told;
+      done = ends-once event m effect p.told
+          (λ cid before. or_left (is_negotiated_at cid effect.machine || is_ended_in cid effect.moves) (is_closed_by cid event) (ends_same m effect p.connections cid before));
+      promotions = rises_nowhere is_up promotes m effect connected.up;
+      activations = rises_nowhere is_hot_or_asked activates m effect (hot_or_asked-down m effect.machine p.hot connected.asked);
+      arrivals = λ addr known. or_each (is_known addr m) (is_provided_by addr event) (is_known addr m || is_shared_in addr effect.moves) (is_provided_by addr event)
+          (λ before. or_left (is_known addr m) (is_shared_in addr effect.moves) before) (λ is. is) (named addr known);
+    }
+
+pub lawful-part : (event : Event) (act : Act) (m : Machine) → IsNext act m → KeepsPart event m (does act m) → IsLawfulPart event (record { act = act; before = m })
+lawful-part event act m next h = record {
+  told = h.told;
+  next = next;
+  ends = ends-due act m;
+  done = h.done;
+  promotions = h.promotions;
+  activations = h.activations;
+  arrivals = h.arrivals;
+}
+
+-- ---- one part after the other
+
+pub AreLawful : Event → List Act → Machine → Type 0
+AreLawful event acts m = AllByRecursion (IsLawfulPart event) (parts_from acts m)
+
+pub no_part : (event : Event) (m : Machine) → AreLawful event [] m
+unfolding AreLawful parts_from
+no_part event m = tt
+
+pub first_part : (event : Event) (act : Act) (acts : List Act) (m : Machine) → IsNext act m → KeepsPart event m (does act m) →
+    AreLawful event acts (does act m).machine → AreLawful event (act ∷ acts) m
+unfolding AreLawful parts_from
+first_part event act acts m next h rest = (lawful-part event act m next h, rest)
+
+pub one_part : (event : Event) (act : Act) (m : Machine) → IsNext act m → KeepsPart event m (does act m) → AreLawful event (act ∷ []) m
+one_part event act m next h = first_part event act [] m next h (no_part event (does act m).machine)
+
+pub more_parts : (event : Event) (xs ys : List Act) (m : Machine) → AreLawful event xs m → AreLawful event ys (for_each does xs m).machine → AreLawful event (xs ++ ys) m
+unfolding AreLawful parts_from for_each
+more_parts event [] ys m one two = two
+more_parts event (x ∷ xs) ys m one two = (one.0, more_parts event xs ys (does x m).machine one.1 two)
+
+pub all_parts : (event : Event) (acts : List Act) (m : Machine) → AreLawful event acts m → All (IsLawfulPart event) (parts_from acts m)
+unfolding AreLawful
+all_parts event acts m h = all-placed (IsLawfulPart event) (parts_from acts m) h
