@@ -1,6 +1,5 @@
 -- An event is its parts, one after the other.
 use Rattle.std.proofs.Common.{ℕ, zero, suc, ◌≡◌, Bool, true, false, nat_le, if◌then◌else◌, List, [], ◌∷◌, ◌++◌, map, length, Option, Some, None, refl, sym, ap, ◌∙◌}
-use Rattle.std.proofs.lemmas.Bool.{cond_both}
 use Rattle.std.proofs.lemmas.List.{append-nil, append_assoc}
 use Rattle.govern_rules.specs.declared.order.Order.{Order}
 use Rattle.mux_segment.specs.Stream.{FedBy}
@@ -17,15 +16,14 @@ use Rattle.net_base.specs.declared.event.RootAnswer.TheVariants.{Found, Failed}
 use Rattle.net_base.specs.declared.timer.Deadline.{Deadline}
 use Rattle.root_groups.specs.Cleaned.{cleaned, members_of}
 use Rattle.root_groups.specs.RootAsk.{awaits, publics_of, found}
-use Rattle.conn_state.specs.Use.{has_id}
 use Rattle.machine.specs.Deadlines.{deadlines, due, fires, fires_some, fire_due, fire_all}
 use Rattle.machine.specs.Effect.{Effect, Move, nothing_more, then_do, for_each}
 use Rattle.machine.specs.Events.{clock_shows}
 use Rattle.machine.specs.Govern.{carries_out, asks_roots, ordinary_rules, big_rules, rules, govern}
 use Rattle.machine.specs.Machine.{Machine, Entry, entry_at}
 use Rattle.machine.specs.Peers.{peer_is_ordinary}
-use Rattle.machine.specs.Provided.{comes_ordinary, comes_big, locals_are, roots_say, roots_answer}
-use Rattle.machine.specs.Stream.{handles, fed_with, comes_in_phase, comes_in_at, bytes_come_in}
+use Rattle.machine.specs.Provided.{comes_ordinary, comes_big, roots_say}
+use Rattle.machine.specs.Stream.{handles, fed_with, comes_in_phase, comes_in_at}
 use Rattle.machine.specs.Whole.{whole_step}
 use Rattle.laws.specs.Acts.{Act, fires_one, carries, connects, ends_dial, stores, handles_item, ends_stream, is_closed, sets_targets, sets_big_targets, makes_ordinary, provides, provides_big, does, fired_from, fired, orders_of, acts_at_moment, acts_fed, acts_in_phase, acts_of_bytes, acts_of_groups, acts_of_answer, acts}
 use Rattle.laws.specs.AtMoves.{fed_on}

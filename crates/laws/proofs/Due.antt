@@ -1,5 +1,5 @@
 -- Whom each part of an event ends: whom it must, and nobody else but by pruning.
-use Rattle.std.proofs.Common.{ℕ, ◌+◌, ◌%◌, ◌≡◌, Bool, true, false, not, ◌&&◌, ◌==◌, nat_le, if◌then◌else◌, List, [], ◌∷◌, ◌++◌, map, filter, find, Option, Some, None, Result, Ok, Err, refl, sym, ap, ◌∙◌}
+use Rattle.std.proofs.Common.{ℕ, ◌+◌, ◌%◌, ◌≡◌, Bool, true, false, not, ◌&&◌, ◌==◌, nat_le, if◌then◌else◌, List, [], ◌∷◌, ◌++◌, map, find, Option, Some, None, Result, Ok, Err, refl, ap, ◌∙◌}
 use Rattle.std.specs.Option.{unwrap_or}
 use Rattle.std.proofs.lemmas.Bool.{cond_both}
 use Rattle.std.proofs.lemmas.Grind.{flat_map-append}
@@ -29,10 +29,8 @@ use Rattle.net_base.specs.declared.action.Action.TheVariants.{Close, AskRoots}
 use Rattle.conn_state.specs.Moves.{expired, acquired, awakened, released}
 use Rattle.net_base.specs.declared.address.Addr.{Addr}
 use Rattle.net_base.specs.declared.connection.Cid.{Cid}
-use Rattle.net_base.specs.declared.connection.Facts.{Facts}
 use Rattle.net_base.specs.declared.connection.Phase.{Phase}
 use Rattle.net_base.specs.declared.connection.Phase.TheVariants.{Dialing, Greeting, Negotiated, Closing}
-use Rattle.net_base.specs.declared.peer.Peer.{Peer}
 use Rattle.net_base.specs.declared.peer.Temp.TheVariants.{Cold, Warm, Hot}
 use Rattle.net_base.specs.declared.timer.Kind.{Kind}
 use Rattle.net_base.specs.declared.timer.Kind.TheVariants.{Handshake, Grace, TimeWait, Reply2, Reply8, Reply10}
@@ -42,15 +40,15 @@ use Rattle.root_groups.specs.RootAsk.{may_ask, asked}
 use Rattle.warm_messages.specs.Reading.{share_of}
 use Rattle.warm_messages.specs.declared.share.Share.{Share}
 use Rattle.warm_messages.specs.declared.share.Share.TheVariants as share
-use Rattle.machine.specs.Connections.{with_entry, without_entry, entry_turns, lost, lost_by, ending, vanishes, is_used, acquire, candidates_in, pruned_at, trim, says_done, release, awake, idle, dial, dial_opens, dial_fails, closing_entry}
+use Rattle.machine.specs.Connections.{with_entry, without_entry, entry_turns, ending, vanishes, acquire, candidates_in, pruned_at, trim, says_done, release, awake, dial, dial_opens, dial_fails, closing_entry}
 use Rattle.machine.specs.Deadlines.{fires_as, fires_on}
 use Rattle.machine.specs.Effect.{Effect, Move, promoted, activated, shared, ended, unused, left, nothing_more, tells, then_do, as_move, for_each}
-use Rattle.machine.specs.Events.{turned_away, admitted, crossed, accepted_beside, accepted_through, peer_connects, closed_at, dial_ends_at}
+use Rattle.machine.specs.Events.{turned_away, admitted, accepted_beside, accepted_through, peer_connects, closed_at, dial_ends_at}
 use Rattle.machine.specs.Govern.{promoted_at, promote, on_entry, is_used_at, on_used, asks_peer, activates, activate, deactivates, carries_out, asks_roots}
 use Rattle.machine.specs.Greeting.{role_of, is_awaited, fits_side, told, judged, decided, greeted_by, greets}
 use Rattle.machine.specs.Machine.{Machine, Entry, Owed, counted_in, entry_at, live_entry_at}
 use Rattle.machine.specs.Own.{own_info}
-use Rattle.machine.specs.Peers.{peer_at, turns_at, peer_becomes, peer_is_ordinary, peer_comes}
+use Rattle.machine.specs.Peers.{peer_at, peer_becomes, peer_is_ordinary, peer_comes}
 use Rattle.machine.specs.Provided.{comes_ordinary, is_wanted_big, comes_big}
 use Rattle.machine.specs.Replies.{reply_on, owing, paid}
 use Rattle.machine.specs.Stream.{handled_in, handled_at, kind_of, faulted_at}

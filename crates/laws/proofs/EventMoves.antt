@@ -35,7 +35,8 @@ use Rattle.machine.specs.Deadlines.{deadlines, fire_all}
 use Rattle.machine.specs.Events.{clock_shows, turned_away, pause_notice, admitted, crossed, accepted_beside, accepted_through, peer_connects, closed_at, peer_closes, dial_ends_at, dial_ends}
 use Rattle.machine.specs.Provided.{comes_ordinary, locals_are, is_wanted_big, comes_big, bigs_are, roots_say, roots_answer}
 use Rattle.machine.specs.Whole.{whole_step}
-use Rattle.laws.specs.AtMoves.{Faults, faults_of, IsLawful, is_negotiated_entry, is_negotiated_at, is_ended_in, is_closed_by, MovesAreLawful, EndsAreMoves, is_up_connection, is_up, is_hot_or_asked, is_known, promotes, activates, is_shared_in, is_provided_by, PromotionsAreMoves, ActivationsAreMoves, ArrivalsAreMoves}
+use Rattle.laws.specs.AtMoves.{Faults, faults_of, IsLawful, is_negotiated_entry, is_negotiated_at, is_ended_in, MovesAreLawful, is_up_connection, is_known, is_shared_in, is_provided_by}
+use Rattle.laws.specs.Parts.{IsAccounted}
 use Rattle.laws.specs.Sound.{IsOrderly}
 use Rattle.laws.specs.Stages.{stage_of_phase}
 use Rattle.laws.specs.Telling.{IsTold}
@@ -49,9 +50,10 @@ use Rattle.laws.proofs.Finds.{find-remove_other}
 use Rattle.laws.proofs.Governing.{govern-trimmed}
 use Rattle.laws.proofs.Keeping.{IsOrdered}
 use Rattle.laws.proofs.KnownWanted.{bigs-within}
-use Rattle.laws.proofs.Lawful.{EndsBy, ends_same, Accounts, accounts_come, accounts_gone, Obeys, obeys_then, obeys_nothing, IsQuiet, quiet-lawful, quiet-obeys, elsewhere-quiet, tells-quiet, changes-quiet, lost-quiet, IsProviding, comes-providing, shared-accounts, ending-obeys, on_stands, turned_then-obeys, as_move-obeys, IsAllowed, Within, allowed_within}
+use Rattle.laws.proofs.Lawful.{Accounts, accounts_come, accounts_gone, Obeys, obeys_then, obeys_nothing, IsQuiet, quiet-lawful, quiet-obeys, elsewhere-quiet, tells-quiet, changes-quiet, lost-quiet, IsProviding, comes-providing, shared-accounts, ending-obeys, on_stands, turned_then-obeys, as_move-obeys, IsAllowed, Within, allowed_within}
 use Rattle.laws.proofs.Lists.{StandsAt, find_some, all-both, all-placed}
-use Rattle.laws.proofs.Rises.{Rises, or_each, NoneConnected, hot_or_asked-down, rises_nowhere, rises_none, same-connected, connected_then, gone-connected}
+use Rattle.laws.proofs.PartMoves.{EndsKnown, accounted-part, providing-part, ends-once}
+use Rattle.laws.proofs.Rises.{Rises, rises_none, same-connected, connected_then, gone-connected}
 use Rattle.laws.proofs.Shapes.{dialing-unnegotiated}
 use Rattle.laws.proofs.Streams.{bytes_come_in-trimmed}
 use Rattle.laws.proofs.Telling.{mute-none, told_unchanged, told_nothing, told_then, told_move}
@@ -291,7 +293,7 @@ closes-lawful Law cid m = by_entry (entry_at cid.0 m)
     by_entry (Some e) = cond_both (is_live e.facts) (vanishes e m) (nothing_more m) (λ effect. AllByRecursion Law effect.moves)
         (λ live. quiet-lawful Law (vanishes e m) (lost-quiet e.facts (without_entry e.facts.cid.0 m)).moves) (λ closed. tt)
 
-pub closes-known : (cid : Cid) (m : Machine) → IsOrdered m → EndsAreMoves m (Closed cid)
+closes-known : (cid : Cid) (m : Machine) → IsOrdered m → EndsKnown (Closed cid) m (peer_closes cid m)
 closes-known cid m h id before = by_entry (entry_at cid.0 m) refl
   where
     or_last : (a b : Bool) → (a || b || true) ≡ true
@@ -324,7 +326,7 @@ closes-known cid m h id before = by_entry (entry_at cid.0 m) refl
         (λ live. by_id e at.place at.stands (eqb-true e.facts.cid.0 cid.0 at.passes) (has_id id e.facts) refl)
         (λ closed. or_first (is_negotiated_at id m) false (cid.0 == id) before)
 
-pub closes-rises : (cid : Cid) (m : Machine) → IsOrdered m → Rises m (peer_closes cid m)
+closes-rises : (cid : Cid) (m : Machine) → IsOrdered m → Rises m (peer_closes cid m)
 closes-rises cid m h = by_entry (entry_at cid.0 m) refl
   where
     nothing : Rises m (nothing_more m)
@@ -342,7 +344,7 @@ closes-rises cid m h = by_entry (entry_at cid.0 m) refl
         lost.hot lost.known)
         (λ closed. nothing)
 
-pub closes-told : (cid : Cid) (m : Machine) → IsOrdered m → IsTold m (peer_closes cid m)
+closes-told : (cid : Cid) (m : Machine) → IsOrdered m → IsTold m (peer_closes cid m)
 closes-told cid m h = by_entry (entry_at cid.0 m) refl
   where
     by_entry : (o : Option Entry) → entry_at cid.0 m ≡ o → IsTold m (closed_at o m)
@@ -351,52 +353,37 @@ closes-told cid m h = by_entry (entry_at cid.0 m) refl
         let at = find_some (λ y. has_id cid.0 y.facts) m.connections e is in
         cond_both (is_live e.facts) (vanishes e m) (nothing_more m) (IsTold m) (λ live. vanishes-told m e at.place h at.stands) (λ closed. told_nothing m)
 
+pub closes-accounted : (cid : Cid) (m : Machine) → IsOrdered m → IsAccounted (Closed cid) m (peer_closes cid m)
+closes-accounted cid m h =
+    let effect : Effect = peer_closes cid m in
+    let rises : Rises m effect = closes-rises cid m h in
+    record {
+      told = closes-told cid m h;
+      done = ends-once (Closed cid) m effect (closes-told cid m h) (closes-known cid m h);
+      promotions = rises.promotions;
+      activations = rises.activations;
+      arrivals = λ addr known. or_left (is_known addr m || is_shared_in addr effect.moves) (is_provided_by addr (Closed cid)) (rises.arrivals addr known);
+    }
+
 -- ---- each event
 
--- each move is lawful, and without one no connection is gone and nobody comes up
+-- each move is lawful, and the event accounts for what it does
 pub record IsKnown (m : Machine) (event : Event) : Type 0 where
   pub lawful : AllByRecursion (IsLawful (faults_of m event)) (whole_step m event).moves
-  pub ends : EndsAreMoves m event
-  pub promotions : PromotionsAreMoves m event
-  pub activations : ActivationsAreMoves m event
-  pub arrivals : ArrivalsAreMoves m event
-  pub told : IsTold m (whole_step m event)
-
-ends-known : (m : Machine) (event : Event) → EndsBy m (whole_step m event) → EndsAreMoves m event
-ends-known m event ends cid before =
-    or_left (is_negotiated_at cid (whole_step m event).machine || is_ended_in cid (whole_step m event).moves) (is_closed_by cid event) (ends cid before)
-
-arrivals-known : (m : Machine) (event : Event) → Rises m (whole_step m event) → ArrivalsAreMoves m event
-arrivals-known m event rises addr known =
-    or_left (is_known addr m || is_shared_in addr (whole_step m event).moves) (is_provided_by addr event) (rises.arrivals addr known)
+  pub accounted : IsAccounted event m (whole_step m event)
 
 obeys-known : (m : Machine) (event : Event) → Obeys (IsLawful (faults_of m event)) m (whole_step m event) → IsKnown m event
-obeys-known m event h = record {
-  lawful = h.lawful;
-  ends = ends-known m event h.accounted.ends;
-  promotions = h.accounted.rises.promotions;
-  activations = h.accounted.rises.activations;
-  arrivals = arrivals-known m event h.accounted.rises;
-  told = h.accounted.told;
-}
+obeys-known m event h = record { lawful = h.lawful; accounted = accounted-part event m (whole_step m event) h.accounted }
 
 quiet-known : (m : Machine) (event : Event) → IsQuiet m (whole_step m event) → IsKnown m event
 quiet-known m event q = obeys-known m event (quiet-obeys (IsLawful (faults_of m event)) m (whole_step m event) q)
 
 providing-known : (m : Machine) (event : Event) → IsProviding m (whole_step m event) →
     ((addr : Addr) → is_known addr (whole_step m event).machine ≡ true → (is_known addr m || is_provided_by addr event) ≡ true) → IsKnown m event
-providing-known m event p named =
-    let effect : Effect = whole_step m event in
-    let connected : NoneConnected m effect.machine = same-connected m effect.machine p.connections in
-    record {
-      lawful = quiet-lawful (IsLawful (faults_of m event)) effect p.moves;
-      ends = ends-known m event (ends_same m effect p.connections);
-      promotions = rises_nowhere is_up promotes m effect connected.up;
-      activations = rises_nowhere is_hot_or_asked activates m effect (hot_or_asked-down m effect.machine p.hot connected.asked);
-      arrivals = λ addr known. or_each (is_known addr m) (is_provided_by addr event) (is_known addr m || is_shared_in addr effect.moves) (is_provided_by addr event)
-          (λ before. or_left (is_known addr m) (is_shared_in addr effect.moves) before) (λ is. is) (named addr known);
-      told = p.told;
-    }
+providing-known m event p named = record {
+  lawful = quiet-lawful (IsLawful (faults_of m event)) (whole_step m event) p.moves;
+  accounted = providing-part event m (whole_step m event) p named;
+}
 
 pub whole_step-known : (m : Machine) (event : Event) → IsSteady m → IsKnown m event
 whole_step-known m (Now t) h = obeys-known m (Now t) (clock-obeys m t m (ordered_of m h))
@@ -408,16 +395,10 @@ whole_step-known m (Dialed cid opened) h = obeys-known m (Dialed cid opened) (di
 whole_step-known m (Bytes cid bytes) h =
     let t = bytes_come_in-trimmed cid bytes m (ordered_of m h) h.sound.counted in
     obeys-known m (Bytes cid bytes) (record { lawful = t.lawful h.tied; accounted = t.accounted })
-whole_step-known m (Closed cid) h =
-    let rises : Rises m (peer_closes cid m) = closes-rises cid m (ordered_of m h) in
-    record {
-      lawful = closes-lawful (IsLawful (faults_of m (Closed cid))) cid m;
-      ends = closes-known cid m (ordered_of m h);
-      promotions = rises.promotions;
-      activations = rises.activations;
-      arrivals = arrivals-known m (Closed cid) rises;
-      told = closes-told cid m (ordered_of m h);
-    }
+whole_step-known m (Closed cid) h = record {
+  lawful = closes-lawful (IsLawful (faults_of m (Closed cid))) cid m;
+  accounted = closes-accounted cid m (ordered_of m h);
+}
 whole_step-known m (Aims targets) h = quiet-known m (Aims targets) (elsewhere-quiet m (whole_step m (Aims targets)) refl refl refl refl refl)
 whole_step-known m (Locals groups) h = providing-known m (Locals groups) (locals-providing groups m) (locals-known groups m)
 whole_step-known m (Roots job answer) h = providing-known m (Roots job answer) (roots-providing job answer m) (roots-known job answer m)

@@ -88,7 +88,7 @@ least-contains (x ∷ xs) d e = by_least (least xs) (least-contains xs) e
         (cond_both (deadline_before y x) y x (Contains (x ∷ xs)) (λ before. in_tail y (later y refl))
         (λ after. contains_first x xs))
 
-least-none : (ds : List Deadline) → least ds ≡ None → ds ≡ []
+pub least-none : (ds : List Deadline) → least ds ≡ None → ds ≡ []
 least-none [] e = refl
 least-none (x ∷ xs) e = absurd cc
 
@@ -208,7 +208,7 @@ fired_of-positive now e d c late = by_kind d.kind refl
     by_kind Reply10 is = any
 
 -- the deadline that fires next is late, and stands among those of the record
-due-contains : (m : Machine) (d : Deadline) → due m ≡ Some d → Contains (deadlines m) d × (is_late m.now d ≡ true)
+pub due-contains : (m : Machine) (d : Deadline) → due m ≡ Some d → Contains (deadlines m) d × (is_late m.now d ≡ true)
 due-contains m d e =
     let late : List Deadline = filter (is_late m.now) (deadlines m) in
     let among : Contains late d = least-contains late d e in (

@@ -48,5 +48,6 @@ mod ToldMoves
 mod Open
 mod Chain
 mod Due
+mod Least
 mod PartMoves
 mod PartEvents

@@ -34,6 +34,12 @@ stands-set (y ∷ ys) (suc k) new x s =
 pub All-stands : {X : Type 0} (P : X → Type 0) (xs : List X) (k : ℕ) (x : X) → StandsAt xs k x → All P xs → P x
 All-stands P xs k x s h = subst P s.is (h k x s.inside)
 
+-- what holds of each that stands holds of all
+pub all-standing : {X : Type 0} (P : X → Type 0) (xs : List X) → ((x : X) (k : ℕ) → StandsAt xs k x → P x) → All P xs
+all-standing P [] each = All-nil P
+all-standing P (y ∷ ys) each =
+    All-cons P y ys (each y 0 (record { inside = omega arith; is = refl })) (all-standing P ys (λ x k s. each x (suc k) (stands_next y x ys k s)))
+
 -- at most one element passes
 abbrev pub OnePasses : {X : Type 0} → (X → Bool) → List X → Type 0
 OnePasses p xs = AllPairs (λ x y. p x ≡ true → p y ≡ false) xs

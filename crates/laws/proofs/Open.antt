@@ -1,7 +1,7 @@
 -- Whatever comes in on a connection, it stands open afterwards or is gone.
 use Rattle.std.proofs.Common.{ℕ, ◌%◌, eqb-true, ◌≡◌, Bool, true, false, ◌&&◌, ◌==◌, if◌then◌else◌, List, [], ◌∷◌, find, Option, Some, None, Result, Ok, Err, refl, sym, ap, ◌∙◌, subst}
-use Rattle.std.proofs.lemmas.Bool.{cond_both, false≢true}
-use Rattle.conn_state.specs.Use.{has_id, is_live, live_phase, runs, agreed_sharing}
+use Rattle.std.proofs.lemmas.Bool.{cond_both}
+use Rattle.conn_state.specs.Use.{has_id, is_live, runs, agreed_sharing}
 use Rattle.hs_decide.specs.Agreement.{verdict_of}
 use Rattle.hs_decide.specs.Answers.{answer_of}
 use Rattle.hs_decide.specs.declared.verdict.Verdict.{Verdict}
@@ -24,15 +24,15 @@ use Rattle.remote_watch.specs.declared.seen.Seen.{Seen}
 use Rattle.warm_messages.specs.Reading.{share_of}
 use Rattle.warm_messages.specs.declared.share.Share.{Share}
 use Rattle.warm_messages.specs.declared.share.Share.TheVariants as share
-use Rattle.machine.specs.Connections.{with_entry, without_entry, lost_by, ending, is_used, trim, awake, idle}
-use Rattle.machine.specs.Effect.{Effect, nothing_more, then_do, for_each}
+use Rattle.machine.specs.Connections.{with_entry, without_entry, ending, is_used, awake, idle}
+use Rattle.machine.specs.Effect.{nothing_more, then_do, for_each}
 use Rattle.machine.specs.Greeting.{role_of, is_awaited, fits_side, told, judged, decided, greeted_by, greets}
 use Rattle.machine.specs.Machine.{Machine, Entry, Owed, entry_at}
 use Rattle.machine.specs.Own.{own_info}
-use Rattle.machine.specs.Peers.{peer_at, peer_becomes, peer_comes}
+use Rattle.machine.specs.Peers.{peer_at, peer_becomes}
 use Rattle.machine.specs.Replies.{reply_on, paid, owing}
 use Rattle.machine.specs.Stream.{handled_in, handled_at, handles}
-use Rattle.machine.specs.Talking.{replies, ends_if, served_at, begins, takes_requests, asked_as, shares_address, taken_of, takes_addresses, pays, brings, answered_as, talks}
+use Rattle.machine.specs.Talking.{ends_if, served_at, begins, takes_requests, asked_as, shares_address, taken_of, takes_addresses, pays, brings, answered_as}
 use Rattle.laws.proofs.Handshakes.{told-machine}
 use Rattle.laws.proofs.Lawful.{lost_by-quiet, turns_at-connections, comes-providing}
 use Rattle.laws.proofs.Lists.{find_some}

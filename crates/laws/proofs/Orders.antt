@@ -315,12 +315,12 @@ forget-carried Law addr m h within may =
           (taken-classes addr m))
           (λ ties. taken-ties addr m (cold-alone m.now (peer_at addr m) (live_entry_at addr m) may.cold may.idle (ties addr)) ties))
           (quiet-obeys Law m (peer_goes addr m) (record {
-        moves = refl;
-        connections = refl;
-        hot = taken-hot addr m;
-        known = taken-known addr m;
-        told = peer_goes-told addr m (cold-there (peer_at addr m) may.cold);
-      }));
+            moves = refl;
+            connections = refl;
+            hot = taken-hot addr m;
+            known = taken-known addr m;
+            told = peer_goes-told addr m (cold-there (peer_at addr m) may.cold);
+          }));
       elsewhere = λ b other there. record { cold = subst IsCold (sym (taken-elsewhere addr b m.peers other)) there.cold; idle = there.idle };
     }
 

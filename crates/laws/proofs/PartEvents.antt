@@ -1,8 +1,7 @@
 -- The parts of each event are lawful.
-use Rattle.std.proofs.Common.{ℕ, zero, suc, ◌≤◌, ◌≡◌, Bool, true, false, ◌||◌, nat_le, if◌then◌else◌, List, [], ◌∷◌, ◌++◌, map, length, All, Option, Some, None, refl, sym, ap, ◌∙◌, subst, arith}
+use Rattle.std.proofs.Common.{ℕ, zero, suc, ◌≤◌, ◌≡◌, Bool, true, false, ◌||◌, nat_le, if◌then◌else◌, List, [], ◌∷◌, ◌++◌, map, length, Option, Some, None, refl, sym, ap, subst, arith}
 use Rattle.std.specs.List.{AllByRecursion}
-use Rattle.std.proofs.lemmas.Bool.{cond_both, or_left, or_right, or_parts, false≢true}
-use Rattle.std.proofs.lemmas.List.Elements.{All-weaker, All-contains_itself}
+use Rattle.std.proofs.lemmas.Bool.{or_left, or_right, false≢true}
 use Rattle.conn_state.specs.Use.{has_id, is_live, live_phase}
 use Rattle.govern_rules.specs.declared.order.Order.{Order}
 use Rattle.mux_segment.specs.Stream.{FedBy}
@@ -28,24 +27,24 @@ use Rattle.machine.specs.Machine.{Machine, Entry, counted_in, entry_at}
 use Rattle.machine.specs.Peers.{peer_is_ordinary}
 use Rattle.machine.specs.Provided.{comes_ordinary, comes_big}
 use Rattle.machine.specs.Stream.{handles}
-use Rattle.laws.specs.Acts.{Act, shows, fires_one, asks_for_roots, carries, connects, ends_dial, stores, handles_item, ends_stream, is_closed, sets_targets, sets_big_targets, sets_groups, sets_roots, makes_ordinary, provides, provides_big, does, fired_from, fired, orders_of, acts_at_moment, acts_fed, acts_in_phase, acts_of_bytes, acts_of_groups, acts_of_answer, acts, parts_of}
-use Rattle.laws.specs.AtMoves.{Faults, IsLawful, is_known, is_provided_by, is_shared_in, fed_on}
-use Rattle.laws.specs.Parts.{IsNext, IsLawfulPart, IsLawfulEvent}
+use Rattle.laws.specs.Acts.{Act, shows, fires_one, asks_for_roots, carries, connects, ends_dial, stores, handles_item, ends_stream, is_closed, sets_targets, sets_big_targets, sets_groups, sets_roots, makes_ordinary, provides, provides_big, does, fired_from, fired, orders_of, acts_at_moment, acts_fed, acts_in_phase, acts_of_bytes, acts_of_answer, acts}
+use Rattle.laws.specs.AtMoves.{Faults, IsLawful, is_known, is_provided_by, fed_on}
+use Rattle.laws.specs.Parts.{IsAccounted, IsLawfulEvent}
 use Rattle.laws.specs.Whole.{IsSteady}
 use Rattle.laws.proofs.Addresses.{same_address-self, same_address-true}
-use Rattle.laws.proofs.Chain.{orders-chain, each_mapped, parts-chain}
-use Rattle.laws.proofs.EventMoves.{connects-obeys, dial_ends-obeys, comes_big-allowed, closes-told, closes-known, closes-rises, moves-lawful}
+use Rattle.laws.proofs.Chain.{orders-chain, parts-chain}
+use Rattle.laws.proofs.EventMoves.{connects-obeys, dial_ends-obeys, comes_big-allowed, closes-accounted, whole_step-known, moves-lawful}
 use Rattle.laws.proofs.Clock.{fires-obeys}
 use Rattle.laws.proofs.Events.{at_moment-orderly}
+use Rattle.laws.proofs.Least.{least-due}
 use Rattle.laws.proofs.Arrivals.{cleaned-listed, publics-listed, comes-known}
 use Rattle.laws.proofs.Governing.{Governs, governs}
 use Rattle.laws.proofs.Keeping.{IsOrdered, Keeps}
-use Rattle.laws.proofs.Lawful.{Accounts, IsQuiet, quiet-obeys, elsewhere-quiet, changes-quiet, comes-providing, turns-obeys}
+use Rattle.laws.proofs.Lawful.{Accounts, quiet-obeys, elsewhere-quiet, changes-quiet, comes-providing, turns-obeys}
 use Rattle.laws.proofs.Lists.{StandsAt, find_some}
 use Rattle.laws.proofs.Open.{IsOpen, turned-open, handles-open}
 use Rattle.laws.proofs.Orders.{EachAccounted}
-use Rattle.laws.proofs.PartMoves.{KeepsPart, accounted-part, providing-part, ends-once, AreLawful, no_part, first_part, one_part, more_parts, all_parts}
-use Rattle.laws.proofs.Rises.{Rises}
+use Rattle.laws.proofs.PartMoves.{accounted-part, providing-part, AreLawful, no_part, first_part, one_part, more_parts, all_parts}
 use Rattle.laws.proofs.Streams.{handles-trimmed, faulted-trimmed}
 use Rattle.laws.proofs.Telling.{are_mute}
 use Rattle.laws.proofs.Trims.{Trimmed, trimmed-within}
@@ -68,12 +67,12 @@ fired-parts event (suc n) m h = by_due (due m) refl (fired-parts event n)
     by_due None is later = no_part event m
     by_due (Some d) is later =
         let keeps : Keeps 0 m (fires d m).machine = fires-keeps d m h is in
-        first_part event (fires_one d) (map fires_one (fired n (fires d m).machine)) m is
+        first_part event (fires_one d) (map fires_one (fired n (fires d m).machine)) m (least-due m d is)
         (accounted-part event m (fires d m) (fires-obeys all_faults (λ w e late. tt) d m h is).accounted) (later (fires d m).machine keeps.ordered)
 
 -- what is neither a connection nor a peer is set
 set-part : (event : Event) (act : Act) (m : Machine) → (does act m).moves ≡ [] → (does act m).machine.connections ≡ m.connections →
-    (does act m).machine.peers ≡ m.peers → (does act m).machine.next_id ≡ m.next_id → (does act m).actions ≡ [] → KeepsPart event m (does act m)
+    (does act m).machine.peers ≡ m.peers → (does act m).machine.next_id ≡ m.next_id → (does act m).actions ≡ [] → IsAccounted event m (does act m)
 set-part event act m none connections peers next_id silent =
     accounted-part event m (does act m) (quiet-obeys (λ move. Unit {0}) m (does act m)
     (elsewhere-quiet m (does act m) none connections peers next_id (ap are_mute silent))).accounted
@@ -232,17 +231,6 @@ bigs-parts event (a ∷ addrs) m =
 
 -- ---- each event
 
-closed-part : (cid : Cid) (m : Machine) → IsOrdered m → KeepsPart (Closed cid) m (does (is_closed cid) m)
-closed-part cid m h =
-    let rises : Rises m (does (is_closed cid) m) = closes-rises cid m h in
-    record {
-      told = closes-told cid m h;
-      done = ends-once (Closed cid) m (does (is_closed cid) m) (closes-told cid m h) (closes-known cid m h);
-      promotions = rises.promotions;
-      activations = rises.activations;
-      arrivals = λ addr known. or_left (is_known addr m || is_shared_in addr (does (is_closed cid) m).moves) (is_provided_by addr (Closed cid)) (rises.arrivals addr known);
-    }
-
 parts-lawful : (m : Machine) (event : Event) → IsSteady m → AreLawful event (acts m event) m
 parts-lawful m (Now t) h = clock-parts t m (ordered_of m h)
 parts-lawful m (Govern word) h = govern-parts word m (ordered_of m h) h.sound.counted
@@ -252,7 +240,7 @@ parts-lawful m (Dialed cid opened) h =
     one_part (Dialed cid opened) (ends_dial cid opened) m tt
     (accounted-part (Dialed cid opened) m (does (ends_dial cid opened) m) (dial_ends-obeys all_faults cid opened m (ordered_of m h)).accounted)
 parts-lawful m (Bytes cid bytes) h = bytes-parts cid bytes m (ordered_of m h) h.sound.counted
-parts-lawful m (Closed cid) h = one_part (Closed cid) (is_closed cid) m tt (closed-part cid m (ordered_of m h))
+parts-lawful m (Closed cid) h = one_part (Closed cid) (is_closed cid) m tt (closes-accounted cid m (ordered_of m h))
 parts-lawful m (Aims targets) h = one_part (Aims targets) (sets_targets targets) m tt (set-part (Aims targets) (sets_targets targets) m refl refl refl refl refl)
 parts-lawful m (Locals groups) h = locals-parts groups m
 parts-lawful m (Roots job answer) h = by_test (awaits job.0 m.roots)
@@ -268,4 +256,9 @@ parts-lawful m (BigAims targets) h =
 parts-lawful m (Bigs addrs) h = bigs-parts (Bigs addrs) addrs m
 
 pub event-lawful : (m : Machine) (event : Event) → IsSteady m → IsLawfulEvent m event
-event-lawful m event h = record { parts = parts-chain m event; each = all_parts event (acts m event) m (parts-lawful m event h); moves = moves-lawful m event h }
+event-lawful m event h = record {
+  parts = parts-chain m event;
+  each = all_parts event (acts m event) m (parts-lawful m event h);
+  accounted = (whole_step-known m event h).accounted;
+  moves = moves-lawful m event h;
+}

@@ -1,23 +1,21 @@
 -- Each part of an event is lawful.
-use Rattle.std.proofs.Common.{ℕ, zero, suc, ◌≤◌, ◌≡◌, Bool, true, false, ◌||◌, ◌==◌, nat_le, if◌then◌else◌, List, [], ◌∷◌, ◌++◌, map, length, take, All, flat_map, Option, Some, None, refl, sym, ap, ◌∙◌, subst, arith}
-use Rattle.std.specs.List.{AllByRecursion, list_any}
-use Rattle.std.proofs.lemmas.Bool.{cond_both, both_ways, false≢true, or_left, or_right}
-use Rattle.net_base.specs.Address.{same_address}
+use Rattle.std.proofs.Common.{ℕ, ◌≤◌, ◌≡◌, Bool, true, false, ◌||◌, ◌==◌, if◌then◌else◌, List, [], ◌∷◌, ◌++◌, All, flat_map, Option, Some, None, refl, sym, subst, arith}
+use Rattle.std.specs.List.{AllByRecursion}
+use Rattle.std.proofs.lemmas.Bool.{false≢true, or_left}
 use Rattle.net_base.specs.declared.action.CloseCause.{CloseCause}
 use Rattle.net_base.specs.declared.address.Addr.{Addr}
 use Rattle.net_base.specs.declared.connection.Phase.{Phase}
 use Rattle.net_base.specs.declared.connection.Phase.TheVariants.{Dialing, Greeting, Negotiated, Closing}
 use Rattle.net_base.specs.declared.event.Event.{Event}
 use Rattle.conn_state.specs.Use.{is_negotiated_phase}
-use Rattle.root_groups.specs.Cleaned.{is_listed}
 use Rattle.machine.specs.Effect.{Effect, for_each, Happened, Move, promoted, activated, shared, ended, unused, left}
 use Rattle.machine.specs.Machine.{Machine, Entry, entry_at}
-use Rattle.laws.specs.Acts.{Act, does, Part, effect_of, parts_from}
+use Rattle.laws.specs.Acts.{Act, does, parts_from}
 use Rattle.laws.specs.AtMoves.{is_negotiated_entry, is_negotiated_at, ends, is_ended_in, is_closed_by, is_up, is_hot_or_asked, is_known, promotes, activates, is_shared_in, is_provided_by}
-use Rattle.laws.specs.Parts.{ends_due, but_pruned, IsNext, IsDone, EndsOnce, RisesBy, Arrives, IsLawfulPart}
-use Rattle.laws.specs.Stages.{stage_of_phase, stage_of, stage_at, causes_by, causes_in, IsLateCause, IsOneEnd}
+use Rattle.laws.specs.Parts.{IsNext, IsDone, EndsOnce, IsAccounted, IsLawfulPart}
+use Rattle.laws.specs.Stages.{stage_of_phase, stage_of, stage_at, causes_by, causes_in, IsOneEnd}
 use Rattle.laws.specs.Telling.{IsTold}
-use Rattle.laws.specs.Told.{End, ended_by, ends_in}
+use Rattle.laws.specs.Told.{ended_by, ends_in}
 use Rattle.laws.proofs.Due.{ends-due}
 use Rattle.laws.proofs.Lawful.{Accounts, IsProviding, ends_same}
 use Rattle.laws.proofs.Lists.{all-placed}
@@ -54,9 +52,12 @@ negotiated-stage (Some e) given h = by_phase e.facts.phase h
     by_phase Negotiated h = refl
     by_phase (Closing until) h = absurd (false≢true h)
 
-pub ends-once : (event : Event) (m : Machine) (effect : Effect) → IsTold m effect →
-    ((cid : ℕ) → is_negotiated_at cid m ≡ true → (is_negotiated_at cid effect.machine || is_ended_in cid effect.moves || is_closed_by cid event) ≡ true) →
-    EndsOnce event m effect
+-- whoever was negotiated stays so, or is ended or closed
+abbrev pub EndsKnown : Event → Machine → Effect → Type 0
+EndsKnown event m effect = (cid : ℕ) → is_negotiated_at cid m ≡ true →
+    (is_negotiated_at cid effect.machine || is_ended_in cid effect.moves || is_closed_by cid event) ≡ true
+
+pub ends-once : (event : Event) (m : Machine) (effect : Effect) → IsTold m effect → EndsKnown event m effect → EndsOnce event m effect
 ends-once event m effect told accounted cid before =
     by_causes (causes_in cid effect.moves) refl (told.connections cid).ends (accounted cid before)
   where
@@ -87,14 +88,7 @@ ends-once event m effect told accounted cid before =
 
 -- ---- what a part keeps
 
-pub record KeepsPart (event : Event) (before : Machine) (effect : Effect) : Type 0 where
-  pub told : IsTold before effect
-  pub done : EndsOnce event before effect
-  pub promotions : RisesBy is_up promotes before effect
-  pub activations : RisesBy is_hot_or_asked activates before effect
-  pub arrivals : Arrives event before effect
-
-pub accounted-part : (event : Event) (m : Machine) (effect : Effect) → Accounts m effect → KeepsPart event m effect
+pub accounted-part : (event : Event) (m : Machine) (effect : Effect) → Accounts m effect → IsAccounted event m effect
 accounted-part event m effect h = record {
   told = h.told;
   done = ends-once event m effect h.told
@@ -106,7 +100,7 @@ accounted-part event m effect h = record {
 
 -- it provides only whom the event names
 pub providing-part : (event : Event) (m : Machine) (effect : Effect) → IsProviding m effect →
-    ((addr : Addr) → is_known addr effect.machine ≡ true → (is_known addr m || is_provided_by addr event) ≡ true) → KeepsPart event m effect
+    ((addr : Addr) → is_known addr effect.machine ≡ true → (is_known addr m || is_provided_by addr event) ≡ true) → IsAccounted event m effect
 providing-part event m effect p named =
     let connected : NoneConnected m effect.machine = same-connected m effect.machine p.connections in
     record {
@@ -119,15 +113,11 @@ providing-part event m effect p named =
           (λ before. or_left (is_known addr m) (is_shared_in addr effect.moves) before) (λ is. is) (named addr known);
     }
 
-pub lawful-part : (event : Event) (act : Act) (m : Machine) → IsNext act m → KeepsPart event m (does act m) → IsLawfulPart event (record { act = act; before = m })
+pub lawful-part : (event : Event) (act : Act) (m : Machine) → IsNext act m → IsAccounted event m (does act m) → IsLawfulPart event (record { act = act; before = m })
 lawful-part event act m next h = record {
-  told = h.told;
+  accounted = h;
   next = next;
   ends = ends-due act m;
-  done = h.done;
-  promotions = h.promotions;
-  activations = h.activations;
-  arrivals = h.arrivals;
 }
 
 -- ---- one part after the other
@@ -139,12 +129,12 @@ pub no_part : (event : Event) (m : Machine) → AreLawful event [] m
 unfolding AreLawful parts_from
 no_part event m = tt
 
-pub first_part : (event : Event) (act : Act) (acts : List Act) (m : Machine) → IsNext act m → KeepsPart event m (does act m) →
+pub first_part : (event : Event) (act : Act) (acts : List Act) (m : Machine) → IsNext act m → IsAccounted event m (does act m) →
     AreLawful event acts (does act m).machine → AreLawful event (act ∷ acts) m
 unfolding AreLawful parts_from
 first_part event act acts m next h rest = (lawful-part event act m next h, rest)
 
-pub one_part : (event : Event) (act : Act) (m : Machine) → IsNext act m → KeepsPart event m (does act m) → AreLawful event (act ∷ []) m
+pub one_part : (event : Event) (act : Act) (m : Machine) → IsNext act m → IsAccounted event m (does act m) → AreLawful event (act ∷ []) m
 one_part event act m next h = first_part event act [] m next h (no_part event (does act m).machine)
 
 pub more_parts : (event : Event) (xs ys : List Act) (m : Machine) → AreLawful event xs m → AreLawful event ys (for_each does xs m).machine → AreLawful event (xs ++ ys) m

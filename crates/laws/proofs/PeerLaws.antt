@@ -1,18 +1,22 @@
 -- The laws on peers, from what ties them to connections.
-use Rattle.std.proofs.Common.{ℕ, ◌≤◌, ◌≡◌, Bool, true, false, ◌&&◌, ◌||◌, Option, Some, None, refl, sym, ◌∙◌, subst}
-use Rattle.std.proofs.lemmas.Bool.{both_ways, false≢true, and_parts}
+use Rattle.std.proofs.Common.{ℕ, ◌≤◌, ◌≡◌, Bool, true, false, ◌&&◌, ◌||◌, Option, Some, None, refl, sym, ap, ◌∙◌, subst}
+use Rattle.std.proofs.lemmas.Bool.{both_ways, false≢true, and_parts, and_from}
 use Rattle.net_base.specs.declared.address.Addr.{Addr}
 use Rattle.net_base.specs.declared.peer.Peer.{Peer}
 use Rattle.net_base.specs.declared.peer.Temp.{Temp}
 use Rattle.net_base.specs.declared.peer.Temp.TheVariants.{Cold, Warm, Hot}
 use Rattle.conn_state.specs.Use.{is_negotiated, is_pending, is_live_at}
-use Rattle.peer_book.specs.Book.{is_established, same_temp}
+use Rattle.peer_book.specs.Book.{is_active, is_established, same_temp}
 use Rattle.machine.specs.Machine.{Machine, Entry, live_entry_at}
 use Rattle.machine.specs.Peers.{peer_at}
 use Rattle.laws.specs.Laws.{is_established_peer, is_cold_peer, is_used_connection, is_pending_connection, EstablishedAreUsed, PendingAreCold, UsedAreOutOfBackOff}
+use Rattle.laws.specs.AtMoves.{is_hot_peer}
+use Rattle.laws.specs.Records.{LocalsAreEstablished, HotAreUsed, IsLawfulRecord}
 use Rattle.laws.specs.Whole.{IsShaped, IsFormed, IsSteady, TiedBy}
-use Rattle.laws.proofs.Lists.{FoundIn, find_some, All-stands}
-use Rattle.laws.proofs.WholeMoves.{pending-unnegotiated}
+use Rattle.laws.proofs.Lists.{FoundIn, find_some, All-stands, all-standing}
+use Rattle.laws.proofs.Shapes.{local-negotiated}
+use Rattle.laws.proofs.Ties.{live_here}
+use Rattle.laws.proofs.WholeMoves.{pending-unnegotiated, negotiated-live}
 
 -- the live connection of an address is in shape
 abbrev IsShapedBy : Option Entry → Type 0
@@ -70,3 +74,40 @@ steady-pending m h addr pending = pending-cold m.now (peer_at addr m) (live_entr
 pub steady-back_off : (m : Machine) → IsSteady m → UsedAreOutOfBackOff m
 steady-back_off m h addr p found either =
     used-rested m.now p (live_entry_at addr m) (subst (λ o. TiedBy m.now o (live_entry_at addr m)) found (h.tied addr)) either
+
+-- ---- the record
+
+steady-hot : (m : Machine) → IsSteady m → HotAreUsed m
+steady-hot m h addr hot = sym (steady-established m h addr) ∙ by_peer (peer_at addr m) hot
+  where
+    by_temp : (t : Temp) → is_active t ≡ true → is_established t ≡ true
+    by_temp Cold hot = absurd (false≢true hot)
+    by_temp Warm hot = absurd (false≢true hot)
+    by_temp Hot hot = refl
+
+    by_peer : (o : Option Peer) → is_hot_peer o ≡ true → is_established_peer o ≡ true
+    by_peer None hot = absurd (false≢true hot)
+    by_peer (Some p) hot = by_temp p.temp hot
+
+-- what is in local use is live, and so the live connection of its address
+steady-local : (m : Machine) → IsSteady m → LocalsAreEstablished m
+steady-local m h = all-standing (λ e. e.facts.local ≡ true → is_established_peer (peer_at e.facts.addr m) ≡ true) m.connections
+    (λ e k s local.
+    let shape : IsShaped e.facts = All-stands (λ x. IsShaped x.facts) m.connections k e s h.formed.shaped in
+    let negotiated : is_negotiated e.facts ≡ true = local-negotiated e.facts shape local in
+    let here : live_entry_at e.facts.addr m ≡ Some e = live_here m e k h.sound.orderly s (negotiated-live e.facts.phase negotiated) in
+    steady-established m h e.facts.addr ∙ (ap is_used_connection here ∙ and_from (is_negotiated e.facts) e.facts.local negotiated local))
+
+pub steady-lawful : (m : Machine) → IsSteady m → IsLawfulRecord m
+steady-lawful m h = record {
+  steady = h;
+  distinct = h.sound.addresses;
+  hot = steady-hot m h;
+  local = steady-local m h;
+  established = steady-established m h;
+  pending = steady-pending m h;
+  back_off = steady-back_off m h;
+  limit = h.sound.counted;
+  deadlines = h.sound.deadlines;
+  ordinary = h.locals;
+}

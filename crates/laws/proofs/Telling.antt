@@ -7,11 +7,10 @@ use Rattle.net_base.specs.declared.action.Action.{Action}
 use Rattle.net_base.specs.declared.action.Action.TheVariants.{Admit, Turnaway, Dial, Send, Close, Pause, AskRoots, State, Peer as TellPeer}
 use Rattle.net_base.specs.declared.action.CloseCause.{CloseCause}
 use Rattle.net_base.specs.declared.address.Addr.{Addr}
-use Rattle.net_base.specs.declared.connection.Cid.{Cid}
 use Rattle.peer_book.specs.Book.{peer_at as peer_in}
 use Rattle.machine.specs.Effect.{Effect, Happened, Move, tells, then_do, as_move}
 use Rattle.machine.specs.Machine.{Machine}
-use Rattle.laws.specs.Stages.{stage_at, causes_by, causes_in, IsLateCause, IsOneEnd}
+use Rattle.laws.specs.Stages.{stage_at, causes_by, causes_in, IsOneEnd}
 use Rattle.laws.specs.Telling.{GoesOn, IsTold}
 use Rattle.laws.specs.Told.{End, closed_by, closes_in, ended_by, ends_in, dialed_by, dials_in, promoted_by_dial, dial_promotions_in, given_by, given_in, CountUp, LeadTo, temp_of, temp_at, notes_by, notes_in, noted, is_change, state_at, names_by, names_in, is_other_name, same_state}
 

@@ -1,9 +1,7 @@
 -- What each change of a connection or a peer tells.
-use Rattle.std.proofs.Common.{ℕ, ◌+◌, ◌≡◌, ◌≤◌, ◌<◌, Bool, true, false, cond, not, ◌==◌, nat_lt, nat_le, if◌then◌else◌, List, [], ◌∷◌, ◌++◌, All, find, get_or, set, remove, length, flat_map, Option, Some, None, is_some, refl, sym, ap, ◌∙◌, subst, arith, eqb-true, eq-eqb, ne_eqb}
+use Rattle.std.proofs.Common.{ℕ, ◌+◌, ◌≡◌, ◌≤◌, Bool, true, false, cond, not, ◌==◌, nat_lt, nat_le, if◌then◌else◌, List, [], ◌∷◌, ◌++◌, All, find, get_or, set, remove, length, flat_map, Option, Some, None, is_some, refl, sym, ap, ◌∙◌, subst, arith, eqb-true, eq-eqb, ne_eqb}
 use Rattle.std.proofs.lemmas.Bool.{cond_both, both_ways, false≢true}
 use Rattle.std.proofs.lemmas.List.Elements.{All-weaker}
-use Rattle.std.proofs.lemmas.List.{append-nil}
-use Rattle.std.proofs.lemmas.Grind.{flat_map-append}
 use Rattle.conn_state.specs.Names.{name_of, name_in_phase, name_in_use, name_place, same_name}
 use Rattle.conn_state.specs.Use.{has_id, is_duplex, some_runs}
 use Rattle.net_base.specs.Address.{same_address}
@@ -26,7 +24,7 @@ use Rattle.net_base.specs.declared.connection.Provenance.TheVariants.{FromRemote
 use Rattle.net_base.specs.declared.peer.Peer.{Peer}
 use Rattle.net_base.specs.declared.peer.Temp.{Temp}
 use Rattle.net_base.specs.declared.peer.Temp.TheVariants.{Cold, Warm, Hot}
-use Rattle.peer_book.specs.Book.{peer_at as peer_in, with_peer as with_peer_in, with_new as with_new_in, without_peer, new_peer, entry_of, entered_by, entered, most_peers, same_temp}
+use Rattle.peer_book.specs.Book.{peer_at as peer_in, with_peer as with_peer_in, new_peer, entered_by, most_peers, same_temp}
 use Rattle.peer_book.specs.declared.added.Added.{Added}
 use Rattle.peer_book.specs.declared.added.Added.TheVariants.{New, Present, Full}
 use Rattle.machine.specs.Connections.{with_entry, without_entry, entry_turns, entry_comes, entry_goes}

@@ -12,7 +12,6 @@ use Rattle.net_base.specs.declared.connection.Phase.TheVariants.{Dialing, Greeti
 use Rattle.net_base.specs.declared.event.Event.{Event}
 use Rattle.net_base.specs.declared.event.Event.TheVariants.{Now, Govern, Accepted, Dialed, Bytes, Closed, Aims, Locals, Roots, BigAims, Bigs}
 use Rattle.net_base.specs.declared.event.Group.{Group}
-use Rattle.net_base.specs.declared.event.Job.{Job}
 use Rattle.net_base.specs.declared.event.RootAnswer.{RootAnswer}
 use Rattle.net_base.specs.declared.event.RootAnswer.TheVariants.{Found, Failed}
 use Rattle.net_base.specs.declared.targets.BigTargets.{BigTargets}
@@ -29,7 +28,6 @@ use Rattle.machine.specs.Machine.{Machine, Entry, entry_at}
 use Rattle.machine.specs.Peers.{peer_is_ordinary}
 use Rattle.machine.specs.Provided.{targets_are, big_targets_are, comes_ordinary, comes_big}
 use Rattle.machine.specs.Stream.{handles, faulted_at}
-use Rattle.machine.specs.Whole.{whole_step}
 use Rattle.laws.specs.AtMoves.{fed_on}
 
 pub data Act : Type 0 where

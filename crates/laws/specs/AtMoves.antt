@@ -246,11 +246,6 @@ is_closed_by cid (Bigs addrs) = false
 abbrev pub MovesAreLawful : Machine → Event → Type 0
 MovesAreLawful m event = All (IsLawful (faults_of m event)) (whole_step m event).moves
 
--- A connection whose handshake is done stays so, or a move of this node ended it, or the other side did.
-abbrev pub EndsAreMoves : Machine → Event → Type 0
-EndsAreMoves m event = (cid : ℕ) → is_negotiated_at cid m ≡ true →
-    (is_negotiated_at cid (whole_step m event).machine || is_ended_in cid (whole_step m event).moves || is_closed_by cid event) ≡ true
-
 -- ---- who comes up
 
 -- used by this node, or on its way to it
@@ -302,12 +297,6 @@ shares addr (ended cid cause) = false
 shares addr (unused cid) = false
 shares addr (left cid) = false
 
-abbrev pub is_promoted_in : Addr → List Move → Bool
-is_promoted_in addr moves = list_any (λ move. promotes addr move.happened) moves
-
-abbrev pub is_activated_in : Addr → List Move → Bool
-is_activated_in addr moves = list_any (λ move. activates addr move.happened) moves
-
 abbrev pub is_shared_in : Addr → List Move → Bool
 is_shared_in addr moves = list_any (λ move. shares addr move.happened) moves
 
@@ -328,19 +317,3 @@ is_provided_by addr (Locals groups) = is_listed addr (members_of groups)
 is_provided_by addr (Roots job answer) = is_found_in addr answer
 is_provided_by addr (BigAims targets) = false
 is_provided_by addr (Bigs addrs) = false
-
--- Whoever is used, or on its way to it, was so before the event, or a move promoted it.
-abbrev pub PromotionsAreMoves : Machine → Event → Type 0
-PromotionsAreMoves m event = (addr : Addr) → is_up addr (whole_step m event).machine ≡ true →
-    (is_up addr m || is_promoted_in addr (whole_step m event).moves) ≡ true
-
--- Whoever is hot, or asked to become so, was one of both before the event, or a move activated it.
-abbrev pub ActivationsAreMoves : Machine → Event → Type 0
-ActivationsAreMoves m event = (addr : Addr) → is_hot_or_asked addr (whole_step m event).machine ≡ true →
-    (is_hot_or_asked addr m || is_activated_in addr (whole_step m event).moves) ≡ true
-
--- Whoever is known was so before the event, or a move shared its address, or the event names it as a local
--- or a public root peer.
-abbrev pub ArrivalsAreMoves : Machine → Event → Type 0
-ArrivalsAreMoves m event = (addr : Addr) → is_known addr (whole_step m event).machine ≡ true →
-    (is_known addr m || is_shared_in addr (whole_step m event).moves || is_provided_by addr event) ≡ true

@@ -1,5 +1,5 @@
 -- What an operator counts on in each part of an event, between the records that it really reaches.
-use Rattle.std.specs.Prelude.{ℕ, ◌≡◌, Bool, true, false, not, ◌&&◌, ◌||◌, ◌==◌, List, [], ◌∷◌, map, filter, All, if◌then◌else◌, Option, Some, None}
+use Rattle.std.specs.Prelude.{ℕ, ◌≡◌, ◌≤◌, Bool, true, false, not, ◌&&◌, ◌||◌, ◌==◌, List, [], ◌∷◌, map, filter, All, Contains, if◌then◌else◌, Option, Some, None}
 use Rattle.std.specs.List.{list_any}
 use Rattle.accept_gate.specs.Gate.{gate_of}
 use Rattle.accept_gate.specs.declared.gate.Gate.{Gate}
@@ -22,10 +22,12 @@ use Rattle.net_base.specs.declared.address.Addr.{Addr}
 use Rattle.net_base.specs.declared.connection.Phase.{Phase}
 use Rattle.net_base.specs.declared.connection.Phase.TheVariants.{Dialing, Greeting, Negotiated, Closing}
 use Rattle.net_base.specs.declared.event.Event.{Event}
+use Rattle.net_base.specs.Timer.{deadline_before}
+use Rattle.net_base.specs.declared.timer.Deadline.{Deadline}
 use Rattle.net_base.specs.declared.timer.Kind.{Kind}
 use Rattle.net_base.specs.declared.timer.Kind.TheVariants.{Handshake, Grace, TimeWait, Reply2, Reply8, Reply10}
-use Rattle.machine.specs.Deadlines.{due}
-use Rattle.machine.specs.Effect.{Effect, Happened, Move, for_each}
+use Rattle.machine.specs.Deadlines.{deadlines}
+use Rattle.machine.specs.Effect.{Effect, Happened, for_each}
 use Rattle.machine.specs.Greeting.{role_of, is_awaited, fits_side}
 use Rattle.machine.specs.Machine.{Machine, Entry, counted_in, entry_at, live_entry_at}
 use Rattle.machine.specs.Own.{own_info}
@@ -118,9 +120,14 @@ is_pruned (cause.Fault kind) = false
 abbrev pub but_pruned : List End → List End
 but_pruned ends = filter (λ end. not (is_pruned end.cause)) ends
 
--- a deadline fires only as the least that is due
+-- a deadline is due, and none fires before it
+pub record IsLeastDue (m : Machine) (d : Deadline) : Type 0 where
+  pub among : Contains (deadlines m) d
+  pub due : d.at ≤ m.now
+  pub first : All (λ other. deadline_before other d ≡ false) (deadlines m)
+
 abbrev pub IsNext : Act → Machine → Type 0
-IsNext (fires_one d) m = due m ≡ Some d
+IsNext (fires_one d) m = IsLeastDue m d
 IsNext other m = Unit {0}
 
 -- ---- whose handshake was done before it
@@ -147,21 +154,28 @@ Arrives event before effect = (addr : Addr) → is_known addr effect.machine ≡
 
 -- ---- each part, and each event
 
-pub record IsLawfulPart (event : Event) (part : Part) : Type 0 where
-  -- its actions tell what it does, and nothing else
-  pub told : IsTold part.before (effect_of part)
-  -- it ends whom it must, for the cause that stands, and nobody else but by pruning
-  pub next : IsNext part.act part.before
-  pub ends : but_pruned (ends_in (effect_of part).moves) ≡ ends_due part.act part.before
-  pub done : EndsOnce event part.before (effect_of part)
+-- what a part does is told, and so does the event as a whole
+pub record IsAccounted (event : Event) (before : Machine) (effect : Effect) : Type 0 where
+  -- the actions tell what is done, and nothing else
+  pub told : IsTold before effect
+  -- whoever was negotiated is ended once at most, for a late cause
+  pub done : EndsOnce event before effect
   -- nobody comes into use, becomes hot or is known unseen
-  pub promotions : RisesBy is_up promotes part.before (effect_of part)
-  pub activations : RisesBy is_hot_or_asked activates part.before (effect_of part)
-  pub arrivals : Arrives event part.before (effect_of part)
+  pub promotions : RisesBy is_up promotes before effect
+  pub activations : RisesBy is_hot_or_asked activates before effect
+  pub arrivals : Arrives event before effect
+
+pub record IsLawfulPart (event : Event) (part : Part) : Type 0 where
+  pub accounted : IsAccounted event part.before (effect_of part)
+  -- a deadline fires in its turn
+  pub next : IsNext part.act part.before
+  -- it ends whom it must, for the cause that stands, and nobody else but by pruning
+  pub ends : but_pruned (ends_in (effect_of part).moves) ≡ ends_due part.act part.before
 
 pub record IsLawfulEvent (m : Machine) (event : Event) : Type 0 where
   -- it is its parts, one after the other
   pub parts : whole_step m event ≡ for_each does (acts m event) m
   pub each : All (IsLawfulPart event) (parts_of m event)
+  pub accounted : IsAccounted event m (whole_step m event)
   -- each move keeps back-off and targets, and ends for cause
   pub moves : MovesAreLawful m event

@@ -1,4 +1,4 @@
-ghost use Rattle.std.specs.Prelude.{ℕ, ◌≡◌, List, All, None};
+ghost use Rattle.std.specs.Prelude.{ℕ, ◌≡◌, List, None};
 ghost use Rattle.net_base.specs.Bounds.{AreSound};
 ghost use Rattle.net_base.specs.declared.event.Event.{Event};
 ghost use Rattle.net_base.specs.declared.settings.Settings.{Settings};
@@ -7,8 +7,9 @@ ghost use Rattle.machine.specs.Events.{step, clock_shows};
 ghost use Rattle.machine.specs.Machine.{Machine, start_of};
 ghost use Rattle.machine.specs.Run.{after_all};
 ghost use Rattle.machine.specs.Whole.{whole_step};
-ghost use Rattle.laws.specs.AtMoves.{OutOfBackOff, WithinTargets, ForCause, faults_of, MovesAreLawful, EndsAreMoves, PromotionsAreMoves, ActivationsAreMoves, ArrivalsAreMoves};
-ghost use Rattle.laws.specs.Laws.{LiveAddressesDistinct, WithinHardLimit, DeadlinesAhead, EstablishedAreUsed, PendingAreCold, UsedAreOutOfBackOff, LocalsAreOrdinary};
+ghost use Rattle.laws.specs.Laws.{LiveAddressesDistinct, WithinHardLimit, DeadlinesAhead};
+ghost use Rattle.laws.specs.Parts.{IsLawfulEvent};
+ghost use Rattle.laws.specs.Records.{IsLawfulRecord};
 ghost use Rattle.laws.specs.Sound.{IsOrderly, IsSound};
 ghost use Rattle.laws.specs.Whole.{IsSteady, whole_after};
 
@@ -36,41 +37,20 @@ pub fn all_due_fires()
     ensures clock { (t : ℕ) (m : Machine) → IsSound m → DeadlinesAhead (clock_shows t m).machine }
 {}
 
-/// The laws of the whole machine, over every list of events.
-pub fn laws_of_whole_runs()
-    ensures distinct { (settings : Settings) (events : List Event) → AreSound settings → LiveAddressesDistinct (whole_after (start_of settings) events) }
-    ensures limit { (settings : Settings) (events : List Event) → AreSound settings → WithinHardLimit (whole_after (start_of settings) events) }
-    ensures deadlines { (settings : Settings) (events : List Event) → AreSound settings → DeadlinesAhead (whole_after (start_of settings) events) }
-    ensures established { (settings : Settings) (events : List Event) → AreSound settings → EstablishedAreUsed (whole_after (start_of settings) events) }
-    ensures pending { (settings : Settings) (events : List Event) → AreSound settings → PendingAreCold (whole_after (start_of settings) events) }
-    ensures back_off { (settings : Settings) (events : List Event) → AreSound settings → UsedAreOutOfBackOff (whole_after (start_of settings) events) }
-    ensures ordinary { (settings : Settings) (events : List Event) → AreSound settings → LocalsAreOrdinary (whole_after (start_of settings) events) }
-    ensures settings { (settings : Settings) (events : List Event) → AreSound settings → (whole_after (start_of settings) events).settings ≡ settings }
-{}
-
-/// The laws on the moves of an event, after every list of events: promotions and activations are out of back-off and
-/// within what is wanted, no connection whose handshake is done ends without a cause, and none is gone without a move
-/// but where the other side has closed it. Nobody comes into use or becomes hot without a move either, nor is an address
-/// known without one but where the event names it as a root peer's.
-pub fn laws_of_moves()
-    ensures back_off { (settings : Settings) (events : List Event) (event : Event) → AreSound settings → All (λ move. OutOfBackOff move.happened move.before) (whole_step (whole_after (start_of settings) events) event).moves }
-    ensures targets { (settings : Settings) (events : List Event) (event : Event) → AreSound settings → All (λ move. WithinTargets move.happened move.before move.after) (whole_step (whole_after (start_of settings) events) event).moves }
-    ensures cause { (settings : Settings) (events : List Event) (event : Event) → AreSound settings → All (λ move. ForCause (faults_of (whole_after (start_of settings) events) event) move.happened move.before) (whole_step (whole_after (start_of settings) events) event).moves }
-    ensures ends { (settings : Settings) (events : List Event) (event : Event) → AreSound settings → EndsAreMoves (whole_after (start_of settings) events) event }
-    ensures promotions { (settings : Settings) (events : List Event) (event : Event) → AreSound settings → PromotionsAreMoves (whole_after (start_of settings) events) event }
-    ensures activations { (settings : Settings) (events : List Event) (event : Event) → AreSound settings → ActivationsAreMoves (whole_after (start_of settings) events) event }
-    ensures arrivals { (settings : Settings) (events : List Event) (event : Event) → AreSound settings → ArrivalsAreMoves (whole_after (start_of settings) events) event }
-{}
-
-/// What carries them: a record is steady at the start, and after each event where it was before, whatever stands in it;
-/// and where it is, each move of an event is lawful, and what goes or comes up does so by a move.
-pub fn steadiness_kept()
+/// What holds in every record of the whole machine: it is steady at the start, and after each event where it was before,
+/// whatever stands in it; and whatever is steady keeps the laws.
+pub fn laws_of_records()
     ensures start { (settings : Settings) → AreSound settings → IsSteady (start_of settings) }
     ensures kept { (m : Machine) (event : Event) → IsSteady m → IsSteady (whole_step m event).machine }
     ensures settings { (m : Machine) (event : Event) → IsSteady m → (whole_step m event).machine.settings ≡ m.settings }
-    ensures moves { (m : Machine) (event : Event) → IsSteady m → MovesAreLawful m event }
-    ensures ends { (m : Machine) (event : Event) → IsSteady m → EndsAreMoves m event }
-    ensures promotions { (m : Machine) (event : Event) → IsSteady m → PromotionsAreMoves m event }
-    ensures activations { (m : Machine) (event : Event) → IsSteady m → ActivationsAreMoves m event }
-    ensures arrivals { (m : Machine) (event : Event) → IsSteady m → ArrivalsAreMoves m event }
+    ensures lawful { (m : Machine) → IsSteady m → IsLawfulRecord m }
+    ensures runs { (settings : Settings) (events : List Event) → AreSound settings → IsLawfulRecord (whole_after (start_of settings) events) }
+    ensures settings_of_runs { (settings : Settings) (events : List Event) → AreSound settings → (whole_after (start_of settings) events).settings ≡ settings }
+{}
+
+/// What holds of the actions and the moves of each event, and of each of its parts, from every steady record and so after
+/// every list of events.
+pub fn laws_of_events()
+    ensures lawful { (m : Machine) (event : Event) → IsSteady m → IsLawfulEvent m event }
+    ensures runs { (settings : Settings) (events : List Event) (event : Event) → AreSound settings → IsLawfulEvent (whole_after (start_of settings) events) event }
 {}

@@ -5,6 +5,4 @@
 
 mod laws;
 
-pub use laws::{
-    all_due_fires, laws_of_moves, laws_of_runs, laws_of_whole_runs, sound_kept, steadiness_kept,
-};
+pub use laws::{all_due_fires, laws_of_events, laws_of_records, laws_of_runs, sound_kept};
