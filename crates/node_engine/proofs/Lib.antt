@@ -11,6 +11,7 @@ pub mod StreamIds
 pub mod StreamLemmas
 pub mod Going
 pub mod LocalUse
+pub mod Pauses
 pub mod RuleSteps
 pub mod TalkFeeds
 pub mod TalkFinds
