@@ -1,6 +1,6 @@
 -- What is sent, and the replies that the other side owes for it.
-use Rattle.std.specs.Prelude.{ℕ, ◌+◌, ◌==◌, not, nat_lt, List, [], ◌∷◌, ◌++◌, filter, find, Option, if◌then◌else◌}
-use Rattle.conn_state.specs.Protocols.{chain_sync, keep_alive}
+use Rattle.std.specs.Prelude.{ℕ, ◌+◌, Bool, ◌||◌, ◌==◌, not, nat_lt, List, [], ◌∷◌, ◌++◌, filter, find, Option, if◌then◌else◌}
+use Rattle.conn_state.specs.Protocols.{chain_sync, keep_alive, peer_sharing}
 use Rattle.mux_segment.specs.Frame.{frame_of}
 use Rattle.net_base.specs.declared.action.Action.TheVariants.{Send}
 use Rattle.net_base.specs.declared.connection.Cid.{Cid}
@@ -29,7 +29,11 @@ owing protocol asked m entry = record entry {
 abbrev pub paid : ℕ → Entry → Entry
 paid protocol entry = record entry { owed = without_reply protocol entry.owed }
 
--- Replies are owed on chain-sync, keep-alive and peer-sharing, and on no other protocol: what stands for each of them.
+-- replies are owed on three protocols alone
+abbrev pub is_owed_on : ℕ → Bool
+is_owed_on protocol = protocol == chain_sync || protocol == keep_alive || protocol == peer_sharing
+
+-- what stands for each of the three
 abbrev pub by_reply : {X : Type 0} → ℕ → X → X → X → X
 by_reply protocol on_chain_sync on_keep_alive on_peer_sharing =
     if protocol == chain_sync then on_chain_sync
