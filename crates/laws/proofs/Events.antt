@@ -1,6 +1,6 @@
 -- Each event keeps what is sound.
-use Rattle.std.proofs.Common.{ℕ, ◌+◌, ◌<◌, ◌≤◌, ◌≡◌, ◌≢◌, true, false, remove, Option, Some, None, All, IsTrue, nat_le, nat_lt, sum_by, if◌then◌else◌, refl, sym, ap, ◌∙◌, subst, arith, leb-false}
-use Rattle.std.proofs.lemmas.Bool.{cond_both, and_parts, and_from, both_ways, lt-leb, cond-true, false_from_ne_true}
+use Rattle.std.proofs.Common.{ℕ, ◌+◌, ◌<◌, ◌≤◌, ◌≡◌, ◌≢◌, true, false, remove, Option, Some, None, All, IsTrue, nat_le, sum_by, if◌then◌else◌, refl, sym, ap, ◌∙◌, subst, arith, leb-false}
+use Rattle.std.proofs.lemmas.Bool.{cond_both, and_parts, and_from, both_ways, lt-leb}
 use Rattle.std.proofs.lemmas.List.Elements.{All-weaker}
 use Rattle.std.proofs.lemmas.List.Sums.{sum_by_push}
 use Rattle.net_base.specs.Address.{same_address, address_below}
@@ -10,7 +10,6 @@ use Rattle.net_base.specs.declared.address.Addr.{Addr}
 use Rattle.net_base.specs.declared.connection.Cid.{Cid}
 use Rattle.net_base.specs.declared.event.Event.{Event}
 use Rattle.net_base.specs.declared.event.Event.TheVariants.{Now, Govern, Accepted, Dialed, Bytes, Closed, Aims, Locals, Roots, BigAims, Bigs}
-use Rattle.net_base.specs.declared.settings.Settings.{Settings}
 use Rattle.conn_state.specs.Moves.{accepted}
 use Rattle.conn_state.specs.Use.{is_live, is_live_at, is_pending, has_id}
 use Rattle.machine.specs.Machine.{Machine, Entry, fresh_entry, counted_in, entry_at, live_entry_at}

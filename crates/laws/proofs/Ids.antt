@@ -66,7 +66,7 @@ use Rattle.machine.specs.Connections.{with_entry, without_entry, entry_turns, is
 use Rattle.machine.specs.Deadlines.{due, fires_as, fires, fires_some, fire_due, fire_all}
 use Rattle.machine.specs.Events.{clock_shows, turned_away, admitted, crossed, accepted_beside, peer_connects, closes, peer_closes, dialed, dial_ends}
 use Rattle.machine.specs.Govern.{link_of, view_of, promoted_at, promote, is_used_at, on_used, asks_peer, activates, deactivates, carries_out, asks_roots, ordinary_rules, big_rules, rules, govern}
-use Rattle.machine.specs.Greeting.{role_of, is_awaited, fits_side, sends_answer, judged, decided, greeted_by, greets}
+use Rattle.machine.specs.Greeting.{role_of, is_awaited, fits_side, judged, decided, greeted_by, greets}
 use Rattle.machine.specs.Own.{own_info}
 use Rattle.machine.specs.Provided.{comes_ordinary, locals_are, is_wanted_big, comes_big, bigs_are, roots_say, roots_answer}
 use Rattle.machine.specs.Replies.{owing, paid, reply_on}

@@ -1,5 +1,5 @@
 -- A connection whose handshake is done: what the other side asks, and what it answers.
-use Rattle.std.specs.Prelude.{ℕ, Bool, true, false, ◌||◌, ◌==◌, not, nat_le, List, [], length, if◌then◌else◌, Option, Some, None, Result, Ok, Err}
+use Rattle.std.specs.Prelude.{ℕ, Bool, false, ◌||◌, ◌==◌, not, nat_le, List, [], length, if◌then◌else◌, Option, Some, None, Result, Ok, Err}
 use Rattle.churn_clock.specs.Windows.{effective_of}
 use Rattle.conn_state.specs.Use.{is_outbound, is_duplex, agreed_sharing, runs}
 use Rattle.mux_segment.specs.declared.item.Item.{Item}

@@ -1,21 +1,18 @@
 -- Ids are given to connections that come, and to nothing else.
-use Rattle.std.proofs.Common.{ℕ, zero, suc, ◌+◌, ◌≤◌, ◌≡◌, Bool, true, false, nat_le, [], ◌∷◌, Option, Some, None, refl, ◌∙◌, arith}
+use Rattle.std.proofs.Common.{ℕ, zero, suc, ◌+◌, ◌≤◌, ◌≡◌, Bool, true, false, nat_le, [], ◌∷◌, Option, Some, None, refl, ◌∙◌, arith, if◌then◌else◌}
 use Rattle.std.proofs.lemmas.Bool.{cond_both}
-use Rattle.accept_gate.specs.Gate.{gate_of}
-use Rattle.accept_gate.specs.declared.gate.Gate.{Gate}
-use Rattle.accept_gate.specs.declared.gate.Gate.TheVariants.{Free, Pause, Full}
 use Rattle.conn_state.specs.Moves.{expired}
 use Rattle.conn_state.specs.Use.{is_dialing, is_live, is_pending}
 use Rattle.machine.specs.Connections.{is_missed, lost, lost_by, ending, vanishes, closing_entry, entry_goes, entry_turns, grace_over, dial_opens, dial_fails}
 use Rattle.machine.specs.Deadlines.{due, fires_as, fires, fires_some, fire_due, fire_all}
-use Rattle.machine.specs.Effect.{Effect, unused, nothing_more, tells, then_do, as_move}
+use Rattle.machine.specs.Effect.{Effect, unused, nothing_more, tells, then_do, as_move, on_entry}
 use Rattle.machine.specs.Events.{clock_shows, turned_away, admitted, crossed, accepted_beside, peer_connects, closes, peer_closes, dialed, dial_ends, step}
 use Rattle.machine.specs.Machine.{Machine, Entry, counted_in, entry_at, live_entry_at}
 use Rattle.machine.specs.Peers.{peer_at, turns_at, peer_fails}
 use Rattle.net_base.specs.Address.{same_address, address_below}
 use Rattle.net_base.specs.Peer.{failed_peer}
 use Rattle.net_base.specs.declared.action.Action.TheVariants.{Close}
-use Rattle.net_base.specs.declared.action.Away.TheVariants.{OwnAddr, Crossed, Present}
+use Rattle.net_base.specs.declared.action.Away.TheVariants.{OwnAddr, Crossed, Present, Full}
 use Rattle.net_base.specs.declared.action.CloseCause.{CloseCause}
 use Rattle.net_base.specs.declared.action.CloseCause.TheVariants.{Unused, Pruned, Overwritten, Refused, Query, Fault}
 use Rattle.net_base.specs.declared.action.FaultKind.TheVariants.{HandshakeWait, ReplyWait}

@@ -11,7 +11,6 @@ pub mod StreamIds
 pub mod StreamLemmas
 pub mod Going
 pub mod LocalUse
-pub mod Pauses
 pub mod RuleSteps
 pub mod TalkFeeds
 pub mod TalkFinds

@@ -1,10 +1,10 @@
 -- What comes in on a connection gives no id.
-use Rattle.std.proofs.Common.{ℕ, Bool, true, false, ◌==◌, ◌&&◌, nat_le, if◌then◌else◌, List, [], ◌∷◌, Option, Some, None, Result, Ok, Err, refl, ◌∙◌}
+use Rattle.std.proofs.Common.{ℕ, Bool, true, false, ◌==◌, ◌&&◌, nat_le, if◌then◌else◌, List, [], ◌∷◌, Option, Some, None, Result, Ok, Err, refl, ◌∙◌, ◌||◌}
 use Rattle.std.specs.Option.{unwrap_or}
 use Rattle.std.proofs.lemmas.Bool.{cond_both}
 use Rattle.accept_gate.specs.Prune.{choice_of}
 use Rattle.conn_state.specs.Moves.{awakened}
-use Rattle.conn_state.specs.Use.{agreed_sharing, runs}
+use Rattle.conn_state.specs.Use.{agreed_sharing, runs, is_greeting, is_negotiated}
 use Rattle.hs_decide.specs.Agreement.{verdict_of}
 use Rattle.hs_decide.specs.Answers.{answer_of}
 use Rattle.hs_decide.specs.declared.verdict.Verdict.{Verdict}
@@ -12,7 +12,7 @@ use Rattle.hs_decide.specs.declared.verdict.Verdict.TheVariants as verdict
 use Rattle.hs_message.specs.Reading.{message_of}
 use Rattle.hs_message.specs.declared.message.Message.{Message}
 use Rattle.machine.specs.Connections.{ending, candidates_in, trim, awake, with_entry, entry_turns}
-use Rattle.machine.specs.Effect.{Effect, nothing_more, then_do, for_each}
+use Rattle.machine.specs.Effect.{Effect, nothing_more, then_do, for_each, on_entry, on_connection}
 use Rattle.machine.specs.Greeting.{role_of, is_awaited, fits_side, sends_answer, judged, decided, greeted_by, greets}
 use Rattle.machine.specs.Machine.{Machine, Entry, Owed, counted_in, entry_at}
 use Rattle.machine.specs.Own.{own_info}
@@ -41,7 +41,7 @@ use Rattle.remote_watch.specs.declared.seen.Seen.{Seen}
 use Rattle.warm_messages.specs.Reading.{share_of}
 use Rattle.warm_messages.specs.declared.share.Share.{Share}
 use Rattle.warm_messages.specs.declared.share.Share.TheVariants as share
-use Rattle.node_engine.proofs.Ids.{GivesNone, turns_at-ids, ending-ids}
+use Rattle.node_engine.proofs.Ids.{GivesNone, turns_at-ids, ending-ids, on_entry-ids}
 
 then-ids : (first : Effect) (next : Machine → Effect) (m : Machine) → GivesNone m first → ((n : Machine) → GivesNone n (next n)) →
     GivesNone m (then_do first next)

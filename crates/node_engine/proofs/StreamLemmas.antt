@@ -7,7 +7,7 @@ use Rattle.laws.proofs.Lists.{find_some}
 use Rattle.laws.proofs.Remains.{awake-runs}
 use Rattle.laws.proofs.Streams.{found-cid}
 use Rattle.machine.specs.Connections.{entry_turns, awake}
-use Rattle.machine.specs.Effect.{nothing_more, then_do, for_each}
+use Rattle.machine.specs.Effect.{nothing_more, then_do, for_each, on_entry, on_connection}
 use Rattle.machine.specs.Machine.{Machine, Entry, Owed, entry_at}
 use Rattle.machine.specs.Replies.{reply_on}
 use Rattle.machine.specs.Stream.{handles, faulted, feeds}
