@@ -12,7 +12,7 @@ use Rattle.hs_decide.specs.declared.verdict.Verdict.TheVariants as verdict
 use Rattle.hs_message.specs.Reading.{message_of}
 use Rattle.hs_message.specs.declared.message.Message.{Message}
 use Rattle.machine.specs.Connections.{ending, candidates_in, trim, awake, with_entry, entry_turns}
-use Rattle.machine.specs.Effect.{Effect, nothing_more, then_do, for_each, on_entry, on_connection}
+use Rattle.machine.specs.Effect.{Effect, nothing_more, then_do, for_each, on_connection}
 use Rattle.machine.specs.Greeting.{role_of, is_awaited, fits_side, sends_answer, judged, decided, greeted_by, greets}
 use Rattle.machine.specs.Machine.{Machine, Entry, Owed, counted_in, entry_at}
 use Rattle.machine.specs.Own.{own_info}
