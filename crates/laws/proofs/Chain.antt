@@ -1,13 +1,12 @@
 -- An event is its parts, one after the other.
-use Rattle.std.proofs.Common.{ℕ, zero, suc, ◌≡◌, Bool, true, false, nat_le, if◌then◌else◌, List, [], ◌∷◌, ◌++◌, map, length, Option, Some, None, refl, sym, ap, ◌∙◌}
+use Rattle.std.proofs.Common.{ℕ, zero, suc, ◌||◌, ◌≡◌, Bool, true, false, nat_le, if◌then◌else◌, List, [], ◌∷◌, ◌++◌, map, length, Option, Some, None, refl, sym, ap, ◌∙◌}
 use Rattle.std.proofs.lemmas.List.{append-nil, append_assoc}
+use Rattle.conn_state.specs.Use.{is_greeting, is_negotiated}
 use Rattle.govern_rules.specs.declared.order.Order.{Order}
 use Rattle.mux_segment.specs.Stream.{FedBy}
 use Rattle.net_base.specs.declared.action.Action.{Action}
 use Rattle.net_base.specs.declared.address.Addr.{Addr}
 use Rattle.net_base.specs.declared.connection.Cid.{Cid}
-use Rattle.net_base.specs.declared.connection.Phase.{Phase}
-use Rattle.net_base.specs.declared.connection.Phase.TheVariants.{Dialing, Greeting, Negotiated, Closing}
 use Rattle.net_base.specs.declared.event.Event.{Event}
 use Rattle.net_base.specs.declared.event.Event.TheVariants.{Now, Govern, Accepted, Dialed, Bytes, Closed, Aims, Locals, Roots, BigAims, Bigs}
 use Rattle.net_base.specs.declared.event.Group.{Group}
@@ -17,15 +16,15 @@ use Rattle.net_base.specs.declared.timer.Deadline.{Deadline}
 use Rattle.root_groups.specs.Cleaned.{cleaned, members_of}
 use Rattle.root_groups.specs.RootAsk.{awaits, publics_of, found}
 use Rattle.machine.specs.Deadlines.{deadlines, due, fires, fires_some, fire_due, fire_all}
-use Rattle.machine.specs.Effect.{Effect, Move, nothing_more, then_do, for_each}
+use Rattle.machine.specs.Effect.{Effect, Move, nothing_more, on_entry, then_do, for_each}
 use Rattle.machine.specs.Events.{clock_shows}
 use Rattle.machine.specs.Govern.{carries_out, asks_roots, ordinary_rules, big_rules, rules, govern}
 use Rattle.machine.specs.Machine.{Machine, Entry, entry_at}
 use Rattle.machine.specs.Peers.{peer_is_ordinary}
 use Rattle.machine.specs.Provided.{comes_ordinary, comes_big, roots_say}
-use Rattle.machine.specs.Stream.{handles, fed_with, comes_in_phase, comes_in_at}
+use Rattle.machine.specs.Stream.{handles, fed_with, feeds, comes_in}
 use Rattle.machine.specs.Whole.{whole_step}
-use Rattle.laws.specs.Acts.{Act, fires_one, carries, connects, ends_dial, stores, handles_item, ends_stream, is_closed, sets_targets, sets_big_targets, makes_ordinary, provides, provides_big, does, fired_from, fired, orders_of, acts_at_moment, acts_fed, acts_in_phase, acts_of_bytes, acts_of_groups, acts_of_answer, acts}
+use Rattle.laws.specs.Acts.{Act, fires_one, carries, connects, ends_dial, stores, handles_item, ends_stream, is_closed, sets_targets, sets_big_targets, makes_ordinary, provides, provides_big, does, fired_from, fired, orders_of, acts_at_moment, acts_fed, acts_of_bytes, acts_of_groups, acts_of_answer, acts}
 use Rattle.laws.specs.AtMoves.{fed_on}
 
 -- ---- one after the other
@@ -142,15 +141,13 @@ fed-chain fed e m =
     ∙ (ap (λ effect. then_do effect (for_each does (last ∷ []))) (sym (each_mapped (handles_item cid) (handles cid) (λ item w. refl) fed.items n))
     ∙ sym (each_appended does items (last ∷ []) n)))
 
-comes-chain : (p : Phase) (bytes : List ℕ) (e : Entry) (m : Machine) → comes_in_phase p bytes e m ≡ for_each does (acts_in_phase p bytes e) m
-comes-chain Dialing bytes e m = no_act m
-comes-chain (Greeting until) bytes e m = fed-chain (fed_on e bytes) e m
-comes-chain Negotiated bytes e m = fed-chain (fed_on e bytes) e m
-comes-chain (Closing until) bytes e m = no_act m
-
-bytes-chain : (o : Option Entry) (bytes : List ℕ) (m : Machine) → comes_in_at o bytes m ≡ for_each does (acts_of_bytes o bytes) m
-bytes-chain None bytes m = no_act m
-bytes-chain (Some e) bytes m = comes-chain e.facts.phase bytes e m
+comes-chain : (o : Option Entry) (bytes : List ℕ) (m : Machine) → on_entry o (comes_in bytes) m ≡ for_each does (acts_of_bytes o bytes) m
+comes-chain None bytes m = no_act m
+comes-chain (Some e) bytes m = by_test (is_greeting e.facts || is_negotiated e.facts)
+  where
+    by_test : (b : Bool) → (if b then feeds bytes e m else nothing_more m) ≡ for_each does (if b then acts_fed (fed_on e bytes) e else []) m
+    by_test true = fed-chain (fed_on e bytes) e m
+    by_test false = no_act m
 
 -- ---- what is set and provided
 
@@ -187,7 +184,7 @@ parts-chain m (Now t) = clock-chain t m
 parts-chain m (Govern word) = govern-chain word m
 parts-chain m (Accepted addr) = alone (connects addr) m
 parts-chain m (Dialed cid opened) = alone (ends_dial cid opened) m
-parts-chain m (Bytes cid bytes) = bytes-chain (entry_at cid.0 m) bytes m
+parts-chain m (Bytes cid bytes) = comes-chain (entry_at cid.0 m) bytes m
 parts-chain m (Closed cid) = alone (is_closed cid) m
 parts-chain m (Aims targets) = alone (sets_targets targets) m
 parts-chain m (Locals groups) = locals-chain (cleaned m.settings.own groups) m

@@ -4,10 +4,7 @@ use Rattle.std.specs.Option.{unwrap_or}
 use Rattle.std.proofs.lemmas.Bool.{cond_both}
 use Rattle.std.proofs.lemmas.Grind.{flat_map-append}
 use Rattle.std.proofs.lemmas.List.Elements.{filter-append}
-use Rattle.accept_gate.specs.Gate.{gate_of}
 use Rattle.accept_gate.specs.Prune.{choice_of}
-use Rattle.accept_gate.specs.declared.gate.Gate.{Gate}
-use Rattle.accept_gate.specs.declared.gate.Gate.TheVariants.{Free, Pause, Full}
 use Rattle.conn_state.specs.Use.{is_acquirable, is_dialing, is_live, is_pending, runs, agreed_sharing}
 use Rattle.govern_rules.specs.declared.order.Order.{Order}
 use Rattle.govern_rules.specs.declared.order.Order.TheVariants.{Ask, Forget, Promote, Release, Activate, Deactivate}
@@ -22,7 +19,7 @@ use Rattle.mux_segment.specs.declared.item.Item.{Item}
 use Rattle.net_base.specs.Address.{same_address, address_below}
 use Rattle.net_base.specs.declared.action.CloseCause.{CloseCause}
 use Rattle.net_base.specs.declared.action.CloseCause.TheVariants as cause
-use Rattle.net_base.specs.declared.action.Away.TheVariants.{OwnAddr, Crossed, Present}
+use Rattle.net_base.specs.declared.action.Away.TheVariants.{Full, OwnAddr, Crossed, Present}
 use Rattle.net_base.specs.declared.action.FaultKind.{FaultKind}
 use Rattle.net_base.specs.declared.action.FaultKind.TheVariants.{Malformed, Protocol, HandshakeWait, ReplyWait}
 use Rattle.net_base.specs.declared.action.Action.TheVariants.{Close, AskRoots}
@@ -40,25 +37,25 @@ use Rattle.root_groups.specs.RootAsk.{may_ask, asked}
 use Rattle.warm_messages.specs.Reading.{share_of}
 use Rattle.warm_messages.specs.declared.share.Share.{Share}
 use Rattle.warm_messages.specs.declared.share.Share.TheVariants as share
-use Rattle.machine.specs.Connections.{with_entry, without_entry, entry_turns, ending, vanishes, acquire, candidates_in, pruned_at, trim, says_done, release, awake, dial, dial_opens, dial_fails, closing_entry}
-use Rattle.machine.specs.Deadlines.{fires_as, fires_on}
-use Rattle.machine.specs.Effect.{Effect, Move, promoted, activated, shared, ended, unused, left, nothing_more, tells, then_do, as_move, for_each}
-use Rattle.machine.specs.Events.{turned_away, admitted, accepted_beside, accepted_through, peer_connects, closed_at, dial_ends_at}
-use Rattle.machine.specs.Govern.{promoted_at, promote, on_entry, is_used_at, on_used, asks_peer, activates, activate, deactivates, carries_out, asks_roots}
-use Rattle.machine.specs.Greeting.{role_of, is_awaited, fits_side, told, judged, decided, greeted_by, greets}
+use Rattle.machine.specs.Connections.{with_entry, without_entry, entry_turns, ending, vanishes, acquire, candidates_in, trim, says_done, release, awake, dial, dial_opens, dial_fails, closing_entry}
+use Rattle.machine.specs.Deadlines.{fires_as}
+use Rattle.machine.specs.Effect.{Effect, Move, promoted, activated, shared, ended, unused, gone, on_entry, on_connection, nothing_more, tells, then_do, as_move, for_each}
+use Rattle.machine.specs.Events.{turned_away, admitted, crossed, accepted_beside, peer_connects, closes, dialed}
+use Rattle.machine.specs.Govern.{promoted_at, promote, is_used_at, on_used, asks_peer, activates, activate, deactivates, carries_out, asks_roots}
+use Rattle.machine.specs.Greeting.{role_of, is_awaited, fits_side, sends_answer, judged, decided, greeted_by, greets}
 use Rattle.machine.specs.Machine.{Machine, Entry, Owed, counted_in, entry_at, live_entry_at}
 use Rattle.machine.specs.Own.{own_info}
 use Rattle.machine.specs.Peers.{peer_at, peer_becomes, peer_is_ordinary, peer_comes}
 use Rattle.machine.specs.Provided.{comes_ordinary, is_wanted_big, comes_big}
 use Rattle.machine.specs.Replies.{reply_on, owing, paid}
-use Rattle.machine.specs.Stream.{handled_in, handled_at, kind_of, faulted_at}
-use Rattle.machine.specs.Talking.{replies, ends_if, served_at, begins, takes_requests, asked_as, shares_address, taken_of, takes_addresses, pays, brings, answered_as, talks}
+use Rattle.machine.specs.Stream.{handled_in, handled, kind_of, faulted}
+use Rattle.machine.specs.Talking.{replies, stops_if, serves, begins, takes_requests, asked_as, shares_address, taken_of, takes_addresses, pays, brings, answered_as, talks}
 use Rattle.laws.specs.Acts.{Act, shows, fires_one, asks_for_roots, carries, connects, ends_dial, stores, handles_item, ends_stream, is_closed, sets_targets, sets_big_targets, sets_groups, sets_roots, makes_ordinary, provides, provides_big, does}
 use Rattle.laws.specs.AtMoves.{fault_of_request, fault_of_answer, fault_of}
-use Rattle.laws.specs.Parts.{ends_on, causes_of_kind, causes_of_verdict, causes_of_message, causes_of_greeting, causes_of_fault, causes_of_item, causes_of_cut, is_full, causes_of_crossing, ends_due, is_pruned, but_pruned}
+use Rattle.laws.specs.Parts.{ends_on, causes_of_kind, causes_of_verdict, causes_of_message, causes_of_greeting, causes_of_fault, causes_of_item, causes_of_cut, causes_of_crossing, ends_due, is_pruned, but_pruned}
 use Rattle.laws.specs.Told.{End, ended_by, ends_in}
 use Rattle.laws.proofs.Lawful.{lost_by-quiet, lost-quiet, turns_at-moves, comes-providing}
-use Rattle.laws.proofs.Handshakes.{told-quiet}
+use Rattle.laws.proofs.Handshakes.{answer-quiet}
 use Rattle.laws.proofs.Orders.{says_done-quiet}
 use Rattle.laws.proofs.Talks.{replies-quiet}
 
@@ -95,10 +92,10 @@ ending-others cause e m =
 
 trim-others : (moved : Cid) (m : Machine) → others (trim moved m) ≡ []
 trim-others moved m = cond_both (nat_le (counted_in m) m.settings.hard) (nothing_more m)
-    (pruned_at (entry_at (unwrap_or (choice_of (candidates_in m)) moved).0 m) m) (λ effect. others effect ≡ []) (λ within. refl)
+    (on_connection (unwrap_or (choice_of (candidates_in m)) moved) (ending cause.Pruned) m) (λ effect. others effect ≡ []) (λ within. refl)
     (λ above. by_entry (entry_at (unwrap_or (choice_of (candidates_in m)) moved).0 m))
   where
-    by_entry : (o : Option Entry) → others (pruned_at o m) ≡ []
+    by_entry : (o : Option Entry) → others (on_entry o (ending cause.Pruned) m) ≡ []
     by_entry None = refl
     by_entry (Some e) = ending-others cause.Pruned e m
 
@@ -123,9 +120,9 @@ greeted_by-others (Some msg) side e m = by_side (fits_side (role_of e.facts.prov
     by_side : (b : Bool) → others (if b then decided v e m else ending (cause.Fault Protocol) e m)
         ≡ map (end_of e) (if b then causes_of_verdict v else cause.Fault Protocol ∷ [])
     by_side true =
-        let first : Effect = told (answer_of v (own_info m.settings)) e.facts.cid m in
+        let first : Effect = sends_answer (answer_of v (own_info m.settings)) e.facts.cid m in
         others_later first (judged v e) (map (end_of e) (causes_of_verdict v))
-        (others_none first (told-quiet (answer_of v (own_info m.settings)) e.facts.cid m).moves) (judged-others v e first.machine)
+        (others_none first (answer-quiet (answer_of v (own_info m.settings)) e.facts.cid m).moves) (judged-others v e first.machine)
     by_side false = ending-others (cause.Fault Protocol) e m
 
 greets-others : (item : Item) (e : Entry) (m : Machine) →
@@ -138,17 +135,16 @@ greets-others item e m = by_side (item.id == 0 && is_awaited (role_of e.facts.pr
     by_side true = greeted_by-others (message_of item.body) item.side e m
     by_side false = ending-others (cause.Fault Protocol) e m
 
-ends_if-others : (done : Bool) (protocol : ℕ) (o : Option Entry) (m : Machine) → others (ends_if done protocol o m) ≡ []
-ends_if-others true protocol (Some e) m = refl
-ends_if-others true protocol None m = refl
-ends_if-others false protocol o m = refl
+stops_if-others : (done : Bool) (protocol : ℕ) (e : Entry) (m : Machine) → others (stops_if done protocol e m) ≡ []
+stops_if-others true protocol e m = refl
+stops_if-others false protocol e m = refl
 
-served-others : (o : Option Entry) (seen : Seen) (protocol : ℕ) (m : Machine) → others (served_at o seen protocol m) ≡ []
-served-others None seen protocol m = refl
-served-others (Some e) seen protocol m =
+serves-others : (o : Option Entry) (seen : Seen) (protocol : ℕ) (m : Machine) → others (on_entry o (serves seen protocol) m) ≡ []
+serves-others None seen protocol m = refl
+serves-others (Some e) seen protocol m =
     let first : Effect = replies seen.reply protocol e m in
-    others_later first (λ n. ends_if seen.done protocol (entry_at e.facts.cid.0 n) n) [] (others_none first (replies-quiet seen.reply protocol e m).moves)
-    (ends_if-others seen.done protocol (entry_at e.facts.cid.0 first.machine) first.machine)
+    others_later first (stops_if seen.done protocol e) [] (others_none first (replies-quiet seen.reply protocol e m).moves)
+    (stops_if-others seen.done protocol e first.machine)
 
 begins-others : (protocol : ℕ) (e : Entry) (m : Machine) → others (begins protocol e m) ≡ []
 begins-others protocol e m = cond_both (runs protocol e.facts.running) (nothing_more m) (awake protocol e m) (λ effect. others effect ≡ [])
@@ -159,12 +155,12 @@ asked_as-others : (r : Result Seen FaultKind) (protocol : ℕ) (e : Entry) (m : 
 asked_as-others (Err kind) protocol e m = ending-others (cause.Fault kind) e m
 asked_as-others (Ok seen) protocol e m = by_test (takes_requests e)
   where
-    by_test : (b : Bool) → others (if b then then_do (begins protocol e m) (λ m. served_at (entry_at e.facts.cid.0 m) seen protocol m) else ending (cause.Fault Protocol) e m)
+    by_test : (b : Bool) → others (if b then then_do (begins protocol e m) (on_connection e.facts.cid (serves seen protocol)) else ending (cause.Fault Protocol) e m)
         ≡ map (end_of e) (causes_of_fault (if b then None else Some Protocol))
     by_test true =
         let first : Effect = begins protocol e m in
-        others_later first (λ n. served_at (entry_at e.facts.cid.0 n) seen protocol n) [] (begins-others protocol e m)
-        (served-others (entry_at e.facts.cid.0 first.machine) seen protocol first.machine)
+        others_later first (on_connection e.facts.cid (serves seen protocol)) [] (begins-others protocol e m)
+        (serves-others (entry_at e.facts.cid.0 first.machine) seen protocol first.machine)
     by_test false = ending-others (cause.Fault Protocol) e m
 
 comes-others : (big : Bool) (a : Addr) (m : Machine) → others (as_move (shared a) m (peer_comes big a m)) ≡ []
@@ -219,11 +215,11 @@ handled_in-others (Greeting until) item e m = greets-others item e m
 handled_in-others Negotiated item e m = talks-others item e m
 handled_in-others (Closing until) item e m = refl
 
-handled-others : (o : Option Entry) (item : Item) (m : Machine) → others (handled_at o item m) ≡ ends_on o (λ e. causes_of_item e.facts.phase item e m)
+handled-others : (o : Option Entry) (item : Item) (m : Machine) → others (on_entry o (handled item) m) ≡ ends_on o (λ e. causes_of_item e.facts.phase item e m)
 handled-others None item m = refl
 handled-others (Some e) item m = handled_in-others e.facts.phase item e m
 
-stream-others : (o : Option Entry) (fault : Option CutFault) (m : Machine) → others (faulted_at o fault m) ≡ ends_on o (λ e. causes_of_cut fault)
+stream-others : (o : Option Entry) (fault : Option CutFault) (m : Machine) → others (on_entry o (faulted fault) m) ≡ ends_on o (λ e. causes_of_cut fault)
 stream-others None fault m = refl
 stream-others (Some e) None m = refl
 stream-others (Some e) (Some fault) m = ending-others (cause.Fault (kind_of fault)) e m
@@ -244,7 +240,7 @@ fires_as-others Reply2 e m = ending-others (cause.Fault ReplyWait) e m
 fires_as-others Reply8 e m = ending-others (cause.Fault ReplyWait) e m
 fires_as-others Reply10 e m = ending-others (cause.Fault ReplyWait) e m
 
-fires-others : (o : Option Entry) (kind : Kind) (m : Machine) → others (fires_on o kind m) ≡ ends_on o (causes_of_kind kind)
+fires-others : (o : Option Entry) (kind : Kind) (m : Machine) → others (on_entry o (fires_as kind) m) ≡ ends_on o (causes_of_kind kind)
 fires-others None kind m = refl
 fires-others (Some e) kind m = fires_as-others kind e m
 
@@ -263,22 +259,18 @@ beside-others (Some e) addr m = by_tests (is_pending e.facts) (address_below add
     by_tests false q = refl
 
 connects-others : (addr : Addr) (m : Machine) → others (peer_connects addr m) ≡ ends_on (live_entry_at addr m) (causes_of_crossing addr m)
-connects-others addr m = by_own (same_address addr m.settings.own)
+connects-others addr m = by_tests (same_address addr m.settings.own) (nat_le m.settings.hard (counted_in m))
   where
     nobody : (o : Option Entry) → [] ≡ ends_on o (λ e. [])
     nobody None = refl
     nobody (Some e) = refl
 
-    by_gate : (g : Gate) → others (accepted_through g addr m) ≡ ends_on (live_entry_at addr m)
-        (λ e. if not false && not (is_full g) && is_pending e.facts && address_below addr m.settings.own then cause.Overwritten ∷ [] else [])
-    by_gate Free = beside-others (live_entry_at addr m) addr m
-    by_gate (Pause delay) = beside-others (live_entry_at addr m) addr m
-    by_gate Full = nobody (live_entry_at addr m)
-
-    by_own : (b : Bool) → others (if b then turned_away OwnAddr m else accepted_through (gate_of m.settings (counted_in m)) addr m) ≡ ends_on (live_entry_at addr m)
-        (λ e. if not b && not (is_full (gate_of m.settings (counted_in m))) && is_pending e.facts && address_below addr m.settings.own then cause.Overwritten ∷ [] else [])
-    by_own true = nobody (live_entry_at addr m)
-    by_own false = by_gate (gate_of m.settings (counted_in m))
+    by_tests : (own full : Bool) → others (if own then turned_away OwnAddr m else if full then turned_away Full m else accepted_beside (live_entry_at addr m) addr m)
+        ≡ ends_on (live_entry_at addr m)
+        (λ e. if not own && not full && is_pending e.facts && address_below addr m.settings.own then cause.Overwritten ∷ [] else [])
+    by_tests true full = nobody (live_entry_at addr m)
+    by_tests false true = nobody (live_entry_at addr m)
+    by_tests false false = beside-others (live_entry_at addr m) addr m
 
 -- ---- the governor
 
@@ -344,13 +336,13 @@ roots-others m = cond_both (may_ask m.now m.targets.root m.roots)
 vanishes-none : (e : Entry) (m : Machine) → (vanishes e m).moves ≡ []
 vanishes-none e m = (lost-quiet e.facts (without_entry e.facts.cid.0 m)).moves
 
-dial_ends-others : (o : Option Entry) (opened : Bool) (m : Machine) → others (dial_ends_at o opened m) ≡ []
+dial_ends-others : (o : Option Entry) (opened : Bool) (m : Machine) → others (on_entry o (dialed opened) m) ≡ []
 dial_ends-others None opened m = refl
 dial_ends-others (Some e) opened m = by_tests (is_dialing e.facts) opened
   where
     fails : others (dial_fails e m) ≡ []
     fails =
-        let move : Move = record { happened = left e.facts.cid.0; before = m; after = (vanishes e m).machine } in
+        let move : Move = record { happened = gone e.facts.cid.0; before = m; after = (vanishes e m).machine } in
         ap (λ ms. but_pruned (ends_in (ms ++ move ∷ []))) (vanishes-none e m)
 
     by_tests : (dials b : Bool) → others (if dials then (if b then dial_opens e m else dial_fails e m) else nothing_more m) ≡ []
@@ -358,7 +350,7 @@ dial_ends-others (Some e) opened m = by_tests (is_dialing e.facts) opened
     by_tests true false = fails
     by_tests false b = refl
 
-closed-others : (o : Option Entry) (m : Machine) → others (closed_at o m) ≡ []
+closed-others : (o : Option Entry) (m : Machine) → others (on_entry o closes m) ≡ []
 closed-others None m = refl
 closed-others (Some e) m = cond_both (is_live e.facts) (vanishes e m) (nothing_more m) (λ effect. others effect ≡ [])
     (λ live. others_none (vanishes e m) (vanishes-none e m)) (λ closed. refl)

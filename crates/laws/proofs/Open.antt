@@ -25,15 +25,15 @@ use Rattle.warm_messages.specs.Reading.{share_of}
 use Rattle.warm_messages.specs.declared.share.Share.{Share}
 use Rattle.warm_messages.specs.declared.share.Share.TheVariants as share
 use Rattle.machine.specs.Connections.{with_entry, without_entry, ending, is_used, awake, idle}
-use Rattle.machine.specs.Effect.{nothing_more, then_do, for_each}
-use Rattle.machine.specs.Greeting.{role_of, is_awaited, fits_side, told, judged, decided, greeted_by, greets}
+use Rattle.machine.specs.Effect.{nothing_more, then_do, for_each, on_entry, on_connection}
+use Rattle.machine.specs.Greeting.{role_of, is_awaited, fits_side, sends_answer, judged, decided, greeted_by, greets}
 use Rattle.machine.specs.Machine.{Machine, Entry, Owed, entry_at}
 use Rattle.machine.specs.Own.{own_info}
 use Rattle.machine.specs.Peers.{peer_at, peer_becomes}
 use Rattle.machine.specs.Replies.{reply_on, paid, owing}
-use Rattle.machine.specs.Stream.{handled_in, handled_at, handles}
-use Rattle.machine.specs.Talking.{ends_if, served_at, begins, takes_requests, asked_as, shares_address, taken_of, takes_addresses, pays, brings, answered_as}
-use Rattle.laws.proofs.Handshakes.{told-machine}
+use Rattle.machine.specs.Stream.{handled_in, handled, handles}
+use Rattle.machine.specs.Talking.{stops_if, serves, begins, takes_requests, asked_as, shares_address, taken_of, takes_addresses, pays, brings, answered_as}
+use Rattle.laws.proofs.Handshakes.{answer-machine}
 use Rattle.laws.proofs.Lawful.{lost_by-quiet, turns_at-connections, comes-providing}
 use Rattle.laws.proofs.Lists.{find_some}
 use Rattle.laws.proofs.Remains.{gone-found, trim-found, turned-found}
@@ -75,7 +75,7 @@ judged-open verdict.Wrong e m open_ = ending-open (cause.Fault Protocol) e e.fac
 
 decided-open : (v : Verdict) (e : Entry) (m : Machine) → IsOpen e.facts.cid.0 m → IsOpen e.facts.cid.0 (decided v e m).machine
 decided-open v e m open_ =
-    subst (λ n. IsOpen e.facts.cid.0 (judged v e n).machine) (sym (told-machine (answer_of v (own_info m.settings)) e.facts.cid m)) (judged-open v e m open_)
+    subst (λ n. IsOpen e.facts.cid.0 (judged v e n).machine) (sym (answer-machine (answer_of v (own_info m.settings)) e.facts.cid m)) (judged-open v e m open_)
 
 greeted_by-open : (o : Option Message) (side : ℕ) (e : Entry) (m : Machine) → IsOpen e.facts.cid.0 m → IsOpen e.facts.cid.0 (greeted_by o side e m).machine
 greeted_by-open None side e m open_ = ending-open (cause.Fault Malformed) e e.facts.cid.0 m open_
@@ -102,33 +102,28 @@ begins-open protocol e m live open_ =
     cond_both (runs protocol e.facts.running) (nothing_more m) (awake protocol e m) (λ effect. IsOpen e.facts.cid.0 effect.machine)
     (λ running. open_) (λ silent. awake-open protocol e m live)
 
-ends_if-open : (done : Bool) (protocol cid : ℕ) (m : Machine) → IsOpen cid m → IsOpen cid (ends_if done protocol (entry_at cid m) m).machine
-ends_if-open false protocol cid m open_ = open_
-ends_if-open true protocol cid m open_ = by_entry (entry_at cid m) refl
-  where
-    by_entry : (o : Option Entry) → entry_at cid m ≡ o → IsOpen cid (ends_if true protocol o m).machine
-    by_entry None is = open_
-    by_entry (Some e) is =
-        let own : e.facts.cid.0 ≡ cid = eqb-true e.facts.cid.0 cid (find_some (λ y. has_id cid y.facts) m.connections e is).passes in
-        subst (λ c. IsOpen c (idle protocol e m).machine) own (turned-open _ m (open_ e is))
+stops_if-open : (done : Bool) (protocol : ℕ) (e : Entry) (m : Machine) → is_live e.facts ≡ true → IsOpen e.facts.cid.0 m → IsOpen e.facts.cid.0 (stops_if done protocol e m).machine
+stops_if-open false protocol e m live open_ = open_
+stops_if-open true protocol e m live open_ = turned-open _ m live
 
-served-open : (seen : Seen) (protocol cid : ℕ) (m : Machine) → IsOpen cid m → IsOpen cid (served_at (entry_at cid m) seen protocol m).machine
-served-open seen protocol cid m open_ = by_entry (entry_at cid m) refl
+serves-open : (seen : Seen) (protocol : ℕ) (cid : Cid) (m : Machine) → IsOpen cid.0 m → IsOpen cid.0 (on_connection cid (serves seen protocol) m).machine
+serves-open seen protocol cid m open_ = by_entry (entry_at cid.0 m) refl
   where
-    by_entry : (o : Option Entry) → entry_at cid m ≡ o → IsOpen cid (served_at o seen protocol m).machine
+    by_entry : (o : Option Entry) → entry_at cid.0 m ≡ o → IsOpen cid.0 (on_entry o (serves seen protocol) m).machine
     by_entry None is = open_
     by_entry (Some e) is =
-        let own : e.facts.cid.0 ≡ cid = eqb-true e.facts.cid.0 cid (find_some (λ y. has_id cid y.facts) m.connections e is).passes in
-        subst (λ n. IsOpen cid (ends_if seen.done protocol (entry_at e.facts.cid.0 n) n).machine) (sym (replies-machine seen.reply protocol e m))
-        (subst (λ c. IsOpen cid (ends_if seen.done protocol (entry_at c m) m).machine) (sym own) (ends_if-open seen.done protocol cid m open_))
+        let own : e.facts.cid.0 ≡ cid.0 = eqb-true e.facts.cid.0 cid.0 (find_some (λ y. has_id cid.0 y.facts) m.connections e is).passes in
+        subst (λ n. IsOpen cid.0 (stops_if seen.done protocol e n).machine) (sym (replies-machine seen.reply protocol e m))
+        (subst (λ c. IsOpen c (stops_if seen.done protocol e m).machine) own
+        (stops_if-open seen.done protocol e m (open_ e is) (subst (λ c. IsOpen c m) (sym own) open_)))
 
 asked_as-open : (r : Result Seen FaultKind) (protocol : ℕ) (e : Entry) (m : Machine) → is_live e.facts ≡ true → IsOpen e.facts.cid.0 m →
     IsOpen e.facts.cid.0 (asked_as r protocol e m).machine
 asked_as-open (Err kind) protocol e m live open_ = ending-open (cause.Fault kind) e e.facts.cid.0 m open_
 asked_as-open (Ok seen) protocol e m live open_ =
-    cond_both (takes_requests e) (then_do (begins protocol e m) (λ m. served_at (entry_at e.facts.cid.0 m) seen protocol m)) (ending (cause.Fault Protocol) e m)
+    cond_both (takes_requests e) (then_do (begins protocol e m) (on_connection e.facts.cid (serves seen protocol))) (ending (cause.Fault Protocol) e m)
     (λ effect. IsOpen e.facts.cid.0 effect.machine)
-    (λ serves. served-open seen protocol e.facts.cid.0 (begins protocol e m).machine (begins-open protocol e m live open_))
+    (λ takes. serves-open seen protocol e.facts.cid (begins protocol e m).machine (begins-open protocol e m live open_))
     (λ other. ending-open (cause.Fault Protocol) e e.facts.cid.0 m open_)
 
 -- ---- an answer
@@ -176,7 +171,7 @@ handled_in-open (Closing until) item e m live open_ = open_
 pub handles-open : (cid : Cid) (item : Item) (m : Machine) → IsOpen cid.0 m → IsOpen cid.0 (handles cid item m).machine
 handles-open cid item m open_ = by_entry (entry_at cid.0 m) refl
   where
-    by_entry : (o : Option Entry) → entry_at cid.0 m ≡ o → IsOpen cid.0 (handled_at o item m).machine
+    by_entry : (o : Option Entry) → entry_at cid.0 m ≡ o → IsOpen cid.0 (on_entry o (handled item) m).machine
     by_entry None is = open_
     by_entry (Some e) is =
         let own : e.facts.cid.0 ≡ cid.0 = eqb-true e.facts.cid.0 cid.0 (find_some (λ y. has_id cid.0 y.facts) m.connections e is).passes in

@@ -2,15 +2,13 @@
 use Rattle.std.proofs.Common.{ℕ, zero, suc, ◌≤◌, ◌≡◌, Bool, true, false, ◌||◌, nat_le, if◌then◌else◌, List, [], ◌∷◌, ◌++◌, map, length, Option, Some, None, refl, sym, ap, subst, arith}
 use Rattle.std.specs.List.{AllByRecursion}
 use Rattle.std.proofs.lemmas.Bool.{or_left, or_right, false≢true}
-use Rattle.conn_state.specs.Use.{has_id, is_live, live_phase}
+use Rattle.conn_state.specs.Use.{has_id, is_live, is_greeting, is_negotiated}
 use Rattle.govern_rules.specs.declared.order.Order.{Order}
 use Rattle.mux_segment.specs.Stream.{FedBy}
 use Rattle.mux_segment.specs.declared.item.Item.{Item}
 use Rattle.net_base.specs.Address.{same_address}
 use Rattle.net_base.specs.declared.address.Addr.{Addr}
 use Rattle.net_base.specs.declared.connection.Cid.{Cid}
-use Rattle.net_base.specs.declared.connection.Phase.{Phase}
-use Rattle.net_base.specs.declared.connection.Phase.TheVariants.{Dialing, Greeting, Negotiated, Closing}
 use Rattle.net_base.specs.declared.event.Event.{Event}
 use Rattle.net_base.specs.declared.event.Event.TheVariants.{Now, Govern, Accepted, Dialed, Bytes, Closed, Aims, Locals, Roots, BigAims, Bigs}
 use Rattle.net_base.specs.declared.event.Group.{Group}
@@ -27,7 +25,7 @@ use Rattle.machine.specs.Machine.{Machine, Entry, counted_in, entry_at}
 use Rattle.machine.specs.Peers.{peer_is_ordinary}
 use Rattle.machine.specs.Provided.{comes_ordinary, comes_big}
 use Rattle.machine.specs.Stream.{handles}
-use Rattle.laws.specs.Acts.{Act, shows, fires_one, asks_for_roots, carries, connects, ends_dial, stores, handles_item, ends_stream, is_closed, sets_targets, sets_big_targets, sets_groups, sets_roots, makes_ordinary, provides, provides_big, does, fired_from, fired, orders_of, acts_at_moment, acts_fed, acts_in_phase, acts_of_bytes, acts_of_answer, acts}
+use Rattle.laws.specs.Acts.{Act, shows, fires_one, asks_for_roots, carries, connects, ends_dial, stores, handles_item, ends_stream, is_closed, sets_targets, sets_big_targets, sets_groups, sets_roots, makes_ordinary, provides, provides_big, does, fired_from, fired, orders_of, acts_at_moment, acts_fed, acts_of_bytes, acts_of_answer, acts}
 use Rattle.laws.specs.AtMoves.{Faults, IsLawful, is_known, is_provided_by, fed_on}
 use Rattle.laws.specs.Parts.{IsAccounted, IsLawfulEvent}
 use Rattle.laws.specs.Whole.{IsSteady}
@@ -45,7 +43,7 @@ use Rattle.laws.proofs.Lists.{StandsAt, find_some}
 use Rattle.laws.proofs.Open.{IsOpen, turned-open, handles-open}
 use Rattle.laws.proofs.Orders.{EachAccounted}
 use Rattle.laws.proofs.PartMoves.{accounted-part, providing-part, AreLawful, no_part, first_part, one_part, more_parts, all_parts}
-use Rattle.laws.proofs.Streams.{handles-trimmed, faulted-trimmed}
+use Rattle.laws.proofs.Streams.{handles-trimmed, faulted-trimmed, open-live}
 use Rattle.laws.proofs.Telling.{are_mute}
 use Rattle.laws.proofs.Trims.{Trimmed, trimmed-within}
 use Rattle.laws.proofs.WholeEvents.{ordered_of, formed_at_moment, fires-keeps}
@@ -152,17 +150,16 @@ fed-parts event fed m e k h within s live =
 bytes-parts : (cid : Cid) (bytes : List ℕ) (m : Machine) → IsOrdered m → counted_in m ≤ m.settings.hard → AreLawful (Bytes cid bytes) (acts m (Bytes cid bytes)) m
 bytes-parts cid bytes m h within = by_entry (entry_at cid.0 m) refl
   where
-    by_phase : (p : Phase) (e : Entry) (k : ℕ) → e.facts.phase ≡ p → StandsAt m.connections k e → AreLawful (Bytes cid bytes) (acts_in_phase p bytes e) m
-    by_phase Dialing e k is s = no_part (Bytes cid bytes) m
-    by_phase (Greeting until) e k is s = fed-parts (Bytes cid bytes) (fed_on e bytes) m e k h within s (ap live_phase is)
-    by_phase Negotiated e k is s = fed-parts (Bytes cid bytes) (fed_on e bytes) m e k h within s (ap live_phase is)
-    by_phase (Closing until) e k is s = no_part (Bytes cid bytes) m
+    by_test : (e : Entry) (k : ℕ) → StandsAt m.connections k e → (b : Bool) → (is_greeting e.facts || is_negotiated e.facts) ≡ b →
+        AreLawful (Bytes cid bytes) (if b then acts_fed (fed_on e bytes) e else []) m
+    by_test e k s true is = fed-parts (Bytes cid bytes) (fed_on e bytes) m e k h within s (open-live e.facts.phase is)
+    by_test e k s false is = no_part (Bytes cid bytes) m
 
     by_entry : (o : Option Entry) → entry_at cid.0 m ≡ o → AreLawful (Bytes cid bytes) (acts_of_bytes o bytes) m
     by_entry None is = no_part (Bytes cid bytes) m
     by_entry (Some e) is =
         let at = find_some (λ y. has_id cid.0 y.facts) m.connections e is in
-        by_phase e.facts.phase e at.place refl at.stands
+        by_test e at.place at.stands (is_greeting e.facts || is_negotiated e.facts) refl
 
 -- ---- what is set and provided
 

@@ -8,7 +8,7 @@ use Rattle.net_base.specs.declared.connection.Phase.{Phase}
 use Rattle.net_base.specs.declared.connection.Phase.TheVariants.{Dialing, Greeting, Negotiated, Closing}
 use Rattle.net_base.specs.declared.event.Event.{Event}
 use Rattle.conn_state.specs.Use.{is_negotiated_phase}
-use Rattle.machine.specs.Effect.{Effect, for_each, Happened, Move, promoted, activated, shared, ended, unused, left}
+use Rattle.machine.specs.Effect.{Effect, for_each, Happened, Move, promoted, activated, shared, ended, unused, gone}
 use Rattle.machine.specs.Machine.{Machine, Entry, entry_at}
 use Rattle.laws.specs.Acts.{Act, does, parts_from}
 use Rattle.laws.specs.AtMoves.{is_negotiated_entry, is_negotiated_at, ends, is_ended_in, is_closed_by, is_up, is_hot_or_asked, is_known, promotes, activates, is_shared_in, is_provided_by}
@@ -40,7 +40,7 @@ uncaused cid (move ∷ moves) h = by_happened move.happened h (uncaused cid move
     by_happened (shared addr) h later = later h
     by_happened (ended old cause) h later = by_id (old == cid) cause h later
     by_happened (unused old) h later = by_id (old == cid) _ h later
-    by_happened (left old) h later = later h
+    by_happened (gone old) h later = later h
 
 negotiated-stage : (o : Option Entry) (given : Bool) → is_negotiated_entry o ≡ true → stage_of o given ≡ 3
 negotiated-stage None given h = absurd (false≢true h)

@@ -1,5 +1,6 @@
 -- The parts of an event: what is done, one thing after the other.
-use Rattle.std.specs.Prelude.{ℕ, zero, suc, Bool, nat_le, List, [], ◌∷◌, ◌++◌, map, length, if◌then◌else◌, Option, Some, None}
+use Rattle.std.specs.Prelude.{ℕ, zero, suc, Bool, nat_le, List, [], ◌∷◌, ◌++◌, ◌||◌, map, length, if◌then◌else◌, Option, Some, None}
+use Rattle.conn_state.specs.Use.{is_greeting, is_negotiated}
 use Rattle.govern_rules.specs.declared.order.Order.{Order}
 use Rattle.mux_segment.specs.Stream.{FedBy}
 use Rattle.mux_segment.specs.declared.fault.CutFault.{CutFault}
@@ -7,8 +8,6 @@ use Rattle.mux_segment.specs.declared.item.Item.{Item}
 use Rattle.net_base.specs.Shared.{Undecoded, RootState}
 use Rattle.net_base.specs.declared.address.Addr.{Addr}
 use Rattle.net_base.specs.declared.connection.Cid.{Cid}
-use Rattle.net_base.specs.declared.connection.Phase.{Phase}
-use Rattle.net_base.specs.declared.connection.Phase.TheVariants.{Dialing, Greeting, Negotiated, Closing}
 use Rattle.net_base.specs.declared.event.Event.{Event}
 use Rattle.net_base.specs.declared.event.Event.TheVariants.{Now, Govern, Accepted, Dialed, Bytes, Closed, Aims, Locals, Roots, BigAims, Bigs}
 use Rattle.net_base.specs.declared.event.Group.{Group}
@@ -21,13 +20,13 @@ use Rattle.root_groups.specs.Cleaned.{cleaned, members_of}
 use Rattle.root_groups.specs.RootAsk.{awaits, publics_of, found, failed}
 use Rattle.machine.specs.Connections.{entry_turns}
 use Rattle.machine.specs.Deadlines.{deadlines, due, fires}
-use Rattle.machine.specs.Effect.{Effect, becomes, for_each}
+use Rattle.machine.specs.Effect.{Effect, tells, on_connection, for_each}
 use Rattle.machine.specs.Events.{peer_connects, peer_closes, dial_ends}
 use Rattle.machine.specs.Govern.{carries_out, asks_roots, ordinary_rules, big_rules, rules}
 use Rattle.machine.specs.Machine.{Machine, Entry, entry_at}
 use Rattle.machine.specs.Peers.{peer_is_ordinary}
 use Rattle.machine.specs.Provided.{targets_are, big_targets_are, comes_ordinary, comes_big}
-use Rattle.machine.specs.Stream.{handles, faulted_at}
+use Rattle.machine.specs.Stream.{handles, faulted}
 use Rattle.laws.specs.AtMoves.{fed_on}
 
 pub data Act : Type 0 where
@@ -63,7 +62,7 @@ pub data Act : Type 0 where
   provides_big : Addr → Act
 
 abbrev pub does : Act → Machine → Effect
-does (shows t) m = becomes (record m { now = t })
+does (shows t) m = tells [] (record m { now = t })
 does (fires_one d) m = fires d m
 does asks_for_roots m = asks_roots m
 does (carries order) m = carries_out order m
@@ -71,12 +70,12 @@ does (connects addr) m = peer_connects addr m
 does (ends_dial cid opened) m = dial_ends cid opened m
 does (stores entry undecoded) m = entry_turns entry (record entry { undecoded = undecoded }) m
 does (handles_item cid item) m = handles cid item m
-does (ends_stream cid fault) m = faulted_at (entry_at cid.0 m) fault m
+does (ends_stream cid fault) m = on_connection cid (faulted fault) m
 does (is_closed cid) m = peer_closes cid m
 does (sets_targets targets) m = targets_are targets m
 does (sets_big_targets targets) m = big_targets_are targets m
-does (sets_groups groups) m = becomes (record m { groups = groups })
-does (sets_roots roots) m = becomes (record m { roots = roots })
+does (sets_groups groups) m = tells [] (record m { groups = groups })
+does (sets_roots roots) m = tells [] (record m { roots = roots })
 does (makes_ordinary addr) m = peer_is_ordinary addr m
 does (provides addr) m = comes_ordinary addr m
 does (provides_big addr) m = comes_big addr m
@@ -112,15 +111,9 @@ acts_fed fed entry =
     stores entry fed.state.undecoded ∷ (map (handles_item entry.facts.cid) fed.items ++ ends_stream entry.facts.cid fed.state.fault ∷ [])
 
 -- nothing comes in on a socket that is not open
-abbrev pub acts_in_phase : Phase → List ℕ → Entry → List Act
-acts_in_phase Dialing bytes entry = []
-acts_in_phase (Greeting until) bytes entry = acts_fed (fed_on entry bytes) entry
-acts_in_phase Negotiated bytes entry = acts_fed (fed_on entry bytes) entry
-acts_in_phase (Closing until) bytes entry = []
-
 abbrev pub acts_of_bytes : Option Entry → List ℕ → List Act
 acts_of_bytes None bytes = []
-acts_of_bytes (Some entry) bytes = acts_in_phase entry.facts.phase bytes entry
+acts_of_bytes (Some entry) bytes = if is_greeting entry.facts || is_negotiated entry.facts then acts_fed (fed_on entry bytes) entry else []
 
 abbrev pub acts_of_groups : List Group → List Act
 acts_of_groups kept = sets_groups kept ∷ (map makes_ordinary (members_of kept) ++ map provides (members_of kept))

@@ -1,9 +1,6 @@
 -- What an operator counts on in each part of an event, between the records that it really reaches.
-use Rattle.std.specs.Prelude.{ℕ, ◌≡◌, ◌≤◌, Bool, true, false, not, ◌&&◌, ◌||◌, ◌==◌, List, [], ◌∷◌, map, filter, All, Contains, if◌then◌else◌, Option, Some, None}
+use Rattle.std.specs.Prelude.{ℕ, ◌≡◌, ◌≤◌, Bool, true, false, not, nat_le, ◌&&◌, ◌||◌, ◌==◌, List, [], ◌∷◌, map, filter, All, Contains, if◌then◌else◌, Option, Some, None}
 use Rattle.std.specs.List.{list_any}
-use Rattle.accept_gate.specs.Gate.{gate_of}
-use Rattle.accept_gate.specs.declared.gate.Gate.{Gate}
-use Rattle.accept_gate.specs.declared.gate.Gate.TheVariants.{Free, Pause, Full}
 use Rattle.conn_state.specs.Use.{is_pending}
 use Rattle.hs_decide.specs.Agreement.{verdict_of}
 use Rattle.hs_decide.specs.declared.role.Role.{Role}
@@ -91,14 +88,9 @@ causes_of_cut None = []
 causes_of_cut (Some fault) = cause.Fault (kind_of fault) ∷ []
 
 -- a peer that connects, where both have dialed: the connection that the lower address dialed survives
-abbrev pub is_full : Gate → Bool
-is_full Free = false
-is_full (Pause delay) = false
-is_full Full = true
-
 abbrev pub causes_of_crossing : Addr → Machine → Entry → List CloseCause
 causes_of_crossing addr m e =
-    if not (same_address addr m.settings.own) && not (is_full (gate_of m.settings (counted_in m))) && is_pending e.facts && address_below addr m.settings.own
+    if not (same_address addr m.settings.own) && not (nat_le m.settings.hard (counted_in m)) && is_pending e.facts && address_below addr m.settings.own
     then cause.Overwritten ∷ [] else []
 
 -- Whom an act ends, and why, but for pruning.
