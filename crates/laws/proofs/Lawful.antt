@@ -28,7 +28,7 @@ use Rattle.warm_messages.specs.declared.alive.Alive.TheVariants.{Ask}
 use Rattle.net_base.specs.Peer.{failed_peer}
 use Rattle.laws.specs.AtMoves.{OutOfBackOff, WithinTargets, Faults, MayEnd, OnEntry, ForCause, IsLawful, is_negotiated_entry, is_negotiated_at, ends, is_ended_in, is_up_connection, is_up, is_hot_peer, is_asked_connection, is_hot_or_asked, is_known, promotes, activates, shares}
 use Rattle.laws.specs.Sound.{IsOrderly}
-use Rattle.laws.specs.Stages.{stage_of_phase, stage_of, stage_at, IsLateCause}
+use Rattle.laws.specs.Stages.{stage_of_phase, stage_of, stage_at, stage_ended, IsLateCause}
 use Rattle.laws.specs.Telling.{IsTold}
 use Rattle.laws.specs.Told.{Dialed, ended_by, promoted_by_dial}
 use Rattle.laws.proofs.Entries.{TurnsInto, turned-connections, gone-connections, one_has_id, has_own_id, with_new}
@@ -372,6 +372,14 @@ late_cause faults Refused e m may = elim may [ ]
 late_cause faults Query e m may = elim may [ ]
 late_cause faults (Fault kind) e m may = tt
 
+ended-most : (cause : CloseCause) → stage_ended cause ≤ 5
+ended-most Unused = omega arith
+ended-most Pruned = omega arith
+ended-most Overwritten = omega arith
+ended-most Refused = omega arith
+ended-most Query = omega arith
+ended-most (Fault kind) = omega arith
+
 -- the stage of one that stands
 pub stands-stage : (m : Machine) (e : Entry) (k : ℕ) → IsOrderly m → StandsAt m.connections k e → stage_at e.facts.cid.0 m ≡ stage_of_phase e.facts.phase
 stands-stage m e k h s = ap (λ o. stage_of o (nat_lt e.facts.cid.0 m.next_id)) (stands-found m e k h s)
@@ -387,7 +395,7 @@ ending-told faults cause m e k h s live may =
     let gone : stage_at e.facts.cid.0 n ≡ 5 = goes-stage m e k h s in
     let over : stage_at e.facts.cid.0 n ≤ stage_at e.facts.cid.0 inner.machine = (q.told.connections e.facts.cid.0).forward in
     ended-told (ended e.facts.cid.0 cause) e.facts.cid cause m inner refl refl (told_then m (entry_goes e m) (lost_by cause e.facts) (goes-told m e k h s) q.told) q.moves
-    (omega (arith, stage, early)) (omega (arith, gone, over)) (λ open_. late_cause faults cause e m (may (negotiated_stage e.facts.phase (sym stage ∙ open_))))
+    (omega (arith, stage, early)) (omega (arith, gone, over, ended-most cause)) (λ open_. late_cause faults cause e m (may (negotiated_stage e.facts.phase (sym stage ∙ open_))))
 
 pub ending-obeys : (faults : Faults) (cause : CloseCause) (m : Machine) (e : Entry) (k : ℕ) → IsOrderly m → StandsAt m.connections k e → is_live e.facts ≡ true →
     (is_negotiated e.facts ≡ true → MayEnd faults cause e m) → Obeys (IsLawful faults) m (ending cause e m)

@@ -19,6 +19,7 @@ use Rattle.laws.specs.Told.{ended_by, ends_in}
 use Rattle.laws.proofs.Due.{ends-due}
 use Rattle.laws.proofs.Lawful.{Accounts, IsProviding, ends_same}
 use Rattle.laws.proofs.Lists.{all-placed}
+use Rattle.laws.proofs.Telling.{ended-over}
 use Rattle.laws.proofs.Rises.{NoneConnected, or_each, hot_or_asked-down, rises_nowhere, same-connected}
 
 -- ---- who was negotiated before it
@@ -82,7 +83,7 @@ ends-once event m effect told accounted cid before =
     by_causes (cause ∷ []) is once h =
         let one = subst (λ cs. IsOneEnd cs (stage_at cid m) (stage_at cid effect.machine)) is once in
         subst (λ cs. IsDone cs (is_negotiated_at cid effect.machine) (is_closed_by cid event)) (sym is)
-        (over (is_negotiated_at cid effect.machine) refl one.1, one.2 open_)
+        (over (is_negotiated_at cid effect.machine) refl (let late = one.1 in omega (arith, late, ended-over cause)), one.2 open_)
     by_causes (cause ∷ other ∷ causes) is once h =
         elim (subst (λ cs. IsOneEnd cs (stage_at cid m) (stage_at cid effect.machine)) is once) [ ]
 

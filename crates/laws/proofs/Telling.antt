@@ -6,11 +6,12 @@ use Rattle.std.proofs.lemmas.List.{append-nil}
 use Rattle.net_base.specs.declared.action.Action.{Action}
 use Rattle.net_base.specs.declared.action.Action.TheVariants.{Admit, Turnaway, Dial, Send, Close, Pause, AskRoots, State, Peer as TellPeer}
 use Rattle.net_base.specs.declared.action.CloseCause.{CloseCause}
+use Rattle.net_base.specs.declared.action.CloseCause.TheVariants.{Unused, Pruned, Overwritten, Refused, Query, Fault}
 use Rattle.net_base.specs.declared.address.Addr.{Addr}
 use Rattle.peer_book.specs.Book.{peer_at as peer_in}
 use Rattle.machine.specs.Effect.{Effect, Happened, Move, tells, then_do, as_move}
 use Rattle.machine.specs.Machine.{Machine}
-use Rattle.laws.specs.Stages.{stage_at, causes_by, causes_in, IsOneEnd}
+use Rattle.laws.specs.Stages.{stage_at, stage_ended, causes_by, causes_in, IsOneEnd}
 use Rattle.laws.specs.Telling.{GoesOn, IsTold}
 use Rattle.laws.specs.Told.{End, closed_by, closes_in, ended_by, ends_in, dialed_by, dials_in, promoted_by_dial, dial_promotions_in, given_by, given_in, CountUp, LeadTo, temp_of, temp_at, notes_by, notes_in, noted, is_change, state_at, names_by, names_in, is_other_name, same_state}
 
@@ -36,6 +37,14 @@ ends_of_move move = ended_by move.happened
 causes-append : (cid : ℕ) (ms ns : List Move) → causes_in cid (ms ++ ns) ≡ causes_in cid ms ++ causes_in cid ns
 causes-append cid ms ns = ap (flat_map (causes_by cid)) (flat_map-append ends_of_move ms ns) ∙ flat_map-append (causes_by cid) (ends_in ms) (ends_in ns)
 
+pub ended-over : (cause : CloseCause) → 4 ≤ stage_ended cause
+ended-over Unused = omega arith
+ended-over Pruned = omega arith
+ended-over Overwritten = omega arith
+ended-over Refused = omega arith
+ended-over Query = omega arith
+ended-over (Fault kind) = omega arith
+
 one_end_on : (cs ds : List CloseCause) (a b c : ℕ) → a ≤ b → b ≤ c → IsOneEnd cs a b → IsOneEnd ds b c → IsOneEnd (cs ++ ds) a c
 one_end_on [] [] a b c early late one two = tt
 one_end_on [] (d ∷ []) a b c early late one two = (
@@ -45,7 +54,7 @@ one_end_on [] (d ∷ []) a b c early late one two = (
 )
 one_end_on [] (d ∷ e ∷ ds) a b c early late one two = elim two [ ]
 one_end_on (x ∷ []) [] a b c early late one two = (one.0, (let over = one.1 in omega (arith, over, late)), one.2)
-one_end_on (x ∷ []) (d ∷ []) a b c early late one two = absurd (let over = one.1 in let start = two.0 in omega (arith, over, start))
+one_end_on (x ∷ []) (d ∷ []) a b c early late one two = absurd (let over = one.1 in let start = two.0 in let late = ended-over x in omega (arith, over, start, late))
 one_end_on (x ∷ []) (d ∷ e ∷ ds) a b c early late one two = elim two [ ]
 one_end_on (x ∷ y ∷ cs) ds a b c early late one two = elim one [ ]
 

@@ -32,7 +32,7 @@ use Rattle.machine.specs.Effect.{Effect, Happened, Move, promoted, as_move}
 use Rattle.machine.specs.Machine.{Machine, Entry, entry_at}
 use Rattle.machine.specs.Peers.{peer_at, note_of, turns_at, peer_changes, note_of_coming, peer_comes, peer_goes}
 use Rattle.laws.specs.Sound.{HasGivenId, IsOrderly}
-use Rattle.laws.specs.Stages.{stage_of_phase, stage_of, stage_at, causes_by, causes_in, IsLateCause, IsOneEnd}
+use Rattle.laws.specs.Stages.{stage_of_phase, stage_of, stage_at, stage_ended, causes_by, causes_in, IsLateCause, IsOneEnd}
 use Rattle.laws.specs.Telling.{GoesOn, IsTold}
 use Rattle.laws.specs.Told.{End, Dialed, closes_in, ended_by, ends_in, dials_in, promoted_by_dial, dial_promotions_in, given_in, CountUp, LeadTo, temp_of, temp_at, notes_in, noted, is_change, state_of, state_at, names_in, is_other_name, same_state}
 use Rattle.laws.proofs.Addresses.{same_address-self, same_address-true}
@@ -234,7 +234,7 @@ goes-stage m e k h s =
 -- One that stands open is closed, and goes or is kept closed.
 pub ended-told : (happened : Happened) (cid : Cid) (cause : CloseCause) (m : Machine) (inner : Effect) → ended_by happened ≡ record { cid = cid.0; cause = cause } ∷ [] →
     promoted_by_dial happened m.next_id inner.machine.next_id ≡ [] → IsTold m inner → inner.moves ≡ [] →
-    stage_at cid.0 m ≤ 3 → 4 ≤ stage_at cid.0 inner.machine → (stage_at cid.0 m ≡ 3 → IsLateCause cause) →
+    stage_at cid.0 m ≤ 3 → stage_ended cause ≤ stage_at cid.0 inner.machine → (stage_at cid.0 m ≡ 3 → IsLateCause cause) →
     IsTold m (as_move happened m (record { machine = inner.machine; actions = Close cid cause ∷ inner.actions; moves = inner.moves }))
 ended-told happened cid cause m inner is_end no_dial h none early late may =
     let move : Move = record { happened = happened; before = m; after = inner.machine } in
@@ -257,7 +257,7 @@ ended-told happened cid cause m inner is_end no_dial h none early late may =
   where
     by_id : (id : ℕ) (b : Bool) → (cid.0 == id) ≡ b → IsOneEnd ((if b then cause ∷ [] else []) ++ []) (stage_at id m) (stage_at id inner.machine)
     by_id id true own =
-        subst (λ i. (stage_at i m ≤ 3) × (4 ≤ stage_at i inner.machine) × (stage_at i m ≡ 3 → IsLateCause cause)) (eqb-true cid.0 id own) (early, late, may)
+        subst (λ i. (stage_at i m ≤ 3) × (stage_ended cause ≤ stage_at i inner.machine) × (stage_at i m ≡ 3 → IsLateCause cause)) (eqb-true cid.0 id own) (early, late, may)
     by_id id false other = tt
 
 -- ---- a connection comes

@@ -39,8 +39,13 @@ IsLateCause Refused = ⊥
 IsLateCause Query = ⊥
 IsLateCause (Fault kind) = Unit {0}
 
--- A connection is ended once at most, from an open stage to a closed one.
+-- one that is ended is gone, and only one that nobody uses may stay for its time-wait
+abbrev pub stage_ended : CloseCause → ℕ
+stage_ended Unused = 4
+stage_ended other = 5
+
+-- A connection is ended once at most, from an open stage.
 abbrev pub IsOneEnd : List CloseCause → ℕ → ℕ → Type 0
 IsOneEnd [] before after = Unit {0}
-IsOneEnd (cause ∷ []) before after = (before ≤ 3) × (4 ≤ after) × (before ≡ 3 → IsLateCause cause)
+IsOneEnd (cause ∷ []) before after = (before ≤ 3) × (stage_ended cause ≤ after) × (before ≡ 3 → IsLateCause cause)
 IsOneEnd (cause ∷ other ∷ causes) before after = ⊥
