@@ -42,7 +42,7 @@ use Rattle.laws.proofs.Entries.{turned-connections}
 use Rattle.laws.proofs.Finds.{find-set_other}
 use Rattle.laws.proofs.Governing.{members_picks, Gives, DoesLawful, forget-gives, and-gives, asks_roots-keeps, members_orders, members_chosen, ordinary-rules, big-rules}
 use Rattle.laws.proofs.Keeping.{IsOrdered}
-use Rattle.laws.proofs.Lawful.{no_faults, IsAllowed, turns_at-connections}
+use Rattle.laws.proofs.Lawful.{IsAllowed, turns_at-connections}
 use Rattle.laws.proofs.Lists.{StandsAt, FoundIn, find_some, all-both, all-appended}
 use Rattle.laws.proofs.Orders.{Carries, Carried, still_may, IsCold, MayForget, forget-carried, says_done-machine}
 use Rattle.laws.proofs.PeersApart.{same_turned}
@@ -287,10 +287,10 @@ promoted-stays addr b m h other = by_live (live_entry_at addr m) refl
         (λ free. acquire-stays b m e at.place h at.stands (subst (λ a. same_address b a ≡ false) (sym here) other))
         (λ taken. dial-stays addr b m other)
 
-takes-carried : Carries (IsAllowed no_faults) MayTake Promote
+takes-carried : Carries IsAllowed MayTake Promote
 unfolding Carries
 takes-carried addr m h within may =
-    let inner : Carried (IsAllowed no_faults) MayPromote addr m (carries_out (Promote addr) m) = promotes-carried no_faults addr m h within may.promote in
+    let inner : Carried IsAllowed MayPromote addr m (carries_out (Promote addr) m) = promotes-carried addr m h within may.promote in
     record {
       trimmed = inner.trimmed;
       elsewhere = λ b other there.
@@ -331,12 +331,12 @@ take-gives m h p passes found =
 
 -- what it does is lawful, its orders may be carried out, and they give out few ids
 record Serves (few : ℕ) (orders : Machine → List Order) : Type 0 where
-  does : DoesLawful no_faults orders
+  does : DoesLawful orders
   may : (m : Machine) → IsOrdered m → counted_in m ≤ m.settings.hard → m.next_id + few ≤ 2 ^ 48 → MayAll (orders m) m
   ids : (m : Machine) → IsOrdered m → sum_by dials (orders m) ≤ few
 
 -- orders that need nothing
-quiet-serves : (orders : Machine → List Order) → DoesLawful no_faults orders → ((m : Machine) → AllByRecursion NeedsNothing (orders m)) → Serves 0 orders
+quiet-serves : (orders : Machine → List Order) → DoesLawful orders → ((m : Machine) → AllByRecursion NeedsNothing (orders m)) → Serves 0 orders
 quiet-serves orders does quiet = record {
   does = does;
   may = λ m h within few. nothing-may (orders m) m (quiet m);
@@ -356,8 +356,8 @@ record IsGiven (few : ℕ) (May : Machine → Addr → Type 0) (order : Addr →
 
 forget-given : IsGiven 0 MayForget Forget
 forget-given = record {
-  Law = IsAllowed no_faults;
-  carried = forget-carried (IsAllowed no_faults);
+  Law = IsAllowed;
+  carried = forget-carried IsAllowed;
   gives = forget-gives_carry;
   ids = λ addrs m h meant. let none = no_dials addrs in omega (arith, none);
 }
@@ -370,7 +370,7 @@ forget-given = record {
 
 promote-given : IsGiven 20000 MayTake Promote
 promote-given = record {
-  Law = IsAllowed no_faults;
+  Law = IsAllowed;
   carried = takes-carried;
   gives = take-gives_carry;
   ids = λ addrs m h meant.
@@ -381,7 +381,7 @@ promote-given = record {
 }
 
 picks-serve : (few : ℕ) (May : Machine → Addr → Type 0) (order : Addr → Order) → IsGiven few May order → (orders : Machine → List Order) (picks : Machine → List Addr) →
-    ((m : Machine) → map order (picks m) ≡ orders m) → DoesLawful no_faults orders → ((m : Machine) → IsOrdered m → AreMeant May (picks m) m) → Serves few orders
+    ((m : Machine) → map order (picks m) ≡ orders m) → DoesLawful orders → ((m : Machine) → IsOrdered m → AreMeant May (picks m) m) → Serves few orders
 picks-serve few May order given orders picks same does meant = record {
   does = does;
   may = λ m h within room.
@@ -415,14 +415,14 @@ groups_picks-meant May word number test m h gives =
 -- ---- the rules
 
 class-serves : (few : ℕ) (May : Machine → Addr → Type 0) (order : Addr → Order) → IsGiven few May order → (big : Bool) (word : ℕ) (number : Machine → ℕ)
-    (test : Machine → Peer → Bool) → DoesLawful no_faults (λ m. orders_for big word order (number m) (test m) m.peers) →
+    (test : Machine → Peer → Bool) → DoesLawful (λ m. orders_for big word order (number m) (test m) m.peers) →
     ((m : Machine) → IsOrdered m → Gives May (test m) m) → Serves few (λ m. orders_for big word order (number m) (test m) m.peers)
 class-serves few May order given big word number test does gives =
     picks-serve few May order given (λ m. orders_for big word order (number m) (test m) m.peers) (λ m. chosen big word (number m) (test m) m.peers)
     (λ m. refl) does (λ m h. class_picks-meant May big word (number m) (test m) m h (gives m h))
 
 groups-serve : (few : ℕ) (May : Machine → Addr → Type 0) (order : Addr → Order) → IsGiven few May order → (word : ℕ) (number : Machine → Group → ℕ)
-    (test : Machine → Peer → Bool) → DoesLawful no_faults (λ m. flat_map (members_orders order word (number m) (test m) m) m.groups) →
+    (test : Machine → Peer → Bool) → DoesLawful (λ m. flat_map (members_orders order word (number m) (test m) m) m.groups) →
     ((m : Machine) → IsOrdered m → Gives May (test m) m) → Serves few (λ m. flat_map (members_orders order word (number m) (test m) m) m.groups)
 groups-serve few May order given word number test does gives =
     picks-serve few May order given (λ m. flat_map (members_orders order word (number m) (test m) m) m.groups)
@@ -450,10 +450,10 @@ record IsFollowed (few : ℕ) (m n : Machine) : Type 0 where
 rule-followed : (few : ℕ) (orders : Machine → List Order) → Serves few orders → (m : Machine) → IsOrdered m → counted_in m ≤ m.settings.hard → IsFollowed few m (rules orders m).machine
 unfolding DoesLawful
 rule-followed few orders serves m h within =
-    let does : Trimmed (IsLawful no_faults) m (rules orders m) = (serves.does m h within).trimmed in
+    let does : Trimmed IsLawful m (rules orders m) = (serves.does m h within).trimmed in
     let ids = orders-ids (orders m) m in
     let sum = serves.ids m h in
-    record { ordered = does.ordered; within = trimmed-within (IsLawful no_faults) m (rules orders m) does; ids = omega (arith, ids, sum) }
+    record { ordered = does.ordered; within = trimmed-within IsLawful m (rules orders m) does; ids = omega (arith, ids, sum) }
 
 all-followed : (few : List ℕ) (each : List (Machine → List Order)) → AllServe few each → (m : Machine) → IsOrdered m → counted_in m ≤ m.settings.hard →
     IsFollowed (total few) m (for_each rules each m).machine
@@ -484,7 +484,7 @@ all-follow (n ∷ few) (r ∷ each) serve m h within room =
 
 -- an order for each of some that needs nothing
 asks-serve : (word : ℕ) → Serves 0 (λ m. g2_orders (view_of word m) m.peers)
-asks-serve word = quiet-serves _ (ordinary-rules no_faults word).0 (λ m. all-mapped NeedsNothing (λ addr. Ask addr _) (λ a. record { may = λ n. tt; none = refl }) _)
+asks-serve word = quiet-serves _ (ordinary-rules word).0 (λ m. all-mapped NeedsNothing (λ addr. Ask addr _) (λ a. record { may = λ n. tt; none = refl }) _)
 
 releases : (addrs : List Addr) → AllByRecursion NeedsNothing (map Release addrs)
 releases = all-mapped NeedsNothing Release (λ a. record { may = λ n. tt; none = refl })
@@ -498,7 +498,7 @@ deactivations = all-mapped NeedsNothing Deactivate (λ a. record { may = λ n. t
 ordinary-serve : (word : ℕ) → AllServe (0 ∷ 0 ∷ 20000 ∷ 20000 ∷ 0 ∷ 0 ∷ 0 ∷ 0 ∷ []) (ordinary_rules word)
 unfolding AllServe
 ordinary-serve word =
-    let does = ordinary-rules no_faults word in
+    let does = ordinary-rules word in
     let forgets = class-serves 0 MayForget Forget forget-given false word _ _ does.1.0
     (λ m h. and-gives MayForget (λ p. may_be_dropped m.groups m.roots.publics p.addr) (may_be_forgotten (map link_of m.connections)) m (forget-gives m)) in
     let members = groups-serve 20000 MayTake Promote promote-given word _ (λ m. is_eligible m.now (map link_of m.connections)) does.1.1.0 take-gives in
@@ -514,7 +514,7 @@ ordinary-serve word =
 big-serve : (word : ℕ) → AllServe (0 ∷ 20000 ∷ 0 ∷ 0 ∷ 0 ∷ []) (big_rules word)
 unfolding AllServe
 big-serve word =
-    let does = big-rules no_faults word in
+    let does = big-rules word in
     let forgets = class-serves 0 MayForget Forget forget-given true word _ _ does.0 (λ m h. forget-gives m) in
     let promotes = class-serves 20000 MayTake Promote promote-given true word _ _ does.1.0 take-gives in
     let released = quiet-serves _ does.1.1.0 (λ m. releases _) in

@@ -19,7 +19,7 @@ use Rattle.machine.specs.Machine.{Machine, Entry, Owed}
 use Rattle.machine.specs.Effect.{Effect, unused, gone, tells, then_do, as_move, on_entry}
 use Rattle.machine.specs.Connections.{entry_turns, entry_goes, closing_entry, grace_over, wait_over}
 use Rattle.machine.specs.Deadlines.{deadline, deadlines_of, phase_deadlines, grace_deadlines, reply_deadline, due, fires_as, fires, fires_some, fire_due}
-use Rattle.laws.specs.AtMoves.{Faults, IsPast, IsOver, IsLate, IsLawful}
+use Rattle.laws.specs.AtMoves.{IsPast, IsOver, IsLawful}
 use Rattle.laws.specs.Sound.{IsOrderly}
 use Rattle.laws.specs.Stages.{stage_of_phase, stage_at}
 use Rattle.laws.specs.Telling.{IsTold}
@@ -38,14 +38,20 @@ use Rattle.laws.proofs.WholeMoves.{stands-shaped, stands-owing, greeting-live, n
 
 -- ---- what it is that is late
 
+-- a reply is owed, and its time is over
+record IsLate (now : ℕ) (e : Entry) : Type 0 where
+  owed : Owed
+  among : Contains e.owed owed
+  late : owed.until ≤ now
+
 -- by the kind of the deadline
 LateAs : ℕ → Entry → Kind → Type 0
 LateAs now e Handshake = is_greeting e.facts ≡ true
 LateAs now e GraceKind = IsPast now e.facts.grace
 LateAs now e TimeWait = is_live e.facts ≡ false
-LateAs now e Reply2 = IsLate now e ReplyWait
-LateAs now e Reply8 = IsLate now e ReplyWait
-LateAs now e Reply10 = IsLate now e ReplyWait
+LateAs now e Reply2 = IsLate now e
+LateAs now e Reply8 = IsLate now e
+LateAs now e Reply10 = IsLate now e
 
 MeansLate : ℕ → Entry → Deadline → Type 0
 MeansLate now e d = is_late now d ≡ true → LateAs now e d.kind
@@ -71,8 +77,8 @@ reply-late now e owed among late =
     cond_both (owed.protocol == 2) Reply2 (if owed.protocol == 8 then Reply8 else Reply10) (LateAs now e) (λ on_2. waited)
     (λ not_2. cond_both (owed.protocol == 8) Reply8 Reply10 (LateAs now e) (λ on_8. waited) (λ not_8. waited))
   where
-    waited : IsLate now e ReplyWait
-    waited = record { waited = refl; owed = owed; among = among; late = leb-true owed.until now late }
+    waited : IsLate now e
+    waited = record { owed = owed; among = among; late = leb-true owed.until now late }
 
 deadlines_of-late : (now : ℕ) (e : Entry) → All (MeansLate now e) (deadlines_of e)
 deadlines_of-late now e =
@@ -108,13 +114,13 @@ grace_over-told m e k h s live =
     ended-told (unused e.facts.cid.0) e.facts.cid Unused m inner refl refl (turned-told m e (closing_entry m e) k h s turns (omega (arith, early))) refl
     (omega (arith, before, early)) (omega (arith, after)) (λ open_. tt)
 
-grace_over-obeys : (faults : Faults) (m : Machine) (e : Entry) (k : ℕ) → IsOrdered m → StandsAt m.connections k e → IsPast m.now e.facts.grace →
-    Obeys (IsLawful faults) m (grace_over e m)
-grace_over-obeys faults m e k h s past =
-    cond_both e.facts.local (entry_turns e (record e { facts = expired e.facts }) m) closed (Obeys (IsLawful faults) m)
-    (λ local. turns-obeys (IsLawful faults) m e (record e { facts = expired e.facts }) k h.orderly s
+grace_over-obeys : (m : Machine) (e : Entry) (k : ℕ) → IsOrdered m → StandsAt m.connections k e → IsPast m.now e.facts.grace →
+    Obeys IsLawful m (grace_over e m)
+grace_over-obeys m e k h s past =
+    cond_both e.facts.local (entry_turns e (record e { facts = expired e.facts }) m) closed (Obeys IsLawful m)
+    (λ local. turns-obeys IsLawful m e (record e { facts = expired e.facts }) k h.orderly s
     (record { same_id = refl; same_addr = refl; live = λ l. l }) (record { up = λ up. up; asked = λ asked. asked }) (λ negotiated. negotiated) (omega arith))
-    (λ idle. as_move-obeys (IsLawful faults) (unused e.facts.cid.0) m closes refl
+    (λ idle. as_move-obeys IsLawful (unused e.facts.cid.0) m closes refl
     (record {
       back_off = tt;
       targets = tt;
@@ -138,17 +144,17 @@ live-negotiated f dead = by_phase (is_negotiated f) refl
     by_phase true is = absurd (both_ways (is_live f) dead (negotiated-live f.phase is))
     by_phase false is = refl
 
-wait_over-obeys : (faults : Faults) (m : Machine) (e : Entry) (k : ℕ) → IsOrdered m → StandsAt m.connections k e → is_live e.facts ≡ false →
-    Obeys (IsLawful faults) m (wait_over e m)
-wait_over-obeys faults m e k h s dead =
+wait_over-obeys : (m : Machine) (e : Entry) (k : ℕ) → IsOrdered m → StandsAt m.connections k e → is_live e.facts ≡ false →
+    Obeys IsLawful m (wait_over e m)
+wait_over-obeys m e k h s dead =
     let closed : is_negotiated e.facts ≡ false = live-negotiated e.facts dead in
-    as_move-obeys (IsLawful faults) (gone e.facts.cid.0) m (entry_goes e m) refl
+    as_move-obeys IsLawful (gone e.facts.cid.0) m (entry_goes e m) refl
     (record { back_off = tt; targets = tt; cause = on_stands (λ x. is_negotiated x.facts ≡ false) m e k h.orderly s closed })
     (accounts_gone m e k (wait_over e m) h.orderly s refl (λ addr hot. hot) (λ addr known. known) (λ negotiated. absurd (both_ways (is_negotiated e.facts) closed negotiated))
     (told_move (gone e.facts.cid.0) m (entry_goes e m) refl refl (goes-told m e k h.orderly s)))
 
 -- a reply is owed only while the connection is used
-late-live : (m : Machine) (e : Entry) (k : ℕ) → IsOrdered m → StandsAt m.connections k e → IsLate m.now e ReplyWait → is_live e.facts ≡ true
+late-live : (m : Machine) (e : Entry) (k : ℕ) → IsOrdered m → StandsAt m.connections k e → IsLate m.now e → is_live e.facts ≡ true
 late-live m e k h s late =
     let shape : IsShaped e.facts = stands-shaped m e k h s in
     negotiated-live e.facts.phase (local-negotiated e.facts shape (by_local e.facts.local refl))
@@ -160,41 +166,36 @@ late-live m e k h s late =
     by_local true is = refl
     by_local false is = none e.owed ((stands-owing m e k h s).used is) late.among
 
-fires_as-obeys : (faults : Faults) (kind : Kind) (m : Machine) (e : Entry) (k : ℕ) → IsOrdered m → StandsAt m.connections k e → LateAs m.now e kind →
-    (IsLate m.now e ReplyWait → faults m e ReplyWait) → Obeys (IsLawful faults) m (fires_as kind e m)
+fires_as-obeys : (kind : Kind) (m : Machine) (e : Entry) (k : ℕ) → IsOrdered m → StandsAt m.connections k e → LateAs m.now e kind →
+    Obeys IsLawful m (fires_as kind e m)
 unfolding LateAs
-fires_as-obeys faults Handshake m e k h s late given =
-    ending-obeys faults (Fault HandshakeWait) m e k h.orderly s (greeting-live e.facts.phase late)
-    (λ negotiated. absurd (both_ways (is_negotiated e.facts) (greeting-unnegotiated e.facts.phase late) negotiated))
-fires_as-obeys faults GraceKind m e k h s late given = grace_over-obeys faults m e k h s late
-fires_as-obeys faults TimeWait m e k h s late given = wait_over-obeys faults m e k h s late
-fires_as-obeys faults Reply2 m e k h s late given = ending-obeys faults (Fault ReplyWait) m e k h.orderly s (late-live m e k h s late) (λ negotiated. given late)
-fires_as-obeys faults Reply8 m e k h s late given = ending-obeys faults (Fault ReplyWait) m e k h.orderly s (late-live m e k h s late) (λ negotiated. given late)
-fires_as-obeys faults Reply10 m e k h s late given = ending-obeys faults (Fault ReplyWait) m e k h.orderly s (late-live m e k h s late) (λ negotiated. given late)
+fires_as-obeys Handshake m e k h s late =
+    ending-obeys (Fault HandshakeWait) m e k h.orderly s (greeting-live e.facts.phase late)
+    (λ negotiated. tt) tt
+fires_as-obeys GraceKind m e k h s late = grace_over-obeys m e k h s late
+fires_as-obeys TimeWait m e k h s late = wait_over-obeys m e k h s late
+fires_as-obeys Reply2 m e k h s late = ending-obeys (Fault ReplyWait) m e k h.orderly s (late-live m e k h s late) (λ negotiated. tt) tt
+fires_as-obeys Reply8 m e k h s late = ending-obeys (Fault ReplyWait) m e k h.orderly s (late-live m e k h s late) (λ negotiated. tt) tt
+fires_as-obeys Reply10 m e k h s late = ending-obeys (Fault ReplyWait) m e k h.orderly s (late-live m e k h s late) (λ negotiated. tt) tt
 
 -- ---- all that are due
 
--- a reply that is late is a fault
-abbrev GivesLate : Faults → Type 0
-GivesLate faults = (m : Machine) (e : Entry) → IsLate m.now e ReplyWait → faults m e ReplyWait
-
-pub fires-obeys : (faults : Faults) → GivesLate faults → (d : Deadline) (m : Machine) → IsOrdered m → due m ≡ Some d → Obeys (IsLawful faults) m (fires d m)
+pub fires-obeys : (d : Deadline) (m : Machine) → IsOrdered m → due m ≡ Some d → Obeys IsLawful m (fires d m)
 unfolding MeansLate
-fires-obeys faults gives d m h is =
+fires-obeys d m h is =
     let next : Due m d = due_of m d h.orderly is in
-    subst (λ o. Obeys (IsLawful faults) m (on_entry o (fires_as d.kind) m)) (sym next.found)
-    (fires_as-obeys faults d.kind m next.owner next.place h next.stands
-    (All-contains (MeansLate m.now next.owner) (deadlines_of next.owner) d (deadlines_of-late m.now next.owner) next.among next.late)
-    (gives m next.owner))
+    subst (λ o. Obeys IsLawful m (on_entry o (fires_as d.kind) m)) (sym next.found)
+    (fires_as-obeys d.kind m next.owner next.place h next.stands
+    (All-contains (MeansLate m.now next.owner) (deadlines_of next.owner) d (deadlines_of-late m.now next.owner) next.among next.late))
 
-pub fire_due-obeys : (faults : Faults) → GivesLate faults → (n : ℕ) (m : Machine) → IsOrdered m → Obeys (IsLawful faults) m (fire_due n m)
+pub fire_due-obeys : (n : ℕ) (m : Machine) → IsOrdered m → Obeys IsLawful m (fire_due n m)
 unfolding fire_due
-fire_due-obeys faults gives zero m h = obeys_nothing (IsLawful faults) m
-fire_due-obeys faults gives (suc n) m h = by_due (due m) refl (fire_due-obeys faults gives n)
+fire_due-obeys zero m h = obeys_nothing IsLawful m
+fire_due-obeys (suc n) m h = by_due (due m) refl (fire_due-obeys n)
   where
-    by_due : (o : Option Deadline) → due m ≡ o → ((w : Machine) → IsOrdered w → Obeys (IsLawful faults) w (fire_due n w)) →
-        Obeys (IsLawful faults) m (fires_some o (fire_due n) m)
-    by_due None is later = obeys_nothing (IsLawful faults) m
+    by_due : (o : Option Deadline) → due m ≡ o → ((w : Machine) → IsOrdered w → Obeys IsLawful w (fire_due n w)) →
+        Obeys IsLawful m (fires_some o (fire_due n) m)
+    by_due None is later = obeys_nothing IsLawful m
     by_due (Some d) is later =
         let first : Keeps 0 m (fires d m).machine = fires-keeps d m h is in
-        obeys_then (IsLawful faults) m (fires d m) (fire_due n) (fires-obeys faults gives d m h is) (later (fires d m).machine first.ordered)
+        obeys_then IsLawful m (fires d m) (fire_due n) (fires-obeys d m h is) (later (fires d m).machine first.ordered)

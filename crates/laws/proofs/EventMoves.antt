@@ -33,7 +33,7 @@ use Rattle.machine.specs.Deadlines.{deadlines, fire_all}
 use Rattle.machine.specs.Events.{clock_shows, turned_away, pause_notice, admitted, crossed, accepted_beside, peer_connects, closes, peer_closes, dialed, dial_ends}
 use Rattle.machine.specs.Provided.{comes_ordinary, locals_are, is_wanted_big, comes_big, bigs_are, roots_say, roots_answer}
 use Rattle.machine.specs.Whole.{whole_step}
-use Rattle.laws.specs.AtMoves.{Faults, faults_of, IsLawful, is_negotiated_entry, is_negotiated_at, is_ended_in, MovesAreLawful, is_up_connection, is_known, is_shared_in, is_provided_by}
+use Rattle.laws.specs.AtMoves.{IsLawful, is_negotiated_entry, is_negotiated_at, is_ended_in, MovesAreLawful, is_up_connection, is_known, is_shared_in, is_provided_by}
 use Rattle.laws.specs.Parts.{IsAccounted}
 use Rattle.laws.specs.Sound.{IsOrderly}
 use Rattle.laws.specs.Stages.{stage_of_phase}
@@ -126,17 +126,17 @@ roots-providing : (job : Job) (answer : RootAnswer) (m : Machine) → IsProvidin
 roots-providing job answer m = cond_both (awaits job.0 m.roots) (roots_say answer m) (nothing_more m) (IsProviding m)
     (λ pending. roots_say-providing answer m) (λ other. record { moves = refl; connections = refl; hot = λ addr hot. hot; told = told_nothing m })
 
-pub comes_big-allowed : (faults : Faults) (addr : Addr) (m : Machine) → Obeys (IsAllowed faults) m (comes_big addr m)
-comes_big-allowed faults addr m = cond_both (is_wanted_big addr m) (as_move (shared addr) m (peer_comes true addr m)) (nothing_more m) (Obeys (IsAllowed faults) m)
-    (λ wanted. as_move-obeys (IsAllowed faults) (shared addr) m (peer_comes true addr m) (comes-providing true addr m).moves (record { back_off = tt; cause = tt })
+pub comes_big-allowed : (addr : Addr) (m : Machine) → Obeys IsAllowed m (comes_big addr m)
+comes_big-allowed addr m = cond_both (is_wanted_big addr m) (as_move (shared addr) m (peer_comes true addr m)) (nothing_more m) (Obeys IsAllowed m)
+    (λ wanted. as_move-obeys IsAllowed (shared addr) m (peer_comes true addr m) (comes-providing true addr m).moves (record { back_off = tt; cause = tt })
     (shared-accounts true addr m))
-    (λ other. obeys_nothing (IsAllowed faults) m)
+    (λ other. obeys_nothing IsAllowed m)
 
-bigs-obeys : (faults : Faults) (addrs : List Addr) (m : Machine) → Obeys (IsLawful faults) m (bigs_are addrs m)
-bigs-obeys faults addrs m =
-    let allowed : Obeys (IsAllowed faults) m (bigs_are addrs m) = for_each-obeys (IsAllowed faults) comes_big (comes_big-allowed faults) addrs m in
+bigs-obeys : (addrs : List Addr) (m : Machine) → Obeys IsLawful m (bigs_are addrs m)
+bigs-obeys addrs m =
+    let allowed : Obeys IsAllowed m (bigs_are addrs m) = for_each-obeys IsAllowed comes_big (comes_big-allowed) addrs m in
     record {
-      lawful = all-both (IsAllowed faults) Within (IsLawful faults) (allowed_within faults) (bigs_are addrs m).moves allowed.lawful (bigs-within addrs m);
+      lawful = all-both IsAllowed Within IsLawful (allowed_within) (bigs_are addrs m).moves allowed.lawful (bigs-within addrs m);
       accounted = allowed.accounted;
     }
 
@@ -169,12 +169,12 @@ opens-obeys Law m e k h s dials =
     (λ negotiated. absurd (both_ways (is_negotiated e.facts) unnegotiated negotiated)) (dialing-stage e.facts.phase dials)
     (tells-quiet (proposal (with_entry new m)).actions (with_entry new m) refl)
 
-fails-obeys : (faults : Faults) (m : Machine) (e : Entry) (k : ℕ) → IsOrdered m → StandsAt m.connections k e → is_dialing e.facts ≡ true →
-    Obeys (IsLawful faults) m (dial_fails e m)
-fails-obeys faults m e k h s dials =
+fails-obeys : (m : Machine) (e : Entry) (k : ℕ) → IsOrdered m → StandsAt m.connections k e → is_dialing e.facts ≡ true →
+    Obeys IsLawful m (dial_fails e m)
+fails-obeys m e k h s dials =
     let unnegotiated : is_negotiated e.facts ≡ false = dialing-unnegotiated e.facts.phase dials in
     let lost : IsQuiet (without_entry e.facts.cid.0 m) (lost e.facts (without_entry e.facts.cid.0 m)) = lost-quiet e.facts (without_entry e.facts.cid.0 m) in
-    as_move-obeys (IsLawful faults) (gone e.facts.cid.0) m (vanishes e m) lost.moves
+    as_move-obeys IsLawful (gone e.facts.cid.0) m (vanishes e m) lost.moves
     (record { back_off = tt; targets = tt; cause = on_stands (λ x. is_negotiated x.facts ≡ false) m e k h.orderly s unnegotiated })
     (accounts_gone m e k (dial_fails e m) h.orderly s lost.connections lost.hot lost.known
     (λ negotiated. absurd (both_ways (is_negotiated e.facts) unnegotiated negotiated))
@@ -183,20 +183,20 @@ fails-obeys faults m e k h s dials =
     no_dial : (effect : Effect) → promoted_by_dial (gone e.facts.cid.0) m.next_id effect.machine.next_id ≡ []
     no_dial effect = refl
 
-pub dial_ends-obeys : (faults : Faults) (cid : Cid) (opened : Bool) (m : Machine) → IsOrdered m → Obeys (IsLawful faults) m (dial_ends cid opened m)
-dial_ends-obeys faults cid opened m h = by_entry (entry_at cid.0 m) refl opened
+pub dial_ends-obeys : (cid : Cid) (opened : Bool) (m : Machine) → IsOrdered m → Obeys IsLawful m (dial_ends cid opened m)
+dial_ends-obeys cid opened m h = by_entry (entry_at cid.0 m) refl opened
   where
     by_end : (e : Entry) (k : ℕ) → StandsAt m.connections k e → is_dialing e.facts ≡ true → (b : Bool) →
-        Obeys (IsLawful faults) m (if b then dial_opens e m else dial_fails e m)
-    by_end e k s dials true = opens-obeys (IsLawful faults) m e k h s dials
-    by_end e k s dials false = fails-obeys faults m e k h s dials
+        Obeys IsLawful m (if b then dial_opens e m else dial_fails e m)
+    by_end e k s dials true = opens-obeys IsLawful m e k h s dials
+    by_end e k s dials false = fails-obeys m e k h s dials
 
-    by_entry : (o : Option Entry) → entry_at cid.0 m ≡ o → (b : Bool) → Obeys (IsLawful faults) m (on_entry o (dialed b) m)
-    by_entry None is b = obeys_nothing (IsLawful faults) m
+    by_entry : (o : Option Entry) → entry_at cid.0 m ≡ o → (b : Bool) → Obeys IsLawful m (on_entry o (dialed b) m)
+    by_entry None is b = obeys_nothing IsLawful m
     by_entry (Some e) is b =
         let at = find_some (λ y. has_id cid.0 y.facts) m.connections e is in
-        cond_both (is_dialing e.facts) (if b then dial_opens e m else dial_fails e m) (nothing_more m) (Obeys (IsLawful faults) m)
-        (λ dials. by_end e at.place at.stands dials b) (λ other. obeys_nothing (IsLawful faults) m)
+        cond_both (is_dialing e.facts) (if b then dial_opens e m else dial_fails e m) (nothing_more m) (Obeys IsLawful m)
+        (λ dials. by_end e at.place at.stands dials b) (λ other. obeys_nothing IsLawful m)
 
 -- ---- a peer connects
 
@@ -225,46 +225,46 @@ pending-live f pending = by_phase f.phase (and_parts (is_outbound f) (opening_ph
     by_phase Negotiated opening = refl
     by_phase (Closing until) opening = opening
 
-crossed-obeys : (faults : Faults) (addr : Addr) (m : Machine) (e : Entry) (k : ℕ) → IsOrdered m → StandsAt m.connections k e → is_pending e.facts ≡ true →
-    Obeys (IsLawful faults) m (crossed addr e m)
-crossed-obeys faults addr m e k h s pending =
+crossed-obeys : (addr : Addr) (m : Machine) (e : Entry) (k : ℕ) → IsOrdered m → StandsAt m.connections k e → is_pending e.facts ≡ true →
+    Obeys IsLawful m (crossed addr e m)
+crossed-obeys addr m e k h s pending =
     let n : Machine = (ending Overwritten e m).machine in
-    cond_both (address_below addr m.settings.own) (then_do (ending Overwritten e m) (admitted addr)) (turned_away Crossed m) (Obeys (IsLawful faults) m)
-    (λ below. obeys_then (IsLawful faults) m (ending Overwritten e m) (admitted addr)
-    (ending-obeys faults Overwritten m e k h.orderly s (pending-live e.facts pending)
-    (λ negotiated. absurd (both_ways (is_negotiated e.facts) (pending-unnegotiated e.facts pending) negotiated)))
-    (admitted-obeys (IsLawful faults) addr n (overwritten-keeps m e k h s pending).ordered.orderly))
-    (λ above. quiet-obeys (IsLawful faults) m (turned_away Crossed m) (tells-quiet (turned_away Crossed m).actions m refl))
+    cond_both (address_below addr m.settings.own) (then_do (ending Overwritten e m) (admitted addr)) (turned_away Crossed m) (Obeys IsLawful m)
+    (λ below. obeys_then IsLawful m (ending Overwritten e m) (admitted addr)
+    (ending-obeys Overwritten m e k h.orderly s (pending-live e.facts pending)
+    (λ negotiated. absurd (both_ways (is_negotiated e.facts) (pending-unnegotiated e.facts pending) negotiated)) tt)
+    (admitted-obeys IsLawful addr n (overwritten-keeps m e k h s pending).ordered.orderly))
+    (λ above. quiet-obeys IsLawful m (turned_away Crossed m) (tells-quiet (turned_away Crossed m).actions m refl))
 
-beside-obeys : (faults : Faults) (addr : Addr) (m : Machine) → IsOrdered m → Obeys (IsLawful faults) m (accepted_beside (live_entry_at addr m) addr m)
-beside-obeys faults addr m h = by_live (live_entry_at addr m) refl
+beside-obeys : (addr : Addr) (m : Machine) → IsOrdered m → Obeys IsLawful m (accepted_beside (live_entry_at addr m) addr m)
+beside-obeys addr m h = by_live (live_entry_at addr m) refl
   where
-    by_live : (o : Option Entry) → live_entry_at addr m ≡ o → Obeys (IsLawful faults) m (accepted_beside o addr m)
-    by_live None is = admitted-obeys (IsLawful faults) addr m h.orderly
+    by_live : (o : Option Entry) → live_entry_at addr m ≡ o → Obeys IsLawful m (accepted_beside o addr m)
+    by_live None is = admitted-obeys IsLawful addr m h.orderly
     by_live (Some e) is =
         let at = find_some (λ y. is_live_at addr y.facts) m.connections e is in
-        cond_both (is_pending e.facts) (crossed addr e m) (turned_away Present m) (Obeys (IsLawful faults) m)
-        (λ pending. crossed-obeys faults addr m e at.place h at.stands pending)
-        (λ other. quiet-obeys (IsLawful faults) m (turned_away Present m) (tells-quiet (turned_away Present m).actions m refl))
+        cond_both (is_pending e.facts) (crossed addr e m) (turned_away Present m) (Obeys IsLawful m)
+        (λ pending. crossed-obeys addr m e at.place h at.stands pending)
+        (λ other. quiet-obeys IsLawful m (turned_away Present m) (tells-quiet (turned_away Present m).actions m refl))
 
-pub connects-obeys : (faults : Faults) (addr : Addr) (m : Machine) → IsOrdered m → Obeys (IsLawful faults) m (peer_connects addr m)
-connects-obeys faults addr m h = cond_both (same_address addr m.settings.own) (turned_away OwnAddr m)
-    (if nat_le m.settings.hard (counted_in m) then turned_away Full m else accepted_beside (live_entry_at addr m) addr m) (Obeys (IsLawful faults) m)
-    (λ own. quiet-obeys (IsLawful faults) m (turned_away OwnAddr m) (tells-quiet (turned_away OwnAddr m).actions m refl))
-    (λ other. cond_both (nat_le m.settings.hard (counted_in m)) (turned_away Full m) (accepted_beside (live_entry_at addr m) addr m) (Obeys (IsLawful faults) m)
-    (λ full. quiet-obeys (IsLawful faults) m (turned_away Full m) (tells-quiet (turned_away Full m).actions m refl))
-    (λ room. beside-obeys faults addr m h))
+pub connects-obeys : (addr : Addr) (m : Machine) → IsOrdered m → Obeys IsLawful m (peer_connects addr m)
+connects-obeys addr m h = cond_both (same_address addr m.settings.own) (turned_away OwnAddr m)
+    (if nat_le m.settings.hard (counted_in m) then turned_away Full m else accepted_beside (live_entry_at addr m) addr m) (Obeys IsLawful m)
+    (λ own. quiet-obeys IsLawful m (turned_away OwnAddr m) (tells-quiet (turned_away OwnAddr m).actions m refl))
+    (λ other. cond_both (nat_le m.settings.hard (counted_in m)) (turned_away Full m) (accepted_beside (live_entry_at addr m) addr m) (Obeys IsLawful m)
+    (λ full. quiet-obeys IsLawful m (turned_away Full m) (tells-quiet (turned_away Full m).actions m refl))
+    (λ room. beside-obeys addr m h))
 
 -- ---- the clock
 
-clock-obeys : (start : Machine) (t : ℕ) (m : Machine) → IsOrdered m → Obeys (IsLawful (faults_of start (Now t))) m (clock_shows t m)
-clock-obeys start t m h =
+clock-obeys : (t : ℕ) (m : Machine) → IsOrdered m → Obeys IsLawful m (clock_shows t m)
+clock-obeys t m h =
     let n : Machine = at_moment t m in
-    cond_both (nat_le t m.now) (nothing_more m) (fire_all n) (Obeys (IsLawful (faults_of start (Now t))) m)
-    (λ past. obeys_nothing (IsLawful (faults_of start (Now t))) m)
+    cond_both (nat_le t m.now) (nothing_more m) (fire_all n) (Obeys IsLawful m)
+    (λ past. obeys_nothing IsLawful m)
     (λ later.
-    let fired : Obeys (IsLawful (faults_of start (Now t))) n (fire_all n) =
-    fire_due-obeys (faults_of start (Now t)) (λ w e late. late) (length (deadlines n)) n
+    let fired : Obeys IsLawful n (fire_all n) =
+    fire_due-obeys (length (deadlines n)) n
     (record { orderly = at_moment-orderly t m h.orderly; formed = formed_at_moment t m h.formed }) in
     let accounted : Accounts n (fire_all n) = fired.accounted in
     record {
@@ -362,41 +362,41 @@ closes-accounted cid m h =
 
 -- each move is lawful, and the event accounts for what it does
 pub record IsKnown (m : Machine) (event : Event) : Type 0 where
-  pub lawful : AllByRecursion (IsLawful (faults_of m event)) (whole_step m event).moves
+  pub lawful : AllByRecursion IsLawful (whole_step m event).moves
   pub accounted : IsAccounted event m (whole_step m event)
 
-obeys-known : (m : Machine) (event : Event) → Obeys (IsLawful (faults_of m event)) m (whole_step m event) → IsKnown m event
+obeys-known : (m : Machine) (event : Event) → Obeys IsLawful m (whole_step m event) → IsKnown m event
 obeys-known m event h = record { lawful = h.lawful; accounted = accounted-part event m (whole_step m event) h.accounted }
 
 quiet-known : (m : Machine) (event : Event) → IsQuiet m (whole_step m event) → IsKnown m event
-quiet-known m event q = obeys-known m event (quiet-obeys (IsLawful (faults_of m event)) m (whole_step m event) q)
+quiet-known m event q = obeys-known m event (quiet-obeys IsLawful m (whole_step m event) q)
 
 providing-known : (m : Machine) (event : Event) → IsProviding m (whole_step m event) →
     ((addr : Addr) → is_known addr (whole_step m event).machine ≡ true → (is_known addr m || is_provided_by addr event) ≡ true) → IsKnown m event
 providing-known m event p named = record {
-  lawful = quiet-lawful (IsLawful (faults_of m event)) (whole_step m event) p.moves;
+  lawful = quiet-lawful IsLawful (whole_step m event) p.moves;
   accounted = providing-part event m (whole_step m event) p named;
 }
 
 pub whole_step-known : (m : Machine) (event : Event) → IsSteady m → IsKnown m event
-whole_step-known m (Now t) h = obeys-known m (Now t) (clock-obeys m t m (ordered_of m h))
+whole_step-known m (Now t) h = obeys-known m (Now t) (clock-obeys t m (ordered_of m h))
 whole_step-known m (Govern word) h =
-    let t = govern-trimmed (faults_of m (Govern word)) word m (ordered_of m h) h.sound.counted in
+    let t = govern-trimmed word m (ordered_of m h) h.sound.counted in
     obeys-known m (Govern word) (record { lawful = t.lawful h.tied; accounted = t.accounted })
-whole_step-known m (Accepted addr) h = obeys-known m (Accepted addr) (connects-obeys (faults_of m (Accepted addr)) addr m (ordered_of m h))
-whole_step-known m (Dialed cid opened) h = obeys-known m (Dialed cid opened) (dial_ends-obeys (faults_of m (Dialed cid opened)) cid opened m (ordered_of m h))
+whole_step-known m (Accepted addr) h = obeys-known m (Accepted addr) (connects-obeys addr m (ordered_of m h))
+whole_step-known m (Dialed cid opened) h = obeys-known m (Dialed cid opened) (dial_ends-obeys cid opened m (ordered_of m h))
 whole_step-known m (Bytes cid bytes) h =
     let t = bytes_come_in-trimmed cid bytes m (ordered_of m h) h.sound.counted in
     obeys-known m (Bytes cid bytes) (record { lawful = t.lawful h.tied; accounted = t.accounted })
 whole_step-known m (Closed cid) h = record {
-  lawful = closes-lawful (IsLawful (faults_of m (Closed cid))) cid m;
+  lawful = closes-lawful IsLawful cid m;
   accounted = closes-accounted cid m (ordered_of m h);
 }
 whole_step-known m (Aims targets) h = quiet-known m (Aims targets) (elsewhere-quiet m (whole_step m (Aims targets)) refl refl refl refl refl)
 whole_step-known m (Locals groups) h = providing-known m (Locals groups) (locals-providing groups m) (locals-known groups m)
 whole_step-known m (Roots job answer) h = providing-known m (Roots job answer) (roots-providing job answer m) (roots-known job answer m)
 whole_step-known m (BigAims targets) h = quiet-known m (BigAims targets) (elsewhere-quiet m (whole_step m (BigAims targets)) refl refl refl refl refl)
-whole_step-known m (Bigs addrs) h = obeys-known m (Bigs addrs) (bigs-obeys (faults_of m (Bigs addrs)) addrs m)
+whole_step-known m (Bigs addrs) h = obeys-known m (Bigs addrs) (bigs-obeys addrs m)
 
 pub moves-lawful : (m : Machine) (event : Event) → IsSteady m → MovesAreLawful m event
-moves-lawful m event h = all-placed (IsLawful (faults_of m event)) (whole_step m event).moves (whole_step-known m event h).lawful
+moves-lawful m event h = all-placed IsLawful (whole_step m event).moves (whole_step-known m event h).lawful

@@ -29,7 +29,7 @@ use Rattle.machine.specs.Peers.{peer_at}
 use Rattle.machine.specs.Replies.{reply_on}
 use Rattle.machine.specs.Govern.{link_of, view_of, is_used_at, carries_out, asks_roots, ordinary_rules, big_rules, rules, govern}
 use Rattle.laws.specs.Acts.{orders_of}
-use Rattle.laws.specs.AtMoves.{Faults, IsLawful}
+use Rattle.laws.specs.AtMoves.{IsLawful}
 use Rattle.laws.proofs.Chosen.{chosen, chosen-apart, chosen-all, PicksMembers, groups_picks-apart, groups_picks-all, map-groups}
 use Rattle.laws.proofs.Keeping.{IsOrdered, Keeps, keeps_nothing, elsewhere-keeps}
 use Rattle.laws.proofs.Lawful.{Accounts, IsQuiet, quiet-obeys, elsewhere-quiet, tells-quiet, IsAllowed, Within, allowed_within}
@@ -182,14 +182,14 @@ map-append order (x ∷ xs) ys = ap (λ orders. order x ∷ orders) (map-append 
 -- ---- each rule
 
 -- what a rule does with a machine that is in order and within the limit
-unfoldable pub DoesLawful : Faults → (Machine → List Order) → Type 0
-DoesLawful faults orders = (m : Machine) → IsOrdered m → counted_in m ≤ m.settings.hard → Followed (IsLawful faults) (orders m) m
+unfoldable pub DoesLawful : (Machine → List Order) → Type 0
+DoesLawful orders = (m : Machine) → IsOrdered m → counted_in m ≤ m.settings.hard → Followed IsLawful (orders m) m
 
 -- promotions and activations are lawful where they are within what is wanted
-wanted-lawful : (faults : Faults) (m : Machine) (orders : List Order) → Followed (IsAllowed faults) orders m →
-    AllByRecursion Within (for_each carries_out orders m).moves → Followed (IsLawful faults) orders m
-wanted-lawful faults m orders allowed within = record {
-  trimmed = trimmed_both (IsAllowed faults) Within (IsLawful faults) (allowed_within faults) m (for_each carries_out orders m) allowed.trimmed within;
+wanted-lawful : (m : Machine) (orders : List Order) → Followed IsAllowed orders m →
+    AllByRecursion Within (for_each carries_out orders m).moves → Followed IsLawful orders m
+wanted-lawful m orders allowed within = record {
+  trimmed = trimmed_both IsAllowed Within IsLawful (allowed_within) m (for_each carries_out orders m) allowed.trimmed within;
   each = allowed.each;
 }
 
@@ -197,62 +197,62 @@ abbrev deactivated_members : ℕ → Machine → Group → List Addr
 deactivated_members word m g =
     chosen false word (members_count g may_be_deactivated m.peers - g.hot) (is_member_and g may_be_deactivated) m.peers
 
-g4-trimmed : (faults : Faults) (word : ℕ) → DoesLawful faults (λ m. g4_orders (view_of word m) m.peers m.groups)
+g4-trimmed : (word : ℕ) → DoesLawful (λ m. g4_orders (view_of word m) m.peers m.groups)
 unfolding DoesLawful
-g4-trimmed faults word m h within =
-    wanted-lawful faults m (g4_orders (view_of word m) m.peers m.groups)
-    (groups-trimmed (IsAllowed faults) MayPromote Promote (promotes-carried faults) word
+g4-trimmed word m h within =
+    wanted-lawful m (g4_orders (view_of word m) m.peers m.groups)
+    (groups-trimmed IsAllowed MayPromote Promote (promotes-carried) word
     (λ g. g.warm - members_count g (λ p. is_established p.temp || is_pending_link (map link_of m.connections) p.addr) m.peers)
     (is_eligible m.now (map link_of m.connections)) m h within (promote-gives m h))
     (groups_promotes-within word m h within)
 
-g5-trimmed : (faults : Faults) (word : ℕ) → DoesLawful faults (λ m. g5_orders (view_of word m) m.peers m.groups)
+g5-trimmed : (word : ℕ) → DoesLawful (λ m. g5_orders (view_of word m) m.peers m.groups)
 unfolding DoesLawful
-g5-trimmed faults word m h within =
-    wanted-lawful faults m (g5_orders (view_of word m) m.peers m.groups)
-    (class-trimmed (IsAllowed faults) MayPromote Promote (promotes-carried faults) false word _ _ m h within
+g5-trimmed word m h within =
+    wanted-lawful m (g5_orders (view_of word m) m.peers m.groups)
+    (class-trimmed IsAllowed MayPromote Promote (promotes-carried) false word _ _ m h within
     (and-gives MayPromote (λ p. is_not_local m.groups p.addr) (is_eligible m.now (map link_of m.connections)) m (promote-gives m h)))
     (promotes-within false (is_not_local m.groups) word m (λ a other. other) h within)
 
-g7-trimmed : (faults : Faults) (word : ℕ) → DoesLawful faults (λ m. g7_orders (view_of word m) m.peers m.groups)
+g7-trimmed : (word : ℕ) → DoesLawful (λ m. g7_orders (view_of word m) m.peers m.groups)
 unfolding DoesLawful
-g7-trimmed faults word m h within =
-    wanted-lawful faults m (g7_orders (view_of word m) m.peers m.groups)
-    (groups-trimmed (IsAllowed faults) MayActivate Activate (activate-carried faults) word
+g7-trimmed word m h within =
+    wanted-lawful m (g7_orders (view_of word m) m.peers m.groups)
+    (groups-trimmed IsAllowed MayActivate Activate (activate-carried) word
     (λ g. g.hot - members_count g (λ p. same_temp p.temp Hot || owes_on_2 (map link_of m.connections) p.addr) m.peers)
     (may_be_activated (map link_of m.connections)) m h within (activate-gives m))
     (groups_activates-within word m h within)
 
-g8-trimmed : (faults : Faults) (word : ℕ) → DoesLawful faults (λ m. g8_orders (view_of word m) m.peers m.groups)
+g8-trimmed : (word : ℕ) → DoesLawful (λ m. g8_orders (view_of word m) m.peers m.groups)
 unfolding DoesLawful
-g8-trimmed faults word m h within =
-    wanted-lawful faults m (g8_orders (view_of word m) m.peers m.groups)
-    (class-trimmed (IsAllowed faults) MayActivate Activate (activate-carried faults) false word _ _ m h within
+g8-trimmed word m h within =
+    wanted-lawful m (g8_orders (view_of word m) m.peers m.groups)
+    (class-trimmed IsAllowed MayActivate Activate (activate-carried) false word _ _ m h within
     (and-gives MayActivate (λ p. is_not_local m.groups p.addr) (may_be_activated (map link_of m.connections)) m (activate-gives m)))
     (activates-within false (is_not_local m.groups) word m (λ a other. other) h within)
 
-g9-trimmed : (faults : Faults) (word : ℕ) → DoesLawful faults (λ m. g9_orders (view_of word m) m.peers m.groups)
+g9-trimmed : (word : ℕ) → DoesLawful (λ m. g9_orders (view_of word m) m.peers m.groups)
 unfolding DoesLawful
-g9-trimmed faults word m h within =
+g9-trimmed word m h within =
     let beyond : List Addr = chosen false word (active_of false m.peers - active_target false (view_of word m)) (λ p. is_not_local m.groups p.addr && may_be_deactivated p) m.peers in
     let members : List Addr = flat_map (deactivated_members word m) m.groups in
     let same : map Deactivate (beyond ++ members) ≡ g9_orders (view_of word m) m.peers m.groups =
     map-append Deactivate beyond members ∙ ap (λ orders. map Deactivate beyond ++ orders) (sym (map-groups Deactivate (deactivated_members word m) m.groups)) in
-    subst (λ orders. Followed (IsLawful faults) orders m) same
-    (always-trimmed (IsLawful faults) Deactivate (deactivate-carried (IsLawful faults)) (beyond ++ members) m h within)
+    subst (λ orders. Followed IsLawful orders m) same
+    (always-trimmed IsLawful Deactivate (deactivate-carried IsLawful) (beyond ++ members) m h within)
 
-b5-trimmed : (faults : Faults) (word : ℕ) → DoesLawful faults (λ m. big_orders B5 (view_of word m) m.peers)
+b5-trimmed : (word : ℕ) → DoesLawful (λ m. big_orders B5 (view_of word m) m.peers)
 unfolding DoesLawful
-b5-trimmed faults word m h within =
-    wanted-lawful faults m (big_orders B5 (view_of word m) m.peers)
-    (class-trimmed (IsAllowed faults) MayPromote Promote (promotes-carried faults) true word _ _ m h within (promote-gives m h))
+b5-trimmed word m h within =
+    wanted-lawful m (big_orders B5 (view_of word m) m.peers)
+    (class-trimmed IsAllowed MayPromote Promote (promotes-carried) true word _ _ m h within (promote-gives m h))
     (promotes-within true everybody word m (λ a other. refl) h within)
 
-b8-trimmed : (faults : Faults) (word : ℕ) → DoesLawful faults (λ m. big_orders B8 (view_of word m) m.peers)
+b8-trimmed : (word : ℕ) → DoesLawful (λ m. big_orders B8 (view_of word m) m.peers)
 unfolding DoesLawful
-b8-trimmed faults word m h within =
-    wanted-lawful faults m (big_orders B8 (view_of word m) m.peers)
-    (class-trimmed (IsAllowed faults) MayActivate Activate (activate-carried faults) true word _ _ m h within (activate-gives m))
+b8-trimmed word m h within =
+    wanted-lawful m (big_orders B8 (view_of word m) m.peers)
+    (class-trimmed IsAllowed MayActivate Activate (activate-carried) true word _ _ m h within (activate-gives m))
     (activates-within true everybody word m (λ a other. refl) h within)
 
 -- ---- all rules
@@ -267,51 +267,51 @@ unfolding for_each
 each_more [] ys m one two = two
 each_more (x ∷ xs) ys m one two = (one.0, each_more xs ys (carries_out x m).machine one.1 two)
 
-all-rules : (faults : Faults) (each : List (Machine → List Order)) → AllByRecursion (DoesLawful faults) each → (m : Machine) → IsOrdered m →
-    counted_in m ≤ m.settings.hard → Governed (IsLawful faults) each m
+all-rules : (each : List (Machine → List Order)) → AllByRecursion (DoesLawful) each → (m : Machine) → IsOrdered m →
+    counted_in m ≤ m.settings.hard → Governed IsLawful each m
 unfolding for_each orders_of DoesLawful
-all-rules faults [] h m o within = record { trimmed = nothing-trimmed (IsLawful faults) m within o; orders = tt }
-all-rules faults (r ∷ rs) h m o within =
+all-rules [] h m o within = record { trimmed = nothing-trimmed IsLawful m within o; orders = tt }
+all-rules (r ∷ rs) h m o within =
     let effect : Effect = rules r m in
-    let first : Followed (IsLawful faults) (r m) m = h.0 m o within in
-    let rest : Governed (IsLawful faults) rs effect.machine =
-    all-rules faults rs h.1 effect.machine first.trimmed.ordered (trimmed-within (IsLawful faults) m effect first.trimmed) in
+    let first : Followed IsLawful (r m) m = h.0 m o within in
+    let rest : Governed IsLawful rs effect.machine =
+    all-rules rs h.1 effect.machine first.trimmed.ordered (trimmed-within IsLawful m effect first.trimmed) in
     record {
-      trimmed = trimmed_then (IsLawful faults) m effect (for_each rules rs) first.trimmed rest.trimmed;
+      trimmed = trimmed_then IsLawful m effect (for_each rules rs) first.trimmed rest.trimmed;
       orders = each_more (r m) (orders_of rs effect.machine) m first.each rest.orders;
     }
 
-pub big-rules : (faults : Faults) (word : ℕ) → AllByRecursion (λ orders. DoesLawful faults orders) (big_rules word)
+pub big-rules : (word : ℕ) → AllByRecursion (λ orders. DoesLawful orders) (big_rules word)
 unfolding DoesLawful
-big-rules faults word = (
-  (λ m h within. class-trimmed (IsLawful faults) MayForget Forget (forget-carried (IsLawful faults)) true word _ _ m h within (forget-gives m)),
+big-rules word = (
+  (λ m h within. class-trimmed IsLawful MayForget Forget (forget-carried IsLawful) true word _ _ m h within (forget-gives m)),
   (
-    b5-trimmed faults word,
+    b5-trimmed word,
     (
-      (λ m h within. class-trimmed (IsLawful faults) MayRelease Release (release-carried faults) true word _ _ m h within (release-gives m)),
+      (λ m h within. class-trimmed IsLawful MayRelease Release (release-carried) true word _ _ m h within (release-gives m)),
       (
-        b8-trimmed faults word,
-        ((λ m h within. always-trimmed (IsLawful faults) Deactivate (deactivate-carried (IsLawful faults)) _ m h within), tt),
+        b8-trimmed word,
+        ((λ m h within. always-trimmed IsLawful Deactivate (deactivate-carried IsLawful) _ m h within), tt),
       ),
     ),
   ),
 )
 
-pub ordinary-rules : (faults : Faults) (word : ℕ) → AllByRecursion (λ orders. DoesLawful faults orders) (ordinary_rules word)
+pub ordinary-rules : (word : ℕ) → AllByRecursion (λ orders. DoesLawful orders) (ordinary_rules word)
 unfolding DoesLawful
-ordinary-rules faults word = (
-  (λ m h within. class-trimmed (IsLawful faults) MayAsk (λ addr. Ask addr _) (ask-carried (IsLawful faults) _) false word _ _ m h within (ask-gives m h)),
+ordinary-rules word = (
+  (λ m h within. class-trimmed IsLawful MayAsk (λ addr. Ask addr _) (ask-carried IsLawful _) false word _ _ m h within (ask-gives m h)),
   (
-    (λ m h within. class-trimmed (IsLawful faults) MayForget Forget (forget-carried (IsLawful faults)) false word _ _ m h within
+    (λ m h within. class-trimmed IsLawful MayForget Forget (forget-carried IsLawful) false word _ _ m h within
         (and-gives MayForget (λ p. may_be_dropped m.groups m.roots.publics p.addr) (may_be_forgotten (map link_of m.connections)) m (forget-gives m))),
     (
-      g4-trimmed faults word,
+      g4-trimmed word,
       (
-        g5-trimmed faults word,
+        g5-trimmed word,
         (
-          (λ m h within. class-trimmed (IsLawful faults) MayRelease Release (release-carried faults) false word _ _ m h within
+          (λ m h within. class-trimmed IsLawful MayRelease Release (release-carried) false word _ _ m h within
               (and-gives MayRelease (λ p. is_not_local m.groups p.addr) (may_be_released (map link_of m.connections)) m (release-gives m))),
-          (g7-trimmed faults word, (g8-trimmed faults word, (g9-trimmed faults word, tt))),
+          (g7-trimmed word, (g8-trimmed word, (g9-trimmed word, tt))),
         ),
       ),
     ),
@@ -333,30 +333,30 @@ asks_roots-quiet m = cond_both (may_ask m.now m.targets.root m.roots)
     (λ enough. tells-quiet [] m refl)
 
 -- what the governor does, and each of its orders
-pub record Governs (faults : Faults) (word : ℕ) (m : Machine) : Type 0 where
-  pub trimmed : Trimmed (IsLawful faults) m (govern word m)
+pub record Governs (word : ℕ) (m : Machine) : Type 0 where
+  pub trimmed : Trimmed IsLawful m (govern word m)
   pub asked : Accounts m (asks_roots m)
   pub ordinary : EachAccounted (orders_of (ordinary_rules word) (asks_roots m).machine) (asks_roots m).machine
   pub big : EachAccounted (orders_of (big_rules word) (for_each rules (ordinary_rules word) (asks_roots m).machine).machine)
       (for_each rules (ordinary_rules word) (asks_roots m).machine).machine
 
-pub governs : (faults : Faults) (word : ℕ) (m : Machine) → IsOrdered m → counted_in m ≤ m.settings.hard → Governs faults word m
-governs faults word m h within =
+pub governs : (word : ℕ) (m : Machine) → IsOrdered m → counted_in m ≤ m.settings.hard → Governs word m
+governs word m h within =
     let first : Effect = asks_roots m in
-    let one : Trimmed (IsLawful faults) m first =
-    keeps-trimmed (IsLawful faults) m first within (asks_roots-keeps m h) (quiet-obeys (IsLawful faults) m first (asks_roots-quiet m)) in
+    let one : Trimmed IsLawful m first =
+    keeps-trimmed IsLawful m first within (asks_roots-keeps m h) (quiet-obeys IsLawful m first (asks_roots-quiet m)) in
     let second : Effect = for_each rules (ordinary_rules word) first.machine in
-    let two : Governed (IsLawful faults) (ordinary_rules word) first.machine =
-    all-rules faults (ordinary_rules word) (ordinary-rules faults word) first.machine one.ordered (trimmed-within (IsLawful faults) m first one) in
-    let three : Governed (IsLawful faults) (big_rules word) second.machine =
-    all-rules faults (big_rules word) (big-rules faults word) second.machine two.trimmed.ordered (trimmed-within (IsLawful faults) first.machine second two.trimmed) in
+    let two : Governed IsLawful (ordinary_rules word) first.machine =
+    all-rules (ordinary_rules word) (ordinary-rules word) first.machine one.ordered (trimmed-within IsLawful m first one) in
+    let three : Governed IsLawful (big_rules word) second.machine =
+    all-rules (big_rules word) (big-rules word) second.machine two.trimmed.ordered (trimmed-within IsLawful first.machine second two.trimmed) in
     record {
-      trimmed = trimmed_then (IsLawful faults) m first (λ m. then_do (for_each rules (ordinary_rules word) m) (for_each rules (big_rules word))) one
-          (trimmed_then (IsLawful faults) first.machine second (for_each rules (big_rules word)) two.trimmed three.trimmed);
+      trimmed = trimmed_then IsLawful m first (λ m. then_do (for_each rules (ordinary_rules word) m) (for_each rules (big_rules word))) one
+          (trimmed_then IsLawful first.machine second (for_each rules (big_rules word)) two.trimmed three.trimmed);
       asked = one.accounted;
       ordinary = two.orders;
       big = three.orders;
     }
 
-pub govern-trimmed : (faults : Faults) (word : ℕ) (m : Machine) → IsOrdered m → counted_in m ≤ m.settings.hard → Trimmed (IsLawful faults) m (govern word m)
-govern-trimmed faults word m h within = (governs faults word m h within).trimmed
+pub govern-trimmed : (word : ℕ) (m : Machine) → IsOrdered m → counted_in m ≤ m.settings.hard → Trimmed IsLawful m (govern word m)
+govern-trimmed word m h within = (governs word m h within).trimmed

@@ -34,7 +34,7 @@ use Rattle.machine.specs.Effect.{Effect}
 use Rattle.machine.specs.Own.{own_info}
 use Rattle.machine.specs.Connections.{ending}
 use Rattle.machine.specs.Greeting.{role_of, is_awaited, fits_side, sends_answer, judged, decided, greeted_by, greets}
-use Rattle.laws.specs.AtMoves.{Faults, IsLawful, is_up_connection}
+use Rattle.laws.specs.AtMoves.{IsCrowded, IsLawful, is_up_connection}
 use Rattle.laws.specs.Whole.{IsShaped}
 use Rattle.laws.proofs.Keeping.{IsOrdered, Keeps, keeps_nothing}
 use Rattle.laws.proofs.Lawful.{IsQuiet, quiet-obeys, tells-quiet, turns-obeys, negotiated-forward, used-obeys}
@@ -133,10 +133,10 @@ record Greets (m : Machine) (e : Entry) (k : ℕ) : Type 0 where
   greeting : is_greeting e.facts ≡ true
 
 -- that its handshake is not done is cause enough
-ends : (faults : Faults) (cause : CloseCause) → IsLost cause → (m : Machine) (e : Entry) (k : ℕ) → Greets m e k → Trimmed (IsLawful faults) m (ending cause e m)
-ends faults cause loses m e k g =
-    ending-trimmed faults cause loses m e k g.ordered g.within g.stands (greeting-live e.facts.phase g.greeting)
-    (λ negotiated. absurd (both_ways (is_negotiated e.facts) (greeting-unnegotiated e.facts.phase g.greeting) negotiated))
+ends : (cause : CloseCause) → IsLost cause → (m : Machine) (e : Entry) (k : ℕ) → Greets m e k → IsCrowded cause m → Trimmed IsLawful m (ending cause e m)
+ends cause loses m e k g crowded =
+    ending-trimmed cause loses m e k g.ordered g.within g.stands (greeting-live e.facts.phase g.greeting)
+    (λ negotiated. absurd (both_ways (is_negotiated e.facts) (greeting-unnegotiated e.facts.phase g.greeting) negotiated)) crowded
 
 -- who was dialed by the other side is not used
 agreed_inbound-down : (agreed : Agreed) (until : ℕ) (e : Entry) → is_greeting e.facts ≡ true → IsShaped e.facts →
@@ -158,23 +158,23 @@ greeting-up e greeting outbound =
     or_right (is_negotiated e.facts && e.facts.local) (is_pending e.facts)
     (and_from (is_outbound e.facts) (opening_phase e.facts.phase) outbound (greeting-opening e.facts.phase greeting))
 
-judged-trimmed : (faults : Faults) (v : Verdict) (m : Machine) (e : Entry) (k : ℕ) → Greets m e k → (is_accept v ≡ true → is_outbound e.facts ≡ false) →
-    (is_agree v ≡ true → is_outbound e.facts ≡ true) → Trimmed (IsLawful faults) m (judged v e m)
+judged-trimmed : (v : Verdict) (m : Machine) (e : Entry) (k : ℕ) → Greets m e k → (is_accept v ≡ true → is_outbound e.facts ≡ false) →
+    (is_agree v ≡ true → is_outbound e.facts ≡ true) → Trimmed IsLawful m (judged v e m)
 unfolding is_accept is_agree
-judged-trimmed faults (verdict.Accept agreed) m e k g accepts agrees =
-    keeps-trimmed (IsLawful faults) m (judged (verdict.Accept agreed) e m) g.within (agrees_inbound-keeps agreed m e k g.ordered g.stands g.greeting (accepts refl))
-    (turns-obeys (IsLawful faults) m e (record e { facts = agreed_inbound agreed (m.now + m.settings.idle) e.facts }) k g.ordered.orderly g.stands
+judged-trimmed (verdict.Accept agreed) m e k g accepts agrees =
+    keeps-trimmed IsLawful m (judged (verdict.Accept agreed) e m) g.within (agrees_inbound-keeps agreed m e k g.ordered g.stands g.greeting (accepts refl))
+    (turns-obeys IsLawful m e (record e { facts = agreed_inbound agreed (m.now + m.settings.idle) e.facts }) k g.ordered.orderly g.stands
     (record { same_id = refl; same_addr = refl; live = λ l. greeting-live e.facts.phase g.greeting })
     (record { up = agreed_inbound-down agreed (m.now + m.settings.idle) e g.greeting (stands-shaped m e k g.ordered g.stands); asked = λ asked. asked }) (λ was. refl)
     (negotiated-forward e.facts.phase Negotiated (greeting-live e.facts.phase g.greeting) refl))
-judged-trimmed faults (verdict.Refuse reason) m e k g accepts agrees = ends faults cause.Refused refl m e k g
-judged-trimmed faults verdict.Query m e k g accepts agrees = ends faults cause.Query refl m e k g
-judged-trimmed faults (verdict.Agree agreed) m e k g accepts agrees =
-    keeps-trimmed (IsLawful faults) m (judged (verdict.Agree agreed) e m) g.within (agrees_outbound-keeps agreed m e k g.ordered g.stands g.greeting (agrees refl))
-    (used-obeys (IsLawful faults) (agreed_outbound agreed (m.now + m.settings.idle) e.facts) m e k g.ordered.orderly g.stands refl refl
+judged-trimmed (verdict.Refuse reason) m e k g accepts agrees = ends cause.Refused refl m e k g tt
+judged-trimmed verdict.Query m e k g accepts agrees = ends cause.Query refl m e k g tt
+judged-trimmed (verdict.Agree agreed) m e k g accepts agrees =
+    keeps-trimmed IsLawful m (judged (verdict.Agree agreed) e m) g.within (agrees_outbound-keeps agreed m e k g.ordered g.stands g.greeting (agrees refl))
+    (used-obeys IsLawful (agreed_outbound agreed (m.now + m.settings.idle) e.facts) m e k g.ordered.orderly g.stands refl refl
     (greeting-live e.facts.phase g.greeting) refl (greeting-up e g.greeting (agrees refl)))
-judged-trimmed faults verdict.Refused m e k g accepts agrees = ends faults cause.Refused refl m e k g
-judged-trimmed faults verdict.Wrong m e k g accepts agrees = ends faults (cause.Fault Protocol) refl m e k g
+judged-trimmed verdict.Refused m e k g accepts agrees = ends cause.Refused refl m e k g tt
+judged-trimmed verdict.Wrong m e k g accepts agrees = ends (cause.Fault Protocol) refl m e k g tt
 
 accepts-inbound : (own : VersionInfo) (p : Provenance) (msg : Message) → is_accept (verdict_of (role_of p) own msg) ≡ true → is_outbound_by p ≡ false
 accepts-inbound own FromRemote msg h = refl
@@ -184,31 +184,31 @@ agrees-outbound : (own : VersionInfo) (p : Provenance) (msg : Message) → is_ag
 agrees-outbound own FromLocal msg h = refl
 agrees-outbound own FromRemote msg h = absurd (both_ways (is_agree (verdict_of Acceptor own msg)) (acceptor-no_agree own msg) h)
 
-decided-trimmed : (faults : Faults) (msg : Message) (m : Machine) (e : Entry) (k : ℕ) → Greets m e k →
-    Trimmed (IsLawful faults) m (decided (verdict_of (role_of e.facts.provenance) (own_info m.settings) msg) e m)
-decided-trimmed faults msg m e k g =
+decided-trimmed : (msg : Message) (m : Machine) (e : Entry) (k : ℕ) → Greets m e k →
+    Trimmed IsLawful m (decided (verdict_of (role_of e.facts.provenance) (own_info m.settings) msg) e m)
+decided-trimmed msg m e k g =
     let own : VersionInfo = own_info m.settings in
     let v : Verdict = verdict_of (role_of e.facts.provenance) own msg in
     let first : Effect = sends_answer (answer_of v own) e.facts.cid m in
     let same : m ≡ first.machine = sym (answer-machine (answer_of v own) e.facts.cid m) in
-    trimmed_then (IsLawful faults) m first (judged v e)
-    (keeps-trimmed (IsLawful faults) m first g.within (subst (Keeps 0 m) same (keeps_nothing m g.ordered))
-    (quiet-obeys (IsLawful faults) m first (answer-quiet (answer_of v own) e.facts.cid m)))
-    (subst (λ n. Trimmed (IsLawful faults) n (judged v e n)) same
-    (judged-trimmed faults v m e k g (accepts-inbound own e.facts.provenance msg) (agrees-outbound own e.facts.provenance msg)))
+    trimmed_then IsLawful m first (judged v e)
+    (keeps-trimmed IsLawful m first g.within (subst (Keeps 0 m) same (keeps_nothing m g.ordered))
+    (quiet-obeys IsLawful m first (answer-quiet (answer_of v own) e.facts.cid m)))
+    (subst (λ n. Trimmed IsLawful n (judged v e n)) same
+    (judged-trimmed v m e k g (accepts-inbound own e.facts.provenance msg) (agrees-outbound own e.facts.provenance msg)))
 
-greeted_by-trimmed : (faults : Faults) (o : Option Message) (side : ℕ) (m : Machine) (e : Entry) (k : ℕ) → Greets m e k → Trimmed (IsLawful faults) m (greeted_by o side e m)
-greeted_by-trimmed faults None side m e k g = ends faults (cause.Fault Malformed) refl m e k g
-greeted_by-trimmed faults (Some msg) side m e k g =
+greeted_by-trimmed : (o : Option Message) (side : ℕ) (m : Machine) (e : Entry) (k : ℕ) → Greets m e k → Trimmed IsLawful m (greeted_by o side e m)
+greeted_by-trimmed None side m e k g = ends (cause.Fault Malformed) refl m e k g tt
+greeted_by-trimmed (Some msg) side m e k g =
     let role : Role = role_of e.facts.provenance in
     cond_both (fits_side role side msg) (decided (verdict_of role (own_info m.settings) msg) e m) (ending (cause.Fault Protocol) e m)
-    (Trimmed (IsLawful faults) m) (λ fits. decided-trimmed faults msg m e k g) (λ other. ends faults (cause.Fault Protocol) refl m e k g)
+    (Trimmed IsLawful m) (λ fits. decided-trimmed msg m e k g) (λ other. ends (cause.Fault Protocol) refl m e k g tt)
 
 -- an item comes in
-pub greets-trimmed : (faults : Faults) (item : Item) (m : Machine) (e : Entry) (k : ℕ) → IsOrdered m → counted_in m ≤ m.settings.hard →
-    StandsAt m.connections k e → is_greeting e.facts ≡ true → Trimmed (IsLawful faults) m (greets item e m)
-greets-trimmed faults item m e k h within s greeting =
+pub greets-trimmed : (item : Item) (m : Machine) (e : Entry) (k : ℕ) → IsOrdered m → counted_in m ≤ m.settings.hard →
+    StandsAt m.connections k e → is_greeting e.facts ≡ true → Trimmed IsLawful m (greets item e m)
+greets-trimmed item m e k h within s greeting =
     let g : Greets m e k = record { ordered = h; within = within; stands = s; greeting = greeting } in
     cond_both (item.id == 0 && is_awaited (role_of e.facts.provenance) item.side) (greeted_by (message_of item.body) item.side e m)
-    (ending (cause.Fault Protocol) e m) (Trimmed (IsLawful faults) m)
-    (λ awaited. greeted_by-trimmed faults (message_of item.body) item.side m e k g) (λ other. ends faults (cause.Fault Protocol) refl m e k g)
+    (ending (cause.Fault Protocol) e m) (Trimmed IsLawful m)
+    (λ awaited. greeted_by-trimmed (message_of item.body) item.side m e k g) (λ other. ends (cause.Fault Protocol) refl m e k g tt)

@@ -26,7 +26,7 @@ use Rattle.net_base.specs.declared.peer.Temp.TheVariants.{Warm}
 use Rattle.warm_messages.specs.Writing.{written_alive}
 use Rattle.warm_messages.specs.declared.alive.Alive.TheVariants.{Ask}
 use Rattle.net_base.specs.Peer.{failed_peer}
-use Rattle.laws.specs.AtMoves.{OutOfBackOff, WithinTargets, Faults, MayEnd, OnEntry, ForCause, IsLawful, is_negotiated_entry, is_negotiated_at, ends, is_ended_in, is_up_connection, is_up, is_hot_peer, is_asked_connection, is_hot_or_asked, is_known, promotes, activates, shares}
+use Rattle.laws.specs.AtMoves.{OutOfBackOff, WithinTargets, IsCrowded, OnEntry, ForCause, IsLawful, is_negotiated_entry, is_negotiated_at, ends, is_ended_in, is_up_connection, is_up, is_hot_peer, is_asked_connection, is_hot_or_asked, is_known, promotes, activates, shares}
 use Rattle.laws.specs.Sound.{IsOrderly}
 use Rattle.laws.specs.Stages.{stage_of_phase, stage_of, stage_at, stage_ended, IsLateCause}
 use Rattle.laws.specs.Telling.{IsTold}
@@ -344,12 +344,12 @@ pub on_stands : (law : Entry → Type 0) (m : Machine) (e : Entry) (k : ℕ) →
 on_stands law m e k h s holds = subst (λ o. OnEntry o law) (sym (stands-found m e k h s)) holds
 
 -- a connection is ended, for a cause where its handshake was done
-ended-lawful : (faults : Faults) (cause : CloseCause) (m after : Machine) (e : Entry) (k : ℕ) → IsOrderly m → StandsAt m.connections k e →
-    (is_negotiated e.facts ≡ true → MayEnd faults cause e m) → IsLawful faults (record { happened = ended e.facts.cid.0 cause; before = m; after = after })
-ended-lawful faults cause m after e k h s may = record {
+ended-lawful : (cause : CloseCause) (m after : Machine) (e : Entry) (k : ℕ) → IsOrderly m → StandsAt m.connections k e →
+    (is_negotiated e.facts ≡ true → IsLateCause cause) → IsCrowded cause m → IsLawful (record { happened = ended e.facts.cid.0 cause; before = m; after = after })
+ended-lawful cause m after e k h s may crowded = record {
   back_off = tt;
   targets = tt;
-  cause = on_stands (λ x. is_negotiated x.facts ≡ true → MayEnd faults cause x m) m e k h s may;
+  cause = on_stands (λ x. (is_negotiated x.facts ≡ true → IsLateCause cause) × IsCrowded cause m) m e k h s (may, crowded);
 }
 
 pub live_stage : (p : Phase) → live_phase p ≡ true → stage_of_phase p ≤ 3
@@ -364,14 +364,6 @@ negotiated_stage (Greeting until) is = absurd (omega (arith, is))
 negotiated_stage Negotiated is = refl
 negotiated_stage (Closing until) is = absurd (omega (arith, is))
 
-late_cause : (faults : Faults) (cause : CloseCause) (e : Entry) (m : Machine) → MayEnd faults cause e m → IsLateCause cause
-late_cause faults Unused e m may = elim may [ ]
-late_cause faults Pruned e m may = tt
-late_cause faults Overwritten e m may = elim may [ ]
-late_cause faults Refused e m may = elim may [ ]
-late_cause faults Query e m may = elim may [ ]
-late_cause faults (Fault kind) e m may = tt
-
 ended-most : (cause : CloseCause) → stage_ended cause ≤ 5
 ended-most Unused = omega arith
 ended-most Pruned = omega arith
@@ -384,9 +376,9 @@ ended-most (Fault kind) = omega arith
 pub stands-stage : (m : Machine) (e : Entry) (k : ℕ) → IsOrderly m → StandsAt m.connections k e → stage_at e.facts.cid.0 m ≡ stage_of_phase e.facts.phase
 stands-stage m e k h s = ap (λ o. stage_of o (nat_lt e.facts.cid.0 m.next_id)) (stands-found m e k h s)
 
-ending-told : (faults : Faults) (cause : CloseCause) (m : Machine) (e : Entry) (k : ℕ) → IsOrderly m → StandsAt m.connections k e → is_live e.facts ≡ true →
-    (is_negotiated e.facts ≡ true → MayEnd faults cause e m) → IsTold m (ending cause e m)
-ending-told faults cause m e k h s live may =
+ending-told : (cause : CloseCause) (m : Machine) (e : Entry) (k : ℕ) → IsOrderly m → StandsAt m.connections k e → is_live e.facts ≡ true →
+    (is_negotiated e.facts ≡ true → IsLateCause cause) → IsTold m (ending cause e m)
+ending-told cause m e k h s live may =
     let n : Machine = without_entry e.facts.cid.0 m in
     let q : IsQuiet n (lost_by cause e.facts n) = lost_by-quiet cause e.facts n in
     let inner : Effect = then_do (entry_goes e m) (lost_by cause e.facts) in
@@ -395,21 +387,21 @@ ending-told faults cause m e k h s live may =
     let gone : stage_at e.facts.cid.0 n ≡ 5 = goes-stage m e k h s in
     let over : stage_at e.facts.cid.0 n ≤ stage_at e.facts.cid.0 inner.machine = (q.told.connections e.facts.cid.0).forward in
     ended-told (ended e.facts.cid.0 cause) e.facts.cid cause m inner refl refl (told_then m (entry_goes e m) (lost_by cause e.facts) (goes-told m e k h s) q.told) q.moves
-    (omega (arith, stage, early)) (omega (arith, gone, over, ended-most cause)) (λ open_. late_cause faults cause e m (may (negotiated_stage e.facts.phase (sym stage ∙ open_))))
+    (omega (arith, stage, early)) (omega (arith, gone, over, ended-most cause)) (λ open_. may (negotiated_stage e.facts.phase (sym stage ∙ open_)))
 
-pub ending-obeys : (faults : Faults) (cause : CloseCause) (m : Machine) (e : Entry) (k : ℕ) → IsOrderly m → StandsAt m.connections k e → is_live e.facts ≡ true →
-    (is_negotiated e.facts ≡ true → MayEnd faults cause e m) → Obeys (IsLawful faults) m (ending cause e m)
-ending-obeys faults cause m e k h s live may =
+pub ending-obeys : (cause : CloseCause) (m : Machine) (e : Entry) (k : ℕ) → IsOrderly m → StandsAt m.connections k e → is_live e.facts ≡ true →
+    (is_negotiated e.facts ≡ true → IsLateCause cause) → IsCrowded cause m → Obeys IsLawful m (ending cause e m)
+ending-obeys cause m e k h s live may crowded =
     let n : Machine = without_entry e.facts.cid.0 m in
     let q : IsQuiet n (lost_by cause e.facts n) = lost_by-quiet cause e.facts n in
     let move : Move = record { happened = ended e.facts.cid.0 cause; before = m; after = (ending cause e m).machine } in
     let moves : (ending cause e m).moves ≡ move ∷ [] = ap (λ ms. ms ++ move ∷ []) q.moves in
     record {
-      lawful = subst (AllByRecursion (IsLawful faults)) (sym moves) (ended-lawful faults cause m (ending cause e m).machine e k h s may, tt);
+      lawful = subst (AllByRecursion IsLawful) (sym moves) (ended-lawful cause m (ending cause e m).machine e k h s may crowded, tt);
       accounted = accounts_gone m e k (ending cause e m) h s q.connections q.hot q.known
           (λ negotiated. subst (λ ms. is_ended_in e.facts.cid.0 ms ≡ true) (sym moves)
           (ap (λ b. b || false) (eq-eqb e.facts.cid.0 e.facts.cid.0 refl)))
-          (ending-told faults cause m e k h s live may);
+          (ending-told cause m e k h s live may);
     }
 
 -- a connection turns, and is still negotiated where it was
@@ -460,20 +452,16 @@ used-obeys Law f m e k h s cid addr live negotiated up =
 
 -- ---- targets aside
 
--- where nothing is a fault
-abbrev pub no_faults : Faults
-no_faults m e kind = ⊥
-
 -- a law on moves but for targets and valencies
-pub record IsAllowed (faults : Faults) (move : Move) : Type 0 where
+pub record IsAllowed (move : Move) : Type 0 where
   pub back_off : OutOfBackOff move.happened move.before
-  pub cause : ForCause faults move.happened move.before
+  pub cause : ForCause move.happened move.before
 
 abbrev pub Within : Move → Type 0
 Within move = WithinTargets move.happened move.before move.after
 
-pub allowed_within : (faults : Faults) (move : Move) → IsAllowed faults move → Within move → IsLawful faults move
-allowed_within faults move allowed within = record { back_off = allowed.back_off; targets = within; cause = allowed.cause }
+pub allowed_within : (move : Move) → IsAllowed move → Within move → IsLawful move
+allowed_within move allowed within = record { back_off = allowed.back_off; targets = within; cause = allowed.cause }
 
 -- the part as a whole is a move, where it is quiet by itself
 pub as_move-obeys : (Law : Move → Type 0) (happened : Happened) (m : Machine) (effect : Effect) → effect.moves ≡ [] →

@@ -21,7 +21,7 @@ use Rattle.machine.specs.Connections.{with_entry, entry_turns, says_done, trim, 
 use Rattle.machine.specs.Govern.{is_used_at, on_used, asks_peer, activates, deactivates, carries_out}
 use Rattle.warm_messages.specs.Writing.{written_alive, written_request}
 use Rattle.warm_messages.specs.declared.alive.Alive.TheVariants.{Done}
-use Rattle.laws.specs.AtMoves.{IsReady, Faults, IsLawful, is_up_connection, is_up, is_hot_peer, is_asked_connection, is_hot_or_asked, is_known, promotes, activates as activation, shares}
+use Rattle.laws.specs.AtMoves.{IsReady, IsLawful, is_up_connection, is_up, is_hot_peer, is_asked_connection, is_hot_or_asked, is_known, promotes, activates as activation, shares}
 use Rattle.laws.specs.Whole.{AreApart, AreTied, IsAlone, TiedBy, IsTied}
 use Rattle.laws.proofs.Addresses.{same_address-true}
 use Rattle.laws.proofs.Books.{book_of, filter-book}
@@ -200,9 +200,9 @@ warm-ready now None x warm tie = elim warm [ ]
 warm-ready now (Some p) None warm tie = absurd (both_ways (is_established p.temp) tie (ap is_established warm))
 warm-ready now (Some p) (Some e) warm tie = tie.in_use (sym tie.established ∙ ap is_established warm)
 
-activated-allowed : (faults : Faults) (addr : Addr) (m after : Machine) → MayActivate m addr → IsTied m →
-    IsAllowed faults (record { happened = activated addr; before = m; after = after })
-activated-allowed faults addr m after may ties = record { back_off = warm-ready m.now (peer_at addr m) (live_entry_at addr m) may (ties addr); cause = tt }
+activated-allowed : (addr : Addr) (m after : Machine) → MayActivate m addr → IsTied m →
+    IsAllowed (record { happened = activated addr; before = m; after = after })
+activated-allowed addr m after may ties = record { back_off = warm-ready m.now (peer_at addr m) (live_entry_at addr m) may (ties addr); cause = tt }
 
 -- only whom the move is of is asked
 activates-accounts : (addr : Addr) (m : Machine) (e : Entry) (k : ℕ) → Used m addr e k → Accounts m (as_move (activated addr) m (activates e m))
@@ -226,24 +226,24 @@ activates-accounts addr m e k u =
           (turned-told m e new k u.ordered.orderly u.stands turns (omega arith)));
     }
 
-activated-carried : (faults : Faults) (addr : Addr) (m : Machine) (e : Entry) (k : ℕ) → Used m addr e k → MayActivate m addr →
-    Carried (IsAllowed faults) MayActivate addr m (as_move (activated addr) m (activates e m))
-activated-carried faults addr m e k u may = record {
-  trimmed = tied-trimmed (IsAllowed faults) m (as_move (activated addr) m (activates e m)) u.within
+activated-carried : (addr : Addr) (m : Machine) (e : Entry) (k : ℕ) → Used m addr e k → MayActivate m addr →
+    Carried IsAllowed MayActivate addr m (as_move (activated addr) m (activates e m))
+activated-carried addr m e k u may = record {
+  trimmed = tied-trimmed IsAllowed m (as_move (activated addr) m (activates e m)) u.within
       (asks_warm-keeps 0 m e k u.ordered u.stands u.local (subst (λ a. IsWarm (peer_at a m)) (sym u.here) may))
-      (λ ties. (activated-allowed faults addr m (activates e m).machine may ties, tt)) (activates-accounts addr m e k u);
+      (λ ties. (activated-allowed addr m (activates e m).machine may ties, tt)) (activates-accounts addr m e k u);
   elsewhere = λ b other warm. warm;
 }
 
-pub activate-carried : (faults : Faults) → Carries (IsAllowed faults) MayActivate Activate
+pub activate-carried : Carries IsAllowed MayActivate Activate
 unfolding Carries
-activate-carried faults addr m h within may = on_used_by-carried (IsAllowed faults) MayActivate addr (as_move (activated addr) m) activates m h within
+activate-carried addr m h within may = on_used_by-carried IsAllowed MayActivate addr (as_move (activated addr) m) activates m h within
     (record {
-      trimmed = as_move-trimmed (IsAllowed faults) (activated addr) m (nothing_more m) refl refl (nothing-trimmed (IsAllowed faults) m within h)
-          (λ ties. activated-allowed faults addr m m may ties);
+      trimmed = as_move-trimmed IsAllowed (activated addr) m (nothing_more m) refl refl (nothing-trimmed IsAllowed m within h)
+          (λ ties. activated-allowed addr m m may ties);
       elsewhere = λ b other warm. warm;
     })
-    (λ e k u. activated-carried faults addr m e k u may)
+    (λ e k u. activated-carried addr m e k u may)
 
 -- ---- a hot peer is to become warm
 
@@ -361,10 +361,10 @@ released-down until e up = by_used (is_negotiated e.facts) e.facts.local (is_pen
     by_used true b c is = or_right b c is
     by_used false b c is = is
 
-releasing-carried : (faults : Faults) (addr : Addr) (m : Machine) (e : Entry) (k : ℕ) → Used m addr e k → MayRelease m addr →
-    Carried (IsLawful faults) MayRelease addr m (releasing e m)
+releasing-carried : (addr : Addr) (m : Machine) (e : Entry) (k : ℕ) → Used m addr e k → MayRelease m addr →
+    Carried IsLawful MayRelease addr m (releasing e m)
 unfolding releasing
-releasing-carried faults addr m e k u may =
+releasing-carried addr m e k u may =
     let h : IsOrdered m = u.ordered in
     let s = u.stands in
     let new : Entry = record e { facts = released (m.now + m.settings.idle) e.facts } in
@@ -391,8 +391,8 @@ releasing-carried faults addr m e k u may =
     let after = counted_in-sum n in
     let within = u.within in
     let limit : o.settings.hard ≡ m.settings.hard = ap (λ x. x.hard) raised.settings in
-    let trimmed : Trimmed (IsLawful faults) o (trim e.facts.cid o) =
-    trim-trims faults e.facts.cid o raised.ordered (omega (arith, raised.counted, limit, within)) (λ over. record {
+    let trimmed : Trimmed IsLawful o (trim e.facts.cid o) =
+    trim-trims e.facts.cid o raised.ordered (omega (arith, raised.counted, limit, within)) (λ over. record {
       entry = new;
       place = k;
       stands = stands;
@@ -402,10 +402,10 @@ releasing-carried faults addr m e k u may =
           absurd (omega (arith, over, alike, counts, before, after, limit, within, zero)));
     }) in
     record {
-      trimmed = raised_twice_then_trimmed (IsLawful faults) m (entry_turns e new m) (peer_becomes Cold e.facts.addr) (trim e.facts.cid) raised
-          (turns-obeys (IsLawful faults) m e new k h.orderly s t (record { up = released-down (m.now + m.settings.idle) e; asked = λ asked. asked }) (λ negotiated. negotiated)
+      trimmed = raised_twice_then_trimmed IsLawful m (entry_turns e new m) (peer_becomes Cold e.facts.addr) (trim e.facts.cid) raised
+          (turns-obeys IsLawful m e new k h.orderly s t (record { up = released-down (m.now + m.settings.idle) e; asked = λ asked. asked }) (λ negotiated. negotiated)
           (omega arith))
-          (quiet-obeys (IsLawful faults) n (peer_becomes Cold e.facts.addr n)
+          (quiet-obeys IsLawful n (peer_becomes Cold e.facts.addr n)
           (changes-quiet e.facts.addr cold n (record { addr = λ p. refl; hot = λ p hot. absurd (false≢true hot) }))) trimmed;
       elsewhere = λ b other may_b x found.
           let apart : same_address e.facts.addr b ≡ false = subst (λ a. same_address a b ≡ false) (sym u.here) (same_turned b addr other) in
@@ -431,21 +431,21 @@ releasing-carried faults addr m e k u may =
       asked = λ asked. absurd (both_ways (is_some (reply_on 2 e)) (may e u.found).on_2 (ap is_some (sym owed) ∙ asked));
     }
 
-released-carried : (faults : Faults) (addr : Addr) (m : Machine) (e : Entry) (k : ℕ) → Used m addr e k → MayRelease m addr →
-    Carried (IsLawful faults) MayRelease addr m (release e m)
+released-carried : (addr : Addr) (m : Machine) (e : Entry) (k : ℕ) → Used m addr e k → MayRelease m addr →
+    Carried IsLawful MayRelease addr m (release e m)
 unfolding releasing
-released-carried faults addr m e k u may =
+released-carried addr m e k u may =
     let first : Effect = says_done e.facts m in
     let same : m ≡ first.machine = sym (says_done-machine e.facts m) in
-    let rest : Carried (IsLawful faults) MayRelease addr m (releasing e m) = releasing-carried faults addr m e k u may in
+    let rest : Carried IsLawful MayRelease addr m (releasing e m) = releasing-carried addr m e k u may in
     record {
-      trimmed = trimmed_then (IsLawful faults) m first (releasing e)
-          (keeps-trimmed (IsLawful faults) m first u.within (subst (Keeps 0 m) same (keeps_nothing m u.ordered))
-          (quiet-obeys (IsLawful faults) m first (says_done-quiet e.facts m)))
-          (subst (λ n. Trimmed (IsLawful faults) n (releasing e n)) same rest.trimmed);
+      trimmed = trimmed_then IsLawful m first (releasing e)
+          (keeps-trimmed IsLawful m first u.within (subst (Keeps 0 m) same (keeps_nothing m u.ordered))
+          (quiet-obeys IsLawful m first (says_done-quiet e.facts m)))
+          (subst (λ n. Trimmed IsLawful n (releasing e n)) same rest.trimmed);
       elsewhere = subst (λ n. (b : Addr) → same_address b addr ≡ false → MayRelease m b → MayRelease (releasing e n).machine b) same rest.elsewhere;
     }
 
-pub release-carried : (faults : Faults) → Carries (IsLawful faults) MayRelease Release
+pub release-carried : Carries IsLawful MayRelease Release
 unfolding Carries
-release-carried faults addr m h within may = on_used-carried (IsLawful faults) MayRelease addr release m h within (λ e k u. released-carried faults addr m e k u may)
+release-carried addr m h within may = on_used-carried IsLawful MayRelease addr release m h within (λ e k u. released-carried addr m e k u may)

@@ -26,7 +26,7 @@ use Rattle.machine.specs.Peers.{peer_is_ordinary}
 use Rattle.machine.specs.Provided.{comes_ordinary, comes_big}
 use Rattle.machine.specs.Stream.{handles}
 use Rattle.laws.specs.Acts.{Act, shows, fires_one, asks_for_roots, carries, connects, ends_dial, stores, handles_item, ends_stream, is_closed, sets_targets, sets_big_targets, sets_groups, sets_roots, makes_ordinary, provides, provides_big, does, fired_from, fired, orders_of, acts_at_moment, acts_fed, acts_of_bytes, acts_of_answer, acts}
-use Rattle.laws.specs.AtMoves.{Faults, IsLawful, is_known, is_provided_by, fed_on}
+use Rattle.laws.specs.AtMoves.{IsLawful, is_known, is_provided_by, fed_on}
 use Rattle.laws.specs.Parts.{IsAccounted, IsLawfulEvent}
 use Rattle.laws.specs.Whole.{IsSteady}
 use Rattle.laws.proofs.Addresses.{same_address-self, same_address-true}
@@ -49,10 +49,6 @@ use Rattle.laws.proofs.Trims.{Trimmed, trimmed-within}
 use Rattle.laws.proofs.WholeEvents.{ordered_of, formed_at_moment, fires-keeps}
 use Rattle.laws.proofs.WholeMoves.{decodes-keeps}
 
--- where everything is a fault, the rest is kept as well
-abbrev all_faults : Faults
-all_faults m e kind = Unit {0}
-
 -- ---- the clock
 
 fired-parts : (event : Event) (n : ℕ) (m : Machine) → IsOrdered m → AreLawful event (map fires_one (fired n m)) m
@@ -66,7 +62,7 @@ fired-parts event (suc n) m h = by_due (due m) refl (fired-parts event n)
     by_due (Some d) is later =
         let keeps : Keeps 0 m (fires d m).machine = fires-keeps d m h is in
         first_part event (fires_one d) (map fires_one (fired n (fires d m).machine)) m (least-due m d is)
-        (accounted-part event m (fires d m) (fires-obeys all_faults (λ w e late. tt) d m h is).accounted) (later (fires d m).machine keeps.ordered)
+        (accounted-part event m (fires d m) (fires-obeys d m h is).accounted) (later (fires d m).machine keeps.ordered)
 
 -- what is neither a connection nor a peer is set
 set-part : (event : Event) (act : Act) (m : Machine) → (does act m).moves ≡ [] → (does act m).machine.connections ≡ m.connections →
@@ -99,7 +95,7 @@ orders-parts event (o ∷ orders) m h =
 
 govern-parts : (word : ℕ) (m : Machine) → IsOrdered m → counted_in m ≤ m.settings.hard → AreLawful (Govern word) (acts m (Govern word)) m
 govern-parts word m h within =
-    let g : Governs all_faults word m = governs all_faults word m h within in
+    let g : Governs word m = governs word m h within in
     let n : Machine = (asks_roots m).machine in
     let o : Machine = (for_each rules (ordinary_rules word) n).machine in
     let ordinary : List Act = map carries (orders_of (ordinary_rules word) n) in
@@ -120,18 +116,18 @@ stream-part : (event : Event) (cid : Cid) (fed : FedBy) (m : Machine) → Feedin
 stream-part event cid fed m f =
     one_part event (ends_stream cid fed.state.fault) m tt
     (accounted-part event m (does (ends_stream cid fed.state.fault) m)
-    (faulted-trimmed all_faults cid fed.state.fault (λ w e kind own is. tt) m f.ordered f.within f.open_).accounted)
+    (faulted-trimmed cid fed.state.fault m f.ordered f.within f.open_).accounted)
 
 items-parts : (event : Event) (cid : Cid) (fed : FedBy) (items : List Item) (m : Machine) → Feeding cid m →
     AreLawful event (map (handles_item cid) items ++ ends_stream cid fed.state.fault ∷ []) m
 items-parts event cid fed [] m f = stream-part event cid fed m f
 items-parts event cid fed (item ∷ items) m f =
     let effect : Effect = handles cid item m in
-    let t : Trimmed (IsLawful all_faults) m effect = handles-trimmed all_faults cid item m f.ordered f.within (λ w e kind own is. tt) in
+    let t : Trimmed IsLawful m effect = handles-trimmed cid item m f.ordered f.within in
     first_part event (handles_item cid item) (map (handles_item cid) items ++ ends_stream cid fed.state.fault ∷ []) m tt
     (accounted-part event m effect t.accounted)
     (items-parts event cid fed items effect.machine
-    (record { ordered = t.ordered; within = trimmed-within (IsLawful all_faults) m effect t; open_ = handles-open cid item m f.open_ }))
+    (record { ordered = t.ordered; within = trimmed-within IsLawful m effect t; open_ = handles-open cid item m f.open_ }))
 
 fed-parts : (event : Event) (fed : FedBy) (m : Machine) (e : Entry) (k : ℕ) → IsOrdered m → counted_in m ≤ m.settings.hard → StandsAt m.connections k e →
     is_live e.facts ≡ true → AreLawful event (acts_fed fed e) m
@@ -223,7 +219,7 @@ roots-parts event Failed m named = one_part event (sets_roots _) m tt (set-part 
 bigs-parts : (event : Event) (addrs : List Addr) (m : Machine) → AreLawful event (map provides_big addrs) m
 bigs-parts event [] m = no_part event m
 bigs-parts event (a ∷ addrs) m =
-    first_part event (provides_big a) (map provides_big addrs) m tt (accounted-part event m (comes_big a m) (comes_big-allowed all_faults a m).accounted)
+    first_part event (provides_big a) (map provides_big addrs) m tt (accounted-part event m (comes_big a m) (comes_big-allowed a m).accounted)
     (bigs-parts event addrs (comes_big a m).machine)
 
 -- ---- each event
@@ -232,10 +228,10 @@ parts-lawful : (m : Machine) (event : Event) → IsSteady m → AreLawful event 
 parts-lawful m (Now t) h = clock-parts t m (ordered_of m h)
 parts-lawful m (Govern word) h = govern-parts word m (ordered_of m h) h.sound.counted
 parts-lawful m (Accepted addr) h =
-    one_part (Accepted addr) (connects addr) m tt (accounted-part (Accepted addr) m (does (connects addr) m) (connects-obeys all_faults addr m (ordered_of m h)).accounted)
+    one_part (Accepted addr) (connects addr) m tt (accounted-part (Accepted addr) m (does (connects addr) m) (connects-obeys addr m (ordered_of m h)).accounted)
 parts-lawful m (Dialed cid opened) h =
     one_part (Dialed cid opened) (ends_dial cid opened) m tt
-    (accounted-part (Dialed cid opened) m (does (ends_dial cid opened) m) (dial_ends-obeys all_faults cid opened m (ordered_of m h)).accounted)
+    (accounted-part (Dialed cid opened) m (does (ends_dial cid opened) m) (dial_ends-obeys cid opened m (ordered_of m h)).accounted)
 parts-lawful m (Bytes cid bytes) h = bytes-parts cid bytes m (ordered_of m h) h.sound.counted
 parts-lawful m (Closed cid) h = one_part (Closed cid) (is_closed cid) m tt (closes-accounted cid m (ordered_of m h))
 parts-lawful m (Aims targets) h = one_part (Aims targets) (sets_targets targets) m tt (set-part (Aims targets) (sets_targets targets) m refl refl refl refl refl)

@@ -21,7 +21,7 @@ use Rattle.machine.specs.Replies.{owing}
 use Rattle.machine.specs.Connections.{with_entry, acquire, dial}
 use Rattle.machine.specs.Effect.{Effect, Move, promoted, as_move}
 use Rattle.machine.specs.Govern.{link_of, promoted_at, promote}
-use Rattle.laws.specs.AtMoves.{IsReady, Faults, is_up_connection, is_up, is_asked_connection, is_hot_or_asked, is_known, promotes, activates, shares}
+use Rattle.laws.specs.AtMoves.{IsReady, is_up_connection, is_up, is_asked_connection, is_hot_or_asked, is_known, promotes, activates, shares}
 use Rattle.laws.specs.Laws.{DifferInAddress}
 use Rattle.laws.specs.Whole.{IsShaped, IsOwing, TiedBy}
 use Rattle.laws.proofs.Addresses.{same_address-self, same_address-true}
@@ -149,9 +149,9 @@ pub record MayPromote (m : Machine) (addr : Addr) : Type 0 where
   pub free : MayBy (live_entry_at addr m)
   pub ready : IsReady m.now (peer_at addr m)
 
-promoted-carried : (faults : Faults) (addr : Addr) (m : Machine) → IsOrdered m → counted_in m ≤ m.settings.hard → MayPromote m addr →
-    Carried (IsAllowed faults) MayPromote addr m (promote addr m)
-promoted-carried faults addr m h within may = by_live (live_entry_at addr m) refl may.free
+promoted-carried : (addr : Addr) (m : Machine) → IsOrdered m → counted_in m ≤ m.settings.hard → MayPromote m addr →
+    Carried IsAllowed MayPromote addr m (promote addr m)
+promoted-carried addr m h within may = by_live (live_entry_at addr m) refl may.free
   where
     still : (n : Machine) → n.now ≡ m.now → ((b : Addr) → same_address b addr ≡ false → live_entry_at b n ≡ live_entry_at b m) →
         ((b : Addr) → same_address b addr ≡ false → peer_at b n ≡ peer_at b m) →
@@ -161,16 +161,16 @@ promoted-carried faults addr m h within may = by_live (live_entry_at addr m) ref
       ready = subst (λ t. IsReady t (peer_at b n)) (sym now) (subst (IsReady m.now) (sym (peers b other)) may.ready);
     }
 
-    allowed : (after : Machine) → IsAllowed faults (record { happened = promoted addr; before = m; after = after })
+    allowed : (after : Machine) → IsAllowed (record { happened = promoted addr; before = m; after = after })
     allowed after = record { back_off = may.ready; cause = tt }
 
-    by_live : (o : Option Entry) → live_entry_at addr m ≡ o → MayBy o → Carried (IsAllowed faults) MayPromote addr m (as_move (promoted addr) m (promoted_at o addr m))
+    by_live : (o : Option Entry) → live_entry_at addr m ≡ o → MayBy o → Carried IsAllowed MayPromote addr m (as_move (promoted addr) m (promoted_at o addr m))
     by_live None none free =
         let n : Machine = (dial addr m).machine in
         let keeps : Keeps 0 m n = dial-keeps addr m h none may.ready in
         record {
-          trimmed = keeps-trimmed (IsAllowed faults) m (as_move (promoted addr) m (dial addr m)) within keeps
-              (as_move-obeys (IsAllowed faults) (promoted addr) m (dial addr m) refl (allowed n) (dial-accounts addr m h));
+          trimmed = keeps-trimmed IsAllowed m (as_move (promoted addr) m (dial addr m)) within keeps
+              (as_move-obeys IsAllowed (promoted addr) m (dial addr m) refl (allowed n) (dial-accounts addr m h));
           elsewhere = still n keeps.now (λ b other. dial-elsewhere addr b m other) (λ b other. refl);
         }
     by_live (Some e) some free =
@@ -179,15 +179,15 @@ promoted-carried faults addr m h within may = by_live (live_entry_at addr m) ref
         let n : Machine = (acquire e m).machine in
         let keeps : Keeps 0 m n = acquire-keeps m e at.place h at.stands free (subst (λ a. IsReady m.now (peer_at a m)) (sym here) may.ready) in
         rw free (record {
-          trimmed = keeps-trimmed (IsAllowed faults) m (as_move (promoted addr) m (acquire e m)) within keeps
-              (acquire-obeys (IsAllowed faults) addr m e at.place h at.stands free here (allowed n));
+          trimmed = keeps-trimmed IsAllowed m (as_move (promoted addr) m (acquire e m)) within keeps
+              (acquire-obeys IsAllowed addr m e at.place h at.stands free here (allowed n));
           elsewhere = still n keeps.now (λ b other. acquire-elsewhere b m e at.place h at.stands (subst (λ a. same_address b a ≡ false) (sym here) other))
               (λ b other. acquire-peers b m e (subst (λ a. same_address b a ≡ false) (sym here) other));
         })
 
-pub promotes-carried : (faults : Faults) → Carries (IsAllowed faults) MayPromote Promote
+pub promotes-carried : Carries IsAllowed MayPromote Promote
 unfolding Carries
-promotes-carried faults addr m h within may = promoted-carried faults addr m h within may
+promotes-carried addr m h within may = promoted-carried addr m h within may
 
 -- ---- who is eligible may be promoted
 

@@ -32,7 +32,7 @@ use Rattle.machine.specs.Talking.{replies, stops_if, serves, begins, takes_reque
 use Rattle.machine.specs.Replies.{reply_on, without_reply, paid}
 use Rattle.laws.proofs.Effects.{counted-running}
 use Rattle.laws.proofs.Entries.{TurnsInto, one_has_id, turned-connections}
-use Rattle.laws.specs.AtMoves.{Faults, fault_of_request, fault_of_answer, fault_of, IsLawful, is_up, is_hot_peer, is_asked_connection, is_hot_or_asked, is_known, promotes, activates, shares}
+use Rattle.laws.specs.AtMoves.{fault_of_request, fault_of_answer, fault_of, IsLawful, is_up, is_hot_peer, is_asked_connection, is_hot_or_asked, is_known, promotes, activates, shares}
 use Rattle.laws.proofs.KnownWanted.{takes-within}
 use Rattle.laws.proofs.Lawful.{ends_then, ends_same, ends_turned, Accounts, Obeys, IsQuiet, quiet-lawful, quiet-obeys, tells-quiet, turns_at-moves, turns_at-connections, comes-providing, shared-accounts, turns-obeys, IsAllowed, Within, allowed_within, as_move-obeys}
 use Rattle.laws.proofs.Keeping.{IsOrdered, Keeps, keeps_nothing, moves_then, moves-keeps, keeps-moves, changes-moves, peer_comes-keeps}
@@ -152,13 +152,13 @@ pub record Talking (m : Machine) (e : Entry) (k : ℕ) : Type 0 where
   pub stands : StandsAt m.connections k e
   pub negotiated : is_negotiated e.facts ≡ true
 
-ends : (faults : Faults) (kind : FaultKind) (m : Machine) (e : Entry) (k : ℕ) → Talking m e k → faults m e kind → Trimmed (IsLawful faults) m (ending (Fault kind) e m)
-ends faults kind m e k t given =
-    ending-trimmed faults (Fault kind) refl m e k t.ordered t.within t.stands (negotiated-live e.facts.phase t.negotiated) (λ negotiated. given)
+ends : (kind : FaultKind) (m : Machine) (e : Entry) (k : ℕ) → Talking m e k → Trimmed IsLawful m (ending (Fault kind) e m)
+ends kind m e k t =
+    ending-trimmed (Fault kind) refl m e k t.ordered t.within t.stands (negotiated-live e.facts.phase t.negotiated) (λ negotiated. tt) tt
 
 -- the record after a responder has started, and what is found in it
-record Begun (faults : Faults) (cid : ℕ) (before : Machine) (effect : Effect) : Type 0 where
-  trimmed : Trimmed (IsLawful faults) before effect
+record Begun (cid : ℕ) (before : Machine) (effect : Effect) : Type 0 where
+  trimmed : Trimmed IsLawful before effect
   runs : (x : Entry) → entry_at cid effect.machine ≡ Some x → some_runs x.facts.running ≡ true
 
 found_is : (m : Machine) (e x : Entry) (k : ℕ) → IsOrdered m → StandsAt m.connections k e → entry_at e.facts.cid.0 m ≡ Some x → x ≡ e
@@ -170,9 +170,9 @@ found_is m e x k h s found =
     some_same : Some x ≡ Some e → x ≡ e
     some_same e2 = cc
 
-awake-begun : (faults : Faults) (protocol : ℕ) (m : Machine) (e : Entry) (k : ℕ) → Talking m e k → takes_requests e ≡ true → has_responder protocol ≡ true →
-    Begun faults e.facts.cid.0 m (awake protocol e m)
-awake-begun faults protocol m e k t serves known =
+awake-begun : (protocol : ℕ) (m : Machine) (e : Entry) (k : ℕ) → Talking m e k → takes_requests e ≡ true → has_responder protocol ≡ true →
+    Begun e.facts.cid.0 m (awake protocol e m)
+awake-begun protocol m e k t serves known =
     let new : Entry = record e { facts = awakened protocol e.facts } in
     let n : Machine = with_entry new m in
     let turns : TurnsInto e new = record { same_id = refl; same_addr = refl; live = λ l. l } in
@@ -181,25 +181,25 @@ awake-begun faults protocol m e k t serves known =
     let list : n.connections ≡ set m.connections k new = turned-connections m e new k t.ordered.orderly t.stands turns in
     let here : StandsAt n.connections k new = subst (λ es. StandsAt es k new) (sym list) (stands-set m.connections k new e t.stands) in
     let moved : HasMoved e.facts.cid n = record { entry = new; place = k; stands = here; same = refl; counted = counted-running new.facts t.negotiated runs } in
-    let trimmed : Trimmed (IsLawful faults) n (trim e.facts.cid n) =
-    trim-trims faults e.facts.cid n raised.ordered (omega (arith, raised.counted, t.within)) (λ over. moved) in
+    let trimmed : Trimmed IsLawful n (trim e.facts.cid n) =
+    trim-trims e.facts.cid n raised.ordered (omega (arith, raised.counted, t.within)) (λ over. moved) in
     record {
-      trimmed = raised_then_trimmed (IsLawful faults) m (entry_turns e new m) (trim e.facts.cid) raised
-          (turns-obeys (IsLawful faults) m e new k t.ordered.orderly t.stands turns (record { up = λ up. up; asked = λ asked. asked }) (λ negotiated. negotiated) (omega arith)) trimmed;
+      trimmed = raised_then_trimmed IsLawful m (entry_turns e new m) (trim e.facts.cid) raised
+          (turns-obeys IsLawful m e new k t.ordered.orderly t.stands turns (record { up = λ up. up; asked = λ asked. asked }) (λ negotiated. negotiated) (omega arith)) trimmed;
       runs = λ x found.
           let was : entry_at e.facts.cid.0 n ≡ Some x = trim-found e.facts.cid e.facts.cid.0 x n found in
           ap (λ y. some_runs y.facts.running) (found_is n new x k raised.ordered here was) ∙ runs;
     }
 
-begins-begun : (faults : Faults) (protocol : ℕ) (m : Machine) (e : Entry) (k : ℕ) → Talking m e k → takes_requests e ≡ true → has_responder protocol ≡ true →
-    Begun faults e.facts.cid.0 m (begins protocol e m)
-begins-begun faults protocol m e k t takes known = cond_both (runs protocol e.facts.running) (nothing_more m) (awake protocol e m)
-    (Begun faults e.facts.cid.0 m)
+begins-begun : (protocol : ℕ) (m : Machine) (e : Entry) (k : ℕ) → Talking m e k → takes_requests e ≡ true → has_responder protocol ≡ true →
+    Begun e.facts.cid.0 m (begins protocol e m)
+begins-begun protocol m e k t takes known = cond_both (runs protocol e.facts.running) (nothing_more m) (awake protocol e m)
+    (Begun e.facts.cid.0 m)
     (λ running. record {
-      trimmed = nothing-trimmed (IsLawful faults) m t.within t.ordered;
+      trimmed = nothing-trimmed IsLawful m t.within t.ordered;
       runs = λ x found. ap (λ y. some_runs y.facts.running) (found_is m e x k t.ordered t.stands found) ∙ runs-some protocol e.facts.running running;
     })
-    (λ silent. awake-begun faults protocol m e k t takes known)
+    (λ silent. awake-begun protocol m e k t takes known)
 
 pub replies-machine : (r : Reply) (protocol : ℕ) (e : Entry) (m : Machine) → (replies r protocol e m).machine ≡ m
 replies-machine reply.Nothing protocol e m = refl
@@ -218,68 +218,68 @@ replies-quiet reply.NoIntersect protocol e m = tells-quiet (replies reply.NoInte
 replies-quiet reply.Await protocol e m = tells-quiet (replies reply.Await protocol e m).actions m refl
 replies-quiet reply.NoBlocks protocol e m = tells-quiet (replies reply.NoBlocks protocol e m).actions m refl
 
-stops_if-trimmed : (faults : Faults) (done : Bool) (protocol : ℕ) (m : Machine) (e : Entry) (k : ℕ) → IsOrdered m → counted_in m ≤ m.settings.hard →
-    StandsAt m.connections k e → some_runs e.facts.running ≡ true → Trimmed (IsLawful faults) m (stops_if done protocol e m)
-stops_if-trimmed faults false protocol m e k h within s running = nothing-trimmed (IsLawful faults) m within h
-stops_if-trimmed faults true protocol m e k h within s running =
-    keeps-trimmed (IsLawful faults) m (idle protocol e m) within (idles-keeps protocol m e k h s running)
-    (turns-obeys (IsLawful faults) m e (record e { facts = idled protocol (m.now + m.settings.idle) e.facts }) k h.orderly s
+stops_if-trimmed : (done : Bool) (protocol : ℕ) (m : Machine) (e : Entry) (k : ℕ) → IsOrdered m → counted_in m ≤ m.settings.hard →
+    StandsAt m.connections k e → some_runs e.facts.running ≡ true → Trimmed IsLawful m (stops_if done protocol e m)
+stops_if-trimmed false protocol m e k h within s running = nothing-trimmed IsLawful m within h
+stops_if-trimmed true protocol m e k h within s running =
+    keeps-trimmed IsLawful m (idle protocol e m) within (idles-keeps protocol m e k h s running)
+    (turns-obeys IsLawful m e (record e { facts = idled protocol (m.now + m.settings.idle) e.facts }) k h.orderly s
     (record { same_id = refl; same_addr = refl; live = λ l. l }) (record { up = λ up. up; asked = λ asked. asked }) (λ negotiated. negotiated) (omega arith))
 
-serves-trimmed : (faults : Faults) (seen : Seen) (protocol : ℕ) (cid : Cid) (m : Machine) → IsOrdered m → counted_in m ≤ m.settings.hard →
+serves-trimmed : (seen : Seen) (protocol : ℕ) (cid : Cid) (m : Machine) → IsOrdered m → counted_in m ≤ m.settings.hard →
     ((x : Entry) → entry_at cid.0 m ≡ Some x → some_runs x.facts.running ≡ true) →
-    Trimmed (IsLawful faults) m (on_connection cid (serves seen protocol) m)
-serves-trimmed faults seen protocol cid m h within running = by_entry (entry_at cid.0 m) refl
+    Trimmed IsLawful m (on_connection cid (serves seen protocol) m)
+serves-trimmed seen protocol cid m h within running = by_entry (entry_at cid.0 m) refl
   where
-    by_entry : (o : Option Entry) → entry_at cid.0 m ≡ o → Trimmed (IsLawful faults) m (on_entry o (serves seen protocol) m)
-    by_entry None is = nothing-trimmed (IsLawful faults) m within h
+    by_entry : (o : Option Entry) → entry_at cid.0 m ≡ o → Trimmed IsLawful m (on_entry o (serves seen protocol) m)
+    by_entry None is = nothing-trimmed IsLawful m within h
     by_entry (Some e) is =
         let at = find_some (λ y. has_id cid.0 y.facts) m.connections e is in
         let first : Effect = replies seen.reply protocol e m in
         let same : m ≡ first.machine = sym (replies-machine seen.reply protocol e m) in
-        trimmed_then (IsLawful faults) m first (stops_if seen.done protocol e)
-        (keeps-trimmed (IsLawful faults) m first within (subst (Keeps 0 m) same (keeps_nothing m h))
-        (quiet-obeys (IsLawful faults) m first (replies-quiet seen.reply protocol e m)))
-        (subst (λ n. Trimmed (IsLawful faults) n (stops_if seen.done protocol e n)) same
-        (stops_if-trimmed faults seen.done protocol m e at.place h within at.stands (running e is)))
+        trimmed_then IsLawful m first (stops_if seen.done protocol e)
+        (keeps-trimmed IsLawful m first within (subst (Keeps 0 m) same (keeps_nothing m h))
+        (quiet-obeys IsLawful m first (replies-quiet seen.reply protocol e m)))
+        (subst (λ n. Trimmed IsLawful n (stops_if seen.done protocol e n)) same
+        (stops_if-trimmed seen.done protocol m e at.place h within at.stands (running e is)))
 
-asked_as-trimmed : (faults : Faults) (r : Result Seen FaultKind) (item : List ℕ) (sharing : Bool) (protocol : ℕ) (m : Machine) (e : Entry) (k : ℕ) →
-    watched protocol sharing item ≡ r → Talking m e k → ((kind : FaultKind) → fault_of_request r e ≡ Some kind → faults m e kind) →
-    Trimmed (IsLawful faults) m (asked_as r protocol e m)
-asked_as-trimmed faults (Err kind) item sharing protocol m e k is t given = ends faults kind m e k t (given kind refl)
-asked_as-trimmed faults (Ok seen) item sharing protocol m e k is t given = by_test (takes_requests e) refl given
+asked_as-trimmed : (r : Result Seen FaultKind) (item : List ℕ) (sharing : Bool) (protocol : ℕ) (m : Machine) (e : Entry) (k : ℕ) →
+    watched protocol sharing item ≡ r → Talking m e k →
+    Trimmed IsLawful m (asked_as r protocol e m)
+asked_as-trimmed (Err kind) item sharing protocol m e k is t = ends kind m e k t
+asked_as-trimmed (Ok seen) item sharing protocol m e k is t = by_test (takes_requests e) refl
   where
     known : has_responder protocol ≡ true
     known = seen-known protocol sharing item seen is
 
-    by_test : (b : Bool) → takes_requests e ≡ b → ((kind : FaultKind) → (if b then None else Some Protocol) ≡ Some kind → faults m e kind) →
-        Trimmed (IsLawful faults) m (if b then then_do (begins protocol e m) (on_connection e.facts.cid (serves seen protocol)) else ending (Fault Protocol) e m)
-    by_test true takes given =
+    by_test : (b : Bool) → takes_requests e ≡ b →
+        Trimmed IsLawful m (if b then then_do (begins protocol e m) (on_connection e.facts.cid (serves seen protocol)) else ending (Fault Protocol) e m)
+    by_test true takes =
         let first : Effect = begins protocol e m in
-        let begun : Begun faults e.facts.cid.0 m first = begins-begun faults protocol m e k t takes known in
-        trimmed_then (IsLawful faults) m first (on_connection e.facts.cid (serves seen protocol)) begun.trimmed
-        (serves-trimmed faults seen protocol e.facts.cid first.machine begun.trimmed.ordered (trimmed-within (IsLawful faults) m first begun.trimmed) begun.runs)
-    by_test false takes given = ends faults Protocol m e k t (given Protocol refl)
+        let begun : Begun e.facts.cid.0 m first = begins-begun protocol m e k t takes known in
+        trimmed_then IsLawful m first (on_connection e.facts.cid (serves seen protocol)) begun.trimmed
+        (serves-trimmed seen protocol e.facts.cid first.machine begun.trimmed.ordered (trimmed-within IsLawful m first begun.trimmed) begun.runs)
+    by_test false takes = ends Protocol m e k t
 
 -- ---- the other side answers
 
-shared-trimmed : (faults : Faults) (addr : Addr) (m : Machine) → IsOrdered m → counted_in m ≤ m.settings.hard → IsOther m.settings addr →
-    Trimmed (IsAllowed faults) m (shares_address addr m)
-shared-trimmed faults addr m h within other =
-    keeps-trimmed (IsAllowed faults) m (shares_address addr m) within (peer_comes-keeps false addr m h other (λ local. refl))
-    (as_move-obeys (IsAllowed faults) (shared addr) m (peer_comes false addr m) (comes-providing false addr m).moves (record { back_off = tt; cause = tt })
+shared-trimmed : (addr : Addr) (m : Machine) → IsOrdered m → counted_in m ≤ m.settings.hard → IsOther m.settings addr →
+    Trimmed IsAllowed m (shares_address addr m)
+shared-trimmed addr m h within other =
+    keeps-trimmed IsAllowed m (shares_address addr m) within (peer_comes-keeps false addr m h other (λ local. refl))
+    (as_move-obeys IsAllowed (shared addr) m (peer_comes false addr m) (comes-providing false addr m).moves (record { back_off = tt; cause = tt })
     (shared-accounts false addr m))
 
-takes-trimmed : (faults : Faults) (o : Option Share) (m : Machine) → IsOrdered m → counted_in m ≤ m.settings.hard → Trimmed (IsLawful faults) m (takes_addresses o m)
-takes-trimmed faults o m h within = trimmed_both (IsAllowed faults) Within (IsLawful faults) (allowed_within faults) m (takes_addresses o m) (by_message o) (takes-within o m)
+takes-trimmed : (o : Option Share) (m : Machine) → IsOrdered m → counted_in m ≤ m.settings.hard → Trimmed IsLawful m (takes_addresses o m)
+takes-trimmed o m h within = trimmed_both IsAllowed Within IsLawful (allowed_within) m (takes_addresses o m) (by_message o) (takes-within o m)
   where
-    by_message : (o : Option Share) → Trimmed (IsAllowed faults) m (takes_addresses o m)
-    by_message None = nothing-trimmed (IsAllowed faults) m within h
-    by_message (Some (share.Request n)) = nothing-trimmed (IsAllowed faults) m within h
+    by_message : (o : Option Share) → Trimmed IsAllowed m (takes_addresses o m)
+    by_message None = nothing-trimmed IsAllowed m within h
+    by_message (Some (share.Request n)) = nothing-trimmed IsAllowed m within h
     by_message (Some (share.Peers told)) =
-        for_each_that-trimmed (IsAllowed faults) IsOther shares_address (shared-trimmed faults) (taken_of told m) m h within
+        for_each_that-trimmed IsAllowed IsOther shares_address (shared-trimmed) (taken_of told m) m h within
         (taken-other m.settings (effective_of m.targets m.now).known m.peers told)
-    by_message (Some share.Done) = nothing-trimmed (IsAllowed faults) m within h
+    by_message (Some share.Done) = nothing-trimmed IsAllowed m within h
 
 -- what is asked of a peer is answered: it is hot
 paid-none : (owed : List Owed) → is_some (find (λ o. o.protocol == 2) (without_reply 2 owed)) ≡ false
@@ -320,11 +320,11 @@ hot-keeps m e k h s live asked =
     }
 
 -- what another answer brings
-brings-trimmed : (faults : Faults) (protocol : ℕ) (body : List ℕ) (m : Machine) → IsOrdered m → counted_in m ≤ m.settings.hard →
-    Trimmed (IsLawful faults) m (if protocol == 8 then nothing_more m else takes_addresses (share_of body) m)
-brings-trimmed faults protocol body m h within =
-    cond_both (protocol == 8) (nothing_more m) (takes_addresses (share_of body) m) (Trimmed (IsLawful faults) m)
-    (λ on_8. nothing-trimmed (IsLawful faults) m within h) (λ not_8. takes-trimmed faults (share_of body) m h within)
+brings-trimmed : (protocol : ℕ) (body : List ℕ) (m : Machine) → IsOrdered m → counted_in m ≤ m.settings.hard →
+    Trimmed IsLawful m (if protocol == 8 then nothing_more m else takes_addresses (share_of body) m)
+brings-trimmed protocol body m h within =
+    cond_both (protocol == 8) (nothing_more m) (takes_addresses (share_of body) m) (Trimmed IsLawful m)
+    (λ on_8. nothing-trimmed IsLawful m within h) (λ not_8. takes-trimmed (share_of body) m h within)
 
 paid-lower : (protocol : ℕ) (e : Entry) → IsNoHigher e (paid protocol e)
 paid-lower protocol e = record { up = λ up. up; asked = paid-some (λ o. o.protocol == 2) protocol e.owed }
@@ -368,47 +368,45 @@ paid-obeys : (Law : Move → Type 0) (protocol : ℕ) (m : Machine) (e : Entry) 
 paid-obeys Law protocol m e k h s =
     turns-obeys Law m e (paid protocol e) k h.orderly s (record { same_id = refl; same_addr = refl; live = λ l. l }) (paid-lower protocol e) (λ negotiated. negotiated) (omega arith)
 
-answered_as-trimmed : (faults : Faults) (o : Option Owed) (item : Item) (m : Machine) (e : Entry) (k : ℕ) → reply_on item.id e ≡ o → Talking m e k →
-    ((kind : FaultKind) → fault_of_answer o item.body ≡ Some kind → faults m e kind) → Trimmed (IsLawful faults) m (answered_as o item e m)
-answered_as-trimmed faults None item m e k is t given = ends faults Protocol m e k t (given Protocol refl)
-answered_as-trimmed faults (Some owed) item m e k is t given = by_test (pays owed item.body) given
+answered_as-trimmed : (o : Option Owed) (item : Item) (m : Machine) (e : Entry) (k : ℕ) → reply_on item.id e ≡ o → Talking m e k →
+    Trimmed IsLawful m (answered_as o item e m)
+answered_as-trimmed None item m e k is t = ends Protocol m e k t
+answered_as-trimmed (Some owed) item m e k is t = by_test (pays owed item.body)
   where
-    hot : item.id ≡ 2 → Trimmed (IsLawful faults) m (then_do (entry_turns e (paid item.id e) m) (peer_becomes Hot e.facts.addr))
+    hot : item.id ≡ 2 → Trimmed IsLawful m (then_do (entry_turns e (paid item.id e) m) (peer_becomes Hot e.facts.addr))
     hot id =
         let asked : is_some (reply_on 2 e) ≡ true = ap is_some (subst (λ i. reply_on i e ≡ Some owed) id is) in
         let n : Machine = with_entry (paid 2 e) m in
-        subst (λ i. Trimmed (IsLawful faults) m (then_do (entry_turns e (paid i e) m) (peer_becomes Hot e.facts.addr))) (sym id)
-        (keeps-trimmed (IsLawful faults) m (then_do (entry_turns e (paid 2 e) m) (peer_becomes Hot e.facts.addr)) t.within
+        subst (λ i. Trimmed IsLawful m (then_do (entry_turns e (paid i e) m) (peer_becomes Hot e.facts.addr))) (sym id)
+        (keeps-trimmed IsLawful m (then_do (entry_turns e (paid 2 e) m) (peer_becomes Hot e.facts.addr)) t.within
         (hot-keeps m e k t.ordered t.stands (negotiated-live e.facts.phase t.negotiated) asked)
         (record {
-          lawful = quiet-lawful (IsLawful faults) (peer_becomes Hot e.facts.addr n) (turns_at-moves (peer_at e.facts.addr n) (λ p. record p { temp = Hot }) n);
+          lawful = quiet-lawful IsLawful (peer_becomes Hot e.facts.addr n) (turns_at-moves (peer_at e.facts.addr n) (λ p. record p { temp = Hot }) n);
           accounted = hot-accounts m e k t.ordered t.stands (negotiated-live e.facts.phase t.negotiated) asked;
         }))
 
     by_protocol : (b : Bool) → (item.id == 2) ≡ b →
-        Trimmed (IsLawful faults) m (then_do (entry_turns e (paid item.id e) m)
+        Trimmed IsLawful m (then_do (entry_turns e (paid item.id e) m)
         (λ n. if b then peer_becomes Hot e.facts.addr n else if item.id == 8 then nothing_more n else takes_addresses (share_of item.body) n))
     by_protocol true on_2 = hot (eqb-true item.id 2 on_2)
     by_protocol false not_2 =
         let first : Effect = entry_turns e (paid item.id e) m in
-        let one : Trimmed (IsLawful faults) m first =
-        keeps-trimmed (IsLawful faults) m first t.within (pays-keeps item.id m e k t.ordered t.stands) (paid-obeys (IsLawful faults) item.id m e k t.ordered t.stands) in
-        trimmed_then (IsLawful faults) m first (λ n. if item.id == 8 then nothing_more n else takes_addresses (share_of item.body) n) one
-        (brings-trimmed faults item.id item.body first.machine one.ordered (trimmed-within (IsLawful faults) m first one))
+        let one : Trimmed IsLawful m first =
+        keeps-trimmed IsLawful m first t.within (pays-keeps item.id m e k t.ordered t.stands) (paid-obeys IsLawful item.id m e k t.ordered t.stands) in
+        trimmed_then IsLawful m first (λ n. if item.id == 8 then nothing_more n else takes_addresses (share_of item.body) n) one
+        (brings-trimmed item.id item.body first.machine one.ordered (trimmed-within IsLawful m first one))
 
-    by_test : (b : Bool) → ((kind : FaultKind) → (if b then None else Some Protocol) ≡ Some kind → faults m e kind) →
-        Trimmed (IsLawful faults) m (if b then then_do (entry_turns e (paid item.id e) m) (brings item.id item.body e) else ending (Fault Protocol) e m)
-    by_test true given = by_protocol (item.id == 2) refl
-    by_test false given = ends faults Protocol m e k t (given Protocol refl)
+    by_test : (b : Bool) →
+        Trimmed IsLawful m (if b then then_do (entry_turns e (paid item.id e) m) (brings item.id item.body e) else ending (Fault Protocol) e m)
+    by_test true = by_protocol (item.id == 2) refl
+    by_test false = ends Protocol m e k t
 
 -- an item comes in
-pub talks-trimmed : (faults : Faults) (item : Item) (m : Machine) (e : Entry) (k : ℕ) → Talking m e k →
-    ((kind : FaultKind) → fault_of item e ≡ Some kind → faults m e kind) → Trimmed (IsLawful faults) m (talks item e m)
-talks-trimmed faults item m e k t given =
+pub talks-trimmed : (item : Item) (m : Machine) (e : Entry) (k : ℕ) → Talking m e k →
+    Trimmed IsLawful m (talks item e m)
+talks-trimmed item m e k t =
     let sharing : Bool = agreed_sharing e.facts.agreed in
-    let choose : Bool → Option FaultKind =
-    λ b. if b then fault_of_request (watched item.id sharing item.body) e else fault_of_answer (reply_on item.id e) item.body in
     cond_both (item.side == 0) (asked_as (watched item.id sharing item.body) item.id e m) (answered_as (reply_on item.id e) item e m)
-    (Trimmed (IsLawful faults) m)
-    (λ asks. asked_as-trimmed faults (watched item.id sharing item.body) item.body sharing item.id m e k refl t (λ kind is. given kind (ap choose asks ∙ is)))
-    (λ answers. answered_as-trimmed faults (reply_on item.id e) item m e k refl t (λ kind is. given kind (ap choose answers ∙ is)))
+    (Trimmed IsLawful m)
+    (λ asks. asked_as-trimmed (watched item.id sharing item.body) item.body sharing item.id m e k refl t)
+    (λ answers. answered_as-trimmed (reply_on item.id e) item m e k refl t)

@@ -21,8 +21,9 @@ use Rattle.machine.specs.Machine.{Machine, Entry, counted_in, entry_at}
 use Rattle.machine.specs.Effect.{Effect, Happened, Move, nothing_more, then_do, as_move, for_each, on_entry}
 use Rattle.machine.specs.Peers.{turns_at, peer_at, peer_fails}
 use Rattle.machine.specs.Connections.{without_entry, is_missed, lost, ending, candidate_of, candidates_in, trim}
-use Rattle.laws.specs.AtMoves.{Faults, MayEnd, IsLawful}
+use Rattle.laws.specs.AtMoves.{IsCrowded, IsLawful}
 use Rattle.laws.specs.Laws.{LocalsAreOrdinary}
+use Rattle.laws.specs.Stages.{IsLateCause}
 use Rattle.laws.specs.Told.{ended_by, promoted_by_dial}
 use Rattle.laws.specs.Whole.{IsTied}
 use Rattle.laws.proofs.Counts.{counted_of, counted_in-sum, late_in}
@@ -159,10 +160,10 @@ pub keeps-trimmed : (Law : Move → Type 0) (m : Machine) (effect : Effect) → 
 keeps-trimmed Law m effect within h obeys = tied-trimmed Law m effect within h (λ ties. obeys.lawful) obeys.accounted
 
 -- a connection is ended
-pub ending-trimmed : (faults : Faults) (cause : CloseCause) → IsLost cause → (m : Machine) (e : Entry) (k : ℕ) → IsOrdered m → counted_in m ≤ m.settings.hard →
-    StandsAt m.connections k e → is_live e.facts ≡ true → (is_negotiated e.facts ≡ true → MayEnd faults cause e m) → Trimmed (IsLawful faults) m (ending cause e m)
-ending-trimmed faults cause loses m e k h within s live may =
-    keeps-trimmed (IsLawful faults) m (ending cause e m) within (ending-keeps cause loses m e k h s) (ending-obeys faults cause m e k h.orderly s live may)
+pub ending-trimmed : (cause : CloseCause) → IsLost cause → (m : Machine) (e : Entry) (k : ℕ) → IsOrdered m → counted_in m ≤ m.settings.hard →
+    StandsAt m.connections k e → is_live e.facts ≡ true → (is_negotiated e.facts ≡ true → IsLateCause cause) → IsCrowded cause m → Trimmed IsLawful m (ending cause e m)
+ending-trimmed cause loses m e k h within s live may crowded =
+    keeps-trimmed IsLawful m (ending cause e m) within (ending-keeps cause loses m e k h s) (ending-obeys cause m e k h.orderly s live may crowded)
 
 pub nothing-trimmed : (Law : Move → Type 0) (m : Machine) → counted_in m ≤ m.settings.hard → IsOrdered m → Trimmed Law m (nothing_more m)
 nothing-trimmed Law m within h = keeps-trimmed Law m (nothing_more m) within (keeps_nothing m h) (obeys_nothing Law m)
@@ -184,12 +185,12 @@ counted-live f h = by_phase f.phase refl
     by_phase Negotiated is = ap live_phase is
     by_phase (Closing until) is = absurd (both_ways (is_counted f) (uncounted (ap is_greeting_phase is) (ap is_negotiated_phase is)) h)
 
-pruned-trims : (faults : Faults) (m : Machine) (e : Entry) (k : ℕ) → IsOrdered m → StandsAt m.connections k e → is_counted e.facts ≡ true →
-    counted_in m ≡ m.settings.hard + 1 → Trimmed (IsLawful faults) m (ending Pruned e m)
-pruned-trims faults m e k h s counted most =
+pruned-trims : (m : Machine) (e : Entry) (k : ℕ) → IsOrdered m → StandsAt m.connections k e → is_counted e.facts ≡ true →
+    counted_in m ≡ m.settings.hard + 1 → Trimmed IsLawful m (ending Pruned e m)
+pruned-trims m e k h s counted most =
     let keeps : Keeps 0 m (ending Pruned e m).machine = ending-keeps Pruned refl m e k h s in
-    let obeys : Obeys (IsLawful faults) m (ending Pruned e m) =
-    ending-obeys faults Pruned m e k h.orderly s (counted-live e.facts counted) (λ negotiated. most) in
+    let obeys : Obeys IsLawful m (ending Pruned e m) =
+    ending-obeys Pruned m e k h.orderly s (counted-live e.facts counted) (λ negotiated. tt) most in
     let drops = pruned-drops m e k h s in
     let one : counted_of e ≡ 1 = one_if-counted e.facts counted in
     record {
@@ -218,23 +219,23 @@ found_by_id m e k cid h s same =
     find_only (λ x. has_id cid.0 x.facts) e m.connections k (one_has_id cid.0 m.connections h.orderly.ids_rise) s
     (eq-eqb e.facts.cid.0 cid.0 (ap (λ c. c.0) same))
 
-pub trim-trims : (faults : Faults) (moved : Cid) (m : Machine) → IsOrdered m → counted_in m ≤ m.settings.hard + 1 →
-    (m.settings.hard < counted_in m → HasMoved moved m) → Trimmed (IsLawful faults) m (trim moved m)
-trim-trims faults moved m h most over = cond_both (nat_le (counted_in m) m.settings.hard) (nothing_more m)
-    (on_entry (entry_at (unwrap_or (choice_of (candidates_in m)) moved).0 m) (ending Pruned) m) (λ effect. Trimmed (IsLawful faults) m effect)
-    (λ within. nothing-trimmed (IsLawful faults) m (leb-true (counted_in m) m.settings.hard within) h)
+pub trim-trims : (moved : Cid) (m : Machine) → IsOrdered m → counted_in m ≤ m.settings.hard + 1 →
+    (m.settings.hard < counted_in m → HasMoved moved m) → Trimmed IsLawful m (trim moved m)
+trim-trims moved m h most over = cond_both (nat_le (counted_in m) m.settings.hard) (nothing_more m)
+    (on_entry (entry_at (unwrap_or (choice_of (candidates_in m)) moved).0 m) (ending Pruned) m) (λ effect. Trimmed IsLawful m effect)
+    (λ within. nothing-trimmed IsLawful m (leb-true (counted_in m) m.settings.hard within) h)
     (λ above. let more : m.settings.hard < counted_in m = leb-false (counted_in m) m.settings.hard above in
     by_choice (omega (arith, most, more)) (first_to_go (candidates_in m)) refl (over more))
   where
     by_choice : counted_in m ≡ m.settings.hard + 1 → (o : Option Candidate) → first_to_go (candidates_in m) ≡ o → HasMoved moved m →
-        Trimmed (IsLawful faults) m (on_entry (entry_at (unwrap_or (option_map (λ c. c.cid) (first_to_go (candidates_in m))) moved).0 m) (ending Pruned) m)
+        Trimmed IsLawful m (on_entry (entry_at (unwrap_or (option_map (λ c. c.cid) (first_to_go (candidates_in m))) moved).0 m) (ending Pruned) m)
     by_choice one_more None none own =
         rw (none, found_by_id m own.entry own.place moved h own.stands own.same)
-        (pruned-trims faults m own.entry own.place h own.stands own.counted one_more)
+        (pruned-trims m own.entry own.place h own.stands own.counted one_more)
     by_choice one_more (Some c) some own =
         let goes : Goes m.connections c = goes_among m.connections c some in
         rw (some, found_by_id m goes.entry goes.place c.cid h goes.stands goes.same)
-        (pruned-trims faults m goes.entry goes.place h goes.stands goes.counted one_more)
+        (pruned-trims m goes.entry goes.place h goes.stands goes.counted one_more)
 
 -- ---- who is in local use stays
 
@@ -350,6 +351,16 @@ for_each_that-trimmed Law P act each (x ∷ xs) m h within all =
     trimmed_then Law m (act x m) (for_each act xs) first
     (for_each_that-trimmed Law P act each xs (act x m).machine first.ordered (trimmed-within Law m (act x m) first)
     (subst (λ s. All (P s) xs) (sym first.settings) (All-tail (P m.settings) x xs all)))
+
+pub for_each-trimmed : {X : Type 0} (Law : Move → Type 0) (act : X → Machine → Effect) →
+    ((x : X) (m : Machine) → IsOrdered m → counted_in m ≤ m.settings.hard → Trimmed Law m (act x m)) →
+    (xs : List X) (m : Machine) → IsOrdered m → counted_in m ≤ m.settings.hard → Trimmed Law m (for_each act xs m)
+unfolding for_each
+for_each-trimmed Law act each [] m h within = nothing-trimmed Law m within h
+for_each-trimmed Law act each (x ∷ xs) m h within =
+    let first : Trimmed Law m (act x m) = each x m h within in
+    trimmed_then Law m (act x m) (for_each act xs) first
+    (for_each-trimmed Law act each xs (act x m).machine first.ordered (trimmed-within Law m (act x m) first))
 
 -- every move keeps another law that the first one and a second one give
 pub trimmed_both : (P Q R : Move → Type 0) → ((move : Move) → P move → Q move → R move) → (m : Machine) (effect : Effect) → Trimmed P m effect →

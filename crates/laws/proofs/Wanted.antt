@@ -39,7 +39,7 @@ use Rattle.laws.proofs.Chosen.{chosen, chosen-apart, chosen-all, PicksMembers, p
 use Rattle.laws.proofs.GroupsApart.{unlisted_append}
 use Rattle.laws.proofs.Keeping.{IsOrdered}
 use Rattle.laws.proofs.KnownWanted.{move-within}
-use Rattle.laws.proofs.Lawful.{IsAllowed, Within, no_faults}
+use Rattle.laws.proofs.Lawful.{IsAllowed, Within}
 use Rattle.laws.proofs.Lists.{all-weaker, all-appended, all-both}
 use Rattle.laws.proofs.Orders.{Carries, still_may, MayActivate, activate-carried}
 use Rattle.laws.proofs.PeersApart.{all-found}
@@ -53,7 +53,7 @@ use Rattle.laws.proofs.WholeMoves.{IsWarm}
 
 -- a promotion, or an activation: it changes one address, and is within what is wanted where its move is
 record Uses (status : Status) (wanted : Bool → Machine → ℕ) (valency : Group → ℕ) (May : Machine → Addr → Type 0) (order : Addr → Order) : Type 0 where
-  carried : Carries (IsAllowed no_faults) May order
+  carried : Carries IsAllowed May order
   changes : (addr : Addr) (m : Machine) → IsOrdered m → ChangesAt addr m (carries_out (order addr) m).machine
   within : (addr : Addr) (m : Machine) → IsWanted status wanted valency addr m (carries_out (order addr) m).machine →
       AllByRecursion Within (carries_out (order addr) m).moves
@@ -89,7 +89,7 @@ on_used-moves addr m = by_entry (find (is_used_at addr) m.connections)
 
 promotes-use : Uses EstablishedOrPending established_wanted (λ group. group.warm) MayPromote Promote
 promotes-use = record {
-  carried = promotes-carried no_faults;
+  carried = promotes-carried;
   changes = promote-changes;
   within = λ addr m wanted.
       move-within (promoted addr) m (promoted_at (live_entry_at addr m) addr m) (promoted_at-moves (live_entry_at addr m) addr m) wanted;
@@ -98,7 +98,7 @@ promotes-use = record {
 
 activates-use : Uses HotOrOwesOn2 active_wanted (λ group. group.hot) MayActivate Activate
 activates-use = record {
-  carried = activate-carried no_faults;
+  carried = activate-carried;
   changes = activate-changes;
   within = λ addr m wanted. move-within (activated addr) m (on_used addr activates m) (on_used-moves addr m) wanted;
   stays = active-stays;
@@ -210,7 +210,7 @@ module _ {status : Status} {wanted : Bool → Machine → ℕ} {valency : Group 
       let first = uses.carried a m h within may.0 in
       let step = lets a addrs m n h (uses.changes a m h) left in
       all-appended Within (carries_out (order a) m).moves (for_each carries_out (map order addrs) n).moves (uses.within a m step.0)
-      (orders-within Left lets addrs n first.trimmed.ordered (trimmed-within (IsAllowed no_faults) m effect first.trimmed) apart.1
+      (orders-within Left lets addrs n first.trimmed.ordered (trimmed-within IsAllowed m effect first.trimmed) apart.1
       (still_may May m n a addrs first.elsewhere apart.0 may.1) step.1)
 
   -- ---- by the targets of a class

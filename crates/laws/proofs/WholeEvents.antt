@@ -33,7 +33,7 @@ use Rattle.machine.specs.Govern.{govern}
 use Rattle.machine.specs.Provided.{targets_are, big_targets_are, comes_ordinary, locals_are, is_wanted_big, comes_big, bigs_are, roots_say, roots_answer}
 use Rattle.machine.specs.Stream.{bytes_come_in}
 use Rattle.machine.specs.Whole.{whole_step}
-use Rattle.laws.specs.AtMoves.{IsLawful, faults_of}
+use Rattle.laws.specs.AtMoves.{IsLawful}
 use Rattle.laws.specs.Whole.{IsShaped, IsFormed, IsSteady, TiedBy, IsTied, AreApart, IsOwing}
 use Rattle.govern_rules.specs.Rules.{is_not_local}
 use Rattle.laws.specs.Laws.{LocalsAreOrdinary}
@@ -47,7 +47,6 @@ use Rattle.laws.proofs.Counts.{counted_of, late_in, counted-expired, counted-clo
 use Rattle.laws.proofs.Effects.{one_if-not_counted}
 use Rattle.laws.proofs.Events.{StaysSound, admitted_entry, at_moment, at_moment-orderly, ahead-none_late, none_late-ahead, peer_connects-sound, clock_shows-sound}
 use Rattle.laws.proofs.Keeping.{IsOrdered, Keeps, keeps_nothing, keeps_then, moves-keeps, turns-moves, goes-moves, elsewhere-keeps, changes-keeps, peer_comes-keeps, for_each-keeps, for_each_that-keeps}
-use Rattle.laws.proofs.Lawful.{no_faults}
 use Rattle.laws.proofs.Lists.{StandsAt, find_some}
 use Rattle.laws.proofs.Ordinary.{members-classes, connects-classes}
 use Rattle.laws.proofs.Owing.{nothing-owing, alike-owing}
@@ -394,11 +393,11 @@ stays-steady m n sound formed tied locals = record { steady = record { sound = s
 pub whole_step-steady : (m : Machine) (event : Event) → IsSteady m → StaysSteady m (whole_step m event).machine
 whole_step-steady m (Now t) h = stays-steady m (clock_shows t m).machine (clock_shows-sound t m h.sound) (clock-formed t m (ordered_of m h)) (clock-ties t m (ordered_of m h) h.tied)
     (clock-classes t m (ordered_of m h) h.locals)
-whole_step-steady m (Govern word) h = trimmed-steady (IsLawful no_faults) m (govern word m) h (govern-trimmed no_faults word m (ordered_of m h) h.sound.counted)
+whole_step-steady m (Govern word) h = trimmed-steady IsLawful m (govern word m) h (govern-trimmed word m (ordered_of m h) h.sound.counted)
 whole_step-steady m (Accepted addr) h = stays-steady m (peer_connects addr m).machine (peer_connects-sound addr m h.sound) (connects-formed addr m (ordered_of m h)) (connects-ties addr m (ordered_of m h) h.tied)
     (connects-classes addr m h.locals)
 whole_step-steady m (Dialed cid opened) h = kept-steady m (dial_ends cid opened m).machine h (dial_ends-keeps cid opened m (ordered_of m h))
-whole_step-steady m (Bytes cid bytes) h = trimmed-steady (IsLawful (faults_of m (Bytes cid bytes))) m (bytes_come_in cid bytes m) h (bytes_come_in-trimmed cid bytes m (ordered_of m h) h.sound.counted)
+whole_step-steady m (Bytes cid bytes) h = trimmed-steady IsLawful m (bytes_come_in cid bytes m) h (bytes_come_in-trimmed cid bytes m (ordered_of m h) h.sound.counted)
 whole_step-steady m (Closed cid) h = kept-steady m (peer_closes cid m).machine h (closes-keeps cid m (ordered_of m h))
 whole_step-steady m (Aims targets) h = kept-steady m (targets_are targets m).machine h (elsewhere-keeps targets m.big_targets m.roots m (ordered_of m h) h.formed.pending_job)
 whole_step-steady m (Locals groups) h = kept-steady m (locals_are groups m).machine h (locals-keeps groups m (ordered_of m h))

@@ -40,6 +40,7 @@ use Rattle.machine.specs.Replies.{reply_on}
 use Rattle.machine.specs.Stream.{kind_of}
 use Rattle.machine.specs.Talking.{takes_requests, pays}
 use Rattle.machine.specs.Whole.{whole_step}
+use Rattle.laws.specs.Stages.{IsLateCause}
 use Rattle.laws.specs.Laws.{is_used_connection, is_pending_connection}
 
 -- ---- back-off
@@ -107,19 +108,14 @@ WithinTargets (gone cid) before after = Unit {0}
 
 -- ---- why a connection ends
 
--- which faults there are, in a machine and on a connection
-abbrev pub Faults : Type 1
-Faults = Machine → Entry → FaultKind → Type 0
-
--- For these causes this node ends a connection whose handshake is done: more than the hard limit are counted, or there
--- is a fault.
-abbrev pub MayEnd : Faults → CloseCause → Entry → Machine → Type 0
-MayEnd faults Unused e m = ⊥
-MayEnd faults Pruned e m = counted_in m ≡ m.settings.hard + 1
-MayEnd faults Overwritten e m = ⊥
-MayEnd faults Refused e m = ⊥
-MayEnd faults Query e m = ⊥
-MayEnd faults (Fault kind) e m = faults m e kind
+-- whoever is pruned is so because one more than the hard limit are counted
+abbrev pub IsCrowded : CloseCause → Machine → Type 0
+IsCrowded Unused m = Unit {0}
+IsCrowded Pruned m = counted_in m ≡ m.settings.hard + 1
+IsCrowded Overwritten m = Unit {0}
+IsCrowded Refused m = Unit {0}
+IsCrowded Query m = Unit {0}
+IsCrowded (Fault kind) m = Unit {0}
 
 abbrev pub IsPast : ℕ → Grace → Type 0
 IsPast now Off = ⊥
@@ -137,22 +133,15 @@ OnEntry None law = ⊥
 OnEntry (Some e) law = law e
 
 -- No connection whose handshake is done ends but unused past its grace, pruned, or for a fault.
-abbrev pub ForCause : Faults → Happened → Machine → Type 0
-ForCause faults (promoted addr) before = Unit {0}
-ForCause faults (activated addr) before = Unit {0}
-ForCause faults (shared addr) before = Unit {0}
-ForCause faults (ended cid cause) before = OnEntry (entry_at cid before) (λ e. is_negotiated e.facts ≡ true → MayEnd faults cause e before)
-ForCause faults (unused cid) before = OnEntry (entry_at cid before) (λ e. IsOver before.now e.facts)
-ForCause faults (gone cid) before = OnEntry (entry_at cid before) (λ e. is_negotiated e.facts ≡ false)
+abbrev pub ForCause : Happened → Machine → Type 0
+ForCause (promoted addr) before = Unit {0}
+ForCause (activated addr) before = Unit {0}
+ForCause (shared addr) before = Unit {0}
+ForCause (ended cid cause) before = OnEntry (entry_at cid before) (λ e. (is_negotiated e.facts ≡ true → IsLateCause cause) × IsCrowded cause before)
+ForCause (unused cid) before = OnEntry (entry_at cid before) (λ e. IsOver before.now e.facts)
+ForCause (gone cid) before = OnEntry (entry_at cid before) (λ e. is_negotiated e.facts ≡ false)
 
--- ---- which faults there are in an event
-
--- a reply is owed, and its time is over
-pub record IsLate (now : ℕ) (e : Entry) (kind : FaultKind) : Type 0 where
-  pub waited : kind ≡ ReplyWait
-  pub owed : Owed
-  pub among : Contains e.owed owed
-  pub late : owed.until ≤ now
+-- ---- which items are faults
 
 -- the fault that an item is on a connection whose handshake is done, if it is one
 abbrev pub fault_of_request : Result Seen FaultKind → Entry → Option FaultKind
@@ -168,46 +157,16 @@ fault_of item e =
     if item.side == 0 then fault_of_request (watched item.id (agreed_sharing e.facts.agreed) item.body) e
     else fault_of_answer (reply_on item.id e) item.body
 
--- one of the items is it
-pub record IsByItem (items : List Item) (e : Entry) (kind : FaultKind) : Type 0 where
-  pub item : Item
-  pub among : Contains items item
-  pub fault : fault_of item e ≡ Some kind
-
--- the bytes make no whole items
-abbrev pub IsByStream : Option CutFault → FaultKind → Type 0
-IsByStream None kind = ⊥
-IsByStream (Some fault) kind = kind_of fault ≡ kind
-
 -- what came in, after what was not decoded yet
 abbrev pub fed_on : Entry → List ℕ → FedBy
 fed_on e bytes = fed_by node_limits (record { undecoded = e.undecoded; fault = None }) bytes
 
-abbrev pub IsByBytes : Option Entry → Cid → List ℕ → Entry → FaultKind → Type 0
-IsByBytes None cid bytes e kind = ⊥
-IsByBytes (Some first) cid bytes e kind =
-    e.facts.cid ≡ cid × (IsByItem (fed_on first bytes).items e kind ⊎ IsByStream (fed_on first bytes).state.fault kind)
-
--- Only the clock and bytes bring faults: a reply that is late, an item that breaks the rules, or bytes that are none.
-abbrev pub faults_of : Machine → Event → Faults
-faults_of start (Now t) m e kind = IsLate m.now e kind
-faults_of start (Govern word) m e kind = ⊥
-faults_of start (Accepted addr) m e kind = ⊥
-faults_of start (Dialed cid opened) m e kind = ⊥
-faults_of start (Bytes cid bytes) m e kind = IsByBytes (entry_at cid.0 start) cid bytes e kind
-faults_of start (Closed cid) m e kind = ⊥
-faults_of start (Aims targets) m e kind = ⊥
-faults_of start (Locals groups) m e kind = ⊥
-faults_of start (Roots job answer) m e kind = ⊥
-faults_of start (BigAims targets) m e kind = ⊥
-faults_of start (Bigs addrs) m e kind = ⊥
-
 -- ---- each move, and each event
 
-pub record IsLawful (faults : Faults) (move : Move) : Type 0 where
+pub record IsLawful (move : Move) : Type 0 where
   pub back_off : OutOfBackOff move.happened move.before
   pub targets : WithinTargets move.happened move.before move.after
-  pub cause : ForCause faults move.happened move.before
+  pub cause : ForCause move.happened move.before
 
 abbrev pub is_negotiated_entry : Option Entry → Bool
 is_negotiated_entry None = false
@@ -244,7 +203,7 @@ is_closed_by cid (Bigs addrs) = false
 
 -- Each move of an event is lawful.
 abbrev pub MovesAreLawful : Machine → Event → Type 0
-MovesAreLawful m event = All (IsLawful (faults_of m event)) (whole_step m event).moves
+MovesAreLawful m event = All IsLawful (whole_step m event).moves
 
 -- ---- who comes up
 
