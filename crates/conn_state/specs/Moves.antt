@@ -8,7 +8,7 @@ use Rattle.net_base.specs.declared.connection.Phase.{Phase}
 use Rattle.net_base.specs.declared.connection.Phase.TheVariants.{Dialing, Greeting, Negotiated, Closing}
 use Rattle.net_base.specs.declared.connection.Provenance.{Provenance}
 use Rattle.net_base.specs.declared.connection.Provenance.TheVariants.{FromRemote, FromLocal}
-use Rattle.conn_state.specs.Use.{is_outbound, none_running, some_runs, with_responder, is_for_remote}
+use Rattle.conn_state.specs.Use.{none_running, some_runs, with_responder, is_for_remote}
 
 -- a connection before its handshake: nothing is agreed, and nobody uses it
 abbrev pub unused_in : Provenance → Phase → ℕ → Addr → Facts
@@ -52,10 +52,6 @@ agreed_outbound agreed until f = record f {
   grace = if agreed.initiator_only then Off else ForRemote until;
 }
 
--- the handshake is over
-abbrev pub negotiated : Agreed → ℕ → Facts → Facts
-negotiated agreed until f = if is_outbound f then agreed_outbound agreed until f else agreed_inbound agreed until f
-
 -- the grace stays
 abbrev pub acquired : Facts → Facts
 acquired f = record f { local = true }
@@ -96,7 +92,3 @@ closing until f = record f {
   running = none_running;
   grace = Off;
 }
-
--- A grace is over: in local use the connection goes on, and in no use this side closes it.
-abbrev pub grace_ended : ℕ → Facts → Facts
-grace_ended until f = if f.local then expired f else closing until f

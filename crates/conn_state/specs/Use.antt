@@ -1,5 +1,6 @@
 -- Who uses a connection, and whether it stands open.
 use Rattle.std.specs.Prelude.{ℕ, Bool, true, false, ◌&&◌, ◌||◌, ◌==◌, not, if◌then◌else◌, Option, Some, None, List, find}
+use Rattle.conn_state.specs.Protocols.{chain_sync, block_fetch, tx_submission, keep_alive, peer_sharing}
 use Rattle.net_base.specs.Address.{same_address}
 use Rattle.net_base.specs.declared.address.Addr.{Addr}
 use Rattle.net_base.specs.declared.connection.Agreed.{Agreed}
@@ -48,21 +49,21 @@ none_running = record {
 -- whether the responder of a protocol runs
 abbrev pub runs : ℕ → Responders → Bool
 runs protocol r =
-    if protocol == 2 then r.chain_sync
-    else if protocol == 3 then r.block_fetch
-    else if protocol == 4 then r.tx_submission
-    else if protocol == 8 then r.keep_alive
-    else if protocol == 10 then r.peer_sharing
+    if protocol == chain_sync then r.chain_sync
+    else if protocol == block_fetch then r.block_fetch
+    else if protocol == tx_submission then r.tx_submission
+    else if protocol == keep_alive then r.keep_alive
+    else if protocol == peer_sharing then r.peer_sharing
     else false
 
 -- the responders after that of a protocol has started or stopped
 abbrev pub with_responder : ℕ → Bool → Responders → Responders
 with_responder protocol runs_now r =
-    if protocol == 2 then record r { chain_sync = runs_now }
-    else if protocol == 3 then record r { block_fetch = runs_now }
-    else if protocol == 4 then record r { tx_submission = runs_now }
-    else if protocol == 8 then record r { keep_alive = runs_now }
-    else if protocol == 10 then record r { peer_sharing = runs_now }
+    if protocol == chain_sync then record r { chain_sync = runs_now }
+    else if protocol == block_fetch then record r { block_fetch = runs_now }
+    else if protocol == tx_submission then record r { tx_submission = runs_now }
+    else if protocol == keep_alive then record r { keep_alive = runs_now }
+    else if protocol == peer_sharing then record r { peer_sharing = runs_now }
     else r
 
 -- a connection is live until this side closes it

@@ -1,7 +1,8 @@
 -- When a connection may make a move.
 use Rattle.std.specs.Prelude.{ℕ, ◌≡◌, true, false}
 use Rattle.net_base.specs.declared.connection.Facts.{Facts}
-use Rattle.conn_state.specs.Moves.{connected, negotiated, acquired, released, awakened, idled, grace_ended}
+use Rattle.conn_state.specs.Moves.{connected, acquired, released, awakened, idled}
+use Rattle.conn_table.specs.Choices.{negotiated, grace_ended}
 use Rattle.conn_state.specs.Protocols.{has_responder}
 use Rattle.conn_state.specs.Shapes.{serves_remote}
 use Rattle.conn_state.specs.Use.{is_dialing, is_greeting, is_negotiated, is_acquirable, runs}

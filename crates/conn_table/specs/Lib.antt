@@ -1,4 +1,5 @@
 pub mod Answers
+pub mod Choices
 pub mod Conditions
 pub mod Finds
 pub mod Index

@@ -1,5 +1,6 @@
 ghost use Rattle.std.specs.Prelude.{◌≡◌, ℕ, true};
-ghost use Rattle.conn_state.specs.Moves.{connected, negotiated, agreed_outbound, acquired, released, awakened, idled, grace_ended};
+ghost use Rattle.conn_state.specs.Moves.{connected, agreed_outbound, acquired, released, awakened, idled};
+ghost use Rattle.conn_table.specs.Choices.{negotiated, grace_ended};
 ghost use Rattle.conn_state.specs.Protocols.{has_responder};
 ghost use Rattle.conn_state.specs.State.{facts_of, as_released, as_after_inbound, as_after_duplex};
 ghost use Rattle.conn_state.specs.Use.{is_dialing, is_greeting, is_outbound, is_acquirable, runs};

@@ -1,7 +1,8 @@
 ghost use Rattle.std.specs.Prelude.{◌≡◌, ◌+◌, ◌<◌, ◌≤◌, ◌^◌, Some, None, length, slice_get, IsSomeAnd, IfSome, IfOk, OnOk, OnErr, false, true, if◌then◌else◌};
 ghost use Rattle.std.specs.Option.{option_map};
 ghost use Rattle.conn_state.specs.Counted.{counted};
-ghost use Rattle.conn_state.specs.Moves.{connected, negotiated, released, awakened, idled, grace_ended};
+ghost use Rattle.conn_state.specs.Moves.{connected, released, awakened, idled};
+ghost use Rattle.conn_table.specs.Choices.{negotiated, grace_ended};
 ghost use Rattle.conn_state.specs.Protocols.{has_responder};
 ghost use Rattle.conn_state.specs.Use.{facts_at, live_at, is_dialing, is_greeting, runs};
 ghost use Rattle.conn_table.specs.Answers.{any_at, any_acquirable, acquire_of, after_acquire, is_leased, may_acquire, lease_of, is_due, grace_end_of};

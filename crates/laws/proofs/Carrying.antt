@@ -28,11 +28,11 @@ use Rattle.govern_rules.specs.declared.order.Order.TheVariants.{Ask, Forget, Pro
 use Rattle.peer_book.specs.Book.{peer_at as peer_in, without_peer, same_temp}
 use Rattle.peer_book.proofs.Edits.{filter-within}
 use Rattle.machine.specs.Machine.{Machine, Entry, fresh_entry, counted_in, live_entry_at, entry_at}
-use Rattle.machine.specs.Effect.{Effect, Move, nothing_more, tells, for_each}
+use Rattle.machine.specs.Effect.{Effect, Move, nothing_more, tells, for_each, on_entry}
 use Rattle.machine.specs.Peers.{peer_at, turns_at, peer_fails}
 use Rattle.machine.specs.Replies.{owing}
-use Rattle.machine.specs.Connections.{with_entry, without_entry, is_missed, lost, candidates_in, pruned_at, trim, says_done, release, acquire, dial}
-use Rattle.machine.specs.Govern.{link_of, on_entry, is_used_at, on_used, asks_peer, activates, deactivates, promoted_at, carries_out, asks_roots, govern, ordinary_rules, big_rules, rules, view_of}
+use Rattle.machine.specs.Connections.{with_entry, without_entry, is_missed, lost, candidates_in, trim, says_done, release, acquire, dial, ending}
+use Rattle.machine.specs.Govern.{link_of, is_used_at, on_used, asks_peer, activates, deactivates, promoted_at, carries_out, asks_roots, govern, ordinary_rules, big_rules, rules, view_of}
 use Rattle.laws.specs.AtMoves.{IsLawful}
 use Rattle.laws.specs.Carrying.{MayGovern, IsFree, MayCarry, MayAll, MayFollow}
 use Rattle.laws.specs.Whole.{AreApart}
@@ -49,6 +49,7 @@ use Rattle.laws.proofs.PeersApart.{same_turned}
 use Rattle.laws.proofs.Promotions.{MayBy, MayPromote, promotes-carried, eligible-may, TakesAt, acquirable-live, dial-elsewhere, acquire-elsewhere}
 use Rattle.laws.proofs.Ties.{taken-elsewhere, find-push_other}
 use Rattle.laws.proofs.Trims.{Trimmed, trimmed-within}
+use Rattle.net_base.specs.declared.action.CloseCause.TheVariants.{Pruned}
 
 -- ---- ids
 
@@ -71,10 +72,10 @@ lost-ids f m = cond_both (is_missed f) (peer_fails f.addr m) (nothing_more m) (�
 
 trim-ids : (moved : Cid) (m : Machine) → (trim moved m).machine.next_id ≡ m.next_id
 trim-ids moved m = cond_both (nat_le (counted_in m) m.settings.hard) (nothing_more m)
-    (pruned_at (entry_at (unwrap_or (choice_of (candidates_in m)) moved).0 m) m) (λ effect. effect.machine.next_id ≡ m.next_id)
+    (on_entry (entry_at (unwrap_or (choice_of (candidates_in m)) moved).0 m) (ending Pruned) m) (λ effect. effect.machine.next_id ≡ m.next_id)
     (λ within. refl) (λ above. by_entry (entry_at (unwrap_or (choice_of (candidates_in m)) moved).0 m))
   where
-    by_entry : (o : Option Entry) → (pruned_at o m).machine.next_id ≡ m.next_id
+    by_entry : (o : Option Entry) → (on_entry o (ending Pruned) m).machine.next_id ≡ m.next_id
     by_entry None = refl
     by_entry (Some e) = lost-ids e.facts (without_entry e.facts.cid.0 m)
 

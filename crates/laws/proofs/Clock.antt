@@ -16,9 +16,9 @@ use Rattle.net_base.specs.declared.timer.Kind.TheVariants.{Handshake, Grace as G
 use Rattle.conn_state.specs.Moves.{expired}
 use Rattle.conn_state.specs.Use.{is_live, live_phase, is_negotiated, is_negotiated_phase, is_outbound, some_runs}
 use Rattle.machine.specs.Machine.{Machine, Entry, Owed}
-use Rattle.machine.specs.Effect.{Effect, unused, left, tells, then_do, as_move}
+use Rattle.machine.specs.Effect.{Effect, unused, gone, tells, then_do, as_move, on_entry}
 use Rattle.machine.specs.Connections.{entry_turns, entry_goes, closing_entry, grace_over, wait_over}
-use Rattle.machine.specs.Deadlines.{deadline, deadlines_of, phase_deadlines, grace_deadlines, reply_deadline, due, fires_as, fires_on, fires, fires_some, fire_due}
+use Rattle.machine.specs.Deadlines.{deadline, deadlines_of, phase_deadlines, grace_deadlines, reply_deadline, due, fires_as, fires, fires_some, fire_due}
 use Rattle.laws.specs.AtMoves.{Faults, IsPast, IsOver, IsLate, IsLawful}
 use Rattle.laws.specs.Whole.{IsShaped}
 use Rattle.laws.proofs.Counts.{is_late}
@@ -115,7 +115,7 @@ wait_over-obeys : (faults : Faults) (m : Machine) (e : Entry) (k : ℕ) → IsOr
     Obeys (IsLawful faults) m (wait_over e m)
 wait_over-obeys faults m e k h s dead =
     let closed : is_negotiated e.facts ≡ false = live-negotiated e.facts dead in
-    as_move-obeys (IsLawful faults) (left e.facts.cid.0) m (entry_goes e m) refl
+    as_move-obeys (IsLawful faults) (gone e.facts.cid.0) m (entry_goes e m) refl
     (record { back_off = tt; targets = tt; cause = on_stands (λ x. is_negotiated x.facts ≡ false) m e k h.orderly s closed })
     (accounts_gone m e k (wait_over e m) h.orderly s refl (λ addr hot. hot) (λ addr known. known) (λ negotiated. absurd (both_ways (is_negotiated e.facts) closed negotiated)))
 
@@ -140,7 +140,7 @@ fires-obeys : (faults : Faults) → GivesLate faults → (d : Deadline) (m : Mac
 unfolding MeansLate
 fires-obeys faults gives d m h is =
     let next : Due m d = due_of m d h.orderly is in
-    subst (λ o. Obeys (IsLawful faults) m (fires_on o d.kind m)) (sym next.found)
+    subst (λ o. Obeys (IsLawful faults) m (on_entry o (fires_as d.kind) m)) (sym next.found)
     (fires_as-obeys faults d.kind m next.owner next.place h next.stands
     (All-contains (MeansLate m.now next.owner) (deadlines_of next.owner) d (deadlines_of-late m.now next.owner) next.among next.late)
     (gives m next.owner))

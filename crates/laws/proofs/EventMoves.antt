@@ -2,9 +2,6 @@
 use Rattle.std.proofs.Common.{ℕ, ◌+◌, ◌≡◌, Bool, true, false, ◌&&◌, ◌||◌, ◌==◌, nat_le, if◌then◌else◌, List, [], ◌∷◌, ◌++◌, length, find, Option, Some, None, refl, sym, ap, ◌∙◌, subst, eqb-true, eq-eqb}
 use Rattle.std.specs.List.{AllByRecursion}
 use Rattle.std.proofs.lemmas.Bool.{cond_both, both_ways, false≢true, and_from, or_left, or_right}
-use Rattle.accept_gate.specs.Gate.{gate_of}
-use Rattle.accept_gate.specs.declared.gate.Gate.{Gate}
-use Rattle.accept_gate.specs.declared.gate.Gate.TheVariants.{Free, Pause as PauseFor, Full as NoRoom}
 use Rattle.conn_state.specs.Moves.{connected}
 use Rattle.conn_state.specs.Use.{has_id, is_live, is_live_at, is_negotiated, is_outbound, is_pending, is_dialing, opening_phase}
 use Rattle.net_base.specs.Address.{same_address, address_below}
@@ -22,13 +19,13 @@ use Rattle.root_groups.specs.Cleaned.{cleaned, members_of}
 use Rattle.root_groups.specs.RootAsk.{awaits, publics_of, found}
 use Rattle.hs_decide.specs.Answers.{proposal_of}
 use Rattle.machine.specs.Machine.{Machine, Entry, counted_in, entry_at, live_entry_at}
-use Rattle.machine.specs.Effect.{Effect, Move, shared, left, nothing_more, then_do, as_move, for_each}
+use Rattle.machine.specs.Effect.{Effect, Move, shared, gone, nothing_more, then_do, as_move, on_entry, for_each}
 use Rattle.machine.specs.Own.{own_info}
 use Rattle.machine.specs.Peers.{peer_comes, peer_is_ordinary}
-use Rattle.machine.specs.Replies.{asks}
+use Rattle.machine.specs.Replies.{sends_as_initiator}
 use Rattle.machine.specs.Connections.{with_entry, without_entry, lost, ending, vanishes, dial_opens, dial_fails}
 use Rattle.machine.specs.Deadlines.{deadlines, fire_all}
-use Rattle.machine.specs.Events.{clock_shows, turned_away, admitted, crossed, accepted_beside, accepted_through, peer_connects, closed_at, peer_closes, dial_ends_at, dial_ends}
+use Rattle.machine.specs.Events.{clock_shows, turned_away, admitted, crossed, accepted_beside, peer_connects, closes, peer_closes, dialed, dial_ends}
 use Rattle.machine.specs.Provided.{comes_ordinary, locals_are, is_wanted_big, comes_big, bigs_are, roots_say, roots_answer}
 use Rattle.machine.specs.Whole.{whole_step}
 use Rattle.laws.specs.AtMoves.{Faults, faults_of, IsLawful, is_negotiated_entry, is_negotiated_at, is_ended_in, is_closed_by, MovesAreLawful, EndsAreMoves, is_up_connection, is_up, is_hot_or_asked, is_known, promotes, activates, is_shared_in, is_provided_by, PromotionsAreMoves, ActivationsAreMoves, ArrivalsAreMoves}
@@ -124,7 +121,7 @@ opens-obeys : (Law : Move → Type 0) (m : Machine) (e : Entry) (k : ℕ) → Is
 opens-obeys Law m e k h s dials =
     let unnegotiated : is_negotiated e.facts ≡ false = dialing-unnegotiated e.facts.phase dials in
     let new : Entry = record e { facts = connected (m.now + m.settings.handshake) e.facts } in
-    let proposal : Machine → Effect = λ n. asks e.facts.cid 0 (proposal_of (own_info n.settings)) n in
+    let proposal : Machine → Effect = λ n. sends_as_initiator e.facts.cid 0 (proposal_of (own_info n.settings)) n in
     turned_then-obeys Law m e new k proposal h.orderly s
     (record { same_id = refl; same_addr = refl; live = λ l. dialing-live e.facts.phase dials })
     (record { up = λ up. dialing-up m e k h s dials; asked = λ asked. asked })
@@ -135,7 +132,7 @@ fails-obeys : (faults : Faults) (m : Machine) (e : Entry) (k : ℕ) → IsOrdere
 fails-obeys faults m e k h s dials =
     let unnegotiated : is_negotiated e.facts ≡ false = dialing-unnegotiated e.facts.phase dials in
     let lost : IsQuiet (without_entry e.facts.cid.0 m) (lost e.facts (without_entry e.facts.cid.0 m)) = lost-quiet e.facts (without_entry e.facts.cid.0 m) in
-    as_move-obeys (IsLawful faults) (left e.facts.cid.0) m (vanishes e m) lost.moves
+    as_move-obeys (IsLawful faults) (gone e.facts.cid.0) m (vanishes e m) lost.moves
     (record { back_off = tt; targets = tt; cause = on_stands (λ x. is_negotiated x.facts ≡ false) m e k h.orderly s unnegotiated })
     (accounts_gone m e k (dial_fails e m) h.orderly s lost.connections lost.hot lost.known
     (λ negotiated. absurd (both_ways (is_negotiated e.facts) unnegotiated negotiated)))
@@ -148,7 +145,7 @@ dial_ends-obeys faults cid opened m h = by_entry (entry_at cid.0 m) refl opened
     by_end e k s dials true = opens-obeys (IsLawful faults) m e k h s dials
     by_end e k s dials false = fails-obeys faults m e k h s dials
 
-    by_entry : (o : Option Entry) → entry_at cid.0 m ≡ o → (b : Bool) → Obeys (IsLawful faults) m (dial_ends_at o b m)
+    by_entry : (o : Option Entry) → entry_at cid.0 m ≡ o → (b : Bool) → Obeys (IsLawful faults) m (on_entry o (dialed b) m)
     by_entry None is b = obeys_nothing (IsLawful faults) m
     by_entry (Some e) is b =
         let at = find_some (λ y. has_id cid.0 y.facts) m.connections e is in
@@ -182,16 +179,13 @@ beside-obeys faults addr m h = by_live (live_entry_at addr m) refl
         (λ pending. crossed-obeys faults addr m e at.place h at.stands pending)
         (λ other. quiet-obeys (IsLawful faults) m (turned_away Present m) (tells-quiet (turned_away Present m).actions m))
 
-through-obeys : (faults : Faults) (g : Gate) (addr : Addr) (m : Machine) → IsOrdered m → Obeys (IsLawful faults) m (accepted_through g addr m)
-through-obeys faults Free addr m h = beside-obeys faults addr m h
-through-obeys faults (PauseFor delay) addr m h = beside-obeys faults addr m h
-through-obeys faults NoRoom addr m h = quiet-obeys (IsLawful faults) m (turned_away Full m) (tells-quiet (turned_away Full m).actions m)
-
 connects-obeys : (faults : Faults) (addr : Addr) (m : Machine) → IsOrdered m → Obeys (IsLawful faults) m (peer_connects addr m)
 connects-obeys faults addr m h = cond_both (same_address addr m.settings.own) (turned_away OwnAddr m)
-    (accepted_through (gate_of m.settings (counted_in m)) addr m) (Obeys (IsLawful faults) m)
+    (if nat_le m.settings.hard (counted_in m) then turned_away Full m else accepted_beside (live_entry_at addr m) addr m) (Obeys (IsLawful faults) m)
     (λ own. quiet-obeys (IsLawful faults) m (turned_away OwnAddr m) (tells-quiet (turned_away OwnAddr m).actions m))
-    (λ other. through-obeys faults (gate_of m.settings (counted_in m)) addr m h)
+    (λ other. cond_both (nat_le m.settings.hard (counted_in m)) (turned_away Full m) (accepted_beside (live_entry_at addr m) addr m) (Obeys (IsLawful faults) m)
+    (λ full. quiet-obeys (IsLawful faults) m (turned_away Full m) (tells-quiet (turned_away Full m).actions m))
+    (λ room. beside-obeys faults addr m h))
 
 -- ---- the clock
 
@@ -218,7 +212,7 @@ clock-obeys start t m h =
 closes-lawful : (Law : Move → Type 0) (cid : Cid) (m : Machine) → AllByRecursion Law (peer_closes cid m).moves
 closes-lawful Law cid m = by_entry (entry_at cid.0 m)
   where
-    by_entry : (o : Option Entry) → AllByRecursion Law (closed_at o m).moves
+    by_entry : (o : Option Entry) → AllByRecursion Law (on_entry o closes m).moves
     by_entry None = tt
     by_entry (Some e) = cond_both (is_live e.facts) (vanishes e m) (nothing_more m) (λ effect. AllByRecursion Law effect.moves)
         (λ live. quiet-lawful Law (vanishes e m) (lost-quiet e.facts (without_entry e.facts.cid.0 m)).moves) (λ closed. tt)
@@ -247,7 +241,7 @@ closes-known cid m h id before = by_entry (entry_at cid.0 m) refl
         ∙ find-remove_other (λ x. has_id id x.facts) e m.connections k s is in
         or_first (is_negotiated_at id (vanishes e m).machine) (is_ended_in id (vanishes e m).moves) (cid.0 == id) (ap is_negotiated_entry same ∙ before)
 
-    by_entry : (o : Option Entry) → entry_at cid.0 m ≡ o → (is_negotiated_at id (closed_at o m).machine || is_ended_in id (closed_at o m).moves || (cid.0 == id)) ≡ true
+    by_entry : (o : Option Entry) → entry_at cid.0 m ≡ o → (is_negotiated_at id (on_entry o closes m).machine || is_ended_in id (on_entry o closes m).moves || (cid.0 == id)) ≡ true
     by_entry None is = or_first (is_negotiated_at id m) false (cid.0 == id) before
     by_entry (Some e) is =
         let at = find_some (λ y. has_id cid.0 y.facts) m.connections e is in
@@ -262,7 +256,7 @@ closes-rises cid m h = by_entry (entry_at cid.0 m) refl
     nothing : Rises m (nothing_more m)
     nothing = (obeys_nothing (λ move. Unit {0}) m).accounted.rises
 
-    by_entry : (o : Option Entry) → entry_at cid.0 m ≡ o → Rises m (closed_at o m)
+    by_entry : (o : Option Entry) → entry_at cid.0 m ≡ o → Rises m (on_entry o closes m)
     by_entry None is = nothing
     by_entry (Some e) is =
         let at = find_some (λ y. has_id cid.0 y.facts) m.connections e is in

@@ -1,26 +1,22 @@
 -- Each event keeps what is sound.
-use Rattle.std.proofs.Common.{ℕ, ◌+◌, ◌<◌, ◌≤◌, ◌≡◌, ◌≢◌, true, false, remove, Option, Some, None, All, IsTrue, nat_le, nat_lt, sum_by, if◌then◌else◌, refl, sym, ap, ◌∙◌, subst, arith, leb-false}
-use Rattle.std.proofs.lemmas.Bool.{cond_both, and_parts, and_from, both_ways, lt-leb, cond-true, false_from_ne_true}
+use Rattle.std.proofs.Common.{ℕ, ◌+◌, ◌<◌, ◌≤◌, ◌≡◌, ◌≢◌, true, false, remove, Option, Some, None, All, IsTrue, nat_le, sum_by, if◌then◌else◌, refl, sym, ap, ◌∙◌, subst, arith, leb-false}
+use Rattle.std.proofs.lemmas.Bool.{cond_both, and_parts, and_from, both_ways, lt-leb}
 use Rattle.std.proofs.lemmas.List.Elements.{All-weaker}
 use Rattle.std.proofs.lemmas.List.Sums.{sum_by_push}
 use Rattle.net_base.specs.Address.{same_address, address_below}
-use Rattle.net_base.specs.declared.action.Away.TheVariants.{OwnAddr, Crossed, Present}
+use Rattle.net_base.specs.declared.action.Away.TheVariants.{OwnAddr, Crossed, Present, Full}
 use Rattle.net_base.specs.declared.action.CloseCause.TheVariants.{Overwritten}
 use Rattle.net_base.specs.declared.address.Addr.{Addr}
 use Rattle.net_base.specs.declared.connection.Cid.{Cid}
 use Rattle.net_base.specs.declared.event.Event.{Event}
 use Rattle.net_base.specs.declared.event.Event.TheVariants.{Now, Govern, Accepted, Dialed, Bytes, Closed, Aims, Locals, Roots, BigAims, Bigs}
-use Rattle.net_base.specs.declared.settings.Settings.{Settings}
-use Rattle.accept_gate.specs.Gate.{gate_of, pause_of}
-use Rattle.accept_gate.specs.declared.gate.Gate.{Gate}
-use Rattle.accept_gate.specs.declared.gate.Gate.TheVariants.{Free, Pause as PauseFor, Full as NoRoom}
 use Rattle.conn_state.specs.Moves.{accepted}
 use Rattle.conn_state.specs.Use.{is_live, is_live_at, is_pending, has_id}
 use Rattle.machine.specs.Machine.{Machine, Entry, fresh_entry, counted_in, entry_at, live_entry_at}
-use Rattle.machine.specs.Effect.{nothing_more, then_do}
+use Rattle.machine.specs.Effect.{nothing_more, then_do, on_entry}
 use Rattle.machine.specs.Connections.{without_entry, ending, vanishes}
 use Rattle.machine.specs.Deadlines.{deadlines, fire_all}
-use Rattle.machine.specs.Events.{clock_shows, turned_away, admitted, crossed, accepted_beside, accepted_through, peer_connects, closed_at, peer_closes, step}
+use Rattle.machine.specs.Events.{clock_shows, turned_away, admitted, crossed, accepted_beside, peer_connects, closes, peer_closes, step}
 use Rattle.laws.specs.Laws.{DifferInAddress, WithinHardLimit, DeadlinesAhead}
 use Rattle.laws.specs.Sound.{IsOrderly, IsSound}
 use Rattle.laws.proofs.Addresses.{same_address-self, same_address-true}
@@ -101,16 +97,19 @@ clock_shows-sound t m h = cond_both (nat_le t m.now) (nothing_more m) (fire_all 
 abbrev pub admitted_entry : Addr → Machine → Entry
 admitted_entry addr m = fresh_entry (accepted m.next_id addr (m.now + m.settings.handshake))
 
+-- one more is counted then
+pub admitted-counted : (addr : Addr) (m : Machine) → counted_in (with_new (admitted_entry addr m) m) ≡ counted_in m + 1
+admitted-counted addr m =
+    let new : Entry = admitted_entry addr m in
+    counted_in-sum (with_new new m) ∙ (sum_by_push counted_of m.connections new ∙ ap (λ n. n + 1) (sym (counted_in-sum m)))
+
 -- A connection is admitted below the hard limit, where no live connection has its address.
 pub admitted-sound : (addr : Addr) (m : Machine) → IsOrderly m → counted_in m < m.settings.hard → late_in m ≡ 0 →
     All (λ e. IsTrue (is_live e.facts) → e.facts.addr ≢ addr) m.connections → StaysSound m (admitted addr m).machine
 admitted-sound addr m h room none apart =
     let new : Entry = admitted_entry addr m in
     let n : Machine = with_new new m in
-    let counts : sum_by counted_of n.connections ≡ sum_by counted_of m.connections + 1 =
-    sum_by_push counted_of m.connections new in
-    let counted_before : counted_in m ≡ sum_by counted_of m.connections = counted_in-sum m in
-    let counted_after : counted_in n ≡ sum_by counted_of n.connections = counted_in-sum n in
+    let counts : counted_in n ≡ counted_in m + 1 = admitted-counted addr m in
     let above : m.now < m.now + m.settings.handshake =
     (let positive : 1 ≤ m.settings.handshake = handshake-positive m.settings h.settings in omega arith) in
     let ahead : nat_le (m.now + m.settings.handshake) m.now ≡ false = lt-leb (m.now + m.settings.handshake) m.now above in
@@ -189,28 +188,14 @@ accepted_beside-sound addr m h room = by_live (live_entry_at addr m) refl
         (λ pending. crossed-sound addr m entry h room (find_some (λ x. is_live_at addr x.facts) m.connections entry e))
         (λ other. stays_same m h)
 
--- the gate is shut at the hard limit
-gate-room : (s : Settings) (count : ℕ) → gate_of s count ≢ NoRoom → count < s.hard
-gate-room s count open_now = leb-false s.hard count (false_from_ne_true (nat_le s.hard count)
-    (λ reached. open_now (cond-true (nat_le s.hard count) NoRoom
-    (if nat_lt s.soft (count + 1) then PauseFor (pause_of s (count + 1)) else Free) reached)))
-
-pub accepted_through-sound : (addr : Addr) (m : Machine) → IsSound m →
-    StaysSound m (accepted_through (gate_of m.settings (counted_in m)) addr m).machine
-accepted_through-sound addr m h = by_gate (gate_of m.settings (counted_in m)) refl
-  where
-    room : gate_of m.settings (counted_in m) ≢ NoRoom → StaysSound m (accepted_beside (live_entry_at addr m) addr m).machine
-    room open_now = accepted_beside-sound addr m h (gate-room m.settings (counted_in m) open_now)
-
-    by_gate : (g : Gate) → gate_of m.settings (counted_in m) ≡ g → StaysSound m (accepted_through g addr m).machine
-    by_gate Free e = room (λ shut. cc)
-    by_gate (PauseFor delay) e = room (λ shut. cc)
-    by_gate NoRoom e = stays_same m h
-
 pub peer_connects-sound : (addr : Addr) (m : Machine) → IsSound m → StaysSound m (peer_connects addr m).machine
 peer_connects-sound addr m h = cond_both (same_address addr m.settings.own) (turned_away OwnAddr m)
-    (accepted_through (gate_of m.settings (counted_in m)) addr m) (λ effect. StaysSound m effect.machine)
-    (λ own. stays_same m h) (λ other. accepted_through-sound addr m h)
+    (if nat_le m.settings.hard (counted_in m) then turned_away Full m else accepted_beside (live_entry_at addr m) addr m)
+    (λ effect. StaysSound m effect.machine)
+    (λ own. stays_same m h)
+    (λ other. cond_both (nat_le m.settings.hard (counted_in m)) (turned_away Full m) (accepted_beside (live_entry_at addr m) addr m)
+    (λ effect. StaysSound m effect.machine)
+    (λ full. stays_same m h) (λ room. accepted_beside-sound addr m h (leb-false m.settings.hard (counted_in m) room)))
 
 vanishes-sound : (m : Machine) (entry : Entry) (k : ℕ) → IsSound m → StandsAt m.connections k entry →
     StaysSound m (vanishes entry m).machine
@@ -221,7 +206,7 @@ vanishes-sound m entry k h stands =
 pub peer_closes-sound : (cid : Cid) (m : Machine) → IsSound m → StaysSound m (peer_closes cid m).machine
 peer_closes-sound cid m h = by_entry (entry_at cid.0 m) refl
   where
-    by_entry : (o : Option Entry) → entry_at cid.0 m ≡ o → StaysSound m (closed_at o m).machine
+    by_entry : (o : Option Entry) → entry_at cid.0 m ≡ o → StaysSound m (on_entry o closes m).machine
     by_entry None e = stays_same m h
     by_entry (Some entry) e =
         let found : FoundIn (λ x. has_id cid.0 x.facts) m.connections entry =

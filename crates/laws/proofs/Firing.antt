@@ -17,12 +17,13 @@ use Rattle.net_base.specs.declared.timer.Kind.TheVariants.{Handshake, Grace as G
 use Rattle.net_base.specs.Timer.{deadline_before}
 use Rattle.conn_state.specs.Use.{is_live, live_phase, has_id}
 use Rattle.machine.specs.Machine.{Machine, Entry, entry_at}
-use Rattle.machine.specs.Deadlines.{deadlines, deadlines_of, deadline, phase_deadlines, grace_deadlines, reply_kind, reply_deadline, earlier, least, due, fires_as, fires_on, fires, fires_some, fire_due, fire_all}
+use Rattle.machine.specs.Deadlines.{deadlines, deadlines_of, deadline, phase_deadlines, grace_deadlines, reply_kind, reply_deadline, earlier, least, due, fires_as, fires, fires_some, fire_due, fire_all}
 use Rattle.laws.specs.Sound.{IsOrderly}
 use Rattle.laws.proofs.Lists.{StandsAt, stands_next, FoundIn, find_some, find_only}
 use Rattle.laws.proofs.Entries.{one_has_id}
 use Rattle.laws.proofs.Counts.{is_late, late_of, late_in, grace_late_of}
 use Rattle.laws.proofs.Moves.{Lowers, lowers_nothing, lowers_then, lowers_less, ending-lowers, grace_over-lowers, wait_over-lowers}
+use Rattle.machine.specs.Effect.{on_entry}
 
 -- how many late deadlines of a connection are gone once one of a kind has fired
 abbrev pub fired_of : Kind → ℕ → Entry → ℕ
@@ -46,7 +47,7 @@ fires_as-lowers Reply10 = ending-lowers (Fault ReplyWait)
 pub fires-lowers : (d : Deadline) (m : Machine) → IsOrderly m → Lowers 0 m (fires d m).machine
 fires-lowers d m h = by_entry (entry_at d.cid.0 m) refl
   where
-    by_entry : (o : Option Entry) → entry_at d.cid.0 m ≡ o → Lowers 0 m (fires_on o d.kind m).machine
+    by_entry : (o : Option Entry) → entry_at d.cid.0 m ≡ o → Lowers 0 m (on_entry o (fires_as d.kind) m).machine
     by_entry None e = lowers_nothing m h
     by_entry (Some entry) e =
         let found : FoundIn (λ x. has_id d.cid.0 x.facts) m.connections entry =
@@ -271,7 +272,7 @@ due_of m d h e =
 pub due-lowers : (m : Machine) (d : Deadline) → IsOrderly m → due m ≡ Some d → Lowers 1 m (fires d m).machine
 due-lowers m d h e =
     let next : Due m d = due_of m d h e in
-    subst (λ o. Lowers 1 m (fires_on o d.kind m).machine) (sym next.found)
+    subst (λ o. Lowers 1 m (on_entry o (fires_as d.kind) m).machine) (sym next.found)
     (lowers_less 1 (fired_of d.kind m.now next.owner) m (fires_as d.kind next.owner m).machine
     (fired_of-positive m.now next.owner d next.among next.late)
     (fires_as-lowers d.kind m next.owner next.place h next.stands))

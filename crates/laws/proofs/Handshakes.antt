@@ -29,11 +29,11 @@ use Rattle.net_base.specs.declared.connection.Provenance.TheVariants.{FromRemote
 use Rattle.conn_state.specs.Moves.{agreed_inbound, agreed_outbound}
 use Rattle.conn_state.specs.Use.{is_greeting, is_greeting_phase, is_negotiated, opening_phase, is_outbound, is_outbound_by, is_pending}
 use Rattle.machine.specs.Machine.{Machine, Entry, counted_in}
-use Rattle.machine.specs.Replies.{answers}
+use Rattle.machine.specs.Replies.{sends_as_responder}
 use Rattle.machine.specs.Effect.{Effect}
 use Rattle.machine.specs.Own.{own_info}
 use Rattle.machine.specs.Connections.{ending}
-use Rattle.machine.specs.Greeting.{role_of, is_awaited, fits_side, told, judged, decided, greeted_by, greets}
+use Rattle.machine.specs.Greeting.{role_of, is_awaited, fits_side, sends_answer, judged, decided, greeted_by, greets}
 use Rattle.laws.specs.AtMoves.{Faults, IsLawful, is_up_connection}
 use Rattle.laws.specs.Whole.{IsShaped}
 use Rattle.laws.proofs.Keeping.{IsOrdered, Keeps, keeps_nothing}
@@ -117,13 +117,13 @@ acceptor-no_agree own (message.QueryReply table) = refl
 -- ---- what a verdict does
 
 -- what is sent is no matter of the record
-pub told-machine : (o : Option (List ℕ)) (cid : Cid) (m : Machine) → (told o cid m).machine ≡ m
-told-machine None cid m = refl
-told-machine (Some bytes) cid m = refl
+pub answer-machine : (o : Option (List ℕ)) (cid : Cid) (m : Machine) → (sends_answer o cid m).machine ≡ m
+answer-machine None cid m = refl
+answer-machine (Some bytes) cid m = refl
 
-told-quiet : (o : Option (List ℕ)) (cid : Cid) (m : Machine) → IsQuiet m (told o cid m)
-told-quiet None cid m = tells-quiet [] m
-told-quiet (Some bytes) cid m = tells-quiet (answers cid 0 bytes m).actions m
+answer-quiet : (o : Option (List ℕ)) (cid : Cid) (m : Machine) → IsQuiet m (sends_answer o cid m)
+answer-quiet None cid m = tells-quiet [] m
+answer-quiet (Some bytes) cid m = tells-quiet (sends_as_responder cid 0 bytes m).actions m
 
 -- who answers a greeting: an acceptor was dialed, and a dialer has dialed
 record Greets (m : Machine) (e : Entry) (k : ℕ) : Type 0 where
@@ -188,11 +188,11 @@ decided-trimmed : (faults : Faults) (msg : Message) (m : Machine) (e : Entry) (k
 decided-trimmed faults msg m e k g =
     let own : VersionInfo = own_info m.settings in
     let v : Verdict = verdict_of (role_of e.facts.provenance) own msg in
-    let first : Effect = told (answer_of v own) e.facts.cid m in
-    let same : m ≡ first.machine = sym (told-machine (answer_of v own) e.facts.cid m) in
+    let first : Effect = sends_answer (answer_of v own) e.facts.cid m in
+    let same : m ≡ first.machine = sym (answer-machine (answer_of v own) e.facts.cid m) in
     trimmed_then (IsLawful faults) m first (judged v e)
     (keeps-trimmed (IsLawful faults) m first g.within (subst (Keeps 0 m) same (keeps_nothing m g.ordered))
-    (quiet-obeys (IsLawful faults) m first (told-quiet (answer_of v own) e.facts.cid m)))
+    (quiet-obeys (IsLawful faults) m first (answer-quiet (answer_of v own) e.facts.cid m)))
     (subst (λ n. Trimmed (IsLawful faults) n (judged v e n)) same
     (judged-trimmed faults v m e k g (accepts-inbound own e.facts.provenance msg) (agrees-outbound own e.facts.provenance msg)))
 

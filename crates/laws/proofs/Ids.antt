@@ -6,12 +6,9 @@ use Rattle.std.proofs.lemmas.Bool.{cond_both, and_parts, and_from, and_right}
 use Rattle.std.proofs.lemmas.List.{map-append}
 use Rattle.std.proofs.lemmas.List.Folds.{list_any_none}
 use Rattle.std.proofs.lemmas.List.Sums.{sum_by-cons}
-use Rattle.accept_gate.specs.Gate.{gate_of}
 use Rattle.accept_gate.specs.Prune.{choice_of}
-use Rattle.accept_gate.specs.declared.gate.Gate.{Gate}
-use Rattle.accept_gate.specs.declared.gate.Gate.TheVariants.{Free, Pause as PauseFor, Full as NoRoom}
 use Rattle.conn_state.specs.Moves.{agreed_outbound, released, acquired, awakened, expired}
-use Rattle.conn_state.specs.Use.{agreed_sharing, is_acquirable, is_live, is_pending, is_dialing, runs}
+use Rattle.conn_state.specs.Use.{agreed_sharing, is_acquirable, is_live, is_pending, is_dialing, runs, is_greeting, is_negotiated}
 use Rattle.govern_rules.specs.BigRules.{big_orders}
 use Rattle.govern_rules.specs.Candidates.{is_eligible, may_be_deactivated}
 use Rattle.govern_rules.specs.ClassRules.{active_target}
@@ -33,7 +30,7 @@ use Rattle.mux_segment.specs.declared.item.Item.{Item}
 use Rattle.net_base.specs.Address.{same_address, address_below}
 use Rattle.net_base.specs.Peer.{failed_peer}
 use Rattle.net_base.specs.declared.action.Action.TheVariants.{AskRoots, Close}
-use Rattle.net_base.specs.declared.action.Away.TheVariants.{OwnAddr, Crossed, Present as AlreadyThere}
+use Rattle.net_base.specs.declared.action.Away.TheVariants.{OwnAddr, Crossed, Present as AlreadyThere, Full}
 use Rattle.net_base.specs.declared.action.CloseCause.{CloseCause}
 use Rattle.net_base.specs.declared.action.CloseCause.TheVariants.{Unused, Pruned, Overwritten, Refused, Query, Fault}
 use Rattle.net_base.specs.declared.action.FaultKind.{FaultKind}
@@ -63,22 +60,22 @@ use Rattle.warm_messages.specs.Reading.{share_of}
 use Rattle.warm_messages.specs.declared.share.Share.{Share}
 use Rattle.warm_messages.specs.declared.share.Share.TheVariants as share
 use Rattle.machine.specs.Machine.{Machine, Entry, Owed, counted_in, entry_at, live_entry_at}
-use Rattle.machine.specs.Effect.{Effect, unused, nothing_more, tells, then_do, as_move, for_each}
+use Rattle.machine.specs.Effect.{Effect, unused, nothing_more, tells, then_do, as_move, for_each, on_entry, on_connection}
 use Rattle.machine.specs.Peers.{turns_at, peer_at, peer_changes, peer_fails, peer_succeeds, peer_becomes, peer_was_asked, peer_is_ordinary, peer_comes, peer_goes}
-use Rattle.machine.specs.Connections.{with_entry, without_entry, entry_turns, is_missed, lost, lost_by, ending, vanishes, closing_entry, grace_over, is_used, pruned_at, candidates_in, trim, acquire, release, awake, dial, dial_opens, dial_fails}
-use Rattle.machine.specs.Deadlines.{due, fires_as, fires_on, fires, fires_some, fire_due, fire_all}
-use Rattle.machine.specs.Events.{clock_shows, turned_away, admitted, crossed, accepted_beside, accepted_through, peer_connects, closed_at, dial_ends_at}
-use Rattle.machine.specs.Govern.{link_of, view_of, promoted_at, promote, on_entry, is_used_at, on_used, asks_peer, activates, deactivates, carries_out, asks_roots, ordinary_rules, big_rules, rules, govern}
-use Rattle.machine.specs.Greeting.{role_of, is_awaited, fits_side, told, judged, decided, greeted_by, greets}
+use Rattle.machine.specs.Connections.{with_entry, without_entry, entry_turns, is_missed, lost, lost_by, ending, vanishes, closing_entry, grace_over, is_used, candidates_in, trim, acquire, release, awake, dial, dial_opens, dial_fails}
+use Rattle.machine.specs.Deadlines.{due, fires_as, fires, fires_some, fire_due, fire_all}
+use Rattle.machine.specs.Events.{clock_shows, turned_away, admitted, crossed, accepted_beside, peer_connects, closes, peer_closes, dialed, dial_ends}
+use Rattle.machine.specs.Govern.{link_of, view_of, promoted_at, promote, is_used_at, on_used, asks_peer, activates, deactivates, carries_out, asks_roots, ordinary_rules, big_rules, rules, govern}
+use Rattle.machine.specs.Greeting.{role_of, is_awaited, fits_side, judged, decided, greeted_by, greets}
 use Rattle.machine.specs.Own.{own_info}
 use Rattle.machine.specs.Provided.{comes_ordinary, locals_are, is_wanted_big, comes_big, bigs_are, roots_say, roots_answer}
 use Rattle.machine.specs.Replies.{owing, paid, reply_on}
-use Rattle.machine.specs.Stream.{handled_in, handled_at, handles, kind_of, faulted_at, fed_with, comes_in_phase, comes_in_at, bytes_come_in}
-use Rattle.machine.specs.Talking.{ends_if, served_at, begins, takes_requests, asked_as, shares_address, taken_of, takes_addresses, pays, brings, answered_as, talks}
+use Rattle.machine.specs.Stream.{handled_in, handled, handles, kind_of, faulted, fed_with, feeds, comes_in, bytes_come_in}
+use Rattle.machine.specs.Talking.{stops_if, serves, begins, takes_requests, asked_as, shares_address, taken_of, takes_addresses, pays, brings, answered_as, talks}
 use Rattle.machine.specs.Whole.{whole_step}
 use Rattle.laws.specs.Whole.{IsSteady, ArePeersApart, AreApart}
 use Rattle.laws.proofs.Chosen.{chosen, chosen-apart, chosen-all, PicksMembers, picks-listed, groups_picks-apart, groups_picks-all, map-groups}
-use Rattle.laws.proofs.Handshakes.{told-machine}
+use Rattle.laws.proofs.Handshakes.{answer-machine}
 use Rattle.laws.proofs.Keeping.{note-machine}
 use Rattle.laws.proofs.Lists.{all-both}
 use Rattle.laws.proofs.Orders.{says_done-machine}
@@ -171,15 +168,16 @@ ending-gives cause e m =
     let n : Machine = without_entry e.facts.cid.0 m in
     gives_then 0 0 m n (lost_by cause e.facts n).machine (connections-gives n.connections m) (lost_by-gives cause e.facts n)
 
-pruned_at-gives : (o : Option Entry) (m : Machine) → Gives 0 m (pruned_at o m).machine
-pruned_at-gives None m = gives_nothing m
-pruned_at-gives (Some e) m = ending-gives Pruned e m
+on_entry-gives : (k : ℕ) (act : Entry → Machine → Effect) → ((e : Entry) (m : Machine) → Gives k m (act e m).machine) → (o : Option Entry) (m : Machine) →
+    Gives k m (on_entry o act m).machine
+on_entry-gives k act each None m = gives_more 0 k m m (omega arith) (gives_nothing m)
+on_entry-gives k act each (Some e) m = each e m
 
 trim-gives : (moved : Cid) (m : Machine) → Gives 0 m (trim moved m).machine
 trim-gives moved m =
     let pruned : Option Entry = entry_at (unwrap_or (choice_of (candidates_in m)) moved).0 m in
-    cond_both (nat_le (counted_in m) m.settings.hard) (nothing_more m) (pruned_at pruned m) (λ effect. Gives 0 m effect.machine)
-    (λ within. gives_nothing m) (λ above. pruned_at-gives pruned m)
+    cond_both (nat_le (counted_in m) m.settings.hard) (nothing_more m) (on_entry pruned (ending Pruned) m) (λ effect. Gives 0 m effect.machine)
+    (λ within. gives_nothing m) (λ above. on_entry-gives 0 (ending Pruned) (ending-gives Pruned) pruned m)
 
 -- ---- a connection comes into use
 
@@ -216,9 +214,14 @@ ending-none cause e m = omega (arith, (ending-gives cause e m).next_id)
 vanishes-none : (e : Entry) (m : Machine) → GivesNone m (vanishes e m).machine
 vanishes-none e m = omega (arith, (lost-gives e.facts (without_entry e.facts.cid.0 m)).next_id)
 
-closed_at-none : (o : Option Entry) (m : Machine) → GivesNone m (closed_at o m).machine
-closed_at-none None m = omega arith
-closed_at-none (Some e) m = cond_both (is_live e.facts) (vanishes e m) (nothing_more m) (λ effect. GivesNone m effect.machine)
+-- where it is about a connection, and there may be none
+on_entry-none : (act : Entry → Machine → Effect) → ((e : Entry) (m : Machine) → GivesNone m (act e m).machine) → (o : Option Entry) (m : Machine) →
+    GivesNone m (on_entry o act m).machine
+on_entry-none act each None m = omega arith
+on_entry-none act each (Some e) m = each e m
+
+closes-none : (e : Entry) (m : Machine) → GivesNone m (closes e m).machine
+closes-none e m = cond_both (is_live e.facts) (vanishes e m) (nothing_more m) (λ effect. GivesNone m effect.machine)
     (λ live. vanishes-none e m) (λ dead. omega arith)
 
 -- ---- the clock
@@ -238,10 +241,6 @@ fires_as-none Reply2 e m = ending-none (Fault ReplyWait) e m
 fires_as-none Reply8 e m = ending-none (Fault ReplyWait) e m
 fires_as-none Reply10 e m = ending-none (Fault ReplyWait) e m
 
-fires_on-none : (o : Option Entry) (kind : Kind) (m : Machine) → GivesNone m (fires_on o kind m).machine
-fires_on-none None kind m = omega arith
-fires_on-none (Some e) kind m = fires_as-none kind e m
-
 fire_due-none : (n : ℕ) (m : Machine) → GivesNone m (fire_due n m).machine
 unfolding fire_due
 fire_due-none zero m = omega arith
@@ -250,7 +249,7 @@ fire_due-none (suc n) m = by_due (due m) (fire_due-none n)
     by_due : (o : Option Deadline) → ((w : Machine) → GivesNone w (fire_due n w).machine) → GivesNone m (fires_some o (fire_due n) m).machine
     by_due None later = omega arith
     by_due (Some d) later =
-        let first = fires_on-none (entry_at d.cid.0 m) d.kind m in
+        let first = on_entry-none (fires_as d.kind) (fires_as-none d.kind) (entry_at d.cid.0 m) m in
         omega (arith, first, later (fires d m).machine)
 
 clock_shows-none : (t : ℕ) (m : Machine) → GivesNone m (clock_shows t m).machine
@@ -260,9 +259,8 @@ clock_shows-none t m =
 
 -- ---- a dial ends
 
-dial_ends_at-none : (o : Option Entry) (opened : Bool) (m : Machine) → GivesNone m (dial_ends_at o opened m).machine
-dial_ends_at-none None opened m = omega arith
-dial_ends_at-none (Some e) opened m =
+dialed-none : (opened : Bool) (e : Entry) (m : Machine) → GivesNone m (dialed opened e m).machine
+dialed-none opened e m =
     cond_both (is_dialing e.facts) (if opened then dial_opens e m else dial_fails e m) (nothing_more m) (λ effect. GivesNone m effect.machine)
     (λ dials. cond_both opened (dial_opens e m) (dial_fails e m) (λ effect. GivesNone m effect.machine) (λ socket. omega arith) (λ failed. vanishes-none e m))
     (λ other. omega arith)
@@ -300,7 +298,7 @@ judged-none verdict.Refused e m = ending-none Refused e m
 judged-none verdict.Wrong e m = ending-none (Fault Protocol) e m
 
 decided-none : (v : Verdict) (e : Entry) (m : Machine) → GivesNone m (decided v e m).machine
-decided-none v e m = subst (λ n. GivesNone m (judged v e n).machine) (sym (told-machine (answer_of v (own_info m.settings)) e.facts.cid m)) (judged-none v e m)
+decided-none v e m = subst (λ n. GivesNone m (judged v e n).machine) (sym (answer-machine (answer_of v (own_info m.settings)) e.facts.cid m)) (judged-none v e m)
 
 greeted_by-none : (o : Option Message) (side : ℕ) (e : Entry) (m : Machine) → GivesNone m (greeted_by o side e m).machine
 greeted_by-none None side e m = ending-none (Fault Malformed) e m
@@ -319,16 +317,14 @@ greets-none item e m = cond_both (item.id == 0 && is_awaited (role_of e.facts.pr
 awake-none : (protocol : ℕ) (e : Entry) (m : Machine) → GivesNone m (awake protocol e m).machine
 awake-none protocol e m = omega (arith, (trim-gives e.facts.cid (with_entry (record e { facts = awakened protocol e.facts }) m)).next_id)
 
-served_at-none : (o : Option Entry) (seen : Seen) (protocol : ℕ) (m : Machine) → GivesNone m (served_at o seen protocol m).machine
-served_at-none None seen protocol m = omega arith
-served_at-none (Some e) seen protocol m =
-    subst (λ n. GivesNone m (ends_if seen.done protocol (entry_at e.facts.cid.0 n) n).machine) (sym (replies-machine seen.reply protocol e m))
-    (ends_if-none seen.done (entry_at e.facts.cid.0 m))
+serves-none : (seen : Seen) (protocol : ℕ) (e : Entry) (m : Machine) → GivesNone m (serves seen protocol e m).machine
+serves-none seen protocol e m =
+    subst (λ n. GivesNone m (stops_if seen.done protocol e n).machine) (sym (replies-machine seen.reply protocol e m))
+    (stops_if-none seen.done)
   where
-    ends_if-none : (done : Bool) (o : Option Entry) → GivesNone m (ends_if done protocol o m).machine
-    ends_if-none true (Some x) = omega arith
-    ends_if-none true None = omega arith
-    ends_if-none false o = omega arith
+    stops_if-none : (done : Bool) → GivesNone m (stops_if done protocol e m).machine
+    stops_if-none true = omega arith
+    stops_if-none false = omega arith
 
 asked_as-none : (r : Result Seen FaultKind) (protocol : ℕ) (e : Entry) (m : Machine) → GivesNone m (asked_as r protocol e m).machine
 asked_as-none (Err kind) protocol e m = ending-none (Fault kind) e m
@@ -336,9 +332,9 @@ asked_as-none (Ok seen) protocol e m =
     let n : Machine = (begins protocol e m).machine in
     let begun : GivesNone m n = cond_both (runs protocol e.facts.running) (nothing_more m) (awake protocol e m) (λ effect. GivesNone m effect.machine)
     (λ running. omega arith) (λ stopped. awake-none protocol e m) in
-    cond_both (takes_requests e) (then_do (begins protocol e m) (λ o. served_at (entry_at e.facts.cid.0 o) seen protocol o)) (ending (Fault Protocol) e m)
+    cond_both (takes_requests e) (then_do (begins protocol e m) (on_connection e.facts.cid (serves seen protocol))) (ending (Fault Protocol) e m)
     (λ effect. GivesNone m effect.machine)
-    (λ takes. omega (arith, begun, served_at-none (entry_at e.facts.cid.0 n) seen protocol n)) (λ other. ending-none (Fault Protocol) e m)
+    (λ takes. omega (arith, begun, on_entry-none (serves seen protocol) (serves-none seen protocol) (entry_at e.facts.cid.0 n) n)) (λ other. ending-none (Fault Protocol) e m)
 
 takes_addresses-none : (o : Option Share) (m : Machine) → GivesNone m (takes_addresses o m).machine
 takes_addresses-none None m = omega arith
@@ -375,31 +371,23 @@ handled_in-none (Greeting until) item e m = greets-none item e m
 handled_in-none Negotiated item e m = talks-none item e m
 handled_in-none (Closing until) item e m = omega arith
 
-handled_at-none : (o : Option Entry) (item : Item) (m : Machine) → GivesNone m (handled_at o item m).machine
-handled_at-none None item m = omega arith
-handled_at-none (Some e) item m = handled_in-none e.facts.phase item e m
+handles-none : (cid : Cid) (item : Item) (m : Machine) → GivesNone m (handles cid item m).machine
+handles-none cid item m = on_entry-none (handled item) (λ e. handled_in-none e.facts.phase item e) (entry_at cid.0 m) m
 
-faulted_at-none : (o : Option Entry) (fault : Option CutFault) (m : Machine) → GivesNone m (faulted_at o fault m).machine
-faulted_at-none (Some e) (Some fault) m = ending-none (Fault (kind_of fault)) e m
-faulted_at-none (Some e) None m = omega arith
-faulted_at-none None fault m = omega arith
+faulted-none : (fault : Option CutFault) (e : Entry) (m : Machine) → GivesNone m (faulted fault e m).machine
+faulted-none (Some fault) e m = ending-none (Fault (kind_of fault)) e m
+faulted-none None e m = omega arith
 
 fed_with-none : (fed : FedBy) (e : Entry) (m : Machine) → GivesNone m (fed_with fed e m).machine
 fed_with-none fed e m =
     let n : Machine = with_entry (record e { undecoded = fed.state.undecoded }) m in
     let o : Machine = (for_each (handles e.facts.cid) fed.items n).machine in
-    let items = for_each-none (handles e.facts.cid) (λ item w. handled_at-none (entry_at e.facts.cid.0 w) item w) fed.items n in
-    omega (arith, items, faulted_at-none (entry_at e.facts.cid.0 o) fed.state.fault o)
+    let items = for_each-none (handles e.facts.cid) (handles-none e.facts.cid) fed.items n in
+    omega (arith, items, on_entry-none (faulted fed.state.fault) (faulted-none fed.state.fault) (entry_at e.facts.cid.0 o) o)
 
-comes_in_phase-none : (phase : Phase) (bytes : List ℕ) (e : Entry) (m : Machine) → GivesNone m (comes_in_phase phase bytes e m).machine
-comes_in_phase-none Dialing bytes e m = omega arith
-comes_in_phase-none (Greeting until) bytes e m = fed_with-none _ e m
-comes_in_phase-none Negotiated bytes e m = fed_with-none _ e m
-comes_in_phase-none (Closing until) bytes e m = omega arith
-
-comes_in_at-none : (o : Option Entry) (bytes : List ℕ) (m : Machine) → GivesNone m (comes_in_at o bytes m).machine
-comes_in_at-none None bytes m = omega arith
-comes_in_at-none (Some e) bytes m = comes_in_phase-none e.facts.phase bytes e m
+comes_in-none : (bytes : List ℕ) (e : Entry) (m : Machine) → GivesNone m (comes_in bytes e m).machine
+comes_in-none bytes e m = cond_both (is_greeting e.facts || is_negotiated e.facts) (feeds bytes e m) (nothing_more m)
+    (λ effect. GivesNone m effect.machine) (λ open_now. fed_with-none _ e m) (λ other. omega arith)
 
 -- ---- a peer connects
 
@@ -415,14 +403,12 @@ accepted_beside-one None addr m = omega arith
 accepted_beside-one (Some e) addr m = cond_both (is_pending e.facts) (crossed addr e m) (turned_away AlreadyThere m) (λ effect. GivesOne m effect.machine)
     (λ pending. crossed-one addr e m) (λ other. omega arith)
 
-accepted_through-one : (gate : Gate) (addr : Addr) (m : Machine) → GivesOne m (accepted_through gate addr m).machine
-accepted_through-one Free addr m = accepted_beside-one (live_entry_at addr m) addr m
-accepted_through-one (PauseFor delay) addr m = accepted_beside-one (live_entry_at addr m) addr m
-accepted_through-one NoRoom addr m = omega arith
-
 peer_connects-one : (addr : Addr) (m : Machine) → GivesOne m (peer_connects addr m).machine
-peer_connects-one addr m = cond_both (same_address addr m.settings.own) (turned_away OwnAddr m) (accepted_through (gate_of m.settings (counted_in m)) addr m)
-    (λ effect. GivesOne m effect.machine) (λ own. omega arith) (λ other. accepted_through-one (gate_of m.settings (counted_in m)) addr m)
+peer_connects-one addr m = cond_both (same_address addr m.settings.own) (turned_away OwnAddr m)
+    (if nat_le m.settings.hard (counted_in m) then turned_away Full m else accepted_beside (live_entry_at addr m) addr m)
+    (λ effect. GivesOne m effect.machine) (λ own. omega arith)
+    (λ other. cond_both (nat_le m.settings.hard (counted_in m)) (turned_away Full m) (accepted_beside (live_entry_at addr m) addr m)
+    (λ effect. GivesOne m effect.machine) (λ full. omega arith) (λ room. accepted_beside-one (live_entry_at addr m) addr m))
 
 -- ---- the governor's orders
 
@@ -466,11 +452,7 @@ peer_goes-gives addr m =
 
 on_used-gives : (addr : Addr) (act : Entry → Machine → Effect) → ((e : Entry) (m : Machine) → Gives 0 m (act e m).machine) → (m : Machine) →
     Gives 0 m (on_used addr act m).machine
-on_used-gives addr act each m = by_entry (find (is_used_at addr) m.connections)
-  where
-    by_entry : (o : Option Entry) → Gives 0 m (on_entry o act m).machine
-    by_entry None = gives_nothing m
-    by_entry (Some e) = each e m
+on_used-gives addr act each m = on_entry-gives 0 act each (find (is_used_at addr) m.connections) m
 
 activates-gives : (e : Entry) (m : Machine) → Gives 0 m (activates e m).machine
 activates-gives e m = connections-gives (with_entry (owing 2 0 m e) m).connections m
@@ -810,9 +792,9 @@ pub whole_step-ids : (m : Machine) (event : Event) → IsSteady m → (whole_ste
 whole_step-ids m (Now t) h = none-few m (clock_shows t m).machine (clock_shows-none t m)
 whole_step-ids m (Govern word) h = omega (arith, govern-ids word m h.formed.peers h.formed.groups, h.formed.room)
 whole_step-ids m (Accepted addr) h = omega (arith, peer_connects-one addr m)
-whole_step-ids m (Dialed cid opened) h = none-few m (dial_ends_at (entry_at cid.0 m) opened m).machine (dial_ends_at-none (entry_at cid.0 m) opened m)
-whole_step-ids m (Bytes cid bytes) h = none-few m (bytes_come_in cid bytes m).machine (comes_in_at-none (entry_at cid.0 m) bytes m)
-whole_step-ids m (Closed cid) h = none-few m (closed_at (entry_at cid.0 m) m).machine (closed_at-none (entry_at cid.0 m) m)
+whole_step-ids m (Dialed cid opened) h = none-few m (dial_ends cid opened m).machine (on_entry-none (dialed opened) (dialed-none opened) (entry_at cid.0 m) m)
+whole_step-ids m (Bytes cid bytes) h = none-few m (bytes_come_in cid bytes m).machine (on_entry-none (comes_in bytes) (comes_in-none bytes) (entry_at cid.0 m) m)
+whole_step-ids m (Closed cid) h = none-few m (peer_closes cid m).machine (on_entry-none closes closes-none (entry_at cid.0 m) m)
 whole_step-ids m (Aims targets) h = omega arith
 whole_step-ids m (Locals groups) h = none-few m (locals_are groups m).machine (locals_are-none groups m)
 whole_step-ids m (Roots job answer) h = none-few m (roots_answer job answer m).machine (roots_answer-none job answer m)

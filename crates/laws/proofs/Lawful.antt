@@ -18,7 +18,7 @@ use Rattle.net_base.specs.declared.address.Addr.{Addr}
 use Rattle.peer_book.specs.Book.{peer_at as peer_in, new_peer, entry_of, entered}
 use Rattle.peer_book.specs.declared.added.Added.{Added}
 use Rattle.peer_book.specs.declared.added.Added.TheVariants.{New, Present, Full}
-use Rattle.machine.specs.Replies.{owing, asks}
+use Rattle.machine.specs.Replies.{owing, sends_as_initiator}
 use Rattle.machine.specs.Connections.{with_entry, without_entry, entry_turns, is_missed, lost, lost_by, ending, is_used}
 use Rattle.net_base.specs.declared.peer.Temp.TheVariants.{Warm}
 use Rattle.warm_messages.specs.Writing.{written_alive}
@@ -360,13 +360,13 @@ turned_then-obeys Law m e new k next h s t lower still quiet =
 -- ---- a connection comes into use
 
 -- what follows on the connection
-succeeds-quiet : (f : Facts) (m : Machine) → IsQuiet m (then_do (peer_succeeds f.addr m) (asks f.cid 8 (written_alive (Ask (f.cid.0 % 65536)))))
+succeeds-quiet : (f : Facts) (m : Machine) → IsQuiet m (then_do (peer_succeeds f.addr m) (sends_as_initiator f.cid 8 (written_alive (Ask (f.cid.0 % 65536)))))
 succeeds-quiet f m =
     let warm : Peer → Peer = λ p. record p { temp = Warm; failures = 0 } in
     let first : Effect = peer_changes f.addr warm m in
-    quiet_then m first (asks f.cid 8 (written_alive (Ask (f.cid.0 % 65536))))
+    quiet_then m first (sends_as_initiator f.cid 8 (written_alive (Ask (f.cid.0 % 65536))))
     (changes-quiet f.addr warm m (record { addr = λ p. refl; hot = λ p hot. absurd (false≢true hot) }))
-    (tells-quiet (asks f.cid 8 (written_alive (Ask (f.cid.0 % 65536))) first.machine).actions first.machine)
+    (tells-quiet (sends_as_initiator f.cid 8 (written_alive (Ask (f.cid.0 % 65536))) first.machine).actions first.machine)
 
 asked-before : (m : Machine) (e : Entry) (f : Facts) → is_asked_connection (Some (owing 8 (f.cid.0 % 65536) m (record e { facts = f }))) ≡ true → is_asked_connection (Some e) ≡ true
 asked-before m e f =
@@ -377,7 +377,7 @@ pub used-obeys : (Law : Move → Type 0) (f : Facts) (m : Machine) (e : Entry) (
     is_live e.facts ≡ true → is_negotiated f ≡ true → is_up_connection (Some e) ≡ true → Obeys Law m (is_used f e m)
 used-obeys Law f m e k h s cid addr live negotiated up =
     let new : Entry = owing 8 (f.cid.0 % 65536) m (record e { facts = f }) in
-    turned_then-obeys Law m e new k (λ m. then_do (peer_succeeds f.addr m) (asks f.cid 8 (written_alive (Ask (f.cid.0 % 65536))))) h s
+    turned_then-obeys Law m e new k (λ m. then_do (peer_succeeds f.addr m) (sends_as_initiator f.cid 8 (written_alive (Ask (f.cid.0 % 65536))))) h s
     (record { same_id = cid; same_addr = addr; live = λ l. live }) (record { up = λ rises. up; asked = asked-before m e f }) (λ was. negotiated)
     (succeeds-quiet f (with_entry new m))
 
@@ -413,7 +413,7 @@ pub promoted-obeys : (Law : Move → Type 0) (f : Facts) (m : Machine) (e : Entr
 promoted-obeys Law f m e k a h s cid addr here live negotiated law =
     let new : Entry = owing 8 (f.cid.0 % 65536) m (record e { facts = f }) in
     let n : Machine = with_entry new m in
-    let next : Machine → Effect = λ m. then_do (peer_succeeds f.addr m) (asks f.cid 8 (written_alive (Ask (f.cid.0 % 65536)))) in
+    let next : Machine → Effect = λ m. then_do (peer_succeeds f.addr m) (sends_as_initiator f.cid 8 (written_alive (Ask (f.cid.0 % 65536)))) in
     let effect : Effect = is_used f e m in
     let quiet : IsQuiet n (next n) = succeeds-quiet f n in
     let turns : TurnsInto e new = record { same_id = cid; same_addr = addr; live = λ l. live } in

@@ -14,11 +14,11 @@ use Rattle.govern_rules.specs.declared.order.Order.{Order}
 use Rattle.govern_rules.specs.declared.order.Order.TheVariants.{Ask, Forget, Release, Activate, Deactivate}
 use Rattle.peer_book.specs.Book.{is_established}
 use Rattle.machine.specs.Machine.{Machine, Entry, counted_in, live_entry_at}
-use Rattle.machine.specs.Effect.{Effect, Move, activated, nothing_more, then_do, as_move, for_each}
+use Rattle.machine.specs.Effect.{Effect, Move, activated, nothing_more, then_do, as_move, for_each, on_entry}
 use Rattle.machine.specs.Peers.{peer_at, peer_becomes, peer_was_asked, peer_goes}
-use Rattle.machine.specs.Replies.{asks, owing, reply_on, peer_sharing_done, chain_sync_done}
+use Rattle.machine.specs.Replies.{sends_as_initiator, owing, reply_on, peer_sharing_done, chain_sync_done}
 use Rattle.machine.specs.Connections.{with_entry, entry_turns, says_done, trim, release}
-use Rattle.machine.specs.Govern.{on_entry, is_used_at, on_used, asks_peer, activates, deactivates, carries_out}
+use Rattle.machine.specs.Govern.{is_used_at, on_used, asks_peer, activates, deactivates, carries_out}
 use Rattle.warm_messages.specs.Writing.{written_alive, written_request}
 use Rattle.warm_messages.specs.declared.alive.Alive.TheVariants.{Done}
 use Rattle.laws.specs.AtMoves.{IsReady, Faults, IsLawful, is_up_connection, is_up, is_hot_peer, is_asked_connection, is_hot_or_asked, is_known, promotes, activates as activation, shares}
@@ -119,7 +119,7 @@ other_at b x other = ap (λ c. (c && is_live x.facts) && x.facts.local) other
 
 asked-obeys : (Law : Move → Type 0) (n : ℕ) (m : Machine) (e : Entry) (k : ℕ) → IsOrdered m → StandsAt m.connections k e → Obeys Law m (asks_peer n e m)
 asked-obeys Law n m e k h s =
-    let request : Effect = asks e.facts.cid 10 (written_request n) m in
+    let request : Effect = sends_as_initiator e.facts.cid 10 (written_request n) m in
     let new : Entry = owing 10 n m e in
     let asked : Machine → Effect = λ o. peer_was_asked (o.now + o.settings.sharegap) e.facts.addr o in
     obeys_then Law m request (λ o. then_do (entry_turns e (owing 10 n o e) o) asked) (quiet-obeys Law m request (tells-quiet request.actions m))
@@ -221,7 +221,7 @@ activate-carried faults addr m h within may = on_used_by-carried (IsAllowed faul
 
 deactivated-obeys : (Law : Move → Type 0) (m : Machine) (e : Entry) → Obeys Law m (deactivates e m)
 deactivated-obeys Law m e =
-    let notice : Effect = asks e.facts.cid 2 chain_sync_done m in
+    let notice : Effect = sends_as_initiator e.facts.cid 2 chain_sync_done m in
     quiet-obeys Law m (deactivates e m)
     (quiet_then m notice (peer_becomes Warm e.facts.addr) (tells-quiet notice.actions m)
     (changes-quiet e.facts.addr (λ p. record p { temp = Warm }) m (record { addr = λ p. refl; hot = λ p hot. absurd (false≢true hot) })))
@@ -294,14 +294,14 @@ MayRelease m addr = (e : Entry) → find (is_used_at addr) m.connections ≡ Som
 
 says_done-quiet : (f : Facts) (m : Machine) → IsQuiet m (says_done f m)
 says_done-quiet f m =
-    let sharing_done : Effect = asks f.cid 10 peer_sharing_done m in
+    let sharing_done : Effect = sends_as_initiator f.cid 10 peer_sharing_done m in
     let first : Effect = if agreed_sharing f.agreed then sharing_done else nothing_more m in
-    quiet_then m first (asks f.cid 8 (written_alive Done))
+    quiet_then m first (sends_as_initiator f.cid 8 (written_alive Done))
     (cond_both (agreed_sharing f.agreed) sharing_done (nothing_more m) (IsQuiet m) (λ sharing. tells-quiet sharing_done.actions m) (λ other. tells-quiet [] m))
-    (tells-quiet (asks f.cid 8 (written_alive Done) first.machine).actions first.machine)
+    (tells-quiet (sends_as_initiator f.cid 8 (written_alive Done) first.machine).actions first.machine)
 
 pub says_done-machine : (f : Facts) (m : Machine) → (says_done f m).machine ≡ m
-says_done-machine f m = cond_both (agreed_sharing f.agreed) (asks f.cid 10 peer_sharing_done m) (nothing_more m) (λ effect. effect.machine ≡ m)
+says_done-machine f m = cond_both (agreed_sharing f.agreed) (sends_as_initiator f.cid 10 peer_sharing_done m) (nothing_more m) (λ effect. effect.machine ≡ m)
     (λ sharing. refl) (λ other. refl)
 
 releasing : Entry → Machine → Effect

@@ -5,14 +5,11 @@ use Rattle.std.proofs.lemmas.Bool.{cond_both, false≢true}
 use Rattle.std.proofs.lemmas.List.Folds.{list_any-append, list_any_at}
 use Rattle.std.proofs.lemmas.List.Quantifiers.{position-Some}
 use Rattle.net_base.specs.Address.{same_address, address_below}
-use Rattle.net_base.specs.declared.action.Away.TheVariants.{OwnAddr, Crossed, Present}
+use Rattle.net_base.specs.declared.action.Away.TheVariants.{OwnAddr, Crossed, Present, Full}
 use Rattle.net_base.specs.declared.action.CloseCause.TheVariants.{Overwritten}
 use Rattle.net_base.specs.declared.address.Addr.{Addr}
 use Rattle.net_base.specs.declared.event.Group.{Group}
 use Rattle.net_base.specs.declared.peer.Peer.{Peer}
-use Rattle.accept_gate.specs.Gate.{gate_of}
-use Rattle.accept_gate.specs.declared.gate.Gate.{Gate}
-use Rattle.accept_gate.specs.declared.gate.Gate.TheVariants.{Free, Pause as PauseFor, Full as NoRoom}
 use Rattle.conn_state.specs.Use.{is_pending}
 use Rattle.govern_rules.specs.Rules.{is_not_local}
 use Rattle.peer_book.specs.Book.{peer_at as peer_in, with_peer as with_peer_in, with_new as with_new_in, without_peer, new_peer, entered_by, entered, most_peers}
@@ -22,7 +19,7 @@ use Rattle.machine.specs.Machine.{Machine, Entry, counted_in, live_entry_at}
 use Rattle.machine.specs.Effect.{then_do, for_each}
 use Rattle.machine.specs.Peers.{peer_at, turns_at, peer_is_ordinary}
 use Rattle.machine.specs.Connections.{ending}
-use Rattle.machine.specs.Events.{turned_away, admitted, crossed, accepted_beside, accepted_through, peer_connects}
+use Rattle.machine.specs.Events.{turned_away, admitted, crossed, accepted_beside, peer_connects}
 use Rattle.laws.specs.Laws.{LocalsAreOrdinary}
 use Rattle.laws.proofs.Addresses.{same_address-true}
 use Rattle.laws.proofs.Ties.{found-addr, peer_elsewhere, peer_here, put_in-elsewhere, put_in-here, none_there, taken-elsewhere, taken-here}
@@ -182,12 +179,10 @@ beside-classes addr m h = by_live (live_entry_at addr m)
         (λ pending. cond_both (address_below addr m.settings.own) (then_do (ending Overwritten e m) (admitted addr)) (turned_away Crossed m)
         (λ effect. LocalsAreOrdinary effect.machine) (λ below. h) (λ above. h)) (λ other. h)
 
-through-classes : (g : Gate) (addr : Addr) (m : Machine) → LocalsAreOrdinary m → LocalsAreOrdinary (accepted_through g addr m).machine
-through-classes Free addr m h = beside-classes addr m h
-through-classes (PauseFor delay) addr m h = beside-classes addr m h
-through-classes NoRoom addr m h = h
-
 pub connects-classes : (addr : Addr) (m : Machine) → LocalsAreOrdinary m → LocalsAreOrdinary (peer_connects addr m).machine
 connects-classes addr m h = cond_both (same_address addr m.settings.own) (turned_away OwnAddr m)
-    (accepted_through (gate_of m.settings (counted_in m)) addr m) (λ effect. LocalsAreOrdinary effect.machine)
-    (λ own. h) (λ other. through-classes (gate_of m.settings (counted_in m)) addr m h)
+    (if nat_le m.settings.hard (counted_in m) then turned_away Full m else accepted_beside (live_entry_at addr m) addr m)
+    (λ effect. LocalsAreOrdinary effect.machine)
+    (λ own. h)
+    (λ other. cond_both (nat_le m.settings.hard (counted_in m)) (turned_away Full m) (accepted_beside (live_entry_at addr m) addr m)
+    (λ effect. LocalsAreOrdinary effect.machine) (λ full. h) (λ room. beside-classes addr m h))

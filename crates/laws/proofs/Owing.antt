@@ -5,8 +5,8 @@ use Rattle.std.proofs.lemmas.List.Elements.{All-nil, All-head, All-tail, All-con
 use Rattle.std.proofs.lemmas.List.Kept.{AllPairs-cons, AllPairs-filter}
 use Rattle.conn_state.specs.Use.{agreed_sharing}
 use Rattle.machine.specs.Machine.{Machine, Entry, Owed}
-use Rattle.machine.specs.Replies.{with_reply, without_reply, reply_on, owing, paid}
-use Rattle.laws.specs.Whole.{is_owed_on, IsOwing}
+use Rattle.machine.specs.Replies.{with_reply, without_reply, reply_on, owing, paid, is_owed_on}
+use Rattle.laws.specs.Whole.{IsOwing}
 use Rattle.laws.proofs.Lists.{AllPairs-head, AllPairs-tail}
 
 -- ---- which replies are found

@@ -9,10 +9,11 @@ use Rattle.accept_gate.specs.Prune.{choice_of}
 use Rattle.conn_state.specs.Moves.{awakened}
 use Rattle.conn_state.specs.Protocols.{has_responder}
 use Rattle.conn_state.specs.Use.{has_id, runs}
-use Rattle.machine.specs.Connections.{with_entry, without_entry, pruned_at, candidates_in, trim, awake}
-use Rattle.machine.specs.Effect.{nothing_more}
+use Rattle.machine.specs.Connections.{with_entry, without_entry, candidates_in, trim, awake, ending}
+use Rattle.machine.specs.Effect.{nothing_more, on_entry}
 use Rattle.machine.specs.Machine.{Machine, Entry, counted_in, entry_at}
 use Rattle.laws.proofs.Trims.{lost-connections}
+use Rattle.net_base.specs.declared.action.CloseCause.TheVariants.{Pruned}
 
 some_same : (x e : Entry) → Some x ≡ Some e → x ≡ e
 some_same x e same = cc
@@ -50,7 +51,7 @@ found-among cid other x (e ∷ es) found = by_tests (has_id other e.facts) (has_
 gone-found : (cid other : ℕ) (x : Entry) (m : Machine) → entry_at cid (without_entry other m) ≡ Some x → entry_at cid m ≡ Some x
 gone-found cid other x m found = found-among cid other x m.connections found
 
-pruned-found : (cid : ℕ) (x : Entry) (m : Machine) (o : Option Entry) → entry_at cid (pruned_at o m).machine ≡ Some x → entry_at cid m ≡ Some x
+pruned-found : (cid : ℕ) (x : Entry) (m : Machine) (o : Option Entry) → entry_at cid (on_entry o (ending Pruned) m).machine ≡ Some x → entry_at cid m ≡ Some x
 pruned-found cid x m None found = found
 pruned-found cid x m (Some e) found =
     let n : Machine = without_entry e.facts.cid.0 m in
@@ -58,7 +59,7 @@ pruned-found cid x m (Some e) found =
 
 pub trim-found : (moved : Cid) (cid : ℕ) (x : Entry) (m : Machine) → entry_at cid (trim moved m).machine ≡ Some x → entry_at cid m ≡ Some x
 trim-found moved cid x m = cond_both (nat_le (counted_in m) m.settings.hard) (nothing_more m)
-    (pruned_at (entry_at (unwrap_or (choice_of (candidates_in m)) moved).0 m) m)
+    (on_entry (entry_at (unwrap_or (choice_of (candidates_in m)) moved).0 m) (ending Pruned) m)
     (λ effect. entry_at cid effect.machine ≡ Some x → entry_at cid m ≡ Some x)
     (λ within found. found)
     (λ above found. pruned-found cid x m (entry_at (unwrap_or (choice_of (candidates_in m)) moved).0 m) found)

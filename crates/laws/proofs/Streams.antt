@@ -1,5 +1,5 @@
 -- Bytes come in on a connection.
-use Rattle.std.proofs.Common.{ℕ, ◌≤◌, ◌≡◌, List, Option, Some, None, All, Contains, refl, sym, ap, subst, inl, inr, eqb-true}
+use Rattle.std.proofs.Common.{ℕ, ◌≤◌, ◌≡◌, List, Option, Some, None, All, Contains, refl, sym, ap, subst, inl, inr, eqb-true, ◌||◌}
 use Rattle.std.proofs.lemmas.List.Elements.{All-weaker, All-contains_itself}
 use Rattle.mux_segment.specs.Stream.{FedBy}
 use Rattle.mux_segment.specs.declared.fault.CutFault.{CutFault}
@@ -10,11 +10,11 @@ use Rattle.net_base.specs.declared.connection.Cid.{Cid}
 use Rattle.net_base.specs.declared.connection.Phase.{Phase}
 use Rattle.net_base.specs.declared.connection.Phase.TheVariants.{Dialing, Greeting, Negotiated, Closing}
 use Rattle.net_base.specs.declared.event.Event.TheVariants.{Bytes}
-use Rattle.conn_state.specs.Use.{has_id, is_greeting_phase, is_negotiated_phase}
+use Rattle.conn_state.specs.Use.{has_id, is_greeting_phase, is_negotiated_phase, is_greeting, is_negotiated}
 use Rattle.machine.specs.Machine.{Machine, Entry, counted_in, entry_at}
-use Rattle.machine.specs.Effect.{Effect, then_do, for_each}
+use Rattle.machine.specs.Effect.{Effect, then_do, for_each, on_entry, on_connection, nothing_more}
 use Rattle.machine.specs.Connections.{entry_turns}
-use Rattle.machine.specs.Stream.{handled_in, handled_at, handles, kind_of, faulted_at, fed_with, comes_in_phase, comes_in_at, bytes_come_in}
+use Rattle.machine.specs.Stream.{handled_in, handled, handles, kind_of, faulted, fed_with, feeds, comes_in, bytes_come_in}
 use Rattle.laws.specs.AtMoves.{Faults, fault_of, IsByStream, fed_on, IsByBytes, faults_of, IsLawful}
 use Rattle.laws.proofs.Handshakes.{greets-trimmed}
 use Rattle.laws.proofs.Keeping.{IsOrdered}
@@ -23,6 +23,7 @@ use Rattle.laws.proofs.Lists.{StandsAt, find_some}
 use Rattle.laws.proofs.Talks.{talks-trimmed}
 use Rattle.laws.proofs.Trims.{Trimmed, keeps-trimmed, ending-trimmed, nothing-trimmed, trimmed_then, trimmed-within, for_each_that-trimmed}
 use Rattle.laws.proofs.WholeMoves.{decodes-keeps}
+use Rattle.std.proofs.lemmas.Bool.{cond_both}
 
 -- whatever fault an item is on the connection, it is one of those
 abbrev GivesItem : Faults → Cid → Item → Type 0
@@ -53,17 +54,17 @@ handles-trimmed : (faults : Faults) (cid : Cid) (item : Item) (m : Machine) → 
     Trimmed (IsLawful faults) m (handles cid item m)
 handles-trimmed faults cid item m h within gives = by_entry (entry_at cid.0 m) refl
   where
-    by_entry : (o : Option Entry) → entry_at cid.0 m ≡ o → Trimmed (IsLawful faults) m (handled_at o item m)
+    by_entry : (o : Option Entry) → entry_at cid.0 m ≡ o → Trimmed (IsLawful faults) m (on_entry o (handled item) m)
     by_entry None is = nothing-trimmed (IsLawful faults) m within h
     by_entry (Some e) is =
         let at = find_some (λ y. has_id cid.0 y.facts) m.connections e is in
         handled_in-trimmed faults e.facts.phase item m e at.place refl h within at.stands (λ kind fault. gives m e kind (found-cid cid m e is) fault)
 
 faulted-trimmed : (faults : Faults) (cid : Cid) (fault : Option CutFault) → GivesStream faults cid fault → (m : Machine) → IsOrdered m → counted_in m ≤ m.settings.hard →
-    Trimmed (IsLawful faults) m (faulted_at (entry_at cid.0 m) fault m)
+    Trimmed (IsLawful faults) m (on_connection cid (faulted fault) m)
 faulted-trimmed faults cid fault gives m h within = by_entry (entry_at cid.0 m) refl fault gives
   where
-    by_entry : (o : Option Entry) → entry_at cid.0 m ≡ o → (f : Option CutFault) → GivesStream faults cid f → Trimmed (IsLawful faults) m (faulted_at o f m)
+    by_entry : (o : Option Entry) → entry_at cid.0 m ≡ o → (f : Option CutFault) → GivesStream faults cid f → Trimmed (IsLawful faults) m (on_entry o (faulted f) m)
     by_entry None is f gives = nothing-trimmed (IsLawful faults) m within h
     by_entry (Some e) is None gives = nothing-trimmed (IsLawful faults) m within h
     by_entry (Some e) is (Some f) gives =
@@ -75,7 +76,7 @@ fed_with-trimmed : (faults : Faults) (fed : FedBy) (m : Machine) (e : Entry) (k 
 fed_with-trimmed faults fed m e k h within s by_items by_stream =
     let new : Entry = record e { undecoded = fed.state.undecoded } in
     let first : Effect = entry_turns e new m in
-    let fault : Machine → Effect = λ m. faulted_at (entry_at e.facts.cid.0 m) fed.state.fault m in
+    let fault : Machine → Effect = on_connection e.facts.cid (faulted fed.state.fault) in
     let one : Trimmed (IsLawful faults) m first = keeps-trimmed (IsLawful faults) m first within (decodes-keeps fed.state.undecoded m e k h s)
     (turns-obeys (IsLawful faults) m e new k h.orderly s (record { same_id = refl; same_addr = refl; live = λ l. l }) (record { up = λ up. up; asked = λ asked. asked }) (λ negotiated. negotiated)) in
     let n : Machine = first.machine in
@@ -91,13 +92,12 @@ fed_with-trimmed faults fed m e k h within s by_items by_stream =
 GivesFed : Faults → Cid → FedBy → Type 0
 GivesFed faults cid fed = All (GivesItem faults cid) fed.items × GivesStream faults cid fed.state.fault
 
-comes_in_phase-trimmed : (faults : Faults) (p : Phase) (bytes : List ℕ) (m : Machine) (e : Entry) (k : ℕ) → IsOrdered m → counted_in m ≤ m.settings.hard →
-    StandsAt m.connections k e → GivesFed faults e.facts.cid (fed_on e bytes) → Trimmed (IsLawful faults) m (comes_in_phase p bytes e m)
+comes_in-trimmed : (faults : Faults) (bytes : List ℕ) (m : Machine) (e : Entry) (k : ℕ) → IsOrdered m → counted_in m ≤ m.settings.hard →
+    StandsAt m.connections k e → GivesFed faults e.facts.cid (fed_on e bytes) → Trimmed (IsLawful faults) m (comes_in bytes e m)
 unfolding GivesFed
-comes_in_phase-trimmed faults Dialing bytes m e k h within s gives = nothing-trimmed (IsLawful faults) m within h
-comes_in_phase-trimmed faults (Greeting until) bytes m e k h within s gives = fed_with-trimmed faults (fed_on e bytes) m e k h within s gives.0 gives.1
-comes_in_phase-trimmed faults Negotiated bytes m e k h within s gives = fed_with-trimmed faults (fed_on e bytes) m e k h within s gives.0 gives.1
-comes_in_phase-trimmed faults (Closing until) bytes m e k h within s gives = nothing-trimmed (IsLawful faults) m within h
+comes_in-trimmed faults bytes m e k h within s gives = cond_both (is_greeting e.facts || is_negotiated e.facts) (feeds bytes e m) (nothing_more m)
+    (Trimmed (IsLawful faults) m)
+    (λ open_now. fed_with-trimmed faults (fed_on e bytes) m e k h within s gives.0 gives.1) (λ other. nothing-trimmed (IsLawful faults) m within h)
 
 -- the faults of the event are what the bytes bring
 fed-gives : (start : Machine) (cid : Cid) (bytes : List ℕ) (first : Entry) → entry_at cid.0 start ≡ Some first →
@@ -117,9 +117,9 @@ pub bytes_come_in-trimmed : (cid : Cid) (bytes : List ℕ) (m : Machine) → IsO
     Trimmed (IsLawful (faults_of m (Bytes cid bytes))) m (bytes_come_in cid bytes m)
 bytes_come_in-trimmed cid bytes m h within = by_entry (entry_at cid.0 m) refl
   where
-    by_entry : (o : Option Entry) → entry_at cid.0 m ≡ o → Trimmed (IsLawful (faults_of m (Bytes cid bytes))) m (comes_in_at o bytes m)
+    by_entry : (o : Option Entry) → entry_at cid.0 m ≡ o → Trimmed (IsLawful (faults_of m (Bytes cid bytes))) m (on_entry o (comes_in bytes) m)
     by_entry None is = nothing-trimmed (IsLawful (faults_of m (Bytes cid bytes))) m within h
     by_entry (Some e) is =
         let at = find_some (λ y. has_id cid.0 y.facts) m.connections e is in
-        comes_in_phase-trimmed (faults_of m (Bytes cid bytes)) e.facts.phase bytes m e at.place h within at.stands
+        comes_in-trimmed (faults_of m (Bytes cid bytes)) bytes m e at.place h within at.stands
         (subst (λ c. GivesFed (faults_of m (Bytes cid bytes)) c (fed_on e bytes)) (sym (found-cid cid m e is)) (fed-gives m cid bytes e is))

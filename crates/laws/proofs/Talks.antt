@@ -25,10 +25,10 @@ use Rattle.warm_messages.specs.declared.share.Share.{Share}
 use Rattle.warm_messages.specs.declared.share.Share.TheVariants as share
 use Rattle.peer_book.specs.Book.{is_established}
 use Rattle.machine.specs.Machine.{Machine, Entry, Owed, counted_in, entry_at, live_entry_at}
-use Rattle.machine.specs.Effect.{Effect, Move, shared, nothing_more, then_do}
+use Rattle.machine.specs.Effect.{Effect, Move, shared, nothing_more, then_do, on_entry, on_connection}
 use Rattle.machine.specs.Peers.{peer_at, peer_becomes, peer_comes}
 use Rattle.machine.specs.Connections.{with_entry, entry_turns, ending, trim, awake, idle}
-use Rattle.machine.specs.Talking.{replies, ends_if, served_at, begins, takes_requests, asked_as, shares_address, taken_of, takes_addresses, pays, brings, answered_as, talks}
+use Rattle.machine.specs.Talking.{replies, stops_if, serves, begins, takes_requests, asked_as, shares_address, taken_of, takes_addresses, pays, brings, answered_as, talks}
 use Rattle.machine.specs.Replies.{reply_on, without_reply, paid}
 use Rattle.laws.proofs.Effects.{counted-running}
 use Rattle.laws.proofs.Entries.{TurnsInto, one_has_id, turned-connections}
@@ -46,6 +46,7 @@ use Rattle.laws.proofs.Trims.{Trimmed, HasMoved, keeps-trimmed, ending-trimmed, 
 use Rattle.laws.proofs.WholeMoves.{negotiated-live, awakes-keeps, idles-keeps, pays-keeps}
 use Rattle.laws.proofs.OwnAddress.{IsOther, taken-other}
 use Rattle.laws.proofs.Remains.{trim-found}
+use Rattle.net_base.specs.declared.connection.Cid.{Cid}
 
 -- ---- only known protocols are answered
 
@@ -190,13 +191,13 @@ awake-begun faults protocol m e k t serves known =
 
 begins-begun : (faults : Faults) (protocol : ℕ) (m : Machine) (e : Entry) (k : ℕ) → Talking m e k → takes_requests e ≡ true → has_responder protocol ≡ true →
     Begun faults e.facts.cid.0 m (begins protocol e m)
-begins-begun faults protocol m e k t serves known = cond_both (runs protocol e.facts.running) (nothing_more m) (awake protocol e m)
+begins-begun faults protocol m e k t takes known = cond_both (runs protocol e.facts.running) (nothing_more m) (awake protocol e m)
     (Begun faults e.facts.cid.0 m)
     (λ running. record {
       trimmed = nothing-trimmed (IsLawful faults) m t.within t.ordered;
       runs = λ x found. ap (λ y. some_runs y.facts.running) (found_is m e x k t.ordered t.stands found) ∙ runs-some protocol e.facts.running running;
     })
-    (λ silent. awake-begun faults protocol m e k t serves known)
+    (λ silent. awake-begun faults protocol m e k t takes known)
 
 pub replies-machine : (r : Reply) (protocol : ℕ) (e : Entry) (m : Machine) → (replies r protocol e m).machine ≡ m
 replies-machine reply.Nothing protocol e m = refl
@@ -215,37 +216,30 @@ replies-quiet reply.NoIntersect protocol e m = tells-quiet (replies reply.NoInte
 replies-quiet reply.Await protocol e m = tells-quiet (replies reply.Await protocol e m).actions m
 replies-quiet reply.NoBlocks protocol e m = tells-quiet (replies reply.NoBlocks protocol e m).actions m
 
-ends_if-trimmed : (faults : Faults) (done : Bool) (protocol cid : ℕ) (m : Machine) → IsOrdered m → counted_in m ≤ m.settings.hard →
-    ((x : Entry) → entry_at cid m ≡ Some x → some_runs x.facts.running ≡ true) → Trimmed (IsLawful faults) m (ends_if done protocol (entry_at cid m) m)
-ends_if-trimmed faults false protocol cid m h within running = nothing-trimmed (IsLawful faults) m within h
-ends_if-trimmed faults true protocol cid m h within running = by_entry (entry_at cid m) refl
-  where
-    by_entry : (o : Option Entry) → entry_at cid m ≡ o → Trimmed (IsLawful faults) m (ends_if true protocol o m)
-    by_entry None is = nothing-trimmed (IsLawful faults) m within h
-    by_entry (Some x) is =
-        let at = find_some (λ y. has_id cid y.facts) m.connections x is in
-        keeps-trimmed (IsLawful faults) m (idle protocol x m) within (idles-keeps protocol m x at.place h at.stands (running x is))
-        (turns-obeys (IsLawful faults) m x (record x { facts = idled protocol (m.now + m.settings.idle) x.facts }) at.place h.orderly at.stands
-        (record { same_id = refl; same_addr = refl; live = λ l. l }) (record { up = λ up. up; asked = λ asked. asked }) (λ negotiated. negotiated))
+stops_if-trimmed : (faults : Faults) (done : Bool) (protocol : ℕ) (m : Machine) (e : Entry) (k : ℕ) → IsOrdered m → counted_in m ≤ m.settings.hard →
+    StandsAt m.connections k e → some_runs e.facts.running ≡ true → Trimmed (IsLawful faults) m (stops_if done protocol e m)
+stops_if-trimmed faults false protocol m e k h within s running = nothing-trimmed (IsLawful faults) m within h
+stops_if-trimmed faults true protocol m e k h within s running =
+    keeps-trimmed (IsLawful faults) m (idle protocol e m) within (idles-keeps protocol m e k h s running)
+    (turns-obeys (IsLawful faults) m e (record e { facts = idled protocol (m.now + m.settings.idle) e.facts }) k h.orderly s
+    (record { same_id = refl; same_addr = refl; live = λ l. l }) (record { up = λ up. up; asked = λ asked. asked }) (λ negotiated. negotiated))
 
-served-trimmed : (faults : Faults) (seen : Seen) (protocol cid : ℕ) (m : Machine) → IsOrdered m → counted_in m ≤ m.settings.hard →
-    ((x : Entry) → entry_at cid m ≡ Some x → some_runs x.facts.running ≡ true) →
-    Trimmed (IsLawful faults) m (served_at (entry_at cid m) seen protocol m)
-served-trimmed faults seen protocol cid m h within running = by_entry (entry_at cid m) refl
+serves-trimmed : (faults : Faults) (seen : Seen) (protocol : ℕ) (cid : Cid) (m : Machine) → IsOrdered m → counted_in m ≤ m.settings.hard →
+    ((x : Entry) → entry_at cid.0 m ≡ Some x → some_runs x.facts.running ≡ true) →
+    Trimmed (IsLawful faults) m (on_connection cid (serves seen protocol) m)
+serves-trimmed faults seen protocol cid m h within running = by_entry (entry_at cid.0 m) refl
   where
-    by_entry : (o : Option Entry) → entry_at cid m ≡ o → Trimmed (IsLawful faults) m (served_at o seen protocol m)
+    by_entry : (o : Option Entry) → entry_at cid.0 m ≡ o → Trimmed (IsLawful faults) m (on_entry o (serves seen protocol) m)
     by_entry None is = nothing-trimmed (IsLawful faults) m within h
     by_entry (Some e) is =
-        let at = find_some (λ y. has_id cid y.facts) m.connections e is in
-        let own : e.facts.cid.0 ≡ cid = eqb-true e.facts.cid.0 cid at.passes in
+        let at = find_some (λ y. has_id cid.0 y.facts) m.connections e is in
         let first : Effect = replies seen.reply protocol e m in
         let same : m ≡ first.machine = sym (replies-machine seen.reply protocol e m) in
-        trimmed_then (IsLawful faults) m first (λ n. ends_if seen.done protocol (entry_at e.facts.cid.0 n) n)
+        trimmed_then (IsLawful faults) m first (stops_if seen.done protocol e)
         (keeps-trimmed (IsLawful faults) m first within (subst (Keeps 0 m) same (keeps_nothing m h))
         (quiet-obeys (IsLawful faults) m first (replies-quiet seen.reply protocol e m)))
-        (subst (λ n. Trimmed (IsLawful faults) n (ends_if seen.done protocol (entry_at e.facts.cid.0 n) n)) same
-        (subst (λ c. Trimmed (IsLawful faults) m (ends_if seen.done protocol (entry_at c m) m)) (sym own)
-        (ends_if-trimmed faults seen.done protocol cid m h within running)))
+        (subst (λ n. Trimmed (IsLawful faults) n (stops_if seen.done protocol e n)) same
+        (stops_if-trimmed faults seen.done protocol m e at.place h within at.stands (running e is)))
 
 asked_as-trimmed : (faults : Faults) (r : Result Seen FaultKind) (item : List ℕ) (sharing : Bool) (protocol : ℕ) (m : Machine) (e : Entry) (k : ℕ) →
     watched protocol sharing item ≡ r → Talking m e k → ((kind : FaultKind) → fault_of_request r e ≡ Some kind → faults m e kind) →
@@ -257,13 +251,13 @@ asked_as-trimmed faults (Ok seen) item sharing protocol m e k is t given = by_te
     known = seen-known protocol sharing item seen is
 
     by_test : (b : Bool) → takes_requests e ≡ b → ((kind : FaultKind) → (if b then None else Some Protocol) ≡ Some kind → faults m e kind) →
-        Trimmed (IsLawful faults) m (if b then then_do (begins protocol e m) (λ m. served_at (entry_at e.facts.cid.0 m) seen protocol m) else ending (Fault Protocol) e m)
-    by_test true serves given =
+        Trimmed (IsLawful faults) m (if b then then_do (begins protocol e m) (on_connection e.facts.cid (serves seen protocol)) else ending (Fault Protocol) e m)
+    by_test true takes given =
         let first : Effect = begins protocol e m in
-        let begun : Begun faults e.facts.cid.0 m first = begins-begun faults protocol m e k t serves known in
-        trimmed_then (IsLawful faults) m first (λ m. served_at (entry_at e.facts.cid.0 m) seen protocol m) begun.trimmed
-        (served-trimmed faults seen protocol e.facts.cid.0 first.machine begun.trimmed.ordered (trimmed-within (IsLawful faults) m first begun.trimmed) begun.runs)
-    by_test false serves given = ends faults Protocol m e k t (given Protocol refl)
+        let begun : Begun faults e.facts.cid.0 m first = begins-begun faults protocol m e k t takes known in
+        trimmed_then (IsLawful faults) m first (on_connection e.facts.cid (serves seen protocol)) begun.trimmed
+        (serves-trimmed faults seen protocol e.facts.cid first.machine begun.trimmed.ordered (trimmed-within (IsLawful faults) m first begun.trimmed) begun.runs)
+    by_test false takes given = ends faults Protocol m e k t (given Protocol refl)
 
 -- ---- the other side answers
 

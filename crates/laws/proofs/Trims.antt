@@ -16,9 +16,9 @@ use Rattle.conn_state.specs.Counted.{is_counted}
 use Rattle.conn_state.specs.Use.{has_id, is_negotiated}
 use Rattle.net_base.specs.Peer.{failed_peer}
 use Rattle.machine.specs.Machine.{Machine, Entry, counted_in, entry_at}
-use Rattle.machine.specs.Effect.{Effect, Happened, Move, nothing_more, then_do, as_move, for_each}
+use Rattle.machine.specs.Effect.{Effect, Happened, Move, nothing_more, then_do, as_move, for_each, on_entry}
 use Rattle.machine.specs.Peers.{turns_at, peer_at, peer_fails}
-use Rattle.machine.specs.Connections.{without_entry, is_missed, lost, ending, candidate_of, candidates_in, pruned_at, trim}
+use Rattle.machine.specs.Connections.{without_entry, is_missed, lost, ending, candidate_of, candidates_in, trim}
 use Rattle.laws.specs.AtMoves.{Faults, MayEnd, IsLawful}
 use Rattle.laws.specs.Laws.{LocalsAreOrdinary}
 use Rattle.laws.specs.Whole.{IsTied}
@@ -201,13 +201,13 @@ found_by_id m e k cid h s same =
 pub trim-trims : (faults : Faults) (moved : Cid) (m : Machine) → IsOrdered m → counted_in m ≤ m.settings.hard + 1 →
     (m.settings.hard < counted_in m → HasMoved moved m) → Trimmed (IsLawful faults) m (trim moved m)
 trim-trims faults moved m h most over = cond_both (nat_le (counted_in m) m.settings.hard) (nothing_more m)
-    (pruned_at (entry_at (unwrap_or (choice_of (candidates_in m)) moved).0 m) m) (λ effect. Trimmed (IsLawful faults) m effect)
+    (on_entry (entry_at (unwrap_or (choice_of (candidates_in m)) moved).0 m) (ending Pruned) m) (λ effect. Trimmed (IsLawful faults) m effect)
     (λ within. nothing-trimmed (IsLawful faults) m (leb-true (counted_in m) m.settings.hard within) h)
     (λ above. let more : m.settings.hard < counted_in m = leb-false (counted_in m) m.settings.hard above in
     by_choice (omega (arith, most, more)) (first_to_go (candidates_in m)) refl (over more))
   where
     by_choice : counted_in m ≡ m.settings.hard + 1 → (o : Option Candidate) → first_to_go (candidates_in m) ≡ o → HasMoved moved m →
-        Trimmed (IsLawful faults) m (pruned_at (entry_at (unwrap_or (option_map (λ c. c.cid) (first_to_go (candidates_in m))) moved).0 m) m)
+        Trimmed (IsLawful faults) m (on_entry (entry_at (unwrap_or (option_map (λ c. c.cid) (first_to_go (candidates_in m))) moved).0 m) (ending Pruned) m)
     by_choice one_more None none own =
         rw (none, found_by_id m own.entry own.place moved h own.stands own.same)
         (pruned-trims faults m own.entry own.place h own.stands own.counted one_more)
@@ -231,11 +231,11 @@ pruned-used q only m e k h s unused =
 pub trim-used : (q : Entry → Bool) → ((x : Entry) → x.facts.local ≡ false → q x ≡ false) → (moved : Cid) (m : Machine) (e : Entry) (k : ℕ) → IsOrdered m →
     StandsAt m.connections k e → e.facts.cid ≡ moved → e.facts.local ≡ false → find q (trim moved m).machine.connections ≡ find q m.connections
 trim-used q only moved m e k h s same unused = cond_both (nat_le (counted_in m) m.settings.hard) (nothing_more m)
-    (pruned_at (entry_at (unwrap_or (choice_of (candidates_in m)) moved).0 m) m) (λ effect. find q effect.machine.connections ≡ find q m.connections)
+    (on_entry (entry_at (unwrap_or (choice_of (candidates_in m)) moved).0 m) (ending Pruned) m) (λ effect. find q effect.machine.connections ≡ find q m.connections)
     (λ within. refl) (λ above. by_choice (first_to_go (candidates_in m)) refl)
   where
     by_choice : (o : Option Candidate) → first_to_go (candidates_in m) ≡ o →
-        find q (pruned_at (entry_at (unwrap_or (option_map (λ c. c.cid) (first_to_go (candidates_in m))) moved).0 m) m).machine.connections ≡ find q m.connections
+        find q (on_entry (entry_at (unwrap_or (option_map (λ c. c.cid) (first_to_go (candidates_in m))) moved).0 m) (ending Pruned) m).machine.connections ≡ find q m.connections
     by_choice None none = rw (none, found_by_id m e k moved h s same) (pruned-used q only m e k h s unused)
     by_choice (Some c) some =
         let goes : Goes m.connections c = goes_among m.connections c some in

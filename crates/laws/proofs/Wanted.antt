@@ -28,11 +28,11 @@ use Rattle.pick_policy.proofs.LeastLaws.{count_none}
 use Rattle.pick_policy.proofs.PickFacts.{length-picked, length-ranked}
 use Rattle.root_groups.specs.Cleaned.{is_listed, members_of, group_of}
 use Rattle.machine.specs.Machine.{Machine, Entry, counted_in, live_entry_at}
-use Rattle.machine.specs.Effect.{Effect, promoted, activated, for_each}
+use Rattle.machine.specs.Effect.{Effect, promoted, activated, for_each, on_entry}
 use Rattle.machine.specs.Replies.{owing}
 use Rattle.machine.specs.Peers.{turns_at, peer_at}
 use Rattle.machine.specs.Connections.{with_entry, acquire, dial}
-use Rattle.machine.specs.Govern.{link_of, view_of, promoted_at, is_used_at, on_entry, on_used, activates, carries_out}
+use Rattle.machine.specs.Govern.{link_of, view_of, promoted_at, is_used_at, on_used, activates, carries_out}
 use Rattle.laws.specs.AtMoves.{number_with, members_with, established_wanted, active_wanted, IsWanted}
 use Rattle.laws.specs.Whole.{ArePeersApart, AreApart}
 use Rattle.laws.proofs.Chosen.{chosen, chosen-apart, chosen-all, PicksMembers, picks-listed, groups_picks-apart, groups_picks-all, apart-behind, front-not_behind, map-groups}

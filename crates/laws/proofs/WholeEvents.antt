@@ -3,7 +3,7 @@ use Rattle.std.proofs.Common.{ℕ, zero, suc, ◌+◌, ◌≤◌, ◌≡◌, Boo
 use Rattle.std.proofs.lemmas.Bool.{cond_both, both_ways, and_parts, false≢true}
 use Rattle.std.proofs.lemmas.List.Elements.{All-push}
 use Rattle.net_base.specs.Address.{same_address, address_below}
-use Rattle.net_base.specs.declared.action.Away.TheVariants.{OwnAddr, Crossed, Present}
+use Rattle.net_base.specs.declared.action.Away.TheVariants.{OwnAddr, Crossed, Present, Full}
 use Rattle.net_base.specs.declared.action.Action.TheVariants.{Close}
 use Rattle.net_base.specs.declared.action.CloseCause.TheVariants.{Unused, Overwritten, Fault}
 use Rattle.net_base.specs.declared.action.FaultKind.TheVariants.{HandshakeWait, ReplyWait}
@@ -19,19 +19,16 @@ use Rattle.net_base.specs.declared.peer.Peer.{Peer}
 use Rattle.net_base.specs.declared.timer.Deadline.{Deadline}
 use Rattle.net_base.specs.declared.timer.Kind.{Kind}
 use Rattle.net_base.specs.declared.timer.Kind.TheVariants.{Handshake, Grace as GraceKind, TimeWait, Reply2, Reply8, Reply10}
-use Rattle.accept_gate.specs.Gate.{gate_of}
-use Rattle.accept_gate.specs.declared.gate.Gate.{Gate}
-use Rattle.accept_gate.specs.declared.gate.Gate.TheVariants.{Free, Pause as PauseFor, Full as NoRoom}
 use Rattle.conn_state.specs.Moves.{expired}
 use Rattle.conn_state.specs.Use.{is_live, is_live_at, is_pending, is_dialing, has_id}
 use Rattle.root_groups.specs.Cleaned.{cleaned, members_of}
 use Rattle.root_groups.specs.RootAsk.{awaits, publics_of, found, failed}
 use Rattle.machine.specs.Machine.{Machine, Entry, counted_in, entry_at, live_entry_at}
-use Rattle.machine.specs.Effect.{Effect, Move, shared, unused, nothing_more, tells, then_do, as_move, for_each}
+use Rattle.machine.specs.Effect.{Effect, Move, shared, unused, nothing_more, tells, then_do, as_move, for_each, on_entry}
 use Rattle.machine.specs.Peers.{peer_at, peer_is_ordinary, peer_comes}
 use Rattle.machine.specs.Connections.{with_entry, without_entry, entry_turns, closing_entry, grace_over, ending, vanishes, dial_opens, dial_fails}
-use Rattle.machine.specs.Deadlines.{deadlines, due, fires_as, fires_on, fires, fires_some, fire_due, fire_all}
-use Rattle.machine.specs.Events.{clock_shows, turned_away, admitted, crossed, accepted_beside, accepted_through, peer_connects, closed_at, peer_closes, dial_ends_at, dial_ends}
+use Rattle.machine.specs.Deadlines.{deadlines, due, fires_as, fires, fires_some, fire_due, fire_all}
+use Rattle.machine.specs.Events.{clock_shows, turned_away, admitted, crossed, accepted_beside, peer_connects, closes, peer_closes, dialed, dial_ends}
 use Rattle.machine.specs.Govern.{govern}
 use Rattle.machine.specs.Provided.{targets_are, big_targets_are, comes_ordinary, locals_are, is_wanted_big, comes_big, bigs_are, roots_say, roots_answer}
 use Rattle.machine.specs.Stream.{bytes_come_in}
@@ -142,7 +139,7 @@ roots-keeps job answer m h = cond_both (awaits job.0 m.roots) (roots_say answer 
 dial_ends-keeps : (cid : Cid) (opened : Bool) (m : Machine) → IsOrdered m → Keeps 0 m (dial_ends cid opened m).machine
 dial_ends-keeps cid opened m h = by_entry (entry_at cid.0 m) refl opened
   where
-    by_entry : (o : Option Entry) → entry_at cid.0 m ≡ o → (b : Bool) → Keeps 0 m (dial_ends_at o b m).machine
+    by_entry : (o : Option Entry) → entry_at cid.0 m ≡ o → (b : Bool) → Keeps 0 m (on_entry o (dialed b) m).machine
     by_entry None is b = keeps_nothing m h
     by_entry (Some e) is b =
         let at = find_some (λ y. has_id cid.0 y.facts) m.connections e is in
@@ -157,7 +154,7 @@ dial_ends-keeps cid opened m h = by_entry (entry_at cid.0 m) refl opened
 closes-keeps : (cid : Cid) (m : Machine) → IsOrdered m → Keeps 0 m (peer_closes cid m).machine
 closes-keeps cid m h = by_entry (entry_at cid.0 m) refl
   where
-    by_entry : (o : Option Entry) → entry_at cid.0 m ≡ o → Keeps 0 m (closed_at o m).machine
+    by_entry : (o : Option Entry) → entry_at cid.0 m ≡ o → Keeps 0 m (on_entry o closes m).machine
     by_entry None is = keeps_nothing m h
     by_entry (Some e) is =
         let at = find_some (λ y. has_id cid.0 y.facts) m.connections e is in
@@ -229,25 +226,19 @@ beside-ties addr m h ties = by_live (live_entry_at addr m) refl
         cond_both (is_pending e.facts) (crossed addr e m) (turned_away Present m) (λ effect. IsTied effect.machine)
         (λ pending. crossed-ties addr m e at.place h at.stands pending at.passes ties) (λ other. ties)
 
-through-formed : (g : Gate) (addr : Addr) (m : Machine) → IsOther m.settings addr → IsOrdered m → IsFormed (accepted_through g addr m).machine
-through-formed Free addr m other h = beside-formed addr m other h
-through-formed (PauseFor delay) addr m other h = beside-formed addr m other h
-through-formed NoRoom addr m other h = h.formed
-
 connects-formed : (addr : Addr) (m : Machine) → IsOrdered m → IsFormed (peer_connects addr m).machine
 connects-formed addr m h = cond_both (same_address addr m.settings.own) (turned_away OwnAddr m)
-    (accepted_through (gate_of m.settings (counted_in m)) addr m) (λ effect. IsFormed effect.machine)
-    (λ own. h.formed) (λ other. through-formed (gate_of m.settings (counted_in m)) addr m other h)
-
-through-ties : (g : Gate) (addr : Addr) (m : Machine) → IsOrdered m → IsTied m → IsTied (accepted_through g addr m).machine
-through-ties Free addr m h ties = beside-ties addr m h ties
-through-ties (PauseFor delay) addr m h ties = beside-ties addr m h ties
-through-ties NoRoom addr m h ties = ties
+    (if nat_le m.settings.hard (counted_in m) then turned_away Full m else accepted_beside (live_entry_at addr m) addr m) (λ effect. IsFormed effect.machine)
+    (λ own. h.formed)
+    (λ other. cond_both (nat_le m.settings.hard (counted_in m)) (turned_away Full m) (accepted_beside (live_entry_at addr m) addr m)
+    (λ effect. IsFormed effect.machine) (λ full. h.formed) (λ room. beside-formed addr m other h))
 
 connects-ties : (addr : Addr) (m : Machine) → IsOrdered m → IsTied m → IsTied (peer_connects addr m).machine
 connects-ties addr m h ties = cond_both (same_address addr m.settings.own) (turned_away OwnAddr m)
-    (accepted_through (gate_of m.settings (counted_in m)) addr m) (λ effect. IsTied effect.machine)
-    (λ own. ties) (λ other. through-ties (gate_of m.settings (counted_in m)) addr m h ties)
+    (if nat_le m.settings.hard (counted_in m) then turned_away Full m else accepted_beside (live_entry_at addr m) addr m) (λ effect. IsTied effect.machine)
+    (λ own. ties)
+    (λ other. cond_both (nat_le m.settings.hard (counted_in m)) (turned_away Full m) (accepted_beside (live_entry_at addr m) addr m)
+    (λ effect. IsTied effect.machine) (λ full. ties) (λ room. beside-ties addr m h ties))
 
 -- ---- the clock
 
@@ -306,7 +297,7 @@ fires_as-keeps Reply10 m e k h s waits = ending-keeps (Fault ReplyWait) refl m e
 pub fires-keeps : (d : Deadline) (m : Machine) → IsOrdered m → due m ≡ Some d → Keeps 0 m (fires d m).machine
 fires-keeps d m h is =
     let next : Due m d = due_of m d h.orderly is in
-    subst (λ o. Keeps 0 m (fires_on o d.kind m).machine) (sym next.found)
+    subst (λ o. Keeps 0 m (on_entry o (fires_as d.kind) m).machine) (sym next.found)
     (fires_as-keeps d.kind m next.owner next.place h next.stands next.waits)
 
 fire_due-keeps : (n : ℕ) (m : Machine) → IsOrdered m → Keeps 0 m (fire_due n m).machine

@@ -22,10 +22,10 @@ use Rattle.conn_state.specs.Use.{agreed_sharing, is_pending, opening_phase, is_n
 use Rattle.machine.specs.Machine.{Machine, Entry, live_entry_at}
 use Rattle.machine.specs.Effect.{nothing_more}
 use Rattle.machine.specs.Peers.{peer_at, peer_fails, peer_succeeds}
-use Rattle.machine.specs.Replies.{reply_on, owing, paid}
+use Rattle.machine.specs.Replies.{reply_on, owing, paid, is_owed_on}
 use Rattle.machine.specs.Connections.{with_entry, without_entry, is_missed, lost, lost_by, ending, vanishes, is_used, is_agreed_inbound, is_agreed_outbound, acquire, idle}
 use Rattle.laws.specs.AtMoves.{IsReady}
-use Rattle.laws.specs.Whole.{IsShaped, IsUnused, AreTied, TiedBy, IsTied, is_owed_on, IsOwing}
+use Rattle.laws.specs.Whole.{IsShaped, IsUnused, AreTied, TiedBy, IsTied, IsOwing}
 use Rattle.machine.specs.Deadlines.{grace_deadlines}
 use Rattle.laws.proofs.Counts.{counted_of, one_if_counted, is_late, grace_late_of}
 use Rattle.laws.proofs.Effects.{at_most_one, one_if-counted, one_if-not_counted, counted-connected, counted-greeting, counted-agreed_outbound, fewer-acquired, counted-running, phase_late_of, owed_late, late-fewer, ahead, phase-ahead, remote-ahead, local-ahead, owing-fewer, paid-fewer}

@@ -32,7 +32,7 @@ use Rattle.peer_book.specs.Book.{is_active, known_of}
 use Rattle.remote_watch.specs.Watch.{watched}
 use Rattle.remote_watch.specs.declared.seen.Seen.{Seen}
 use Rattle.root_groups.specs.Cleaned.{is_listed, members_of}
-use Rattle.machine.specs.Effect.{Happened, Move, promoted, activated, shared, ended, unused, left}
+use Rattle.machine.specs.Effect.{Happened, Move, promoted, activated, shared, ended, unused, gone}
 use Rattle.machine.specs.Govern.{link_of}
 use Rattle.machine.specs.Machine.{Machine, Entry, Owed, counted_in, entry_at, live_entry_at}
 use Rattle.machine.specs.Peers.{peer_at}
@@ -56,7 +56,7 @@ OutOfBackOff (activated addr) before = IsReady before.now (peer_at addr before)
 OutOfBackOff (shared addr) before = Unit {0}
 OutOfBackOff (ended cid cause) before = Unit {0}
 OutOfBackOff (unused cid) before = Unit {0}
-OutOfBackOff (left cid) before = Unit {0}
+OutOfBackOff (gone cid) before = Unit {0}
 
 -- ---- targets and valencies
 
@@ -103,7 +103,7 @@ WithinTargets (activated addr) before after = IsWanted HotOrOwesOn2 active_wante
 WithinTargets (shared addr) before after = IsWantedNew addr before after
 WithinTargets (ended cid cause) before after = Unit {0}
 WithinTargets (unused cid) before after = Unit {0}
-WithinTargets (left cid) before after = Unit {0}
+WithinTargets (gone cid) before after = Unit {0}
 
 -- ---- why a connection ends
 
@@ -143,7 +143,7 @@ ForCause faults (activated addr) before = Unit {0}
 ForCause faults (shared addr) before = Unit {0}
 ForCause faults (ended cid cause) before = OnEntry (entry_at cid before) (λ e. is_negotiated e.facts ≡ true → MayEnd faults cause e before)
 ForCause faults (unused cid) before = OnEntry (entry_at cid before) (λ e. IsOver before.now e.facts)
-ForCause faults (left cid) before = OnEntry (entry_at cid before) (λ e. is_negotiated e.facts ≡ false)
+ForCause faults (gone cid) before = OnEntry (entry_at cid before) (λ e. is_negotiated e.facts ≡ false)
 
 -- ---- which faults there are in an event
 
@@ -223,7 +223,7 @@ ends cid (activated addr) = false
 ends cid (shared addr) = false
 ends cid (ended old cause) = old == cid
 ends cid (unused old) = old == cid
-ends cid (left old) = false
+ends cid (gone old) = false
 
 abbrev pub is_ended_in : ℕ → List Move → Bool
 is_ended_in cid moves = list_any (λ move. ends cid move.happened) moves
@@ -284,7 +284,7 @@ promotes addr (activated other) = false
 promotes addr (shared other) = false
 promotes addr (ended cid cause) = false
 promotes addr (unused cid) = false
-promotes addr (left cid) = false
+promotes addr (gone cid) = false
 
 abbrev pub activates : Addr → Happened → Bool
 activates addr (promoted other) = false
@@ -292,7 +292,7 @@ activates addr (activated other) = same_address other addr
 activates addr (shared other) = false
 activates addr (ended cid cause) = false
 activates addr (unused cid) = false
-activates addr (left cid) = false
+activates addr (gone cid) = false
 
 abbrev pub shares : Addr → Happened → Bool
 shares addr (promoted other) = false
@@ -300,7 +300,7 @@ shares addr (activated other) = false
 shares addr (shared other) = same_address other addr
 shares addr (ended cid cause) = false
 shares addr (unused cid) = false
-shares addr (left cid) = false
+shares addr (gone cid) = false
 
 abbrev pub is_promoted_in : Addr → List Move → Bool
 is_promoted_in addr moves = list_any (λ move. promotes addr move.happened) moves

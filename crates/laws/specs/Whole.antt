@@ -1,5 +1,5 @@
 -- What holds in every record that a run of the whole machine reaches.
-use Rattle.std.specs.Prelude.{ℕ, ◌≡◌, ◌<◌, ◌≤◌, Bool, true, false, not, ◌||◌, ◌==◌, List, [], ◌∷◌, length, All, AllPairs, Option, Some, None, is_some}
+use Rattle.std.specs.Prelude.{ℕ, ◌≡◌, ◌<◌, ◌≤◌, true, false, not, ◌||◌, List, [], ◌∷◌, length, All, AllPairs, Option, Some, None, is_some}
 use Rattle.std.specs.List.{AllByRecursion}
 use Rattle.net_base.specs.Address.{same_address}
 use Rattle.net_base.specs.declared.address.Addr.{Addr}
@@ -13,7 +13,7 @@ use Rattle.peer_book.specs.Book.{is_established, most_peers}
 use Rattle.conn_state.specs.Use.{agreed_sharing, is_dialing, is_duplex, is_for_local, is_for_remote, is_negotiated, is_outbound, is_pending, some_runs}
 use Rattle.machine.specs.Machine.{Machine, Entry, live_entry_at}
 use Rattle.machine.specs.Peers.{peer_at}
-use Rattle.machine.specs.Replies.{reply_on}
+use Rattle.machine.specs.Replies.{reply_on, is_owed_on}
 use Rattle.machine.specs.Whole.{whole_step}
 use Rattle.laws.specs.Laws.{LocalsAreOrdinary}
 use Rattle.laws.specs.Sound.{IsSound}
@@ -48,10 +48,6 @@ abbrev pub AreShaped : Machine → Type 0
 AreShaped m = All (λ e. IsShaped e.facts) m.connections
 
 -- ---- what is owed on a connection
-
--- replies are owed on chain-sync, keep-alive and peer-sharing
-abbrev pub is_owed_on : ℕ → Bool
-is_owed_on protocol = protocol == 2 || protocol == 8 || protocol == 10
 
 pub record IsOwing (e : Entry) : Type 0 where
   pub protocols : All (λ o. is_owed_on o.protocol ≡ true) e.owed

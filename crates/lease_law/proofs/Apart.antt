@@ -10,7 +10,8 @@ use Rattle.net_base.specs.declared.connection.Facts.{Facts}
 use Rattle.net_base.specs.declared.connection.Phase.{Phase}
 use Rattle.net_base.specs.declared.connection.Phase.TheVariants as phase
 use Rattle.net_base.specs.declared.settings.Settings.{Settings}
-use Rattle.conn_state.specs.Moves.{accepted, dialing, acquired, negotiated}
+use Rattle.conn_state.specs.Moves.{accepted, dialing, acquired}
+use Rattle.conn_table.specs.Choices.{negotiated}
 use Rattle.conn_state.specs.Use.{has_id, facts_at, live_at, is_acquirable, is_outbound, is_negotiated, is_negotiated_phase, is_dialing_phase, is_greeting_phase, is_dialing, is_greeting}
 use Rattle.conn_table.specs.Answers.{acquire_of, acquire_answer, after_acquire, lease_of}
 use Rattle.conn_table.specs.Conditions.{after_step}

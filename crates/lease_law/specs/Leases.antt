@@ -6,7 +6,8 @@ use Rattle.net_base.specs.declared.connection.Agreed.{Agreed}
 use Rattle.net_base.specs.declared.connection.Cid.{Cid}
 use Rattle.net_base.specs.declared.connection.Facts.{Facts}
 use Rattle.net_base.specs.declared.settings.Settings.{Settings}
-use Rattle.conn_state.specs.Moves.{connected, negotiated, released, awakened, idled, grace_ended}
+use Rattle.conn_state.specs.Moves.{connected, released, awakened, idled}
+use Rattle.conn_table.specs.Choices.{negotiated, grace_ended}
 use Rattle.conn_state.specs.Use.{facts_at, live_at, is_dialing, is_greeting}
 use Rattle.conn_table.specs.Answers.{any_at, acquire_of, after_acquire, lease_of}
 use Rattle.conn_table.specs.Table.{Table, empty_table, with_accepted, with_dialing, with_moved, without}

@@ -97,4 +97,22 @@ all_run = record {
     big_counted_apart_runs = refl;
     big_forgotten_apart_runs = refl;
   };
+  distinct = record {
+    pause_grows_runs = refl;
+    inbound_waits_runs = refl;
+    dial_answered_again_runs = refl;
+    dialer_on_other_sides_runs = refl;
+    inbound_unidirectional_served_runs = refl;
+    reply_wait_and_back_off_runs = refl;
+    release_trims_runs = refl;
+    overwritten_is_no_failure_runs = refl;
+  };
+  distinct_peers = record {
+    success_forgets_failures_runs = refl;
+    asked_again_after_the_gap_runs = refl;
+    roots_up_to_their_target_runs = refl;
+    big_targets_lowered_runs = refl;
+    bigs_below_the_lowered_target_runs = refl;
+    answer_below_the_lowered_target_runs = refl;
+  };
 }

@@ -1,18 +1,22 @@
 -- Changes of a connection.
-use Rattle.std.specs.Prelude.{ℕ, ◌+◌, ◌%◌, Bool, ◌||◌, not, nat_le, List, [], ◌∷◌, ◌++◌, map, filter, if◌then◌else◌, Option, Some, None}
+--
+-- A move takes a connection as it stands in the machine beside it. After a part that may have changed or ended it, it is
+-- looked up again by its id; after one that only sends, or changes the book of peers, it is the same still.
+use Rattle.std.specs.Prelude.{ℕ, ◌+◌, ◌%◌, Bool, ◌||◌, not, nat_le, List, [], ◌∷◌, ◌++◌, map, filter, if◌then◌else◌, Option}
 use Rattle.std.specs.List.{filter_map}
 use Rattle.std.specs.Option.{option_map, unwrap_or}
 use Rattle.accept_gate.specs.Prune.{rank_of, choice_of}
 use Rattle.accept_gate.specs.declared.prune.Candidate.{Candidate}
 use Rattle.conn_state.specs.Moves.{dialing, connected, agreed_inbound, agreed_outbound, acquired, released, awakened, idled, closing, expired}
 use Rattle.conn_state.specs.Names.{name_of, same_name}
+use Rattle.conn_state.specs.Protocols.{handshake, keep_alive, peer_sharing}
 use Rattle.conn_state.specs.Use.{has_id, is_pending, agreed_sharing}
 use Rattle.hs_decide.specs.Answers.{proposal_of}
 use Rattle.net_base.specs.Shared.{nothing_undecoded}
 use Rattle.net_base.specs.declared.action.Action.{Action}
 use Rattle.net_base.specs.declared.action.Action.TheVariants.{Close, Dial, State}
 use Rattle.net_base.specs.declared.action.CloseCause.{CloseCause}
-use Rattle.net_base.specs.declared.action.CloseCause.TheVariants.{Unused, Pruned, Overwritten, Refused, Query, Fault}
+use Rattle.net_base.specs.declared.action.CloseCause.TheVariants.{Unused, Pruned, Overwritten}
 use Rattle.net_base.specs.declared.action.StateName.TheVariants.{Terminated}
 use Rattle.net_base.specs.declared.address.Addr.{Addr}
 use Rattle.net_base.specs.declared.connection.Agreed.{Agreed}
@@ -21,11 +25,11 @@ use Rattle.net_base.specs.declared.connection.Facts.{Facts}
 use Rattle.net_base.specs.declared.peer.Temp.TheVariants.{Cold}
 use Rattle.warm_messages.specs.Writing.{written_alive}
 use Rattle.warm_messages.specs.declared.alive.Alive.TheVariants.{Ask, Done}
-use Rattle.machine.specs.Machine.{Machine, Entry, fresh_entry, facts_of, counted_in, entry_at, next_cid}
-use Rattle.machine.specs.Effect.{Effect, ended, unused, left, nothing_more, tells, then_do, as_move}
+use Rattle.machine.specs.Machine.{Machine, Entry, fresh_entry, facts_of, counted_in, next_cid}
+use Rattle.machine.specs.Effect.{Effect, ended, unused, gone, nothing_more, tells, then_do, as_move, on_connection}
 use Rattle.machine.specs.Own.{own_info}
 use Rattle.machine.specs.Peers.{peer_fails, peer_succeeds, peer_becomes}
-use Rattle.machine.specs.Replies.{owing, asks, peer_sharing_done}
+use Rattle.machine.specs.Replies.{owing, sends_as_initiator, peer_sharing_done}
 
 abbrev pub with_entry : Entry → Machine → Machine
 with_entry new m = record m {
@@ -59,12 +63,8 @@ lost f m = if is_missed f then peer_fails f.addr m else nothing_more m
 
 -- The connection that a crossing replaces is no failure.
 abbrev pub lost_by : CloseCause → Facts → Machine → Effect
-lost_by Unused = lost
-lost_by Pruned = lost
 lost_by Overwritten = λ f m. nothing_more m
-lost_by Refused = lost
-lost_by Query = lost
-lost_by (Fault kind) = lost
+lost_by other = lost
 
 -- This node ends a connection for a cause.
 abbrev pub ending : CloseCause → Entry → Machine → Effect
@@ -76,7 +76,7 @@ ending cause entry m = as_move (ended entry.facts.cid.0 cause) m
 abbrev pub vanishes : Entry → Machine → Effect
 vanishes entry m = then_do (entry_goes entry m) (lost entry.facts)
 
--- this side closes, and keeps the connection for the time-wait
+-- This side closes, and keeps the connection for the time-wait. No reply is owed on one that nobody uses.
 abbrev pub closing_entry : Machine → Entry → Entry
 closing_entry m entry = record entry {
   facts = closing (m.now + m.settings.timewait) entry.facts;
@@ -92,7 +92,7 @@ grace_over entry m =
 
 -- The time-wait of a connection is over.
 abbrev pub wait_over : Entry → Machine → Effect
-wait_over entry m = as_move (left entry.facts.cid.0) m (entry_goes entry m)
+wait_over entry m = as_move (gone entry.facts.cid.0) m (entry_goes entry m)
 
 -- ---- moves of a connection
 
@@ -100,9 +100,9 @@ wait_over entry m = as_move (left entry.facts.cid.0) m (entry_goes entry m)
 abbrev pub is_used : Facts → Entry → Machine → Effect
 is_used facts entry m =
     let cookie = facts.cid.0 % 65536 in
-    then_do (entry_turns entry (owing 8 cookie m (record entry { facts = facts })) m)
+    then_do (entry_turns entry (owing keep_alive cookie m (record entry { facts = facts })) m)
     (λ m. then_do (peer_succeeds facts.addr m)
-    (asks facts.cid 8 (written_alive (Ask cookie))))
+    (sends_as_initiator facts.cid keep_alive (written_alive (Ask cookie))))
 
 -- The handshake of a peer that connected is done: the connection is kept for the other side.
 abbrev pub is_agreed_inbound : Agreed → Entry → Machine → Effect
@@ -125,20 +125,16 @@ candidate_of f = option_map (λ rank. record { cid = f.cid; rank = rank }) (rank
 abbrev pub candidates_in : Machine → List Candidate
 candidates_in m = filter_map candidate_of (facts_of m)
 
-abbrev pub pruned_at : Option Entry → Machine → Effect
-pruned_at None m = nothing_more m
-pruned_at (Some entry) m = ending Pruned entry m
-
 abbrev pub trim : Cid → Machine → Effect
 trim moved m =
     if nat_le (counted_in m) m.settings.hard then nothing_more m
-    else pruned_at (entry_at (unwrap_or (choice_of (candidates_in m)) moved).0 m) m
+    else on_connection (unwrap_or (choice_of (candidates_in m)) moved) (ending Pruned) m
 
 -- The protocols that this node began are done: peer sharing, where it was agreed, and keep-alive.
 abbrev pub says_done : Facts → Machine → Effect
 says_done f m = then_do
-    (if agreed_sharing f.agreed then asks f.cid 10 peer_sharing_done m else nothing_more m)
-    (asks f.cid 8 (written_alive Done))
+    (if agreed_sharing f.agreed then sends_as_initiator f.cid peer_sharing peer_sharing_done m else nothing_more m)
+    (sends_as_initiator f.cid keep_alive (written_alive Done))
 
 -- This node gives a connection out of its use.
 abbrev pub release : Entry → Machine → Effect
@@ -167,8 +163,8 @@ dial addr m = entry_comes (Dial (next_cid m) addr ∷ []) (fresh_entry (dialing 
 abbrev pub dial_opens : Entry → Machine → Effect
 dial_opens entry m = then_do
     (entry_turns entry (record entry { facts = connected (m.now + m.settings.handshake) entry.facts }) m)
-    (asks entry.facts.cid 0 (proposal_of (own_info m.settings)))
+    (sends_as_initiator entry.facts.cid handshake (proposal_of (own_info m.settings)))
 
 -- It is not: the connection goes, and its peer has failed.
 abbrev pub dial_fails : Entry → Machine → Effect
-dial_fails entry m = as_move (left entry.facts.cid.0) m (vanishes entry m)
+dial_fails entry m = as_move (gone entry.facts.cid.0) m (vanishes entry m)

@@ -1,5 +1,5 @@
 -- The moments at which something happens by itself, and what happens then.
-use Rattle.std.specs.Prelude.{ℕ, zero, suc, ◌==◌, nat_le, List, [], ◌∷◌, ◌++◌, map, filter, length, if◌then◌else◌, Option, Some, None}
+use Rattle.std.specs.Prelude.{ℕ, zero, suc, nat_le, List, [], ◌∷◌, ◌++◌, map, filter, length, if◌then◌else◌, Option, Some, None}
 use Rattle.std.specs.List.{flat_map}
 use Rattle.net_base.specs.Timer.{deadline_before}
 use Rattle.net_base.specs.declared.action.CloseCause.TheVariants.{Fault}
@@ -12,8 +12,9 @@ use Rattle.net_base.specs.declared.connection.Phase.TheVariants.{Dialing, Greeti
 use Rattle.net_base.specs.declared.timer.Deadline.{Deadline}
 use Rattle.net_base.specs.declared.timer.Kind.{Kind}
 use Rattle.net_base.specs.declared.timer.Kind.TheVariants.{Handshake, Grace as GraceKind, TimeWait, Reply2, Reply8, Reply10}
-use Rattle.machine.specs.Machine.{Machine, Entry, Owed, entry_at}
-use Rattle.machine.specs.Effect.{Effect, nothing_more, then_do}
+use Rattle.machine.specs.Machine.{Machine, Entry, Owed}
+use Rattle.machine.specs.Effect.{Effect, nothing_more, then_do, on_connection}
+use Rattle.machine.specs.Replies.{by_reply}
 use Rattle.machine.specs.Connections.{ending, grace_over, wait_over}
 
 abbrev pub deadline : Cid → Kind → ℕ → Deadline
@@ -30,9 +31,8 @@ grace_deadlines cid Off = []
 grace_deadlines cid (ForRemote until) = deadline cid GraceKind until ∷ []
 grace_deadlines cid (ForLocal until) = deadline cid GraceKind until ∷ []
 
--- replies are owed on 2, 8 and 10
 abbrev pub reply_kind : ℕ → Kind
-reply_kind protocol = if protocol == 2 then Reply2 else if protocol == 8 then Reply8 else Reply10
+reply_kind protocol = by_reply protocol Reply2 Reply8 Reply10
 
 abbrev pub reply_deadline : Cid → Owed → Deadline
 reply_deadline cid owed = deadline cid (reply_kind owed.protocol) owed.until
@@ -64,16 +64,10 @@ abbrev pub fires_as : Kind → Entry → Machine → Effect
 fires_as Handshake = ending (Fault HandshakeWait)
 fires_as GraceKind = grace_over
 fires_as TimeWait = wait_over
-fires_as Reply2 = ending (Fault ReplyWait)
-fires_as Reply8 = ending (Fault ReplyWait)
-fires_as Reply10 = ending (Fault ReplyWait)
-
-abbrev pub fires_on : Option Entry → Kind → Machine → Effect
-fires_on None kind m = nothing_more m
-fires_on (Some entry) kind m = fires_as kind entry m
+fires_as reply = ending (Fault ReplyWait)
 
 abbrev pub fires : Deadline → Machine → Effect
-fires d m = fires_on (entry_at d.cid.0 m) d.kind m
+fires d m = on_connection d.cid (fires_as d.kind) m
 
 abbrev pub fires_some : Option Deadline → (Machine → Effect) → Machine → Effect
 fires_some None next m = nothing_more m
@@ -84,6 +78,7 @@ unfoldable pub fire_due : ℕ → Machine → Effect
 fire_due zero m = nothing_more m
 fire_due (suc n) m = fires_some (due m) (fire_due n) m
 
--- No more deadlines can be due than there are, since one that fires sets none that is due.
+-- No more deadlines can be due than there are, since one that fires sets none that is due: every interval is at least a
+-- millisecond, and is counted from the moment that the clock shows.
 abbrev pub fire_all : Machine → Effect
 fire_all m = fire_due (length (deadlines m)) m

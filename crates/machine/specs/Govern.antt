@@ -1,6 +1,7 @@
 -- The governor: the rules in their order, each on the machine that the one before it left.
 use Rattle.std.specs.Prelude.{ℕ, ◌+◌, Bool, ◌&&◌, List, [], ◌∷◌, find, map, is_some, if◌then◌else◌, Option, Some, None}
 use Rattle.churn_clock.specs.Windows.{effective_of, effective_big_of}
+use Rattle.conn_state.specs.Protocols.{chain_sync, keep_alive, peer_sharing}
 use Rattle.conn_state.specs.Use.{is_live, is_live_at, is_acquirable, is_pending, agreed_sharing}
 use Rattle.govern_rules.specs.BigRules.{big_orders}
 use Rattle.govern_rules.specs.Rules.{g2_orders, g3_orders, g4_orders, g5_orders, g6_orders, g7_orders, g8_orders, g9_orders}
@@ -15,8 +16,8 @@ use Rattle.net_base.specs.declared.peer.Temp.TheVariants.{Warm}
 use Rattle.root_groups.specs.RootAsk.{may_ask, asked}
 use Rattle.warm_messages.specs.Writing.{written_request}
 use Rattle.machine.specs.Machine.{Machine, Entry, live_entry_at}
-use Rattle.machine.specs.Effect.{Effect, promoted, activated, nothing_more, tells, then_do, as_move, for_each}
-use Rattle.machine.specs.Replies.{reply_on, owing, asks, find_intersect, chain_sync_done}
+use Rattle.machine.specs.Effect.{Effect, promoted, activated, nothing_more, tells, then_do, as_move, on_entry, for_each}
+use Rattle.machine.specs.Replies.{reply_on, owing, sends_as_initiator, find_intersect, chain_sync_done}
 use Rattle.machine.specs.Peers.{peer_becomes, peer_was_asked, peer_goes}
 use Rattle.machine.specs.Connections.{entry_turns, acquire, release, dial}
 
@@ -31,9 +32,9 @@ link_of entry = record {
   pending = is_pending entry.facts;
   local = entry.facts.local;
   sharing = agreed_sharing entry.facts.agreed;
-  owes2 = is_some (reply_on 2 entry);
-  owes8 = is_some (reply_on 8 entry);
-  owes10 = is_some (reply_on 10 entry);
+  owes2 = is_some (reply_on chain_sync entry);
+  owes8 = is_some (reply_on keep_alive entry);
+  owes10 = is_some (reply_on peer_sharing entry);
 }
 
 abbrev pub view_of : ℕ → Machine → View
@@ -48,6 +49,7 @@ view_of word m = record {
 
 -- ---- orders are carried out
 
+-- The rules promote no peer with a live connection that cannot be taken into use, so nothing is dialed beside one.
 abbrev pub promoted_at : Option Entry → Addr → Machine → Effect
 promoted_at None addr m = dial addr m
 promoted_at (Some entry) addr m = if is_acquirable entry.facts then acquire entry m else dial addr m
@@ -55,10 +57,6 @@ promoted_at (Some entry) addr m = if is_acquirable entry.facts then acquire entr
 -- A connection that can be taken into use is; else the address is dialed.
 abbrev pub promote : Addr → Machine → Effect
 promote addr m = as_move (promoted addr) m (promoted_at (live_entry_at addr m) addr m)
-
-abbrev pub on_entry : Option Entry → (Entry → Machine → Effect) → Machine → Effect
-on_entry None act m = nothing_more m
-on_entry (Some entry) act m = act entry m
 
 -- on the connection of an address that is in local use
 abbrev pub is_used_at : Addr → Entry → Bool
@@ -69,21 +67,21 @@ on_used addr act m = on_entry (find (is_used_at addr) m.connections) act m
 
 -- A peer is asked for addresses, and not again for a while.
 abbrev pub asks_peer : ℕ → Entry → Machine → Effect
-asks_peer n entry m = then_do (asks entry.facts.cid 10 (written_request n) m)
-    (λ m. then_do (entry_turns entry (owing 10 n m entry) m)
+asks_peer n entry m = then_do (sends_as_initiator entry.facts.cid peer_sharing (written_request n) m)
+    (λ m. then_do (entry_turns entry (owing peer_sharing n m entry) m)
     (λ m. peer_was_asked (m.now + m.settings.sharegap) entry.facts.addr m))
 
 -- A warm peer is asked where the chains meet; it is hot once it has answered.
 abbrev pub activates : Entry → Machine → Effect
-activates entry m = then_do (asks entry.facts.cid 2 find_intersect m)
-    (λ m. entry_turns entry (owing 2 0 m entry) m)
+activates entry m = then_do (sends_as_initiator entry.facts.cid chain_sync find_intersect m)
+    (λ m. entry_turns entry (owing chain_sync 0 m entry) m)
 
 abbrev pub activate : Addr → Machine → Effect
 activate addr m = as_move (activated addr) m (on_used addr activates m)
 
 -- A hot peer is told that chain-sync is done, and is warm.
 abbrev pub deactivates : Entry → Machine → Effect
-deactivates entry m = then_do (asks entry.facts.cid 2 chain_sync_done m)
+deactivates entry m = then_do (sends_as_initiator entry.facts.cid chain_sync chain_sync_done m)
     (peer_becomes Warm entry.facts.addr)
 
 abbrev pub carries_out : Order → Machine → Effect

@@ -1,5 +1,6 @@
 -- A connection in its handshake.
 use Rattle.std.specs.Prelude.{ℕ, Bool, true, false, ◌&&◌, ◌==◌, List, if◌then◌else◌, Option, Some, None}
+use Rattle.conn_state.specs.Protocols.{handshake}
 use Rattle.hs_message.specs.Reading.{message_of}
 use Rattle.hs_message.specs.declared.message.Message.{Message}
 use Rattle.hs_message.specs.declared.message.Message.TheVariants as message
@@ -17,7 +18,7 @@ use Rattle.net_base.specs.declared.connection.Provenance.{Provenance}
 use Rattle.net_base.specs.declared.connection.Provenance.TheVariants.{FromRemote, FromLocal}
 use Rattle.machine.specs.Machine.{Machine, Entry}
 use Rattle.machine.specs.Effect.{Effect, nothing_more, then_do}
-use Rattle.machine.specs.Replies.{answers}
+use Rattle.machine.specs.Replies.{sends_as_responder}
 use Rattle.machine.specs.Own.{own_info}
 use Rattle.machine.specs.Connections.{ending, is_agreed_inbound, is_agreed_outbound}
 
@@ -43,9 +44,9 @@ fits_side Acceptor side m = true
 fits_side Dialer side m = side == (if is_proposal m then 0 else 1)
 
 -- what is sent before a verdict is carried out
-abbrev pub told : Option (List ℕ) → Cid → Machine → Effect
-told None cid m = nothing_more m
-told (Some bytes) cid m = answers cid 0 bytes m
+abbrev pub sends_answer : Option (List ℕ) → Cid → Machine → Effect
+sends_answer None cid m = nothing_more m
+sends_answer (Some bytes) cid m = sends_as_responder cid handshake bytes m
 
 abbrev pub judged : Verdict → Entry → Machine → Effect
 judged (verdict.Accept agreed) entry m = is_agreed_inbound agreed entry m
@@ -57,7 +58,7 @@ judged verdict.Wrong entry m = ending (cause.Fault Protocol) entry m
 
 -- The message is answered where the verdict has an answer, and then the verdict is carried out.
 abbrev pub decided : Verdict → Entry → Machine → Effect
-decided v entry m = then_do (told (answer_of v (own_info m.settings)) entry.facts.cid m) (judged v entry)
+decided v entry m = then_do (sends_answer (answer_of v (own_info m.settings)) entry.facts.cid m) (judged v entry)
 
 abbrev pub greeted_by : Option Message → ℕ → Entry → Machine → Effect
 greeted_by None side entry m = ending (cause.Fault Malformed) entry m
@@ -70,6 +71,6 @@ greeted_by (Some message) side entry m =
 -- message of the other side; the verdict.
 abbrev pub greets : Item → Entry → Machine → Effect
 greets item entry m =
-    if item.id == 0 && is_awaited (role_of entry.facts.provenance) item.side
+    if item.id == handshake && is_awaited (role_of entry.facts.provenance) item.side
     then greeted_by (message_of item.body) item.side entry m
     else ending (cause.Fault Protocol) entry m

@@ -22,4 +22,6 @@ pub mod LimitTraces
 pub mod GovernorTraces
 pub mod SharingTraces
 pub mod BigPeerTraces
+pub mod DistinctTraces
+pub mod DistinctPeerTraces
 pub mod Worked

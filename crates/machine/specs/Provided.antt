@@ -1,5 +1,5 @@
 -- What an operator sets, and what the providers of peers say.
-use Rattle.std.specs.Prelude.{Bool, true, false, ◌&&◌, not, nat_lt, List, if◌then◌else◌, is_some}
+use Rattle.std.specs.Prelude.{Bool, true, false, ◌&&◌, not, nat_lt, List, [], if◌then◌else◌, is_some}
 use Rattle.churn_clock.specs.Windows.{effective_big_of}
 use Rattle.net_base.specs.Address.{same_address}
 use Rattle.net_base.specs.declared.address.Addr.{Addr}
@@ -13,16 +13,16 @@ use Rattle.peer_book.specs.Book.{known_of}
 use Rattle.root_groups.specs.Cleaned.{cleaned, members_of, group_of}
 use Rattle.root_groups.specs.RootAsk.{awaits, publics_of, found, failed}
 use Rattle.machine.specs.Machine.{Machine}
-use Rattle.machine.specs.Effect.{Effect, shared, becomes, nothing_more, then_do, as_move, for_each}
+use Rattle.machine.specs.Effect.{Effect, shared, tells, nothing_more, then_do, as_move, for_each}
 use Rattle.machine.specs.Peers.{peer_at, peer_comes, peer_is_ordinary}
 
 -- ---- targets
 
 abbrev pub targets_are : Targets → Machine → Effect
-targets_are targets m = becomes (record m { targets = targets })
+targets_are targets m = tells [] (record m { targets = targets })
 
 abbrev pub big_targets_are : BigTargets → Machine → Effect
-big_targets_are targets m = becomes (record m { big_targets = targets })
+big_targets_are targets m = tells [] (record m { big_targets = targets })
 
 -- ---- local root peers
 
@@ -47,6 +47,7 @@ is_wanted_big addr m =
     && not (is_some (group_of addr m.groups))
     && nat_lt (known_of true m.peers) (effective_big_of m.big_targets m.now).known
 
+-- It is a move also where the book is full and takes nothing.
 abbrev pub comes_big : Addr → Machine → Effect
 comes_big addr m =
     if is_wanted_big addr m then as_move (shared addr) m (peer_comes true addr m) else nothing_more m
@@ -60,7 +61,7 @@ abbrev pub roots_say : RootAnswer → Machine → Effect
 roots_say (Found ttl addrs) m =
     let publics = publics_of m.settings.own m.targets.root addrs in
     for_each comes_ordinary publics (record m { roots = found m.now ttl publics m.roots })
-roots_say Failed m = becomes (record m { roots = failed m.now m.settings.backoff m.roots })
+roots_say Failed m = tells [] (record m { roots = failed m.now m.settings.backoff m.roots })
 
 -- An answer counts only where its question is pending.
 abbrev pub roots_answer : Job → RootAnswer → Machine → Effect

@@ -1,5 +1,6 @@
 -- What is sent, and the replies that the other side owes for it.
-use Rattle.std.specs.Prelude.{ℕ, ◌+◌, ◌==◌, not, nat_lt, List, [], ◌∷◌, ◌++◌, filter, find, Option}
+use Rattle.std.specs.Prelude.{ℕ, ◌+◌, Bool, ◌||◌, ◌==◌, not, nat_lt, List, [], ◌∷◌, ◌++◌, filter, find, Option, if◌then◌else◌}
+use Rattle.conn_state.specs.Protocols.{chain_sync, keep_alive, peer_sharing}
 use Rattle.mux_segment.specs.Frame.{frame_of}
 use Rattle.net_base.specs.declared.action.Action.TheVariants.{Send}
 use Rattle.net_base.specs.declared.connection.Cid.{Cid}
@@ -28,15 +29,26 @@ owing protocol asked m entry = record entry {
 abbrev pub paid : ℕ → Entry → Entry
 paid protocol entry = record entry { owed = without_reply protocol entry.owed }
 
+-- replies are owed on three protocols alone
+abbrev pub is_owed_on : ℕ → Bool
+is_owed_on protocol = protocol == chain_sync || protocol == keep_alive || protocol == peer_sharing
+
+-- what stands for each of the three
+abbrev pub by_reply : {X : Type 0} → ℕ → X → X → X → X
+by_reply protocol on_chain_sync on_keep_alive on_peer_sharing =
+    if protocol == chain_sync then on_chain_sync
+    else if protocol == keep_alive then on_keep_alive
+    else on_peer_sharing
+
 -- ---- messages
 
--- a message on a protocol, from side 0, the initiator's
-abbrev pub asks : Cid → ℕ → List ℕ → Machine → Effect
-asks cid protocol payload m = tells (Send cid (frame_of 0 protocol m.now payload) ∷ []) m
+-- a message on a protocol, from side 0
+abbrev pub sends_as_initiator : Cid → ℕ → List ℕ → Machine → Effect
+sends_as_initiator cid protocol payload m = tells (Send cid (frame_of 0 protocol m.now payload) ∷ []) m
 
--- a message on a protocol, from side 1, the responder's
-abbrev pub answers : Cid → ℕ → List ℕ → Machine → Effect
-answers cid protocol payload m = tells (Send cid (frame_of 1 protocol m.now payload) ∷ []) m
+-- a message on a protocol, from side 1
+abbrev pub sends_as_responder : Cid → ℕ → List ℕ → Machine → Effect
+sends_as_responder cid protocol payload m = tells (Send cid (frame_of 1 protocol m.now payload) ∷ []) m
 
 -- [4, []]: where do our chains meet
 abbrev pub find_intersect : List ℕ

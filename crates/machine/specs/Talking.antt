@@ -1,5 +1,5 @@
 -- A connection whose handshake is done: what the other side asks, and what it answers.
-use Rattle.std.specs.Prelude.{ℕ, Bool, true, false, ◌||◌, ◌==◌, not, nat_le, List, [], length, if◌then◌else◌, Option, Some, None, Result, Ok, Err}
+use Rattle.std.specs.Prelude.{ℕ, Bool, false, ◌||◌, ◌==◌, not, nat_le, List, [], length, if◌then◌else◌, Option, Some, None, Result, Ok, Err}
 use Rattle.churn_clock.specs.Windows.{effective_of}
 use Rattle.conn_state.specs.Use.{is_outbound, is_duplex, agreed_sharing, runs}
 use Rattle.mux_segment.specs.declared.item.Item.{Item}
@@ -20,34 +20,31 @@ use Rattle.warm_messages.specs.declared.alive.Alive.{Alive}
 use Rattle.warm_messages.specs.declared.alive.Alive.TheVariants as alive
 use Rattle.warm_messages.specs.declared.share.Share.{Share}
 use Rattle.warm_messages.specs.declared.share.Share.TheVariants as share
-use Rattle.machine.specs.Machine.{Machine, Entry, Owed, entry_at}
-use Rattle.machine.specs.Effect.{Effect, shared, nothing_more, then_do, as_move, for_each}
-use Rattle.machine.specs.Replies.{reply_on, paid, answers}
+use Rattle.machine.specs.Machine.{Machine, Entry, Owed}
+use Rattle.machine.specs.Effect.{Effect, shared, nothing_more, then_do, as_move, on_connection, for_each}
+use Rattle.machine.specs.Replies.{reply_on, paid, by_reply, sends_as_responder}
 use Rattle.machine.specs.Peers.{peer_becomes, peer_comes}
 use Rattle.machine.specs.Connections.{entry_turns, ending, awake, idle}
 
 -- ---- side 0: the other side asks
 
 -- the peers that are told to the other side
-abbrev pub told_peers : Reply → Addr → Machine → List Addr
-told_peers (reply.Share n) asker m = served_to asker n m.peers m.groups m.roots.publics
-told_peers other asker m = []
+abbrev pub served_peers : Reply → Addr → Machine → List Addr
+served_peers (reply.Share n) asker m = served_to asker n m.peers m.groups m.roots.publics
+served_peers other asker m = []
 
 abbrev pub replies : Reply → ℕ → Entry → Machine → Effect
 replies reply.Nothing protocol entry m = nothing_more m
 replies some protocol entry m =
-    answers entry.facts.cid protocol (reply_bytes_of some (told_peers some entry.facts.addr m)) m
+    sends_as_responder entry.facts.cid protocol (reply_bytes_of some (served_peers some entry.facts.addr m)) m
 
-abbrev pub ends_if : Bool → ℕ → Option Entry → Machine → Effect
-ends_if true protocol (Some entry) m = idle protocol entry m
-ends_if true protocol None m = nothing_more m
-ends_if false protocol entry m = nothing_more m
+abbrev pub stops_if : Bool → ℕ → Entry → Machine → Effect
+stops_if done protocol entry m = if done then idle protocol entry m else nothing_more m
 
 -- The reply is sent, and the protocol that is done stops.
-abbrev pub served_at : Option Entry → Seen → ℕ → Machine → Effect
-served_at None seen protocol m = nothing_more m
-served_at (Some entry) seen protocol m =
-    then_do (replies seen.reply protocol entry m) (λ m. ends_if seen.done protocol (entry_at entry.facts.cid.0 m) m)
+abbrev pub serves : Seen → ℕ → Entry → Machine → Effect
+serves seen protocol entry m =
+    then_do (replies seen.reply protocol entry m) (stops_if seen.done protocol entry)
 
 -- A protocol that does not run starts with its first item. That may end the connection.
 abbrev pub begins : ℕ → Entry → Machine → Effect
@@ -62,22 +59,22 @@ abbrev pub asked_as : Result Seen FaultKind → ℕ → Entry → Machine → Ef
 asked_as (Err kind) protocol entry m = ending (Fault kind) entry m
 asked_as (Ok seen) protocol entry m =
     if takes_requests entry
-    then then_do (begins protocol entry m) (λ m. served_at (entry_at entry.facts.cid.0 m) seen protocol m)
+    then then_do (begins protocol entry m) (on_connection entry.facts.cid (serves seen protocol))
     else ending (Fault Protocol) entry m
 
 -- ---- side 1: the other side answers
 
--- An address that a peer told comes into the book.
+-- An address that a peer told comes into the book. It is a move also where the book is full and takes nothing.
 abbrev pub shares_address : Addr → Machine → Effect
 shares_address addr m = as_move (shared addr) m (peer_comes false addr m)
 
 -- the addresses that are taken of those that a peer told
 abbrev pub taken_of : List Addr → Machine → List Addr
-taken_of told m =
-    fresh_of m.settings.own (effective_of m.targets m.now).known m.settings.version m.peers told
+taken_of addrs m =
+    fresh_of m.settings.own (effective_of m.targets m.now).known m.settings.version m.peers addrs
 
 abbrev pub takes_addresses : Option Share → Machine → Effect
-takes_addresses (Some (share.Peers told)) m = for_each shares_address (taken_of told m) m
+takes_addresses (Some (share.Peers addrs)) m = for_each shares_address (taken_of addrs m) m
 takes_addresses other m = nothing_more m
 
 -- a reply on chain-sync: an intersection was found, or none
@@ -92,21 +89,23 @@ pays_keep_alive cookie other = false
 
 -- at most as many addresses as were asked for
 abbrev pub pays_peer_sharing : ℕ → Option Share → Bool
-pays_peer_sharing asked (Some (share.Peers told)) = nat_le (length told) asked
+pays_peer_sharing asked (Some (share.Peers addrs)) = nat_le (length addrs) asked
 pays_peer_sharing asked other = false
 
 abbrev pub pays : Owed → List ℕ → Bool
 pays owed body =
-    if owed.protocol == 2 then pays_chain_sync (first_number_of body)
-    else if owed.protocol == 8 then pays_keep_alive owed.asked (alive_of body)
-    else pays_peer_sharing owed.asked (share_of body)
+    by_reply owed.protocol
+    (pays_chain_sync (first_number_of body))
+    (pays_keep_alive owed.asked (alive_of body))
+    (pays_peer_sharing owed.asked (share_of body))
 
 -- what a reply brings
 abbrev pub brings : ℕ → List ℕ → Entry → Machine → Effect
 brings protocol body entry m =
-    if protocol == 2 then peer_becomes Hot entry.facts.addr m
-    else if protocol == 8 then nothing_more m
-    else takes_addresses (share_of body) m
+    by_reply protocol
+    (peer_becomes Hot entry.facts.addr m)
+    (nothing_more m)
+    (takes_addresses (share_of body) m)
 
 abbrev pub answered_as : Option Owed → Item → Entry → Machine → Effect
 answered_as None item entry m = ending (Fault Protocol) entry m

@@ -68,6 +68,26 @@ usual = record {
   shares = 2;
 }
 
+-- settings no two of which are equal
+abbrev pub distinct : Settings
+distinct = record {
+  version = 2;
+  own = node 3001;
+  magic = 42;
+  initiator_only = 0;
+  sharing = 1;
+  hard = 6;
+  soft = 3;
+  delay = 100;
+  idle = 300;
+  timewait = 700;
+  handshake = 1100;
+  reply = 1900;
+  backoff = 2700;
+  sharegap = 6100;
+  shares = 5;
+}
+
 -- ---- traces
 
 pub record Happening : Type 0 where

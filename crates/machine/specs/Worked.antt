@@ -8,6 +8,8 @@ use Rattle.machine.specs.LimitTraces.{accept_limits, prune_newest_greeting, prun
 use Rattle.machine.specs.GovernorTraces.{targets_ask_roots_and_dial, release_least_score, release_score_wraps, pending_counts, backoff_first, backoff_seven_failures, local_valency_above_target, locals_cleaned, one_round}
 use Rattle.machine.specs.SharingTraces.{share_answer_adds_peer, share_answer_too_many, share_request_of_one, share_answer_above_target, share_served_without_asker, share_answer_ipv6_taken, share_answer_ipv6_passed_over}
 use Rattle.machine.specs.BigPeerTraces.{big_fewer_failures_first, big_made_ordinary_by_locals, big_counted_apart, big_forgotten_apart}
+use Rattle.machine.specs.DistinctTraces.{pause_grows, inbound_waits, dial_answered_again, dialer_on_other_sides, inbound_unidirectional_served, reply_wait_and_back_off, release_trims, overwritten_is_no_failure}
+use Rattle.machine.specs.DistinctPeerTraces.{success_forgets_failures, asked_again_after_the_gap, roots_up_to_their_target, big_targets_lowered, bigs_below_the_lowered_target, answer_below_the_lowered_target}
 
 pub record HandshakesRun : Type 0 where
   pub inbound_duplex_accept_runs : IsRun inbound_duplex_accept
@@ -83,6 +85,24 @@ pub record BigPeersRun : Type 0 where
   pub big_counted_apart_runs : IsRun big_counted_apart
   pub big_forgotten_apart_runs : IsRun big_forgotten_apart
 
+pub record DistinctRun : Type 0 where
+  pub pause_grows_runs : IsRun pause_grows
+  pub inbound_waits_runs : IsRun inbound_waits
+  pub dial_answered_again_runs : IsRun dial_answered_again
+  pub dialer_on_other_sides_runs : IsRun dialer_on_other_sides
+  pub inbound_unidirectional_served_runs : IsRun inbound_unidirectional_served
+  pub reply_wait_and_back_off_runs : IsRun reply_wait_and_back_off
+  pub release_trims_runs : IsRun release_trims
+  pub overwritten_is_no_failure_runs : IsRun overwritten_is_no_failure
+
+pub record DistinctPeersRun : Type 0 where
+  pub success_forgets_failures_runs : IsRun success_forgets_failures
+  pub asked_again_after_the_gap_runs : IsRun asked_again_after_the_gap
+  pub roots_up_to_their_target_runs : IsRun roots_up_to_their_target
+  pub big_targets_lowered_runs : IsRun big_targets_lowered
+  pub bigs_below_the_lowered_target_runs : IsRun bigs_below_the_lowered_target
+  pub answer_below_the_lowered_target_runs : IsRun answer_below_the_lowered_target
+
 pub record AllRun : Type 0 where
   pub handshakes : HandshakesRun
   pub responders : RespondersRun
@@ -92,3 +112,5 @@ pub record AllRun : Type 0 where
   pub governor : GovernorsRun
   pub sharing : SharingsRun
   pub big_peers : BigPeersRun
+  pub distinct : DistinctRun
+  pub distinct_peers : DistinctPeersRun

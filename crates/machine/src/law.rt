@@ -1,7 +1,7 @@
 //! Laws on the definitions. The functions do nothing.
 
 ghost use Rattle.machine.specs.Whole.{IsPart};
-ghost use Rattle.machine.specs.Worked.{HandshakesRun, RespondersRun, OutboundsRun, CrossingsRun, LimitsRun, GovernorsRun, SharingsRun, BigPeersRun};
+ghost use Rattle.machine.specs.Worked.{HandshakesRun, RespondersRun, OutboundsRun, CrossingsRun, LimitsRun, GovernorsRun, SharingsRun, BigPeersRun, DistinctRun, DistinctPeersRun};
 
 /// The machine does on each worked trace what the trace says.
 pub fn worked_traces_are_runs()
@@ -13,6 +13,8 @@ pub fn worked_traces_are_runs()
     ensures governor { GovernorsRun }
     ensures sharing { SharingsRun }
     ensures big_peers { BigPeersRun }
+    ensures distinct { DistinctRun }
+    ensures distinct_peers { DistinctPeersRun }
 {}
 
 /// On the events that the program handles today, its machine is the whole one.

@@ -3,7 +3,8 @@ use Rattle.std.proofs.Common.{◌≡◌, ℕ, ◌+◌, ◌%◌, Bool, true, fals
 use Rattle.std.specs.Option.{option_map}
 use Rattle.std.proofs.lemmas.Bool.{cases_Bool}
 use Rattle.std.proofs.lemmas.Bool.Decides.{nat_tests}
-use Rattle.conn_state.specs.Moves.{released, negotiated, agreed_inbound, agreed_outbound}
+use Rattle.conn_state.specs.Moves.{released, agreed_inbound, agreed_outbound}
+use Rattle.conn_table.specs.Choices.{negotiated}
 use Rattle.conn_state.specs.Use.{has_id, is_outbound}
 use Rattle.net_base.specs.Shared.{RootState}
 use Rattle.net_base.specs.declared.action.Action.{Action}

@@ -1,21 +1,18 @@
 -- Ids are given to connections that come, and to nothing else.
-use Rattle.std.proofs.Common.{ℕ, zero, suc, ◌+◌, ◌≤◌, ◌≡◌, Bool, true, false, nat_le, [], ◌∷◌, Option, Some, None, refl, ◌∙◌, arith}
+use Rattle.std.proofs.Common.{ℕ, zero, suc, ◌+◌, ◌≤◌, ◌≡◌, Bool, true, false, nat_le, [], ◌∷◌, Option, Some, None, refl, ◌∙◌, arith, if◌then◌else◌}
 use Rattle.std.proofs.lemmas.Bool.{cond_both}
-use Rattle.accept_gate.specs.Gate.{gate_of}
-use Rattle.accept_gate.specs.declared.gate.Gate.{Gate}
-use Rattle.accept_gate.specs.declared.gate.Gate.TheVariants.{Free, Pause, Full}
 use Rattle.conn_state.specs.Moves.{expired}
 use Rattle.conn_state.specs.Use.{is_dialing, is_live, is_pending}
 use Rattle.machine.specs.Connections.{is_missed, lost, lost_by, ending, vanishes, closing_entry, entry_goes, entry_turns, grace_over, dial_opens, dial_fails}
-use Rattle.machine.specs.Deadlines.{due, fires_as, fires_on, fires, fires_some, fire_due, fire_all}
-use Rattle.machine.specs.Effect.{Effect, unused, nothing_more, tells, then_do, as_move}
-use Rattle.machine.specs.Events.{clock_shows, turned_away, admitted, crossed, accepted_beside, accepted_through, peer_connects, closed_at, peer_closes, dial_ends_at, dial_ends, step}
+use Rattle.machine.specs.Deadlines.{due, fires_as, fires, fires_some, fire_due, fire_all}
+use Rattle.machine.specs.Effect.{Effect, unused, nothing_more, tells, then_do, as_move, on_entry}
+use Rattle.machine.specs.Events.{clock_shows, turned_away, admitted, crossed, accepted_beside, peer_connects, closes, peer_closes, dialed, dial_ends, step}
 use Rattle.machine.specs.Machine.{Machine, Entry, counted_in, entry_at, live_entry_at}
 use Rattle.machine.specs.Peers.{peer_at, turns_at, peer_fails}
 use Rattle.net_base.specs.Address.{same_address, address_below}
 use Rattle.net_base.specs.Peer.{failed_peer}
 use Rattle.net_base.specs.declared.action.Action.TheVariants.{Close}
-use Rattle.net_base.specs.declared.action.Away.TheVariants.{OwnAddr, Crossed, Present}
+use Rattle.net_base.specs.declared.action.Away.TheVariants.{OwnAddr, Crossed, Present, Full}
 use Rattle.net_base.specs.declared.action.CloseCause.{CloseCause}
 use Rattle.net_base.specs.declared.action.CloseCause.TheVariants.{Unused, Pruned, Overwritten, Refused, Query, Fault}
 use Rattle.net_base.specs.declared.action.FaultKind.TheVariants.{HandshakeWait, ReplyWait}
@@ -77,9 +74,10 @@ fires_as-ids Reply2 e m = ending-ids (Fault ReplyWait) e m
 fires_as-ids Reply8 e m = ending-ids (Fault ReplyWait) e m
 fires_as-ids Reply10 e m = ending-ids (Fault ReplyWait) e m
 
-fires_on-ids : (o : Option Entry) (kind : Kind) (m : Machine) → GivesNone m (fires_on o kind m)
-fires_on-ids None kind m = refl
-fires_on-ids (Some e) kind m = fires_as-ids kind e m
+pub on_entry-ids : (act : Entry → Machine → Effect) → ((e : Entry) (m : Machine) → GivesNone m (act e m)) → (o : Option Entry) (m : Machine) →
+    GivesNone m (on_entry o act m)
+on_entry-ids act one None m = refl
+on_entry-ids act one (Some e) m = one e m
 
 fire_due-ids : (n : ℕ) (m : Machine) → GivesNone m (fire_due n m)
 unfolding fire_due
@@ -88,7 +86,7 @@ fire_due-ids (suc n) m = by_due (due m) (fire_due-ids n)
   where
     by_due : (o : Option Deadline) → ((w : Machine) → GivesNone w (fire_due n w)) → GivesNone m (fires_some o (fire_due n) m)
     by_due None later = refl
-    by_due (Some d) later = later (fires d m).machine ∙ fires_on-ids (entry_at d.cid.0 m) d.kind m
+    by_due (Some d) later = later (fires d m).machine ∙ on_entry-ids (fires_as d.kind) (fires_as-ids d.kind) (entry_at d.cid.0 m) m
 
 pub clock_shows-ids : (t : ℕ) (m : Machine) → GivesNone m (clock_shows t m)
 clock_shows-ids t m = cond_both (nat_le t m.now) (nothing_more m) (fire_all (record m { now = t })) (GivesNone m)
@@ -105,30 +103,25 @@ accepted_beside-ids None addr m = omega arith
 accepted_beside-ids (Some e) addr m = cond_both (is_pending e.facts) (crossed addr e m) (turned_away Present m) (GivesOne m)
     (λ pending. crossed-ids addr e m) (λ other. omega arith)
 
-accepted_through-ids : (g : Gate) (addr : Addr) (m : Machine) → GivesOne m (accepted_through g addr m)
-accepted_through-ids Free addr m = accepted_beside-ids (live_entry_at addr m) addr m
-accepted_through-ids (Pause delay) addr m = accepted_beside-ids (live_entry_at addr m) addr m
-accepted_through-ids Full addr m = omega arith
-
 pub peer_connects-ids : (addr : Addr) (m : Machine) → GivesOne m (peer_connects addr m)
 peer_connects-ids addr m = cond_both (same_address addr m.settings.own) (turned_away OwnAddr m)
-    (accepted_through (gate_of m.settings (counted_in m)) addr m) (GivesOne m)
-    (λ own. omega arith) (λ other. accepted_through-ids (gate_of m.settings (counted_in m)) addr m)
+    (if nat_le m.settings.hard (counted_in m) then turned_away Full m else accepted_beside (live_entry_at addr m) addr m) (GivesOne m)
+    (λ own. omega arith)
+    (λ other. cond_both (nat_le m.settings.hard (counted_in m)) (turned_away Full m) (accepted_beside (live_entry_at addr m) addr m) (GivesOne m)
+    (λ full. omega arith) (λ room. accepted_beside-ids (live_entry_at addr m) addr m))
 
-closed_at-ids : (o : Option Entry) (m : Machine) → GivesNone m (closed_at o m)
-closed_at-ids None m = refl
-closed_at-ids (Some e) m = cond_both (is_live e.facts) (vanishes e m) (nothing_more m) (GivesNone m) (λ live. vanishes-ids e m) (λ dead. refl)
+closes-ids : (e : Entry) (m : Machine) → GivesNone m (closes e m)
+closes-ids e m = cond_both (is_live e.facts) (vanishes e m) (nothing_more m) (GivesNone m) (λ live. vanishes-ids e m) (λ dead. refl)
 
 pub peer_closes-ids : (cid : Cid) (m : Machine) → GivesNone m (peer_closes cid m)
-peer_closes-ids cid m = closed_at-ids (entry_at cid.0 m) m
+peer_closes-ids cid m = on_entry-ids closes closes-ids (entry_at cid.0 m) m
 
-dial_ends_at-ids : (o : Option Entry) (opened : Bool) (m : Machine) → GivesNone m (dial_ends_at o opened m)
-dial_ends_at-ids None opened m = refl
-dial_ends_at-ids (Some e) true m = cond_both (is_dialing e.facts) (dial_opens e m) (nothing_more m) (GivesNone m) (λ dials. refl) (λ other. refl)
-dial_ends_at-ids (Some e) false m = cond_both (is_dialing e.facts) (dial_fails e m) (nothing_more m) (GivesNone m) (λ dials. vanishes-ids e m) (λ other. refl)
+dialed-ids : (opened : Bool) (e : Entry) (m : Machine) → GivesNone m (dialed opened e m)
+dialed-ids true e m = cond_both (is_dialing e.facts) (dial_opens e m) (nothing_more m) (GivesNone m) (λ dials. refl) (λ other. refl)
+dialed-ids false e m = cond_both (is_dialing e.facts) (dial_fails e m) (nothing_more m) (GivesNone m) (λ dials. vanishes-ids e m) (λ other. refl)
 
 pub dial_ends-ids : (cid : Cid) (opened : Bool) (m : Machine) → GivesNone m (dial_ends cid opened m)
-dial_ends-ids cid opened m = dial_ends_at-ids (entry_at cid.0 m) opened m
+dial_ends-ids cid opened m = on_entry-ids (dialed opened) (dialed-ids opened) (entry_at cid.0 m) m
 
 pub step-ids : (m : Machine) (event : Event) → GivesOne m (step m event)
 step-ids m (Now t) = one_of_none m (clock_shows t m) (clock_shows-ids t m)

@@ -1,25 +1,25 @@
 -- What comes in on a connection gives no id.
-use Rattle.std.proofs.Common.{ℕ, Bool, true, false, ◌==◌, ◌&&◌, nat_le, if◌then◌else◌, List, [], ◌∷◌, Option, Some, None, Result, Ok, Err, refl, ◌∙◌}
+use Rattle.std.proofs.Common.{ℕ, Bool, true, false, ◌==◌, ◌&&◌, nat_le, if◌then◌else◌, List, [], ◌∷◌, Option, Some, None, Result, Ok, Err, refl, ◌∙◌, ◌||◌}
 use Rattle.std.specs.Option.{unwrap_or}
 use Rattle.std.proofs.lemmas.Bool.{cond_both}
 use Rattle.accept_gate.specs.Prune.{choice_of}
 use Rattle.conn_state.specs.Moves.{awakened}
-use Rattle.conn_state.specs.Use.{agreed_sharing, runs}
+use Rattle.conn_state.specs.Use.{agreed_sharing, runs, is_greeting, is_negotiated}
 use Rattle.hs_decide.specs.Agreement.{verdict_of}
 use Rattle.hs_decide.specs.Answers.{answer_of}
 use Rattle.hs_decide.specs.declared.verdict.Verdict.{Verdict}
 use Rattle.hs_decide.specs.declared.verdict.Verdict.TheVariants as verdict
 use Rattle.hs_message.specs.Reading.{message_of}
 use Rattle.hs_message.specs.declared.message.Message.{Message}
-use Rattle.machine.specs.Connections.{ending, pruned_at, candidates_in, trim, awake, with_entry, entry_turns}
-use Rattle.machine.specs.Effect.{Effect, nothing_more, then_do, for_each}
-use Rattle.machine.specs.Greeting.{role_of, is_awaited, fits_side, told, judged, decided, greeted_by, greets}
+use Rattle.machine.specs.Connections.{ending, candidates_in, trim, awake, with_entry, entry_turns}
+use Rattle.machine.specs.Effect.{Effect, nothing_more, then_do, for_each, on_connection}
+use Rattle.machine.specs.Greeting.{role_of, is_awaited, fits_side, sends_answer, judged, decided, greeted_by, greets}
 use Rattle.machine.specs.Machine.{Machine, Entry, Owed, counted_in, entry_at}
 use Rattle.machine.specs.Own.{own_info}
 use Rattle.machine.specs.Peers.{peer_at, note_of_coming, peer_becomes}
 use Rattle.machine.specs.Replies.{reply_on, paid}
-use Rattle.machine.specs.Stream.{handled_in, handled_at, handles, kind_of, faulted_at, fed_with, comes_in_phase, comes_in_at, bytes_come_in}
-use Rattle.machine.specs.Talking.{replies, ends_if, served_at, begins, takes_requests, asked_as, shares_address, taken_of, takes_addresses, pays, brings, answered_as, talks}
+use Rattle.machine.specs.Stream.{handled_in, handled, handles, kind_of, faulted, fed_with, feeds, comes_in, bytes_come_in}
+use Rattle.machine.specs.Talking.{replies, stops_if, serves, begins, takes_requests, asked_as, shares_address, taken_of, takes_addresses, pays, brings, answered_as, talks}
 use Rattle.mux_segment.specs.Stream.{FedBy}
 use Rattle.mux_segment.specs.declared.fault.CutFault.{CutFault}
 use Rattle.mux_segment.specs.declared.item.Item.{Item}
@@ -41,7 +41,7 @@ use Rattle.remote_watch.specs.declared.seen.Seen.{Seen}
 use Rattle.warm_messages.specs.Reading.{share_of}
 use Rattle.warm_messages.specs.declared.share.Share.{Share}
 use Rattle.warm_messages.specs.declared.share.Share.TheVariants as share
-use Rattle.node_engine.proofs.Ids.{GivesNone, turns_at-ids, ending-ids}
+use Rattle.node_engine.proofs.Ids.{GivesNone, turns_at-ids, ending-ids, on_entry-ids}
 
 then-ids : (first : Effect) (next : Machine → Effect) (m : Machine) → GivesNone m first → ((n : Machine) → GivesNone n (next n)) →
     GivesNone m (then_do first next)
@@ -55,9 +55,9 @@ each-ids act one (x ∷ xs) m = each-ids act one xs (act x m).machine ∙ one x 
 
 -- ---- a connection in its handshake
 
-told-ids : (o : Option (List ℕ)) (cid : Cid) (m : Machine) → GivesNone m (told o cid m)
-told-ids None cid m = refl
-told-ids (Some bytes) cid m = refl
+answer-ids : (o : Option (List ℕ)) (cid : Cid) (m : Machine) → GivesNone m (sends_answer o cid m)
+answer-ids None cid m = refl
+answer-ids (Some bytes) cid m = refl
 
 judged-ids : (v : Verdict) (e : Entry) (m : Machine) → GivesNone m (judged v e m)
 judged-ids (verdict.Accept agreed) e m = refl
@@ -73,8 +73,8 @@ greeted_by-ids None side e m = ending-ids (cause.Fault Malformed) e m
 greeted_by-ids (Some msg) side e m =
     let v : Verdict = verdict_of (role_of e.facts.provenance) (own_info m.settings) msg in
     cond_both (fits_side (role_of e.facts.provenance) side msg) (decided v e m) (ending (cause.Fault Protocol) e m) (GivesNone m)
-    (λ fits. then-ids (told (answer_of v (own_info m.settings)) e.facts.cid m) (judged v e) m
-    (told-ids (answer_of v (own_info m.settings)) e.facts.cid m) (judged-ids v e))
+    (λ fits. then-ids (sends_answer (answer_of v (own_info m.settings)) e.facts.cid m) (judged v e) m
+    (answer-ids (answer_of v (own_info m.settings)) e.facts.cid m) (judged-ids v e))
     (λ other. ending-ids (cause.Fault Protocol) e m)
 
 greets-ids : (item : Item) (e : Entry) (m : Machine) → GivesNone m (greets item e m)
@@ -84,14 +84,10 @@ greets-ids item e m = cond_both (item.id == 0 && is_awaited (role_of e.facts.pro
 
 -- ---- one whose handshake is done
 
-pruned_at-ids : (o : Option Entry) (m : Machine) → GivesNone m (pruned_at o m)
-pruned_at-ids None m = refl
-pruned_at-ids (Some e) m = ending-ids cause.Pruned e m
-
 trim-ids : (moved : Cid) (m : Machine) → GivesNone m (trim moved m)
 trim-ids moved m = cond_both (nat_le (counted_in m) m.settings.hard) (nothing_more m)
-    (pruned_at (entry_at (unwrap_or (choice_of (candidates_in m)) moved).0 m) m) (GivesNone m)
-    (λ within. refl) (λ above. pruned_at-ids (entry_at (unwrap_or (choice_of (candidates_in m)) moved).0 m) m)
+    (on_connection (unwrap_or (choice_of (candidates_in m)) moved) (ending cause.Pruned) m) (GivesNone m)
+    (λ within. refl) (λ above. on_entry-ids (ending cause.Pruned) (ending-ids cause.Pruned) (entry_at (unwrap_or (choice_of (candidates_in m)) moved).0 m) m)
 
 begins-ids : (protocol : ℕ) (e : Entry) (m : Machine) → GivesNone m (begins protocol e m)
 begins-ids protocol e m = cond_both (runs protocol e.facts.running) (nothing_more m) (awake protocol e m) (GivesNone m)
@@ -105,23 +101,20 @@ replies-ids reply.NoIntersect protocol e m = refl
 replies-ids reply.Await protocol e m = refl
 replies-ids reply.NoBlocks protocol e m = refl
 
-ends_if-ids : (done : Bool) (protocol : ℕ) (o : Option Entry) (m : Machine) → GivesNone m (ends_if done protocol o m)
-ends_if-ids true protocol (Some e) m = refl
-ends_if-ids true protocol None m = refl
-ends_if-ids false protocol o m = refl
+stops_if-ids : (done : Bool) (protocol : ℕ) (e : Entry) (m : Machine) → GivesNone m (stops_if done protocol e m)
+stops_if-ids true protocol e m = refl
+stops_if-ids false protocol e m = refl
 
-served_at-ids : (o : Option Entry) (seen : Seen) (protocol : ℕ) (m : Machine) → GivesNone m (served_at o seen protocol m)
-served_at-ids None seen protocol m = refl
-served_at-ids (Some e) seen protocol m =
-    then-ids (replies seen.reply protocol e m) (λ n. ends_if seen.done protocol (entry_at e.facts.cid.0 n) n) m (replies-ids seen.reply protocol e m)
-    (λ n. ends_if-ids seen.done protocol (entry_at e.facts.cid.0 n) n)
+serves-ids : (seen : Seen) (protocol : ℕ) (e : Entry) (m : Machine) → GivesNone m (serves seen protocol e m)
+serves-ids seen protocol e m =
+    then-ids (replies seen.reply protocol e m) (stops_if seen.done protocol e) m (replies-ids seen.reply protocol e m) (stops_if-ids seen.done protocol e)
 
 asked_as-ids : (r : Result Seen FaultKind) (protocol : ℕ) (e : Entry) (m : Machine) → GivesNone m (asked_as r protocol e m)
 asked_as-ids (Err kind) protocol e m = ending-ids (cause.Fault kind) e m
 asked_as-ids (Ok seen) protocol e m = cond_both (takes_requests e)
-    (then_do (begins protocol e m) (λ n. served_at (entry_at e.facts.cid.0 n) seen protocol n)) (ending (cause.Fault Protocol) e m) (GivesNone m)
-    (λ takes. then-ids (begins protocol e m) (λ n. served_at (entry_at e.facts.cid.0 n) seen protocol n) m (begins-ids protocol e m)
-    (λ n. served_at-ids (entry_at e.facts.cid.0 n) seen protocol n))
+    (then_do (begins protocol e m) (on_connection e.facts.cid (serves seen protocol))) (ending (cause.Fault Protocol) e m) (GivesNone m)
+    (λ takes. then-ids (begins protocol e m) (on_connection e.facts.cid (serves seen protocol)) m (begins-ids protocol e m)
+    (λ n. on_entry-ids (serves seen protocol) (serves-ids seen protocol) (entry_at e.facts.cid.0 n) n))
     (λ other. ending-ids (cause.Fault Protocol) e m)
 
 coming-ids : (added : Added) (addr : Addr) (m : Machine) → GivesNone m (note_of_coming added addr m)
@@ -164,32 +157,24 @@ handled_in-ids (Greeting until) item e m = greets-ids item e m
 handled_in-ids Negotiated item e m = talks-ids item e m
 handled_in-ids (Closing until) item e m = refl
 
-handled_at-ids : (o : Option Entry) (item : Item) (m : Machine) → GivesNone m (handled_at o item m)
-handled_at-ids None item m = refl
-handled_at-ids (Some e) item m = handled_in-ids e.facts.phase item e m
+handles-ids : (cid : Cid) (item : Item) (m : Machine) → GivesNone m (handles cid item m)
+handles-ids cid item m = on_entry-ids (handled item) (λ e. handled_in-ids e.facts.phase item e) (entry_at cid.0 m) m
 
-faulted_at-ids : (o : Option Entry) (fault : Option CutFault) (m : Machine) → GivesNone m (faulted_at o fault m)
-faulted_at-ids None fault m = refl
-faulted_at-ids (Some e) None m = refl
-faulted_at-ids (Some e) (Some fault) m = ending-ids (cause.Fault (kind_of fault)) e m
+faulted-ids : (fault : Option CutFault) (e : Entry) (m : Machine) → GivesNone m (faulted fault e m)
+faulted-ids None e m = refl
+faulted-ids (Some fault) e m = ending-ids (cause.Fault (kind_of fault)) e m
 
 fed_with-ids : (fed : FedBy) (e : Entry) (m : Machine) → GivesNone m (fed_with fed e m)
 fed_with-ids fed e m =
-    let rest : Machine → Effect = λ n. faulted_at (entry_at e.facts.cid.0 n) fed.state.fault n in
+    let rest : Machine → Effect = on_connection e.facts.cid (faulted fed.state.fault) in
     then-ids (entry_turns e (record e { undecoded = fed.state.undecoded }) m) (λ n. then_do (for_each (handles e.facts.cid) fed.items n) rest) m refl
     (λ n. then-ids (for_each (handles e.facts.cid) fed.items n) rest n
-    (each-ids (handles e.facts.cid) (λ item k. handled_at-ids (entry_at e.facts.cid.0 k) item k) fed.items n)
-    (λ k. faulted_at-ids (entry_at e.facts.cid.0 k) fed.state.fault k))
+    (each-ids (handles e.facts.cid) (handles-ids e.facts.cid) fed.items n)
+    (λ k. on_entry-ids (faulted fed.state.fault) (faulted-ids fed.state.fault) (entry_at e.facts.cid.0 k) k))
 
-comes_in_phase-ids : (p : Phase) (bytes : List ℕ) (e : Entry) (m : Machine) → GivesNone m (comes_in_phase p bytes e m)
-comes_in_phase-ids Dialing bytes e m = refl
-comes_in_phase-ids (Greeting until) bytes e m = fed_with-ids _ e m
-comes_in_phase-ids Negotiated bytes e m = fed_with-ids _ e m
-comes_in_phase-ids (Closing until) bytes e m = refl
-
-comes_in_at-ids : (o : Option Entry) (bytes : List ℕ) (m : Machine) → GivesNone m (comes_in_at o bytes m)
-comes_in_at-ids None bytes m = refl
-comes_in_at-ids (Some e) bytes m = comes_in_phase-ids e.facts.phase bytes e m
+comes_in-ids : (bytes : List ℕ) (e : Entry) (m : Machine) → GivesNone m (comes_in bytes e m)
+comes_in-ids bytes e m = cond_both (is_greeting e.facts || is_negotiated e.facts) (feeds bytes e m) (nothing_more m) (GivesNone m)
+    (λ open_now. fed_with-ids _ e m) (λ other. refl)
 
 pub bytes_come_in-ids : (cid : Cid) (bytes : List ℕ) (m : Machine) → GivesNone m (bytes_come_in cid bytes m)
-bytes_come_in-ids cid bytes m = comes_in_at-ids (entry_at cid.0 m) bytes m
+bytes_come_in-ids cid bytes m = on_entry-ids (comes_in bytes) (comes_in-ids bytes) (entry_at cid.0 m) m

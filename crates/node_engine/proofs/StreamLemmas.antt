@@ -7,10 +7,10 @@ use Rattle.laws.proofs.Lists.{find_some}
 use Rattle.laws.proofs.Remains.{awake-runs}
 use Rattle.laws.proofs.Streams.{found-cid}
 use Rattle.machine.specs.Connections.{entry_turns, awake}
-use Rattle.machine.specs.Effect.{nothing_more, then_do, for_each}
+use Rattle.machine.specs.Effect.{nothing_more, then_do, for_each, on_entry, on_connection}
 use Rattle.machine.specs.Machine.{Machine, Entry, Owed, entry_at}
 use Rattle.machine.specs.Replies.{reply_on}
-use Rattle.machine.specs.Stream.{handles, faulted_at, feeds}
+use Rattle.machine.specs.Stream.{handles, faulted, feeds}
 use Rattle.machine.specs.Talking.{asked_as, answered_as, talks}
 use Rattle.mux_segment.specs.Stream.{FedBy}
 use Rattle.mux_segment.specs.declared.fault.CutFault.{CutFault}
@@ -74,19 +74,19 @@ answered-owed item reply kept e m n before after kept_is is h =
 
 -- ---- bytes come in
 
-nothing_faulted : (o : Option Entry) (m : Machine) → faulted_at o None m ≡ nothing_more m
+nothing_faulted : (o : Option Entry) (m : Machine) → on_entry o (faulted None) m ≡ nothing_more m
 nothing_faulted None m = refl
 nothing_faulted (Some e) m = refl
 
 pub no_fault : (cid : Cid) (fault : Option CutFault) (m : Machine) (before : List Action) → fault ≡ None →
-    Does (faulted_at (entry_at cid.0 m) fault m) before m before
+    Does (on_connection cid (faulted fault) m) before m before
 no_fault cid fault m before none =
-    subst (λ f. Does (faulted_at (entry_at cid.0 m) f m) before m before) (sym none)
+    subst (λ f. Does (on_connection cid (faulted f) m) before m before) (sym none)
     (subst (λ effect. Does effect before m before) (sym (nothing_faulted (entry_at cid.0 m) m)) (does_nothing m before))
 
 pub feeds-does : (cid : Cid) (bytes : List ℕ) (fed : Fed) (e : Entry) (m decoded handled n : Machine) (before mid after : List Action) →
     entry_at cid.0 m ≡ Some e → DoesSilently (entry_turns e (fed_entry bytes e) m) decoded → IsFed (fed_of bytes e) fed →
-    Does (for_each (handles cid) fed.items decoded) before handled mid → Does (faulted_at (entry_at cid.0 handled) fed.fault handled) mid n after →
+    Does (for_each (handles cid) fed.items decoded) before handled mid → Does (on_connection cid (faulted fed.fault) handled) mid n after →
     Does (feeds bytes e m) before n after
 feeds-does cid bytes fed e m decoded handled n before mid after is turns gives each last =
     let own : e.facts.cid ≡ cid = found-cid cid m e is in
@@ -94,12 +94,12 @@ feeds-does cid bytes fed e m decoded handled n before mid after is turns gives e
     let items : Does (for_each (handles e.facts.cid) all.items decoded) before handled mid =
     subst (λ c. Does (for_each (handles c) all.items decoded) before handled mid) (sym own)
     (subst (λ xs. Does (for_each (handles cid) xs decoded) before handled mid) gives.items each) in
-    let fault : Does (faulted_at (entry_at e.facts.cid.0 handled) all.state.fault handled) mid n after =
-    subst (λ c. Does (faulted_at (entry_at c.0 handled) all.state.fault handled) mid n after) (sym own)
-    (subst (λ f. Does (faulted_at (entry_at cid.0 handled) f handled) mid n after) gives.fault last) in
+    let fault : Does (on_connection e.facts.cid (faulted all.state.fault) handled) mid n after =
+    subst (λ c. Does (on_connection c (faulted all.state.fault) handled) mid n after) (sym own)
+    (subst (λ f. Does (on_connection cid (faulted f) handled) mid n after) gives.fault last) in
     does_then (entry_turns e (fed_entry bytes e) m)
-    (λ k. then_do (for_each (handles e.facts.cid) all.items k) (λ k. faulted_at (entry_at e.facts.cid.0 k) all.state.fault k))
+    (λ k. then_do (for_each (handles e.facts.cid) all.items k) (on_connection e.facts.cid (faulted all.state.fault)))
     before before after decoded n
     (does_silently (entry_turns e (fed_entry bytes e) m) before decoded turns)
-    (does_then (for_each (handles e.facts.cid) all.items decoded) (λ k. faulted_at (entry_at e.facts.cid.0 k) all.state.fault k)
+    (does_then (for_each (handles e.facts.cid) all.items decoded) (on_connection e.facts.cid (faulted all.state.fault))
     before mid after handled n items fault)

@@ -2,7 +2,8 @@
 use Rattle.std.proofs.Common.{◌≡◌, ℕ, true, false, if◌then◌else◌, Some, None, refl, sym, ap, ◌∙◌, inl, inr}
 use Rattle.std.proofs.lemmas.Bool.{cases_Bool}
 use Rattle.std.proofs.lemmas.Option.{none-some, same_Some}
-use Rattle.conn_state.specs.Moves.{negotiated, released, acquired, expired, grace_ended}
+use Rattle.conn_state.specs.Moves.{released, acquired, expired}
+use Rattle.conn_table.specs.Choices.{negotiated, grace_ended}
 use Rattle.conn_state.specs.Use.{is_outbound}
 use Rattle.conn_table.specs.Answers.{lease_of}
 use Rattle.conn_table.specs.declared.step.Step.TheVariants.{Negotiated, GraceOver}

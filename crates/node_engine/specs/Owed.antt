@@ -1,5 +1,5 @@
 -- The replies that the other side owes, by their protocols.
-use Rattle.std.specs.Prelude.{ℕ, ◌==◌, ◌||◌, Bool, List, [], ◌∷◌, ◌++◌, Option, Some, None}
+use Rattle.std.specs.Prelude.{ℕ, List, [], ◌∷◌, ◌++◌, Option, Some, None}
 use Rattle.machine.specs.Machine.{Owed}
 use Rattle.node_engine.specs.declared.reply.Reply.{Reply}
 
@@ -13,7 +13,3 @@ owed_by chain_sync keep_alive peer_sharing = owed_on 2 chain_sync ++ owed_on 8 k
 
 abbrev pub reply_of : Owed → Reply
 reply_of owed = record { until = owed.until; asked = owed.asked }
-
--- this node asks on the protocol
-abbrev pub is_asked_on : ℕ → Bool
-is_asked_on protocol = protocol == 2 || protocol == 8 || protocol == 10

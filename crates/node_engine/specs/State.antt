@@ -1,9 +1,11 @@
 -- What stands for the machine's record, and what a part of a step does to it.
 use Rattle.std.specs.Prelude.{◌≡◌, ℕ, ◌%◌, List, [], ◌∷◌, ◌++◌, IfSome, IsSomeAnd, if◌then◌else◌}
+use Rattle.accept_gate.specs.declared.gate.Gate.{Gate}
+use Rattle.accept_gate.specs.declared.gate.Gate.TheVariants.{Free, Pause as PauseFor, Full as NoRoom}
 use Rattle.conn_state.specs.Names.{name_of, same_name}
 use Rattle.net_base.specs.Shared.{RootState}
 use Rattle.net_base.specs.declared.action.Action.{Action}
-use Rattle.net_base.specs.declared.action.Action.TheVariants.{Peer as TellPeer, State}
+use Rattle.net_base.specs.declared.action.Action.TheVariants.{Peer as TellPeer, State, Pause}
 use Rattle.net_base.specs.declared.action.PeerNote.TheVariants.{Known}
 use Rattle.net_base.specs.declared.address.Addr.{Addr}
 use Rattle.net_base.specs.declared.connection.Facts.{Facts}
@@ -16,7 +18,7 @@ use Rattle.machine.specs.Connections.{with_entry}
 use Rattle.machine.specs.Effect.{Effect, tells, then_do}
 use Rattle.machine.specs.Machine.{Machine, Entry, entry_at}
 use Rattle.machine.specs.Peers.{note_of, peer_succeeds}
-use Rattle.machine.specs.Replies.{owing, asks}
+use Rattle.machine.specs.Replies.{owing, sends_as_initiator}
 use Rattle.node_engine.specs.Standing.{Standing}
 use Rattle.peer_book.specs.Book.{same_temp}
 use Rattle.peer_book.specs.declared.added.Added.{Added}
@@ -71,6 +73,12 @@ coming_notice Full addr = []
 abbrev pub name_notice : Facts → Facts → List Action
 name_notice old new = if same_name (name_of old) (name_of new) then [] else State old.cid (name_of new) ∷ []
 
+-- the pause that the gate asks for
+abbrev pub gate_notice : Gate → List Action
+gate_notice Free = []
+gate_notice (PauseFor delay) = Pause delay ∷ []
+gate_notice NoRoom = []
+
 -- ---- parts of moves
 
 -- A connection has come into use, which told and did nothing more than that yet: its name is told, its peer is warm,
@@ -80,4 +88,4 @@ is_used_from before entry m =
     let cookie = before.cid.0 % 65536 in
     then_do (tells (name_notice before entry.facts) (with_entry (owing 8 cookie m entry) m))
     (λ m. then_do (peer_succeeds before.addr m)
-    (asks before.cid 8 (written_alive (Ask cookie))))
+    (sends_as_initiator before.cid 8 (written_alive (Ask cookie))))

@@ -1,9 +1,9 @@
 ghost use Rattle.std.specs.Prelude.{◌≡◌, ◌≤◌, [], find, map, length, is_some, ◌==◌, true, if◌then◌else◌};
 ghost use Rattle.std.specs.Option.{option_map};
 ghost use Rattle.machine.specs.Deadlines.{reply_deadline};
-ghost use Rattle.machine.specs.Replies.{with_reply, without_reply};
+ghost use Rattle.machine.specs.Replies.{with_reply, without_reply, is_owed_on};
 ghost use Rattle.node_engine.specs.Due.{due_by, reply_deadlines};
-ghost use Rattle.node_engine.specs.Owed.{reply_of, is_asked_on};
+ghost use Rattle.node_engine.specs.Owed.{reply_of};
 
 use crate::Reply;
 use crate::due::with_due;
@@ -72,7 +72,7 @@ impl Replies {
 
     /// A reply comes to be owed on a protocol, in place of the one before.
     pub fn owe(&mut self, protocol: u16, reply: Reply)
-        requires { is_asked_on protocol ≡ true }
+        requires { is_owed_on protocol ≡ true }
         ensures { self.new ≡ with_reply
             (record { protocol = protocol; until = reply.until; asked = reply.asked }) self.old }
     {

@@ -1,6 +1,5 @@
 ghost use Rattle.std.specs.Prelude.{◌≡◌, ◌<◌, ◌++◌, ◌∷◌, [], length, slice_get, None, Some, IfSome, OnOk, OnErr, IfOk, true, vec_len, vec_capacity};
-ghost use Rattle.machine.specs.Replies.{with_reply, without_reply};
-ghost use Rattle.node_engine.specs.Owed.{is_asked_on};
+ghost use Rattle.machine.specs.Replies.{with_reply, without_reply, is_owed_on};
 ghost use Rattle.mux_segment.specs.Protocols.{node_limits};
 ghost use Rattle.mux_segment.specs.Stream.{nothing_fed, fed_by};
 ghost use Rattle.net_base.specs.Shared.{nothing_undecoded};
@@ -110,7 +109,7 @@ fn next_cutter(alloc: Global, cutter: Cutter, fault: Option<CutFault>) -> Cutter
 // A reply comes to be owed.
 pub fn owe_at(talks: &mut Vec<Talk>, place: usize, protocol: u16, reply: Reply)
     requires inside { place < length talks.old.items }
-    requires asked { is_asked_on protocol ≡ true }
+    requires asked { is_owed_on protocol ≡ true }
     ensures { TurnsAt place
         (with_owed (with_reply (record { protocol = protocol; until = reply.until; asked = reply.asked })))
         talks.old.items talks.new.items }

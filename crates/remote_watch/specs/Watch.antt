@@ -1,6 +1,7 @@
 -- What the initiator's side may send on each protocol, and what it is answered. Bodies of other messages of
 -- chain-sync, block-fetch and tx-submission are passed over.
 use Rattle.std.specs.Prelude.{ℕ, Bool, true, false, ◌==◌, List, if◌then◌else◌, Option, Some, None, Result, Ok, Err}
+use Rattle.conn_state.specs.Protocols.{handshake, chain_sync, block_fetch, tx_submission, keep_alive, peer_sharing}
 use Rattle.net_base.specs.declared.action.FaultKind.{FaultKind}
 use Rattle.net_base.specs.declared.action.FaultKind.TheVariants.{Protocol, UnknownId}
 use Rattle.remote_watch.specs.declared.reply.Reply.{Reply}
@@ -60,10 +61,10 @@ peer_sharing_seen None = Err Protocol
 -- that of no protocol.
 abbrev pub watched : ℕ → Bool → List ℕ → Result Seen FaultKind
 watched id sharing item =
-    if id == 0 then Err Protocol
-    else if id == 2 then seen_by_number chain_sync_seen (first_number_of item)
-    else if id == 3 then seen_by_number block_fetch_seen (first_number_of item)
-    else if id == 4 then seen_by_number tx_submission_seen (first_number_of item)
-    else if id == 8 then keep_alive_seen (alive_of item)
-    else if id == 10 then (if sharing then peer_sharing_seen (share_of item) else Err UnknownId)
+    if id == handshake then Err Protocol
+    else if id == chain_sync then seen_by_number chain_sync_seen (first_number_of item)
+    else if id == block_fetch then seen_by_number block_fetch_seen (first_number_of item)
+    else if id == tx_submission then seen_by_number tx_submission_seen (first_number_of item)
+    else if id == keep_alive then keep_alive_seen (alive_of item)
+    else if id == peer_sharing then (if sharing then peer_sharing_seen (share_of item) else Err UnknownId)
     else Err UnknownId

@@ -1,5 +1,6 @@
 -- Peer sharing: which peers are told, and which are taken. This project's own rules.
-use Rattle.std.specs.Prelude.{ℕ, ◌-◌, min, Bool, true, false, ◌&&◌, ◌||◌, ◌==◌, not, List, [], ◌∷◌, ◌++◌, length, take, filter, find, is_some, if◌then◌else◌, Option, Some, None}
+use Rattle.std.specs.Prelude.{ℕ, ◌-◌, min, Bool, true, false, ◌&&◌, ◌||◌, ◌==◌, not, List, [], ◌∷◌, ◌++◌, length, take, filter, slice_get, is_some, if◌then◌else◌, Option, Some, None}
+use Rattle.std.specs.Option.{option_and_then}
 use Rattle.net_base.specs.Address.{same_address}
 use Rattle.net_base.specs.declared.address.Addr.{Addr}
 use Rattle.net_base.specs.declared.address.Ip.{Ip}
@@ -7,13 +8,13 @@ use Rattle.net_base.specs.declared.address.Ip.TheVariants.{V4, V6}
 use Rattle.net_base.specs.declared.event.Group.{Group}
 use Rattle.net_base.specs.declared.peer.Peer.{Peer}
 use Rattle.peer_book.specs.Book.{peer_at, known_of, addresses_of, most_peers}
-use Rattle.root_groups.specs.Cleaned.{is_listed}
+use Rattle.root_groups.specs.Cleaned.{is_listed, group_of}
 
 -- ---- what is told
 
 -- the group that holds an address
 abbrev pub home_of : Addr → List Group → Option Group
-home_of addr groups = find (λ group. is_listed addr group.members) groups
+home_of addr groups = option_and_then (slice_get groups) (group_of addr groups)
 
 -- a local peer is told where its group says so, any other one where it is no public root
 abbrev pub is_told_in : Option Group → Addr → List Addr → Bool

@@ -1,6 +1,7 @@
 ghost use Rattle.std.specs.Prelude.{◌≡◌, ◌≤◌, ◌<◌, ◌+◌, ◌^◌, true, false, None, IsSomeAnd, IsSome, IfOk, OnOk, OnErr};
 ghost use Rattle.conn_state.specs.Counted.{counted};
-ghost use Rattle.conn_state.specs.Moves.{accepted, dialing, connected, negotiated, acquired, released, awakened, idled, expired};
+ghost use Rattle.conn_state.specs.Moves.{accepted, dialing, connected, acquired, released, awakened, idled, expired};
+ghost use Rattle.conn_table.specs.Choices.{negotiated};
 ghost use Rattle.conn_state.specs.Protocols.{has_responder};
 ghost use Rattle.conn_state.specs.Use.{is_dialing, is_greeting, is_acquirable, runs};
 ghost use Rattle.conn_table.specs.Answers.{any_at, is_due};

@@ -1,7 +1,7 @@
 ghost use Rattle.std.specs.Prelude.{◌≡◌, ◌≤◌, ◌+◌, ◌^◌, true, IsSome, IfSome, IfOk, OnOk};
 ghost use Rattle.std.specs.Option.{option_map};
-ghost use Rattle.machine.specs.Replies.{reply_on, paid};
-ghost use Rattle.node_engine.specs.Owed.{reply_of, is_asked_on};
+ghost use Rattle.machine.specs.Replies.{reply_on, paid, is_owed_on};
+ghost use Rattle.node_engine.specs.Owed.{reply_of};
 ghost use Rattle.node_engine.specs.Standing.{entry_with, Turns, owes, fed_of, fed_entry};
 ghost use Rattle.node_engine.specs.Talks.{IsFed};
 
@@ -24,7 +24,7 @@ impl Connections {
     /// A reply on a protocol comes to be owed from a moment on, for what was asked.
     pub fn owe(&mut self, cid: Cid, protocol: u16, asked: u64, now: u64)
         requires stands { IsSome (entry_with cid.0 self.old) }
-        requires known { is_asked_on protocol ≡ true }
+        requires known { is_owed_on protocol ≡ true }
         requires moment { now ≤ 2 ^ 48 }
         ensures { Turns cid.0 (owes protocol asked (now + self.old.settings.reply)) self.old self.new }
     {

@@ -1,11 +1,11 @@
-ghost use Rattle.std.specs.Prelude.{◌≡◌, ◌≤◌, ◌<◌, ◌^◌, ◌++◌, [], ◌∷◌, OnOk, IfSome, IsSomeAnd, Some, None};
+ghost use Rattle.std.specs.Prelude.{◌≡◌, ◌≤◌, ◌<◌, ◌^◌, nat_le, ◌++◌, [], ◌∷◌, OnOk, IfSome, IsSomeAnd, Some, None};
 ghost use Rattle.accept_gate.specs.Gate.{gate_of};
 ghost use Rattle.laws.specs.Sound.{IsOrderly};
-ghost use Rattle.machine.specs.Events.{peer_connects, accepted_beside, admitted, crossed, pause_notice};
+ghost use Rattle.machine.specs.Events.{peer_connects, accepted_beside, admitted, crossed};
 ghost use Rattle.machine.specs.Machine.{counted_in, entry_at, live_entry_at};
 ghost use Rattle.net_base.specs.Address.{same_address};
 ghost use Rattle.net_base.specs.declared.action.Action.TheVariants.{Turnaway};
-ghost use Rattle.node_engine.specs.State.{Does};
+ghost use Rattle.node_engine.specs.State.{Does, gate_notice};
 
 use super::NodeState;
 use crate::link::is_pending;
@@ -22,10 +22,10 @@ impl NodeState {
         if self.is_own(addr) {
             return turn_away(Away::OwnAddr, actions);
         }
-        match self.gate() {
-            Gate::Full => turn_away(Away::Full, actions),
-            Gate::Free | Gate::Pause(_) => self.accept_beside(addr, actions),
+        if self.is_full() {
+            return turn_away(Away::Full, actions);
         }
+        self.accept_beside(addr, actions)
     }
 
     // A peer has connected, and the limits let it in.
@@ -87,6 +87,13 @@ impl NodeState {
         addr == self.connections.settings().own
     }
 
+    // Whether the hard limit is reached.
+    fn is_full(&self) -> bool
+        ensures { result ≡ nat_le self.now.settings.hard (counted_in self.now) }
+    {
+        self.connections.counted() >= self.connections.settings().hard
+    }
+
     // What the limits say of one more connection.
     fn gate(&self) -> Gate
         ensures { result ≡ gate_of self.now.settings (counted_in self.now) }
@@ -104,7 +111,7 @@ fn turn_away(away: Away, actions: &mut ActionList) -> Result<(), OutOfMemory>
 
 // A pause, where the gate wants one.
 fn tell_pause(gate: Gate, actions: &mut ActionList) -> Result<(), OutOfMemory>
-    ensures { OnOk result (actions.new ≡ actions.old ++ pause_notice gate) }
+    ensures { OnOk result (actions.new ≡ actions.old ++ gate_notice gate) }
 {
     match gate {
         Gate::Pause(delay) => actions.push(Action::Pause(delay)),

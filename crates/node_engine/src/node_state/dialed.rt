@@ -1,7 +1,6 @@
 ghost use Rattle.std.specs.Prelude.{OnOk};
-ghost use Rattle.machine.specs.Events.{dial_ends, dial_ends_at};
-ghost use Rattle.machine.specs.Machine.{entry_at};
-ghost use Rattle.node_engine.specs.State.{Does, IsKnown};
+ghost use Rattle.machine.specs.Events.{dial_ends, dialed};
+ghost use Rattle.node_engine.specs.State.{Does, DoesTo, IsKnown};
 
 use super::NodeState;
 use net_base::{ActionList, Cid, Facts, OutOfMemory, Phase};
@@ -30,8 +29,7 @@ impl NodeState {
         actions: &mut ActionList,
     ) -> Result<(), OutOfMemory>
         requires { IsKnown facts self.old }
-        ensures { OnOk result (Does (dial_ends_at (entry_at facts.cid.0 self.old) opened self.old)
-            actions.old self.new actions.new) }
+        ensures { OnOk result (DoesTo facts.cid.0 (dialed opened) actions.old self.old self.new actions.new) }
     {
         if !matches!(facts.phase, Phase::Dialing) {
             return Ok(());

@@ -6,7 +6,7 @@ ghost use Rattle.hs_decide.specs.Answers.{proposal_of};
 ghost use Rattle.machine.specs.Connections.{entry_turns, dial, dial_opens, dial_fails};
 ghost use Rattle.machine.specs.Machine.{facts_of};
 ghost use Rattle.machine.specs.Own.{own_info};
-ghost use Rattle.machine.specs.Replies.{asks};
+ghost use Rattle.machine.specs.Replies.{sends_as_initiator};
 ghost use Rattle.node_engine.specs.Standing.{moved};
 ghost use Rattle.node_engine.specs.State.{Does, DoesTo, IsKnown};
 
@@ -67,7 +67,7 @@ impl NodeState {
 
     // This node's proposal.
     fn propose(&self, cid: Cid, actions: &mut ActionList) -> Result<(), OutOfMemory>
-        ensures { OnOk result (Does (asks cid 0 (proposal_of (own_info self.now.settings)) self.now)
+        ensures { OnOk result (Does (sends_as_initiator cid 0 (proposal_of (own_info self.now.settings)) self.now)
             actions.old self.now actions.new) }
     {
         let payload = proposal(self.alloc, &own_info(self.connections.settings()))?;

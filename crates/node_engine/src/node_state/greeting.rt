@@ -2,7 +2,7 @@ ghost use Rattle.std.specs.Prelude.{◌≡◌, true, Some, OnOk};
 ghost use Rattle.conn_state.specs.Use.{is_greeting};
 ghost use Rattle.hs_decide.specs.Answers.{answer_of, CanAnswer};
 ghost use Rattle.hs_message.specs.Reading.{message_of};
-ghost use Rattle.machine.specs.Greeting.{role_of, is_awaited, fits_side, told, judged, greeted_by, greets};
+ghost use Rattle.machine.specs.Greeting.{role_of, is_awaited, fits_side, sends_answer, judged, greeted_by, greets};
 ghost use Rattle.machine.specs.Own.{own_info};
 ghost use Rattle.node_engine.specs.Greets.{CanJudge};
 ghost use Rattle.node_engine.specs.State.{Does, DoesTo, IsKnown};
@@ -87,7 +87,7 @@ impl NodeState {
     ) -> Result<(), OutOfMemory>
         requires { CanAnswer verdict.now }
         ensures { OnOk result
-            (Does (told (answer_of verdict.now own.now) cid self.now) actions.old self.now actions.new) }
+            (Does (sends_answer (answer_of verdict.now own.now) cid self.now) actions.old self.now actions.new) }
     {
         match answer(self.alloc, verdict, own)? {
             Some(octets) => self.answer(cid, 0, octets.as_slice(), actions),

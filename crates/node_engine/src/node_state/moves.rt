@@ -5,7 +5,7 @@ ghost use Rattle.conn_state.specs.Use.{is_acquirable, is_greeting, is_outbound, 
 ghost use Rattle.conn_table.specs.Conditions.{CanAwake};
 ghost use Rattle.machine.specs.Connections.{entry_turns, is_agreed_inbound, is_agreed_outbound, acquire, says_done, release, awake, idle};
 ghost use Rattle.machine.specs.Machine.{entry_at};
-ghost use Rattle.machine.specs.Replies.{asks};
+ghost use Rattle.machine.specs.Replies.{sends_as_initiator};
 ghost use Rattle.node_engine.specs.Standing.{moved};
 ghost use Rattle.node_engine.specs.State.{Does, DoesTo, IsKnown, is_used_from};
 ghost use Rattle.warm_messages.specs.Writing.{written_alive};
@@ -129,7 +129,7 @@ impl NodeState {
         message: Alive,
         actions: &mut ActionList,
     ) -> Result<(), OutOfMemory>
-        ensures { OnOk result (Does (asks cid 8 (written_alive message) self.now) actions.old self.now actions.new) }
+        ensures { OnOk result (Does (sends_as_initiator cid 8 (written_alive message) self.now) actions.old self.now actions.new) }
     {
         let payload = write_alive(self.alloc, &message)?;
         self.ask(cid, 8, payload.as_slice(), actions)

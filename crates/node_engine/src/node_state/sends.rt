@@ -1,5 +1,5 @@
 ghost use Rattle.std.specs.Prelude.{◌<◌, ◌^◌, OnOk};
-ghost use Rattle.machine.specs.Replies.{asks, answers};
+ghost use Rattle.machine.specs.Replies.{sends_as_initiator, sends_as_responder};
 ghost use Rattle.node_engine.specs.State.{Does};
 
 use super::NodeState;
@@ -16,7 +16,7 @@ impl NodeState {
         actions: &mut ActionList,
     ) -> Result<(), OutOfMemory>
         requires { protocol < 2 ^ 15 }
-        ensures { OnOk result (Does (asks cid protocol payload.now self.now) actions.old self.now actions.new) }
+        ensures { OnOk result (Does (sends_as_initiator cid protocol payload.now self.now) actions.old self.now actions.new) }
     {
         let octets = frame(self.alloc, 0, protocol, self.moment, payload)?;
         actions.push(Action::Send(cid, octets))
@@ -31,7 +31,7 @@ impl NodeState {
         actions: &mut ActionList,
     ) -> Result<(), OutOfMemory>
         requires { protocol < 2 ^ 15 }
-        ensures { OnOk result (Does (answers cid protocol payload.now self.now) actions.old self.now actions.new) }
+        ensures { OnOk result (Does (sends_as_responder cid protocol payload.now self.now) actions.old self.now actions.new) }
     {
         let octets = frame(self.alloc, 1, protocol, self.moment, payload)?;
         actions.push(Action::Send(cid, octets))

@@ -1,8 +1,8 @@
 ghost use Rattle.std.specs.Prelude.{◌≡◌, Some, IsSome, IfSome, OnOk, IfOk};
 ghost use Rattle.machine.specs.Connections.{entry_turns};
-ghost use Rattle.machine.specs.Effect.{for_each};
+ghost use Rattle.machine.specs.Effect.{on_connection, for_each};
 ghost use Rattle.machine.specs.Machine.{entry_at};
-ghost use Rattle.machine.specs.Stream.{handled_in, handles, kind_of, faulted_at, feeds, comes_in_phase, bytes_come_in};
+ghost use Rattle.machine.specs.Stream.{handled, handles, kind_of, faulted, feeds, comes_in, bytes_come_in};
 ghost use Rattle.node_engine.specs.Standing.{fed_of, fed_entry};
 ghost use Rattle.node_engine.specs.State.{Does, DoesTo, DoesSilently, IsKnown};
 ghost use Rattle.node_engine.specs.Talks.{IsFed};
@@ -36,7 +36,7 @@ impl NodeState {
     ) -> Result<(), OutOfMemory>
         requires { IsKnown facts self.old }
         ensures { OnOk result
-            (DoesTo facts.cid.0 (comes_in_phase facts.phase bytes.now) actions.old self.old self.new actions.new) }
+            (DoesTo facts.cid.0 (comes_in bytes.now) actions.old self.old self.new actions.new) }
     {
         match facts.phase {
             Phase::Greeting(_) | Phase::Negotiated => self.feed(facts.cid, bytes, actions),
@@ -107,7 +107,7 @@ impl NodeState {
     ) -> Result<(), OutOfMemory>
         requires { IsKnown facts self.old }
         ensures { OnOk result
-            (DoesTo facts.cid.0 (handled_in facts.phase item.now) actions.old self.old self.new actions.new) }
+            (DoesTo facts.cid.0 (handled item.now) actions.old self.old self.new actions.new) }
     {
         match facts.phase {
             Phase::Greeting(_) => self.greet(facts, item, actions),
@@ -124,7 +124,7 @@ impl NodeState {
         actions: &mut ActionList,
     ) -> Result<(), OutOfMemory>
         ensures { OnOk result
-            (Does (faulted_at (entry_at cid.0 self.old) (Some fault) self.old) actions.old self.new actions.new) }
+            (Does (on_connection cid (faulted (Some fault)) self.old) actions.old self.new actions.new) }
     {
         match self.found(cid) {
             Some(facts) => self.end(facts, CloseCause::Fault(kind_of(fault)), actions),

@@ -2,8 +2,9 @@ ghost use Rattle.std.specs.Prelude.{◌≡◌, true, Ok, IfSome, OnOk, IfOk};
 ghost use Rattle.conn_state.specs.Protocols.{has_responder};
 ghost use Rattle.conn_state.specs.Shapes.{serves_remote};
 ghost use Rattle.conn_state.specs.Use.{is_negotiated, agreed_sharing, runs};
+ghost use Rattle.machine.specs.Effect.{on_connection};
 ghost use Rattle.machine.specs.Machine.{entry_at};
-ghost use Rattle.machine.specs.Talking.{told_peers, replies, served_at, begins, asked_as, talks};
+ghost use Rattle.machine.specs.Talking.{served_peers, replies, serves, begins, asked_as, talks};
 ghost use Rattle.node_engine.specs.State.{Does, DoesTo, IsKnown};
 ghost use Rattle.remote_watch.specs.Watch.{watched};
 
@@ -112,7 +113,7 @@ impl NodeState {
     ) -> Result<(), OutOfMemory>
         requires responder { has_responder protocol ≡ true }
         requires runs { IfSome (entry_at cid.0 self.old) (λ e. runs protocol e.facts.running ≡ true) }
-        ensures { OnOk result (Does (served_at (entry_at cid.0 self.old) seen protocol self.old) actions.old self.new actions.new) }
+        ensures { OnOk result (Does (on_connection cid (serves seen protocol) self.old) actions.old self.new actions.new) }
     {
         match self.found(cid) {
             Some(facts) => self.serve_on(facts, protocol, seen, actions),
@@ -131,7 +132,7 @@ impl NodeState {
         requires known { IsKnown facts self.old }
         requires responder { has_responder protocol ≡ true }
         requires runs { runs protocol facts.running ≡ true }
-        ensures { OnOk result (Does (served_at (entry_at facts.cid.0 self.old) seen protocol self.old) actions.old self.new actions.new) }
+        ensures { OnOk result (DoesTo facts.cid.0 (serves seen protocol) actions.old self.old self.new actions.new) }
     {
         self.reply(facts, protocol, seen.reply, actions)?;
         if seen.done {
@@ -156,14 +157,14 @@ impl NodeState {
         if matches!(reply, Reply::Nothing) {
             return Ok(());
         }
-        let peers = self.told_peers(reply, facts.addr)?;
+        let peers = self.served_peers(reply, facts.addr)?;
         let bytes = reply_bytes(self.alloc, &reply, peers.as_slice())?;
         self.answer(facts.cid, protocol, bytes.as_slice(), actions)
     }
 
-    // The peers that are told to the other side.
-    fn told_peers(&self, reply: Reply, asker: Addr) -> Result<AddrList, OutOfMemory>
-        ensures { IfOk result (λ told. told ≡ told_peers reply asker self.now) }
+    // The peers that are handed out to the other side.
+    fn served_peers(&self, reply: Reply, asker: Addr) -> Result<AddrList, OutOfMemory>
+        ensures { IfOk result (λ peers. peers ≡ served_peers reply asker self.now) }
     {
         match reply {
             Reply::Share(n) => served(self.alloc, &self.book, &self.groups, &self.roots, asker, n),

@@ -1,8 +1,7 @@
 ghost use Rattle.std.specs.Prelude.{◌≡◌, ◌++◌, true, IsSome, IfSome, OnOk};
 ghost use Rattle.machine.specs.Connections.{entry_turns};
 ghost use Rattle.machine.specs.Machine.{entry_at};
-ghost use Rattle.machine.specs.Replies.{owing, paid};
-ghost use Rattle.node_engine.specs.Owed.{is_asked_on};
+ghost use Rattle.machine.specs.Replies.{owing, paid, is_owed_on};
 ghost use Rattle.node_engine.specs.State.{DoesSilently, name_notice};
 
 use super::NodeState;
@@ -13,7 +12,7 @@ impl NodeState {
     /// A reply on a protocol comes to be owed from now on, for what was asked. Nothing is told of that.
     pub(super) fn owe(&mut self, cid: Cid, protocol: u16, asked: u64)
         requires stands { IsSome (entry_at cid.0 self.old) }
-        requires asked_on { is_asked_on protocol ≡ true }
+        requires asked_on { is_owed_on protocol ≡ true }
         ensures { IfSome (entry_at cid.0 self.old)
             (λ e. DoesSilently (entry_turns e (owing protocol asked self.old e) self.old) self.new) }
     {

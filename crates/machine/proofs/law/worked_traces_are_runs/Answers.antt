@@ -24,3 +24,9 @@ returns-clause-sharing c = all_run.sharing
 
 pub returns-clause-big_peers : goal.returns-clause-big_peers
 returns-clause-big_peers c = all_run.big_peers
+
+pub returns-clause-distinct : goal.returns-clause-distinct
+returns-clause-distinct c = all_run.distinct
+
+pub returns-clause-distinct_peers : goal.returns-clause-distinct_peers
+returns-clause-distinct_peers c = all_run.distinct_peers

@@ -1,5 +1,5 @@
 use Rattle.std.proofs.Common.{◌≡◌, ◌+◌, true, false, ap, subst, ◌∙◌}
-use Rattle.conn_state.specs.Moves.{grace_ended}
+use Rattle.conn_table.specs.Choices.{grace_ended}
 use Rattle.conn_table.specs.Answers.{is_due}
 use Rattle.conn_table.specs.Table.{with_moved}
 use Rattle.mux_segment.specs.Stream.{nothing_fed}

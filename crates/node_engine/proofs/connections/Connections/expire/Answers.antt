@@ -1,5 +1,6 @@
 use Rattle.std.proofs.Common.{◌≡◌, ◌+◌, true}
-use Rattle.conn_state.specs.Moves.{expired, grace_ended}
+use Rattle.conn_state.specs.Moves.{expired}
+use Rattle.conn_table.specs.Choices.{grace_ended}
 use Rattle.conn_table.specs.Answers.{is_due}
 use Rattle.node_engine.specs.Standing.{moved}
 use Rattle.node_engine.proofs.TalkMoves.{keeps_grace_ended, goes_on, goes_on_as}

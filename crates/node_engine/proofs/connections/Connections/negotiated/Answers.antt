@@ -1,5 +1,5 @@
 use Rattle.std.proofs.Common.{◌≡◌, ◌+◌, true, refl, sym, ap, ◌∙◌}
-use Rattle.conn_state.specs.Moves.{negotiated}
+use Rattle.conn_table.specs.Choices.{negotiated}
 use Rattle.conn_state.specs.Use.{is_greeting}
 use Rattle.conn_table.specs.Answers.{lease_of}
 use Rattle.conn_table.specs.Table.{with_moved}
