@@ -4,7 +4,8 @@ ghost use Rattle.machine.specs.Machine.{entry_at};
 ghost use Rattle.node_engine.specs.State.{Does, IsKnown};
 
 use super::NodeState;
-use net_base::{ActionList, Cid, Facts, OutOfMemory, Phase};
+use conn_state::facts::is_dialing;
+use net_base::{ActionList, Cid, Facts, OutOfMemory};
 
 impl NodeState {
     /// A dial of this node's has ended.
@@ -33,7 +34,7 @@ impl NodeState {
         ensures { OnOk result (Does (dial_ends_at (entry_at facts.cid.0 self.old) opened self.old)
             actions.old self.new actions.new) }
     {
-        if !matches!(facts.phase, Phase::Dialing) {
+        if !is_dialing(&facts) {
             return Ok(());
         }
         if opened {
