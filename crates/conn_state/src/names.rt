@@ -1,10 +1,13 @@
+//! The name of a connection's state.
+
 ghost use Rattle.std.specs.Prelude.{◌≡◌};
-ghost use Rattle.conn_state.specs.Names.{name_of, name_while_greeting, name_while_ticking, name_while_idle, name_in_use};
-ghost use Rattle.conn_state.specs.Use.{some_runs, is_duplex};
+ghost use Rattle.conn_state.specs.Names.{name_in_use, name_of, name_while_greeting, name_while_idle, name_while_ticking};
 
-use net_base::{Facts, Grace, Phase, Provenance, Responders, StateName};
+use crate::facts::is_duplex;
+use crate::responders::some_runs;
+use net_base::{Facts, Grace, Phase, Provenance, StateName};
 
-/// The name of a connection's state.
+/// The name of a connection's state, as in the Ouroboros network specification's connection manager.
 pub fn name_of(facts: &Facts) -> StateName
     ensures { result ≡ name_of facts.now }
 {
@@ -57,25 +60,5 @@ fn name_while_idle(grace: Grace) -> StateName
     match grace {
         Grace::ForRemote(_) => StateName::InboundIdle,
         Grace::Off | Grace::ForLocal(_) => StateName::OutboundIdle,
-    }
-}
-
-fn some_runs(running: Responders) -> bool
-    ensures { result ≡ some_runs running }
-{
-    running.chain_sync
-        || running.block_fetch
-        || running.tx_submission
-        || running.keep_alive
-        || running.peer_sharing
-}
-
-/// Whether both sides may run protocols.
-pub fn is_duplex(facts: &Facts) -> bool
-    ensures { result ≡ is_duplex facts.now }
-{
-    match facts.agreed {
-        Some(agreed) => !agreed.initiator_only,
-        None => false,
     }
 }
