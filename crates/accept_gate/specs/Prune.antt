@@ -3,14 +3,9 @@ use Rattle.std.specs.Prelude.{ℕ, Bool, ◌&&◌, ◌||◌, ◌==◌, nat_lt, n
 use Rattle.std.specs.Option.{option_map}
 use Rattle.accept_gate.specs.declared.prune.Candidate.{Candidate}
 use Rattle.conn_state.specs.Counted.{is_counted}
-use Rattle.conn_state.specs.Use.{is_greeting, some_runs}
+use Rattle.conn_state.specs.Use.{is_greeting, some_hot_runs, some_runs}
 use Rattle.net_base.specs.declared.connection.Cid.{Cid}
 use Rattle.net_base.specs.declared.connection.Facts.{Facts}
-use Rattle.net_base.specs.declared.connection.Responders.{Responders}
-
--- chain-sync, block-fetch or tx-submission runs
-abbrev pub is_hot : Responders → Bool
-is_hot r = r.chain_sync || r.block_fetch || r.tx_submission
 
 -- only counted connections go, and none in local use
 abbrev pub is_candidate : Facts → Bool
@@ -20,7 +15,7 @@ is_candidate f = is_counted f && not f.local
 abbrev pub rank_of_candidate : Facts → ℕ
 rank_of_candidate f =
     if is_greeting f then 1
-    else if is_hot f.running then 3
+    else if some_hot_runs f.running then 3
     else if some_runs f.running then 2
     else 0
 

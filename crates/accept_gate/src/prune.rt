@@ -1,8 +1,9 @@
 ghost use Rattle.std.specs.Prelude.{◌≡◌};
-ghost use Rattle.accept_gate.specs.Prune.{is_candidate, is_hot, rank_of_candidate, rank_of, goes_before, first_of, first_to_go, choice_of};
-ghost use Rattle.conn_state.specs.Use.{some_runs};
+ghost use Rattle.accept_gate.specs.Prune.{is_candidate, rank_of_candidate, rank_of, goes_before, first_of, first_to_go, choice_of};
 
-use conn_state::{Cid, Facts, Grace, Phase, Provenance, Responders};
+use conn_state::facts::{is_counted, is_greeting};
+use conn_state::responders::{some_hot_runs, some_runs};
+use conn_state::{Cid, Facts};
 
 /// A connection that may go.
 #[derive(Clone, Copy, Debug, PartialEq, Eq)]
@@ -66,42 +67,21 @@ impl Candidate {
 fn is_candidate(facts: &Facts) -> bool
     ensures { result ≡ is_candidate facts.now }
 {
-    if facts.local {
-        return false;
-    }
-    match facts.phase {
-        Phase::Dialing | Phase::Closing(_) => false,
-        Phase::Greeting(_) => facts.provenance == Provenance::FromRemote,
-        Phase::Negotiated => {
-            some_runs(facts.running) || matches!(facts.grace, Grace::ForRemote(_))
-        }
-    }
+    is_counted(facts) && !facts.local
 }
 
 fn rank_of_candidate(facts: &Facts) -> u8
     ensures { result ≡ rank_of_candidate facts.now }
 {
-    if matches!(facts.phase, Phase::Greeting(_)) {
+    if is_greeting(facts) {
         1
-    } else if is_hot(facts.running) {
+    } else if some_hot_runs(facts.running) {
         3
     } else if some_runs(facts.running) {
         2
     } else {
         0
     }
-}
-
-fn is_hot(running: Responders) -> bool
-    ensures { result ≡ is_hot running }
-{
-    running.chain_sync || running.block_fetch || running.tx_submission
-}
-
-fn some_runs(running: Responders) -> bool
-    ensures { result ≡ some_runs running }
-{
-    is_hot(running) || running.keep_alive || running.peer_sharing
 }
 
 #[cfg(test)]

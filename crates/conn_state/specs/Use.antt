@@ -37,6 +37,10 @@ is_outbound f = is_outbound_by f.provenance
 abbrev pub some_runs : Responders → Bool
 some_runs r = r.chain_sync || r.block_fetch || r.tx_submission || r.keep_alive || r.peer_sharing
 
+-- chain-sync, block-fetch or tx-submission runs
+abbrev pub some_hot_runs : Responders → Bool
+some_hot_runs r = r.chain_sync || r.block_fetch || r.tx_submission
+
 abbrev pub none_running : Responders
 none_running = record {
   chain_sync = false;

@@ -5,14 +5,16 @@
 mod after_duplex;
 mod after_inbound;
 mod duplex;
+pub mod facts;
 mod inbound;
 mod inbound_idle;
+pub mod names;
 mod outbound_dup;
 mod outbound_idle;
 mod outbound_uni;
 mod released;
 mod reserved_outbound;
-mod responders;
+pub mod responders;
 mod state;
 mod terminating;
 mod unnegotiated;

@@ -1,10 +1,40 @@
+//! Questions to the responders that run on a connection.
+
 ghost use Rattle.std.specs.Prelude.{◌≡◌, Bool};
-ghost use Rattle.conn_state.specs.Use.{some_runs, with_responder, none_running};
+ghost use Rattle.conn_state.specs.Use.{none_running, runs, some_hot_runs, some_runs, with_responder};
 
 use net_base::Responders;
 
+/// Whether some responder runs.
+pub fn some_runs(running: Responders) -> bool
+    ensures { result ≡ some_runs running }
+{
+    some_hot_runs(running) || running.keep_alive || running.peer_sharing
+}
+
+/// Whether chain-sync, block-fetch or tx-submission runs.
+pub fn some_hot_runs(running: Responders) -> bool
+    ensures { result ≡ some_hot_runs running }
+{
+    running.chain_sync || running.block_fetch || running.tx_submission
+}
+
+/// Whether the responder of a protocol runs.
+pub fn runs(protocol: u16, running: Responders) -> bool
+    ensures { result ≡ runs protocol running }
+{
+    match protocol {
+        2 => running.chain_sync,
+        3 => running.block_fetch,
+        4 => running.tx_submission,
+        8 => running.keep_alive,
+        10 => running.peer_sharing,
+        _ => false,
+    }
+}
+
 // No responder runs.
-pub fn none_running() -> Responders
+pub(crate) fn none_running() -> Responders
     ensures { result ≡ none_running }
 {
     Responders {
@@ -16,19 +46,8 @@ pub fn none_running() -> Responders
     }
 }
 
-// Whether some responder runs.
-pub fn some_runs(running: Responders) -> bool
-    ensures { result ≡ some_runs running }
-{
-    running.chain_sync
-        || running.block_fetch
-        || running.tx_submission
-        || running.keep_alive
-        || running.peer_sharing
-}
-
 // The responders after that of a protocol has started or stopped.
-pub fn with_responder(protocol: u16, runs_now: bool, running: Responders) -> Responders
+pub(crate) fn with_responder(protocol: u16, runs_now: bool, running: Responders) -> Responders
     ensures { result ≡ with_responder protocol runs_now running }
 {
     match protocol {

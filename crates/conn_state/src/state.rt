@@ -1,12 +1,13 @@
 ghost use Rattle.std.specs.Prelude.{◌≡◌};
-ghost use Rattle.conn_state.specs.Names.{name_of, name_while_greeting, name_while_ticking};
+ghost use Rattle.conn_state.specs.Names.{name_of};
 ghost use Rattle.conn_state.specs.State.{facts_of, HasShape};
 
+use crate::names::name_of;
 use crate::{
     Duplex, Inbound, InboundIdle, OutboundDup, OutboundIdle, OutboundUni, ReservedOutbound,
     Terminating, Unnegotiated,
 };
-use net_base::{Facts, Grace, Provenance, StateName};
+use net_base::{Facts, StateName};
 
 /// A connection in one of its states.
 #[derive(Debug, Drop)]
@@ -28,16 +29,24 @@ impl ConnState {
         ensures value { result ≡ facts_of self.now }
         ensures shape { HasShape self.now }
     {
+        *self.as_facts()
+    }
+
+    /// What is known of the connection, lent.
+    pub fn as_facts(&self) -> &Facts
+        ensures value { result.now ≡ facts_of self.now }
+        ensures shape { HasShape self.now }
+    {
         match self {
-            ConnState::ReservedOutbound(state) => state.facts,
-            ConnState::Unnegotiated(state) => state.facts,
-            ConnState::OutboundUni(state) => state.facts,
-            ConnState::OutboundDup(state) => state.facts,
-            ConnState::InboundIdle(state) => state.facts,
-            ConnState::Inbound(state) => state.facts,
-            ConnState::Duplex(state) => state.facts,
-            ConnState::OutboundIdle(state) => state.facts,
-            ConnState::Terminating(state) => state.facts,
+            ConnState::ReservedOutbound(state) => &state.facts,
+            ConnState::Unnegotiated(state) => &state.facts,
+            ConnState::OutboundUni(state) => &state.facts,
+            ConnState::OutboundDup(state) => &state.facts,
+            ConnState::InboundIdle(state) => &state.facts,
+            ConnState::Inbound(state) => &state.facts,
+            ConnState::Duplex(state) => &state.facts,
+            ConnState::OutboundIdle(state) => &state.facts,
+            ConnState::Terminating(state) => &state.facts,
         }
     }
 
@@ -45,35 +54,6 @@ impl ConnState {
     pub fn name(&self) -> StateName
         ensures { result ≡ name_of (facts_of self.now) }
     {
-        let facts = self.facts();
-        match self {
-            ConnState::ReservedOutbound(_) => StateName::ReservedOutbound,
-            ConnState::Unnegotiated(_) => name_while_greeting(facts.provenance),
-            ConnState::OutboundUni(_) => StateName::OutboundUni,
-            ConnState::OutboundDup(_) => name_while_ticking(facts.grace),
-            ConnState::InboundIdle(_) => StateName::InboundIdle,
-            ConnState::Inbound(_) => StateName::Inbound,
-            ConnState::Duplex(_) => StateName::Duplex,
-            ConnState::OutboundIdle(_) => StateName::OutboundIdle,
-            ConnState::Terminating(_) => StateName::Terminating,
-        }
-    }
-}
-
-fn name_while_greeting(provenance: Provenance) -> StateName
-    ensures { result ≡ name_while_greeting provenance }
-{
-    match provenance {
-        Provenance::FromRemote => StateName::UnnegotiatedInbound,
-        Provenance::FromLocal => StateName::UnnegotiatedOutbound,
-    }
-}
-
-fn name_while_ticking(grace: Grace) -> StateName
-    ensures { result ≡ name_while_ticking grace }
-{
-    match grace {
-        Grace::ForRemote(_) => StateName::OutboundDupTicking,
-        Grace::Off | Grace::ForLocal(_) => StateName::OutboundDupExpired,
+        name_of(self.as_facts())
     }
 }

@@ -2,6 +2,12 @@ ghost use Rattle.std.specs.Prelude.{◌≡◌, true, false};
 ghost use Rattle.conn_state.specs.Use.{is_duplex, is_outbound, runs};
 
 use super::*;
+use crate::facts::{
+    is_acquirable, is_counted, is_dialing, is_duplex, is_greeting, is_live, is_negotiated,
+    is_outbound, is_pending, is_sharing, serves_remote,
+};
+use crate::names::name_of;
+use crate::responders::{runs, some_hot_runs, some_runs};
 use net_base::{Addr, Ip, StateName};
 
 const ADDR: Addr = Addr {
@@ -202,5 +208,26 @@ fn all_that_is_known_of_a_connection(rt: HostRuntime) {
         },
         grace: Grace::Off,
     };
-    assert_eq!(rt; ConnState::Duplex(ticking().awake(8)).facts(), facts);
+    let awake = ConnState::Duplex(ticking().awake(8));
+    assert_eq!(rt; awake.facts(), facts);
+    assert_eq!(rt; awake.as_facts().cid, Cid(1));
+    assert_eq!(rt; name_of(&facts), StateName::Duplex);
+    assert!(rt; some_runs(facts.running) && runs(8, facts.running));
+    assert!(rt; !runs(10, facts.running) && !some_hot_runs(facts.running));
+}
+
+#[test]
+fn questions_to_a_connection_that_goes_on(rt: HostRuntime) {
+    let reserved = ConnState::ReservedOutbound(ReservedOutbound::new(Cid(1), ADDR)).facts();
+    assert!(rt; is_dialing(&reserved) && is_pending(&reserved) && is_live(&reserved));
+    assert!(rt; is_outbound(&reserved) && !serves_remote(&reserved) && !is_counted(&reserved));
+    let greeting = ConnState::Unnegotiated(dialed()).facts();
+    assert!(rt; is_greeting(&greeting) && is_pending(&greeting) && !is_counted(&greeting));
+    let idle = ConnState::InboundIdle(inbound_idle()).facts();
+    assert!(rt; is_negotiated(&idle) && is_duplex(&idle) && is_sharing(&idle));
+    assert!(rt; is_acquirable(&idle) && is_counted(&idle) && serves_remote(&idle));
+    let used = ConnState::OutboundDup(inbound_idle().acquire()).facts();
+    assert!(rt; !is_acquirable(&used) && !is_counted(&used));
+    let closed = ConnState::Terminating(inbound_idle().grace_over(65_000)).facts();
+    assert!(rt; !is_live(&closed) && !is_sharing(&closed));
 }

@@ -115,10 +115,49 @@ pub get-place : (cid above most : ℕ) (fs : List Facts) (f : Facts) → IdsRise
     slice_get fs (id_place cid fs) ≡ Some f
 get-place cid above most fs f rises found = found_is cid (slice_get fs (id_place cid fs)) f (sym (find-place cid above most fs rises) ∙ found)
 
--- ---- the one with an id, and then the rest
+-- ---- what stands at a place is the one with its id
 
 is_found : (g f : Facts) → Some g ≡ Some f → g ≡ f
 is_found g f e = cc
+
+above_get : (above most : ℕ) (fs : List Facts) (place : ℕ) (f : Facts) → IdsRise above most fs → slice_get fs place ≡ Some f → above < f.cid.0
+above_get above most [] place f rises found = absurd (nothing place found)
+  where
+    nothing : (n : ℕ) → slice_get [] n ≡ Some f → ⊥
+    nothing zero h = cc
+    nothing (suc n) h = cc
+above_get above most (g ∷ gs) zero f rises found = subst (λ h. above < h.cid.0) (is_found g f found) rises.0
+above_get above most (g ∷ gs) (suc place) f rises found = omega (arith, rises.0, above_get g.cid.0 most gs place f rises.1 found)
+
+under_above : (f g : Facts) → g.cid.0 < f.cid.0 → under f.cid.0 g ≡ true
+under_above f g h = grind (arith, nat_tests)
+
+over_itself : (f : Facts) → under f.cid.0 f ≡ false
+over_itself f = grind (arith, nat_tests)
+
+has_its_id : (f : Facts) → has_id f.cid.0 f ≡ true
+has_its_id f = grind (arith, nat_tests)
+
+pub place-get : (above most : ℕ) (fs : List Facts) (place : ℕ) (f : Facts) → IdsRise above most fs → slice_get fs place ≡ Some f →
+    id_place f.cid.0 fs ≡ place
+place-get above most [] place f rises found = absurd (nothing place found)
+  where
+    nothing : (n : ℕ) → slice_get [] n ≡ Some f → ⊥
+    nothing zero h = cc
+    nothing (suc n) h = cc
+place-get above most (g ∷ gs) zero f rises found = rw (is_found g f found, over_itself f) refl
+place-get above most (g ∷ gs) (suc place) f rises found =
+    rw (under_above f g (above_get g.cid.0 most gs place f rises.1 found), one_more (id_place f.cid.0 gs))
+    (ap (λ n. suc n) (place-get g.cid.0 most gs place f rises.1 found))
+
+pub found-get : (above most : ℕ) (fs : List Facts) (place : ℕ) (f : Facts) → IdsRise above most fs → slice_get fs place ≡ Some f →
+    facts_at f.cid.0 fs ≡ Some f
+found-get above most fs place f rises found =
+    find-place f.cid.0 above most fs rises
+    ∙ (ap (λ n. found_with f.cid.0 (slice_get fs n)) (place-get above most fs place f rises found)
+    ∙ (ap (found_with f.cid.0) found ∙ ap (λ b. if b then Some f else None) (has_its_id f)))
+
+-- ---- the one with an id, and then the rest
 
 pub found_here : (cid : ℕ) (g f : Facts) (fs : List Facts) → facts_at cid (g ∷ fs) ≡ Some f → has_id cid g ≡ true → g ≡ f
 found_here cid g f fs found here = is_found g f (rw here at found)

@@ -13,7 +13,7 @@ use Rattle.conn_table.specs.Index.{placed_below, same_placed, IsRising, put_in, 
 use Rattle.conn_table.specs.Finds.{newest}
 use Rattle.conn_table.specs.Table.{IdsRise, moved_at, without_at}
 use Rattle.conn_table.specs.declared.placed.Placed.{Placed}
-use Rattle.conn_table.proofs.AddressOrder.{address_turned, same_address-itself, same_address-is}
+use Rattle.net_base.proofs.AddressOrder.{address_turned, same_address-itself, same_address-is}
 use Rattle.conn_table.proofs.IdPlaces.{found_here, found_later, found_id, without_at-above}
 use Rattle.conn_table.proofs.PlacedOrder.{placed_transitive, placed_connected, never_both, same_placed-itself, same_placed-is}
 use Rattle.conn_table.proofs.PlacedPlaces.{IsRising-put_in, filter-put_in, taken_out-put_in}

@@ -6,7 +6,7 @@ use Rattle.net_base.specs.Address.{same_address, address_below}
 use Rattle.net_base.specs.declared.address.Addr.{Addr}
 use Rattle.conn_table.specs.Index.{placed_below, IsRising, placed_at, last_at, found_at, up_to, before}
 use Rattle.conn_table.specs.declared.placed.Placed.{Placed}
-use Rattle.conn_table.proofs.AddressOrder.{address_transitive, address_connected, address_turned, same_address-is}
+use Rattle.net_base.proofs.AddressOrder.{address_transitive, address_connected, address_turned, same_address-is}
 use Rattle.conn_table.proofs.PlacedPlaces.{AllAbove}
 
 one_more : (n : ℕ) → 1 + n ≡ suc n

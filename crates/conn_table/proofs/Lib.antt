@@ -1,4 +1,3 @@
-pub mod AddressOrder
 pub mod IdPlaces
 pub mod IndexFacts
 pub mod LastAt

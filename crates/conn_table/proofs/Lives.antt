@@ -1,9 +1,10 @@
 -- Which connection of an address may be live: the last.
-use Rattle.std.proofs.Common.{◌≡◌, ℕ, ◌+◌, ◌≤◌, Bool, true, false, cond, List, [], ◌∷◌, ◌++◌, length, Option, Some, None, is_some, refl, sym, subst, ap, ◌∙◌, inl, inr, ◌⊎◌, arith}
+use Rattle.std.proofs.Common.{◌≡◌, ℕ, ◌+◌, ◌<◌, ◌≤◌, Bool, true, false, cond, List, [], ◌∷◌, ◌++◌, length, Option, Some, None, is_some, slice_get, refl, sym, subst, ap, ◌∙◌, inl, inr, ◌⊎◌, arith}
 use Rattle.std.specs.List.{find, filter}
 use Rattle.std.specs.Option.{option_map}
 use Rattle.std.proofs.lemmas.Bool.{cases_Bool, true≢false, false≢true, and_parts}
 use Rattle.std.proofs.lemmas.Bool.Decides.{nat_tests}
+use Rattle.std.proofs.lemmas.Option.{slice_get_within}
 use Rattle.net_base.specs.Address.{same_address}
 use Rattle.net_base.specs.declared.address.Addr.{Addr}
 use Rattle.net_base.specs.declared.connection.Facts.{Facts}
@@ -13,11 +14,11 @@ use Rattle.conn_state.specs.Use.{has_id, facts_at, is_live, live_phase, is_negot
 use Rattle.conn_table.specs.Answers.{has_address, any_at, any_acquirable, may_acquire}
 use Rattle.conn_table.specs.Index.{placed_of}
 use Rattle.conn_table.specs.declared.placed.Placed.{Placed}
-use Rattle.conn_table.specs.Finds.{newest, if_live}
+use Rattle.conn_table.specs.Finds.{newest, if_live, id_place, StandsAt}
 use Rattle.conn_table.specs.Kept.{OnlyLastLives}
 use Rattle.conn_table.specs.Table.{IdsRise, moved_at}
-use Rattle.conn_table.proofs.AddressOrder.{same_address-itself, same_address-is}
-use Rattle.conn_table.proofs.IdPlaces.{found_here, found_later, moved_at-above, none_above}
+use Rattle.net_base.proofs.AddressOrder.{same_address-itself, same_address-is}
+use Rattle.conn_table.proofs.IdPlaces.{found_here, found_later, get-place, moved_at-above, none_above}
 
 -- ---- some connection of an address
 
@@ -249,18 +250,41 @@ pub length-rise : (above most : ℕ) (fs : List Facts) → IdsRise above most fs
 length-rise above most [] rises = omega (arith, rises)
 length-rise above most (f ∷ fs) rises = omega (arith, rises.0, length-rise f.cid.0 most fs rises.1)
 
-is_live_one : (found : Option Facts) (f : Facts) → if_live found ≡ Some f → found ≡ Some f
-is_live_one None f h = cc
-is_live_one (Some g) f h = elim (cases_Bool (is_live g)) [
-  | inl lives ↦ rw lives at h
-  | inr dead ↦ absurd (nothing (rw dead at h))
-]
-  where
-    nothing : None ≡ Some f → ⊥
-    nothing k = cc
+-- ---- where the last connection of an address stands
 
--- the live connection of an address is found by its id
-pub live_found : (addr : Addr) (most : ℕ) (fs : List Facts) (f : Facts) → IdsRise 0 most fs → OnlyLastLives fs → live_at addr fs ≡ Some f →
-    facts_at f.cid.0 fs ≡ Some f
-live_found addr most fs f rises only found =
-    newest_found addr 0 most fs f rises (is_live_one (newest addr fs) f (sym (live_at-newest addr fs only) ∙ found))
+pub newest_stands : (addr : Addr) (most : ℕ) (fs : List Facts) (p : Placed) (place : ℕ) → IdsRise 0 most fs → option_map placed_of (newest addr fs) ≡ Some p →
+    place ≡ id_place p.cid.0 fs → StandsAt fs (newest addr fs) (Some place)
+newest_stands addr most fs p place rises found is_place = at (newest addr fs) found (newest_by_id addr 0 most fs p rises found)
+  where
+    at : (o : Option Facts) → option_map placed_of o ≡ Some p → facts_at p.cid.0 fs ≡ o → StandsAt fs o (Some place)
+    at None h k = cc
+    at (Some f) h k = ap (slice_get fs) is_place ∙ get-place p.cid.0 0 most fs f rises k
+
+pub stands_inside : (fs : List Facts) (found : Option Facts) (place : ℕ) → StandsAt fs found (Some place) → place < length fs
+stands_inside fs None place stands = absurd stands
+stands_inside fs (Some f) place stands = slice_get_within fs place f stands
+
+pub stands_found : (fs : List Facts) (found : Option Facts) (place : ℕ) (f : Facts) → StandsAt fs found (Some place) → slice_get fs place ≡ Some f →
+    found ≡ Some f
+stands_found fs None place f stands at = absurd stands
+stands_found fs (Some g) place f stands at = sym stands ∙ at
+
+stands_nowhere : (fs : List Facts) (found : Option Facts) → StandsAt fs found None → found ≡ None
+stands_nowhere fs None stands = refl
+stands_nowhere fs (Some f) stands = absurd stands
+
+pub none_lives : (addr : Addr) (fs : List Facts) → OnlyLastLives fs → StandsAt fs (newest addr fs) None → StandsAt fs (live_at addr fs) None
+none_lives addr fs only stands =
+    subst (λ o. StandsAt fs o None) (sym (live_at-newest addr fs only ∙ ap if_live (stands_nowhere fs (newest addr fs) stands))) tt
+
+pub one_lives : (addr : Addr) (fs : List Facts) (place : ℕ) (f : Facts) → OnlyLastLives fs → StandsAt fs (newest addr fs) (Some place) →
+    slice_get fs place ≡ Some f → is_live f ≡ true → StandsAt fs (live_at addr fs) (Some place)
+one_lives addr fs place f only stands at lives =
+    subst (λ o. StandsAt fs o (Some place))
+    (sym (live_at-newest addr fs only ∙ (ap if_live (stands_found fs (newest addr fs) place f stands at) ∙ ap (λ b. cond b (Some f) None) lives))) at
+
+pub one_is_closed : (addr : Addr) (fs : List Facts) (place : ℕ) (f : Facts) → OnlyLastLives fs → StandsAt fs (newest addr fs) (Some place) →
+    slice_get fs place ≡ Some f → is_live f ≡ false → StandsAt fs (live_at addr fs) None
+one_is_closed addr fs place f only stands at closed =
+    subst (λ o. StandsAt fs o None)
+    (sym (live_at-newest addr fs only ∙ (ap if_live (stands_found fs (newest addr fs) place f stands at) ∙ ap (λ b. cond b (Some f) None) closed))) tt

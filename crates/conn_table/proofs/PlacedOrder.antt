@@ -10,7 +10,7 @@ use Rattle.conn_table.specs.Index.{placed_below, same_placed}
 use Rattle.conn_table.specs.declared.placed.Placed.{Placed}
 use Rattle.conn_table.specs.contracts.placed.PlacedOrd.TheImpl.{ghosts}
 use Rattle.conn_table.specs.contracts.placed.PlacedOrd.TheImpl.Laws.{total-law}
-use Rattle.conn_table.proofs.AddressOrder.{less, greater_back, same_number, same_address-is}
+use Rattle.net_base.proofs.AddressOrder.{less, greater_back, same_number, same_address-is}
 
 below_is : (a b : Placed) → is_lt (ghosts.cmp a b) ≡ placed_below a b
 below_is a b = search rules

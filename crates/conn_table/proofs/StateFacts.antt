@@ -1,5 +1,5 @@
 -- The state that stands at the place of an id, and what a step keeps of it.
-use Rattle.std.proofs.Common.{◌≡◌, ℕ, ◌<◌, true, List, map, length, get_or, Option, Some, None, IsSome, IfSome, IsSomeAnd, refl, sym, ap, ◌∙◌, inl, inr, arith, rules}
+use Rattle.std.proofs.Common.{◌≡◌, ℕ, ◌<◌, true, List, map, length, get_or, slice_get, Option, Some, None, IsSome, IfSome, IsSomeAnd, refl, sym, ap, ◌∙◌, inl, inr, arith, rules}
 use Rattle.std.specs.Option.{option_map}
 use Rattle.std.proofs.lemmas.Bool.{cases_Bool, true≢false, false≢true}
 use Rattle.std.proofs.lemmas.List.{length-map}
@@ -38,23 +38,36 @@ pub if_some : (P : Facts → Type 0) (o : Option Facts) → ((f : Facts) → o �
 if_some P None h = tt
 if_some P (Some f) h = h f refl
 
+pub place_inside : (xs : List ConnState) (place : ℕ) (f : Facts) → slice_get (map facts_of xs) place ≡ Some f → place < length xs
+place_inside xs place f at = omega (arith, slice_get_within (map facts_of xs) place f at, length-map xs facts_of)
+
 pub state_inside : (cid above most : ℕ) (xs : List ConnState) (f : Facts) → IdsRise above most (map facts_of xs) → facts_at cid (map facts_of xs) ≡ Some f →
     id_place cid (map facts_of xs) < length xs
 state_inside cid above most xs f rises found =
-    let place = id_place cid (map facts_of xs) in
-    omega (arith, slice_get_within (map facts_of xs) place f (get-place cid above most (map facts_of xs) f rises found), length-map xs facts_of)
+    place_inside xs (id_place cid (map facts_of xs)) f (get-place cid above most (map facts_of xs) f rises found)
 
 is_facts : (x : ConnState) (f : Facts) → option_map facts_of (Some x) ≡ Some f → facts_of x ≡ f
 is_facts x f h = cc
 
+state_there : (xs : List ConnState) (place : ℕ) (f : Facts) (d : ConnState) → slice_get (map facts_of xs) place ≡ Some f →
+    facts_of (get_or xs place d) ≡ f
+state_there xs place f d at =
+    is_facts (get_or xs place d) f (
+    ap (option_map facts_of) (sym (slice_get-get_or xs place d (place_inside xs place f at)))
+    ∙ (sym (slice_get-map facts_of xs place) ∙ at)
+    )
+
 pub state_at : (cid above most : ℕ) (xs : List ConnState) (f : Facts) (d : ConnState) → IdsRise above most (map facts_of xs) → facts_at cid (map facts_of xs) ≡ Some f →
     facts_of (get_or xs (id_place cid (map facts_of xs)) d) ≡ f
 state_at cid above most xs f d rises found =
-    let place = id_place cid (map facts_of xs) in
-    is_facts (get_or xs place d) f (
-    ap (option_map facts_of) (sym (slice_get-get_or xs place d (state_inside cid above most xs f rises found)))
-    ∙ (sym (slice_get-map facts_of xs place) ∙ get-place cid above most (map facts_of xs) f rises found)
-    )
+    state_there xs (id_place cid (map facts_of xs)) f d (get-place cid above most (map facts_of xs) f rises found)
+
+-- what was read of the state at a place stands there
+pub was_there : (P : Facts → Type 0) (xs : List ConnState) (place : ℕ) (x d : ConnState) (f : Facts) → IsSomeAnd (slice_get (map facts_of xs) place) P →
+    x ≡ get_or xs place d → f ≡ facts_of x → slice_get (map facts_of xs) place ≡ Some f
+was_there P xs place x d f some is_x is_f =
+    let found = some_with P (slice_get (map facts_of xs) place) some in
+    found.1 ∙ ap Some (sym (is_f ∙ (ap facts_of is_x ∙ state_there xs place found.0 d found.1)))
 
 -- ---- a step keeps the address and the id
 

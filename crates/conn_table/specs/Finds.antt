@@ -1,5 +1,5 @@
 -- What a look-up finds in a list of connections.
-use Rattle.std.specs.Prelude.{ℕ, nat_lt, List, [], ◌∷◌, Option, Some, None, if◌then◌else◌}
+use Rattle.std.specs.Prelude.{ℕ, nat_lt, List, [], ◌∷◌, Option, Some, None, slice_get, ◌≡◌, if◌then◌else◌}
 use Rattle.std.specs.List.{prefix_len}
 use Rattle.net_base.specs.declared.address.Addr.{Addr}
 use Rattle.net_base.specs.declared.connection.Facts.{Facts}
@@ -24,3 +24,10 @@ if_live (Some f) = if is_live f then Some f else None
 abbrev pub found_with : ℕ → Option Facts → Option Facts
 found_with cid None = None
 found_with cid (Some f) = if has_id cid f then Some f else None
+
+-- the place of one that was found, and none where nothing was
+abbrev pub StandsAt : List Facts → Option Facts → Option ℕ → Type 0
+StandsAt fs (Some f) (Some place) = slice_get fs place ≡ Some f
+StandsAt fs (Some f) None = ⊥
+StandsAt fs None (Some place) = ⊥
+StandsAt fs None None = Unit {0}

@@ -1,17 +1,17 @@
-ghost use Rattle.std.specs.Prelude.{◌≡◌, ◌+◌, ◌++◌, ◌∷◌, ◌<◌, ◌^◌, [], length, None, OnOk, OnErr, IsSome, IsSomeAnd, IfSome, slice_get, vec_len, vec_capacity, ℕ, if◌then◌else◌};
-ghost use Rattle.conn_state.specs.Names.{name_of};
+ghost use Rattle.std.specs.Prelude.{◌≡◌, ◌+◌, ◌++◌, ◌∷◌, ◌<◌, ◌^◌, [], length, Some, None, OnOk, OnErr, IsSome, IsSomeAnd, slice_get, vec_len, vec_capacity, ℕ, if◌then◌else◌};
 ghost use Rattle.conn_state.specs.State.{facts_of};
 ghost use Rattle.conn_state.specs.Use.{facts_at, live_at};
+ghost use Rattle.conn_table.specs.Answers.{any_at};
 ghost use Rattle.conn_table.specs.Conditions.{CanStep, after_step};
 ghost use Rattle.conn_table.specs.Index.{placed_of};
-ghost use Rattle.conn_table.specs.Finds.{id_place, newest, found_with};
+ghost use Rattle.conn_table.specs.Finds.{id_place, newest, found_with, StandsAt};
 ghost use Rattle.conn_table.specs.Table.{moved_at, without_at};
 
-use crate::facts::is_counted;
 use crate::step::{Step, stepped};
 use crate::{Placed, PlacedList};
+use conn_state::facts::is_counted;
 use conn_state::{ConnState, ReservedOutbound};
-use net_base::{Addr, Cid, Facts, Ip, OutOfMemory, StateName};
+use net_base::{Addr, Cid, Facts, Ip, OutOfMemory};
 use std::alloc::Global;
 use std::mem;
 
@@ -50,22 +50,29 @@ impl Kept {
         self.facts_there(self.place_of(cid), cid)
     }
 
-    // The last connection of an address: only that one may be live.
-    pub fn newest(&self, addr: Addr) -> Option<Facts>
+    // Where the last connection of an address stands: only that one may be live.
+    pub fn newest(&self, addr: Addr) -> Option<usize>
         requires { IsKept self.now }
-        ensures { result ≡ newest addr (facts_kept self.now) }
+        ensures { StandsAt (facts_kept self.now) (newest addr (facts_kept self.now)) result }
     {
         let placed = self.index.last_at(addr)?;
-        self.facts(placed.cid)
+        Some(self.place_of(placed.cid))
     }
 
-    // The name of the state of a connection that stands.
-    pub fn name(&self, cid: Cid) -> StateName
-        requires kept { IsKept self.now }
-        requires there { IsSome (facts_at cid.0 (facts_kept self.now)) }
-        ensures { IfSome (facts_at cid.0 (facts_kept self.now)) (λ f. result ≡ name_of f) }
+    // Whether some connection has an address, closed or not.
+    pub fn any_of(&self, addr: Addr) -> bool
+        requires { IsKept self.now }
+        ensures { result ≡ any_at addr (facts_kept self.now) }
     {
-        self.states[self.place_of(cid)].name()
+        self.index.last_at(addr).is_some()
+    }
+
+    // What is known of the connection at a place.
+    pub fn at(&self, place: usize) -> &Facts
+        requires { place < length (facts_kept self.now) }
+        ensures { slice_get (facts_kept self.now) place ≡ Some result.now }
+    {
+        self.states[place].as_facts()
     }
 
     // Takes in a connection under the next id. A refusal changes nothing.
@@ -89,21 +96,34 @@ impl Kept {
         Ok(())
     }
 
-    // A connection makes a move that it has.
-    pub fn turn(&mut self, cid: Cid, step: Step)
+    // A connection makes a move that it has. The answer is what was known of it before.
+    pub fn turn(&mut self, cid: Cid, step: Step) -> Facts
         requires kept { IsKept self.old }
         requires can { IsSomeAnd (facts_at cid.0 (facts_kept self.old)) (CanStep step) }
+        ensures was { facts_at cid.0 (facts_kept self.old) ≡ Some result }
         ensures kept { IsKept self.new }
         ensures facts { facts_kept self.new ≡ moved_at cid.0 (after_step step) (facts_kept self.old) }
         ensures given { self.new.given ≡ self.old.given }
     {
         let place = self.place_of(cid);
-        let old = mem::replace(&mut self.states[place], spare(cid));
-        let was = is_counted(&old.facts());
+        self.turn_at(place, step)
+    }
+
+    // The connection at a place makes a move that it has. The answer is what was known of it before.
+    pub fn turn_at(&mut self, place: usize, step: Step) -> Facts
+        requires kept { IsKept self.old }
+        requires can { IsSomeAnd (slice_get (facts_kept self.old) place) (CanStep step) }
+        ensures was { slice_get (facts_kept self.old) place ≡ Some result }
+        ensures kept { IsKept self.new }
+        ensures facts { facts_kept self.new ≡ moved_at result.cid.0 (after_step step) (facts_kept self.old) }
+        ensures given { self.new.given ≡ self.old.given }
+    {
+        let old = mem::replace(&mut self.states[place], spare());
+        let was = old.facts();
         let new = stepped(old, step);
-        let is = is_counted(&new.facts());
-        self.counted = recounted(self.counted, was, is);
+        self.counted = recounted(self.counted, is_counted(&was), is_counted(new.as_facts()));
         self.states[place] = new;
+        was
     }
 
     // A connection that stands goes.
@@ -126,15 +146,16 @@ impl Kept {
         requires { IsKept self.now }
         ensures { result ≡ id_place cid.0 (facts_kept self.now) }
     {
-        self.states.partition_point(|state| state.facts().cid < cid)
+        self.states
+            .partition_point(|state| state.as_facts().cid < cid)
     }
 
     // What is known of the connection at a place, where it has an id.
     fn facts_there(&self, place: usize, cid: Cid) -> Option<Facts>
         ensures { result ≡ found_with cid.0 (slice_get (facts_kept self.now) place) }
     {
-        let facts = self.states.get(place)?.facts();
-        (facts.cid == cid).then_some(facts)
+        let facts = self.states.get(place)?.as_facts();
+        if facts.cid == cid { Some(*facts) } else { None }
     }
 }
 
@@ -156,12 +177,12 @@ fn placed(facts: &Facts) -> Placed
 }
 
 // What stands at a place while its state makes a move.
-fn spare(cid: Cid) -> ConnState {
+fn spare() -> ConnState {
     let addr = Addr {
         ip: Ip::V4(0),
         port: 0,
     };
-    ConnState::ReservedOutbound(ReservedOutbound::new(cid, addr))
+    ConnState::ReservedOutbound(ReservedOutbound::new(Cid(0), addr))
 }
 
 // A count after one that was counted or not is counted or not.

@@ -3,7 +3,6 @@
 #![tactic(auto)]
 
 mod acquire;
-mod facts;
 mod grace_end;
 mod kept;
 mod lease;
@@ -12,7 +11,6 @@ mod step;
 mod table;
 
 pub use acquire::Acquire;
-pub use facts::{is_acquirable, is_live};
 pub use grace_end::GraceEnd;
 pub use lease::LocalLease;
 pub use placed::{Placed, PlacedList};

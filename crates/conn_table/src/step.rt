@@ -2,14 +2,15 @@ ghost use Rattle.std.specs.Prelude.{◌≡◌, ℕ, true};
 ghost use Rattle.conn_state.specs.Moves.{connected, agreed_outbound, acquired, released, awakened, idled};
 ghost use Rattle.conn_table.specs.Choices.{negotiated, grace_ended};
 ghost use Rattle.conn_state.specs.Protocols.{has_responder};
-ghost use Rattle.conn_state.specs.State.{facts_of, as_released, as_after_inbound, as_after_duplex};
+ghost use Rattle.conn_state.specs.State.{facts_of, HasShape, as_released, as_after_inbound, as_after_duplex};
 ghost use Rattle.conn_state.specs.Use.{is_dialing, is_greeting, is_outbound, is_acquirable, runs};
 ghost use Rattle.conn_table.specs.Answers.{is_due};
 ghost use Rattle.conn_table.specs.Conditions.{CanStep, CanAwake, after_step};
 ghost use Rattle.net_base.specs.declared.connection.Facts.{Facts};
 
+use conn_state::facts::is_outbound;
 use conn_state::{AfterDuplex, AfterInbound, ConnState, Released, Unnegotiated};
-use net_base::{Agreed, Provenance};
+use net_base::Agreed;
 
 // A move of a connection. The last number of each is the moment until which it may last.
 pub enum Step {
@@ -24,7 +25,8 @@ pub enum Step {
 
 // The state after a move that it has.
 pub fn stepped(state: ConnState, step: Step) -> ConnState
-    requires { CanStep step (facts_of state) }
+    requires shape { HasShape state }
+    requires can { CanStep step (facts_of state) }
     ensures { facts_of result ≡ after_step step (facts_of state) }
 {
     match step {
@@ -39,10 +41,10 @@ pub fn stepped(state: ConnState, step: Step) -> ConnState
 }
 
 fn connected(state: ConnState, until: u64) -> ConnState
-    requires { is_dialing (facts_of state) ≡ true }
+    requires shape { HasShape state }
+    requires dialing { is_dialing (facts_of state) ≡ true }
     ensures { facts_of result ≡ connected until (facts_of state) }
 {
-    let _facts = state.facts();
     match state {
         ConnState::ReservedOutbound(state) => ConnState::Unnegotiated(state.connected(until)),
         _ => unreachable!(),
@@ -50,15 +52,14 @@ fn connected(state: ConnState, until: u64) -> ConnState
 }
 
 fn negotiated(state: ConnState, agreed: Agreed, until: u64) -> ConnState
-    requires { is_greeting (facts_of state) ≡ true }
+    requires shape { HasShape state }
+    requires greeting { is_greeting (facts_of state) ≡ true }
     ensures { facts_of result ≡ negotiated agreed until (facts_of state) }
 {
-    let facts = state.facts();
+    let outbound = is_outbound(state.as_facts());
     match state {
-        ConnState::Unnegotiated(state) => match facts.provenance {
-            Provenance::FromRemote => ConnState::InboundIdle(state.agreed_in(agreed, until)),
-            Provenance::FromLocal => negotiated_outbound(state, agreed, until),
-        },
+        ConnState::Unnegotiated(state) if outbound => negotiated_outbound(state, agreed, until),
+        ConnState::Unnegotiated(state) => ConnState::InboundIdle(state.agreed_in(agreed, until)),
         _ => unreachable!(),
     }
 }
@@ -75,10 +76,10 @@ fn negotiated_outbound(state: Unnegotiated, agreed: Agreed, until: u64) -> ConnS
 }
 
 fn acquired(state: ConnState) -> ConnState
-    requires { is_acquirable (facts_of state) ≡ true }
+    requires shape { HasShape state }
+    requires acquirable { is_acquirable (facts_of state) ≡ true }
     ensures { facts_of result ≡ acquired (facts_of state) }
 {
-    let _facts = state.facts();
     match state {
         ConnState::InboundIdle(state) => ConnState::OutboundDup(state.acquire()),
         ConnState::Inbound(state) => ConnState::Duplex(state.acquire()),
@@ -87,10 +88,10 @@ fn acquired(state: ConnState) -> ConnState
 }
 
 fn released(state: ConnState, until: u64) -> ConnState
-    requires { (facts_of state).local ≡ true }
+    requires shape { HasShape state }
+    requires used { (facts_of state).local ≡ true }
     ensures { facts_of result ≡ released until (facts_of state) }
 {
-    let _facts = state.facts();
     match state {
         ConnState::OutboundUni(state) => ConnState::OutboundIdle(state.release(until)),
         ConnState::OutboundDup(state) => state_after_release(state.release(until)),
@@ -100,11 +101,11 @@ fn released(state: ConnState, until: u64) -> ConnState
 }
 
 fn awakened(state: ConnState, protocol: u16) -> ConnState
+    requires shape { HasShape state }
     requires known { has_responder protocol ≡ true }
     requires can { CanAwake protocol (facts_of state) }
     ensures { facts_of result ≡ awakened protocol (facts_of state) }
 {
-    let _facts = state.facts();
     match state {
         ConnState::OutboundDup(state) => ConnState::Duplex(state.awake(protocol)),
         ConnState::InboundIdle(state) => ConnState::Inbound(state.awake(protocol)),
@@ -116,10 +117,10 @@ fn awakened(state: ConnState, protocol: u16) -> ConnState
 }
 
 fn idled(state: ConnState, protocol: u16, until: u64) -> ConnState
-    requires { runs protocol (facts_of state).running ≡ true }
+    requires shape { HasShape state }
+    requires running { runs protocol (facts_of state).running ≡ true }
     ensures { facts_of result ≡ idled protocol until (facts_of state) }
 {
-    let _facts = state.facts();
     match state {
         ConnState::Inbound(state) => state_after_inbound(state.idle(protocol, until)),
         ConnState::Duplex(state) => state_after_duplex(state.idle(protocol, until)),
@@ -128,10 +129,10 @@ fn idled(state: ConnState, protocol: u16, until: u64) -> ConnState
 }
 
 fn grace_ended(state: ConnState, until: u64) -> ConnState
-    requires { (now : ℕ) × (is_due now (facts_of state).grace ≡ true) }
+    requires shape { HasShape state }
+    requires due { (now : ℕ) × (is_due now (facts_of state).grace ≡ true) }
     ensures { facts_of result ≡ grace_ended until (facts_of state) }
 {
-    let _facts = state.facts();
     match state {
         ConnState::OutboundDup(state) => ConnState::OutboundDup(state.grace_over()),
         ConnState::InboundIdle(state) => ConnState::Terminating(state.grace_over(until)),

@@ -8,17 +8,18 @@ ghost use Rattle.conn_state.specs.Use.{facts_at, live_at, is_dialing, is_greetin
 ghost use Rattle.conn_table.specs.Answers.{any_at, any_acquirable, acquire_of, after_acquire, is_leased, may_acquire, lease_of, is_due, grace_end_of};
 ghost use Rattle.conn_table.specs.Conditions.{CanAwake};
 ghost use Rattle.conn_table.specs.Index.{index_of, IsRising};
-ghost use Rattle.conn_table.specs.Finds.{if_live, id_place};
+ghost use Rattle.conn_table.specs.Finds.{id_place, StandsAt};
 ghost use Rattle.conn_table.specs.Kept.{OnlyLastLives};
 ghost use Rattle.conn_table.specs.Table.{empty_table, with_accepted, with_dialing, with_moved, without, IdsRise};
 ghost use Rattle.net_base.specs.Bounds.{AreSound};
 
-use crate::facts::{is_acquirable, is_live};
 use crate::kept::Kept;
 use crate::step::Step;
 use crate::{Acquire, GraceEnd, LocalLease, PlacedList};
+use conn_state::facts::{is_acquirable, is_live, is_outbound};
+use conn_state::names::name_of;
 use conn_state::{ConnState, ReservedOutbound, Unnegotiated};
-use net_base::{Addr, Agreed, Cid, Facts, OutOfMemory, Provenance, Settings};
+use net_base::{Addr, Agreed, Cid, Facts, OutOfMemory, Settings};
 use std::alloc::Global;
 use std::marker::Model;
 
@@ -105,8 +106,7 @@ impl ConnTable {
         ensures table { self.new ≡ with_moved cid.0 (negotiated agreed (now + self.old.settings.idle)) self.old }
     {
         let until = now + self.settings.idle;
-        let facts = self.kept.facts(cid).unwrap();
-        self.kept.turn(cid, Step::Negotiated(agreed, until));
+        let facts = self.kept.turn(cid, Step::Negotiated(agreed, until));
         lease_by(&facts)
     }
 
@@ -119,7 +119,7 @@ impl ConnTable {
     {
         match self.newest_live(addr) {
             None => Acquire::NoSuch,
-            Some(facts) => self.acquire_live(addr, facts),
+            Some(place) => self.acquire_at(addr, place),
         }
     }
 
@@ -160,8 +160,7 @@ impl ConnTable {
         ensures table { self.new ≡ with_moved cid.0 (grace_ended (now + self.old.settings.timewait)) self.old }
     {
         let until = now + self.settings.timewait;
-        let facts = self.kept.facts(cid).unwrap();
-        self.kept.turn(cid, Step::GraceOver(until));
+        let facts = self.kept.turn(cid, Step::GraceOver(until));
         if facts.local {
             GraceEnd::Expired
         } else {
@@ -197,14 +196,15 @@ impl ConnTable {
         ensures value { result ≡ option_map (λ f. f.cid) (live_at addr self.now.facts) }
         ensures last_lives { OnlyLastLives self.now.facts }
     {
-        self.newest_live(addr).map(|facts| facts.cid)
+        let place = self.newest_live(addr)?;
+        Some(self.kept.at(place).cid)
     }
 
     /// Whether some connection has an address, closed or not.
     pub fn any_of(&self, addr: Addr) -> bool
         ensures { result ≡ any_at addr self.now.facts }
     {
-        self.kept.newest(addr).is_some()
+        self.kept.any_of(addr)
     }
 
     /// How many connections the limits count.
@@ -250,7 +250,7 @@ impl ConnTable {
         requires { place < length self.now.facts }
         ensures { slice_get self.now.facts place ≡ Some result }
     {
-        self.kept.states[place].facts()
+        *self.kept.at(place)
     }
 
     /// How many connections have a lower id. The one with the id stands at that place, where there is one.
@@ -260,43 +260,42 @@ impl ConnTable {
         self.kept.place_of(cid)
     }
 
-    // The live connection of an address. There is no other one that may be taken into use.
-    fn newest_live(&self, addr: Addr) -> Option<Facts>
-        ensures value { result ≡ live_at addr self.now.facts }
-        ensures only { may_acquire result ≡ any_acquirable addr self.now.facts }
+    // Where the live connection of an address stands. There is no other one that may be taken into use.
+    fn newest_live(&self, addr: Addr) -> Option<usize>
+        ensures value { StandsAt self.now.facts (live_at addr self.now.facts) result }
+        ensures only { may_acquire (live_at addr self.now.facts) ≡ any_acquirable addr self.now.facts }
         ensures last_lives { OnlyLastLives self.now.facts }
     {
-        live(self.kept.newest(addr))
+        let place = self.kept.newest(addr)?;
+        if is_live(self.kept.at(place)) {
+            Some(place)
+        } else {
+            None
+        }
     }
 
-    // Takes the live connection of an address into use.
-    fn acquire_live(&mut self, addr: Addr, facts: Facts) -> Acquire
-        requires { live_at addr self.old.facts ≡ Some facts }
+    // Takes the live connection of an address, which stands at a place, into use.
+    fn acquire_at(&mut self, addr: Addr, place: usize) -> Acquire
+        requires { StandsAt self.old.facts (live_at addr self.old.facts) (Some place) }
         ensures answer { result ≡ acquire_of addr self.old.facts }
         ensures table { self.new ≡ after_acquire result self.old }
     {
-        if !is_acquirable(&facts) {
-            return Acquire::NotReusable(self.kept.name(facts.cid));
+        let facts = self.kept.at(place);
+        if !is_acquirable(facts) {
+            return Acquire::NotReusable(name_of(facts));
         }
-        self.kept.turn(facts.cid, Step::Acquire);
+        let facts = self.kept.turn_at(place, Step::Acquire);
         Acquire::Leased(LocalLease::new(facts.cid))
     }
-}
-
-// A connection that was found, where it is live.
-fn live(found: Option<Facts>) -> Option<Facts>
-    ensures { result ≡ if_live found }
-{
-    let facts = found?;
-    is_live(&facts).then_some(facts)
 }
 
 // A lease comes with an outbound connection.
 fn lease_by(facts: &Facts) -> Option<LocalLease>
     ensures { result ≡ lease_of facts.now }
 {
-    match facts.provenance {
-        Provenance::FromLocal => Some(LocalLease::new(facts.cid)),
-        Provenance::FromRemote => None,
+    if is_outbound(facts) {
+        Some(LocalLease::new(facts.cid))
+    } else {
+        None
     }
 }

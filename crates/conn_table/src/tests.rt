@@ -1,11 +1,12 @@
 ghost use Rattle.std.specs.Prelude.{◌≡◌, ◌≤◌, ◌^◌, true};
-ghost use Rattle.conn_state.specs.Use.{agreed_duplex, is_dialing, is_greeting};
 ghost use Rattle.conn_table.specs.Answers.{is_due};
 ghost use Rattle.conn_table.specs.Conditions.{CanAwake};
 ghost use Rattle.net_base.specs.Bounds.{AreSound};
 ghost use Rattle.net_base.specs.declared.address.Ip.TheVariants.{V4};
 
 use crate::{Acquire, ConnTable, GraceEnd, LocalLease, Placed};
+use conn_state::facts::{is_dialing, is_greeting, is_negotiated, is_outbound, serves_remote};
+use conn_state::responders::runs;
 use net_base::{
     Addr, Agreed, Cid, Facts, Grace, Ip, Phase, Provenance, Responders, Settings, StateName,
 };
@@ -259,12 +260,6 @@ fn chosen(table: &ConnTable, choice: u64) -> Cid {
     table.at(choice as usize % len).cid
 }
 
-fn is_dialing(facts: &Facts) -> bool
-    ensures { result ≡ is_dialing facts.now }
-{
-    matches!(facts.phase, Phase::Dialing)
-}
-
 fn both_connect(table: &mut ConnTable, plain: &mut PlainTable, choice: u64, now: u64) -> bool
     requires { now ≤ 2 ^ 48 }
 {
@@ -279,12 +274,6 @@ fn both_connect(table: &mut ConnTable, plain: &mut PlainTable, choice: u64, now:
         }
     }
     true
-}
-
-fn is_greeting(facts: &Facts) -> bool
-    ensures { result ≡ is_greeting facts.now }
-{
-    matches!(facts.phase, Phase::Greeting(_))
 }
 
 fn both_negotiate(
@@ -313,8 +302,7 @@ fn both_negotiate(
         leases.push(lease)?;
     }
     plain.replace(plain::negotiated(facts, agreed, now + 5000));
-    let outbound = facts.provenance == Provenance::FromLocal;
-    Ok(given == outbound.then_some(cid))
+    Ok(given == is_outbound(&facts).then_some(cid))
 }
 
 fn both_acquire(
@@ -376,18 +364,7 @@ fn both_release(
 fn can_awake(facts: &Facts) -> bool
     ensures { result ≡ true → CanAwake 8 facts.now }
 {
-    facts.phase == Phase::Negotiated
-        && !facts.running.keep_alive
-        && (facts.provenance == Provenance::FromRemote || is_duplex(facts.agreed))
-}
-
-fn is_duplex(agreed: Option<Agreed>) -> bool
-    ensures { result ≡ agreed_duplex agreed }
-{
-    match agreed {
-        Some(agreed) => !agreed.initiator_only,
-        None => false,
-    }
+    is_negotiated(facts) && serves_remote(facts) && !runs(8, facts.running)
 }
 
 fn both_awake(table: &mut ConnTable, plain: &mut PlainTable, choice: u64) -> bool {
@@ -406,7 +383,7 @@ fn both_idle(table: &mut ConnTable, plain: &mut PlainTable, choice: u64, now: u6
 {
     let cid = chosen(table, choice);
     if let Some(facts) = table.facts(cid) {
-        if facts.running.keep_alive {
+        if runs(8, facts.running) {
             table.idle(cid, 8, now);
             plain.replace(plain::idled(facts, now + 5000));
         }

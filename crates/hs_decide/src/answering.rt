@@ -48,7 +48,7 @@ fn own_table(alloc: Global, own: &VersionInfo) -> Result<Table, OutOfMemory>
 {
     let info = Info::Known(*own);
     let offers = [Offer { version: 13, info }, Offer { version: 14, info }];
-    Ok(Table::from_vec(Vec::from_slice(alloc, &offers)?))
+    Table::from_slice(alloc, &offers)
 }
 
 fn agreed_info(own: &VersionInfo, agreed: &Agreed) -> VersionInfo
@@ -66,7 +66,7 @@ fn refusal(alloc: Global, why: Why) -> Result<Message, OutOfMemory>
     ensures { IfOk result (λ message. message ≡ refusal_of why) }
 {
     let reason = match why {
-        Why::NoCommon => Reason::NoCommon(NumberList::from_vec(Vec::from_slice(alloc, &[13, 14])?)),
+        Why::NoCommon => Reason::NoCommon(NumberList::from_slice(alloc, &[13, 14])?),
         Why::NotDecoded(version) => {
             Reason::NotDecoded(version, text(alloc, "version data not understood")?)
         }
@@ -78,5 +78,5 @@ fn refusal(alloc: Global, why: Why) -> Result<Message, OutOfMemory>
 fn text(alloc: Global, text: &str) -> Result<Octets, OutOfMemory>
     ensures { IfOk result (λ octets. octets ≡ text.now) }
 {
-    Ok(Octets::from_vec(Vec::from_slice(alloc, text.as_bytes())?))
+    Octets::from_slice(alloc, text.as_bytes())
 }

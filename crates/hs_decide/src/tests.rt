@@ -1,7 +1,7 @@
 use super::*;
 use hs_message::{Info, Message, Offer, Reason, Table, VersionInfo};
-use net_base::{Agreed, NumberList, Octets};
-use std::alloc::{AllocError, Global};
+use net_base::{Agreed, NumberList, Octets, OutOfMemory};
+use std::alloc::Global;
 use std::test::Fail;
 
 const OWN: VersionInfo = VersionInfo {
@@ -74,18 +74,15 @@ fn agreed(version: u64, initiator_only: bool, sharing: bool) -> Agreed {
     }
 }
 
-fn table(alloc: Global, offers: &[Offer]) -> Result<Table, AllocError> {
-    Ok(Table::from_vec(Vec::from_slice(alloc, offers)?))
-}
-
 // The verdict of an own info on a proposal of these offers.
 fn on_proposal(
     alloc: Global,
     role: Role,
     own: &VersionInfo,
     offers: &[Offer],
-) -> Result<Verdict, AllocError> {
-    Ok(decide(role, own, &Message::Propose(table(alloc, offers)?)))
+) -> Result<Verdict, OutOfMemory> {
+    let proposal = Message::Propose(Table::from_slice(alloc, offers)?);
+    Ok(decide(role, own, &proposal))
 }
 
 #[test]
@@ -207,51 +204,53 @@ fn other_messages_are_decided(rt: HostRuntime) -> Result<(), Fail> {
     let refuse = Message::Refuse(Reason::NoCommon(NumberList::new(rt.alloc())));
     assert_eq!(rt; decide(Role::Dialer, &OWN, &refuse), Verdict::Refused);
     assert_eq!(rt; decide(Role::Acceptor, &OWN, &refuse), Verdict::Wrong);
-    let reply = Message::QueryReply(table(rt.alloc(), &[known(14, OWN)])?);
+    let reply = Message::QueryReply(Table::from_slice(rt.alloc(), &[known(14, OWN)])?);
     assert_eq!(rt; decide(Role::Dialer, &OWN, &reply), Verdict::Wrong);
     assert_eq!(rt; decide(Role::Acceptor, &OWN, &reply), Verdict::Wrong);
     Ok(())
 }
 
-// Whether these bytes are sent.
-fn sends(octets: &Option<Octets>, bytes: &[u8]) -> bool {
-    match octets {
-        Some(octets) => octets.as_slice() == bytes,
-        None => false,
-    }
+// These bytes are sent.
+fn sent(alloc: Global, bytes: &[u8]) -> Result<Option<Octets>, OutOfMemory> {
+    Ok(Some(Octets::from_slice(alloc, bytes)?))
 }
 
 #[test]
 fn the_vectors_are_answered(rt: HostRuntime) -> Result<(), Fail> {
     let alloc = rt.alloc();
-    let sent = proposal(alloc, &OWN)?;
+    let proposed = proposal(alloc, &OWN)?;
     assert_eq!(rt;
-        sent.as_slice(),
+        proposed.as_slice(),
         b"\x82\x00\xa2\x0d\x84\x18\x2a\xf4\x01\xf4\x0e\x84\x18\x2a\xf4\x01\xf4".as_slice()
     );
-    let accept = answer(alloc, &Verdict::Accept(DUPLEX), &OWN)?;
-    assert!(rt; sends(&accept, b"\x83\x01\x0e\x84\x18\x2a\xf4\x01\xf4"));
-    let no_common = answer(alloc, &Verdict::Refuse(Why::NoCommon), &OWN)?;
-    assert!(rt; sends(&no_common, b"\x82\x02\x82\x00\x82\x0d\x0e"));
-    let not_decoded = answer(alloc, &Verdict::Refuse(Why::NotDecoded(14)), &OWN)?;
-    assert!(rt;
-        sends(
-            &not_decoded,
+    assert_eq!(rt;
+        answer(alloc, &Verdict::Accept(DUPLEX), &OWN)?,
+        sent(alloc, b"\x83\x01\x0e\x84\x18\x2a\xf4\x01\xf4")?
+    );
+    assert_eq!(rt;
+        answer(alloc, &Verdict::Refuse(Why::NoCommon), &OWN)?,
+        sent(alloc, b"\x82\x02\x82\x00\x82\x0d\x0e")?
+    );
+    assert_eq!(rt;
+        answer(alloc, &Verdict::Refuse(Why::NotDecoded(14)), &OWN)?,
+        sent(
+            alloc,
             b"\x82\x02\x83\x01\x0e\x78\x1bversion data not understood"
-        )
+        )?
     );
-    let magic = answer(alloc, &Verdict::Refuse(Why::Magic(14)), &OWN)?;
-    assert!(rt; sends(&magic, b"\x82\x02\x83\x02\x0e\x75network magic differs"));
-    let query = answer(alloc, &Verdict::Query, &OWN)?;
-    assert!(rt;
-        sends(
-            &query,
+    assert_eq!(rt;
+        answer(alloc, &Verdict::Refuse(Why::Magic(14)), &OWN)?,
+        sent(alloc, b"\x82\x02\x83\x02\x0e\x75network magic differs")?
+    );
+    assert_eq!(rt;
+        answer(alloc, &Verdict::Query, &OWN)?,
+        sent(
+            alloc,
             b"\x82\x03\xa2\x0d\x84\x18\x2a\xf4\x01\xf4\x0e\x84\x18\x2a\xf4\x01\xf4"
-        )
+        )?
     );
-    let agree = answer(alloc, &Verdict::Agree(DUPLEX), &OWN)?;
-    assert!(rt; agree.is_none());
-    assert!(rt; answer(alloc, &Verdict::Refused, &OWN)?.is_none());
-    assert!(rt; answer(alloc, &Verdict::Wrong, &OWN)?.is_none());
+    assert_eq!(rt; answer(alloc, &Verdict::Agree(DUPLEX), &OWN)?, None);
+    assert_eq!(rt; answer(alloc, &Verdict::Refused, &OWN)?, None);
+    assert_eq!(rt; answer(alloc, &Verdict::Wrong, &OWN)?, None);
     Ok(())
 }

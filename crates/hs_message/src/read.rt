@@ -212,20 +212,20 @@ fn read_reason_behind(
         }
         (3, 1) => {
             let ((version, text), rest) = split_noted(bytes)?;
-            Ok((Reason::NotDecoded(version, octets(alloc, text)?), rest))
+            Ok((
+                Reason::NotDecoded(version, Octets::from_slice(alloc, text)?),
+                rest,
+            ))
         }
         (3, 2) => {
             let ((version, text), rest) = split_noted(bytes)?;
-            Ok((Reason::Declined(version, octets(alloc, text)?), rest))
+            Ok((
+                Reason::Declined(version, Octets::from_slice(alloc, text)?),
+                rest,
+            ))
         }
         _ => Err(ReadRefusal::NotAMessage),
     }
-}
-
-fn octets(alloc: Global, bytes: &[u8]) -> Result<Octets, OutOfMemory>
-    ensures { IfOk result (λ octets. octets ≡ bytes.now) }
-{
-    Ok(Octets::from_vec(Vec::from_slice(alloc, bytes)?))
 }
 
 #[tactic(auto, unfolding(crate::specs::Reading::version_list_at))]

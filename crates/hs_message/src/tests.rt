@@ -2,7 +2,7 @@ ghost use Rattle.std.specs.Prelude.{IfOk};
 ghost use Rattle.hs_message.specs.Canonical.{IsOwnTable};
 
 use super::*;
-use net_base::{NumberList, Octets};
+use net_base::{NumberList, Octets, OutOfMemory};
 use std::alloc::{AllocError, Global};
 use std::test::Fail;
 
@@ -14,20 +14,12 @@ const OWN: VersionInfo = VersionInfo {
 };
 
 // 13 and 14 with the own info.
-fn both(alloc: Global) -> Result<Table, AllocError>
+fn both(alloc: Global) -> Result<Table, OutOfMemory>
     ensures { IfOk result (λ table. IsOwnTable table) }
 {
     let info = Info::Known(OWN);
     let offers = [Offer { version: 13, info }, Offer { version: 14, info }];
-    Ok(Table::from_vec(Vec::from_slice(alloc, &offers)?))
-}
-
-fn numbers(alloc: Global, items: &[u64]) -> Result<NumberList, AllocError> {
-    Ok(NumberList::from_vec(Vec::from_slice(alloc, items)?))
-}
-
-fn octets(alloc: Global, items: &[u8]) -> Result<Octets, AllocError> {
-    Ok(Octets::from_vec(Vec::from_slice(alloc, items)?))
+    Table::from_slice(alloc, &offers)
 }
 
 const PROPOSAL: &[u8] = b"\x82\x00\xa2\x0d\x84\x18\x2a\xf4\x01\xf4\x0e\x84\x18\x2a\xf4\x01\xf4";
@@ -49,13 +41,13 @@ fn the_vectors_are_written(rt: HostRuntime) -> Result<(), Fail> {
     assert_eq!(rt; proposal.as_slice(), PROPOSAL);
     let accept = write_message(alloc, &Message::Accept(14, Info::Known(OWN)))?;
     assert_eq!(rt; accept.as_slice(), ACCEPT);
-    let versions = numbers(alloc, &[13, 14])?;
+    let versions = NumberList::from_slice(alloc, &[13, 14])?;
     let refusal = write_message(alloc, &Message::Refuse(Reason::NoCommon(versions)))?;
     assert_eq!(rt; refusal.as_slice(), NO_COMMON);
-    let text = octets(alloc, b"version data not understood")?;
+    let text = Octets::from_slice(alloc, b"version data not understood")?;
     let refusal = write_message(alloc, &Message::Refuse(Reason::NotDecoded(14, text)))?;
     assert_eq!(rt; refusal.as_slice(), NOT_DECODED);
-    let text = octets(alloc, b"network magic differs")?;
+    let text = Octets::from_slice(alloc, b"network magic differs")?;
     let refusal = write_message(alloc, &Message::Refuse(Reason::Declined(14, text)))?;
     assert_eq!(rt; refusal.as_slice(), DECLINED);
     let reply = write_message(alloc, &Message::QueryReply(both(alloc)?))?;
@@ -63,106 +55,109 @@ fn the_vectors_are_written(rt: HostRuntime) -> Result<(), Fail> {
     Ok(())
 }
 
-// One line for each message that is read: what it is, with its numbers and texts.
-fn told(alloc: Global, bytes: &[u8]) -> Result<String, AllocError> {
-    match read_message(alloc, bytes) {
-        Ok(Message::Propose(table)) => told_table(alloc, "propose", table.as_slice()),
-        Ok(Message::Accept(version, info)) => told_offer(alloc, &Offer { version, info }),
-        Ok(Message::Refuse(Reason::NoCommon(versions))) => {
-            let versions = versions.as_slice();
-            format!(in alloc; "no common {versions:?}")
-        }
-        Ok(Message::Refuse(Reason::NotDecoded(version, text))) => {
-            let text = text.as_slice();
-            format!(in alloc; "not decoded {version} {text:?}")
-        }
-        Ok(Message::Refuse(Reason::Declined(version, text))) => {
-            let text = text.as_slice();
-            format!(in alloc; "declined {version} {text:?}")
-        }
-        Ok(Message::QueryReply(table)) => told_table(alloc, "query reply", table.as_slice()),
-        Err(ReadRefusal::NotAMessage) => String::from_str(alloc, "no message"),
-        Err(ReadRefusal::OutOfMemory) => String::from_str(alloc, "out of memory"),
+fn known(version: u64, magic: u32, initiator_only: bool, sharing: bool, query: bool) -> Offer {
+    Offer {
+        version,
+        info: Info::Known(VersionInfo {
+            magic,
+            initiator_only,
+            sharing,
+            query,
+        }),
     }
 }
 
-fn told_table(alloc: Global, name: &str, table: &[Offer]) -> Result<String, AllocError> {
-    let mut text = String::from_str(alloc, name)?;
-    for offer in table {
-        text.push_str(", ")?;
-        let offer = told_offer(alloc, offer)?;
-        text.push_str(&offer)?;
+fn foreign(version: u64) -> Offer {
+    Offer {
+        version,
+        info: Info::Foreign,
     }
-    Ok(text)
 }
 
-fn told_offer(alloc: Global, offer: &Offer) -> Result<String, AllocError> {
-    let version = offer.version;
-    match offer.info {
-        Info::Known(info) => {
-            let magic = info.magic;
-            let initiator_only = info.initiator_only;
-            let sharing = info.sharing;
-            let query = info.query;
-            format!(in alloc; "{version} {magic} {initiator_only} {sharing} {query}")
-        }
-        Info::Foreign => format!(in alloc; "{version} foreign"),
-    }
+fn proposal(alloc: Global, offers: &[Offer]) -> Result<Message, OutOfMemory> {
+    Ok(Message::Propose(Table::from_slice(alloc, offers)?))
+}
+
+fn query_reply(alloc: Global, offers: &[Offer]) -> Result<Message, OutOfMemory> {
+    Ok(Message::QueryReply(Table::from_slice(alloc, offers)?))
+}
+
+fn accepted(offer: Offer) -> Message {
+    Message::Accept(offer.version, offer.info)
+}
+
+fn no_common(alloc: Global, versions: &[u64]) -> Result<Message, OutOfMemory> {
+    let versions = NumberList::from_slice(alloc, versions)?;
+    Ok(Message::Refuse(Reason::NoCommon(versions)))
+}
+
+fn not_decoded(alloc: Global, version: u64, text: &[u8]) -> Result<Message, OutOfMemory> {
+    let text = Octets::from_slice(alloc, text)?;
+    Ok(Message::Refuse(Reason::NotDecoded(version, text)))
+}
+
+fn declined(alloc: Global, version: u64, text: &[u8]) -> Result<Message, OutOfMemory> {
+    let text = Octets::from_slice(alloc, text)?;
+    Ok(Message::Refuse(Reason::Declined(version, text)))
 }
 
 #[test]
 fn messages_are_read(rt: HostRuntime) -> Result<(), Fail> {
-    let cases: [(&[u8], &str); 17] = [
+    let alloc = rt.alloc();
+    let own = [
+        known(13, 42, false, true, false),
+        known(14, 42, false, true, false),
+    ];
+    let cases: [(&[u8], Message); 17] = [
+        (PROPOSAL, proposal(alloc, &own)?),
+        (ACCEPT, accepted(known(14, 42, false, true, false))),
+        (NO_COMMON, no_common(alloc, &[13, 14])?),
         (
-            PROPOSAL,
-            "propose, 13 42 false true false, 14 42 false true false",
+            b"\x82\x02\x83\x01\x0e\x62no",
+            not_decoded(alloc, 14, &[110, 111])?,
         ),
-        (ACCEPT, "14 42 false true false"),
-        (NO_COMMON, "no common [13, 14]"),
-        (b"\x82\x02\x83\x01\x0e\x62no", "not decoded 14 [110, 111]"),
-        (b"\x82\x02\x83\x02\x0d\x61\x78", "declined 13 [120]"),
         (
-            QUERY_REPLY,
-            "query reply, 13 42 false true false, 14 42 false true false",
+            b"\x82\x02\x83\x02\x0d\x61\x78",
+            declined(alloc, 13, &[120])?,
         ),
+        (QUERY_REPLY, query_reply(alloc, &own)?),
         // heads of every width
         (
             b"\x98\x02\x19\x00\x00\xba\x00\x00\x00\x01\x1b\x00\x00\x00\x00\x00\x00\x00\x0e\x98\x04\x1a\x00\x00\x00\x2a\xf5\x18\x01\xf5",
-            "propose, 14 42 true true true",
+            proposal(alloc, &[known(14, 42, true, true, true)])?,
         ),
         (
             b"\x9b\x00\x00\x00\x00\x00\x00\x00\x02\x18\x02\x99\x00\x03\x1a\x00\x00\x00\x01\x19\x00\x0e\x78\x01\x79",
-            "not decoded 14 [121]",
+            not_decoded(alloc, 14, &[121])?,
         ),
         // peer sharing as a flag, and the greatest magic
         (
             b"\x83\x01\x0d\x84\x1a\xff\xff\xff\xff\xf4\xf5\xf4",
-            "13 4294967295 false true false",
+            accepted(known(13, 4_294_967_295, false, true, false)),
         ),
         (
             b"\x83\x01\x0d\x84\x00\xf4\xf4\xf4",
-            "13 0 false false false",
+            accepted(known(13, 0, false, false, false)),
         ),
         // an indefinite list of versions
         (
             b"\x82\x02\x82\x00\x9f\x0d\x18\x0e\xff",
-            "no common [13, 14]",
+            no_common(alloc, &[13, 14])?,
         ),
-        (b"\x82\x02\x82\x00\x9f\xff", "no common []"),
+        (b"\x82\x02\x82\x00\x9f\xff", no_common(alloc, &[])?),
         // nothing in it
-        (b"\x82\x00\xa0", "propose"),
-        (b"\x82\x03\xa0", "query reply"),
-        (b"\x82\x02\x82\x00\x80", "no common []"),
-        (b"\x82\x02\x83\x01\x00\x60", "not decoded 0 []"),
+        (b"\x82\x00\xa0", proposal(alloc, &[])?),
+        (b"\x82\x03\xa0", query_reply(alloc, &[])?),
+        (b"\x82\x02\x82\x00\x80", no_common(alloc, &[])?),
+        (b"\x82\x02\x83\x01\x00\x60", not_decoded(alloc, 0, &[])?),
         // a text that is not UTF-8, and the greatest version
         (
             b"\x82\x02\x83\x02\x1b\xff\xff\xff\xff\xff\xff\xff\xff\x62\xff\xfe",
-            "declined 18446744073709551615 [255, 254]",
+            declined(alloc, 18_446_744_073_709_551_615, &[255, 254])?,
         ),
     ];
     for (bytes, want) in cases {
-        let got = told(rt.alloc(), bytes)?;
-        assert_eq!(rt; got.as_str(), want, "at {bytes:?}");
+        assert_eq!(rt; read_message(alloc, bytes), Ok(want), "at {bytes:?}");
     }
     Ok(())
 }
@@ -177,6 +172,7 @@ fn accept(alloc: Global, version: u8, info: &[u8]) -> Result<Vec<u8>, AllocError
 
 #[test]
 fn every_other_info_is_foreign(rt: HostRuntime) -> Result<(), Fail> {
+    let alloc = rt.alloc();
     let infos: [&[u8]; 19] = [
         // too few, and too many
         b"\x83\x18\x2a\xf4\x01",
@@ -203,30 +199,26 @@ fn every_other_info_is_foreign(rt: HostRuntime) -> Result<(), Fail> {
         b"\x60",
     ];
     for info in infos {
-        let got = told(rt.alloc(), &accept(rt.alloc(), 14, info)?)?;
-        assert_eq!(rt; got.as_str(), "14 foreign", "at {info:?}");
+        let got = read_message(alloc, &accept(alloc, 14, info)?);
+        assert_eq!(rt; got, Ok(accepted(foreign(14))), "at {info:?}");
     }
     // other versions
-    for (version, want) in [(12, "12 foreign"), (15, "15 foreign"), (0, "0 foreign")] {
-        let got = told(
-            rt.alloc(),
-            &accept(rt.alloc(), version, b"\x84\x18\x2a\xf4\x01\xf4")?,
-        )?;
-        assert_eq!(rt; got.as_str(), want);
+    for version in [12, 15, 0] {
+        let bytes = accept(alloc, version, b"\x84\x18\x2a\xf4\x01\xf4")?;
+        let want = accepted(foreign(u64::from(version)));
+        assert_eq!(rt; read_message(alloc, &bytes), Ok(want));
     }
-    let got = told(
-        rt.alloc(),
+    let got = read_message(
+        alloc,
         b"\x82\x00\xa3\x0c\x00\x0d\x84\x18\x2a\xf4\x00\xf4\x0e\x9f\xff",
-    )?;
-    assert_eq!(rt;
-        got.as_str(),
-        "propose, 12 foreign, 13 42 false false false, 14 foreign"
     );
+    let offers = [foreign(12), known(13, 42, false, false, false), foreign(14)];
+    assert_eq!(rt; got, Ok(proposal(alloc, &offers)?));
     Ok(())
 }
 
 #[test]
-fn what_breaks_a_rule_is_no_message(rt: HostRuntime) -> Result<(), Fail> {
+fn what_breaks_a_rule_is_no_message(rt: HostRuntime) {
     let cases: [&[u8]; 31] = [
         b"",
         b"\x00",
@@ -265,15 +257,14 @@ fn what_breaks_a_rule_is_no_message(rt: HostRuntime) -> Result<(), Fail> {
         b"\x82\x02\x82\x00\x9b\xff\xff\xff\xff\xff\xff\xff\xff\x0d\x0e",
     ];
     for bytes in cases {
-        let got = told(rt.alloc(), bytes)?;
-        assert_eq!(rt; got.as_str(), "no message", "at {bytes:?}");
+        let got = read_message(rt.alloc(), bytes);
+        assert_eq!(rt; got, Err(ReadRefusal::NotAMessage), "at {bytes:?}");
     }
     // every proper front of a message
     for n in 0..PROPOSAL.len() {
-        let got = told(rt.alloc(), &PROPOSAL[..n])?;
-        assert_eq!(rt; got.as_str(), "no message", "at {n} bytes");
+        let got = read_message(rt.alloc(), &PROPOSAL[..n]);
+        assert_eq!(rt; got, Err(ReadRefusal::NotAMessage), "at {n} bytes");
     }
-    Ok(())
 }
 
 // So many arrays of one element around nothing, as an info.
@@ -288,9 +279,9 @@ fn nested(alloc: Global, levels: usize) -> Result<Vec<u8>, AllocError> {
 
 #[test]
 fn a_message_has_sixty_four_levels_at_most(rt: HostRuntime) -> Result<(), Fail> {
-    let got = told(rt.alloc(), &nested(rt.alloc(), 63)?)?;
-    assert_eq!(rt; got.as_str(), "14 foreign");
-    let got = told(rt.alloc(), &nested(rt.alloc(), 64)?)?;
-    assert_eq!(rt; got.as_str(), "no message");
+    let got = read_message(rt.alloc(), &nested(rt.alloc(), 63)?);
+    assert_eq!(rt; got, Ok(accepted(foreign(14))));
+    let got = read_message(rt.alloc(), &nested(rt.alloc(), 64)?);
+    assert_eq!(rt; got, Err(ReadRefusal::NotAMessage));
     Ok(())
 }

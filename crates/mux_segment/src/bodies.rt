@@ -3,10 +3,10 @@ ghost use Rattle.mux_segment.specs.Items.{taken_of};
 ghost use Rattle.mux_segment.specs.Stream.{item_of};
 ghost use Rattle.mux_segment.specs.Steps.{Adds, IsNext};
 
-use crate::bytes::copied;
 use crate::stopped::Stopped;
 use crate::{CutFault, Item, ItemList};
 use cbor_items::{Scan, first_item};
+use net_base::Octets;
 use std::alloc::Global;
 
 /// Takes the whole items off the front of a part, and says how many bytes they are.
@@ -27,7 +27,7 @@ pub(crate) fn take_items(
         items.push(Item {
             side,
             id,
-            body: copied(alloc, body)?,
+            body: Octets::from_slice(alloc, body)?,
         })?;
         rest = after;
     }

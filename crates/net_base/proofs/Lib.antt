@@ -1,1 +1,2 @@
+pub mod AddressOrder
 pub mod NumberLemmas

@@ -65,7 +65,7 @@ pub enum PeerNote {
 }
 
 /// What a node does, and what it tells.
-#[derive(Debug, Drop)]
+#[derive(Debug, PartialEq, Drop)]
 pub enum Action {
     Admit(Cid, Addr),
     Turnaway(Away),

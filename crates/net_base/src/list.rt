@@ -1,4 +1,5 @@
-ghost use Rattle.std.specs.Prelude.{◌≡◌, [], ◌∷◌, ◌++◌, OnOk, OnErr};
+ghost use Rattle.std.specs.Prelude.{◌≡◌, [], ◌∷◌, ◌++◌, IfOk, OnOk, OnErr};
+ghost use Rattle.std.specs.Cmp.Lexicographic.{pointwise, lists_per};
 
 use crate::OutOfMemory;
 use std::alloc::Global;
@@ -22,6 +23,16 @@ impl<T> Model for Sequence<T> {
     ghost Value = { List T };
 
     ghost view = { λ s. s.items.items };
+}
+
+impl<T: PartialEq> PartialEq for Sequence<T> {
+    ghost eq = { pointwise T.eq };
+
+    ghost laws = { lists_per T.laws };
+
+    fn eq(&self, other: &Self) -> bool {
+        self.items == other.items
+    }
 }
 
 impl<T> Sequence<T> {
@@ -66,13 +77,22 @@ impl<T: Drop> Sequence<T> {
     }
 }
 
-impl Sequence<u8> {
-    /// Puts bytes at the end. A refusal changes nothing.
-    pub fn extend_from_slice(&mut self, bytes: &[u8]) -> Result<(), OutOfMemory>
-        ensures ok { OnOk result (self.new ≡ self.old ++ bytes.now) }
+impl<T: Copy + Drop> Sequence<T> {
+    /// A copy of some items.
+    pub fn from_slice(alloc: Global, items: &[T]) -> Result<Self, OutOfMemory>
+        ensures { IfOk result (λ copy. copy ≡ items.now) }
+    {
+        Ok(Sequence {
+            items: Vec::from_slice(alloc, items)?,
+        })
+    }
+
+    /// Puts items at the end. A refusal changes nothing.
+    pub fn extend_from_slice(&mut self, items: &[T]) -> Result<(), OutOfMemory>
+        ensures ok { OnOk result (self.new ≡ self.old ++ items.now) }
         ensures err { OnErr result (self.new ≡ self.old) }
     {
-        self.items.extend_from_slice(bytes)?;
+        self.items.extend_from_slice(items)?;
         Ok(())
     }
 }
@@ -88,6 +108,7 @@ mod tests {
         octets.push(7)?;
         octets.extend_from_slice(&[9, 11])?;
         assert_eq!(rt; octets.as_slice(), [7, 9, 11].as_slice());
+        assert_eq!(rt; octets, Octets::from_slice(rt.alloc(), &[7, 9, 11])?);
         let again = Octets::from_vec(octets.into_vec());
         assert_eq!(rt; again.as_slice(), [7, 9, 11].as_slice());
         Ok(())

@@ -6,7 +6,7 @@ use Rattle.std.proofs.lemmas.List.Elements.{All-nil, All-contains}
 use Rattle.accept_gate.specs.Prune.{choice_of}
 use Rattle.conn_state.specs.Use.{is_live, is_live_at}
 use Rattle.conn_table.specs.Answers.{is_due}
-use Rattle.conn_table.proofs.AddressOrder.{same_address-is}
+use Rattle.net_base.proofs.AddressOrder.{same_address-is}
 use Rattle.laws.specs.Sound.{IsOrderly}
 use Rattle.laws.proofs.Counts.{is_late}
 use Rattle.laws.proofs.Firing.{all_one, due_of, grace-among}

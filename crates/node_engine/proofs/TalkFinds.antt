@@ -8,7 +8,7 @@ use Rattle.conn_state.specs.Use.{has_id, facts_at, is_live, live_phase, is_negot
 use Rattle.conn_table.specs.Answers.{any_at, has_address}
 use Rattle.conn_table.specs.Kept.{OnlyLastLives}
 use Rattle.conn_table.specs.Table.{IdsRise}
-use Rattle.conn_table.proofs.AddressOrder.{same_address-itself, same_address-is}
+use Rattle.net_base.proofs.AddressOrder.{same_address-itself, same_address-is}
 use Rattle.conn_table.proofs.IdPlaces.{found_here, found_later}
 use Rattle.machine.specs.Machine.{Entry}
 use Rattle.net_base.specs.declared.address.Addr.{Addr}

@@ -5,7 +5,6 @@ mod connections;
 mod due;
 mod engine;
 mod link;
-mod name;
 mod node_state;
 mod own;
 mod refusal;

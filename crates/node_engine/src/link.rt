@@ -1,6 +1,5 @@
 ghost use Rattle.std.specs.Prelude.{◌≡◌, Some, None};
 ghost use Rattle.accept_gate.specs.Prune.{first_of};
-ghost use Rattle.conn_state.specs.Use.{is_pending, agreed_sharing};
 ghost use Rattle.machine.specs.Connections.{candidate_of};
 ghost use Rattle.machine.specs.Govern.{link_of};
 ghost use Rattle.net_base.specs.Shared.{nothing_undecoded};
@@ -8,9 +7,9 @@ ghost use Rattle.node_engine.specs.Overview.{first_with};
 
 use crate::replies::Replies;
 use accept_gate::{Candidate, first_of, rank};
-use conn_table::{is_acquirable, is_live};
+use conn_state::facts::{is_acquirable, is_live, is_pending, is_sharing};
 use govern_rules::Link;
-use net_base::{Agreed, Facts, Phase, Provenance};
+use net_base::Facts;
 
 /// What the rules see of a connection.
 pub fn link_of(facts: &Facts, replies: &Replies) -> Link
@@ -23,28 +22,10 @@ pub fn link_of(facts: &Facts, replies: &Replies) -> Link
         acquirable: is_acquirable(facts),
         pending: is_pending(facts),
         local: facts.local,
-        sharing: shares(facts.agreed),
+        sharing: is_sharing(facts),
         owes2: replies.on(2).is_some(),
         owes8: replies.on(8).is_some(),
         owes10: replies.on(10).is_some(),
-    }
-}
-
-/// Whether a connection was dialed and is on its way.
-pub fn is_pending(facts: &Facts) -> bool
-    ensures { result ≡ is_pending facts.now }
-{
-    matches!(facts.provenance, Provenance::FromLocal)
-        && matches!(facts.phase, Phase::Dialing | Phase::Greeting(_))
-}
-
-/// Whether peer sharing was agreed on.
-pub fn shares(agreed: Option<Agreed>) -> bool
-    ensures { result ≡ agreed_sharing agreed }
-{
-    match agreed {
-        Some(agreed) => agreed.sharing,
-        None => false,
     }
 }
 

@@ -7,7 +7,7 @@ use Rattle.std.proofs.lemmas.List.Sorted.{sum_by-IsPermutation}
 use Rattle.std.proofs.lemmas.List.Sums.{sum_by-cons}
 use Rattle.net_base.specs.Address.{same_address}
 use Rattle.net_base.specs.declared.address.Addr.{Addr}
-use Rattle.pick_policy.proofs.SameAddress.{same_address-is, same_address-itself}
+use Rattle.net_base.proofs.AddressOrder.{same_address-is, same_address-itself}
 use Rattle.pick_policy.proofs.LeastLaws.{AreComparable, count_none}
 
 abbrev times : Addr → List Addr → ℕ

@@ -1,8 +1,10 @@
 -- The least of several things, by a strict order.
 use Rattle.std.proofs.Common.{◌≡◌, Bool, true, false, cond, List, [], ◌∷◌, refl, sym, ◌∙◌, subst, inl, inr, ◌⊎◌}
 use Rattle.std.specs.List.{best_of, AllByRecursion}
+use Rattle.std.specs.List.Sorted.{IsPermutation}
 use Rattle.std.proofs.lemmas.Bool.{false≢true, cases_Bool, false_from_ne_true}
-use Rattle.pick_policy.proofs.Members.{Has}
+use Rattle.std.proofs.lemmas.List.Sorted.{IsPermutation-sym, Contains-permutation}
+use Rattle.pick_policy.proofs.Members.{Has, Has-from_Contains, Contains-from_Has}
 
 pub record IsStrict {X : Type 0} (below : X → X → Bool) : Type 0 where
   pub irreflexive : (x : X) → below x x ≡ false
@@ -17,9 +19,15 @@ pub record SameMembers {X : Type 0} (xs ys : List X) : Type 0 where
   pub forth : (x : X) → Has xs x → Has ys x
   pub back : (x : X) → Has ys x → Has xs x
 
+pub same_members : {X : Type 0} (xs ys : List X) → IsPermutation xs ys → SameMembers xs ys
+same_members xs ys moved = record {
+  forth = λ x h. Has-from_Contains ys x (Contains-permutation xs ys x moved (Contains-from_Has xs x h));
+  back = λ x h. Has-from_Contains xs x (Contains-permutation ys xs x (IsPermutation-sym xs ys moved) (Contains-from_Has ys x h));
+}
+
 -- ---- the least of a list that isn't empty
 
-abbrev AtMost : {X : Type 0} → (X → X → Bool) → X → X → Type 0
+abbrev pub AtMost : {X : Type 0} → (X → X → Bool) → X → X → Type 0
 AtMost below x y = (x ≡ y) ⊎ (below x y ≡ true)
 
 module _ {X : Type 0} {below : X → X → Bool} (strict : IsStrict below) where
@@ -27,7 +35,7 @@ module _ {X : Type 0} {below : X → X → Bool} (strict : IsStrict below) where
   never_both x y h = false_from_ne_true (below y x)
       (λ k. false≢true (sym (strict.irreflexive x) ∙ strict.transitive x y x h k))
 
-  at_most_chain : (x y z : X) → AtMost below x y → AtMost below y z → AtMost below x z
+  pub at_most_chain : (x y z : X) → AtMost below x y → AtMost below y z → AtMost below x z
   at_most_chain x y z (inl e) k = subst (λ v. AtMost below v z) (sym e) k
   at_most_chain x y z (inr h) (inl e) = inr (subst (λ v. below x v ≡ true) e h)
   at_most_chain x y z (inr h) (inr k) = inr (strict.transitive x y z h k)

@@ -5,6 +5,6 @@ pub mod Members
 pub mod PickFacts
 pub mod Picking
 pub mod RisingLeast
-pub mod SameAddress
 pub mod ScoreOrder
+pub mod Selecting
 pub mod Sorting

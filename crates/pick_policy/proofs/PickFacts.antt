@@ -9,7 +9,7 @@ use Rattle.pick_policy.specs.Least.{least_by}
 use Rattle.pick_policy.specs.Picks.{picked, ranked}
 use Rattle.pick_policy.specs.Scores.{scores_below, rates_below}
 use Rattle.pick_policy.specs.declared.rated.Rated.{Rated}
-use Rattle.pick_policy.proofs.SameAddress.{other_address-turn}
+use Rattle.net_base.proofs.AddressOrder.{other_address-turn}
 use Rattle.pick_policy.proofs.LeastLaws.{least_by-within, length-least_by}
 use Rattle.pick_policy.proofs.LeastLemmas.{IsStrict, best_is_in}
 use Rattle.pick_policy.proofs.Members.{Has, Has-from_Contains, Contains-from_Has, Has-from_filter, All-at_Has, All-from_Has}
@@ -47,10 +47,10 @@ Contains-picked cands k word a h =
 -- ---- distinct
 
 module _ {X : Type 0} (key : X → Addr) where
-  abbrev AreApart : List X → Type 0
+  abbrev pub AreApart : List X → Type 0
   AreApart xs = IsDistinct same_address (map key xs)
 
-  abbrev Differs : X → X → Type 0
+  abbrev pub Differs : X → X → Type 0
   Differs x y = same_address (key x) (key y) ≡ false
 
   apart_from_all : (x : X) (xs : List X) → AllByRecursion (λ a. same_address (key x) a ≡ false) (map key xs) → AllByRecursion (Differs x) xs
@@ -62,7 +62,7 @@ module _ {X : Type 0} (key : X → Addr) where
   all_from_apart x (y ∷ ys) h = (h.0, all_from_apart x ys h.1)
 
   -- of distinct things two are one thing or have other addresses
-  one_or_other : (xs : List X) → AreApart xs → (x y : X) → Has xs x → Has xs y → (x ≡ y) ⊎ Differs x y
+  pub one_or_other : (xs : List X) → AreApart xs → (x y : X) → Has xs x → Has xs y → (x ≡ y) ⊎ Differs x y
   unfolding IsDistinct
   one_or_other [] apart x y h k = absurd h
   one_or_other (z ∷ zs) apart x y (inl e) (inl f) = inl (sym e ∙ f)

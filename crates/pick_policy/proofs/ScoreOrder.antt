@@ -1,11 +1,10 @@
 -- The orders by score and address are strict, and tell any two addresses apart.
-use Rattle.std.proofs.Common.{◌≡◌, ℕ, true, false, ◌&&◌, ◌==◌, refl, sym, ap, ◌∙◌, rules}
+use Rattle.std.proofs.Common.{◌≡◌, ℕ, false, ◌&&◌, ◌==◌, sym, ap, ◌∙◌, rules}
 use Rattle.std.specs.Cmp.{tied_itself}
-use Rattle.std.specs.Ordering.{is_lt, is_eq, ordering_reverse}
-use Rattle.std.specs.declared.cmp.Ordering.{Ordering}
-use Rattle.std.specs.declared.cmp.Ordering.TheVariants.{Less, Equal, Greater}
-use Rattle.std.proofs.lemmas.Bool.{false≢true, true≢false, and_right}
+use Rattle.std.specs.Ordering.{is_lt, is_eq}
+use Rattle.std.proofs.lemmas.Bool.{and_right}
 use Rattle.net_base.specs.Address.{same_address}
+use Rattle.net_base.proofs.AddressOrder.{less, greater_back}
 use Rattle.pick_policy.specs.Ordered.{scored_below, scored_under, ranked_under}
 use Rattle.pick_policy.specs.Scores.{scores_below, rates_below}
 use Rattle.pick_policy.specs.contracts.scored.ScoredOrd.TheImpl.{ghosts}
@@ -20,16 +19,6 @@ below_is s t = search rules
 
 same_is : (s t : Scored) → is_eq (ghosts.cmp s t) ≡ ((s.score == t.score) && same_address s.addr t.addr)
 same_is s t = search rules
-
-less : (r : Ordering) → is_lt r ≡ true → r ≡ Less
-less Less h = refl
-less Equal h = absurd (false≢true h)
-less Greater h = absurd (false≢true h)
-
-greater_back : (r : Ordering) → is_eq r ≡ false → is_lt r ≡ false → is_lt (ordering_reverse r) ≡ true
-greater_back Less h k = absurd (true≢false k)
-greater_back Equal h k = absurd (true≢false h)
-greater_back Greater h k = refl
 
 pub scored_strict : IsStrict scored_below
 scored_strict = record {

@@ -1,18 +1,18 @@
--- Sorted by score and address, the first are the least.
-use Rattle.std.proofs.Common.{◌≡◌, ℕ, suc, zero, ◌<◌, Bool, true, false, cond, List, [], ◌∷◌, map, take, length, get_or, refl, add-one, sym, ap, ◌∙◌, subst, arith}
+-- Sorted by score and address, the candidates are the least of them.
+use Rattle.std.proofs.Common.{◌≡◌, ℕ, suc, zero, ◌<◌, Bool, true, false, cond, List, [], ◌∷◌, map, length, get_or, refl, add-one, sym, ap, ◌∙◌, subst, inl, arith}
 use Rattle.std.specs.List.{AllByRecursion, IsDistinct, best_of, filter}
 use Rattle.std.specs.List.Sorted.{IsPermutation, IsSortedBy}
-use Rattle.std.proofs.lemmas.List.Sorted.{IsPermutation-sym, IsPermutation-map, Contains-permutation}
+use Rattle.std.proofs.lemmas.List.Sorted.{IsPermutation-map, length_permutation}
 use Rattle.net_base.specs.Address.{same_address}
 use Rattle.net_base.specs.declared.address.Addr.{Addr}
 use Rattle.pick_policy.specs.Least.{least_by}
 use Rattle.pick_policy.specs.Ordered.{scored_below}
 use Rattle.pick_policy.specs.declared.scored.Scored.{Scored}
-use Rattle.pick_policy.proofs.SameAddress.{other_address-turn}
+use Rattle.net_base.proofs.AddressOrder.{other_address-turn}
 use Rattle.pick_policy.proofs.Distinct.{IsDistinct-permutation}
-use Rattle.pick_policy.proofs.LeastLemmas.{Rises, SameMembers}
-use Rattle.pick_policy.proofs.Members.{Has-from_Contains, Contains-from_Has, All-at_Has, All-from_Has}
-use Rattle.pick_policy.proofs.RisingLeast.{least_by-rising}
+use Rattle.pick_policy.proofs.LeastLemmas.{Rises, same_members}
+use Rattle.pick_policy.proofs.Members.{All-at_Has, All-from_Has}
+use Rattle.pick_policy.proofs.RisingLeast.{least_by-first}
 use Rattle.pick_policy.proofs.ScoreOrder.{scored_strict, scored_connect}
 
 abbrev address_of : Scored → Addr
@@ -44,19 +44,18 @@ none_falls : (lt : Scored → Scored → Bool) → ((x y : Scored) → lt x y �
 none_falls lt same S sorted k d inside =
     sym (same (get_or S (suc k) d) (get_or S k d)) ∙ subst (λ n. lt (get_or S n d) (get_or S k d) ≡ false) (add-one k) (sorted k d (omega arith) (omega arith))
 
-same_members : (xs S : List Scored) → IsPermutation xs S → SameMembers xs S
-same_members xs S moved = record {
-  forth = λ x h. Has-from_Contains S x (Contains-permutation xs S x moved (Contains-from_Has xs x h));
-  back = λ x h. Has-from_Contains xs x (Contains-permutation S xs x (IsPermutation-sym xs S moved) (Contains-from_Has S x h));
-}
-
--- what `sort` and `truncate` leave
-pub least_by-sorted : (lt : Scored → Scored → Bool) → ((x y : Scored) → lt x y ≡ scored_below x y) → (k : ℕ) (xs S : List Scored) →
-    IsPermutation xs S → IsSortedBy lt S → IsDistinct same_address (map address_of xs) → least_by scored_below k xs ≡ take k S
-least_by-sorted lt same k xs S moved sorted distinct =
-    least_by-rising scored_strict k xs S (same_members xs S moved)
-    (rises_from_steps S (none_falls lt same S sorted)
-    (IsDistinct-permutation (map address_of xs) (map address_of S) (IsPermutation-map address_of xs S moved) distinct))
+-- what sorting leaves
+pub least_by-sorted : (lt : Scored → Scored → Bool) → ((x y : Scored) → lt x y ≡ scored_below x y) → (xs S : List Scored) →
+    IsPermutation xs S → IsSortedBy lt S → IsDistinct same_address (map address_of xs) → least_by scored_below (length xs) xs ≡ S
+least_by-sorted lt same xs S moved sorted distinct =
+    let members = same_members xs S moved in
+    least_by-first scored_strict (length xs) xs S (record {
+      rising = rises_from_steps S (none_falls lt same S sorted)
+          (IsDistinct-permutation (map address_of xs) (map address_of S) (IsPermutation-map address_of xs S moved) distinct);
+      number = omega (arith, length_permutation xs S moved);
+      within = members.back;
+      others = λ x h. inl (members.forth x h);
+    })
 
 -- ---- the least of the images are the images of the least
 

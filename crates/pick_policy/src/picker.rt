@@ -9,6 +9,7 @@ ghost use Rattle.pick_policy.specs.Scores.{score_of};
 use crate::scored::{Scored, least};
 use net_base::{Addr, AddrList, OutOfMemory};
 use std::alloc::{AllocError, Global};
+use std::fmt::{self, Debug, Formatter, Write};
 
 /// A closure that scores an address under a word.
 pub type Score = Box<dyn Fn(Addr, u64) -> u64>;
@@ -42,8 +43,11 @@ impl Picker {
         requires { IsDistinct same_address cands.now }
         ensures { IfOk result (λ picks. picks ≡ picked cands.now k word) }
     {
-        let scored = self.scores(alloc, cands, word)?;
-        least(alloc, scored, k)
+        if k == 0 {
+            return Ok(AddrList::new(alloc));
+        }
+        let mut scored = self.scores(alloc, cands, word)?;
+        least(alloc, &mut scored, k)
     }
 
     fn scores(&self, alloc: Global, cands: &[Addr], word: u64) -> Result<Vec<Scored>, AllocError>
@@ -63,5 +67,11 @@ impl Picker {
             score: (self.score)(addr, word),
             addr,
         }
+    }
+}
+
+impl Debug for Picker {
+    fn fmt<W: Write>(&self, f: &mut Formatter<W>) -> fmt::Result {
+        f.debug_struct("Picker").finish_non_exhaustive()
     }
 }

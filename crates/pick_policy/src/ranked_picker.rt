@@ -10,6 +10,7 @@ use crate::Rated;
 use crate::scored::{Scored, least};
 use net_base::{Addr, AddrList, OutOfMemory};
 use std::alloc::{AllocError, Global};
+use std::fmt::{self, Debug, Formatter, Write};
 
 /// A closure that rates an address and its failures under a word.
 pub type RankedScore = Box<dyn Fn(Addr, u64, u64) -> u64>;
@@ -45,8 +46,11 @@ impl RankedPicker {
         requires { IsDistinct same_address (map (λ r. r.addr) cands.now) }
         ensures { IfOk result (λ picks. picks ≡ ranked cands.now k word) }
     {
-        let scored = self.scores(alloc, cands, word)?;
-        least(alloc, scored, k)
+        if k == 0 {
+            return Ok(AddrList::new(alloc));
+        }
+        let mut scored = self.scores(alloc, cands, word)?;
+        least(alloc, &mut scored, k)
     }
 
     fn scores(&self, alloc: Global, cands: &[Rated], word: u64) -> Result<Vec<Scored>, AllocError>
@@ -66,5 +70,11 @@ impl RankedPicker {
             score: (self.score)(rated.addr, rated.failures, word),
             addr: rated.addr,
         }
+    }
+}
+
+impl Debug for RankedPicker {
+    fn fmt<W: Write>(&self, f: &mut Formatter<W>) -> fmt::Result {
+        f.debug_struct("RankedPicker").finish_non_exhaustive()
     }
 }

@@ -1,4 +1,4 @@
-ghost use Rattle.std.specs.Prelude.{◌≡◌, map, IfOk};
+ghost use Rattle.std.specs.Prelude.{◌≡◌, map, length, IfOk};
 ghost use Rattle.std.specs.List.{IsDistinct};
 ghost use Rattle.net_base.specs.Address.{same_address};
 ghost use Rattle.pick_policy.specs.Least.{least_by};
@@ -14,14 +14,25 @@ pub struct Scored {
     pub addr: Addr,
 }
 
-// The addresses of the least k.
-pub fn least(alloc: Global, mut scored: Vec<Scored>, k: usize) -> Result<AddrList, OutOfMemory>
-    requires { IsDistinct same_address (map (λ s. s.addr) scored.items) }
-    ensures { IfOk result (λ picks. picks ≡ map (λ s. s.addr) (least_by scored_below k scored.items)) }
+// The addresses of the least k. Where there are more, the others are only set apart, and not sorted.
+pub fn least(alloc: Global, scored: &mut [Scored], k: usize) -> Result<AddrList, OutOfMemory>
+    requires { IsDistinct same_address (map (λ s. s.addr) scored.old) }
+    ensures { IfOk result (λ picks. picks ≡ map (λ s. s.addr) (least_by scored_below k scored.old)) }
 {
-    scored.sort()?;
-    scored.truncate(k);
-    Ok(AddrList::from_vec(addresses(alloc, &scored)?))
+    if k < scored.len() {
+        let (front, _, _) = scored.select_nth_unstable(k);
+        return in_order(alloc, front);
+    }
+    in_order(alloc, scored)
+}
+
+// The addresses of all, the least first.
+fn in_order(alloc: Global, scored: &mut [Scored]) -> Result<AddrList, OutOfMemory>
+    requires { IsDistinct same_address (map (λ s. s.addr) scored.old) }
+    ensures { IfOk result (λ picks. picks ≡ map (λ s. s.addr) (least_by scored_below (length scored.old) scored.old)) }
+{
+    scored.sort_unstable();
+    Ok(AddrList::from_vec(addresses(alloc, scored)?))
 }
 
 fn addresses(alloc: Global, scored: &[Scored]) -> Result<Vec<Addr>, AllocError>

@@ -31,16 +31,10 @@ pub fn reply_bytes(alloc: Global, reply: &Reply, peers: &[Addr]) -> Result<Octet
         Reply::Alive(cookie) => write_alive(alloc, &Alive::Reply(cookie)),
         Reply::Share(_) => write_peers(alloc, peers),
         // [6, [[], 0]]
-        Reply::NoIntersect => copied(alloc, &[0x82, 0x06, 0x82, 0x80, 0x00]),
+        Reply::NoIntersect => Octets::from_slice(alloc, &[0x82, 0x06, 0x82, 0x80, 0x00]),
         // [1]
-        Reply::Await => copied(alloc, &[0x81, 0x01]),
+        Reply::Await => Octets::from_slice(alloc, &[0x81, 0x01]),
         // [3]
-        Reply::NoBlocks => copied(alloc, &[0x81, 0x03]),
+        Reply::NoBlocks => Octets::from_slice(alloc, &[0x81, 0x03]),
     }
-}
-
-fn copied(alloc: Global, bytes: &[u8]) -> Result<Octets, OutOfMemory>
-    ensures { IfOk result (λ copy. copy ≡ bytes.now) }
-{
-    Ok(Octets::from_vec(Vec::from_slice(alloc, bytes)?))
 }

@@ -1,8 +1,9 @@
 ghost use Rattle.std.specs.Prelude.{◌≡◌};
-ghost use Rattle.conn_state.specs.Use.{some_runs};
-ghost use Rattle.remote_watch.specs.Temperature.{remote_temp_of, some_hot_runs};
+ghost use Rattle.remote_watch.specs.Temperature.{remote_temp_of};
 
-use net_base::{Facts, Phase, Responders};
+use conn_state::facts::is_negotiated;
+use conn_state::responders::{some_hot_runs, some_runs};
+use net_base::Facts;
 
 /// How far the other side uses a connection: this project's own rule.
 #[derive(Clone, Copy, Debug, PartialEq, Eq)]
@@ -25,21 +26,9 @@ pub fn remote_temp(facts: &Facts) -> RemoteTemp
         RemoteTemp::Hot
     } else if some_runs(facts.running) {
         RemoteTemp::Warm
-    } else if matches!(facts.phase, Phase::Negotiated) {
+    } else if is_negotiated(facts) {
         RemoteTemp::Idle
     } else {
         RemoteTemp::Cold
     }
-}
-
-fn some_hot_runs(running: Responders) -> bool
-    ensures { result ≡ some_hot_runs running }
-{
-    running.chain_sync || running.block_fetch || running.tx_submission
-}
-
-fn some_runs(running: Responders) -> bool
-    ensures { result ≡ some_runs running }
-{
-    some_hot_runs(running) || running.keep_alive || running.peer_sharing
 }

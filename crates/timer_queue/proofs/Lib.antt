@@ -1,4 +1,5 @@
 pub mod Agreement
+pub mod Changes
 pub mod Firsts
 pub mod Leaving
 pub mod Lines

@@ -1,11 +1,10 @@
 -- The two orders: of ids, and of timers. Each is strict, and tells any two things apart.
-use Rattle.std.proofs.Common.{◌≡◌, ℕ, Bool, true, false, ◌==◌, refl, sym, ap, ◌∙◌, arith, rules}
-use Rattle.std.specs.declared.cmp.Ordering.{Ordering}
-use Rattle.std.specs.declared.cmp.Ordering.TheVariants.{Less, Equal, Greater}
-use Rattle.std.specs.Ordering.{is_lt, is_eq, ordering_reverse}
+use Rattle.std.proofs.Common.{◌≡◌, Bool, true, false, ◌==◌, refl, sym, ap, ◌∙◌, arith, rules}
+use Rattle.std.specs.Ordering.{is_lt, is_eq}
 use Rattle.std.specs.Cmp.{tied_itself}
-use Rattle.std.proofs.lemmas.Bool.{false≢true, true≢false, and_parts}
+use Rattle.std.proofs.lemmas.Bool.{false≢true, and_parts}
 use Rattle.std.proofs.lemmas.Bool.Decides.{nat_tests}
+use Rattle.net_base.proofs.AddressOrder.{less, greater_back, same_number}
 use Rattle.net_base.specs.Timer.{deadline_before}
 use Rattle.net_base.specs.declared.connection.Cid.{Cid}
 use Rattle.net_base.specs.declared.timer.Deadline.{Deadline}
@@ -24,9 +23,6 @@ pub record IsOrder {K : Type 0} (below same : K → K → Bool) : Type 0 where
   pub same_itself : (a : K) → same a a ≡ true
 
 -- ---- ids
-
-same_number : (m n : ℕ) → (m == n) ≡ true → m ≡ n
-same_number m n h = grind (arith, nat_tests)
 
 pub same_cid-is : (a b : Cid) → same_cid a b ≡ true → a ≡ b
 same_cid-is a b h = λ i. record { 0 = same_number a.0 b.0 h i }
@@ -50,16 +46,6 @@ before_is a b = search rules
 
 same_is : (a b : Deadline) → is_eq (ghosts.cmp a b) ≡ same_timer a b
 same_is a b = search rules
-
-less : (r : Ordering) → is_lt r ≡ true → r ≡ Less
-less Less h = refl
-less Equal h = absurd (false≢true h)
-less Greater h = absurd (false≢true h)
-
-greater_back : (r : Ordering) → is_eq r ≡ false → is_lt r ≡ false → is_lt (ordering_reverse r) ≡ true
-greater_back Less h k = absurd (true≢false k)
-greater_back Equal h k = absurd (true≢false h)
-greater_back Greater h k = refl
 
 before-transitive : (a b c : Deadline) → deadline_before a b ≡ true → deadline_before b c ≡ true → deadline_before a c ≡ true
 before-transitive a b c h k =

@@ -1,27 +1,24 @@
 -- The rows, after an edit.
-use Rattle.std.proofs.Common.{◌≡◌, ℕ, ◌+◌, ◌<◌, ◌≤◌, ◌*◌, ◌&&◌, Bool, true, false, cond, List, [], ◌∷◌, length, get_or, set, map, not, Option, Some, None, is_some, refl, sym, ap, subst, ◌∙◌, inl, inr, arith}
-use Rattle.std.specs.List.{prefix_len, insert, remove, sum_by, list_any, filter}
-use Rattle.std.proofs.lemmas.Bool.{cases_Bool}
+use Rattle.std.proofs.Common.{◌≡◌, ℕ, ◌+◌, ◌≤◌, ◌*◌, ◌&&◌, Bool, true, false, cond, List, [], ◌∷◌, length, get_or, set, slice_get, map, not, Option, Some, None, is_some, refl, sym, ap, subst, ◌∙◌, inl, inr, arith}
+use Rattle.std.specs.List.{insert, remove, sum_by, list_any, filter}
+use Rattle.std.specs.Bool.{then_some}
+use Rattle.std.proofs.lemmas.Bool.{cases_Bool, false≢true}
 use Rattle.std.proofs.lemmas.List.{length-map}
 use Rattle.std.proofs.lemmas.List.Sums.{sum_by-cons, sum_by-le}
 use Rattle.net_base.specs.declared.connection.Cid.{Cid}
 use Rattle.net_base.specs.declared.timer.Kind.{Kind}
 use Rattle.net_base.specs.declared.timer.Kind.TheVariants.{Handshake, Grace, TimeWait, Reply2, Reply8, Reply10}
 use Rattle.timer_queue.specs.Order.{IsRising}
-use Rattle.timer_queue.specs.Rows.{moment, with_moment, one_if_set, timers_in, empty_row, with_at, row_at, moment_of, moment_at, with_new_row, with_row, without_row}
+use Rattle.timer_queue.specs.Rows.{moment, with_moment, one_if_set, timers_in, empty_row, with_at, row_at, found_at, moment_of, moment_at, place_at, with_new_row, with_row, without_row}
 use Rattle.timer_queue.specs.Timers.{same_cid, cid_below, same_kind}
 use Rattle.timer_queue.specs.declared.moments.Moments.{Moments}
 use Rattle.timer_queue.specs.declared.rows.Row.{Row}
-use Rattle.timer_queue.proofs.Orders.{cid_order, same_cid-is, same_cid-turned, same_kind-itself}
+use Rattle.timer_queue.proofs.Orders.{cid_order, same_cid-is, same_cid-turned}
 use Rattle.timer_queue.specs.Queue.{with_id}
-use Rattle.timer_queue.proofs.Rising.{above_when_same, any-find, any-map, between-there, map-put_in, map-replaced, map-taken_out, put_in-between, length-put_in, IsRising-map, IsRising-from_map, IsRising-put_in, IsRising-filter, insert-place, set-place, remove-place, place-inside, find-put_in, find-taken_out, find-taken_out_other, find-replaced, find-replaced_other, replaced-above, taken_out-above}
+use Rattle.timer_queue.proofs.Rising.{find-place, above_when_same, any-find, any-map, map-put_in, map-replaced, map-taken_out, put_in-between, length-put_in, IsRising-map, IsRising-from_map, IsRising-put_in, IsRising-filter, insert-place, set-place, remove-place, find-put_in, find-taken_out, find-taken_out_other, find-replaced, find-replaced_other, replaced-above, taken_out-above}
 
 abbrev pub AreRising : List Row → Type 0
 AreRising rows = IsRising cid_below (λ r. r.cid) rows
-
--- how many rows are below an id
-abbrev pub place_at : Cid → List Row → ℕ
-place_at cid rows = prefix_len (λ r. cid_below r.cid cid) rows
 
 abbrev pub cid_of : Row → Cid
 cid_of r = r.cid
@@ -48,10 +45,7 @@ pub remove-place_at : (cid : Cid) (rows : List Row) (n : ℕ) → AreRising rows
 remove-place_at cid rows n rises there e =
     ap (remove rows) e ∙ remove-place cid_below same_cid cid_order cid_of cid rows rises (has_row cid rows there)
 
-pub place_at-inside : (cid : Cid) (rows : List Row) → AreRising rows → is_some (row_at cid rows) ≡ true → place_at cid rows < length rows
-place_at-inside cid rows rises there = place-inside cid_below same_cid cid_order cid_of cid rows rises (has_row cid rows there)
-
--- ---- order and ids afterwards
+-- ---- the row that is found
 
 pub row_at-has : (cid : Cid) (row : Row) (rows : List Row) → row_at cid rows ≡ Some row → row.cid ≡ cid
 row_at-has cid row [] found = cc
@@ -59,6 +53,56 @@ row_at-has cid row (r ∷ rs) found = elim (cases_Bool (same_cid r.cid cid)) [
   | inl here ↦ let is : r ≡ row = is_found r row (rw here at found) in ap cid_of (sym is) ∙ same_cid-is r.cid cid here
   | inr gone ↦ row_at-has cid row rs (rw gone at found)
 ]
+
+from_found : (cid : Cid) (row : Row) (o : Option Row) → found_at cid o ≡ Some row → o ≡ Some row
+from_found cid row None e = cc
+from_found cid row (Some r) e = chosen (same_cid r.cid cid) e
+  where
+    chosen : (b : Bool) → cond b (Some r) None ≡ Some row → Some r ≡ Some row
+    chosen true e = e
+    chosen false e = cc
+
+-- the row of an id, and where it stands
+pub record StandsAt (cid : Cid) (rows : List Row) (place : ℕ) : Type 0 where
+  pub row : Row
+  pub here : slice_get rows place ≡ Some row
+  pub its : row.cid ≡ cid
+  pub there : row_at cid rows ≡ Some row
+  pub found : row_at row.cid rows ≡ Some row
+  pub at : place ≡ place_at row.cid rows
+
+pub stands_at : (cid : Cid) (rows : List Row) (place : ℕ) → AreRising rows → is_some (row_at cid rows) ≡ true →
+    place ≡ place_at cid rows → StandsAt cid rows place
+stands_at cid rows place rises there at = known (row_at cid rows) refl there
+  where
+    known : (o : Option Row) → row_at cid rows ≡ o → is_some o ≡ true → StandsAt cid rows place
+    known None e none = absurd (false≢true none)
+    known (Some row) e some =
+        let found = ap (λ n. found_at cid (slice_get rows n)) at ∙ (sym (find-place cid_below same_cid cid_order cid_of cid rows rises) ∙ e) in
+        let id : row.cid ≡ cid = row_at-has cid row rows e in
+        record {
+          row = row;
+          here = from_found cid row (slice_get rows place) found;
+          its = id;
+          there = e;
+          found = ap (λ i. row_at i rows) id ∙ e;
+          at = at ∙ ap (λ i. place_at i rows) (sym id);
+        }
+
+-- as `place_in` answers
+pub place_found : (o : Option Row) (m n : ℕ) → then_some (is_some o) m ≡ Some n → (is_some o ≡ true) × (n ≡ m)
+place_found None m n e = cc
+place_found (Some row) m n e = (refl, λ i. number m (sym e i))
+  where
+    number : ℕ → Option ℕ → ℕ
+    number d None = d
+    number d (Some k) = k
+
+pub place_missing : (o : Option Row) (m : ℕ) → then_some (is_some o) m ≡ None → o ≡ None
+place_missing None m e = refl
+place_missing (Some row) m e = cc
+
+-- ---- order and ids afterwards
 
 abbrev pub ids_of : List Row → List Cid
 ids_of rows = map cid_of rows
@@ -80,10 +124,6 @@ ids_of-with_new_row new rows rises absent =
 
 pub ids_of-without_row : (cid : Cid) (rows : List Row) → ids_of (without_row cid rows) ≡ filter (λ c. not (same_cid c cid)) (ids_of rows)
 ids_of-without_row cid rows = map-taken_out cid_below same_cid cid_order cid_of cid rows
-
-pub with_id-there : (cid : Cid) (rows : List Row) → AreRising rows → is_some (row_at cid rows) ≡ true → with_id cid (ids_of rows) ≡ ids_of rows
-with_id-there cid rows rises there =
-    between-there cid_below same_cid cid_order cid (ids_of rows) (IsRising-map cid_below same_cid cid_order cid_of rows rises) (enrolled-is cid rows ∙ there)
 
 pub without_row-absent : (cid : Cid) (rows : List Row) → row_at cid rows ≡ None → without_row cid rows ≡ rows
 without_row-absent cid [] e = refl
@@ -123,7 +163,7 @@ length-without_row cid (r ∷ rs) = elim (cases_Bool (same_cid r.cid cid)) [
 
 -- ---- the moments afterwards
 
-moment-with_moment : (k kind : Kind) (at : Option ℕ) (m : Moments) → moment k (with_moment kind at m) ≡ cond (same_kind k kind) at (moment k m)
+pub moment-with_moment : (k kind : Kind) (at : Option ℕ) (m : Moments) → moment k (with_moment kind at m) ≡ cond (same_kind k kind) at (moment k m)
 moment-with_moment Handshake Handshake at m = refl
 moment-with_moment Handshake kind at m = refl
 moment-with_moment Grace Grace at m = refl
@@ -152,13 +192,6 @@ moment_at-with_row cid k kind at row rows found = elim (cases_Bool (same_cid cid
   | inr other ↦ rw other (ap (moment_of k)
       (find-replaced_other cid_below same_cid cid_order cid_of row.cid cid (with_at kind at row) rows (same_cid-turned row.cid cid ∙ other) (cid_order.same_itself row.cid)))
 ]
-
-pub moment_at-cleared : (kind : Kind) (row : Row) (rows : List Row) → row_at row.cid rows ≡ Some row →
-    moment_at row.cid kind (with_row (with_at kind None row) rows) ≡ None
-moment_at-cleared kind row rows found =
-    moment_at-with_row row.cid kind kind None row rows found
-    ∙ ap (λ b. cond (b && same_kind kind kind) None (moment_at row.cid kind rows)) (cid_order.same_itself row.cid)
-    ∙ ap (λ b. cond b None (moment_at row.cid kind rows)) (same_kind-itself kind)
 
 -- a row without timers tells no moment
 pub moment_at-with_new_row : (cid : Cid) (k : Kind) (new : Cid) (rows : List Row) → row_at new rows ≡ None →

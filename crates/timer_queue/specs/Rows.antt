@@ -1,9 +1,11 @@
 -- The moments of one connection's timers, and the rows of them, one for each connection.
-use Rattle.std.specs.Prelude.{ℕ, ◌+◌, Bool, false, ◌==◌, List, [], ◌∷◌, find, map, filter, not, Option, Some, None, if◌then◌else◌}
+use Rattle.std.specs.Prelude.{◌≡◌, ℕ, ◌+◌, Bool, true, false, ◌==◌, List, [], ◌∷◌, find, map, filter, not, Option, Some, None, if◌then◌else◌}
+use Rattle.std.specs.List.{prefix_len}
 use Rattle.net_base.specs.declared.connection.Cid.{Cid}
+use Rattle.net_base.specs.declared.timer.Deadline.{Deadline}
 use Rattle.net_base.specs.declared.timer.Kind.{Kind}
 use Rattle.net_base.specs.declared.timer.Kind.TheVariants.{Handshake, Grace, TimeWait, Reply2, Reply8, Reply10}
-use Rattle.timer_queue.specs.Timers.{same_cid, cid_below}
+use Rattle.timer_queue.specs.Timers.{same_cid, cid_below, has_timer, is_timer_of}
 use Rattle.timer_queue.specs.declared.moments.Moments.{Moments}
 use Rattle.timer_queue.specs.declared.rows.Row.{Row}
 
@@ -64,6 +66,19 @@ is_set_at at (Some other) = other == at
 abbrev pub found_at : Cid → Option Row → Option Row
 found_at cid None = None
 found_at cid (Some row) = if same_cid row.cid cid then Some row else None
+
+-- how many rows are below an id
+abbrev pub place_at : Cid → List Row → ℕ
+place_at cid rows = prefix_len (λ r. cid_below r.cid cid) rows
+
+-- ---- what a line has of a connection
+
+-- of a kind it has the one moment that is told, or none
+abbrev pub IsMomentOf : Cid → Kind → Option ℕ → List Deadline → Type 0
+IsMomentOf cid kind at line = (d : Deadline) → is_timer_of cid kind d ≡ true → has_timer d line ≡ is_set_at d.at at
+
+abbrev pub AreMomentsOf : Cid → Moments → List Deadline → Type 0
+AreMomentsOf cid moments line = (kind : Kind) → IsMomentOf cid kind (moment kind moments) line
 
 -- ---- rows after a change
 

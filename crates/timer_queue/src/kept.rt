@@ -1,12 +1,12 @@
 ghost use Rattle.std.specs.Prelude.{◌≡◌, ◌+◌, ◌*◌, ◌≤◌, true, false, None, Some, OnOk, OnErr, length};
 ghost use Rattle.std.specs.VecDeque.{deque_capacity};
 ghost use Rattle.net_base.specs.declared.timer.Deadline.{Deadline};
-ghost use Rattle.timer_queue.specs.Rows.{row_at, moment, moment_at, is_set_at};
-ghost use Rattle.timer_queue.specs.Timers.{timer, has_timer, is_of, least};
-ghost use Rattle.timer_queue.specs.Queue.{is_enrolled, empty_queue, with_enrolled, with_new_timer, with_timer, without_timer, without_id, without_connection, least_due, without_fired};
+ghost use Rattle.timer_queue.specs.Rows.{row_at};
+ghost use Rattle.timer_queue.specs.Timers.{timer, least};
+ghost use Rattle.timer_queue.specs.Queue.{is_enrolled, empty_queue, with_enrolled, with_timer, without_timer, without_connection, least_due, without_fired};
 
-use crate::line::{put_in, take_out};
-use crate::rows::{Row, insert_row, remove_row, replace_row, row_in};
+use crate::line::{put_in, take_out, take_out_all};
+use crate::rows::{Row, change_row, insert_row, place_in, place_of};
 use net_base::{Cid, Deadline, Kind, OutOfMemory};
 use std::alloc::{AllocError, Global};
 use std::collections::VecDeque;
@@ -15,7 +15,7 @@ use std::collections::VecDeque;
 const KINDS: usize = 6;
 
 // The moments of each connection, in order of id, and all timers in the order in which they fire.
-#[derive(Drop)]
+#[derive(Debug, Drop)]
 pub struct Kept {
     pub rows: Vec<Row>,
     pub line: VecDeque<Deadline>,
@@ -46,7 +46,7 @@ impl Kept {
         requires { IsKept self.now }
         ensures { result ≡ is_enrolled cid (queue_of self.now) }
     {
-        row_in(&self.rows, cid).is_some()
+        place_in(&self.rows, cid).is_some()
     }
 
     pub fn enroll(&mut self, cid: Cid) -> Result<(), OutOfMemory>
@@ -94,77 +94,25 @@ impl Kept {
         ensures kept { IsKept self.new }
         ensures queue { queue_of self.new ≡ with_timer (timer cid kind at) (queue_of self.old) }
     {
-        if self.is_set(cid, kind, at) {
+        let place = place_of(&self.rows, cid);
+        let old = change_row(&mut self.rows, place, kind, Some(at));
+        if old == Some(at) {
             return;
         }
-        self.clear(cid, kind);
-        let row = row_in(&self.rows, cid).unwrap();
-        self.arm(row, kind, at);
-    }
-
-    // Whether a timer is set to a moment.
-    fn is_set(&self, cid: Cid, kind: Kind, at: u64) -> bool
-        requires { IsKept self.now }
-        ensures { result ≡ is_set_at at (moment_at cid kind self.now.rows.items) }
-    {
-        match row_in(&self.rows, cid) {
-            Some(row) => row.moments.of(kind) == Some(at),
-            None => false,
-        }
+        take_out(&mut self.line, cid, kind, old);
+        put_in(&mut self.line, Deadline { at, cid, kind });
     }
 
     pub fn clear(&mut self, cid: Cid, kind: Kind)
         requires { IsKept self.old }
         ensures kept { IsKept self.new }
         ensures queue { queue_of self.new ≡ without_timer cid kind (queue_of self.old) }
-        ensures gone { moment_at cid kind self.new.rows.items ≡ None }
     {
-        let Some(row) = row_in(&self.rows, cid) else {
+        let Some(place) = place_in(&self.rows, cid) else {
             return;
         };
-        let Some(at) = row.moments.of(kind) else {
-            return;
-        };
-        self.disarm(row, kind, at);
-    }
-
-    // Sets a timer that isn't set.
-    fn arm(&mut self, row: Row, kind: Kind, at: u64)
-        requires kept { IsKept self.old }
-        requires there { row_at row.cid self.old.rows.items ≡ Some row }
-        requires unset { moment kind row.moments ≡ None }
-        ensures kept { IsKept self.new }
-        ensures queue { queue_of self.new ≡ with_new_timer (timer row.cid kind at) (queue_of self.old) }
-    {
-        put_in(
-            &mut self.line,
-            Deadline {
-                at,
-                cid: row.cid,
-                kind,
-            },
-        );
-        replace_row(&mut self.rows, row.with(kind, Some(at)));
-    }
-
-    // Clears a timer that is set.
-    fn disarm(&mut self, row: Row, kind: Kind, at: u64)
-        requires kept { IsKept self.old }
-        requires there { row_at row.cid self.old.rows.items ≡ Some row }
-        requires set { moment kind row.moments ≡ Some at }
-        ensures kept { IsKept self.new }
-        ensures queue { queue_of self.new ≡ without_timer row.cid kind (queue_of self.old) }
-        ensures gone { moment_at row.cid kind self.new.rows.items ≡ None }
-    {
-        take_out(
-            &mut self.line,
-            Deadline {
-                at,
-                cid: row.cid,
-                kind,
-            },
-        );
-        replace_row(&mut self.rows, row.with(kind, None));
+        let old = change_row(&mut self.rows, place, kind, None);
+        take_out(&mut self.line, cid, kind, old);
     }
 
     pub fn leave(&mut self, cid: Cid)
@@ -172,26 +120,11 @@ impl Kept {
         ensures kept { IsKept self.new }
         ensures queue { queue_of self.new ≡ without_connection cid (queue_of self.old) }
     {
-        self.clear(cid, Kind::Handshake);
-        self.clear(cid, Kind::Grace);
-        self.clear(cid, Kind::TimeWait);
-        self.clear(cid, Kind::Reply2);
-        self.clear(cid, Kind::Reply8);
-        self.clear(cid, Kind::Reply10);
-        self.dismiss(cid);
-    }
-
-    // A connection with no timers goes.
-    fn dismiss(&mut self, cid: Cid)
-        requires kept { IsKept self.old }
-        requires idle { (d : Deadline) → has_timer d self.old.line.items ≡ true → is_of cid d ≡ false }
-        ensures kept { IsKept self.new }
-        ensures queue { queue_of self.new ≡ without_id cid (queue_of self.old) }
-    {
-        if row_in(&self.rows, cid).is_none() {
+        let Some(place) = place_in(&self.rows, cid) else {
             return;
-        }
-        remove_row(&mut self.rows, cid);
+        };
+        let row = self.rows.remove(place);
+        take_out_all(&mut self.line, row);
     }
 
     pub fn pop_due(&mut self, now: u64) -> Option<Deadline>

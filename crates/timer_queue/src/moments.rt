@@ -1,6 +1,7 @@
 ghost use Rattle.std.specs.Prelude.{◌≡◌};
 
 use net_base::Kind;
+use std::mem;
 
 // The moments of one connection's timers, at most one of each kind.
 #[derive(Clone, Copy, Debug, PartialEq, Eq)]
@@ -29,38 +30,18 @@ impl Moments {
         }
     }
 
-    pub fn of(&self, kind: Kind) -> Option<u64>
-        ensures { result ≡ moment kind self.now }
+    // Puts a moment in place of the one of a kind, and gives that one.
+    pub fn replace(&mut self, kind: Kind, at: Option<u64>) -> Option<u64>
+        ensures moments { self.new ≡ with_moment kind at self.old }
+        ensures old { result ≡ moment kind self.old }
     {
         match kind {
-            Kind::Handshake => self.handshake,
-            Kind::Grace => self.grace,
-            Kind::TimeWait => self.time_wait,
-            Kind::Reply2 => self.reply2,
-            Kind::Reply8 => self.reply8,
-            Kind::Reply10 => self.reply10,
-        }
-    }
-
-    pub fn with(self, kind: Kind, at: Option<u64>) -> Moments
-        ensures { result ≡ with_moment kind at self }
-    {
-        match kind {
-            Kind::Handshake => Moments {
-                handshake: at,
-                ..self
-            },
-            Kind::Grace => Moments { grace: at, ..self },
-            Kind::TimeWait => Moments {
-                time_wait: at,
-                ..self
-            },
-            Kind::Reply2 => Moments { reply2: at, ..self },
-            Kind::Reply8 => Moments { reply8: at, ..self },
-            Kind::Reply10 => Moments {
-                reply10: at,
-                ..self
-            },
+            Kind::Handshake => mem::replace(&mut self.handshake, at),
+            Kind::Grace => mem::replace(&mut self.grace, at),
+            Kind::TimeWait => mem::replace(&mut self.time_wait, at),
+            Kind::Reply2 => mem::replace(&mut self.reply2, at),
+            Kind::Reply8 => mem::replace(&mut self.reply8, at),
+            Kind::Reply10 => mem::replace(&mut self.reply10, at),
         }
     }
 }

@@ -11,7 +11,7 @@ use std::marker::Model;
 /// can be set without taking memory.
 ///
 /// Moments are in milliseconds. Timers fire in order of their moment, then the id of the connection, then their kind.
-#[derive(Drop)]
+#[derive(Debug, Drop)]
 pub struct TimerQueue {
     kept: Kept,
 }

@@ -1,13 +1,13 @@
 ghost use Rattle.std.specs.Prelude.{◌≡◌};
 
 use crate::moments::Moments;
-use net_base::{Cid, Kind};
+use net_base::Cid;
 
 mod edit;
 mod find;
 
-pub use edit::{insert_row, remove_row, replace_row};
-pub use find::{place_of, row_in};
+pub use edit::{change_row, insert_row};
+pub use find::{place_in, place_of};
 
 // The moments of one connection's timers.
 #[derive(Clone, Copy, Debug, PartialEq, Eq)]
@@ -17,7 +17,7 @@ pub struct Row {
 }
 
 impl Row {
-    ghost use Rattle.timer_queue.specs.Rows.{empty_row, with_at};
+    ghost use Rattle.timer_queue.specs.Rows.{empty_row};
 
     pub fn empty(cid: Cid) -> Row
         ensures { result ≡ empty_row cid }
@@ -25,15 +25,6 @@ impl Row {
         Row {
             cid,
             moments: Moments::none(),
-        }
-    }
-
-    pub fn with(self, kind: Kind, at: Option<u64>) -> Row
-        ensures { result ≡ with_at kind at self }
-    {
-        Row {
-            moments: self.moments.with(kind, at),
-            ..self
         }
     }
 }

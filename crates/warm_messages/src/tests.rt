@@ -1,5 +1,5 @@
 use super::*;
-use net_base::{Addr, Ip};
+use net_base::{Addr, Ip, OutOfMemory};
 use std::alloc::{AllocError, Global};
 use std::test::Fail;
 
@@ -92,30 +92,24 @@ fn requests_are_read_and_written(rt: HostRuntime) -> Result<(), Fail> {
         (b"\x82\x00\x1b\xff\xff\xff\xff\xff\xff\xff\xff", u64::MAX),
     ];
     for (bytes, number) in rows {
-        let read = read_share(rt.alloc(), bytes)?;
-        assert!(rt;
-            matches!(read, Some(Share::Request(n)) if n == number),
-            "at {bytes:?}"
-        );
+        let read = read_share(rt.alloc(), bytes);
+        assert_eq!(rt; read, Ok(Some(Share::Request(number))), "at {bytes:?}");
         assert_eq!(rt; write_request(rt.alloc(), number)?.as_slice(), bytes);
     }
     let to_break = read_share(rt.alloc(), b"\x9f\x18\x00\x05\xff")?;
-    assert!(rt; matches!(to_break, Some(Share::Request(5))));
-    let done = read_share(rt.alloc(), b"\x81\x02")?;
-    assert!(rt; matches!(done, Some(Share::Done)));
+    assert_eq!(rt; to_break, Some(Share::Request(5)));
+    assert_eq!(rt; read_share(rt.alloc(), b"\x81\x02")?, Some(Share::Done));
     Ok(())
 }
 
-// The bytes are a peers message of these addresses.
-fn has_peers(alloc: Global, bytes: &[u8], peers: &[Addr]) -> Result<bool, Fail> {
-    match read_share(alloc, bytes)? {
-        Some(Share::Peers(read)) => Ok(read.as_slice() == peers),
-        _ => Ok(false),
-    }
+// A peers message of these addresses.
+fn peers(alloc: Global, peers: &[Addr]) -> Result<Option<Share>, OutOfMemory> {
+    Ok(Some(Share::Peers(PeerItems::from_slice(alloc, peers)?)))
 }
 
 #[test]
 fn addresses_are_read_and_written(rt: HostRuntime) -> Result<(), Fail> {
+    let alloc = rt.alloc();
     let loopback = [ipv4(0x7f00_0001, 3001), ipv4(0x7f00_0001, 3005)];
     // 2001:db8::1:2
     let documented = [ipv6(0x2001_0db8_0000_0000_0000_0000_0001_0002, 3001)];
@@ -134,19 +128,21 @@ fn addresses_are_read_and_written(rt: HostRuntime) -> Result<(), Fail> {
             &[ipv6(1, 3001), ipv4(u32::MAX, 65_535)],
         ),
     ];
-    for (bytes, peers) in written {
-        assert!(rt; has_peers(rt.alloc(), bytes, peers)?, "at {bytes:?}");
-        assert_eq!(rt; write_peers(rt.alloc(), peers)?.as_slice(), bytes);
+    for (bytes, addrs) in written {
+        let read = read_share(alloc, bytes)?;
+        assert_eq!(rt; read, peers(alloc, addrs)?, "at {bytes:?}");
+        assert_eq!(rt; write_peers(alloc, addrs)?.as_slice(), bytes);
     }
     // eight elements, of which two are passed over
     let longer =
         b"\x82\x01\x81\x88\x01\x1a\x20\x01\x0d\xb8\x00\x00\x1a\x00\x01\x00\x02\x18\x63\x1b\xff\xff\xff\xff\xff\xff\xff\xff\x19\x0b\xb9";
-    assert!(rt; has_peers(rt.alloc(), longer, &documented)?);
+    assert_eq!(rt; read_share(alloc, longer)?, peers(alloc, &documented)?);
     // every array to a break
     let to_break =
         b"\x9f\x01\x9f\x9f\x00\x1a\x7f\x00\x00\x01\x19\x0b\xb9\xff\x9f\x18\x00\x1a\x7f\x00\x00\x01\x1a\x00\x00\x0b\xbd\xff\xff\xff";
-    assert!(rt; has_peers(rt.alloc(), to_break, &loopback)?);
-    assert!(rt; has_peers(rt.alloc(), b"\x82\x01\x9f\xff", &[])?);
+    assert_eq!(rt; read_share(alloc, to_break)?, peers(alloc, &loopback)?);
+    let none = read_share(alloc, b"\x82\x01\x9f\xff")?;
+    assert_eq!(rt; none, peers(alloc, &[])?);
     Ok(())
 }
 
@@ -184,7 +180,7 @@ fn other_bytes_are_no_message_of_peer_sharing(rt: HostRuntime) -> Result<(), Fai
         b"\x82\x01\x9b\x80\x00\x00\x00\x00\x00\x00\x00\x83\x00\x00\x00",
     ];
     for bytes in others {
-        assert!(rt; read_share(rt.alloc(), bytes)?.is_none(), "at {bytes:?}");
+        assert_eq!(rt; read_share(rt.alloc(), bytes)?, None, "at {bytes:?}");
     }
     Ok(())
 }

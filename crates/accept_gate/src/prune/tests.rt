@@ -1,5 +1,6 @@
 use super::*;
-use net_base::{Addr, Agreed, Ip};
+use conn_state::{Agreed, Grace, Phase, Provenance, Responders};
+use net_base::{Addr, Ip};
 
 const QUIET: Responders = Responders {
     chain_sync: false,

@@ -3,7 +3,6 @@ ghost use Rattle.net_base.specs.Limits.{IsWithinLimits};
 
 use super::*;
 use net_base::{Action, Addr, Away, CloseCause, FaultKind, Field, Ip, StateName};
-use std::alloc::AllocError;
 use std::test::Fail;
 
 // The usual settings, but for the limits.
@@ -41,71 +40,54 @@ fn accepted(port: u16) -> Event
     Event::Accepted(local(port))
 }
 
-// The line of an action of these tests.
-fn line(alloc: Global, action: &Action) -> Result<String, AllocError> {
-    match action {
-        Action::Admit(cid, addr) => {
-            let id = cid.0;
-            let port = addr.port;
-            format!(in alloc; "admit {id} 127.0.0.1:{port}\n")
-        }
-        Action::Turnaway(Away::Full) => String::from_str(alloc, "turnaway full\n"),
-        Action::Turnaway(Away::OwnAddr) => String::from_str(alloc, "turnaway self\n"),
-        Action::Turnaway(Away::Present) => String::from_str(alloc, "turnaway present\n"),
-        Action::Pause(delay) => format!(in alloc; "pause {delay}\n"),
-        Action::Close(cid, CloseCause::Fault(FaultKind::HandshakeWait)) => {
-            let id = cid.0;
-            format!(in alloc; "close {id} fault handshakewait\n")
-        }
-        Action::State(cid, StateName::UnnegotiatedInbound) => {
-            let id = cid.0;
-            format!(in alloc; "state {id} UnnegotiatedInbound\n")
-        }
-        Action::State(cid, StateName::Terminated) => {
-            let id = cid.0;
-            format!(in alloc; "state {id} Terminated\n")
-        }
-        _ => String::from_str(alloc, "other\n"),
-    }
+fn admitted(cid: u64, port: u16) -> Action {
+    Action::Admit(Cid(cid), local(port))
 }
 
-// An event is taken, and its actions are lines.
-fn lines(alloc: Global, engine: Engine, event: Event) -> Result<(Engine, String), Fail>
+fn greets(cid: u64) -> Action {
+    Action::State(Cid(cid), StateName::UnnegotiatedInbound)
+}
+
+fn went(cid: u64) -> Action {
+    Action::State(Cid(cid), StateName::Terminated)
+}
+
+fn waited(cid: u64) -> Action {
+    Action::Close(Cid(cid), CloseCause::Fault(FaultKind::HandshakeWait))
+}
+
+// An event is taken.
+fn take(engine: Engine, event: Event) -> Result<(Engine, ActionList), Fail>
     requires few { engine.events < 100 }
     requires within { IsWithinLimits event }
     ensures { IfOk result (λ r. r.0.events ≡ engine.events + 1) }
 {
     let (engine, actions) = engine.step(event)?;
-    let mut told = String::new(alloc);
-    for action in actions.as_slice() {
-        told.push_str(line(alloc, action)?.as_str())?;
-    }
-    Ok((engine, told))
+    Ok((engine, actions))
 }
 
 #[test]
 fn pauses_above_soft_and_turns_away_at_hard(rt: HostRuntime) -> Result<(), Fail> {
-    let alloc = rt.alloc();
-    let engine = Engine::new(alloc, settings(2, 1))?;
-    let (engine, told) = lines(alloc, engine, accepted(3002))?;
+    let engine = Engine::new(rt.alloc(), settings(2, 1))?;
+    let (engine, actions) = take(engine, accepted(3002))?;
     assert_eq!(rt;
-        told.as_str(),
-        "admit 1 127.0.0.1:3002\nstate 1 UnnegotiatedInbound\n"
+        actions.as_slice(),
+        [admitted(1, 3002), greets(1)].as_slice()
     );
-    let (engine, told) = lines(alloc, engine, accepted(3003))?;
+    let (engine, actions) = take(engine, accepted(3003))?;
     assert_eq!(rt;
-        told.as_str(),
-        "admit 2 127.0.0.1:3003\nstate 2 UnnegotiatedInbound\npause 5000\n"
+        actions.as_slice(),
+        [admitted(2, 3003), greets(2), Action::Pause(5000)].as_slice()
     );
-    let (engine, told) = lines(alloc, engine, accepted(3004))?;
-    assert_eq!(rt; told.as_str(), "turnaway full\n");
-    let (engine, told) = lines(alloc, engine, Event::Closed(Cid(1)))?;
-    assert_eq!(rt; told.as_str(), "state 1 Terminated\n");
-    let (engine, told) = lines(alloc, engine, Event::Now(10_000))?;
+    let (engine, actions) = take(engine, accepted(3004))?;
     assert_eq!(rt;
-        told.as_str(),
-        "close 2 fault handshakewait\nstate 2 Terminated\n"
+        actions.as_slice(),
+        [Action::Turnaway(Away::Full)].as_slice()
     );
+    let (engine, actions) = take(engine, Event::Closed(Cid(1)))?;
+    assert_eq!(rt; actions.as_slice(), [went(1)].as_slice());
+    let (engine, actions) = take(engine, Event::Now(10_000))?;
+    assert_eq!(rt; actions.as_slice(), [waited(2), went(2)].as_slice());
     assert_eq!(rt; engine.taken(), 5);
     assert_eq!(rt; engine.now(), 10_000);
     Ok(())
@@ -113,45 +95,46 @@ fn pauses_above_soft_and_turns_away_at_hard(rt: HostRuntime) -> Result<(), Fail>
 
 #[test]
 fn ends_a_handshake_at_its_deadline(rt: HostRuntime) -> Result<(), Fail> {
-    let alloc = rt.alloc();
-    let engine = Engine::new(alloc, settings(512, 384))?;
-    let (engine, told) = lines(alloc, engine, accepted(3002))?;
+    let engine = Engine::new(rt.alloc(), settings(512, 384))?;
+    let (engine, actions) = take(engine, accepted(3002))?;
     assert_eq!(rt;
-        told.as_str(),
-        "admit 1 127.0.0.1:3002\nstate 1 UnnegotiatedInbound\n"
+        actions.as_slice(),
+        [admitted(1, 3002), greets(1)].as_slice()
     );
     assert_eq!(rt; engine.tally().counted, 1);
-    let (engine, told) = lines(alloc, engine, Event::Now(9_999))?;
-    assert_eq!(rt; told.as_str(), "");
+    let (engine, actions) = take(engine, Event::Now(9_999))?;
+    assert!(rt; actions.as_slice().is_empty());
     assert!(rt; engine.facts(Cid(1)).is_some());
-    let (engine, told) = lines(alloc, engine, Event::Now(10_000))?;
-    assert_eq!(rt;
-        told.as_str(),
-        "close 1 fault handshakewait\nstate 1 Terminated\n"
-    );
+    let (engine, actions) = take(engine, Event::Now(10_000))?;
+    assert_eq!(rt; actions.as_slice(), [waited(1), went(1)].as_slice());
     assert_eq!(rt; engine.facts(Cid(1)), None);
     assert_eq!(rt; engine.tally().counted, 0);
-    let (engine, told) = lines(alloc, engine, Event::Now(5))?;
-    assert_eq!(rt; told.as_str(), "");
+    let (engine, actions) = take(engine, Event::Now(5))?;
+    assert!(rt; actions.as_slice().is_empty());
     assert_eq!(rt; engine.now(), 10_000);
     Ok(())
 }
 
 #[test]
 fn turns_away_itself_and_whom_it_has(rt: HostRuntime) -> Result<(), Fail> {
-    let alloc = rt.alloc();
-    let engine = Engine::new(alloc, settings(512, 384))?;
-    let (engine, told) = lines(alloc, engine, accepted(3001))?;
-    assert_eq!(rt; told.as_str(), "turnaway self\n");
-    let (engine, told) = lines(alloc, engine, accepted(3002))?;
+    let engine = Engine::new(rt.alloc(), settings(512, 384))?;
+    let (engine, actions) = take(engine, accepted(3001))?;
     assert_eq!(rt;
-        told.as_str(),
-        "admit 1 127.0.0.1:3002\nstate 1 UnnegotiatedInbound\n"
+        actions.as_slice(),
+        [Action::Turnaway(Away::OwnAddr)].as_slice()
     );
-    let (engine, told) = lines(alloc, engine, accepted(3002))?;
-    assert_eq!(rt; told.as_str(), "turnaway present\n");
-    let (engine, told) = lines(alloc, engine, Event::Govern(7))?;
-    assert_eq!(rt; told.as_str(), "");
+    let (engine, actions) = take(engine, accepted(3002))?;
+    assert_eq!(rt;
+        actions.as_slice(),
+        [admitted(1, 3002), greets(1)].as_slice()
+    );
+    let (engine, actions) = take(engine, accepted(3002))?;
+    assert_eq!(rt;
+        actions.as_slice(),
+        [Action::Turnaway(Away::Present)].as_slice()
+    );
+    let (engine, actions) = take(engine, Event::Govern(7))?;
+    assert!(rt; actions.as_slice().is_empty());
     assert_eq!(rt; engine.taken(), 4);
     assert_eq!(rt; engine.now(), 0);
     Ok(())

@@ -8,8 +8,8 @@ ghost use Rattle.net_base.specs.declared.action.Action.TheVariants.{Turnaway};
 ghost use Rattle.node_engine.specs.State.{Does, gate_notice};
 
 use super::NodeState;
-use crate::link::is_pending;
 use accept_gate::{Gate, verdict};
+use conn_state::facts::is_pending;
 use net_base::{Action, ActionList, Addr, Away, CloseCause, Facts, OutOfMemory, StateName};
 
 impl NodeState {

@@ -3,7 +3,7 @@ ghost use Rattle.machine.specs.Events.{peer_closes};
 ghost use Rattle.node_engine.specs.State.{Does};
 
 use super::NodeState;
-use conn_table::is_live;
+use conn_state::facts::is_live;
 use net_base::{ActionList, Cid, OutOfMemory};
 
 impl NodeState {

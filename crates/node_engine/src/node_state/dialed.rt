@@ -3,7 +3,8 @@ ghost use Rattle.machine.specs.Events.{dial_ends, dialed};
 ghost use Rattle.node_engine.specs.State.{Does, DoesTo, IsKnown};
 
 use super::NodeState;
-use net_base::{ActionList, Cid, Facts, OutOfMemory, Phase};
+use conn_state::facts::is_dialing;
+use net_base::{ActionList, Cid, Facts, OutOfMemory};
 
 impl NodeState {
     /// A dial of this node's has ended.
@@ -31,7 +32,7 @@ impl NodeState {
         requires { IsKnown facts self.old }
         ensures { OnOk result (DoesTo facts.cid.0 (dialed opened) actions.old self.old self.new actions.new) }
     {
-        if !matches!(facts.phase, Phase::Dialing) {
+        if !is_dialing(&facts) {
             return Ok(());
         }
         if opened {

@@ -3,7 +3,7 @@ ghost use Rattle.machine.specs.Connections.{ending, entry_goes, lost, vanishes};
 ghost use Rattle.node_engine.specs.State.{Does, DoesTo, IsKnown};
 
 use super::NodeState;
-use crate::link::is_pending;
+use conn_state::facts::is_pending;
 use net_base::{Action, ActionList, CloseCause, Facts, OutOfMemory, StateName};
 
 impl NodeState {

@@ -11,7 +11,7 @@ ghost use Rattle.node_engine.specs.State.{Does, DoesTo, IsKnown, is_used_from};
 ghost use Rattle.warm_messages.specs.Writing.{written_alive};
 
 use super::NodeState;
-use crate::link::shares;
+use conn_state::facts::is_sharing;
 use net_base::{ActionList, Agreed, Cid, Facts, OutOfMemory, Temp};
 use warm_messages::{Alive, write_alive};
 
@@ -139,7 +139,7 @@ impl NodeState {
     fn say_done(&self, facts: Facts, actions: &mut ActionList) -> Result<(), OutOfMemory>
         ensures { OnOk result (Does (says_done facts self.now) actions.old self.now actions.new) }
     {
-        if shares(facts.agreed) {
+        if is_sharing(&facts) {
             self.ask(facts.cid, 10, &[0x81, 0x02], actions)?;
         }
         self.keep_alive(facts.cid, Alive::Done, actions)

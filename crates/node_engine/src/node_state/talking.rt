@@ -9,13 +9,10 @@ ghost use Rattle.node_engine.specs.State.{Does, DoesTo, IsKnown};
 ghost use Rattle.remote_watch.specs.Watch.{watched};
 
 use super::NodeState;
-use crate::link::shares;
-use crate::name::is_duplex;
+use conn_state::facts::{is_sharing, serves_remote};
+use conn_state::responders::runs;
 use mux_segment::Item;
-use net_base::{
-    ActionList, Addr, AddrList, Cid, CloseCause, Facts, FaultKind, OutOfMemory, Provenance,
-    Responders,
-};
+use net_base::{ActionList, Addr, AddrList, Cid, CloseCause, Facts, FaultKind, OutOfMemory};
 use remote_watch::{Reply, Seen, WatchRefusal, reply_bytes, watch};
 use share_rounds::served;
 
@@ -54,7 +51,7 @@ impl NodeState {
         match watch(
             self.alloc,
             item.id,
-            shares(facts.agreed),
+            is_sharing(&facts),
             item.body.as_slice(),
         ) {
             Ok(seen) => self.take_request(facts, item.id, seen, actions),
@@ -76,7 +73,8 @@ impl NodeState {
         requires responder { has_responder protocol ≡ true }
         ensures { OnOk result (DoesTo facts.cid.0 (asked_as (Ok seen) protocol) actions.old self.old self.new actions.new) }
     {
-        if !takes_requests(&facts) {
+        // nothing is taken from the other side where this node alone may begin protocols
+        if !serves_remote(&facts) {
             return self.end(facts, CloseCause::Fault(FaultKind::Protocol), actions);
         }
         self.begin(facts, protocol, actions)?;
@@ -170,26 +168,5 @@ impl NodeState {
             Reply::Share(n) => served(self.alloc, &self.book, &self.groups, &self.roots, asker, n),
             _ => Ok(AddrList::new(self.alloc)),
         }
-    }
-}
-
-// Nothing is taken from the other side where this node alone may begin protocols.
-fn takes_requests(facts: &Facts) -> bool
-    ensures { result ≡ serves_remote facts.now }
-{
-    matches!(facts.provenance, Provenance::FromRemote) || is_duplex(facts)
-}
-
-// Whether the responder of a protocol runs.
-fn runs(protocol: u16, running: Responders) -> bool
-    ensures { result ≡ runs protocol running }
-{
-    match protocol {
-        2 => running.chain_sync,
-        3 => running.block_fetch,
-        4 => running.tx_submission,
-        8 => running.keep_alive,
-        10 => running.peer_sharing,
-        _ => false,
     }
 }

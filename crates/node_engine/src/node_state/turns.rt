@@ -5,7 +5,7 @@ ghost use Rattle.machine.specs.Replies.{owing, paid, is_owed_on};
 ghost use Rattle.node_engine.specs.State.{DoesSilently, name_notice};
 
 use super::NodeState;
-use crate::name::name_of;
+use conn_state::names::name_of;
 use net_base::{Action, ActionList, Cid, Facts, OutOfMemory};
 
 impl NodeState {

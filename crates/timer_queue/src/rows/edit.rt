@@ -1,10 +1,11 @@
-ghost use Rattle.std.specs.Prelude.{◌≡◌, OnOk, OnErr, IsSome};
+ghost use Rattle.std.specs.Prelude.{◌≡◌, ◌<◌, Some, OnOk, OnErr, length, slice_get, slice_set};
 ghost use Rattle.timer_queue.specs.Order.{IsRising};
-ghost use Rattle.timer_queue.specs.Rows.{row_at, with_new_row, with_row, without_row};
+ghost use Rattle.timer_queue.specs.Rows.{moment_of, with_at, with_new_row};
+ghost use Rattle.timer_queue.specs.declared.rows.Row.{Row};
 ghost use Rattle.timer_queue.specs.Timers.{cid_below};
 
 use super::{Row, place_of};
-use net_base::{Cid, OutOfMemory};
+use net_base::{Kind, OutOfMemory};
 
 // Puts in a row of an id that has none.
 pub fn insert_row(rows: &mut Vec<Row>, row: Row) -> Result<(), OutOfMemory>
@@ -17,22 +18,11 @@ pub fn insert_row(rows: &mut Vec<Row>, row: Row) -> Result<(), OutOfMemory>
     Ok(())
 }
 
-// Puts a row in place of the one of its id.
-pub fn replace_row(rows: &mut Vec<Row>, row: Row)
-    requires rising { IsRising cid_below (λ r. r.cid) rows.old.items }
-    requires there { IsSome (row_at row.cid rows.old.items) }
-    ensures { rows.new.items ≡ with_row row rows.old.items }
+// Sets or clears a timer of the row at a place, and gives the moment that it had.
+pub fn change_row(rows: &mut Vec<Row>, place: usize, kind: Kind, at: Option<u64>) -> Option<u64>
+    requires { place < length rows.old.items }
+    ensures rows { (row : Row) → slice_get rows.old.items place ≡ Some row → rows.new.items ≡ slice_set rows.old.items place (with_at kind at row) }
+    ensures old { result ≡ moment_of kind (slice_get rows.old.items place) }
 {
-    let place = place_of(rows, row.cid);
-    rows[place] = row;
-}
-
-// Takes out the row of an id.
-pub fn remove_row(rows: &mut Vec<Row>, cid: Cid)
-    requires rising { IsRising cid_below (λ r. r.cid) rows.old.items }
-    requires there { IsSome (row_at cid rows.old.items) }
-    ensures { rows.new.items ≡ without_row cid rows.old.items }
-{
-    let place = place_of(rows, cid);
-    rows.remove(place);
+    rows[place].moments.replace(kind, at)
 }

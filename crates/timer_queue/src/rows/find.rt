@@ -1,7 +1,7 @@
-ghost use Rattle.std.specs.Prelude.{◌≡◌, ◌≤◌, length, slice_get};
-ghost use Rattle.std.specs.List.{prefix_len};
+ghost use Rattle.std.specs.Prelude.{◌≡◌, ◌≤◌, is_some, length, slice_get};
+ghost use Rattle.std.specs.Bool.{then_some};
 ghost use Rattle.timer_queue.specs.Order.{IsRising};
-ghost use Rattle.timer_queue.specs.Rows.{row_at, found_at};
+ghost use Rattle.timer_queue.specs.Rows.{row_at, found_at, place_at};
 ghost use Rattle.timer_queue.specs.Timers.{cid_below};
 
 use super::Row;
@@ -10,24 +10,27 @@ use net_base::Cid;
 // How many rows of a rising list are below an id.
 pub fn place_of(rows: &[Row], cid: Cid) -> usize
     requires { IsRising cid_below (λ r. r.cid) rows.now }
-    ensures value { result ≡ prefix_len (λ r. cid_below r.cid cid) rows.now }
+    ensures value { result ≡ place_at cid rows.now }
     ensures bound { result ≤ length rows.now }
 {
     rows.partition_point(|row| row.cid < cid)
 }
 
-// The row of an id.
-pub fn row_in(rows: &[Row], cid: Cid) -> Option<Row>
+// The place of the row of an id.
+pub fn place_in(rows: &[Row], cid: Cid) -> Option<usize>
     requires { IsRising cid_below (λ r. r.cid) rows.now }
-    ensures { result ≡ row_at cid rows.now }
+    ensures { result ≡ then_some (is_some (row_at cid rows.now)) (place_at cid rows.now) }
 {
-    row_there(rows, place_of(rows, cid), cid)
+    let place = place_of(rows, cid);
+    is_at(rows, place, cid).then_some(place)
 }
 
-// The row at a place, where it is that of an id.
-fn row_there(rows: &[Row], place: usize, cid: Cid) -> Option<Row>
-    ensures { result ≡ found_at cid (slice_get rows.now place) }
+// Whether the row at a place is that of an id.
+fn is_at(rows: &[Row], place: usize, cid: Cid) -> bool
+    ensures { result ≡ is_some (found_at cid (slice_get rows.now place)) }
 {
-    let row = rows.get(place).copied()?;
-    (row.cid == cid).then_some(row)
+    match rows.get(place) {
+        Some(row) => row.cid == cid,
+        None => false,
+    }
 }

@@ -21,7 +21,7 @@ pub loop-size-preserved : goal.loop-size-preserved
 loop-size-preserved c =
     rw c.in_ok-push.ensures.ok
     (taking_goes_on c.args.limit c.args.side c.args.id c.args.items.now c.args.part.now c.loop-size.items c.loop-size.rest.now c.split_at.result.1.now _ c.in-Some.size
-    (c.in_ok-size.ensures ∙ ap Ok c.in-Some.is) (c.in_ok-copied.ensures ∙ c.split_at.ensures.front) c.split_at.ensures.back c.loop-size.invariant)
+    (c.in_ok-size.ensures ∙ ap Ok c.in-Some.is) (c.in_ok-from_slice.ensures ∙ c.split_at.ensures.front) c.split_at.ensures.back c.loop-size.invariant)
 
 pub returns-clause-items : goal.returns-clause-items
 returns-clause-items c =

@@ -1,5 +1,6 @@
 use Rattle.std.proofs.Common.{◌∙◌, ap}
-use Rattle.timer_queue.proofs.RowEdits.{insert-place_at, place_at}
+use Rattle.timer_queue.proofs.RowEdits.{insert-place_at}
+use Rattle.timer_queue.specs.Rows.{place_at}
 use Rattle.timer_queue.proofs.rows.edit.insert_row.Goals as goal
 
 pub returns-clause-ok : goal.returns-clause-ok
