@@ -6,7 +6,7 @@ use Rattle.std.proofs.lemmas.List.Sums.{sum_by-cons}
 use Rattle.net_base.specs.Address.{address_below}
 use Rattle.net_base.specs.declared.address.Addr.{Addr}
 use Rattle.peer_book.specs.Order.{IsRising, put_in, taken_out}
-use Rattle.peer_book.proofs.AddressOrder.{address_connected, address_transitive}
+use Rattle.net_base.proofs.AddressOrder.{address_connected, address_transitive}
 use Rattle.peer_book.proofs.Places.{is_at, stands, replaced, taken_out-above, replaced-above, above_when_same}
 use Rattle.peer_book.proofs.Rising.{AllAbove, above_lower, is_under}
 

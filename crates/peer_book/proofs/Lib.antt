@@ -1,5 +1,5 @@
-pub mod AddressOrder
 pub mod BookFacts
+pub mod Changing
 pub mod Counting
 pub mod Edits
 pub mod Listing

@@ -1,6 +1,7 @@
 -- The book: the list of the peers that a node knows, in address order.
-use Rattle.std.specs.Prelude.{ℕ, Bool, true, false, ◌&&◌, ◌==◌, not, nat_le, List, map, filter, length, count_by, find, Option, is_some, if◌then◌else◌}
-use Rattle.net_base.specs.Address.{same_address}
+use Rattle.std.specs.Prelude.{ℕ, ◌≡◌, Bool, true, false, ◌&&◌, ◌==◌, not, nat_le, List, map, filter, length, count_by, find, Option, Some, is_some, if◌then◌else◌}
+use Rattle.std.specs.List.{prefix_len}
+use Rattle.net_base.specs.Address.{same_address, address_below}
 use Rattle.net_base.specs.declared.address.Addr.{Addr}
 use Rattle.net_base.specs.declared.peer.Peer.{Peer}
 use Rattle.net_base.specs.declared.peer.Temp.{Temp}
@@ -16,6 +17,11 @@ has_address addr peer = same_address peer.addr addr
 
 abbrev pub peer_at : Addr → List Peer → Option Peer
 peer_at addr peers = find (has_address addr) peers
+
+-- the peer is there, behind so many others
+pub record Stands (place : ℕ) (peer : Peer) (peers : List Peer) : Type 0 where
+  pub there : peer_at peer.addr peers ≡ Some peer
+  pub behind : place ≡ prefix_len (λ p. address_below p.addr peer.addr) peers
 
 -- a peer in place of the one with its address
 abbrev pub with_peer : Peer → List Peer → List Peer

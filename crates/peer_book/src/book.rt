@@ -5,16 +5,16 @@ ghost use Rattle.peer_book.specs.Order.{IsRising};
 
 use crate::Added;
 use crate::kept::Kept;
-use crate::place::peer_with;
+use crate::place::{peer_with, place_and_peer};
 use net_base::{Addr, AddrList, OutOfMemory, Peer, Temp, backoff_delay};
 use std::alloc::Global;
 use std::marker::Model;
 
 /// How many peers there may be, of both classes.
-const MOST_PEERS: usize = 20_000;
+pub const MOST_PEERS: u64 = 20_000;
 
 /// The peers that a node knows, in address order.
-#[derive(Drop)]
+#[derive(Debug, Drop)]
 pub struct PeerBook {
     kept: Kept,
 }
@@ -141,8 +141,8 @@ impl PeerBook {
         requires { IsSomeAnd (peer_at addr self.old) (λ peer. peer.temp ≡ Temp.Cold) }
         ensures { self.new ≡ without_peer addr self.old }
     {
-        let peer = self.get(addr).unwrap();
-        self.kept.take_out(addr, peer);
+        let (place, peer) = place_and_peer(&self.kept.peers, addr);
+        self.kept.take_out(place, peer);
     }
 
     /// Sets the temperature of a peer.
@@ -150,8 +150,8 @@ impl PeerBook {
         requires { IsSome (peer_at addr self.old) }
         ensures { IfSome (peer_at addr self.old) (λ peer. self.new ≡ with_peer (record peer { temp = temp }) self.old) }
     {
-        let peer = self.get(addr).unwrap();
-        self.kept.replace(addr, peer, Peer { temp, ..peer });
+        let (place, peer) = place_and_peer(&self.kept.peers, addr);
+        self.kept.replace(place, peer, Peer { temp, ..peer });
     }
 
     /// A peer was connected: it is warm, and its failures are forgotten.
@@ -159,9 +159,9 @@ impl PeerBook {
         requires { IsSome (peer_at addr self.old) }
         ensures { IfSome (peer_at addr self.old) (λ peer. self.new ≡ with_peer (record peer { temp = Temp.Warm; failures = 0 }) self.old) }
     {
-        let peer = self.get(addr).unwrap();
+        let (place, peer) = place_and_peer(&self.kept.peers, addr);
         self.kept.replace(
-            addr,
+            place,
             peer,
             Peer {
                 temp: Temp::Warm,
@@ -178,8 +178,8 @@ impl PeerBook {
         requires interval { base ≤ 86_400_000 }
         ensures { IfSome (peer_at addr self.old) (λ peer. self.new ≡ with_peer (failed_peer now base peer) self.old) }
     {
-        let peer = self.get(addr).unwrap();
-        self.kept.replace(addr, peer, failed(peer, now, base));
+        let (place, peer) = place_and_peer(&self.kept.peers, addr);
+        self.kept.replace(place, peer, failed(peer, now, base));
     }
 
     /// A peer was asked for addresses, and is not asked again before a moment.
@@ -187,9 +187,9 @@ impl PeerBook {
         requires { IsSome (peer_at addr self.old) }
         ensures { IfSome (peer_at addr self.old) (λ peer. self.new ≡ with_peer (record peer { share_next = next }) self.old) }
     {
-        let peer = self.get(addr).unwrap();
-        self.kept.replace(
-            addr,
+        let (place, peer) = place_and_peer(&self.kept.peers, addr);
+        self.kept.amend(
+            place,
             peer,
             Peer {
                 share_next: next,
@@ -203,8 +203,8 @@ impl PeerBook {
         requires { IsSome (peer_at addr self.old) }
         ensures { IfSome (peer_at addr self.old) (λ peer. self.new ≡ with_peer (record peer { big = false }) self.old) }
     {
-        let peer = self.get(addr).unwrap();
-        self.kept.replace(addr, peer, Peer { big: false, ..peer });
+        let (place, peer) = place_and_peer(&self.kept.peers, addr);
+        self.kept.reclass(place, peer, Peer { big: false, ..peer });
     }
 
     fn enter(&mut self, peer: Peer) -> Result<Added, OutOfMemory>
@@ -216,7 +216,7 @@ impl PeerBook {
         if self.get(peer.addr).is_some() {
             return Ok(Added::Present);
         }
-        if self.kept.peers.len() >= MOST_PEERS {
+        if self.kept.peers.len() as u64 >= MOST_PEERS {
             return Ok(Added::Full);
         }
         self.kept.reserve()?;

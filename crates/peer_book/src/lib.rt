@@ -9,7 +9,7 @@ mod rows;
 mod tally;
 
 pub use added::Added;
-pub use book::PeerBook;
+pub use book::{MOST_PEERS, PeerBook};
 
 #[cfg(test)]
 mod tests;

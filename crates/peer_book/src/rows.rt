@@ -9,7 +9,7 @@ use net_base::{Addr, Temp};
 use std::alloc::{AllocError, Global};
 
 // The addresses of each temperature, in order.
-#[derive(Drop)]
+#[derive(Debug, Drop)]
 pub struct Rows {
     pub cold: Vec<Addr>,
     pub warm: Vec<Addr>,
