@@ -8,7 +8,7 @@ use Rattle.peer_book.specs.Order.{IsRising, put_in, taken_out, found_at}
 use Rattle.net_base.proofs.AddressOrder.{address_connected, address_turned, never_both, other_when_below, below-same}
 use Rattle.peer_book.proofs.Rising.{AllAbove, above_lower, is_under}
 
-one_more : (n : ℕ) → 1 + n ≡ suc n
+pub one_more : (n : ℕ) → 1 + n ≡ suc n
 one_more n = omega arith
 
 module _ {X : Type 0} (key : X → Addr) where

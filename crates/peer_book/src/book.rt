@@ -1,10 +1,12 @@
 ghost use Rattle.std.specs.Prelude.{◌≡◌, ◌≤◌, ◌^◌, [], length, IsSome, IfSome, IsSomeAnd, IfOk, OnOk, OnErr, false, true};
 ghost use Rattle.net_base.specs.Peer.{failed_peer};
-ghost use Rattle.peer_book.specs.Book.{peer_at, with_peer, without_peer, new_peer, entered, entry_of, known_of, established_of, active_of, listed_at, most_peers};
+ghost use Rattle.peer_book.specs.Book.{peer_at, with_peer, without_peer, new_peer, newcomers, all_entered, entered, entry_of, known_of, established_of, active_of, listed_at, most_peers};
 ghost use Rattle.peer_book.specs.Order.{IsRising};
 
 use crate::Added;
 use crate::kept::Kept;
+use crate::merge::fresh;
+use crate::newcomers::Newcomers;
 use crate::place::{peer_with, place_and_peer};
 use net_base::{Addr, AddrList, OutOfMemory, Peer, Temp, backoff_delay};
 use std::alloc::Global;
@@ -136,6 +138,20 @@ impl PeerBook {
         self.enter(fresh(addr, true))
     }
 
+    /// Makes addresses known one after another as those of peers of one class, each while fewer than `most` peers of that
+    /// class are known. Gives those of them that were new, in their order. Later changes of the peers take no memory.
+    /// A refusal changes nothing.
+    pub fn add_all(&mut self, big: bool, addrs: &[Addr], most: u64) -> Result<AddrList, OutOfMemory>
+        ensures new { IfOk result (λ new. new ≡ newcomers most big addrs.now self.old) }
+        ensures entered { OnOk result (self.new ≡ all_entered most big addrs.now self.old) }
+        ensures unchanged { OnErr result (self.new ≡ self.old) }
+    {
+        let alloc = *self.kept.peers.allocator();
+        let Newcomers { given, sorted } = Newcomers::find(alloc, &self.kept, big, addrs, most)?;
+        self.kept.put_all(big, &sorted)?;
+        Ok(given)
+    }
+
     /// The peer with the address is cold, and goes.
     pub fn forget(&mut self, addr: Addr)
         requires { IsSomeAnd (peer_at addr self.old) (λ peer. peer.temp ≡ Temp.Cold) }
@@ -222,20 +238,6 @@ impl PeerBook {
         self.kept.reserve()?;
         self.kept.put(peer);
         Ok(Added::New)
-    }
-}
-
-// A peer of which nothing is known yet.
-fn fresh(addr: Addr, big: bool) -> Peer
-    ensures { result ≡ new_peer big addr }
-{
-    Peer {
-        addr,
-        big,
-        temp: Temp::Cold,
-        failures: 0,
-        not_before: 0,
-        share_next: 0,
     }
 }
 

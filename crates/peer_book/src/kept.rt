@@ -1,11 +1,14 @@
-ghost use Rattle.std.specs.Prelude.{◌≡◌, ◌<◌, [], length, None, OnOk};
+ghost use Rattle.std.specs.Prelude.{◌≡◌, ◌<◌, [], length, None, OnOk, OnErr};
 ghost use Rattle.peer_book.specs.Book.{peer_at, Stands, with_peer, without_peer, with_new, most_peers};
+ghost use Rattle.peer_book.specs.Newcomers.{with_all_new, AreNew};
 
+use crate::merge::{cold_row, in_order, merged};
 use crate::place::place_of_peer;
 use crate::rows::Rows;
 use crate::tally::Tally;
-use net_base::Peer;
+use net_base::{Addr, Peer};
 use std::alloc::{AllocError, Global};
+use std::collections::BTreeSet;
 
 // The peers in address order, and what is kept beside them.
 #[derive(Debug, Drop)]
@@ -53,6 +56,37 @@ impl Kept {
         self.tally.enter(&peer);
         // there is room
         let _ = self.peers.insert(place, peer);
+    }
+
+    // Puts new peers of a class in, all at once. A refusal changes nothing, and nobody needs no memory.
+    pub fn put_all(&mut self, big: bool, addrs: &BTreeSet<Addr>) -> Result<(), AllocError>
+        requires kept { IsKept self.old }
+        requires new { AreNew addrs.now.keys self.old.peers.items }
+        ensures kept { IsKept self.new }
+        ensures put { OnOk result (self.new.peers.items ≡ with_all_new big addrs.now.keys self.old.peers.items) }
+        ensures unchanged { OnErr result (self.new.peers.items ≡ self.old.peers.items) }
+    {
+        if addrs.is_empty() {
+            return Ok(());
+        }
+        let alloc = *self.peers.allocator();
+        let addrs = in_order(alloc, addrs)?;
+        self.merge(alloc, big, &addrs)
+    }
+
+    fn merge(&mut self, alloc: Global, big: bool, addrs: &[Addr]) -> Result<(), AllocError>
+        requires kept { IsKept self.old }
+        requires new { AreNew addrs.now self.old.peers.items }
+        ensures kept { IsKept self.new }
+        ensures put { OnOk result (self.new.peers.items ≡ with_all_new big addrs.now self.old.peers.items) }
+        ensures unchanged { OnErr result (self.new.peers.items ≡ self.old.peers.items) }
+    {
+        let peers = merged(alloc, &self.peers, addrs, big)?;
+        let cold = cold_row(alloc, &peers)?;
+        self.rows.renew_cold(cold, peers.len())?;
+        self.tally.enter_cold(big, addrs.len() as u64);
+        self.peers = peers;
+        Ok(())
     }
 
     pub fn take_out(&mut self, place: usize, peer: Peer)

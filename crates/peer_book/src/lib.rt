@@ -4,6 +4,8 @@
 mod added;
 mod book;
 mod kept;
+mod merge;
+mod newcomers;
 mod place;
 mod rows;
 mod tally;
