@@ -4,12 +4,13 @@ use Rattle.std.specs.List.{AllByRecursion}
 use Rattle.std.proofs.lemmas.Bool.{cases_Bool}
 use Rattle.std.proofs.lemmas.Bool.Decides.{nat_tests}
 use Rattle.std.proofs.lemmas.List.{length_push, append-nil}
+use Rattle.std.proofs.lemmas.List.Sums.{count_by-le-length}
 use Rattle.net_base.specs.Address.{same_address, address_below}
 use Rattle.net_base.specs.declared.address.Addr.{Addr}
 use Rattle.net_base.specs.declared.peer.Peer.{Peer}
 use Rattle.net_base.proofs.AddressOrder.{other_when_below, address_turned}
 use Rattle.peer_book.specs.Addresses.{has_address, with_address}
-use Rattle.peer_book.specs.Book.{peer_at, with_new, new_peer, is_of, known_of, most_peers, entered_by, entry_below, all_entered, only_new, newcomers}
+use Rattle.peer_book.specs.Book.{peer_at, with_new, new_peer, is_of, known_of, most_peers, entered_by, entry_of, entry_below, all_entered, only_new, newcomers}
 use Rattle.peer_book.specs.Newcomers.{with_all_new, room_for, AreNew}
 use Rattle.peer_book.specs.Order.{IsRising}
 use Rattle.peer_book.specs.declared.added.Added.{Added}
@@ -31,6 +32,9 @@ le_true m n h = grind (arith, nat_tests)
 
 lt_of_true : (m n : ℕ) → nat_lt m n ≡ true → m < n
 lt_of_true m n h = grind (arith, nat_tests)
+
+le_of_false : (m n : ℕ) → nat_lt m n ≡ false → n ≤ m
+le_of_false m n h = grind (arith, nat_tests)
 
 or_none : (b : Bool) → b || false ≡ b
 or_none true = refl
@@ -236,3 +240,24 @@ coming-full most big all rest peers given keys limited full so_far =
       entered = sym (so_far.entered ∙ nobody_enters most big book none rest);
       new = are_new most big all rest peers given keys limited so_far;
     }
+
+-- ---- with no limit but that of the book
+
+-- where as many of a class are known as there may be peers, nobody comes in either way
+no_place : (addr : Addr) (new : Peer) (rest : List Addr) (book : List Peer) → most_peers ≤ length book →
+    (entered_by (entry_of addr book) new book ≡ book) × (only_new (entry_of addr book) addr rest ≡ rest)
+no_place addr new rest book long = elim (cases_Bool (is_some (peer_at addr book))) [
+  | inl there ↦ rw there (refl, refl)
+  | inr absent ↦ rw (absent, le_true most_peers (length book) long) (refl, refl)
+]
+
+pub unlimited : (big : Bool) (addr : Addr) (rest : List Addr) (book : List Peer) →
+    (entered_by (entry_below most_peers big addr book) (new_peer big addr) book ≡ entered_by (entry_of addr book) (new_peer big addr) book)
+    × (only_new (entry_below most_peers big addr book) addr rest ≡ only_new (entry_of addr book) addr rest)
+unlimited big addr rest book = elim (cases_Bool (nat_lt (known_of big book) most_peers)) [
+  | inl few ↦ rw few (refl, refl)
+  | inr many ↦
+      let long : most_peers ≤ length book = omega (arith, count_by-le-length (is_of big) book, le_of_false _ _ many) in
+      let none = no_place addr (new_peer big addr) rest book long in
+      rw many (sym none.0, sym none.1)
+]

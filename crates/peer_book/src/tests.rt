@@ -125,9 +125,18 @@ fn addresses_come_in_one_after_another(rt: HostRuntime) -> Result<(), Fail> {
     assert_eq!(rt; book.listed(Temp::Cold), all.as_slice());
     assert_eq!(rt; [book.known(), book.big_known()], [4, 2]);
     assert_eq!(rt; book.get(loopback(3001)).map(|p| p.big), Some(true));
-    assert!(rt; book.get(loopback(3002)).is_some());
-    book.set_temp(loopback(3002), Temp::Warm);
-    assert_eq!(rt; book.listed(Temp::Warm), [loopback(3002)].as_slice());
+    Ok(())
+}
+
+#[test]
+fn one_that_came_with_others_becomes_warm(rt: HostRuntime) -> Result<(), Fail> {
+    let addr = loopback(3002);
+    let mut book = PeerBook::new(rt.alloc());
+    book.add_all(false, &[addr, loopback(3001)], MOST_PEERS)?;
+    assert!(rt; book.get(addr).is_some());
+    book.set_temp(addr, Temp::Warm);
+    assert_eq!(rt; book.listed(Temp::Warm), [addr].as_slice());
+    assert_eq!(rt; book.listed(Temp::Cold), [loopback(3001)].as_slice());
     Ok(())
 }
 
