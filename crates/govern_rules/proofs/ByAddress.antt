@@ -11,7 +11,7 @@ use Rattle.net_base.specs.contracts.address.AddrOrd.TheImpl.{ghosts}
 use Rattle.net_base.specs.contracts.address.AddrOrd.TheImpl.Laws.{total-law}
 use Rattle.net_base.specs.declared.address.Addr.{Addr}
 use Rattle.net_base.specs.declared.address.Ip.TheVariants.{V4}
-use Rattle.peer_book.proofs.AddressOrder.{address_irreflexive, address_transitive, address_connected, same_address-is, other_when_below, below-same}
+use Rattle.net_base.proofs.AddressOrder.{address_irreflexive, address_transitive, address_connected, same_address-is, other_when_below, below-same}
 use Rattle.govern_rules.specs.Links.{some_link}
 use Rattle.govern_rules.specs.SortedLinks.{IsByAddress, SaySame}
 use Rattle.govern_rules.specs.declared.link.Link.{Link}

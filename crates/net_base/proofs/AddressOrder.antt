@@ -13,10 +13,10 @@ use Rattle.net_base.specs.declared.address.Addr.{Addr}
 use Rattle.net_base.specs.contracts.address.AddrOrd.TheImpl.{ghosts}
 use Rattle.net_base.specs.contracts.address.AddrOrd.TheImpl.Laws.{total-law}
 
-below_is : (a b : Addr) → is_lt (ghosts.cmp a b) ≡ address_below a b
+pub below_is : (a b : Addr) → is_lt (ghosts.cmp a b) ≡ address_below a b
 below_is a b = search rules
 
-same_is : (a b : Addr) → is_eq (ghosts.cmp a b) ≡ same_address a b
+pub same_is : (a b : Addr) → is_eq (ghosts.cmp a b) ≡ same_address a b
 same_is a b = search rules
 
 pub less : (r : Ordering) → is_lt r ≡ true → r ≡ Less

@@ -18,3 +18,4 @@ pub mod TalkLooks
 pub mod TalkMoves
 pub mod TalkPairs
 pub mod TalkTurns
+pub mod Together

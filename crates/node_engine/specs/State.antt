@@ -1,8 +1,9 @@
 -- What stands for the machine's record, and what a part of a step does to it.
-use Rattle.std.specs.Prelude.{◌≡◌, ℕ, ◌%◌, List, [], ◌∷◌, ◌++◌, IfSome, IsSomeAnd, if◌then◌else◌}
+use Rattle.std.specs.Prelude.{◌≡◌, ℕ, ◌%◌, Bool, ◌&&◌, not, is_some, List, [], ◌∷◌, ◌++◌, map, IfSome, IsSomeAnd, if◌then◌else◌}
 use Rattle.accept_gate.specs.declared.gate.Gate.{Gate}
 use Rattle.accept_gate.specs.declared.gate.Gate.TheVariants.{Free, Pause as PauseFor, Full as NoRoom}
 use Rattle.conn_state.specs.Names.{name_of, same_name}
+use Rattle.net_base.specs.Address.{same_address}
 use Rattle.net_base.specs.Shared.{RootState}
 use Rattle.net_base.specs.declared.action.Action.{Action}
 use Rattle.net_base.specs.declared.action.Action.TheVariants.{Peer as TellPeer, State, Pause}
@@ -23,6 +24,7 @@ use Rattle.node_engine.specs.Standing.{Standing}
 use Rattle.peer_book.specs.Book.{same_temp}
 use Rattle.peer_book.specs.declared.added.Added.{Added}
 use Rattle.peer_book.specs.declared.added.Added.TheVariants.{New, Present, Full}
+use Rattle.root_groups.specs.Cleaned.{group_of}
 use Rattle.warm_messages.specs.Writing.{written_alive}
 use Rattle.warm_messages.specs.declared.alive.Alive.TheVariants.{Ask}
 
@@ -57,6 +59,10 @@ IsKnown facts m = IsSomeAnd (entry_at facts.cid.0 m) (λ e. e.facts ≡ facts)
 abbrev pub DoesTo : ℕ → (Entry → Machine → Effect) → List Action → Machine → Machine → List Action → Type 0
 DoesTo cid act before old new after = IfSome (entry_at cid old) (λ e. Does (act e old) before new after)
 
+-- an address that is neither the own one nor local
+abbrev pub is_stranger : Machine → Addr → Bool
+is_stranger m addr = not (same_address addr m.settings.own) && not (is_some (group_of addr m.groups))
+
 -- ---- what is told
 
 -- a peer's temperature, where it is another one than before
@@ -68,6 +74,10 @@ abbrev pub coming_notice : Added → Addr → List Action
 coming_notice New addr = TellPeer addr Known ∷ []
 coming_notice Present addr = []
 coming_notice Full addr = []
+
+-- that addresses are known, each of which is new in the book
+abbrev pub known_notices : List Addr → List Action
+known_notices = map (λ addr. TellPeer addr Known)
 
 -- a connection's name, where it is another one than before
 abbrev pub name_notice : Facts → Facts → List Action

@@ -4,7 +4,7 @@ use Rattle.std.specs.List.{AllByRecursion, IsDistinct}
 use Rattle.net_base.specs.Address.{same_address}
 use Rattle.net_base.specs.declared.address.Addr.{Addr}
 use Rattle.peer_book.specs.Order.{IsRising}
-use Rattle.peer_book.proofs.AddressOrder.{other_when_below}
+use Rattle.net_base.proofs.AddressOrder.{other_when_below}
 use Rattle.peer_book.proofs.Rising.{AllAbove}
 
 others : {X : Type 0} (key : X → Addr) (a : Addr) (xs : List X) → AllAbove key a xs →

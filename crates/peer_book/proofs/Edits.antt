@@ -1,14 +1,25 @@
 -- What a thing put in, taken out or replaced leaves of an order, a filter and a count.
-use Rattle.std.proofs.Common.{◌≡◌, suc, ◌≤◌, ◌+◌, Bool, true, false, cond, List, [], ◌∷◌, map, length, Some, None, refl, sym, ap, ◌∙◌, inl, inr, arith}
+use Rattle.std.proofs.Common.{◌≡◌, suc, ◌≤◌, ◌+◌, Bool, true, false, ◌||◌, cond, List, [], ◌∷◌, map, length, Some, None, is_some, refl, sym, ap, ◌∙◌, inl, inr, arith}
 use Rattle.std.specs.List.{AllByRecursion, find, filter, count_by}
 use Rattle.std.proofs.lemmas.Bool.{cases_Bool, false≢true, true≢false, false_from_ne_true}
 use Rattle.std.proofs.lemmas.List.Sums.{sum_by-cons}
-use Rattle.net_base.specs.Address.{address_below}
+use Rattle.net_base.specs.Address.{address_below, same_address}
 use Rattle.net_base.specs.declared.address.Addr.{Addr}
 use Rattle.peer_book.specs.Order.{IsRising, put_in, taken_out}
-use Rattle.peer_book.proofs.AddressOrder.{address_connected, address_transitive}
+use Rattle.net_base.proofs.AddressOrder.{address_connected, address_transitive, below-same, never_both, other_address-turn}
 use Rattle.peer_book.proofs.Places.{is_at, stands, replaced, taken_out-above, replaced-above, above_when_same}
 use Rattle.peer_book.proofs.Rising.{AllAbove, above_lower, is_under}
+
+or_true : (b : Bool) → b || true ≡ true
+or_true true = refl
+or_true false = refl
+
+-- what is above one that isn't below another is above that other too
+above_between : (a b c : Addr) → address_below b a ≡ false → address_below b c ≡ true → address_below a c ≡ true
+above_between a b c over under = elim (cases_Bool (same_address b a)) [
+  | inl same ↦ sym (below-same b a c same) ∙ under
+  | inr other ↦ address_transitive a b c (address_connected b a other over) under
+]
 
 module _ {X : Type 0} (key : X → Addr) where
   -- ---- a filter
@@ -39,7 +50,7 @@ module _ {X : Type 0} (key : X → Addr) where
 
   -- ---- one thing put in
 
-  AllAbove-put_in : (a : Addr) (new : X) (xs : List X) → address_below a (key new) ≡ true → AllAbove key a xs → AllAbove key a (put_in key new xs)
+  pub AllAbove-put_in : (a : Addr) (new : X) (xs : List X) → address_below a (key new) ≡ true → AllAbove key a xs → AllAbove key a (put_in key new xs)
   AllAbove-put_in a new [] h k = (h, tt)
   AllAbove-put_in a new (x ∷ xs) h k = elim (cases_Bool (is_under key (key new) x)) [
     | inl under ↦ rw under (k.0, AllAbove-put_in a new xs h k.1)
@@ -111,6 +122,41 @@ module _ {X : Type 0} (key : X → Addr) where
           x ∷ cond b (put_in key new ys) ys ≡ cond b (put_in key new (x ∷ ys)) (x ∷ ys)
       after_first true x ys under = rw under refl
       after_first false x ys under = refl
+
+  pub stands-put_in : (addr : Addr) (new : X) (xs : List X) → stands key addr (put_in key new xs) ≡ (is_at key addr new || stands key addr xs)
+  stands-put_in addr new [] = first (is_at key addr new)
+    where
+      first : (b : Bool) → is_some (cond b (Some new) None) ≡ (b || false)
+      first true = refl
+      first false = refl
+  stands-put_in addr new (x ∷ xs) = elim (cases_Bool (is_under key (key new) x)) [
+    | inl under ↦ elim (cases_Bool (is_at key addr x)) [
+      | inl same ↦ rw (under, same) (sym (or_true (is_at key addr new)))
+      | inr other ↦ rw (under, other) (stands-put_in addr new xs)
+    ]
+    | inr over ↦ elim (cases_Bool (is_at key addr new)) [ inl same ↦ rw (over, same) refl | inr other ↦ rw (over, other) refl ]
+  ]
+
+  -- of two things of different addresses it doesn't matter which is put in first
+  two_first : (a b : X) (xs : List X) → same_address (key a) (key b) ≡ false →
+      cond (is_under key (key a) b) (b ∷ a ∷ xs) (a ∷ b ∷ xs) ≡ cond (is_under key (key b) a) (a ∷ b ∷ xs) (b ∷ a ∷ xs)
+  two_first a b xs other = elim (cases_Bool (is_under key (key a) b)) [
+    | inl under ↦ rw (under, never_both (key b) (key a) under) refl
+    | inr over ↦ rw (over, address_connected (key b) (key a) (other_address-turn (key a) (key b) other) over) refl
+  ]
+
+  pub put_in-turn : (a b : X) (xs : List X) → same_address (key a) (key b) ≡ false → put_in key a (put_in key b xs) ≡ put_in key b (put_in key a xs)
+  put_in-turn a b [] other = two_first a b [] other
+  put_in-turn a b (x ∷ xs) other = elim (cases_Bool (is_under key (key b) x)) [
+    | inl under_b ↦ elim (cases_Bool (is_under key (key a) x)) [
+      | inl under_a ↦ rw (under_b, under_a, under_b) (ap (λ l. x ∷ l) (put_in-turn a b xs other))
+      | inr over_a ↦ rw (under_b, over_a, above_between (key a) (key x) (key b) over_a under_b, under_b) refl
+    ]
+    | inr over_b ↦ elim (cases_Bool (is_under key (key a) x)) [
+      | inl under_a ↦ rw (over_b, above_between (key b) (key x) (key a) over_b under_a, under_a, over_b) refl
+      | inr over_a ↦ rw (over_b, over_a, over_b) (two_first a b (x ∷ xs) other)
+    ]
+  ]
 
   -- ---- one thing taken out
 

@@ -1,7 +1,11 @@
-pub mod AddressOrder
 pub mod BookFacts
+pub mod Changing
+pub mod ComingIn
 pub mod Counting
 pub mod Edits
+pub mod Joined
 pub mod Listing
+pub mod Merging
+pub mod Noted
 pub mod Places
 pub mod Rising

@@ -12,7 +12,7 @@ use Rattle.peer_book.specs.Addresses.{has_address, with_address, without_address
 use Rattle.peer_book.specs.Book.{peer_at, with_peer, without_peer, with_new, same_temp, temp_place, listed_at}
 use Rattle.peer_book.specs.Order.{IsRising}
 use Rattle.peer_book.specs.Rows.{moved}
-use Rattle.peer_book.proofs.AddressOrder.{same_address-is}
+use Rattle.net_base.proofs.AddressOrder.{same_address-is}
 use Rattle.peer_book.proofs.Edits.{IsRising-filter, IsRising-map, filter-put_in, map-put_in, filter-taken_out, map-taken_out, filter-without, filter-replaced, filter-within, stands-filter, length-taken_out}
 use Rattle.peer_book.proofs.Places.{replaced-two_steps}
 
@@ -26,7 +26,7 @@ InOrder peers = IsRising (λ p. p.addr) peers
 abbrev pub at_temp : Temp → Peer → Bool
 at_temp temp p = same_temp p.temp temp
 
-same_temp-itself : (t : Temp) → same_temp t t ≡ true
+pub same_temp-itself : (t : Temp) → same_temp t t ≡ true
 same_temp-itself t = grind (arith, nat_tests)
 
 same_temp-is : (a b : Temp) → same_temp a b ≡ true → temp_place a ≡ temp_place b

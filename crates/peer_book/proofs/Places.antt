@@ -5,10 +5,10 @@ use Rattle.std.proofs.lemmas.Bool.{cases_Bool, false≢true, true≢false}
 use Rattle.net_base.specs.Address.{address_below, same_address}
 use Rattle.net_base.specs.declared.address.Addr.{Addr}
 use Rattle.peer_book.specs.Order.{IsRising, put_in, taken_out, found_at}
-use Rattle.peer_book.proofs.AddressOrder.{address_connected, address_turned, never_both, other_when_below, below-same}
+use Rattle.net_base.proofs.AddressOrder.{address_connected, address_turned, never_both, other_when_below, below-same}
 use Rattle.peer_book.proofs.Rising.{AllAbove, above_lower, is_under}
 
-one_more : (n : ℕ) → 1 + n ≡ suc n
+pub one_more : (n : ℕ) → 1 + n ≡ suc n
 one_more n = omega arith
 
 module _ {X : Type 0} (key : X → Addr) where

@@ -8,7 +8,7 @@ use Rattle.std.proofs.lemmas.List.Sums.{prefix_len_is}
 use Rattle.net_base.specs.Address.{address_below}
 use Rattle.net_base.specs.declared.address.Addr.{Addr}
 use Rattle.peer_book.specs.Order.{IsRising}
-use Rattle.peer_book.proofs.AddressOrder.{address_transitive}
+use Rattle.net_base.proofs.AddressOrder.{address_transitive}
 
 module _ {X : Type 0} (key : X → Addr) where
   abbrev pub AllAbove : Addr → List X → Type 0

@@ -1,6 +1,7 @@
 -- The book: the list of the peers that a node knows, in address order.
-use Rattle.std.specs.Prelude.{ℕ, Bool, true, false, ◌&&◌, ◌==◌, not, nat_le, List, map, filter, length, count_by, find, Option, is_some, if◌then◌else◌}
-use Rattle.net_base.specs.Address.{same_address}
+use Rattle.std.specs.Prelude.{ℕ, ◌≡◌, Bool, true, false, ◌&&◌, ◌==◌, not, nat_le, nat_lt, List, [], ◌∷◌, map, filter, length, count_by, find, Option, Some, is_some, if◌then◌else◌}
+use Rattle.std.specs.List.{prefix_len}
+use Rattle.net_base.specs.Address.{same_address, address_below}
 use Rattle.net_base.specs.declared.address.Addr.{Addr}
 use Rattle.net_base.specs.declared.peer.Peer.{Peer}
 use Rattle.net_base.specs.declared.peer.Temp.{Temp}
@@ -16,6 +17,11 @@ has_address addr peer = same_address peer.addr addr
 
 abbrev pub peer_at : Addr → List Peer → Option Peer
 peer_at addr peers = find (has_address addr) peers
+
+-- the peer is there, behind so many others
+pub record Stands (place : ℕ) (peer : Peer) (peers : List Peer) : Type 0 where
+  pub there : peer_at peer.addr peers ≡ Some peer
+  pub behind : place ≡ prefix_len (λ p. address_below p.addr peer.addr) peers
 
 -- a peer in place of the one with its address
 abbrev pub with_peer : Peer → List Peer → List Peer
@@ -93,3 +99,27 @@ addresses_of = map (λ p. p.addr)
 -- the addresses of the peers of a temperature, of both classes
 abbrev pub listed_at : Temp → List Peer → List Addr
 listed_at temp peers = addresses_of (filter (λ p. same_temp p.temp temp) peers)
+
+-- ---- many addresses
+
+-- what is said to an address that is to come in, where more of a class come in only while fewer than so many are known
+abbrev pub entry_below : ℕ → Bool → Addr → List Peer → Added
+entry_below most big addr peers = if nat_lt (known_of big peers) most then entry_of addr peers else Full
+
+-- addresses of a class come in one after another
+abbrev pub all_entered : ℕ → Bool → List Addr → List Peer → List Peer
+all_entered most big [] peers = peers
+all_entered most big (addr ∷ addrs) peers =
+    all_entered most big addrs (entered_by (entry_below most big addr peers) (new_peer big addr) peers)
+
+abbrev pub only_new : Added → Addr → List Addr → List Addr
+only_new New addr addrs = addr ∷ addrs
+only_new Present addr addrs = addrs
+only_new Full addr addrs = addrs
+
+-- those of them that are new when they come
+abbrev pub newcomers : ℕ → Bool → List Addr → List Peer → List Addr
+newcomers most big [] peers = []
+newcomers most big (addr ∷ addrs) peers =
+    let entry = entry_below most big addr peers in
+    only_new entry addr (newcomers most big addrs (entered_by entry (new_peer big addr) peers))

@@ -31,6 +31,15 @@ tallied_by false temp tally = record tally { ordinary = one_more temp tally.ordi
 abbrev pub tallied : Peer → Tally → Tally
 tallied peer = tallied_by peer.big peer.temp
 
+abbrev pub known_in : Bool → Tally → ℕ
+known_in true tally = tally.big.known
+known_in false tally = tally.ordinary.known
+
+-- so many more cold peers of a class
+abbrev pub more_cold : Bool → ℕ → Tally → Tally
+more_cold true count tally = record tally { big = record tally.big { known = tally.big.known + count } }
+more_cold false count tally = record tally { ordinary = record tally.ordinary { known = tally.ordinary.known + count } }
+
 -- no more than the peers there may be
 abbrev pub AreWithin : ℕ → Counts → Type 0
 AreWithin most counts = (counts.known ≤ most) × (counts.established ≤ most) × (counts.active ≤ most)

@@ -1,20 +1,22 @@
 ghost use Rattle.std.specs.Prelude.{◌≡◌, ◌≤◌, ◌^◌, [], length, IsSome, IfSome, IsSomeAnd, IfOk, OnOk, OnErr, false, true};
 ghost use Rattle.net_base.specs.Peer.{failed_peer};
-ghost use Rattle.peer_book.specs.Book.{peer_at, with_peer, without_peer, new_peer, entered, entry_of, known_of, established_of, active_of, listed_at, most_peers};
+ghost use Rattle.peer_book.specs.Book.{peer_at, with_peer, without_peer, new_peer, newcomers, all_entered, entered, entry_of, known_of, established_of, active_of, listed_at, most_peers};
 ghost use Rattle.peer_book.specs.Order.{IsRising};
 
 use crate::Added;
 use crate::kept::Kept;
-use crate::place::peer_with;
+use crate::merge::fresh;
+use crate::newcomers::Newcomers;
+use crate::place::{peer_with, place_and_peer};
 use net_base::{Addr, AddrList, OutOfMemory, Peer, Temp, backoff_delay};
 use std::alloc::Global;
 use std::marker::Model;
 
 /// How many peers there may be, of both classes.
-const MOST_PEERS: usize = 20_000;
+pub const MOST_PEERS: u64 = 20_000;
 
 /// The peers that a node knows, in address order.
-#[derive(Drop)]
+#[derive(Debug, Drop)]
 pub struct PeerBook {
     kept: Kept,
 }
@@ -136,13 +138,27 @@ impl PeerBook {
         self.enter(fresh(addr, true))
     }
 
+    /// Makes addresses known one after another as those of peers of one class, each while fewer than `most` peers of that
+    /// class are known. Gives those of them that were new, in their order. Later changes of the peers take no memory.
+    /// A refusal changes nothing.
+    pub fn add_all(&mut self, big: bool, addrs: &[Addr], most: u64) -> Result<AddrList, OutOfMemory>
+        ensures new { IfOk result (λ new. new ≡ newcomers most big addrs.now self.old) }
+        ensures entered { OnOk result (self.new ≡ all_entered most big addrs.now self.old) }
+        ensures unchanged { OnErr result (self.new ≡ self.old) }
+    {
+        let alloc = *self.kept.peers.allocator();
+        let Newcomers { given, sorted } = Newcomers::find(alloc, &self.kept, big, addrs, most)?;
+        self.kept.put_all(big, &sorted)?;
+        Ok(given)
+    }
+
     /// The peer with the address is cold, and goes.
     pub fn forget(&mut self, addr: Addr)
         requires { IsSomeAnd (peer_at addr self.old) (λ peer. peer.temp ≡ Temp.Cold) }
         ensures { self.new ≡ without_peer addr self.old }
     {
-        let peer = self.get(addr).unwrap();
-        self.kept.take_out(addr, peer);
+        let (place, peer) = place_and_peer(&self.kept.peers, addr);
+        self.kept.take_out(place, peer);
     }
 
     /// Sets the temperature of a peer.
@@ -150,8 +166,8 @@ impl PeerBook {
         requires { IsSome (peer_at addr self.old) }
         ensures { IfSome (peer_at addr self.old) (λ peer. self.new ≡ with_peer (record peer { temp = temp }) self.old) }
     {
-        let peer = self.get(addr).unwrap();
-        self.kept.replace(addr, peer, Peer { temp, ..peer });
+        let (place, peer) = place_and_peer(&self.kept.peers, addr);
+        self.kept.replace(place, peer, Peer { temp, ..peer });
     }
 
     /// A peer was connected: it is warm, and its failures are forgotten.
@@ -159,9 +175,9 @@ impl PeerBook {
         requires { IsSome (peer_at addr self.old) }
         ensures { IfSome (peer_at addr self.old) (λ peer. self.new ≡ with_peer (record peer { temp = Temp.Warm; failures = 0 }) self.old) }
     {
-        let peer = self.get(addr).unwrap();
+        let (place, peer) = place_and_peer(&self.kept.peers, addr);
         self.kept.replace(
-            addr,
+            place,
             peer,
             Peer {
                 temp: Temp::Warm,
@@ -178,8 +194,8 @@ impl PeerBook {
         requires interval { base ≤ 86_400_000 }
         ensures { IfSome (peer_at addr self.old) (λ peer. self.new ≡ with_peer (failed_peer now base peer) self.old) }
     {
-        let peer = self.get(addr).unwrap();
-        self.kept.replace(addr, peer, failed(peer, now, base));
+        let (place, peer) = place_and_peer(&self.kept.peers, addr);
+        self.kept.replace(place, peer, failed(peer, now, base));
     }
 
     /// A peer was asked for addresses, and is not asked again before a moment.
@@ -187,9 +203,9 @@ impl PeerBook {
         requires { IsSome (peer_at addr self.old) }
         ensures { IfSome (peer_at addr self.old) (λ peer. self.new ≡ with_peer (record peer { share_next = next }) self.old) }
     {
-        let peer = self.get(addr).unwrap();
-        self.kept.replace(
-            addr,
+        let (place, peer) = place_and_peer(&self.kept.peers, addr);
+        self.kept.amend(
+            place,
             peer,
             Peer {
                 share_next: next,
@@ -203,8 +219,8 @@ impl PeerBook {
         requires { IsSome (peer_at addr self.old) }
         ensures { IfSome (peer_at addr self.old) (λ peer. self.new ≡ with_peer (record peer { big = false }) self.old) }
     {
-        let peer = self.get(addr).unwrap();
-        self.kept.replace(addr, peer, Peer { big: false, ..peer });
+        let (place, peer) = place_and_peer(&self.kept.peers, addr);
+        self.kept.reclass(place, peer, Peer { big: false, ..peer });
     }
 
     fn enter(&mut self, peer: Peer) -> Result<Added, OutOfMemory>
@@ -216,26 +232,12 @@ impl PeerBook {
         if self.get(peer.addr).is_some() {
             return Ok(Added::Present);
         }
-        if self.kept.peers.len() >= MOST_PEERS {
+        if self.kept.peers.len() as u64 >= MOST_PEERS {
             return Ok(Added::Full);
         }
         self.kept.reserve()?;
         self.kept.put(peer);
         Ok(Added::New)
-    }
-}
-
-// A peer of which nothing is known yet.
-fn fresh(addr: Addr, big: bool) -> Peer
-    ensures { result ≡ new_peer big addr }
-{
-    Peer {
-        addr,
-        big,
-        temp: Temp::Cold,
-        failures: 0,
-        not_before: 0,
-        share_next: 0,
     }
 }
 

@@ -1,14 +1,17 @@
-ghost use Rattle.std.specs.Prelude.{◌≡◌, ◌<◌, ◌≤◌, [], length, Some, None, OnOk, IfOk};
-ghost use Rattle.peer_book.specs.Book.{peer_at, with_peer, without_peer, with_new, most_peers};
+ghost use Rattle.std.specs.Prelude.{◌≡◌, ◌<◌, [], length, None, OnOk, OnErr};
+ghost use Rattle.peer_book.specs.Book.{peer_at, Stands, with_peer, without_peer, with_new, most_peers};
+ghost use Rattle.peer_book.specs.Newcomers.{with_all_new, AreNew};
 
+use crate::merge::{cold_row, in_order, merged};
 use crate::place::place_of_peer;
 use crate::rows::Rows;
 use crate::tally::Tally;
 use net_base::{Addr, Peer};
 use std::alloc::{AllocError, Global};
+use std::collections::BTreeSet;
 
 // The peers in address order, and what is kept beside them.
-#[derive(Drop)]
+#[derive(Debug, Drop)]
 pub struct Kept {
     pub peers: Vec<Peer>,
     pub rows: Rows,
@@ -55,27 +58,84 @@ impl Kept {
         let _ = self.peers.insert(place, peer);
     }
 
-    pub fn take_out(&mut self, addr: Addr, peer: Peer)
+    // Puts new peers of a class in, all at once. A refusal changes nothing, and nobody needs no memory.
+    pub fn put_all(&mut self, big: bool, addrs: &BTreeSet<Addr>) -> Result<(), AllocError>
         requires kept { IsKept self.old }
-        requires there { peer_at addr self.old.peers.items ≡ Some peer }
+        requires new { AreNew addrs.now.keys self.old.peers.items }
         ensures kept { IsKept self.new }
-        ensures peers { self.new.peers.items ≡ without_peer addr self.old.peers.items }
+        ensures put { OnOk result (self.new.peers.items ≡ with_all_new big addrs.now.keys self.old.peers.items) }
+        ensures unchanged { OnErr result (self.new.peers.items ≡ self.old.peers.items) }
     {
-        let place = place_of_peer(&self.peers, addr);
-        self.rows.remove(peer.temp, addr);
+        if addrs.is_empty() {
+            return Ok(());
+        }
+        let alloc = *self.peers.allocator();
+        let addrs = in_order(alloc, addrs)?;
+        self.merge(alloc, big, &addrs)
+    }
+
+    fn merge(&mut self, alloc: Global, big: bool, addrs: &[Addr]) -> Result<(), AllocError>
+        requires kept { IsKept self.old }
+        requires new { AreNew addrs.now self.old.peers.items }
+        ensures kept { IsKept self.new }
+        ensures put { OnOk result (self.new.peers.items ≡ with_all_new big addrs.now self.old.peers.items) }
+        ensures unchanged { OnErr result (self.new.peers.items ≡ self.old.peers.items) }
+    {
+        let peers = merged(alloc, &self.peers, addrs, big)?;
+        let cold = cold_row(alloc, &peers)?;
+        self.rows.renew_cold(cold, peers.len())?;
+        self.tally.enter_cold(big, addrs.len() as u64);
+        self.peers = peers;
+        Ok(())
+    }
+
+    pub fn take_out(&mut self, place: usize, peer: Peer)
+        requires kept { IsKept self.old }
+        requires stands { Stands place peer self.old.peers.items }
+        ensures kept { IsKept self.new }
+        ensures peers { self.new.peers.items ≡ without_peer peer.addr self.old.peers.items }
+    {
+        self.rows.remove(peer.temp, peer.addr);
         self.tally.leave(&peer);
         self.peers.remove(place);
     }
 
-    pub fn replace(&mut self, addr: Addr, old: Peer, new: Peer)
+    // Puts a peer back that is of another class or temperature.
+    pub fn replace(&mut self, place: usize, old: Peer, new: Peer)
         requires kept { IsKept self.old }
-        requires there { peer_at addr self.old.peers.items ≡ Some old }
+        requires stands { Stands place old self.old.peers.items }
         requires same { new.addr ≡ old.addr }
         ensures kept { IsKept self.new }
         ensures peers { self.new.peers.items ≡ with_peer new self.old.peers.items }
     {
-        let place = place_of_peer(&self.peers, addr);
-        self.rows.turn(addr, old.temp, new.temp);
+        self.rows.turn(old.addr, old.temp, new.temp);
+        self.tally.leave(&old);
+        self.tally.enter(&new);
+        self.peers[place] = new;
+    }
+
+    // Puts a peer back that is still listed and counted as it was.
+    pub fn amend(&mut self, place: usize, old: Peer, new: Peer)
+        requires kept { IsKept self.old }
+        requires stands { Stands place old self.old.peers.items }
+        requires same { new.addr ≡ old.addr }
+        requires listed { new.temp ≡ old.temp }
+        requires counted { new.big ≡ old.big }
+        ensures kept { IsKept self.new }
+        ensures peers { self.new.peers.items ≡ with_peer new self.old.peers.items }
+    {
+        self.peers[place] = new;
+    }
+
+    // Puts a peer back that is of another class and still listed as it was.
+    pub fn reclass(&mut self, place: usize, old: Peer, new: Peer)
+        requires kept { IsKept self.old }
+        requires stands { Stands place old self.old.peers.items }
+        requires same { new.addr ≡ old.addr }
+        requires listed { new.temp ≡ old.temp }
+        ensures kept { IsKept self.new }
+        ensures peers { self.new.peers.items ≡ with_peer new self.old.peers.items }
+    {
         self.tally.leave(&old);
         self.tally.enter(&new);
         self.peers[place] = new;

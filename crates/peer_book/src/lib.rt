@@ -4,12 +4,14 @@
 mod added;
 mod book;
 mod kept;
+mod merge;
+mod newcomers;
 mod place;
 mod rows;
 mod tally;
 
 pub use added::Added;
-pub use book::PeerBook;
+pub use book::{MOST_PEERS, PeerBook};
 
 #[cfg(test)]
 mod tests;

@@ -1,7 +1,7 @@
-ghost use Rattle.std.specs.Prelude.{◌≡◌, slice_get};
+ghost use Rattle.std.specs.Prelude.{◌≡◌, slice_get, Some, IsSome};
 ghost use Rattle.std.specs.List.{prefix_len};
 ghost use Rattle.net_base.specs.Address.{address_below};
-ghost use Rattle.peer_book.specs.Book.{peer_at};
+ghost use Rattle.peer_book.specs.Book.{peer_at, Stands};
 ghost use Rattle.peer_book.specs.Order.{IsRising, found_at};
 
 use net_base::{Addr, Peer};
@@ -28,6 +28,19 @@ pub fn peer_with(peers: &[Peer], addr: Addr) -> Option<Peer>
     ensures { result ≡ peer_at addr peers.now }
 {
     peer_there(peers, place_of_peer(peers, addr), addr)
+}
+
+// The place of an address that is there, and its peer.
+pub fn place_and_peer(peers: &[Peer], addr: Addr) -> (usize, Peer)
+    requires rising { IsRising (λ p. p.addr) peers.now }
+    requires there { IsSome (peer_at addr peers.now) }
+    ensures peer { peer_at addr peers.now ≡ Some result.1 }
+    ensures here { result.1.addr ≡ addr }
+    ensures stands { Stands result.0 result.1 peers.now }
+{
+    let place = place_of_peer(peers, addr);
+    let peer = peer_there(peers, place, addr).unwrap();
+    (place, peer)
 }
 
 // The peer at a place, where it has an address.

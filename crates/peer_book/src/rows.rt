@@ -1,5 +1,6 @@
-ghost use Rattle.std.specs.Prelude.{◌≡◌, ◌<◌, ◌≤◌, [], false, length, IsTrue, OnOk, vec_len, vec_capacity, if◌then◌else◌};
+ghost use Rattle.std.specs.Prelude.{◌≡◌, ◌<◌, ◌≤◌, [], false, length, IsTrue, OnOk, OnErr, vec_len, vec_capacity, if◌then◌else◌};
 ghost use Rattle.net_base.specs.declared.peer.Temp.{Temp};
+ghost use Rattle.net_base.specs.declared.peer.Temp.TheVariants.{Cold};
 ghost use Rattle.peer_book.specs.Book.{same_temp};
 ghost use Rattle.peer_book.specs.Order.{IsRising};
 ghost use Rattle.peer_book.specs.Addresses.{has_address, with_address, without_address};
@@ -9,7 +10,7 @@ use net_base::{Addr, Temp};
 use std::alloc::{AllocError, Global};
 
 // The addresses of each temperature, in order.
-#[derive(Drop)]
+#[derive(Debug, Drop)]
 pub struct Rows {
     pub cold: Vec<Addr>,
     pub warm: Vec<Addr>,
@@ -48,6 +49,20 @@ impl Rows {
         reserve_in(&mut self.cold, room)?;
         reserve_in(&mut self.warm, room)?;
         reserve_in(&mut self.hot, room)?;
+        Ok(())
+    }
+
+    // Takes another row of the cold ones, and makes room for so many addresses at each temperature.
+    pub fn renew_cold(&mut self, mut cold: Vec<Addr>, room: usize) -> Result<(), AllocError>
+        ensures lists { OnOk result ((temp : Temp) → row_of temp self.new ≡ (if same_temp Cold temp then cold.items else row_of temp self.old)) }
+        ensures made { OnOk result ((temp : Temp) → room ≤ room_of temp self.new) }
+        ensures unchanged { OnErr result ((temp : Temp) → row_of temp self.new ≡ row_of temp self.old) }
+        ensures kept { OnErr result ((temp : Temp) → room_of temp self.old ≤ room_of temp self.new) }
+    {
+        reserve_in(&mut cold, room)?;
+        reserve_in(&mut self.warm, room)?;
+        reserve_in(&mut self.hot, room)?;
+        self.cold = cold;
         Ok(())
     }
 

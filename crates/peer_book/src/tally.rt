@@ -1,4 +1,4 @@
-ghost use Rattle.std.specs.Prelude.{◌≡◌};
+ghost use Rattle.std.specs.Prelude.{◌≡◌, ◌+◌, ◌≤◌};
 ghost use Rattle.peer_book.specs.Book.{most_peers};
 
 use net_base::{Peer, Temp};
@@ -45,7 +45,7 @@ impl Counts {
 
 impl Tally {
     ghost use Rattle.peer_book.specs.declared.tally.Tally.{Tally};
-    ghost use Rattle.peer_book.specs.Tallies.{tally_of, tallied, IsTallyWithin};
+    ghost use Rattle.peer_book.specs.Tallies.{tally_of, tallied, known_in, more_cold, IsTallyWithin};
     ghost use Rattle.std.specs.Prelude.{[]};
 
     pub fn new() -> Tally
@@ -70,6 +70,18 @@ impl Tally {
             self.big.enter(peer.temp);
         } else {
             self.ordinary.enter(peer.temp);
+        }
+    }
+
+    // So many cold peers of a class come in.
+    pub fn enter_cold(&mut self, big: bool, count: u64)
+        requires { known_in big self.old + count ≤ most_peers }
+        ensures { self.new ≡ more_cold big count self.old }
+    {
+        if big {
+            self.big.known += count;
+        } else {
+            self.ordinary.known += count;
         }
     }
 

@@ -1,4 +1,4 @@
-use crate::{Added, PeerBook};
+use crate::{Added, MOST_PEERS, PeerBook};
 use net_base::{Addr, Ip, Peer, Temp};
 use std::test::Fail;
 
@@ -111,18 +111,53 @@ fn a_forgotten_peer_is_gone(rt: HostRuntime) -> Result<(), Fail> {
 }
 
 #[test]
+fn addresses_come_in_one_after_another(rt: HostRuntime) -> Result<(), Fail> {
+    let mut book = PeerBook::new(rt.alloc());
+    book.add(loopback(3003))?;
+    let ordinary = [3005, 3003, 3002, 3005, 3004].map(loopback);
+    let new = book.add_all(false, &ordinary, MOST_PEERS)?;
+    assert_eq!(rt; new.as_slice(), [3005, 3002, 3004].map(loopback).as_slice());
+    // two big ledger peers are enough
+    let big = [3007, 3002, 3001, 3008].map(loopback);
+    let new = book.add_all(true, &big, 2)?;
+    assert_eq!(rt; new.as_slice(), [3007, 3001].map(loopback).as_slice());
+    let all = [3001, 3002, 3003, 3004, 3005, 3007].map(loopback);
+    assert_eq!(rt; book.listed(Temp::Cold), all.as_slice());
+    assert_eq!(rt; [book.known(), book.big_known()], [4, 2]);
+    assert_eq!(rt; book.get(loopback(3001)).map(|p| p.big), Some(true));
+    Ok(())
+}
+
+#[test]
+fn one_that_came_with_others_becomes_warm(rt: HostRuntime) -> Result<(), Fail> {
+    let addr = loopback(3002);
+    let mut book = PeerBook::new(rt.alloc());
+    book.add_all(false, &[addr, loopback(3001)], MOST_PEERS)?;
+    assert!(rt; book.get(addr).is_some());
+    book.set_temp(addr, Temp::Warm);
+    assert_eq!(rt; book.listed(Temp::Warm), [addr].as_slice());
+    assert_eq!(rt; book.listed(Temp::Cold), [loopback(3001)].as_slice());
+    Ok(())
+}
+
+#[test]
 fn a_full_book_takes_no_more(rt: HostRuntime) -> Result<(), Fail> {
     let mut book = PeerBook::new(rt.alloc());
-    for number in 0..20_000u32 {
-        book.add(Addr {
+    let mut addrs = Vec::new(rt.alloc());
+    for number in 0..19_999u32 {
+        addrs.push(Addr {
             ip: Ip::V4(number),
             port: 3001,
         })?;
     }
+    book.add_all(false, &addrs, MOST_PEERS)?;
+    let last = [loopback(3004), loopback(3004), loopback(3003)];
+    let new = book.add_all(true, &last, MOST_PEERS)?;
+    assert_eq!(rt; new.as_slice(), [loopback(3004)].as_slice());
     assert_eq!(rt; book.add(loopback(3002))?, Added::Full);
     assert_eq!(rt; book.add_big(loopback(3002))?, Added::Full);
     assert_eq!(rt; book.as_slice().len(), 20_000);
-    assert_eq!(rt; book.known(), 20_000);
+    assert_eq!(rt; [book.known(), book.big_known()], [19_999, 1]);
     assert_eq!(rt; book.get(loopback(3002)), None);
     Ok(())
 }

@@ -4,12 +4,9 @@ ghost use Rattle.share_rounds.specs.Rounds.{fits_version, is_new, room_for, fres
 
 use crate::keep::keep_where;
 use net_base::{Addr, AddrList, Ip, OutOfMemory};
-use peer_book::PeerBook;
+use peer_book::{MOST_PEERS, PeerBook};
 use std::alloc::Global;
 use warm_messages::PeerItems;
-
-// How many peers there may be, of both classes.
-const MOST_PEERS: u64 = 20_000;
 
 /// Of the addresses that a peer told, in their order, those that are taken as ordinary peers: each that is neither the own one,
 /// nor in the book, nor taken before, while fewer ordinary peers are known than the target and the book isn't full. In traces

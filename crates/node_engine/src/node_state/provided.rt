@@ -1,13 +1,16 @@
-ghost use Rattle.std.specs.Prelude.{◌≡◌, IfOk, OnOk};
+ghost use Rattle.std.specs.Prelude.{◌≡◌, ◌++◌, filter, IfOk, OnOk};
 ghost use Rattle.machine.specs.Effect.{for_each};
 ghost use Rattle.machine.specs.Peers.{peer_is_ordinary};
-ghost use Rattle.machine.specs.Provided.{targets_are, big_targets_are, comes_ordinary, locals_are, is_wanted_big, comes_big, bigs_are};
-ghost use Rattle.node_engine.specs.State.{Does, DoesSilently};
+ghost use Rattle.machine.specs.Provided.{targets_are, big_targets_are, comes_ordinary, locals_are, bigs_are};
+ghost use Rattle.node_engine.specs.State.{Does, DoesSilently, is_stranger, known_notices};
 ghost use Rattle.root_groups.specs.Cleaned.{cleaned, members_of};
 
 use super::NodeState;
 use churn_clock::effective_big;
-use net_base::{ActionList, Addr, AddrList, BigTargets, GroupList, OutOfMemory, Targets};
+use net_base::{
+    Action, ActionList, Addr, AddrList, BigTargets, GroupList, OutOfMemory, PeerNote, Targets,
+};
+use peer_book::MOST_PEERS;
 use root_groups::Groups;
 use std::alloc::Global;
 
@@ -68,10 +71,8 @@ impl NodeState {
     ) -> Result<(), OutOfMemory>
         ensures { OnOk result (Does (for_each comes_ordinary addrs.now self.old) actions.old self.new actions.new) }
     {
-        for addr in addrs {
-            self.peer_comes(false, *addr, actions)?;
-        }
-        Ok(())
+        let new = self.book.add_all(false, addrs, MOST_PEERS)?;
+        tell_known(new.as_slice(), actions)
     }
 
     // ---- big ledger peers
@@ -84,31 +85,40 @@ impl NodeState {
     ) -> Result<(), OutOfMemory>
         ensures { OnOk result (Does (bigs_are addrs.now self.old) actions.old self.new actions.new) }
     {
+        let strangers = self.strangers(addrs)?;
+        let wanted = effective_big(&self.big_targets, self.moment).known;
+        let new = self.book.add_all(true, strangers.as_slice(), wanted)?;
+        tell_known(new.as_slice(), actions)
+    }
+
+    // Those of some addresses that are neither the own one nor local.
+    fn strangers(&self, addrs: &[Addr]) -> Result<AddrList, OutOfMemory>
+        ensures { IfOk result (λ strangers. strangers ≡ filter (is_stranger self.now) addrs.now) }
+    {
+        let mut strangers = AddrList::new(self.alloc);
         for addr in addrs {
-            self.big_comes(*addr, actions)?;
+            if self.is_stranger(*addr) {
+                strangers.push(*addr)?;
+            }
         }
-        Ok(())
+        Ok(strangers)
     }
 
-    fn big_comes(&mut self, addr: Addr, actions: &mut ActionList) -> Result<(), OutOfMemory>
-        ensures { OnOk result (Does (comes_big addr self.old) actions.old self.new actions.new) }
+    fn is_stranger(&self, addr: Addr) -> bool
+        ensures { result ≡ is_stranger self.now addr }
     {
-        if self.is_wanted_big(addr) {
-            self.peer_comes(true, addr, actions)
-        } else {
-            Ok(())
-        }
+        !addr.is_same(&self.connections.settings().own) && self.groups.group_of(addr).is_none()
     }
+}
 
-    // Whether an address is neither the own one nor known, nor local, and more big ledger peers are wanted.
-    fn is_wanted_big(&self, addr: Addr) -> bool
-        ensures { result ≡ is_wanted_big addr self.now }
-    {
-        !addr.is_same(&self.connections.settings().own)
-            && self.book.get(addr).is_none()
-            && self.groups.group_of(addr).is_none()
-            && self.book.big_known() < effective_big(&self.big_targets, self.moment).known
+// Each of some addresses is new in the book.
+fn tell_known(addrs: &[Addr], actions: &mut ActionList) -> Result<(), OutOfMemory>
+    ensures { OnOk result (actions.new ≡ actions.old ++ known_notices addrs.now) }
+{
+    for addr in addrs {
+        actions.push(Action::Peer(*addr, PeerNote::Known))?;
     }
+    Ok(())
 }
 
 // All members, group after group.

@@ -8,7 +8,7 @@ use Rattle.peer_book.specs.Tallies.{tally_of, tallied}
 use Rattle.peer_book.proofs.Counting.{tally-without, tallied-same}
 use Rattle.peer_book.proofs.Edits.{IsRising-filter, length-taken_out}
 use Rattle.peer_book.proofs.Listing.{address_of, InOrder, listed-rises, listed-has, listed-without}
-use Rattle.peer_book.proofs.Places.{place, place-inside, remove-place}
+use Rattle.peer_book.proofs.Places.{place-inside, remove-place}
 use Rattle.peer_book.proofs.kept.Kept.take_out.Goals as goal
 
 pub remove-requires-clause-rising : goal.remove-requires-clause-rising
@@ -18,43 +18,41 @@ remove-requires-clause-rising c =
 
 pub remove-requires-clause-there : goal.remove-requires-clause-there
 remove-requires-clause-there c =
-    ap (has_address c.args.addr) (c.requires.kept.listed c.args.peer.temp)
-    ∙ listed-has c.args.addr c.args.peer c.args.self.now.peers.items c.requires.there
+    ap (has_address c.args.peer.addr) (c.requires.kept.listed c.args.peer.temp)
+    ∙ listed-has c.args.peer.addr c.args.peer c.args.self.now.peers.items c.requires.stands.there
 
 pub leave-requires : goal.leave-requires
 leave-requires c =
     let peers : List Peer = c.args.self.now.peers.items in (
-      tally_of (without_peer c.args.addr peers),
-      c.requires.kept.counted ∙ tally-without c.args.addr c.args.peer peers c.requires.kept.ordered c.requires.there,
+      tally_of (without_peer c.args.peer.addr peers),
+      c.requires.kept.counted ∙ tally-without c.args.peer.addr c.args.peer peers c.requires.kept.ordered c.requires.stands.there,
     )
 
 pub remove-requires-2 : goal.remove-requires-2
 remove-requires-2 c =
     let peers : List Peer = c.args.self.now.peers.items in
-    let at = c.place_of_peer-place.ensures ∙ ap (place address_of c.args.addr) c.deref.ensures.value in
-    omega (arith, at, place-inside address_of c.args.addr peers c.requires.kept.ordered (ap is_some c.requires.there), ap length c.deref.ensures.value, c.deref.ensures.len)
+    omega (arith, c.requires.stands.behind, place-inside address_of c.args.peer.addr peers c.requires.kept.ordered (ap is_some c.requires.stands.there))
 
 pub returns-clause-peers : goal.returns-clause-peers
 returns-clause-peers c =
     let peers : List Peer = c.args.self.now.peers.items in
-    let at = c.place_of_peer-place.ensures ∙ ap (place address_of c.args.addr) c.deref.ensures.value in
     c.remove-2.ensures.items
-    ∙ (ap (remove peers) at ∙ remove-place address_of c.args.addr peers c.requires.kept.ordered (ap is_some c.requires.there))
+    ∙ (ap (remove peers) c.requires.stands.behind ∙ remove-place address_of c.args.peer.addr peers c.requires.kept.ordered (ap is_some c.requires.stands.there))
 
 pub returns-clause-kept : goal.returns-clause-kept
 returns-clause-kept c =
     let peer : Peer = c.args.peer in
     let peers : List Peer = c.args.self.now.peers.items in
     let kept = c.requires.kept in
-    let left : c.remove-2.new.self.items ≡ without_peer c.args.addr peers = returns-clause-peers c in
-    let fewer = length-taken_out address_of c.args.addr peer peers kept.ordered c.requires.there in
+    let left : c.remove-2.new.self.items ≡ without_peer c.args.peer.addr peers = returns-clause-peers c in
+    let fewer = length-taken_out address_of c.args.peer.addr peer peers kept.ordered c.requires.stands.there in
     record {
       ordered = subst InOrder (sym left) (IsRising-filter address_of _ peers kept.ordered);
       limited = omega (arith, ap length left, fewer, kept.limited);
       listed = λ t. c.remove.ensures.lists t
-          ∙ (ap (λ l. cond (same_temp peer.temp t) (without_address c.args.addr l) l) (kept.listed t)
-          ∙ (sym (listed-without t c.args.addr peer peers kept.ordered c.requires.there) ∙ ap (listed_at t) (sym left)));
+          ∙ (ap (λ l. cond (same_temp peer.temp t) (without_address c.args.peer.addr l) l) (kept.listed t)
+          ∙ (sym (listed-without t c.args.peer.addr peer peers kept.ordered c.requires.stands.there) ∙ ap (listed_at t) (sym left)));
       roomy = λ t. omega (arith, ap length left, fewer, kept.roomy t, c.remove.ensures.kept t);
       counted = tallied-same peer _ _ (sym c.leave.ensures ∙ (kept.counted
-          ∙ (tally-without c.args.addr peer peers kept.ordered c.requires.there ∙ ap (λ l. tallied peer (tally_of l)) (sym left))));
+          ∙ (tally-without c.args.peer.addr peer peers kept.ordered c.requires.stands.there ∙ ap (λ l. tallied peer (tally_of l)) (sym left))));
     }
