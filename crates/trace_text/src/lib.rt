@@ -2,8 +2,10 @@
 #![tactic(auto)]
 
 mod address;
+mod event;
 mod law;
 mod line;
+mod piece;
 mod pieces;
 mod print;
 mod read;
