@@ -1,5 +1,6 @@
 pub mod ActionLaws
 pub mod AddressLaws
+pub mod Apart
 pub mod Binds
 pub mod Cutting
 pub mod Digits

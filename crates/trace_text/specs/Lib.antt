@@ -1,5 +1,6 @@
 pub mod Actions
 pub mod Addresses
+pub mod EventTexts
 pub mod Events
 pub mod Lines
 pub mod Reading
