@@ -4,13 +4,17 @@ pub mod Apart
 pub mod Binds
 pub mod Cutting
 pub mod Digits
+pub mod GroupLaws
 pub mod GroupLists
 pub mod Groups
+pub mod HexPieces
 pub mod Ips
 pub mod Lists
 pub mod Numerals
 pub mod Octets
 pub mod Printed
+pub mod ReadEvents
 pub mod Reading
 pub mod SettingLaws
+pub mod Spelled
 pub mod Spelling
