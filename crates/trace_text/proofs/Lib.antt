@@ -12,6 +12,7 @@ pub mod Ips
 pub mod Lists
 pub mod Numerals
 pub mod Octets
+pub mod PrintedEvents
 pub mod Printed
 pub mod ReadEvents
 pub mod Reading
