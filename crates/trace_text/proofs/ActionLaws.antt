@@ -5,7 +5,7 @@ use Rattle.std.specs.List.{AllByRecursion, list_all, join_with_byte}
 use Rattle.std.specs.Fmt.{digits}
 use Rattle.std.proofs.lemmas.Bool.{and_parts, eqb-false, not-true}
 use Rattle.std.proofs.lemmas.List.Elements.{All-contains, All-from_recursion}
-use Rattle.hex.specs.Hex.{encode_with, lower_digits}
+use Rattle.hex.specs.Hex.{encode_lower, lower_digits}
 use Rattle.net_base.specs.declared.address.Ip.{Ip}
 use Rattle.net_base.specs.declared.address.Ip.TheVariants.{V4, V6}
 use Rattle.net_base.specs.declared.address.Addr.{Addr}
@@ -21,47 +21,26 @@ use Rattle.net_base.specs.declared.action.PeerNote.{PeerNote}
 use Rattle.net_base.specs.declared.action.PeerNote.TheVariants as note
 use Rattle.net_base.specs.declared.action.StateName.{StateName}
 use Rattle.net_base.specs.declared.action.StateName.TheVariants as state
-use Rattle.trace_text.specs.Addresses.{low_digits, printed_octets, printed_groups, printed_at, printed_address}
+use Rattle.trace_text.specs.Addresses.{printed_address}
 use Rattle.trace_text.specs.Actions.{away_word, fault_words, cause_words, note_word, state_word, action_words, printed_action}
-use Rattle.trace_text.proofs.Printed.{digits_apart, all_append, all_join, all_map}
+use Rattle.trace_text.proofs.Apart.{IsApart, from_test as apart_from_test, number_apart, address_apart, hex_apart}
+use Rattle.trace_text.proofs.Printed.{all_join}
 
 -- no line feed
 abbrev OneLine : List ℕ → Type 0
-OneLine bytes = AllByRecursion (λ b. b ≢ 10) bytes
+OneLine = IsApart 10 (omega arith)
 
--- the test computes where the bytes are written out
 from_test : (bytes : List ℕ) → list_all (λ b. not (eqb b 10)) bytes ≡ true → OneLine bytes
-from_test [] h = tt
-from_test (b ∷ bytes) h =
-    let (first, others) = and_parts (not (eqb b 10)) (list_all (λ b. not (eqb b 10)) bytes) h in
-    (eqb-false b 10 (not-true (eqb b 10) first), from_test bytes others)
+from_test = apart_from_test 10 (omega arith)
 
-number_line : (base n : ℕ) → OneLine (digits base false n)
-number_line base n = digits_apart 10 base n (omega arith)
-
-numbers_line : (c base : ℕ) → c ≢ 10 → (ns : List ℕ) → OneLine (join_with_byte c (map (digits base false) ns))
-numbers_line c base apart ns = all_join (λ b. b ≢ 10) c apart (map (digits base false) ns) (all_map OneLine (digits base false) (number_line base) ns)
-
-at_line : (ip : Ip) (port : ℕ) → OneLine (printed_at ip port)
-at_line (V4 ip) port = all_append (λ b. b ≢ 10) (printed_octets ip) (58 ∷ decimal port) (numbers_line 46 10 (λ e. omega arith) (low_digits 256 4 ip)) (λ e. omega arith, number_line 10 port)
-at_line (V6 ip) port = (
-  λ e. omega arith,
-  all_append (λ b. b ≢ 10) (printed_groups ip) (93 ∷ 58 ∷ decimal port) (numbers_line 58 16 (λ e. omega arith) (low_digits 65536 8 ip)) (λ e. omega arith, (λ e. omega arith, number_line 10 port)),
-)
+number_line : (n : ℕ) → OneLine (decimal n)
+number_line = number_apart 10 (omega arith) 10
 
 address_line : (address : Addr) → OneLine (printed_address address)
-address_line address = at_line address.ip address.port
+address_line = address_apart 10 (omega arith)
 
--- a digit of a table, or 0 behind its end
-table_line : (table : List ℕ) (i : ℕ) → OneLine table → get_or table i 0 ≢ 10
-table_line [] i h = λ e. omega arith
-table_line (b ∷ table) zero h = h.0
-table_line (b ∷ table) (suc i) h = table_line table i h.1
-
-hex_line : (table bytes : List ℕ) → OneLine table → OneLine (encode_with table bytes)
-unfolding encode_with
-hex_line table [] h = tt
-hex_line table (b ∷ bytes) h = (table_line table (b / 16) h, (table_line table (b % 16) h, hex_line table bytes h))
+hex_line : (bytes : List ℕ) → OneLine (encode_lower bytes)
+hex_line bytes = hex_apart 10 (omega arith) lower_digits bytes (λ e. omega arith) (from_test lower_digits refl)
 
 away_line : (why : Away) → OneLine (away_word why)
 away_line away.Full = from_test (codes "full") refl
@@ -108,14 +87,14 @@ state_line state.Terminating = from_test (codes "Terminating") refl
 state_line state.Terminated = from_test (codes "Terminated") refl
 
 words_line : (action : Action) → AllByRecursion OneLine (action_words action)
-words_line (actions.Admit cid address) = (from_test (codes "admit") refl, (number_line 10 cid.0, (address_line address, tt)))
+words_line (actions.Admit cid address) = (from_test (codes "admit") refl, (number_line cid.0, (address_line address, tt)))
 words_line (actions.Turnaway why) = (from_test (codes "turnaway") refl, (away_line why, tt))
-words_line (actions.Dial cid address) = (from_test (codes "dial") refl, (number_line 10 cid.0, (address_line address, tt)))
-words_line (actions.Send cid bytes) = (from_test (codes "send") refl, (number_line 10 cid.0, (hex_line lower_digits bytes (from_test lower_digits refl), tt)))
-words_line (actions.Close cid why) = (from_test (codes "close") refl, (number_line 10 cid.0, (cause_line why, tt)))
-words_line (actions.Pause time) = (from_test (codes "pause") refl, (number_line 10 time, tt))
-words_line (actions.AskRoots job) = (from_test (codes "askroots") refl, (number_line 10 job.0, tt))
-words_line (actions.State cid name) = (from_test (codes "state") refl, (number_line 10 cid.0, (state_line name, tt)))
+words_line (actions.Dial cid address) = (from_test (codes "dial") refl, (number_line cid.0, (address_line address, tt)))
+words_line (actions.Send cid bytes) = (from_test (codes "send") refl, (number_line cid.0, (hex_line bytes, tt)))
+words_line (actions.Close cid why) = (from_test (codes "close") refl, (number_line cid.0, (cause_line why, tt)))
+words_line (actions.Pause time) = (from_test (codes "pause") refl, (number_line time, tt))
+words_line (actions.AskRoots job) = (from_test (codes "askroots") refl, (number_line job.0, tt))
+words_line (actions.State cid name) = (from_test (codes "state") refl, (number_line cid.0, (state_line name, tt)))
 words_line (actions.Peer address what) = (from_test (codes "peer") refl, (address_line address, (note_line what, tt)))
 
 action_line : (action : Action) → OneLine (printed_action action)

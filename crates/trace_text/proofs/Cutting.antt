@@ -2,13 +2,13 @@
 use Rattle.std.proofs.Common.{◌≡◌, ℕ, ◌+◌, ◌<◌, ◌≤◌, false, eqb, List, [], ◌∷◌, ◌++◌, length, take, drop, Option, Some, None, refl, sym, ap, ◌∙◌, arith, inl, inr}
 use Rattle.std.specs.Prelude.{IsTrue, is_none}
 use Rattle.std.specs.Borrow.{Bor}
-use Rattle.std.specs.List.{All, position_or_len, before_first, after_first}
+use Rattle.std.specs.List.{All, AllByRecursion, join_with_byte, position_or_len, before_first, after_first}
 use Rattle.std.proofs.lemmas.Bool.{false≢true, cases_lt, lt-ltb, le-ltb, eqb-true, eq-eqb}
 use Rattle.std.proofs.lemmas.Option.{some_pair_parts}
 use Rattle.std.proofs.lemmas.List.Elements.{All-from_get_or, All-get_or}
 use Rattle.std.proofs.lemmas.List.{length-append, get_or_append_left, get_or_at, take_at, drop_at, drop-drop}
 use Rattle.std.proofs.lemmas.List.Sums.{split_at_first, passes_at_first, fails_before_first, position_or_len_is}
-use Rattle.std.proofs.lemmas.List.Splits.{slice_split_first, slice_split_none, length-slice_split}
+use Rattle.std.proofs.lemmas.List.Splits.{slice_split_first, slice_split_none, slice_split_at, length-slice_split}
 use Rattle.trace_text.specs.Words.{pieces_of, cut_at}
 use Rattle.trace_text.specs.Views.{pieces_left}
 
@@ -70,3 +70,11 @@ cut_at-append s a b apart =
     ∙ ap (λ (i : ℕ). Some (take i xs, drop (i + 1) xs)) at
     ∙ ap (λ (front : List ℕ). Some (front, drop (length a + 1) xs)) (take_at a (s ∷ b) (length a) refl)
     ∙ ap (λ (back : List ℕ). Some (a, back)) (drop_past s a b)
+
+-- what is joined by a separator that no piece holds is cut into the pieces
+pub pieces_of-join : (s : ℕ) (piece : List ℕ) (pieces : List (List ℕ)) → AllByRecursion (All (λ c. eqb c s ≡ false)) (piece ∷ pieces) →
+    pieces_of s (join_with_byte s (piece ∷ pieces)) ≡ piece ∷ pieces
+pieces_of-join s piece [] apart = slice_split_none (λ c. eqb c s) piece apart.0
+pieces_of-join s piece (next ∷ pieces) apart =
+    slice_split_at (λ c. eqb c s) piece s (join_with_byte s (next ∷ pieces)) apart.0 (eq-eqb s s refl)
+    ∙ ap (λ (words : List (List ℕ)). piece ∷ words) (pieces_of-join s next pieces apart.1)

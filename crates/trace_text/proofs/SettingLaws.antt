@@ -16,14 +16,14 @@ pass_more : (b : Bool) (field : Field) (tests : List (Field × Bool)) → cond b
 pass_more true field tests h rest = rest h
 pass_more false field tests h rest = absurd cc
 
-all_pass : (tests : List (Field × Bool)) → first_failing tests ≡ None → list_all (λ t. t.1) tests ≡ true
+pub all_pass : (tests : List (Field × Bool)) → first_failing tests ≡ None → list_all (λ t. t.1) tests ≡ true
 all_pass [] h = refl
 all_pass (t ∷ tests) h = pass_more t.1 t.0 tests h (all_pass tests)
 
-in_range : (least most n : ℕ) → (least ≤ n) × (n ≤ most) → within least most n ≡ true
+pub in_range : (least most n : ℕ) → (least ≤ n) × (n ≤ most) → within least most n ≡ true
 in_range least most n h = and_from (leb least n) (leb n most) (le-leb least n h.0) (le-leb n most h.1)
 
-range_of : (least most n : ℕ) → within least most n ≡ true → (least ≤ n) × (n ≤ most)
+pub range_of : (least most n : ℕ) → within least most n ≡ true → (least ≤ n) × (n ≤ most)
 range_of least most n h = let p = and_parts (leb least n) (leb n most) h in (leb-true least n p.0, leb-true n most p.1)
 
 pub check_passes : (s : Settings) → 1 ≤ s.version → s.version ≤ 2 → AreInRange (settings_under s.hard) (setting_values s) → AreSound s

@@ -1,15 +1,16 @@
 -- A number that is spelled by its digits, each between separators, has one spelling.
 use Rattle.std.proofs.Common.{◌≡◌, ℕ, suc, ◌/◌, ◌%◌, ◌^◌, ◌<◌, Bool, true, false, cond, eqb, List, [], ◌∷◌, length, map, Option, Some, None, refl, sym, ap, subst, ◌∙◌}
 use Rattle.std.specs.Option.{option_map}
-use Rattle.std.specs.List.{All, join_with_byte}
+use Rattle.std.specs.List.{All, AllByRecursion, join_with_byte}
 use Rattle.std.specs.Int.Digits.{number_from_digits, AllBelowBase}
 use Rattle.std.proofs.lemmas.Bool.{eqb-true, eq-eqb, cond-true}
 use Rattle.std.proofs.lemmas.Option.{same_Some}
 use Rattle.std.proofs.lemmas.Int.Digits.{number_lt}
-use Rattle.std.proofs.lemmas.List.Splits.{slice_split_none, slice_split_at, join_with_byte-slice_split}
+use Rattle.std.proofs.lemmas.List.Splits.{join_with_byte-slice_split}
 use Rattle.std.proofs.lemmas.List.{length-map}
 use Rattle.trace_text.specs.Words.{pieces_of}
 use Rattle.trace_text.specs.Addresses.{◌>>=◌, all_read, number_read, number_in_pieces, low_digits}
+use Rattle.trace_text.proofs.Cutting.{pieces_of-join}
 use Rattle.trace_text.proofs.Digits.{length-low_digits, below-low_digits, number-low_digits, low_digits-number}
 
 -- what is printed of each number below a base is read as that number, and nothing else is
@@ -60,11 +61,9 @@ module _ {A : Type 0} (base : ℕ) (read : A → Option ℕ) (print : ℕ → A)
       subst (AreRead (x ∷ xs)) (same_Some (p.0 ∷ q.0) ns q.2) (more_read x xs p.0 q.0 (inverse.only x p.0 p.1) (all_read_only xs q.0 q.1))
 
 module _ (separator base : ℕ) (read : List ℕ → Option ℕ) (print : ℕ → List ℕ) (spelling : IsSpelling separator base read print) where
-  pieces_of-join : (n : ℕ) (ns : List ℕ) → AllBelowBase base (n ∷ ns) → pieces_of separator (join_with_byte separator (map print (n ∷ ns))) ≡ map print (n ∷ ns)
-  pieces_of-join n [] h = slice_split_none (λ c. eqb c separator) (print n) (spelling.apart n h.0)
-  pieces_of-join n (m ∷ ns) h =
-      slice_split_at (λ c. eqb c separator) (print n) separator (join_with_byte separator (map print (m ∷ ns))) (spelling.apart n h.0) (eq-eqb separator separator refl)
-      ∙ ap (λ (words : List (List ℕ)). print n ∷ words) (pieces_of-join m ns h.1)
+  printed_apart : (ns : List ℕ) → AllBelowBase base ns → AllByRecursion (All (λ c. eqb c separator ≡ false)) (map print ns)
+  printed_apart [] h = tt
+  printed_apart (n ∷ ns) h = (spelling.apart n h.0, printed_apart ns h.1)
 
   -- the text that spells a number
   abbrev pub spelled : ℕ → ℕ → List ℕ
@@ -74,7 +73,7 @@ module _ (separator base : ℕ) (read : List ℕ → Option ℕ) (print : ℕ �
   reads_again count n some fits =
       let digits = low_digits base (suc count) n in
       let below = below-low_digits base (suc count) n some in
-      let pieces = pieces_of-join (n / base ^ count % base) (low_digits base count n) below in
+      let pieces = pieces_of-join separator (print (n / base ^ count % base)) (map print (low_digits base count n)) (printed_apart digits below) in
       let enough : length (map print digits) ≡ suc count = length-map digits print ∙ length-low_digits base (suc count) n in
       ap (number_in_pieces (suc count) base read) pieces
       ∙ cond-true (eqb (length (map print digits)) (suc count)) (number_read base read (map print digits)) None (eq-eqb _ _ enough)

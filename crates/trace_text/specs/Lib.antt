@@ -1,7 +1,10 @@
-pub mod Words
+pub mod Actions
 pub mod Addresses
+pub mod EventTexts
+pub mod Events
+pub mod Lines
+pub mod Reading
 pub mod Settings
 pub mod Stages
-pub mod Lines
-pub mod Actions
 pub mod Views
+pub mod Words

@@ -2,7 +2,10 @@ ghost use Rattle.std.specs.Prelude.{◌≡◌, ◌≤◌, ◌<◌, ◌^◌, ℕ,
 ghost use Rattle.net_base.specs.Number.{number_of};
 ghost use Rattle.net_base.specs.declared.address.Addr.{Addr};
 ghost use Rattle.net_base.specs.declared.action.Action.{Action};
-ghost use Rattle.trace_text.specs.declared.line.Line.TheVariants.{Acted};
+ghost use Rattle.net_base.specs.Limits.{IsWithinLimits};
+ghost use Rattle.net_base.specs.declared.event.Event.{Event};
+ghost use Rattle.trace_text.specs.declared.line.Line.TheVariants.{Happen, Acted};
+ghost use Rattle.trace_text.specs.EventTexts.{event_of, printed_event, IsEventIn};
 ghost use Rattle.trace_text.specs.declared.stage.Stage.{Stage};
 ghost use Rattle.trace_text.specs.Addresses.{IsAddress, address_of, knows_family, printed_address};
 ghost use Rattle.trace_text.specs.Actions.{printed_action};
@@ -26,6 +29,16 @@ pub fn addresses_are_spelled_once()
     ensures read { (version : ℕ) (address : Addr)
         → IsAddress address → IsTrue (knows_family version address.ip)
         → address_of version (printed_address address) ≡ Some address }
+{}
+
+/// A law: an event has one line in the traces of a version that can hold it, and the line is read as that event.
+pub fn events_are_spelled_once()
+    ensures printed { (version : ℕ) (line : List ℕ) (event : Event)
+        → event_of version line ≡ Ok (Happen event) → line ≡ printed_event event }
+    ensures within { (version : ℕ) (line : List ℕ) (event : Event)
+        → event_of version line ≡ Ok (Happen event) → IsWithinLimits event × IsEventIn version event }
+    ensures read { (version : ℕ) (event : Event)
+        → IsWithinLimits event → IsEventIn version event → event_of version (printed_event event) ≡ Ok (Happen event) }
 {}
 
 /// A law: a printed action is one line, and is read as an action line wherever one may stand.

@@ -2,8 +2,10 @@
 #![tactic(auto)]
 
 mod address;
+mod event;
 mod law;
 mod line;
+mod piece;
 mod pieces;
 mod print;
 mod read;
@@ -13,8 +15,8 @@ mod text;
 mod words;
 
 pub use law::{
-    actions_are_lines, addresses_are_spelled_once, numbers_are_spelled_once,
-    settings_are_those_of_the_check,
+    actions_are_lines, addresses_are_spelled_once, events_are_spelled_once,
+    numbers_are_spelled_once,    settings_are_those_of_the_check,
 };
 pub use line::{HeadLine, Line, LineRefusal};
 pub use print::print_action;

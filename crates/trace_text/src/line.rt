@@ -1,4 +1,7 @@
-use net_base::{Addr, Event};
+ghost use Rattle.std.specs.Prelude.{◌≡◌};
+ghost use Rattle.trace_text.specs.declared.line.LineRefusal.TheVariants.{OutOfMemory as NoMemory};
+
+use net_base::{Addr, Event, OutOfMemory};
 
 /// What a line of a trace says.
 #[derive(Debug, Drop)]
@@ -35,4 +38,12 @@ pub enum LineRefusal {
     /// An event that is not handled yet.
     NotBuilt,
     OutOfMemory,
+}
+
+impl From<OutOfMemory> for LineRefusal {
+    ghost from_gives = { λ _ refusal. refusal ≡ NoMemory };
+
+    fn from(_: OutOfMemory) -> Self {
+        LineRefusal::OutOfMemory
+    }
 }

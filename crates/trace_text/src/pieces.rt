@@ -1,5 +1,6 @@
 ghost use Rattle.std.specs.Prelude.{◌≡◌, ◌==◌, ◌<◌, ◌↔◌, [], ◌∷◌, position, length, IsTrue, IfSome, IfNone};
 ghost use Rattle.std.specs.Option.{option_map};
+ghost use Rattle.trace_text.specs.Views.{first_of};
 ghost use Rattle.trace_text.specs.Words.{pieces_of, cut_at};
 
 use std::marker::Model;
@@ -35,6 +36,17 @@ impl<'a> Pieces<'a> {
         ensures { IsTrue result ↔ (self.now ≡ []) }
     {
         self.rest.is_none()
+    }
+
+    /// The next piece, where one is left.
+    pub fn first(&self) -> Option<&'a [u8]>
+        ensures { option_map (λ piece. piece.now) result ≡ first_of self.now }
+    {
+        let bytes = self.rest?;
+        match cut_once(bytes, self.separator) {
+            None => Some(bytes),
+            Some((piece, _)) => Some(piece),
+        }
     }
 
     /// Takes the next piece, where one is left.

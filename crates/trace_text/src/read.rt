@@ -1,16 +1,13 @@
 ghost use Rattle.std.specs.Prelude.{◌≡◌, bytes_eq};
 ghost use Rattle.std.specs.List.{list_any};
 ghost use Rattle.trace_text.specs.Words.{words_of};
-ghost use Rattle.trace_text.specs.Lines.{first_line, second_line, set_line, setting_line, now_line, accepted_line, closed_line, end_line, later_line, line_of, is_unbuilt, IsReading};
+ghost use Rattle.trace_text.specs.Lines.{first_line, second_line, set_line, setting_line, end_line, later_line, line_of, is_unbuilt, IsReading};
 
+use crate::event::read_event;
 use crate::setting::Found;
 use crate::words::Words;
 use crate::{HeadLine, Line, LineRefusal, Stage};
-use net_base::{Cid, Event};
 use std::alloc::Global;
-
-// Moments and connection ids are at most so great.
-const ID_MOST: u64 = 281_474_976_710_656;
 
 // The events that are not handled yet.
 const UNBUILT: [&str; 6] = ["govern", "dialed", "bytes", "targets", "locals", "roots"];
@@ -22,14 +19,14 @@ const UNBUILT_BIG: [&str; 2] = ["bigtargets", "bigs"];
 ///
 /// The first word from the left that is wrong decides over the refusal. A missing word has the place after the
 /// last one.
-pub fn read_line(_alloc: Global, stage: &Stage, line: &[u8]) -> Result<Line, LineRefusal>
+pub fn read_line(alloc: Global, stage: &Stage, line: &[u8]) -> Result<Line, LineRefusal>
     ensures { IsReading result (line_of stage.now line.now) }
 {
     match stage.seen {
         0 => read_first(Words::of(line)),
         1 => read_second(stage.version, Words::of(line)),
         _ if line.starts_with(b"> ") => Ok(Line::Acted),
-        _ => read_later(stage, Words::of(line)),
+        _ => read_later(alloc, stage, Words::of(line)),
     }
 }
 
@@ -51,24 +48,18 @@ fn read_second(version: u64, mut words: Words) -> Result<Line, LineRefusal>
     Ok(Line::Head(HeadLine::Own(address)))
 }
 
-fn read_later(stage: &Stage, mut words: Words) -> Result<Line, LineRefusal>
-    ensures { result ≡ later_line stage.now words.entry }
+fn read_later(alloc: Global, stage: &Stage, mut words: Words) -> Result<Line, LineRefusal>
+    ensures { IsReading result (later_line stage.now words.entry) }
 {
     let word = words.word()?;
     if word == b"set".as_slice() {
         read_set(stage, words)
-    } else if word == b"now".as_slice() {
-        read_now(words)
-    } else if word == b"accepted".as_slice() {
-        read_accepted(stage.version, words)
-    } else if word == b"closed".as_slice() {
-        read_closed(words)
     } else if word == b"end".as_slice() {
         read_end(words)
     } else if is_unbuilt(stage.version, word) {
         Err(LineRefusal::NotBuilt)
     } else {
-        Err(LineRefusal::BadWord(1))
+        read_event(alloc, stage.version, word, words)
     }
 }
 
@@ -104,30 +95,6 @@ fn read_setting(found: Found, mut words: Words) -> Result<Line, LineRefusal>
     let value = words.number(found.row.least, found.row.most)?;
     words.end()?;
     Ok(Line::Head(HeadLine::Set(found.place, value)))
-}
-
-fn read_now(mut words: Words) -> Result<Line, LineRefusal>
-    ensures { result ≡ now_line words.entry }
-{
-    let moment = words.number(0, ID_MOST)?;
-    words.end()?;
-    Ok(Line::Happen(Event::Now(moment)))
-}
-
-fn read_accepted(version: u64, mut words: Words) -> Result<Line, LineRefusal>
-    ensures { result ≡ accepted_line version words.entry }
-{
-    let address = words.address(version)?;
-    words.end()?;
-    Ok(Line::Happen(Event::Accepted(address)))
-}
-
-fn read_closed(mut words: Words) -> Result<Line, LineRefusal>
-    ensures { result ≡ closed_line words.entry }
-{
-    let cid = Cid(words.number(0, ID_MOST)?);
-    words.end()?;
-    Ok(Line::Happen(Event::Closed(cid)))
 }
 
 fn read_end(words: Words) -> Result<Line, LineRefusal>

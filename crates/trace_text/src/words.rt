@@ -1,16 +1,23 @@
 ghost use Rattle.std.specs.Prelude.{◌≡◌};
 ghost use Rattle.trace_text.specs.Words.{words_of};
 ghost use Rattle.trace_text.specs.declared.line.LineRefusal.TheVariants.{BadWord};
-ghost use Rattle.trace_text.specs.Lines.{next_word, next_number, next_address, next_read, this_word, version_of, no_more};
+ghost use Rattle.trace_text.specs.Events.{next_addresses, next_group, all_groups, outcome_of, sign_of, piece_of, stops};
+ghost use Rattle.trace_text.specs.Lines.{version_of, IsReading};
+ghost use Rattle.trace_text.specs.Reading.{next_word, next_number, next_address, next_read, this_word, no_more};
 ghost use Rattle.trace_text.specs.Settings.{setting_of};
-ghost use Rattle.trace_text.specs.Views.{Gives, found_view};
+ghost use Rattle.trace_text.specs.Views.{Gives, GivesIfRoom, found_view};
 
 use crate::LineRefusal;
 use crate::address::read_address;
 use crate::pieces::Pieces;
+use crate::piece::read_piece;
 use crate::setting::{Found, setting_named};
-use net_base::{Addr, read_number};
+use net_base::{Addr, AddrList, Group, GroupList, Octets, OutOfMemory, read_number};
+use std::alloc::Global;
 use std::marker::Model;
+
+// The greatest valency.
+const VALENCY_MOST: u64 = 10_000;
 
 /// The words of a line that are not read yet.
 #[derive(Drop)]
@@ -96,6 +103,92 @@ impl<'a> Words<'a> {
             b"1" => Ok(1),
             b"2" => Ok(2),
             _ => Err(LineRefusal::BadWord(place)),
+        }
+    }
+
+    /// Whether something is so: `ok`, or `failed`.
+    pub fn outcome(&mut self) -> Result<bool, LineRefusal>
+        ensures { Gives (λ opened. opened) result self.new (next_read outcome_of BadWord self.old) }
+    {
+        let place = self.place;
+        match self.word()? {
+            b"ok" => Ok(true),
+            b"failed" => Ok(false),
+            _ => Err(LineRefusal::BadWord(place)),
+        }
+    }
+
+    /// Whether a group is told to others: `+`, or `-`.
+    fn sign(&mut self) -> Result<bool, LineRefusal>
+        ensures { Gives (λ advertise. advertise) result self.new (next_read sign_of BadWord self.old) }
+    {
+        let place = self.place;
+        match self.word()? {
+            b"+" => Ok(true),
+            b"-" => Ok(false),
+            _ => Err(LineRefusal::BadWord(place)),
+        }
+    }
+
+    /// The bytes of one read of a socket.
+    pub fn piece(&mut self, alloc: Global) -> Result<Octets, LineRefusal>
+        ensures { GivesIfRoom (λ bytes. bytes) result self.new (next_read piece_of BadWord self.old) }
+    {
+        let place = self.place;
+        let word = self.word()?;
+        match read_piece(alloc, word) {
+            Ok(Some(bytes)) => Ok(bytes),
+            Ok(None) => Err(LineRefusal::BadWord(place)),
+            Err(OutOfMemory) => Err(LineRefusal::OutOfMemory),
+        }
+    }
+
+    /// Addresses up to the end, or to a slash.
+    pub fn addresses(&mut self, alloc: Global, version: u64) -> Result<AddrList, LineRefusal>
+        ensures { GivesIfRoom (λ addresses. addresses) result self.new (next_addresses version self.old) }
+    {
+        let mut addresses = AddrList::new(alloc);
+        while !self.is_at_break() {
+            addresses.push(self.address(version)?)?;
+        }
+        Ok(addresses)
+    }
+
+    /// A group, from its slash on.
+    fn group(&mut self, alloc: Global, version: u64) -> Result<Group, LineRefusal>
+        ensures { GivesIfRoom (λ group. group) result self.new (next_group version self.old) }
+    {
+        self.this("/")?;
+        let hot = self.number(0, VALENCY_MOST)?;
+        let warm = self.number(0, VALENCY_MOST)?;
+        let advertise = self.sign()?;
+        let members = self.addresses(alloc, version)?;
+        Ok(Group {
+            hot,
+            warm,
+            advertise,
+            members,
+        })
+    }
+
+    /// Groups up to the end.
+    pub fn groups(&mut self, alloc: Global, version: u64) -> Result<GroupList, LineRefusal>
+        ensures { IsReading result (all_groups version self.old) }
+    {
+        let mut groups = GroupList::new(alloc);
+        while !self.pieces.is_empty() {
+            groups.push(self.group(alloc, version)?)?;
+        }
+        Ok(groups)
+    }
+
+    // The end, or a slash.
+    fn is_at_break(&self) -> bool
+        ensures { result ≡ stops self.now.words }
+    {
+        match self.pieces.first() {
+            None => true,
+            Some(word) => word == b"/".as_slice(),
         }
     }
 
