@@ -23,7 +23,7 @@ use Rattle.machine.specs.Machine.{Machine, Entry, entry_at}
 use Rattle.machine.specs.Peers.{peer_is_ordinary}
 use Rattle.machine.specs.Provided.{comes_ordinary, comes_big, roots_say}
 use Rattle.machine.specs.Stream.{handles, fed_with, feeds, comes_in}
-use Rattle.machine.specs.Whole.{whole_step}
+use Rattle.machine.specs.Step.{step}
 use Rattle.laws.specs.Acts.{Act, fires_one, carries, connects, ends_dial, stores, handles_item, ends_stream, is_closed, sets_targets, sets_big_targets, makes_ordinary, provides, provides_big, does, fired_from, fired, orders_of, acts_at_moment, acts_fed, acts_of_bytes, acts_of_groups, acts_of_answer, acts}
 use Rattle.laws.specs.AtMoves.{fed_on}
 
@@ -179,7 +179,7 @@ roots-chain false answer m = no_act m
 
 -- ---- each event
 
-pub parts-chain : (m : Machine) (event : Event) → whole_step m event ≡ for_each does (acts m event) m
+pub parts-chain : (m : Machine) (event : Event) → step m event ≡ for_each does (acts m event) m
 parts-chain m (Now t) = clock-chain t m
 parts-chain m (Govern word) = govern-chain word m
 parts-chain m (Accepted addr) = alone (connects addr) m

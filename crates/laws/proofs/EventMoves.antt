@@ -32,7 +32,7 @@ use Rattle.machine.specs.Connections.{with_entry, without_entry, entry_goes, ent
 use Rattle.machine.specs.Deadlines.{deadlines, fire_all}
 use Rattle.machine.specs.Events.{clock_shows, turned_away, pause_notice, admitted, crossed, accepted_beside, peer_connects, closes, peer_closes, dialed, dial_ends}
 use Rattle.machine.specs.Provided.{comes_ordinary, locals_are, is_wanted_big, comes_big, bigs_are, roots_say, roots_answer}
-use Rattle.machine.specs.Whole.{whole_step}
+use Rattle.machine.specs.Step.{step}
 use Rattle.laws.specs.AtMoves.{IsLawful, is_negotiated_entry, is_negotiated_at, is_ended_in, MovesAreLawful, is_up_connection, is_known, is_shared_in, is_provided_by}
 use Rattle.laws.specs.Parts.{IsAccounted}
 use Rattle.laws.specs.Sound.{IsOrderly}
@@ -362,41 +362,41 @@ closes-accounted cid m h =
 
 -- each move is lawful, and the event accounts for what it does
 pub record IsKnown (m : Machine) (event : Event) : Type 0 where
-  pub lawful : AllByRecursion IsLawful (whole_step m event).moves
-  pub accounted : IsAccounted event m (whole_step m event)
+  pub lawful : AllByRecursion IsLawful (step m event).moves
+  pub accounted : IsAccounted event m (step m event)
 
-obeys-known : (m : Machine) (event : Event) → Obeys IsLawful m (whole_step m event) → IsKnown m event
-obeys-known m event h = record { lawful = h.lawful; accounted = accounted-part event m (whole_step m event) h.accounted }
+obeys-known : (m : Machine) (event : Event) → Obeys IsLawful m (step m event) → IsKnown m event
+obeys-known m event h = record { lawful = h.lawful; accounted = accounted-part event m (step m event) h.accounted }
 
-quiet-known : (m : Machine) (event : Event) → IsQuiet m (whole_step m event) → IsKnown m event
-quiet-known m event q = obeys-known m event (quiet-obeys IsLawful m (whole_step m event) q)
+quiet-known : (m : Machine) (event : Event) → IsQuiet m (step m event) → IsKnown m event
+quiet-known m event q = obeys-known m event (quiet-obeys IsLawful m (step m event) q)
 
-providing-known : (m : Machine) (event : Event) → IsProviding m (whole_step m event) →
-    ((addr : Addr) → is_known addr (whole_step m event).machine ≡ true → (is_known addr m || is_provided_by addr event) ≡ true) → IsKnown m event
+providing-known : (m : Machine) (event : Event) → IsProviding m (step m event) →
+    ((addr : Addr) → is_known addr (step m event).machine ≡ true → (is_known addr m || is_provided_by addr event) ≡ true) → IsKnown m event
 providing-known m event p named = record {
-  lawful = quiet-lawful IsLawful (whole_step m event) p.moves;
-  accounted = providing-part event m (whole_step m event) p named;
+  lawful = quiet-lawful IsLawful (step m event) p.moves;
+  accounted = providing-part event m (step m event) p named;
 }
 
-pub whole_step-known : (m : Machine) (event : Event) → IsSteady m → IsKnown m event
-whole_step-known m (Now t) h = obeys-known m (Now t) (clock-obeys t m (ordered_of m h))
-whole_step-known m (Govern word) h =
+pub step-known : (m : Machine) (event : Event) → IsSteady m → IsKnown m event
+step-known m (Now t) h = obeys-known m (Now t) (clock-obeys t m (ordered_of m h))
+step-known m (Govern word) h =
     let t = govern-trimmed word m (ordered_of m h) h.sound.counted in
     obeys-known m (Govern word) (record { lawful = t.lawful h.tied; accounted = t.accounted })
-whole_step-known m (Accepted addr) h = obeys-known m (Accepted addr) (connects-obeys addr m (ordered_of m h))
-whole_step-known m (Dialed cid opened) h = obeys-known m (Dialed cid opened) (dial_ends-obeys cid opened m (ordered_of m h))
-whole_step-known m (Bytes cid bytes) h =
+step-known m (Accepted addr) h = obeys-known m (Accepted addr) (connects-obeys addr m (ordered_of m h))
+step-known m (Dialed cid opened) h = obeys-known m (Dialed cid opened) (dial_ends-obeys cid opened m (ordered_of m h))
+step-known m (Bytes cid bytes) h =
     let t = bytes_come_in-trimmed cid bytes m (ordered_of m h) h.sound.counted in
     obeys-known m (Bytes cid bytes) (record { lawful = t.lawful h.tied; accounted = t.accounted })
-whole_step-known m (Closed cid) h = record {
+step-known m (Closed cid) h = record {
   lawful = closes-lawful IsLawful cid m;
   accounted = closes-accounted cid m (ordered_of m h);
 }
-whole_step-known m (Aims targets) h = quiet-known m (Aims targets) (elsewhere-quiet m (whole_step m (Aims targets)) refl refl refl refl refl)
-whole_step-known m (Locals groups) h = providing-known m (Locals groups) (locals-providing groups m) (locals-known groups m)
-whole_step-known m (Roots job answer) h = providing-known m (Roots job answer) (roots-providing job answer m) (roots-known job answer m)
-whole_step-known m (BigAims targets) h = quiet-known m (BigAims targets) (elsewhere-quiet m (whole_step m (BigAims targets)) refl refl refl refl refl)
-whole_step-known m (Bigs addrs) h = obeys-known m (Bigs addrs) (bigs-obeys addrs m)
+step-known m (Aims targets) h = quiet-known m (Aims targets) (elsewhere-quiet m (step m (Aims targets)) refl refl refl refl refl)
+step-known m (Locals groups) h = providing-known m (Locals groups) (locals-providing groups m) (locals-known groups m)
+step-known m (Roots job answer) h = providing-known m (Roots job answer) (roots-providing job answer m) (roots-known job answer m)
+step-known m (BigAims targets) h = quiet-known m (BigAims targets) (elsewhere-quiet m (step m (BigAims targets)) refl refl refl refl refl)
+step-known m (Bigs addrs) h = obeys-known m (Bigs addrs) (bigs-obeys addrs m)
 
 pub moves-lawful : (m : Machine) (event : Event) → IsSteady m → MovesAreLawful m event
-moves-lawful m event h = all-placed IsLawful (whole_step m event).moves (whole_step-known m event h).lawful
+moves-lawful m event h = all-placed IsLawful (step m event).moves (step-known m event h).lawful

@@ -16,7 +16,7 @@ use Rattle.machine.specs.Machine.{Machine, Entry, fresh_entry, counted_in, entry
 use Rattle.machine.specs.Effect.{nothing_more, then_do, on_entry}
 use Rattle.machine.specs.Connections.{without_entry, ending, vanishes}
 use Rattle.machine.specs.Deadlines.{deadlines, fire_all}
-use Rattle.machine.specs.Events.{clock_shows, turned_away, admitted, crossed, accepted_beside, peer_connects, closes, peer_closes, step}
+use Rattle.machine.specs.Events.{clock_shows, turned_away, admitted, crossed, accepted_beside, peer_connects, closes, peer_closes}
 use Rattle.laws.specs.Laws.{DifferInAddress, WithinHardLimit, DeadlinesAhead}
 use Rattle.laws.specs.Sound.{IsOrderly, IsSound}
 use Rattle.laws.proofs.Addresses.{same_address-self, same_address-true}
@@ -213,23 +213,3 @@ peer_closes-sound cid m h = by_entry (entry_at cid.0 m) refl
         find_some (λ x. has_id cid.0 x.facts) m.connections entry e in
         cond_both (is_live entry.facts) (vanishes entry m) (nothing_more m) (λ effect. StaysSound m effect.machine)
         (λ live. vanishes-sound m entry found.place h found.stands) (λ closed. stays_same m h)
-
--- each event
-pub step-stays_sound : (m : Machine) (event : Event) → IsSound m → StaysSound m (step m event).machine
-step-stays_sound m (Now t) h = clock_shows-sound t m h
-step-stays_sound m (Govern word) h = stays_same m h
-step-stays_sound m (Accepted addr) h = peer_connects-sound addr m h
-step-stays_sound m (Dialed cid open_now) h = stays_same m h
-step-stays_sound m (Bytes cid bytes) h = stays_same m h
-step-stays_sound m (Closed cid) h = peer_closes-sound cid m h
-step-stays_sound m (Aims targets) h = stays_same m h
-step-stays_sound m (Locals groups) h = stays_same m h
-step-stays_sound m (Roots job answer) h = stays_same m h
-step-stays_sound m (BigAims targets) h = stays_same m h
-step-stays_sound m (Bigs addresses) h = stays_same m h
-
-pub step-sound : (m : Machine) (event : Event) → IsSound m → IsSound (step m event).machine
-step-sound m event h = (step-stays_sound m event h).sound
-
-pub step-settings : (m : Machine) (event : Event) → IsSound m → (step m event).machine.settings ≡ m.settings
-step-settings m event h = (step-stays_sound m event h).settings

@@ -72,7 +72,7 @@ use Rattle.machine.specs.Provided.{comes_ordinary, locals_are, is_wanted_big, co
 use Rattle.machine.specs.Replies.{owing, paid, reply_on}
 use Rattle.machine.specs.Stream.{handled_in, handled, handles, kind_of, faulted, fed_with, feeds, comes_in, bytes_come_in}
 use Rattle.machine.specs.Talking.{stops_if, serves, begins, takes_requests, asked_as, shares_address, taken_of, takes_addresses, pays, brings, answered_as, talks}
-use Rattle.machine.specs.Whole.{whole_step}
+use Rattle.machine.specs.Step.{step}
 use Rattle.laws.specs.Whole.{IsSteady, ArePeersApart, AreApart}
 use Rattle.laws.proofs.Chosen.{chosen, chosen-apart, chosen-all, PicksMembers, picks-listed, groups_picks-apart, groups_picks-all, map-groups}
 use Rattle.laws.proofs.Handshakes.{answer-machine}
@@ -788,15 +788,15 @@ govern-ids word m peers members =
 none-few : (m n : Machine) → GivesNone m n → n.next_id ≤ m.next_id + 20000
 none-few m n h = omega (arith, h)
 
-pub whole_step-ids : (m : Machine) (event : Event) → IsSteady m → (whole_step m event).machine.next_id ≤ m.next_id + 20000
-whole_step-ids m (Now t) h = none-few m (clock_shows t m).machine (clock_shows-none t m)
-whole_step-ids m (Govern word) h = omega (arith, govern-ids word m h.formed.peers h.formed.groups, h.formed.room)
-whole_step-ids m (Accepted addr) h = omega (arith, peer_connects-one addr m)
-whole_step-ids m (Dialed cid opened) h = none-few m (dial_ends cid opened m).machine (on_entry-none (dialed opened) (dialed-none opened) (entry_at cid.0 m) m)
-whole_step-ids m (Bytes cid bytes) h = none-few m (bytes_come_in cid bytes m).machine (on_entry-none (comes_in bytes) (comes_in-none bytes) (entry_at cid.0 m) m)
-whole_step-ids m (Closed cid) h = none-few m (peer_closes cid m).machine (on_entry-none closes closes-none (entry_at cid.0 m) m)
-whole_step-ids m (Aims targets) h = omega arith
-whole_step-ids m (Locals groups) h = none-few m (locals_are groups m).machine (locals_are-none groups m)
-whole_step-ids m (Roots job answer) h = none-few m (roots_answer job answer m).machine (roots_answer-none job answer m)
-whole_step-ids m (BigAims targets) h = omega arith
-whole_step-ids m (Bigs addrs) h = none-few m (bigs_are addrs m).machine (for_each-none comes_big comes_big-none addrs m)
+pub step-ids : (m : Machine) (event : Event) → IsSteady m → (step m event).machine.next_id ≤ m.next_id + 20000
+step-ids m (Now t) h = none-few m (clock_shows t m).machine (clock_shows-none t m)
+step-ids m (Govern word) h = omega (arith, govern-ids word m h.formed.peers h.formed.groups, h.formed.room)
+step-ids m (Accepted addr) h = omega (arith, peer_connects-one addr m)
+step-ids m (Dialed cid opened) h = none-few m (dial_ends cid opened m).machine (on_entry-none (dialed opened) (dialed-none opened) (entry_at cid.0 m) m)
+step-ids m (Bytes cid bytes) h = none-few m (bytes_come_in cid bytes m).machine (on_entry-none (comes_in bytes) (comes_in-none bytes) (entry_at cid.0 m) m)
+step-ids m (Closed cid) h = none-few m (peer_closes cid m).machine (on_entry-none closes closes-none (entry_at cid.0 m) m)
+step-ids m (Aims targets) h = omega arith
+step-ids m (Locals groups) h = none-few m (locals_are groups m).machine (locals_are-none groups m)
+step-ids m (Roots job answer) h = none-few m (roots_answer job answer m).machine (roots_answer-none job answer m)
+step-ids m (BigAims targets) h = omega arith
+step-ids m (Bigs addrs) h = none-few m (bigs_are addrs m).machine (for_each-none comes_big comes_big-none addrs m)

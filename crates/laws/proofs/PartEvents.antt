@@ -31,7 +31,7 @@ use Rattle.laws.specs.Parts.{IsAccounted, IsLawfulEvent}
 use Rattle.laws.specs.Whole.{IsSteady}
 use Rattle.laws.proofs.Addresses.{same_address-self, same_address-true}
 use Rattle.laws.proofs.Chain.{orders-chain, parts-chain}
-use Rattle.laws.proofs.EventMoves.{connects-obeys, dial_ends-obeys, comes_big-allowed, closes-accounted, whole_step-known, moves-lawful}
+use Rattle.laws.proofs.EventMoves.{connects-obeys, dial_ends-obeys, comes_big-allowed, closes-accounted, step-known, moves-lawful}
 use Rattle.laws.proofs.Clock.{fires-obeys}
 use Rattle.laws.proofs.Events.{at_moment-orderly}
 use Rattle.laws.proofs.Least.{least-due}
@@ -252,6 +252,6 @@ pub event-lawful : (m : Machine) (event : Event) → IsSteady m → IsLawfulEven
 event-lawful m event h = record {
   parts = parts-chain m event;
   each = all_parts event (acts m event) m (parts-lawful m event h);
-  accounted = (whole_step-known m event h).accounted;
+  accounted = (step-known m event h).accounted;
   moves = moves-lawful m event h;
 }

@@ -1,14 +1,13 @@
--- What is sound in every record that a run reaches.
+-- How a run begins, and how it goes on.
 use Rattle.std.proofs.Common.{◌<◌, ◌≡◌, List, [], ◌∷◌, ◌++◌, refl, ◌∙◌, arith}
 use Rattle.std.proofs.lemmas.List.Elements.{All-nil}
 use Rattle.net_base.specs.Bounds.{AreSound}
 use Rattle.net_base.specs.declared.event.Event.{Event}
 use Rattle.net_base.specs.declared.settings.Settings.{Settings}
-use Rattle.machine.specs.Events.{step}
+use Rattle.machine.specs.Step.{step}
 use Rattle.machine.specs.Machine.{Machine, start_of}
 use Rattle.machine.specs.Run.{after_all}
 use Rattle.laws.specs.Sound.{HasGivenId, IsSound}
-use Rattle.laws.proofs.Events.{step-sound, step-settings}
 
 pub start-sound : (settings : Settings) → AreSound settings → IsSound (start_of settings)
 start-sound settings h = record {
@@ -34,24 +33,3 @@ pub after_all-push : (m : Machine) (events : List Event) (event : Event) →
     after_all m (events ++ event ∷ []) ≡ (step (after_all m events) event).machine
 unfolding after_all
 after_all-push m events event = after_all-append m events (event ∷ [])
-
-pub run-sound : (m : Machine) (events : List Event) → IsSound m → IsSound (after_all m events)
-unfolding after_all
-run-sound m [] h = h
-run-sound m (event ∷ events) h = run-sound (step m event).machine events (step-sound m event h)
-
--- Sound is every record that a run from the start reaches.
-pub after_all-sound : (settings : Settings) (events : List Event) → AreSound settings →
-    IsSound (after_all (start_of settings) events)
-after_all-sound settings events h = run-sound (start_of settings) events (start-sound settings h)
-
--- a run keeps its settings
-pub run-settings : (m : Machine) (events : List Event) → IsSound m → (after_all m events).settings ≡ m.settings
-unfolding after_all
-run-settings m [] h = refl
-run-settings m (event ∷ events) h =
-    run-settings (step m event).machine events (step-sound m event h) ∙ step-settings m event h
-
-pub after_all-settings : (settings : Settings) (events : List Event) → AreSound settings →
-    (after_all (start_of settings) events).settings ≡ settings
-after_all-settings settings events h = run-settings (start_of settings) events (start-sound settings h)

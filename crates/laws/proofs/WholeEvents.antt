@@ -32,7 +32,7 @@ use Rattle.machine.specs.Events.{clock_shows, turned_away, admitted, crossed, ac
 use Rattle.machine.specs.Govern.{govern}
 use Rattle.machine.specs.Provided.{targets_are, big_targets_are, comes_ordinary, locals_are, is_wanted_big, comes_big, bigs_are, roots_say, roots_answer}
 use Rattle.machine.specs.Stream.{bytes_come_in}
-use Rattle.machine.specs.Whole.{whole_step}
+use Rattle.machine.specs.Step.{step}
 use Rattle.laws.specs.AtMoves.{IsLawful}
 use Rattle.laws.specs.Whole.{IsShaped, IsFormed, IsSteady, TiedBy, IsTied, AreApart, IsOwing}
 use Rattle.govern_rules.specs.Rules.{is_not_local}
@@ -390,17 +390,17 @@ kept-steady m n h k = steady_after m n h k.ordered k.settings (omega (arith, k.c
 stays-steady : (m n : Machine) → StaysSound m n → IsFormed n → IsTied n → LocalsAreOrdinary n → StaysSteady m n
 stays-steady m n sound formed tied locals = record { steady = record { sound = sound.sound; formed = formed; tied = tied; locals = locals }; settings = sound.settings }
 
-pub whole_step-steady : (m : Machine) (event : Event) → IsSteady m → StaysSteady m (whole_step m event).machine
-whole_step-steady m (Now t) h = stays-steady m (clock_shows t m).machine (clock_shows-sound t m h.sound) (clock-formed t m (ordered_of m h)) (clock-ties t m (ordered_of m h) h.tied)
+pub step-steady : (m : Machine) (event : Event) → IsSteady m → StaysSteady m (step m event).machine
+step-steady m (Now t) h = stays-steady m (clock_shows t m).machine (clock_shows-sound t m h.sound) (clock-formed t m (ordered_of m h)) (clock-ties t m (ordered_of m h) h.tied)
     (clock-classes t m (ordered_of m h) h.locals)
-whole_step-steady m (Govern word) h = trimmed-steady IsLawful m (govern word m) h (govern-trimmed word m (ordered_of m h) h.sound.counted)
-whole_step-steady m (Accepted addr) h = stays-steady m (peer_connects addr m).machine (peer_connects-sound addr m h.sound) (connects-formed addr m (ordered_of m h)) (connects-ties addr m (ordered_of m h) h.tied)
+step-steady m (Govern word) h = trimmed-steady IsLawful m (govern word m) h (govern-trimmed word m (ordered_of m h) h.sound.counted)
+step-steady m (Accepted addr) h = stays-steady m (peer_connects addr m).machine (peer_connects-sound addr m h.sound) (connects-formed addr m (ordered_of m h)) (connects-ties addr m (ordered_of m h) h.tied)
     (connects-classes addr m h.locals)
-whole_step-steady m (Dialed cid opened) h = kept-steady m (dial_ends cid opened m).machine h (dial_ends-keeps cid opened m (ordered_of m h))
-whole_step-steady m (Bytes cid bytes) h = trimmed-steady IsLawful m (bytes_come_in cid bytes m) h (bytes_come_in-trimmed cid bytes m (ordered_of m h) h.sound.counted)
-whole_step-steady m (Closed cid) h = kept-steady m (peer_closes cid m).machine h (closes-keeps cid m (ordered_of m h))
-whole_step-steady m (Aims targets) h = kept-steady m (targets_are targets m).machine h (elsewhere-keeps targets m.big_targets m.roots m (ordered_of m h) h.formed.pending_job)
-whole_step-steady m (Locals groups) h = kept-steady m (locals_are groups m).machine h (locals-keeps groups m (ordered_of m h))
-whole_step-steady m (Roots job answer) h = kept-steady m (roots_answer job answer m).machine h (roots-keeps job answer m (ordered_of m h))
-whole_step-steady m (BigAims targets) h = kept-steady m (big_targets_are targets m).machine h (elsewhere-keeps m.targets targets m.roots m (ordered_of m h) h.formed.pending_job)
-whole_step-steady m (Bigs addrs) h = kept-steady m (bigs_are addrs m).machine h (for_each-keeps comes_big comes_big-keeps addrs m (ordered_of m h))
+step-steady m (Dialed cid opened) h = kept-steady m (dial_ends cid opened m).machine h (dial_ends-keeps cid opened m (ordered_of m h))
+step-steady m (Bytes cid bytes) h = trimmed-steady IsLawful m (bytes_come_in cid bytes m) h (bytes_come_in-trimmed cid bytes m (ordered_of m h) h.sound.counted)
+step-steady m (Closed cid) h = kept-steady m (peer_closes cid m).machine h (closes-keeps cid m (ordered_of m h))
+step-steady m (Aims targets) h = kept-steady m (targets_are targets m).machine h (elsewhere-keeps targets m.big_targets m.roots m (ordered_of m h) h.formed.pending_job)
+step-steady m (Locals groups) h = kept-steady m (locals_are groups m).machine h (locals-keeps groups m (ordered_of m h))
+step-steady m (Roots job answer) h = kept-steady m (roots_answer job answer m).machine h (roots-keeps job answer m (ordered_of m h))
+step-steady m (BigAims targets) h = kept-steady m (big_targets_are targets m).machine h (elsewhere-keeps m.targets targets m.roots m (ordered_of m h) h.formed.pending_job)
+step-steady m (Bigs addrs) h = kept-steady m (bigs_are addrs m).machine h (for_each-keeps comes_big comes_big-keeps addrs m (ordered_of m h))

@@ -6,10 +6,11 @@ use Rattle.net_base.specs.Bounds.{AreSound}
 use Rattle.net_base.specs.declared.event.Event.{Event}
 use Rattle.net_base.specs.declared.settings.Settings.{Settings}
 use Rattle.machine.specs.Machine.{Machine, start_of}
-use Rattle.machine.specs.Whole.{whole_step}
-use Rattle.laws.specs.Whole.{IsShaped, IsOwing, IsSteady, whole_after}
+use Rattle.machine.specs.Step.{step}
+use Rattle.laws.specs.Whole.{IsShaped, IsOwing, IsSteady}
+use Rattle.machine.specs.Run.{after_all}
 use Rattle.laws.proofs.Runs.{start-sound}
-use Rattle.laws.proofs.WholeEvents.{StaysSteady, whole_step-steady}
+use Rattle.laws.proofs.WholeEvents.{StaysSteady, step-steady}
 
 pub start-steady : (settings : Settings) → AreSound settings → IsSteady (start_of settings)
 start-steady settings h = record {
@@ -28,15 +29,15 @@ start-steady settings h = record {
   locals = λ addr p found local. absurd cc;
 }
 
-pub run-steady : (m : Machine) (events : List Event) → IsSteady m → StaysSteady m (whole_after m events)
-unfolding whole_after
+pub run-steady : (m : Machine) (events : List Event) → IsSteady m → StaysSteady m (after_all m events)
+unfolding after_all
 run-steady m [] h = record { steady = h; settings = refl }
 run-steady m (event ∷ events) h =
-    let first : StaysSteady m (whole_step m event).machine = whole_step-steady m event h in
-    let rest : StaysSteady (whole_step m event).machine (whole_after (whole_step m event).machine events) =
-    run-steady (whole_step m event).machine events first.steady in
+    let first : StaysSteady m (step m event).machine = step-steady m event h in
+    let rest : StaysSteady (step m event).machine (after_all (step m event).machine events) =
+    run-steady (step m event).machine events first.steady in
     record { steady = rest.steady; settings = rest.settings ∙ first.settings }
 
-pub whole_after-steady : (settings : Settings) (events : List Event) → AreSound settings →
-    StaysSteady (start_of settings) (whole_after (start_of settings) events)
-whole_after-steady settings events h = run-steady (start_of settings) events (start-steady settings h)
+pub after_all-steady : (settings : Settings) (events : List Event) → AreSound settings →
+    StaysSteady (start_of settings) (after_all (start_of settings) events)
+after_all-steady settings events h = run-steady (start_of settings) events (start-steady settings h)

@@ -39,7 +39,7 @@ use Rattle.machine.specs.Peers.{peer_at}
 use Rattle.machine.specs.Replies.{reply_on}
 use Rattle.machine.specs.Stream.{kind_of}
 use Rattle.machine.specs.Talking.{takes_requests, pays}
-use Rattle.machine.specs.Whole.{whole_step}
+use Rattle.machine.specs.Step.{step}
 use Rattle.laws.specs.Stages.{IsLateCause}
 use Rattle.laws.specs.Laws.{is_used_connection, is_pending_connection}
 
@@ -203,7 +203,7 @@ is_closed_by cid (Bigs addrs) = false
 
 -- Each move of an event is lawful.
 abbrev pub MovesAreLawful : Machine → Event → Type 0
-MovesAreLawful m event = All IsLawful (whole_step m event).moves
+MovesAreLawful m event = All IsLawful (step m event).moves
 
 -- ---- who comes up
 

@@ -29,7 +29,7 @@ use Rattle.machine.specs.Greeting.{role_of, is_awaited, fits_side}
 use Rattle.machine.specs.Machine.{Machine, Entry, counted_in, entry_at, live_entry_at}
 use Rattle.machine.specs.Own.{own_info}
 use Rattle.machine.specs.Stream.{kind_of}
-use Rattle.machine.specs.Whole.{whole_step}
+use Rattle.machine.specs.Step.{step}
 use Rattle.laws.specs.Acts.{Act, fires_one, connects, handles_item, ends_stream, does, acts, Part, effect_of, parts_of}
 use Rattle.laws.specs.AtMoves.{fault_of, is_closed_by, is_negotiated_at, is_up, is_hot_or_asked, is_known, promotes, activates, is_shared_in, is_provided_by, MovesAreLawful}
 use Rattle.laws.specs.Stages.{causes_in, IsLateCause}
@@ -166,8 +166,8 @@ pub record IsLawfulPart (event : Event) (part : Part) : Type 0 where
 
 pub record IsLawfulEvent (m : Machine) (event : Event) : Type 0 where
   -- it is its parts, one after the other
-  pub parts : whole_step m event ≡ for_each does (acts m event) m
+  pub parts : step m event ≡ for_each does (acts m event) m
   pub each : All (IsLawfulPart event) (parts_of m event)
-  pub accounted : IsAccounted event m (whole_step m event)
+  pub accounted : IsAccounted event m (step m event)
   -- each move keeps back-off and targets, and ends for cause
   pub moves : MovesAreLawful m event

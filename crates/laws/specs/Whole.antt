@@ -14,7 +14,7 @@ use Rattle.conn_state.specs.Use.{agreed_sharing, is_dialing, is_duplex, is_for_l
 use Rattle.machine.specs.Machine.{Machine, Entry, live_entry_at}
 use Rattle.machine.specs.Peers.{peer_at}
 use Rattle.machine.specs.Replies.{reply_on, is_owed_on}
-use Rattle.machine.specs.Whole.{whole_step}
+use Rattle.machine.specs.Step.{step}
 use Rattle.laws.specs.Laws.{LocalsAreOrdinary}
 use Rattle.laws.specs.Sound.{IsSound}
 
@@ -117,8 +117,3 @@ pub record IsSteady (m : Machine) : Type 0 where
   pub tied : IsTied m
   -- after each event, but not in the middle of one that sets the groups
   pub locals : LocalsAreOrdinary m
-
--- the whole machine after all of the events
-unfoldable pub whole_after : Machine → List Event → Machine
-whole_after m [] = m
-whole_after m (event ∷ events) = whole_after (whole_step m event).machine events

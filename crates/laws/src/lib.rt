@@ -5,4 +5,4 @@
 
 mod laws;
 
-pub use laws::{all_due_fires, laws_of_events, laws_of_records, laws_of_runs, sound_kept};
+pub use laws::{all_due_fires, laws_of_events, laws_of_records};

@@ -73,19 +73,3 @@ dialed opened entry m =
 -- An answer to a dial that is no longer awaited changes nothing.
 abbrev pub dial_ends : Cid → Bool → Machine → Effect
 dial_ends cid opened m = on_connection cid (dialed opened) m
-
--- ---- the events that the program handles today
-
--- An event that the program does not handle yet leaves the machine as it is.
-abbrev pub step : Machine → Event → Effect
-step m (Now t) = clock_shows t m
-step m (Govern word) = nothing_more m
-step m (Accepted addr) = peer_connects addr m
-step m (Dialed cid opened) = nothing_more m
-step m (Bytes cid bytes) = nothing_more m
-step m (Closed cid) = peer_closes cid m
-step m (Aims targets) = nothing_more m
-step m (Locals groups) = nothing_more m
-step m (Roots job answer) = nothing_more m
-step m (BigAims targets) = nothing_more m
-step m (Bigs addrs) = nothing_more m

@@ -13,7 +13,7 @@ pub mod Run
 pub mod Stream
 pub mod Talking
 pub mod Traces
-pub mod Whole
+pub mod Step
 pub mod HandshakeTraces
 pub mod ResponderTraces
 pub mod OutboundTraces

@@ -3,7 +3,7 @@ use Rattle.std.specs.Prelude.{List, [], ◌∷◌}
 use Rattle.net_base.specs.declared.action.Action.{Action}
 use Rattle.net_base.specs.declared.event.Event.{Event}
 use Rattle.machine.specs.Machine.{Machine}
-use Rattle.machine.specs.Events.{step}
+use Rattle.machine.specs.Step.{step}
 
 -- the machine after all of the events
 unfoldable pub after_all : Machine → List Event → Machine

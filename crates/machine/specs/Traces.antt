@@ -11,7 +11,7 @@ use Rattle.net_base.specs.declared.settings.Settings.{Settings}
 use Rattle.net_base.specs.declared.targets.BigTargets.{BigTargets}
 use Rattle.net_base.specs.declared.targets.Targets.{Targets}
 use Rattle.machine.specs.Machine.{start_of}
-use Rattle.machine.specs.Whole.{whole_actions_of}
+use Rattle.machine.specs.Run.{actions_of}
 
 -- ---- words
 
@@ -103,4 +103,4 @@ brings event actions = record { event = event; actions = actions }
 
 -- the machine does what the trace says
 abbrev pub IsRun : Trace → Type 0
-IsRun t = whole_actions_of (start_of t.settings) (map (λ h. h.event) t.happenings) ≡ map (λ h. h.actions) t.happenings
+IsRun t = actions_of (start_of t.settings) (map (λ h. h.event) t.happenings) ≡ map (λ h. h.actions) t.happenings

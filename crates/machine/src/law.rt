@@ -1,6 +1,5 @@
 //! Laws on the definitions. The functions do nothing.
 
-ghost use Rattle.machine.specs.Whole.{IsPart};
 ghost use Rattle.machine.specs.Worked.{HandshakesRun, RespondersRun, OutboundsRun, CrossingsRun, LimitsRun, GovernorsRun, SharingsRun, BigPeersRun, DistinctRun, DistinctPeersRun};
 
 /// The machine does on each worked trace what the trace says.
@@ -15,9 +14,4 @@ pub fn worked_traces_are_runs()
     ensures big_peers { BigPeersRun }
     ensures distinct { DistinctRun }
     ensures distinct_peers { DistinctPeersRun }
-{}
-
-/// On the events that the program handles today, its machine is the whole one.
-pub fn the_program_carries_a_part()
-    ensures { IsPart }
 {}
