@@ -30,7 +30,7 @@ use Rattle.laws.specs.AtMoves.{OutOfBackOff, WithinTargets, IsCrowded, OnEntry, 
 use Rattle.laws.specs.Sound.{IsOrderly}
 use Rattle.laws.specs.Stages.{stage_of_phase, stage_of, stage_at, stage_ended, IsLateCause}
 use Rattle.laws.specs.Telling.{IsTold}
-use Rattle.laws.specs.Told.{Dialed, ended_by, promoted_by_dial}
+use Rattle.laws.specs.Told.{Given, ended_by, promoted_by_dial}
 use Rattle.laws.proofs.Entries.{TurnsInto, turned-connections, gone-connections, one_has_id, has_own_id, with_new}
 use Rattle.laws.proofs.Finds.{find-set_other, find-set_here, find-remove_other}
 use Rattle.laws.proofs.Keeping.{note-machine}
@@ -479,7 +479,7 @@ reuse-told : (a : Addr) (m : Machine) (effect : Effect) → effect.machine.next_
 reuse-told a m effect same h =
     told_move (promoted a) m effect refl (subst (λ next. promoted_by_dial (promoted a) m.next_id next ≡ []) (sym same) (no_dial (nat_lt m.next_id m.next_id) (not_lower m.next_id))) h
   where
-    dial : Dialed
+    dial : Given
     dial = record { cid = m.next_id; addr = a }
 
     no_dial : (b : Bool) → b ≡ false → (if b then dial ∷ [] else []) ≡ []

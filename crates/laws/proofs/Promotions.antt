@@ -128,7 +128,7 @@ dial-accounts addr m h =
             (hot_or_asked-down m effect.machine (λ b hot. hot) (come-down is_asked_connection refl m new refl));
         arrivals = rises_nowhere is_known shares m (as_move (promoted addr) m effect) (λ b known. known);
       };
-      told = dials-told m new addr h.orderly refl;
+      told = dials-told m new addr h.orderly refl refl;
     }
 
 acquire-obeys : (Law : Move → Type 0) (addr : Addr) (m : Machine) (e : Entry) (k : ℕ) → IsOrdered m → StandsAt m.connections k e → is_acquirable e.facts ≡ true →
