@@ -54,7 +54,8 @@ use Rattle.laws.specs.Acts.{Act, shows, fires_one, asks_for_roots, carries, conn
 use Rattle.laws.specs.AtMoves.{fault_of_request, fault_of_answer, fault_of}
 use Rattle.laws.specs.Parts.{ends_on, causes_of_kind, causes_of_verdict, causes_of_message, causes_of_greeting, causes_of_fault, causes_of_item, causes_of_cut, causes_of_crossing, ends_due, is_pruned, but_pruned, IsOneMove, IsItsMove}
 use Rattle.laws.specs.Told.{End, ended_by, ends_in}
-use Rattle.laws.proofs.Lawful.{lost_by-quiet, lost-quiet, turns_at-moves, comes-providing}
+use Rattle.laws.proofs.ToldMoves.{turns_at-moves}
+use Rattle.laws.proofs.Lawful.{lost_by-quiet, lost-quiet, comes-providing}
 use Rattle.laws.proofs.Handshakes.{answer-quiet}
 use Rattle.laws.proofs.Orders.{says_done-quiet}
 use Rattle.laws.proofs.Talks.{replies-quiet}

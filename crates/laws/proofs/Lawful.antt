@@ -40,7 +40,7 @@ use Rattle.laws.proofs.PeersApart.{same_turned}
 use Rattle.laws.proofs.Rises.{Rises, rises_then, rises_move, rises_said, StaysDown, is_hot, NoneConnected, hot_or_asked-down, rises_nowhere, rises_none, same-connected, connected_then, IsNoHigher, turned-down, turned-connected, gone-connected, come-down, IsCooling, changed-hot, changed-known, entered-hot, entered-known}
 use Rattle.laws.proofs.Telling.{are_mute, mute, told_unchanged, told_then, told_move}
 use Rattle.laws.proofs.Ties.{turned_elsewhere}
-use Rattle.laws.proofs.ToldMoves.{turned-told, goes-told, goes-stage, ended-told, changes-told, turns_at-next, peer_comes-told}
+use Rattle.laws.proofs.ToldMoves.{turned-told, goes-told, goes-stage, ended-told, changes-told, turns_at-next, peer_comes-told, turns_at-moves, turns_at-connections}
 
 -- ---- no connection is gone without a move
 
@@ -260,14 +260,6 @@ quiet_then m first next one two = record {
   known = λ addr h. one.known addr (two.known addr h);
   told = told_then m first next one.told two.told;
 }
-
-pub turns_at-moves : (o : Option Peer) (change : Peer → Peer) (m : Machine) → (turns_at o change m).moves ≡ []
-turns_at-moves None change m = refl
-turns_at-moves (Some p) change m = refl
-
-pub turns_at-connections : (o : Option Peer) (change : Peer → Peer) (m : Machine) → (turns_at o change m).machine.connections ≡ m.connections
-turns_at-connections None change m = refl
-turns_at-connections (Some p) change m = refl
 
 -- a peer changes, and does not become hot
 pub changes-quiet : (a : Addr) (change : Peer → Peer) (m : Machine) → IsCooling change → IsQuiet m (peer_changes a change m)

@@ -34,7 +34,8 @@ use Rattle.machine.specs.Replies.{reply_on, paid, owing}
 use Rattle.machine.specs.Stream.{handled_in, handled, handles}
 use Rattle.machine.specs.Talking.{stops_if, serves, begins, takes_requests, asked_as, shares_address, taken_of, takes_addresses, pays, brings, answered_as}
 use Rattle.laws.proofs.Handshakes.{answer-machine}
-use Rattle.laws.proofs.Lawful.{lost_by-quiet, turns_at-connections, comes-providing}
+use Rattle.laws.proofs.ToldMoves.{turns_at-connections}
+use Rattle.laws.proofs.Lawful.{lost_by-quiet, comes-providing}
 use Rattle.laws.proofs.Lists.{find_some}
 use Rattle.laws.proofs.Remains.{gone-found, trim-found, turned-found}
 use Rattle.laws.proofs.Talks.{replies-machine}

@@ -20,7 +20,7 @@ use Rattle.laws.proofs.Lawful.{turns-obeys}
 use Rattle.laws.proofs.Lists.{StandsAt, find_some}
 use Rattle.laws.proofs.Open.{IsOpen, turned-open, all_handled-open}
 use Rattle.laws.proofs.Talks.{talks-trimmed}
-use Rattle.laws.proofs.Trims.{Trimmed, keeps-trimmed, ending-trimmed, nothing-trimmed, trimmed_then, trimmed-within, for_each-trimmed}
+use Rattle.laws.proofs.Trims.{Trimmed, keeps-trimmed, ending-trimmed, nothing-trimmed, trimmed_then, trimmed-within, for_each_that-trimmed}
 use Rattle.laws.proofs.WholeMoves.{decodes-keeps}
 
 handled_in-trimmed : (p : Phase) (item : Item) (m : Machine) (e : Entry) (k : ℕ) → e.facts.phase ≡ p → IsOrdered m → counted_in m ≤ m.settings.hard →
@@ -73,8 +73,8 @@ fed_with-trimmed fed m e k h within s live =
     let n : Machine = first.machine in
     let second : Effect = for_each (handles e.facts.cid) fed.items n in
     let two : Trimmed IsLawful n second =
-    for_each-trimmed IsLawful (handles e.facts.cid) (handles-trimmed e.facts.cid) fed.items n one.ordered
-    (trimmed-within IsLawful m first one) in
+    for_each_that-trimmed IsLawful (λ settings item. Unit {0}) (handles e.facts.cid) (λ item o h within any. handles-trimmed e.facts.cid item o h within) fed.items n
+    one.ordered (trimmed-within IsLawful m first one) (λ place item inside. tt) in
     trimmed_then IsLawful m first (λ m. then_do (for_each (handles e.facts.cid) fed.items m) fault) one
     (trimmed_then IsLawful n second fault two
     (faulted-trimmed e.facts.cid fed.state.fault second.machine two.ordered (trimmed-within IsLawful n second two)

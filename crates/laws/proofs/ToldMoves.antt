@@ -353,7 +353,7 @@ dials-told m new addr h id here =
 
 -- ---- a peer changes
 
-is_temp : (t u : Temp) → same_temp t u ≡ true → t ≡ u
+pub is_temp : (t u : Temp) → same_temp t u ≡ true → t ≡ u
 is_temp Cold Cold h = refl
 is_temp Cold Warm h = absurd (false≢true h)
 is_temp Cold Hot h = absurd (false≢true h)
@@ -413,13 +413,13 @@ turns_at-noting : (o : Option Peer) (change : Peer → Peer) (m : Machine) → I
 turns_at-noting None change m = record { closes = refl; dials = refl; given = refl; names = λ cid. refl }
 turns_at-noting (Some p) change m = turn-noting (same_temp p.temp (change p).temp) p.addr (note_of (change p).temp)
 
-turns_at-none : (o : Option Peer) (change : Peer → Peer) (m : Machine) → (turns_at o change m).moves ≡ []
-turns_at-none None change m = refl
-turns_at-none (Some p) change m = refl
+pub turns_at-moves : (o : Option Peer) (change : Peer → Peer) (m : Machine) → (turns_at o change m).moves ≡ []
+turns_at-moves None change m = refl
+turns_at-moves (Some p) change m = refl
 
-turns_at-held : (o : Option Peer) (change : Peer → Peer) (m : Machine) → (turns_at o change m).machine.connections ≡ m.connections
-turns_at-held None change m = refl
-turns_at-held (Some p) change m = refl
+pub turns_at-connections : (o : Option Peer) (change : Peer → Peer) (m : Machine) → (turns_at o change m).machine.connections ≡ m.connections
+turns_at-connections None change m = refl
+turns_at-connections (Some p) change m = refl
 
 pub turns_at-next : (o : Option Peer) (change : Peer → Peer) (m : Machine) → (turns_at o change m).machine.next_id ≡ m.next_id
 turns_at-next None change m = refl
@@ -428,7 +428,7 @@ turns_at-next (Some p) change m = refl
 -- a change that leaves the address
 pub changes-told : (a : Addr) (change : Peer → Peer) (m : Machine) → ((p : Peer) → (change p).addr ≡ p.addr) → IsTold m (peer_changes a change m)
 changes-told a change m same =
-    noting-told m (peer_changes a change m) (turns_at-noting (peer_at a m) change m) (turns_at-none (peer_at a m) change m) (turns_at-held (peer_at a m) change m)
+    noting-told m (peer_changes a change m) (turns_at-noting (peer_at a m) change m) (turns_at-moves (peer_at a m) change m) (turns_at-connections (peer_at a m) change m)
     (turns_at-next (peer_at a m) change m) (λ b. by_address b (same_address b a) refl)
   where
     own_note : (p : Peer) → peer_at a m ≡ Some p → (still : Bool) → same_temp p.temp (change p).temp ≡ still →
