@@ -5,5 +5,6 @@ pub mod FoundMembers
 pub mod Members
 pub mod Picking
 pub mod Rows
+pub mod SameViews
 pub mod Suiting
 pub mod Tasks

@@ -48,7 +48,7 @@ lookups_apart addrs peers distinct apart =
 -- ---- how many
 
 -- by how many members the valency is missed
-abbrev missed : Valency → View → List Peer → Group → ℕ
+abbrev pub missed : Valency → View → List Peer → Group → ℕ
 missed WarmUp view peers group = group.warm - members_count group (λ p. is_established p.temp || is_pending view.links p.addr) peers
 missed HotUp view peers group = group.hot - members_count group (λ p. same_temp p.temp IsHot || owes_on_2 view.links p.addr) peers
 missed HotDown view peers group = members_count group may_be_deactivated peers - group.hot
@@ -72,7 +72,7 @@ missed-found HotDown view group peers apart = ap (λ n. n - group.hot) (members_
 
 -- ---- which orders
 
-by_missed : (valency : Valency) (view : View) (peers : List Peer) (group : Group) →
+pub by_missed : (valency : Valency) (view : View) (peers : List Peer) (group : Group) →
     orders_for false view.word (order_of (valency_task valency)) (missed valency view peers group)
     (is_member_and group (may_be_given (valency_task valency) view.moment view.links)) peers ≡ valency_orders valency view peers group
 by_missed WarmUp view peers group = refl

@@ -34,7 +34,7 @@ other_way true false = refl
 other_way false true = refl
 other_way false false = refl
 
-parts : (task : Task) (moment : ℕ) (links : List Link) (p : Peer) (meant : Bool) →
+pub parts : (task : Task) (moment : ℕ) (links : List Link) (p : Peer) (meant : Bool) →
     (is_ready task moment p && (meant && is_free task (λ mark. some_link (has_mark mark) links p.addr))) ≡ (meant && may_be_given task moment links p)
 parts (Asking amount) moment links p meant = asked (is_established p.temp) (nat_le p.share_next moment) meant (some_link (has_mark CanShare) links p.addr)
   where
