@@ -32,8 +32,14 @@ count-split : (a b c : Peer → Bool) → ((p : Peer) → cond {A = ℕ} (a p) 1
     count_by a peers ≡ count_by b peers + count_by c peers
 count-split a b c each [] = refl
 count-split a b c each (p ∷ peers) =
-    omega (arith, each p, count-split a b c each peers, sum_by-cons (λ x. cond {A = ℕ} (a x) 1 0) p peers,
-    sum_by-cons (λ x. cond {A = ℕ} (b x) 1 0) p peers, sum_by-cons (λ x. cond {A = ℕ} (c x) 1 0) p peers)
+    omega (
+      arith,
+      each p,
+      count-split a b c each peers,
+      sum_by-cons (λ x. cond {A = ℕ} (a x) 1 0) p peers,
+      sum_by-cons (λ x. cond {A = ℕ} (b x) 1 0) p peers,
+      sum_by-cons (λ x. cond {A = ℕ} (c x) 1 0) p peers,
+    )
 
 pub count-nobody : (big : Bool) (peers : List Peer) → count_by (λ p. is_of big p && false) peers ≡ 0
 count-nobody big [] = refl
@@ -62,7 +68,7 @@ at_address big addr peers distinct =
 
 first-link : (big : Bool) (mark : Mark) (l : Link) (links : List Link) (peers : List Peer) → IsDistinct same_address (addresses_of peers) →
     count_of big (some_link (has_mark mark) (l ∷ links)) peers
-        ≡ cond (is_last_marked mark l links && is_class_at big l.addr peers) 1 0 + count_of big (some_link (has_mark mark) links) peers
+    ≡ cond (is_last_marked mark l links && is_class_at big l.addr peers) 1 0 + count_of big (some_link (has_mark mark) links) peers
 first-link big mark l links peers distinct = elim (cases_Bool (has_mark mark l)) [
   | inr unmarked ↦
       rw unmarked (count-same _ _ (λ p. ap (λ b. is_of big p && b) (skipped (same_address l.addr p.addr) false (some_link (has_mark mark) links p.addr) (no_both (same_address l.addr p.addr)))) peers ∙ plus_none _)
@@ -99,7 +105,7 @@ first-link big mark l links peers distinct = elim (cases_Bool (has_mark mark l))
 
     either : (p : Peer) → some_link (has_mark mark) links l.addr ≡ false →
         cond {A = ℕ} (is_of big p && ((same_address l.addr p.addr && true) || some_link (has_mark mark) links p.addr)) 1 0
-            ≡ cond (has_address l.addr p && is_of big p) 1 0 + cond (is_of big p && some_link (has_mark mark) links p.addr) 1 0
+        ≡ cond (has_address l.addr p && is_of big p) 1 0 + cond (is_of big p && some_link (has_mark mark) links p.addr) 1 0
     either p last = elim (cases_Bool (same_address l.addr p.addr)) [
       | inl same ↦
           let here : some_link (has_mark mark) links p.addr ≡ false = ap (some_link (has_mark mark) links) (sym (same_address-is l.addr p.addr same)) ∙ last in

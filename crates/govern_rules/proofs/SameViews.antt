@@ -94,8 +94,8 @@ valency-same : (valency : Valency) (view : View) (links : List Link) → SaySame
 valency-same valency view links same peers group =
     let task = valency_task valency in
     let between : orders_for false view.word (order_of task) (missed valency (with_links links view) peers group)
-        (is_member_and group (may_be_given task view.moment links)) peers
-        ≡ orders_for false view.word (order_of task) (missed valency view peers group) (is_member_and group (may_be_given task view.moment view.links)) peers = λ i.
+    (is_member_and group (may_be_given task view.moment links)) peers
+    ≡ orders_for false view.word (order_of task) (missed valency view peers group) (is_member_and group (may_be_given task view.moment view.links)) peers = λ i.
     orders_for false view.word (order_of task) (missed-same valency view links same peers group i)
     (is_member_and group (λ p. may-same task view.moment links view.links same p i)) peers in
     sym (by_missed valency (with_links links view) peers group) ∙ (between ∙ by_missed valency view peers group)

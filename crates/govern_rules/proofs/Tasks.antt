@@ -18,7 +18,7 @@ use Rattle.govern_rules.proofs.Suiting.{suits_is}
 pub orders-picked : (search : Search) (book cands : List Peer) (number : ℕ) → number ≡ number_of search.task search.big search.view.now book →
     IsPermutation (filter (suits search) book) cands → IsDistinct same_address (addresses_of cands) →
     map (order_of search.task) (picks_of search.big search.view.now.word number cands)
-        ≡ task_orders search.task search.big (is_meant search.whom) search.view.now book
+    ≡ task_orders search.task search.big (is_meant search.whom) search.view.now book
 orders-picked search book cands number wanted moved apart =
     let view = search.view.now in
     ap (map (order_of search.task))

@@ -21,14 +21,7 @@ pub fn rule_big(
 ) -> Result<OrderList, OutOfMemory>
     ensures { IfOk result (λ orders. orders ≡ big_orders rule view.now book.now) }
 {
-    let orders = big_task(
-        alloc,
-        task_of(rule),
-        &Whom::Everybody,
-        view,
-        book,
-        picker,
-    )?;
+    let orders = big_task(alloc, task_of(rule), &Whom::Everybody, view, book, picker)?;
     Ok(OrderList::from_vec(orders))
 }
 

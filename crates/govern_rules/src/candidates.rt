@@ -13,11 +13,7 @@ use std::alloc::{AllocError, Global};
 
 // The peers of the book that suit. Warm and hot ones are found by their rows. Most peers are cold, so cold ones are
 // found by a walk through the book, which costs less than a look-up of each.
-pub fn candidates(
-    alloc: Global,
-    search: &Search,
-    book: &PeerBook,
-) -> Result<Vec<Peer>, AllocError>
+pub fn candidates(alloc: Global, search: &Search, book: &PeerBook) -> Result<Vec<Peer>, AllocError>
     ensures value { IfOk result (λ cands. IsPermutation (filter (suits search.now) book.now) cands.items) }
     ensures apart { IfOk result (λ cands. IsDistinct same_address (addresses_of cands.items)) }
 {

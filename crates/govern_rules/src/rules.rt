@@ -139,14 +139,6 @@ pub fn rule_g9(
 {
     let whom = Whom::NotLocal(groups);
     let first = ordinary_task(alloc, Task::Deactivating, &whom, view, book, picker)?;
-    let orders = groups_orders(
-        alloc,
-        Valency::HotDown,
-        view,
-        book,
-        groups,
-        picker,
-        first,
-    )?;
+    let orders = groups_orders(alloc, Valency::HotDown, view, book, groups, picker, first)?;
     Ok(OrderList::from_vec(orders))
 }

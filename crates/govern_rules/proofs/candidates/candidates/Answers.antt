@@ -40,7 +40,7 @@ returns-in-Releasing-clause-value c =
     let search = c.args.search.now in
     let test = suits search in
     let only : (p : Peer) → test p ≡ true → same_temp p.temp Warm ≡ true =
-    elim c.in-Releasing.is [ | inl e ↦ λ p. suits-released search p e | inr e ↦ λ p. suits-activated search p e ] in
+    elim c.in-Releasing.is [ inl e ↦ λ p. suits-released search p e | inr e ↦ λ p. suits-activated search p e ] in
     let rows = among-row Warm test book only (distinct_book book c.as_slice-peers.ensures.ordered) in
     IfOk-weaker c.found.result _ _
     (λ cands e. permuted (filter test book) cands.items (e ∙ (ap (λ l. filter test (lookups book l)) c.row.ensures ∙ rows))) c.found.ensures

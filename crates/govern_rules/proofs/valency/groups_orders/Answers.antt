@@ -23,6 +23,6 @@ group_orders-requires g c =
     let there : group ≡ get_or c.args.groups.now i group = c.group-item.is ∙ ap (λ l. get_or l i group) all in
     record {
       members = subst (λ (x : Group). IsDistinct same_address x.members) (sym there)
-        (distinct_members c.args.groups.now i group (omega (arith, ap length all)) c.list.ensures.distinct);
+          (distinct_members c.args.groups.now i group (omega (arith, ap length all)) c.list.ensures.distinct);
       peers = distinct_book c.args.book.now c.as_slice.ensures.ordered;
     }
