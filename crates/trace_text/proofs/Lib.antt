@@ -17,5 +17,6 @@ pub mod Printed
 pub mod ReadEvents
 pub mod Reading
 pub mod SettingLaws
+pub mod SpacedWords
 pub mod Spelled
 pub mod Spelling

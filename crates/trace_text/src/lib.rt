@@ -3,6 +3,8 @@
 
 mod address;
 mod event;
+mod event_text;
+mod group_text;
 mod law;
 mod line;
 mod piece;
@@ -18,6 +20,7 @@ pub use law::{
     actions_are_lines, addresses_are_spelled_once, events_are_spelled_once,
     numbers_are_spelled_once,    settings_are_those_of_the_check,
 };
+pub use event_text::print_event;
 pub use line::{HeadLine, Line, LineRefusal};
 pub use print::print_action;
 pub use read::read_line;
