@@ -7,6 +7,7 @@ pub mod Digits
 pub mod GroupLaws
 pub mod GroupLists
 pub mod Groups
+pub mod HeadLaws
 pub mod HexPieces
 pub mod Ips
 pub mod Lists
