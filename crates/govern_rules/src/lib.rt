@@ -24,7 +24,7 @@ mod whom;
 pub use big_rule::BigRule;
 pub use big_rules::rule_big;
 pub use link::Link;
-pub use links::Links;
+pub use links::LinkList;
 pub use order::{Order, OrderList};
 pub use rules::{rule_g2, rule_g3, rule_g4, rule_g5, rule_g6, rule_g7, rule_g8, rule_g9};
 pub use view::View;

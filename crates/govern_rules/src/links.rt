@@ -12,11 +12,11 @@ use std::marker::Model;
 
 /// Links in address order. Contracts see the list of them.
 #[derive(Debug, Drop)]
-pub struct Links {
+pub struct LinkList {
     links: Vec<Link>,
 }
 
-impl Model for Links {
+impl Model for LinkList {
     ghost use Rattle.std.specs.Prelude.{List};
     ghost use Rattle.govern_rules.specs.declared.link.Link.{Link};
     ghost use Rattle.govern_rules.specs.SortedLinks.{IsByAddress};
@@ -28,17 +28,17 @@ impl Model for Links {
     ghost invariant = { λ l. IsByAddress l.links.items };
 }
 
-impl Links {
+impl LinkList {
     /// The links of a vector. They are sorted only where they don't stand in order yet, and memory is asked for only
     /// then.
-    pub fn from_vec(mut links: Vec<Link>) -> Result<Links, OutOfMemory>
+    pub fn from_vec(mut links: Vec<Link>) -> Result<LinkList, OutOfMemory>
         ensures { IfOk result (λ sorted. IsPermutation links.items sorted) }
     {
         if is_by_address(&links) {
-            return Ok(Links { links });
+            return Ok(LinkList { links });
         }
         links.sort_by_key(|link| link.addr)?;
-        Ok(Links { links })
+        Ok(LinkList { links })
     }
 
     pub fn as_slice(&self) -> &[Link]

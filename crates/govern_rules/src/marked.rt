@@ -10,7 +10,7 @@ ghost use Rattle.govern_rules.specs.SortedLinks.{IsByAddress};
 use crate::links::links_of;
 use crate::mark::{Mark, has_mark, some};
 use crate::status::is_of;
-use crate::{Link, Links, View};
+use crate::{Link, LinkList, View};
 use net_base::Addr;
 use peer_book::PeerBook;
 
@@ -27,7 +27,7 @@ pub fn without_marked(number: u64, mark: Mark, big: bool, view: &View, book: &Pe
 }
 
 // How many peers of a class have a link with a mark. Of each address the last such link counts.
-fn count_marked(mark: Mark, big: bool, links: &Links, book: &PeerBook) -> u64
+fn count_marked(mark: Mark, big: bool, links: &LinkList, book: &PeerBook) -> u64
     requires { IsDistinct same_address (addresses_of book.now) }
     ensures { result ≡ count_of big (some_link (has_mark mark) links.now) book.now }
 {

@@ -3,7 +3,7 @@ ghost use Rattle.govern_rules.specs.Search.{lookups};
 ghost use Rattle.govern_rules.specs.Statuses.{has_status, count_with};
 ghost use Rattle.peer_book.specs.Book.{is_of};
 
-use crate::Links;
+use crate::LinkList;
 use crate::mark::Mark;
 use net_base::{Addr, Peer, Temp};
 use peer_book::PeerBook;
@@ -17,7 +17,7 @@ pub enum Status {
 }
 
 // How many of the ordinary peers with some addresses have a status.
-pub fn count_with(status: Status, addrs: &[Addr], links: &Links, book: &PeerBook) -> u64
+pub fn count_with(status: Status, addrs: &[Addr], links: &LinkList, book: &PeerBook) -> u64
     ensures { result ≡ count_with status false links.now (lookups book.now addrs.now) }
 {
     let count = addrs
@@ -34,7 +34,7 @@ pub fn is_of(big: bool, peer: &Peer) -> bool
     if big { peer.big } else { !peer.big }
 }
 
-fn has_status(status: Status, links: &Links, peer: &Peer) -> bool
+fn has_status(status: Status, links: &LinkList, peer: &Peer) -> bool
     ensures { result ≡ has_status status links.now peer.now }
 {
     match status {
@@ -44,13 +44,13 @@ fn has_status(status: Status, links: &Links, peer: &Peer) -> bool
     }
 }
 
-fn is_established_or_pending(links: &Links, peer: &Peer) -> bool
+fn is_established_or_pending(links: &LinkList, peer: &Peer) -> bool
     ensures { result ≡ has_status Status.EstablishedOrPending links.now peer.now }
 {
     peer.temp != Temp::Cold || links.some(peer.addr, Mark::Pending)
 }
 
-fn is_hot_or_owes_on_2(links: &Links, peer: &Peer) -> bool
+fn is_hot_or_owes_on_2(links: &LinkList, peer: &Peer) -> bool
     ensures { result ≡ has_status Status.HotOrOwesOn2 links.now peer.now }
 {
     peer.temp == Temp::Hot || links.some(peer.addr, Mark::Owes2)

@@ -1,5 +1,5 @@
 use crate::{
-    BigRule, Link, Links, Order, OrderList, View, rule_big, rule_g2, rule_g3, rule_g4, rule_g5,
+    BigRule, Link, LinkList, Order, OrderList, View, rule_big, rule_g2, rule_g3, rule_g4, rule_g5,
     rule_g6, rule_g7, rule_g8, rule_g9,
 };
 use net_base::{
@@ -114,7 +114,7 @@ fn in_use(port: u16) -> Link {
 }
 
 fn view(alloc: Global, targets: Targets, links: &[Link]) -> Result<View, OutOfMemory> {
-    let links = Links::from_vec(Vec::from_slice(alloc, links)?)?;
+    let links = LinkList::from_vec(Vec::from_slice(alloc, links)?)?;
     Ok(View {
         moment: 4999,
         word: 0,
@@ -779,10 +779,10 @@ fn big_ledger_peers_by_their_targets(rt: HostRuntime) -> Result<(), Fail> {
 #[test]
 fn links_come_in_address_order(rt: HostRuntime) -> Result<(), Fail> {
     let given = [entry(3004), pending(3003), in_use(3004)];
-    let links = Links::from_vec(Vec::from_slice(rt.alloc(), &given)?)?;
+    let links = LinkList::from_vec(Vec::from_slice(rt.alloc(), &given)?)?;
     let wanted = [pending(3003), entry(3004), in_use(3004)];
     assert_eq!(rt; links.as_slice(), wanted.as_slice());
-    let again = Links::from_vec(Vec::from_slice(rt.alloc(), &wanted)?)?;
+    let again = LinkList::from_vec(Vec::from_slice(rt.alloc(), &wanted)?)?;
     assert_eq!(rt; again.as_slice(), wanted.as_slice());
     Ok(())
 }

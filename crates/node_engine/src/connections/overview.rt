@@ -14,7 +14,7 @@ use crate::due::{deadline_count, due_of};
 use crate::link::{first_with, link_of};
 use accept_gate::Candidate;
 use conn_table::Placed;
-use govern_rules::{Link, Links};
+use govern_rules::{Link, LinkList};
 use net_base::{Cid, Deadline, OutOfMemory};
 use std::alloc::{AllocError, Global};
 
@@ -61,11 +61,11 @@ impl Connections {
     }
 
     /// What the rules see of the connections, in address order.
-    pub fn links(&self, alloc: Global) -> Result<Links, OutOfMemory>
+    pub fn links(&self, alloc: Global) -> Result<LinkList, OutOfMemory>
         ensures { IfOk result (λ links. SaySame links (map link_of self.now.entries)) }
     {
         let links = self.links_at(alloc, self.table.index().as_slice())?;
-        Links::from_vec(links)
+        LinkList::from_vec(links)
     }
 
     // What they see of the connections with some ids.

@@ -2,7 +2,7 @@ use Rattle.std.proofs.Common.{◌≡◌, rules}
 use Rattle.std.proofs.lemmas.List.Sorted.{answers_always}
 use Rattle.govern_rules.specs.declared.link.Link.{Link}
 use Rattle.govern_rules.proofs.ByAddress.{by_address_from_sort}
-use Rattle.govern_rules.proofs.links.Links.from_vec.Goals as goal
+use Rattle.govern_rules.proofs.links.LinkList.from_vec.Goals as goal
 
 pub invariant_of-result-2 : goal.invariant_of-result-2
 invariant_of-result-2 c =

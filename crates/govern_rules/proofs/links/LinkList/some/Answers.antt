@@ -2,7 +2,7 @@ use Rattle.std.proofs.Common.{ap, ◌∙◌}
 use Rattle.std.specs.List.{list_any}
 use Rattle.govern_rules.specs.Marks.{has_mark}
 use Rattle.govern_rules.proofs.ByAddress.{own_say}
-use Rattle.govern_rules.proofs.links.Links.some.Goals as goal
+use Rattle.govern_rules.proofs.links.LinkList.some.Goals as goal
 
 pub returns : goal.returns
 returns c =
