@@ -2,6 +2,7 @@
 use Rattle.std.proofs.Common.{◌≡◌, Bool, true, false, ◌&&◌, not, List, [], ◌∷◌, ◌++◌, map, Some, refl, sym, ap, ◌∙◌, subst, inl, inr}
 use Rattle.std.specs.List.{AllByRecursion, IsDistinct, filter}
 use Rattle.std.specs.List.Sorted.{IsPermutation}
+use Rattle.std.proofs.Math.Bool.{and_comm}
 use Rattle.std.proofs.lemmas.Bool.{cases_Bool, false≢true}
 use Rattle.std.proofs.lemmas.List.Sorted.{IsPermutation-filter_both, IsPermutation-refl}
 use Rattle.net_base.specs.Address.{same_address}
@@ -58,12 +59,6 @@ among-row temp test peers only distinct =
     ∙ (filter-twice test (λ p. same_temp p.temp temp) peers
     ∙ filter-same (λ p. same_temp p.temp temp && test p) test (λ p. narrowed (same_temp p.temp temp) (test p) (only p)) peers)
 
-turned : (a b : Bool) → (a && b) ≡ (b && a)
-turned true true = refl
-turned true false = refl
-turned false true = refl
-turned false false = refl
-
 -- where whoever passes is warm or hot
 pub among-both : (test : Peer → Bool) (peers : List Peer) → ((p : Peer) → test p ≡ true → is_established p.temp ≡ true) →
     IsDistinct same_address (addresses_of peers) →
@@ -75,7 +70,7 @@ among-both test peers only distinct =
     IsPermutation-filter_both warm (λ p. not (warm p)) (λ p. refl) (filter test peers) in
     let front : filter warm (filter test peers) ≡ filter test (lookups peers (listed_at Warm peers)) =
     filter-twice warm test peers
-    ∙ (filter-same (λ p. test p && warm p) (λ p. warm p && test p) (λ p. turned (test p) (warm p)) peers
+    ∙ (filter-same (λ p. test p && warm p) (λ p. warm p && test p) (λ p. and_comm (test p) (warm p)) peers
     ∙ (sym (filter-twice test warm peers) ∙ ap (filter test) (sym (row-found Warm peers distinct)))) in
     let back : filter (λ p. not (warm p)) (filter test peers) ≡ filter test (lookups peers (listed_at Hot peers)) =
     filter-twice (λ p. not (warm p)) test peers

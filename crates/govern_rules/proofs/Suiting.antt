@@ -1,5 +1,6 @@
 -- Whoever suits is a candidate, whatever is looked at first.
 use Rattle.std.proofs.Common.{◌≡◌, ℕ, Bool, true, false, ◌&&◌, ◌||◌, not, nat_le, List, refl, sym, ap, subst, ◌∙◌}
+use Rattle.std.proofs.Math.Bool.{and_assoc, and_comm}
 use Rattle.std.proofs.lemmas.Bool.{and_parts}
 use Rattle.net_base.specs.declared.peer.Peer.{Peer}
 use Rattle.net_base.specs.declared.peer.Temp.TheVariants.{Cold, Warm, Hot}
@@ -24,25 +25,15 @@ turned true false c = refl
 turned false true c = refl
 turned false false c = refl
 
-together : (a b c : Bool) → ((a && b) && c) ≡ (a && (b && c))
-together true b c = refl
-together false b c = refl
-
-other_way : (a b : Bool) → (a && b) ≡ (b && a)
-other_way true true = refl
-other_way true false = refl
-other_way false true = refl
-other_way false false = refl
-
 pub parts : (task : Task) (moment : ℕ) (links : List Link) (p : Peer) (meant : Bool) →
     (is_ready task moment p && (meant && is_free task (λ mark. some_link (has_mark mark) links p.addr))) ≡ (meant && may_be_given task moment links p)
 parts (Asking amount) moment links p meant = asked (is_established p.temp) (nat_le p.share_next moment) meant (some_link (has_mark CanShare) links p.addr)
   where
     asked : (e t m s : Bool) → ((e && t) && (m && s)) ≡ (m && ((e && s) && t))
     asked e t m s =
-        together e t (m && s)
-        ∙ (ap (λ b. e && b) (turned t m s ∙ ap (λ b. m && b) (other_way t s))
-        ∙ (turned e m (s && t) ∙ ap (λ b. m && b) (sym (together e s t))))
+        and_assoc e t (m && s)
+        ∙ (ap (λ b. e && b) (turned t m s ∙ ap (λ b. m && b) (and_comm t s))
+        ∙ (turned e m (s && t) ∙ ap (λ b. m && b) (sym (and_assoc e s t))))
 parts Forgetting moment links p meant = turned (same_temp p.temp Cold) meant (not (some_link (has_mark Pending) links p.addr))
 parts Promoting moment links p meant =
     promoted (same_temp p.temp Cold) (nat_le p.not_before moment) meant (not (some_link (has_mark Pending) links p.addr))
@@ -50,13 +41,13 @@ parts Promoting moment links p meant =
   where
     promoted : (c t m n x : Bool) → ((c && t) && (m && (n && x))) ≡ (m && (((c && n) && t) && x))
     promoted c t m n x =
-        together c t (m && (n && x))
+        and_assoc c t (m && (n && x))
         ∙ (ap (λ b. c && b) (turned t m (n && x) ∙ ap (λ b. m && b) (turned t n x))
         ∙ (turned c m (n && (t && x))
-        ∙ ap (λ b. m && b) (sym (together (c && n) t x ∙ together c n (t && x)))))
+        ∙ ap (λ b. m && b) (sym (and_assoc (c && n) t x ∙ and_assoc c n (t && x)))))
 parts Releasing moment links p meant = turned (same_temp p.temp Warm) meant (not (some_link (has_mark OwesReply) links p.addr))
 parts Activating moment links p meant = turned (same_temp p.temp Warm) meant (not (some_link (has_mark Owes2) links p.addr))
-parts Deactivating moment links p meant = turned (same_temp p.temp Hot) meant true ∙ ap (λ b. meant && b) (other_way (same_temp p.temp Hot) true)
+parts Deactivating moment links p meant = turned (same_temp p.temp Hot) meant true ∙ ap (λ b. meant && b) (and_comm (same_temp p.temp Hot) true)
 
 pub suits_is : (search : Search) (p : Peer) →
     suits search p ≡ (is_of search.big p && is_candidate search.task (is_meant search.whom) search.view.now.moment search.view.now.links p)
@@ -66,8 +57,8 @@ suits_is search p =
     let r : Bool = is_ready search.task search.view.now.moment p in
     let m : Bool = is_meant search.whom p.addr in
     let said : say (links_of p.addr links) ≡ (λ mark. some_link (has_mark mark) links p.addr) = λ i. λ mark. own_say (has_mark mark) p.addr links i in
-    together (o && r) m (is_free search.task (say (links_of p.addr links)))
-    ∙ (together o r (m && is_free search.task (say (links_of p.addr links)))
+    and_assoc (o && r) m (is_free search.task (say (links_of p.addr links)))
+    ∙ (and_assoc o r (m && is_free search.task (say (links_of p.addr links)))
     ∙ (ap (λ (s : Mark → Bool). o && (r && (m && is_free search.task s))) said
     ∙ ap (λ b. o && b) (parts search.task search.view.now.moment links p m)))
 

@@ -49,14 +49,14 @@ impl LinkList {
     }
 
     // The links of an address.
-    pub fn of(&self, addr: Addr) -> &[Link]
+    pub(crate) fn of(&self, addr: Addr) -> &[Link]
         ensures { result.now ≡ links_of addr self.now }
     {
         links_of(&self.links, addr)
     }
 
     // Some link of an address has a mark.
-    pub fn some(&self, addr: Addr, mark: Mark) -> bool
+    pub(crate) fn some(&self, addr: Addr, mark: Mark) -> bool
         ensures { result ≡ some_link (has_mark mark) self.now addr }
     {
         some(mark, self.of(addr))
