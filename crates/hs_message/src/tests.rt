@@ -4,6 +4,7 @@ ghost use Rattle.hs_message.specs.Canonical.{IsOwnTable};
 use super::*;
 use net_base::{NumberList, Octets, OutOfMemory};
 use std::alloc::{AllocError, Global};
+use std::process::Abort;
 use std::test::Fail;
 
 const OWN: VersionInfo = VersionInfo {
@@ -101,63 +102,108 @@ fn declined(alloc: Global, version: u64, text: &[u8]) -> Result<Message, OutOfMe
     Ok(Message::Refuse(Reason::Declined(version, text)))
 }
 
+// The bytes are read as a message.
+fn assert_read(
+    rt: &impl Abort,
+    alloc: Global,
+    bytes: &[u8],
+    want: Result<Message, OutOfMemory>,
+) -> Result<(), Fail> {
+    let want = want?;
+    assert_eq!(rt; read_message(alloc, bytes), Ok(want), "at {bytes:?}");
+    Ok(())
+}
+
 #[test]
-fn messages_are_read(rt: HostRuntime) -> Result<(), Fail> {
+fn offers_are_read(rt: HostRuntime) -> Result<(), Fail> {
     let alloc = rt.alloc();
     let own = [
         known(13, 42, false, true, false),
         known(14, 42, false, true, false),
     ];
-    let cases: [(&[u8], Message); 17] = [
-        (PROPOSAL, proposal(alloc, &own)?),
-        (ACCEPT, accepted(known(14, 42, false, true, false))),
-        (NO_COMMON, no_common(alloc, &[13, 14])?),
-        (
-            b"\x82\x02\x83\x01\x0e\x62no",
-            not_decoded(alloc, 14, &[110, 111])?,
-        ),
-        (
-            b"\x82\x02\x83\x02\x0d\x61\x78",
-            declined(alloc, 13, &[120])?,
-        ),
-        (QUERY_REPLY, query_reply(alloc, &own)?),
+    let wide = [known(14, 42, true, true, true)];
+    let proposals: [(&[u8], &[Offer]); 3] = [
+        (PROPOSAL, &own),
         // heads of every width
         (
             b"\x98\x02\x19\x00\x00\xba\x00\x00\x00\x01\x1b\x00\x00\x00\x00\x00\x00\x00\x0e\x98\x04\x1a\x00\x00\x00\x2a\xf5\x18\x01\xf5",
-            proposal(alloc, &[known(14, 42, true, true, true)])?,
+            &wide,
         ),
-        (
-            b"\x9b\x00\x00\x00\x00\x00\x00\x00\x02\x18\x02\x99\x00\x03\x1a\x00\x00\x00\x01\x19\x00\x0e\x78\x01\x79",
-            not_decoded(alloc, 14, &[121])?,
-        ),
+        // nothing in it
+        (b"\x82\x00\xa0", &[]),
+    ];
+    for (bytes, offers) in proposals {
+        assert_read(&rt, alloc, bytes, proposal(alloc, offers))?;
+    }
+    assert_read(&rt, alloc, QUERY_REPLY, query_reply(alloc, &own))?;
+    assert_read(&rt, alloc, b"\x82\x03\xa0", query_reply(alloc, &[]))
+}
+
+#[test]
+fn accepts_are_read(rt: HostRuntime) {
+    let cases: [(&[u8], Offer); 3] = [
+        (ACCEPT, known(14, 42, false, true, false)),
         // peer sharing as a flag, and the greatest magic
         (
             b"\x83\x01\x0d\x84\x1a\xff\xff\xff\xff\xf4\xf5\xf4",
-            accepted(known(13, 4_294_967_295, false, true, false)),
+            known(13, 4_294_967_295, false, true, false),
         ),
         (
             b"\x83\x01\x0d\x84\x00\xf4\xf4\xf4",
-            accepted(known(13, 0, false, false, false)),
+            known(13, 0, false, false, false),
         ),
+    ];
+    for (bytes, offer) in cases {
+        let want = Ok(accepted(offer));
+        assert_eq!(rt; read_message(rt.alloc(), bytes), want, "at {bytes:?}");
+    }
+}
+
+#[test]
+fn lists_of_versions_are_read(rt: HostRuntime) -> Result<(), Fail> {
+    let alloc = rt.alloc();
+    let cases: [(&[u8], &[u64]); 4] = [
+        (NO_COMMON, &[13, 14]),
         // an indefinite list of versions
-        (
-            b"\x82\x02\x82\x00\x9f\x0d\x18\x0e\xff",
-            no_common(alloc, &[13, 14])?,
-        ),
-        (b"\x82\x02\x82\x00\x9f\xff", no_common(alloc, &[])?),
+        (b"\x82\x02\x82\x00\x9f\x0d\x18\x0e\xff", &[13, 14]),
+        (b"\x82\x02\x82\x00\x9f\xff", &[]),
         // nothing in it
-        (b"\x82\x00\xa0", proposal(alloc, &[])?),
-        (b"\x82\x03\xa0", query_reply(alloc, &[])?),
-        (b"\x82\x02\x82\x00\x80", no_common(alloc, &[])?),
-        (b"\x82\x02\x83\x01\x00\x60", not_decoded(alloc, 0, &[])?),
+        (b"\x82\x02\x82\x00\x80", &[]),
+    ];
+    for (bytes, versions) in cases {
+        assert_read(&rt, alloc, bytes, no_common(alloc, versions))?;
+    }
+    Ok(())
+}
+
+#[test]
+fn texts_are_read(rt: HostRuntime) -> Result<(), Fail> {
+    let alloc = rt.alloc();
+    let undecoded: [(&[u8], u64, &[u8]); 3] = [
+        (b"\x82\x02\x83\x01\x0e\x62no", 14, &[110, 111]),
+        // heads of every width
+        (
+            b"\x9b\x00\x00\x00\x00\x00\x00\x00\x02\x18\x02\x99\x00\x03\x1a\x00\x00\x00\x01\x19\x00\x0e\x78\x01\x79",
+            14,
+            &[121],
+        ),
+        // nothing in it
+        (b"\x82\x02\x83\x01\x00\x60", 0, &[]),
+    ];
+    for (bytes, version, text) in undecoded {
+        assert_read(&rt, alloc, bytes, not_decoded(alloc, version, text))?;
+    }
+    let refused: [(&[u8], u64, &[u8]); 2] = [
+        (b"\x82\x02\x83\x02\x0d\x61\x78", 13, &[120]),
         // a text that is not UTF-8, and the greatest version
         (
             b"\x82\x02\x83\x02\x1b\xff\xff\xff\xff\xff\xff\xff\xff\x62\xff\xfe",
-            declined(alloc, 18_446_744_073_709_551_615, &[255, 254])?,
+            18_446_744_073_709_551_615,
+            &[255, 254],
         ),
     ];
-    for (bytes, want) in cases {
-        assert_eq!(rt; read_message(alloc, bytes), Ok(want), "at {bytes:?}");
+    for (bytes, version, text) in refused {
+        assert_read(&rt, alloc, bytes, declined(alloc, version, text))?;
     }
     Ok(())
 }
