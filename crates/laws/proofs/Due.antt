@@ -52,7 +52,7 @@ use Rattle.machine.specs.Stream.{handled_in, handled, kind_of, faulted}
 use Rattle.machine.specs.Talking.{replies, stops_if, serves, begins, takes_requests, asked_as, shares_address, taken_of, takes_addresses, pays, brings, answered_as, talks}
 use Rattle.laws.specs.Acts.{Act, shows, fires_one, asks_for_roots, carries, connects, ends_dial, stores, handles_item, ends_stream, is_closed, sets_targets, sets_big_targets, sets_groups, sets_roots, makes_ordinary, provides, provides_big, does}
 use Rattle.laws.specs.AtMoves.{fault_of_request, fault_of_answer, fault_of}
-use Rattle.laws.specs.Parts.{ends_on, causes_of_kind, causes_of_verdict, causes_of_message, causes_of_greeting, causes_of_fault, causes_of_item, causes_of_cut, causes_of_crossing, ends_due, is_pruned, but_pruned, IsOneMove, IsItsMove}
+use Rattle.laws.specs.Parts.{ends_on, causes_of_kind, causes_of_verdict, causes_of_message, causes_of_greeting, causes_of_fault, causes_of_item, causes_of_cut, causes_of_crossing, ends_due, is_pruned, but_pruned, IsOneMove}
 use Rattle.laws.specs.Told.{End, ended_by, ends_in}
 use Rattle.laws.proofs.ToldMoves.{turns_at-moves}
 use Rattle.laws.proofs.Lawful.{lost_by-quiet, lost-quiet, comes-providing}
@@ -318,7 +318,7 @@ activate-others addr m = by_entry (find (is_used_at addr) m.connections)
     by_entry (Some e) = refl
 
 -- a promotion and an activation are one move each
-promote-move : (addr : Addr) (m : Machine) → IsOneMove (promoted addr) m (promote addr m)
+pub promote-move : (addr : Addr) (m : Machine) → IsOneMove (promoted addr) m (promote addr m)
 promote-move addr m = by_live (live_entry_at addr m)
   where
     reuses : (e : Entry) → IsOneMove (promoted addr) m (as_move (promoted addr) m (acquire e m))
@@ -332,39 +332,12 @@ promote-move addr m = by_live (live_entry_at addr m)
     by_live (Some e) = cond_both (is_acquirable e.facts) (acquire e m) (dial addr m) (λ effect. IsOneMove (promoted addr) m (as_move (promoted addr) m effect))
         (λ free. reuses e) (λ other. refl)
 
-activate-move : (addr : Addr) (m : Machine) → IsOneMove (activated addr) m (activate addr m)
+pub activate-move : (addr : Addr) (m : Machine) → IsOneMove (activated addr) m (activate addr m)
 activate-move addr m = by_entry (find (is_used_at addr) m.connections)
   where
     by_entry : (o : Option Entry) → IsOneMove (activated addr) m (as_move (activated addr) m (on_entry o activates m))
     by_entry None = refl
     by_entry (Some e) = refl
-
-order-move : (order : Order) (m : Machine) → IsItsMove (carries order) m (carries_out order m)
-order-move (Ask addr n) m = tt
-order-move (Forget addr) m = tt
-order-move (Promote addr) m = promote-move addr m
-order-move (Release addr) m = tt
-order-move (Activate addr) m = activate-move addr m
-order-move (Deactivate addr) m = tt
-
-pub its-move : (act : Act) (m : Machine) → IsItsMove act m (does act m)
-its-move (shows t) m = tt
-its-move (fires_one d) m = tt
-its-move asks_for_roots m = tt
-its-move (carries order) m = order-move order m
-its-move (connects addr) m = tt
-its-move (ends_dial cid opened) m = tt
-its-move (stores entry undecoded) m = tt
-its-move (handles_item cid item) m = tt
-its-move (ends_stream cid fault) m = tt
-its-move (is_closed cid) m = tt
-its-move (sets_targets targets) m = tt
-its-move (sets_big_targets targets) m = tt
-its-move (sets_groups groups) m = tt
-its-move (sets_roots roots) m = tt
-its-move (makes_ordinary addr) m = tt
-its-move (provides addr) m = tt
-its-move (provides_big addr) m = tt
 
 carries-others : (order : Order) (m : Machine) → others (carries_out order m) ≡ []
 carries-others (Ask addr n) m = on_used-others addr (asks_peer n) m

@@ -48,6 +48,7 @@ mod ToldMoves
 mod Open
 mod Chain
 mod Due
+mod CarriedOut
 mod Least
 mod PartMoves
 mod PartEvents

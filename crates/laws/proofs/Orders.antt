@@ -22,6 +22,7 @@ use Rattle.machine.specs.Govern.{is_used_at, on_used, asks_peer, activates, deac
 use Rattle.warm_messages.specs.Writing.{written_alive, written_request}
 use Rattle.warm_messages.specs.declared.alive.Alive.TheVariants.{Done}
 use Rattle.laws.specs.AtMoves.{IsReady, IsLawful, is_up_connection, is_up, is_hot_peer, is_asked_connection, is_hot_or_asked, is_known, promotes, activates as activation, shares}
+use Rattle.laws.specs.Sound.{IsOrderly}
 use Rattle.laws.specs.Whole.{AreApart, AreTied, IsAlone, TiedBy, IsTied}
 use Rattle.laws.proofs.Addresses.{same_address-true}
 use Rattle.laws.proofs.Books.{book_of, filter-book}
@@ -59,10 +60,14 @@ pub still_may : (May : Machine → Addr → Type 0) (m n : Machine) (a : Addr) (
 still_may May m n a [] same others h = tt
 still_may May m n a (b ∷ addrs) same others h = (same b others.0 h.0, still_may May m n a addrs same others.1 h.1)
 
--- each order accounts for what it does
+-- each order accounts for what it does, on a machine that is in order
+pub record IsAccountedFor (order : Order) (m : Machine) : Type 0 where
+  pub orderly : IsOrderly m
+  pub accounts : Accounts m (carries_out order m)
+
 abbrev pub EachAccounted : List Order → Machine → Type 0
 EachAccounted [] m = Unit {0}
-EachAccounted (order ∷ orders) m = Accounts m (carries_out order m) × EachAccounted orders (carries_out order m).machine
+EachAccounted (order ∷ orders) m = IsAccountedFor order m × EachAccounted orders (carries_out order m).machine
 
 -- orders were carried out one after the other
 pub record Followed (Law : Move → Type 0) (orders : List Order) (m : Machine) : Type 0 where
@@ -73,12 +78,12 @@ pub nothing-followed : (Law : Move → Type 0) (m : Machine) → IsOrdered m →
 unfolding for_each
 nothing-followed Law m h within = record { trimmed = nothing-trimmed Law m within h; each = tt }
 
-pub first-followed : (Law : Move → Type 0) (order : Order) (orders : List Order) (m : Machine) → Trimmed Law m (carries_out order m) →
+pub first-followed : (Law : Move → Type 0) (order : Order) (orders : List Order) (m : Machine) → IsOrderly m → Trimmed Law m (carries_out order m) →
     Followed Law orders (carries_out order m).machine → Followed Law (order ∷ orders) m
 unfolding for_each
-first-followed Law order orders m first rest = record {
+first-followed Law order orders m orderly first rest = record {
   trimmed = trimmed_then Law m (carries_out order m) (for_each carries_out orders) first rest.trimmed;
-  each = (first.accounted, rest.each);
+  each = (record { orderly = orderly; accounts = first.accounted }, rest.each);
 }
 
 pub orders-followed : (Law : Move → Type 0) (May : Machine → Addr → Type 0) (order : Addr → Order) → Carries Law May order → (addrs : List Addr) (m : Machine) →
@@ -88,7 +93,7 @@ orders-followed Law May order each [] m h within apart may = nothing-followed La
 orders-followed Law May order each (a ∷ addrs) m h within apart may =
     let effect : Effect = carries_out (order a) m in
     let first : Carried Law May a m effect = each a m h within may.0 in
-    first-followed Law (order a) (map order addrs) m first.trimmed
+    first-followed Law (order a) (map order addrs) m h.orderly first.trimmed
     (orders-followed Law May order each addrs effect.machine first.trimmed.ordered (trimmed-within Law m effect first.trimmed) apart.1
     (still_may May m effect.machine a addrs first.elsewhere apart.0 may.1))
 
@@ -346,7 +351,7 @@ releasing : Entry → Machine → Effect
 releasing e m = then_do (entry_turns e (record e { facts = released (m.now + m.settings.idle) e.facts }) m)
     (λ m. then_do (peer_becomes Cold e.facts.addr m) (trim e.facts.cid))
 
-unused_at : (b : Addr) (x : Entry) → x.facts.local ≡ false → is_used_at b x ≡ false
+pub unused_at : (b : Addr) (x : Entry) → x.facts.local ≡ false → is_used_at b x ≡ false
 unused_at b x unused = by_test (is_live_at b x.facts)
   where
     by_test : (c : Bool) → (c && x.facts.local) ≡ false
@@ -410,7 +415,7 @@ releasing-carried addr m e k u may =
       elsewhere = λ b other may_b x found.
           let apart : same_address e.facts.addr b ≡ false = subst (λ a. same_address a b ≡ false) (sym u.here) (same_turned b addr other) in
           may_b x
-          (sym (trim-used (is_used_at b) (unused_at b) e.facts.cid o new k raised.ordered stands refl refl
+          (sym (trim-used (is_used_at b) (unused_at b) e.facts.cid o new k raised.ordered.orderly stands refl refl
           ∙ ap (find (is_used_at b)) same
           ∙ find-set_other (is_used_at b) new e m.connections k s (other_at b e apart) (other_at b new apart)) ∙ found);
     }

@@ -23,6 +23,7 @@ use Rattle.machine.specs.Peers.{turns_at, peer_at, peer_fails}
 use Rattle.machine.specs.Connections.{without_entry, is_missed, lost, ending, candidate_of, candidates_in, trim}
 use Rattle.laws.specs.AtMoves.{IsCrowded, IsLawful}
 use Rattle.laws.specs.Laws.{LocalsAreOrdinary}
+use Rattle.laws.specs.Sound.{IsOrderly}
 use Rattle.laws.specs.Stages.{IsLateCause}
 use Rattle.laws.specs.Told.{ended_by, promoted_by_dial}
 use Rattle.laws.specs.Whole.{IsTied}
@@ -214,10 +215,10 @@ pub record HasMoved (moved : Cid) (m : Machine) : Type 0 where
   pub same : entry.facts.cid ≡ moved
   pub counted : is_counted entry.facts ≡ true
 
-found_by_id : (m : Machine) (e : Entry) (k : ℕ) (cid : Cid) → IsOrdered m → StandsAt m.connections k e → e.facts.cid ≡ cid →
+found_by_id : (m : Machine) (e : Entry) (k : ℕ) (cid : Cid) → IsOrderly m → StandsAt m.connections k e → e.facts.cid ≡ cid →
     entry_at cid.0 m ≡ Some e
 found_by_id m e k cid h s same =
-    find_only (λ x. has_id cid.0 x.facts) e m.connections k (one_has_id cid.0 m.connections h.orderly.ids_rise) s
+    find_only (λ x. has_id cid.0 x.facts) e m.connections k (one_has_id cid.0 m.connections h.ids_rise) s
     (eq-eqb e.facts.cid.0 cid.0 (ap (λ c. c.0) same))
 
 pub trim-trims : (moved : Cid) (m : Machine) → IsOrdered m → counted_in m ≤ m.settings.hard + 1 →
@@ -231,11 +232,11 @@ trim-trims moved m h most over = cond_both (nat_le (counted_in m) m.settings.har
     by_choice : counted_in m ≡ m.settings.hard + 1 → (o : Option Candidate) → first_to_go (candidates_in m) ≡ o → HasMoved moved m →
         Trimmed IsLawful m (on_entry (entry_at (unwrap_or (option_map (λ c. c.cid) (first_to_go (candidates_in m))) moved).0 m) (ending Pruned) m)
     by_choice one_more None none own =
-        rw (none, found_by_id m own.entry own.place moved h own.stands own.same)
+        rw (none, found_by_id m own.entry own.place moved h.orderly own.stands own.same)
         (pruned-trims m own.entry own.place h own.stands own.counted one_more)
     by_choice one_more (Some c) some own =
         let goes : Goes m.connections c = goes_among m.connections c some in
-        rw (some, found_by_id m goes.entry goes.place c.cid h goes.stands goes.same)
+        rw (some, found_by_id m goes.entry goes.place c.cid h.orderly goes.stands goes.same)
         (pruned-trims m goes.entry goes.place h goes.stands goes.counted one_more)
 
 -- ---- who is in local use stays
@@ -244,13 +245,13 @@ pub lost-connections : (f : Facts) (m : Machine) → (lost f m).machine.connecti
 lost-connections f m = cond_both (is_missed f) (peer_fails f.addr m) (nothing_more m) (λ effect. effect.machine.connections ≡ m.connections)
     (λ missed. turns_at-connections (peer_at f.addr m) (failed_peer m.now m.settings.backoff) m) (λ other. refl)
 
-pruned-used : (q : Entry → Bool) → ((x : Entry) → x.facts.local ≡ false → q x ≡ false) → (m : Machine) (e : Entry) (k : ℕ) → IsOrdered m →
+pruned-used : (q : Entry → Bool) → ((x : Entry) → x.facts.local ≡ false → q x ≡ false) → (m : Machine) (e : Entry) (k : ℕ) → IsOrderly m →
     StandsAt m.connections k e → e.facts.local ≡ false → find q (ending Pruned e m).machine.connections ≡ find q m.connections
 pruned-used q only m e k h s unused =
-    ap (find q) (lost-connections e.facts (without_entry e.facts.cid.0 m) ∙ gone-connections m e k h.orderly s)
+    ap (find q) (lost-connections e.facts (without_entry e.facts.cid.0 m) ∙ gone-connections m e k h s)
     ∙ find-remove_other q e m.connections k s (only e unused)
 
-pub trim-used : (q : Entry → Bool) → ((x : Entry) → x.facts.local ≡ false → q x ≡ false) → (moved : Cid) (m : Machine) (e : Entry) (k : ℕ) → IsOrdered m →
+pub trim-used : (q : Entry → Bool) → ((x : Entry) → x.facts.local ≡ false → q x ≡ false) → (moved : Cid) (m : Machine) (e : Entry) (k : ℕ) → IsOrderly m →
     StandsAt m.connections k e → e.facts.cid ≡ moved → e.facts.local ≡ false → find q (trim moved m).machine.connections ≡ find q m.connections
 trim-used q only moved m e k h s same unused = cond_both (nat_le (counted_in m) m.settings.hard) (nothing_more m)
     (on_entry (entry_at (unwrap_or (choice_of (candidates_in m)) moved).0 m) (ending Pruned) m) (λ effect. find q effect.machine.connections ≡ find q m.connections)

@@ -1,8 +1,9 @@
 -- What an operator counts on in each part of an event, between the records that it really reaches.
 use Rattle.std.specs.Prelude.{ℕ, ◌≡◌, ◌≤◌, Bool, true, false, not, nat_le, ◌&&◌, ◌||◌, ◌==◌, List, [], ◌∷◌, map, filter, All, Contains, if◌then◌else◌, Option, Some, None}
 use Rattle.std.specs.List.{list_any}
-use Rattle.conn_state.specs.Use.{is_pending}
-use Rattle.govern_rules.specs.declared.order.Order.TheVariants.{Promote, Activate}
+use Rattle.conn_state.specs.Use.{is_live_at, is_pending}
+use Rattle.govern_rules.specs.declared.order.Order.{Order}
+use Rattle.govern_rules.specs.declared.order.Order.TheVariants.{Ask, Forget, Promote, Release, Activate, Deactivate}
 use Rattle.hs_decide.specs.Agreement.{verdict_of}
 use Rattle.hs_decide.specs.declared.role.Role.{Role}
 use Rattle.hs_decide.specs.declared.verdict.Verdict.{Verdict}
@@ -127,10 +128,22 @@ IsNext other m = Unit {0}
 abbrev pub IsOneMove : Happened → Machine → Effect → Type 0
 IsOneMove happened before effect = effect.moves ≡ record { happened = happened; before = before; after = effect.machine } ∷ []
 
-abbrev pub IsItsMove : Act → Machine → Effect → Type 0
-IsItsMove (carries (Promote addr)) before effect = IsOneMove (promoted addr) before effect
-IsItsMove (carries (Activate addr)) before effect = IsOneMove (activated addr) before effect
-IsItsMove other before effect = Unit {0}
+-- no connection of an address is in local use
+abbrev pub IsUsedByNobody : Addr → Machine → Type 0
+IsUsedByNobody addr m = All (λ e. is_live_at addr e.facts ≡ true → e.facts.local ≡ false) m.connections
+
+-- After a release nobody uses the address, and one that is forgotten is not known.
+abbrev pub IsCarriedOut : Order → Machine → Effect → Type 0
+IsCarriedOut (Ask addr n) before effect = Unit {0}
+IsCarriedOut (Forget addr) before effect = is_known addr effect.machine ≡ false
+IsCarriedOut (Promote addr) before effect = IsOneMove (promoted addr) before effect
+IsCarriedOut (Release addr) before effect = IsUsedByNobody addr effect.machine
+IsCarriedOut (Activate addr) before effect = IsOneMove (activated addr) before effect
+IsCarriedOut (Deactivate addr) before effect = Unit {0}
+
+abbrev pub IsDoneByOrder : Act → Machine → Effect → Type 0
+IsDoneByOrder (carries order) before effect = IsCarriedOut order before effect
+IsDoneByOrder other before effect = Unit {0}
 
 -- ---- whose handshake was done before it
 
@@ -171,8 +184,8 @@ pub record IsLawfulPart (event : Event) (part : Part) : Type 0 where
   pub accounted : IsAccounted event part.before (effect_of part)
   -- a deadline fires in its turn
   pub next : IsNext part.act part.before
-  -- a promotion or an activation is one move, of the whole part
-  pub move : IsItsMove part.act part.before (effect_of part)
+  -- an order does what it says
+  pub order : IsDoneByOrder part.act part.before (effect_of part)
   -- it ends whom it must, for the cause that stands, and nobody else but by pruning
   pub ends : but_pruned (ends_in (effect_of part).moves) ≡ ends_due part.act part.before
 
