@@ -1,6 +1,6 @@
 -- Links in address order, and what they say of an address.
 use Rattle.std.proofs.Common.{◌≡◌, ℕ, suc, zero, ◌<◌, ◌≤◌, ◌+◌, Bool, true, false, ◌&&◌, ◌||◌, List, [], ◌∷◌, length, take, drop, get_or, refl, sym, ap, ◌∙◌, inl, inr, arith, rules}
-use Rattle.std.specs.List.{AllByRecursion, prefix_len, list_any, filter}
+use Rattle.std.specs.List.{AllByRecursion, prefix_len, list_any}
 use Rattle.std.specs.List.Sorted.{IsPermutation, IsPartitionedBy, IsSortedBy}
 use Rattle.std.specs.Ordering.{is_lt}
 use Rattle.std.proofs.lemmas.Bool.{cases_Bool, false≢true, false_from_ne_true}

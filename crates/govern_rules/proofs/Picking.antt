@@ -1,5 +1,5 @@
 -- Whom the pick gives doesn't hang on the order of the candidates.
-use Rattle.std.proofs.Common.{◌≡◌, ℕ, zero, suc, ◌<◌, Bool, true, false, ◌&&◌, List, [], ◌∷◌, map, length, refl, sym, ap, ◌∙◌, subst, inl, inr, arith}
+use Rattle.std.proofs.Common.{◌≡◌, ℕ, zero, suc, ◌<◌, Bool, true, false, List, [], ◌∷◌, map, length, refl, sym, ap, ◌∙◌, subst, inl, inr, arith}
 use Rattle.std.specs.List.{IsDistinct, filter, count_by}
 use Rattle.std.specs.List.Sorted.{IsPermutation}
 use Rattle.std.proofs.lemmas.List.Sorted.{IsPermutation-sym, Contains-permutation}
@@ -9,7 +9,6 @@ use Rattle.net_base.specs.declared.address.Addr.{Addr}
 use Rattle.net_base.specs.declared.peer.Peer.{Peer}
 use Rattle.peer_book.specs.Book.{addresses_of}
 use Rattle.pick_policy.specs.Least.{least_by}
-use Rattle.pick_policy.specs.Picks.{picked, ranked}
 use Rattle.pick_policy.specs.Scores.{scores_below, rates_below}
 use Rattle.pick_policy.specs.declared.rated.Rated.{Rated}
 use Rattle.pick_policy.proofs.Distinct.{AreComparable-from_distinct, Connects}

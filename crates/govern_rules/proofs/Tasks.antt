@@ -1,11 +1,11 @@
 -- The orders of a rule by the targets, by the candidates that were found.
-use Rattle.std.proofs.Common.{◌≡◌, ℕ, List, map, sym, ap, ◌∙◌}
+use Rattle.std.proofs.Common.{◌≡◌, ℕ, List, map, ap, ◌∙◌}
 use Rattle.std.specs.List.{IsDistinct, filter}
 use Rattle.std.specs.List.Sorted.{IsPermutation}
 use Rattle.std.proofs.lemmas.List.Sorted.{IsPermutation-sym}
 use Rattle.net_base.specs.Address.{same_address}
 use Rattle.net_base.specs.declared.peer.Peer.{Peer}
-use Rattle.peer_book.specs.Book.{is_of, addresses_of}
+use Rattle.peer_book.specs.Book.{addresses_of}
 use Rattle.govern_rules.specs.Orders.{picks_of, orders_for}
 use Rattle.govern_rules.specs.Search.{suits}
 use Rattle.govern_rules.specs.Tasks.{order_of, number_of, is_candidate, task_orders}

@@ -4,11 +4,8 @@ use Rattle.net_base.specs.declared.address.Addr.{Addr}
 use Rattle.net_base.specs.declared.event.Group.{Group}
 use Rattle.net_base.specs.declared.peer.Peer.{Peer}
 use Rattle.root_groups.specs.Cleaned.{is_listed}
-use Rattle.govern_rules.specs.BigRules.{everybody}
-use Rattle.govern_rules.specs.Orders.{orders_for}
 use Rattle.govern_rules.specs.Rules.{promotes_members, activates_members, deactivates_members}
 use Rattle.govern_rules.specs.Statuses.{count_with}
-use Rattle.govern_rules.specs.Tasks.{order_of, is_candidate}
 use Rattle.govern_rules.specs.declared.link.Link.{Link}
 use Rattle.govern_rules.specs.declared.order.Order.{Order}
 use Rattle.govern_rules.specs.declared.status.Status.TheVariants.{EstablishedOrPending, HotOrOwesOn2, Hot}

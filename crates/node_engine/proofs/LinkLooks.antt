@@ -1,5 +1,5 @@
 -- Links that are looked up by the index say what the connections do.
-use Rattle.std.proofs.Common.{◌≡◌, ℕ, ◌<◌, ◌≤◌, ◌==◌, nat_lt, Bool, true, false, ◌&&◌, ◌||◌, List, [], ◌∷◌, map, find, Option, Some, None, refl, sym, ap, subst, ◌∙◌, arith}
+use Rattle.std.proofs.Common.{◌≡◌, ℕ, ◌<◌, ◌≤◌, Bool, true, false, ◌&&◌, ◌||◌, List, [], ◌∷◌, map, find, Option, Some, None, refl, sym, ap, subst, ◌∙◌, arith}
 use Rattle.std.specs.List.{AllByRecursion, list_any, filter_map, cons_option}
 use Rattle.std.specs.List.Sorted.{IsPermutation}
 use Rattle.std.specs.Option.{option_map}
@@ -16,7 +16,7 @@ use Rattle.machine.specs.Govern.{link_of}
 use Rattle.machine.specs.Machine.{Entry}
 use Rattle.net_base.specs.Address.{same_address}
 use Rattle.net_base.specs.declared.connection.Facts.{Facts}
-use Rattle.node_engine.specs.Talks.{entry_of, entries_of, AreTalksOf}
+use Rattle.node_engine.specs.Talks.{entries_of, AreTalksOf}
 use Rattle.node_engine.specs.declared.talk.Talk.{Talk}
 use Rattle.node_engine.proofs.TalkPairs.{facts_paired}
 

@@ -1,4 +1,4 @@
-use Rattle.std.proofs.Common.{◌≡◌, ◌∷◌, false, sym, subst, ◌∙◌, rules}
+use Rattle.std.proofs.Common.{◌≡◌, ◌∷◌, false, sym, subst, rules}
 use Rattle.govern_rules.specs.SortedLinks.{IsByAddress, is_above_next}
 use Rattle.govern_rules.proofs.ByAddress.{by_address-front}
 use Rattle.govern_rules.proofs.links.is_by_address.Goals as goal

@@ -1,9 +1,8 @@
-use Rattle.std.proofs.Common.{◌≡◌, ◌+◌, ◌&&◌, ◌∷◌, [], List, true, false, cond, length, sym, ap, ◌∙◌, subst, arith, rules}
+use Rattle.std.proofs.Common.{◌≡◌, ◌+◌, ◌∷◌, [], true, false, length, sym, ap, ◌∙◌, subst, arith, rules}
 use Rattle.govern_rules.specs.ClassRules.{count_of}
 use Rattle.govern_rules.specs.Links.{some_link}
-use Rattle.govern_rules.specs.Marks.{has_mark, is_last_marked, is_class_at}
+use Rattle.govern_rules.specs.Marks.{has_mark}
 use Rattle.govern_rules.specs.SortedLinks.{IsByAddress}
-use Rattle.govern_rules.specs.declared.link.Link.{Link}
 use Rattle.govern_rules.proofs.Apart.{nothing}
 use Rattle.govern_rules.proofs.Counting.{one-link, no-link}
 use Rattle.govern_rules.proofs.marked.count_marked.Goals as goal

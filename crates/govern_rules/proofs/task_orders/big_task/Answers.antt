@@ -1,9 +1,9 @@
-use Rattle.std.proofs.Common.{◌≡◌, ℕ, true, List, IfOk, map, sym, ap, subst, ◌∙◌}
+use Rattle.std.proofs.Common.{◌≡◌, true, IfOk, map, sym, ap, subst, ◌∙◌}
 use Rattle.std.specs.List.{IsDistinct}
 use Rattle.net_base.specs.Address.{same_address}
 use Rattle.peer_book.specs.Book.{addresses_of}
 use Rattle.govern_rules.specs.Orders.{picks_of}
-use Rattle.govern_rules.specs.Tasks.{order_of, number_of, is_candidate, task_orders}
+use Rattle.govern_rules.specs.Tasks.{order_of, number_of, is_candidate}
 use Rattle.govern_rules.specs.Whom.{is_meant}
 use Rattle.govern_rules.specs.declared.search.Search.{Search}
 use Rattle.govern_rules.proofs.Picking.{no-orders}

@@ -1,4 +1,4 @@
-use Rattle.std.proofs.Common.{◌≡◌, ℕ, false, List, IfOk, map, refl, sym, ap, subst, ◌∙◌}
+use Rattle.std.proofs.Common.{◌≡◌, ℕ, false, IfOk, map, sym, ap, subst, ◌∙◌}
 use Rattle.std.specs.List.{IsDistinct, filter}
 use Rattle.net_base.specs.Address.{same_address}
 use Rattle.net_base.specs.declared.peer.Peer.{Peer}

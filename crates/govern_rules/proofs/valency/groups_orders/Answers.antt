@@ -1,4 +1,4 @@
-use Rattle.std.proofs.Common.{◌≡◌, ◌++◌, [], length, get_or, sym, ap, subst, ◌∙◌, arith, rules}
+use Rattle.std.proofs.Common.{◌≡◌, ◌++◌, length, get_or, sym, ap, subst, ◌∙◌, arith, rules}
 use Rattle.std.specs.List.{IsDistinct, flat_map}
 use Rattle.std.proofs.lemmas.List.{append-nil}
 use Rattle.net_base.specs.Address.{same_address}

@@ -1,10 +1,9 @@
-use Rattle.std.proofs.Common.{◌≡◌, Option, Some, None, get_or, sym, ap, ◌∙◌, arith}
+use Rattle.std.proofs.Common.{◌≡◌, Some, None, get_or, sym, ap, ◌∙◌, arith}
 use Rattle.std.specs.Option.{option_map}
 use Rattle.std.proofs.lemmas.Option.{get_or_from_slice_get}
 use Rattle.conn_state.specs.Use.{has_id, facts_at}
 use Rattle.conn_table.specs.Finds.{id_place}
 use Rattle.machine.specs.Govern.{link_of}
-use Rattle.machine.specs.Machine.{Entry}
 use Rattle.net_base.specs.Shared.{nothing_undecoded}
 use Rattle.node_engine.specs.Standing.{Standing, entry_with}
 use Rattle.node_engine.specs.declared.talk.Talk.{Talk}

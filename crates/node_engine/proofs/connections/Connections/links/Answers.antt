@@ -2,7 +2,6 @@ use Rattle.std.proofs.Common.{◌≡◌, List, IfOk, map, sym, ap, subst, ◌∙
 use Rattle.std.specs.List.{filter_map}
 use Rattle.std.proofs.lemmas.Result.{IfOk-weaker}
 use Rattle.conn_table.specs.Index.{index_of}
-use Rattle.govern_rules.specs.Links.{some_link}
 use Rattle.govern_rules.specs.SortedLinks.{SaySame}
 use Rattle.govern_rules.specs.declared.link.Link.{Link}
 use Rattle.govern_rules.proofs.ByAddress.{SaySame-permutation}
