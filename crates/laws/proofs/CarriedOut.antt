@@ -1,6 +1,6 @@
 -- Each order does what it says.
-use Rattle.std.proofs.Common.{ℕ, ◌+◌, ◌≡◌, Bool, true, false, ◌&&◌, List, [], ◌∷◌, find, get_or, set, All, Option, Some, None, is_some, refl, sym, ap, ◌∙◌, subst}
-use Rattle.std.proofs.lemmas.Bool.{both_ways, false≢true, and_parts, and_from, false_from_ne_true}
+use Rattle.std.proofs.Common.{ℕ, ◌+◌, ◌≡◌, true, false, ◌&&◌, find, get_or, set, Option, Some, None, is_some, refl, sym, ap, ◌∙◌, subst}
+use Rattle.std.proofs.lemmas.Bool.{and_parts}
 use Rattle.std.proofs.lemmas.List.Elements.{All-weaker}
 use Rattle.conn_state.specs.Moves.{released}
 use Rattle.conn_state.specs.Use.{is_live_at}
@@ -10,7 +10,7 @@ use Rattle.net_base.specs.declared.address.Addr.{Addr}
 use Rattle.net_base.specs.declared.peer.Peer.{Peer}
 use Rattle.net_base.specs.declared.peer.Temp.TheVariants.{Cold}
 use Rattle.machine.specs.Connections.{with_entry, entry_turns, trim, release}
-use Rattle.machine.specs.Effect.{Effect, then_do, on_entry}
+use Rattle.machine.specs.Effect.{then_do, on_entry}
 use Rattle.machine.specs.Govern.{is_used_at, on_used, carries_out}
 use Rattle.machine.specs.Machine.{Machine, Entry}
 use Rattle.machine.specs.Peers.{peer_at, turns_at, peer_becomes, peer_goes}

@@ -1,13 +1,12 @@
 -- The governor as a whole: each rule, and all of them.
 use Rattle.std.proofs.Common.{ℕ, ◌-◌, ◌≤◌, ◌≡◌, Bool, true, false, cond, not, ◌&&◌, ◌||◌, List, [], ◌∷◌, ◌++◌, map, find, flat_map, Option, Some, None, is_some, refl, sym, ap, ◌∙◌, subst, nat_le, arith}
 use Rattle.std.specs.List.{AllByRecursion}
-use Rattle.std.proofs.lemmas.Bool.{cond_both, and_parts, or_parts, false≢true, not-true}
+use Rattle.std.proofs.lemmas.Bool.{cond_both, and_parts, or_parts, not-true}
 use Rattle.net_base.specs.Address.{same_address}
 use Rattle.net_base.specs.declared.address.Addr.{Addr}
 use Rattle.net_base.specs.declared.action.Action.TheVariants.{AskRoots}
 use Rattle.net_base.specs.declared.event.Group.{Group}
 use Rattle.net_base.specs.declared.peer.Peer.{Peer}
-use Rattle.net_base.specs.declared.peer.Temp.{Temp}
 use Rattle.net_base.specs.declared.peer.Temp.TheVariants.{Cold, Warm, Hot}
 use Rattle.conn_state.specs.Use.{is_live, is_live_at}
 use Rattle.peer_book.specs.Book.{active_of, is_established, same_temp}

@@ -15,7 +15,7 @@ use Rattle.net_base.specs.declared.peer.Peer.{Peer}
 use Rattle.conn_state.specs.Use.{has_id, is_live, live_phase, is_negotiated, is_negotiated_phase}
 use Rattle.machine.specs.Machine.{Machine, Entry, entry_at}
 use Rattle.machine.specs.Effect.{Effect, Happened, Move, promoted, shared, ended, nothing_more, tells, then_do, as_move}
-use Rattle.machine.specs.Peers.{turns_at, peer_at, peer_changes, peer_fails, peer_succeeds, note_of_coming, peer_comes}
+use Rattle.machine.specs.Peers.{peer_at, peer_changes, peer_fails, peer_succeeds, note_of_coming, peer_comes}
 use Rattle.net_base.specs.declared.address.Addr.{Addr}
 use Rattle.peer_book.specs.Book.{peer_at as peer_in, new_peer, entry_of, entered}
 use Rattle.peer_book.specs.declared.added.Added.{Added}
