@@ -29,14 +29,14 @@ pub mod Remains
 mod Handshakes
 mod Talks
 pub mod Streams
-mod WholeEvents
+pub mod WholeEvents
 mod WholeRuns
 mod Promotions
 mod Picks
 pub mod Ties
 mod Rises
 mod Arrivals
-mod PeerLaws
+pub mod PeerLaws
 mod Lawful
 mod KnownWanted
 mod Clock
@@ -50,4 +50,4 @@ mod Chain
 mod Due
 mod Least
 mod PartMoves
-mod PartEvents
+pub mod PartEvents
