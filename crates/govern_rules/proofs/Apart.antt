@@ -1,7 +1,9 @@
 -- Distinct addresses, and peers with them.
-use Rattle.std.proofs.Common.{◌≡◌, ℕ, suc, zero, ◌<◌, Bool, false, List, [], ◌∷◌, ◌++◌, map, length, get_or, inl, inr, arith}
+use Rattle.std.proofs.Common.{◌≡◌, ℕ, suc, zero, ◌<◌, Bool, false, List, [], ◌∷◌, ◌++◌, map, length, get_or, refl, inl, inr, arith}
 use Rattle.std.specs.List.{AllByRecursion, IsDistinct, filter}
+use Rattle.std.specs.List.Sorted.{IsPermutation}
 use Rattle.std.proofs.lemmas.Bool.{cases_Bool}
+use Rattle.std.proofs.lemmas.List.Sorted.{IsPermutation-map}
 use Rattle.net_base.specs.Address.{same_address}
 use Rattle.net_base.specs.declared.address.Addr.{Addr}
 use Rattle.net_base.specs.declared.event.Group.{Group}
@@ -9,6 +11,7 @@ use Rattle.net_base.specs.declared.peer.Peer.{Peer}
 use Rattle.peer_book.specs.Book.{addresses_of}
 use Rattle.peer_book.specs.Order.{IsRising}
 use Rattle.peer_book.proofs.BookFacts.{IsDistinct-rising}
+use Rattle.pick_policy.proofs.Distinct.{IsDistinct-permutation}
 use Rattle.root_groups.specs.Cleaned.{members_of}
 
 -- ---- after a filter
@@ -56,3 +59,22 @@ distinct_members (g ∷ groups) (suc i) d inside h = distinct_members groups i d
 
 pub distinct_book : (book : List Peer) → IsRising (λ p. p.addr) book → IsDistinct same_address (addresses_of book)
 distinct_book book rises = IsDistinct-rising (λ (p : Peer). p.addr) book rises
+
+-- ---- in another order
+
+pub apart-permuted : (peers others : List Peer) → IsDistinct same_address (addresses_of peers) → IsPermutation peers others →
+    IsDistinct same_address (addresses_of others)
+apart-permuted peers others apart moved =
+    IsDistinct-permutation (addresses_of peers) (addresses_of others) (IsPermutation-map (λ (p : Peer). p.addr) peers others moved) apart
+
+-- those of a book that pass a test, in any order
+pub filter_apart : (test : Peer → Bool) (book others : List Peer) → IsRising (λ p. p.addr) book → IsPermutation (filter test book) others →
+    IsDistinct same_address (addresses_of others)
+filter_apart test book others rises =
+    apart-permuted (filter test book) others (IsDistinct-filter (λ (p : Peer). p.addr) test book (distinct_book book rises))
+
+-- ---- nothing
+
+pub nothing : {X : Type 0} (xs : List X) → length xs ≡ 0 → xs ≡ []
+nothing [] h = refl
+nothing (x ∷ xs) h = absurd (omega (arith, h))

@@ -1,19 +1,17 @@
 -- Links in address order, and what they say of an address.
-use Rattle.std.proofs.Common.{◌≡◌, ℕ, suc, zero, ◌<◌, ◌≤◌, ◌+◌, Bool, true, false, ◌&&◌, ◌||◌, List, [], ◌∷◌, length, drop, get_or, refl, sym, ap, ◌∙◌, subst, inl, inr, arith, rules, add-one, drop-cons}
-use Rattle.std.specs.List.{AllByRecursion, prefix_len}
+use Rattle.std.proofs.Common.{◌≡◌, ℕ, suc, zero, ◌<◌, ◌≤◌, ◌+◌, Bool, true, false, ◌&&◌, ◌||◌, List, [], ◌∷◌, length, take, drop, get_or, refl, sym, ap, ◌∙◌, inl, inr, arith, rules}
+use Rattle.std.specs.List.{AllByRecursion, prefix_len, list_any, filter}
 use Rattle.std.specs.List.Sorted.{IsPermutation, IsPartitionedBy, IsSortedBy}
 use Rattle.std.specs.Ordering.{is_lt}
-use Rattle.std.proofs.Math.ListN.{drop_of_length-le}
 use Rattle.std.proofs.lemmas.Bool.{cases_Bool, false≢true, false_from_ne_true}
 use Rattle.std.proofs.lemmas.List.Sorted.{ranks_by, sorted_far, list_any-IsPermutation}
 use Rattle.net_base.specs.Address.{same_address, address_below}
 use Rattle.net_base.specs.contracts.address.AddrOrd.TheImpl.{ghosts}
 use Rattle.net_base.specs.contracts.address.AddrOrd.TheImpl.Laws.{total-law}
 use Rattle.net_base.specs.declared.address.Addr.{Addr}
-use Rattle.net_base.specs.declared.address.Ip.TheVariants.{V4}
-use Rattle.net_base.proofs.AddressOrder.{address_irreflexive, address_transitive, address_connected, same_address-is, other_when_below, below-same}
+use Rattle.net_base.proofs.AddressOrder.{address_irreflexive, address_transitive, address_connected, same_address-is, other_when_below}
 use Rattle.govern_rules.specs.Links.{some_link}
-use Rattle.govern_rules.specs.SortedLinks.{IsByAddress, SaySame}
+use Rattle.govern_rules.specs.SortedLinks.{IsByAddress, SaySame, is_below, is_up_to, is_above_next, links_of}
 use Rattle.govern_rules.specs.declared.link.Link.{Link}
 
 below_is : (a b : Addr) → is_lt (ghosts.cmp a b) ≡ address_below a b
@@ -54,6 +52,8 @@ by_address_from_sort links up = by_address_from_places links
     (λ i j d upto inside. sym (below_is (get_or links j d).addr (get_or links i d).addr)
     ∙ sorted_far (λ x y. is_lt (ghosts.cmp x.addr y.addr)) (ranks_by total-law (λ (l : Link). l.addr)) links up i j d upto inside)
 
+-- ---- what is not above an address below another
+
 under_lower : (a b addr : Addr) → address_below b a ≡ false → address_below b addr ≡ true → address_below a addr ≡ true
 under_lower a b addr upto under = elim (cases_Bool (address_below a addr)) [
   | inl h ↦ h
@@ -63,84 +63,95 @@ under_lower a b addr upto under = elim (cases_Bool (address_below a addr)) [
   ]
 ]
 
-pub partitioned : (addr : Addr) (links : List Link) → IsByAddress links → IsPartitionedBy (λ l. address_below l.addr addr) links
+upto_lower : (a b addr : Addr) → address_below b a ≡ false → (address_below b addr || same_address b addr) ≡ true →
+    (address_below a addr || same_address a addr) ≡ true
+upto_lower a b addr upto h = elim (cases_Bool (address_below a addr)) [
+  | inl under ↦ rw under refl
+  | inr over ↦ elim (cases_Bool (same_address a addr)) [
+    | inl same ↦ rw (over, same) refl
+    | inr other ↦
+        let above : address_below addr a ≡ true = address_connected a addr other over in
+        elim (cases_Bool (address_below b addr)) [
+          | inl b_under ↦ absurd (false≢true (sym upto ∙ address_transitive b addr a b_under above))
+          | inr b_over ↦ absurd (false≢true (sym upto ∙ (ap (λ x. address_below x a) (same_address-is b addr (rw b_over at h)) ∙ above)))
+        ]
+  ]
+]
+
+pub partitioned : (addr : Addr) (links : List Link) → IsByAddress links → IsPartitionedBy (is_below addr) links
 partitioned addr links h i j d upto inside under =
     under_lower (get_or links i d).addr (get_or links j d).addr addr (in_order links h i j d upto inside) under
+
+pub partitioned_upto : (addr : Addr) (links : List Link) → IsByAddress links → IsPartitionedBy (is_up_to addr) links
+partitioned_upto addr links h i j d upto inside under =
+    upto_lower (get_or links i d).addr (get_or links j d).addr addr (in_order links h i j d upto inside) under
 
 pub by_address-drop : (n : ℕ) (links : List Link) → IsByAddress links → IsByAddress (drop n links)
 by_address-drop zero links h = h
 by_address-drop (suc n) [] h = tt
 by_address-drop (suc n) (l ∷ links) h = by_address-drop n links h.1
 
--- ---- what is said of an address
+-- ---- one in front
 
-skip : (test : Link → Bool) (addr : Addr) (l : Link) (links : List Link) → (same_address l.addr addr && test l) ≡ false →
-    some_link test (l ∷ links) addr ≡ some_link test links addr
-skip test addr l links h = ap (λ b. b || some_link test links addr) h
+none_below : (l k : Link) (links : List Link) → address_below k.addr l.addr ≡ false → AllByRecursion (λ j. address_below j.addr k.addr ≡ false) links →
+    AllByRecursion (λ j. address_below j.addr l.addr ≡ false) links
+none_below l k [] upto h = tt
+none_below l k (j ∷ links) upto h = (
+  false_from_ne_true (address_below j.addr l.addr) (λ under. false≢true (sym upto ∙ under_lower k.addr j.addr l.addr h.0 under)),
+  none_below l k links upto h.1,
+)
 
-and_false : (b c : Bool) → b ≡ false → (b && c) ≡ false
-and_false b c h = ap (λ x. x && c) h
+pub by_address-front : (l : Link) (links : List Link) → is_above_next l links ≡ false → IsByAddress links → IsByAddress (l ∷ links)
+by_address-front l [] upto h = (tt, tt)
+by_address-front l (k ∷ links) upto h = ((upto, none_below l k links upto h.0), h)
 
--- the links below say nothing of it
-pub some_link-drop : (test : Link → Bool) (addr : Addr) (links : List Link) →
-    some_link test (drop (prefix_len (λ l. address_below l.addr addr) links) links) addr ≡ some_link test links addr
-some_link-drop test addr [] = refl
-some_link-drop test addr (l ∷ links) = elim (cases_Bool (address_below l.addr addr)) [
-  | inl under ↦ rw (under, one_more) (some_link-drop test addr links
-      ∙ sym (skip test addr l links (and_false _ (test l) (other_when_below l.addr addr under))))
-  | inr over ↦ rw over refl
-]
+-- ---- the links of an address
+
+one_more : (n : ℕ) → 1 + n ≡ suc n
+one_more n = omega arith
+
+-- links that are above have another address
+none_above : (addr : Addr) (l : Link) (links : List Link) → address_below addr l.addr ≡ true →
+    AllByRecursion (λ k. address_below k.addr l.addr ≡ false) links → links_of addr links ≡ []
+none_above addr l [] above h = refl
+none_above addr l (k ∷ links) above h = rw (other k.addr h.0) (none_above addr l links above h.1)
   where
-    one_more : 1 + prefix_len (λ l. address_below l.addr addr) links ≡ suc (prefix_len (λ l. address_below l.addr addr) links)
-    one_more = omega arith
+    other : (a : Addr) → address_below a l.addr ≡ false → same_address a addr ≡ false
+    other a upto = false_from_ne_true (same_address a addr)
+        (λ same. false≢true (sym upto ∙ (ap (λ x. address_below x l.addr) (same_address-is a addr same) ∙ above)))
 
--- none of the links from one above on says anything of it
-pub none_from_above : (test : Link → Bool) (addr : Addr) (l : Link) (links : List Link) → address_below addr l.addr ≡ true →
-    AllByRecursion (λ k. address_below k.addr l.addr ≡ false) links → some_link test links addr ≡ false
-none_from_above test addr l [] above h = refl
-none_from_above test addr l (k ∷ links) above h =
-    skip test addr k links (and_false _ (test k) (false_from_ne_true (same_address k.addr addr)
-    (λ same. false≢true (sym h.0 ∙ (below-same k.addr addr l.addr same ∙ above)))))
-    ∙ none_from_above test addr l links above h.1
+own_front : (addr : Addr) (links : List Link) → AllByRecursion (λ l. address_below l.addr addr ≡ false) links → IsByAddress links →
+    take (prefix_len (is_up_to addr) links) links ≡ links_of addr links
+own_front addr [] over h = refl
+own_front addr (l ∷ links) over h = elim (cases_Bool (same_address l.addr addr)) [
+  | inl same ↦ rw (over.0, same, one_more (prefix_len (is_up_to addr) links)) (ap (λ k. l ∷ k) (own_front addr links over.1 h.1))
+  | inr other ↦ rw (over.0, other) (sym (none_above addr l links (address_connected l.addr addr other over.0) h.0))
+]
 
--- ---- a look through links in order
+over_from_first : (addr : Addr) (l : Link) (links : List Link) → address_below l.addr addr ≡ false → AllByRecursion (λ k. address_below k.addr l.addr ≡ false) links →
+    AllByRecursion (λ k. address_below k.addr addr ≡ false) links
+over_from_first addr l [] over h = tt
+over_from_first addr l (k ∷ links) over h = (
+  false_from_ne_true (address_below k.addr addr) (λ under. false≢true (sym over ∙ under_lower l.addr k.addr addr h.0 under)),
+  over_from_first addr l links over h.1,
+)
 
--- what stands where there is no link
-abbrev pub no_link : Link
-no_link = record {
-  addr = record { ip = V4 0; port = 0 };
-  cid = record { 0 = 0 };
-  live = false;
-  acquirable = false;
-  pending = false;
-  local = false;
-  sharing = false;
-  owes2 = false;
-  owes8 = false;
-  owes10 = false;
-}
+-- they stand between those below and those above
+pub own_run : (addr : Addr) (links : List Link) → IsByAddress links →
+    take (prefix_len (is_up_to addr) (drop (prefix_len (is_below addr) links) links)) (drop (prefix_len (is_below addr) links) links) ≡ links_of addr links
+own_run addr [] h = refl
+own_run addr (l ∷ links) h = elim (cases_Bool (address_below l.addr addr)) [
+  | inl under ↦ rw (under, one_more (prefix_len (is_below addr) links), other_when_below l.addr addr under) (own_run addr links h.1)
+  | inr over ↦ rw over (own_front addr (l ∷ links) (over, over_from_first addr l links over h.0) h)
+]
 
-pub turn_above : (test : Link → Bool) (addr : Addr) (links : List Link) (i : ℕ) (d : Link) → IsByAddress links → i < length links →
-    address_below addr (get_or links i d).addr ≡ true → some_link test (drop i links) addr ≡ false
-turn_above test addr links i d h inside above =
-    let ordered : IsByAddress (get_or links i d ∷ drop (suc i) links) = subst IsByAddress (drop-cons links i d inside) (by_address-drop i links h) in
-    ap (λ l. some_link test l addr) (drop-cons links i d inside)
-    ∙ none_from_above test addr (get_or links i d) (get_or links i d ∷ drop (suc i) links) above (address_irreflexive (get_or links i d).addr, ordered.0)
-
-pub turn_found : (test : Link → Bool) (addr : Addr) (links : List Link) (i : ℕ) (d : Link) → i < length links →
-    (same_address (get_or links i d).addr addr && test (get_or links i d)) ≡ true → some_link test (drop i links) addr ≡ true
-turn_found test addr links i d inside found =
-    ap (λ l. some_link test l addr) (drop-cons links i d inside) ∙ ap (λ b. b || some_link test (drop (suc i) links) addr) found
-
-pub turn_more : (test : Link → Bool) (addr : Addr) (links : List Link) (i : ℕ) (d : Link) → i < length links →
-    (same_address (get_or links i d).addr addr && test (get_or links i d)) ≡ false →
-    some_link test (drop (i + 1) links) addr ≡ some_link test (drop i links) addr
-turn_more test addr links i d inside other =
-    ap (λ n. some_link test (drop n links) addr) (add-one i)
-    ∙ (sym (skip test addr (get_or links i d) (drop (suc i) links) other) ∙ ap (λ l. some_link test l addr) (sym (drop-cons links i d inside)))
-
-pub turn_end : (test : Link → Bool) (addr : Addr) (links : List Link) (i : ℕ) → length links ≤ i → some_link test (drop i links) addr ≡ false
-turn_end test addr links i past = ap (λ l. some_link test l addr) (drop_of_length-le links {i = i} past)
+-- what they say is what all links say of the address
+pub own_say : (test : Link → Bool) (addr : Addr) (links : List Link) → list_any test (links_of addr links) ≡ some_link test links addr
+own_say test addr [] = refl
+own_say test addr (l ∷ links) = elim (cases_Bool (same_address l.addr addr)) [
+  | inl same ↦ rw same (ap (λ b. test l || b) (own_say test addr links))
+  | inr other ↦ rw other (own_say test addr links)
+]
 
 -- links in another order say the same
 pub SaySame-permutation : (links sorted : List Link) → IsPermutation links sorted → SaySame sorted links

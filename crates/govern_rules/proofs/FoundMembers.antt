@@ -14,6 +14,7 @@ use Rattle.peer_book.specs.Book.{has_address, peer_at, addresses_of}
 use Rattle.root_groups.specs.Cleaned.{is_listed}
 use Rattle.root_groups.proofs.Listed.{same_address_equiv, same_address-turn}
 use Rattle.govern_rules.specs.Members.{peers_with}
+use Rattle.govern_rules.specs.Search.{lookups}
 
 -- ---- filters one after the other
 
@@ -38,7 +39,7 @@ same_apart : (a b : Addr) (xs : List Addr) → same_address a b ≡ true → All
 same_apart a b [] same h = tt
 same_apart a b (x ∷ xs) same h = (sym (same_address_equiv.congr a b x same) ∙ h.0, same_apart a b xs same h.1)
 
-the_peer : (a : Addr) (peers : List Peer) → IsDistinct same_address (addresses_of peers) → filter (has_address a) peers ≡ option_to_list (peer_at a peers)
+pub the_peer : (a : Addr) (peers : List Peer) → IsDistinct same_address (addresses_of peers) → filter (has_address a) peers ≡ option_to_list (peer_at a peers)
 unfolding IsDistinct
 the_peer a [] h = refl
 the_peer a (p ∷ peers) h = elim (cases_Bool (same_address p.addr a)) [
@@ -80,7 +81,7 @@ one_more a addrs peers = by_cases (peer_at a peers) (filter_map (λ b. peer_at b
     by_cases (Some p) l = refl
 
 pub found_members : (addrs : List Addr) (peers : List Peer) → IsDistinct same_address addrs → IsDistinct same_address (addresses_of peers) →
-    IsPermutation (peers_with addrs peers) (filter_map (λ a. peer_at a peers) addrs)
+    IsPermutation (peers_with addrs peers) (lookups peers addrs)
 unfolding IsDistinct
 found_members [] peers apart distinct = subst (λ l. IsPermutation l []) (sym (none peers)) (IsPermutation-refl [])
   where
@@ -101,23 +102,3 @@ found_members (a ∷ addrs) peers apart distinct =
     subst (IsPermutation (filter listed peers)) (sym (one_more a addrs peers))
     (IsPermutation-trans _ _ _ (subst (λ l. IsPermutation (filter listed peers) (l ++ peers_with addrs peers)) front
     (subst (λ l. IsPermutation (filter listed peers) (filter (has_address a) (filter listed peers) ++ l)) back split)) rest)
-
--- ---- a look-up of one address after the other
-
-abbrev pub lookups : List Peer → List Addr → List Peer
-lookups peers = filter_map (λ a. peer_at a peers)
-
-pub found_more : (peers : List Peer) (addrs : List Addr) (i : ℕ) (d : Addr) (found next : List Peer) → i < length addrs →
-    found ++ lookups peers (drop i addrs) ≡ lookups peers addrs → next ≡ found ++ option_to_list (peer_at (get_or addrs i d) peers) →
-    next ++ lookups peers (drop (i + 1) addrs) ≡ lookups peers addrs
-found_more peers addrs i d found next inside so_far more =
-    ap (λ n. next ++ lookups peers (drop n addrs)) (add-one i)
-    ∙ (ap (λ l. l ++ lookups peers (drop (suc i) addrs)) more
-    ∙ (append_assoc found (option_to_list (peer_at (get_or addrs i d) peers)) (lookups peers (drop (suc i) addrs))
-    ∙ (ap (λ l. found ++ l) (sym (one_more (get_or addrs i d) (drop (suc i) addrs) peers))
-    ∙ (ap (λ l. found ++ lookups peers l) (sym (drop-cons addrs i d inside)) ∙ so_far))))
-
-pub found_all : (peers : List Peer) (addrs : List Addr) (i : ℕ) (found : List Peer) → length addrs ≤ i →
-    found ++ lookups peers (drop i addrs) ≡ lookups peers addrs → found ≡ lookups peers addrs
-found_all peers addrs i found past so_far =
-    sym (ap (λ l. found ++ lookups peers l) (drop_of_length-le addrs {i = i} past) ∙ append-nil found) ∙ so_far

@@ -1,5 +1,10 @@
 pub mod Apart
 pub mod ByAddress
+pub mod Counting
 pub mod FoundMembers
 pub mod Members
 pub mod Picking
+pub mod Rows
+pub mod SameViews
+pub mod Suiting
+pub mod Tasks

@@ -1,6 +1,6 @@
 -- What is done with the members of a group, by those that were looked up.
-use Rattle.std.proofs.Common.{◌≡◌, ℕ, ◌-◌, Bool, true, false, ◌&&◌, ◌||◌, List, length, map, refl, sym, ap, ◌∙◌}
-use Rattle.std.specs.List.{IsDistinct, filter, count_by}
+use Rattle.std.proofs.Common.{◌≡◌, ℕ, ◌-◌, Bool, true, false, ◌&&◌, ◌||◌, List, [], ◌∷◌, length, map, refl, sym, ap, ◌∙◌}
+use Rattle.std.specs.List.{IsDistinct, filter, count_by, flat_map}
 use Rattle.std.specs.List.Sorted.{IsPermutation}
 use Rattle.std.proofs.lemmas.List.Sorted.{sum_by-IsPermutation}
 use Rattle.std.proofs.lemmas.List.Sums.{length-filter}
@@ -11,25 +11,21 @@ use Rattle.net_base.specs.declared.peer.Peer.{Peer}
 use Rattle.net_base.specs.declared.peer.Temp.TheVariants.{Hot as IsHot}
 use Rattle.peer_book.specs.Book.{is_of, addresses_of, is_established, same_temp}
 use Rattle.root_groups.specs.Cleaned.{is_listed}
-use Rattle.govern_rules.specs.Candidates.{is_eligible, may_be_activated, may_be_deactivated}
+use Rattle.govern_rules.specs.Candidates.{may_be_deactivated}
 use Rattle.govern_rules.specs.Links.{is_pending, owes_on_2}
-use Rattle.govern_rules.specs.Members.{peers_with, valency_orders, valency_orders_by}
+use Rattle.govern_rules.specs.Members.{peers_with, valency_task, valency_number, valency_orders}
 use Rattle.govern_rules.specs.Orders.{orders_for, picks_of}
 use Rattle.govern_rules.specs.Rules.{is_member_and, members_count}
+use Rattle.govern_rules.specs.Search.{lookups}
+use Rattle.govern_rules.specs.Tasks.{order_of, may_be_given}
 use Rattle.govern_rules.specs.declared.order.Order.{Order}
-use Rattle.govern_rules.specs.declared.order.Order.TheVariants.{Promote, Activate, Deactivate}
 use Rattle.govern_rules.specs.declared.valency.Valency.{Valency}
 use Rattle.govern_rules.specs.declared.valency.Valency.TheVariants.{WarmUp, HotUp, HotDown}
 use Rattle.govern_rules.specs.declared.view.View.{View}
-use Rattle.govern_rules.proofs.Apart.{IsDistinct-filter}
-use Rattle.govern_rules.proofs.FoundMembers.{filter-twice, filter-same}
-use Rattle.govern_rules.proofs.Picking.{orders_for-permutation}
-
-turned : (a b c : Bool) → (a && (b && c)) ≡ (b && (a && c))
-turned true true c = refl
-turned true false c = refl
-turned false true c = refl
-turned false false c = refl
+use Rattle.govern_rules.proofs.Apart.{IsDistinct-filter, apart-permuted}
+use Rattle.govern_rules.proofs.FoundMembers.{filter-twice, filter-same, found_members}
+use Rattle.govern_rules.proofs.Picking.{picks-filtered, no-orders, no-peers}
+use Rattle.govern_rules.proofs.Suiting.{turned}
 
 -- ordinary members that pass a test
 members-filter : (group : Group) (test : Peer → Bool) (peers : List Peer) →
@@ -39,33 +35,87 @@ members-filter group test peers =
     ∙ filter-same (λ p. is_listed p.addr group.members && (is_of false p && test p)) (λ p. is_of false p && is_member_and group test p)
     (λ p. turned (is_listed p.addr group.members) (is_of false p) (test p)) peers
 
-pub members_counted : (group : Group) (test : Peer → Bool) (peers found : List Peer) → IsPermutation (peers_with group.members peers) found →
-    count_by (λ p. is_of false p && test p) found ≡ members_count group test peers
-members_counted group test peers found moved =
-    sum_by-IsPermutation _ (peers_with group.members peers) found moved
+members_apart : (addrs : List Addr) (peers : List Peer) → IsDistinct same_address (addresses_of peers) →
+    IsDistinct same_address (addresses_of (peers_with addrs peers))
+members_apart addrs peers apart = IsDistinct-filter (λ (p : Peer). p.addr) (λ p. is_listed p.addr addrs) peers apart
+
+-- those that were looked up have distinct addresses
+pub lookups_apart : (addrs : List Addr) (peers : List Peer) → IsDistinct same_address addrs → IsDistinct same_address (addresses_of peers) →
+    IsDistinct same_address (addresses_of (lookups peers addrs))
+lookups_apart addrs peers distinct apart =
+    apart-permuted (peers_with addrs peers) (lookups peers addrs) (members_apart addrs peers apart) (found_members addrs peers distinct apart)
+
+-- ---- how many
+
+-- by how many members the valency is missed
+abbrev pub missed : Valency → View → List Peer → Group → ℕ
+missed WarmUp view peers group = group.warm - members_count group (λ p. is_established p.temp || is_pending view.links p.addr) peers
+missed HotUp view peers group = group.hot - members_count group (λ p. same_temp p.temp IsHot || owes_on_2 view.links p.addr) peers
+missed HotDown view peers group = members_count group may_be_deactivated peers - group.hot
+
+-- a group, and the peers of a book, with their own addresses each
+abbrev AreApart : Group → List Peer → Type 0
+AreApart group peers = IsDistinct same_address group.members × IsDistinct same_address (addresses_of peers)
+
+members_counted : (group : Group) (test : Peer → Bool) (peers : List Peer) → AreApart group peers →
+    count_by (λ p. is_of false p && test p) (lookups peers group.members) ≡ members_count group test peers
+members_counted group test peers apart =
+    sum_by-IsPermutation _ (peers_with group.members peers) (lookups peers group.members) (found_members group.members peers apart.0 apart.1)
     ∙ (sym (length-filter (λ p. is_of false p && test p) (peers_with group.members peers))
     ∙ (ap length (members-filter group test peers) ∙ length-filter (λ p. is_of false p && is_member_and group test p) peers))
 
-pub members_ordered : (word : ℕ) (order : Addr → Order) (number : ℕ) (group : Group) (test : Peer → Bool) (peers found : List Peer) →
-    IsPermutation (peers_with group.members peers) found → IsDistinct same_address (addresses_of (peers_with group.members peers)) →
-    orders_for false word order number test found ≡ orders_for false word order number (is_member_and group test) peers
-members_ordered word order number group test peers found moved distinct =
-    sym (orders_for-permutation word order number test (peers_with group.members peers) found
-    (IsDistinct-filter (λ (p : Peer). p.addr) (λ p. is_of false p && test p) (peers_with group.members peers) distinct) moved)
-    ∙ ap (λ l. map order (picks_of false word number l)) (members-filter group test peers)
+missed-found : (valency : Valency) (view : View) (group : Group) (peers : List Peer) → AreApart group peers →
+    valency_number valency group view.links (lookups peers group.members) ≡ missed valency view peers group
+missed-found WarmUp view group peers apart = ap (λ n. group.warm - n) (members_counted group (λ p. is_established p.temp || is_pending view.links p.addr) peers apart)
+missed-found HotUp view group peers apart = ap (λ n. group.hot - n) (members_counted group (λ p. same_temp p.temp IsHot || owes_on_2 view.links p.addr) peers apart)
+missed-found HotDown view group peers apart = ap (λ n. n - group.hot) (members_counted group may_be_deactivated peers apart)
 
-pub valency_orders-found : (valency : Valency) (view : View) (group : Group) (peers found : List Peer) →
-    IsPermutation (peers_with group.members peers) found → IsDistinct same_address (addresses_of (peers_with group.members peers)) →
-    valency_orders_by valency view found group ≡ valency_orders valency view peers group
-valency_orders-found WarmUp view group peers found moved distinct =
-    ap (λ n. orders_for false view.word Promote (group.warm - n) (is_eligible view.moment view.links) found)
-    (members_counted group (λ p. is_established p.temp || is_pending view.links p.addr) peers found moved)
-    ∙ members_ordered view.word Promote _ group (is_eligible view.moment view.links) peers found moved distinct
-valency_orders-found HotUp view group peers found moved distinct =
-    ap (λ n. orders_for false view.word Activate (group.hot - n) (may_be_activated view.links) found)
-    (members_counted group (λ p. same_temp p.temp IsHot || owes_on_2 view.links p.addr) peers found moved)
-    ∙ members_ordered view.word Activate _ group (may_be_activated view.links) peers found moved distinct
-valency_orders-found HotDown view group peers found moved distinct =
-    ap (λ n. orders_for false view.word Deactivate (n - group.hot) may_be_deactivated found)
-    (members_counted group may_be_deactivated peers found moved)
-    ∙ members_ordered view.word Deactivate _ group may_be_deactivated peers found moved distinct
+-- ---- which orders
+
+pub by_missed : (valency : Valency) (view : View) (peers : List Peer) (group : Group) →
+    orders_for false view.word (order_of (valency_task valency)) (missed valency view peers group)
+    (is_member_and group (may_be_given (valency_task valency) view.moment view.links)) peers ≡ valency_orders valency view peers group
+by_missed WarmUp view peers group = refl
+by_missed HotUp view peers group = refl
+by_missed HotDown view peers group = refl
+
+members_ordered : (word : ℕ) (order : Addr → Order) (number : ℕ) (group : Group) (test : Peer → Bool) (peers : List Peer) → AreApart group peers →
+    orders_for false word order number test (lookups peers group.members) ≡ orders_for false word order number (is_member_and group test) peers
+members_ordered word order number group test peers apart =
+    ap (map order)
+    (sym (picks-filtered false word number (λ p. is_of false p && test p) (peers_with group.members peers) (lookups peers group.members)
+    (IsDistinct-filter (λ (p : Peer). p.addr) (λ p. is_of false p && test p) (peers_with group.members peers) (members_apart group.members peers apart.1))
+    (found_members group.members peers apart.0 apart.1))
+    ∙ ap (picks_of false word number) (members-filter group test peers))
+
+pub orders-found : (valency : Valency) (view : View) (group : Group) (peers : List Peer) (number : ℕ) (suiting : Peer → Bool) → AreApart group peers →
+    number ≡ valency_number valency group view.links (lookups peers group.members) →
+    ((p : Peer) → suiting p ≡ (is_of false p && may_be_given (valency_task valency) view.moment view.links p)) →
+    map (order_of (valency_task valency)) (picks_of false view.word number (filter suiting (lookups peers group.members))) ≡ valency_orders valency view peers group
+orders-found valency view group peers number suiting apart missing same =
+    let test : Peer → Bool = may_be_given (valency_task valency) view.moment view.links in
+    let order : Addr → Order = order_of (valency_task valency) in
+    ap (λ l. map order (picks_of false view.word number l)) (filter-same suiting (λ p. is_of false p && test p) same (lookups peers group.members))
+    ∙ (members_ordered view.word order number group test peers apart
+    ∙ (ap (λ n. orders_for false view.word order n (is_member_and group test) peers) (missing ∙ missed-found valency view group peers apart)
+    ∙ by_missed valency view peers group))
+
+pub orders-none : (valency : Valency) (view : View) (group : Group) (peers : List Peer) (number : ℕ) → AreApart group peers →
+    number ≡ valency_number valency group view.links (lookups peers group.members) → number ≡ 0 → valency_orders valency view peers group ≡ []
+orders-none valency view group peers number apart missing none =
+    sym (by_missed valency view peers group)
+    ∙ no-orders false view.word (order_of (valency_task valency)) (missed valency view peers group)
+    (is_member_and group (may_be_given (valency_task valency) view.moment view.links)) peers
+    (sym (missing ∙ missed-found valency view group peers apart) ∙ none)
+
+-- ---- nobody is known
+
+no-members : (valency : Valency) (view : View) (group : Group) → valency_orders valency view [] group ≡ []
+no-members valency view group =
+    sym (by_missed valency view [] group)
+    ∙ no-peers false view.word (order_of (valency_task valency)) (missed valency view [] group)
+    (is_member_and group (may_be_given (valency_task valency) view.moment view.links))
+
+pub no-groups : (valency : Valency) (view : View) (groups : List Group) → flat_map (valency_orders valency view []) groups ≡ []
+no-groups valency view [] = refl
+no-groups valency view (g ∷ groups) = rw (no-members valency view g) (no-groups valency view groups)

@@ -6,6 +6,8 @@ pub mod Marks
 pub mod Members
 pub mod Orders
 pub mod Rules
+pub mod SameViews
+pub mod Search
 pub mod SortedLinks
 pub mod Statuses
 pub mod Tasks

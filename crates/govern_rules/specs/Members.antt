@@ -37,9 +37,3 @@ abbrev pub valency_orders : Valency → View → List Peer → Group → List Or
 valency_orders WarmUp = promotes_members
 valency_orders HotUp = activates_members
 valency_orders HotDown = deactivates_members
-
--- the same, by the members that are known
-abbrev pub valency_orders_by : Valency → View → List Peer → Group → List Order
-valency_orders_by valency view members group =
-    orders_for false view.word (order_of (valency_task valency)) (valency_number valency group view.links members)
-    (is_candidate (valency_task valency) everybody view.moment view.links) members

@@ -3,15 +3,12 @@ use Rattle.std.specs.Prelude.{ℕ, Bool, ◌&&◌, ◌||◌, List, count_by}
 use Rattle.net_base.specs.declared.peer.Peer.{Peer}
 use Rattle.net_base.specs.declared.peer.Temp.TheVariants.{Hot}
 use Rattle.peer_book.specs.Book.{is_of, is_established, same_temp}
-use Rattle.govern_rules.specs.Links.{is_pending, owes_on_2, owes_on_10}
+use Rattle.govern_rules.specs.Links.{is_pending, owes_on_2}
 use Rattle.govern_rules.specs.declared.link.Link.{Link}
 use Rattle.govern_rules.specs.declared.status.Status.{Status}
-use Rattle.govern_rules.specs.declared.status.Status.TheVariants.{Pending, OwesOn2, OwesOn10, EstablishedOrPending, HotOrOwesOn2, Hot as IsHot}
+use Rattle.govern_rules.specs.declared.status.Status.TheVariants.{EstablishedOrPending, HotOrOwesOn2, Hot as IsHot}
 
 abbrev pub has_status : Status → List Link → Peer → Bool
-has_status Pending links p = is_pending links p.addr
-has_status OwesOn2 links p = owes_on_2 links p.addr
-has_status OwesOn10 links p = owes_on_10 links p.addr
 has_status EstablishedOrPending links p = is_established p.temp || is_pending links p.addr
 has_status HotOrOwesOn2 links p = same_temp p.temp Hot || owes_on_2 links p.addr
 has_status IsHot links p = same_temp p.temp Hot

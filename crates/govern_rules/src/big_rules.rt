@@ -2,7 +2,6 @@ ghost use Rattle.std.specs.Prelude.{◌≡◌, IfOk};
 ghost use Rattle.govern_rules.specs.BigRules.{big_orders};
 ghost use Rattle.govern_rules.specs.Tasks.{big_task};
 
-use crate::outlook::Outlook;
 use crate::task::Task;
 use crate::task_orders::big_task;
 use crate::whom::Whom;
@@ -22,15 +21,7 @@ pub fn rule_big(
 ) -> Result<OrderList, OutOfMemory>
     ensures { IfOk result (λ orders. orders ≡ big_orders rule view.now book.now) }
 {
-    let outlook = Outlook::new(alloc, view)?;
-    let orders = big_task(
-        alloc,
-        task_of(rule),
-        &Whom::Everybody,
-        &outlook,
-        book,
-        picker,
-    )?;
+    let orders = big_task(alloc, task_of(rule), &Whom::Everybody, view, book, picker)?;
     Ok(OrderList::from_vec(orders))
 }
 

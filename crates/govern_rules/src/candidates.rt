@@ -1,57 +1,70 @@
-ghost use Rattle.std.specs.Prelude.{◌≡◌};
-ghost use Rattle.govern_rules.specs.Candidates.{may_be_asked, may_be_forgotten, is_eligible, may_be_released, may_be_activated, may_be_deactivated};
-ghost use Rattle.govern_rules.specs.Tasks.{may_be_given};
+ghost use Rattle.std.specs.Prelude.{◌≡◌, ◌++◌, filter, IfOk};
+ghost use Rattle.std.specs.List.{IsDistinct};
+ghost use Rattle.std.specs.List.Sorted.{IsPermutation};
+ghost use Rattle.net_base.specs.Address.{same_address};
+ghost use Rattle.peer_book.specs.Book.{addresses_of, listed_at};
+ghost use Rattle.govern_rules.specs.Search.{suits, lookups};
 
-use crate::mark::Mark;
-use crate::outlook::Outlook;
+use crate::search::Search;
 use crate::task::Task;
-use net_base::{Peer, Temp};
+use net_base::{Addr, Peer, Temp};
+use peer_book::PeerBook;
+use std::alloc::{AllocError, Global};
 
-// Whether a peer may be among those that a rule picks from.
-pub fn may_be_given(task: Task, outlook: &Outlook, peer: &Peer) -> bool
-    ensures { result ≡ may_be_given task outlook.now.view.now.moment outlook.now.view.now.links peer.now }
+// The peers of the book that suit. Warm and hot ones are found by their rows. Most peers are cold, so cold ones are
+// found by a walk through the book, which costs less than a look-up of each.
+pub fn candidates(alloc: Global, search: &Search, book: &PeerBook) -> Result<Vec<Peer>, AllocError>
+    ensures value { IfOk result (λ cands. IsPermutation (filter (suits search.now) book.now) cands.items) }
+    ensures apart { IfOk result (λ cands. IsDistinct same_address (addresses_of cands.items)) }
 {
-    match task {
-        Task::Asking(_) => may_be_asked(outlook, peer),
-        Task::Forgetting => may_be_forgotten(outlook, peer),
-        Task::Promoting => is_eligible(outlook, peer),
-        Task::Releasing => may_be_released(outlook, peer),
-        Task::Activating => may_be_activated(outlook, peer),
-        Task::Deactivating => peer.temp == Temp::Hot,
+    let peers = book.as_slice();
+    match search.task {
+        Task::Asking(_) => established(alloc, search, book),
+        Task::Forgetting | Task::Promoting => among(alloc, search, peers),
+        Task::Releasing | Task::Activating => found(alloc, search, row(book, Temp::Warm), book),
+        Task::Deactivating => found(alloc, search, row(book, Temp::Hot), book),
     }
 }
 
-fn may_be_asked(outlook: &Outlook, peer: &Peer) -> bool
-    ensures { result ≡ may_be_asked outlook.now.view.now.moment outlook.now.view.now.links peer.now }
+fn row(book: &PeerBook, temp: Temp) -> &[Addr]
+    ensures { result.now ≡ listed_at temp book.now }
 {
-    peer.temp != Temp::Cold
-        && outlook.has(peer.addr, Mark::CanShare)
-        && peer.share_next <= outlook.view.moment
+    book.listed(temp)
 }
 
-fn may_be_forgotten(outlook: &Outlook, peer: &Peer) -> bool
-    ensures { result ≡ may_be_forgotten outlook.now.view.now.links peer.now }
+// The warm ones, and then the hot ones.
+fn established(alloc: Global, search: &Search, book: &PeerBook) -> Result<Vec<Peer>, AllocError>
+    ensures { IfOk result (λ cands. cands.items
+        ≡ filter (suits search.now) (lookups book.now (listed_at Temp.Warm book.now)) ++ filter (suits search.now) (lookups book.now (listed_at Temp.Hot book.now))) }
 {
-    peer.temp == Temp::Cold && !outlook.has(peer.addr, Mark::Pending)
+    let mut cands = found(alloc, search, row(book, Temp::Warm), book)?;
+    let hot = found(alloc, search, row(book, Temp::Hot), book)?;
+    cands.extend_from_slice(&hot)?;
+    Ok(cands)
 }
 
-fn is_eligible(outlook: &Outlook, peer: &Peer) -> bool
-    ensures { result ≡ is_eligible outlook.now.view.now.moment outlook.now.view.now.links peer.now }
+fn among(alloc: Global, search: &Search, peers: &[Peer]) -> Result<Vec<Peer>, AllocError>
+    ensures { IfOk result (λ cands. cands.items ≡ filter (suits search.now) peers.now) }
 {
-    peer.temp == Temp::Cold
-        && !outlook.has(peer.addr, Mark::Pending)
-        && peer.not_before <= outlook.view.moment
-        && (!outlook.has(peer.addr, Mark::Entry) || outlook.has(peer.addr, Mark::Acquirable))
+    peers
+        .iter()
+        .filter(|peer| search.suits(peer))
+        .copied()
+        .collect(alloc)
 }
 
-fn may_be_released(outlook: &Outlook, peer: &Peer) -> bool
-    ensures { result ≡ may_be_released outlook.now.view.now.links peer.now }
+// Those with some addresses that suit.
+pub fn found(
+    alloc: Global,
+    search: &Search,
+    addrs: &[Addr],
+    book: &PeerBook,
+) -> Result<Vec<Peer>, AllocError>
+    ensures { IfOk result (λ cands. cands.items ≡ filter (suits search.now) (lookups book.now addrs.now)) }
 {
-    peer.temp == Temp::Warm && !outlook.has(peer.addr, Mark::OwesReply)
-}
-
-fn may_be_activated(outlook: &Outlook, peer: &Peer) -> bool
-    ensures { result ≡ may_be_activated outlook.now.view.now.links peer.now }
-{
-    peer.temp == Temp::Warm && !outlook.has(peer.addr, Mark::Owes2)
+    addrs
+        .iter()
+        .filter_map(|addr| book.get(*addr))
+        .filter(|peer| search.suits(peer))
+        .collect(alloc)
 }

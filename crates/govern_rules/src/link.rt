@@ -1,4 +1,4 @@
-use net_base::{Addr, Cid, Sequence};
+use net_base::{Addr, Cid};
 
 /// What the rules need to know of one entry among the connections. An address may have several.
 #[derive(Clone, Copy, Debug, PartialEq, Eq)]
@@ -22,6 +22,3 @@ pub struct Link {
     /// A reply is owed on peer-sharing.
     pub owes10: bool,
 }
-
-/// Links one after another, in any order.
-pub type LinkList = Sequence<Link>;

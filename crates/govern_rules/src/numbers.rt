@@ -4,54 +4,46 @@ ghost use Rattle.govern_rules.specs.ClassRules.{known_target, established_target
 ghost use Rattle.govern_rules.specs.Tasks.{number_of};
 
 use crate::View;
-use crate::outlook::Outlook;
-use crate::status::{Status, count_with};
+use crate::mark::Mark;
+use crate::marked::without_marked;
 use crate::task::Task;
 use peer_book::PeerBook;
 
 // How many orders a rule by the targets gives at most.
-pub fn number_of(task: Task, big: bool, outlook: &Outlook, book: &PeerBook) -> u64
-    ensures { result ≡ number_of task big outlook.now.view.now book.now }
+pub fn number_of(task: Task, big: bool, view: &View, book: &PeerBook) -> u64
+    ensures { result ≡ number_of task big view.now book.now }
 {
     match task {
-        Task::Asking(_) => to_ask(big, outlook, book),
-        Task::Forgetting => known(big, book).saturating_sub(known_target(big, outlook.view)),
-        Task::Promoting => to_promote(big, outlook, book),
-        Task::Releasing => established(big, book).saturating_sub(established_target(
-            big,
-            outlook.view,
-        )),
-        Task::Activating => to_activate(big, outlook, book),
-        Task::Deactivating => active(big, book).saturating_sub(active_target(big, outlook.view)),
+        Task::Asking(_) => to_ask(big, view, book),
+        Task::Forgetting => known(big, book).saturating_sub(known_target(big, view)),
+        Task::Promoting => to_promote(big, view, book),
+        Task::Releasing => established(big, book).saturating_sub(established_target(big, view)),
+        Task::Activating => to_activate(big, view, book),
+        Task::Deactivating => active(big, book).saturating_sub(active_target(big, view)),
     }
 }
 
-fn to_ask(big: bool, outlook: &Outlook, book: &PeerBook) -> u64
-    ensures { result ≡ number_of (Task.Asking 0) big outlook.now.view.now book.now }
+fn to_ask(big: bool, view: &View, book: &PeerBook) -> u64
+    ensures { result ≡ number_of (Task.Asking 0) big view.now book.now }
 {
-    if known(big, book) >= known_target(big, outlook.view) {
+    if known(big, book) >= known_target(big, view) {
         return 0;
     }
-    let owing = count_with(Status::OwesOn10, big, outlook, book.as_slice());
-    outlook.view.settings.shares.saturating_sub(owing)
+    without_marked(view.settings.shares, Mark::Owes10, big, view, book)
 }
 
-fn to_promote(big: bool, outlook: &Outlook, book: &PeerBook) -> u64
-    ensures { result ≡ number_of Task.Promoting big outlook.now.view.now book.now }
+fn to_promote(big: bool, view: &View, book: &PeerBook) -> u64
+    ensures { result ≡ number_of Task.Promoting big view.now book.now }
 {
-    let pending = count_with(Status::Pending, big, outlook, book.as_slice());
-    established_target(big, outlook.view)
-        .saturating_sub(established(big, book))
-        .saturating_sub(pending)
+    let missing = established_target(big, view).saturating_sub(established(big, book));
+    without_marked(missing, Mark::Pending, big, view, book)
 }
 
-fn to_activate(big: bool, outlook: &Outlook, book: &PeerBook) -> u64
-    ensures { result ≡ number_of Task.Activating big outlook.now.view.now book.now }
+fn to_activate(big: bool, view: &View, book: &PeerBook) -> u64
+    ensures { result ≡ number_of Task.Activating big view.now book.now }
 {
-    let owing = count_with(Status::OwesOn2, big, outlook, book.as_slice());
-    active_target(big, outlook.view)
-        .saturating_sub(active(big, book))
-        .saturating_sub(owing)
+    let missing = active_target(big, view).saturating_sub(active(big, book));
+    without_marked(missing, Mark::Owes2, big, view, book)
 }
 
 fn known(big: bool, book: &PeerBook) -> u64

@@ -1,7 +1,6 @@
 ghost use Rattle.std.specs.Prelude.{◌≡◌, IfOk};
 ghost use Rattle.govern_rules.specs.Rules.{g2_orders, g3_orders, g4_orders, g5_orders, g6_orders, g7_orders, g8_orders, g9_orders};
 
-use crate::outlook::Outlook;
 use crate::task::Task;
 use crate::task_orders::ordinary_task;
 use crate::valency::{Valency, groups_orders};
@@ -24,10 +23,9 @@ pub fn rule_g2(
 ) -> Result<OrderList, OutOfMemory>
     ensures { IfOk result (λ orders. orders ≡ g2_orders view.now book.now) }
 {
-    let outlook = Outlook::new(alloc, view)?;
     let missing = view.targets.known.saturating_sub(book.known());
     let task = Task::Asking(missing.min(10));
-    let orders = ordinary_task(alloc, task, &Whom::Everybody, &outlook, book, picker)?;
+    let orders = ordinary_task(alloc, task, &Whom::Everybody, view, book, picker)?;
     Ok(OrderList::from_vec(orders))
 }
 
@@ -42,9 +40,8 @@ pub fn rule_g3(
 ) -> Result<OrderList, OutOfMemory>
     ensures { IfOk result (λ orders. orders ≡ g3_orders view.now book.now groups.now roots.now.publics) }
 {
-    let outlook = Outlook::new(alloc, view)?;
     let whom = Whom::Droppable(groups, roots);
-    let orders = ordinary_task(alloc, Task::Forgetting, &whom, &outlook, book, picker)?;
+    let orders = ordinary_task(alloc, Task::Forgetting, &whom, view, book, picker)?;
     Ok(OrderList::from_vec(orders))
 }
 
@@ -59,9 +56,8 @@ pub fn rule_g4(
 ) -> Result<OrderList, OutOfMemory>
     ensures { IfOk result (λ orders. orders ≡ g4_orders view.now book.now groups.now) }
 {
-    let outlook = Outlook::new(alloc, view)?;
     let none = Vec::new(alloc);
-    let orders = groups_orders(alloc, Valency::WarmUp, &outlook, book, groups, picker, none)?;
+    let orders = groups_orders(alloc, Valency::WarmUp, view, book, groups, picker, none)?;
     Ok(OrderList::from_vec(orders))
 }
 
@@ -76,9 +72,8 @@ pub fn rule_g5(
 ) -> Result<OrderList, OutOfMemory>
     ensures { IfOk result (λ orders. orders ≡ g5_orders view.now book.now groups.now) }
 {
-    let outlook = Outlook::new(alloc, view)?;
     let whom = Whom::NotLocal(groups);
-    let orders = ordinary_task(alloc, Task::Promoting, &whom, &outlook, book, picker)?;
+    let orders = ordinary_task(alloc, Task::Promoting, &whom, view, book, picker)?;
     Ok(OrderList::from_vec(orders))
 }
 
@@ -93,9 +88,8 @@ pub fn rule_g6(
 ) -> Result<OrderList, OutOfMemory>
     ensures { IfOk result (λ orders. orders ≡ g6_orders view.now book.now groups.now) }
 {
-    let outlook = Outlook::new(alloc, view)?;
     let whom = Whom::NotLocal(groups);
-    let orders = ordinary_task(alloc, Task::Releasing, &whom, &outlook, book, picker)?;
+    let orders = ordinary_task(alloc, Task::Releasing, &whom, view, book, picker)?;
     Ok(OrderList::from_vec(orders))
 }
 
@@ -110,9 +104,8 @@ pub fn rule_g7(
 ) -> Result<OrderList, OutOfMemory>
     ensures { IfOk result (λ orders. orders ≡ g7_orders view.now book.now groups.now) }
 {
-    let outlook = Outlook::new(alloc, view)?;
     let none = Vec::new(alloc);
-    let orders = groups_orders(alloc, Valency::HotUp, &outlook, book, groups, picker, none)?;
+    let orders = groups_orders(alloc, Valency::HotUp, view, book, groups, picker, none)?;
     Ok(OrderList::from_vec(orders))
 }
 
@@ -127,9 +120,8 @@ pub fn rule_g8(
 ) -> Result<OrderList, OutOfMemory>
     ensures { IfOk result (λ orders. orders ≡ g8_orders view.now book.now groups.now) }
 {
-    let outlook = Outlook::new(alloc, view)?;
     let whom = Whom::NotLocal(groups);
-    let orders = ordinary_task(alloc, Task::Activating, &whom, &outlook, book, picker)?;
+    let orders = ordinary_task(alloc, Task::Activating, &whom, view, book, picker)?;
     Ok(OrderList::from_vec(orders))
 }
 
@@ -145,17 +137,8 @@ pub fn rule_g9(
 ) -> Result<OrderList, OutOfMemory>
     ensures { IfOk result (λ orders. orders ≡ g9_orders view.now book.now groups.now) }
 {
-    let outlook = Outlook::new(alloc, view)?;
     let whom = Whom::NotLocal(groups);
-    let first = ordinary_task(alloc, Task::Deactivating, &whom, &outlook, book, picker)?;
-    let orders = groups_orders(
-        alloc,
-        Valency::HotDown,
-        &outlook,
-        book,
-        groups,
-        picker,
-        first,
-    )?;
+    let first = ordinary_task(alloc, Task::Deactivating, &whom, view, book, picker)?;
+    let orders = groups_orders(alloc, Valency::HotDown, view, book, groups, picker, first)?;
     Ok(OrderList::from_vec(orders))
 }

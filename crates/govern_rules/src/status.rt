@@ -1,29 +1,29 @@
-ghost use Rattle.std.specs.Prelude.{◌≡◌};
+ghost use Rattle.std.specs.Prelude.{◌≡◌, false};
+ghost use Rattle.govern_rules.specs.Search.{lookups};
 ghost use Rattle.govern_rules.specs.Statuses.{has_status, count_with};
 ghost use Rattle.peer_book.specs.Book.{is_of};
 
+use crate::Links;
 use crate::mark::Mark;
-use crate::outlook::Outlook;
-use net_base::{Peer, Temp};
+use net_base::{Addr, Peer, Temp};
+use peer_book::PeerBook;
 
-// What peers are counted by.
+// What the members of a group are counted by.
 #[derive(Clone, Copy)]
 pub enum Status {
-    Pending,
-    OwesOn2,
-    OwesOn10,
     EstablishedOrPending,
     HotOrOwesOn2,
     Hot,
 }
 
-// How many peers of a class have a status.
-pub fn count_with(status: Status, big: bool, outlook: &Outlook, peers: &[Peer]) -> u64
-    ensures { result ≡ count_with status big outlook.now.view.now.links peers.now }
+// How many of the ordinary peers with some addresses have a status.
+pub fn count_with(status: Status, addrs: &[Addr], links: &Links, book: &PeerBook) -> u64
+    ensures { result ≡ count_with status false links.now (lookups book.now addrs.now) }
 {
-    let count = peers
+    let count = addrs
         .iter()
-        .filter(|peer| is_of(big, peer) && has_status(status, outlook, peer))
+        .filter_map(|addr| book.get(*addr))
+        .filter(|peer| is_of(false, peer) && has_status(status, links, peer))
         .count();
     count as u64
 }
@@ -34,27 +34,24 @@ pub fn is_of(big: bool, peer: &Peer) -> bool
     if big { peer.big } else { !peer.big }
 }
 
-fn has_status(status: Status, outlook: &Outlook, peer: &Peer) -> bool
-    ensures { result ≡ has_status status outlook.now.view.now.links peer.now }
+fn has_status(status: Status, links: &Links, peer: &Peer) -> bool
+    ensures { result ≡ has_status status links.now peer.now }
 {
     match status {
-        Status::Pending => outlook.has(peer.addr, Mark::Pending),
-        Status::OwesOn2 => outlook.has(peer.addr, Mark::Owes2),
-        Status::OwesOn10 => outlook.has(peer.addr, Mark::Owes10),
-        Status::EstablishedOrPending => is_established_or_pending(outlook, peer),
-        Status::HotOrOwesOn2 => is_hot_or_owes_on_2(outlook, peer),
+        Status::EstablishedOrPending => is_established_or_pending(links, peer),
+        Status::HotOrOwesOn2 => is_hot_or_owes_on_2(links, peer),
         Status::Hot => peer.temp == Temp::Hot,
     }
 }
 
-fn is_established_or_pending(outlook: &Outlook, peer: &Peer) -> bool
-    ensures { result ≡ has_status Status.EstablishedOrPending outlook.now.view.now.links peer.now }
+fn is_established_or_pending(links: &Links, peer: &Peer) -> bool
+    ensures { result ≡ has_status Status.EstablishedOrPending links.now peer.now }
 {
-    peer.temp != Temp::Cold || outlook.has(peer.addr, Mark::Pending)
+    peer.temp != Temp::Cold || links.some(peer.addr, Mark::Pending)
 }
 
-fn is_hot_or_owes_on_2(outlook: &Outlook, peer: &Peer) -> bool
-    ensures { result ≡ has_status Status.HotOrOwesOn2 outlook.now.view.now.links peer.now }
+fn is_hot_or_owes_on_2(links: &Links, peer: &Peer) -> bool
+    ensures { result ≡ has_status Status.HotOrOwesOn2 links.now peer.now }
 {
-    peer.temp == Temp::Hot || outlook.has(peer.addr, Mark::Owes2)
+    peer.temp == Temp::Hot || links.some(peer.addr, Mark::Owes2)
 }

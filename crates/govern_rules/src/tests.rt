@@ -1,5 +1,5 @@
 use crate::{
-    BigRule, Link, LinkList, Order, OrderList, View, rule_big, rule_g2, rule_g3, rule_g4, rule_g5,
+    BigRule, Link, Links, Order, OrderList, View, rule_big, rule_g2, rule_g3, rule_g4, rule_g5,
     rule_g6, rule_g7, rule_g8, rule_g9,
 };
 use net_base::{
@@ -114,10 +114,7 @@ fn in_use(port: u16) -> Link {
 }
 
 fn view(alloc: Global, targets: Targets, links: &[Link]) -> Result<View, OutOfMemory> {
-    let mut list = LinkList::new(alloc);
-    for link in links {
-        list.push(*link)?;
-    }
+    let links = Links::from_vec(Vec::from_slice(alloc, links)?)?;
     Ok(View {
         moment: 4999,
         word: 0,
@@ -140,7 +137,7 @@ fn view(alloc: Global, targets: Targets, links: &[Link]) -> Result<View, OutOfMe
         },
         targets,
         big: big_targets(0, 0, 0),
-        links: list,
+        links,
     })
 }
 
@@ -776,5 +773,16 @@ fn big_ledger_peers_by_their_targets(rt: HostRuntime) -> Result<(), Fail> {
         big_case(BigRule::B9, big_targets(9, 9, 1), 0, &[]),
     ];
     expect_all_big(&rt, alloc, big_connected(alloc)?, &picker, &cases)?;
+    Ok(())
+}
+
+#[test]
+fn links_come_in_address_order(rt: HostRuntime) -> Result<(), Fail> {
+    let given = [entry(3004), pending(3003), in_use(3004)];
+    let links = Links::from_vec(Vec::from_slice(rt.alloc(), &given)?)?;
+    let wanted = [pending(3003), entry(3004), in_use(3004)];
+    assert_eq!(rt; links.as_slice(), wanted.as_slice());
+    let again = Links::from_vec(Vec::from_slice(rt.alloc(), &wanted)?)?;
+    assert_eq!(rt; again.as_slice(), wanted.as_slice());
     Ok(())
 }

@@ -1,4 +1,4 @@
-use crate::LinkList;
+use crate::Links;
 use net_base::{BigTargets, Settings, Targets};
 
 /// What the rules look at beside the peers, the groups and the public roots.
@@ -13,5 +13,5 @@ pub struct View {
     pub targets: Targets,
     /// Those of big ledger peers.
     pub big: BigTargets,
-    pub links: LinkList,
+    pub links: Links,
 }

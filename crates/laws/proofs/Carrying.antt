@@ -41,7 +41,8 @@ use Rattle.laws.proofs.Chosen.{chosen, chosen-apart, chosen-all, groups_picks-ap
 use Rattle.laws.proofs.Entries.{turned-connections}
 use Rattle.laws.proofs.Finds.{find-set_other}
 use Rattle.laws.proofs.Governing.{members_picks, Gives, DoesLawful, forget-gives, and-gives, asks_roots-keeps, members_orders, members_chosen, ordinary-rules, big-rules}
-use Rattle.laws.proofs.Lawful.{IsAllowed, turns_at-connections}
+use Rattle.laws.proofs.ToldMoves.{turns_at-connections, turns_at-next}
+use Rattle.laws.proofs.Lawful.{IsAllowed}
 use Rattle.laws.proofs.Lists.{StandsAt, FoundIn, find_some, all-both, all-appended}
 use Rattle.laws.proofs.Orders.{Carries, Carried, still_may, IsCold, MayForget, forget-carried, says_done-machine}
 use Rattle.laws.proofs.PeersApart.{same_turned}
@@ -61,13 +62,9 @@ dials (Release addr) = 0
 dials (Activate addr) = 0
 dials (Deactivate addr) = 0
 
-turns_at-ids : (o : Option Peer) (change : Peer → Peer) (m : Machine) → (turns_at o change m).machine.next_id ≡ m.next_id
-turns_at-ids None change m = refl
-turns_at-ids (Some p) change m = refl
-
 lost-ids : (f : Facts) (m : Machine) → (lost f m).machine.next_id ≡ m.next_id
 lost-ids f m = cond_both (is_missed f) (peer_fails f.addr m) (nothing_more m) (λ effect. effect.machine.next_id ≡ m.next_id)
-    (λ missed. turns_at-ids (peer_at f.addr m) (failed_peer m.now m.settings.backoff) m) (λ other. refl)
+    (λ missed. turns_at-next (peer_at f.addr m) (failed_peer m.now m.settings.backoff) m) (λ other. refl)
 
 trim-ids : (moved : Cid) (m : Machine) → (trim moved m).machine.next_id ≡ m.next_id
 trim-ids moved m = cond_both (nat_le (counted_in m) m.settings.hard) (nothing_more m)
@@ -84,17 +81,17 @@ release-ids e m =
     let o : Machine = with_entry (record e { facts = released (n.now + n.settings.idle) e.facts }) n in
     let cold : Peer → Peer = λ p. record p { temp = Cold } in
     trim-ids e.facts.cid (turns_at (peer_at e.facts.addr o) cold o).machine
-    ∙ (turns_at-ids (peer_at e.facts.addr o) cold o ∙ ap (λ x. x.next_id) (says_done-machine e.facts m))
+    ∙ (turns_at-next (peer_at e.facts.addr o) cold o ∙ ap (λ x. x.next_id) (says_done-machine e.facts m))
 
 asks_peer-ids : (n : ℕ) (e : Entry) (m : Machine) → (asks_peer n e m).machine.next_id ≡ m.next_id
 asks_peer-ids n e m =
     let o : Machine = with_entry (owing 10 n m e) m in
-    turns_at-ids (peer_at e.facts.addr o) (λ p. record p { share_next = m.now + m.settings.sharegap }) o
+    turns_at-next (peer_at e.facts.addr o) (λ p. record p { share_next = m.now + m.settings.sharegap }) o
 
 acquire-ids : (e : Entry) (m : Machine) → (acquire e m).machine.next_id ≡ m.next_id
 acquire-ids e m =
     let n : Machine = with_entry (owing 8 (e.facts.cid.0 % 65536) m (record e { facts = acquired e.facts })) m in
-    turns_at-ids (peer_at e.facts.addr n) (λ p. record p { temp = Warm; failures = 0 }) n
+    turns_at-next (peer_at e.facts.addr n) (λ p. record p { temp = Warm; failures = 0 }) n
 
 on_used-ids : (addr : Addr) (act : Entry → Machine → Effect) (m : Machine) → ((e : Entry) → (act e m).machine.next_id ≡ m.next_id) →
     (on_used addr act m).machine.next_id ≡ m.next_id
@@ -116,7 +113,7 @@ carries-ids (Promote addr) m = promoted_at-ids (live_entry_at addr m) addr m
 carries-ids (Release addr) m = let same = on_used-ids addr release m (λ e. release-ids e m) in omega (arith, same)
 carries-ids (Activate addr) m = let same = on_used-ids addr activates m (λ e. refl) in omega (arith, same)
 carries-ids (Deactivate addr) m =
-    let same = on_used-ids addr deactivates m (λ e. turns_at-ids (peer_at e.facts.addr m) (λ p. record p { temp = Warm }) m) in omega (arith, same)
+    let same = on_used-ids addr deactivates m (λ e. turns_at-next (peer_at e.facts.addr m) (λ p. record p { temp = Warm }) m) in omega (arith, same)
 
 dials-most : (order : Order) → dials order ≤ 1
 dials-most (Ask addr n) = omega arith

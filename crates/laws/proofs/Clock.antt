@@ -30,7 +30,7 @@ use Rattle.laws.proofs.Keeping.{Keeps}
 use Rattle.laws.proofs.Lawful.{Obeys, obeys_then, obeys_nothing, accounts_turned, accounts_gone, live_stage, stands-stage, ending-obeys, on_stands, turns-obeys, as_move-obeys}
 use Rattle.laws.proofs.Entries.{TurnsInto}
 use Rattle.laws.proofs.Lists.{StandsAt}
-use Rattle.laws.proofs.Shapes.{greeting-unnegotiated, local-negotiated}
+use Rattle.laws.proofs.Shapes.{local-negotiated}
 use Rattle.laws.proofs.Telling.{told_move}
 use Rattle.laws.proofs.ToldMoves.{turned-told, turned-stage, goes-told, ended-told}
 use Rattle.laws.proofs.WholeEvents.{fires-keeps}

@@ -40,7 +40,7 @@ use Rattle.warm_messages.specs.declared.share.Share.TheVariants as share
 use Rattle.machine.specs.Connections.{with_entry, without_entry, entry_turns, ending, vanishes, acquire, candidates_in, trim, says_done, release, awake, dial, dial_opens, dial_fails, closing_entry}
 use Rattle.machine.specs.Deadlines.{fires_as}
 use Rattle.machine.specs.Effect.{Effect, Move, promoted, activated, shared, ended, unused, gone, on_entry, on_connection, nothing_more, tells, then_do, as_move, for_each}
-use Rattle.machine.specs.Events.{turned_away, admitted, crossed, accepted_beside, peer_connects, closes, dialed}
+use Rattle.machine.specs.Events.{turned_away, admitted, accepted_beside, peer_connects, closes, dialed}
 use Rattle.machine.specs.Govern.{promoted_at, promote, is_used_at, on_used, asks_peer, activates, activate, deactivates, carries_out, asks_roots}
 use Rattle.machine.specs.Greeting.{role_of, is_awaited, fits_side, sends_answer, judged, decided, greeted_by, greets}
 use Rattle.machine.specs.Machine.{Machine, Entry, Owed, counted_in, entry_at, live_entry_at}
@@ -52,9 +52,10 @@ use Rattle.machine.specs.Stream.{handled_in, handled, kind_of, faulted}
 use Rattle.machine.specs.Talking.{replies, stops_if, serves, begins, takes_requests, asked_as, shares_address, taken_of, takes_addresses, pays, brings, answered_as, talks}
 use Rattle.laws.specs.Acts.{Act, shows, fires_one, asks_for_roots, carries, connects, ends_dial, stores, handles_item, ends_stream, is_closed, sets_targets, sets_big_targets, sets_groups, sets_roots, makes_ordinary, provides, provides_big, does}
 use Rattle.laws.specs.AtMoves.{fault_of_request, fault_of_answer, fault_of}
-use Rattle.laws.specs.Parts.{ends_on, causes_of_kind, causes_of_verdict, causes_of_message, causes_of_greeting, causes_of_fault, causes_of_item, causes_of_cut, causes_of_crossing, ends_due, is_pruned, but_pruned}
+use Rattle.laws.specs.Parts.{ends_on, causes_of_kind, causes_of_verdict, causes_of_message, causes_of_greeting, causes_of_fault, causes_of_item, causes_of_cut, causes_of_crossing, ends_due, is_pruned, but_pruned, IsOneMove, IsItsMove}
 use Rattle.laws.specs.Told.{End, ended_by, ends_in}
-use Rattle.laws.proofs.Lawful.{lost_by-quiet, lost-quiet, turns_at-moves, comes-providing}
+use Rattle.laws.proofs.ToldMoves.{turns_at-moves}
+use Rattle.laws.proofs.Lawful.{lost_by-quiet, lost-quiet, comes-providing}
 use Rattle.laws.proofs.Handshakes.{answer-quiet}
 use Rattle.laws.proofs.Orders.{says_done-quiet}
 use Rattle.laws.proofs.Talks.{replies-quiet}
@@ -315,6 +316,55 @@ activate-others addr m = by_entry (find (is_used_at addr) m.connections)
     by_entry : (o : Option Entry) → others (as_move (activated addr) m (on_entry o activates m)) ≡ []
     by_entry None = refl
     by_entry (Some e) = refl
+
+-- a promotion and an activation are one move each
+promote-move : (addr : Addr) (m : Machine) → IsOneMove (promoted addr) m (promote addr m)
+promote-move addr m = by_live (live_entry_at addr m)
+  where
+    reuses : (e : Entry) → IsOneMove (promoted addr) m (as_move (promoted addr) m (acquire e m))
+    reuses e =
+        let n : Machine = with_entry (owing 8 (e.facts.cid.0 % 65536) m (record e { facts = acquired e.facts })) m in
+        let move : Move = record { happened = promoted addr; before = m; after = (acquire e m).machine } in
+        ap (λ ms. (ms ++ []) ++ move ∷ []) (turns_at-moves (peer_at e.facts.addr n) (λ p. record p { temp = Warm; failures = 0 }) n)
+
+    by_live : (o : Option Entry) → IsOneMove (promoted addr) m (as_move (promoted addr) m (promoted_at o addr m))
+    by_live None = refl
+    by_live (Some e) = cond_both (is_acquirable e.facts) (acquire e m) (dial addr m) (λ effect. IsOneMove (promoted addr) m (as_move (promoted addr) m effect))
+        (λ free. reuses e) (λ other. refl)
+
+activate-move : (addr : Addr) (m : Machine) → IsOneMove (activated addr) m (activate addr m)
+activate-move addr m = by_entry (find (is_used_at addr) m.connections)
+  where
+    by_entry : (o : Option Entry) → IsOneMove (activated addr) m (as_move (activated addr) m (on_entry o activates m))
+    by_entry None = refl
+    by_entry (Some e) = refl
+
+order-move : (order : Order) (m : Machine) → IsItsMove (carries order) m (carries_out order m)
+order-move (Ask addr n) m = tt
+order-move (Forget addr) m = tt
+order-move (Promote addr) m = promote-move addr m
+order-move (Release addr) m = tt
+order-move (Activate addr) m = activate-move addr m
+order-move (Deactivate addr) m = tt
+
+pub its-move : (act : Act) (m : Machine) → IsItsMove act m (does act m)
+its-move (shows t) m = tt
+its-move (fires_one d) m = tt
+its-move asks_for_roots m = tt
+its-move (carries order) m = order-move order m
+its-move (connects addr) m = tt
+its-move (ends_dial cid opened) m = tt
+its-move (stores entry undecoded) m = tt
+its-move (handles_item cid item) m = tt
+its-move (ends_stream cid fault) m = tt
+its-move (is_closed cid) m = tt
+its-move (sets_targets targets) m = tt
+its-move (sets_big_targets targets) m = tt
+its-move (sets_groups groups) m = tt
+its-move (sets_roots roots) m = tt
+its-move (makes_ordinary addr) m = tt
+its-move (provides addr) m = tt
+its-move (provides_big addr) m = tt
 
 carries-others : (order : Order) (m : Machine) → others (carries_out order m) ≡ []
 carries-others (Ask addr n) m = on_used-others addr (asks_peer n) m

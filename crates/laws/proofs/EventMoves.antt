@@ -207,7 +207,7 @@ pause-quiet m = cond_both (nat_lt m.settings.soft (counted_in m)) (Pause (pause_
 admitted-told : (addr : Addr) (m : Machine) → IsOrderly m → IsTold m (admitted addr m)
 admitted-told addr m h =
     let first : Effect = entry_comes (Admit (record { 0 = m.next_id }) addr ∷ []) (admitted_entry addr m) m in
-    told_then m first (λ n. tells (pause_notice n) n) (admits-told m (admitted_entry addr m) addr h refl) (pause-quiet first.machine).told
+    told_then m first (λ n. tells (pause_notice n) n) (admits-told m (admitted_entry addr m) addr h refl refl) (pause-quiet first.machine).told
 
 admitted-obeys : (Law : Move → Type 0) (addr : Addr) (m : Machine) → IsOrderly m → Obeys Law m (admitted addr m)
 admitted-obeys Law addr m h = record {

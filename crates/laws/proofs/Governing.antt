@@ -33,6 +33,7 @@ use Rattle.laws.specs.AtMoves.{IsLawful}
 use Rattle.laws.specs.Whole.{IsOrdered}
 use Rattle.laws.proofs.Chosen.{chosen, chosen-apart, chosen-all, PicksMembers, groups_picks-apart, groups_picks-all, map-groups}
 use Rattle.laws.proofs.Keeping.{Keeps, keeps_nothing, elsewhere-keeps}
+use Rattle.laws.proofs.ToldMoves.{is_temp}
 use Rattle.laws.proofs.Lawful.{Accounts, IsQuiet, quiet-obeys, elsewhere-quiet, tells-quiet, IsAllowed, Within, allowed_within}
 use Rattle.laws.proofs.Orders.{Carries, EachAccounted, Followed, nothing-followed, first-followed, orders-followed, Always, ask-carried, IsCold, IsIdle, MayForget, forget-carried, MayRelease, release-carried, MayActivate, activate-carried, deactivate-carried, MayAsk}
 use Rattle.laws.proofs.Promotions.{MayPromote, promotes-carried, eligible-may}
@@ -57,17 +58,6 @@ unlinked test addr q at (x ∷ es) e none found =
         let same : x ≡ e = cc in
         subst (λ y. test (link_of y) ≡ false) same (subst (λ b. (b && test (link_of x)) ≡ false) (at x is) fails)
     by_test false is found fails later = later found
-
-is_temp : (t u : Temp) → same_temp t u ≡ true → t ≡ u
-is_temp Cold Cold h = refl
-is_temp Cold Warm h = absurd (false≢true h)
-is_temp Cold Hot h = absurd (false≢true h)
-is_temp Warm Cold h = absurd (false≢true h)
-is_temp Warm Warm h = refl
-is_temp Warm Hot h = absurd (false≢true h)
-is_temp Hot Cold h = absurd (false≢true h)
-is_temp Hot Warm h = absurd (false≢true h)
-is_temp Hot Hot h = refl
 
 -- ---- who may be given an order
 

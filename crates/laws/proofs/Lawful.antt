@@ -30,7 +30,7 @@ use Rattle.laws.specs.AtMoves.{OutOfBackOff, WithinTargets, IsCrowded, OnEntry, 
 use Rattle.laws.specs.Sound.{IsOrderly}
 use Rattle.laws.specs.Stages.{stage_of_phase, stage_of, stage_at, stage_ended, IsLateCause}
 use Rattle.laws.specs.Telling.{IsTold}
-use Rattle.laws.specs.Told.{Dialed, ended_by, promoted_by_dial}
+use Rattle.laws.specs.Told.{Given, ended_by, promoted_by_dial}
 use Rattle.laws.proofs.Entries.{TurnsInto, turned-connections, gone-connections, one_has_id, has_own_id, with_new}
 use Rattle.laws.proofs.Finds.{find-set_other, find-set_here, find-remove_other}
 use Rattle.laws.proofs.Keeping.{note-machine}
@@ -40,7 +40,7 @@ use Rattle.laws.proofs.PeersApart.{same_turned}
 use Rattle.laws.proofs.Rises.{Rises, rises_then, rises_move, rises_said, StaysDown, is_hot, NoneConnected, hot_or_asked-down, rises_nowhere, rises_none, same-connected, connected_then, IsNoHigher, turned-down, turned-connected, gone-connected, come-down, IsCooling, changed-hot, changed-known, entered-hot, entered-known}
 use Rattle.laws.proofs.Telling.{are_mute, mute, told_unchanged, told_then, told_move}
 use Rattle.laws.proofs.Ties.{turned_elsewhere}
-use Rattle.laws.proofs.ToldMoves.{turned-told, goes-told, goes-stage, ended-told, changes-told, turns_at-next, peer_comes-told}
+use Rattle.laws.proofs.ToldMoves.{turned-told, goes-told, goes-stage, ended-told, changes-told, turns_at-next, peer_comes-told, turns_at-moves, turns_at-connections}
 
 -- ---- no connection is gone without a move
 
@@ -261,14 +261,6 @@ quiet_then m first next one two = record {
   told = told_then m first next one.told two.told;
 }
 
-pub turns_at-moves : (o : Option Peer) (change : Peer → Peer) (m : Machine) → (turns_at o change m).moves ≡ []
-turns_at-moves None change m = refl
-turns_at-moves (Some p) change m = refl
-
-pub turns_at-connections : (o : Option Peer) (change : Peer → Peer) (m : Machine) → (turns_at o change m).machine.connections ≡ m.connections
-turns_at-connections None change m = refl
-turns_at-connections (Some p) change m = refl
-
 -- a peer changes, and does not become hot
 pub changes-quiet : (a : Addr) (change : Peer → Peer) (m : Machine) → IsCooling change → IsQuiet m (peer_changes a change m)
 changes-quiet a change m cools = record {
@@ -479,7 +471,7 @@ reuse-told : (a : Addr) (m : Machine) (effect : Effect) → effect.machine.next_
 reuse-told a m effect same h =
     told_move (promoted a) m effect refl (subst (λ next. promoted_by_dial (promoted a) m.next_id next ≡ []) (sym same) (no_dial (nat_lt m.next_id m.next_id) (not_lower m.next_id))) h
   where
-    dial : Dialed
+    dial : Given
     dial = record { cid = m.next_id; addr = a }
 
     no_dial : (b : Bool) → b ≡ false → (if b then dial ∷ [] else []) ≡ []

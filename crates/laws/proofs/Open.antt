@@ -24,9 +24,9 @@ use Rattle.remote_watch.specs.declared.seen.Seen.{Seen}
 use Rattle.warm_messages.specs.Reading.{share_of}
 use Rattle.warm_messages.specs.declared.share.Share.{Share}
 use Rattle.warm_messages.specs.declared.share.Share.TheVariants as share
-use Rattle.machine.specs.Connections.{with_entry, without_entry, ending, is_used, awake, idle}
+use Rattle.machine.specs.Connections.{with_entry, without_entry, ending, is_used, awake}
 use Rattle.machine.specs.Effect.{nothing_more, then_do, for_each, on_entry, on_connection}
-use Rattle.machine.specs.Greeting.{role_of, is_awaited, fits_side, sends_answer, judged, decided, greeted_by, greets}
+use Rattle.machine.specs.Greeting.{role_of, is_awaited, fits_side, judged, decided, greeted_by, greets}
 use Rattle.machine.specs.Machine.{Machine, Entry, Owed, entry_at}
 use Rattle.machine.specs.Own.{own_info}
 use Rattle.machine.specs.Peers.{peer_at, peer_becomes}
@@ -34,7 +34,8 @@ use Rattle.machine.specs.Replies.{reply_on, paid, owing}
 use Rattle.machine.specs.Stream.{handled_in, handled, handles}
 use Rattle.machine.specs.Talking.{stops_if, serves, begins, takes_requests, asked_as, shares_address, taken_of, takes_addresses, pays, brings, answered_as}
 use Rattle.laws.proofs.Handshakes.{answer-machine}
-use Rattle.laws.proofs.Lawful.{lost_by-quiet, turns_at-connections, comes-providing}
+use Rattle.laws.proofs.ToldMoves.{turns_at-connections}
+use Rattle.laws.proofs.Lawful.{lost_by-quiet, comes-providing}
 use Rattle.laws.proofs.Lists.{find_some}
 use Rattle.laws.proofs.Remains.{gone-found, trim-found, turned-found}
 use Rattle.laws.proofs.Talks.{replies-machine}

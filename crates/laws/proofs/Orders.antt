@@ -30,14 +30,14 @@ use Rattle.laws.proofs.Effects.{one_if-not_counted}
 use Rattle.laws.proofs.Entries.{TurnsInto, turned-connections, turned-sum}
 use Rattle.laws.proofs.Finds.{find-set_other}
 use Rattle.laws.proofs.Keeping.{Moves, Keeps, keeps_nothing, keeps_then, moves_then, moves-keeps, peers-moves, changes-moves, changes-keeps}
-use Rattle.laws.proofs.Lawful.{ends_move, ends_turned, Accounts, Obeys, obeys_then, IsQuiet, quiet-obeys, tells-quiet, quiet_then, turns_at-connections, changes-quiet, turns-obeys, turned_then-obeys, IsAllowed}
+use Rattle.laws.proofs.Lawful.{ends_move, ends_turned, Accounts, Obeys, obeys_then, IsQuiet, quiet-obeys, tells-quiet, quiet_then, changes-quiet, turns-obeys, turned_then-obeys, IsAllowed}
 use Rattle.laws.proofs.Lists.{StandsAt, FoundIn, stands-set, find_some}
 use Rattle.laws.proofs.Ordinary.{taken-classes}
 use Rattle.laws.proofs.Owing.{OwesNothing, with_reply-some}
 use Rattle.laws.proofs.PeersApart.{same_turned}
 use Rattle.laws.proofs.Rises.{rises_said, rises_nowhere, turned-down, taken-hot, taken-known}
 use Rattle.laws.proofs.Telling.{told_then, told_move}
-use Rattle.laws.proofs.ToldMoves.{turned-told, peer_goes-told}
+use Rattle.laws.proofs.ToldMoves.{turned-told, peer_goes-told, turns_at-connections}
 use Rattle.laws.proofs.Ties.{live_here, turned_here, turned_elsewhere, changed-ties, taken-ties, taken-elsewhere}
 use Rattle.laws.proofs.Trims.{Trimmed, tied-trimmed, keeps-trimmed, nothing-trimmed, trimmed_then, trimmed-within, as_move-trimmed, raised_twice_then_trimmed, trim-trims, trim-used, turns_at-counted}
 use Rattle.laws.proofs.WholeMoves.{owes-keeps, IsWarm, asks_warm-keeps, releases-moves}

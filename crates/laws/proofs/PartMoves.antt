@@ -16,7 +16,7 @@ use Rattle.laws.specs.Parts.{IsNext, IsDone, EndsOnce, IsAccounted, IsLawfulPart
 use Rattle.laws.specs.Stages.{stage_of_phase, stage_of, stage_at, causes_by, causes_in, IsOneEnd}
 use Rattle.laws.specs.Telling.{IsTold}
 use Rattle.laws.specs.Told.{ended_by, ends_in}
-use Rattle.laws.proofs.Due.{ends-due}
+use Rattle.laws.proofs.Due.{its-move, ends-due}
 use Rattle.laws.proofs.Lawful.{Accounts, IsProviding, ends_same}
 use Rattle.laws.proofs.Lists.{all-placed}
 use Rattle.laws.proofs.Telling.{ended-over}
@@ -118,6 +118,7 @@ pub lawful-part : (event : Event) (act : Act) (m : Machine) → IsNext act m →
 lawful-part event act m next h = record {
   accounted = h;
   next = next;
+  move = its-move act m;
   ends = ends-due act m;
 }
 

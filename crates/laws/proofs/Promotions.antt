@@ -29,7 +29,7 @@ use Rattle.laws.proofs.Books.{found-other}
 use Rattle.laws.proofs.Counts.{counted_of, counted_in-sum, late_of, late_in-sum}
 use Rattle.laws.proofs.Entries.{with_new, come-orderly}
 use Rattle.laws.proofs.Keeping.{Keeps}
-use Rattle.laws.proofs.Lawful.{ends_move, ends_come, Accounts, Obeys, turns_at-connections, IsAllowed, as_move-obeys, promoted-obeys}
+use Rattle.laws.proofs.Lawful.{ends_move, ends_come, Accounts, Obeys, IsAllowed, as_move-obeys, promoted-obeys}
 use Rattle.laws.proofs.Lists.{StandsAt, stands_next, FoundIn, find_some, find_none, find_only}
 use Rattle.laws.proofs.Owing.{nothing-owing}
 use Rattle.laws.proofs.Shapes.{dialing-shaped, can_acquire}
@@ -37,7 +37,7 @@ use Rattle.laws.proofs.Orders.{Carried, Carries}
 use Rattle.laws.proofs.PeersApart.{same_turned}
 use Rattle.laws.proofs.Rises.{rises_said, hot_or_asked-down, rises_nowhere, come-down}
 use Rattle.laws.proofs.Ties.{live_one, come-ties, come_elsewhere, turned_elsewhere, turns_at-elsewhere}
-use Rattle.laws.proofs.ToldMoves.{dials-told}
+use Rattle.laws.proofs.ToldMoves.{dials-told, turns_at-connections}
 use Rattle.laws.proofs.Trims.{keeps-trimmed}
 use Rattle.laws.proofs.WholeMoves.{negotiated-live, acquire-keeps}
 
@@ -128,7 +128,7 @@ dial-accounts addr m h =
             (hot_or_asked-down m effect.machine (λ b hot. hot) (come-down is_asked_connection refl m new refl));
         arrivals = rises_nowhere is_known shares m (as_move (promoted addr) m effect) (λ b known. known);
       };
-      told = dials-told m new addr h.orderly refl;
+      told = dials-told m new addr h.orderly refl refl;
     }
 
 acquire-obeys : (Law : Move → Type 0) (addr : Addr) (m : Machine) (e : Entry) (k : ℕ) → IsOrdered m → StandsAt m.connections k e → is_acquirable e.facts ≡ true →

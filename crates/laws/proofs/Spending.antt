@@ -16,7 +16,7 @@ use Rattle.govern_rules.specs.Links.{some_link}
 use Rattle.govern_rules.specs.Statuses.{has_status}
 use Rattle.govern_rules.specs.declared.link.Link.{Link}
 use Rattle.govern_rules.specs.declared.status.Status.{Status}
-use Rattle.govern_rules.specs.declared.status.Status.TheVariants.{Pending, OwesOn2, OwesOn10, EstablishedOrPending, HotOrOwesOn2, Hot}
+use Rattle.govern_rules.specs.declared.status.Status.TheVariants.{EstablishedOrPending, HotOrOwesOn2, Hot}
 use Rattle.peer_book.specs.Book.{has_address, is_of, is_established, same_temp, peer_at as peer_in, with_peer}
 use Rattle.root_groups.specs.Cleaned.{is_listed}
 use Rattle.machine.specs.Machine.{Machine, Entry, fresh_entry, live_entry_at}
@@ -178,9 +178,6 @@ pub record ChangesAt (addr : Addr) (before after : Machine) : Type 0 where
 
 statuses-same : (status : Status) (addr : Addr) (m n : Machine) → ChangesAt addr m n → (p : Peer) → same_address p.addr addr ≡ false →
     has_status status (links_in n) p ≡ has_status status (links_in m) p
-statuses-same Pending addr m n h p other = h.links (λ l. l.pending) p.addr other
-statuses-same OwesOn2 addr m n h p other = h.links (λ l. l.owes2) p.addr other
-statuses-same OwesOn10 addr m n h p other = h.links (λ l. l.owes10) p.addr other
 statuses-same EstablishedOrPending addr m n h p other = ap (λ b. is_established p.temp || b) (h.links (λ l. l.pending) p.addr other)
 statuses-same HotOrOwesOn2 addr m n h p other = ap (λ b. same_temp p.temp temp.Hot || b) (h.links (λ l. l.owes2) p.addr other)
 statuses-same Hot addr m n h p other = refl

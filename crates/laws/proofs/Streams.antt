@@ -1,29 +1,26 @@
 -- Bytes come in on a connection.
-use Rattle.std.proofs.Common.{ℕ, ◌≤◌, ◌≡◌, true, false, Bool, arith, List, Option, Some, None, All, Contains, refl, sym, ap, subst, inl, inr, eqb-true, ◌||◌}
+use Rattle.std.proofs.Common.{ℕ, ◌≤◌, ◌≡◌, true, arith, List, Option, Some, None, refl, ap, eqb-true, ◌||◌}
 use Rattle.std.proofs.lemmas.Bool.{cond_both, false≢true}
-use Rattle.std.proofs.lemmas.List.Elements.{All-weaker, All-contains_itself}
 use Rattle.mux_segment.specs.Stream.{FedBy}
 use Rattle.mux_segment.specs.declared.fault.CutFault.{CutFault}
 use Rattle.mux_segment.specs.declared.item.Item.{Item}
 use Rattle.net_base.specs.declared.action.CloseCause.TheVariants.{Fault}
-use Rattle.net_base.specs.declared.action.FaultKind.{FaultKind}
 use Rattle.net_base.specs.declared.connection.Cid.{Cid}
 use Rattle.net_base.specs.declared.connection.Phase.{Phase}
 use Rattle.net_base.specs.declared.connection.Phase.TheVariants.{Dialing, Greeting, Negotiated, Closing}
-use Rattle.net_base.specs.declared.event.Event.TheVariants.{Bytes}
 use Rattle.conn_state.specs.Use.{has_id, is_live, live_phase, is_greeting_phase, is_negotiated_phase, is_greeting, is_negotiated}
 use Rattle.machine.specs.Machine.{Machine, Entry, counted_in, entry_at}
 use Rattle.machine.specs.Effect.{Effect, then_do, for_each, on_entry, on_connection, nothing_more}
 use Rattle.machine.specs.Connections.{entry_turns}
 use Rattle.machine.specs.Stream.{handled_in, handled, handles, kind_of, faulted, fed_with, feeds, comes_in, bytes_come_in}
-use Rattle.laws.specs.AtMoves.{fault_of, fed_on, IsLawful}
+use Rattle.laws.specs.AtMoves.{fed_on, IsLawful}
 use Rattle.laws.specs.Whole.{IsOrdered}
 use Rattle.laws.proofs.Handshakes.{greets-trimmed}
 use Rattle.laws.proofs.Lawful.{turns-obeys}
 use Rattle.laws.proofs.Lists.{StandsAt, find_some}
 use Rattle.laws.proofs.Open.{IsOpen, turned-open, all_handled-open}
 use Rattle.laws.proofs.Talks.{talks-trimmed}
-use Rattle.laws.proofs.Trims.{Trimmed, keeps-trimmed, ending-trimmed, nothing-trimmed, trimmed_then, trimmed-within, for_each-trimmed}
+use Rattle.laws.proofs.Trims.{Trimmed, keeps-trimmed, ending-trimmed, nothing-trimmed, trimmed_then, trimmed-within, for_each_that-trimmed}
 use Rattle.laws.proofs.WholeMoves.{decodes-keeps}
 
 handled_in-trimmed : (p : Phase) (item : Item) (m : Machine) (e : Entry) (k : ℕ) → e.facts.phase ≡ p → IsOrdered m → counted_in m ≤ m.settings.hard →
@@ -76,8 +73,8 @@ fed_with-trimmed fed m e k h within s live =
     let n : Machine = first.machine in
     let second : Effect = for_each (handles e.facts.cid) fed.items n in
     let two : Trimmed IsLawful n second =
-    for_each-trimmed IsLawful (handles e.facts.cid) (handles-trimmed e.facts.cid) fed.items n one.ordered
-    (trimmed-within IsLawful m first one) in
+    for_each_that-trimmed IsLawful (λ settings item. Unit {0}) (handles e.facts.cid) (λ item o h within any. handles-trimmed e.facts.cid item o h within) fed.items n
+    one.ordered (trimmed-within IsLawful m first one) (λ place item inside. tt) in
     trimmed_then IsLawful m first (λ m. then_do (for_each (handles e.facts.cid) fed.items m) fault) one
     (trimmed_then IsLawful n second fault two
     (faulted-trimmed e.facts.cid fed.state.fault second.machine two.ordered (trimmed-within IsLawful n second two)

@@ -1,5 +1,5 @@
 -- What the actions of a part tell: one part after another, and what tells nothing.
-use Rattle.std.proofs.Common.{ℕ, ◌+◌, ◌≡◌, ◌≤◌, Bool, true, false, ◌&&◌, List, [], ◌∷◌, ◌++◌, flat_map, refl, sym, ap, ◌∙◌, subst, arith}
+use Rattle.std.proofs.Common.{ℕ, nat_lt, find, Option, Some, None, ◌+◌, ◌≡◌, ◌≤◌, Bool, true, false, ◌&&◌, List, [], ◌∷◌, ◌++◌, flat_map, refl, sym, ap, ◌∙◌, subst, arith}
 use Rattle.std.proofs.lemmas.Bool.{and_parts, false≢true}
 use Rattle.std.proofs.lemmas.Grind.{flat_map-append}
 use Rattle.std.proofs.lemmas.List.{append-nil}
@@ -8,12 +8,15 @@ use Rattle.net_base.specs.declared.action.Action.TheVariants.{Admit, Turnaway, D
 use Rattle.net_base.specs.declared.action.CloseCause.{CloseCause}
 use Rattle.net_base.specs.declared.action.CloseCause.TheVariants.{Unused, Pruned, Overwritten, Refused, Query, Fault}
 use Rattle.net_base.specs.declared.address.Addr.{Addr}
+use Rattle.net_base.specs.declared.connection.Phase.{Phase}
+use Rattle.net_base.specs.declared.connection.Phase.TheVariants.{Dialing, Greeting, Negotiated, Closing}
+use Rattle.conn_state.specs.Use.{has_id}
 use Rattle.peer_book.specs.Book.{peer_at as peer_in}
 use Rattle.machine.specs.Effect.{Effect, Happened, Move, tells, then_do, as_move}
-use Rattle.machine.specs.Machine.{Machine}
-use Rattle.laws.specs.Stages.{stage_at, stage_ended, causes_by, causes_in, IsOneEnd}
-use Rattle.laws.specs.Telling.{GoesOn, IsTold}
-use Rattle.laws.specs.Told.{End, closed_by, closes_in, ended_by, ends_in, dialed_by, dials_in, promoted_by_dial, dial_promotions_in, given_by, given_in, CountUp, LeadTo, temp_of, temp_at, notes_by, notes_in, noted, is_change, state_at, names_by, names_in, is_other_name, same_state}
+use Rattle.machine.specs.Machine.{Machine, Entry, entry_at}
+use Rattle.laws.specs.Stages.{stage_of_phase, stage_of, stage_at, stage_ended, causes_by, causes_in, IsOneEnd}
+use Rattle.laws.specs.Telling.{KeepsAddress, GoesOn, IsTold}
+use Rattle.laws.specs.Told.{End, Given, closed_by, closes_in, ended_by, ends_in, dialed_by, dials_in, promoted_by_dial, dial_promotions_in, given_by, given_in, CountUp, HasAddress, AreAt, LeadTo, temp_of, temp_at, notes_by, notes_in, noted, is_change, state_at, names_by, names_in, is_other_name, same_state}
 
 -- ---- one after the other
 
@@ -22,9 +25,60 @@ pub leads_on : {S N : Type 0} (changes : S → N → Bool) (says : N → S) (s t
 leads_on changes says s t u [] ms one two = subst (λ x. LeadTo changes says x ms u) (sym one) two
 leads_on changes says s t u (n ∷ ns) ms one two = (one.0, leads_on changes says (says n) t u ns ms one.1 two)
 
-counts_on : (a b c : ℕ) (ns ms : List ℕ) → CountUp a ns b → CountUp b ms c → CountUp a (ns ++ ms) c
+counts_on : (a b c : ℕ) (ns ms : List Given) → CountUp a ns b → CountUp b ms c → CountUp a (ns ++ ms) c
 counts_on a b c [] ms one two = subst (λ x. CountUp x ms c) (sym one) two
 counts_on a b c (n ∷ ns) ms one two = (one.0, counts_on (a + 1) b c ns ms one.1 two)
+
+counted_to : (a b : ℕ) (gs : List Given) → CountUp a gs b → a ≤ b
+counted_to a b [] h = omega (arith, h)
+counted_to a b (g ∷ gs) h = let rest = counted_to (a + 1) b gs h.1 in omega (arith, rest)
+
+-- ---- addresses
+
+pub open_stage : (p : Phase) → stage_of_phase p ≤ 4
+open_stage Dialing = omega arith
+open_stage (Greeting until) = omega arith
+open_stage Negotiated = omega arith
+open_stage (Closing until) = omega arith
+
+some_stage : (p : Phase) → 1 ≤ stage_of_phase p
+some_stage Dialing = omega arith
+some_stage (Greeting until) = omega arith
+some_stage Negotiated = omega arith
+some_stage (Closing until) = omega arith
+
+keeps_then : (o p q : Option Entry) (a b c : Bool) → stage_of o a ≤ stage_of p b → stage_of p b ≤ stage_of q c → KeepsAddress o p → KeepsAddress p q → KeepsAddress o q
+keeps_then None p q a b c early late one two = tt
+keeps_then (Some e) p None a b c early late one two = tt
+keeps_then (Some e) None (Some g) a true c early late one two = absurd (let most = open_stage g.facts.phase in omega (arith, late, most))
+keeps_then (Some e) None (Some g) a false c early late one two = absurd (let some = some_stage e.facts.phase in omega (arith, early, some))
+keeps_then (Some e) (Some f) (Some g) a b c early late one two = two ∙ one
+
+pub keeps_itself : (o : Option Entry) → KeepsAddress o o
+keeps_itself None = tt
+keeps_itself (Some e) = refl
+
+still_at : (addr : Addr) (o p : Option Entry) (b : Bool) → stage_of o true ≤ stage_of p b → KeepsAddress o p → HasAddress addr o → HasAddress addr p
+still_at addr o None b late keeps has = tt
+still_at addr None (Some f) b late keeps has = absurd (let most = open_stage f.facts.phase in omega (arith, late, most))
+still_at addr (Some e) (Some f) b late keeps has = keeps ∙ has
+
+-- those that came in the first part are where they were told in the second one, if they still are
+all_still_at : (next : ℕ) (gs : List Given) (m n : Machine) → CountUp next gs m.next_id → ((cid : ℕ) → stage_at cid m ≤ stage_at cid n) →
+    ((cid : ℕ) → KeepsAddress (entry_at cid m) (entry_at cid n)) → AreAt gs m → AreAt gs n
+all_still_at next [] m n counts forward keeps h = tt
+all_still_at next (g ∷ gs) m n counts forward keeps h = (
+  still_at g.addr (entry_at g.cid m) (entry_at g.cid n) (nat_lt g.cid n.next_id)
+      (subst (λ b. stage_of (entry_at g.cid m) b ≤ stage_at g.cid n) is_given (forward g.cid)) (keeps g.cid) h.0,
+  all_still_at (next + 1) gs m n counts.1 forward keeps h.1,
+)
+  where
+    is_given : nat_lt g.cid m.next_id ≡ true
+    is_given = let most = counted_to (next + 1) m.next_id gs counts.1 in let here = counts.0 in grind (arith, most, here)
+
+all_at : (xs ys : List Given) (m : Machine) → AreAt xs m → AreAt ys m → AreAt (xs ++ ys) m
+all_at [] ys m one two = two
+all_at (x ∷ xs) ys m one two = (one.0, all_at xs ys m one.1 two)
 
 both_joined : {A B C : Type 0} (f : A → List C) (g : B → List C) (xs ys : List A) (ms ns : List B) → flat_map f xs ≡ flat_map g ms → flat_map f ys ≡ flat_map g ns →
     flat_map f (xs ++ ys) ≡ flat_map g (ms ++ ns)
@@ -67,6 +121,8 @@ goes_on_then cid m first next one two =
           (sym (flat_map-append (names_by cid) first.actions second.actions))
           (leads_on is_other_name same_state (state_at cid m) (state_at cid first.machine) (state_at cid second.machine) (names_in cid first.actions)
           (names_in cid second.actions) one.names two.names);
+      address = keeps_then (entry_at cid m) (entry_at cid first.machine) (entry_at cid second.machine) (nat_lt cid m.next_id) (nat_lt cid first.machine.next_id)
+          (nat_lt cid second.machine.next_id) one.forward two.forward one.address two.address;
       forward = omega (arith, one.forward, two.forward);
       ends = subst (λ cs. IsOneEnd cs (stage_at cid m) (stage_at cid second.machine)) (sym (causes-append cid first.moves second.moves))
           (one_end_on (causes_in cid first.moves) (causes_in cid second.moves) (stage_at cid m) (stage_at cid first.machine) (stage_at cid second.machine)
@@ -82,6 +138,10 @@ told_then m first next one two =
           second.moves one.dials two.dials;
       given = subst (λ ns. CountUp m.next_id ns second.machine.next_id) (sym (flat_map-append given_by first.actions second.actions))
           (counts_on m.next_id first.machine.next_id second.machine.next_id (given_in first.actions) (given_in second.actions) one.given two.given);
+      addresses = subst (λ gs. AreAt gs second.machine) (sym (flat_map-append given_by first.actions second.actions))
+          (all_at (given_in first.actions) (given_in second.actions) second.machine
+          (all_still_at m.next_id (given_in first.actions) first.machine second.machine one.given (λ cid. (two.connections cid).forward)
+          (λ cid. (two.connections cid).address) one.addresses) two.addresses);
       peers = λ addr. subst (λ ns. LeadTo is_change noted (temp_at addr m) ns (temp_at addr second.machine))
           (sym (flat_map-append (notes_by addr) first.actions second.actions))
           (leads_on is_change noted (temp_at addr m) (temp_at addr first.machine) (temp_at addr second.machine) (notes_in addr first.actions)
@@ -118,6 +178,7 @@ told_unchanged m effect mute none same = record {
   closes = mute.closes ∙ sym (ap ends_in none);
   dials = mute.dials ∙ sym (ap dial_promotions_in none);
   given = subst (λ ns. CountUp m.next_id ns effect.machine.next_id) (sym mute.given) (sym same.next_id);
+  addresses = subst (λ gs. AreAt gs effect.machine) (sym mute.given) tt;
   peers = λ addr. subst (λ ns. LeadTo is_change noted (temp_at addr m) ns (temp_at addr effect.machine)) (sym (mute.notes addr))
       (ap (λ ps. temp_of (peer_in addr ps)) (sym same.peers));
   connections = λ cid.
@@ -125,6 +186,7 @@ told_unchanged m effect mute none same = record {
       record {
         names = subst (λ ns. LeadTo is_other_name same_state (state_at cid m) ns (state_at cid effect.machine)) (sym (mute.names cid))
             (unchanged-state cid m effect.machine same);
+        address = subst (λ o. KeepsAddress (entry_at cid m) o) (ap (find (λ e. has_id cid e.facts)) (sym same.connections)) (keeps_itself (entry_at cid m));
         forward = omega (arith, stage);
         ends = subst (λ ms. IsOneEnd (causes_in cid ms) (stage_at cid m) (stage_at cid effect.machine)) (sym none) tt;
       };
@@ -151,9 +213,11 @@ told_move happened m effect no_end no_dial h =
           ∙ (sym (append-nothing (dial_promotions_in effect.moves) (dial_promotions_in (move ∷ [])) (ap (λ l. l ++ []) no_dial))
           ∙ sym (flat_map-append (λ x. promoted_by_dial x.happened x.before.next_id x.after.next_id) effect.moves (move ∷ [])));
       given = h.given;
+      addresses = h.addresses;
       peers = h.peers;
       connections = λ cid. record {
         names = (h.connections cid).names;
+        address = (h.connections cid).address;
         forward = (h.connections cid).forward;
         ends = subst (λ es. IsOneEnd (flat_map (causes_by cid) es) (stage_at cid m) (stage_at cid effect.machine)) ends (h.connections cid).ends;
       };

@@ -33,14 +33,14 @@ use Rattle.machine.specs.Machine.{Machine, Entry, entry_at}
 use Rattle.machine.specs.Peers.{peer_at, note_of, turns_at, peer_changes, note_of_coming, peer_comes, peer_goes}
 use Rattle.laws.specs.Sound.{HasGivenId, IsOrderly}
 use Rattle.laws.specs.Stages.{stage_of_phase, stage_of, stage_at, stage_ended, causes_by, causes_in, IsLateCause, IsOneEnd}
-use Rattle.laws.specs.Telling.{GoesOn, IsTold}
-use Rattle.laws.specs.Told.{End, Dialed, closes_in, ended_by, ends_in, dials_in, promoted_by_dial, dial_promotions_in, given_in, CountUp, LeadTo, temp_of, temp_at, notes_in, noted, is_change, state_of, state_at, names_in, is_other_name, same_state}
+use Rattle.laws.specs.Telling.{KeepsAddress, GoesOn, IsTold}
+use Rattle.laws.specs.Told.{End, Given, closes_in, ended_by, ends_in, dials_in, promoted_by_dial, dial_promotions_in, given_in, CountUp, HasAddress, AreAt, LeadTo, temp_of, temp_at, notes_in, noted, is_change, state_of, state_at, names_in, is_other_name, same_state}
 use Rattle.laws.proofs.Addresses.{same_address-self, same_address-true}
 use Rattle.laws.proofs.Entries.{TurnsInto, one_has_id, has_own_id, turned-connections, gone-connections, with_new}
 use Rattle.laws.proofs.Finds.{find-none_passes, find-set_other, find-set_here, find-remove_other, find-remove_here}
 use Rattle.laws.proofs.Lists.{StandsAt, OnePasses, All-stands, find_only}
 use Rattle.laws.proofs.PeersApart.{same_turned}
-use Rattle.laws.proofs.Telling.{told_unchanged, mute-none}
+use Rattle.laws.proofs.Telling.{open_stage, keeps_itself, told_unchanged, mute-none}
 use Rattle.laws.proofs.Ties.{found-addr, peer_here, put_in-here, put_in-elsewhere, none_there, taken-here, taken-elsewhere, find-push_other, turns_at-elsewhere}
 
 -- ---- names
@@ -121,6 +121,7 @@ naming-told m effect naming none peers next_id each = record {
   closes = naming.closes ∙ sym (ap ends_in none);
   dials = naming.dials ∙ sym (ap dial_promotions_in none);
   given = subst (λ ns. CountUp m.next_id ns effect.machine.next_id) (sym naming.given) (sym next_id);
+  addresses = subst (λ gs. AreAt gs effect.machine) (sym naming.given) tt;
   peers = λ addr. subst (λ ns. LeadTo is_change noted (temp_at addr m) ns (temp_at addr effect.machine)) (sym (naming.notes addr))
       (ap (λ ps. temp_of (peer_in addr ps)) (sym peers));
   connections = each;
@@ -128,14 +129,15 @@ naming-told m effect naming none peers next_id each = record {
 
 -- a connection, as it was and as it is, and what is told of it
 went_on : (cid : ℕ) (m : Machine) (effect : Effect) (o p : Option Entry) → entry_at cid m ≡ o → entry_at cid effect.machine ≡ p → effect.moves ≡ [] →
-    LeadTo is_other_name same_state (state_of o) (names_in cid effect.actions) (state_of p) →
+    KeepsAddress o p → LeadTo is_other_name same_state (state_of o) (names_in cid effect.actions) (state_of p) →
     stage_of o (nat_lt cid m.next_id) ≤ stage_of p (nat_lt cid effect.machine.next_id) → GoesOn cid m effect
-went_on cid m effect o p was now none names forward =
+went_on cid m effect o p was now none address names forward =
     let before : stage_at cid m ≡ stage_of o (nat_lt cid m.next_id) = ap (λ x. stage_of x (nat_lt cid m.next_id)) was in
     let after : stage_at cid effect.machine ≡ stage_of p (nat_lt cid effect.machine.next_id) = ap (λ x. stage_of x (nat_lt cid effect.machine.next_id)) now in
     record {
       names = subst (λ x. LeadTo is_other_name same_state (state_of x) (names_in cid effect.actions) (state_at cid effect.machine)) (sym was)
           (subst (λ x. LeadTo is_other_name same_state (state_of o) (names_in cid effect.actions) (state_of x)) (sym now) names);
+      address = subst (λ x. KeepsAddress x (entry_at cid effect.machine)) (sym was) (subst (λ x. KeepsAddress o x) (sym now) address);
       forward = omega (arith, before, after, forward);
       ends = subst (λ ms. IsOneEnd (causes_in cid ms) (stage_at cid m) (stage_at cid effect.machine)) (sym none) tt;
     }
@@ -165,12 +167,12 @@ turned-told m e new k h s t forward =
         let one : OnePasses (λ x. has_id cid x.facts) m.connections = one_has_id cid m.connections h.ids_rise in
         let new_own : has_id cid new.facts ≡ true = ap (λ c. c.0 == cid) t.same_id ∙ own in
         went_on cid m (entry_turns e new m) (Some e) (Some new) (find_only (λ x. has_id cid x.facts) e m.connections k one s own)
-        (ap (find (λ x. has_id cid x.facts)) list ∙ find-set_here (λ x. has_id cid x.facts) new e m.connections k one s own new_own) refl
+        (ap (find (λ x. has_id cid x.facts)) list ∙ find-set_here (λ x. has_id cid x.facts) new e m.connections k one s own new_own) refl t.same_addr
         (own_name cid own (same_name (name_of e.facts) (name_of new.facts)) refl) forward
     by_id cid false other =
         let new_other : has_id cid new.facts ≡ false = ap (λ c. c.0 == cid) t.same_id ∙ other in
         went_on cid m (entry_turns e new m) (entry_at cid m) (entry_at cid m) refl
-        (ap (find (λ x. has_id cid x.facts)) list ∙ find-set_other (λ x. has_id cid x.facts) new e m.connections k s other new_other) refl
+        (ap (find (λ x. has_id cid x.facts)) list ∙ find-set_other (λ x. has_id cid x.facts) new e m.connections k s other new_other) refl (keeps_itself (entry_at cid m))
         (subst (λ names. LeadTo is_other_name same_state (state_at cid m) names (state_at cid m))
         (sym (other_name cid other (same_name (name_of e.facts) (name_of new.facts)))) refl)
         (omega arith)
@@ -193,12 +195,6 @@ is_given m e k cid h s own =
     let below = given.1 in
     grind (arith, same, below)
 
-open_stage : (p : Phase) → stage_of_phase p ≤ 4
-open_stage Dialing = omega arith
-open_stage (Greeting until) = omega arith
-open_stage Negotiated = omega arith
-open_stage (Closing until) = omega arith
-
 pub goes-told : (m : Machine) (e : Entry) (k : ℕ) → IsOrderly m → StandsAt m.connections k e → IsTold m (entry_goes e m)
 goes-told m e k h s =
     naming-told m (entry_goes e m) (turn-naming false e.facts.cid Terminated) refl refl refl (λ cid. by_id cid (has_id cid e.facts) refl)
@@ -212,12 +208,12 @@ goes-told m e k h s =
         let given : nat_lt cid m.next_id ≡ true = is_given m e k cid h s own in
         let most : stage_of_phase e.facts.phase ≤ 4 = open_stage e.facts.phase in
         went_on cid m (entry_goes e m) (Some e) None (find_only (λ x. has_id cid x.facts) e m.connections k one s own)
-        (ap (find (λ x. has_id cid x.facts)) list ∙ find-remove_here (λ x. has_id cid x.facts) e m.connections k one s own) refl
+        (ap (find (λ x. has_id cid x.facts)) list ∙ find-remove_here (λ x. has_id cid x.facts) e m.connections k one s own) refl tt
         (one_name cid e.facts.cid (name_of e.facts) Terminated own (stands-named e.facts))
         (subst (λ b. stage_of_phase e.facts.phase ≤ (if b then 5 else 0)) (sym given) (omega (arith, most)))
     by_id cid false other =
         went_on cid m (entry_goes e m) (entry_at cid m) (entry_at cid m) refl
-        (ap (find (λ x. has_id cid x.facts)) list ∙ find-remove_other (λ x. has_id cid x.facts) e m.connections k s other) refl
+        (ap (find (λ x. has_id cid x.facts)) list ∙ find-remove_other (λ x. has_id cid x.facts) e m.connections k s other) refl (keeps_itself (entry_at cid m))
         (subst (λ names. LeadTo is_other_name same_state (state_at cid m) names (state_at cid m)) (sym (no_name cid e.facts.cid Terminated other)) refl)
         (omega arith)
 
@@ -247,9 +243,11 @@ ended-told happened cid cause m inner is_end no_dial h none early late may =
       dials = h.dials
           ∙ (ap dial_promotions_in none ∙ sym (ap (λ ms. dial_promotions_in (ms ++ move ∷ [])) none ∙ ap (λ l. l ++ []) no_dial));
       given = h.given;
+      addresses = h.addresses;
       peers = h.peers;
       connections = λ id. record {
         names = (h.connections id).names;
+        address = (h.connections id).address;
         forward = (h.connections id).forward;
         ends = subst (λ es. IsOneEnd (flat_map (causes_by id) es) (stage_at id m) (stage_at id inner.machine)) (sym ends) (by_id id (cid.0 == id) refl);
       };
@@ -303,48 +301,59 @@ came-goes_on m new effect cid h id same none named = by_id (has_id cid new.facts
         let here : m.next_id ≡ cid = sym id ∙ eqb-true new.facts.cid.0 cid own in
         let not_given : nat_lt cid m.next_id ≡ false = grind (arith, here) in
         went_on cid m effect None (Some new) none_before
-        (ap (entry_at cid) same ∙ find-push_here (λ x. has_id cid x.facts) new m.connections none_before own) none
+        (ap (entry_at cid) same ∙ find-push_here (λ x. has_id cid x.facts) new m.connections none_before own) none tt
         (subst (λ names. LeadTo is_other_name same_state Terminated names (name_of new.facts)) (sym named)
         (one_name cid new.facts.cid Terminated (name_of new.facts) own (named-stands new.facts)))
         (subst (λ b. (if b then 5 else 0) ≤ stage_of_phase new.facts.phase) (sym not_given) (omega arith))
     by_id false other =
         went_on cid m effect (entry_at cid m) (entry_at cid m) refl
-        (ap (entry_at cid) same ∙ find-push_other (λ x. has_id cid x.facts) new m.connections other) none
+        (ap (entry_at cid) same ∙ find-push_other (λ x. has_id cid x.facts) new m.connections other) none (keeps_itself (entry_at cid m))
         (subst (λ names. LeadTo is_other_name same_state (state_at cid m) names (state_at cid m))
         (sym (named ∙ no_name cid new.facts.cid (name_of new.facts) other)) refl)
         (subst (λ next. stage_at cid m ≤ stage_of (entry_at cid m) (nat_lt cid next)) (sym (ap (λ n. n.next_id) same)) (given_later (entry_at cid m) cid m.next_id))
 
 -- it is admitted
-pub admits-told : (m : Machine) (new : Entry) (addr : Addr) → IsOrderly m → new.facts.cid.0 ≡ m.next_id →
+-- and it has the address that is told
+came-at : (m : Machine) (new : Entry) (addr : Addr) → IsOrderly m → new.facts.cid.0 ≡ m.next_id → new.facts.addr ≡ addr → HasAddress addr (entry_at m.next_id (with_new new m))
+came-at m new addr h id here =
+    let none : entry_at m.next_id m ≡ None =
+    find-none_passes (λ x. has_id m.next_id x.facts) m.connections
+    (All-weaker (HasGivenId m.next_id) (λ e. has_id m.next_id e.facts ≡ false)
+    (λ e given. ne_eqb e.facts.cid.0 m.next_id (λ is. let below = given.1 in omega (arith, below, is))) m.connections h.ids_given) in
+    subst (HasAddress addr) (sym (find-push_here (λ x. has_id m.next_id x.facts) new m.connections none (eq-eqb new.facts.cid.0 m.next_id id))) here
+
+pub admits-told : (m : Machine) (new : Entry) (addr : Addr) → IsOrderly m → new.facts.cid.0 ≡ m.next_id → new.facts.addr ≡ addr →
     IsTold m (entry_comes (Admit (record { 0 = m.next_id }) addr ∷ []) new m)
-admits-told m new addr h id = record {
+admits-told m new addr h id here = record {
   closes = refl;
   dials = refl;
   given = (refl, refl);
+  addresses = (came-at m new addr h id here, tt);
   peers = λ a. refl;
   connections = λ cid. came-goes_on m new (entry_comes (Admit (record { 0 = m.next_id }) addr ∷ []) new m) cid h id refl refl refl;
 }
 
 -- it is dialed, as a promotion
-pub dials-told : (m : Machine) (new : Entry) (addr : Addr) → IsOrderly m → new.facts.cid.0 ≡ m.next_id →
+pub dials-told : (m : Machine) (new : Entry) (addr : Addr) → IsOrderly m → new.facts.cid.0 ≡ m.next_id → new.facts.addr ≡ addr →
     IsTold m (as_move (promoted addr) m (entry_comes (Dial (record { 0 = m.next_id }) addr ∷ []) new m))
-dials-told m new addr h id =
+dials-told m new addr h id here =
     let more : nat_lt m.next_id (m.next_id + 1) ≡ true = grind arith in
-    let dial : Dialed = record { cid = m.next_id; addr = addr } in
+    let dial : Given = record { cid = m.next_id; addr = addr } in
     record {
       closes = refl;
       dials = subst (λ b. dial ∷ [] ≡ (if b then dial ∷ [] else []) ++ []) (sym more) refl;
       given = (refl, refl);
+      addresses = (came-at m new addr h id here, tt);
       peers = λ a. refl;
       connections = λ cid.
           let goes : GoesOn cid m (entry_comes (Dial (record { 0 = m.next_id }) addr ∷ []) new m) =
           came-goes_on m new (entry_comes (Dial (record { 0 = m.next_id }) addr ∷ []) new m) cid h id refl refl refl in
-          record { names = goes.names; forward = goes.forward; ends = tt };
+          record { names = goes.names; address = goes.address; forward = goes.forward; ends = tt };
     }
 
 -- ---- a peer changes
 
-is_temp : (t u : Temp) → same_temp t u ≡ true → t ≡ u
+pub is_temp : (t u : Temp) → same_temp t u ≡ true → t ≡ u
 is_temp Cold Cold h = refl
 is_temp Cold Warm h = absurd (false≢true h)
 is_temp Cold Hot h = absurd (false≢true h)
@@ -387,10 +396,11 @@ noting-told m effect noting none connections next_id each = record {
   closes = noting.closes ∙ sym (ap ends_in none);
   dials = noting.dials ∙ sym (ap dial_promotions_in none);
   given = subst (λ ns. CountUp m.next_id ns effect.machine.next_id) (sym noting.given) (sym next_id);
+  addresses = subst (λ gs. AreAt gs effect.machine) (sym noting.given) tt;
   peers = each;
   connections = λ cid.
       let same : entry_at cid effect.machine ≡ entry_at cid m = ap (find (λ e. has_id cid e.facts)) connections in
-      went_on cid m effect (entry_at cid m) (entry_at cid m) refl same none
+      went_on cid m effect (entry_at cid m) (entry_at cid m) refl same none (keeps_itself (entry_at cid m))
       (subst (λ names. LeadTo is_other_name same_state (state_at cid m) names (state_at cid m)) (sym (noting.names cid)) refl)
       (subst (λ next. stage_at cid m ≤ stage_of (entry_at cid m) (nat_lt cid next)) (sym next_id) (omega arith));
 }
@@ -403,13 +413,13 @@ turns_at-noting : (o : Option Peer) (change : Peer → Peer) (m : Machine) → I
 turns_at-noting None change m = record { closes = refl; dials = refl; given = refl; names = λ cid. refl }
 turns_at-noting (Some p) change m = turn-noting (same_temp p.temp (change p).temp) p.addr (note_of (change p).temp)
 
-turns_at-none : (o : Option Peer) (change : Peer → Peer) (m : Machine) → (turns_at o change m).moves ≡ []
-turns_at-none None change m = refl
-turns_at-none (Some p) change m = refl
+pub turns_at-moves : (o : Option Peer) (change : Peer → Peer) (m : Machine) → (turns_at o change m).moves ≡ []
+turns_at-moves None change m = refl
+turns_at-moves (Some p) change m = refl
 
-turns_at-held : (o : Option Peer) (change : Peer → Peer) (m : Machine) → (turns_at o change m).machine.connections ≡ m.connections
-turns_at-held None change m = refl
-turns_at-held (Some p) change m = refl
+pub turns_at-connections : (o : Option Peer) (change : Peer → Peer) (m : Machine) → (turns_at o change m).machine.connections ≡ m.connections
+turns_at-connections None change m = refl
+turns_at-connections (Some p) change m = refl
 
 pub turns_at-next : (o : Option Peer) (change : Peer → Peer) (m : Machine) → (turns_at o change m).machine.next_id ≡ m.next_id
 turns_at-next None change m = refl
@@ -418,7 +428,7 @@ turns_at-next (Some p) change m = refl
 -- a change that leaves the address
 pub changes-told : (a : Addr) (change : Peer → Peer) (m : Machine) → ((p : Peer) → (change p).addr ≡ p.addr) → IsTold m (peer_changes a change m)
 changes-told a change m same =
-    noting-told m (peer_changes a change m) (turns_at-noting (peer_at a m) change m) (turns_at-none (peer_at a m) change m) (turns_at-held (peer_at a m) change m)
+    noting-told m (peer_changes a change m) (turns_at-noting (peer_at a m) change m) (turns_at-moves (peer_at a m) change m) (turns_at-connections (peer_at a m) change m)
     (turns_at-next (peer_at a m) change m) (λ b. by_address b (same_address b a) refl)
   where
     own_note : (p : Peer) → peer_at a m ≡ Some p → (still : Bool) → same_temp p.temp (change p).temp ≡ still →

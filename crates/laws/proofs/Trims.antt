@@ -31,7 +31,8 @@ use Rattle.laws.proofs.Effects.{one_if-counted}
 use Rattle.laws.proofs.Entries.{gone-connections, gone-sum, one_has_id}
 use Rattle.laws.proofs.Finds.{find-remove_other}
 use Rattle.laws.proofs.Keeping.{Keeps, keeps_nothing}
-use Rattle.laws.proofs.Lawful.{Accounts, accounts_then, accounts_move, Obeys, obeys_nothing, turns_at-connections, ending-obeys}
+use Rattle.laws.proofs.ToldMoves.{turns_at-connections}
+use Rattle.laws.proofs.Lawful.{Accounts, accounts_then, accounts_move, Obeys, obeys_nothing, ending-obeys}
 use Rattle.laws.proofs.Lists.{StandsAt, stands_next, find_only, all-appended, all-both}
 use Rattle.laws.proofs.WholeMoves.{IsLost, ending-keeps}
 
@@ -351,16 +352,6 @@ for_each_that-trimmed Law P act each (x ∷ xs) m h within all =
     trimmed_then Law m (act x m) (for_each act xs) first
     (for_each_that-trimmed Law P act each xs (act x m).machine first.ordered (trimmed-within Law m (act x m) first)
     (subst (λ s. All (P s) xs) (sym first.settings) (All-tail (P m.settings) x xs all)))
-
-pub for_each-trimmed : {X : Type 0} (Law : Move → Type 0) (act : X → Machine → Effect) →
-    ((x : X) (m : Machine) → IsOrdered m → counted_in m ≤ m.settings.hard → Trimmed Law m (act x m)) →
-    (xs : List X) (m : Machine) → IsOrdered m → counted_in m ≤ m.settings.hard → Trimmed Law m (for_each act xs m)
-unfolding for_each
-for_each-trimmed Law act each [] m h within = nothing-trimmed Law m within h
-for_each-trimmed Law act each (x ∷ xs) m h within =
-    let first : Trimmed Law m (act x m) = each x m h within in
-    trimmed_then Law m (act x m) (for_each act xs) first
-    (for_each-trimmed Law act each xs (act x m).machine first.ordered (trimmed-within Law m (act x m) first))
 
 -- every move keeps another law that the first one and a second one give
 pub trimmed_both : (P Q R : Move → Type 0) → ((move : Move) → P move → Q move → R move) → (m : Machine) (effect : Effect) → Trimmed P m effect →

@@ -1,5 +1,5 @@
 -- What an operator counts on at each move of an event: in the record just before it and in the one just after it.
-use Rattle.std.specs.Prelude.{ℕ, ◌+◌, ◌≡◌, ◌≤◌, ◌⊎◌, Bool, true, false, ◌||◌, ◌==◌, List, map, All, Contains, Option, Some, None, is_some, if◌then◌else◌, Result, Ok, Err}
+use Rattle.std.specs.Prelude.{ℕ, ◌+◌, ◌≡◌, ◌≤◌, Bool, true, false, ◌||◌, ◌==◌, List, map, All, Option, Some, None, is_some, if◌then◌else◌, Result, Ok, Err}
 use Rattle.std.specs.List.{list_any}
 use Rattle.churn_clock.specs.Windows.{effective_of, effective_big_of}
 use Rattle.conn_state.specs.Use.{is_negotiated, some_runs, agreed_sharing}
@@ -10,15 +10,13 @@ use Rattle.govern_rules.specs.declared.status.Status.{Status}
 use Rattle.govern_rules.specs.declared.status.Status.TheVariants.{EstablishedOrPending, HotOrOwesOn2}
 use Rattle.mux_segment.specs.Protocols.{node_limits}
 use Rattle.mux_segment.specs.Stream.{FedBy, fed_by}
-use Rattle.mux_segment.specs.declared.fault.CutFault.{CutFault}
 use Rattle.mux_segment.specs.declared.item.Item.{Item}
 use Rattle.net_base.specs.Address.{same_address}
 use Rattle.net_base.specs.declared.action.CloseCause.{CloseCause}
 use Rattle.net_base.specs.declared.action.CloseCause.TheVariants.{Unused, Pruned, Overwritten, Refused, Query, Fault}
 use Rattle.net_base.specs.declared.action.FaultKind.{FaultKind}
-use Rattle.net_base.specs.declared.action.FaultKind.TheVariants.{Protocol, ReplyWait}
+use Rattle.net_base.specs.declared.action.FaultKind.TheVariants.{Protocol}
 use Rattle.net_base.specs.declared.address.Addr.{Addr}
-use Rattle.net_base.specs.declared.connection.Cid.{Cid}
 use Rattle.net_base.specs.declared.connection.Facts.{Facts}
 use Rattle.net_base.specs.declared.connection.Grace.{Grace}
 use Rattle.net_base.specs.declared.connection.Grace.TheVariants.{Off, ForRemote, ForLocal}
@@ -37,7 +35,6 @@ use Rattle.machine.specs.Govern.{link_of}
 use Rattle.machine.specs.Machine.{Machine, Entry, Owed, counted_in, entry_at, live_entry_at}
 use Rattle.machine.specs.Peers.{peer_at}
 use Rattle.machine.specs.Replies.{reply_on}
-use Rattle.machine.specs.Stream.{kind_of}
 use Rattle.machine.specs.Talking.{takes_requests, pays}
 use Rattle.machine.specs.Step.{step}
 use Rattle.laws.specs.Stages.{IsLateCause}

@@ -2,6 +2,7 @@
 use Rattle.std.specs.Prelude.{ℕ, ◌≡◌, ◌≤◌, Bool, true, false, not, nat_le, ◌&&◌, ◌||◌, ◌==◌, List, [], ◌∷◌, map, filter, All, Contains, if◌then◌else◌, Option, Some, None}
 use Rattle.std.specs.List.{list_any}
 use Rattle.conn_state.specs.Use.{is_pending}
+use Rattle.govern_rules.specs.declared.order.Order.TheVariants.{Promote, Activate}
 use Rattle.hs_decide.specs.Agreement.{verdict_of}
 use Rattle.hs_decide.specs.declared.role.Role.{Role}
 use Rattle.hs_decide.specs.declared.verdict.Verdict.{Verdict}
@@ -24,13 +25,13 @@ use Rattle.net_base.specs.declared.timer.Deadline.{Deadline}
 use Rattle.net_base.specs.declared.timer.Kind.{Kind}
 use Rattle.net_base.specs.declared.timer.Kind.TheVariants.{Handshake, Grace, TimeWait, Reply2, Reply8, Reply10}
 use Rattle.machine.specs.Deadlines.{deadlines}
-use Rattle.machine.specs.Effect.{Effect, Happened, for_each}
+use Rattle.machine.specs.Effect.{Effect, Happened, promoted, activated, for_each}
 use Rattle.machine.specs.Greeting.{role_of, is_awaited, fits_side}
 use Rattle.machine.specs.Machine.{Machine, Entry, counted_in, entry_at, live_entry_at}
 use Rattle.machine.specs.Own.{own_info}
 use Rattle.machine.specs.Stream.{kind_of}
 use Rattle.machine.specs.Step.{step}
-use Rattle.laws.specs.Acts.{Act, fires_one, connects, handles_item, ends_stream, does, acts, Part, effect_of, parts_of}
+use Rattle.laws.specs.Acts.{Act, fires_one, carries, connects, handles_item, ends_stream, does, acts, Part, effect_of, parts_of}
 use Rattle.laws.specs.AtMoves.{fault_of, is_closed_by, is_negotiated_at, is_up, is_hot_or_asked, is_known, promotes, activates, is_shared_in, is_provided_by, MovesAreLawful}
 use Rattle.laws.specs.Stages.{causes_in, IsLateCause}
 use Rattle.laws.specs.Telling.{IsTold}
@@ -122,6 +123,15 @@ abbrev pub IsNext : Act → Machine → Type 0
 IsNext (fires_one d) m = IsLeastDue m d
 IsNext other m = Unit {0}
 
+-- An order that promotes or activates is that one move, between the record before it and the one after it.
+abbrev pub IsOneMove : Happened → Machine → Effect → Type 0
+IsOneMove happened before effect = effect.moves ≡ record { happened = happened; before = before; after = effect.machine } ∷ []
+
+abbrev pub IsItsMove : Act → Machine → Effect → Type 0
+IsItsMove (carries (Promote addr)) before effect = IsOneMove (promoted addr) before effect
+IsItsMove (carries (Activate addr)) before effect = IsOneMove (activated addr) before effect
+IsItsMove other before effect = Unit {0}
+
 -- ---- whose handshake was done before it
 
 -- It stays so, or the other side has closed it, or it has one end, for a late cause.
@@ -161,6 +171,8 @@ pub record IsLawfulPart (event : Event) (part : Part) : Type 0 where
   pub accounted : IsAccounted event part.before (effect_of part)
   -- a deadline fires in its turn
   pub next : IsNext part.act part.before
+  -- a promotion or an activation is one move, of the whole part
+  pub move : IsItsMove part.act part.before (effect_of part)
   -- it ends whom it must, for the cause that stands, and nobody else but by pruning
   pub ends : but_pruned (ends_in (effect_of part).moves) ≡ ends_due part.act part.before
 

@@ -46,43 +46,52 @@ ends_in moves = flat_map (λ move. ended_by move.happened) moves
 
 -- ---- who is dialed
 
--- an address, and the id under which it is dialed
-pub record Dialed : Type 0 where
+-- an id that is given out, and the address that it is for
+pub record Given : Type 0 where
   pub cid : ℕ
   pub addr : Addr
 
-abbrev pub dialed_by : Action → List Dialed
+abbrev pub dialed_by : Action → List Given
 dialed_by (Dial cid addr) = record { cid = cid.0; addr = addr } ∷ []
 dialed_by other = []
 
 -- what the actions dial, in order
-abbrev pub dials_in : List Action → List Dialed
+abbrev pub dials_in : List Action → List Given
 dials_in actions = flat_map dialed_by actions
 
 -- A promotion that gives out an id is by dial; one that does not is by reuse.
-abbrev pub promoted_by_dial : Happened → ℕ → ℕ → List Dialed
+abbrev pub promoted_by_dial : Happened → ℕ → ℕ → List Given
 promoted_by_dial (promoted addr) before after = if nat_lt before after then record { cid = before; addr = addr } ∷ [] else []
 promoted_by_dial other before after = []
 
 -- the promotions by dial, in order
-abbrev pub dial_promotions_in : List Move → List Dialed
+abbrev pub dial_promotions_in : List Move → List Given
 dial_promotions_in moves = flat_map (λ move. promoted_by_dial move.happened move.before.next_id move.after.next_id) moves
 
 -- ---- which ids come
 
-abbrev pub given_by : Action → List ℕ
-given_by (Admit cid addr) = cid.0 ∷ []
-given_by (Dial cid addr) = cid.0 ∷ []
+abbrev pub given_by : Action → List Given
+given_by (Admit cid addr) = record { cid = cid.0; addr = addr } ∷ []
+given_by (Dial cid addr) = record { cid = cid.0; addr = addr } ∷ []
 given_by other = []
 
--- the ids of those that are admitted and dialed, in order
-abbrev pub given_in : List Action → List ℕ
+-- those that are admitted and dialed, in order
+abbrev pub given_in : List Action → List Given
 given_in actions = flat_map given_by actions
 
--- they are the numbers from one on up to another
-abbrev pub CountUp : ℕ → List ℕ → ℕ → Type 0
+-- their ids are the numbers from one on up to another
+abbrev pub CountUp : ℕ → List Given → ℕ → Type 0
 CountUp next [] after = next ≡ after
-CountUp next (n ∷ ns) after = (n ≡ next) × CountUp (next + 1) ns after
+CountUp next (given ∷ each) after = (given.cid ≡ next) × CountUp (next + 1) each after
+
+-- whoever has an id has the address that was told with it
+abbrev pub HasAddress : Addr → Option Entry → Type 0
+HasAddress addr None = Unit {0}
+HasAddress addr (Some e) = e.facts.addr ≡ addr
+
+abbrev pub AreAt : List Given → Machine → Type 0
+AreAt [] m = Unit {0}
+AreAt (given ∷ each) m = HasAddress given.addr (entry_at given.cid m) × AreAt each m
 
 -- ---- what something turns into
 

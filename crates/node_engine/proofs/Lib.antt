@@ -10,6 +10,7 @@ pub mod Ids
 pub mod StreamIds
 pub mod StreamLemmas
 pub mod Going
+pub mod LinkLooks
 pub mod LocalUse
 pub mod RuleSteps
 pub mod TalkFeeds

@@ -3,7 +3,6 @@ use Rattle.std.proofs.Common.{◌≡◌, List, Some, refl, sym, ap, subst, ◌�
 use Rattle.net_base.specs.declared.peer.Peer.{Peer}
 use Rattle.net_base.specs.declared.peer.Temp.{Temp}
 use Rattle.peer_book.specs.Book.{peer_at, with_peer, without_peer, with_new, listed_at}
-use Rattle.peer_book.specs.Order.{IsRising}
 use Rattle.peer_book.specs.Rows.{moved}
 use Rattle.peer_book.specs.Tallies.{tally_of, tallied, tallied_by}
 use Rattle.peer_book.specs.declared.tally.Tally.{Tally}

@@ -1,5 +1,5 @@
 -- Addresses that come in together: the book after them, and what is left to come.
-use Rattle.std.proofs.Common.{◌≡◌, ℕ, suc, ◌+◌, ◌-◌, ◌<◌, ◌≤◌, Bool, true, false, ◌||◌, cond, List, [], ◌∷◌, ◌++◌, length, is_some, min, nat_lt, nat_le, refl, sym, ap, ◌∙◌, append_assoc, inl, inr, arith}
+use Rattle.std.proofs.Common.{◌≡◌, ℕ, ◌+◌, ◌<◌, ◌≤◌, Bool, true, false, ◌||◌, cond, List, [], ◌∷◌, ◌++◌, length, is_some, nat_lt, nat_le, refl, sym, ap, ◌∙◌, append_assoc, inl, inr, arith}
 use Rattle.std.specs.List.{AllByRecursion}
 use Rattle.std.proofs.lemmas.Bool.{cases_Bool}
 use Rattle.std.proofs.lemmas.Bool.Decides.{nat_tests}
@@ -8,7 +8,6 @@ use Rattle.std.proofs.lemmas.List.Sums.{count_by-le-length}
 use Rattle.net_base.specs.Address.{same_address, address_below}
 use Rattle.net_base.specs.declared.address.Addr.{Addr}
 use Rattle.net_base.specs.declared.peer.Peer.{Peer}
-use Rattle.net_base.proofs.AddressOrder.{other_when_below, address_turned}
 use Rattle.peer_book.specs.Addresses.{has_address, with_address}
 use Rattle.peer_book.specs.Book.{peer_at, with_new, new_peer, is_of, known_of, most_peers, entered_by, entry_of, entry_below, all_entered, only_new, newcomers}
 use Rattle.peer_book.specs.Newcomers.{with_all_new, room_for, AreNew}
@@ -17,6 +16,7 @@ use Rattle.peer_book.specs.declared.added.Added.{Added}
 use Rattle.peer_book.specs.declared.added.Added.TheVariants.{New, Present, Full}
 use Rattle.peer_book.proofs.Edits.{IsRising-put_in, length-put_in, count_by-put_in, stands-put_in, put_in-turn}
 use Rattle.peer_book.proofs.Listing.{address_of, InOrder}
+use Rattle.peer_book.proofs.Noted.{apart}
 use Rattle.peer_book.proofs.Places.{stands, find-above}
 
 -- ---- tests
@@ -75,17 +75,11 @@ stands-with_all big addr (k ∷ keys) peers =
       | inr other ↦ rw other (stands-with_all big addr keys peers)
     ]
 
-later_absent : (addr k : Addr) (keys : List Addr) → has_address addr (k ∷ keys) ≡ false → (same_address k addr ≡ false) × (has_address addr keys ≡ false)
-later_absent addr k keys absent = elim (cases_Bool (same_address k addr)) [
-  | inl same ↦ let there : true ≡ false = rw same at absent in absurd cc
-  | inr other ↦ (other, rw other at absent)
-]
-
 pub with_all-with_address : (big : Bool) (addr : Addr) (keys : List Addr) (peers : List Peer) → has_address addr keys ≡ false →
     with_all_new big (with_address addr keys) peers ≡ with_new (new_peer big addr) (with_all_new big keys peers)
 with_all-with_address big addr [] peers absent = refl
 with_all-with_address big addr (k ∷ keys) peers absent =
-    let parts = later_absent addr k keys absent in
+    let parts = apart addr k keys absent in
     elim (cases_Bool (address_below k addr)) [
       | inl under ↦ rw under (ap (with_new (new_peer big k)) (with_all-with_address big addr keys peers parts.1)
           ∙ put_in-turn address_of (new_peer big k) (new_peer big addr) (with_all_new big keys peers) parts.0)

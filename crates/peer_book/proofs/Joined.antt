@@ -1,10 +1,9 @@
 -- The rows and the counts, after addresses came in together.
-use Rattle.std.proofs.Common.{◌≡◌, ℕ, suc, ◌+◌, ◌≤◌, Bool, true, false, cond, List, [], ◌∷◌, length, refl, sym, ap, ◌∙◌, arith}
-use Rattle.std.specs.List.{AllByRecursion}
+use Rattle.std.proofs.Common.{◌≡◌, ℕ, suc, ◌+◌, Bool, true, false, List, [], ◌∷◌, length, refl, sym, ap, ◌∙◌, arith}
 use Rattle.net_base.specs.declared.address.Addr.{Addr}
 use Rattle.net_base.specs.declared.peer.Peer.{Peer}
 use Rattle.net_base.specs.declared.peer.Temp.{Temp}
-use Rattle.net_base.specs.declared.peer.Temp.TheVariants.{Cold, Warm, Hot}
+use Rattle.net_base.specs.declared.peer.Temp.TheVariants.{Cold}
 use Rattle.peer_book.specs.Book.{new_peer, same_temp, listed_at}
 use Rattle.peer_book.specs.Newcomers.{with_all_new}
 use Rattle.peer_book.specs.Order.{IsRising}

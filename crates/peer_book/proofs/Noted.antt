@@ -5,11 +5,11 @@ use Rattle.std.specs.List.{list_any}
 use Rattle.std.specs.Ordering.{is_eq, is_lt, match_ordering}
 use Rattle.std.specs.declared.cmp.Ordering.{Ordering}
 use Rattle.std.specs.declared.cmp.Ordering.TheVariants.{Less, Equal, Greater}
-use Rattle.std.proofs.lemmas.Bool.{cases_Bool, false≢true, true≢false}
+use Rattle.std.proofs.lemmas.Bool.{cases_Bool, true≢false}
 use Rattle.net_base.specs.Address.{same_address, address_below}
 use Rattle.net_base.specs.contracts.address.AddrOrd.TheImpl.{ghosts}
 use Rattle.net_base.specs.declared.address.Addr.{Addr}
-use Rattle.net_base.proofs.AddressOrder.{below_is, same_is, never_both, address_connected, other_address-turn, same_address-itself, same_address-is}
+use Rattle.net_base.proofs.AddressOrder.{below_is, same_is, never_both, address_connected, other_address-turn, same_address-is}
 use Rattle.peer_book.specs.Addresses.{has_address, with_address}
 
 same_address-turn : (a b : Addr) → same_address a b ≡ same_address b a
@@ -28,7 +28,8 @@ held-is addr (k ∷ keys) =
     ap (λ b. b || list_any (λ x. is_eq (ghosts.cmp addr x)) keys) (same_is addr k ∙ same_address-turn addr k)
     ∙ (ap (λ b. same_address k addr || b) (held-is addr keys) ∙ sym (found_first (same_address k addr) k keys addr))
 
-apart : (addr k : Addr) (keys : List Addr) → has_address addr (k ∷ keys) ≡ false → (same_address k addr ≡ false) × (has_address addr keys ≡ false)
+-- what isn't in a list is neither its first nor in the rest
+pub apart : (addr k : Addr) (keys : List Addr) → has_address addr (k ∷ keys) ≡ false → (same_address k addr ≡ false) × (has_address addr keys ≡ false)
 apart addr k keys absent = elim (cases_Bool (same_address k addr)) [
   | inl same ↦ absurd (true≢false (rw same at absent))
   | inr other ↦ (other, rw other at absent)

@@ -58,7 +58,7 @@ impl Kept {
         let _ = self.peers.insert(place, peer);
     }
 
-    // Puts new peers of a class in, all at once. A refusal changes nothing, and nobody needs no memory.
+    // Puts new peers of a class in, all at once. A refusal changes nothing, and where there are none no memory is asked for.
     pub fn put_all(&mut self, big: bool, addrs: &BTreeSet<Addr>) -> Result<(), AllocError>
         requires kept { IsKept self.old }
         requires new { AreNew addrs.now.keys self.old.peers.items }

@@ -7,6 +7,7 @@ pub mod Digits
 pub mod GroupLaws
 pub mod GroupLists
 pub mod Groups
+pub mod HeadLaws
 pub mod HexPieces
 pub mod Ips
 pub mod Lists
@@ -17,5 +18,6 @@ pub mod Printed
 pub mod ReadEvents
 pub mod Reading
 pub mod SettingLaws
+pub mod SpacedWords
 pub mod Spelled
 pub mod Spelling

@@ -38,16 +38,16 @@ use Rattle.trace_text.proofs.Spelled.{numbers, addresses, outcomes}
 -- ---- words without spaces
 
 -- no space
-abbrev OneWord : List ℕ → Type 0
+abbrev pub OneWord : List ℕ → Type 0
 OneWord = IsApart 32 (omega arith)
 
-text_word : (bytes : List ℕ) → list_all (λ b. not (eqb b 32)) bytes ≡ true → OneWord bytes
+pub text_word : (bytes : List ℕ) → list_all (λ b. not (eqb b 32)) bytes ≡ true → OneWord bytes
 text_word = from_test 32 (omega arith)
 
-number_word : (n : ℕ) → OneWord (decimal n)
+pub number_word : (n : ℕ) → OneWord (decimal n)
 number_word = number_apart 32 (omega arith) 10
 
-address_word : (address : Addr) → OneWord (printed_address address)
+pub address_word : (address : Addr) → OneWord (printed_address address)
 address_word = address_apart 32 (omega arith)
 
 addresses_words : (members : List Addr) → AllByRecursion OneWord (map printed_address members)
@@ -89,7 +89,7 @@ words_one (BigAims t) = (text_word (codes "bigtargets") refl, (number_word t.kno
 words_one (Bigs members) = (text_word (codes "bigs") refl, addresses_words members)
 
 -- each word in another form: the test fails at each byte
-tested : (words : List (List ℕ)) → AllByRecursion OneWord words → AllByRecursion (All (λ c. eqb c 32 ≡ false)) words
+pub tested : (words : List (List ℕ)) → AllByRecursion OneWord words → AllByRecursion (All (λ c. eqb c 32 ≡ false)) words
 tested [] h = tt
 tested (word ∷ words) h = (tested_apart 32 word h.0, tested words h.1)
 

@@ -25,6 +25,10 @@ abbrev pub sign_word : Bool → List ℕ
 sign_word true = codes "+"
 sign_word false = codes "-"
 
+-- words behind another, each with its space
+abbrev pub spaced : List (List ℕ) → List ℕ
+spaced words = flat_map (λ word. 32 ∷ word) words
+
 abbrev pub group_words : Group → List (List ℕ)
 group_words group =
     codes "/" ∷ decimal group.hot ∷ decimal group.warm ∷ sign_word group.advertise ∷ map printed_address group.members

@@ -2,6 +2,7 @@ pub mod Actions
 pub mod Addresses
 pub mod EventTexts
 pub mod Events
+pub mod HeadTexts
 pub mod Lines
 pub mod Reading
 pub mod Settings

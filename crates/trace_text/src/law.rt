@@ -1,4 +1,4 @@
-ghost use Rattle.std.specs.Prelude.{◌≡◌, ◌≤◌, ◌<◌, ◌^◌, ℕ, List, Some, Ok, IsTrue, Contains, decimal};
+ghost use Rattle.std.specs.Prelude.{◌≡◌, ◌≤◌, ◌<◌, ◌^◌, ℕ, List, [], ◌∷◌, ◌++◌, Some, Ok, IsTrue, Contains, decimal};
 ghost use Rattle.net_base.specs.Number.{number_of};
 ghost use Rattle.net_base.specs.declared.address.Addr.{Addr};
 ghost use Rattle.net_base.specs.declared.action.Action.{Action};
@@ -8,6 +8,9 @@ ghost use Rattle.trace_text.specs.declared.line.Line.TheVariants.{Happen, Acted}
 ghost use Rattle.trace_text.specs.EventTexts.{event_of, printed_event, IsEventIn};
 ghost use Rattle.trace_text.specs.declared.stage.Stage.{Stage};
 ghost use Rattle.trace_text.specs.Addresses.{IsAddress, address_of, knows_family, printed_address};
+ghost use Rattle.trace_text.specs.HeadTexts.{AreRead, head_lines, head_said, printed_head};
+ghost use Rattle.trace_text.specs.Stages.{first_stage};
+ghost use Rattle.trace_text.specs.Words.{pieces_of};
 ghost use Rattle.trace_text.specs.Actions.{printed_action};
 ghost use Rattle.trace_text.specs.Lines.{line_of};
 ghost use Rattle.net_base.specs.Bounds.{AreSound};
@@ -46,6 +49,13 @@ pub fn actions_are_lines()
     ensures one_line { (action : Action) → ¬ (Contains (printed_action action) 10) }
     ensures acted { (stage : Stage) (action : Action)
         → 2 ≤ stage.seen → line_of stage (printed_action action) ≡ Ok Acted }
+{}
+
+/// A law: a printed head is cut into its lines at the line feeds, and each of them is read as what it is printed of.
+pub fn heads_are_read()
+    ensures lines { (s : Settings) → pieces_of 10 (printed_head s) ≡ head_lines s ++ [] ∷ [] }
+    ensures read { (s : Settings) → AreSound s → IsAddress s.own → IsTrue (knows_family s.version s.own.ip)
+        → AreRead first_stage (head_lines s) (head_said s) }
 {}
 
 /// A law: the ranges of the settings' lines are those that `Settings::check` tests.

@@ -3,6 +3,9 @@
 
 mod address;
 mod event;
+mod event_text;
+mod group_text;
+mod head_text;
 mod law;
 mod line;
 mod piece;
@@ -15,9 +18,11 @@ mod text;
 mod words;
 
 pub use law::{
-    actions_are_lines, addresses_are_spelled_once, events_are_spelled_once,
-    numbers_are_spelled_once,    settings_are_those_of_the_check,
+    actions_are_lines, addresses_are_spelled_once, events_are_spelled_once, heads_are_read,
+    numbers_are_spelled_once, settings_are_those_of_the_check,
 };
+pub use event_text::print_event;
+pub use head_text::print_head;
 pub use line::{HeadLine, Line, LineRefusal};
 pub use print::print_action;
 pub use read::read_line;

@@ -1,6 +1,7 @@
-ghost use Rattle.std.specs.Prelude.{◌≡◌, Some, false};
+ghost use Rattle.std.specs.Prelude.{◌≡◌, Some, false, map};
 ghost use Rattle.std.specs.Fmt.{digits};
 ghost use Rattle.trace_text.specs.Addresses.{printed_address, printed_octets, joined_groups, low_digits};
+ghost use Rattle.trace_text.specs.EventTexts.{spaced};
 
 use net_base::{Addr, Ip};
 use std::fmt;
@@ -25,6 +26,21 @@ impl fmt::Display for AddressText {
                 write!(f, "[{}]:{port}", Groups(&groups))
             }
         }
+    }
+}
+
+/// Addresses, each behind a space.
+#[derive(Clone, Copy)]
+pub struct AddressTexts<'a>(pub &'a [Addr]);
+
+impl fmt::Display for AddressTexts<'_> {
+    ghost output = { λ text. Some (spaced (map printed_address text.0.now)) };
+
+    fn fmt<W: fmt::Write>(&self, f: &mut fmt::Formatter<W>) -> fmt::Result {
+        for address in self.0 {
+            write!(f, " {}", AddressText(*address))?;
+        }
+        Ok(())
     }
 }
 

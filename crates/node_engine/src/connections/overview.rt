@@ -2,19 +2,21 @@ ghost use Rattle.std.specs.Prelude.{◌≡◌, length, map, IfOk};
 ghost use Rattle.std.specs.List.{flat_map, filter_map};
 ghost use Rattle.std.specs.Option.{option_map};
 ghost use Rattle.accept_gate.specs.Prune.{choice_of};
+ghost use Rattle.govern_rules.specs.SortedLinks.{SaySame};
 ghost use Rattle.machine.specs.Connections.{candidate_of};
 ghost use Rattle.machine.specs.Deadlines.{deadlines_of};
 ghost use Rattle.machine.specs.Govern.{link_of};
 ghost use Rattle.node_engine.specs.Due.{least_due};
-ghost use Rattle.node_engine.specs.Standing.{facts_in};
+ghost use Rattle.node_engine.specs.Standing.{entry_with, facts_in};
 
 use super::Connections;
 use crate::due::{deadline_count, due_of};
 use crate::link::{first_with, link_of};
 use accept_gate::Candidate;
-use govern_rules::LinkList;
+use conn_table::Placed;
+use govern_rules::{Link, Links};
 use net_base::{Cid, Deadline, OutOfMemory};
-use std::alloc::Global;
+use std::alloc::{AllocError, Global};
 
 impl Connections {
     /// The least deadline that is due at a moment.
@@ -58,15 +60,31 @@ impl Connections {
         id_of(first)
     }
 
-    /// What the rules see of the connections.
-    pub fn links(&self, alloc: Global) -> Result<LinkList, OutOfMemory>
-        ensures { IfOk result (λ links. links ≡ map link_of self.now.entries) }
+    /// What the rules see of the connections, in address order.
+    pub fn links(&self, alloc: Global) -> Result<Links, OutOfMemory>
+        ensures { IfOk result (λ links. SaySame links (map link_of self.now.entries)) }
     {
-        let mut links = LinkList::new(alloc);
-        for place in 0..self.table.len() {
-            links.push(link_of(&self.table.at(place), &self.talks[place].replies))?;
-        }
-        Ok(links)
+        let links = self.links_at(alloc, self.table.index().as_slice())?;
+        Links::from_vec(links)
+    }
+
+    // What they see of the connections with some ids.
+    fn links_at(&self, alloc: Global, placed: &[Placed]) -> Result<Vec<Link>, AllocError>
+        ensures { IfOk result (λ links. links.items ≡ filter_map (λ p. option_map link_of (entry_with p.cid.0 self.now)) placed.now) }
+    {
+        placed
+            .iter()
+            .filter_map(|placed| self.link(placed.cid))
+            .collect(alloc)
+    }
+
+    // What they see of the connection with an id.
+    fn link(&self, cid: Cid) -> Option<Link>
+        ensures { result ≡ option_map link_of (entry_with cid.0 self.now) }
+    {
+        let facts = self.table.facts(cid)?;
+        let place = self.table.place_of(cid);
+        Some(link_of(&facts, &self.talks[place].replies))
     }
 }
 

@@ -96,7 +96,7 @@ impl NodeState {
     {
         let taken = self.taken(told)?;
         for addr in taken.as_slice() {
-            self.peer_comes(false, *addr, actions)?;
+            self.peer_comes(*addr, actions)?;
         }
         Ok(())
     }

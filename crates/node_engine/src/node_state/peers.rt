@@ -1,4 +1,4 @@
-ghost use Rattle.std.specs.Prelude.{◌≡◌, ◌++◌, IsSomeAnd, OnOk};
+ghost use Rattle.std.specs.Prelude.{◌≡◌, ◌++◌, false, IsSomeAnd, OnOk};
 ghost use Rattle.machine.specs.Peers.{peer_at, note_of, peer_fails, peer_succeeds, peer_becomes, peer_was_asked, peer_is_ordinary, peer_comes, peer_goes};
 ghost use Rattle.net_base.specs.declared.peer.Temp.TheVariants.{Cold as IsCold};
 ghost use Rattle.node_engine.specs.State.{Does, DoesSilently, temp_notice, coming_notice};
@@ -73,20 +73,15 @@ impl NodeState {
         }
     }
 
-    /// An address comes into the book, as a big ledger peer's or an ordinary one's.
+    /// An address comes into the book as an ordinary peer's.
     pub(super) fn peer_comes(
         &mut self,
-        big: bool,
         addr: Addr,
         actions: &mut ActionList,
     ) -> Result<(), OutOfMemory>
-        ensures { OnOk result (Does (peer_comes big addr self.old) actions.old self.new actions.new) }
+        ensures { OnOk result (Does (peer_comes false addr self.old) actions.old self.new actions.new) }
     {
-        let added = if big {
-            self.book.add_big(addr)?
-        } else {
-            self.book.add(addr)?
-        };
+        let added = self.book.add(addr)?;
         tell_coming(added, addr, actions)
     }
 

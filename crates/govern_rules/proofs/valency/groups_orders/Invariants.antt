@@ -5,4 +5,4 @@ use Rattle.govern_rules.proofs.valency.groups_orders.Given as goal
 
 abbrev pub invariant-loop-group : goal.invariant-loop-group
 invariant-loop-group g l =
-    l.orders.items ≡ l.fn.orders.items ++ flat_map (valency_orders l.valency l.outlook.view.now l.book) (take l.group-index l.groups)
+    l.orders.items ≡ l.fn.orders.items ++ flat_map (valency_orders l.valency l.view l.book) (take l.group-index l.groups)

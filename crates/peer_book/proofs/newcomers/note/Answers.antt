@@ -1,4 +1,4 @@
-use Rattle.std.proofs.Common.{◌≡◌, ◌∙◌, not, ap, sym, true, false, inl, inr, List}
+use Rattle.std.proofs.Common.{◌∙◌, not, ap, inl, inr, List}
 use Rattle.std.proofs.lemmas.Bool.{cases_Bool}
 use Rattle.net_base.specs.declared.address.Addr.{Addr}
 use Rattle.peer_book.specs.Addresses.{has_address}

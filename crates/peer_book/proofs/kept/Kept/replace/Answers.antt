@@ -5,7 +5,7 @@ use Rattle.peer_book.specs.Addresses.{has_address}
 use Rattle.peer_book.specs.Book.{with_peer, without_peer, listed_at}
 use Rattle.peer_book.specs.Order.{IsRising}
 use Rattle.peer_book.specs.Rows.{moved}
-use Rattle.peer_book.specs.Tallies.{tally_of, tallied}
+use Rattle.peer_book.specs.Tallies.{tally_of}
 use Rattle.peer_book.proofs.Changing.{InOrder-with_peer, listed-turned, tally-with_peer}
 use Rattle.peer_book.proofs.Counting.{tally-without}
 use Rattle.peer_book.proofs.Listing.{address_of, InOrder, listed-rises, listed-has, listed-below}

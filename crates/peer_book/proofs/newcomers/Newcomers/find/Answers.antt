@@ -1,4 +1,4 @@
-use Rattle.std.proofs.Common.{◌≡◌, ◌<◌, ◌≤◌, ◌∙◌, ◌∷◌, length, sym, ap, subst, drop, get_or, suc, add-one, drop-cons, arith}
+use Rattle.std.proofs.Common.{◌<◌, ◌≤◌, length, ap, subst, drop, get_or, suc, add-one, drop-cons, arith}
 use Rattle.std.proofs.Math.ListN.{drop_of_length-le}
 use Rattle.net_base.specs.declared.address.Addr.{Addr}
 use Rattle.net_base.specs.declared.address.Ip.TheVariants.{V4}

@@ -1,0 +1,115 @@
+ghost use Rattle.std.specs.Prelude.{◌≡◌, ◌≤◌, IfOk, IsTrue, length};
+ghost use Rattle.std.specs.List.{prefix_len};
+ghost use Rattle.std.specs.List.Sorted.{IsPermutation};
+ghost use Rattle.govern_rules.specs.Links.{some_link};
+ghost use Rattle.govern_rules.specs.Marks.{has_mark};
+ghost use Rattle.govern_rules.specs.SortedLinks.{IsByAddress, is_below, is_up_to, is_above_next, links_of};
+
+use crate::Link;
+use crate::mark::{Mark, some};
+use net_base::{Addr, OutOfMemory};
+use std::marker::Model;
+
+/// Links in address order. Contracts see the list of them.
+#[derive(Debug, Drop)]
+pub struct Links {
+    links: Vec<Link>,
+}
+
+impl Model for Links {
+    ghost use Rattle.std.specs.Prelude.{List};
+    ghost use Rattle.govern_rules.specs.declared.link.Link.{Link};
+    ghost use Rattle.govern_rules.specs.SortedLinks.{IsByAddress};
+
+    ghost Value = { List Link };
+
+    ghost view = { λ l. l.links.items };
+
+    ghost invariant = { λ l. IsByAddress l.links.items };
+}
+
+impl Links {
+    /// The links of a vector. They are sorted only where they don't stand in order yet, and memory is asked for only
+    /// then.
+    pub fn from_vec(mut links: Vec<Link>) -> Result<Links, OutOfMemory>
+        ensures { IfOk result (λ sorted. IsPermutation links.items sorted) }
+    {
+        if is_by_address(&links) {
+            return Ok(Links { links });
+        }
+        links.sort_by_key(|link| link.addr)?;
+        Ok(Links { links })
+    }
+
+    pub fn as_slice(&self) -> &[Link]
+        ensures value { result.now ≡ self.now }
+        ensures ordered { IsByAddress self.now }
+    {
+        &self.links
+    }
+
+    // The links of an address.
+    pub fn of(&self, addr: Addr) -> &[Link]
+        ensures { result.now ≡ links_of addr self.now }
+    {
+        links_of(&self.links, addr)
+    }
+
+    // Some link of an address has a mark.
+    pub fn some(&self, addr: Addr, mark: Mark) -> bool
+        ensures { result ≡ some_link (has_mark mark) self.now addr }
+    {
+        some(mark, self.of(addr))
+    }
+}
+
+// The links of an address.
+pub fn links_of(links: &[Link], addr: Addr) -> &[Link]
+    requires { IsByAddress links.now }
+    ensures { result.now ≡ links_of addr links.now }
+{
+    let (_, rest) = links.split_at(start_of(links, addr));
+    let (own, _) = rest.split_at(end_of(rest, addr));
+    own
+}
+
+// How many links have an address below one.
+fn start_of(links: &[Link], addr: Addr) -> usize
+    requires { IsByAddress links.now }
+    ensures bound { result ≤ length links.now }
+    ensures place { result ≡ prefix_len (is_below addr) links.now }
+{
+    links.partition_point(|link| link.addr < addr)
+}
+
+// How many links have an address up to one.
+fn end_of(links: &[Link], addr: Addr) -> usize
+    requires { IsByAddress links.now }
+    ensures bound { result ≤ length links.now }
+    ensures place { result ≡ prefix_len (is_up_to addr) links.now }
+{
+    links.partition_point(|link| link.addr <= addr)
+}
+
+// Whether no link has a lower address than the one before it.
+fn is_by_address(links: &[Link]) -> bool
+    ensures { IsTrue result → IsByAddress links.now }
+{
+    let mut rest = links;
+    while let Some((link, after)) = rest.split_first() {
+        if is_above_next(link, after) {
+            return false;
+        }
+        rest = after;
+    }
+    true
+}
+
+fn is_above_next(link: &Link, rest: &[Link]) -> bool
+    ensures { result ≡ is_above_next link.now rest.now }
+{
+    match rest {
+        [] => false,
+        [next, ..] => next.addr < link.addr,
+    }
+}
