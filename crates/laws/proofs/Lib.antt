@@ -30,7 +30,7 @@ mod Handshakes
 mod Talks
 pub mod Streams
 pub mod WholeEvents
-mod WholeRuns
+pub mod WholeRuns
 mod Promotions
 mod Picks
 pub mod Ties

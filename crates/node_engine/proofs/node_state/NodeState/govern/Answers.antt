@@ -1,3 +1,8 @@
+use Rattle.std.proofs.Common.{ℕ}
+use Rattle.machine.specs.Effect.{then_do, for_each}
+use Rattle.machine.specs.Govern.{asks_roots, ordinary_rules, big_rules, rules}
+use Rattle.node_engine.proofs.DoesLemmas.{on_ok}
+use Rattle.node_engine.proofs.Doings.{does_then}
 use Rattle.node_engine.proofs.RuleSteps.{ordinary-may, big-may}
 use Rattle.laws.proofs.Carrying.{govern-may}
 use Rattle.node_engine.proofs.node_state.NodeState.govern.Goals as goal
@@ -15,3 +20,11 @@ follow_big-requires g c = record {
       c.in_ok-ask_roots.ensures c.in_ok-follow_ordinary.ensures.does;
   seen = c.in_ok-follow_ordinary.ensures.seen;
 }
+
+pub returns : goal.returns
+returns g c =
+    let word : ℕ = c.args.word in
+    on_ok _ _ c.follow_big.result
+    (λ done. does_then (asks_roots c.args.self.now) (λ m. then_do (for_each rules (ordinary_rules word) m) (for_each rules (big_rules word))) _ _ _ _ _
+    c.in_ok-ask_roots.ensures (does_then _ (for_each rules (big_rules word)) _ _ _ _ _ c.in_ok-follow_ordinary.ensures.does done))
+    c.follow_big.ensures
