@@ -35,13 +35,12 @@ use Rattle.machine.specs.Connections.{with_entry, without_entry, is_missed, lost
 use Rattle.machine.specs.Govern.{link_of, is_used_at, on_used, asks_peer, activates, deactivates, promoted_at, carries_out, asks_roots, govern, ordinary_rules, big_rules, rules, view_of}
 use Rattle.laws.specs.AtMoves.{IsLawful}
 use Rattle.laws.specs.Carrying.{MayGovern, IsFree, MayCarry, MayAll, MayFollow}
-use Rattle.laws.specs.Whole.{AreApart}
+use Rattle.laws.specs.Whole.{AreApart, IsOrdered}
 use Rattle.laws.proofs.Addresses.{same_address-true}
 use Rattle.laws.proofs.Chosen.{chosen, chosen-apart, chosen-all, groups_picks-apart, groups_picks-all, map-groups}
 use Rattle.laws.proofs.Entries.{turned-connections}
 use Rattle.laws.proofs.Finds.{find-set_other}
 use Rattle.laws.proofs.Governing.{members_picks, Gives, DoesLawful, forget-gives, and-gives, asks_roots-keeps, members_orders, members_chosen, ordinary-rules, big-rules}
-use Rattle.laws.proofs.Keeping.{IsOrdered}
 use Rattle.laws.proofs.ToldMoves.{turns_at-connections, turns_at-next}
 use Rattle.laws.proofs.Lawful.{IsAllowed}
 use Rattle.laws.proofs.Lists.{StandsAt, FoundIn, find_some, all-both, all-appended}

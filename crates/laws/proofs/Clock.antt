@@ -23,10 +23,10 @@ use Rattle.laws.specs.AtMoves.{IsPast, IsOver, IsLawful}
 use Rattle.laws.specs.Sound.{IsOrderly}
 use Rattle.laws.specs.Stages.{stage_of_phase, stage_at}
 use Rattle.laws.specs.Telling.{IsTold}
-use Rattle.laws.specs.Whole.{IsShaped}
+use Rattle.laws.specs.Whole.{IsShaped, IsOrdered}
 use Rattle.laws.proofs.Counts.{is_late}
 use Rattle.laws.proofs.Firing.{all_one, all-deadlines_of, Due, due_of}
-use Rattle.laws.proofs.Keeping.{IsOrdered, Keeps}
+use Rattle.laws.proofs.Keeping.{Keeps}
 use Rattle.laws.proofs.Lawful.{Obeys, obeys_then, obeys_nothing, accounts_turned, accounts_gone, live_stage, stands-stage, ending-obeys, on_stands, turns-obeys, as_move-obeys}
 use Rattle.laws.proofs.Entries.{TurnsInto}
 use Rattle.laws.proofs.Lists.{StandsAt}

@@ -39,14 +39,13 @@ use Rattle.laws.specs.Sound.{IsOrderly}
 use Rattle.laws.specs.Stages.{stage_of_phase}
 use Rattle.laws.specs.Telling.{IsTold}
 use Rattle.laws.specs.Told.{promoted_by_dial}
-use Rattle.laws.specs.Whole.{IsSteady}
+use Rattle.laws.specs.Whole.{IsSteady, IsOrdered}
 use Rattle.laws.proofs.Arrivals.{locals-known, roots-known}
 use Rattle.laws.proofs.Clock.{fire_due-obeys}
 use Rattle.laws.proofs.Entries.{gone-connections}
 use Rattle.laws.proofs.Events.{admitted_entry, at_moment, at_moment-orderly}
 use Rattle.laws.proofs.Finds.{find-remove_other}
 use Rattle.laws.proofs.Governing.{govern-trimmed}
-use Rattle.laws.proofs.Keeping.{IsOrdered}
 use Rattle.laws.proofs.KnownWanted.{bigs-within}
 use Rattle.laws.proofs.Lawful.{Accounts, accounts_come, accounts_gone, Obeys, obeys_then, obeys_nothing, IsQuiet, quiet-lawful, quiet-obeys, elsewhere-quiet, tells-quiet, changes-quiet, lost-quiet, IsProviding, comes-providing, shared-accounts, ending-obeys, on_stands, turned_then-obeys, as_move-obeys, IsAllowed, Within, allowed_within}
 use Rattle.laws.proofs.Lists.{StandsAt, find_some, all-both, all-placed}

@@ -1,4 +1,4 @@
--- How many ids an event gives out.
+-- How many ids and jobs an event gives out.
 use Rattle.std.proofs.Common.{ℕ, zero, suc, ◌+◌, ◌-◌, ◌%◌, ◌≤◌, ◌≡◌, Bool, true, false, cond, not, ◌&&◌, ◌||◌, ◌==◌, nat_le, if◌then◌else◌, List, [], ◌∷◌, ◌++◌, length, map, filter, find, flat_map, count_by, Option, Some, None, Result, Ok, Err, refl, sym, ap, ◌∙◌, subst, arith}
 use Rattle.std.specs.List.{AllByRecursion}
 use Rattle.std.specs.Option.{unwrap_or}
@@ -68,12 +68,12 @@ use Rattle.machine.specs.Events.{clock_shows, turned_away, admitted, crossed, ac
 use Rattle.machine.specs.Govern.{link_of, view_of, promoted_at, promote, is_used_at, on_used, asks_peer, activates, deactivates, carries_out, asks_roots, ordinary_rules, big_rules, rules, govern}
 use Rattle.machine.specs.Greeting.{role_of, is_awaited, fits_side, judged, decided, greeted_by, greets}
 use Rattle.machine.specs.Own.{own_info}
-use Rattle.machine.specs.Provided.{comes_ordinary, locals_are, is_wanted_big, comes_big, bigs_are, roots_say, roots_answer}
+use Rattle.machine.specs.Provided.{targets_are, big_targets_are, comes_ordinary, locals_are, is_wanted_big, comes_big, bigs_are, roots_say, roots_answer}
 use Rattle.machine.specs.Replies.{owing, paid, reply_on}
 use Rattle.machine.specs.Stream.{handled_in, handled, handles, kind_of, faulted, fed_with, feeds, comes_in, bytes_come_in}
 use Rattle.machine.specs.Talking.{stops_if, serves, begins, takes_requests, asked_as, shares_address, taken_of, takes_addresses, pays, brings, answered_as, talks}
 use Rattle.machine.specs.Step.{step}
-use Rattle.laws.specs.Whole.{IsSteady, ArePeersApart, AreApart}
+use Rattle.laws.specs.Whole.{IsFormed, GivesFew, ArePeersApart, AreApart}
 use Rattle.laws.proofs.Chosen.{chosen, chosen-apart, chosen-all, PicksMembers, picks-listed, groups_picks-apart, groups_picks-all, map-groups}
 use Rattle.laws.proofs.Handshakes.{answer-machine}
 use Rattle.laws.proofs.Keeping.{note-machine}
@@ -87,35 +87,61 @@ use Rattle.laws.proofs.Talks.{replies-machine}
 use Rattle.laws.proofs.Ties.{found-addr}
 use Rattle.laws.proofs.Wanted.{not_local-unlisted}
 
+-- ---- the numbers that are given next
+
+record Numbers : Type 0 where
+  id : ℕ
+  job : ℕ
+
+abbrev numbers_of : Machine → Numbers
+numbers_of m = record { id = m.next_id; job = m.roots.next_job }
+
+-- at most so many ids are given, and no job
+record Gains (ids : ℕ) (before after : Numbers) : Type 0 where
+  id : after.id ≤ before.id + ids
+  job : after.job ≡ before.job
+
+unchanged : {ids : ℕ} {before after : Numbers} → after ≡ before → Gains ids before after
+unchanged equal = record { id = let ids = ap (λ n. n.id) equal in omega (arith, ids); job = ap (λ n. n.job) equal }
+
+one_more : (m : Numbers) → Gains 1 m (record m { id = m.id + 1 })
+one_more m = record { id = omega arith; job = refl }
+
+gains_then : (i j : ℕ) {m n o : Numbers} → Gains i m n → Gains j n o → Gains (i + j) m o
+gains_then i j first second = record { id = omega (arith, first.id, second.id); job = second.job ∙ first.job }
+
+none_then : {m n o : Numbers} → Gains 0 m n → Gains 0 n o → Gains 0 m o
+none_then first second = gains_then 0 0 first second
+
 -- ---- a part of a step
 
 -- how many peers have an address and a class that pass a test
 abbrev number_of : (Addr → Bool → Bool) → List Peer → ℕ
 number_of test = count_by (λ p. test p.addr p.big)
 
--- At most so many ids are given, no peer comes, and none changes its class.
+-- And no peer comes, and none changes its class.
 record Gives (ids : ℕ) (before after : Machine) : Type 0 where
-  next_id : after.next_id ≤ before.next_id + ids
+  numbers : Gains ids (numbers_of before) (numbers_of after)
   groups : after.groups ≡ before.groups
   apart : ArePeersApart before.peers → ArePeersApart after.peers
   fewer : ArePeersApart before.peers → (test : Addr → Bool → Bool) → number_of test after.peers ≤ number_of test before.peers
 
 gives_nothing : (m : Machine) → Gives 0 m m
-gives_nothing m = record { next_id = omega arith; groups = refl; apart = λ h. h; fewer = λ h test. omega arith }
+gives_nothing m = record { numbers = unchanged refl; groups = refl; apart = λ h. h; fewer = λ h test. omega arith }
 
 gives_then : (i j : ℕ) (m n o : Machine) → Gives i m n → Gives j n o → Gives (i + j) m o
 gives_then i j m n o first second = record {
-  next_id = omega (arith, first.next_id, second.next_id);
+  numbers = gains_then i j first.numbers second.numbers;
   groups = second.groups ∙ first.groups;
   apart = λ h. second.apart (first.apart h);
   fewer = λ h test. omega (arith, first.fewer h test, second.fewer (first.apart h) test);
 }
 
 gives_more : (i j : ℕ) (m n : Machine) → i ≤ j → Gives i m n → Gives j m n
-gives_more i j m n more h = record { next_id = omega (arith, more, h.next_id); groups = h.groups; apart = h.apart; fewer = h.fewer }
+gives_more i j m n more h = record { numbers = record { id = omega (arith, more, h.numbers.id); job = h.numbers.job }; groups = h.groups; apart = h.apart; fewer = h.fewer }
 
 connections-gives : (connections : List Entry) (m : Machine) → Gives 0 m (record m { connections = connections })
-connections-gives connections m = record { next_id = omega arith; groups = refl; apart = λ h. h; fewer = λ h test. omega arith }
+connections-gives connections m = record { numbers = unchanged refl; groups = refl; apart = λ h. h; fewer = λ h test. omega arith }
 
 same_but-number : (test : Addr → Bool → Bool) (addr : Addr) (ps qs : List Peer) → AreSameBut addr ps qs → number_of test qs ≡ number_of test ps
 unfolding AreSameBut
@@ -141,7 +167,7 @@ changes-gives addr change m same class = by_peer (peer_at addr m) refl
         let new : Peer = change p in
         let found : peer_in new.addr m.peers ≡ Some p = subst (λ a. peer_in a m.peers ≡ Some p) (sym (same p ∙ found-addr addr m.peers p is)) is in
         record {
-          next_id = omega arith;
+          numbers = unchanged refl;
           groups = refl;
           apart = λ h. with_peer-apart new m.peers h;
           fewer = λ h test.
@@ -187,48 +213,51 @@ is_used-gives f e m =
     gives_then 0 0 m n (peer_succeeds f.addr n).machine (connections-gives n.connections m)
     (changes-gives f.addr (λ p. record p { temp = Warm; failures = 0 }) n (λ p. refl) (λ p. refl))
 
--- ---- a part that gives no id, whatever comes of the book
+-- ---- a part of which this alone is said, whatever comes of the book
 
 abbrev GivesNone : Machine → Machine → Type 0
-GivesNone before after = after.next_id ≤ before.next_id
+GivesNone before after = Gains 0 (numbers_of before) (numbers_of after)
+
+abbrev GivesOne : Machine → Machine → Type 0
+GivesOne before after = Gains 1 (numbers_of before) (numbers_of after)
 
 turns_at-none : (o : Option Peer) (change : Peer → Peer) (m : Machine) → GivesNone m (turns_at o change m).machine
-turns_at-none None change m = omega arith
-turns_at-none (Some p) change m = omega arith
+turns_at-none None change m = unchanged refl
+turns_at-none (Some p) change m = unchanged refl
 
 peer_comes-none : (big : Bool) (addr : Addr) (m : Machine) → GivesNone m (peer_comes big addr m).machine
 peer_comes-none big addr m =
-    rw (note-machine (entry_of addr m.peers) addr (record m { peers = entered (new_peer big addr) m.peers })) (omega arith)
+    rw (note-machine (entry_of addr m.peers) addr (record m { peers = entered (new_peer big addr) m.peers })) (unchanged refl)
 
 for_each-none : {X : Type 0} (act : X → Machine → Effect) → ((x : X) (m : Machine) → GivesNone m (act x m).machine) → (xs : List X) (m : Machine) →
     GivesNone m (for_each act xs m).machine
 unfolding for_each
-for_each-none act each [] m = omega arith
+for_each-none act each [] m = unchanged refl
 for_each-none act each (x ∷ xs) m =
     let n : Machine = (act x m).machine in
-    omega (arith, each x m, for_each-none act each xs n)
+    none_then (each x m) (for_each-none act each xs n)
 
 ending-none : (cause : CloseCause) (e : Entry) (m : Machine) → GivesNone m (ending cause e m).machine
-ending-none cause e m = omega (arith, (ending-gives cause e m).next_id)
+ending-none cause e m = (ending-gives cause e m).numbers
 
 vanishes-none : (e : Entry) (m : Machine) → GivesNone m (vanishes e m).machine
-vanishes-none e m = omega (arith, (lost-gives e.facts (without_entry e.facts.cid.0 m)).next_id)
+vanishes-none e m = (lost-gives e.facts (without_entry e.facts.cid.0 m)).numbers
 
 -- where it is about a connection, and there may be none
 on_entry-none : (act : Entry → Machine → Effect) → ((e : Entry) (m : Machine) → GivesNone m (act e m).machine) → (o : Option Entry) (m : Machine) →
     GivesNone m (on_entry o act m).machine
-on_entry-none act each None m = omega arith
+on_entry-none act each None m = unchanged refl
 on_entry-none act each (Some e) m = each e m
 
 closes-none : (e : Entry) (m : Machine) → GivesNone m (closes e m).machine
 closes-none e m = cond_both (is_live e.facts) (vanishes e m) (nothing_more m) (λ effect. GivesNone m effect.machine)
-    (λ live. vanishes-none e m) (λ dead. omega arith)
+    (λ live. vanishes-none e m) (λ dead. unchanged refl)
 
 -- ---- the clock
 
 grace_over-none : (e : Entry) (m : Machine) → GivesNone m (grace_over e m).machine
 grace_over-none e m = cond_both e.facts.local (entry_turns e (record e { facts = expired e.facts }) m) closed (λ effect. GivesNone m effect.machine)
-    (λ local. omega arith) (λ idle. omega arith)
+    (λ local. unchanged refl) (λ idle. unchanged refl)
   where
     closed : Effect
     closed = as_move (unused e.facts.cid.0) m (then_do (tells (Close e.facts.cid Unused ∷ []) m) (entry_turns e (closing_entry m e)))
@@ -236,40 +265,40 @@ grace_over-none e m = cond_both e.facts.local (entry_turns e (record e { facts =
 fires_as-none : (kind : Kind) (e : Entry) (m : Machine) → GivesNone m (fires_as kind e m).machine
 fires_as-none Handshake e m = ending-none (Fault HandshakeWait) e m
 fires_as-none GraceKind e m = grace_over-none e m
-fires_as-none TimeWait e m = omega arith
+fires_as-none TimeWait e m = unchanged refl
 fires_as-none Reply2 e m = ending-none (Fault ReplyWait) e m
 fires_as-none Reply8 e m = ending-none (Fault ReplyWait) e m
 fires_as-none Reply10 e m = ending-none (Fault ReplyWait) e m
 
 fire_due-none : (n : ℕ) (m : Machine) → GivesNone m (fire_due n m).machine
 unfolding fire_due
-fire_due-none zero m = omega arith
+fire_due-none zero m = unchanged refl
 fire_due-none (suc n) m = by_due (due m) (fire_due-none n)
   where
     by_due : (o : Option Deadline) → ((w : Machine) → GivesNone w (fire_due n w).machine) → GivesNone m (fires_some o (fire_due n) m).machine
-    by_due None later = omega arith
+    by_due None later = unchanged refl
     by_due (Some d) later =
         let first = on_entry-none (fires_as d.kind) (fires_as-none d.kind) (entry_at d.cid.0 m) m in
-        omega (arith, first, later (fires d m).machine)
+        none_then first (later (fires d m).machine)
 
 clock_shows-none : (t : ℕ) (m : Machine) → GivesNone m (clock_shows t m).machine
 clock_shows-none t m =
     let n : Machine = record m { now = t } in
-    cond_both (nat_le t m.now) (nothing_more m) (fire_all n) (λ effect. GivesNone m effect.machine) (λ past. omega arith) (λ later. fire_due-none _ n)
+    cond_both (nat_le t m.now) (nothing_more m) (fire_all n) (λ effect. GivesNone m effect.machine) (λ past. unchanged refl) (λ later. fire_due-none _ n)
 
 -- ---- a dial ends
 
 dialed-none : (opened : Bool) (e : Entry) (m : Machine) → GivesNone m (dialed opened e m).machine
 dialed-none opened e m =
     cond_both (is_dialing e.facts) (if opened then dial_opens e m else dial_fails e m) (nothing_more m) (λ effect. GivesNone m effect.machine)
-    (λ dials. cond_both opened (dial_opens e m) (dial_fails e m) (λ effect. GivesNone m effect.machine) (λ socket. omega arith) (λ failed. vanishes-none e m))
-    (λ other. omega arith)
+    (λ dials. cond_both opened (dial_opens e m) (dial_fails e m) (λ effect. GivesNone m effect.machine) (λ socket. unchanged refl) (λ failed. vanishes-none e m))
+    (λ other. unchanged refl)
 
 -- ---- what is set and provided
 
 comes_big-none : (addr : Addr) (m : Machine) → GivesNone m (comes_big addr m).machine
 comes_big-none addr m = cond_both (is_wanted_big addr m) _ (nothing_more m) (λ effect. GivesNone m effect.machine)
-    (λ wanted. peer_comes-none true addr m) (λ other. omega arith)
+    (λ wanted. peer_comes-none true addr m) (λ other. unchanged refl)
 
 locals_are-none : (groups : List Group) (m : Machine) → GivesNone m (locals_are groups m).machine
 locals_are-none groups m =
@@ -277,23 +306,23 @@ locals_are-none groups m =
     let n : Machine = record m { groups = cleaned m.settings.own groups } in
     let first = for_each-none peer_is_ordinary (λ addr o. turns_at-none (peer_at addr o) (λ p. record p { big = false }) o) members n in
     let second = for_each-none comes_ordinary (λ addr o. peer_comes-none false addr o) members (for_each peer_is_ordinary members n).machine in
-    omega (arith, first, second)
+    none_then first second
 
 roots_say-none : (answer : RootAnswer) (m : Machine) → GivesNone m (roots_say answer m).machine
 roots_say-none (Found ttl addrs) m = for_each-none comes_ordinary (λ addr o. peer_comes-none false addr o) _ _
-roots_say-none Failed m = omega arith
+roots_say-none Failed m = unchanged refl
 
 roots_answer-none : (job : Job) (answer : RootAnswer) (m : Machine) → GivesNone m (roots_answer job answer m).machine
 roots_answer-none job answer m = cond_both (awaits job.0 m.roots) (roots_say answer m) (nothing_more m) (λ effect. GivesNone m effect.machine)
-    (λ awaited. roots_say-none answer m) (λ other. omega arith)
+    (λ awaited. roots_say-none answer m) (λ other. unchanged refl)
 
 -- ---- the handshake
 
 judged-none : (v : Verdict) (e : Entry) (m : Machine) → GivesNone m (judged v e m).machine
-judged-none (verdict.Accept agreed) e m = omega arith
+judged-none (verdict.Accept agreed) e m = unchanged refl
 judged-none (verdict.Refuse why) e m = ending-none Refused e m
 judged-none verdict.Query e m = ending-none Query e m
-judged-none (verdict.Agree agreed) e m = omega (arith, (is_used-gives (agreed_outbound agreed (m.now + m.settings.idle) e.facts) e m).next_id)
+judged-none (verdict.Agree agreed) e m = (is_used-gives (agreed_outbound agreed (m.now + m.settings.idle) e.facts) e m).numbers
 judged-none verdict.Refused e m = ending-none Refused e m
 judged-none verdict.Wrong e m = ending-none (Fault Protocol) e m
 
@@ -315,7 +344,7 @@ greets-none item e m = cond_both (item.id == 0 && is_awaited (role_of e.facts.pr
 -- ---- after the handshake
 
 awake-none : (protocol : ℕ) (e : Entry) (m : Machine) → GivesNone m (awake protocol e m).machine
-awake-none protocol e m = omega (arith, (trim-gives e.facts.cid (with_entry (record e { facts = awakened protocol e.facts }) m)).next_id)
+awake-none protocol e m = (trim-gives e.facts.cid (with_entry (record e { facts = awakened protocol e.facts }) m)).numbers
 
 serves-none : (seen : Seen) (protocol : ℕ) (e : Entry) (m : Machine) → GivesNone m (serves seen protocol e m).machine
 serves-none seen protocol e m =
@@ -323,24 +352,24 @@ serves-none seen protocol e m =
     (stops_if-none seen.done)
   where
     stops_if-none : (done : Bool) → GivesNone m (stops_if done protocol e m).machine
-    stops_if-none true = omega arith
-    stops_if-none false = omega arith
+    stops_if-none true = unchanged refl
+    stops_if-none false = unchanged refl
 
 asked_as-none : (r : Result Seen FaultKind) (protocol : ℕ) (e : Entry) (m : Machine) → GivesNone m (asked_as r protocol e m).machine
 asked_as-none (Err kind) protocol e m = ending-none (Fault kind) e m
 asked_as-none (Ok seen) protocol e m =
     let n : Machine = (begins protocol e m).machine in
     let begun : GivesNone m n = cond_both (runs protocol e.facts.running) (nothing_more m) (awake protocol e m) (λ effect. GivesNone m effect.machine)
-    (λ running. omega arith) (λ stopped. awake-none protocol e m) in
+    (λ running. unchanged refl) (λ stopped. awake-none protocol e m) in
     cond_both (takes_requests e) (then_do (begins protocol e m) (on_connection e.facts.cid (serves seen protocol))) (ending (Fault Protocol) e m)
     (λ effect. GivesNone m effect.machine)
-    (λ takes. omega (arith, begun, on_entry-none (serves seen protocol) (serves-none seen protocol) (entry_at e.facts.cid.0 n) n)) (λ other. ending-none (Fault Protocol) e m)
+    (λ takes. none_then begun (on_entry-none (serves seen protocol) (serves-none seen protocol) (entry_at e.facts.cid.0 n) n)) (λ other. ending-none (Fault Protocol) e m)
 
 takes_addresses-none : (o : Option Share) (m : Machine) → GivesNone m (takes_addresses o m).machine
-takes_addresses-none None m = omega arith
-takes_addresses-none (Some (share.Request n)) m = omega arith
+takes_addresses-none None m = unchanged refl
+takes_addresses-none (Some (share.Request n)) m = unchanged refl
 takes_addresses-none (Some (share.Peers told)) m = for_each-none shares_address (λ addr o. peer_comes-none false addr o) (taken_of told m) m
-takes_addresses-none (Some share.Done) m = omega arith
+takes_addresses-none (Some share.Done) m = unchanged refl
 
 brings-none : (protocol : ℕ) (body : List ℕ) (e : Entry) (m : Machine) → GivesNone m (brings protocol body e m).machine
 brings-none protocol body e m =
@@ -348,7 +377,7 @@ brings-none protocol body e m =
     cond_both (protocol == 2) (peer_becomes Hot e.facts.addr m) rest (λ effect. GivesNone m effect.machine)
     (λ chain_sync. turns_at-none (peer_at e.facts.addr m) (λ p. record p { temp = Hot }) m)
     (λ other. cond_both (protocol == 8) (nothing_more m) (takes_addresses (share_of body) m) (λ effect. GivesNone m effect.machine)
-    (λ keep_alive. omega arith) (λ sharing. takes_addresses-none (share_of body) m))
+    (λ keep_alive. unchanged refl) (λ sharing. takes_addresses-none (share_of body) m))
 
 answered_as-none : (o : Option Owed) (item : Item) (e : Entry) (m : Machine) → GivesNone m (answered_as o item e m).machine
 answered_as-none None item e m = ending-none (Fault Protocol) e m
@@ -366,49 +395,46 @@ talks-none item e m =
 -- ---- bytes
 
 handled_in-none : (phase : Phase) (item : Item) (e : Entry) (m : Machine) → GivesNone m (handled_in phase item e m).machine
-handled_in-none Dialing item e m = omega arith
+handled_in-none Dialing item e m = unchanged refl
 handled_in-none (Greeting until) item e m = greets-none item e m
 handled_in-none Negotiated item e m = talks-none item e m
-handled_in-none (Closing until) item e m = omega arith
+handled_in-none (Closing until) item e m = unchanged refl
 
 handles-none : (cid : Cid) (item : Item) (m : Machine) → GivesNone m (handles cid item m).machine
 handles-none cid item m = on_entry-none (handled item) (λ e. handled_in-none e.facts.phase item e) (entry_at cid.0 m) m
 
 faulted-none : (fault : Option CutFault) (e : Entry) (m : Machine) → GivesNone m (faulted fault e m).machine
 faulted-none (Some fault) e m = ending-none (Fault (kind_of fault)) e m
-faulted-none None e m = omega arith
+faulted-none None e m = unchanged refl
 
 fed_with-none : (fed : FedBy) (e : Entry) (m : Machine) → GivesNone m (fed_with fed e m).machine
 fed_with-none fed e m =
     let n : Machine = with_entry (record e { undecoded = fed.state.undecoded }) m in
     let o : Machine = (for_each (handles e.facts.cid) fed.items n).machine in
     let items = for_each-none (handles e.facts.cid) (handles-none e.facts.cid) fed.items n in
-    omega (arith, items, on_entry-none (faulted fed.state.fault) (faulted-none fed.state.fault) (entry_at e.facts.cid.0 o) o)
+    none_then items (on_entry-none (faulted fed.state.fault) (faulted-none fed.state.fault) (entry_at e.facts.cid.0 o) o)
 
 comes_in-none : (bytes : List ℕ) (e : Entry) (m : Machine) → GivesNone m (comes_in bytes e m).machine
 comes_in-none bytes e m = cond_both (is_greeting e.facts || is_negotiated e.facts) (feeds bytes e m) (nothing_more m)
-    (λ effect. GivesNone m effect.machine) (λ open_now. fed_with-none _ e m) (λ other. omega arith)
+    (λ effect. GivesNone m effect.machine) (λ open_now. fed_with-none _ e m) (λ other. unchanged refl)
 
 -- ---- a peer connects
 
-abbrev GivesOne : Machine → Machine → Type 0
-GivesOne before after = after.next_id ≤ before.next_id + 1
-
 crossed-one : (addr : Addr) (e : Entry) (m : Machine) → GivesOne m (crossed addr e m).machine
 crossed-one addr e m = cond_both (address_below addr m.settings.own) (then_do (ending Overwritten e m) (admitted addr)) (turned_away Crossed m)
-    (λ effect. GivesOne m effect.machine) (λ below. omega (arith, ending-none Overwritten e m)) (λ above. omega arith)
+    (λ effect. GivesOne m effect.machine) (λ below. gains_then 0 1 (ending-none Overwritten e m) (one_more (numbers_of (ending Overwritten e m).machine))) (λ above. unchanged refl)
 
 accepted_beside-one : (o : Option Entry) (addr : Addr) (m : Machine) → GivesOne m (accepted_beside o addr m).machine
-accepted_beside-one None addr m = omega arith
+accepted_beside-one None addr m = one_more (numbers_of m)
 accepted_beside-one (Some e) addr m = cond_both (is_pending e.facts) (crossed addr e m) (turned_away AlreadyThere m) (λ effect. GivesOne m effect.machine)
-    (λ pending. crossed-one addr e m) (λ other. omega arith)
+    (λ pending. crossed-one addr e m) (λ other. unchanged refl)
 
 peer_connects-one : (addr : Addr) (m : Machine) → GivesOne m (peer_connects addr m).machine
 peer_connects-one addr m = cond_both (same_address addr m.settings.own) (turned_away OwnAddr m)
     (if nat_le m.settings.hard (counted_in m) then turned_away Full m else accepted_beside (live_entry_at addr m) addr m)
-    (λ effect. GivesOne m effect.machine) (λ own. omega arith)
+    (λ effect. GivesOne m effect.machine) (λ own. unchanged refl)
     (λ other. cond_both (nat_le m.settings.hard (counted_in m)) (turned_away Full m) (accepted_beside (live_entry_at addr m) addr m)
-    (λ effect. GivesOne m effect.machine) (λ full. omega arith) (λ room. accepted_beside-one (live_entry_at addr m) addr m))
+    (λ effect. GivesOne m effect.machine) (λ full. unchanged refl) (λ room. accepted_beside-one (live_entry_at addr m) addr m))
 
 -- ---- the governor's orders
 
@@ -448,7 +474,7 @@ count-filter p q (x ∷ ps) = by_test (q x) (count-filter p q ps) (sum_by-cons (
 peer_goes-gives : (addr : Addr) (m : Machine) → Gives 0 m (peer_goes addr m).machine
 peer_goes-gives addr m =
     let stays : Peer → Bool = λ p. not (same_address p.addr addr) in
-    record { next_id = omega arith; groups = refl; apart = λ h. filter-apart stays m.peers h; fewer = λ h test. count-filter (λ p. test p.addr p.big) stays m.peers }
+    record { numbers = unchanged refl; groups = refl; apart = λ h. filter-apart stays m.peers h; fewer = λ h test. count-filter (λ p. test p.addr p.big) stays m.peers }
 
 on_used-gives : (addr : Addr) (act : Entry → Machine → Effect) → ((e : Entry) (m : Machine) → Gives 0 m (act e m).machine) → (m : Machine) →
     Gives 0 m (on_used addr act m).machine
@@ -461,7 +487,7 @@ deactivates-gives : (e : Entry) (m : Machine) → Gives 0 m (deactivates e m).ma
 deactivates-gives e m = changes-gives e.facts.addr (λ p. record p { temp = Warm }) m (λ p. refl) (λ p. refl)
 
 dial-gives : (addr : Addr) (m : Machine) → Gives 1 m (dial addr m).machine
-dial-gives addr m = record { next_id = omega arith; groups = refl; apart = λ h. h; fewer = λ h test. omega arith }
+dial-gives addr m = record { numbers = one_more (numbers_of m); groups = refl; apart = λ h. h; fewer = λ h test. omega arith }
 
 promote-gives : (addr : Addr) (m : Machine) → Gives 1 m (promote addr m).machine
 promote-gives addr m = by_live (live_entry_at addr m)
@@ -767,36 +793,46 @@ big-give start word peers =
     (rule_then start _ _ _ _ (still-rule start _ (λ m. still-gives Activate activate-still _ m))
     (rule_then start _ _ _ _ (still-rule start _ (λ m. still-gives Deactivate deactivate-still _ m)) (no_rules start)))))
 
-asks_roots-gives : (m : Machine) → Gives 0 m (asks_roots m).machine
-asks_roots-gives m = cond_both (may_ask m.now m.targets.root m.roots)
-    (tells (AskRoots (record { 0 = m.roots.next_job }) ∷ []) (record m { roots = asked m.roots })) (nothing_more m) (λ effect. Gives 0 m effect.machine)
-    (λ too_few. record { next_id = omega arith; groups = refl; apart = λ h. h; fewer = λ h test. omega arith }) (λ enough. gives_nothing m)
-
--- each peer is dialed once at most
-pub govern-ids : (word : ℕ) (m : Machine) → ArePeersApart m.peers → AreApart (members_of m.groups) →
-    (govern word m).machine.next_id ≤ m.next_id + length m.peers
+-- from a record on in which all other rules start
+rules-give : (word : ℕ) (m : Machine) → ArePeersApart m.peers → AreApart (members_of m.groups) →
+    Gains (length m.peers) (numbers_of m) (numbers_of (for_each rules (big_rules word) (for_each rules (ordinary_rules word) m).machine).machine)
 unfolding DoesGive
-govern-ids word m peers members =
-    let n : Machine = (asks_roots m).machine in
-    let o : Machine = (for_each rules (ordinary_rules word) n).machine in
-    let ordinary : Gives (0 + ordinary_ids m) m o = ordinary-give m word peers members 0 n (asks_roots-gives m) in
-    let all = big-give m word peers (0 + ordinary_ids m) o ordinary in
-    omega (arith, all.next_id, kinds-number m.groups m.peers)
+rules-give word m peers members =
+    let n : Machine = (for_each rules (ordinary_rules word) m).machine in
+    let ordinary : Gives (0 + ordinary_ids m) m n = ordinary-give m word peers members 0 m (gives_nothing m) in
+    let all = big-give m word peers (0 + ordinary_ids m) n ordinary in
+    record { id = omega (arith, all.numbers.id, kinds-number m.groups m.peers); job = all.numbers.job }
+
+-- each peer is dialed once at most, and the provider asked once
+govern-few : (word : ℕ) (m : Machine) → IsFormed m → GivesFew m (govern word m).machine
+govern-few word m h = cond_both (may_ask m.now m.targets.root m.roots)
+    (tells (AskRoots (record { 0 = m.roots.next_job }) ∷ []) asking) (nothing_more m)
+    (λ first. GivesFew m (then_do first (λ n. then_do (for_each rules (ordinary_rules word) n) (for_each rules (big_rules word)))).machine)
+    (λ too_few. let rest = rules-give word asking h.peers h.groups in
+    record { ids = omega (arith, rest.id, h.room); jobs = omega (arith, rest.job) })
+    (λ enough. let rest = rules-give word m h.peers h.groups in
+    record { ids = omega (arith, rest.id, h.room); jobs = omega (arith, rest.job) })
+  where
+    asking : Machine
+    asking = record m { roots = asked m.roots }
 
 -- ---- each event
 
-none-few : (m n : Machine) → GivesNone m n → n.next_id ≤ m.next_id + 20000
-none-few m n h = omega (arith, h)
+few : (ids : ℕ) (m n : Machine) → ids ≤ 20000 → Gains ids (numbers_of m) (numbers_of n) → GivesFew m n
+few ids m n less h = record { ids = omega (arith, less, h.id); jobs = omega (arith, h.job) }
 
-pub step-ids : (m : Machine) (event : Event) → IsSteady m → (step m event).machine.next_id ≤ m.next_id + 20000
-step-ids m (Now t) h = none-few m (clock_shows t m).machine (clock_shows-none t m)
-step-ids m (Govern word) h = omega (arith, govern-ids word m h.formed.peers h.formed.groups, h.formed.room)
-step-ids m (Accepted addr) h = omega (arith, peer_connects-one addr m)
-step-ids m (Dialed cid opened) h = none-few m (dial_ends cid opened m).machine (on_entry-none (dialed opened) (dialed-none opened) (entry_at cid.0 m) m)
-step-ids m (Bytes cid bytes) h = none-few m (bytes_come_in cid bytes m).machine (on_entry-none (comes_in bytes) (comes_in-none bytes) (entry_at cid.0 m) m)
-step-ids m (Closed cid) h = none-few m (peer_closes cid m).machine (on_entry-none closes closes-none (entry_at cid.0 m) m)
-step-ids m (Aims targets) h = omega arith
-step-ids m (Locals groups) h = none-few m (locals_are groups m).machine (locals_are-none groups m)
-step-ids m (Roots job answer) h = none-few m (roots_answer job answer m).machine (roots_answer-none job answer m)
-step-ids m (BigAims targets) h = omega arith
-step-ids m (Bigs addrs) h = none-few m (bigs_are addrs m).machine (for_each-none comes_big comes_big-none addrs m)
+none_few : (m n : Machine) → GivesNone m n → GivesFew m n
+none_few m n h = few 0 m n (omega arith) h
+
+pub step-few : (m : Machine) (event : Event) → IsFormed m → GivesFew m (step m event).machine
+step-few m (Now t) h = none_few m (clock_shows t m).machine (clock_shows-none t m)
+step-few m (Govern word) h = govern-few word m h
+step-few m (Accepted addr) h = few 1 m (peer_connects addr m).machine (omega arith) (peer_connects-one addr m)
+step-few m (Dialed cid opened) h = none_few m (dial_ends cid opened m).machine (on_entry-none (dialed opened) (dialed-none opened) (entry_at cid.0 m) m)
+step-few m (Bytes cid bytes) h = none_few m (bytes_come_in cid bytes m).machine (on_entry-none (comes_in bytes) (comes_in-none bytes) (entry_at cid.0 m) m)
+step-few m (Closed cid) h = none_few m (peer_closes cid m).machine (on_entry-none closes closes-none (entry_at cid.0 m) m)
+step-few m (Aims targets) h = none_few m (targets_are targets m).machine (unchanged refl)
+step-few m (Locals groups) h = none_few m (locals_are groups m).machine (locals_are-none groups m)
+step-few m (Roots job answer) h = none_few m (roots_answer job answer m).machine (roots_answer-none job answer m)
+step-few m (BigAims targets) h = none_few m (big_targets_are targets m).machine (unchanged refl)
+step-few m (Bigs addrs) h = none_few m (bigs_are addrs m).machine (for_each-none comes_big comes_big-none addrs m)

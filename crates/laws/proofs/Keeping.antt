@@ -19,18 +19,13 @@ use Rattle.conn_state.specs.Use.{has_id}
 use Rattle.govern_rules.specs.Rules.{is_not_local}
 use Rattle.laws.specs.Laws.{LocalsAreOrdinary}
 use Rattle.laws.specs.Sound.{IsOrderly}
-use Rattle.laws.specs.Whole.{IsShaped, IsOwing, IsFormed, TiedBy, IsTied}
+use Rattle.laws.specs.Whole.{IsShaped, IsOwing, IsFormed, IsOrdered, TiedBy, IsTied}
 use Rattle.laws.proofs.Books.{IsBook, book_of, with_peer-book, entered-book}
 use Rattle.laws.proofs.Counts.{counted_of, counted_in-sum, late_of, late_in, late_in-sum}
 use Rattle.laws.proofs.Entries.{TurnsInto, turned-connections, turned-orderly, turned-sum, gone-orderly, gone-sum}
 use Rattle.laws.proofs.Lists.{StandsAt, All-stands}
 use Rattle.laws.proofs.Ordinary.{turned-classes, comes-classes}
 use Rattle.laws.proofs.Ties.{changed-ties, comes-ties}
-
--- what holds at every moment of the connections alone
-pub record IsOrdered (m : Machine) : Type 0 where
-  pub orderly : IsOrderly m
-  pub formed : IsFormed m
 
 -- From one record to another, by what may be a part of a move: both hold at every moment, no more than so many
 -- connections come to be counted, and no more deadlines are late.

@@ -29,14 +29,14 @@ pub mod Remains
 mod Handshakes
 mod Talks
 pub mod Streams
-mod WholeEvents
-mod WholeRuns
+pub mod WholeEvents
+pub mod WholeRuns
 mod Promotions
 mod Picks
 pub mod Ties
 mod Rises
 mod Arrivals
-mod PeerLaws
+pub mod PeerLaws
 mod Lawful
 mod KnownWanted
 mod Clock
@@ -51,4 +51,4 @@ mod Due
 mod CarriedOut
 mod Least
 mod PartMoves
-mod PartEvents
+pub mod PartEvents

@@ -25,10 +25,9 @@ use Rattle.machine.specs.Peers.{turns_at, peer_at}
 use Rattle.machine.specs.Connections.{with_entry, acquire, dial}
 use Rattle.machine.specs.Govern.{link_of, promoted_at, promote, is_used_at, activates, activate}
 use Rattle.laws.specs.AtMoves.{links_in, number_with, members_with}
-use Rattle.laws.specs.Whole.{ArePeersApart}
+use Rattle.laws.specs.Whole.{ArePeersApart, IsOrdered}
 use Rattle.laws.proofs.Addresses.{same_address-true}
 use Rattle.laws.proofs.Entries.{TurnsInto, turned-connections}
-use Rattle.laws.proofs.Keeping.{IsOrdered}
 use Rattle.laws.proofs.Lists.{StandsAt, stands_before, FoundIn, find_some}
 use Rattle.laws.proofs.PeersApart.{same_turned}
 use Rattle.machine.specs.Effect.{on_entry}

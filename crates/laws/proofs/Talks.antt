@@ -35,9 +35,9 @@ use Rattle.laws.proofs.Entries.{TurnsInto, one_has_id, turned-connections}
 use Rattle.laws.specs.AtMoves.{IsLawful, is_up, is_hot_peer, is_asked_connection, is_hot_or_asked, is_known, promotes, activates, shares}
 use Rattle.laws.proofs.KnownWanted.{takes-within}
 use Rattle.laws.proofs.Lawful.{ends_then, ends_same, ends_turned, Accounts, Obeys, IsQuiet, quiet-lawful, quiet-obeys, tells-quiet, comes-providing, shared-accounts, turns-obeys, IsAllowed, Within, allowed_within, as_move-obeys}
-use Rattle.laws.proofs.Keeping.{IsOrdered, Keeps, keeps_nothing, moves_then, moves-keeps, keeps-moves, changes-moves, peer_comes-keeps}
+use Rattle.laws.proofs.Keeping.{Keeps, keeps_nothing, moves_then, moves-keeps, keeps-moves, changes-moves, peer_comes-keeps}
 use Rattle.laws.proofs.Lists.{StandsAt, stands-set, find_some, find_only}
-use Rattle.laws.specs.Whole.{AreTied, IsAlone, TiedBy}
+use Rattle.laws.specs.Whole.{AreTied, IsAlone, TiedBy, IsOrdered}
 use Rattle.laws.proofs.Addresses.{same_address-true}
 use Rattle.laws.proofs.Owing.{paid-some}
 use Rattle.laws.proofs.Rises.{is_asked, is_hot, NoneConnected, or_each, rises_nowhere, same-connected, connected_then, IsNoHigher, turned-connected, changed-known}

@@ -26,12 +26,12 @@ use Rattle.laws.specs.Laws.{LocalsAreOrdinary}
 use Rattle.laws.specs.Sound.{IsOrderly}
 use Rattle.laws.specs.Stages.{IsLateCause}
 use Rattle.laws.specs.Told.{ended_by, promoted_by_dial}
-use Rattle.laws.specs.Whole.{IsTied}
+use Rattle.laws.specs.Whole.{IsTied, IsOrdered}
 use Rattle.laws.proofs.Counts.{counted_of, counted_in-sum, late_in}
 use Rattle.laws.proofs.Effects.{one_if-counted}
 use Rattle.laws.proofs.Entries.{gone-connections, gone-sum, one_has_id}
 use Rattle.laws.proofs.Finds.{find-remove_other}
-use Rattle.laws.proofs.Keeping.{IsOrdered, Keeps, keeps_nothing}
+use Rattle.laws.proofs.Keeping.{Keeps, keeps_nothing}
 use Rattle.laws.proofs.ToldMoves.{turns_at-connections}
 use Rattle.laws.proofs.Lawful.{Accounts, accounts_then, accounts_move, Obeys, obeys_nothing, ending-obeys}
 use Rattle.laws.proofs.Lists.{StandsAt, stands_next, find_only, all-appended, all-both}

@@ -34,10 +34,9 @@ use Rattle.machine.specs.Peers.{turns_at, peer_at}
 use Rattle.machine.specs.Connections.{with_entry, acquire, dial}
 use Rattle.machine.specs.Govern.{link_of, view_of, promoted_at, is_used_at, on_used, activates, carries_out}
 use Rattle.laws.specs.AtMoves.{number_with, members_with, established_wanted, active_wanted, IsWanted}
-use Rattle.laws.specs.Whole.{ArePeersApart, AreApart}
+use Rattle.laws.specs.Whole.{ArePeersApart, AreApart, IsOrdered}
 use Rattle.laws.proofs.Chosen.{chosen, chosen-apart, chosen-all, PicksMembers, picks-listed, groups_picks-apart, groups_picks-all, apart-behind, front-not_behind, map-groups}
 use Rattle.laws.proofs.GroupsApart.{unlisted_append}
-use Rattle.laws.proofs.Keeping.{IsOrdered}
 use Rattle.laws.proofs.KnownWanted.{move-within}
 use Rattle.laws.proofs.Lawful.{IsAllowed, Within}
 use Rattle.laws.proofs.Lists.{all-weaker, all-appended, all-both}

@@ -34,7 +34,7 @@ use Rattle.machine.specs.Provided.{targets_are, big_targets_are, comes_ordinary,
 use Rattle.machine.specs.Stream.{bytes_come_in}
 use Rattle.machine.specs.Step.{step}
 use Rattle.laws.specs.AtMoves.{IsLawful}
-use Rattle.laws.specs.Whole.{IsShaped, IsFormed, IsSteady, TiedBy, IsTied, AreApart, IsOwing}
+use Rattle.laws.specs.Whole.{IsShaped, IsFormed, IsSteady, TiedBy, IsTied, AreApart, IsOwing, IsOrdered}
 use Rattle.govern_rules.specs.Rules.{is_not_local}
 use Rattle.laws.specs.Laws.{LocalsAreOrdinary}
 use Rattle.laws.proofs.Addresses.{same_address-true}
@@ -46,7 +46,7 @@ use Rattle.laws.proofs.GroupsApart.{cleaned-apart}
 use Rattle.laws.proofs.Counts.{counted_of, late_in, counted-expired, counted-closing, late-expired, late-closing}
 use Rattle.laws.proofs.Effects.{one_if-not_counted}
 use Rattle.laws.proofs.Events.{StaysSound, admitted_entry, at_moment, at_moment-orderly, ahead-none_late, none_late-ahead, peer_connects-sound, clock_shows-sound}
-use Rattle.laws.proofs.Keeping.{IsOrdered, Keeps, keeps_nothing, keeps_then, moves-keeps, turns-moves, goes-moves, elsewhere-keeps, changes-keeps, peer_comes-keeps, for_each-keeps, for_each_that-keeps}
+use Rattle.laws.proofs.Keeping.{Keeps, keeps_nothing, keeps_then, moves-keeps, turns-moves, goes-moves, elsewhere-keeps, changes-keeps, peer_comes-keeps, for_each-keeps, for_each_that-keeps}
 use Rattle.laws.proofs.Lists.{StandsAt, find_some}
 use Rattle.laws.proofs.Ordinary.{members-classes, connects-classes}
 use Rattle.laws.proofs.Owing.{nothing-owing, alike-owing}

@@ -3,6 +3,7 @@ pub mod AtMoves
 pub mod Carrying
 pub mod Laws
 pub mod Parts
+pub mod Props
 pub mod Records
 pub mod Sound
 pub mod Stages

@@ -1,5 +1,5 @@
 -- What holds in every record that a run of the whole machine reaches.
-use Rattle.std.specs.Prelude.{ℕ, ◌≡◌, ◌<◌, ◌≤◌, true, false, not, ◌||◌, List, [], ◌∷◌, length, All, AllPairs, Option, Some, None, is_some}
+use Rattle.std.specs.Prelude.{ℕ, ◌+◌, ◌≡◌, ◌<◌, ◌≤◌, true, false, not, ◌||◌, List, [], ◌∷◌, length, All, AllPairs, Option, Some, None, is_some}
 use Rattle.std.specs.List.{AllByRecursion}
 use Rattle.net_base.specs.Address.{same_address}
 use Rattle.net_base.specs.declared.address.Addr.{Addr}
@@ -16,7 +16,7 @@ use Rattle.machine.specs.Peers.{peer_at}
 use Rattle.machine.specs.Replies.{reply_on, is_owed_on}
 use Rattle.machine.specs.Step.{step}
 use Rattle.laws.specs.Laws.{LocalsAreOrdinary}
-use Rattle.laws.specs.Sound.{IsSound}
+use Rattle.laws.specs.Sound.{IsOrderly, IsSound}
 
 -- ---- the facts of one connection
 
@@ -111,9 +111,21 @@ pub record IsFormed (m : Machine) : Type 0 where
   -- the question that is pending was numbered
   pub pending_job : (job : ℕ) → m.roots.pending ≡ Some job → job < m.roots.next_job
 
+-- what holds at every moment of all but the ties, in the middle of an event too
+pub record IsOrdered (m : Machine) : Type 0 where
+  pub orderly : IsOrderly m
+  pub formed : IsFormed m
+
 pub record IsSteady (m : Machine) : Type 0 where
   pub sound : IsSound m
   pub formed : IsFormed m
   pub tied : IsTied m
   -- after each event, but not in the middle of one that sets the groups
   pub locals : LocalsAreOrdinary m
+
+-- ---- what an event gives out
+
+-- an id to each peer at most, and one job
+pub record GivesFew (before after : Machine) : Type 0 where
+  pub ids : after.next_id ≤ before.next_id + 20000
+  pub jobs : after.roots.next_job ≤ before.roots.next_job + 1

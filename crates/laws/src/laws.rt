@@ -11,7 +11,7 @@ ghost use Rattle.laws.specs.Laws.{DeadlinesAhead};
 ghost use Rattle.laws.specs.Parts.{IsLawfulEvent};
 ghost use Rattle.laws.specs.Records.{IsLawfulRecord};
 ghost use Rattle.laws.specs.Sound.{IsOrderly, IsSound};
-ghost use Rattle.laws.specs.Whole.{IsSteady};
+ghost use Rattle.laws.specs.Whole.{IsSteady, GivesFew};
 
 /// Where as many deadlines may fire as there are, none that is due is left, since no deadline that fires sets one
 /// that is due.
@@ -32,8 +32,9 @@ pub fn laws_of_records()
 {}
 
 /// What holds of the actions and the moves of each event, and of each of its parts, from every steady record and so after
-/// every list of events.
+/// every list of events; and how many numbers an event gives out.
 pub fn laws_of_events()
     ensures lawful { (m : Machine) (event : Event) → IsSteady m → IsLawfulEvent m event }
+    ensures few { (m : Machine) (event : Event) → IsSteady m → GivesFew m (step m event).machine }
     ensures runs { (settings : Settings) (events : List Event) (event : Event) → AreSound settings → IsLawfulEvent (after_all (start_of settings) events) event }
 {}

@@ -6,8 +6,6 @@ pub mod Ends
 pub mod FindLemmas
 pub mod FireLemmas
 pub mod GreetLemmas
-pub mod Ids
-pub mod StreamIds
 pub mod StreamLemmas
 pub mod Going
 pub mod LinkLooks

@@ -1,9 +1,12 @@
 ghost use Rattle.std.specs.Prelude.{◌≡◌, ◌≤◌, ◌<◌, ◌+◌, ◌*◌, ◌↔◌, Some, Err, IfOk, OnOk};
 ghost use Rattle.conn_state.specs.Use.{facts_at};
-ghost use Rattle.laws.specs.Laws.{LiveAddressesDistinct, WithinHardLimit, DeadlinesAhead};
-ghost use Rattle.laws.specs.Sound.{IsSound};
-ghost use Rattle.machine.specs.Events.{step};
+ghost use Rattle.laws.specs.Parts.{IsLawfulEvent};
+ghost use Rattle.laws.specs.Props.{IsSteady-prop};
+ghost use Rattle.laws.specs.Records.{IsLawfulRecord};
+ghost use Rattle.laws.specs.Whole.{IsSteady, GivesFew};
 ghost use Rattle.machine.specs.Machine.{start_of, facts_of};
+ghost use Rattle.machine.specs.Peers.{peer_at};
+ghost use Rattle.machine.specs.Step.{step};
 ghost use Rattle.net_base.specs.Bounds.{settings_fault, AreSound};
 ghost use Rattle.net_base.specs.declared.settings.Field.{Field};
 ghost use Rattle.net_base.specs.Limits.{IsWithinLimits};
@@ -11,21 +14,31 @@ ghost use Rattle.node_engine.specs.Tally.{tally_of};
 ghost use Rattle.node_engine.specs.declared.refusal.NewRefusal.TheVariants.{BadSetting};
 
 use crate::{NewRefusal, NodeState, Tally};
-use net_base::{ActionList, Cid, Event, Facts, OutOfMemory, Settings};
+use net_base::{ActionList, Addr, Cid, Event, Facts, OutOfMemory, Peer, Settings};
+use pick_policy::{Picker, RankedPicker};
 use std::alloc::Global;
 
-/// A node's engine: the machine's record, and how many events it took. An event gives out at most 20,000 ids.
+/// A node's engine: the machine's record, how it picks peers, and how many events it took. An event gives out at
+/// most 20,000 ids and one job.
 #[derive(Drop)]
 pub struct Engine {
     pub machine: NodeState,
+    picker: Picker,
+    ranked: RankedPicker,
     pub events: u64,
     ghost few_ids: { machine.next_id ≤ 20000 * events + 1 },
-    pub ghost sound: { IsSound machine },
+    ghost few_jobs: { machine.roots.next_job ≤ events + 1 },
+    pub ghost steady: { IsSteady machine } by { IsSteady-prop machine },
 }
 
 impl Engine {
     /// An engine to which nothing has happened yet. `BadSetting` names the first setting out of its range.
-    pub fn new(alloc: Global, settings: Settings) -> Result<Engine, NewRefusal>
+    pub fn new(
+        alloc: Global,
+        settings: Settings,
+        picker: Picker,
+        ranked: RankedPicker,
+    ) -> Result<Engine, NewRefusal>
         ensures bad_setting { (f : Field) → (result ≡ Err (BadSetting f)) ↔ (settings_fault settings ≡ Some f) }
         ensures start { IfOk result (λ e. e.machine ≡ start_of settings) }
         ensures sound { OnOk result (AreSound settings) }
@@ -35,6 +48,8 @@ impl Engine {
             Some(field) => Err(NewRefusal::BadSetting(field)),
             None => Ok(Engine {
                 machine: NodeState::new(alloc, &settings),
+                picker,
+                ranked,
                 events: 0,
             }),
         }
@@ -47,19 +62,27 @@ impl Engine {
         ensures machine { IfOk result (λ r. r.0.machine ≡ (step self.machine event).machine) }
         ensures actions { IfOk result (λ r. r.1 ≡ (step self.machine event).actions) }
         ensures taken { IfOk result (λ r. r.0.events ≡ self.events + 1) }
+        ensures numbers { IfOk result (λ r. GivesFew self.machine r.0.machine) }
 
-        // what holds after each event
-        ensures addresses { IfOk result (λ r. LiveAddressesDistinct r.0.machine) }
-        ensures limit { IfOk result (λ r. WithinHardLimit r.0.machine) }
-        ensures deadlines { IfOk result (λ r. DeadlinesAhead r.0.machine) }
+        // what holds of the record after the event, and of the moves and actions in it
+        ensures record { IfOk result (λ r. IsLawfulRecord r.0.machine) }
+        ensures event { IfOk result (λ r. IsLawfulEvent self.machine event) }
     {
         let Engine {
             mut machine,
+            picker,
+            ranked,
             events,
         } = self;
-        let actions = machine.handle(event)?;
+        let actions = machine.handle(&event, &picker, &ranked)?;
         let events = events + 1;
-        Ok((Engine { machine, events }, actions))
+        let engine = Engine {
+            machine,
+            picker,
+            ranked,
+            events,
+        };
+        Ok((engine, actions))
     }
 
     /// How many events were taken.
@@ -81,6 +104,13 @@ impl Engine {
         ensures { result ≡ facts_at cid.0 (facts_of self.now.machine) }
     {
         self.machine.facts(cid)
+    }
+
+    /// What is known of the peer with an address. None where there is none.
+    pub fn peer(&self, addr: Addr) -> Option<Peer>
+        ensures { result ≡ peer_at addr self.now.machine }
+    {
+        self.machine.peer(addr)
     }
 
     /// How many peers and connections there are.

@@ -1,8 +1,9 @@
 ghost use Rattle.std.specs.Prelude.{◌≡◌, ◌≤◌, ◌+◌, ◌^◌, OnOk, IfOk};
 ghost use Rattle.conn_state.specs.Use.{facts_at};
-ghost use Rattle.laws.specs.Sound.{IsOrderly};
-ghost use Rattle.machine.specs.Events.{step};
+ghost use Rattle.laws.specs.Whole.{IsSteady};
 ghost use Rattle.machine.specs.Machine.{start_of, facts_of};
+ghost use Rattle.machine.specs.Peers.{peer_at};
+ghost use Rattle.machine.specs.Step.{step};
 ghost use Rattle.net_base.specs.Bounds.{AreSound};
 ghost use Rattle.net_base.specs.Limits.{IsWithinLimits};
 ghost use Rattle.node_engine.specs.State.{Does};
@@ -33,9 +34,10 @@ mod turns;
 
 use crate::{Connections, Tally};
 use net_base::{
-    ActionList, BigTargets, Cid, Event, Facts, OutOfMemory, Sequence, Settings, Targets,
+    ActionList, Addr, BigTargets, Cid, Event, Facts, OutOfMemory, Peer, Sequence, Settings, Targets,
 };
 use peer_book::PeerBook;
+use pick_policy::{Picker, RankedPicker};
 use root_groups::{Groups, Roots};
 use std::alloc::Global;
 use std::marker::Model;
@@ -93,31 +95,56 @@ impl NodeState {
     }
 
     /// What happens to the node, and what it does about it.
-    pub(crate) fn handle(&mut self, event: Event) -> Result<ActionList, OutOfMemory>
-        requires orderly { IsOrderly self.old }
-        requires few_ids { self.old.next_id ≤ 2 ^ 48 }
-        requires within { IsWithinLimits event }
-        ensures machine { OnOk result (self.new ≡ (step self.old event).machine) }
-        ensures actions { IfOk result (λ actions. actions ≡ (step self.old event).actions) }
+    pub(crate) fn handle(
+        &mut self,
+        event: &Event,
+        picker: &Picker,
+        ranked: &RankedPicker,
+    ) -> Result<ActionList, OutOfMemory>
+        requires steady { IsSteady self.old }
+        requires few_ids { self.old.next_id + 60000 ≤ 2 ^ 48 }
+        requires few_jobs { self.old.roots.next_job ≤ 2 ^ 48 }
+        requires within { IsWithinLimits event.now }
+        ensures machine { OnOk result (self.new ≡ (step self.old event.now).machine) }
+        ensures actions { IfOk result (λ actions. actions ≡ (step self.old event.now).actions) }
     {
         let mut actions = Sequence::new(self.alloc);
-        self.respond(event, &mut actions)?;
+        self.respond(event, picker, ranked, &mut actions)?;
         Ok(actions)
     }
 
     // What happens to the node, with what it does about it behind the actions before.
-    fn respond(&mut self, event: Event, actions: &mut ActionList) -> Result<(), OutOfMemory>
-        requires orderly { IsOrderly self.old }
-        requires few_ids { self.old.next_id ≤ 2 ^ 48 }
-        requires within { IsWithinLimits event }
-        ensures { OnOk result (Does (step self.old event) actions.old self.new actions.new) }
+    fn respond(
+        &mut self,
+        event: &Event,
+        picker: &Picker,
+        ranked: &RankedPicker,
+        actions: &mut ActionList,
+    ) -> Result<(), OutOfMemory>
+        requires steady { IsSteady self.old }
+        requires few_ids { self.old.next_id + 60000 ≤ 2 ^ 48 }
+        requires few_jobs { self.old.roots.next_job ≤ 2 ^ 48 }
+        requires within { IsWithinLimits event.now }
+        ensures { OnOk result (Does (step self.old event.now) actions.old self.new actions.new) }
     {
         match event {
-            Event::Now(moment) => self.clock_shows(moment, actions),
-            Event::Accepted(addr) => self.accept(addr, actions),
-            Event::Closed(cid) => self.close(cid, actions),
-            // The machine does not handle the others yet.
-            _ => Ok(()),
+            Event::Now(moment) => self.clock_shows(*moment, actions),
+            Event::Govern(word) => self.govern(*word, picker, ranked, actions),
+            Event::Accepted(addr) => self.accept(*addr, actions),
+            Event::Dialed(cid, opened) => self.dial_ends(*cid, *opened, actions),
+            Event::Bytes(cid, bytes) => self.bytes_come_in(*cid, bytes.as_slice(), actions),
+            Event::Closed(cid) => self.close(*cid, actions),
+            Event::Aims(targets) => {
+                self.targets_are(*targets);
+                Ok(())
+            }
+            Event::Locals(groups) => self.locals_are(groups, actions),
+            Event::Roots(job, answer) => self.roots_answer(*job, answer, actions),
+            Event::BigAims(targets) => {
+                self.big_targets_are(*targets);
+                Ok(())
+            }
+            Event::Bigs(addrs) => self.bigs_are(addrs.as_slice(), actions),
         }
     }
 
@@ -134,6 +161,13 @@ impl NodeState {
         ensures { result ≡ facts_at cid.0 (facts_of self.now) }
     {
         self.connections.facts(cid)
+    }
+
+    /// What is known of a peer. None where there is none with the address.
+    pub(crate) fn peer(&self, addr: Addr) -> Option<Peer>
+        ensures { result ≡ peer_at addr self.now }
+    {
+        self.book.get(addr)
     }
 
     /// How many peers and connections there are.

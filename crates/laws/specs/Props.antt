@@ -1,0 +1,25 @@
+-- That a record is steady has one proof at most, so a struct may keep it.
+use Rattle.std.specs.Prelude.{ℕ, List, [], ◌∷◌, Option, Some, None}
+use Rattle.std.specs.Coded.{×_prop, Unit-prop}
+use Rattle.std.proofs.Props.{props}
+use Rattle.net_base.specs.declared.address.Addr.{Addr}
+use Rattle.net_base.specs.declared.peer.Peer.{Peer}
+use Rattle.machine.specs.Machine.{Machine, Entry}
+use Rattle.laws.specs.Whole.{ArePeersApart, AreApart, TiedBy, IsSteady}
+
+ArePeersApart-prop : (peers : List Peer) → IsProp (ArePeersApart peers)
+ArePeersApart-prop [] = Unit-prop
+ArePeersApart-prop (p ∷ peers) = ×_prop (hlevel props) (ArePeersApart-prop peers)
+
+AreApart-prop : (addrs : List Addr) → IsProp (AreApart addrs)
+AreApart-prop [] = Unit-prop
+AreApart-prop (a ∷ addrs) = ×_prop (hlevel props) (AreApart-prop addrs)
+
+TiedBy-prop : (now : ℕ) (o : Option Peer) (e : Option Entry) → IsProp (TiedBy now o e)
+TiedBy-prop now None None = Unit-prop
+TiedBy-prop now (Some p) None = hlevel props
+TiedBy-prop now None (Some e) = hlevel props
+TiedBy-prop now (Some p) (Some e) = hlevel props
+
+pub IsSteady-prop : (m : Machine) → IsProp (IsSteady m)
+IsSteady-prop m = hlevel (props, ArePeersApart-prop, AreApart-prop, TiedBy-prop)
