@@ -35,7 +35,7 @@ use Rattle.trace_text.proofs.Spelled.{IsNext, IsBetween, Always, same_bytes, num
 
 -- ---- the end of a line
 
-ended_at : (place : ℕ) (words : List (List ℕ)) (end : Unit {0}) → no_words place words ≡ Ok end → words ≡ []
+pub ended_at : (place : ℕ) (words : List (List ℕ)) (end : Unit {0}) → no_words place words ≡ Ok end → words ≡ []
 ended_at place [] end h = refl
 ended_at place (word ∷ words) end h = absurd cc
 
@@ -55,7 +55,7 @@ an_id unread rest n h = let r = a_number 0 id_most (lit< tt) unread rest n h in 
 an_outcome : (unread rest : Unread) (b : Bool) → next_read outcome_of BadWord unread ≡ Ok (b, rest) → unread.words ≡ outcome_word b ∷ rest.words
 an_outcome unread rest b h = (next_only outcome_of BadWord outcome_word Always outcomes unread rest b h).words
 
-abbrev after_first : List ℕ → List (List ℕ) → List (List ℕ)
+abbrev pub after_first : List ℕ → List (List ℕ) → List (List ℕ)
 after_first word words = word ∷ words
 
 module _ (version : ℕ) where
@@ -333,7 +333,7 @@ module _ (version : ℕ) where
 
   -- ---- a whole line
 
-  first_only : (place : ℕ) (words : List (List ℕ)) (name : List ℕ) (rest : Unread) → first_word place words ≡ Ok (name, rest) → words ≡ name ∷ rest.words
+  pub first_only : (place : ℕ) (words : List (List ℕ)) (name : List ℕ) (rest : Unread) → first_word place words ≡ Ok (name, rest) → words ≡ name ∷ rest.words
   first_only place [] name rest h = absurd cc
   first_only place (word ∷ words) name rest h =
       let p = ok_parts (word, record { words = words; place = place + 1 }) (name, rest) h in
@@ -357,7 +357,7 @@ module _ (version : ℕ) where
 
 -- ---- an event line says an event, and nothing else
 
-abbrev IsHappening : Line → Type 0
+abbrev pub IsHappening : Line → Type 0
 IsHappening (Head head) = ⊥
 IsHappening (Happen event) = Unit {0}
 IsHappening Acted = ⊥
@@ -405,7 +405,7 @@ module _ (version : ℕ) (unread : Unread) where
       (IfOk-chain (next_number 1 interval_most s.1) _ (λ t. one_event (λ m. m.1) (λ m. Roots (record { 0 = r.0 }) (Found t.0 m.0)) (next_addresses version t.1)))
       (IfOk-chain (no_more s.1) _ (λ _. tt))))
 
-  event_happens : (name : List ℕ) → IfOk (event_line version name unread) IsHappening
+  pub event_happens : (name : List ℕ) → IfOk (event_line version name unread) IsHappening
   event_happens name =
       IfOk-cond (bytes_eq name (codes "now")) _ _ (one_event (λ r. r.1) (λ r. Now r.0) (next_number 0 id_most unread)) (
       IfOk-cond (bytes_eq name (codes "govern")) _ _ (one_event (λ r. r.1) (λ r. Govern r.0) (next_number 0 word_most unread)) (
