@@ -2,12 +2,14 @@
 use Rattle.std.proofs.Common.{◌≡◌, ℕ, zero, suc, ◌+◌, ◌-◌, ◌^◌, ◌<◌, ◌≤◌, Bool, true, false, cond, eqb, leb, List, [], ◌∷◌, length, get_or, Option, Some, None, Result, Ok, Err, IfOk, ◌⊎◌, inl, inr, refl, sym, ap, ◌∙◌, subst, arith, leb-true, leb-false, eqb-true}
 use Rattle.std.specs.Prelude.{codes, bytes_eq}
 use Rattle.std.specs.Option.{ok_or}
+use Rattle.net_base.specs.Limits.{IsWithinLimits}
 use Rattle.net_base.specs.Number.{number_of, number_up_to, up_to}
 use Rattle.net_base.specs.declared.address.Addr.{Addr}
 use Rattle.net_base.specs.declared.event.Event.{Event}
-use Rattle.net_base.specs.declared.event.Event.TheVariants.{Now, Govern, Accepted, Dialed, Bytes, Closed, Aims, Locals, Roots, BigAims, Bigs}
 use Rattle.trace_text.specs.Addresses.{address_of}
-use Rattle.trace_text.specs.Lines.{◌>>=◌, first_word, next_word, next_read, from_least, next_number, next_address, no_words, no_more, this_word, version_of, first_line, second_line, setting_line, set_line, id_most, now_line, accepted_line, closed_line, end_line, is_unbuilt, later_line, is_action_line, line_of}
+use Rattle.trace_text.specs.Events.{event_line}
+use Rattle.trace_text.specs.Lines.{version_of, first_line, second_line, setting_line, set_line, end_line, is_unbuilt, later_line, is_action_line, line_of}
+use Rattle.trace_text.specs.Reading.{◌>>=◌, first_word, next_word, next_read, from_least, next_number, next_address, no_words, no_more, this_word}
 use Rattle.trace_text.specs.Settings.{Setting, setting, settings_under, setting_from, setting_of}
 use Rattle.trace_text.specs.Words.{Unread, words_of}
 use Rattle.trace_text.specs.declared.line.HeadLine.{HeadLine}
@@ -17,6 +19,7 @@ use Rattle.trace_text.specs.declared.line.Line.TheVariants.{Head, Happen, Acted,
 use Rattle.trace_text.specs.declared.line.LineRefusal.{LineRefusal}
 use Rattle.trace_text.specs.declared.line.LineRefusal.TheVariants.{BadWord, BadNumber, OutOfOrder, NotBuilt}
 use Rattle.trace_text.specs.declared.stage.Stage.{Stage}
+use Rattle.trace_text.proofs.ReadEvents.{event_line-is}
 use Rattle.trace_replay.specs.Reading.{said_at}
 
 -- ---- a chain of readings
@@ -118,23 +121,9 @@ IsHeadAt stage (Trace version) = (stage.seen ≡ 0) × (1 ≤ version) × (versi
 IsHeadAt stage (Own address) = stage.seen ≡ 1
 IsHeadAt stage (Set place value) = IsSetAt stage place value
 
--- what an event line says
-abbrev pub IsEventSaid : Event → Type 0
-IsEventSaid (Now moment) = moment ≤ 2 ^ 48
-IsEventSaid (Govern word) = ⊥
-IsEventSaid (Accepted address) = Unit {0}
-IsEventSaid (Dialed cid opened) = ⊥
-IsEventSaid (Bytes cid bytes) = ⊥
-IsEventSaid (Closed cid) = cid.0 ≤ 2 ^ 48
-IsEventSaid (Aims targets) = ⊥
-IsEventSaid (Locals groups) = ⊥
-IsEventSaid (Roots job answer) = ⊥
-IsEventSaid (BigAims targets) = ⊥
-IsEventSaid (Bigs addresses) = ⊥
-
 abbrev pub IsLineAt : Stage → Line → Type 0
 IsLineAt stage (Head head) = IsHeadAt stage head
-IsLineAt stage (Happen event) = IsBehindHead stage × IsEventSaid event
+IsLineAt stage (Happen event) = IsBehindHead stage × IsWithinLimits event
 IsLineAt stage Acted = IsBehindHead stage
 IsLineAt stage End = IsBehindHead stage
 
@@ -196,22 +185,7 @@ set_line-is stage unread behind = in_events stage.events refl
         IfOk-chain (IsLineAt stage) (next_read (setting_of stage.hard) BadWord unread) _ (λ p e.
         in_order p.0 p.1 is (next_read-word (setting_of stage.hard) BadWord unread p e) (leb p.0.0 stage.last) refl)
 
--- ---- events, and the end
-
-now_line-is : (stage : Stage) (unread : Unread) → IsBehindHead stage → IfOk (now_line unread) (IsLineAt stage)
-now_line-is stage unread behind =
-    IfOk-chain (IsLineAt stage) (next_number 0 id_most unread) _ (λ p e.
-    IfOk-chain (IsLineAt stage) (no_more p.1) _ (λ _ _. (behind, (next_number-range 0 id_most unread p e).1)))
-
-accepted_line-is : (stage : Stage) (unread : Unread) → IsBehindHead stage → IfOk (accepted_line stage.version unread) (IsLineAt stage)
-accepted_line-is stage unread behind =
-    IfOk-chain (IsLineAt stage) (next_address stage.version unread) _ (λ p _.
-    IfOk-chain (IsLineAt stage) (no_more p.1) _ (λ _ _. (behind, tt)))
-
-closed_line-is : (stage : Stage) (unread : Unread) → IsBehindHead stage → IfOk (closed_line unread) (IsLineAt stage)
-closed_line-is stage unread behind =
-    IfOk-chain (IsLineAt stage) (next_number 0 id_most unread) _ (λ p e.
-    IfOk-chain (IsLineAt stage) (no_more p.1) _ (λ _ _. (behind, (next_number-range 0 id_most unread p e).1)))
+-- ---- the end
 
 end_line-is : (stage : Stage) (unread : Unread) → IsBehindHead stage → IfOk (end_line unread) (IsLineAt stage)
 end_line-is stage unread behind = IfOk-chain (IsLineAt stage) (no_more unread) _ (λ _ _. behind)
@@ -228,11 +202,9 @@ later_line-is stage unread behind =
     let P : Line → Type 0 = IsLineAt stage in
     let word = p.0 in
     IfOk-cond P (bytes_eq word (codes "set")) _ _ (set_line-is stage p.1 behind) (
-    IfOk-cond P (bytes_eq word (codes "now")) _ _ (now_line-is stage p.1 behind) (
-    IfOk-cond P (bytes_eq word (codes "accepted")) _ _ (accepted_line-is stage p.1 behind) (
-    IfOk-cond P (bytes_eq word (codes "closed")) _ _ (closed_line-is stage p.1 behind) (
     IfOk-cond P (bytes_eq word (codes "end")) _ _ (end_line-is stage p.1 behind) (
-    IfOk-cond P (is_unbuilt stage.version word) _ _ tt tt))))))
+    IfOk-cond P (is_unbuilt stage.version word) _ _ tt (
+    event_line-is stage.version p.1 P (λ _ limits. (behind, limits)) word))))
 
 line_of-is : (stage : Stage) (line : List ℕ) → IfOk (line_of stage line) (IsLineAt stage)
 line_of-is stage line = in_first (eqb stage.seen 0) refl

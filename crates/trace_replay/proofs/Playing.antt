@@ -29,7 +29,7 @@ use Rattle.trace_replay.specs.Playback.{machine_or, events_taken, machine_before
 use Rattle.trace_replay.specs.declared.stop.Stop.{Stop}
 use Rattle.trace_replay.specs.declared.stop.Stop.TheVariants.{Ended, Refused, TooLong, OutOfMemory}
 use Rattle.trace_replay.specs.declared.playback.Playback.{Playback}
-use Rattle.trace_replay.proofs.Grammar.{IsHeadAt, IsEventSaid, IsLineAt, said_at-is}
+use Rattle.trace_replay.proofs.Grammar.{IsHeadAt, IsLineAt, said_at-is}
 use Rattle.trace_replay.proofs.Heads.{AreSound-heads}
 use Rattle.trace_replay.proofs.Readings.{stage_behind-push, heads_in-append, events_in-append, IsFront, AreFront, AreFront-passed, no_events_before_head}
 use Rattle.trace_replay.proofs.Judging.{verdict_at-short, ArePassed-none, ArePassed-more}
@@ -248,22 +248,9 @@ IsSaid-from stage text (Err OutOfOrder) is = sym is
 IsSaid-from stage text (Err NotBuilt) is = sym is
 IsSaid-from stage text (Err NoMemory) is = tt
 
-within_limits : (event : Event) → IsEventSaid event → IsWithinLimits event
-within_limits (Now moment) h = h
-within_limits (Govern word) h = tt
-within_limits (Accepted address) h = tt
-within_limits (Dialed cid opened) h = absurd h
-within_limits (Bytes cid bytes) h = absurd h
-within_limits (Closed cid) h = h
-within_limits (Aims targets) h = absurd h
-within_limits (Locals groups) h = absurd h
-within_limits (Roots job answer) h = absurd h
-within_limits (BigAims targets) h = absurd h
-within_limits (Bigs addresses) h = tt
-
 line_within : (stage : Stage) (line : Line) → IsLineAt stage line → IsLineWithin line
 line_within stage (Head head) at = tt
-line_within stage (Happen event) at = within_limits event at.1
+line_within stage (Happen event) at = at.1
 line_within stage Acted at = tt
 line_within stage End at = tt
 

@@ -71,7 +71,7 @@ cut_head s = cut_lines (head_lines s) (one_lines s)
 
 -- ---- what the lines say
 
-first_again : (version : ℕ) → IsBetween 1 2 version → line_of first_stage (join_with_byte 32 (codes "trace" ∷ decimal version ∷ [])) ≡ Ok (Head (Trace version))
+pub first_again : (version : ℕ) → IsBetween 1 2 version → line_of first_stage (join_with_byte 32 (codes "trace" ∷ decimal version ∷ [])) ≡ Ok (Head (Trace version))
 unfolding digits
 first_again version h = elim (cases_eq version 1) [
   | inl one ↦ rw one refl
@@ -82,7 +82,7 @@ first_again version h = elim (cases_eq version 1) [
 abbrev at_stage : ℕ → ℕ → ℕ → ℕ → Stage
 at_stage version seen last hard = record { version = version; seen = seen; last = last; hard = hard; events = false }
 
-second_again : (version : ℕ) (own : Addr) → IsAddress own → knows_family version own.ip ≡ true →
+pub second_again : (version : ℕ) (own : Addr) → IsAddress own → knows_family version own.ip ≡ true →
     line_of (at_stage version 1 0 512) (join_with_byte 32 (codes "own" ∷ printed_address own ∷ [])) ≡ Ok (Head (Own own))
 second_again version own fits family =
     ap (λ (words : List (List ℕ)). second_line version (record { words = words; place = 1 }))
@@ -98,7 +98,7 @@ module _ (stage : Stage) where
       ((ok_or o (BadWord 2) >>= λ found. Ok (found, record { words = decimal value ∷ []; place = 3 })) >>= behind_name) ≡ Ok (Head (Set place value))
   found_again o name place least most value found after read = rw (found, after, read) refl
 
-set_again : (version last hard : ℕ) (name : List ℕ) (place least most value : ℕ) → OneWord name → setting_of hard name ≡ Some (place, setting name least most) → leb place last ≡ false →
+pub set_again : (version last hard : ℕ) (name : List ℕ) (place least most value : ℕ) → OneWord name → setting_of hard name ≡ Some (place, setting name least most) → leb place last ≡ false →
     most < 2 ^ 64 → IsBetween least most value → line_of (at_stage version 2 last hard) (printed_setting name value) ≡ Ok (Head (Set place value))
 set_again version last hard name place least most value one found after fits h =
     ap (λ (words : List (List ℕ)). later_line (at_stage version 2 last hard) (record { words = words; place = 1 }))

@@ -10,6 +10,7 @@ pub mod Groups
 pub mod HeadLaws
 pub mod HexPieces
 pub mod Ips
+pub mod LineLaws
 pub mod Lists
 pub mod Numerals
 pub mod Octets

@@ -75,7 +75,7 @@ answer_one : (answer : RootAnswer) → AllByRecursion OneWord (answer_words answ
 answer_one (Found ttl members) = (outcome_one true, (number_word ttl, addresses_words members))
 answer_one Failed = (outcome_one false, tt)
 
-words_one : (event : Event) → AllByRecursion OneWord (event_words event)
+pub words_one : (event : Event) → AllByRecursion OneWord (event_words event)
 words_one (Now t) = (text_word (codes "now") refl, (number_word t, tt))
 words_one (Govern word) = (text_word (codes "govern") refl, (number_word word, tt))
 words_one (Accepted address) = (text_word (codes "accepted") refl, (address_word address, tt))
@@ -155,7 +155,7 @@ module _ (version : ℕ) where
   abbrev read_words : List (List ℕ) → Result Line LineRefusal
   read_words words = next_word (record { words = words; place = 1 }) >>= λ r. event_line version r.0 r.1
 
-  again : (event : Event) → IsWithinLimits event → IsEventIn version event → read_words (event_words event) ≡ Ok (Happen event)
+  pub again : (event : Event) → IsWithinLimits event → IsEventIn version event → read_words (event_words event) ≡ Ok (Happen event)
   again (Now t) limits known = rw (id_again t limits) refl
   again (Govern word) limits known = rw ((numbers 0 word_most (lit< tt)).again word (omega arith, omega (arith, known))) refl
   again (Accepted address) limits known = rw ((addresses version).again address known) refl
@@ -174,7 +174,7 @@ module _ (version : ℕ) where
   again (Bigs members) limits known = let m = members_again members 2 known.1 in rw (eq-eqb version 2 known.0, m.1) refl
 
   -- words that are joined are cut into themselves, where they are read at all
-  pieces_again : (words : List (List ℕ)) (event : Event) → AllByRecursion OneWord words → read_words words ≡ Ok (Happen event) → pieces_of 32 (join_with_byte 32 words) ≡ words
+  pub pieces_again : (words : List (List ℕ)) (event : Event) → AllByRecursion OneWord words → read_words words ≡ Ok (Happen event) → pieces_of 32 (join_with_byte 32 words) ≡ words
   pieces_again [] event apart h = absurd cc
   pieces_again (word ∷ words) event apart h = pieces_of-join 32 word words (tested (word ∷ words) apart)
 

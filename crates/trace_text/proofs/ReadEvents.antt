@@ -1,6 +1,6 @@
 -- A line that is read as an event is printed of that event.
 use Rattle.std.proofs.Common.{◌≡◌, ℕ, ◌+◌, ◌^◌, ◌<◌, ◌≤◌, Bool, true, false, ◌&&◌, cond, eqb, leb, List, [], ◌∷◌, ◌++◌, length, map, Option, Some, None, decimal, refl, sym, ap, subst, ◌∙◌, arith, lit<}
-use Rattle.std.specs.Prelude.{codes, bytes_eq, Result, Ok, Err}
+use Rattle.std.specs.Prelude.{codes, bytes_eq, Result, Ok, Err, IfOk}
 use Rattle.std.specs.List.{AllByRecursion, flat_map, join_with_byte}
 use Rattle.std.proofs.lemmas.Bool.{cond_both, and_parts, and_from, eqb-true, le-leb}
 use Rattle.std.proofs.lemmas.List.{append-nil}
@@ -19,7 +19,7 @@ use Rattle.net_base.specs.declared.settings.Field.{Field}
 use Rattle.net_base.specs.declared.targets.BigTargets.{BigTargets}
 use Rattle.net_base.specs.declared.targets.Targets.{Targets}
 use Rattle.trace_text.specs.declared.line.Line.{Line}
-use Rattle.trace_text.specs.declared.line.Line.TheVariants.{Happen}
+use Rattle.trace_text.specs.declared.line.Line.TheVariants.{Head, Happen, Acted, End}
 use Rattle.trace_text.specs.declared.line.LineRefusal.{LineRefusal}
 use Rattle.trace_text.specs.declared.line.LineRefusal.TheVariants.{BadWord, BadNumber}
 use Rattle.trace_text.specs.Addresses.{address_of, printed_address}
@@ -35,7 +35,7 @@ use Rattle.trace_text.proofs.Spelled.{IsNext, IsBetween, Always, same_bytes, num
 
 -- ---- the end of a line
 
-ended_at : (place : ℕ) (words : List (List ℕ)) (end : Unit {0}) → no_words place words ≡ Ok end → words ≡ []
+pub ended_at : (place : ℕ) (words : List (List ℕ)) (end : Unit {0}) → no_words place words ≡ Ok end → words ≡ []
 ended_at place [] end h = refl
 ended_at place (word ∷ words) end h = absurd cc
 
@@ -55,7 +55,7 @@ an_id unread rest n h = let r = a_number 0 id_most (lit< tt) unread rest n h in 
 an_outcome : (unread rest : Unread) (b : Bool) → next_read outcome_of BadWord unread ≡ Ok (b, rest) → unread.words ≡ outcome_word b ∷ rest.words
 an_outcome unread rest b h = (next_only outcome_of BadWord outcome_word Always outcomes unread rest b h).words
 
-abbrev after_first : List ℕ → List (List ℕ) → List (List ℕ)
+abbrev pub after_first : List ℕ → List (List ℕ) → List (List ℕ)
 after_first word words = word ∷ words
 
 module _ (version : ℕ) where
@@ -333,7 +333,7 @@ module _ (version : ℕ) where
 
   -- ---- a whole line
 
-  first_only : (place : ℕ) (words : List (List ℕ)) (name : List ℕ) (rest : Unread) → first_word place words ≡ Ok (name, rest) → words ≡ name ∷ rest.words
+  pub first_only : (place : ℕ) (words : List (List ℕ)) (name : List ℕ) (rest : Unread) → first_word place words ≡ Ok (name, rest) → words ≡ name ∷ rest.words
   first_only place [] name rest h = absurd cc
   first_only place (word ∷ words) name rest h =
       let p = ok_parts (word, record { words = words; place = place + 1 }) (name, rest) h in
@@ -354,3 +354,78 @@ module _ (version : ℕ) where
         limits = told.limits;
         known = told.known;
       }
+
+-- ---- an event line says an event, and nothing else
+
+abbrev pub IsHappening : Line → Type 0
+IsHappening (Head head) = ⊥
+IsHappening (Happen event) = Unit {0}
+IsHappening Acted = ⊥
+IsHappening End = ⊥
+
+IfOk-chain : {A : Type 0} (r : Result A LineRefusal) (f : A → Result Line LineRefusal) → ((x : A) → IfOk (f x) IsHappening) → IfOk (r >>= f) IsHappening
+IfOk-chain (Ok x) f h = h x
+IfOk-chain (Err refusal) f h = tt
+
+IfOk-cond : (b : Bool) (r s : Result Line LineRefusal) → IfOk r IsHappening → IfOk s IsHappening → IfOk (cond b r s) IsHappening
+IfOk-cond true r s h k = h
+IfOk-cond false r s h k = k
+
+one_event : {A : Type 0} (rest : A → Unread) (event : A → Event) (r : Result A LineRefusal) → IfOk (r >>= λ x. no_more (rest x) >>= λ end. Ok (Happen (event x))) IsHappening
+one_event rest event r = IfOk-chain r _ (λ x. IfOk-chain (no_more (rest x)) _ (λ _. tt))
+
+module _ (version : ℕ) (unread : Unread) where
+  dialed_happens : IfOk (dialed_line unread) IsHappening
+  dialed_happens = IfOk-chain (next_number 0 id_most unread) _ (λ r. one_event (λ s. s.1) (λ s. Dialed (record { 0 = r.0 }) s.0) (next_read outcome_of BadWord r.1))
+
+  bytes_happens : IfOk (bytes_line unread) IsHappening
+  bytes_happens = IfOk-chain (next_number 0 id_most unread) _ (λ r. one_event (λ s. s.1) (λ s. Bytes (record { 0 = r.0 }) s.0) (next_read piece_of BadWord r.1))
+
+  tested_happens : (fault : Option Field) (rest : Unread) (event : Event) → IfOk (in_bounds fault >>= λ tested. no_more rest >>= λ end. Ok (Happen event)) IsHappening
+  tested_happens fault rest event = IfOk-chain (in_bounds fault) _ (λ _. IfOk-chain (no_more rest) _ (λ _. tt))
+
+  targets_happens : IfOk (targets_line unread) IsHappening
+  targets_happens =
+      IfOk-chain (next_number 0 id_most unread) _ (λ r.
+      IfOk-chain (next_number 0 id_most r.1) _ (λ k.
+      IfOk-chain (next_number 0 id_most k.1) _ (λ e.
+      IfOk-chain (next_number 0 id_most e.1) _ (λ a. tested_happens _ a.1 _))))
+
+  big_targets_happens : IfOk (big_targets_line unread) IsHappening
+  big_targets_happens =
+      IfOk-chain (next_number 0 id_most unread) _ (λ k.
+      IfOk-chain (next_number 0 id_most k.1) _ (λ e.
+      IfOk-chain (next_number 0 id_most e.1) _ (λ a. tested_happens _ a.1 _)))
+
+  roots_happens : IfOk (roots_line version unread) IsHappening
+  roots_happens =
+      IfOk-chain (next_number 0 id_most unread) _ (λ r.
+      IfOk-chain (next_read outcome_of BadWord r.1) _ (λ s.
+      IfOk-cond s.0 (roots_found version r.0 s.1) (roots_failed r.0 s.1)
+      (IfOk-chain (next_number 1 interval_most s.1) _ (λ t. one_event (λ m. m.1) (λ m. Roots (record { 0 = r.0 }) (Found t.0 m.0)) (next_addresses version t.1)))
+      (IfOk-chain (no_more s.1) _ (λ _. tt))))
+
+  pub event_happens : (name : List ℕ) → IfOk (event_line version name unread) IsHappening
+  event_happens name =
+      IfOk-cond (bytes_eq name (codes "now")) _ _ (one_event (λ r. r.1) (λ r. Now r.0) (next_number 0 id_most unread)) (
+      IfOk-cond (bytes_eq name (codes "govern")) _ _ (one_event (λ r. r.1) (λ r. Govern r.0) (next_number 0 word_most unread)) (
+      IfOk-cond (bytes_eq name (codes "accepted")) _ _ (one_event (λ r. r.1) (λ r. Accepted r.0) (next_address version unread)) (
+      IfOk-cond (bytes_eq name (codes "dialed")) _ _ dialed_happens (
+      IfOk-cond (bytes_eq name (codes "bytes")) _ _ bytes_happens (
+      IfOk-cond (bytes_eq name (codes "closed")) _ _ (one_event (λ r. r.1) (λ r. Closed (record { 0 = r.0 })) (next_number 0 id_most unread)) (
+      IfOk-cond (bytes_eq name (codes "targets")) _ _ targets_happens (
+      IfOk-cond (bytes_eq name (codes "locals")) _ _ (IfOk-chain (all_groups version unread) _ (λ _. tt)) (
+      IfOk-cond (bytes_eq name (codes "roots")) _ _ roots_happens (
+      IfOk-cond (eqb version 2 && bytes_eq name (codes "bigtargets")) _ _ big_targets_happens (
+      IfOk-cond (eqb version 2 && bytes_eq name (codes "bigs")) _ _ (one_event (λ r. r.1) (λ r. Bigs r.0) (next_addresses version unread)) tt))))))))))
+
+  -- what holds of each event within the limits holds of what an event line says
+  pub event_line-is : (P : Line → Type 0) → ((event : Event) → IsWithinLimits event → P (Happen event)) → (name : List ℕ) → IfOk (event_line version name unread) P
+  event_line-is P each name = go (event_line version name unread) refl (event_happens name)
+    where
+      go : (r : Result Line LineRefusal) → event_line version name unread ≡ r → IfOk r IsHappening → IfOk r P
+      go (Ok (Happen event)) e h = each event (event_told version name unread event e).limits
+      go (Ok (Head head)) e h = absurd h
+      go (Ok Acted) e h = absurd h
+      go (Ok End) e h = absurd h
+      go (Err refusal) e h = tt

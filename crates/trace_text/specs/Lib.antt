@@ -5,6 +5,7 @@ pub mod Events
 pub mod HeadTexts
 pub mod Lines
 pub mod Reading
+pub mod Says
 pub mod Settings
 pub mod Stages
 pub mod Views

@@ -9,6 +9,8 @@ ghost use Rattle.trace_text.specs.EventTexts.{event_of, printed_event, IsEventIn
 ghost use Rattle.trace_text.specs.declared.stage.Stage.{Stage};
 ghost use Rattle.trace_text.specs.Addresses.{IsAddress, address_of, knows_family, printed_address};
 ghost use Rattle.trace_text.specs.HeadTexts.{AreRead, head_lines, head_said, printed_head};
+ghost use Rattle.trace_text.specs.Says.{Says};
+ghost use Rattle.trace_text.specs.declared.line.Line.{Line};
 ghost use Rattle.trace_text.specs.Stages.{first_stage};
 ghost use Rattle.trace_text.specs.Words.{pieces_of};
 ghost use Rattle.trace_text.specs.Actions.{printed_action};
@@ -49,6 +51,14 @@ pub fn actions_are_lines()
     ensures one_line { (action : Action) → ¬ (Contains (printed_action action) 10) }
     ensures acted { (stage : Stage) (action : Action)
         → 2 ≤ stage.seen → line_of stage (printed_action action) ≡ Ok Acted }
+{}
+
+/// A law: a line says something at a stage exactly where it is the spelling of that.
+pub fn lines_are_spelled_once()
+    ensures told { (stage : Stage) (line : List ℕ) (said : Line)
+        → stage.hard < 2 ^ 64 → line_of stage line ≡ Ok said → Says stage line said }
+    ensures read { (stage : Stage) (line : List ℕ) (said : Line)
+        → stage.hard < 2 ^ 64 → Says stage line said → line_of stage line ≡ Ok said }
 {}
 
 /// A law: a printed head is cut into its lines at the line feeds, and each of them is read as what it is printed of.
