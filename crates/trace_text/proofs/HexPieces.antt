@@ -105,8 +105,7 @@ piece_only word bytes e =
     let ok = decode_of-ok word bytes read in
     let least = leb-true 2 (length word) some in
     let most = leb-true (length word) 131072 short in
-    let twice = ok.2 in
-    (
+    let twice = ok.2 in (
       pairs_again 0 word bytes lower (sym (decode_of-even word ok.0) ∙ read),
       record {
         piece = (omega (arith, twice, least), omega (arith, twice, most));

@@ -219,8 +219,7 @@ module _ (version : ℕ) where
   last_addresses : (unread rest : Unread) (members : List Addr) → next_addresses version unread ≡ Ok (members, rest) → rest.words ≡ [] →
       (unread.words ≡ map printed_address members) × AreKnownIn version members
   last_addresses unread rest members h e =
-      let r = addresses_only version unread.place unread.words members rest h in
-      (
+      let r = addresses_only version unread.place unread.words members rest h in (
         r.spelled ∙ ap (λ (ws : List (List ℕ)). map printed_address members ++ ws) e ∙ append-nil (map printed_address members),
         All-from_recursion (IsKnownIn version) members r.known,
       )
@@ -255,12 +254,12 @@ module _ (version : ℕ) where
       let members = bound (next_addresses version ttl.value.1) (behind_members job ttl.value.0) (Happen event) ttl.after in
       let n = a_number 1 interval_most (lit< tt) rest ttl.value.1 ttl.value.0 ttl.before in
       closed_by (codes "roots") unread.words members.value.1 (Roots (record { 0 = job }) (Found ttl.value.0 members.value.0)) event members.after (λ e.
-        let m = last_addresses ttl.value.1 members.value.1 members.value.0 members.before e in
-        record {
-          spelled = ap (after_first (codes "roots")) (front ∙ ap (λ (ws : List (List ℕ)). decimal job ∷ outcome_word true ∷ ws) (n.0 ∙ ap (after_first (decimal ttl.value.0)) m.0));
-          limits = (small, in_range 1 interval_most ttl.value.0 n.1);
-          known = m.1;
-        })
+      let m = last_addresses ttl.value.1 members.value.1 members.value.0 members.before e in
+      record {
+        spelled = ap (after_first (codes "roots")) (front ∙ ap (λ (ws : List (List ℕ)). decimal job ∷ outcome_word true ∷ ws) (n.0 ∙ ap (after_first (decimal ttl.value.0)) m.0));
+        limits = (small, in_range 1 interval_most ttl.value.0 n.1);
+        known = m.1;
+      })
 
   failed_told : (unread : Unread) (job : ℕ) (rest : Unread) (event : Event) → unread.words ≡ decimal job ∷ outcome_word false ∷ rest.words → job ≤ 2 ^ 48 →
       roots_failed job rest ≡ Ok (Happen event) → IsTold (codes "roots") unread.words event
@@ -288,8 +287,8 @@ module _ (version : ℕ) where
   bigs_told two unread event h =
       let t = bound (next_addresses version unread) (λ r. no_more r.1 >>= λ end. Ok (Happen (Bigs r.0))) (Happen event) h in
       closed_by (codes "bigs") unread.words t.value.1 (Bigs t.value.0) event t.after (λ e.
-        let m = last_addresses unread t.value.1 t.value.0 t.before e in
-        record { spelled = ap (after_first (codes "bigs")) m.0; limits = tt; known = (two, m.1) })
+      let m = last_addresses unread t.value.1 t.value.0 t.before e in
+      record { spelled = ap (after_first (codes "bigs")) m.0; limits = tt; known = (two, m.1) })
 
   -- ---- by the name of the event
 

@@ -1,10 +1,10 @@
 ghost use Rattle.std.specs.Prelude.{◌≡◌, ◌≤◌};
-ghost use Rattle.trace_text.specs.Events.{now_line, govern_line, accepted_line, dialed_line, bytes_line, closed_line, targets_line, big_targets_line, locals_line, roots_line, roots_found, roots_failed, bigs_line, big_line, provided_line, event_line};
+ghost use Rattle.trace_text.specs.Events.{now_line, govern_line, accepted_line, dialed_line, bytes_line, closed_line, targets_line, big_targets_line, locals_line, roots_line, roots_found, roots_failed, bigs_line, big_line, provided_line, event_line, in_bounds};
 ghost use Rattle.trace_text.specs.Lines.{IsReading};
 
 use crate::words::Words;
 use crate::{Line, LineRefusal};
-use net_base::{BigTargets, Cid, Event, Job, RootAnswer, Targets};
+use net_base::{BigTargets, Cid, Event, Field, Job, RootAnswer, Targets};
 use std::alloc::Global;
 
 // Moments, connection ids and numbers of questions are at most so great.
@@ -129,9 +129,7 @@ fn read_targets(mut words: Words) -> Result<Line, LineRefusal>
         established: words.number(0, ID_MOST)?,
         active: words.number(0, ID_MOST)?,
     };
-    if targets.check().is_some() {
-        return Err(LineRefusal::BadTargets);
-    }
+    in_bounds(targets.check())?;
     words.end()?;
     Ok(Line::Happen(Event::Aims(targets)))
 }
@@ -139,16 +137,24 @@ fn read_targets(mut words: Words) -> Result<Line, LineRefusal>
 fn read_big_targets(mut words: Words) -> Result<Line, LineRefusal>
     ensures { result ≡ big_targets_line words.entry }
 {
-    let targets = BigTargets {
+    let big_targets = BigTargets {
         known: words.number(0, ID_MOST)?,
         established: words.number(0, ID_MOST)?,
         active: words.number(0, ID_MOST)?,
     };
-    if targets.check().is_some() {
-        return Err(LineRefusal::BadTargets);
-    }
+    in_bounds(big_targets.check())?;
     words.end()?;
-    Ok(Line::Happen(Event::BigAims(targets)))
+    Ok(Line::Happen(Event::BigAims(big_targets)))
+}
+
+// No bound is broken.
+fn in_bounds(fault: Option<Field>) -> Result<(), LineRefusal>
+    ensures { result ≡ in_bounds fault }
+{
+    match fault {
+        None => Ok(()),
+        Some(_) => Err(LineRefusal::BadTargets),
+    }
 }
 
 fn read_locals(alloc: Global, version: u64, mut words: Words) -> Result<Line, LineRefusal>

@@ -36,12 +36,18 @@ fn event_text(alloc: Global, event: &Event) -> Result<String, AllocError>
         }
         Event::Closed(cid) => format!(in alloc; "closed {}", cid.0),
         Event::Aims(aims) => {
-            format!(in alloc; "targets {} {} {} {}", aims.root, aims.known, aims.established, aims.active)
+            format!(in alloc;
+                "targets {} {} {} {}",
+                aims.root, aims.known, aims.established, aims.active
+            )
         }
         Event::Locals(groups) => format!(in alloc; "locals{}", GroupTexts(groups.as_slice())),
         Event::Roots(job, answer) => roots_text(alloc, *job, answer),
         Event::BigAims(aims) => {
-            format!(in alloc; "bigtargets {} {} {}", aims.known, aims.established, aims.active)
+            format!(in alloc;
+                "bigtargets {} {} {}",
+                aims.known, aims.established, aims.active
+            )
         }
         Event::Bigs(addresses) => format!(in alloc; "bigs{}", AddressTexts(addresses.as_slice())),
     }
@@ -52,7 +58,11 @@ fn roots_text(alloc: Global, job: Job, answer: &RootAnswer) -> Result<String, Al
 {
     match answer {
         RootAnswer::Found(ttl, addresses) => {
-            format!(in alloc; "roots {} ok {ttl}{}", job.0, AddressTexts(addresses.as_slice()))
+            format!(in alloc;
+                "roots {} ok {ttl}{}",
+                job.0,
+                AddressTexts(addresses.as_slice())
+            )
         }
         RootAnswer::Failed => format!(in alloc; "roots {} failed", job.0),
     }

@@ -17,16 +17,18 @@ mod stage;
 mod text;
 mod words;
 
+pub use event_text::print_event;
+pub use head_text::print_head;
 pub use law::{
     actions_are_lines, addresses_are_spelled_once, events_are_spelled_once, heads_are_read,
     numbers_are_spelled_once, settings_are_those_of_the_check,
 };
-pub use event_text::print_event;
-pub use head_text::print_head;
 pub use line::{HeadLine, Line, LineRefusal};
 pub use print::print_action;
 pub use read::read_line;
 pub use stage::Stage;
 
+#[cfg(test)]
+mod event_tests;
 #[cfg(test)]
 mod tests;

@@ -26,5 +26,6 @@ pub fn read_piece(alloc: Global, word: &[u8]) -> Result<Option<Octets>, OutOfMem
 fn are_lower_digits(word: &[u8]) -> bool
     ensures { result ≡ list_all is_lower_digit word.now }
 {
-    word.iter().all(|digit| matches!(digit, b'0'..=b'9' | b'a'..=b'f'))
+    word.iter()
+        .all(|digit| matches!(digit, b'0'..=b'9' | b'a'..=b'f'))
 }

@@ -1,6 +1,7 @@
 use super::*;
 use net_base::{
-    Action, Addr, Away, Cid, CloseCause, Event, FaultKind, Ip, Job, Octets, PeerNote, StateName,
+    Action, Addr, Away, Cid, CloseCause, Event, FaultKind, Ip, Job, Octets, PeerNote, Settings,
+    StateName,
 };
 use std::alloc::Global;
 use std::test::Fail;
@@ -368,4 +369,41 @@ fn actions_are_printed(rt: HostRuntime) -> Result<(), Fail> {
     ];
     assert_eq!(rt; first_misprinted(rt.alloc(), &rows), None);
     Ok(())
+}
+
+#[test]
+fn a_head_is_printed(rt: HostRuntime) {
+    let settings = Settings {
+        version: 2,
+        own: six(1, 3001),
+        magic: 4_294_967_295,
+        initiator_only: 0,
+        sharing: 1,
+        hard: 512,
+        soft: 384,
+        delay: 5000,
+        idle: 5000,
+        timewait: 60_000,
+        handshake: 10_000,
+        reply: 10_000,
+        backoff: 5000,
+        sharegap: 900_000,
+        shares: 2,
+    };
+    let lines = [
+        "trace 2\nown [0:0:0:0:0:0:0:1]:3001\nset magic 4294967295\nset initiatoronly 0\n",
+        "set sharing 1\nset hard 512\nset soft 384\nset delay 5000\nset idle 5000\n",
+        "set timewait 60000\nset handshake 10000\nset reply 10000\nset backoff 5000\n",
+        "set sharegap 900000\nset shares 2\n",
+    ];
+    assert!(rt; prints_head(rt.alloc(), &settings, &lines) == Some(true));
+}
+
+fn prints_head(alloc: Global, settings: &Settings, lines: &[&str]) -> Option<bool> {
+    let head = print_head(alloc, settings).ok()?;
+    let mut want = String::new(alloc);
+    for line in lines {
+        want.push_str(line).ok()?;
+    }
+    Some(head.as_slice() == want.as_bytes())
 }

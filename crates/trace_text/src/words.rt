@@ -9,8 +9,8 @@ ghost use Rattle.trace_text.specs.Views.{Gives, GivesIfRoom, found_view};
 
 use crate::LineRefusal;
 use crate::address::read_address;
-use crate::pieces::Pieces;
 use crate::piece::read_piece;
+use crate::pieces::Pieces;
 use crate::setting::{Found, setting_named};
 use net_base::{Addr, AddrList, Group, GroupList, Octets, OutOfMemory, read_number};
 use std::alloc::Global;
