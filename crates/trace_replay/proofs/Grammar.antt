@@ -1,13 +1,18 @@
 -- What the grammar says of a line that is read at a stage.
 use Rattle.std.proofs.Common.{◌≡◌, ℕ, zero, suc, ◌+◌, ◌-◌, ◌^◌, ◌<◌, ◌≤◌, Bool, true, false, cond, eqb, leb, List, [], ◌∷◌, length, get_or, Option, Some, None, Result, Ok, Err, IfOk, ◌⊎◌, inl, inr, refl, sym, ap, ◌∙◌, subst, arith, leb-true, leb-false, eqb-true}
-use Rattle.std.specs.Prelude.{codes, bytes_eq}
+use Rattle.std.specs.Prelude.{codes, bytes_eq, ◌&&◌}
 use Rattle.std.specs.Option.{ok_or}
+use Rattle.net_base.specs.Bounds.{targets_fault, big_targets_fault}
+use Rattle.net_base.specs.Limits.{IsWithinLimits}
 use Rattle.net_base.specs.Number.{number_of, number_up_to, up_to}
 use Rattle.net_base.specs.declared.address.Addr.{Addr}
 use Rattle.net_base.specs.declared.event.Event.{Event}
+use Rattle.net_base.specs.declared.event.RootAnswer.TheVariants.{Found, Failed}
 use Rattle.net_base.specs.declared.event.Event.TheVariants.{Now, Govern, Accepted, Dialed, Bytes, Closed, Aims, Locals, Roots, BigAims, Bigs}
 use Rattle.trace_text.specs.Addresses.{address_of}
-use Rattle.trace_text.specs.Lines.{◌>>=◌, first_word, next_word, next_read, from_least, next_number, next_address, no_words, no_more, this_word, version_of, first_line, second_line, setting_line, set_line, id_most, now_line, accepted_line, closed_line, end_line, is_unbuilt, later_line, is_action_line, line_of}
+use Rattle.trace_text.specs.Events.{id_most, word_most, interval_most, piece_of, outcome_of, in_bounds, next_addresses, all_groups, now_line, govern_line, accepted_line, dialed_line, bytes_line, closed_line, targets_line, big_targets_line, locals_line, roots_line, roots_found, roots_failed, bigs_line, big_line, provided_line, event_line}
+use Rattle.trace_text.specs.Lines.{version_of, first_line, second_line, setting_line, set_line, end_line, later_line, is_action_line, line_of}
+use Rattle.trace_text.specs.Reading.{◌>>=◌, first_word, next_word, next_read, from_least, next_number, next_address, no_words, no_more, this_word}
 use Rattle.trace_text.specs.Settings.{Setting, setting, settings_under, setting_from, setting_of}
 use Rattle.trace_text.specs.Words.{Unread, words_of}
 use Rattle.trace_text.specs.declared.line.HeadLine.{HeadLine}
@@ -15,8 +20,9 @@ use Rattle.trace_text.specs.declared.line.HeadLine.TheVariants.{Trace, Own, Set}
 use Rattle.trace_text.specs.declared.line.Line.{Line}
 use Rattle.trace_text.specs.declared.line.Line.TheVariants.{Head, Happen, Acted, End}
 use Rattle.trace_text.specs.declared.line.LineRefusal.{LineRefusal}
-use Rattle.trace_text.specs.declared.line.LineRefusal.TheVariants.{BadWord, BadNumber, OutOfOrder, NotBuilt}
+use Rattle.trace_text.specs.declared.line.LineRefusal.TheVariants.{BadWord, BadNumber, OutOfOrder}
 use Rattle.trace_text.specs.declared.stage.Stage.{Stage}
+use Rattle.trace_text.proofs.ReadEvents.{event_told}
 use Rattle.trace_replay.specs.Reading.{said_at}
 
 -- ---- a chain of readings
@@ -25,6 +31,10 @@ IfOk-chain : {A B : Type 0} (P : B → Type 0) (r : Result A LineRefusal) (f : A
     ((x : A) → r ≡ Ok x → IfOk (f x) P) → IfOk (r >>= f) P
 IfOk-chain P (Ok x) f h = h x refl
 IfOk-chain P (Err refusal) f h = tt
+
+IfOk-cond : (P : Line → Type 0) (b : Bool) (r s : Result Line LineRefusal) → IfOk r P → IfOk s P → IfOk (cond b r s) P
+IfOk-cond P true r s h k = h
+IfOk-cond P false r s h k = k
 
 -- a value that was read is read of some word
 record IsRead {A : Type 0} (read : List ℕ → Option A) (value : A) : Type 0 where
@@ -118,23 +128,9 @@ IsHeadAt stage (Trace version) = (stage.seen ≡ 0) × (1 ≤ version) × (versi
 IsHeadAt stage (Own address) = stage.seen ≡ 1
 IsHeadAt stage (Set place value) = IsSetAt stage place value
 
--- what an event line says
-abbrev pub IsEventSaid : Event → Type 0
-IsEventSaid (Now moment) = moment ≤ 2 ^ 48
-IsEventSaid (Govern word) = ⊥
-IsEventSaid (Accepted address) = Unit {0}
-IsEventSaid (Dialed cid opened) = ⊥
-IsEventSaid (Bytes cid bytes) = ⊥
-IsEventSaid (Closed cid) = cid.0 ≤ 2 ^ 48
-IsEventSaid (Aims targets) = ⊥
-IsEventSaid (Locals groups) = ⊥
-IsEventSaid (Roots job answer) = ⊥
-IsEventSaid (BigAims targets) = ⊥
-IsEventSaid (Bigs addresses) = ⊥
-
 abbrev pub IsLineAt : Stage → Line → Type 0
 IsLineAt stage (Head head) = IsHeadAt stage head
-IsLineAt stage (Happen event) = IsBehindHead stage × IsEventSaid event
+IsLineAt stage (Happen event) = IsBehindHead stage × IsWithinLimits event
 IsLineAt stage Acted = IsBehindHead stage
 IsLineAt stage End = IsBehindHead stage
 
@@ -198,29 +194,109 @@ set_line-is stage unread behind = in_events stage.events refl
 
 -- ---- events, and the end
 
-now_line-is : (stage : Stage) (unread : Unread) → IsBehindHead stage → IfOk (now_line unread) (IsLineAt stage)
-now_line-is stage unread behind =
-    IfOk-chain (IsLineAt stage) (next_number 0 id_most unread) _ (λ p e.
-    IfOk-chain (IsLineAt stage) (no_more p.1) _ (λ _ _. (behind, (next_number-range 0 id_most unread p e).1)))
+-- an event line says an event, and nothing else
+abbrev IsEventLine : Line → Type 0
+IsEventLine (Head head) = ⊥
+IsEventLine (Happen event) = Unit {0}
+IsEventLine Acted = ⊥
+IsEventLine End = ⊥
 
-accepted_line-is : (stage : Stage) (unread : Unread) → IsBehindHead stage → IfOk (accepted_line stage.version unread) (IsLineAt stage)
-accepted_line-is stage unread behind =
-    IfOk-chain (IsLineAt stage) (next_address stage.version unread) _ (λ p _.
-    IfOk-chain (IsLineAt stage) (no_more p.1) _ (λ _ _. (behind, tt)))
+abbrev SaysEvent : Result Line LineRefusal → Type 0
+SaysEvent r = IfOk r IsEventLine
 
-closed_line-is : (stage : Stage) (unread : Unread) → IsBehindHead stage → IfOk (closed_line unread) (IsLineAt stage)
-closed_line-is stage unread behind =
-    IfOk-chain (IsLineAt stage) (next_number 0 id_most unread) _ (λ p e.
-    IfOk-chain (IsLineAt stage) (no_more p.1) _ (λ _ _. (behind, (next_number-range 0 id_most unread p e).1)))
+-- behind what was read the line ends
+ended_event : (rest : Unread) (event : Event) → SaysEvent (no_more rest >>= λ end. Ok (Happen event))
+ended_event rest event = IfOk-chain IsEventLine (no_more rest) _ (λ _ _. tt)
+
+-- the bounds are tested before
+tested_event : (tested : Result (Unit {0}) LineRefusal) (rest : Unread) (event : Event) → SaysEvent (tested >>= λ sound. no_more rest >>= λ end. Ok (Happen event))
+tested_event tested rest event = IfOk-chain IsEventLine tested _ (λ _ _. ended_event rest event)
+
+number_first : (most : ℕ) (unread : Unread) (f : ℕ × Unread → Result Line LineRefusal) → ((p : ℕ × Unread) → SaysEvent (f p)) → SaysEvent (next_number 0 most unread >>= f)
+number_first most unread f h = IfOk-chain IsEventLine (next_number 0 most unread) f (λ p _. h p)
+
+now_line-event : (unread : Unread) → SaysEvent (now_line unread)
+now_line-event unread = number_first id_most unread _ (λ p. ended_event p.1 (Now p.0))
+
+govern_line-event : (unread : Unread) → SaysEvent (govern_line unread)
+govern_line-event unread = number_first word_most unread _ (λ p. ended_event p.1 (Govern p.0))
+
+accepted_line-event : (version : ℕ) (unread : Unread) → SaysEvent (accepted_line version unread)
+accepted_line-event version unread = IfOk-chain IsEventLine (next_address version unread) _ (λ p _. ended_event p.1 (Accepted p.0))
+
+dialed_line-event : (unread : Unread) → SaysEvent (dialed_line unread)
+dialed_line-event unread =
+    number_first id_most unread _ (λ p.
+    IfOk-chain IsEventLine (next_read outcome_of BadWord p.1) _ (λ q _. ended_event q.1 (Dialed (record { 0 = p.0 }) q.0)))
+
+bytes_line-event : (unread : Unread) → SaysEvent (bytes_line unread)
+bytes_line-event unread =
+    number_first id_most unread _ (λ p.
+    IfOk-chain IsEventLine (next_read piece_of BadWord p.1) _ (λ q _. ended_event q.1 (Bytes (record { 0 = p.0 }) q.0)))
+
+closed_line-event : (unread : Unread) → SaysEvent (closed_line unread)
+closed_line-event unread = number_first id_most unread _ (λ p. ended_event p.1 (Closed (record { 0 = p.0 })))
+
+targets_line-event : (unread : Unread) → SaysEvent (targets_line unread)
+targets_line-event unread =
+    number_first id_most unread _ (λ root.
+    number_first id_most root.1 _ (λ known.
+    number_first id_most known.1 _ (λ established.
+    number_first id_most established.1 _ (λ active.
+    tested_event (in_bounds (targets_fault (record { root = root.0; known = known.0; established = established.0; active = active.0 }))) active.1 (Aims _)))))
+
+big_targets_line-event : (unread : Unread) → SaysEvent (big_targets_line unread)
+big_targets_line-event unread =
+    number_first id_most unread _ (λ known.
+    number_first id_most known.1 _ (λ established.
+    number_first id_most established.1 _ (λ active.
+    tested_event (in_bounds (big_targets_fault (record { known = known.0; established = established.0; active = active.0 }))) active.1 (BigAims _))))
+
+locals_line-event : (version : ℕ) (unread : Unread) → SaysEvent (locals_line version unread)
+locals_line-event version unread = IfOk-chain IsEventLine (all_groups version unread) _ (λ _ _. tt)
+
+roots_found-event : (version job : ℕ) (unread : Unread) → SaysEvent (roots_found version job unread)
+roots_found-event version job unread =
+    IfOk-chain IsEventLine (next_number 1 interval_most unread) _ (λ ttl _.
+    IfOk-chain IsEventLine (next_addresses version ttl.1) _ (λ addresses _. ended_event addresses.1 (Roots (record { 0 = job }) (Found ttl.0 addresses.0))))
+
+roots_line-event : (version : ℕ) (unread : Unread) → SaysEvent (roots_line version unread)
+roots_line-event version unread =
+    number_first id_most unread _ (λ job.
+    IfOk-chain IsEventLine (next_read outcome_of BadWord job.1) _ (λ found _.
+    IfOk-cond IsEventLine found.0 _ _ (roots_found-event version job.0 found.1) (ended_event found.1 (Roots (record { 0 = job.0 }) Failed))))
+
+bigs_line-event : (version : ℕ) (unread : Unread) → SaysEvent (bigs_line version unread)
+bigs_line-event version unread = IfOk-chain IsEventLine (next_addresses version unread) _ (λ p _. ended_event p.1 (Bigs p.0))
+
+event_line-event : (version : ℕ) (name : List ℕ) (unread : Unread) → SaysEvent (event_line version name unread)
+event_line-event version name unread =
+    IfOk-cond IsEventLine (bytes_eq name (codes "now")) _ _ (now_line-event unread) (
+    IfOk-cond IsEventLine (bytes_eq name (codes "govern")) _ _ (govern_line-event unread) (
+    IfOk-cond IsEventLine (bytes_eq name (codes "accepted")) _ _ (accepted_line-event version unread) (
+    IfOk-cond IsEventLine (bytes_eq name (codes "dialed")) _ _ (dialed_line-event unread) (
+    IfOk-cond IsEventLine (bytes_eq name (codes "bytes")) _ _ (bytes_line-event unread) (
+    IfOk-cond IsEventLine (bytes_eq name (codes "closed")) _ _ (closed_line-event unread) (
+    IfOk-cond IsEventLine (bytes_eq name (codes "targets")) _ _ (targets_line-event unread) (
+    IfOk-cond IsEventLine (bytes_eq name (codes "locals")) _ _ (locals_line-event version unread) (
+    IfOk-cond IsEventLine (bytes_eq name (codes "roots")) _ _ (roots_line-event version unread) (
+    IfOk-cond IsEventLine (eqb version 2 && bytes_eq name (codes "bigtargets")) _ _ (big_targets_line-event unread) (
+    IfOk-cond IsEventLine (eqb version 2 && bytes_eq name (codes "bigs")) _ _ (bigs_line-event version unread) tt))))))))))
+
+event_line-is : (stage : Stage) (name : List ℕ) (unread : Unread) → IsBehindHead stage → IfOk (event_line stage.version name unread) (IsLineAt stage)
+event_line-is stage name unread behind = in_line (event_line stage.version name unread) refl (event_line-event stage.version name unread)
+  where
+    in_line : (r : Result Line LineRefusal) → event_line stage.version name unread ≡ r → SaysEvent r → IfOk r (IsLineAt stage)
+    in_line (Ok (Head head)) is says = absurd says
+    in_line (Ok (Happen event)) is says = (behind, (event_told stage.version name unread event is).limits)
+    in_line (Ok Acted) is says = absurd says
+    in_line (Ok End) is says = absurd says
+    in_line (Err refusal) is says = tt
 
 end_line-is : (stage : Stage) (unread : Unread) → IsBehindHead stage → IfOk (end_line unread) (IsLineAt stage)
 end_line-is stage unread behind = IfOk-chain (IsLineAt stage) (no_more unread) _ (λ _ _. behind)
 
 -- ---- a line by its stage
-
-IfOk-cond : (P : Line → Type 0) (b : Bool) (r s : Result Line LineRefusal) → IfOk r P → IfOk s P → IfOk (cond b r s) P
-IfOk-cond P true r s h k = h
-IfOk-cond P false r s h k = k
 
 later_line-is : (stage : Stage) (unread : Unread) → IsBehindHead stage → IfOk (later_line stage unread) (IsLineAt stage)
 later_line-is stage unread behind =
@@ -228,11 +304,7 @@ later_line-is stage unread behind =
     let P : Line → Type 0 = IsLineAt stage in
     let word = p.0 in
     IfOk-cond P (bytes_eq word (codes "set")) _ _ (set_line-is stage p.1 behind) (
-    IfOk-cond P (bytes_eq word (codes "now")) _ _ (now_line-is stage p.1 behind) (
-    IfOk-cond P (bytes_eq word (codes "accepted")) _ _ (accepted_line-is stage p.1 behind) (
-    IfOk-cond P (bytes_eq word (codes "closed")) _ _ (closed_line-is stage p.1 behind) (
-    IfOk-cond P (bytes_eq word (codes "end")) _ _ (end_line-is stage p.1 behind) (
-    IfOk-cond P (is_unbuilt stage.version word) _ _ tt tt))))))
+    IfOk-cond P (bytes_eq word (codes "end")) _ _ (end_line-is stage p.1 behind) (event_line-is stage word p.1 behind)))
 
 line_of-is : (stage : Stage) (line : List ℕ) → IfOk (line_of stage line) (IsLineAt stage)
 line_of-is stage line = in_first (eqb stage.seen 0) refl
