@@ -30,11 +30,7 @@ pub(crate) fn engine_or_first(
     }
 }
 
-fn first_engine(
-    alloc: Global,
-    settings: Settings,
-    pickers: Pickers,
-) -> Result<Engine, OutOfMemory>
+fn first_engine(alloc: Global, settings: Settings, pickers: Pickers) -> Result<Engine, OutOfMemory>
     requires { AreSound settings }
     ensures machine { IfOk result (λ e. e.machine ≡ start_of settings) }
     ensures events { IfOk result (λ e. e.events ≡ 0) }
