@@ -1,7 +1,10 @@
 ghost use Rattle.std.specs.Prelude.{◌≡◌, ℕ, ◌⊎◌, ◌↔◌, List, Some, map, string_bytes, true, false};
 ghost use Rattle.io_edge.specs.Causes.{Rose};
+ghost use Rattle.laws.specs.Parts.{IsLawfulEvent};
+ghost use Rattle.laws.specs.Records.{IsLawfulRecord};
+ghost use Rattle.net_base.specs.declared.event.Event.{Event};
 ghost use Rattle.net_base.specs.declared.refusal.RefusalKind.{RefusalKind};
-ghost use Rattle.trace_replay.specs.Inputs.{IsDecided, StopsReading, StopsWriting, KeepsLaws};
+ghost use Rattle.trace_replay.specs.Inputs.{IsDecided, StopsReading, StopsWriting, machine_after};
 ghost use Rattle.trace_replay.specs.Judgement.{ended, refused, too_long};
 ghost use Rattle.trace_replay.specs.Output.{output_of};
 ghost use Rattle.trace_replay.specs.Replays.{verdict_of, TakesPrefix};
@@ -54,7 +57,16 @@ pub fn run<S: Source, K: Sink, E: Sink>(
     ensures no_other { IsReplayStatus result }
 
     ensures told { IsTold (E.taken err.old) (E.taken err.new) (E.faults err.old) (E.faults err.new) (status_text result) }
-    ensures laws { (input : List ℕ) → KeepsLaws input }
+
+    // Whatever the source and the sink tell: the sink took the output of what was read, and a count of faults rises with
+    // that fault alone.
+    ensures replayed { is_replay (map string_bytes words.now) ≡ true →
+        IsReplayed (S.left src.old) (S.left src.new) (K.taken out.old) (K.taken out.new)
+        (S.faults src.old) (S.faults src.new) (K.faults out.old) (K.faults out.new) result }
+
+    // What holds in every record that the events of an input reach, and at each event there.
+    ensures records { (input : List ℕ) (count : ℕ) → IsLawfulRecord (machine_after count input) }
+    ensures events { (input : List ℕ) (count : ℕ) (event : Event) → IsLawfulEvent (machine_after count input) event }
 {
     let status = answer(alloc, words, src, out);
     // A text that is not taken changes no status.

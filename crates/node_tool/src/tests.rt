@@ -1,5 +1,8 @@
 ghost use Rattle.std.specs.Prelude.{◌≤◌};
 
+mod rows;
+
+use self::rows::ROWS;
 use crate::{Status, run};
 use io_edge::{MemSink, MemSource, SureSource};
 use net_base::{NumberList, Octets, RefusalKind};
@@ -107,6 +110,19 @@ fn traces_are_replayed(rt: HostRuntime) -> Result<(), Fail> {
 }
 
 #[test]
+fn the_whole_machine_is_replayed(rt: HostRuntime) -> Result<(), Fail> {
+    for (input, output) in ROWS {
+        let left = run_on(rt.alloc(), &["replay"], input, 64)?;
+        assert_eq!(rt; left.status, Status::Done);
+        assert_eq!(rt; left.out.bytes(), output.as_bytes());
+        // the actions of an output are passed over, and come out again
+        let again = run_on(rt.alloc(), &["replay"], output, 64)?;
+        assert_eq!(rt; again.out.bytes(), output.as_bytes());
+    }
+    Ok(())
+}
+
+#[test]
 fn lines_are_refused(rt: HostRuntime) -> Result<(), Fail> {
     let one = RefusalKind::Word(1);
     let two = RefusalKind::Word(2);
@@ -143,9 +159,16 @@ fn lines_are_refused(rt: HostRuntime) -> Result<(), Fail> {
         (
             "trace 1\nown 127.0.0.1:3001\ngovern x y\nend\n",
             3,
-            RefusalKind::NotBuilt,
+            RefusalKind::Number(2),
             HEAD,
-            "line 3 refused: not built\n",
+            "line 3 refused: number 2\n",
+        ),
+        (
+            "trace 1\nown 127.0.0.1:3001\ntargets 0 1 2 0\nend\n",
+            3,
+            RefusalKind::Targets,
+            HEAD,
+            "line 3 refused: targets\n",
         ),
         (
             "trace 2\nown 127.0.0.1:3001\naccepted [0:0:0:0:0:0:0:01]:3001\nend\n",

@@ -8,7 +8,7 @@ use Rattle.net_base.specs.declared.address.Addr.{Addr}
 use Rattle.net_base.specs.declared.event.Event.{Event}
 use Rattle.trace_text.specs.Addresses.{address_of}
 use Rattle.trace_text.specs.Events.{event_line}
-use Rattle.trace_text.specs.Lines.{version_of, first_line, second_line, setting_line, set_line, end_line, is_unbuilt, later_line, is_action_line, line_of}
+use Rattle.trace_text.specs.Lines.{version_of, first_line, second_line, setting_line, set_line, end_line, later_line, is_action_line, line_of}
 use Rattle.trace_text.specs.Reading.{◌>>=◌, first_word, next_word, next_read, from_least, next_number, next_address, no_words, no_more, this_word}
 use Rattle.trace_text.specs.Settings.{Setting, setting, settings_under, setting_from, setting_of}
 use Rattle.trace_text.specs.Words.{Unread, words_of}
@@ -17,7 +17,7 @@ use Rattle.trace_text.specs.declared.line.HeadLine.TheVariants.{Trace, Own, Set}
 use Rattle.trace_text.specs.declared.line.Line.{Line}
 use Rattle.trace_text.specs.declared.line.Line.TheVariants.{Head, Happen, Acted, End}
 use Rattle.trace_text.specs.declared.line.LineRefusal.{LineRefusal}
-use Rattle.trace_text.specs.declared.line.LineRefusal.TheVariants.{BadWord, BadNumber, OutOfOrder, NotBuilt}
+use Rattle.trace_text.specs.declared.line.LineRefusal.TheVariants.{BadWord, BadNumber, OutOfOrder}
 use Rattle.trace_text.specs.declared.stage.Stage.{Stage}
 use Rattle.trace_text.proofs.ReadEvents.{event_line-is}
 use Rattle.trace_replay.specs.Reading.{said_at}
@@ -203,8 +203,7 @@ later_line-is stage unread behind =
     let word = p.0 in
     IfOk-cond P (bytes_eq word (codes "set")) _ _ (set_line-is stage p.1 behind) (
     IfOk-cond P (bytes_eq word (codes "end")) _ _ (end_line-is stage p.1 behind) (
-    IfOk-cond P (is_unbuilt stage.version word) _ _ tt (
-    event_line-is stage.version p.1 P (λ _ limits. (behind, limits)) word))))
+    event_line-is stage.version p.1 P (λ _ limits. (behind, limits)) word)))
 
 line_of-is : (stage : Stage) (line : List ℕ) → IfOk (line_of stage line) (IsLineAt stage)
 line_of-is stage line = in_first (eqb stage.seen 0) refl

@@ -4,10 +4,14 @@ use Rattle.std.proofs.lemmas.List.{append_assoc}
 use Rattle.io_edge.specs.Lines.{whole_lines, unfinished_line}
 use Rattle.io_edge.specs.Told.{Gives, Takes}
 use Rattle.io_edge.proofs.ToldLemmas.{Gives-told}
-use Rattle.laws.specs.Laws.{LiveAddressesDistinct, WithinHardLimit}
-use Rattle.laws.specs.Sound.{IsSound}
-use Rattle.laws.proofs.Runs.{after_all-sound}
+use Rattle.laws.specs.Parts.{IsLawfulEvent}
+use Rattle.laws.specs.Records.{IsLawfulRecord}
+use Rattle.laws.specs.Whole.{IsSteady}
+use Rattle.laws.proofs.PartEvents.{event-lawful}
+use Rattle.laws.proofs.PeerLaws.{steady-lawful}
+use Rattle.laws.proofs.WholeRuns.{after_all-steady}
 use Rattle.net_base.specs.Bounds.{AreSound}
+use Rattle.net_base.specs.declared.event.Event.{Event}
 use Rattle.net_base.specs.declared.refusal.RefusalKind.{RefusalKind}
 use Rattle.trace_text.specs.Stages.{first_stage}
 use Rattle.trace_replay.specs.Reading.{Reading, stage_behind, readings_from, readings_of, heads_in, events_in}
@@ -16,7 +20,7 @@ use Rattle.trace_replay.specs.Judgement.{Verdict, ended, refused, too_long, judg
 use Rattle.trace_replay.specs.Output.{output_for, output_of}
 use Rattle.trace_replay.specs.Passing.{ArePassed}
 use Rattle.trace_replay.specs.Replays.{verdict_of, outcome_of, AreDecisive, TakesPrefix, Replays}
-use Rattle.trace_replay.specs.Inputs.{IsDecided, IsReadUpTo, StopsReading, StopsWriting, machine_after, KeepsLaws}
+use Rattle.trace_replay.specs.Inputs.{IsDecided, IsReadUpTo, StopsReading, StopsWriting, machine_after}
 use Rattle.trace_replay.specs.declared.outcome.Outcome.{Outcome}
 use Rattle.trace_replay.specs.declared.outcome.Outcome.TheVariants.{Done, Differ, Refused, ReadFault, WriteFault, OutOfMemory, WorldFault, TooLong}
 use Rattle.trace_replay.proofs.Heads.{AreSound-heads}
@@ -119,8 +123,14 @@ passed_of input =
 settings_sound : (input : List ℕ) → AreSound (settings_in (heads_in (judged input).passed))
 settings_sound input = AreSound-heads _ _ (AreFront-passed (judged input).passed (passed_of input)).head
 
-pub KeepsLaws-all : (input : List ℕ) → KeepsLaws input
-KeepsLaws-all input =
-    let sound : (count : ℕ) → IsSound (machine_after count input) =
-    λ count. after_all-sound (settings_in (heads_in (judged input).passed)) (take count (events_in (judged input).passed)) (settings_sound input) in
-    record { addresses = λ count. (sound count).addresses; limit = λ count. (sound count).counted }
+steady_after : (count : ℕ) (input : List ℕ) → IsSteady (machine_after count input)
+steady_after count input =
+    (after_all-steady (settings_in (heads_in (judged input).passed)) (take count (events_in (judged input).passed)) (settings_sound input)).steady
+
+-- in every record that the run over an input reaches
+pub IsLawfulRecord-after : (input : List ℕ) (count : ℕ) → IsLawfulRecord (machine_after count input)
+IsLawfulRecord-after input count = steady-lawful (machine_after count input) (steady_after count input)
+
+-- at each event there
+pub IsLawfulEvent-after : (input : List ℕ) (count : ℕ) (event : Event) → IsLawfulEvent (machine_after count input) event
+IsLawfulEvent-after input count event = event-lawful (machine_after count input) event (steady_after count input)

@@ -4,9 +4,9 @@ use Rattle.std.proofs.lemmas.Bool.{lt-leb, le-leb}
 use Rattle.std.proofs.lemmas.List.{append_assoc, append-nil, length-append, length_push, map_push, take_more}
 use Rattle.std.proofs.lemmas.List.Concat.{flat_map-append}
 use Rattle.io_edge.specs.Lines.{ended_lines, line_limit}
-use Rattle.machine.specs.Events.{step}
 use Rattle.machine.specs.Machine.{Machine, start_of}
 use Rattle.machine.specs.Run.{after_all}
+use Rattle.machine.specs.Step.{step}
 use Rattle.net_base.specs.Bounds.{AreSound}
 use Rattle.net_base.specs.declared.event.Event.{Event}
 use Rattle.net_base.specs.declared.event.Event.TheVariants.{Now, Govern, Accepted, Dialed, Bytes, Closed, Aims, Locals, Roots, BigAims, Bigs}
@@ -18,7 +18,7 @@ use Rattle.trace_text.specs.declared.line.HeadLine.{HeadLine}
 use Rattle.trace_text.specs.declared.line.Line.{Line}
 use Rattle.trace_text.specs.declared.line.Line.TheVariants.{Head, Happen, Acted, End}
 use Rattle.trace_text.specs.declared.line.LineRefusal.{LineRefusal}
-use Rattle.trace_text.specs.declared.line.LineRefusal.TheVariants.{BadWord, BadNumber, BadTargets, OutOfOrder, NotBuilt, OutOfMemory as NoMemory}
+use Rattle.trace_text.specs.declared.line.LineRefusal.TheVariants.{BadWord, BadNumber, BadTargets, OutOfOrder, OutOfMemory as NoMemory}
 use Rattle.trace_text.specs.declared.stage.Stage.{Stage}
 use Rattle.trace_replay.specs.Reading.{Reading, said_at, stage_past, reading_at, stage_behind, heads_in, events_in}
 use Rattle.trace_replay.specs.Settings.{settings_in}
@@ -215,28 +215,27 @@ pub end_played : (before : Playback) (readings : List Reading) (number : ℕ) (t
     verdict_at readings (reading_at (stage_behind readings first_stage) text) ≡ Some ended
 end_played before readings number text due says = decides_by before readings number text (Ok End) ended due says refl
 
-pub event_played : (before : Playback) (readings : List Reading) (number : ℕ) (text : List ℕ) (event : Event) (result : Result (Playback × List ℕ) Stop) →
-    IsDue before readings number text → said_at before.stage text ≡ Ok (Happen event) → IsHappened before number (stage_after before.stage (Happen event)) event text result →
-    IsPlayed readings (reading_at (stage_behind readings first_stage) text) result
-event_played before readings number text event (Ok played) due says is =
+pub event_played : (before next : Playback) (readings : List Reading) (number : ℕ) (text : List ℕ) (event : Event) (result : Result (List ℕ) Stop) →
+    IsDue before readings number text → said_at before.stage text ≡ Ok (Happen event) → IsHappened before next number (stage_after before.stage (Happen event)) event text result →
+    IsPlayed readings (reading_at (stage_behind readings first_stage) text) next result
+event_played before next readings number text event (Ok written) due says is =
     let said = said_behind before readings text (Ok (Happen event)) due.stands says in
-    goes_on_read readings text (Happen event) played.0 played.1 said
-    (event_on before played.0 readings text event played.1 due.stands (omega (arith, due.number_is, due.few)) due.short said is.0 is.1 is.2)
-event_played before readings number text event (Err (TooLong line)) due says is =
+    goes_on_read readings text (Happen event) next written said
+    (event_on before next readings text event written due.stands (omega (arith, due.number_is, due.few)) due.short said is.0 is.1 is.2)
+event_played before next readings number text event (Err (TooLong line)) due says is =
     let late = verdict_by-event_late line (length (events_in readings)) event (omega (arith, is.0, due.stands.events)) in
     decides_by before readings number text (Ok (Happen event)) (too_long line) due says (rw (← is.1) late)
-event_played before readings number text event (Err OutOfMemory) due says is = tt
-event_played before readings number text event (Err Ended) due says is = absurd is
-event_played before readings number text event (Err (Refused line kind)) due says is = absurd is
+event_played before next readings number text event (Err OutOfMemory) due says is = tt
+event_played before next readings number text event (Err Ended) due says is = absurd is
+event_played before next readings number text event (Err (Refused line kind)) due says is = absurd is
 
-pub refusal_played : (before : Playback) (readings : List Reading) (number : ℕ) (text : List ℕ) (refusal : LineRefusal) → IsDue before readings number text →
-    IsSaid before.stage text (Err refusal) → IsPlayed readings (reading_at (stage_behind readings first_stage) text) (Err (refusal_told number refusal))
-refusal_played before readings number text (BadWord place) due says = decides_by before readings number text _ _ due says refl
-refusal_played before readings number text (BadNumber place) due says = decides_by before readings number text _ _ due says refl
-refusal_played before readings number text BadTargets due says = decides_by before readings number text _ _ due says refl
-refusal_played before readings number text OutOfOrder due says = decides_by before readings number text _ _ due says refl
-refusal_played before readings number text NotBuilt due says = decides_by before readings number text _ _ due says refl
-refusal_played before readings number text NoMemory due says = tt
+pub refusal_played : (before next : Playback) (readings : List Reading) (number : ℕ) (text : List ℕ) (refusal : LineRefusal) → IsDue before readings number text →
+    IsSaid before.stage text (Err refusal) → IsPlayed readings (reading_at (stage_behind readings first_stage) text) next (Err (refusal_told number refusal))
+refusal_played before next readings number text (BadWord place) due says = decides_by before readings number text _ _ due says refl
+refusal_played before next readings number text (BadNumber place) due says = decides_by before readings number text _ _ due says refl
+refusal_played before next readings number text BadTargets due says = decides_by before readings number text _ _ due says refl
+refusal_played before next readings number text OutOfOrder due says = decides_by before readings number text _ _ due says refl
+refusal_played before next readings number text NoMemory due says = tt
 
 pub IsSaid-from : (stage : Stage) (text : List ℕ) (result : Result Line LineRefusal) → IsReading result (line_of stage text) → IsSaid stage text result
 unfolding said_at
@@ -245,7 +244,6 @@ IsSaid-from stage text (Err (BadWord place)) is = sym is
 IsSaid-from stage text (Err (BadNumber place)) is = sym is
 IsSaid-from stage text (Err BadTargets) is = sym is
 IsSaid-from stage text (Err OutOfOrder) is = sym is
-IsSaid-from stage text (Err NotBuilt) is = sym is
 IsSaid-from stage text (Err NoMemory) is = tt
 
 line_within : (stage : Stage) (line : Line) → IsLineAt stage line → IsLineWithin line

@@ -251,23 +251,23 @@ same_takes : (readings : List Reading) (tail : List ℕ) (l0 l1 t0 t1 t2 : Optio
 same_takes readings tail l0 l1 t0 t1 t2 read same = subst (λ (t : Option (List ℕ)). HasRead readings tail l0 l1 t0 t) (sym same) read
 
 -- a line was read, played and written
-line_turn : (number : ℕ) (readings : List Reading) (line kept : List ℕ) (l0 l1 t0 t1 t2 : Option (List ℕ)) (result : Result Playback Outcome) → number ≡ length readings + 1 →
-    HasRead readings (line ++ 10 ∷ kept) l0 l1 t0 t1 → HasNoLineFeed line → IsWritten readings (reading_at (stage_behind readings first_stage) line) t1 t2 result →
-    IsTurn number kept l0 l1 t0 t2 result
-line_turn number readings line kept l0 l1 t0 t1 t2 (Ok next) at read one is = goes_at number readings line kept is.0 next l0 l1 t0 t1 t2 at read one is.1 is.2
-line_turn number readings line kept l0 l1 t0 t1 t2 (Err Done) at read one is =
+line_turn : (number : ℕ) (next : Playback) (readings : List Reading) (line kept : List ℕ) (l0 l1 t0 t1 t2 : Option (List ℕ)) (result : Result (Unit {0}) Outcome) → number ≡ length readings + 1 →
+    HasRead readings (line ++ 10 ∷ kept) l0 l1 t0 t1 → HasNoLineFeed line → IsWritten readings (reading_at (stage_behind readings first_stage) line) next t1 t2 result →
+    IsTurn number next kept l0 l1 t0 t2 result
+line_turn number next readings line kept l0 l1 t0 t1 t2 (Ok done) at read one is = goes_at number readings line kept is.0 next l0 l1 t0 t1 t2 at read one is.1 is.2
+line_turn number next readings line kept l0 l1 t0 t1 t2 (Err Done) at read one is =
     done_at readings (line ++ 10 ∷ kept) l0 l1 t0 t1 t2 read (line_decides readings line kept ended l0 l1 t0 t1 read one is.0) is.1
-line_turn number readings line kept l0 l1 t0 t1 t2 (Err (Refused n kind)) at read one is =
+line_turn number next readings line kept l0 l1 t0 t1 t2 (Err (Refused n kind)) at read one is =
     refused_at readings (line ++ 10 ∷ kept) n kind l0 l1 t0 t2 (same_takes readings _ l0 l1 t0 t1 t2 read is.1)
     (line_decides readings line kept (refused n kind) l0 l1 t0 t1 read one is.0)
-line_turn number readings line kept l0 l1 t0 t1 t2 (Err (TooLong n)) at read one is =
+line_turn number next readings line kept l0 l1 t0 t1 t2 (Err (TooLong n)) at read one is =
     too_long_at readings (line ++ 10 ∷ kept) n l0 l1 t0 t2 (same_takes readings _ l0 l1 t0 t1 t2 read is.1)
     (line_decides readings line kept (too_long n) l0 l1 t0 t1 read one is.0)
-line_turn number readings line kept l0 l1 t0 t1 t2 (Err WriteFault) at read one is = cut_at readings line kept l0 l1 t0 t1 t2 read one is
-line_turn number readings line kept l0 l1 t0 t1 t2 (Err OutOfMemory) at read one is = memory_at readings (line ++ 10 ∷ kept) l0 l1 t0 t2 (same_takes readings _ l0 l1 t0 t1 t2 read is)
-line_turn number readings line kept l0 l1 t0 t1 t2 (Err (Differ n)) at read one is = absurd is
-line_turn number readings line kept l0 l1 t0 t1 t2 (Err ReadFault) at read one is = absurd is
-line_turn number readings line kept l0 l1 t0 t1 t2 (Err WorldFault) at read one is = absurd is
+line_turn number next readings line kept l0 l1 t0 t1 t2 (Err WriteFault) at read one is = cut_at readings line kept l0 l1 t0 t1 t2 read one is
+line_turn number next readings line kept l0 l1 t0 t1 t2 (Err OutOfMemory) at read one is = memory_at readings (line ++ 10 ∷ kept) l0 l1 t0 t2 (same_takes readings _ l0 l1 t0 t1 t2 read is)
+line_turn number next readings line kept l0 l1 t0 t1 t2 (Err (Differ n)) at read one is = absurd is
+line_turn number next readings line kept l0 l1 t0 t1 t2 (Err ReadFault) at read one is = absurd is
+line_turn number next readings line kept l0 l1 t0 t1 t2 (Err WorldFault) at read one is = absurd is
 
 -- ---- a turn
 
@@ -282,13 +282,13 @@ has_read number playback kept bytes l0 l1 l2 t0 t1 way gives = record {
   takes = way.takes;
 }
 
-pub line_read : (number : ℕ) (playback : Playback) (kept next_kept line : List ℕ) (l0 l1 l2 t0 t1 t2 : Option (List ℕ)) (result : Result Playback Outcome) →
+pub line_read : (number : ℕ) (playback next : Playback) (kept next_kept line : List ℕ) (l0 l1 l2 t0 t1 t2 : Option (List ℕ)) (result : Result (Unit {0}) Outcome) →
     IsUnderWay number playback kept l0 l1 t0 t1 → ReadsLine l1 l2 kept next_kept (Ok (Line line)) →
-    ((readings : List Reading) → StandsBehind playback readings → number ≡ length readings + 1 → IsWritten readings (reading_at (stage_behind readings first_stage) line) t1 t2 result) →
-    IsTurn number next_kept l0 l2 t0 t2 result
-line_read number playback kept next_kept line l0 l1 l2 t0 t1 t2 result way read written =
+    ((readings : List Reading) → StandsBehind playback readings → number ≡ length readings + 1 → IsWritten readings (reading_at (stage_behind readings first_stage) line) next t1 t2 result) →
+    IsTurn number next next_kept l0 l2 t0 t2 result
+line_read number playback next kept next_kept line l0 l1 l2 t0 t1 t2 result way read written =
     let all = has_read number playback kept read.taken l0 l1 l2 t0 t1 way read.gives in
-    line_turn number way.readings line next_kept l0 l2 t0 t1 t2 result way.number_is
+    line_turn number next way.readings line next_kept l0 l2 t0 t1 t2 result way.number_is
     (subst (λ (bytes : List ℕ). HasRead way.readings bytes l0 l2 t0 t1) read.answer.1 all)
     read.answer.0.one_line (written way.readings way.stands way.number_is)
 
@@ -344,21 +344,21 @@ no_memory left taken =
     memory_at [] [] left left taken taken (record { passed = ArePassed-none; whole = All-nil HasNoLineFeed; gives = Gives-nothing left; takes = Takes-nothing taken })
 
 -- no read fault comes of writing
-line_reads : (before now : ℕ) (readings : List Reading) (reading : Reading) (t0 t1 : Option (List ℕ)) (result : Result Playback Outcome) → now ≡ before →
-    IsWritten readings reading t0 t1 result → MatchResult result (λ _. now ≡ before) (HasReadCount before now)
-line_reads before now readings reading t0 t1 (Ok next) calm is = calm
-line_reads before now readings reading t0 t1 (Err Done) calm is = calm
-line_reads before now readings reading t0 t1 (Err (Refused n kind)) calm is = calm
-line_reads before now readings reading t0 t1 (Err (TooLong n)) calm is = calm
-line_reads before now readings reading t0 t1 (Err WriteFault) calm is = calm
-line_reads before now readings reading t0 t1 (Err OutOfMemory) calm is = calm
-line_reads before now readings reading t0 t1 (Err (Differ n)) calm is = absurd is
-line_reads before now readings reading t0 t1 (Err ReadFault) calm is = absurd is
-line_reads before now readings reading t0 t1 (Err WorldFault) calm is = absurd is
+line_reads : (before now : ℕ) (next : Playback) (readings : List Reading) (reading : Reading) (t0 t1 : Option (List ℕ)) (result : Result (Unit {0}) Outcome) → now ≡ before →
+    IsWritten readings reading next t0 t1 result → MatchResult result (λ _. now ≡ before) (HasReadCount before now)
+line_reads before now next readings reading t0 t1 (Ok done) calm is = calm
+line_reads before now next readings reading t0 t1 (Err Done) calm is = calm
+line_reads before now next readings reading t0 t1 (Err (Refused n kind)) calm is = calm
+line_reads before now next readings reading t0 t1 (Err (TooLong n)) calm is = calm
+line_reads before now next readings reading t0 t1 (Err WriteFault) calm is = calm
+line_reads before now next readings reading t0 t1 (Err OutOfMemory) calm is = calm
+line_reads before now next readings reading t0 t1 (Err (Differ n)) calm is = absurd is
+line_reads before now next readings reading t0 t1 (Err ReadFault) calm is = absurd is
+line_reads before now next readings reading t0 t1 (Err WorldFault) calm is = absurd is
 
-pub line_read-reads : (before now number : ℕ) (playback : Playback) (kept line : List ℕ) (l0 l1 t0 t1 t2 : Option (List ℕ)) (result : Result Playback Outcome) →
+pub line_read-reads : (before now number : ℕ) (playback next : Playback) (kept line : List ℕ) (l0 l1 t0 t1 t2 : Option (List ℕ)) (result : Result (Unit {0}) Outcome) →
     IsUnderWay number playback kept l0 l1 t0 t1 → now ≡ before →
-    ((readings : List Reading) → StandsBehind playback readings → number ≡ length readings + 1 → IsWritten readings (reading_at (stage_behind readings first_stage) line) t1 t2 result) →
+    ((readings : List Reading) → StandsBehind playback readings → number ≡ length readings + 1 → IsWritten readings (reading_at (stage_behind readings first_stage) line) next t1 t2 result) →
     MatchResult result (λ _. now ≡ before) (HasReadCount before now)
-line_read-reads before now number playback kept line l0 l1 t0 t1 t2 result way calm written =
-    line_reads before now way.readings _ t1 t2 result calm (written way.readings way.stands way.number_is)
+line_read-reads before now number playback next kept line l0 l1 t0 t1 t2 result way calm written =
+    line_reads before now next way.readings _ t1 t2 result calm (written way.readings way.stands way.number_is)

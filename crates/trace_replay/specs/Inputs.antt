@@ -1,7 +1,6 @@
 -- What a replay comes to, in terms of the whole input.
 use Rattle.std.specs.Prelude.{◌≡◌, ℕ, ◌^◌, List, ◌++◌, take, Option, Some}
 use Rattle.io_edge.specs.Told.{Takes, TakesProperPrefix}
-use Rattle.laws.specs.Laws.{LiveAddressesDistinct, WithinHardLimit}
 use Rattle.machine.specs.Machine.{Machine}
 use Rattle.machine.specs.Run.{after_all}
 use Rattle.trace_replay.specs.Reading.{events_in}
@@ -41,9 +40,3 @@ pub record StopsWriting (input : List ℕ) (left_after taken_before taken_after 
 abbrev pub machine_after : ℕ → List ℕ → Machine
 machine_after count input =
     let passed = (judged input).passed in after_all (start_in passed) (take count (events_in passed))
-
--- The laws hold in every record that the run over an input reaches: no two live connections have one address, and
--- counted connections are at most as many as the hard limit says.
-pub record KeepsLaws (input : List ℕ) : Type 0 where
-  pub addresses : (count : ℕ) → LiveAddressesDistinct (machine_after count input)
-  pub limit : (count : ℕ) → WithinHardLimit (machine_after count input)

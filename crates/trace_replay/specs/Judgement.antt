@@ -2,11 +2,11 @@
 use Rattle.std.specs.Prelude.{ℕ, ◌+◌, nat_le, nat_lt, Bool, ◌||◌, List, [], ◌∷◌, ◌++◌, length, if◌then◌else◌, Option, Some, None, Result, Ok, Err}
 use Rattle.io_edge.specs.Lines.{whole_lines, unfinished_line, line_limit}
 use Rattle.net_base.specs.declared.refusal.RefusalKind.{RefusalKind}
-use Rattle.net_base.specs.declared.refusal.RefusalKind.TheVariants.{Word, Number, Targets, Order, NotBuilt, NoEnd}
+use Rattle.net_base.specs.declared.refusal.RefusalKind.TheVariants.{Word, Number, Targets, Order, NoEnd}
 use Rattle.trace_text.specs.declared.line.Line.{Line}
 use Rattle.trace_text.specs.declared.line.Line.TheVariants.{Head, Happen, Acted, End}
 use Rattle.trace_text.specs.declared.line.LineRefusal.{LineRefusal}
-use Rattle.trace_text.specs.declared.line.LineRefusal.TheVariants.{BadWord, BadNumber, BadTargets, OutOfOrder, NotBuilt as UnbuiltEvent, OutOfMemory}
+use Rattle.trace_text.specs.declared.line.LineRefusal.TheVariants.{BadWord, BadNumber, BadTargets, OutOfOrder, OutOfMemory}
 use Rattle.trace_replay.specs.Reading.{Reading, readings_of, events_in}
 
 -- how many lines and events a trace may have
@@ -28,7 +28,6 @@ kind_of (BadWord place) = Word place
 kind_of (BadNumber place) = Number place
 kind_of BadTargets = Targets
 kind_of OutOfOrder = Order
-kind_of UnbuiltEvent = NotBuilt
 kind_of OutOfMemory = NoEnd
 
 -- what a line that is short enough decides, by its number and by how many events stand before it

@@ -1,18 +1,18 @@
 -- What is kept of the lines of a trace that were read, and what one line more comes to.
 use Rattle.std.specs.Prelude.{◌≡◌, ℕ, ◌+◌, ◌<◌, ◌≤◌, List, [], ◌∷◌, ◌++◌, length, Option, Some, None, IfSome, Result, Ok, Err}
 use Rattle.io_edge.specs.Lines.{ended_lines}
-use Rattle.machine.specs.Events.{step}
 use Rattle.machine.specs.Machine.{Machine, start_of}
 use Rattle.machine.specs.Run.{after_all}
+use Rattle.machine.specs.Step.{step}
 use Rattle.net_base.specs.declared.event.Event.{Event}
-use Rattle.net_base.specs.declared.refusal.RefusalKind.TheVariants.{Word, Number, Targets, Order, NotBuilt as Unbuilt}
+use Rattle.net_base.specs.declared.refusal.RefusalKind.TheVariants.{Word, Number, Targets, Order}
 use Rattle.net_base.specs.Limits.{IsWithinLimits}
 use Rattle.node_engine.specs.declared.engine.Engine.{Engine}
 use Rattle.trace_text.specs.Stages.{first_stage}
 use Rattle.trace_text.specs.declared.line.Line.{Line}
 use Rattle.trace_text.specs.declared.line.Line.TheVariants.{Head, Happen, Acted, End}
 use Rattle.trace_text.specs.declared.line.LineRefusal.{LineRefusal}
-use Rattle.trace_text.specs.declared.line.LineRefusal.TheVariants.{BadWord, BadNumber, BadTargets, OutOfOrder, NotBuilt, OutOfMemory as NoMemory}
+use Rattle.trace_text.specs.declared.line.LineRefusal.TheVariants.{BadWord, BadNumber, BadTargets, OutOfOrder, OutOfMemory as NoMemory}
 use Rattle.trace_text.specs.declared.stage.Stage.{Stage}
 use Rattle.trace_replay.specs.Reading.{Reading, said_at, stage_behind, heads_in, events_in}
 use Rattle.trace_replay.specs.Settings.{settings_in}
@@ -51,13 +51,13 @@ pub record GoesOn (readings : List Reading) (reading : Reading) (next : Playback
   pub stands : StandsBehind next (readings ++ reading ∷ [])
   pub lines : ended_lines (lines_for (readings ++ reading ∷ [])) ≡ ended_lines (lines_for readings) ++ written
 
--- What one line more comes to: it passes, or it decides.
-abbrev pub IsPlayed : List Reading → Reading → Result (Playback × List ℕ) Stop → Type 0
-IsPlayed readings reading (Ok played) = GoesOn readings reading played.0 played.1
-IsPlayed readings reading (Err Ended) = verdict_at readings reading ≡ Some ended
-IsPlayed readings reading (Err (Refused line kind)) = verdict_at readings reading ≡ Some (refused line kind)
-IsPlayed readings reading (Err (TooLong line)) = verdict_at readings reading ≡ Some (too_long line)
-IsPlayed readings reading (Err OutOfMemory) = Unit {0}
+-- What one line more comes to: it passes, or it decides. Where it decides nothing is said of what is kept.
+abbrev pub IsPlayed : List Reading → Reading → Playback → Result (List ℕ) Stop → Type 0
+IsPlayed readings reading next (Ok written) = GoesOn readings reading next written
+IsPlayed readings reading next (Err Ended) = verdict_at readings reading ≡ Some ended
+IsPlayed readings reading next (Err (Refused line kind)) = verdict_at readings reading ≡ Some (refused line kind)
+IsPlayed readings reading next (Err (TooLong line)) = verdict_at readings reading ≡ Some (too_long line)
+IsPlayed readings reading next (Err OutOfMemory) = Unit {0}
 
 -- an event line says an event that the engine takes
 abbrev pub IsLineWithin : Line → Type 0
@@ -73,7 +73,6 @@ IsSaid stage text (Err (BadWord place)) = said_at stage text ≡ Err (BadWord pl
 IsSaid stage text (Err (BadNumber place)) = said_at stage text ≡ Err (BadNumber place)
 IsSaid stage text (Err BadTargets) = said_at stage text ≡ Err BadTargets
 IsSaid stage text (Err OutOfOrder) = said_at stage text ≡ Err OutOfOrder
-IsSaid stage text (Err NotBuilt) = said_at stage text ≡ Err NotBuilt
 IsSaid stage text (Err NoMemory) = Unit {0}
 
 -- An event is taken: the engine's machine steps, or the one that it begins with; the event line and its actions are written.
@@ -85,13 +84,13 @@ pub record TakesEvent (before : Playback) (event : Event) (text : List ℕ) (nex
   pub lines : written ≡ ended_lines (told_event (text, (step (machine_before before) event).actions))
 
 -- An event line is played: the event is taken, or it is one too many.
-abbrev pub IsHappened : Playback → ℕ → Stage → Event → List ℕ → Result (Playback × List ℕ) Stop → Type 0
-IsHappened before number stage event text (Ok played) =
-    (events_taken before.engine < most_events) × (played.0.stage ≡ stage) × TakesEvent before event text played.0 played.1
-IsHappened before number stage event text (Err (TooLong line)) = (most_events ≤ events_taken before.engine) × (line ≡ number)
-IsHappened before number stage event text (Err OutOfMemory) = Unit {0}
-IsHappened before number stage event text (Err Ended) = ⊥
-IsHappened before number stage event text (Err (Refused line kind)) = ⊥
+abbrev pub IsHappened : Playback → Playback → ℕ → Stage → Event → List ℕ → Result (List ℕ) Stop → Type 0
+IsHappened before next number stage event text (Ok written) =
+    (events_taken before.engine < most_events) × (next.stage ≡ stage) × TakesEvent before event text next written
+IsHappened before next number stage event text (Err (TooLong line)) = (most_events ≤ events_taken before.engine) × (line ≡ number)
+IsHappened before next number stage event text (Err OutOfMemory) = Unit {0}
+IsHappened before next number stage event text (Err Ended) = ⊥
+IsHappened before next number stage event text (Err (Refused line kind)) = ⊥
 
 -- how the refusal of a line is told
 abbrev pub refusal_told : ℕ → LineRefusal → Stop
@@ -99,5 +98,4 @@ refusal_told number (BadWord place) = Refused number (Word place)
 refusal_told number (BadNumber place) = Refused number (Number place)
 refusal_told number BadTargets = Refused number Targets
 refusal_told number OutOfOrder = Refused number Order
-refusal_told number NotBuilt = Refused number Unbuilt
 refusal_told number NoMemory = OutOfMemory

@@ -1,5 +1,5 @@
 -- What a call of `replay` has read and written, by how it ended.
-use Rattle.std.specs.Prelude.{◌≡◌, ℕ, ◌+◌, ◌<◌, List, ◌++◌, length, Option, Some}
+use Rattle.std.specs.Prelude.{◌≡◌, ℕ, ◌+◌, ◌<◌, List, ◌++◌, length, Option, Some, Result, Ok, Err}
 use Rattle.io_edge.specs.Lines.{whole_lines}
 use Rattle.io_edge.specs.Told.{Gives, Takes, TakesProperPrefix}
 use Rattle.net_base.specs.declared.refusal.RefusalKind.TheVariants.{NoEnd}
@@ -45,6 +45,11 @@ IsOutcome WriteFault seen left before after = TakesProperPrefix before after (ou
 IsOutcome OutOfMemory seen left before after = TakesPrefix before after (output_of seen)
 IsOutcome (Differ line) seen left before after = ⊥
 IsOutcome WorldFault seen left before after = ⊥
+
+-- the outcome, or that memory was wanting
+abbrev pub outcome_or : {E : Type 0} → Result Outcome E → Outcome
+outcome_or (Ok outcome) = outcome
+outcome_or (Err wanting) = OutOfMemory
 
 pub record Replays (left_before left_after taken_before taken_after : Option (List ℕ)) (outcome : Outcome) : Type 0 where
   -- the bytes that were read in this call

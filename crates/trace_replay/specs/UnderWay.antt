@@ -24,9 +24,9 @@ pub record IsUnderWay (number : ℕ) (playback : Playback) (kept : List ℕ) (le
   pub takes : Takes taken_before taken_now (ended_lines (lines_for readings))
 
 -- It goes on to the next line, or ends.
-abbrev pub IsTurn : ℕ → List ℕ → Option (List ℕ) → Option (List ℕ) → Option (List ℕ) → Option (List ℕ) → Result Playback Outcome → Type 0
-IsTurn number kept left_before left_now taken_before taken_now (Ok next) = IsUnderWay (number + 1) next kept left_before left_now taken_before taken_now
-IsTurn number kept left_before left_now taken_before taken_now (Err outcome) = Replays left_before left_now taken_before taken_now outcome
+abbrev pub IsTurn : ℕ → Playback → List ℕ → Option (List ℕ) → Option (List ℕ) → Option (List ℕ) → Option (List ℕ) → Result (Unit {0}) Outcome → Type 0
+IsTurn number next kept left_before left_now taken_before taken_now (Ok done) = IsUnderWay (number + 1) next kept left_before left_now taken_before taken_now
+IsTurn number next kept left_before left_now taken_before taken_now (Err outcome) = Replays left_before left_now taken_before taken_now outcome
 
 -- what is written for a line that passes, and for the last one
 pub data IsLineOutput (readings : List Reading) (reading : Reading) (written : List ℕ) : Type 0 where
@@ -40,16 +40,16 @@ pub record IsCutShort (readings : List Reading) (reading : Reading) (taken_befor
   pub part : TakesProperPrefix taken_before taken_now written
 
 -- a line is played, and what it gives is written
-abbrev pub IsWritten : List Reading → Reading → Option (List ℕ) → Option (List ℕ) → Result Playback Outcome → Type 0
-IsWritten readings reading before now (Ok next) = (written : List ℕ) × GoesOn readings reading next written × Takes before now written
-IsWritten readings reading before now (Err Done) = (verdict_at readings reading ≡ Some ended) × Takes before now (ended_lines (last_lines ended))
-IsWritten readings reading before now (Err (Refused line kind)) = (verdict_at readings reading ≡ Some (refused line kind)) × (now ≡ before)
-IsWritten readings reading before now (Err (TooLong line)) = (verdict_at readings reading ≡ Some (too_long line)) × (now ≡ before)
-IsWritten readings reading before now (Err WriteFault) = IsCutShort readings reading before now
-IsWritten readings reading before now (Err OutOfMemory) = now ≡ before
-IsWritten readings reading before now (Err (Differ line)) = ⊥
-IsWritten readings reading before now (Err ReadFault) = ⊥
-IsWritten readings reading before now (Err WorldFault) = ⊥
+abbrev pub IsWritten : List Reading → Reading → Playback → Option (List ℕ) → Option (List ℕ) → Result (Unit {0}) Outcome → Type 0
+IsWritten readings reading next before now (Ok done) = (written : List ℕ) × GoesOn readings reading next written × Takes before now written
+IsWritten readings reading next before now (Err Done) = (verdict_at readings reading ≡ Some ended) × Takes before now (ended_lines (last_lines ended))
+IsWritten readings reading next before now (Err (Refused line kind)) = (verdict_at readings reading ≡ Some (refused line kind)) × (now ≡ before)
+IsWritten readings reading next before now (Err (TooLong line)) = (verdict_at readings reading ≡ Some (too_long line)) × (now ≡ before)
+IsWritten readings reading next before now (Err WriteFault) = IsCutShort readings reading before now
+IsWritten readings reading next before now (Err OutOfMemory) = now ≡ before
+IsWritten readings reading next before now (Err (Differ line)) = ⊥
+IsWritten readings reading next before now (Err ReadFault) = ⊥
+IsWritten readings reading next before now (Err WorldFault) = ⊥
 
 -- The source's count of faults rises with a read fault alone.
 abbrev pub HasReadCount : ℕ → ℕ → Outcome → Type 0

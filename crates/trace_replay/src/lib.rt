@@ -3,6 +3,7 @@
 
 mod head;
 mod outcome;
+mod pickers;
 mod playback;
 mod replaying;
 mod start;

@@ -1,4 +1,4 @@
-ghost use Rattle.std.specs.Prelude.{◌≡◌, ℕ, ◌+◌, ◌<◌, ◌≤◌, List, [], ◌∷◌, ◌++◌, length, IfOk, Ok};
+ghost use Rattle.std.specs.Prelude.{◌≡◌, ℕ, ◌+◌, ◌<◌, ◌≤◌, List, [], ◌∷◌, ◌++◌, length, IfOk, OnOk, Ok};
 ghost use Rattle.io_edge.specs.Lines.{ended_lines};
 ghost use Rattle.net_base.specs.Bounds.{AreSound};
 ghost use Rattle.net_base.specs.Limits.{IsWithinLimits};
@@ -7,6 +7,7 @@ ghost use Rattle.trace_replay.specs.Playback.{events_taken, StandsBehind, IsPlay
 ghost use Rattle.trace_replay.specs.Reading.{Reading, said_at, reading_at, stage_behind};
 ghost use Rattle.trace_replay.specs.Settings.{settings_in};
 
+use crate::pickers::Pickers;
 use crate::start::engine_or_first;
 use crate::stop::Stop;
 use crate::told::{ended_line, told};
@@ -18,26 +19,30 @@ use trace_text::{HeadLine, Line, LineRefusal, Stage, read_line};
 // How many events a trace may have.
 const EVENTS_MOST: u64 = 1_000_000;
 
-/// What is kept of the lines of a trace that were read.
+/// What is kept of the lines of a trace that were read. Once a line decides, or memory is wanting, nothing more may be
+/// asked of it.
 #[derive(Drop)]
 pub(crate) struct Playback {
     pub alloc: Global,
     pub stage: Stage,
     /// What the lines of the head say.
     pub heads: Vec<HeadLine>,
+    /// They go into the engine.
+    pub pickers: Option<Pickers>,
     /// Made at the first event.
     pub engine: Option<Engine>,
 }
 
 impl Playback {
     /// No line was read yet. Takes no memory.
-    pub(crate) fn new(alloc: Global) -> Playback
+    pub(crate) fn new(alloc: Global, pickers: Pickers) -> Playback
         ensures { StandsBehind result [] }
     {
         Playback {
             alloc,
             stage: Stage::first(),
             heads: Vec::new(alloc),
+            pickers: Some(pickers),
             engine: None,
         }
     }
@@ -53,76 +58,46 @@ impl Playback {
     }
 
     // A line of the head, with the stage behind it.
-    fn head(
-        self,
-        stage: Stage,
-        head: HeadLine,
-        text: &[u8],
-    ) -> Result<(Playback, Octets), OutOfMemory>
-        ensures stage { IfOk result (λ r. r.0.stage ≡ stage) }
-        ensures heads { IfOk result (λ r. r.0.heads.items ≡ self.heads.items ++ head ∷ []) }
-        ensures engine { IfOk result (λ r. r.0.engine ≡ self.engine) }
-        ensures written { IfOk result (λ r. r.1 ≡ ended_lines (text.now ∷ [])) }
+    fn head(&mut self, stage: Stage, head: HeadLine, text: &[u8]) -> Result<Octets, OutOfMemory>
+        ensures stage { OnOk result (self.new.stage ≡ stage) }
+        ensures heads { OnOk result (self.new.heads.items ≡ self.old.heads.items ++ head ∷ []) }
+        ensures engine { OnOk result (self.new.engine ≡ self.old.engine) }
+        ensures written { IfOk result (λ written. written ≡ ended_lines (text.now ∷ [])) }
     {
-        let Playback {
-            alloc,
-            stage: _,
-            mut heads,
-            engine,
-        } = self;
-        let written = ended_line(alloc, text)?;
-        heads.push(head)?;
-        let next = Playback {
-            alloc,
-            stage,
-            heads,
-            engine,
-        };
-        Ok((next, written))
+        let written = ended_line(self.alloc, text)?;
+        self.heads.push(head)?;
+        self.stage = stage;
+        Ok(written)
     }
 
     // An event line, with the stage behind it.
-    fn event(
-        self,
-        stage: Stage,
-        event: Event,
-        text: &[u8],
-    ) -> Result<(Playback, Octets), OutOfMemory>
-        requires sound { AreSound (settings_in self.heads.items) }
-        requires few { events_taken self.engine < 1_000_000 }
+    fn event(&mut self, stage: Stage, event: Event, text: &[u8]) -> Result<Octets, OutOfMemory>
+        requires sound { AreSound (settings_in self.old.heads.items) }
+        requires few { events_taken self.old.engine < 1_000_000 }
         requires within { IsWithinLimits event }
-        ensures stage { IfOk result (λ r. r.0.stage ≡ stage) }
-        ensures taken { IfOk result (λ r. TakesEvent self event text.now r.0 r.1) }
+        ensures stage { OnOk result (self.new.stage ≡ stage) }
+        ensures taken { IfOk result (λ written. TakesEvent self.old event text.now self.new written) }
     {
-        let Playback {
-            alloc,
-            stage: _,
-            heads,
-            engine,
-        } = self;
-        let engine = engine_or_first(alloc, engine, &heads)?;
+        let (engine, pickers) = (self.engine.take(), self.pickers.take());
+        let engine = engine_or_first(self.alloc, engine, pickers, &self.heads)?;
         let (engine, actions) = engine.step(event)?;
-        let written = told(alloc, text, actions.as_slice())?;
-        let next = Playback {
-            alloc,
-            stage,
-            heads,
-            engine: Some(engine),
-        };
-        Ok((next, written))
+        let written = told(self.alloc, text, actions.as_slice())?;
+        self.stage = stage;
+        self.engine = Some(engine);
+        Ok(written)
     }
 
     // An event line, with its number and the stage behind it.
     fn happen(
-        self,
+        &mut self,
         number: u64,
         stage: Stage,
         event: Event,
         text: &[u8],
-    ) -> Result<(Playback, Octets), Stop>
-        requires sound { AreSound (settings_in self.heads.items) }
+    ) -> Result<Octets, Stop>
+        requires sound { AreSound (settings_in self.old.heads.items) }
         requires within { IsWithinLimits event }
-        ensures { IsHappened self number stage event text.now result }
+        ensures { IsHappened self.old self.new number stage event text.now result }
     {
         if self.events() >= EVENTS_MOST {
             return Err(Stop::TooLong { line: number });
@@ -131,35 +106,32 @@ impl Playback {
     }
 
     // A line, with its number and what it says.
-    fn play(self, number: u64, line: Line, text: &[u8]) -> Result<(Playback, Octets), Stop>
-        requires sound { AreSound (settings_in self.heads.items) }
+    fn play(&mut self, number: u64, line: Line, text: &[u8]) -> Result<Octets, Stop>
+        requires sound { AreSound (settings_in self.old.heads.items) }
         requires within { IsLineWithin line }
         requires few { number ≤ 4_000_000 }
         requires short { length text.now ≤ 140_000 }
-        ensures { (readings : List Reading) → StandsBehind self readings → number ≡ length readings + 1
-            → said_at self.stage text.now ≡ Ok line
-            → IsPlayed readings (reading_at (stage_behind readings first_stage) text.now) result }
+        ensures { (readings : List Reading) → StandsBehind self.old readings → number ≡ length readings + 1
+            → said_at self.old.stage text.now ≡ Ok line
+            → IsPlayed readings (reading_at (stage_behind readings first_stage) text.now) self.new result }
     {
         let stage = self.stage.after(&line);
         match line {
             Line::Head(head) => Ok(self.head(stage, head, text)?),
             Line::Happen(event) => self.happen(number, stage, event, text),
-            Line::Acted => {
-                let nothing = Octets::new(self.alloc);
-                Ok((self, nothing))
-            }
+            Line::Acted => Ok(Octets::new(self.alloc)),
             Line::End => Err(Stop::Ended),
         }
     }
 
-    /// One line more, given without its line feed, with its number from 1. Answers what is kept then, and the text
-    /// that is to be written for the line.
-    pub(crate) fn line(self, number: u64, text: &[u8]) -> Result<(Playback, Octets), Stop>
-        requires sound { AreSound (settings_in self.heads.items) }
+    /// One line more, given without its line feed, with its number from 1. Answers the text that is to be written for
+    /// the line.
+    pub(crate) fn line(&mut self, number: u64, text: &[u8]) -> Result<Octets, Stop>
+        requires sound { AreSound (settings_in self.old.heads.items) }
         requires few { number ≤ 4_000_000 }
         requires short { length text.now ≤ 140_000 }
-        ensures { (readings : List Reading) → StandsBehind self readings → number ≡ length readings + 1
-            → IsPlayed readings (reading_at (stage_behind readings first_stage) text.now) result }
+        ensures { (readings : List Reading) → StandsBehind self.old readings → number ≡ length readings + 1
+            → IsPlayed readings (reading_at (stage_behind readings first_stage) text.now) self.new result }
     {
         match read(self.alloc, &self.stage, text) {
             Ok(line) => self.play(number, line, text),
@@ -185,7 +157,6 @@ fn refused(number: u64, refusal: LineRefusal) -> Stop
         LineRefusal::BadNumber(place) => RefusalKind::Number(place),
         LineRefusal::BadTargets => RefusalKind::Targets,
         LineRefusal::OutOfOrder => RefusalKind::Order,
-        LineRefusal::NotBuilt => RefusalKind::NotBuilt,
         LineRefusal::OutOfMemory => return Stop::OutOfMemory,
     };
     Stop::Refused { line: number, kind }

@@ -6,15 +6,17 @@ ghost use Rattle.net_base.specs.Bounds.{AreSound};
 ghost use Rattle.trace_text.specs.Stages.{first_stage};
 ghost use Rattle.trace_replay.specs.Playback.{StandsBehind};
 ghost use Rattle.trace_replay.specs.Reading.{Reading, reading_at, stage_behind};
-ghost use Rattle.trace_replay.specs.Replays.{Replays};
+ghost use Rattle.trace_replay.specs.Replays.{Replays, outcome_or};
 ghost use Rattle.trace_replay.specs.Settings.{settings_in};
 ghost use Rattle.trace_replay.specs.UnderWay.{IsUnderWay, IsTurn, IsWritten, HasReadCount, HasWriteCount};
 
 use crate::Outcome;
+use crate::pickers::Pickers;
 use crate::playback::Playback;
 use crate::stop::Stop;
 use io_edge::{Got, LineFault, LineReader, Sink, Source, put_all};
-use net_base::RefusalKind;
+use net_base::{Addr, OutOfMemory, RefusalKind};
+use pick_policy::{Picker, RankedPicker};
 use std::alloc::Global;
 
 // How many lines a trace may have.
@@ -27,15 +29,38 @@ pub fn replay<S: Source, K: Sink>(alloc: Global, src: &mut S, out: &mut K) -> Ou
     ensures reads { HasReadCount (S.faults src.old) (S.faults src.new) result }
     ensures writes { HasWriteCount (K.faults out.old) (K.faults out.new) result }
 {
-    match LineReader::new(alloc) {
-        Ok(mut reader) => replay_lines(alloc, &mut reader, src, out),
-        Err(_) => Outcome::OutOfMemory,
+    match replay_anew(alloc, src, out) {
+        Ok(outcome) => outcome,
+        Err(OutOfMemory) => Outcome::OutOfMemory,
     }
+}
+
+// Replays with the pickers that are this project's own. Nothing is read or written where they find no memory.
+fn replay_anew<S: Source, K: Sink>(
+    alloc: Global,
+    src: &mut S,
+    out: &mut K,
+) -> Result<Outcome, OutOfMemory>
+    ensures replays { Replays (S.left src.old) (S.left src.new) (K.taken out.old) (K.taken out.new) (outcome_or result) }
+    ensures reads { HasReadCount (S.faults src.old) (S.faults src.new) (outcome_or result) }
+    ensures writes { HasWriteCount (K.faults out.old) (K.faults out.new) (outcome_or result) }
+{
+    let picker = Picker::new(Box::new(alloc, |addr: Addr, word: u64| {
+        addr.key().wrapping_add(word)
+    })?);
+    let ranked = RankedPicker::new(Box::new(alloc, |addr: Addr, failures: u64, word: u64| {
+        failures.min(65_535) * 281_474_976_710_656
+            + addr.key().wrapping_add(word) % 281_474_976_710_656
+    })?);
+    let mut reader = LineReader::new(alloc)?;
+    let pickers = Pickers { picker, ranked };
+    Ok(replay_lines(alloc, pickers, &mut reader, src, out))
 }
 
 // Replays a trace of which nothing was read yet.
 fn replay_lines<S: Source, K: Sink>(
     alloc: Global,
+    pickers: Pickers,
     reader: &mut LineReader,
     src: &mut S,
     out: &mut K,
@@ -45,11 +70,10 @@ fn replay_lines<S: Source, K: Sink>(
     ensures reads { HasReadCount (S.faults src.old) (S.faults src.new) result }
     ensures writes { HasWriteCount (K.faults out.old) (K.faults out.new) result }
 {
-    let mut playback = Playback::new(alloc);
+    let mut playback = Playback::new(alloc, pickers);
     for number in 1..=LINES_MOST {
-        match turn(number, playback, reader, src, out) {
-            Ok(next) => playback = next,
-            Err(outcome) => return outcome,
+        if let Err(outcome) = turn(number, &mut playback, reader, src, out) {
+            return outcome;
         }
     }
     Outcome::TooLong {
@@ -60,18 +84,18 @@ fn replay_lines<S: Source, K: Sink>(
 // Reads the line with a number, plays it, and writes what it gives.
 fn turn<S: Source, K: Sink>(
     number: u64,
-    playback: Playback,
+    playback: &mut Playback,
     reader: &mut LineReader,
     src: &mut S,
     out: &mut K,
-) -> Result<Playback, Outcome>
-    requires sound { AreSound (settings_in playback.heads.items) }
+) -> Result<(), Outcome>
+    requires sound { AreSound (settings_in playback.old.heads.items) }
     requires few { number ≤ 4_000_000 }
     ensures turn { (left taken : Option (List ℕ)) →
-        IsUnderWay number playback reader.old left (S.left src.old) taken (K.taken out.old) →
-        IsTurn number reader.new left (S.left src.new) taken (K.taken out.new) result }
+        IsUnderWay number playback.old reader.old left (S.left src.old) taken (K.taken out.old) →
+        IsTurn number playback.new reader.new left (S.left src.new) taken (K.taken out.new) result }
     ensures reads { (left taken : Option (List ℕ)) →
-        IsUnderWay number playback reader.old left (S.left src.old) taken (K.taken out.old) →
+        IsUnderWay number playback.old reader.old left (S.left src.old) taken (K.taken out.old) →
         MatchResult result (λ _. S.faults src.new ≡ S.faults src.old) (HasReadCount (S.faults src.old) (S.faults src.new)) }
     ensures writes { MatchResult result (λ _. K.faults out.new ≡ K.faults out.old) (HasWriteCount (K.faults out.old) (K.faults out.new)) }
 {
@@ -90,22 +114,19 @@ fn turn<S: Source, K: Sink>(
 // Plays a line, and writes what it gives.
 fn write_line<K: Sink>(
     number: u64,
-    playback: Playback,
+    playback: &mut Playback,
     line: &[u8],
     out: &mut K,
-) -> Result<Playback, Outcome>
-    requires sound { AreSound (settings_in playback.heads.items) }
+) -> Result<(), Outcome>
+    requires sound { AreSound (settings_in playback.old.heads.items) }
     requires few { number ≤ 4_000_000 }
     requires short { length line.now ≤ 140_000 }
-    ensures written { (readings : List Reading) → StandsBehind playback readings → number ≡ length readings + 1
-        → IsWritten readings (reading_at (stage_behind readings first_stage) line.now) (K.taken out.old) (K.taken out.new) result }
+    ensures written { (readings : List Reading) → StandsBehind playback.old readings → number ≡ length readings + 1
+        → IsWritten readings (reading_at (stage_behind readings first_stage) line.now) playback.new (K.taken out.old) (K.taken out.new) result }
     ensures writes { MatchResult result (λ _. K.faults out.new ≡ K.faults out.old) (HasWriteCount (K.faults out.old) (K.faults out.new)) }
 {
     match playback.line(number, line) {
-        Ok((next, text)) => {
-            put(out, text.as_slice())?;
-            Ok(next)
-        }
+        Ok(text) => put(out, text.as_slice()),
         Err(Stop::Ended) => {
             put(out, b"end\n")?;
             Err(Outcome::Done)

@@ -5,33 +5,38 @@ ghost use Rattle.trace_replay.specs.Playback.{machine_or, events_taken};
 ghost use Rattle.trace_replay.specs.Settings.{settings_in};
 
 use crate::head::settings_of;
+use crate::pickers::Pickers;
 use net_base::{OutOfMemory, Settings};
 use node_engine::{Engine, NewRefusal};
 use std::alloc::Global;
 use trace_text::HeadLine;
 
-/// The engine that was made already, or one with the settings of the head.
+/// The engine that was made already, or one with the settings of the head. Where both the engine and the pickers are
+/// gone, memory was wanting before, and it is still.
 pub(crate) fn engine_or_first(
     alloc: Global,
     engine: Option<Engine>,
+    pickers: Option<Pickers>,
     heads: &[HeadLine],
 ) -> Result<Engine, OutOfMemory>
     requires { AreSound (settings_in heads.now) }
     ensures machine { IfOk result (λ e. e.machine ≡ machine_or (start_of (settings_in heads.now)) engine) }
     ensures events { IfOk result (λ e. e.events ≡ events_taken engine) }
 {
-    match engine {
-        Some(engine) => Ok(engine),
-        None => first_engine(alloc, settings_of(heads)),
+    match (engine, pickers) {
+        (Some(engine), _) => Ok(engine),
+        (None, Some(pickers)) => first_engine(alloc, settings_of(heads), pickers),
+        (None, None) => Err(OutOfMemory),
     }
 }
 
-fn first_engine(alloc: Global, settings: Settings) -> Result<Engine, OutOfMemory>
+fn first_engine(alloc: Global, settings: Settings, pickers: Pickers) -> Result<Engine, OutOfMemory>
     requires { AreSound settings }
     ensures machine { IfOk result (λ e. e.machine ≡ start_of settings) }
     ensures events { IfOk result (λ e. e.events ≡ 0) }
 {
-    match Engine::new(alloc, settings) {
+    let Pickers { picker, ranked } = pickers;
+    match Engine::new(alloc, settings, picker, ranked) {
         Ok(engine) => Ok(engine),
         Err(NewRefusal::OutOfMemory) => Err(OutOfMemory),
         Err(NewRefusal::BadSetting(_)) => unreachable!(),

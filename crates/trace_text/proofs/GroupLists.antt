@@ -7,7 +7,7 @@ use Rattle.std.proofs.lemmas.List.{append-nil, append_assoc}
 use Rattle.net_base.specs.declared.address.Addr.{Addr}
 use Rattle.net_base.specs.declared.event.Group.{Group}
 use Rattle.trace_text.specs.declared.line.LineRefusal.{LineRefusal}
-use Rattle.trace_text.specs.declared.line.LineRefusal.TheVariants.{BadWord, BadNumber, BadTargets, OutOfOrder, NotBuilt, OutOfMemory}
+use Rattle.trace_text.specs.declared.line.LineRefusal.TheVariants.{BadWord, BadNumber, BadTargets, OutOfOrder, OutOfMemory}
 use Rattle.trace_text.specs.Addresses.{address_of}
 use Rattle.trace_text.specs.Events.{slash, is_over, addresses_from, next_addresses, next_group, groups_within, all_groups, sign_of, valency_most}
 use Rattle.trace_text.specs.Reading.{◌>>=◌, next_number, next_read, from_least, this_word}
@@ -150,4 +150,3 @@ groups-handed_on version unread rest (BadWord place) front h k = sym (groups-ref
 groups-handed_on version unread rest (BadNumber place) front h k = sym (groups-refused version unread (BadNumber place) front h k)
 groups-handed_on version unread rest BadTargets front h k = sym (groups-refused version unread BadTargets front h k)
 groups-handed_on version unread rest OutOfOrder front h k = sym (groups-refused version unread OutOfOrder front h k)
-groups-handed_on version unread rest NotBuilt front h k = sym (groups-refused version unread NotBuilt front h k)

@@ -15,13 +15,13 @@ use Rattle.trace_text.specs.declared.line.HeadLine.TheVariants.{Trace, Own, Set}
 use Rattle.trace_text.specs.declared.line.Line.{Line}
 use Rattle.trace_text.specs.declared.line.Line.TheVariants.{Head, Happen, Acted, End}
 use Rattle.trace_text.specs.declared.line.LineRefusal.{LineRefusal}
-use Rattle.trace_text.specs.declared.line.LineRefusal.TheVariants.{BadWord, BadNumber, OutOfOrder, NotBuilt}
+use Rattle.trace_text.specs.declared.line.LineRefusal.TheVariants.{BadWord, BadNumber, OutOfOrder}
 use Rattle.trace_text.specs.declared.stage.Stage.{Stage}
 use Rattle.trace_text.specs.Addresses.{address_of, printed_address}
 use Rattle.trace_text.specs.EventTexts.{IsKnownIn, event_words, group_words, printed_event}
 use Rattle.trace_text.specs.Events.{event_line}
 use Rattle.trace_text.specs.HeadTexts.{printed_setting}
-use Rattle.trace_text.specs.Lines.{version_of, first_line, second_line, setting_line, set_line, end_line, is_unbuilt, later_line, is_action_line, line_of}
+use Rattle.trace_text.specs.Lines.{version_of, first_line, second_line, setting_line, set_line, end_line, later_line, is_action_line, line_of}
 use Rattle.trace_text.specs.Reading.{◌>>=◌, from_least, next_word, next_read, next_number, next_address, no_more, this_word}
 use Rattle.trace_text.specs.Says.{setting_at, MaySet, MayHappen, Says, name_of}
 use Rattle.trace_text.specs.Settings.{Setting, setting, setting_from, setting_of, settings_under}
@@ -154,20 +154,16 @@ acted_rest line h = (drop 2 line, sym (take-append-drop 2 line) ∙ ap (λ (fron
 -- ---- what is read is spelled so
 
 happening : (stage : Stage) (line : List ℕ) (said : Line) (name : List ℕ) (unread : Unread) → 2 ≤ stage.seen → line ≡ join_with_byte 32 (name ∷ unread.words) →
-    is_unbuilt stage.version name ≡ false → event_line stage.version name unread ≡ Ok said → IfOk (event_line stage.version name unread) IsHappening → Says stage line said
-happening stage line (Happen event) name unread behind front handled h happens =
+    event_line stage.version name unread ≡ Ok said → IfOk (event_line stage.version name unread) IsHappening → Says stage line said
+happening stage line (Happen event) name unread behind front h happens =
     let told = event_told stage.version name unread event h in (
       behind,
-      record {
-        limits = told.limits;
-        known = told.known;
-        handled = ap (λ (words : List (List ℕ)). is_unbuilt stage.version (get_or words 0 [])) (sym told.spelled) ∙ handled;
-      },
+      record { limits = told.limits; known = told.known },
       front ∙ ap (join_with_byte 32) told.spelled,
     )
-happening stage line (Head head) name unread behind front handled h happens = absurd (subst (λ r. IfOk r IsHappening) h happens)
-happening stage line Acted name unread behind front handled h happens = absurd (subst (λ r. IfOk r IsHappening) h happens)
-happening stage line End name unread behind front handled h happens = absurd (subst (λ r. IfOk r IsHappening) h happens)
+happening stage line (Head head) name unread behind front h happens = absurd (subst (λ r. IfOk r IsHappening) h happens)
+happening stage line Acted name unread behind front h happens = absurd (subst (λ r. IfOk r IsHappening) h happens)
+happening stage line End name unread behind front h happens = absurd (subst (λ r. IfOk r IsHappening) h happens)
 
 module _ (stage : Stage) (line : List ℕ) (said : Line) where
   -- an answer, and what the line then says
@@ -238,23 +234,22 @@ module _ (stage : Stage) (line : List ℕ) (said : Line) where
         let e = bound (no_more unread) (λ end. Ok End) said h in
         told End e.after (behind, front ∙ ap (λ (ws : List (List ℕ)). join_with_byte 32 (codes "end" ∷ ws)) (ended_at unread.place unread.words e.value e.before))
 
-    happening_told : (name : List ℕ) (unread : Unread) → line ≡ join_with_byte 32 (name ∷ unread.words) → is_unbuilt stage.version name ≡ false → Tells (event_line stage.version name unread)
-    happening_told name unread front built h = happening stage line said name unread behind front built h (event_happens stage.version unread name)
+    happening_told : (name : List ℕ) (unread : Unread) → line ≡ join_with_byte 32 (name ∷ unread.words) → Tells (event_line stage.version name unread)
+    happening_told name unread front h = happening stage line said name unread behind front h (event_happens stage.version unread name)
 
     later_told : Tells (later_line stage (words_of line))
     later_told h =
         let t = bound (next_word (words_of line)) (λ r.
         cond (bytes_eq r.0 (codes "set")) (set_line stage r.1) (
         cond (bytes_eq r.0 (codes "end")) (end_line r.1) (
-        cond (is_unbuilt stage.version r.0) (Err NotBuilt) (event_line stage.version r.0 r.1)))) said h in
+        event_line stage.version r.0 r.1))) said h in
         let name = t.value.0 in
         let front = from_words line (name ∷ t.value.1.words) (first_only stage.version 1 (pieces_of 32 line) name t.value.1 t.before) in
         cond_both (bytes_eq name (codes "set")) (set_line stage t.value.1) _ Tells
         (λ e. set_told t.value.1 (front ∙ ap (λ (w : List ℕ). join_with_byte 32 (w ∷ t.value.1.words)) (same_bytes name (codes "set") e)))
         (λ _. cond_both (bytes_eq name (codes "end")) (end_line t.value.1) _ Tells
         (λ e. end_told t.value.1 (front ∙ ap (λ (w : List ℕ). join_with_byte 32 (w ∷ t.value.1.words)) (same_bytes name (codes "end") e)))
-        (λ _. cond_both (is_unbuilt stage.version name) (Err NotBuilt) (event_line stage.version name t.value.1) Tells
-        (λ _ k. absurd cc) (λ built. happening_told name t.value.1 front built)))
+        (λ _. happening_told name t.value.1 front))
         t.after
 
     acted_told : is_action_line line ≡ true → Tells (Ok Acted)
@@ -315,17 +310,17 @@ abbrev later_words : Stage → List (List ℕ) → Result Line LineRefusal
 later_words stage words = later_line stage (record { words = words; place = 1 })
 
 event_again : (stage : Stage) (event : Event) → MayHappen stage event → later_words stage (event_words event) ≡ Ok (Happen event)
-event_again stage (Now t) may = cond-false _ _ _ may.handled ∙ again stage.version (Now t) may.limits may.known
-event_again stage (Govern word) may = cond-false _ _ _ may.handled ∙ again stage.version (Govern word) may.limits may.known
-event_again stage (Accepted address) may = cond-false _ _ _ may.handled ∙ again stage.version (Accepted address) may.limits may.known
-event_again stage (Dialed cid opened) may = cond-false _ _ _ may.handled ∙ again stage.version (Dialed cid opened) may.limits may.known
-event_again stage (Bytes cid bytes) may = cond-false _ _ _ may.handled ∙ again stage.version (Bytes cid bytes) may.limits may.known
-event_again stage (Closed cid) may = cond-false _ _ _ may.handled ∙ again stage.version (Closed cid) may.limits may.known
-event_again stage (Aims t) may = cond-false _ _ _ may.handled ∙ again stage.version (Aims t) may.limits may.known
-event_again stage (Locals groups) may = cond-false _ _ _ may.handled ∙ again stage.version (Locals groups) may.limits may.known
-event_again stage (Roots job answer) may = cond-false _ _ _ may.handled ∙ again stage.version (Roots job answer) may.limits may.known
-event_again stage (BigAims t) may = cond-false _ _ _ may.handled ∙ again stage.version (BigAims t) may.limits may.known
-event_again stage (Bigs members) may = cond-false _ _ _ may.handled ∙ again stage.version (Bigs members) may.limits may.known
+event_again stage (Now t) may = again stage.version (Now t) may.limits may.known
+event_again stage (Govern word) may = again stage.version (Govern word) may.limits may.known
+event_again stage (Accepted address) may = again stage.version (Accepted address) may.limits may.known
+event_again stage (Dialed cid opened) may = again stage.version (Dialed cid opened) may.limits may.known
+event_again stage (Bytes cid bytes) may = again stage.version (Bytes cid bytes) may.limits may.known
+event_again stage (Closed cid) may = again stage.version (Closed cid) may.limits may.known
+event_again stage (Aims t) may = again stage.version (Aims t) may.limits may.known
+event_again stage (Locals groups) may = again stage.version (Locals groups) may.limits may.known
+event_again stage (Roots job answer) may = again stage.version (Roots job answer) may.limits may.known
+event_again stage (BigAims t) may = again stage.version (BigAims t) may.limits may.known
+event_again stage (Bigs members) may = again stage.version (Bigs members) may.limits may.known
 
 event_line_again : (stage : Stage) (event : Event) → 2 ≤ stage.seen → MayHappen stage event → line_of stage (printed_event event) ≡ Ok (Happen event)
 event_line_again stage event behind may =

@@ -1,11 +1,11 @@
 -- The grammar of a trace's lines.
-use Rattle.std.specs.Prelude.{ℕ, ◌==◌, nat_le, nat_eq, Bool, ◌||◌, ◌&&◌, ◌≡◌, List, [], ◌∷◌, codes, bytes_eq, if◌then◌else◌, Option, Some, None, Result, Ok, Err}
-use Rattle.std.specs.List.{list_any, starts_with}
+use Rattle.std.specs.Prelude.{ℕ, ◌==◌, nat_le, nat_eq, Bool, ◌≡◌, List, codes, bytes_eq, if◌then◌else◌, Option, Some, None, Result, Ok, Err}
+use Rattle.std.specs.List.{starts_with}
 use Rattle.trace_text.specs.declared.line.Line.{Line}
 use Rattle.trace_text.specs.declared.line.Line.TheVariants.{Head, Acted, End}
 use Rattle.trace_text.specs.declared.line.HeadLine.TheVariants.{Trace, Own, Set}
 use Rattle.trace_text.specs.declared.line.LineRefusal.{LineRefusal}
-use Rattle.trace_text.specs.declared.line.LineRefusal.TheVariants.{BadWord, OutOfOrder, NotBuilt, OutOfMemory}
+use Rattle.trace_text.specs.declared.line.LineRefusal.TheVariants.{BadWord, OutOfOrder, OutOfMemory}
 use Rattle.trace_text.specs.declared.stage.Stage.{Stage}
 use Rattle.trace_text.specs.Events.{event_line}
 use Rattle.trace_text.specs.Reading.{◌>>=◌, next_word, next_read, next_number, next_address, no_more, this_word}
@@ -54,26 +54,11 @@ end_line unread = do
 
 -- ---- a line by its stage
 
--- the events that are not handled yet
-abbrev pub unbuilt_events : List (List ℕ)
-unbuilt_events =
-    codes "govern" ∷ codes "dialed" ∷ codes "bytes" ∷ codes "targets" ∷ codes "locals" ∷ codes "roots" ∷ []
-
--- those that only version 2 has
-abbrev pub unbuilt_big_events : List (List ℕ)
-unbuilt_big_events = codes "bigtargets" ∷ codes "bigs" ∷ []
-
-abbrev pub is_unbuilt : ℕ → List ℕ → Bool
-is_unbuilt version word =
-    list_any (λ name. bytes_eq name word) unbuilt_events
-    || (version == 2 && list_any (λ name. bytes_eq name word) unbuilt_big_events)
-
 abbrev pub later_line : Stage → Unread → Result Line LineRefusal
 later_line stage unread = do
   (word, rest) ← next_word unread
   if bytes_eq word (codes "set") then set_line stage rest
       else if bytes_eq word (codes "end") then end_line rest
-      else if is_unbuilt stage.version word then Err NotBuilt
       else event_line stage.version word rest
 
 abbrev pub is_action_line : List ℕ → Bool

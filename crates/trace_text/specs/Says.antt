@@ -11,7 +11,6 @@ use Rattle.trace_text.specs.declared.stage.Stage.{Stage}
 use Rattle.trace_text.specs.Addresses.{printed_address}
 use Rattle.trace_text.specs.EventTexts.{IsEventIn, IsKnownIn, event_words, printed_event}
 use Rattle.trace_text.specs.HeadTexts.{printed_setting}
-use Rattle.trace_text.specs.Lines.{is_unbuilt}
 use Rattle.trace_text.specs.Settings.{Setting, setting, settings_under}
 use Rattle.trace_text.specs.Views.{first_of}
 
@@ -35,14 +34,10 @@ SaysHead stage line (Own address) =
 SaysHead stage line (Set place value) =
     (2 ≤ stage.seen) × MaySet stage place value × (line ≡ printed_setting (setting_at stage.hard place).name value)
 
-abbrev pub name_of : Event → List ℕ
-name_of event = get_or (event_words event) 0 []
-
--- an event that a line at a stage may hold, of those that are handled
+-- an event that a line at a stage may hold
 pub record MayHappen (stage : Stage) (event : Event) : Type 0 where
   pub limits : IsWithinLimits event
   pub known : IsEventIn stage.version event
-  pub handled : is_unbuilt stage.version (name_of event) ≡ false
 
 -- a line says this at a stage
 abbrev pub Says : Stage → List ℕ → Line → Type 0

@@ -35,8 +35,6 @@ pub enum LineRefusal {
     BadTargets,
     /// A setting that stands before one that it should follow, or after an event.
     OutOfOrder,
-    /// An event that is not handled yet.
-    NotBuilt,
     OutOfMemory,
 }
 

@@ -1,19 +1,12 @@
-ghost use Rattle.std.specs.Prelude.{◌≡◌, bytes_eq};
-ghost use Rattle.std.specs.List.{list_any};
+ghost use Rattle.std.specs.Prelude.{◌≡◌};
 ghost use Rattle.trace_text.specs.Words.{words_of};
-ghost use Rattle.trace_text.specs.Lines.{first_line, second_line, set_line, setting_line, end_line, later_line, line_of, is_unbuilt, IsReading};
+ghost use Rattle.trace_text.specs.Lines.{first_line, second_line, set_line, setting_line, end_line, later_line, line_of, IsReading};
 
 use crate::event::read_event;
 use crate::setting::Found;
 use crate::words::Words;
 use crate::{HeadLine, Line, LineRefusal, Stage};
 use std::alloc::Global;
-
-// The events that are not handled yet.
-const UNBUILT: [&str; 6] = ["govern", "dialed", "bytes", "targets", "locals", "roots"];
-
-// Those that only version 2 has.
-const UNBUILT_BIG: [&str; 2] = ["bigtargets", "bigs"];
 
 /// What a line says, given without its line feed. A line may hold any bytes.
 ///
@@ -56,23 +49,9 @@ fn read_later(alloc: Global, stage: &Stage, mut words: Words) -> Result<Line, Li
         read_set(stage, words)
     } else if word == b"end".as_slice() {
         read_end(words)
-    } else if is_unbuilt(stage.version, word) {
-        Err(LineRefusal::NotBuilt)
     } else {
         read_event(alloc, stage.version, word, words)
     }
-}
-
-fn is_unbuilt(version: u64, word: &[u8]) -> bool
-    ensures { result ≡ is_unbuilt version word.now }
-{
-    is_among(&UNBUILT, word) || version == 2 && is_among(&UNBUILT_BIG, word)
-}
-
-fn is_among(known: &[&str], word: &[u8]) -> bool
-    ensures { result ≡ list_any (λ text. bytes_eq text.now word.now) known.now }
-{
-    known.iter().any(|text| text.as_bytes() == word)
 }
 
 // What follows `set`.

@@ -57,8 +57,6 @@ const fn number(place: u64) -> Said {
 
 const ORDER: Said = Said::Refused(LineRefusal::OutOfOrder);
 
-const NOT_BUILT: Said = Said::Refused(LineRefusal::NotBuilt);
-
 const fn four(ip: u32, port: u16) -> Addr {
     Addr {
         ip: Ip::V4(ip),
@@ -150,16 +148,16 @@ fn lines_behind_the_head(rt: HostRuntime) {
 }
 
 #[test]
-fn events_that_are_not_built(rt: HostRuntime) {
+fn every_event_is_read(rt: HostRuntime) {
     let rows = [
         ("trace 1", Said::Trace(1)),
         ("own 0.0.0.0:0", Said::Own(four(0, 0))),
-        ("govern x y", NOT_BUILT),
-        ("dialed 1 ok", NOT_BUILT),
-        ("bytes 1 0", NOT_BUILT),
-        ("targets", NOT_BUILT),
-        ("locals ", NOT_BUILT),
-        ("roots 1 failed", NOT_BUILT),
+        ("govern 7", Said::Other),
+        ("dialed 1 ok", Said::Other),
+        ("bytes 1 00", Said::Other),
+        ("targets 0 0 0 0", Said::Other),
+        ("locals", Said::Other),
+        ("roots 1 failed", Said::Other),
         ("bigtargets 1 1 0", word(1)),
         ("bigs", word(1)),
     ];
@@ -167,9 +165,9 @@ fn events_that_are_not_built(rt: HostRuntime) {
     let rows = [
         ("trace 2", Said::Trace(2)),
         ("own 0.0.0.0:0", Said::Own(four(0, 0))),
-        ("bigtargets 1 2 0", NOT_BUILT),
-        ("bigs", NOT_BUILT),
-        ("locals", NOT_BUILT),
+        ("bigtargets 1 2 0", Said::Refused(LineRefusal::BadTargets)),
+        ("bigtargets 1 1 0", Said::Other),
+        ("bigs", Said::Other),
     ];
     assert_eq!(rt; first_wrong(rt.alloc(), &rows), None);
 }

@@ -8,6 +8,6 @@ use Rattle.trace_replay.proofs.playback.Playback.line.Goals as goal
 
 pub returns-in-Err : goal.returns-in-Err
 returns-in-Err c = λ readings stands at.
-    subst (λ (stop : Stop). IsPlayed readings (reading_at (stage_behind readings first_stage) c.args.text.now) (Err stop)) (sym c.refused.ensures)
-    (refusal_played c.args.self readings c.args.number c.args.text.now c.in-Err.refusal
+    subst (λ (stop : Stop). IsPlayed readings (reading_at (stage_behind readings first_stage) c.args.text.now) c.args.self.now (Err stop)) (sym c.refused.ensures)
+    (refusal_played c.args.self.now c.args.self.now readings c.args.number c.args.text.now c.in-Err.refusal
     (record { stands = stands; number_is = at; few = c.requires.few; short = c.requires.short }) c.in-Err.ensures.said)

@@ -21,23 +21,23 @@ said_so stage text line other said is = subst (λ (l : Line). said_at stage text
 pub returns-in_ok-head-in-Head : goal.returns-in_ok-head-in-Head
 returns-in_ok-head-in-Head c = λ readings stands at said.
     let ok = c.in_ok-head-in-Head in
-    head_played c.args.self ok.field-0.0 readings c.args.number c.args.text.now c.in-Head.head ok.field-0.1
-    (due c.args.self readings c.args.number c.args.text.now stands at c.requires.few c.requires.short)
+    head_played c.args.self.now c.head.new.self readings c.args.number c.args.text.now c.in-Head.head ok.field-0
+    (due c.args.self.now readings c.args.number c.args.text.now stands at c.requires.few c.requires.short)
     (said_so _ _ c.args.line (Head c.in-Head.head) said c.in-Head.is)
-    (ok.ensures.stage ∙ c.after-stage.ensures ∙ ap (stage_after c.args.self.stage) c.in-Head.is)
+    (ok.ensures.stage ∙ c.after-stage.ensures ∙ ap (stage_after c.args.self.now.stage) c.in-Head.is)
     ok.ensures.heads ok.ensures.engine ok.ensures.written
 
 pub returns-in-Happen : goal.returns-in-Happen
 returns-in-Happen c = λ readings stands at said.
-    let stage = c.after-stage.ensures ∙ ap (stage_after c.args.self.stage) c.in-Happen.is in
-    event_played c.args.self readings c.args.number c.args.text.now c.in-Happen.event c.happen.result
-    (due c.args.self readings c.args.number c.args.text.now stands at c.requires.few c.requires.short)
+    let stage = c.after-stage.ensures ∙ ap (stage_after c.args.self.now.stage) c.in-Happen.is in
+    event_played c.args.self.now c.happen.new.self readings c.args.number c.args.text.now c.in-Happen.event c.happen.result
+    (due c.args.self.now readings c.args.number c.args.text.now stands at c.requires.few c.requires.short)
     (said_so _ _ c.args.line (Happen c.in-Happen.event) said c.in-Happen.is)
-    (subst (λ (s : Stage). IsHappened c.args.self c.args.number s c.in-Happen.event c.args.text.now c.happen.result) stage c.happen.ensures)
+    (subst (λ (s : Stage). IsHappened c.args.self.now c.happen.new.self c.args.number s c.in-Happen.event c.args.text.now c.happen.result) stage c.happen.ensures)
 
 pub returns-in-Acted : goal.returns-in-Acted
 returns-in-Acted c = λ readings stands at said.
-    subst (λ (written : List ℕ). GoesOn readings (reading_at (stage_behind readings first_stage) c.args.text.now) c.args.self written) (sym c.new-nothing.ensures)
-    (acted_played c.args.self readings c.args.number c.args.text.now
-    (due c.args.self readings c.args.number c.args.text.now stands at c.requires.few c.requires.short)
+    subst (λ (written : List ℕ). GoesOn readings (reading_at (stage_behind readings first_stage) c.args.text.now) c.args.self.now written) (sym c.new.ensures)
+    (acted_played c.args.self.now readings c.args.number c.args.text.now
+    (due c.args.self.now readings c.args.number c.args.text.now stands at c.requires.few c.requires.short)
     (said_so _ _ c.args.line Acted said c.in-Acted.is))
