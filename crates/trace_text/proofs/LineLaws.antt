@@ -81,12 +81,14 @@ row_only n name (row ∷ rows) found h = at (bytes_eq row.name name) refl h (row
 setting_only : (hard : ℕ) (word : List ℕ) (found : ℕ × Setting) → setting_of hard word ≡ Some found → (word ≡ found.1.name) × IsFound hard found
 setting_only hard word found h =
     let r = row_only 1 word (settings_under hard) found h in
-    let place : found.0 - 1 ≡ r.behind = omega (arith, r.place) in
-    (sym r.same, record {
-      placed = omega (arith, r.place);
-      known = omega (arith, r.place, r.inside);
-      row = r.row (setting [] 0 0) ∙ ap (λ k. get_or (settings_under hard) k (setting [] 0 0)) (sym place);
-    })
+    let place : found.0 - 1 ≡ r.behind = omega (arith, r.place) in (
+      sym r.same,
+      record {
+        placed = omega (arith, r.place);
+        known = omega (arith, r.place, r.inside);
+        row = r.row (setting [] 0 0) ∙ ap (λ k. get_or (settings_under hard) k (setting [] 0 0)) (sym place);
+      },
+    )
 
 -- ---- the settings by their places, counted from 0
 
@@ -154,8 +156,7 @@ acted_rest line h = (drop 2 line, sym (take-append-drop 2 line) ∙ ap (λ (fron
 happening : (stage : Stage) (line : List ℕ) (said : Line) (name : List ℕ) (unread : Unread) → 2 ≤ stage.seen → line ≡ join_with_byte 32 (name ∷ unread.words) →
     is_unbuilt stage.version name ≡ false → event_line stage.version name unread ≡ Ok said → IfOk (event_line stage.version name unread) IsHappening → Says stage line said
 happening stage line (Happen event) name unread behind front handled h happens =
-    let told = event_told stage.version name unread event h in
-    (
+    let told = event_told stage.version name unread event h in (
       behind,
       record {
         limits = told.limits;
@@ -203,7 +204,7 @@ module _ (stage : Stage) (line : List ℕ) (said : Line) where
         let t = bound (next_number found.1.least found.1.most unread) (λ r. no_more r.1 >>= λ end. Ok (Head (Set found.0 r.0))) said h in
         let e = bound (no_more t.value.1) (λ end. Ok (Head (Set found.0 t.value.0))) said t.after in
         let n = next_only (λ word. from_least found.1.least (number_up_to found.1.most word)) BadNumber decimal (IsBetween found.1.least found.1.most)
-            (numbers found.1.least found.1.most (small_most stage.hard found hard at)) unread t.value.1 t.value.0 t.before in
+        (numbers found.1.least found.1.most (small_most stage.hard found hard at)) unread t.value.1 t.value.0 t.before in
         let words = n.words ∙ ap (after_first (decimal t.value.0)) (ended_at t.value.1.place t.value.1.words e.value e.before) in
         told (Head (Set found.0 t.value.0)) e.after (
           behind,
@@ -215,8 +216,8 @@ module _ (stage : Stage) (line : List ℕ) (said : Line) where
             most = subst (λ (row : Setting). t.value.0 ≤ row.most) at.row n.fits.1;
           },
           front
-          ∙ ap (λ (ws : List (List ℕ)). join_with_byte 32 (codes "set" ∷ found.1.name ∷ ws)) words
-          ∙ ap (λ (row : Setting). printed_setting row.name t.value.0) at.row,
+              ∙ ap (λ (ws : List (List ℕ)). join_with_byte 32 (codes "set" ∷ found.1.name ∷ ws)) words
+              ∙ ap (λ (row : Setting). printed_setting row.name t.value.0) at.row,
         )
 
     order_told : (found : ℕ × Setting) (unread : Unread) → IsFound stage.hard found → stage.events ≡ false →
@@ -243,9 +244,9 @@ module _ (stage : Stage) (line : List ℕ) (said : Line) where
     later_told : Tells (later_line stage (words_of line))
     later_told h =
         let t = bound (next_word (words_of line)) (λ r.
-            cond (bytes_eq r.0 (codes "set")) (set_line stage r.1) (
-            cond (bytes_eq r.0 (codes "end")) (end_line r.1) (
-            cond (is_unbuilt stage.version r.0) (Err NotBuilt) (event_line stage.version r.0 r.1)))) said h in
+        cond (bytes_eq r.0 (codes "set")) (set_line stage r.1) (
+        cond (bytes_eq r.0 (codes "end")) (end_line r.1) (
+        cond (is_unbuilt stage.version r.0) (Err NotBuilt) (event_line stage.version r.0 r.1)))) said h in
         let name = t.value.0 in
         let front = from_words line (name ∷ t.value.1.words) (first_only stage.version 1 (pieces_of 32 line) name t.value.1 t.before) in
         cond_both (bytes_eq name (codes "set")) (set_line stage t.value.1) _ Tells

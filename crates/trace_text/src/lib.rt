@@ -20,8 +20,8 @@ mod words;
 pub use event_text::print_event;
 pub use head_text::print_head;
 pub use law::{
-    actions_are_lines, addresses_are_spelled_once, events_are_spelled_once, heads_are_read, lines_are_spelled_once,
-    numbers_are_spelled_once, settings_are_those_of_the_check,
+    actions_are_lines, addresses_are_spelled_once, events_are_spelled_once, heads_are_read,
+    lines_are_spelled_once, numbers_are_spelled_once, settings_are_those_of_the_check,
 };
 pub use line::{HeadLine, Line, LineRefusal};
 pub use print::print_action;
