@@ -1,9 +1,9 @@
 -- Addresses and groups have one spelling.
-use Rattle.std.proofs.Common.{◌≡◌, ℕ, zero, suc, ◌+◌, ◌<◌, ◌≤◌, Bool, true, false, ◌&&◌, cond, eqb, List, [], ◌∷◌, ◌++◌, length, map, Option, Some, None, decimal, refl, sym, ap, subst, ◌∙◌, arith, lit<}
-use Rattle.std.specs.Prelude.{bytes_eq, Result, Ok, Err}
+use Rattle.std.proofs.Common.{◌≡◌, ℕ, zero, suc, ◌+◌, ◌≤◌, Bool, true, false, ◌&&◌, cond, eqb, List, [], ◌∷◌, ◌++◌, length, map, Option, Some, None, decimal, refl, sym, ap, subst, ◌∙◌, arith, lit<}
+use Rattle.std.specs.Prelude.{bytes_eq, Result, Ok}
 use Rattle.std.specs.Option.{ok_or}
 use Rattle.std.specs.List.{AllByRecursion, flat_map}
-use Rattle.std.proofs.lemmas.Bool.{cond_both, true≢false}
+use Rattle.std.proofs.lemmas.Bool.{true≢false}
 use Rattle.std.proofs.lemmas.List.{length-append}
 use Rattle.net_base.specs.declared.address.Addr.{Addr}
 use Rattle.net_base.specs.declared.event.Group.{Group}
@@ -16,10 +16,9 @@ use Rattle.trace_text.specs.Events.{slash, stops, is_over, addresses_from, next_
 use Rattle.trace_text.specs.Reading.{◌>>=◌, next_number, next_read, this_word, from_least}
 use Rattle.net_base.specs.Number.{number_up_to}
 use Rattle.trace_text.specs.Words.{Unread}
-use Rattle.trace_text.proofs.Binds.{Bound, bound, ok_parts}
+use Rattle.trace_text.proofs.Binds.{bound, ok_parts}
 use Rattle.trace_text.proofs.GroupLists.{behind_members, behind_sign, behind_warm, behind_hot, behind_slash}
-use Rattle.trace_text.proofs.Spelled.{IsBetween, Always, same_bytes, numbers, addresses, signs, one_word, next_only, next_again}
-use Rattle.trace_text.proofs.Spelling.{bind_some}
+use Rattle.trace_text.proofs.Spelled.{IsBetween, Always, same_bytes, numbers, addresses, signs, one_word, next_only}
 
 same_pair : (p q : List Addr × Unread) → (p.0 ≡ q.0) × (p.1 ≡ q.1) → p ≡ q
 same_pair p q h = ap (λ (xs : List Addr). (xs, p.1)) h.0 ∙ ap (λ (r : Unread). (q.0, r)) h.1

@@ -1,8 +1,7 @@
 -- Groups that are read one after the other, behind those that were read before.
-use Rattle.std.proofs.Common.{◌≡◌, ℕ, zero, suc, ◌+◌, ◌-◌, ◌<◌, ◌≤◌, true, false, Bool, List, [], ◌∷◌, ◌++◌, length, if◌then◌else◌, Option, Some, None, refl, sym, ap, ◌∙◌, arith}
+use Rattle.std.proofs.Common.{◌≡◌, ℕ, zero, suc, ◌+◌, ◌-◌, ◌<◌, ◌≤◌, true, false, Bool, List, [], ◌∷◌, ◌++◌, length, if◌then◌else◌, Option, refl, sym, ap, ◌∙◌, arith}
 use Rattle.std.specs.Prelude.{Result, Ok, Err, bytes_eq}
 use Rattle.std.specs.Option.{ok_or}
-use Rattle.std.proofs.lemmas.Bool.{true≢false}
 use Rattle.std.proofs.lemmas.List.{append-nil, append_assoc}
 use Rattle.net_base.specs.declared.address.Addr.{Addr}
 use Rattle.net_base.specs.declared.event.Group.{Group}
@@ -15,7 +14,7 @@ use Rattle.net_base.specs.Number.{number_up_to}
 use Rattle.trace_text.specs.Lines.{IsReading}
 use Rattle.trace_text.specs.Views.{GivesIfRoom}
 use Rattle.trace_text.specs.Words.{Unread}
-use Rattle.trace_text.proofs.Binds.{Bound, bound, ok_parts, read_shorter}
+use Rattle.trace_text.proofs.Binds.{bound, ok_parts, read_shorter}
 
 -- ---- reading takes words
 

@@ -1,8 +1,8 @@
 -- A printed head is cut into its lines, and they are read as the settings.
-use Rattle.std.proofs.Common.{◌≡◌, ◌≢◌, ℕ, ◌+◌, ◌^◌, ◌<◌, ◌≤◌, Bool, true, false, not, ◌&&◌, cond, eqb, leb, List, [], ◌∷◌, ◌++◌, map, Option, Some, None, decimal, refl, sym, ap, ◌∙◌, arith, lit<, inl, inr, if◌then◌else◌}
+use Rattle.std.proofs.Common.{◌≡◌, ◌≢◌, ℕ, ◌+◌, ◌^◌, ◌<◌, true, false, not, eqb, leb, List, [], ◌∷◌, ◌++◌, Option, Some, decimal, refl, ap, ◌∙◌, arith, lit<, inl, inr, if◌then◌else◌}
 use Rattle.std.specs.Prelude.{codes, Result, Ok, Err}
 use Rattle.std.specs.Option.{ok_or}
-use Rattle.std.specs.List.{All, AllByRecursion, list_all, flat_map, join_with_byte}
+use Rattle.std.specs.List.{AllByRecursion, list_all, flat_map, join_with_byte}
 use Rattle.std.specs.Fmt.{digits}
 use Rattle.std.proofs.lemmas.Bool.{and_parts, cases_eq}
 use Rattle.std.proofs.lemmas.List.{append_assoc}
@@ -17,7 +17,7 @@ use Rattle.trace_text.specs.declared.line.Line.TheVariants.{Head}
 use Rattle.trace_text.specs.declared.line.LineRefusal.{LineRefusal}
 use Rattle.trace_text.specs.declared.line.LineRefusal.TheVariants.{BadWord, OutOfOrder}
 use Rattle.trace_text.specs.declared.stage.Stage.{Stage}
-use Rattle.trace_text.specs.Addresses.{IsAddress, address_of, knows_family, printed_address}
+use Rattle.trace_text.specs.Addresses.{IsAddress, knows_family, printed_address}
 use Rattle.trace_text.specs.HeadTexts.{AreRead, ended, head_lines, head_said, printed_head, printed_setting, printed_settings, settings_said}
 use Rattle.trace_text.specs.Lines.{line_of, second_line, setting_line, later_line}
 use Rattle.trace_text.specs.Settings.{AreInRange, Setting, setting, setting_of, settings_under, setting_values}

@@ -1,5 +1,5 @@
 -- What a line says is what it is spelled as.
-use Rattle.std.proofs.Common.{◌≡◌, ℕ, zero, suc, ◌+◌, ◌-◌, ◌^◌, ◌<◌, ◌≤◌, Bool, true, false, ◌&&◌, cond, eqb, leb, List, [], ◌∷◌, ◌++◌, length, get_or, take, drop, map, Option, Some, None, decimal, refl, sym, ap, subst, ◌∙◌, arith, lit<}
+use Rattle.std.proofs.Common.{◌≡◌, ℕ, zero, suc, ◌+◌, ◌-◌, ◌^◌, ◌<◌, ◌≤◌, Bool, true, false, cond, eqb, leb, List, [], ◌∷◌, ◌++◌, length, get_or, take, drop, map, Some, None, decimal, refl, sym, ap, subst, ◌∙◌, arith, lit<}
 use Rattle.std.specs.Prelude.{codes, bytes_eq, Result, Ok, Err, IfOk}
 use Rattle.std.specs.Fmt.{digits}
 use Rattle.std.specs.List.{flat_map, join_with_byte}
@@ -23,10 +23,10 @@ use Rattle.trace_text.specs.Events.{event_line}
 use Rattle.trace_text.specs.HeadTexts.{printed_setting}
 use Rattle.trace_text.specs.Lines.{version_of, first_line, second_line, setting_line, set_line, end_line, is_unbuilt, later_line, is_action_line, line_of}
 use Rattle.trace_text.specs.Reading.{◌>>=◌, from_least, next_word, next_read, next_number, next_address, no_more, this_word}
-use Rattle.trace_text.specs.Says.{setting_at, MaySet, MayHappen, Says, name_of}
+use Rattle.trace_text.specs.Says.{setting_at, MaySet, MayHappen, Says}
 use Rattle.trace_text.specs.Settings.{Setting, setting, setting_from, setting_of, settings_under}
 use Rattle.trace_text.specs.Words.{Unread, pieces_of, words_of}
-use Rattle.trace_text.proofs.Binds.{Bound, bound}
+use Rattle.trace_text.proofs.Binds.{bound}
 use Rattle.trace_text.proofs.HeadLaws.{first_again, second_again, set_again}
 use Rattle.trace_text.proofs.PrintedEvents.{OneWord, text_word, words_one, again, pieces_again}
 use Rattle.trace_text.proofs.SpacedWords.{join-spaced}

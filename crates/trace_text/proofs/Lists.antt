@@ -1,15 +1,14 @@
 -- Addresses and groups that are read one after the other, behind those that were read before.
-use Rattle.std.proofs.Common.{◌≡◌, ℕ, zero, suc, ◌+◌, ◌<◌, ◌≤◌, true, false, cond, List, [], ◌∷◌, ◌++◌, length, Option, Some, None, refl, sym, ap, ◌∙◌, arith}
-use Rattle.std.specs.Prelude.{Result, Ok, Err, bytes_eq}
+use Rattle.std.proofs.Common.{◌≡◌, ℕ, ◌+◌, true, false, List, [], ◌∷◌, ◌++◌, Option, Some, None, refl, sym, ap, ◌∙◌}
+use Rattle.std.specs.Prelude.{Result, Ok, Err}
 use Rattle.std.specs.Option.{ok_or}
 use Rattle.std.proofs.lemmas.Bool.{true≢false}
 use Rattle.std.proofs.lemmas.List.{append-nil, append_assoc}
 use Rattle.net_base.specs.declared.address.Addr.{Addr}
-use Rattle.net_base.specs.declared.event.Group.{Group}
 use Rattle.trace_text.specs.declared.line.LineRefusal.{LineRefusal}
 use Rattle.trace_text.specs.declared.line.LineRefusal.TheVariants.{BadWord}
 use Rattle.trace_text.specs.Addresses.{address_of}
-use Rattle.trace_text.specs.Events.{slash, stops, is_over, addresses_from, next_addresses, next_group, groups_within}
+use Rattle.trace_text.specs.Events.{stops, addresses_from, next_addresses}
 use Rattle.trace_text.specs.Reading.{◌>>=◌, next_address}
 use Rattle.trace_text.specs.Words.{Unread}
 use Rattle.trace_text.proofs.Binds.{ok_parts}

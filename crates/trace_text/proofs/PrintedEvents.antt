@@ -1,13 +1,13 @@
 -- An event that is printed is read as itself.
-use Rattle.std.proofs.Common.{◌≡◌, ◌≢◌, ℕ, zero, suc, ◌+◌, ◌^◌, ◌<◌, ◌≤◌, Bool, true, false, ◌&&◌, cond, eqb, leb, not, List, [], ◌∷◌, ◌++◌, length, drop, map, Option, Some, None, decimal, refl, sym, ap, subst, ◌∙◌, arith, lit<}
-use Rattle.std.specs.Prelude.{codes, Result, Ok, Err}
+use Rattle.std.proofs.Common.{◌≡◌, ℕ, ◌^◌, ◌≤◌, Bool, true, false, ◌&&◌, eqb, leb, not, List, [], ◌∷◌, length, map, Some, None, decimal, refl, sym, ap, ◌∙◌, arith, lit<}
+use Rattle.std.specs.Prelude.{codes, Result, Ok}
 use Rattle.std.specs.List.{All, AllByRecursion, list_all, flat_map, join_with_byte}
 use Rattle.std.proofs.lemmas.Bool.{and_parts, eq-eqb, leb-true}
 use Rattle.std.proofs.lemmas.List.{append-nil}
 use Rattle.std.proofs.lemmas.List.Elements.{recursion_from_All}
 use Rattle.hex.specs.Hex.{encode_lower, lower_digits}
 use Rattle.net_base.specs.Bounds.{targets_fault, big_targets_fault}
-use Rattle.net_base.specs.Limits.{IsWithinLimits, IsBounded, IsPiece, HasValencies, ServesAnInterval}
+use Rattle.net_base.specs.Limits.{IsWithinLimits, HasValencies, ServesAnInterval}
 use Rattle.net_base.specs.declared.address.Addr.{Addr}
 use Rattle.net_base.specs.declared.event.Event.{Event}
 use Rattle.net_base.specs.declared.event.Event.TheVariants.{Now, Govern, Accepted, Dialed, Bytes, Closed, Aims, Locals, Roots, BigAims, Bigs}

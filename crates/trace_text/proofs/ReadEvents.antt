@@ -1,8 +1,8 @@
 -- A line that is read as an event is printed of that event.
-use Rattle.std.proofs.Common.{◌≡◌, ℕ, ◌+◌, ◌^◌, ◌<◌, ◌≤◌, Bool, true, false, ◌&&◌, cond, eqb, leb, List, [], ◌∷◌, ◌++◌, length, map, Option, Some, None, decimal, refl, sym, ap, subst, ◌∙◌, arith, lit<}
+use Rattle.std.proofs.Common.{◌≡◌, ℕ, ◌+◌, ◌^◌, ◌<◌, ◌≤◌, Bool, true, false, ◌&&◌, cond, eqb, List, [], ◌∷◌, ◌++◌, length, map, Option, Some, None, decimal, refl, sym, ap, subst, ◌∙◌, arith, lit<}
 use Rattle.std.specs.Prelude.{codes, bytes_eq, Result, Ok, Err, IfOk}
-use Rattle.std.specs.List.{AllByRecursion, flat_map, join_with_byte}
-use Rattle.std.proofs.lemmas.Bool.{cond_both, and_parts, and_from, eqb-true, le-leb}
+use Rattle.std.specs.List.{AllByRecursion, join_with_byte}
+use Rattle.std.proofs.lemmas.Bool.{cond_both, and_parts, eqb-true}
 use Rattle.std.proofs.lemmas.List.{append-nil}
 use Rattle.std.proofs.lemmas.List.Elements.{All-from_recursion}
 use Rattle.std.proofs.lemmas.List.Splits.{join_with_byte-slice_split}
@@ -23,15 +23,15 @@ use Rattle.trace_text.specs.declared.line.Line.TheVariants.{Head, Happen, Acted,
 use Rattle.trace_text.specs.declared.line.LineRefusal.{LineRefusal}
 use Rattle.trace_text.specs.declared.line.LineRefusal.TheVariants.{BadWord, BadNumber}
 use Rattle.trace_text.specs.Addresses.{address_of, printed_address}
-use Rattle.trace_text.specs.EventTexts.{IsEventIn, IsKnownIn, AreKnownIn, event_of, event_words, printed_event, outcome_word, group_words}
+use Rattle.trace_text.specs.EventTexts.{IsEventIn, IsKnownIn, AreKnownIn, event_of, event_words, printed_event, outcome_word}
 use Rattle.trace_text.specs.Events.{id_most, word_most, interval_most, in_bounds, outcome_of, piece_of, now_line, govern_line, accepted_line, dialed_line, bytes_line, closed_line, targets_line, big_targets_line, all_groups, locals_line, roots_line, roots_found, roots_failed, bigs_line, big_line, provided_line, event_line, next_addresses}
 use Rattle.trace_text.specs.Reading.{◌>>=◌, first_word, from_least, next_word, next_read, next_number, next_address, no_more, no_words}
 use Rattle.trace_text.specs.Words.{Unread, pieces_of, words_of}
-use Rattle.trace_text.proofs.Binds.{Bound, bound, ok_parts}
+use Rattle.trace_text.proofs.Binds.{bound, ok_parts}
 use Rattle.trace_text.proofs.GroupLaws.{addresses_only, groups_only}
 use Rattle.trace_text.proofs.HexPieces.{IsPieceOfBytes}
 use Rattle.trace_text.proofs.SettingLaws.{in_range}
-use Rattle.trace_text.proofs.Spelled.{IsNext, IsBetween, Always, same_bytes, numbers, addresses, outcomes, byte_pieces, next_only}
+use Rattle.trace_text.proofs.Spelled.{IsBetween, Always, same_bytes, numbers, addresses, outcomes, byte_pieces, next_only}
 
 -- ---- the end of a line
 

@@ -1,18 +1,16 @@
 -- Each kind of word in an event line has one spelling.
-use Rattle.std.proofs.Common.{◌≡◌, ℕ, ◌+◌, ◌^◌, ◌<◌, ◌≤◌, Bool, true, false, ◌&&◌, cond, leb, List, [], ◌∷◌, length, Option, Some, None, decimal, refl, sym, ap, ◌∙◌, arith, lit<}
-use Rattle.std.specs.Prelude.{codes, bytes_eq, Result, Ok, Err}
-use Rattle.std.specs.Option.{ok_or}
+use Rattle.std.proofs.Common.{◌≡◌, ℕ, ◌+◌, ◌^◌, ◌<◌, ◌≤◌, Bool, true, false, cond, leb, List, ◌∷◌, Option, Some, None, decimal, refl, sym, ap, ◌∙◌, arith}
+use Rattle.std.specs.Prelude.{codes, bytes_eq, Ok}
 use Rattle.std.proofs.lemmas.Bool.{leb-true, le-leb, cond-true, cond_both}
 use Rattle.std.proofs.lemmas.Option.{same_Some}
 use Rattle.std.proofs.lemmas.Slice.Eq.{bytes_eq-Decides}
 use Rattle.hex.specs.Hex.{encode_lower}
 use Rattle.net_base.specs.Number.{number_up_to}
-use Rattle.net_base.specs.declared.address.Addr.{Addr}
 use Rattle.trace_text.specs.declared.line.LineRefusal.{LineRefusal}
 use Rattle.trace_text.specs.Addresses.{address_of, printed_address}
 use Rattle.trace_text.specs.EventTexts.{IsKnownIn, outcome_word, sign_word}
 use Rattle.trace_text.specs.Events.{outcome_of, sign_of, piece_of}
-use Rattle.trace_text.specs.Reading.{◌>>=◌, from_least, next_read, this_word}
+use Rattle.trace_text.specs.Reading.{from_least, next_read, this_word}
 use Rattle.trace_text.specs.Words.{Unread}
 use Rattle.trace_text.proofs.AddressLaws.{address_of_only, address_of-printed}
 use Rattle.trace_text.proofs.Binds.{is_read}

@@ -1,5 +1,5 @@
 -- How events are printed, and which there are in a trace of a version.
-use Rattle.std.specs.Prelude.{ℕ, Bool, true, false, ◌≡◌, ◌≤◌, ◌<◌, ◌^◌, List, [], ◌∷◌, ◌++◌, map, codes, decimal, All, IsTrue, Result}
+use Rattle.std.specs.Prelude.{ℕ, Bool, true, false, ◌≡◌, ◌<◌, ◌^◌, List, [], ◌∷◌, map, codes, decimal, All, IsTrue, Result}
 use Rattle.std.specs.List.{join_with_byte, flat_map}
 use Rattle.hex.specs.Hex.{encode_lower}
 use Rattle.net_base.specs.declared.address.Addr.{Addr}

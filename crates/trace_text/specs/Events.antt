@@ -6,14 +6,10 @@ use Rattle.hex.specs.Hex.{decode_of}
 use Rattle.hex.specs.declared.error.FromHexError.{FromHexError}
 use Rattle.net_base.specs.Bounds.{targets_fault, big_targets_fault}
 use Rattle.net_base.specs.declared.address.Addr.{Addr}
-use Rattle.net_base.specs.declared.event.Event.{Event}
 use Rattle.net_base.specs.declared.event.Event.TheVariants.{Now, Govern, Accepted, Dialed, Bytes, Closed, Aims, Locals, Roots, BigAims, Bigs}
 use Rattle.net_base.specs.declared.event.Group.{Group}
-use Rattle.net_base.specs.declared.event.RootAnswer.{RootAnswer}
 use Rattle.net_base.specs.declared.event.RootAnswer.TheVariants.{Found, Failed}
 use Rattle.net_base.specs.declared.settings.Field.{Field}
-use Rattle.net_base.specs.declared.targets.BigTargets.{BigTargets}
-use Rattle.net_base.specs.declared.targets.Targets.{Targets}
 use Rattle.trace_text.specs.declared.line.Line.{Line}
 use Rattle.trace_text.specs.declared.line.Line.TheVariants.{Happen}
 use Rattle.trace_text.specs.declared.line.LineRefusal.{LineRefusal}

@@ -1,5 +1,5 @@
 -- The relation between lines and what they say, by their spelling.
-use Rattle.std.specs.Prelude.{ℕ, ◌-◌, ◌≡◌, ◌≤◌, ◌<◌, Bool, false, List, [], ◌∷◌, ◌++◌, get_or, codes, decimal}
+use Rattle.std.specs.Prelude.{ℕ, ◌-◌, ◌≡◌, ◌≤◌, ◌<◌, false, List, [], ◌∷◌, ◌++◌, get_or, codes, decimal}
 use Rattle.std.specs.List.{join_with_byte}
 use Rattle.net_base.specs.Limits.{IsWithinLimits}
 use Rattle.net_base.specs.declared.event.Event.{Event}
@@ -13,7 +13,6 @@ use Rattle.trace_text.specs.EventTexts.{IsEventIn, IsKnownIn, event_words, print
 use Rattle.trace_text.specs.HeadTexts.{printed_setting}
 use Rattle.trace_text.specs.Lines.{is_unbuilt}
 use Rattle.trace_text.specs.Settings.{Setting, setting, settings_under}
-use Rattle.trace_text.specs.Views.{first_of}
 
 -- the setting at a place, from 1
 abbrev pub setting_at : ℕ → ℕ → Setting

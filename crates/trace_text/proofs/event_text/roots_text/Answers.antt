@@ -1,7 +1,6 @@
 use Rattle.std.proofs.Common.{rules, map, decimal, [], ◌∷◌}
 use Rattle.std.specs.Prelude.{codes}
 use Rattle.trace_text.specs.Addresses.{printed_address}
-use Rattle.trace_text.specs.EventTexts.{answer_words}
 use Rattle.trace_text.proofs.SpacedWords.{join-spaced}
 use Rattle.trace_text.proofs.event_text.roots_text.Goals as goal
 

@@ -1,4 +1,4 @@
-use Rattle.std.proofs.Common.{ℕ, List, ◌∷◌, rules, length, take, ◌∙◌, arith, ap}
+use Rattle.std.proofs.Common.{ℕ, List, ◌∷◌, rules, ◌∙◌, ap}
 use Rattle.std.specs.List.{flat_map}
 use Rattle.std.proofs.Output.{has_written_of_eq, has_written_append}
 use Rattle.std.proofs.lemmas.List.{take_all}

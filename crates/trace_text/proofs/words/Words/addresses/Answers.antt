@@ -1,4 +1,4 @@
-use Rattle.std.proofs.Common.{rules, arith, refl, sym, ap, ◌∙◌}
+use Rattle.std.proofs.Common.{rules, arith, sym, ap, ◌∙◌}
 use Rattle.trace_text.proofs.Binds.{read_shorter}
 use Rattle.trace_text.proofs.Lists.{behind, addresses-end, addresses-more, addresses-refused}
 use Rattle.trace_text.specs.Addresses.{address_of}

@@ -1,4 +1,4 @@
-use Rattle.std.proofs.Common.{rules, arith, sym, ap, ◌∙◌, ◌≡◌, []}
+use Rattle.std.proofs.Common.{rules, sym, ap, ◌∙◌, ◌≡◌, []}
 use Rattle.trace_text.proofs.GroupLists.{ahead, group_shorter, groups-end, groups-more, groups-handed_on}
 use Rattle.std.proofs.lemmas.Bool.{true≢false}
 use Rattle.trace_text.specs.Events.{all_groups}
