@@ -219,10 +219,10 @@ fn events_of_version_2_alone(rt: HostRuntime) {
     assert_eq!(rt; first_taken(rt.alloc(), 1, &rows), None);
 }
 
-// How many bytes a line is read as that has so many zeros for digits.
-fn length_of_zeros(alloc: Global, digits: usize) -> Option<usize> {
+// How many bytes are read of a line of so many bytes, of which all behind the id are zeros.
+fn length_of_zeros(alloc: Global, length: usize) -> Option<usize> {
     let front = "bytes 1 ";
-    let mut line = vec![in alloc; b'0'; digits + 8].ok()?;
+    let mut line = vec![in alloc; b'0'; length].ok()?;
     for (place, first) in line.iter_mut().zip(front.bytes()) {
         *place = first;
     }
@@ -235,6 +235,6 @@ fn length_of_zeros(alloc: Global, digits: usize) -> Option<usize> {
 
 #[test]
 fn a_read_of_a_socket_has_its_limit(rt: HostRuntime) {
-    assert_eq!(rt; length_of_zeros(rt.alloc(), 131_072), Some(65_536));
-    assert_eq!(rt; length_of_zeros(rt.alloc(), 131_074), Some(0));
+    assert_eq!(rt; length_of_zeros(rt.alloc(), 131_080), Some(65_536));
+    assert_eq!(rt; length_of_zeros(rt.alloc(), 131_082), Some(0));
 }

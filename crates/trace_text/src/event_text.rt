@@ -12,9 +12,9 @@ use std::alloc::{AllocError, Global};
 
 /// The line of an event, without a line feed.
 pub fn print_event(alloc: Global, event: &Event) -> Result<Octets, OutOfMemory>
-    requires { IsWithinLimits event.now }
     ensures printed { IfOk result (λ line. line ≡ printed_event event.now) }
-    ensures read { IfOk result (λ line. (version : ℕ) → IsEventIn version event.now → event_of version line ≡ Ok (Happen event.now)) }
+    ensures read { IfOk result (λ line. (version : ℕ) → IsWithinLimits event.now → IsEventIn version event.now
+        → event_of version line ≡ Ok (Happen event.now)) }
 {
     let text = event_text(alloc, event)?;
     Ok(Octets::from_vec(text.into_bytes()))
