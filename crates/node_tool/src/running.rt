@@ -15,6 +15,7 @@ ghost use Rattle.node_tool.specs.Telling.{IsTold};
 use crate::Status;
 use crate::telling::tell;
 use io_edge::{Sink, Source};
+use laws::{laws_of_events, laws_of_records};
 use std::alloc::Global;
 use trace_replay::{Outcome, replay};
 
@@ -68,6 +69,8 @@ pub fn run<S: Source, K: Sink, E: Sink>(
     ensures records { (input : List ℕ) (count : ℕ) → IsLawfulRecord (machine_after count input) }
     ensures events { (input : List ℕ) (count : ℕ) (event : Event) → IsLawfulEvent (machine_after count input) event }
 {
+    laws_of_records();
+    laws_of_events();
     let status = answer(alloc, words, src, out);
     // A text that is not taken changes no status.
     let _ = tell(&status, err);

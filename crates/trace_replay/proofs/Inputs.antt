@@ -4,14 +4,7 @@ use Rattle.std.proofs.lemmas.List.{append_assoc}
 use Rattle.io_edge.specs.Lines.{whole_lines, unfinished_line}
 use Rattle.io_edge.specs.Told.{Gives, Takes}
 use Rattle.io_edge.proofs.ToldLemmas.{Gives-told}
-use Rattle.laws.specs.Parts.{IsLawfulEvent}
-use Rattle.laws.specs.Records.{IsLawfulRecord}
-use Rattle.laws.specs.Whole.{IsSteady}
-use Rattle.laws.proofs.PartEvents.{event-lawful}
-use Rattle.laws.proofs.PeerLaws.{steady-lawful}
-use Rattle.laws.proofs.WholeRuns.{after_all-steady}
 use Rattle.net_base.specs.Bounds.{AreSound}
-use Rattle.net_base.specs.declared.event.Event.{Event}
 use Rattle.net_base.specs.declared.refusal.RefusalKind.{RefusalKind}
 use Rattle.trace_text.specs.Stages.{first_stage}
 use Rattle.trace_replay.specs.Reading.{Reading, stage_behind, readings_from, readings_of, heads_in, events_in}
@@ -20,7 +13,7 @@ use Rattle.trace_replay.specs.Judgement.{Verdict, ended, refused, too_long, judg
 use Rattle.trace_replay.specs.Output.{output_for, output_of}
 use Rattle.trace_replay.specs.Passing.{ArePassed}
 use Rattle.trace_replay.specs.Replays.{verdict_of, outcome_of, AreDecisive, TakesPrefix, Replays}
-use Rattle.trace_replay.specs.Inputs.{IsDecided, IsReadUpTo, StopsReading, StopsWriting, machine_after}
+use Rattle.trace_replay.specs.Inputs.{IsDecided, IsReadUpTo, StopsReading, StopsWriting}
 use Rattle.trace_replay.specs.declared.outcome.Outcome.{Outcome}
 use Rattle.trace_replay.specs.declared.outcome.Outcome.TheVariants.{Done, Differ, Refused, ReadFault, WriteFault, OutOfMemory, WorldFault, TooLong}
 use Rattle.trace_replay.proofs.Heads.{AreSound-heads}
@@ -110,7 +103,7 @@ Replays-memory l0 l1 t0 t1 input r told =
       taken = r.is_outcome.taken;
     }
 
--- ---- the laws
+-- ---- the settings
 
 -- the lines in front of the one that decides have passed
 passed_of : (input : List ℕ) → ArePassed (judged input).passed
@@ -119,18 +112,6 @@ passed_of input =
     let on = judged_from-continues [] (whole_lines input) (unfinished_line input) in
     subst ArePassed (sym on.passed) (ArePassed-lines on.texts on.pass)
 
--- their settings are sound
-settings_sound : (input : List ℕ) → AreSound (settings_in (heads_in (judged input).passed))
+-- their settings are sound, so the machine that they are replayed on keeps the laws
+pub settings_sound : (input : List ℕ) → AreSound (settings_in (heads_in (judged input).passed))
 settings_sound input = AreSound-heads _ _ (AreFront-passed (judged input).passed (passed_of input)).head
-
-steady_after : (count : ℕ) (input : List ℕ) → IsSteady (machine_after count input)
-steady_after count input =
-    (after_all-steady (settings_in (heads_in (judged input).passed)) (take count (events_in (judged input).passed)) (settings_sound input)).steady
-
--- in every record that the run over an input reaches
-pub IsLawfulRecord-after : (input : List ℕ) (count : ℕ) → IsLawfulRecord (machine_after count input)
-IsLawfulRecord-after input count = steady-lawful (machine_after count input) (steady_after count input)
-
--- at each event there
-pub IsLawfulEvent-after : (input : List ℕ) (count : ℕ) (event : Event) → IsLawfulEvent (machine_after count input) event
-IsLawfulEvent-after input count event = event-lawful (machine_after count input) event (steady_after count input)

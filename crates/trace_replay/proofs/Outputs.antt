@@ -5,7 +5,7 @@ use Rattle.std.proofs.lemmas.List.{append_assoc, append-nil, length-append, leng
 use Rattle.std.proofs.lemmas.List.Elements.{filter_map-append}
 use Rattle.std.proofs.lemmas.List.Concat.{flat_map-append}
 use Rattle.io_edge.specs.Lines.{ended_lines}
-use Rattle.machine.specs.Events.{step}
+use Rattle.machine.specs.Step.{step}
 use Rattle.machine.specs.Machine.{Machine, start_of}
 use Rattle.machine.specs.Run.{after_all, actions_of}
 use Rattle.net_base.specs.declared.action.Action.{Action}

@@ -11,7 +11,6 @@ use Rattle.net_base.specs.Bounds.{AreSound}
 use Rattle.net_base.specs.declared.event.Event.{Event}
 use Rattle.net_base.specs.declared.event.Event.TheVariants.{Now, Govern, Accepted, Dialed, Bytes, Closed, Aims, Locals, Roots, BigAims, Bigs}
 use Rattle.net_base.specs.Limits.{IsWithinLimits}
-use Rattle.node_engine.specs.declared.engine.Engine.{Engine}
 use Rattle.trace_text.specs.Lines.{line_of, IsReading}
 use Rattle.trace_text.specs.Stages.{first_stage, stage_after}
 use Rattle.trace_text.specs.declared.line.HeadLine.{HeadLine}
@@ -25,10 +24,9 @@ use Rattle.trace_replay.specs.Settings.{settings_in}
 use Rattle.trace_replay.specs.Judgement.{Verdict, ended, refused, too_long, most_lines, most_events, verdict_by, verdict_at, number_behind}
 use Rattle.trace_replay.specs.Output.{start_in, told_event, lines_for}
 use Rattle.trace_replay.specs.Passing.{ArePassed}
-use Rattle.trace_replay.specs.Playback.{machine_or, events_taken, machine_before, StandsBehind, GoesOn, IsPlayed, IsLineWithin, IsSaid, TakesEvent, IsHappened, refusal_told}
+use Rattle.trace_replay.specs.Playback.{Begun, Kept, machine_or, events_taken, machine_before, StandsBehind, GoesOn, IsPlayed, IsLineWithin, IsSaid, TakesEvent, IsHappened, refusal_told}
 use Rattle.trace_replay.specs.declared.stop.Stop.{Stop}
 use Rattle.trace_replay.specs.declared.stop.Stop.TheVariants.{Ended, Refused, TooLong, OutOfMemory}
-use Rattle.trace_replay.specs.declared.playback.Playback.{Playback}
 use Rattle.trace_replay.proofs.Grammar.{IsHeadAt, IsLineAt, said_at-is}
 use Rattle.trace_replay.proofs.Heads.{AreSound-heads}
 use Rattle.trace_replay.proofs.Readings.{stage_behind-push, heads_in-append, events_in-append, IsFront, AreFront, AreFront-passed, no_events_before_head}
@@ -36,7 +34,7 @@ use Rattle.trace_replay.proofs.Judging.{verdict_at-short, ArePassed-none, ArePas
 use Rattle.trace_replay.proofs.Outputs.{after_all-push, lines_for-head, lines_for-acted, told_behind, lines_for-event}
 
 -- before any line
-pub StandsBehind-none : (playback : Playback) → playback.stage ≡ first_stage → playback.heads.items ≡ [] → playback.engine ≡ None → StandsBehind playback []
+pub StandsBehind-none : (playback : Kept) → playback.stage ≡ first_stage → playback.heads ≡ [] → playback.engine ≡ None → StandsBehind playback []
 unfolding stage_behind after_all
 StandsBehind-none playback stage heads engine = record {
   passed = ArePassed-none;
@@ -44,15 +42,15 @@ StandsBehind-none playback stage heads engine = record {
   heads = heads;
   machine = ap (machine_or (start_in [])) engine;
   events = ap events_taken engine;
-  begun = subst (λ (e : Option Engine). IfSome e (λ (x : Engine). 0 < x.events)) (sym engine) tt;
+  begun = subst (λ (e : Option Begun). IfSome e (λ (x : Begun). 0 < x.events)) (sym engine) tt;
 }
 
-no_engine : (engine : Option Engine) → events_taken engine ≡ 0 → IfSome engine (λ (x : Engine). 0 < x.events) → engine ≡ None
+no_engine : (engine : Option Begun) → events_taken engine ≡ 0 → IfSome engine (λ (x : Begun). 0 < x.events) → engine ≡ None
 no_engine None none begun = refl
 no_engine (Some engine) none begun = absurd (omega arith)
 
 -- settings that what is kept gives pass the check
-pub sound_behind : (playback : Playback) (readings : List Reading) → StandsBehind playback readings → AreSound (settings_in playback.heads.items)
+pub sound_behind : (playback : Kept) (readings : List Reading) → StandsBehind playback readings → AreSound (settings_in playback.heads)
 sound_behind playback readings stands =
     rw stands.heads (AreSound-heads _ (heads_in readings) (AreFront-passed readings stands.passed).head)
 
@@ -82,9 +80,9 @@ module _ (readings : List Reading) (text : List ℕ) (line : Line) (stands_passe
   stage_said = stage_behind-push readings (said_reading text line) first_stage
 
 -- a line of the head goes on
-head_on : (before next : Playback) (readings : List Reading) (text : List ℕ) (head : HeadLine) (written : List ℕ) →
+head_on : (before next : Kept) (readings : List Reading) (text : List ℕ) (head : HeadLine) (written : List ℕ) →
     StandsBehind before readings → length readings < most_lines → length text ≤ line_limit → Said readings text (Head head) →
-    next.stage ≡ stage_after before.stage (Head head) → next.heads.items ≡ before.heads.items ++ head ∷ [] → next.engine ≡ before.engine →
+    next.stage ≡ stage_after before.stage (Head head) → next.heads ≡ before.heads ++ head ∷ [] → next.engine ≡ before.engine →
     written ≡ ended_lines (text ∷ []) → GoesOn readings (said_reading text (Head head)) next written
 unfolding after_all
 head_on before next readings text head written stands few short said stage heads engine lines =
@@ -108,7 +106,7 @@ head_on before next readings text head written stands few short said stage heads
     }
 
 -- an action line changes nothing
-acted_on : (before : Playback) (readings : List Reading) (text : List ℕ) → StandsBehind before readings → length readings < most_lines → length text ≤ line_limit →
+acted_on : (before : Kept) (readings : List Reading) (text : List ℕ) → StandsBehind before readings → length readings < most_lines → length text ≤ line_limit →
     Said readings text Acted → GoesOn readings (said_reading text Acted) before []
 acted_on before readings text stands few short said =
     let reading = said_reading text Acted in
@@ -128,7 +126,7 @@ acted_on before readings text stands few short said =
     }
 
 -- the machine that the next event finds
-machine_found : (before : Playback) (readings : List Reading) → StandsBehind before readings → machine_before before ≡ after_all (start_in readings) (events_in readings)
+machine_found : (before : Kept) (readings : List Reading) → StandsBehind before readings → machine_before before ≡ after_all (start_in readings) (events_in readings)
 machine_found before readings stands =
     ap (λ (hs : List HeadLine). machine_or (start_of (settings_in hs)) before.engine) stands.heads ∙ stands.machine
 
@@ -139,7 +137,7 @@ verdict_by-event_late : (number events : ℕ) (event : Event) → most_events �
 verdict_by-event_late number events event late = rw (le-leb most_events events late) refl
 
 -- an event line goes on
-event_on : (before next : Playback) (readings : List Reading) (text : List ℕ) (event : Event) (written : List ℕ) →
+event_on : (before next : Kept) (readings : List Reading) (text : List ℕ) (event : Event) (written : List ℕ) →
     StandsBehind before readings → length readings < most_lines → length text ≤ line_limit → Said readings text (Happen event) → events_taken before.engine < most_events →
     next.stage ≡ stage_after before.stage (Happen event) → TakesEvent before event text next written → GoesOn readings (said_reading text (Happen event)) next written
 unfolding told_behind
@@ -171,30 +169,30 @@ event_on before next readings text event written stands few short said early sta
 -- ---- what the functions answer
 
 -- what is due of a line: its number, and that it is short
-pub record IsDue (before : Playback) (readings : List Reading) (number : ℕ) (text : List ℕ) : Type 0 where
+pub record IsDue (before : Kept) (readings : List Reading) (number : ℕ) (text : List ℕ) : Type 0 where
   pub stands : StandsBehind before readings
   pub number_is : number ≡ length readings + 1
   pub few : number ≤ 4000000
   pub short : length text ≤ 140000
 
-said_behind : (before : Playback) (readings : List Reading) (text : List ℕ) (said : Result Line LineRefusal) → StandsBehind before readings → said_at before.stage text ≡ said →
+said_behind : (before : Kept) (readings : List Reading) (text : List ℕ) (said : Result Line LineRefusal) → StandsBehind before readings → said_at before.stage text ≡ said →
     said_at (stage_behind readings first_stage) text ≡ said
 said_behind before readings text said stands e = ap (λ (s : Stage). said_at s text) (sym stands.stage) ∙ e
 
-goes_on_read : (readings : List Reading) (text : List ℕ) (line : Line) (next : Playback) (written : List ℕ) → Said readings text line →
+goes_on_read : (readings : List Reading) (text : List ℕ) (line : Line) (next : Kept) (written : List ℕ) → Said readings text line →
     GoesOn readings (said_reading text line) next written → GoesOn readings (reading_at (stage_behind readings first_stage) text) next written
 goes_on_read readings text line next written said on = subst (λ (r : Reading). GoesOn readings r next written) (sym (said_is readings text line said)) on
 
-pub head_played : (before next : Playback) (readings : List Reading) (number : ℕ) (text : List ℕ) (head : HeadLine) (written : List ℕ) →
+pub head_played : (before next : Kept) (readings : List Reading) (number : ℕ) (text : List ℕ) (head : HeadLine) (written : List ℕ) →
     IsDue before readings number text → said_at before.stage text ≡ Ok (Head head) →
-    next.stage ≡ stage_after before.stage (Head head) → next.heads.items ≡ before.heads.items ++ head ∷ [] → next.engine ≡ before.engine →
+    next.stage ≡ stage_after before.stage (Head head) → next.heads ≡ before.heads ++ head ∷ [] → next.engine ≡ before.engine →
     written ≡ ended_lines (text ∷ []) → GoesOn readings (reading_at (stage_behind readings first_stage) text) next written
 head_played before next readings number text head written due says stage heads engine lines =
     let said = said_behind before readings text (Ok (Head head)) due.stands says in
     goes_on_read readings text (Head head) next written said
     (head_on before next readings text head written due.stands (omega (arith, due.number_is, due.few)) due.short said stage heads engine lines)
 
-pub acted_played : (before : Playback) (readings : List Reading) (number : ℕ) (text : List ℕ) → IsDue before readings number text → said_at before.stage text ≡ Ok Acted →
+pub acted_played : (before : Kept) (readings : List Reading) (number : ℕ) (text : List ℕ) → IsDue before readings number text → said_at before.stage text ≡ Ok Acted →
     GoesOn readings (reading_at (stage_behind readings first_stage) text) before []
 acted_played before readings number text due says =
     let said = said_behind before readings text (Ok Acted) due.stands says in
@@ -202,7 +200,7 @@ acted_played before readings number text due says =
     (acted_on before readings text due.stands (omega (arith, due.number_is, due.few)) due.short said)
 
 -- a line that says something decides by it
-decides_by : (before : Playback) (readings : List Reading) (number : ℕ) (text : List ℕ) (said : Result Line LineRefusal) (verdict : Verdict) →
+decides_by : (before : Kept) (readings : List Reading) (number : ℕ) (text : List ℕ) (said : Result Line LineRefusal) (verdict : Verdict) →
     IsDue before readings number text → said_at before.stage text ≡ said → verdict_by number (length (events_in readings)) said ≡ Some verdict →
     verdict_at readings (reading_at (stage_behind readings first_stage) text) ≡ Some verdict
 decides_by before readings number text said verdict due says decides =
@@ -211,11 +209,11 @@ decides_by before readings number text said verdict due says decides =
     ∙ ap (verdict_by (number_behind readings) (length (events_in readings))) e
     ∙ ap (λ n. verdict_by n (length (events_in readings)) said) (sym due.number_is) ∙ decides
 
-pub end_played : (before : Playback) (readings : List Reading) (number : ℕ) (text : List ℕ) → IsDue before readings number text → said_at before.stage text ≡ Ok End →
+pub end_played : (before : Kept) (readings : List Reading) (number : ℕ) (text : List ℕ) → IsDue before readings number text → said_at before.stage text ≡ Ok End →
     verdict_at readings (reading_at (stage_behind readings first_stage) text) ≡ Some ended
 end_played before readings number text due says = decides_by before readings number text (Ok End) ended due says refl
 
-pub event_played : (before next : Playback) (readings : List Reading) (number : ℕ) (text : List ℕ) (event : Event) (result : Result (List ℕ) Stop) →
+pub event_played : (before next : Kept) (readings : List Reading) (number : ℕ) (text : List ℕ) (event : Event) (result : Result (List ℕ) Stop) →
     IsDue before readings number text → said_at before.stage text ≡ Ok (Happen event) → IsHappened before next number (stage_after before.stage (Happen event)) event text result →
     IsPlayed readings (reading_at (stage_behind readings first_stage) text) next result
 event_played before next readings number text event (Ok written) due says is =
@@ -229,7 +227,7 @@ event_played before next readings number text event (Err OutOfMemory) due says i
 event_played before next readings number text event (Err Ended) due says is = absurd is
 event_played before next readings number text event (Err (Refused line kind)) due says is = absurd is
 
-pub refusal_played : (before next : Playback) (readings : List Reading) (number : ℕ) (text : List ℕ) (refusal : LineRefusal) → IsDue before readings number text →
+pub refusal_played : (before next : Kept) (readings : List Reading) (number : ℕ) (text : List ℕ) (refusal : LineRefusal) → IsDue before readings number text →
     IsSaid before.stage text (Err refusal) → IsPlayed readings (reading_at (stage_behind readings first_stage) text) next (Err (refusal_told number refusal))
 refusal_played before next readings number text (BadWord place) due says = decides_by before readings number text _ _ due says refl
 refusal_played before next readings number text (BadNumber place) due says = decides_by before readings number text _ _ due says refl

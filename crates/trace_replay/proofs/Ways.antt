@@ -1,5 +1,5 @@
 -- How a replay that is on its way goes on, and what it has come to where it ends.
-use Rattle.std.proofs.Common.{◌≡◌, ◌≢◌, ℕ, zero, suc, ◌+◌, ◌-◌, ◌<◌, ◌≤◌, Bool, true, false, cond, List, [], ◌∷◌, ◌++◌, length, map, All, Option, Some, None, Result, Ok, Err, MatchResult, ◌⊎◌, inl, inr, ⊎_elim, refl, sym, ap, ◌∙◌, subst, arith}
+use Rattle.std.proofs.Common.{◌≡◌, ◌≢◌, ℕ, zero, suc, ◌+◌, ◌-◌, ◌<◌, ◌≤◌, Bool, true, false, cond, List, [], ◌∷◌, ◌++◌, length, map, All, Option, Some, None, Result, Ok, Err, MatchResult, OnOk, IfErr, ◌⊎◌, inl, inr, ⊎_elim, refl, sym, ap, ◌∙◌, subst, arith}
 use Rattle.std.specs.Io.KnownBytes.{IsAtEnd}
 use Rattle.std.proofs.lemmas.List.{append_assoc, append-nil, length-append, length-map, length_push, map-append}
 use Rattle.std.proofs.lemmas.List.Concat.{flat_map-append}
@@ -18,12 +18,11 @@ use Rattle.trace_replay.specs.Reading.{Reading, reading_at, stage_behind}
 use Rattle.trace_replay.specs.Judgement.{Verdict, ended, refused, too_long, most_lines, verdict_at, verdict_of_rest, number_behind, judged}
 use Rattle.trace_replay.specs.Output.{lines_for, last_lines, output_for, output_of}
 use Rattle.trace_replay.specs.Passing.{texts_of, ArePassed}
-use Rattle.trace_replay.specs.Playback.{StandsBehind, GoesOn}
+use Rattle.trace_replay.specs.Playback.{Kept, StandsBehind, GoesOn}
 use Rattle.trace_replay.specs.Replays.{verdict_of, outcome_of, AreDecisive, AreUndecided, TakesPrefix, IsOutcome, Replays}
 use Rattle.trace_replay.specs.UnderWay.{IsUnderWay, IsTurn, IsLineOutput, passing, last, IsCutShort, IsWritten, HasReadCount}
 use Rattle.trace_replay.specs.declared.outcome.Outcome.{Outcome}
 use Rattle.trace_replay.specs.declared.outcome.Outcome.TheVariants.{Done, Differ, Refused, ReadFault, WriteFault, OutOfMemory, WorldFault, TooLong}
-use Rattle.trace_replay.specs.declared.playback.Playback.{Playback}
 use Rattle.trace_replay.proofs.Judging.{judgement_of, judged_line, judged_rest, judged_too_long, long_by_bytes, long_by_number, rest_refused, ArePassed-none}
 use Rattle.trace_replay.proofs.Prefixes.{Begins, Begins-from, output_behind}
 
@@ -233,7 +232,7 @@ cut_at readings line kept l0 l1 t0 t1 t2 read one cut =
     }
 
 -- a line passes, and what it gives was written
-goes_at : (number : ℕ) (readings : List Reading) (line kept written : List ℕ) (next : Playback) (l0 l1 t0 t1 t2 : Option (List ℕ)) → number ≡ length readings + 1 →
+goes_at : (number : ℕ) (readings : List Reading) (line kept written : List ℕ) (next : Kept) (l0 l1 t0 t1 t2 : Option (List ℕ)) → number ≡ length readings + 1 →
     HasRead readings (line ++ 10 ∷ kept) l0 l1 t0 t1 → HasNoLineFeed line → GoesOn readings (reading_at (stage_behind readings first_stage) line) next written →
     Takes t1 t2 written → IsUnderWay (number + 1) next kept l0 l1 t0 t2
 goes_at number readings line kept written next l0 l1 t0 t1 t2 at read one on takes =
@@ -251,7 +250,7 @@ same_takes : (readings : List Reading) (tail : List ℕ) (l0 l1 t0 t1 t2 : Optio
 same_takes readings tail l0 l1 t0 t1 t2 read same = subst (λ (t : Option (List ℕ)). HasRead readings tail l0 l1 t0 t) (sym same) read
 
 -- a line was read, played and written
-line_turn : (number : ℕ) (next : Playback) (readings : List Reading) (line kept : List ℕ) (l0 l1 t0 t1 t2 : Option (List ℕ)) (result : Result (Unit {0}) Outcome) → number ≡ length readings + 1 →
+line_turn : (number : ℕ) (next : Kept) (readings : List Reading) (line kept : List ℕ) (l0 l1 t0 t1 t2 : Option (List ℕ)) (result : Result (Unit {0}) Outcome) → number ≡ length readings + 1 →
     HasRead readings (line ++ 10 ∷ kept) l0 l1 t0 t1 → HasNoLineFeed line → IsWritten readings (reading_at (stage_behind readings first_stage) line) next t1 t2 result →
     IsTurn number next kept l0 l1 t0 t2 result
 line_turn number next readings line kept l0 l1 t0 t1 t2 (Ok done) at read one is = goes_at number readings line kept is.0 next l0 l1 t0 t1 t2 at read one is.1 is.2
@@ -272,7 +271,7 @@ line_turn number next readings line kept l0 l1 t0 t1 t2 (Err WorldFault) at read
 -- ---- a turn
 
 -- what was read by a call on the reader, behind what was kept
-has_read : (number : ℕ) (playback : Playback) (kept bytes : List ℕ) (l0 l1 l2 t0 t1 : Option (List ℕ)) → (way : IsUnderWay number playback kept l0 l1 t0 t1) → Gives l1 l2 bytes →
+has_read : (number : ℕ) (playback : Kept) (kept bytes : List ℕ) (l0 l1 l2 t0 t1 : Option (List ℕ)) → (way : IsUnderWay number playback kept l0 l1 t0 t1) → Gives l1 l2 bytes →
     HasRead way.readings (kept ++ bytes) l0 l2 t0 t1
 has_read number playback kept bytes l0 l1 l2 t0 t1 way gives = record {
   passed = way.stands.passed;
@@ -282,7 +281,7 @@ has_read number playback kept bytes l0 l1 l2 t0 t1 way gives = record {
   takes = way.takes;
 }
 
-pub line_read : (number : ℕ) (playback next : Playback) (kept next_kept line : List ℕ) (l0 l1 l2 t0 t1 t2 : Option (List ℕ)) (result : Result (Unit {0}) Outcome) →
+pub line_read : (number : ℕ) (playback next : Kept) (kept next_kept line : List ℕ) (l0 l1 l2 t0 t1 t2 : Option (List ℕ)) (result : Result (Unit {0}) Outcome) →
     IsUnderWay number playback kept l0 l1 t0 t1 → ReadsLine l1 l2 kept next_kept (Ok (Line line)) →
     ((readings : List Reading) → StandsBehind playback readings → number ≡ length readings + 1 → IsWritten readings (reading_at (stage_behind readings first_stage) line) next t1 t2 result) →
     IsTurn number next next_kept l0 l2 t0 t2 result
@@ -292,20 +291,20 @@ line_read number playback next kept next_kept line l0 l1 l2 t0 t1 t2 result way 
     (subst (λ (bytes : List ℕ). HasRead way.readings bytes l0 l2 t0 t1) read.answer.1 all)
     read.answer.0.one_line (written way.readings way.stands way.number_is)
 
-pub over_read : (number : ℕ) (playback : Playback) (kept next_kept : List ℕ) (l0 l1 l2 t0 t1 : Option (List ℕ)) → number ≤ most_lines →
+pub over_read : (number : ℕ) (playback : Kept) (kept next_kept : List ℕ) (l0 l1 l2 t0 t1 : Option (List ℕ)) → number ≤ most_lines →
     IsUnderWay number playback kept l0 l1 t0 t1 → ReadsLine l1 l2 kept next_kept (Ok Over) → Replays l0 l2 t0 t1 (Refused number NoEnd)
 over_read number playback kept next_kept l0 l1 l2 t0 t1 few way read =
     let all = has_read number playback kept read.taken l0 l1 l2 t0 t1 way read.gives in
     subst (λ n. Replays l0 l2 t0 t1 (Refused n NoEnd)) (sym way.number_is)
     (over_at way.readings (kept ++ read.taken) l0 l2 t0 t1 all read.answer.0 read.answer.2 (omega (arith, way.number_is)))
 
-pub failed_read : (number : ℕ) (playback : Playback) (kept next_kept : List ℕ) (l0 l1 l2 t0 t1 : Option (List ℕ)) → number ≤ most_lines →
+pub failed_read : (number : ℕ) (playback : Kept) (kept next_kept : List ℕ) (l0 l1 l2 t0 t1 : Option (List ℕ)) → number ≤ most_lines →
     IsUnderWay number playback kept l0 l1 t0 t1 → ReadsLine l1 l2 kept next_kept (Err Failed) → Replays l0 l2 t0 t1 ReadFault
 failed_read number playback kept next_kept l0 l1 l2 t0 t1 few way read =
     let all = has_read number playback kept read.taken l0 l1 l2 t0 t1 way read.gives in
     failed_at way.readings (kept ++ read.taken) l0 l2 t0 t1 all read.answer.0 (omega (arith, way.number_is))
 
-pub too_long_read : (number : ℕ) (playback : Playback) (kept next_kept : List ℕ) (l0 l1 l2 t0 t1 : Option (List ℕ)) →
+pub too_long_read : (number : ℕ) (playback : Kept) (kept next_kept : List ℕ) (l0 l1 l2 t0 t1 : Option (List ℕ)) →
     IsUnderWay number playback kept l0 l1 t0 t1 → ReadsLine l1 l2 kept next_kept (Err LineTooLong) → Replays l0 l2 t0 t1 (TooLong number)
 too_long_read number playback kept next_kept l0 l1 l2 t0 t1 way read =
     let all = has_read number playback kept read.taken l0 l1 l2 t0 t1 way read.gives in
@@ -313,13 +312,13 @@ too_long_read number playback kept next_kept l0 l1 l2 t0 t1 way read =
     (too_long_at way.readings (kept ++ read.taken) (number_behind way.readings) l0 l2 t0 t1 all
     (past_decides way.readings (kept ++ read.taken) all.passed all.whole read.answer.0))
 
-pub memory_read : (number : ℕ) (playback : Playback) (kept next_kept : List ℕ) (l0 l1 l2 t0 t1 : Option (List ℕ)) →
+pub memory_read : (number : ℕ) (playback : Kept) (kept next_kept : List ℕ) (l0 l1 l2 t0 t1 : Option (List ℕ)) →
     IsUnderWay number playback kept l0 l1 t0 t1 → ReadsLine l1 l2 kept next_kept (Err NoMemory) → Replays l0 l2 t0 t1 OutOfMemory
 memory_read number playback kept next_kept l0 l1 l2 t0 t1 way read =
     memory_at way.readings (kept ++ read.taken) l0 l2 t0 t1 (has_read number playback kept read.taken l0 l1 l2 t0 t1 way read.gives)
 
 -- as many lines as a trace may have were read, and none of them was the last
-pub most_read : (number : ℕ) (playback : Playback) (kept : List ℕ) (l0 l1 t0 t1 : Option (List ℕ)) → most_lines < number →
+pub most_read : (number : ℕ) (playback : Kept) (kept : List ℕ) (l0 l1 t0 t1 : Option (List ℕ)) → most_lines < number →
     IsUnderWay number playback kept l0 l1 t0 t1 → Replays l0 l1 t0 t1 (TooLong number)
 most_read number playback kept l0 l1 t0 t1 most way =
     let all : HasRead way.readings kept l0 l1 t0 t1 = record { passed = way.stands.passed; whole = way.whole; gives = way.gives; takes = way.takes } in
@@ -327,8 +326,16 @@ most_read number playback kept l0 l1 t0 t1 most way =
     (too_long_at way.readings kept (number_behind way.readings) l0 l1 t0 t1 all
     (most_decides way.readings kept all.passed all.whole (omega (arith, way.number_is))))
 
+-- what a line that passes gives was put
+pub put_written : (readings : List Reading) (reading : Reading) (next : Kept) (t1 t2 : Option (List ℕ)) (written : List ℕ) (result : Result (Unit {0}) Outcome) → GoesOn readings reading next written →
+    OnOk result (Takes t1 t2 written) → IfErr result (λ outcome. TakesProperPrefix t1 t2 written) → IfErr result (λ outcome. outcome ≡ WriteFault) →
+    IsWritten readings reading next t1 t2 result
+put_written readings reading next t1 t2 written (Ok done) on whole part fault = (written, on, whole)
+put_written readings reading next t1 t2 written (Err outcome) on whole part fault =
+    rw fault (record { written = written; output = passing next on; part = part })
+
 -- before any line
-pub way_none : (playback : Playback) (left taken : Option (List ℕ)) → StandsBehind playback [] → IsUnderWay 1 playback [] left left taken taken
+pub way_none : (playback : Kept) (left taken : Option (List ℕ)) → StandsBehind playback [] → IsUnderWay 1 playback [] left left taken taken
 way_none playback left taken stands = record {
   readings = [];
   stands = stands;
@@ -344,7 +351,7 @@ no_memory left taken =
     memory_at [] [] left left taken taken (record { passed = ArePassed-none; whole = All-nil HasNoLineFeed; gives = Gives-nothing left; takes = Takes-nothing taken })
 
 -- no read fault comes of writing
-line_reads : (before now : ℕ) (next : Playback) (readings : List Reading) (reading : Reading) (t0 t1 : Option (List ℕ)) (result : Result (Unit {0}) Outcome) → now ≡ before →
+line_reads : (before now : ℕ) (next : Kept) (readings : List Reading) (reading : Reading) (t0 t1 : Option (List ℕ)) (result : Result (Unit {0}) Outcome) → now ≡ before →
     IsWritten readings reading next t0 t1 result → MatchResult result (λ _. now ≡ before) (HasReadCount before now)
 line_reads before now next readings reading t0 t1 (Ok done) calm is = calm
 line_reads before now next readings reading t0 t1 (Err Done) calm is = calm
@@ -356,7 +363,7 @@ line_reads before now next readings reading t0 t1 (Err (Differ n)) calm is = abs
 line_reads before now next readings reading t0 t1 (Err ReadFault) calm is = absurd is
 line_reads before now next readings reading t0 t1 (Err WorldFault) calm is = absurd is
 
-pub line_read-reads : (before now number : ℕ) (playback next : Playback) (kept line : List ℕ) (l0 l1 t0 t1 t2 : Option (List ℕ)) (result : Result (Unit {0}) Outcome) →
+pub line_read-reads : (before now number : ℕ) (playback next : Kept) (kept line : List ℕ) (l0 l1 t0 t1 t2 : Option (List ℕ)) (result : Result (Unit {0}) Outcome) →
     IsUnderWay number playback kept l0 l1 t0 t1 → now ≡ before →
     ((readings : List Reading) → StandsBehind playback readings → number ≡ length readings + 1 → IsWritten readings (reading_at (stage_behind readings first_stage) line) next t1 t2 result) →
     MatchResult result (λ _. now ≡ before) (HasReadCount before now)

@@ -7,8 +7,8 @@ use Rattle.machine.specs.Step.{step}
 use Rattle.net_base.specs.declared.event.Event.{Event}
 use Rattle.net_base.specs.declared.refusal.RefusalKind.TheVariants.{Word, Number, Targets, Order}
 use Rattle.net_base.specs.Limits.{IsWithinLimits}
-use Rattle.node_engine.specs.declared.engine.Engine.{Engine}
 use Rattle.trace_text.specs.Stages.{first_stage}
+use Rattle.trace_text.specs.declared.line.HeadLine.{HeadLine}
 use Rattle.trace_text.specs.declared.line.Line.{Line}
 use Rattle.trace_text.specs.declared.line.Line.TheVariants.{Head, Happen, Acted, End}
 use Rattle.trace_text.specs.declared.line.LineRefusal.{LineRefusal}
@@ -19,40 +19,57 @@ use Rattle.trace_replay.specs.Settings.{settings_in}
 use Rattle.trace_replay.specs.Judgement.{Verdict, ended, refused, too_long, most_events, verdict_at}
 use Rattle.trace_replay.specs.Output.{start_in, told_event, lines_for}
 use Rattle.trace_replay.specs.Passing.{ArePassed}
-use Rattle.trace_replay.specs.declared.playback.Playback.{Playback}
 use Rattle.trace_replay.specs.declared.stop.Stop.{Stop}
 use Rattle.trace_replay.specs.declared.stop.Stop.TheVariants.{Ended, Refused, TooLong, OutOfMemory}
 
+-- what contracts see of an engine: the type of one that holds closures has no name
+pub record Begun : Type 0 where
+  pub machine : Machine
+  pub events : ℕ
+
+-- what is kept of the lines that were read; the engine is made at the first event
+pub record Kept : Type 0 where
+  pub stage : Stage
+  pub heads : List HeadLine
+  pub engine : Option Begun
+
+abbrev pub begun : {E : Type 0} → Option E → (E → Machine) → (E → ℕ) → Option Begun
+begun None machine events = None
+begun (Some engine) machine events = Some (record { machine = machine engine; events = events engine })
+
+abbrev pub kept : Stage → List HeadLine → Option Begun → Kept
+kept stage heads engine = record { stage = stage; heads = heads; engine = engine }
+
 -- the engine's machine, or the one that it will begin with
-abbrev pub machine_or : Machine → Option Engine → Machine
+abbrev pub machine_or : Machine → Option Begun → Machine
 machine_or start None = start
 machine_or start (Some engine) = engine.machine
 
-abbrev pub events_taken : Option Engine → ℕ
+abbrev pub events_taken : Option Begun → ℕ
 events_taken None = 0
 events_taken (Some engine) = engine.events
 
 -- the machine that the next event finds
-abbrev pub machine_before : Playback → Machine
-machine_before playback = machine_or (start_of (settings_in playback.heads.items)) playback.engine
+abbrev pub machine_before : Kept → Machine
+machine_before playback = machine_or (start_of (settings_in playback.heads)) playback.engine
 
--- What is kept of lines that pass. The engine is made at the first event.
-pub record StandsBehind (playback : Playback) (readings : List Reading) : Type 0 where
+-- What is kept of lines that pass.
+pub record StandsBehind (playback : Kept) (readings : List Reading) : Type 0 where
   pub passed : ArePassed readings
   pub stage : playback.stage ≡ stage_behind readings first_stage
-  pub heads : playback.heads.items ≡ heads_in readings
+  pub heads : playback.heads ≡ heads_in readings
   pub machine : machine_or (start_in readings) playback.engine ≡ after_all (start_in readings) (events_in readings)
   pub events : events_taken playback.engine ≡ length (events_in readings)
   pub begun : IfSome playback.engine (λ engine. 0 < engine.events)
 
 -- A line passes: what is kept stands behind it too, and its lines are written behind those before.
-pub record GoesOn (readings : List Reading) (reading : Reading) (next : Playback) (written : List ℕ) : Type 0 where
+pub record GoesOn (readings : List Reading) (reading : Reading) (next : Kept) (written : List ℕ) : Type 0 where
   pub passes : verdict_at readings reading ≡ None
   pub stands : StandsBehind next (readings ++ reading ∷ [])
   pub lines : ended_lines (lines_for (readings ++ reading ∷ [])) ≡ ended_lines (lines_for readings) ++ written
 
 -- What one line more comes to: it passes, or it decides. Where it decides nothing is said of what is kept.
-abbrev pub IsPlayed : List Reading → Reading → Playback → Result (List ℕ) Stop → Type 0
+abbrev pub IsPlayed : List Reading → Reading → Kept → Result (List ℕ) Stop → Type 0
 IsPlayed readings reading next (Ok written) = GoesOn readings reading next written
 IsPlayed readings reading next (Err Ended) = verdict_at readings reading ≡ Some ended
 IsPlayed readings reading next (Err (Refused line kind)) = verdict_at readings reading ≡ Some (refused line kind)
@@ -76,15 +93,15 @@ IsSaid stage text (Err OutOfOrder) = said_at stage text ≡ Err OutOfOrder
 IsSaid stage text (Err NoMemory) = Unit {0}
 
 -- An event is taken: the engine's machine steps, or the one that it begins with; the event line and its actions are written.
-pub record TakesEvent (before : Playback) (event : Event) (text : List ℕ) (next : Playback) (written : List ℕ) : Type 0 where
-  pub heads : next.heads.items ≡ before.heads.items
+pub record TakesEvent (before : Kept) (event : Event) (text : List ℕ) (next : Kept) (written : List ℕ) : Type 0 where
+  pub heads : next.heads ≡ before.heads
   pub machine : (start : Machine) → machine_or start next.engine ≡ (step (machine_before before) event).machine
   pub events : events_taken next.engine ≡ events_taken before.engine + 1
   pub begun : IfSome next.engine (λ engine. 0 < engine.events)
   pub lines : written ≡ ended_lines (told_event (text, (step (machine_before before) event).actions))
 
 -- An event line is played: the event is taken, or it is one too many.
-abbrev pub IsHappened : Playback → Playback → ℕ → Stage → Event → List ℕ → Result (List ℕ) Stop → Type 0
+abbrev pub IsHappened : Kept → Kept → ℕ → Stage → Event → List ℕ → Result (List ℕ) Stop → Type 0
 IsHappened before next number stage event text (Ok written) =
     (events_taken before.engine < most_events) × (next.stage ≡ stage) × TakesEvent before event text next written
 IsHappened before next number stage event text (Err (TooLong line)) = (most_events ≤ events_taken before.engine) × (line ≡ number)

@@ -7,15 +7,14 @@ use Rattle.trace_replay.specs.Reading.{Reading}
 use Rattle.trace_replay.specs.Judgement.{Verdict, ended, refused, too_long, verdict_at}
 use Rattle.trace_replay.specs.Output.{lines_for, last_lines}
 use Rattle.trace_replay.specs.Passing.{texts_of}
-use Rattle.trace_replay.specs.Playback.{StandsBehind, GoesOn}
+use Rattle.trace_replay.specs.Playback.{Kept, StandsBehind, GoesOn}
 use Rattle.trace_replay.specs.Replays.{Replays}
 use Rattle.trace_replay.specs.declared.outcome.Outcome.{Outcome}
 use Rattle.trace_replay.specs.declared.outcome.Outcome.TheVariants.{Done, Differ, Refused, ReadFault, WriteFault, OutOfMemory, WorldFault, TooLong}
-use Rattle.trace_replay.specs.declared.playback.Playback.{Playback}
 
 -- Before the line with a number: the lines before it pass, and what they give was written. Behind them some bytes
 -- that were read are kept.
-pub record IsUnderWay (number : ℕ) (playback : Playback) (kept : List ℕ) (left_before left_now taken_before taken_now : Option (List ℕ)) : Type 0 where
+pub record IsUnderWay (number : ℕ) (playback : Kept) (kept : List ℕ) (left_before left_now taken_before taken_now : Option (List ℕ)) : Type 0 where
   pub readings : List Reading
   pub stands : StandsBehind playback readings
   pub number_is : number ≡ length readings + 1
@@ -24,13 +23,13 @@ pub record IsUnderWay (number : ℕ) (playback : Playback) (kept : List ℕ) (le
   pub takes : Takes taken_before taken_now (ended_lines (lines_for readings))
 
 -- It goes on to the next line, or ends.
-abbrev pub IsTurn : ℕ → Playback → List ℕ → Option (List ℕ) → Option (List ℕ) → Option (List ℕ) → Option (List ℕ) → Result (Unit {0}) Outcome → Type 0
+abbrev pub IsTurn : ℕ → Kept → List ℕ → Option (List ℕ) → Option (List ℕ) → Option (List ℕ) → Option (List ℕ) → Result (Unit {0}) Outcome → Type 0
 IsTurn number next kept left_before left_now taken_before taken_now (Ok done) = IsUnderWay (number + 1) next kept left_before left_now taken_before taken_now
 IsTurn number next kept left_before left_now taken_before taken_now (Err outcome) = Replays left_before left_now taken_before taken_now outcome
 
 -- what is written for a line that passes, and for the last one
 pub data IsLineOutput (readings : List Reading) (reading : Reading) (written : List ℕ) : Type 0 where
-  passing : (next : Playback) → GoesOn readings reading next written → IsLineOutput readings reading written
+  passing : (next : Kept) → GoesOn readings reading next written → IsLineOutput readings reading written
   last : verdict_at readings reading ≡ Some ended → written ≡ ended_lines (last_lines ended) → IsLineOutput readings reading written
 
 -- a front of what is written for a line was taken
@@ -40,7 +39,7 @@ pub record IsCutShort (readings : List Reading) (reading : Reading) (taken_befor
   pub part : TakesProperPrefix taken_before taken_now written
 
 -- a line is played, and what it gives is written
-abbrev pub IsWritten : List Reading → Reading → Playback → Option (List ℕ) → Option (List ℕ) → Result (Unit {0}) Outcome → Type 0
+abbrev pub IsWritten : List Reading → Reading → Kept → Option (List ℕ) → Option (List ℕ) → Result (Unit {0}) Outcome → Type 0
 IsWritten readings reading next before now (Ok done) = (written : List ℕ) × GoesOn readings reading next written × Takes before now written
 IsWritten readings reading next before now (Err Done) = (verdict_at readings reading ≡ Some ended) × Takes before now (ended_lines (last_lines ended))
 IsWritten readings reading next before now (Err (Refused line kind)) = (verdict_at readings reading ≡ Some (refused line kind)) × (now ≡ before)

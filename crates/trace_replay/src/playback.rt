@@ -3,7 +3,7 @@ ghost use Rattle.io_edge.specs.Lines.{ended_lines};
 ghost use Rattle.net_base.specs.Bounds.{AreSound};
 ghost use Rattle.net_base.specs.Limits.{IsWithinLimits};
 ghost use Rattle.trace_text.specs.Stages.{first_stage};
-ghost use Rattle.trace_replay.specs.Playback.{events_taken, StandsBehind, IsPlayed, IsLineWithin, IsSaid, TakesEvent, IsHappened, refusal_told};
+ghost use Rattle.trace_replay.specs.Playback.{begun, kept, events_taken, StandsBehind, IsPlayed, IsLineWithin, IsSaid, TakesEvent, IsHappened, refusal_told};
 ghost use Rattle.trace_replay.specs.Reading.{Reading, said_at, reading_at, stage_behind};
 ghost use Rattle.trace_replay.specs.Settings.{settings_in};
 
@@ -36,7 +36,7 @@ pub(crate) struct Playback {
 impl Playback {
     /// No line was read yet. Takes no memory.
     pub(crate) fn new(alloc: Global, pickers: Pickers) -> Playback
-        ensures { StandsBehind result [] }
+        ensures { StandsBehind (kept result.stage result.heads.items (begun result.engine (λ e. e.machine) (λ e. e.events))) [] }
     {
         Playback {
             alloc,
@@ -49,7 +49,7 @@ impl Playback {
 
     // How many events were taken.
     fn events(&self) -> u64
-        ensures { result ≡ events_taken self.now.engine }
+        ensures { result ≡ events_taken (begun self.now.engine (λ e. e.machine) (λ e. e.events)) }
     {
         match &self.engine {
             None => 0,
@@ -73,10 +73,11 @@ impl Playback {
     // An event line, with the stage behind it.
     fn event(&mut self, stage: Stage, event: Event, text: &[u8]) -> Result<Octets, OutOfMemory>
         requires sound { AreSound (settings_in self.old.heads.items) }
-        requires few { events_taken self.old.engine < 1_000_000 }
+        requires few { events_taken (begun self.old.engine (λ e. e.machine) (λ e. e.events)) < 1_000_000 }
         requires within { IsWithinLimits event }
         ensures stage { OnOk result (self.new.stage ≡ stage) }
-        ensures taken { IfOk result (λ written. TakesEvent self.old event text.now self.new written) }
+        ensures taken { IfOk result (λ written. TakesEvent (kept self.old.stage self.old.heads.items (begun self.old.engine (λ e. e.machine) (λ e. e.events))) event text.now
+            (kept self.new.stage self.new.heads.items (begun self.new.engine (λ e. e.machine) (λ e. e.events))) written) }
     {
         let (engine, pickers) = (self.engine.take(), self.pickers.take());
         let engine = engine_or_first(self.alloc, engine, pickers, &self.heads)?;
@@ -97,7 +98,8 @@ impl Playback {
     ) -> Result<Octets, Stop>
         requires sound { AreSound (settings_in self.old.heads.items) }
         requires within { IsWithinLimits event }
-        ensures { IsHappened self.old self.new number stage event text.now result }
+        ensures { IsHappened (kept self.old.stage self.old.heads.items (begun self.old.engine (λ e. e.machine) (λ e. e.events)))
+            (kept self.new.stage self.new.heads.items (begun self.new.engine (λ e. e.machine) (λ e. e.events))) number stage event text.now result }
     {
         if self.events() >= EVENTS_MOST {
             return Err(Stop::TooLong { line: number });
@@ -111,9 +113,9 @@ impl Playback {
         requires within { IsLineWithin line }
         requires few { number ≤ 4_000_000 }
         requires short { length text.now ≤ 140_000 }
-        ensures { (readings : List Reading) → StandsBehind self.old readings → number ≡ length readings + 1
+        ensures { (readings : List Reading) → StandsBehind (kept self.old.stage self.old.heads.items (begun self.old.engine (λ e. e.machine) (λ e. e.events))) readings → number ≡ length readings + 1
             → said_at self.old.stage text.now ≡ Ok line
-            → IsPlayed readings (reading_at (stage_behind readings first_stage) text.now) self.new result }
+            → IsPlayed readings (reading_at (stage_behind readings first_stage) text.now) (kept self.new.stage self.new.heads.items (begun self.new.engine (λ e. e.machine) (λ e. e.events))) result }
     {
         let stage = self.stage.after(&line);
         match line {
@@ -130,8 +132,8 @@ impl Playback {
         requires sound { AreSound (settings_in self.old.heads.items) }
         requires few { number ≤ 4_000_000 }
         requires short { length text.now ≤ 140_000 }
-        ensures { (readings : List Reading) → StandsBehind self.old readings → number ≡ length readings + 1
-            → IsPlayed readings (reading_at (stage_behind readings first_stage) text.now) self.new result }
+        ensures { (readings : List Reading) → StandsBehind (kept self.old.stage self.old.heads.items (begun self.old.engine (λ e. e.machine) (λ e. e.events))) readings → number ≡ length readings + 1
+            → IsPlayed readings (reading_at (stage_behind readings first_stage) text.now) (kept self.new.stage self.new.heads.items (begun self.new.engine (λ e. e.machine) (λ e. e.events))) result }
     {
         match read(self.alloc, &self.stage, text) {
             Ok(line) => self.play(number, line, text),

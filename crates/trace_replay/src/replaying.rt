@@ -4,7 +4,7 @@ ghost use Rattle.io_edge.specs.Lines.{HasNoLineFeed};
 ghost use Rattle.io_edge.specs.Told.{Takes, TakesProperPrefix};
 ghost use Rattle.net_base.specs.Bounds.{AreSound};
 ghost use Rattle.trace_text.specs.Stages.{first_stage};
-ghost use Rattle.trace_replay.specs.Playback.{StandsBehind};
+ghost use Rattle.trace_replay.specs.Playback.{begun, kept, StandsBehind};
 ghost use Rattle.trace_replay.specs.Reading.{Reading, reading_at, stage_behind};
 ghost use Rattle.trace_replay.specs.Replays.{Replays, outcome_or};
 ghost use Rattle.trace_replay.specs.Settings.{settings_in};
@@ -72,8 +72,9 @@ fn replay_lines<S: Source, K: Sink>(
 {
     let mut playback = Playback::new(alloc, pickers);
     for number in 1..=LINES_MOST {
-        if let Err(outcome) = turn(number, &mut playback, reader, src, out) {
-            return outcome;
+        match turn(number, &mut playback, reader, src, out) {
+            Ok(()) => {}
+            Err(outcome) => return outcome,
         }
     }
     Outcome::TooLong {
@@ -92,10 +93,10 @@ fn turn<S: Source, K: Sink>(
     requires sound { AreSound (settings_in playback.old.heads.items) }
     requires few { number ≤ 4_000_000 }
     ensures turn { (left taken : Option (List ℕ)) →
-        IsUnderWay number playback.old reader.old left (S.left src.old) taken (K.taken out.old) →
-        IsTurn number playback.new reader.new left (S.left src.new) taken (K.taken out.new) result }
+        IsUnderWay number (kept playback.old.stage playback.old.heads.items (begun playback.old.engine (λ e. e.machine) (λ e. e.events))) reader.old left (S.left src.old) taken (K.taken out.old) →
+        IsTurn number (kept playback.new.stage playback.new.heads.items (begun playback.new.engine (λ e. e.machine) (λ e. e.events))) reader.new left (S.left src.new) taken (K.taken out.new) result }
     ensures reads { (left taken : Option (List ℕ)) →
-        IsUnderWay number playback.old reader.old left (S.left src.old) taken (K.taken out.old) →
+        IsUnderWay number (kept playback.old.stage playback.old.heads.items (begun playback.old.engine (λ e. e.machine) (λ e. e.events))) reader.old left (S.left src.old) taken (K.taken out.old) →
         MatchResult result (λ _. S.faults src.new ≡ S.faults src.old) (HasReadCount (S.faults src.old) (S.faults src.new)) }
     ensures writes { MatchResult result (λ _. K.faults out.new ≡ K.faults out.old) (HasWriteCount (K.faults out.old) (K.faults out.new)) }
 {
@@ -121,8 +122,8 @@ fn write_line<K: Sink>(
     requires sound { AreSound (settings_in playback.old.heads.items) }
     requires few { number ≤ 4_000_000 }
     requires short { length line.now ≤ 140_000 }
-    ensures written { (readings : List Reading) → StandsBehind playback.old readings → number ≡ length readings + 1
-        → IsWritten readings (reading_at (stage_behind readings first_stage) line.now) playback.new (K.taken out.old) (K.taken out.new) result }
+    ensures written { (readings : List Reading) → StandsBehind (kept playback.old.stage playback.old.heads.items (begun playback.old.engine (λ e. e.machine) (λ e. e.events))) readings → number ≡ length readings + 1
+        → IsWritten readings (reading_at (stage_behind readings first_stage) line.now) (kept playback.new.stage playback.new.heads.items (begun playback.new.engine (λ e. e.machine) (λ e. e.events))) (K.taken out.old) (K.taken out.new) result }
     ensures writes { MatchResult result (λ _. K.faults out.new ≡ K.faults out.old) (HasWriteCount (K.faults out.old) (K.faults out.new)) }
 {
     match playback.line(number, line) {

@@ -1,7 +1,7 @@
 ghost use Rattle.std.specs.Prelude.{◌≡◌, IfOk};
 ghost use Rattle.machine.specs.Machine.{start_of};
 ghost use Rattle.net_base.specs.Bounds.{AreSound};
-ghost use Rattle.trace_replay.specs.Playback.{machine_or, events_taken};
+ghost use Rattle.trace_replay.specs.Playback.{begun, machine_or, events_taken};
 ghost use Rattle.trace_replay.specs.Settings.{settings_in};
 
 use crate::head::settings_of;
@@ -20,8 +20,8 @@ pub(crate) fn engine_or_first(
     heads: &[HeadLine],
 ) -> Result<Engine, OutOfMemory>
     requires { AreSound (settings_in heads.now) }
-    ensures machine { IfOk result (λ e. e.machine ≡ machine_or (start_of (settings_in heads.now)) engine) }
-    ensures events { IfOk result (λ e. e.events ≡ events_taken engine) }
+    ensures machine { IfOk result (λ e. e.machine ≡ machine_or (start_of (settings_in heads.now)) (begun engine (λ e. e.machine) (λ e. e.events))) }
+    ensures events { IfOk result (λ e. e.events ≡ events_taken (begun engine (λ e. e.machine) (λ e. e.events))) }
 {
     match (engine, pickers) {
         (Some(engine), _) => Ok(engine),

@@ -1,6 +1,9 @@
-use Rattle.std.proofs.Common.{map, string_bytes, ⊎_elim}
+use Rattle.std.proofs.Common.{map, string_bytes, take, ⊎_elim}
 use Rattle.std.proofs.lemmas.Bool.{cases_Bool}
-use Rattle.trace_replay.proofs.Inputs.{IsLawfulRecord-after, IsLawfulEvent-after}
+use Rattle.trace_replay.specs.Judgement.{judged}
+use Rattle.trace_replay.specs.Reading.{heads_in, events_in}
+use Rattle.trace_replay.specs.Settings.{settings_in}
+use Rattle.trace_replay.proofs.Inputs.{settings_sound}
 use Rattle.node_tool.specs.Run.{is_replay}
 use Rattle.node_tool.proofs.RunLemmas.{IsReplayed-memory}
 use Rattle.node_tool.proofs.running.run.Goals as goal
@@ -13,7 +16,9 @@ returns-clause-memory g c = λ input told is.
     (cases_Bool (is_replay (map string_bytes c.args.words.now)))
 
 pub returns-clause-records : goal.returns-clause-records
-returns-clause-records g c = IsLawfulRecord-after
+returns-clause-records g c = λ input count.
+    c.laws_of_records.ensures.runs (settings_in (heads_in (judged input).passed)) (take count (events_in (judged input).passed)) (settings_sound input)
 
 pub returns-clause-events : goal.returns-clause-events
-returns-clause-events g c = IsLawfulEvent-after
+returns-clause-events g c = λ input count event.
+    c.laws_of_events.ensures.runs (settings_in (heads_in (judged input).passed)) (take count (events_in (judged input).passed)) event (settings_sound input)

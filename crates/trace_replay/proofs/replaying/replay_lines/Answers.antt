@@ -7,7 +7,10 @@ use Rattle.trace_replay.proofs.Ways.{way_none, most_read}
 use Rattle.trace_replay.proofs.replaying.replay_lines.Goals as goal
 
 pub turn-requires-clause-sound : goal.turn-requires-clause-sound
-turn-requires-clause-sound g c = sound_behind c.loop-number.playback c.loop-number.invariant.way.readings c.loop-number.invariant.way.stands
+turn-requires-clause-sound g c = sound_behind _ c.loop-number.invariant.way.readings c.loop-number.invariant.way.stands
+
+pub returns-in-Err-clause-replays : goal.returns-in-Err-clause-replays
+returns-in-Err-clause-replays g c = c.in-Err.ensures.turn _ _ c.loop-number.invariant.way
 
 pub returns-in-Err-clause-reads : goal.returns-in-Err-clause-reads
 returns-in-Err-clause-reads g c =
@@ -25,4 +28,4 @@ pub returns-clause-replays : goal.returns-clause-replays
 returns-clause-replays g c =
     let number : c.loop-number.number ≡ 4000001 = omega arith in
     subst (λ (n : ℕ). Replays (g.S.Source.left c.args.src.now) (g.S.Source.left c.loop-number.src) (g.K.Sink.taken c.args.out.now) (g.K.Sink.taken c.loop-number.out) (TooLong n)) number
-    (most_read c.loop-number.number c.loop-number.playback c.loop-number.reader _ _ _ _ (omega arith) c.loop-number.invariant.way)
+    (most_read c.loop-number.number _ c.loop-number.reader _ _ _ _ (omega arith) c.loop-number.invariant.way)

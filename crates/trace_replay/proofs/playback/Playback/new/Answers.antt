@@ -3,4 +3,4 @@ use Rattle.trace_replay.proofs.Playing.{StandsBehind-none}
 use Rattle.trace_replay.proofs.playback.Playback.new.Goals as goal
 
 pub returns : goal.returns
-returns c = StandsBehind-none _ c.first.ensures c.new.ensures.items refl
+returns g c = StandsBehind-none _ c.first.ensures c.new.ensures.items refl
