@@ -2,8 +2,24 @@ ghost use Rattle.std.specs.Prelude.{◌≡◌, ◌+◌, ◌<◌, ◌≤◌, IfOk
 ghost use Rattle.net_base.specs.Limits.{IsWithinLimits};
 
 use super::*;
-use net_base::{Action, Addr, Away, CloseCause, FaultKind, Field, Ip, StateName};
+use net_base::{
+    Action, AddrList, Away, CloseCause, FaultKind, Field, Group, GroupList, Ip, Octets, PeerNote,
+    StateName, Temp,
+};
+use std::alloc::AllocError;
 use std::test::Fail;
+
+// A node proposes two versions, or takes the greater one.
+const PROPOSAL: [u8; 25] = [
+    0, 0, 0, 0, 0, 0, 0, 0x11, 0x82, 0, 0xa2, 0x0d, 0x84, 0x18, 0x2a, 0xf4, 1, 0xf4, 0x0e, 0x84,
+    0x18, 0x2a, 0xf4, 1, 0xf4,
+];
+
+const ACCEPTANCE: [u8; 17] = [
+    0, 0, 0, 0, 0x80, 0, 0, 9, 0x83, 1, 0x0e, 0x84, 0x18, 0x2a, 0xf4, 1, 0xf4,
+];
+// Its first keep-alive.
+const ALIVE: [u8; 11] = [0, 0, 0, 0, 0, 8, 0, 3, 0x82, 0, 1];
 
 // The usual settings, but for the limits.
 fn settings(hard: u64, soft: u64) -> Settings {
@@ -40,16 +56,39 @@ fn accepted(port: u16) -> Event
     Event::Accepted(local(port))
 }
 
+// One group of one member, that is to be warm.
+fn locals(alloc: Global, port: u16) -> Result<Event, OutOfMemory>
+    ensures { IfOk result (λ event. IsWithinLimits event) }
+{
+    let members = AddrList::from_slice(alloc, &[local(port)])?;
+    let mut groups = GroupList::new(alloc);
+    groups.push(Group {
+        hot: 0,
+        warm: 1,
+        advertise: false,
+        members,
+    })?;
+    Ok(Event::Locals(groups))
+}
+
+fn sends(alloc: Global, bytes: &[u8]) -> Result<Action, OutOfMemory> {
+    Ok(Action::Send(Cid(1), Octets::from_slice(alloc, bytes)?))
+}
+
+fn named(cid: u64, name: StateName) -> Action {
+    Action::State(Cid(cid), name)
+}
+
 fn admitted(cid: u64, port: u16) -> Action {
     Action::Admit(Cid(cid), local(port))
 }
 
 fn greets(cid: u64) -> Action {
-    Action::State(Cid(cid), StateName::UnnegotiatedInbound)
+    named(cid, StateName::UnnegotiatedInbound)
 }
 
 fn went(cid: u64) -> Action {
-    Action::State(Cid(cid), StateName::Terminated)
+    named(cid, StateName::Terminated)
 }
 
 fn waited(cid: u64) -> Action {
@@ -68,7 +107,15 @@ fn take(engine: Engine, event: Event) -> Result<(Engine, ActionList), Fail>
 
 #[test]
 fn pauses_above_soft_and_turns_away_at_hard(rt: HostRuntime) -> Result<(), Fail> {
-    let engine = Engine::new(rt.alloc(), settings(2, 1))?;
+    let alloc = rt.alloc();
+    let picker = Picker::new(Box::new(alloc, |addr: Addr, word: u64| {
+        addr.key().wrapping_add(word)
+    })?);
+    let ranked = RankedPicker::new(Box::new(alloc, |addr: Addr, failures: u64, word: u64| {
+        failures.min(65_535) * 281_474_976_710_656
+            + addr.key().wrapping_add(word) % 281_474_976_710_656
+    })?);
+    let engine = Engine::new(alloc, settings(2, 1), picker, ranked)?;
     let (engine, actions) = take(engine, accepted(3002))?;
     assert_eq!(rt;
         actions.as_slice(),
@@ -95,7 +142,15 @@ fn pauses_above_soft_and_turns_away_at_hard(rt: HostRuntime) -> Result<(), Fail>
 
 #[test]
 fn ends_a_handshake_at_its_deadline(rt: HostRuntime) -> Result<(), Fail> {
-    let engine = Engine::new(rt.alloc(), settings(512, 384))?;
+    let alloc = rt.alloc();
+    let picker = Picker::new(Box::new(alloc, |addr: Addr, word: u64| {
+        addr.key().wrapping_add(word)
+    })?);
+    let ranked = RankedPicker::new(Box::new(alloc, |addr: Addr, failures: u64, word: u64| {
+        failures.min(65_535) * 281_474_976_710_656
+            + addr.key().wrapping_add(word) % 281_474_976_710_656
+    })?);
+    let engine = Engine::new(alloc, settings(512, 384), picker, ranked)?;
     let (engine, actions) = take(engine, accepted(3002))?;
     assert_eq!(rt;
         actions.as_slice(),
@@ -117,7 +172,15 @@ fn ends_a_handshake_at_its_deadline(rt: HostRuntime) -> Result<(), Fail> {
 
 #[test]
 fn turns_away_itself_and_whom_it_has(rt: HostRuntime) -> Result<(), Fail> {
-    let engine = Engine::new(rt.alloc(), settings(512, 384))?;
+    let alloc = rt.alloc();
+    let picker = Picker::new(Box::new(alloc, |addr: Addr, word: u64| {
+        addr.key().wrapping_add(word)
+    })?);
+    let ranked = RankedPicker::new(Box::new(alloc, |addr: Addr, failures: u64, word: u64| {
+        failures.min(65_535) * 281_474_976_710_656
+            + addr.key().wrapping_add(word) % 281_474_976_710_656
+    })?);
+    let engine = Engine::new(alloc, settings(512, 384), picker, ranked)?;
     let (engine, actions) = take(engine, accepted(3001))?;
     assert_eq!(rt;
         actions.as_slice(),
@@ -133,15 +196,73 @@ fn turns_away_itself_and_whom_it_has(rt: HostRuntime) -> Result<(), Fail> {
         actions.as_slice(),
         [Action::Turnaway(Away::Present)].as_slice()
     );
-    let (engine, actions) = take(engine, Event::Govern(7))?;
-    assert!(rt; actions.as_slice().is_empty());
-    assert_eq!(rt; engine.taken(), 4);
+    assert_eq!(rt; engine.taken(), 3);
     assert_eq!(rt; engine.now(), 0);
     Ok(())
 }
 
 #[test]
-fn names_the_first_bad_setting(rt: HostRuntime) {
-    let refusal = Engine::new(rt.alloc(), settings(2, 3)).err();
+fn dials_a_local_peer_and_uses_the_connection(rt: HostRuntime) -> Result<(), Fail> {
+    let alloc = rt.alloc();
+    let picker = Picker::new(Box::new(alloc, |addr: Addr, word: u64| {
+        addr.key().wrapping_add(word)
+    })?);
+    let ranked = RankedPicker::new(Box::new(alloc, |addr: Addr, failures: u64, word: u64| {
+        failures.min(65_535) * 281_474_976_710_656
+            + addr.key().wrapping_add(word) % 281_474_976_710_656
+    })?);
+    let engine = Engine::new(alloc, settings(512, 384), picker, ranked)?;
+    let (engine, actions) = take(engine, locals(alloc, 3002)?)?;
+    assert_eq!(rt;
+        actions.as_slice(),
+        [Action::Peer(local(3002), PeerNote::Known)].as_slice()
+    );
+    let (engine, actions) = take(engine, Event::Govern(0))?;
+    assert_eq!(rt;
+        actions.as_slice(),
+        [
+            Action::Dial(Cid(1), local(3002)),
+            named(1, StateName::ReservedOutbound),
+        ]
+        .as_slice()
+    );
+    let (engine, actions) = take(engine, Event::Dialed(Cid(1), true))?;
+    assert_eq!(rt;
+        actions.as_slice(),
+        [
+            named(1, StateName::UnnegotiatedOutbound),
+            sends(alloc, &PROPOSAL)?,
+        ]
+        .as_slice()
+    );
+    let answer = Event::Bytes(Cid(1), Octets::from_slice(alloc, &ACCEPTANCE)?);
+    let (engine, actions) = take(engine, answer)?;
+    assert_eq!(rt;
+        actions.as_slice(),
+        [
+            named(1, StateName::OutboundDupTicking),
+            Action::Peer(local(3002), PeerNote::Warm),
+            sends(alloc, &ALIVE)?,
+        ]
+        .as_slice()
+    );
+    let temp = engine.peer(local(3002)).map(|peer| peer.temp);
+    assert_eq!(rt; temp, Some(Temp::Warm));
+    assert_eq!(rt; engine.tally().established, 1);
+    Ok(())
+}
+
+#[test]
+fn names_the_first_bad_setting(rt: HostRuntime) -> Result<(), Fail> {
+    let alloc = rt.alloc();
+    let picker = Picker::new(Box::new(alloc, |addr: Addr, word: u64| {
+        addr.key().wrapping_add(word)
+    })?);
+    let ranked = RankedPicker::new(Box::new(alloc, |addr: Addr, failures: u64, word: u64| {
+        failures.min(65_535) * 281_474_976_710_656
+            + addr.key().wrapping_add(word) % 281_474_976_710_656
+    })?);
+    let refusal = Engine::new(alloc, settings(2, 3), picker, ranked).err();
     assert_eq!(rt; refusal, Some(NewRefusal::BadSetting(Field::Soft)));
+    Ok(())
 }
