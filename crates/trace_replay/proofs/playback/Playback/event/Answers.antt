@@ -7,6 +7,12 @@ use Rattle.trace_replay.specs.Output.{told_event}
 use Rattle.trace_replay.specs.Playback.{Kept, begun, kept, machine_before, events_taken}
 use Rattle.trace_replay.proofs.playback.Playback.event.Goals as goal
 
+pub step-requires-clause-few : goal.step-requires-clause-few
+step-requires-clause-few g c =
+    let count : c.in_ok-engine.engine.events ≡ events_taken (begun c.args.self.now.engine (λ e. e.machine) (λ e. e.events)) =
+    rw (← c.take-engine.ensures.value) c.in_ok-engine.ensures.events in
+    omega (arith, count, c.requires.few)
+
 pub returns-clause-taken : goal.returns-clause-taken
 returns-clause-taken g c =
     let before : Kept = kept c.args.self.now.stage c.args.self.now.heads.items (begun c.args.self.now.engine (λ e. e.machine) (λ e. e.events)) in
