@@ -1,1 +1,1 @@
-mod Choices
+pub mod Choices

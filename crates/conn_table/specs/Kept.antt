@@ -13,7 +13,7 @@ use Rattle.conn_table.specs.declared.kept.Kept.{Kept}
 
 -- what is known of the connections
 abbrev pub facts_kept : Kept → List Facts
-facts_kept kept = map facts_of kept.states.items
+facts_kept kept = map facts_of kept.states
 
 -- where a later connection has its address, a connection is closed
 abbrev pub OnlyLastLives : List Facts → Type 0

@@ -1,4 +1,4 @@
-ghost use Rattle.std.specs.Prelude.{◌≡◌, ◌+◌, ◌++◌, ◌∷◌, ◌<◌, ◌^◌, [], length, Some, None, OnOk, OnErr, IsSome, IsSomeAnd, slice_get, vec_len, vec_capacity, ℕ, if◌then◌else◌};
+ghost use Rattle.std.specs.Prelude.{◌≡◌, ◌+◌, ◌++◌, ◌∷◌, ◌<◌, ◌^◌, [], length, Some, None, OnOk, OnErr, IsSome, IsSomeAnd, slice_get, ℕ, if◌then◌else◌};
 ghost use Rattle.conn_state.specs.State.{facts_of};
 ghost use Rattle.conn_state.specs.Use.{facts_at, live_at};
 ghost use Rattle.conn_table.specs.Answers.{any_at};
@@ -9,16 +9,16 @@ ghost use Rattle.conn_table.specs.Table.{moved_at, without_at};
 
 use crate::step::{Step, stepped};
 use crate::{Placed, PlacedList};
+use chunked_list::ChunkedList;
 use conn_state::facts::is_counted;
 use conn_state::{ConnState, ReservedOutbound};
 use net_base::{Addr, Cid, Facts, Ip, OutOfMemory};
 use std::alloc::Global;
-use std::mem;
 
 // The connections in order of id, and what is kept beside them.
 #[derive(Debug, Drop)]
 pub struct Kept {
-    pub states: Vec<ConnState>,
+    pub states: ChunkedList<ConnState>,
     // by address and then id
     pub index: PlacedList,
     // how many the limits count
@@ -36,7 +36,7 @@ impl Kept {
         ensures given { result.given ≡ 0 }
     {
         Kept {
-            states: Vec::new(alloc),
+            states: ChunkedList::new(alloc),
             index: PlacedList::new(alloc),
             counted: 0,
             given: 0,
@@ -72,7 +72,7 @@ impl Kept {
         requires { place < length (facts_kept self.now) }
         ensures { slice_get (facts_kept self.now) place ≡ Some result.now }
     {
-        self.states[place].as_facts()
+        self.states.at(place).as_facts()
     }
 
     // Takes in a connection under the next id. A refusal changes nothing.
@@ -88,9 +88,12 @@ impl Kept {
         ensures none_given { OnErr result (self.new.given ≡ self.old.given) }
     {
         let facts = state.facts();
-        self.states.try_reserve(1)?;
-        self.index.insert(placed(&facts))?;
-        push_within(&mut self.states, state);
+        let place = self.states.len();
+        self.states.push(state)?;
+        if let Err(refused) = self.index.insert(placed(&facts)) {
+            self.states.remove(place);
+            return Err(refused);
+        }
         self.counted = recounted(self.counted, false, is_counted(&facts));
         self.given += 1;
         Ok(())
@@ -118,11 +121,11 @@ impl Kept {
         ensures facts { facts_kept self.new ≡ moved_at result.cid.0 (after_step step) (facts_kept self.old) }
         ensures given { self.new.given ≡ self.old.given }
     {
-        let old = mem::replace(&mut self.states[place], spare());
+        let old = self.states.replace(place, spare());
         let was = old.facts();
         let new = stepped(old, step);
         self.counted = recounted(self.counted, is_counted(&was), is_counted(new.as_facts()));
-        self.states[place] = new;
+        self.states.replace(place, new);
         was
     }
 
@@ -135,7 +138,7 @@ impl Kept {
         ensures given { self.new.given ≡ self.old.given }
     {
         let place = self.place_of(cid);
-        let facts = self.states[place].facts();
+        let facts = self.states.at(place).facts();
         self.index.remove(placed(&facts));
         self.counted = recounted(self.counted, is_counted(&facts), false);
         self.states.remove(place);
@@ -157,14 +160,6 @@ impl Kept {
         let facts = self.states.get(place)?.as_facts();
         if facts.cid == cid { Some(*facts) } else { None }
     }
-}
-
-// Puts a state at the end, for which there is room.
-fn push_within(states: &mut Vec<ConnState>, state: ConnState)
-    requires { vec_len states.old < vec_capacity states.old }
-    ensures { states.new.items ≡ states.old.items ++ state ∷ [] }
-{
-    let _ = states.push(state);
 }
 
 fn placed(facts: &Facts) -> Placed

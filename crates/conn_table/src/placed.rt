@@ -1,7 +1,8 @@
-ghost use Rattle.std.specs.Prelude.{◌≡◌, [], true, OnOk, OnErr, slice_get, IsTrue};
+ghost use Rattle.std.specs.Prelude.{◌≡◌, ◌<◌, [], true, Some, length, OnOk, OnErr, slice_get, IsTrue};
 ghost use Rattle.std.specs.List.{prefix_len};
 ghost use Rattle.conn_table.specs.Index.{IsRising, placed_below, put_in, taken_out, stands, last_at, found_at, up_to, before};
 
+use chunked_list::ChunkedList;
 use net_base::{Addr, Cid, OutOfMemory};
 use std::alloc::Global;
 use std::marker::Model;
@@ -16,7 +17,7 @@ pub struct Placed {
 /// Addresses and ids, one after another.
 #[derive(Debug, Drop)]
 pub struct PlacedList {
-    items: Vec<Placed>,
+    items: ChunkedList<Placed>,
 }
 
 impl Model for PlacedList {
@@ -25,7 +26,7 @@ impl Model for PlacedList {
 
     ghost Value = { List Placed };
 
-    ghost view = { λ l. l.items.items };
+    ghost view = { λ l. l.items };
 }
 
 impl PlacedList {
@@ -34,15 +35,23 @@ impl PlacedList {
         ensures { result ≡ [] }
     {
         PlacedList {
-            items: Vec::new(alloc),
+            items: ChunkedList::new(alloc),
         }
     }
 
-    /// In order of address and then id.
-    pub fn as_slice(&self) -> &[Placed]
-        ensures { result.now ≡ self.now }
+    /// How many there are.
+    pub fn len(&self) -> usize
+        ensures { result ≡ length self.now }
     {
-        &self.items
+        self.items.len()
+    }
+
+    /// The one at a place, from 0, in order of address and then id.
+    pub fn at(&self, place: usize) -> Placed
+        requires { place < length self.now }
+        ensures { slice_get self.now place ≡ Some result }
+    {
+        *self.items.at(place)
     }
 
     // Puts one in at its place. A refusal changes nothing.
@@ -52,8 +61,7 @@ impl PlacedList {
         ensures err { OnErr result (self.new ≡ self.old) }
     {
         let place = place_of(&self.items, placed);
-        self.items.insert(place, placed)?;
-        Ok(())
+        self.items.insert(place, placed)
     }
 
     // Takes one out that is there.
@@ -77,7 +85,7 @@ impl PlacedList {
 }
 
 // How many of a rising list are below one.
-fn place_of(items: &[Placed], placed: Placed) -> usize
+fn place_of(items: &ChunkedList<Placed>, placed: Placed) -> usize
     requires { IsRising items.now }
     ensures { result ≡ prefix_len (λ p. placed_below p placed) items.now }
 {
@@ -85,7 +93,7 @@ fn place_of(items: &[Placed], placed: Placed) -> usize
 }
 
 // How many of a rising list have an address up to one.
-fn end_of(items: &[Placed], addr: Addr) -> usize
+fn end_of(items: &ChunkedList<Placed>, addr: Addr) -> usize
     requires { IsRising items.now }
     ensures { result ≡ prefix_len (up_to addr) items.now }
 {
@@ -93,7 +101,7 @@ fn end_of(items: &[Placed], addr: Addr) -> usize
 }
 
 // The one before a place, where it has an address.
-fn placed_before(items: &[Placed], end: usize, addr: Addr) -> Option<Placed>
+fn placed_before(items: &ChunkedList<Placed>, end: usize, addr: Addr) -> Option<Placed>
     ensures { result ≡ found_at addr (before end items.now) }
 {
     let placed = items.get(end.checked_sub(1)?).copied()?;

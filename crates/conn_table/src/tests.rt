@@ -114,7 +114,8 @@ fn the_life_of_a_dialed_connection(rt: HostRuntime) -> Result<(), Fail> {
         addr: local(3002),
         cid,
     };
-    assert_eq!(rt; table.index().as_slice(), [placed].as_slice());
+    assert_eq!(rt; table.index().len(), 1);
+    assert_eq!(rt; table.index().at(0), placed);
     assert!(rt; table.any_of(local(3002)));
     assert!(rt; is_not_reusable(table.acquire(local(3002)), StateName::ReservedOutbound));
 
@@ -469,10 +470,17 @@ fn same_look_ups(table: &ConnTable, plain: &PlainTable) -> bool {
 
 // Each is above the one before, and as many stand there as there are connections, each of its address.
 fn is_index_right(table: &ConnTable) -> bool {
-    let placed = table.index().as_slice();
-    let rises = placed.windows(2).all(|pair| pair.first() < pair.last());
-    let known = placed.iter().all(|placed| table
-        .facts(placed.cid)
-        .is_some_and(|facts| facts.addr == placed.addr));
-    rises && known && placed.len() == table.len()
+    let index = table.index();
+    let mut before = None;
+    for place in 0..index.len() {
+        let placed = index.at(place);
+        let known = table
+            .facts(placed.cid)
+            .is_some_and(|facts| facts.addr == placed.addr);
+        if !known || before.is_some_and(|before| before >= placed) {
+            return false;
+        }
+        before = Some(placed);
+    }
+    index.len() == table.len()
 }

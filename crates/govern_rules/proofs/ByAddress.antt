@@ -1,21 +1,45 @@
--- Links in address order, and what they say of an address.
-use Rattle.std.proofs.Common.{◌≡◌, ℕ, suc, zero, ◌<◌, ◌≤◌, ◌+◌, Bool, true, false, ◌&&◌, ◌||◌, List, [], ◌∷◌, length, take, drop, get_or, refl, sym, ap, ◌∙◌, inl, inr, arith, rules}
+-- Links in order of address and id, and what they say of an address.
+use Rattle.std.proofs.Common.{◌≡◌, ℕ, suc, zero, ◌<◌, ◌≤◌, ◌+◌, Bool, true, false, ◌&&◌, ◌||◌, nat_lt, List, [], ◌∷◌, length, take, drop, get_or, refl, sym, ap, ◌∙◌, inl, inr, arith, rules}
 use Rattle.std.specs.List.{AllByRecursion, prefix_len, list_any}
 use Rattle.std.specs.List.Sorted.{IsPermutation, IsPartitionedBy, IsSortedBy}
-use Rattle.std.specs.Ordering.{is_lt}
+use Rattle.std.specs.Cmp.{IsTotalOrder, IsStrictWeakOrder}
+use Rattle.std.specs.declared.cmp.Ordering.{Ordering}
+use Rattle.std.specs.Ordering.{is_lt, then_cmp, on}
+use Rattle.std.proofs.lemmas.Cmp.{then_total, on_total}
 use Rattle.std.proofs.lemmas.Bool.{cases_Bool, false≢true, false_from_ne_true}
 use Rattle.std.proofs.lemmas.List.Sorted.{ranks_by, sorted_far, list_any-IsPermutation}
 use Rattle.net_base.specs.Address.{same_address, address_below}
 use Rattle.net_base.specs.contracts.address.AddrOrd.TheImpl.{ghosts}
 use Rattle.net_base.specs.contracts.address.AddrOrd.TheImpl.Laws.{total-law}
+use Rattle.net_base.specs.contracts.connection.CidOrd.TheImpl.{ghosts as ids}
+use Rattle.net_base.specs.contracts.connection.CidOrd.TheImpl.Laws.{total-law as total-ids}
 use Rattle.net_base.specs.declared.address.Addr.{Addr}
 use Rattle.net_base.proofs.AddressOrder.{address_irreflexive, address_transitive, address_connected, same_address-is, other_when_below}
 use Rattle.govern_rules.specs.Links.{some_link}
-use Rattle.govern_rules.specs.SortedLinks.{IsByAddress, SaySame, is_below, is_up_to, is_above_next, links_of}
+use Rattle.govern_rules.specs.SortedLinks.{IsInOrder, link_below, SaySame, is_below, is_up_to, is_above_next, links_of}
 use Rattle.govern_rules.specs.declared.link.Link.{Link}
 
-below_is : (a b : Addr) → is_lt (ghosts.cmp a b) ≡ address_below a b
-below_is a b = search rules
+-- ---- the order of links
+
+abbrev pub link_cmp : Link → Link → Ordering
+link_cmp = then_cmp (on (λ l. l.addr) ghosts.cmp) (on (λ l. l.cid) ids.cmp)
+
+link_total : IsTotalOrder link_cmp
+link_total = then_total (on_total (λ l. l.addr) total-law) (on_total (λ l. l.cid) total-ids)
+
+below_is : (l k : Link) → is_lt (link_cmp l k) ≡ link_below l k
+below_is l k = search rules
+
+link_order : IsStrictWeakOrder (λ l k. is_lt (link_cmp l k))
+link_order = ranks_by link_total (λ l. l)
+
+link_irreflexive : (l : Link) → link_below l l ≡ false
+link_irreflexive l = false_from_ne_true (link_below l l)
+    (λ h. let lt : is_lt (link_cmp l l) ≡ true = below_is l l ∙ h in false≢true (sym (link_order.one_way l l lt) ∙ lt))
+
+-- what is not below one that is not below another
+not_below : (j k l : Link) → link_below j k ≡ false → link_below k l ≡ false → link_below j l ≡ false
+not_below j k l h g = sym (below_is j l) ∙ link_order.chain j k l (below_is j k ∙ h) (below_is k l ∙ g)
 
 -- ---- by places
 
@@ -28,29 +52,58 @@ at_place P [] h i d inside = absurd (omega (arith, inside))
 at_place P (l ∷ links) h zero d inside = h.0
 at_place P (l ∷ links) h (suc i) d inside = at_place P links h.1 i d (omega arith)
 
--- no address is below one that is not after it
-abbrev AreInOrder : List Link → Type 0
-AreInOrder links = (i j : ℕ) (d : Link) → i ≤ j → j < length links → address_below (get_or links j d).addr (get_or links i d).addr ≡ false
-
-by_address_from_places : (links : List Link) → AreInOrder links → IsByAddress links
-by_address_from_places [] h = tt
-by_address_from_places (l ∷ links) h = (
-  all_from_places (λ k. address_below k.addr l.addr ≡ false) links (λ i d inside. h 0 (suc i) d (omega arith) (omega arith)),
-  by_address_from_places links (λ i j d upto inside. h (suc i) (suc j) d (omega arith) (omega arith)),
+in_order_from_places : (links : List Link) → ((i j : ℕ) (d : Link) → i ≤ j → j < length links → link_below (get_or links j d) (get_or links i d) ≡ false) →
+    IsInOrder links
+in_order_from_places [] h = tt
+in_order_from_places (l ∷ links) h = (
+  all_from_places (λ k. link_below k l ≡ false) links (λ i d inside. h 0 (suc i) d (omega arith) (omega arith)),
+  in_order_from_places links (λ i j d upto inside. h (suc i) (suc j) d (omega arith) (omega arith)),
 )
 
-in_order : (links : List Link) → IsByAddress links → AreInOrder links
+-- what a sort by address and id leaves
+pub in_order_from_sort : (links : List Link) → IsSortedBy (λ l k. is_lt (link_cmp l k)) links → IsInOrder links
+in_order_from_sort links up = in_order_from_places links
+    (λ i j d upto inside. sym (below_is (get_or links j d) (get_or links i d))
+    ∙ sorted_far (λ l k. is_lt (link_cmp l k)) link_order links up i j d upto inside)
+
+pub in_order-drop : (n : ℕ) (links : List Link) → IsInOrder links → IsInOrder (drop n links)
+in_order-drop zero links h = h
+in_order-drop (suc n) [] h = tt
+in_order-drop (suc n) (l ∷ links) h = in_order-drop n links h.1
+
+none_below : (l k : Link) (links : List Link) → link_below k l ≡ false → AllByRecursion (λ j. link_below j k ≡ false) links →
+    AllByRecursion (λ j. link_below j l ≡ false) links
+none_below l k [] upto h = tt
+none_below l k (j ∷ links) upto h = (not_below j k l h.0 upto, none_below l k links upto h.1)
+
+-- one in front
+pub in_order-front : (l : Link) (links : List Link) → is_above_next l links ≡ false → IsInOrder links → IsInOrder (l ∷ links)
+in_order-front l [] upto h = (tt, tt)
+in_order-front l (k ∷ links) upto h = ((upto, none_below l k links upto h.0), h)
+
+-- ---- the order of their addresses
+
+-- no address is below one before it
+abbrev IsByAddress : List Link → Type 0
+IsByAddress [] = Unit {0}
+IsByAddress (l ∷ links) = AllByRecursion (λ k. address_below k.addr l.addr ≡ false) links × IsByAddress links
+
+none_lower : (l : Link) (links : List Link) → AllByRecursion (λ k. link_below k l ≡ false) links →
+    AllByRecursion (λ k. address_below k.addr l.addr ≡ false) links
+none_lower l [] h = tt
+none_lower l (k ∷ links) h = (grind (arith, h.0), none_lower l links h.1)
+
+by_address : (links : List Link) → IsInOrder links → IsByAddress links
+by_address [] h = tt
+by_address (l ∷ links) h = (none_lower l links h.0, by_address links h.1)
+
+in_order : (links : List Link) → IsByAddress links → (i j : ℕ) (d : Link) → i ≤ j → j < length links →
+    address_below (get_or links j d).addr (get_or links i d).addr ≡ false
 in_order [] h i j d upto inside = absurd (omega (arith, inside))
 in_order (l ∷ links) h zero zero d upto inside = address_irreflexive l.addr
 in_order (l ∷ links) h zero (suc j) d upto inside = at_place (λ k. address_below k.addr l.addr ≡ false) links h.0 j d (omega arith)
 in_order (l ∷ links) h (suc i) zero d upto inside = absurd (omega (arith, upto))
 in_order (l ∷ links) h (suc i) (suc j) d upto inside = in_order links h.1 i j d (omega arith) (omega arith)
-
--- what a sort by the address leaves
-pub by_address_from_sort : (links : List Link) → IsSortedBy (λ x y. is_lt (ghosts.cmp x.addr y.addr)) links → IsByAddress links
-by_address_from_sort links up = by_address_from_places links
-    (λ i j d upto inside. sym (below_is (get_or links j d).addr (get_or links i d).addr)
-    ∙ sorted_far (λ x y. is_lt (ghosts.cmp x.addr y.addr)) (ranks_by total-law (λ (l : Link). l.addr)) links up i j d upto inside)
 
 -- ---- what is not above an address below another
 
@@ -78,32 +131,13 @@ upto_lower a b addr upto h = elim (cases_Bool (address_below a addr)) [
   ]
 ]
 
-pub partitioned : (addr : Addr) (links : List Link) → IsByAddress links → IsPartitionedBy (is_below addr) links
+pub partitioned : (addr : Addr) (links : List Link) → IsInOrder links → IsPartitionedBy (is_below addr) links
 partitioned addr links h i j d upto inside under =
-    under_lower (get_or links i d).addr (get_or links j d).addr addr (in_order links h i j d upto inside) under
+    under_lower (get_or links i d).addr (get_or links j d).addr addr (in_order links (by_address links h) i j d upto inside) under
 
-pub partitioned_upto : (addr : Addr) (links : List Link) → IsByAddress links → IsPartitionedBy (is_up_to addr) links
+pub partitioned_upto : (addr : Addr) (links : List Link) → IsInOrder links → IsPartitionedBy (is_up_to addr) links
 partitioned_upto addr links h i j d upto inside under =
-    upto_lower (get_or links i d).addr (get_or links j d).addr addr (in_order links h i j d upto inside) under
-
-pub by_address-drop : (n : ℕ) (links : List Link) → IsByAddress links → IsByAddress (drop n links)
-by_address-drop zero links h = h
-by_address-drop (suc n) [] h = tt
-by_address-drop (suc n) (l ∷ links) h = by_address-drop n links h.1
-
--- ---- one in front
-
-none_below : (l k : Link) (links : List Link) → address_below k.addr l.addr ≡ false → AllByRecursion (λ j. address_below j.addr k.addr ≡ false) links →
-    AllByRecursion (λ j. address_below j.addr l.addr ≡ false) links
-none_below l k [] upto h = tt
-none_below l k (j ∷ links) upto h = (
-  false_from_ne_true (address_below j.addr l.addr) (λ under. false≢true (sym upto ∙ under_lower k.addr j.addr l.addr h.0 under)),
-  none_below l k links upto h.1,
-)
-
-pub by_address-front : (l : Link) (links : List Link) → is_above_next l links ≡ false → IsByAddress links → IsByAddress (l ∷ links)
-by_address-front l [] upto h = (tt, tt)
-by_address-front l (k ∷ links) upto h = ((upto, none_below l k links upto h.0), h)
+    upto_lower (get_or links i d).addr (get_or links j d).addr addr (in_order links (by_address links h) i j d upto inside) under
 
 -- ---- the links of an address
 
@@ -137,13 +171,17 @@ over_from_first addr l (k ∷ links) over h = (
 )
 
 -- they stand between those below and those above
-pub own_run : (addr : Addr) (links : List Link) → IsByAddress links →
+own_run_by_address : (addr : Addr) (links : List Link) → IsByAddress links →
     take (prefix_len (is_up_to addr) (drop (prefix_len (is_below addr) links) links)) (drop (prefix_len (is_below addr) links) links) ≡ links_of addr links
-own_run addr [] h = refl
-own_run addr (l ∷ links) h = elim (cases_Bool (address_below l.addr addr)) [
-  | inl under ↦ rw (under, one_more (prefix_len (is_below addr) links), other_when_below l.addr addr under) (own_run addr links h.1)
+own_run_by_address addr [] h = refl
+own_run_by_address addr (l ∷ links) h = elim (cases_Bool (address_below l.addr addr)) [
+  | inl under ↦ rw (under, one_more (prefix_len (is_below addr) links), other_when_below l.addr addr under) (own_run_by_address addr links h.1)
   | inr over ↦ rw over (own_front addr (l ∷ links) (over, over_from_first addr l links over h.0) h)
 ]
+
+pub own_run : (addr : Addr) (links : List Link) → IsInOrder links →
+    take (prefix_len (is_up_to addr) (drop (prefix_len (is_below addr) links) links)) (drop (prefix_len (is_below addr) links) links) ≡ links_of addr links
+own_run addr links h = own_run_by_address addr links (by_address links h)
 
 -- what they say is what all links say of the address
 pub own_say : (test : Link → Bool) (addr : Addr) (links : List Link) → list_any test (links_of addr links) ≡ some_link test links addr

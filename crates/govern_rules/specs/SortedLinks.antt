@@ -1,15 +1,19 @@
--- Links in address order.
-use Rattle.std.specs.Prelude.{◌≡◌, Bool, false, ◌||◌, List, [], ◌∷◌, filter}
+-- Links in order of address and id.
+use Rattle.std.specs.Prelude.{◌≡◌, Bool, false, ◌&&◌, ◌||◌, nat_lt, List, [], ◌∷◌, filter}
 use Rattle.std.specs.List.{AllByRecursion}
 use Rattle.net_base.specs.Address.{same_address, address_below}
 use Rattle.net_base.specs.declared.address.Addr.{Addr}
 use Rattle.govern_rules.specs.Links.{some_link}
 use Rattle.govern_rules.specs.declared.link.Link.{Link}
 
--- no address is below one before it
-abbrev pub IsByAddress : List Link → Type 0
-IsByAddress [] = Unit {0}
-IsByAddress (l ∷ links) = AllByRecursion (λ k. address_below k.addr l.addr ≡ false) links × IsByAddress links
+-- by the address, and then by the id
+abbrev pub link_below : Link → Link → Bool
+link_below l k = address_below l.addr k.addr || (same_address l.addr k.addr && nat_lt l.cid.0 k.cid.0)
+
+-- no link is below one before it
+abbrev pub IsInOrder : List Link → Type 0
+IsInOrder [] = Unit {0}
+IsInOrder (l ∷ links) = AllByRecursion (λ k. link_below k l ≡ false) links × IsInOrder links
 
 -- two lists say the same of every address
 abbrev pub SaySame : List Link → List Link → Type 0
@@ -26,7 +30,7 @@ is_below addr l = address_below l.addr addr
 abbrev pub is_up_to : Addr → Link → Bool
 is_up_to addr l = address_below l.addr addr || same_address l.addr addr
 
--- the next link has a lower address
+-- the next link is below it
 abbrev pub is_above_next : Link → List Link → Bool
 is_above_next l [] = false
-is_above_next l (k ∷ links) = address_below k.addr l.addr
+is_above_next l (k ∷ links) = link_below k l

@@ -3,14 +3,14 @@ ghost use Rattle.std.specs.List.{prefix_len};
 ghost use Rattle.std.specs.List.Sorted.{IsPermutation};
 ghost use Rattle.govern_rules.specs.Links.{some_link};
 ghost use Rattle.govern_rules.specs.Marks.{has_mark};
-ghost use Rattle.govern_rules.specs.SortedLinks.{IsByAddress, is_below, is_up_to, is_above_next, links_of};
+ghost use Rattle.govern_rules.specs.SortedLinks.{IsInOrder, is_below, is_up_to, is_above_next, links_of};
 
 use crate::Link;
 use crate::mark::{Mark, some};
 use net_base::{Addr, OutOfMemory};
 use std::marker::Model;
 
-/// Links in address order. Contracts see the list of them.
+/// Links in order of address and then id. Contracts see the list of them.
 #[derive(Debug, Drop)]
 pub struct LinkList {
     links: Vec<Link>,
@@ -19,13 +19,13 @@ pub struct LinkList {
 impl Model for LinkList {
     ghost use Rattle.std.specs.Prelude.{List};
     ghost use Rattle.govern_rules.specs.declared.link.Link.{Link};
-    ghost use Rattle.govern_rules.specs.SortedLinks.{IsByAddress};
+    ghost use Rattle.govern_rules.specs.SortedLinks.{IsInOrder};
 
     ghost Value = { List Link };
 
     ghost view = { λ l. l.links.items };
 
-    ghost invariant = { λ l. IsByAddress l.links.items };
+    ghost invariant = { λ l. IsInOrder l.links.items };
 }
 
 impl LinkList {
@@ -34,16 +34,16 @@ impl LinkList {
     pub fn from_vec(mut links: Vec<Link>) -> Result<LinkList, OutOfMemory>
         ensures { IfOk result (λ sorted. IsPermutation links.items sorted) }
     {
-        if is_by_address(&links) {
+        if is_in_order(&links) {
             return Ok(LinkList { links });
         }
-        links.sort_by_key(|link| link.addr)?;
+        links.sort_by_key(|link| (link.addr, link.cid))?;
         Ok(LinkList { links })
     }
 
     pub fn as_slice(&self) -> &[Link]
         ensures value { result.now ≡ self.now }
-        ensures ordered { IsByAddress self.now }
+        ensures ordered { IsInOrder self.now }
     {
         &self.links
     }
@@ -65,7 +65,7 @@ impl LinkList {
 
 // The links of an address.
 pub fn links_of(links: &[Link], addr: Addr) -> &[Link]
-    requires { IsByAddress links.now }
+    requires { IsInOrder links.now }
     ensures { result.now ≡ links_of addr links.now }
 {
     let (_, rest) = links.split_at(start_of(links, addr));
@@ -75,7 +75,7 @@ pub fn links_of(links: &[Link], addr: Addr) -> &[Link]
 
 // How many links have an address below one.
 fn start_of(links: &[Link], addr: Addr) -> usize
-    requires { IsByAddress links.now }
+    requires { IsInOrder links.now }
     ensures bound { result ≤ length links.now }
     ensures place { result ≡ prefix_len (is_below addr) links.now }
 {
@@ -84,16 +84,16 @@ fn start_of(links: &[Link], addr: Addr) -> usize
 
 // How many links have an address up to one.
 fn end_of(links: &[Link], addr: Addr) -> usize
-    requires { IsByAddress links.now }
+    requires { IsInOrder links.now }
     ensures bound { result ≤ length links.now }
     ensures place { result ≡ prefix_len (is_up_to addr) links.now }
 {
     links.partition_point(|link| link.addr <= addr)
 }
 
-// Whether no link has a lower address than the one before it.
-fn is_by_address(links: &[Link]) -> bool
-    ensures { IsTrue result → IsByAddress links.now }
+// Whether no link is below the one before it.
+fn is_in_order(links: &[Link]) -> bool
+    ensures { IsTrue result → IsInOrder links.now }
 {
     let mut rest = links;
     while let Some((link, after)) = rest.split_first() {
@@ -110,6 +110,6 @@ fn is_above_next(link: &Link, rest: &[Link]) -> bool
 {
     match rest {
         [] => false,
-        [next, ..] => next.addr < link.addr,
+        [next, ..] => (next.addr, next.cid) < (link.addr, link.cid),
     }
 }

@@ -5,7 +5,7 @@ ghost use Rattle.peer_book.specs.Book.{addresses_of};
 ghost use Rattle.govern_rules.specs.ClassRules.{count_of};
 ghost use Rattle.govern_rules.specs.Links.{some_link};
 ghost use Rattle.govern_rules.specs.Marks.{has_mark, is_last_marked, is_class_at};
-ghost use Rattle.govern_rules.specs.SortedLinks.{IsByAddress};
+ghost use Rattle.govern_rules.specs.SortedLinks.{IsInOrder};
 
 use crate::links::links_of;
 use crate::mark::{Mark, has_mark, some};
@@ -44,7 +44,7 @@ fn count_marked(mark: Mark, big: bool, links: &LinkList, book: &PeerBook) -> u64
 
 // Whether a link is the last of its address with a mark, and the peer there is of a class.
 fn counts(mark: Mark, big: bool, link: &Link, after: &[Link], book: &PeerBook) -> bool
-    requires { IsByAddress after.now }
+    requires { IsInOrder after.now }
     ensures { result ≡ is_last_marked mark link.now after.now && is_class_at big link.now.addr book.now }
 {
     is_last_marked(mark, link, after) && is_class_at(big, link.addr, book)
@@ -52,7 +52,7 @@ fn counts(mark: Mark, big: bool, link: &Link, after: &[Link], book: &PeerBook) -
 
 // Whether a link has a mark, and none of its address behind it has.
 fn is_last_marked(mark: Mark, link: &Link, after: &[Link]) -> bool
-    requires { IsByAddress after.now }
+    requires { IsInOrder after.now }
     ensures { result ≡ is_last_marked mark link.now after.now }
 {
     has_mark(mark, link) && !some(mark, links_of(after, link.addr))

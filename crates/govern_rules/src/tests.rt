@@ -777,10 +777,14 @@ fn big_ledger_peers_by_their_targets(rt: HostRuntime) -> Result<(), Fail> {
 }
 
 #[test]
-fn links_come_in_address_order(rt: HostRuntime) -> Result<(), Fail> {
-    let given = [entry(3004), pending(3003), in_use(3004)];
+fn links_come_in_order_of_address_and_id(rt: HostRuntime) -> Result<(), Fail> {
+    let later = Link {
+        cid: Cid(2),
+        ..in_use(3004)
+    };
+    let given = [later, pending(3003), entry(3004)];
     let links = LinkList::from_vec(Vec::from_slice(rt.alloc(), &given)?)?;
-    let wanted = [pending(3003), entry(3004), in_use(3004)];
+    let wanted = [pending(3003), entry(3004), later];
     assert_eq!(rt; links.as_slice(), wanted.as_slice());
     let again = LinkList::from_vec(Vec::from_slice(rt.alloc(), &wanted)?)?;
     assert_eq!(rt; again.as_slice(), wanted.as_slice());

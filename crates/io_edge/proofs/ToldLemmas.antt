@@ -1,7 +1,7 @@
 -- Calls on a source or a sink, one after another.
-use Rattle.std.proofs.Common.{◌≡◌, List, ◌++◌, [], ℕ, Option, Some, None, refl, sym, ◌∙◌, ap, arith}
+use Rattle.std.proofs.Common.{◌≡◌, List, ◌++◌, [], ℕ, Option, Some, None, refl, sym, ◌∙◌, ap, subst, length, ◌<◌, arith}
 use Rattle.std.proofs.lemmas.List.{append_assoc, append-nil, length-append}
-use Rattle.io_edge.specs.Told.{Gives, Takes, TakesProperPrefix}
+use Rattle.io_edge.specs.Told.{Gives, Takes, TakesProperPrefix, TakesFront}
 
 -- a call that gives nothing
 pub Gives-nothing : (known : Option (List ℕ)) → Gives known known []
@@ -50,3 +50,26 @@ TakesProperPrefix-more before after xs ys part = record {
   proper = omega (arith, part.proper, length-append part.rest ys);
   taken = part.taken;
 }
+
+-- nothing was put yet
+pub TakesFront-none : (known : Option (List ℕ)) (pending : List ℕ) → TakesFront known known pending pending
+TakesFront-none known pending = record { front = []; split = refl; taken = Takes-nothing known }
+
+-- some bytes more were put
+pub TakesFront-more : (first second third : Option (List ℕ)) (pending rest left bytes : List ℕ) → TakesFront first second pending rest → Takes second third bytes →
+    rest ≡ bytes ++ left → TakesFront first third pending left
+TakesFront-more first second third pending rest left bytes put takes is = record {
+  front = put.front ++ bytes;
+  split = put.split ∙ ap (λ (xs : List ℕ). put.front ++ xs) is ∙ sym (append_assoc put.front bytes left);
+  taken = Takes-append first second third put.front bytes put.taken takes;
+}
+
+-- all of it was put
+pub TakesFront-whole : (before after : Option (List ℕ)) (pending rest : List ℕ) → TakesFront before after pending rest → rest ≡ [] → Takes before after pending
+TakesFront-whole before after pending rest put none =
+    let all : put.front ≡ pending = sym (put.split ∙ ap (λ (xs : List ℕ). put.front ++ xs) none ∙ append-nil put.front) in
+    subst (λ (bytes : List ℕ). Takes before after bytes) all put.taken
+
+-- something is left of it
+pub TakesFront-part : (before after : Option (List ℕ)) (pending rest : List ℕ) → TakesFront before after pending rest → 0 < length rest → TakesProperPrefix before after pending
+TakesFront-part before after pending rest put some = record { front = put.front; rest = rest; split = put.split; proper = some; taken = put.taken }

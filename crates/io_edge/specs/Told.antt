@@ -18,3 +18,9 @@ pub record TakesProperPrefix (before after : Option (List ℕ)) (bytes : List �
   pub split : bytes ≡ front ++ rest
   pub proper : 0 < length rest
   pub taken : Takes before after front
+
+-- a front of the pending bytes came behind what was taken, and the rest is pending still
+pub record TakesFront (before after : Option (List ℕ)) (pending rest : List ℕ) : Type 0 where
+  pub front : List ℕ
+  pub split : pending ≡ front ++ rest
+  pub taken : Takes before after front

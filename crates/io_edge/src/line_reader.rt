@@ -1,7 +1,7 @@
 ghost use Rattle.std.specs.Prelude.{◌≡◌, ◌<◌, ◌≤◌, ℕ, List, [], ◌∷◌, ◌++◌, length, IfSome, IfOk, OnOk, OnErr};
 ghost use Rattle.std.specs.List.{position_or_len};
 ghost use Rattle.io_edge.specs.Lines.{is_line_feed, HasNoLineFeed, FitsLine, IsPastLimit};
-ghost use Rattle.io_edge.specs.Reading.{TakesLine, ReadsLine, AnswersInput, HasReadCause};
+ghost use Rattle.io_edge.specs.Reading.{TakesLine, TakesKept, ReadsLine, AnswersInput, HasReadCause};
 
 use crate::window::Window;
 use crate::{Got, LineFault, Source};
@@ -47,6 +47,17 @@ impl LineReader {
             line: Vec::new(alloc),
             window,
         })
+    }
+
+    /// The next line, where all of it is kept already. None is where a source has to be asked, or the line is too long.
+    pub fn kept_line(&mut self) -> Result<Option<Octets>, OutOfMemory>
+        ensures answer { TakesKept self.old self.new result }
+    {
+        match take_line(self.alloc, &mut self.line, &mut self.window) {
+            Ok(found) => Ok(found),
+            Err(LineFault::OutOfMemory) => Err(OutOfMemory),
+            Err(_) => Ok(None),
+        }
     }
 
     /// The next line. A source that fails, or memory that is refused, costs no byte: the bytes taken so far are kept

@@ -5,6 +5,7 @@ mod std_streams;
 use crate::*;
 use net_base::{NumberList, Octets, OutOfMemory};
 use std::alloc::Global;
+use std::process::Abort;
 use std::test::Fail;
 
 // Three whole lines, of which one is empty, and a rest.
@@ -145,5 +146,70 @@ fn a_piece_is_taken_whole_or_up_to_a_fault(rt: HostRuntime) -> Result<(), Fail> 
     assert_eq!(rt; put_all(&mut out, b"ghi"), Err(Failed));
     assert_eq!(rt; out.bytes(), b"abcdefgh".as_slice());
     assert_eq!(rt; out.put(b""), Ok(0));
+    Ok(())
+}
+
+// What is kept is a line, or none is.
+fn expect_kept(
+    rt: &impl Abort,
+    reader: &mut LineReader,
+    wanted: Option<&[u8]>,
+) -> Result<(), Fail> {
+    let line = reader.kept_line()?;
+    assert_eq!(rt; line.as_ref().map(|line| line.as_slice()), wanted);
+    Ok(())
+}
+
+fn expect_read(
+    rt: &impl Abort,
+    reader: &mut LineReader,
+    src: &mut MemSource,
+    wanted: &[u8],
+) -> Result<(), Fail> {
+    let Got::Line(line) = reader.next_line(src)? else {
+        return Err("the input is over".into());
+    };
+    assert_eq!(rt; line.as_slice(), wanted);
+    Ok(())
+}
+
+#[test]
+fn a_line_that_is_kept_whole_is_handed_out_without_a_reading(rt: HostRuntime) -> Result<(), Fail> {
+    let alloc = rt.alloc();
+    let mut src = MemSource::new(octets(alloc, INPUT)?, 18, numbers(alloc, &[])?);
+    let mut reader = LineReader::new(alloc)?;
+    expect_kept(&rt, &mut reader, None)?;
+    expect_read(&rt, &mut reader, &mut src, b"first line")?;
+    expect_kept(&rt, &mut reader, Some(b""))?;
+    expect_kept(&rt, &mut reader, None)?;
+    assert_eq!(rt; src.calls(), 1);
+    expect_read(&rt, &mut reader, &mut src, b"> third")?;
+    expect_kept(&rt, &mut reader, None)
+}
+
+#[test]
+fn lines_are_put_in_pieces(rt: HostRuntime) -> Result<(), Fail> {
+    let alloc = rt.alloc();
+    let mut out = MemSink::new(alloc, 9, numbers(alloc, &[3])?)?;
+    let mut writer = PieceWriter::new(alloc)?;
+    writer.push_line(b"ab")?;
+    writer.push_line(b"")?;
+    assert_eq!(rt; out.bytes(), b"".as_slice());
+    assert_eq!(rt; writer.put(&mut out), Ok(()));
+    assert_eq!(rt; out.bytes(), b"ab\n\n".as_slice());
+    // nothing is pending, so no call is made
+    assert_eq!(rt; writer.put(&mut out), Ok(()));
+    writer.push_line(b"cdefgh")?;
+    writer.push_line(b"ij")?;
+    writer.truncate(8);
+    // five of eight bytes find room, then a call fails
+    assert_eq!(rt; writer.put(&mut out), Err(Failed));
+    assert_eq!(rt; out.bytes(), b"ab\n\ncdefg".as_slice());
+    assert_eq!(rt; writer.len(), 3);
+    assert!(rt; !writer.is_full());
+    for _ in 0..65_536 {
+        writer.push_line(b"")?;
+    }
+    assert!(rt; writer.is_full());
     Ok(())
 }

@@ -1,26 +1,38 @@
--- Each order does what it says.
-use Rattle.std.proofs.Common.{ℕ, ◌+◌, ◌≡◌, true, false, ◌&&◌, find, get_or, set, Option, Some, None, is_some, refl, sym, ap, ◌∙◌, subst}
-use Rattle.std.proofs.lemmas.Bool.{and_parts}
+-- Each order does what it says, the book changes only where it is to, and accepting pauses where it must.
+use Rattle.std.proofs.Common.{ℕ, ◌+◌, ◌%◌, ◌≡◌, Bool, true, false, ◌&&◌, nat_le, nat_lt, if◌then◌else◌, [], ◌∷◌, find, get_or, set, Option, Some, None, is_some, refl, sym, ap, ◌∙◌, subst, arith}
+use Rattle.std.specs.Option.{option_map}
+use Rattle.std.proofs.lemmas.Bool.{cond_both, and_parts, and_from}
 use Rattle.std.proofs.lemmas.List.Elements.{All-weaker}
-use Rattle.conn_state.specs.Moves.{released}
-use Rattle.conn_state.specs.Use.{is_live_at}
+use Rattle.accept_gate.specs.Gate.{pause_of}
+use Rattle.conn_state.specs.Moves.{acquired, released}
+use Rattle.conn_state.specs.Use.{has_id, is_live, is_live_at, is_pending}
 use Rattle.govern_rules.specs.declared.order.Order.{Order}
 use Rattle.govern_rules.specs.declared.order.Order.TheVariants.{Ask, Forget, Promote, Release, Activate, Deactivate}
 use Rattle.net_base.specs.declared.address.Addr.{Addr}
 use Rattle.net_base.specs.declared.peer.Peer.{Peer}
-use Rattle.net_base.specs.declared.peer.Temp.TheVariants.{Cold}
-use Rattle.machine.specs.Connections.{with_entry, entry_turns, trim, release}
-use Rattle.machine.specs.Effect.{then_do, on_entry}
-use Rattle.machine.specs.Govern.{is_used_at, on_used, carries_out}
-use Rattle.machine.specs.Machine.{Machine, Entry}
-use Rattle.machine.specs.Peers.{peer_at, turns_at, peer_becomes, peer_goes}
-use Rattle.laws.specs.AtMoves.{is_known}
-use Rattle.laws.specs.Parts.{IsUsedByNobody, IsCarriedOut}
+use Rattle.net_base.specs.declared.peer.Temp.TheVariants.{Cold, Warm}
+use Rattle.net_base.specs.Address.{same_address, address_below}
+use Rattle.net_base.specs.declared.action.Action.TheVariants.{AskRoots, Pause}
+use Rattle.net_base.specs.declared.action.Away.TheVariants.{OwnAddr, Crossed, Present, Full}
+use Rattle.net_base.specs.declared.action.CloseCause.TheVariants.{Overwritten}
+use Rattle.root_groups.specs.RootAsk.{may_ask, asked}
+use Rattle.machine.specs.Connections.{with_entry, entry_turns, ending, acquire, trim, release}
+use Rattle.machine.specs.Effect.{Effect, nothing_more, tells, then_do, on_entry}
+use Rattle.machine.specs.Events.{turned_away, admitted, crossed, accepted_beside, peer_connects, closes}
+use Rattle.machine.specs.Govern.{promote, is_used_at, on_used, asks_peer, carries_out, asks_roots}
+use Rattle.machine.specs.Machine.{Machine, Entry, counted_in, entry_at, live_entry_at}
+use Rattle.machine.specs.Peers.{peer_at, turns_at, peer_changes, peer_becomes, peer_goes}
+use Rattle.machine.specs.Replies.{owing}
+use Rattle.laws.specs.AtMoves.{is_missed, FailsWhere, OnEntry, is_known}
+use Rattle.laws.specs.CarriedOut.{WhereLive, OnPeer, IsReused, Reuses, LeavesAlone, IsUsedByNobody, IsCarriedOut, TreatsBook, pauses_in, pauses_due, PausesRight}
 use Rattle.laws.specs.Sound.{IsOrderly}
+use Rattle.laws.specs.Acts.{Act, shows, fires_one, asks_for_roots, carries, connects, ends_dial, stores, handles_item, ends_stream, is_closed, sets_targets, sets_big_targets, sets_groups, sets_roots, makes_ordinary, provides, provides_big, does}
+use Rattle.laws.proofs.Addresses.{same_address-true}
 use Rattle.laws.proofs.Due.{promote-move, activate-move}
-use Rattle.laws.proofs.Entries.{TurnsInto, turned-connections, turned-orderly}
-use Rattle.laws.proofs.Finds.{find-set_gone}
-use Rattle.laws.proofs.Lists.{StandsAt, OnePasses, FoundIn, stands-set, find_some, find_none}
+use Rattle.laws.proofs.Entries.{TurnsInto, turned-connections, turned-orderly, one_has_id, has_own_id}
+use Rattle.laws.proofs.Failures.{changed-found, vanishes-failed}
+use Rattle.laws.proofs.Finds.{find-set_here, find-set_gone}
+use Rattle.laws.proofs.Lists.{StandsAt, OnePasses, FoundIn, stands-set, find_some, find_only, find_none}
 use Rattle.laws.proofs.Orders.{says_done-machine, unused_at}
 use Rattle.laws.proofs.Ties.{live_one, taken-here}
 use Rattle.laws.proofs.ToldMoves.{turns_at-connections}
@@ -34,7 +46,7 @@ used_one addr m h i j d before inside here =
     ap (λ b. b && f.facts.local) (live_one addr m h.addresses i j d before inside (and_parts (is_live_at addr e.facts) e.facts.local here).0)
 
 -- a change of a peer leaves the connections in order
-changed-orderly : (o : Option Peer) (change : Peer → Peer) (m : Machine) → IsOrderly m → IsOrderly (turns_at o change m).machine
+pub changed-orderly : (o : Option Peer) (change : Peer → Peer) (m : Machine) → IsOrderly m → IsOrderly (turns_at o change m).machine
 changed-orderly None change m h = h
 changed-orderly (Some p) change m h = record {
   settings = h.settings;
@@ -78,10 +90,157 @@ none-used addr m none =
 forgotten : (addr : Addr) (m : Machine) → is_known addr (peer_goes addr m).machine ≡ false
 forgotten addr m = ap is_some (taken-here addr m.peers)
 
+-- ---- a peer that changes
+
+-- what is found at its address is what it turned into
+pub changed-here : (a : Addr) (change : Peer → Peer) (m : Machine) → ((p : Peer) → (change p).addr ≡ p.addr) → (law : Peer → Type 0) →
+    ((p : Peer) → law (change p)) → OnPeer (peer_at a (peer_changes a change m).machine) law
+changed-here a change m same law each = subst (λ o. OnPeer o law) (sym (changed-found a change m same)) (by_peer (peer_at a m))
+  where
+    by_peer : (o : Option Peer) → OnPeer (option_map change o) law
+    by_peer None = tt
+    by_peer (Some p) = each p
+
+-- ---- a connection that is taken into use
+
+reuses : (addr : Addr) (m : Machine) → IsOrderly m → Reuses addr m (promote addr m).machine
+reuses addr m h e live free =
+    let at = find_some (λ x. is_live_at addr x.facts) m.connections e live in
+    let new : Entry = owing 8 (e.facts.cid.0 % 65536) m (record e { facts = acquired e.facts }) in
+    let n : Machine = with_entry new m in
+    let warm : Peer → Peer = λ p. record p { temp = Warm; failures = 0 } in
+    let t : TurnsInto e new = record { same_id = refl; same_addr = refl; live = λ l. l } in
+    let list : (acquire e m).machine.connections ≡ set m.connections at.place new =
+    turns_at-connections (peer_at e.facts.addr n) warm n ∙ turned-connections m e new at.place h at.stands t in
+    let found : entry_at e.facts.cid.0 (acquire e m).machine ≡ Some new =
+    ap (find (λ x. has_id e.facts.cid.0 x.facts)) list
+    ∙ find-set_here (λ x. has_id e.facts.cid.0 x.facts) new e m.connections at.place (one_has_id e.facts.cid.0 m.connections h.ids_rise) at.stands (has_own_id e) (has_own_id e) in
+    subst (IsReused e) (sym taken)
+    (record {
+      stands = subst (λ o. OnEntry o (λ f. f.facts ≡ record e.facts { local = true })) (sym found) refl;
+      forgiven = changed-here e.facts.addr warm n (λ p. refl) (λ p. p.failures ≡ 0) (λ p. refl);
+    })
+  where
+    taken : (promote addr m).machine ≡ (acquire e m).machine
+    taken = rw (live, free) refl
+
+-- ---- a peer that is asked for addresses
+
+leaves-alone : (addr : Addr) (n : ℕ) (m : Machine) → IsOrderly m → LeavesAlone addr m (carries_out (Ask addr n) m).machine
+leaves-alone addr n m h e live local =
+    let at = find_some (λ x. is_live_at addr x.facts) m.connections e live in
+    let here : e.facts.addr ≡ addr = same_address-true e.facts.addr addr (and_parts (same_address e.facts.addr addr) (is_live e.facts) at.passes).0 in
+    let used : find (is_used_at addr) m.connections ≡ Some e =
+    find_only (is_used_at addr) e m.connections at.place (used_one addr m h) at.stands (and_from (is_live_at addr e.facts) e.facts.local at.passes local) in
+    let gap : ℕ = m.now + m.settings.sharegap in
+    subst (λ o. OnPeer (peer_at addr (on_entry o (asks_peer n) m).machine) (λ p. p.share_next ≡ gap)) (sym used)
+    (subst (λ a. OnPeer (peer_at a (asks_peer n e m).machine) (λ p. p.share_next ≡ gap)) here
+    (changed-here e.facts.addr (λ p. record p { share_next = gap }) (with_entry (owing 10 n m e) m) (λ p. refl) (λ p. p.share_next ≡ gap) (λ p. refl)))
+
+-- ---- the book
+
+connects-book : (addr : Addr) (m : Machine) → (peer_connects addr m).machine.peers ≡ m.peers
+connects-book addr m = cond_both (same_address addr m.settings.own) (turned_away OwnAddr m)
+    (if nat_le m.settings.hard (counted_in m) then turned_away Full m else accepted_beside (live_entry_at addr m) addr m)
+    (λ effect. effect.machine.peers ≡ m.peers) (λ own. refl)
+    (λ other. cond_both (nat_le m.settings.hard (counted_in m)) (turned_away Full m) (accepted_beside (live_entry_at addr m) addr m)
+    (λ effect. effect.machine.peers ≡ m.peers) (λ full. refl) (λ room. beside (live_entry_at addr m)))
+  where
+    beside : (o : Option Entry) → (accepted_beside o addr m).machine.peers ≡ m.peers
+    beside None = refl
+    beside (Some e) = cond_both (is_pending e.facts) (crossed addr e m) (turned_away Present m) (λ effect. effect.machine.peers ≡ m.peers)
+        (λ pending. cond_both (address_below addr m.settings.own) (then_do (ending Overwritten e m) (admitted addr)) (turned_away Crossed m)
+        (λ effect. effect.machine.peers ≡ m.peers) (λ below. refl) (λ above. refl)) (λ other. refl)
+
+asks-book : (m : Machine) → (asks_roots m).machine.peers ≡ m.peers
+asks-book m = cond_both (may_ask m.now m.targets.root m.roots)
+    (tells (AskRoots (record { 0 = m.roots.next_job }) ∷ []) (record m { roots = asked m.roots })) (nothing_more m) (λ effect. effect.machine.peers ≡ m.peers)
+    (λ too_few. refl) (λ enough. refl)
+
+closed-book : (o : Option Entry) (m : Machine) → WhereLive o (λ e. FailsWhere (is_missed e.facts) e m (on_entry o closes m).machine)
+closed-book None m = tt
+closed-book (Some e) m = λ live. rw live (vanishes-failed e m)
+
+pub treats-book : (act : Act) (m : Machine) → TreatsBook act m (does act m).machine
+treats-book (shows t) m = refl
+treats-book (fires_one d) m = tt
+treats-book asks_for_roots m = asks-book m
+treats-book (carries order) m = tt
+treats-book (connects addr) m = connects-book addr m
+treats-book (ends_dial cid opened) m = tt
+treats-book (stores entry undecoded) m = refl
+treats-book (handles_item cid item) m = tt
+treats-book (ends_stream cid fault) m = tt
+treats-book (is_closed cid) m = closed-book (entry_at cid.0 m) m
+treats-book (sets_targets targets) m = refl
+treats-book (sets_big_targets targets) m = refl
+treats-book (sets_groups groups) m = refl
+treats-book (sets_roots roots) m = refl
+treats-book (makes_ordinary addr) m = tt
+treats-book (provides addr) m = tt
+treats-book (provides_big addr) m = tt
+
+-- ---- the pause
+
+notice-pauses : (b : Bool) (length : ℕ) → pauses_in (if b then Pause length ∷ [] else []) ≡ (if b then length ∷ [] else [])
+notice-pauses true length = refl
+notice-pauses false length = refl
+
+is_below : (n : ℕ) → nat_lt n (n + 1) ≡ true
+is_below n = grind arith
+
+not_below : (n : ℕ) → nat_lt n n ≡ false
+not_below n = grind arith
+
+admitted-pauses : (addr : Addr) (m : Machine) → pauses_in (admitted addr m).actions ≡ pauses_due m (admitted addr m).machine
+admitted-pauses addr m =
+    let n : Machine = (admitted addr m).machine in
+    notice-pauses (nat_lt n.settings.soft (counted_in n)) (pause_of n.settings (counted_in n))
+    ∙ ap (λ b. if b && nat_lt n.settings.soft (counted_in n) then pause_of n.settings (counted_in n) ∷ [] else []) (sym (is_below m.next_id))
+
+nobody-pauses : (m : Machine) → [] ≡ pauses_due m m
+nobody-pauses m = ap (λ b. if b && nat_lt m.settings.soft (counted_in m) then pause_of m.settings (counted_in m) ∷ [] else []) (sym (not_below m.next_id))
+
+connects-pauses : (addr : Addr) (m : Machine) → pauses_in (peer_connects addr m).actions ≡ pauses_due m (peer_connects addr m).machine
+connects-pauses addr m = cond_both (same_address addr m.settings.own) (turned_away OwnAddr m)
+    (if nat_le m.settings.hard (counted_in m) then turned_away Full m else accepted_beside (live_entry_at addr m) addr m) Right (λ own. nobody-pauses m)
+    (λ other. cond_both (nat_le m.settings.hard (counted_in m)) (turned_away Full m) (accepted_beside (live_entry_at addr m) addr m) Right
+    (λ full. nobody-pauses m) (λ room. beside (live_entry_at addr m)))
+  where
+    Right : Effect → Type 0
+    Right effect = pauses_in effect.actions ≡ pauses_due m effect.machine
+
+    beside : (o : Option Entry) → Right (accepted_beside o addr m)
+    beside None = admitted-pauses addr m
+    beside (Some e) = cond_both (is_pending e.facts) (crossed addr e m) (turned_away Present m) Right
+        (λ pending. cond_both (address_below addr m.settings.own) (then_do (ending Overwritten e m) (admitted addr)) (turned_away Crossed m) Right
+        (λ below. admitted-pauses addr (ending Overwritten e m).machine) (λ above. nobody-pauses m)) (λ other. nobody-pauses m)
+
+pub pauses-right : (act : Act) (m : Machine) → PausesRight act m (does act m)
+pauses-right (shows t) m = tt
+pauses-right (fires_one d) m = tt
+pauses-right asks_for_roots m = tt
+pauses-right (carries order) m = tt
+pauses-right (connects addr) m = connects-pauses addr m
+pauses-right (ends_dial cid opened) m = tt
+pauses-right (stores entry undecoded) m = tt
+pauses-right (handles_item cid item) m = tt
+pauses-right (ends_stream cid fault) m = tt
+pauses-right (is_closed cid) m = tt
+pauses-right (sets_targets targets) m = tt
+pauses-right (sets_big_targets targets) m = tt
+pauses-right (sets_groups groups) m = tt
+pauses-right (sets_roots roots) m = tt
+pauses-right (makes_ordinary addr) m = tt
+pauses-right (provides addr) m = tt
+pauses-right (provides_big addr) m = tt
+
+-- ---- each order
+
 pub carried-out : (order : Order) (m : Machine) → IsOrderly m → IsCarriedOut order m (carries_out order m)
-carried-out (Ask addr n) m h = tt
+carried-out (Ask addr n) m h = leaves-alone addr n m h
 carried-out (Forget addr) m h = forgotten addr m
-carried-out (Promote addr) m h = promote-move addr m
+carried-out (Promote addr) m h = (promote-move addr m, reuses addr m h)
 carried-out (Release addr) m h = none-used addr (carries_out (Release addr) m).machine (release-none addr m h)
 carried-out (Activate addr) m h = activate-move addr m
 carried-out (Deactivate addr) m h = tt

@@ -1,6 +1,6 @@
 -- The moves of the clock: a reply is late, a grace is over, a handshake was not done in time, a time-wait is over.
-use Rattle.std.proofs.Common.{ℕ, zero, suc, ◌≡◌, ◌≤◌, ◌<◌, arith, Bool, true, false, ◌&&◌, ◌||◌, ◌==◌, if◌then◌else◌, [], ◌∷◌, List, length, Option, Some, None, All, Contains, refl, sym, ap, subst, eq-eqb, leb-true}
-use Rattle.std.proofs.lemmas.Bool.{cond_both, both_ways, false≢true, and_right}
+use Rattle.std.proofs.Common.{ℕ, zero, suc, ◌≡◌, ◌≤◌, ◌<◌, arith, Bool, true, false, ◌&&◌, ◌||◌, ◌==◌, if◌then◌else◌, [], ◌∷◌, List, length, Option, Some, None, All, Contains, refl, sym, ap, ◌∙◌, subst, eq-eqb, leb-true}
+use Rattle.std.proofs.lemmas.Bool.{cond_both, both_ways, false≢true, and_right, or_from}
 use Rattle.std.proofs.lemmas.List.Elements.{All-nil, All-weaker, All-contains, All-contains_itself}
 use Rattle.net_base.specs.declared.action.Action.TheVariants.{Close}
 use Rattle.net_base.specs.declared.action.CloseCause.TheVariants.{Unused, Fault}
@@ -14,12 +14,14 @@ use Rattle.net_base.specs.declared.timer.Deadline.{Deadline}
 use Rattle.net_base.specs.declared.timer.Kind.{Kind}
 use Rattle.net_base.specs.declared.timer.Kind.TheVariants.{Handshake, Grace as GraceKind, TimeWait, Reply2, Reply8, Reply10}
 use Rattle.conn_state.specs.Moves.{expired}
-use Rattle.conn_state.specs.Use.{is_live, live_phase, is_greeting, is_greeting_phase, is_negotiated, is_outbound, some_runs}
+use Rattle.conn_state.specs.Use.{is_live, live_phase, is_pending, opening_phase, is_greeting, is_greeting_phase, is_negotiated, is_outbound, some_runs}
 use Rattle.machine.specs.Machine.{Machine, Entry, Owed}
 use Rattle.machine.specs.Effect.{Effect, unused, gone, tells, then_do, as_move, on_entry}
+use Rattle.machine.specs.Peers.{peer_at}
 use Rattle.machine.specs.Connections.{entry_turns, entry_goes, closing_entry, grace_over, wait_over}
-use Rattle.machine.specs.Deadlines.{deadline, deadlines_of, phase_deadlines, grace_deadlines, reply_deadline, due, fires_as, fires, fires_some, fire_due}
-use Rattle.laws.specs.AtMoves.{IsPast, IsOver, IsLawful}
+use Rattle.machine.specs.Deadlines.{deadlines_of, phase_deadlines, grace_deadlines, reply_deadline, due, fires_as, fires, fires_some, fire_due}
+use Rattle.timer_queue.specs.Timers.{timer}
+use Rattle.laws.specs.AtMoves.{is_missed, failed_where, FailsWhere, IsPast, IsOver, IsLawful}
 use Rattle.laws.specs.Sound.{IsOrderly}
 use Rattle.laws.specs.Stages.{stage_of_phase, stage_at}
 use Rattle.laws.specs.Telling.{IsTold}
@@ -59,17 +61,17 @@ MeansLate now e d = is_late now d ≡ true → LateAs now e d.kind
 phase-late : (now : ℕ) (e : Entry) (phase : Phase) → e.facts.phase ≡ phase → All (MeansLate now e) (phase_deadlines e.facts.cid phase)
 unfolding MeansLate LateAs
 phase-late now e Dialing is = All-nil (MeansLate now e)
-phase-late now e (Greeting until) is = all_one (MeansLate now e) (deadline e.facts.cid Handshake until) (λ late. ap is_greeting_phase is)
+phase-late now e (Greeting until) is = all_one (MeansLate now e) (timer e.facts.cid Handshake until) (λ late. ap is_greeting_phase is)
 phase-late now e Negotiated is = All-nil (MeansLate now e)
-phase-late now e (Closing until) is = all_one (MeansLate now e) (deadline e.facts.cid TimeWait until) (λ late. ap live_phase is)
+phase-late now e (Closing until) is = all_one (MeansLate now e) (timer e.facts.cid TimeWait until) (λ late. ap live_phase is)
 
 grace-late : (now : ℕ) (e : Entry) (grace : Grace) → e.facts.grace ≡ grace → All (MeansLate now e) (grace_deadlines e.facts.cid grace)
 unfolding MeansLate LateAs
 grace-late now e Off is = All-nil (MeansLate now e)
 grace-late now e (ForRemote until) is =
-    all_one (MeansLate now e) (deadline e.facts.cid GraceKind until) (λ late. subst (IsPast now) (sym is) (leb-true until now late))
+    all_one (MeansLate now e) (timer e.facts.cid GraceKind until) (λ late. subst (IsPast now) (sym is) (leb-true until now late))
 grace-late now e (ForLocal until) is =
-    all_one (MeansLate now e) (deadline e.facts.cid GraceKind until) (λ late. subst (IsPast now) (sym is) (leb-true until now late))
+    all_one (MeansLate now e) (timer e.facts.cid GraceKind until) (λ late. subst (IsPast now) (sym is) (leb-true until now late))
 
 reply-late : (now : ℕ) (e : Entry) (owed : Owed) → Contains e.owed owed → MeansLate now e (reply_deadline e.facts.cid owed)
 unfolding MeansLate LateAs
@@ -144,12 +146,26 @@ live-negotiated f dead = by_phase (is_negotiated f) refl
     by_phase true is = absurd (both_ways (is_live f) dead (negotiated-live f.phase is))
     by_phase false is = refl
 
+-- nobody misses one that this side has closed
+dead-unmissed : (f : Facts) → IsShaped f → is_live f ≡ false → is_missed f ≡ false
+dead-unmissed f shape dead =
+    or_from f.local (is_pending f) (shape.unused (live-negotiated f dead)).local
+    (ap (λ b. is_outbound f && b) (unopened f.phase dead) ∙ and_right (is_outbound f) false refl)
+  where
+    unopened : (p : Phase) → live_phase p ≡ false → opening_phase p ≡ false
+    unopened Dialing is = absurd (false≢true (sym is))
+    unopened (Greeting until) is = absurd (false≢true (sym is))
+    unopened Negotiated is = absurd (false≢true (sym is))
+    unopened (Closing until) is = refl
+
 wait_over-obeys : (m : Machine) (e : Entry) (k : ℕ) → IsOrdered m → StandsAt m.connections k e → is_live e.facts ≡ false →
     Obeys IsLawful m (wait_over e m)
 wait_over-obeys m e k h s dead =
     let closed : is_negotiated e.facts ≡ false = live-negotiated e.facts dead in
+    let stays : FailsWhere (is_missed e.facts) e m (wait_over e m).machine =
+    subst (λ b. peer_at e.facts.addr m ≡ failed_where b m.now m.settings.backoff (peer_at e.facts.addr m)) (sym (dead-unmissed e.facts (stands-shaped m e k h s) dead)) refl in
     as_move-obeys IsLawful (gone e.facts.cid.0) m (entry_goes e m) refl
-    (record { back_off = tt; targets = tt; cause = on_stands (λ x. is_negotiated x.facts ≡ false) m e k h.orderly s closed })
+    (record { back_off = tt; targets = tt; cause = on_stands (λ x. (is_negotiated x.facts ≡ false) × FailsWhere (is_missed x.facts) x m (wait_over e m).machine) m e k h.orderly s (closed, stays) })
     (accounts_gone m e k (wait_over e m) h.orderly s refl (λ addr hot. hot) (λ addr known. known) (λ negotiated. absurd (both_ways (is_negotiated e.facts) closed negotiated))
     (told_move (gone e.facts.cid.0) m (entry_goes e m) refl refl (goes-told m e k h.orderly s)))
 

@@ -5,16 +5,20 @@ use Rattle.std.proofs.lemmas.Bool.{cond_both}
 use Rattle.std.proofs.lemmas.Grind.{flat_map-append}
 use Rattle.std.proofs.lemmas.List.Elements.{filter-append}
 use Rattle.accept_gate.specs.Prune.{choice_of}
-use Rattle.conn_state.specs.Use.{is_acquirable, is_dialing, is_live, is_pending, runs, agreed_sharing}
+use Rattle.conn_state.specs.Use.{is_acquirable, is_outbound_by, is_dialing, is_live, is_pending, runs, agreed_sharing}
 use Rattle.govern_rules.specs.declared.order.Order.{Order}
 use Rattle.govern_rules.specs.declared.order.Order.TheVariants.{Ask, Forget, Promote, Release, Activate, Deactivate}
 use Rattle.hs_decide.specs.Agreement.{verdict_of}
 use Rattle.hs_decide.specs.Answers.{answer_of}
+use Rattle.hs_decide.specs.declared.role.Role.{Role}
+use Rattle.hs_decide.specs.declared.role.Role.TheVariants.{Acceptor, Dialer}
 use Rattle.hs_decide.specs.declared.verdict.Verdict.{Verdict}
 use Rattle.hs_decide.specs.declared.verdict.Verdict.TheVariants as verdict
 use Rattle.hs_message.specs.Reading.{message_of}
 use Rattle.hs_message.specs.declared.message.Message.{Message}
+use Rattle.hs_message.specs.declared.message.Message.TheVariants as message
 use Rattle.mux_segment.specs.declared.fault.CutFault.{CutFault}
+use Rattle.mux_segment.specs.declared.fault.CutFault.TheVariants as cut
 use Rattle.mux_segment.specs.declared.item.Item.{Item}
 use Rattle.net_base.specs.Address.{same_address, address_below}
 use Rattle.net_base.specs.declared.action.CloseCause.{CloseCause}
@@ -26,6 +30,8 @@ use Rattle.net_base.specs.declared.action.Action.TheVariants.{Close, AskRoots}
 use Rattle.conn_state.specs.Moves.{expired, acquired, awakened, released}
 use Rattle.net_base.specs.declared.address.Addr.{Addr}
 use Rattle.net_base.specs.declared.connection.Cid.{Cid}
+use Rattle.net_base.specs.declared.connection.Provenance.{Provenance}
+use Rattle.net_base.specs.declared.connection.Provenance.TheVariants.{FromRemote, FromLocal}
 use Rattle.net_base.specs.declared.connection.Phase.{Phase}
 use Rattle.net_base.specs.declared.connection.Phase.TheVariants.{Dialing, Greeting, Negotiated, Closing}
 use Rattle.net_base.specs.declared.peer.Temp.TheVariants.{Cold, Warm, Hot}
@@ -34,7 +40,10 @@ use Rattle.net_base.specs.declared.timer.Kind.TheVariants.{Handshake, Grace, Tim
 use Rattle.remote_watch.specs.Watch.{watched}
 use Rattle.remote_watch.specs.declared.seen.Seen.{Seen}
 use Rattle.root_groups.specs.RootAsk.{may_ask, asked}
-use Rattle.warm_messages.specs.Reading.{share_of}
+use Rattle.warm_messages.specs.First.{first_number_of}
+use Rattle.warm_messages.specs.Reading.{alive_of, share_of}
+use Rattle.warm_messages.specs.declared.alive.Alive.{Alive}
+use Rattle.warm_messages.specs.declared.alive.Alive.TheVariants as alive
 use Rattle.warm_messages.specs.declared.share.Share.{Share}
 use Rattle.warm_messages.specs.declared.share.Share.TheVariants as share
 use Rattle.machine.specs.Connections.{with_entry, without_entry, entry_turns, ending, vanishes, acquire, candidates_in, trim, says_done, release, awake, dial, dial_opens, dial_fails, closing_entry}
@@ -49,10 +58,10 @@ use Rattle.machine.specs.Peers.{peer_at, peer_becomes, peer_is_ordinary, peer_co
 use Rattle.machine.specs.Provided.{comes_ordinary, is_wanted_big, comes_big}
 use Rattle.machine.specs.Replies.{reply_on, owing, paid}
 use Rattle.machine.specs.Stream.{handled_in, handled, kind_of, faulted}
-use Rattle.machine.specs.Talking.{replies, stops_if, serves, begins, takes_requests, asked_as, shares_address, taken_of, takes_addresses, pays, brings, answered_as, talks}
+use Rattle.machine.specs.Talking.{replies, stops_if, serves, begins, takes_requests, asked_as, shares_address, taken_of, takes_addresses, pays_chain_sync, pays_keep_alive, pays_peer_sharing, pays, brings, answered_as, talks}
 use Rattle.laws.specs.Acts.{Act, shows, fires_one, asks_for_roots, carries, connects, ends_dial, stores, handles_item, ends_stream, is_closed, sets_targets, sets_big_targets, sets_groups, sets_roots, makes_ordinary, provides, provides_big, does}
-use Rattle.laws.specs.AtMoves.{fault_of_request, fault_of_answer, fault_of}
-use Rattle.laws.specs.Parts.{ends_on, causes_of_kind, causes_of_verdict, causes_of_message, causes_of_greeting, causes_of_fault, causes_of_item, causes_of_cut, causes_of_crossing, ends_due, is_pruned, but_pruned, IsOneMove}
+use Rattle.laws.specs.Ends.{protocol_fault, causes_of_verdict, offered, causes_of_message, causes_to_acceptor, side_of, causes_to_dialer, causes_of_greeting, fault_of_request, is_intersection, is_cookie, are_so_many, is_answer, fault_of_answer, fault_of, causes_of_fault, causes_of_item, kind_of_cut, causes_of_cut, causes_of_kind, causes_of_crossing, ends_on, ends_due, is_pruned, but_pruned}
+use Rattle.laws.specs.CarriedOut.{IsOneMove}
 use Rattle.laws.specs.Told.{End, ended_by, ends_in}
 use Rattle.laws.proofs.ToldMoves.{turns_at-moves}
 use Rattle.laws.proofs.Lawful.{lost_by-quiet, lost-quiet, comes-providing}
@@ -60,7 +69,7 @@ use Rattle.laws.proofs.Handshakes.{answer-quiet}
 use Rattle.laws.proofs.Orders.{says_done-quiet}
 use Rattle.laws.proofs.Talks.{replies-quiet}
 
-abbrev end_of : Entry → CloseCause → End
+abbrev pub end_of : Entry → CloseCause → End
 end_of e cause = record { cid = e.facts.cid.0; cause = cause }
 
 -- whom an effect ends but by pruning
@@ -110,8 +119,13 @@ judged-others (verdict.Agree agreed) e m = others_none (judged (verdict.Agree ag
 judged-others verdict.Refused e m = ending-others cause.Refused e m
 judged-others verdict.Wrong e m = ending-others (cause.Fault Protocol) e m
 
+-- as the machine reads a message
+abbrev causes_heard : Option Message → Role → ℕ → Machine → List CloseCause
+causes_heard o role side m =
+    causes_of_message o (λ msg. if fits_side role side msg then causes_of_verdict (verdict_of role (own_info m.settings) msg) else protocol_fault)
+
 greeted_by-others : (o : Option Message) (side : ℕ) (e : Entry) (m : Machine) →
-    others (greeted_by o side e m) ≡ map (end_of e) (causes_of_message o (role_of e.facts.provenance) side m)
+    others (greeted_by o side e m) ≡ map (end_of e) (causes_heard o (role_of e.facts.provenance) side m)
 greeted_by-others None side e m = ending-others (cause.Fault Malformed) e m
 greeted_by-others (Some msg) side e m = by_side (fits_side (role_of e.facts.provenance) side msg)
   where
@@ -126,13 +140,45 @@ greeted_by-others (Some msg) side e m = by_side (fits_side (role_of e.facts.prov
         (others_none first (answer-quiet (answer_of v (own_info m.settings)) e.facts.cid m).moves) (judged-others v e first.machine)
     by_side false = ending-others (cause.Fault Protocol) e m
 
+-- The sides on which a message is awaited.
+heard-same : (p : Provenance) (item : Item) (m : Machine) →
+    (if item.id == 0 && is_awaited (role_of p) item.side then causes_heard (message_of item.body) (role_of p) item.side m else protocol_fault)
+    ≡ (if item.id == 0 then (if is_outbound_by p then causes_to_dialer item m else causes_to_acceptor item m) else protocol_fault)
+heard-same FromRemote item m = by_tests (item.id == 0) (item.side == 0)
+  where
+    heard : (o : Option Message) →
+        causes_heard o Acceptor item.side m ≡ causes_of_message o (λ msg. causes_of_verdict (verdict_of Acceptor (offered m.settings) msg))
+    heard None = refl
+    heard (Some msg) = refl
+
+    by_tests : (b c : Bool) → (if b && c then causes_heard (message_of item.body) Acceptor item.side m else protocol_fault)
+        ≡ (if b then (if c then causes_of_message (message_of item.body) (λ msg. causes_of_verdict (verdict_of Acceptor (offered m.settings) msg)) else protocol_fault) else protocol_fault)
+    by_tests true true = heard (message_of item.body)
+    by_tests true false = refl
+    by_tests false c = refl
+heard-same FromLocal item m = by_test (item.id == 0)
+  where
+    heard : (o : Option Message) → causes_heard o Dialer item.side m
+        ≡ causes_of_message o (λ msg. if item.side == side_of msg then causes_of_verdict (verdict_of Dialer (offered m.settings) msg) else protocol_fault)
+    heard None = refl
+    heard (Some (message.Propose table)) = refl
+    heard (Some (message.Accept version info)) = refl
+    heard (Some (message.Refuse reason)) = refl
+    heard (Some (message.QueryReply table)) = refl
+
+    by_test : (b : Bool) → (if b && true then causes_heard (message_of item.body) Dialer item.side m else protocol_fault)
+        ≡ (if b then causes_to_dialer item m else protocol_fault)
+    by_test true = heard (message_of item.body)
+    by_test false = refl
+
 greets-others : (item : Item) (e : Entry) (m : Machine) →
-    others (greets item e m) ≡ map (end_of e) (causes_of_greeting item e m)
-greets-others item e m = by_side (item.id == 0 && is_awaited (role_of e.facts.provenance) item.side)
+    others (greets item e m) ≡ map (end_of e) (causes_of_greeting item e.facts m)
+greets-others item e m =
+    by_side (item.id == 0 && is_awaited (role_of e.facts.provenance) item.side) ∙ ap (map (end_of e)) (heard-same e.facts.provenance item m)
   where
     by_side : (b : Bool) → others (if b then greeted_by (message_of item.body) item.side e m else ending (cause.Fault Protocol) e m)
         ≡ map (end_of e)
-        (if b then causes_of_message (message_of item.body) (role_of e.facts.provenance) item.side m else cause.Fault Protocol ∷ [])
+        (if b then causes_heard (message_of item.body) (role_of e.facts.provenance) item.side m else protocol_fault)
     by_side true = greeted_by-others (message_of item.body) item.side e m
     by_side false = ending-others (cause.Fault Protocol) e m
 
@@ -152,7 +198,7 @@ begins-others protocol e m = cond_both (runs protocol e.facts.running) (nothing_
     (λ running. refl) (λ silent. trim-others e.facts.cid (entry_turns e (record e { facts = awakened protocol e.facts }) m).machine)
 
 asked_as-others : (r : Result Seen FaultKind) (protocol : ℕ) (e : Entry) (m : Machine) →
-    others (asked_as r protocol e m) ≡ map (end_of e) (causes_of_fault (fault_of_request r e))
+    others (asked_as r protocol e m) ≡ map (end_of e) (causes_of_fault (fault_of_request r e.facts))
 asked_as-others (Err kind) protocol e m = ending-others (cause.Fault kind) e m
 asked_as-others (Ok seen) protocol e m = by_test (takes_requests e)
   where
@@ -189,10 +235,31 @@ brings-others protocol body e m =
     (λ not_2. cond_both (protocol == 8) (nothing_more m) (takes_addresses (share_of body) m) (λ effect. others effect ≡ []) (λ on_8. refl)
     (λ not_8. takes-others (share_of body) m))
 
+-- What pays a reply.
+pays-same : (owed : Owed) (body : List ℕ) → pays owed body ≡ is_answer owed body
+pays-same owed body = λ i. if owed.protocol == 2 then first (first_number_of body) i else if owed.protocol == 8 then alive_is (alive_of body) i else share_is (share_of body) i
+  where
+    first : (o : Option ℕ) → pays_chain_sync o ≡ is_intersection o
+    first None = refl
+    first (Some n) = refl
+
+    alive_is : (o : Option Alive) → pays_keep_alive owed.asked o ≡ is_cookie owed.asked o
+    alive_is None = refl
+    alive_is (Some (alive.Ask n)) = refl
+    alive_is (Some (alive.Reply n)) = refl
+    alive_is (Some alive.Done) = refl
+
+    share_is : (o : Option Share) → pays_peer_sharing owed.asked o ≡ are_so_many owed.asked o
+    share_is None = refl
+    share_is (Some (share.Request n)) = refl
+    share_is (Some (share.Peers addrs)) = refl
+    share_is (Some share.Done) = refl
+
 answered_as-others : (o : Option Owed) (item : Item) (e : Entry) (m : Machine) →
     others (answered_as o item e m) ≡ map (end_of e) (causes_of_fault (fault_of_answer o item.body))
 answered_as-others None item e m = ending-others (cause.Fault Protocol) e m
-answered_as-others (Some owed) item e m = by_test (pays owed item.body)
+answered_as-others (Some owed) item e m =
+    by_test (pays owed item.body) ∙ ap (λ b. map (end_of e) (causes_of_fault (if b then None else Some Protocol))) (pays-same owed item.body)
   where
     by_test : (b : Bool) → others (if b then then_do (entry_turns e (paid item.id e) m) (brings item.id item.body e) else ending (cause.Fault Protocol) e m)
         ≡ map (end_of e) (causes_of_fault (if b then None else Some Protocol))
@@ -205,7 +272,7 @@ talks-others item e m = by_side (item.side == 0)
   where
     by_side : (b : Bool) → others (if b then asked_as (watched item.id (agreed_sharing e.facts.agreed) item.body) item.id e m else answered_as (reply_on item.id e) item e m)
         ≡ map (end_of e)
-        (causes_of_fault (if b then fault_of_request (watched item.id (agreed_sharing e.facts.agreed) item.body) e else fault_of_answer (reply_on item.id e) item.body))
+        (causes_of_fault (if b then fault_of_request (watched item.id (agreed_sharing e.facts.agreed) item.body) e.facts else fault_of_answer (reply_on item.id e) item.body))
     by_side true = asked_as-others (watched item.id (agreed_sharing e.facts.agreed) item.body) item.id e m
     by_side false = answered_as-others (reply_on item.id e) item e m
 
@@ -223,7 +290,14 @@ handled-others (Some e) item m = handled_in-others e.facts.phase item e m
 stream-others : (o : Option Entry) (fault : Option CutFault) (m : Machine) → others (on_entry o (faulted fault) m) ≡ ends_on o (λ e. causes_of_cut fault)
 stream-others None fault m = refl
 stream-others (Some e) None m = refl
-stream-others (Some e) (Some fault) m = ending-others (cause.Fault (kind_of fault)) e m
+stream-others (Some e) (Some fault) m =
+    ending-others (cause.Fault (kind_of fault)) e m ∙ ap (λ kind. end_of e (cause.Fault kind) ∷ []) (kind-same fault)
+  where
+    kind-same : (f : CutFault) → kind_of f ≡ kind_of_cut f
+    kind-same cut.Bad = refl
+    kind-same cut.Deep = refl
+    kind-same cut.TooLong = refl
+    kind-same cut.UnknownId = refl
 
 -- ---- a deadline
 

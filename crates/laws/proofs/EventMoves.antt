@@ -33,7 +33,7 @@ use Rattle.machine.specs.Deadlines.{deadlines, fire_all}
 use Rattle.machine.specs.Events.{clock_shows, turned_away, pause_notice, admitted, crossed, accepted_beside, peer_connects, closes, peer_closes, dialed, dial_ends}
 use Rattle.machine.specs.Provided.{comes_ordinary, locals_are, is_wanted_big, comes_big, bigs_are, roots_say, roots_answer}
 use Rattle.machine.specs.Step.{step}
-use Rattle.laws.specs.AtMoves.{IsLawful, is_negotiated_entry, is_negotiated_at, is_ended_in, MovesAreLawful, is_up_connection, is_known, is_shared_in, is_provided_by}
+use Rattle.laws.specs.AtMoves.{is_missed, FailsWhere, IsLawful, is_negotiated_entry, is_negotiated_at, is_ended_in, MovesAreLawful, is_up_connection, is_known, is_shared_in, is_provided_by}
 use Rattle.laws.specs.Parts.{IsAccounted}
 use Rattle.laws.specs.Sound.{IsOrderly}
 use Rattle.laws.specs.Stages.{stage_of_phase}
@@ -47,6 +47,7 @@ use Rattle.laws.proofs.Events.{admitted_entry, at_moment, at_moment-orderly}
 use Rattle.laws.proofs.Finds.{find-remove_other}
 use Rattle.laws.proofs.Governing.{govern-trimmed}
 use Rattle.laws.proofs.KnownWanted.{bigs-within}
+use Rattle.laws.proofs.Failures.{vanishes-failed}
 use Rattle.laws.proofs.Lawful.{Accounts, accounts_come, accounts_gone, Obeys, obeys_then, obeys_nothing, IsQuiet, quiet-lawful, quiet-obeys, elsewhere-quiet, tells-quiet, changes-quiet, lost-quiet, IsProviding, comes-providing, shared-accounts, ending-obeys, on_stands, turned_then-obeys, as_move-obeys, IsAllowed, Within, allowed_within}
 use Rattle.laws.proofs.Lists.{StandsAt, find_some, all-both, all-placed}
 use Rattle.laws.proofs.PartMoves.{EndsKnown, accounted-part, providing-part, ends-once}
@@ -174,7 +175,7 @@ fails-obeys m e k h s dials =
     let unnegotiated : is_negotiated e.facts ≡ false = dialing-unnegotiated e.facts.phase dials in
     let lost : IsQuiet (without_entry e.facts.cid.0 m) (lost e.facts (without_entry e.facts.cid.0 m)) = lost-quiet e.facts (without_entry e.facts.cid.0 m) in
     as_move-obeys IsLawful (gone e.facts.cid.0) m (vanishes e m) lost.moves
-    (record { back_off = tt; targets = tt; cause = on_stands (λ x. is_negotiated x.facts ≡ false) m e k h.orderly s unnegotiated })
+    (record { back_off = tt; targets = tt; cause = on_stands (λ x. (is_negotiated x.facts ≡ false) × FailsWhere (is_missed x.facts) x m (vanishes e m).machine) m e k h.orderly s (unnegotiated, vanishes-failed e m) })
     (accounts_gone m e k (dial_fails e m) h.orderly s lost.connections lost.hot lost.known
     (λ negotiated. absurd (both_ways (is_negotiated e.facts) unnegotiated negotiated))
     (told_move (gone e.facts.cid.0) m (vanishes e m) refl (no_dial (vanishes e m)) (vanishes-told m e k h s)))

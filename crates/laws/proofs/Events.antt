@@ -8,8 +8,6 @@ use Rattle.net_base.specs.declared.action.Away.TheVariants.{OwnAddr, Crossed, Pr
 use Rattle.net_base.specs.declared.action.CloseCause.TheVariants.{Overwritten}
 use Rattle.net_base.specs.declared.address.Addr.{Addr}
 use Rattle.net_base.specs.declared.connection.Cid.{Cid}
-use Rattle.net_base.specs.declared.event.Event.{Event}
-use Rattle.net_base.specs.declared.event.Event.TheVariants.{Now, Govern, Accepted, Dialed, Bytes, Closed, Aims, Locals, Roots, BigAims, Bigs}
 use Rattle.conn_state.specs.Moves.{accepted}
 use Rattle.conn_state.specs.Use.{is_live, is_live_at, is_pending, has_id}
 use Rattle.machine.specs.Machine.{Machine, Entry, fresh_entry, counted_in, entry_at, live_entry_at}

@@ -17,7 +17,8 @@ use Rattle.net_base.specs.declared.timer.Kind.TheVariants.{Handshake, Grace as G
 use Rattle.net_base.specs.Timer.{deadline_before}
 use Rattle.conn_state.specs.Use.{is_live, live_phase, has_id}
 use Rattle.machine.specs.Machine.{Machine, Entry, entry_at}
-use Rattle.machine.specs.Deadlines.{deadlines, deadlines_of, deadline, phase_deadlines, grace_deadlines, reply_kind, reply_deadline, earlier, least, due, fires_as, fires, fires_some, fire_due, fire_all}
+use Rattle.machine.specs.Deadlines.{deadlines, deadlines_of, phase_deadlines, grace_deadlines, reply_kind, reply_deadline, due, fires_as, fires, fires_some, fire_due, fire_all}
+use Rattle.timer_queue.specs.Timers.{timer, earlier, least}
 use Rattle.laws.specs.Sound.{IsOrderly}
 use Rattle.laws.proofs.Lists.{StandsAt, stands_next, FoundIn, find_some, find_only}
 use Rattle.laws.proofs.Entries.{one_has_id}
@@ -132,14 +133,14 @@ all_one P x h = All-cons P x [] h (All-nil P)
 
 phase-cid : (cid : Cid) (phase : Phase) → All (λ d. d.cid ≡ cid) (phase_deadlines cid phase)
 phase-cid cid Dialing = All-nil (λ d. d.cid ≡ cid)
-phase-cid cid (Greeting until) = all_one (λ d. d.cid ≡ cid) (deadline cid Handshake until) refl
+phase-cid cid (Greeting until) = all_one (λ d. d.cid ≡ cid) (timer cid Handshake until) refl
 phase-cid cid Negotiated = All-nil (λ d. d.cid ≡ cid)
-phase-cid cid (Closing until) = all_one (λ d. d.cid ≡ cid) (deadline cid TimeWait until) refl
+phase-cid cid (Closing until) = all_one (λ d. d.cid ≡ cid) (timer cid TimeWait until) refl
 
 grace-cid : (cid : Cid) (grace : Grace) → All (λ d. d.cid ≡ cid) (grace_deadlines cid grace)
 grace-cid cid Off = All-nil (λ d. d.cid ≡ cid)
-grace-cid cid (ForRemote until) = all_one (λ d. d.cid ≡ cid) (deadline cid GraceKind until) refl
-grace-cid cid (ForLocal until) = all_one (λ d. d.cid ≡ cid) (deadline cid GraceKind until) refl
+grace-cid cid (ForRemote until) = all_one (λ d. d.cid ≡ cid) (timer cid GraceKind until) refl
+grace-cid cid (ForLocal until) = all_one (λ d. d.cid ≡ cid) (timer cid GraceKind until) refl
 
 pub deadlines_of-cid : (e : Entry) → All (λ d. d.cid ≡ e.facts.cid) (deadlines_of e)
 deadlines_of-cid e = all-deadlines_of (λ d. d.cid ≡ e.facts.cid) e (phase-cid e.facts.cid e.facts.phase)
@@ -152,9 +153,9 @@ IsOther d = d.kind ≢ GraceKind
 
 phase-other : (cid : Cid) (phase : Phase) → All IsOther (phase_deadlines cid phase)
 phase-other cid Dialing = All-nil IsOther
-phase-other cid (Greeting until) = all_one IsOther (deadline cid Handshake until) (λ same. cc)
+phase-other cid (Greeting until) = all_one IsOther (timer cid Handshake until) (λ same. cc)
 phase-other cid Negotiated = All-nil IsOther
-phase-other cid (Closing until) = all_one IsOther (deadline cid TimeWait until) (λ same. cc)
+phase-other cid (Closing until) = all_one IsOther (timer cid TimeWait until) (λ same. cc)
 
 reply-other : (protocol : ℕ) → reply_kind protocol ≢ GraceKind
 reply-other protocol = cond_both (protocol == 2) Reply2 (if protocol == 8 then Reply8 else Reply10)
@@ -221,14 +222,14 @@ due-contains m d e =
 -- Only a connection that this side has closed has a time-wait.
 phase-waits : (cid : Cid) (phase : Phase) → All (λ d. d.kind ≡ TimeWait → live_phase phase ≡ false) (phase_deadlines cid phase)
 phase-waits cid Dialing = All-nil (λ d. d.kind ≡ TimeWait → live_phase Dialing ≡ false)
-phase-waits cid (Greeting until) = all_one (λ d. d.kind ≡ TimeWait → true ≡ false) (deadline cid Handshake until) (λ same. absurd cc)
+phase-waits cid (Greeting until) = all_one (λ d. d.kind ≡ TimeWait → true ≡ false) (timer cid Handshake until) (λ same. absurd cc)
 phase-waits cid Negotiated = All-nil (λ d. d.kind ≡ TimeWait → live_phase Negotiated ≡ false)
-phase-waits cid (Closing until) = all_one (λ d. d.kind ≡ TimeWait → false ≡ false) (deadline cid TimeWait until) (λ same. refl)
+phase-waits cid (Closing until) = all_one (λ d. d.kind ≡ TimeWait → false ≡ false) (timer cid TimeWait until) (λ same. refl)
 
 grace-waits : (Z : Type 0) (cid : Cid) (grace : Grace) → All (λ d. d.kind ≡ TimeWait → Z) (grace_deadlines cid grace)
 grace-waits Z cid Off = All-nil (λ d. d.kind ≡ TimeWait → Z)
-grace-waits Z cid (ForRemote until) = all_one (λ d. d.kind ≡ TimeWait → Z) (deadline cid GraceKind until) (λ same. absurd cc)
-grace-waits Z cid (ForLocal until) = all_one (λ d. d.kind ≡ TimeWait → Z) (deadline cid GraceKind until) (λ same. absurd cc)
+grace-waits Z cid (ForRemote until) = all_one (λ d. d.kind ≡ TimeWait → Z) (timer cid GraceKind until) (λ same. absurd cc)
+grace-waits Z cid (ForLocal until) = all_one (λ d. d.kind ≡ TimeWait → Z) (timer cid GraceKind until) (λ same. absurd cc)
 
 reply-waits : (protocol : ℕ) → reply_kind protocol ≢ TimeWait
 reply-waits protocol = cond_both (protocol == 2) Reply2 (if protocol == 8 then Reply8 else Reply10)

@@ -31,6 +31,7 @@ use Rattle.laws.specs.Acts.{orders_of}
 use Rattle.laws.specs.AtMoves.{IsLawful}
 use Rattle.laws.specs.Whole.{IsOrdered}
 use Rattle.laws.proofs.Chosen.{chosen, chosen-apart, chosen-all, PicksMembers, groups_picks-apart, groups_picks-all, map-groups}
+use Rattle.laws.proofs.Locals.{not_local-no_member}
 use Rattle.laws.proofs.Keeping.{Keeps, keeps_nothing, elsewhere-keeps}
 use Rattle.laws.proofs.ToldMoves.{is_temp}
 use Rattle.laws.proofs.Lawful.{Accounts, IsQuiet, quiet-obeys, elsewhere-quiet, tells-quiet, IsAllowed, Within, allowed_within}
@@ -202,7 +203,7 @@ g5-trimmed word m h within =
     wanted-lawful m (g5_orders (view_of word m) m.peers m.groups)
     (class-trimmed IsAllowed MayPromote Promote (promotes-carried) false word _ _ m h within
     (and-gives MayPromote (λ p. is_not_local m.groups p.addr) (is_eligible m.now (map link_of m.connections)) m (promote-gives m h)))
-    (promotes-within false (is_not_local m.groups) word m (λ a other. other) h within)
+    (promotes-within false (is_not_local m.groups) word m (λ a other. ap not (not_local-no_member a m.groups other)) h within)
 
 g7-trimmed : (word : ℕ) → DoesLawful (λ m. g7_orders (view_of word m) m.peers m.groups)
 unfolding DoesLawful
@@ -219,7 +220,7 @@ g8-trimmed word m h within =
     wanted-lawful m (g8_orders (view_of word m) m.peers m.groups)
     (class-trimmed IsAllowed MayActivate Activate (activate-carried) false word _ _ m h within
     (and-gives MayActivate (λ p. is_not_local m.groups p.addr) (may_be_activated (map link_of m.connections)) m (activate-gives m)))
-    (activates-within false (is_not_local m.groups) word m (λ a other. other) h within)
+    (activates-within false (is_not_local m.groups) word m (λ a other. ap not (not_local-no_member a m.groups other)) h within)
 
 g9-trimmed : (word : ℕ) → DoesLawful (λ m. g9_orders (view_of word m) m.peers m.groups)
 unfolding DoesLawful

@@ -34,7 +34,7 @@ use Rattle.machine.specs.Effect.{Effect}
 use Rattle.machine.specs.Own.{own_info}
 use Rattle.machine.specs.Connections.{ending}
 use Rattle.machine.specs.Greeting.{role_of, is_awaited, fits_side, sends_answer, judged, decided, greeted_by, greets}
-use Rattle.laws.specs.AtMoves.{IsCrowded, IsLawful, is_up_connection}
+use Rattle.laws.specs.AtMoves.{IsPrunedRightly, IsLawful, is_up_connection}
 use Rattle.laws.specs.Whole.{IsShaped, IsOrdered}
 use Rattle.laws.proofs.Keeping.{Keeps, keeps_nothing}
 use Rattle.laws.proofs.Lawful.{IsQuiet, quiet-obeys, tells-quiet, turns-obeys, negotiated-forward, used-obeys}
@@ -133,7 +133,7 @@ record Greets (m : Machine) (e : Entry) (k : ℕ) : Type 0 where
   greeting : is_greeting e.facts ≡ true
 
 -- that its handshake is not done is cause enough
-ends : (cause : CloseCause) → IsLost cause → (m : Machine) (e : Entry) (k : ℕ) → Greets m e k → IsCrowded cause m → Trimmed IsLawful m (ending cause e m)
+ends : (cause : CloseCause) → IsLost cause → (m : Machine) (e : Entry) (k : ℕ) → Greets m e k → IsPrunedRightly cause e m → Trimmed IsLawful m (ending cause e m)
 ends cause loses m e k g crowded =
     ending-trimmed cause loses m e k g.ordered g.within g.stands (greeting-live e.facts.phase g.greeting)
     (λ negotiated. absurd (both_ways (is_negotiated e.facts) (greeting-unnegotiated e.facts.phase g.greeting) negotiated)) crowded

@@ -1,5 +1,5 @@
 -- A part of a step of the whole machine: what it keeps, and by how much it may raise the counted connections.
-use Rattle.std.proofs.Common.{ℕ, ◌+◌, ◌<◌, ◌≤◌, ◌≡◌, Bool, false, not, List, [], ◌∷◌, set, All, sum_by, Option, Some, None, refl, sym, ◌∙◌, subst, arith}
+use Rattle.std.proofs.Common.{ℕ, ◌+◌, ◌<◌, ◌≤◌, ◌≡◌, Bool, true, false, not, List, [], ◌∷◌, set, All, sum_by, Option, Some, None, refl, sym, ◌∙◌, subst, arith}
 use Rattle.std.proofs.lemmas.List.Elements.{All-head, All-tail, All-set, All-filter}
 use Rattle.net_base.specs.Address.{same_address}
 use Rattle.net_base.specs.declared.peer.Peer.{Peer}
@@ -16,10 +16,9 @@ use Rattle.peer_book.specs.Book.{with_peer as with_peer_in, new_peer, entry_of, 
 use Rattle.peer_book.specs.declared.added.Added.{Added}
 use Rattle.peer_book.specs.declared.added.Added.TheVariants.{New, Present, Full}
 use Rattle.conn_state.specs.Use.{has_id}
-use Rattle.govern_rules.specs.Rules.{is_not_local}
-use Rattle.laws.specs.Laws.{LocalsAreOrdinary}
+use Rattle.laws.specs.Laws.{is_local, LocalsAreOrdinary}
 use Rattle.laws.specs.Sound.{IsOrderly}
-use Rattle.laws.specs.Whole.{IsShaped, IsOwing, IsFormed, IsOrdered, TiedBy, IsTied}
+use Rattle.laws.specs.Whole.{IsShaped, IsOwing, IsOrdered, TiedBy, IsTied}
 use Rattle.laws.proofs.Books.{IsBook, book_of, with_peer-book, entered-book}
 use Rattle.laws.proofs.Counts.{counted_of, counted_in-sum, late_of, late_in, late_in-sum}
 use Rattle.laws.proofs.Entries.{TurnsInto, turned-connections, turned-orderly, turned-sum, gone-orderly, gone-sum}
@@ -242,7 +241,7 @@ note-machine Full addr m = refl
 
 -- it is not the own address, and no big ledger peer's where it is local
 pub peer_comes-keeps : (big : Bool) (addr : Addr) (m : Machine) → IsOrdered m → same_address addr m.settings.own ≡ false →
-    (is_not_local m.groups addr ≡ false → big ≡ false) → Keeps 0 m (peer_comes big addr m).machine
+    (is_local m.groups addr ≡ true → big ≡ false) → Keeps 0 m (peer_comes big addr m).machine
 peer_comes-keeps big addr m h other class =
     rw (note-machine (entry_of addr m.peers) addr (record m { peers = entered (new_peer big addr) m.peers }))
     (moves-keeps 0 m (record m { peers = entered (new_peer big addr) m.peers })

@@ -26,12 +26,13 @@ use Rattle.net_base.specs.declared.peer.Temp.TheVariants.{Warm}
 use Rattle.warm_messages.specs.Writing.{written_alive}
 use Rattle.warm_messages.specs.declared.alive.Alive.TheVariants.{Ask}
 use Rattle.net_base.specs.Peer.{failed_peer}
-use Rattle.laws.specs.AtMoves.{OutOfBackOff, WithinTargets, IsCrowded, OnEntry, ForCause, IsLawful, is_negotiated_entry, is_negotiated_at, ends, is_ended_in, is_up_connection, is_up, is_hot_peer, is_asked_connection, is_hot_or_asked, is_known, promotes, activates, shares}
+use Rattle.laws.specs.AtMoves.{OutOfBackOff, WithinTargets, IsPrunedRightly, is_failure, FailsWhere, OnEntry, ForCause, IsLawful, is_negotiated_entry, is_negotiated_at, ends, is_ended_in, is_up_connection, is_up, is_hot_peer, is_asked_connection, is_hot_or_asked, is_known, promotes, activates, shares}
 use Rattle.laws.specs.Sound.{IsOrderly}
 use Rattle.laws.specs.Stages.{stage_of_phase, stage_of, stage_at, stage_ended, IsLateCause}
 use Rattle.laws.specs.Telling.{IsTold}
 use Rattle.laws.specs.Told.{Given, ended_by, promoted_by_dial}
 use Rattle.laws.proofs.Entries.{TurnsInto, turned-connections, gone-connections, one_has_id, has_own_id, with_new}
+use Rattle.laws.proofs.Failures.{ending-failed}
 use Rattle.laws.proofs.Finds.{find-set_other, find-set_here, find-remove_other}
 use Rattle.laws.proofs.Keeping.{note-machine}
 use Rattle.laws.proofs.Lists.{StandsAt, find_only, all-appended}
@@ -337,11 +338,13 @@ on_stands law m e k h s holds = subst (λ o. OnEntry o law) (sym (stands-found m
 
 -- a connection is ended, for a cause where its handshake was done
 ended-lawful : (cause : CloseCause) (m after : Machine) (e : Entry) (k : ℕ) → IsOrderly m → StandsAt m.connections k e →
-    (is_negotiated e.facts ≡ true → IsLateCause cause) → IsCrowded cause m → IsLawful (record { happened = ended e.facts.cid.0 cause; before = m; after = after })
-ended-lawful cause m after e k h s may crowded = record {
+    (is_negotiated e.facts ≡ true → IsLateCause cause) → IsPrunedRightly cause e m → FailsWhere (is_failure cause e.facts) e m after →
+    IsLawful (record { happened = ended e.facts.cid.0 cause; before = m; after = after })
+ended-lawful cause m after e k h s may crowded fails = record {
   back_off = tt;
   targets = tt;
-  cause = on_stands (λ x. (is_negotiated x.facts ≡ true → IsLateCause cause) × IsCrowded cause m) m e k h s (may, crowded);
+  cause = on_stands (λ x. (is_negotiated x.facts ≡ true → IsLateCause cause) × IsPrunedRightly cause x m × FailsWhere (is_failure cause x.facts) x m after) m e k h s
+      (may, crowded, fails);
 }
 
 pub live_stage : (p : Phase) → live_phase p ≡ true → stage_of_phase p ≤ 3
@@ -382,14 +385,14 @@ ending-told cause m e k h s live may =
     (omega (arith, stage, early)) (omega (arith, gone, over, ended-most cause)) (λ open_. may (negotiated_stage e.facts.phase (sym stage ∙ open_)))
 
 pub ending-obeys : (cause : CloseCause) (m : Machine) (e : Entry) (k : ℕ) → IsOrderly m → StandsAt m.connections k e → is_live e.facts ≡ true →
-    (is_negotiated e.facts ≡ true → IsLateCause cause) → IsCrowded cause m → Obeys IsLawful m (ending cause e m)
+    (is_negotiated e.facts ≡ true → IsLateCause cause) → IsPrunedRightly cause e m → Obeys IsLawful m (ending cause e m)
 ending-obeys cause m e k h s live may crowded =
     let n : Machine = without_entry e.facts.cid.0 m in
     let q : IsQuiet n (lost_by cause e.facts n) = lost_by-quiet cause e.facts n in
     let move : Move = record { happened = ended e.facts.cid.0 cause; before = m; after = (ending cause e m).machine } in
     let moves : (ending cause e m).moves ≡ move ∷ [] = ap (λ ms. ms ++ move ∷ []) q.moves in
     record {
-      lawful = subst (AllByRecursion IsLawful) (sym moves) (ended-lawful cause m (ending cause e m).machine e k h s may crowded, tt);
+      lawful = subst (AllByRecursion IsLawful) (sym moves) (ended-lawful cause m (ending cause e m).machine e k h s may crowded (ending-failed cause e m), tt);
       accounted = accounts_gone m e k (ending cause e m) h s q.connections q.hot q.known
           (λ negotiated. subst (λ ms. is_ended_in e.facts.cid.0 ms ≡ true) (sym moves)
           (ap (λ b. b || false) (eq-eqb e.facts.cid.0 e.facts.cid.0 refl)))
@@ -447,7 +450,7 @@ used-obeys Law f m e k h s cid addr live negotiated up =
 -- a law on moves but for targets and valencies
 pub record IsAllowed (move : Move) : Type 0 where
   pub back_off : OutOfBackOff move.happened move.before
-  pub cause : ForCause move.happened move.before
+  pub cause : ForCause move.happened move.before move.after
 
 abbrev pub Within : Move → Type 0
 Within move = WithinTargets move.happened move.before move.after

@@ -4,7 +4,8 @@ use Rattle.std.specs.List.{AllByRecursion}
 use Rattle.std.proofs.lemmas.Bool.{or_parts, or_from, false≢true}
 use Rattle.net_base.specs.Timer.{deadline_before, kind_place}
 use Rattle.net_base.specs.declared.timer.Deadline.{Deadline}
-use Rattle.machine.specs.Deadlines.{deadlines, earlier, least, due}
+use Rattle.machine.specs.Deadlines.{deadlines, due}
+use Rattle.timer_queue.specs.Timers.{earlier, least}
 use Rattle.machine.specs.Machine.{Machine}
 use Rattle.laws.specs.Parts.{IsLeastDue}
 use Rattle.laws.proofs.Firing.{least-none, due-contains}

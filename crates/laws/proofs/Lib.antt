@@ -4,17 +4,24 @@ pub mod Entries
 pub mod Events
 pub mod Firing
 pub mod Ids
+mod Numbers
+mod NumbersOfEvents
+mod NumbersOfOrders
+mod NumbersOfPicks
+mod NumbersOfRules
 pub mod Lists
 pub mod Moves
 pub mod Runs
 pub mod Settings
 mod Finds
+mod Failures
 mod Shapes
 mod Effects
 pub mod Carrying
 mod Chosen
 mod Governing
 mod GroupsApart
+mod Locals
 mod Orders
 mod PeersApart
 mod Books
@@ -52,3 +59,7 @@ mod CarriedOut
 mod Least
 mod PartMoves
 pub mod PartEvents
+mod Waits
+mod WaitsOfParts
+mod Pruning
+mod Forgiven

@@ -1,26 +1,21 @@
 -- Local peers are ordinary ones, through each change of the book.
-use Rattle.std.proofs.Common.{ℕ, ◌≡◌, Bool, true, false, nat_le, not, ◌||◌, List, [], ◌∷◌, length, Option, Some, None, is_some, if◌then◌else◌, refl, sym, ap, ◌∙◌, subst}
-use Rattle.std.specs.List.{list_any}
-use Rattle.std.proofs.lemmas.Bool.{cond_both, false≢true}
-use Rattle.std.proofs.lemmas.List.Folds.{list_any-append, list_any_at}
-use Rattle.std.proofs.lemmas.List.Quantifiers.{position-Some}
+use Rattle.std.proofs.Common.{◌≡◌, Bool, true, false, nat_le, ◌||◌, List, [], ◌∷◌, length, Option, Some, None, is_some, if◌then◌else◌, refl, sym, ◌∙◌, subst}
+use Rattle.std.proofs.lemmas.Bool.{cond_both}
 use Rattle.net_base.specs.Address.{same_address, address_below}
 use Rattle.net_base.specs.declared.action.Away.TheVariants.{OwnAddr, Crossed, Present, Full}
 use Rattle.net_base.specs.declared.action.CloseCause.TheVariants.{Overwritten}
 use Rattle.net_base.specs.declared.address.Addr.{Addr}
-use Rattle.net_base.specs.declared.event.Group.{Group}
 use Rattle.net_base.specs.declared.peer.Peer.{Peer}
 use Rattle.conn_state.specs.Use.{is_pending}
-use Rattle.govern_rules.specs.Rules.{is_not_local}
 use Rattle.peer_book.specs.Book.{peer_at as peer_in, with_peer as with_peer_in, with_new as with_new_in, without_peer, new_peer, entered_by, entered, most_peers}
 use Rattle.peer_book.specs.declared.added.Added.TheVariants.{New, Present, Full}
-use Rattle.root_groups.specs.Cleaned.{is_listed, group_of, members_of}
+use Rattle.root_groups.specs.Cleaned.{is_listed, members_of}
 use Rattle.machine.specs.Machine.{Machine, Entry, counted_in, live_entry_at}
 use Rattle.machine.specs.Effect.{then_do, for_each}
 use Rattle.machine.specs.Peers.{peer_at, turns_at, peer_is_ordinary}
 use Rattle.machine.specs.Connections.{ending}
 use Rattle.machine.specs.Events.{turned_away, admitted, crossed, accepted_beside, peer_connects}
-use Rattle.laws.specs.Laws.{LocalsAreOrdinary}
+use Rattle.laws.specs.Laws.{is_local, LocalsAreOrdinary}
 use Rattle.laws.proofs.Addresses.{same_address-true}
 use Rattle.laws.proofs.Ties.{found-addr, peer_elsewhere, peer_here, put_in-elsewhere, put_in-here, none_there, taken-elsewhere, taken-here}
 
@@ -63,7 +58,7 @@ turned-classes a change m same keeps p is h b q found local =
     turned-ordinary a change m same keeps (Some p) is b (λ x there. h b x there local) q found
 
 -- An ordinary peer comes, or a big ledger peer that is not local.
-pub comes-classes : (big : Bool) (addr : Addr) (m : Machine) → (is_not_local m.groups addr ≡ false → big ≡ false) →
+pub comes-classes : (big : Bool) (addr : Addr) (m : Machine) → (is_local m.groups addr ≡ true → big ≡ false) →
     LocalsAreOrdinary m → LocalsAreOrdinary (record m { peers = entered (new_peer big addr) m.peers })
 comes-classes big addr m class h = by_there (is_some (peer_in addr m.peers)) refl
   where
@@ -77,7 +72,7 @@ comes-classes big addr m class h = by_there (is_some (peer_in addr m.peers)) ref
         by_test true e =
             let at : b ≡ addr = same_address-true b addr e in
             let same : new ≡ q = same_peer new q (sym (put_in-here new m.peers none) ∙ subst (λ a. peer_in a (with_new_in new m.peers) ≡ Some q) at is) in
-            subst (λ x. x.big ≡ false) same (class (subst (λ a. is_not_local m.groups a ≡ false) at local))
+            subst (λ x. x.big ≡ false) same (class (subst (λ a. is_local m.groups a ≡ true) at local))
         by_test false e = h b q (sym (put_in-elsewhere new b m.peers e) ∙ is) local
 
     by_there : (c : Bool) → is_some (peer_in addr m.peers) ≡ c →
@@ -99,25 +94,6 @@ taken-classes addr m h b q is local = by_test (same_address b addr) refl
     by_test false e = h b q (sym (taken-elsewhere addr b m.peers e) ∙ is) local
 
 -- ---- the groups are set
-
-pub members-any : (addr : Addr) (groups : List Group) → list_any (λ group. is_listed addr group.members) groups ≡ is_listed addr (members_of groups)
-members-any addr [] = refl
-members-any addr (g ∷ groups) =
-    ap (λ b. is_listed addr g.members || b) (members-any addr groups) ∙ sym (list_any-append (same_address addr) g.members (members_of groups))
-
--- a local address is a member
-local-listed : (addr : Addr) (groups : List Group) → is_not_local groups addr ≡ false → is_listed addr (members_of groups) ≡ true
-local-listed addr groups local = by_place (group_of addr groups) refl local
-  where
-    placed : (groups : List Group) (i : ℕ) → group_of addr groups ≡ Some i → list_any (λ group. is_listed addr group.members) groups ≡ true
-    placed [] i is = absurd cc
-    placed (g ∷ groups) i is =
-        let at = position-Some (λ group. is_listed addr group.members) (g ∷ groups) i g is in
-        list_any_at (λ group. is_listed addr group.members) (g ∷ groups) i g at.0 at.1
-
-    by_place : (o : Option ℕ) → group_of addr groups ≡ o → not (is_some o) ≡ false → is_listed addr (members_of groups) ≡ true
-    by_place None is local = absurd (false≢true (sym local))
-    by_place (Some i) is local = sym (members-any addr groups) ∙ placed groups i is
 
 -- a peer that is made ordinary
 made-ordinary : (a : Addr) (m : Machine) → IsOrdinaryIn (peer_is_ordinary a m).machine.peers a
@@ -164,8 +140,7 @@ made-groups (a ∷ addrs) m = made-groups addrs (peer_is_ordinary a m).machine �
 -- once each member was made an ordinary peer, local peers are ordinary
 pub members-classes : (m : Machine) → LocalsAreOrdinary (for_each peer_is_ordinary (members_of m.groups) m).machine
 members-classes m b q found local =
-    all-made (members_of m.groups) m b
-    (local-listed b m.groups (subst (λ groups. is_not_local groups b ≡ false) (made-groups (members_of m.groups) m) local)) q found
+    all-made (members_of m.groups) m b (subst (λ groups. is_local groups b ≡ true) (made-groups (members_of m.groups) m) local) q found
 
 -- ---- a peer connects
 

@@ -18,7 +18,9 @@ use Rattle.root_groups.specs.Cleaned.{is_listed, first_places, cleaned, members_
 use Rattle.root_groups.specs.RootAsk.{publics_of}
 use Rattle.share_rounds.specs.Rounds.{fits_version, is_new, fresh_of}
 use Rattle.share_rounds.proofs.Rules.{taken_are_new}
+use Rattle.laws.specs.Laws.{is_local}
 use Rattle.laws.proofs.GroupsApart.{NoneListed, first_places-none, cleaned-none}
+use Rattle.laws.proofs.Locals.{not_local-no_member}
 
 -- an address is another one than the own
 abbrev pub IsOther : Settings → Addr → Type 0
@@ -61,5 +63,5 @@ wanted_parts addr m h =
 pub wanted-other : (addr : Addr) (m : Machine) → is_wanted_big addr m ≡ true → IsOther m.settings addr
 wanted-other addr m h = not-true (same_address addr m.settings.own) (wanted_parts addr m h).0
 
-pub wanted-not_local : (addr : Addr) (m : Machine) → is_wanted_big addr m ≡ true → is_not_local m.groups addr ≡ true
-wanted-not_local addr m h = (wanted_parts addr m h).1
+pub wanted-not_local : (addr : Addr) (m : Machine) → is_wanted_big addr m ≡ true → is_local m.groups addr ≡ false
+wanted-not_local addr m h = not_local-no_member addr m.groups (wanted_parts addr m h).1

@@ -39,7 +39,7 @@ use Rattle.laws.proofs.Least.{least-due}
 use Rattle.laws.proofs.Arrivals.{cleaned-listed, publics-listed, comes-known}
 use Rattle.laws.proofs.Governing.{Governs, governs}
 use Rattle.laws.proofs.Keeping.{Keeps}
-use Rattle.laws.proofs.Lawful.{Accounts, quiet-obeys, elsewhere-quiet, changes-quiet, comes-providing, turns-obeys}
+use Rattle.laws.proofs.Lawful.{Accounts, quiet-obeys, elsewhere-quiet, changes-quiet, comes-providing, stands-found, turns-obeys}
 use Rattle.laws.proofs.Lists.{StandsAt, find_some}
 use Rattle.laws.proofs.Open.{IsOpen, turned-open, handles-open}
 use Rattle.laws.proofs.Orders.{EachAccounted}
@@ -62,7 +62,7 @@ fired-parts event (suc n) m h = by_due (due m) refl (fired-parts event n)
     by_due None is later = no_part event m
     by_due (Some d) is later =
         let keeps : Keeps 0 m (fires d m).machine = fires-keeps d m h is in
-        first_part event (fires_one d) (map fires_one (fired n (fires d m).machine)) m (least-due m d is) tt
+        first_part event (fires_one d) (map fires_one (fired n (fires d m).machine)) m (least-due m d is) tt tt
         (accounted-part event m (fires d m) (fires-obeys d m h is).accounted) (later (fires d m).machine keeps.ordered)
 
 -- what is neither a connection nor a peer is set
@@ -84,7 +84,7 @@ clock-parts t m h = by_test (nat_le t m.now)
     by_test : (b : Bool) → AreLawful (Now t) (if b then [] else acts_at_moment t m) m
     by_test true = no_part (Now t) m
     by_test false =
-        first_part (Now t) (shows t) (map fires_one (fired (length (deadlines n)) n)) m tt tt (set-part (Now t) (shows t) m refl refl refl refl refl)
+        first_part (Now t) (shows t) (map fires_one (fired (length (deadlines n)) n)) m tt tt tt (set-part (Now t) (shows t) m refl refl refl refl refl)
         (fired-parts (Now t) (length (deadlines n)) n ordered)
 
 -- ---- the governor
@@ -92,7 +92,7 @@ clock-parts t m h = by_test (nat_le t m.now)
 orders-parts : (event : Event) (orders : List Order) (m : Machine) → EachAccounted orders m → AreLawful event (map carries orders) m
 orders-parts event [] m h = no_part event m
 orders-parts event (o ∷ orders) m h =
-    first_part event (carries o) (map carries orders) m tt (carried-out o m h.0.orderly) (accounted-part event m (carries_out o m) h.0.accounts) (orders-parts event orders (carries_out o m).machine h.1)
+    first_part event (carries o) (map carries orders) m tt (carried-out o m h.0.orderly) h.0.orderly (accounted-part event m (carries_out o m) h.0.accounts) (orders-parts event orders (carries_out o m).machine h.1)
 
 govern-parts : (word : ℕ) (m : Machine) → IsOrdered m → counted_in m ≤ m.settings.hard → AreLawful (Govern word) (acts m (Govern word)) m
 govern-parts word m h within =
@@ -101,7 +101,7 @@ govern-parts word m h within =
     let o : Machine = (for_each rules (ordinary_rules word) n).machine in
     let ordinary : List Act = map carries (orders_of (ordinary_rules word) n) in
     let big : List Act = map carries (orders_of (big_rules word) o) in
-    first_part (Govern word) asks_for_roots (ordinary ++ big) m tt tt (accounted-part (Govern word) m (asks_roots m) g.asked)
+    first_part (Govern word) asks_for_roots (ordinary ++ big) m tt tt tt (accounted-part (Govern word) m (asks_roots m) g.asked)
     (more_parts (Govern word) ordinary big n (orders-parts (Govern word) (orders_of (ordinary_rules word) n) n g.ordinary)
     (subst (λ effect. AreLawful (Govern word) big effect.machine) (orders-chain (ordinary_rules word) n)
     (orders-parts (Govern word) (orders_of (big_rules word) o) o g.big)))
@@ -115,7 +115,7 @@ record Feeding (cid : Cid) (m : Machine) : Type 0 where
 
 stream-part : (event : Event) (cid : Cid) (fed : FedBy) (m : Machine) → Feeding cid m → AreLawful event (ends_stream cid fed.state.fault ∷ []) m
 stream-part event cid fed m f =
-    one_part event (ends_stream cid fed.state.fault) m tt tt
+    one_part event (ends_stream cid fed.state.fault) m tt tt tt
     (accounted-part event m (does (ends_stream cid fed.state.fault) m)
     (faulted-trimmed cid fed.state.fault m f.ordered f.within f.open_).accounted)
 
@@ -125,7 +125,7 @@ items-parts event cid fed [] m f = stream-part event cid fed m f
 items-parts event cid fed (item ∷ items) m f =
     let effect : Effect = handles cid item m in
     let t : Trimmed IsLawful m effect = handles-trimmed cid item m f.ordered f.within in
-    first_part event (handles_item cid item) (map (handles_item cid) items ++ ends_stream cid fed.state.fault ∷ []) m tt tt
+    first_part event (handles_item cid item) (map (handles_item cid) items ++ ends_stream cid fed.state.fault ∷ []) m tt tt f.ordered.orderly
     (accounted-part event m effect t.accounted)
     (items-parts event cid fed items effect.machine
     (record { ordered = t.ordered; within = trimmed-within IsLawful m effect t; open_ = handles-open cid item m f.open_ }))
@@ -137,7 +137,7 @@ fed-parts event fed m e k h within s live =
     let n : Machine = with_entry new m in
     let keeps : Keeps 0 m n = decodes-keeps fed.state.undecoded m e k h s in
     let hard : n.settings.hard ≡ m.settings.hard = ap (λ x. x.hard) keeps.settings in
-    first_part event (stores e fed.state.undecoded) (map (handles_item e.facts.cid) fed.items ++ ends_stream e.facts.cid fed.state.fault ∷ []) m tt tt
+    first_part event (stores e fed.state.undecoded) (map (handles_item e.facts.cid) fed.items ++ ends_stream e.facts.cid fed.state.fault ∷ []) m tt tt (stands-found m e k h.orderly s)
     (accounted-part event m (entry_turns e new m)
     (turns-obeys (λ move. Unit {0}) m e new k h.orderly s (record { same_id = refl; same_addr = refl; live = λ l. l }) (record { up = λ up. up; asked = λ asked. asked })
     (λ negotiated. negotiated) (omega arith)).accounted)
@@ -168,13 +168,13 @@ ordinary-accounts a m =
 ordinary-parts : (event : Event) (addrs : List Addr) (m : Machine) → AreLawful event (map makes_ordinary addrs) m
 ordinary-parts event [] m = no_part event m
 ordinary-parts event (a ∷ addrs) m =
-    first_part event (makes_ordinary a) (map makes_ordinary addrs) m tt tt (accounted-part event m (peer_is_ordinary a m) (ordinary-accounts a m))
+    first_part event (makes_ordinary a) (map makes_ordinary addrs) m tt tt tt (accounted-part event m (peer_is_ordinary a m) (ordinary-accounts a m))
     (ordinary-parts event addrs (peer_is_ordinary a m).machine)
 
 provided-parts : (event : Event) (addrs : List Addr) (m : Machine) → AllByRecursion (λ a. is_provided_by a event ≡ true) addrs → AreLawful event (map provides addrs) m
 provided-parts event [] m named = no_part event m
 provided-parts event (a ∷ addrs) m named =
-    first_part event (provides a) (map provides addrs) m tt tt (providing-part event m (comes_ordinary a m) (comes-providing false a m) one)
+    first_part event (provides a) (map provides addrs) m tt tt tt (providing-part event m (comes_ordinary a m) (comes-providing false a m) one)
     (provided-parts event addrs (comes_ordinary a m).machine named.1)
   where
     one : (b : Addr) → is_known b (comes_ordinary a m).machine ≡ true → (is_known b m || is_provided_by b event) ≡ true
@@ -197,7 +197,7 @@ locals-parts groups m =
     let kept : List Group = cleaned m.settings.own groups in
     let members : List Addr = members_of kept in
     let n : Machine = record m { groups = kept } in
-    first_part (Locals groups) (sets_groups kept) (map makes_ordinary members ++ map provides members) m tt tt
+    first_part (Locals groups) (sets_groups kept) (map makes_ordinary members ++ map provides members) m tt tt tt
     (set-part (Locals groups) (sets_groups kept) m refl refl refl refl refl)
     (more_parts (Locals groups) (map makes_ordinary members) (map provides members) n (ordinary-parts (Locals groups) members n)
     (provided-parts (Locals groups) members (for_each does (map makes_ordinary members) n).machine
@@ -207,7 +207,7 @@ roots-parts : (event : Event) (answer : RootAnswer) (m : Machine) → ((a : Addr
     AreLawful event (acts_of_answer answer m) m
 roots-parts event (Found ttl addrs) m named =
     let publics : List Addr = publics_of m.settings.own m.targets.root addrs in
-    first_part event (sets_roots (found m.now ttl publics m.roots)) (map provides publics) m tt tt
+    first_part event (sets_roots (found m.now ttl publics m.roots)) (map provides publics) m tt tt tt
     (set-part event (sets_roots (found m.now ttl publics m.roots)) m refl refl refl refl refl)
     (provided-parts event publics (record m { roots = found m.now ttl publics m.roots })
     (all-named publics (all-listed addrs publics (λ a. publics-listed a m.settings.own m.targets.root addrs))))
@@ -215,12 +215,12 @@ roots-parts event (Found ttl addrs) m named =
     all-named : (xs : List Addr) → AllByRecursion (λ a. is_listed a addrs ≡ true) xs → AllByRecursion (λ a. is_provided_by a event ≡ true) xs
     all-named [] h = tt
     all-named (a ∷ xs) h = (named a ttl addrs refl h.0, all-named xs h.1)
-roots-parts event Failed m named = one_part event (sets_roots _) m tt tt (set-part event (sets_roots _) m refl refl refl refl refl)
+roots-parts event Failed m named = one_part event (sets_roots _) m tt tt tt (set-part event (sets_roots _) m refl refl refl refl refl)
 
 bigs-parts : (event : Event) (addrs : List Addr) (m : Machine) → AreLawful event (map provides_big addrs) m
 bigs-parts event [] m = no_part event m
 bigs-parts event (a ∷ addrs) m =
-    first_part event (provides_big a) (map provides_big addrs) m tt tt (accounted-part event m (comes_big a m) (comes_big-allowed a m).accounted)
+    first_part event (provides_big a) (map provides_big addrs) m tt tt tt (accounted-part event m (comes_big a m) (comes_big-allowed a m).accounted)
     (bigs-parts event addrs (comes_big a m).machine)
 
 -- ---- each event
@@ -229,13 +229,13 @@ parts-lawful : (m : Machine) (event : Event) → IsSteady m → AreLawful event 
 parts-lawful m (Now t) h = clock-parts t m (ordered_of m h)
 parts-lawful m (Govern word) h = govern-parts word m (ordered_of m h) h.sound.counted
 parts-lawful m (Accepted addr) h =
-    one_part (Accepted addr) (connects addr) m tt tt (accounted-part (Accepted addr) m (does (connects addr) m) (connects-obeys addr m (ordered_of m h)).accounted)
+    one_part (Accepted addr) (connects addr) m tt tt tt (accounted-part (Accepted addr) m (does (connects addr) m) (connects-obeys addr m (ordered_of m h)).accounted)
 parts-lawful m (Dialed cid opened) h =
-    one_part (Dialed cid opened) (ends_dial cid opened) m tt tt
+    one_part (Dialed cid opened) (ends_dial cid opened) m tt tt tt
     (accounted-part (Dialed cid opened) m (does (ends_dial cid opened) m) (dial_ends-obeys cid opened m (ordered_of m h)).accounted)
 parts-lawful m (Bytes cid bytes) h = bytes-parts cid bytes m (ordered_of m h) h.sound.counted
-parts-lawful m (Closed cid) h = one_part (Closed cid) (is_closed cid) m tt tt (closes-accounted cid m (ordered_of m h))
-parts-lawful m (Aims targets) h = one_part (Aims targets) (sets_targets targets) m tt tt (set-part (Aims targets) (sets_targets targets) m refl refl refl refl refl)
+parts-lawful m (Closed cid) h = one_part (Closed cid) (is_closed cid) m tt tt tt (closes-accounted cid m (ordered_of m h))
+parts-lawful m (Aims targets) h = one_part (Aims targets) (sets_targets targets) m tt tt tt (set-part (Aims targets) (sets_targets targets) m refl refl refl refl refl)
 parts-lawful m (Locals groups) h = locals-parts groups m
 parts-lawful m (Roots job answer) h = by_test (awaits job.0 m.roots)
   where
@@ -246,7 +246,7 @@ parts-lawful m (Roots job answer) h = by_test (awaits job.0 m.roots)
     by_test true = roots-parts (Roots job answer) answer m named
     by_test false = no_part (Roots job answer) m
 parts-lawful m (BigAims targets) h =
-    one_part (BigAims targets) (sets_big_targets targets) m tt tt (set-part (BigAims targets) (sets_big_targets targets) m refl refl refl refl refl)
+    one_part (BigAims targets) (sets_big_targets targets) m tt tt tt (set-part (BigAims targets) (sets_big_targets targets) m refl refl refl refl refl)
 parts-lawful m (Bigs addrs) h = bigs-parts (Bigs addrs) addrs m
 
 pub event-lawful : (m : Machine) (event : Event) → IsSteady m → IsLawfulEvent m event

@@ -12,14 +12,19 @@ use Rattle.machine.specs.Effect.{Effect, for_each, Happened, Move, promoted, act
 use Rattle.machine.specs.Machine.{Machine, Entry, entry_at}
 use Rattle.laws.specs.Acts.{Act, does, parts_from}
 use Rattle.laws.specs.AtMoves.{is_negotiated_entry, is_negotiated_at, ends, is_ended_in, is_closed_by, is_up, is_hot_or_asked, is_known, promotes, activates, is_shared_in, is_provided_by}
-use Rattle.laws.specs.Parts.{IsNext, IsDoneByOrder, IsDone, EndsOnce, IsAccounted, IsLawfulPart}
+use Rattle.laws.specs.CarriedOut.{IsDoneByOrder}
+use Rattle.laws.specs.Parts.{IsNext, IsDone, EndsOnce, IsAccounted, IsLawfulPart}
 use Rattle.laws.specs.Stages.{stage_of_phase, stage_of, stage_at, causes_by, causes_in, IsOneEnd}
 use Rattle.laws.specs.Telling.{IsTold}
 use Rattle.laws.specs.Told.{ended_by, ends_in}
+use Rattle.laws.proofs.CarriedOut.{treats-book, pauses-right}
 use Rattle.laws.proofs.Due.{ends-due}
+use Rattle.laws.proofs.Forgiven.{forgives}
 use Rattle.laws.proofs.Lawful.{Accounts, IsProviding, ends_same}
 use Rattle.laws.proofs.Lists.{all-placed}
 use Rattle.laws.proofs.Telling.{ended-over}
+use Rattle.laws.proofs.Pruning.{pruned-rightly}
+use Rattle.laws.proofs.WaitsOfParts.{Finds, waits-right, is-set}
 use Rattle.laws.proofs.Rises.{NoneConnected, or_each, hot_or_asked-down, rises_nowhere, same-connected}
 
 -- ---- who was negotiated before it
@@ -114,12 +119,18 @@ providing-part event m effect p named =
           (λ before. or_left (is_known addr m) (is_shared_in addr effect.moves) before) (λ is. is) (named addr known);
     }
 
-pub lawful-part : (event : Event) (act : Act) (m : Machine) → IsNext act m → IsDoneByOrder act m (does act m) → IsAccounted event m (does act m) → IsLawfulPart event (record { act = act; before = m })
-lawful-part event act m next order h = record {
+pub lawful-part : (event : Event) (act : Act) (m : Machine) → IsNext act m → IsDoneByOrder act m (does act m) → Finds act m → IsAccounted event m (does act m) → IsLawfulPart event (record { act = act; before = m })
+lawful-part event act m next order found h = record {
   accounted = h;
   next = next;
   order = order;
+  book = treats-book act m;
+  forgiven = forgives act m;
+  pauses = pauses-right act m;
   ends = ends-due act m;
+  pruned = pruned-rightly act m found;
+  waits = waits-right act m found;
+  sets = is-set act m found;
 }
 
 -- ---- one part after the other
@@ -131,13 +142,13 @@ pub no_part : (event : Event) (m : Machine) → AreLawful event [] m
 unfolding AreLawful parts_from
 no_part event m = tt
 
-pub first_part : (event : Event) (act : Act) (acts : List Act) (m : Machine) → IsNext act m → IsDoneByOrder act m (does act m) → IsAccounted event m (does act m) →
+pub first_part : (event : Event) (act : Act) (acts : List Act) (m : Machine) → IsNext act m → IsDoneByOrder act m (does act m) → Finds act m → IsAccounted event m (does act m) →
     AreLawful event acts (does act m).machine → AreLawful event (act ∷ acts) m
 unfolding AreLawful parts_from
-first_part event act acts m next order h rest = (lawful-part event act m next order h, rest)
+first_part event act acts m next order found h rest = (lawful-part event act m next order found h, rest)
 
-pub one_part : (event : Event) (act : Act) (m : Machine) → IsNext act m → IsDoneByOrder act m (does act m) → IsAccounted event m (does act m) → AreLawful event (act ∷ []) m
-one_part event act m next order h = first_part event act [] m next order h (no_part event (does act m).machine)
+pub one_part : (event : Event) (act : Act) (m : Machine) → IsNext act m → IsDoneByOrder act m (does act m) → Finds act m → IsAccounted event m (does act m) → AreLawful event (act ∷ []) m
+one_part event act m next order found h = first_part event act [] m next order found h (no_part event (does act m).machine)
 
 pub more_parts : (event : Event) (xs ys : List Act) (m : Machine) → AreLawful event xs m → AreLawful event ys (for_each does xs m).machine → AreLawful event (xs ++ ys) m
 unfolding AreLawful parts_from for_each

@@ -1,6 +1,6 @@
 -- A move at one address raises what is counted by one at most.
-use Rattle.std.proofs.Common.{ℕ, zero, suc, ◌+◌, ◌%◌, ◌≤◌, ◌≡◌, Bool, true, false, cond, ◌&&◌, ◌||◌, if◌then◌else◌, set, List, [], ◌∷◌, ◌++◌, map, find, count_by, Option, Some, None, refl, sym, ap, ◌∙◌, subst, arith}
-use Rattle.std.specs.List.{AllByRecursion}
+use Rattle.std.proofs.Common.{ℕ, zero, suc, ◌+◌, ◌%◌, ◌≤◌, ◌≡◌, Bool, true, false, cond, ◌&&◌, ◌||◌, if◌then◌else◌, set, List, [], ◌∷◌, ◌++◌, find, count_by, Option, Some, None, is_some, refl, sym, ap, ◌∙◌, subst, arith}
+use Rattle.std.specs.List.{list_any, AllByRecursion}
 use Rattle.std.specs.Option.{option_map}
 use Rattle.std.proofs.lemmas.Bool.{and_parts}
 use Rattle.std.proofs.lemmas.List.Sums.{sum_by-cons}
@@ -9,28 +9,27 @@ use Rattle.net_base.specs.declared.address.Addr.{Addr}
 use Rattle.net_base.specs.declared.event.Group.{Group}
 use Rattle.net_base.specs.declared.peer.Peer.{Peer}
 use Rattle.net_base.specs.declared.peer.Temp.TheVariants.{Warm}
-use Rattle.net_base.specs.declared.peer.Temp.TheVariants as temp
 use Rattle.conn_state.specs.Moves.{dialing, acquired}
-use Rattle.conn_state.specs.Use.{is_live, is_live_at, is_acquirable}
-use Rattle.govern_rules.specs.Links.{some_link}
-use Rattle.govern_rules.specs.Statuses.{has_status}
-use Rattle.govern_rules.specs.declared.link.Link.{Link}
-use Rattle.govern_rules.specs.declared.status.Status.{Status}
-use Rattle.govern_rules.specs.declared.status.Status.TheVariants.{EstablishedOrPending, HotOrOwesOn2, Hot}
-use Rattle.peer_book.specs.Book.{has_address, is_of, is_established, same_temp, peer_at as peer_in, with_peer}
+use Rattle.conn_state.specs.Use.{is_live, is_live_at, is_acquirable, is_pending}
+use Rattle.peer_book.specs.Book.{has_address, is_of, is_established, is_active, peer_at as peer_in, with_peer}
 use Rattle.root_groups.specs.Cleaned.{is_listed}
 use Rattle.machine.specs.Machine.{Machine, Entry, fresh_entry, live_entry_at}
-use Rattle.machine.specs.Replies.{owing}
+use Rattle.machine.specs.Replies.{reply_on, owing}
 use Rattle.machine.specs.Peers.{turns_at, peer_at}
 use Rattle.machine.specs.Connections.{with_entry, acquire, dial}
-use Rattle.machine.specs.Govern.{link_of, promoted_at, promote, is_used_at, activates, activate}
-use Rattle.laws.specs.AtMoves.{links_in, number_with, members_with}
+use Rattle.machine.specs.Govern.{promoted_at, promote, is_used_at, activates, activate}
+use Rattle.laws.specs.AtMoves.{some_connection, is_established_or_pending, is_active_or_asked, number_with, members_with}
 use Rattle.laws.specs.Whole.{ArePeersApart, IsOrdered}
 use Rattle.laws.proofs.Addresses.{same_address-true}
 use Rattle.laws.proofs.Entries.{TurnsInto, turned-connections}
 use Rattle.laws.proofs.Lists.{StandsAt, stands_before, FoundIn, find_some}
 use Rattle.laws.proofs.PeersApart.{same_turned}
 use Rattle.machine.specs.Effect.{on_entry}
+
+none_unlisted : (a b c : Bool) → b ≡ false → (a && (b && c)) ≡ false
+none_unlisted true true c h = absurd cc
+none_unlisted true false c h = refl
+none_unlisted false b c h = refl
 
 -- ---- books that differ at one address
 
@@ -174,75 +173,76 @@ pub record ChangesAt (addr : Addr) (before after : Machine) : Type 0 where
   pub big_targets : after.big_targets ≡ before.big_targets
   pub groups : after.groups ≡ before.groups
   pub peers : AreSameBut addr before.peers after.peers
-  pub links : (test : Link → Bool) (b : Addr) → same_address b addr ≡ false → some_link test (links_in after) b ≡ some_link test (links_in before) b
+  pub connections : (test : Entry → Bool) (b : Addr) → same_address b addr ≡ false → some_connection test b after ≡ some_connection test b before
 
-statuses-same : (status : Status) (addr : Addr) (m n : Machine) → ChangesAt addr m n → (p : Peer) → same_address p.addr addr ≡ false →
-    has_status status (links_in n) p ≡ has_status status (links_in m) p
-statuses-same EstablishedOrPending addr m n h p other = ap (λ b. is_established p.temp || b) (h.links (λ l. l.pending) p.addr other)
-statuses-same HotOrOwesOn2 addr m n h p other = ap (λ b. same_temp p.temp temp.Hot || b) (h.links (λ l. l.owes2) p.addr other)
-statuses-same Hot addr m n h p other = refl
+-- a test of peers that such a change leaves as it was at every other address
+abbrev pub IsLocalTest : (Machine → Peer → Bool) → Type 0
+IsLocalTest test = (addr : Addr) (m n : Machine) → ChangesAt addr m n → (p : Peer) → same_address p.addr addr ≡ false → test n p ≡ test m p
 
--- one more of a class at most has a status
-pub number-one : (status : Status) (big : Bool) (addr : Addr) (m n : Machine) → ArePeersApart m.peers → ChangesAt addr m n →
-    number_with status big n ≤ number_with status big m + 1
-number-one status big addr m n apart h =
-    counted-one addr (λ p. is_of big p && has_status status (links_in m) p) (λ p. is_of big p && has_status status (links_in n) p) m.peers n.peers apart h.peers
-    (λ p other. ap (λ b. is_of big p && b) (statuses-same status addr m n h p other))
+pub established_or_pending-same : IsLocalTest is_established_or_pending
+established_or_pending-same addr m n h p other = ap (λ b. is_established p.temp || b) (h.connections (λ e. is_pending e.facts) p.addr other)
 
-members-same : (status : Status) (group : Group) (addr : Addr) (m n : Machine) → ChangesAt addr m n → (p : Peer) → same_address p.addr addr ≡ false →
-    (is_of false p && (is_listed p.addr group.members && has_status status (links_in n) p))
-    ≡ (is_of false p && (is_listed p.addr group.members && has_status status (links_in m) p))
-members-same status group addr m n h p other =
-    ap (λ b. is_of false p && (is_listed p.addr group.members && b)) (statuses-same status addr m n h p other)
+pub active_or_asked-same : IsLocalTest is_active_or_asked
+active_or_asked-same addr m n h p other = ap (λ b. is_active p.temp || b) (h.connections (λ e. is_some (reply_on 2 e)) p.addr other)
 
--- one more member at most
-pub members-one : (status : Status) (group : Group) (addr : Addr) (m n : Machine) → ArePeersApart m.peers → ChangesAt addr m n →
-    members_with status group n ≤ members_with status group m + 1
-members-one status group addr m n apart h =
-    counted-one addr (λ p. is_of false p && (is_listed p.addr group.members && has_status status (links_in m) p))
-    (λ p. is_of false p && (is_listed p.addr group.members && has_status status (links_in n) p)) m.peers n.peers apart h.peers
-    (members-same status group addr m n h)
+module _ (test : Machine → Peer → Bool) (same : IsLocalTest test) where
+  -- one more of a class at most passes
+  pub number-one : (big : Bool) (addr : Addr) (m n : Machine) → ArePeersApart m.peers → ChangesAt addr m n →
+      number_with test big n ≤ number_with test big m + 1
+  number-one big addr m n apart h =
+      counted-one addr (λ p. is_of big p && test m p) (λ p. is_of big p && test n p) m.peers n.peers apart h.peers
+      (λ p other. ap (λ b. is_of big p && b) (same addr m n h p other))
 
--- and none where the address is no member's
-pub members-none : (status : Status) (group : Group) (addr : Addr) (m n : Machine) → is_listed addr group.members ≡ false → ChangesAt addr m n →
-    members_with status group n ≤ members_with status group m
-members-none status group addr m n unlisted h =
-    counted-none addr (λ p. is_of false p && (is_listed p.addr group.members && has_status status (links_in m) p))
-    (λ p. is_of false p && (is_listed p.addr group.members && has_status status (links_in n) p)) m.peers n.peers h.peers
-    (members-same status group addr m n h)
-    (λ q at. fails (is_of false q) (is_listed q.addr group.members) (has_status status (links_in n) q)
-    (subst (λ a. is_listed a group.members ≡ false) (sym (same_address-true q.addr addr at)) unlisted))
-  where
-    fails : (a b c : Bool) → b ≡ false → (a && (b && c)) ≡ false
-    fails true true c h = absurd cc
-    fails true false c h = refl
-    fails false b c h = refl
+  members-same : (group : Group) (addr : Addr) (m n : Machine) → ChangesAt addr m n → (p : Peer) → same_address p.addr addr ≡ false →
+      (is_of false p && (is_listed p.addr group.members && test n p)) ≡ (is_of false p && (is_listed p.addr group.members && test m p))
+  members-same group addr m n h p other = ap (λ b. is_of false p && (is_listed p.addr group.members && b)) (same addr m n h p other)
 
--- ---- what the links say of other addresses
+  -- one more member at most
+  pub members-one : (group : Group) (addr : Addr) (m n : Machine) → ArePeersApart m.peers → ChangesAt addr m n →
+      members_with test group n ≤ members_with test group m + 1
+  members-one group addr m n apart h =
+      counted-one addr (λ p. is_of false p && (is_listed p.addr group.members && test m p))
+      (λ p. is_of false p && (is_listed p.addr group.members && test n p)) m.peers n.peers apart h.peers
+      (members-same group addr m n h)
 
-link-other : (test : Link → Bool) (e : Entry) (b : Addr) → same_address e.facts.addr b ≡ false → (same_address e.facts.addr b && test (link_of e)) ≡ false
-link-other test e b other = ap (λ c. c && test (link_of e)) other
+  -- and none where the address is no member's
+  pub members-none : (group : Group) (addr : Addr) (m n : Machine) → is_listed addr group.members ≡ false → ChangesAt addr m n →
+      members_with test group n ≤ members_with test group m
+  members-none group addr m n unlisted h =
+      counted-none addr (λ p. is_of false p && (is_listed p.addr group.members && test m p))
+      (λ p. is_of false p && (is_listed p.addr group.members && test n p)) m.peers n.peers h.peers
+      (members-same group addr m n h)
+      (λ q at. none_unlisted (is_of false q) (is_listed q.addr group.members) (test n q)
+      (subst (λ a. is_listed a group.members ≡ false) (sym (same_address-true q.addr addr at)) unlisted))
 
-links-push : (test : Link → Bool) (b : Addr) (new : Entry) (es : List Entry) → same_address new.facts.addr b ≡ false →
-    some_link test (map link_of (es ++ new ∷ [])) b ≡ some_link test (map link_of es) b
-links-push test b new [] other = ap (λ c. c || false) (link-other test new b other)
-links-push test b new (e ∷ es) other = ap (λ c. (same_address e.facts.addr b && test (link_of e)) || c) (links-push test b new es other)
+-- ---- what the connections of other addresses are
 
-links-set : (test : Link → Bool) (b : Addr) (new e : Entry) (es : List Entry) (k : ℕ) → StandsAt es k e → same_address e.facts.addr b ≡ false →
-    same_address new.facts.addr b ≡ false → some_link test (map link_of (set es k new)) b ≡ some_link test (map link_of es) b
-links-set test b new e [] k s old_other new_other = absurd (omega (arith, s.inside))
-links-set test b new e (x ∷ es) zero s old_other new_other =
+abbrev passes_at : (Entry → Bool) → Addr → Entry → Bool
+passes_at test b e = same_address e.facts.addr b && test e
+
+other-fails : (test : Entry → Bool) (e : Entry) (b : Addr) → same_address e.facts.addr b ≡ false → passes_at test b e ≡ false
+other-fails test e b other = ap (λ c. c && test e) other
+
+pushed-same : (test : Entry → Bool) (b : Addr) (new : Entry) (es : List Entry) → same_address new.facts.addr b ≡ false →
+    list_any (passes_at test b) (es ++ new ∷ []) ≡ list_any (passes_at test b) es
+pushed-same test b new [] other = ap (λ c. c || false) (other-fails test new b other)
+pushed-same test b new (e ∷ es) other = ap (λ c. passes_at test b e || c) (pushed-same test b new es other)
+
+set-same : (test : Entry → Bool) (b : Addr) (new e : Entry) (es : List Entry) (k : ℕ) → StandsAt es k e → same_address e.facts.addr b ≡ false →
+    same_address new.facts.addr b ≡ false → list_any (passes_at test b) (set es k new) ≡ list_any (passes_at test b) es
+set-same test b new e [] k s old_other new_other = absurd (omega (arith, s.inside))
+set-same test b new e (x ∷ es) zero s old_other new_other =
     let here : same_address x.facts.addr b ≡ false = ap (λ y. same_address y.facts.addr b) s.is ∙ old_other in
-    ap (λ c. c || some_link test (map link_of es) b) (link-other test new b new_other ∙ sym (link-other test x b here))
-links-set test b new e (x ∷ es) (suc k) s old_other new_other =
-    ap (λ c. (same_address x.facts.addr b && test (link_of x)) || c) (links-set test b new e es k (stands_before x e es k s) old_other new_other)
+    ap (λ c. c || list_any (passes_at test b) es) (other-fails test new b new_other ∙ sym (other-fails test x b here))
+set-same test b new e (x ∷ es) (suc k) s old_other new_other =
+    ap (λ c. passes_at test b x || c) (set-same test b new e es k (stands_before x e es k s) old_other new_other)
 
-pub links-turned : (m : Machine) (e new : Entry) (k : ℕ) → IsOrdered m → StandsAt m.connections k e → TurnsInto e new → (test : Link → Bool) (b : Addr) →
-    same_address b e.facts.addr ≡ false → some_link test (links_in (with_entry new m)) b ≡ some_link test (links_in m) b
-links-turned m e new k h s t test b other =
+turned-same : (m : Machine) (e new : Entry) (k : ℕ) → IsOrdered m → StandsAt m.connections k e → TurnsInto e new → (test : Entry → Bool) (b : Addr) →
+    same_address b e.facts.addr ≡ false → some_connection test b (with_entry new m) ≡ some_connection test b m
+turned-same m e new k h s t test b other =
     let here : same_address e.facts.addr b ≡ false = same_turned b e.facts.addr other in
-    ap (λ es. some_link test (map link_of es) b) (turned-connections m e new k h.orderly s t)
-    ∙ links-set test b new e m.connections k s here (subst (λ a. same_address a b ≡ false) (sym t.same_addr) here)
+    ap (λ es. list_any (passes_at test b) es) (turned-connections m e new k h.orderly s t)
+    ∙ set-same test b new e m.connections k s here (subst (λ a. same_address a b ≡ false) (sym t.same_addr) here)
 
 -- ---- a promotion
 
@@ -253,7 +253,7 @@ dial-changes addr m = record {
   big_targets = refl;
   groups = refl;
   peers = all_same addr m.peers;
-  links = λ test b other. links-push test b (fresh_entry (dialing m.next_id addr)) m.connections (same_turned b addr other);
+  connections = λ test b other. pushed-same test b (fresh_entry (dialing m.next_id addr)) m.connections (same_turned b addr other);
 }
 
 acquire-changes : (m : Machine) (e : Entry) (k : ℕ) → IsOrdered m → StandsAt m.connections k e → ChangesAt e.facts.addr m (acquire e m).machine
@@ -265,11 +265,11 @@ acquire-changes m e k h s = by_peer (peer_at e.facts.addr m) refl
     warm : Peer → Peer
     warm = λ p. record p { temp = Warm; failures = 0 }
 
-    links : (test : Link → Bool) (b : Addr) → same_address b e.facts.addr ≡ false → some_link test (links_in (with_entry new m)) b ≡ some_link test (links_in m) b
-    links = links-turned m e new k h s (record { same_id = refl; same_addr = refl; live = λ l. l })
+    same : (test : Entry → Bool) (b : Addr) → same_address b e.facts.addr ≡ false → some_connection test b (with_entry new m) ≡ some_connection test b m
+    same = turned-same m e new k h s (record { same_id = refl; same_addr = refl; live = λ l. l })
 
     by_peer : (o : Option Peer) → peer_at e.facts.addr m ≡ o → ChangesAt e.facts.addr m (turns_at o warm (with_entry new m)).machine
-    by_peer None is = record { now = refl; targets = refl; big_targets = refl; groups = refl; peers = all_same e.facts.addr m.peers; links = links }
+    by_peer None is = record { now = refl; targets = refl; big_targets = refl; groups = refl; peers = all_same e.facts.addr m.peers; connections = same }
     by_peer (Some p) is =
         let here : p.addr ≡ e.facts.addr = same_address-true p.addr e.facts.addr (find_some (has_address e.facts.addr) m.peers p is).passes in
         record {
@@ -279,7 +279,7 @@ acquire-changes m e k h s = by_peer (peer_at e.facts.addr m) refl
           groups = refl;
           peers = subst (λ a. AreSameBut a m.peers (with_peer (warm p) m.peers)) here
               (with_peer-same_but (warm p) p m.peers h.formed.peers (subst (λ a. peer_in a m.peers ≡ Some p) (sym here) is) refl);
-          links = links;
+          connections = same;
         }
 
 pub promote-changes : (addr : Addr) (m : Machine) → IsOrdered m → ChangesAt addr m (promote addr m).machine
@@ -302,7 +302,7 @@ pub activate-changes : (addr : Addr) (m : Machine) → IsOrdered m → ChangesAt
 activate-changes addr m h = by_entry (find (is_used_at addr) m.connections) refl
   where
     by_entry : (o : Option Entry) → find (is_used_at addr) m.connections ≡ o → ChangesAt addr m (on_entry o activates m).machine
-    by_entry None is = record { now = refl; targets = refl; big_targets = refl; groups = refl; peers = all_same addr m.peers; links = λ test b other. refl }
+    by_entry None is = record { now = refl; targets = refl; big_targets = refl; groups = refl; peers = all_same addr m.peers; connections = λ test b other. refl }
     by_entry (Some e) is =
         let at : FoundIn (is_used_at addr) m.connections e = find_some (is_used_at addr) m.connections e is in
         let lives = and_parts (same_address e.facts.addr addr) (is_live e.facts) (and_parts (is_live_at addr e.facts) e.facts.local at.passes).0 in
@@ -313,6 +313,6 @@ activate-changes addr m h = by_entry (find (is_used_at addr) m.connections) refl
           big_targets = refl;
           groups = refl;
           peers = all_same addr m.peers;
-          links = λ test b other. links-turned m e (owing 2 0 m e) at.place h at.stands (record { same_id = refl; same_addr = refl; live = λ l. l }) test b
+          connections = λ test b other. turned-same m e (owing 2 0 m e) at.place h at.stands (record { same_id = refl; same_addr = refl; live = λ l. l }) test b
               (subst (λ a. same_address b a ≡ false) (sym here) other);
         }

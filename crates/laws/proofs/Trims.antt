@@ -3,13 +3,15 @@ use Rattle.std.proofs.Common.{ℕ, suc, ◌+◌, ◌≤◌, ◌<◌, ◌≡◌, 
 use Rattle.std.specs.List.{AllByRecursion, cons_option}
 use Rattle.std.specs.Option.{option_map, unwrap_or}
 use Rattle.std.proofs.lemmas.Bool.{cond_both, both_ways, and_parts, not-true}
-use Rattle.std.proofs.lemmas.List.Elements.{All-head, All-tail}
+use Rattle.std.proofs.lemmas.List.Elements.{All-head, All-tail, All-from_recursion, recursion_from_All}
 use Rattle.net_base.specs.declared.settings.Settings.{Settings}
 use Rattle.net_base.specs.declared.action.CloseCause.{CloseCause}
 use Rattle.net_base.specs.declared.action.CloseCause.TheVariants.{Pruned}
 use Rattle.net_base.specs.declared.connection.Cid.{Cid}
 use Rattle.net_base.specs.declared.connection.Facts.{Facts}
 use Rattle.net_base.specs.declared.peer.Peer.{Peer}
+use Rattle.accept_gate.proofs.Choices.{first_to_go-law}
+use Rattle.accept_gate.specs.Law.{IsFirstToGo}
 use Rattle.accept_gate.specs.Prune.{is_candidate, rank_of_candidate, goes_before, first_of, first_to_go, choice_of}
 use Rattle.accept_gate.specs.declared.prune.Candidate.{Candidate}
 use Rattle.conn_state.specs.Counted.{is_counted}
@@ -21,7 +23,7 @@ use Rattle.machine.specs.Machine.{Machine, Entry, counted_in, entry_at}
 use Rattle.machine.specs.Effect.{Effect, Happened, Move, nothing_more, then_do, as_move, for_each, on_entry}
 use Rattle.machine.specs.Peers.{turns_at, peer_at, peer_fails}
 use Rattle.machine.specs.Connections.{without_entry, is_missed, lost, ending, candidate_of, candidates_in, trim}
-use Rattle.laws.specs.AtMoves.{IsCrowded, IsLawful}
+use Rattle.laws.specs.AtMoves.{as_candidate, IsDueToGo, IsPrunedRightly, IsLawful}
 use Rattle.laws.specs.Laws.{LocalsAreOrdinary}
 use Rattle.laws.specs.Sound.{IsOrderly}
 use Rattle.laws.specs.Stages.{IsLateCause}
@@ -34,18 +36,20 @@ use Rattle.laws.proofs.Finds.{find-remove_other}
 use Rattle.laws.proofs.Keeping.{Keeps, keeps_nothing}
 use Rattle.laws.proofs.ToldMoves.{turns_at-connections}
 use Rattle.laws.proofs.Lawful.{Accounts, accounts_then, accounts_move, Obeys, obeys_nothing, ending-obeys}
-use Rattle.laws.proofs.Lists.{StandsAt, stands_next, find_only, all-appended, all-both}
+use Rattle.laws.proofs.Lists.{StandsAt, stands_next, find_only, all-weaker, all-appended, all-both}
 use Rattle.laws.proofs.WholeMoves.{IsLost, ending-keeps}
 
 -- ---- whoever is chosen is counted
 
-record Goes (es : List Entry) (c : Candidate) : Type 0 where
-  entry : Entry
-  place : ℕ
-  stands : StandsAt es place entry
-  same : entry.facts.cid ≡ c.cid
-  counted : is_counted entry.facts ≡ true
-  unused : entry.facts.local ≡ false
+pub record Goes (es : List Entry) (c : Candidate) : Type 0 where
+  pub entry : Entry
+  pub place : ℕ
+  pub stands : StandsAt es place entry
+  pub same : entry.facts.cid ≡ c.cid
+  pub counted : is_counted entry.facts ≡ true
+  pub unused : entry.facts.local ≡ false
+  pub may : is_candidate entry.facts ≡ true
+  pub ranked : as_candidate entry ≡ c
 
 goes_next : (e : Entry) (es : List Entry) (c : Candidate) → Goes es c → Goes (e ∷ es) c
 goes_next e es c g = record {
@@ -55,27 +59,33 @@ goes_next e es c g = record {
   same = g.same;
   counted = g.counted;
   unused = g.unused;
+  may = g.may;
+  ranked = g.ranked;
 }
 
 abbrev candidates_among : List Entry → List Candidate
 candidates_among es = filter_map candidate_of (map (λ e. e.facts) es)
 
-candidate-counted : (f : Facts) (c : Candidate) → candidate_of f ≡ Some c → (f.cid ≡ c.cid) × (is_counted f ≡ true) × (f.local ≡ false)
+candidate-counted : (f : Facts) (c : Candidate) → candidate_of f ≡ Some c →
+    (f.cid ≡ c.cid) × (is_counted f ≡ true) × (f.local ≡ false) × (is_candidate f ≡ true) × (record { cid = f.cid; rank = rank_of_candidate f } ≡ c)
 candidate-counted f c e = by_test (is_candidate f) refl e
   where
     by_test : (b : Bool) → is_candidate f ≡ b →
         option_map (λ rank. record { cid = f.cid; rank = rank }) (if b then Some (rank_of_candidate f) else None) ≡ Some c →
-        (f.cid ≡ c.cid) × (is_counted f ≡ true) × (f.local ≡ false)
+        (f.cid ≡ c.cid) × (is_counted f ≡ true) × (f.local ≡ false) × (is_candidate f ≡ true) × (record { cid = f.cid; rank = rank_of_candidate f } ≡ c)
     by_test true is same =
         let parts = and_parts (is_counted f) (not f.local) is in
-        (ap (λ o. cid_of f.cid o) same, parts.0, not-true f.local parts.1)
+        (ap (λ o. cid_of f.cid o) same, parts.0, not-true f.local parts.1, is, some_same (record { cid = f.cid; rank = rank_of_candidate f }) c same)
       where
         cid_of : Cid → Option Candidate → Cid
         cid_of d None = d
         cid_of d (Some x) = x.cid
+
+        some_same : (a b : Candidate) → Some a ≡ Some b → a ≡ b
+        some_same a b h = cc
     by_test false is same = absurd cc
 
-goes_among : (es : List Entry) (c : Candidate) → first_to_go (candidates_among es) ≡ Some c → Goes es c
+pub goes_among : (es : List Entry) (c : Candidate) → first_to_go (candidates_among es) ≡ Some c → Goes es c
 unfolding first_to_go
 goes_among [] c e = absurd cc
 goes_among (x ∷ es) c e = by_head (candidate_of x.facts) refl (goes_among es) e
@@ -89,6 +99,8 @@ goes_among (x ∷ es) c e = by_head (candidate_of x.facts) refl (goes_among es) 
           same = facts.0 ∙ ap (λ a. a.cid) same;
           counted = facts.1;
           unused = facts.2;
+          may = facts.3;
+          ranked = facts.4 ∙ same;
         }
 
     by_rest : (d : Candidate) (o : Option Candidate) → candidate_of x.facts ≡ Some d →
@@ -107,6 +119,54 @@ goes_among (x ∷ es) c e = by_head (candidate_of x.facts) refl (goes_among es) 
         first_to_go (cons_option o (candidates_among es)) ≡ Some c → Goes (x ∷ es) c
     by_head None is later same = goes_next x es c (later c same)
     by_head (Some d) is later same = by_rest d (first_to_go (candidates_among es)) is later same
+
+-- ---- whoever is chosen goes first
+
+-- what holds of each candidate holds of each connection that may go
+may_go-all : (P : Candidate → Type 0) (es : List Entry) → AllByRecursion P (candidates_among es) → AllByRecursion (λ f. is_candidate f.facts ≡ true → P (as_candidate f)) es
+may_go-all P [] h = tt
+may_go-all P (f ∷ es) h = by_test (is_candidate f.facts) refl (may_go-all P es) h
+  where
+    by_test : (b : Bool) → is_candidate f.facts ≡ b →
+        (AllByRecursion P (candidates_among es) → AllByRecursion (λ x. is_candidate x.facts ≡ true → P (as_candidate x)) es) →
+        AllByRecursion P (cons_option (option_map (λ rank. record { cid = f.facts.cid; rank = rank }) (if b then Some (rank_of_candidate f.facts) else None)) (candidates_among es)) →
+        (is_candidate f.facts ≡ true → P (as_candidate f)) × AllByRecursion (λ x. is_candidate x.facts ≡ true → P (as_candidate x)) es
+    by_test true is later h = (λ may. h.0, later h.1)
+    by_test false is later h = (λ may. absurd (both_ways (is_candidate f.facts) is may), later h)
+
+choice_law : (m : Machine) (o : Option Candidate) → first_to_go (candidates_in m) ≡ o → IsFirstToGo o (candidates_in m)
+choice_law m o is = subst (λ c. IsFirstToGo c (candidates_in m)) is (first_to_go-law (candidates_in m))
+
+-- where nobody may go, whoever does is first
+alone-due : (e : Entry) (m : Machine) → is_counted e.facts ≡ true → counted_in m ≡ m.settings.hard + 1 → first_to_go (candidates_in m) ≡ None → IsDueToGo e m
+alone-due e m counted most none = record {
+  crowded = most;
+  counted = counted;
+  first = All-from_recursion IsBefore m.connections (may_go-all (λ d. Goes_after d) m.connections
+      (subst (AllByRecursion Goes_after) (sym (choice_law m None none)) tt));
+}
+  where
+    Goes_after : Candidate → Type 0
+    Goes_after d = (is_candidate e.facts ≡ true) × (goes_before d (as_candidate e) ≡ false)
+
+    IsBefore : Entry → Type 0
+    IsBefore f = is_candidate f.facts ≡ true → Goes_after (as_candidate f)
+
+chosen-due : (m : Machine) (c : Candidate) → counted_in m ≡ m.settings.hard + 1 → first_to_go (candidates_in m) ≡ Some c → (g : Goes m.connections c) → IsDueToGo g.entry m
+chosen-due m c most some g = record {
+  crowded = most;
+  counted = g.counted;
+  first = All-from_recursion IsBefore m.connections (may_go-all (λ d. Goes_after d) m.connections
+      (all-weaker (λ d. goes_before d c ≡ false) Goes_after
+      (λ d after. (g.may, subst (λ x. goes_before d x ≡ false) (sym g.ranked) after)) (candidates_in m)
+      (recursion_from_All (λ d. goes_before d c ≡ false) (candidates_in m) (choice_law m (Some c) some).1)));
+}
+  where
+    Goes_after : Candidate → Type 0
+    Goes_after d = (is_candidate g.entry.facts ≡ true) × (goes_before d (as_candidate g.entry) ≡ false)
+
+    IsBefore : Entry → Type 0
+    IsBefore f = is_candidate f.facts ≡ true → Goes_after (as_candidate f)
 
 -- ---- one less is counted
 
@@ -163,7 +223,7 @@ keeps-trimmed Law m effect within h obeys = tied-trimmed Law m effect within h (
 
 -- a connection is ended
 pub ending-trimmed : (cause : CloseCause) → IsLost cause → (m : Machine) (e : Entry) (k : ℕ) → IsOrdered m → counted_in m ≤ m.settings.hard →
-    StandsAt m.connections k e → is_live e.facts ≡ true → (is_negotiated e.facts ≡ true → IsLateCause cause) → IsCrowded cause m → Trimmed IsLawful m (ending cause e m)
+    StandsAt m.connections k e → is_live e.facts ≡ true → (is_negotiated e.facts ≡ true → IsLateCause cause) → IsPrunedRightly cause e m → Trimmed IsLawful m (ending cause e m)
 ending-trimmed cause loses m e k h within s live may crowded =
     keeps-trimmed IsLawful m (ending cause e m) within (ending-keeps cause loses m e k h s) (ending-obeys cause m e k h.orderly s live may crowded)
 
@@ -187,12 +247,13 @@ counted-live f h = by_phase f.phase refl
     by_phase Negotiated is = ap live_phase is
     by_phase (Closing until) is = absurd (both_ways (is_counted f) (uncounted (ap is_greeting_phase is) (ap is_negotiated_phase is)) h)
 
-pruned-trims : (m : Machine) (e : Entry) (k : ℕ) → IsOrdered m → StandsAt m.connections k e → is_counted e.facts ≡ true →
-    counted_in m ≡ m.settings.hard + 1 → Trimmed IsLawful m (ending Pruned e m)
-pruned-trims m e k h s counted most =
+pruned-trims : (m : Machine) (e : Entry) (k : ℕ) → IsOrdered m → StandsAt m.connections k e → IsDueToGo e m → Trimmed IsLawful m (ending Pruned e m)
+pruned-trims m e k h s due =
+    let most = due.crowded in
+    let counted = due.counted in
     let keeps : Keeps 0 m (ending Pruned e m).machine = ending-keeps Pruned refl m e k h s in
     let obeys : Obeys IsLawful m (ending Pruned e m) =
-    ending-obeys Pruned m e k h.orderly s (counted-live e.facts counted) (λ negotiated. tt) most in
+    ending-obeys Pruned m e k h.orderly s (counted-live e.facts counted) (λ negotiated. tt) due in
     let drops = pruned-drops m e k h s in
     let one : counted_of e ≡ 1 = one_if-counted e.facts counted in
     record {
@@ -215,7 +276,7 @@ pub record HasMoved (moved : Cid) (m : Machine) : Type 0 where
   pub same : entry.facts.cid ≡ moved
   pub counted : is_counted entry.facts ≡ true
 
-found_by_id : (m : Machine) (e : Entry) (k : ℕ) (cid : Cid) → IsOrderly m → StandsAt m.connections k e → e.facts.cid ≡ cid →
+pub found_by_id : (m : Machine) (e : Entry) (k : ℕ) (cid : Cid) → IsOrderly m → StandsAt m.connections k e → e.facts.cid ≡ cid →
     entry_at cid.0 m ≡ Some e
 found_by_id m e k cid h s same =
     find_only (λ x. has_id cid.0 x.facts) e m.connections k (one_has_id cid.0 m.connections h.ids_rise) s
@@ -233,11 +294,11 @@ trim-trims moved m h most over = cond_both (nat_le (counted_in m) m.settings.har
         Trimmed IsLawful m (on_entry (entry_at (unwrap_or (option_map (λ c. c.cid) (first_to_go (candidates_in m))) moved).0 m) (ending Pruned) m)
     by_choice one_more None none own =
         rw (none, found_by_id m own.entry own.place moved h.orderly own.stands own.same)
-        (pruned-trims m own.entry own.place h own.stands own.counted one_more)
+        (pruned-trims m own.entry own.place h own.stands (alone-due own.entry m own.counted one_more none))
     by_choice one_more (Some c) some own =
         let goes : Goes m.connections c = goes_among m.connections c some in
         rw (some, found_by_id m goes.entry goes.place c.cid h.orderly goes.stands goes.same)
-        (pruned-trims m goes.entry goes.place h goes.stands goes.counted one_more)
+        (pruned-trims m goes.entry goes.place h goes.stands (chosen-due m c one_more some goes))
 
 -- ---- who is in local use stays
 

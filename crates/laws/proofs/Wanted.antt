@@ -1,10 +1,10 @@
 -- Nobody is promoted or activated beyond what is wanted: the numbers of a rule are what its orders use up.
-use Rattle.std.proofs.Common.{ℕ, ◌+◌, ◌-◌, ◌%◌, ◌≤◌, ◌≡◌, Bool, true, false, cond, not, nat_lt, ◌&&◌, ◌||◌, List, [], ◌∷◌, ◌++◌, length, map, filter, find, flat_map, count_by, All, Option, Some, None, is_some, refl, sym, ap, ◌∙◌, subst, arith, inl, inr}
-use Rattle.std.specs.List.{AllByRecursion, position, position_or_len}
+use Rattle.std.proofs.Common.{ℕ, ◌+◌, ◌-◌, ◌%◌, ◌≤◌, ◌≡◌, Bool, true, false, cond, not, ◌&&◌, ◌||◌, List, [], ◌∷◌, ◌++◌, length, map, filter, find, flat_map, count_by, Option, Some, None, is_some, refl, sym, ap, ◌∙◌, subst, arith}
+use Rattle.std.specs.List.{list_any, AllByRecursion}
 use Rattle.std.specs.Option.{option_map}
-use Rattle.std.proofs.lemmas.Bool.{cond_both, both_ways, and_parts, or_parts, or_from, false_from_ne_true, false≢true, not-true, cases_Bool, ltb-false}
-use Rattle.std.proofs.lemmas.List.Elements.{All-from_recursion, recursion_from_All, All-weaker}
-use Rattle.std.proofs.lemmas.List.Sums.{sum_by-cons, sum_by-append, count_by-le-length, fails_before_first}
+use Rattle.std.proofs.lemmas.Bool.{cond_both, both_ways, and_parts, false_from_ne_true, false≢true, not-true}
+use Rattle.std.proofs.lemmas.List.Elements.{All-from_recursion, All-weaker}
+use Rattle.std.proofs.lemmas.List.Sums.{sum_by-cons, sum_by-append, count_by-le-length}
 use Rattle.net_base.specs.Address.{same_address}
 use Rattle.net_base.specs.declared.address.Addr.{Addr}
 use Rattle.net_base.specs.declared.event.Group.{Group}
@@ -13,48 +13,50 @@ use Rattle.net_base.specs.declared.peer.Temp.{Temp}
 use Rattle.net_base.specs.declared.peer.Temp.TheVariants.{Cold, Warm, Hot}
 use Rattle.churn_clock.specs.Windows.{effective_of, effective_big_of}
 use Rattle.conn_state.specs.Moves.{acquired}
-use Rattle.conn_state.specs.Use.{is_acquirable}
+use Rattle.conn_state.specs.Use.{is_acquirable, is_pending}
 use Rattle.govern_rules.specs.Candidates.{is_eligible, may_be_activated}
 use Rattle.govern_rules.specs.ClassRules.{established_target, active_target, count_of, promotes, activates as activates_class}
-use Rattle.govern_rules.specs.Links.{is_pending, owes_on_2}
+use Rattle.govern_rules.specs.Links.{some_link, is_pending as is_pending_link, owes_on_2}
 use Rattle.govern_rules.specs.Orders.{rated_of, picks_of, orders_for}
-use Rattle.govern_rules.specs.Rules.{is_not_local, is_member_and, g4_orders, g7_orders}
+use Rattle.govern_rules.specs.Rules.{is_member_and, members_count, g4_orders, g7_orders}
+use Rattle.govern_rules.specs.declared.link.Link.{Link}
 use Rattle.govern_rules.specs.declared.order.Order.{Order}
 use Rattle.govern_rules.specs.declared.order.Order.TheVariants.{Promote, Activate}
-use Rattle.govern_rules.specs.declared.status.Status.{Status}
-use Rattle.govern_rules.specs.declared.status.Status.TheVariants.{EstablishedOrPending, HotOrOwesOn2}
 use Rattle.peer_book.specs.Book.{is_of, is_established, is_active, same_temp, established_of, active_of, addresses_of, peer_at as peer_in}
 use Rattle.pick_policy.proofs.LeastLaws.{count_none}
 use Rattle.pick_policy.proofs.PickFacts.{length-picked, length-ranked}
-use Rattle.root_groups.specs.Cleaned.{is_listed, members_of, group_of}
+use Rattle.root_groups.specs.Cleaned.{is_listed, members_of}
 use Rattle.machine.specs.Machine.{Machine, Entry, counted_in, live_entry_at}
 use Rattle.machine.specs.Effect.{Effect, promoted, activated, for_each, on_entry}
-use Rattle.machine.specs.Replies.{owing}
+use Rattle.machine.specs.Replies.{reply_on, owing}
 use Rattle.machine.specs.Peers.{turns_at, peer_at}
 use Rattle.machine.specs.Connections.{with_entry, acquire, dial}
 use Rattle.machine.specs.Govern.{link_of, view_of, promoted_at, is_used_at, on_used, activates, carries_out}
-use Rattle.laws.specs.AtMoves.{number_with, members_with, established_wanted, active_wanted, IsWanted}
+use Rattle.laws.specs.AtMoves.{some_connection, is_established_or_pending, is_active_or_asked, number_with, members_with, established_wanted, active_wanted, IsWanted}
+use Rattle.laws.specs.Laws.{is_local}
 use Rattle.laws.specs.Whole.{ArePeersApart, AreApart, IsOrdered}
 use Rattle.laws.proofs.Chosen.{chosen, chosen-apart, chosen-all, PicksMembers, picks-listed, groups_picks-apart, groups_picks-all, apart-behind, front-not_behind, map-groups}
 use Rattle.laws.proofs.GroupsApart.{unlisted_append}
 use Rattle.laws.proofs.KnownWanted.{move-within}
 use Rattle.laws.proofs.Lawful.{IsAllowed, Within}
 use Rattle.laws.proofs.Lists.{all-weaker, all-appended, all-both}
+use Rattle.laws.proofs.Locals.{no_member-unlisted}
 use Rattle.laws.proofs.Orders.{Carries, still_may, MayActivate, activate-carried}
 use Rattle.laws.proofs.PeersApart.{all-found}
 use Rattle.laws.proofs.Picks.{filter-all, filter-passing, picks-all}
 use Rattle.laws.proofs.Promotions.{MayPromote, promotes-carried, eligible-may}
-use Rattle.laws.proofs.Spending.{ChangesAt, class_at, same_but-class, number-one, members-one, members-none, promote-changes, activate-changes}
+use Rattle.laws.proofs.Spending.{ChangesAt, IsLocalTest, established_or_pending-same, active_or_asked-same, class_at, same_but-class, number-one, members-one, members-none, promote-changes, activate-changes}
 use Rattle.laws.proofs.Trims.{trimmed-within}
 use Rattle.laws.proofs.WholeMoves.{IsWarm}
 
 -- ---- an order that uses up what is wanted
 
 -- a promotion, or an activation: it changes one address, and is within what is wanted where its move is
-record Uses (status : Status) (wanted : Bool → Machine → ℕ) (valency : Group → ℕ) (May : Machine → Addr → Type 0) (order : Addr → Order) : Type 0 where
+record Uses (counts : Machine → Peer → Bool) (wanted : Bool → Machine → ℕ) (valency : Group → ℕ) (May : Machine → Addr → Type 0) (order : Addr → Order) : Type 0 where
   carried : Carries IsAllowed May order
   changes : (addr : Addr) (m : Machine) → IsOrdered m → ChangesAt addr m (carries_out (order addr) m).machine
-  within : (addr : Addr) (m : Machine) → IsWanted status wanted valency addr m (carries_out (order addr) m).machine →
+  local : IsLocalTest counts
+  within : (addr : Addr) (m : Machine) → IsWanted counts wanted valency addr m (carries_out (order addr) m).machine →
       AllByRecursion Within (carries_out (order addr) m).moves
   stays : (big : Bool) (addr : Addr) (m n : Machine) → ChangesAt addr m n → wanted big n ≡ wanted big m
 
@@ -86,19 +88,21 @@ on_used-moves addr m = by_entry (find (is_used_at addr) m.connections)
     by_entry None = refl
     by_entry (Some e) = refl
 
-promotes-use : Uses EstablishedOrPending established_wanted (λ group. group.warm) MayPromote Promote
+promotes-use : Uses is_established_or_pending established_wanted (λ group. group.warm) MayPromote Promote
 promotes-use = record {
   carried = promotes-carried;
   changes = promote-changes;
+  local = established_or_pending-same;
   within = λ addr m wanted.
       move-within (promoted addr) m (promoted_at (live_entry_at addr m) addr m) (promoted_at-moves (live_entry_at addr m) addr m) wanted;
   stays = established-stays;
 }
 
-activates-use : Uses HotOrOwesOn2 active_wanted (λ group. group.hot) MayActivate Activate
+activates-use : Uses is_active_or_asked active_wanted (λ group. group.hot) MayActivate Activate
 activates-use = record {
   carried = activate-carried;
   changes = activate-changes;
+  local = active_or_asked-same;
   within = λ addr m wanted. move-within (activated addr) m (on_used addr activates m) (on_used-moves addr m) wanted;
   stays = active-stays;
 }
@@ -112,15 +116,6 @@ class-is a ps p big found class =
   where
     some_same : (b c : Bool) → Some b ≡ Some c → b ≡ c
     some_same b c e = cc
-
-unplaced : {X : Type 0} (p : X → Bool) (xs : List X) → is_some (position p xs) ≡ false → All (λ x. p x ≡ false) xs
-unplaced p xs none k d inside = elim (cases_Bool (nat_lt (position_or_len p xs) (length xs))) [
-  | inl within ↦ let some : true ≡ false = rw within at none in absurd cc
-  | inr past ↦ fails_before_first p xs k d (omega (arith, ltb-false (position_or_len p xs) (length xs) past, inside))
-]
-
-pub not_local-unlisted : (a : Addr) (groups : List Group) → is_not_local groups a ≡ true → All (λ group. is_listed a group.members ≡ false) groups
-not_local-unlisted a groups h = unplaced (λ group. is_listed a group.members) groups (not-true (is_some (group_of a groups)) h)
 
 -- ---- who is picked
 
@@ -142,16 +137,6 @@ chosen-class big word number test ps apart =
     (filter-passing passes ps) (filter-all (λ p. peer_in p.addr ps ≡ Some p) passes ps (all-found ps apart)))
 
 -- ---- the picks of groups
-
-not_in-both : (a : Addr) (xs ys : List Addr) → is_listed a xs ≡ false → is_listed a ys ≡ false → is_listed a (xs ++ ys) ≡ false
-not_in-both a [] ys h k = k
-not_in-both a (x ∷ xs) ys h k =
-    let parts = or_parts (same_address a x) (is_listed a xs) h in
-    or_from (same_address a x) (is_listed a (xs ++ ys)) parts.0 (not_in-both a xs ys parts.1 k)
-
-not_in-all : (a : Addr) (groups : List Group) → AllByRecursion (λ group. is_listed a group.members ≡ false) groups → is_listed a (members_of groups) ≡ false
-not_in-all a [] h = refl
-not_in-all a (g ∷ groups) h = not_in-both a g.members (members_of groups) h.0 (not_in-all a groups h.1)
 
 -- addresses that are in no group count for none
 none_in-each : (addrs : List Addr) (groups : List Group) → AllByRecursion (λ a. is_listed a (members_of groups) ≡ false) addrs →
@@ -192,12 +177,12 @@ own_picks pick (g ∷ groups) h apart =
 
 -- ---- one order after the other
 
-module _ {status : Status} {wanted : Bool → Machine → ℕ} {valency : Group → ℕ} {May : Machine → Addr → Type 0} {order : Addr → Order}
-    (uses : Uses status wanted valency May order) where
+module _ {counts : Machine → Peer → Bool} {wanted : Bool → Machine → ℕ} {valency : Group → ℕ} {May : Machine → Addr → Type 0} {order : Addr → Order}
+    (uses : Uses counts wanted valency May order) where
   -- what is left for the orders that are still to come lets the first of them through, and is left for the rest
   abbrev Lets : (List Addr → Machine → Type 0) → Type 0
   Lets Left = (a : Addr) (addrs : List Addr) (m n : Machine) → IsOrdered m → ChangesAt a m n → Left (a ∷ addrs) m →
-      IsWanted status wanted valency a m n × Left addrs n
+      IsWanted counts wanted valency a m n × Left addrs n
 
   orders-within : (Left : List Addr → Machine → Type 0) → Lets Left → (addrs : List Addr) (m : Machine) → IsOrdered m → counted_in m ≤ m.settings.hard →
       AreApart addrs → AllByRecursion (May m) addrs → Left addrs m → AllByRecursion Within (for_each carries_out (map order addrs) m).moves
@@ -216,28 +201,29 @@ module _ {status : Status} {wanted : Bool → Machine → ℕ} {valency : Group 
 
   -- at least as many more are wanted of a class as orders are still to come, each for a peer of it
   record ClassLeft (big : Bool) (addrs : List Addr) (m : Machine) : Type 0 where
-    number : length addrs ≤ wanted big m - number_with status big m
+    number : length addrs ≤ wanted big m - number_with counts big m
     class : AllByRecursion (λ a. class_at a m.peers ≡ Some big) addrs
-    among : AllByRecursion (λ a. (big || is_not_local m.groups a) ≡ true) addrs
+    among : AllByRecursion (λ a. (big || not (is_local m.groups a)) ≡ true) addrs
 
   class-lets : (big : Bool) → Lets (ClassLeft big)
   class-lets big a addrs m n h changes left =
-      let more = number-one status big a m n h.formed.peers changes in
+      let more = number-one counts uses.local big a m n h.formed.peers changes in
       let number = left.number in
       let same = uses.stays big a m n changes in (
         record {
           by_target = λ p found either.
-              subst (λ b. number_with status b n ≤ wanted b n) (sym (class_of p found)) (omega (arith, more, number, same));
+              subst (λ b. number_with counts b n ≤ wanted b n) (sym (class_of p found)) (omega (arith, more, number, same));
           by_valency = λ p found ordinary. All-weaker (λ group. is_listed a group.members ≡ false)
-              (λ group. is_listed a group.members ≡ true → members_with status group n ≤ valency group)
+              (λ group. is_listed a group.members ≡ true → members_with counts group n ≤ valency group)
               (λ group unlisted listed. absurd (both_ways (is_listed a group.members) unlisted listed)) m.groups
-              (not_local-unlisted a m.groups (subst (λ b. (b || is_not_local m.groups a) ≡ true) (sym (class_of p found) ∙ ordinary) left.among.0));
+              (no_member-unlisted a m.groups
+              (not-true (is_local m.groups a) (subst (λ b. (b || not (is_local m.groups a)) ≡ true) (sym (class_of p found) ∙ ordinary) left.among.0)));
         },
         record {
           number = omega (arith, more, number, same);
           class = all-weaker (λ b. class_at b m.peers ≡ Some big) (λ b. class_at b n.peers ≡ Some big)
               (λ b is. same_but-class a b m.peers n.peers changes.peers ∙ is) addrs left.class.1;
-          among = subst (λ groups. AllByRecursion (λ b. (big || is_not_local groups b) ≡ true) addrs) (sym changes.groups) left.among.1;
+          among = subst (λ groups. AllByRecursion (λ b. (big || not (is_local groups b)) ≡ true) addrs) (sym changes.groups) left.among.1;
         },
       )
     where
@@ -245,8 +231,8 @@ module _ {status : Status} {wanted : Bool → Machine → ℕ} {valency : Group 
       class_of p found = class-is a m.peers p big found left.class.0
 
   class-within : (big : Bool) (word number : ℕ) (test : Peer → Bool) (m : Machine) → IsOrdered m → counted_in m ≤ m.settings.hard →
-      number ≤ wanted big m - number_with status big m →
-      ((p : Peer) → test p ≡ true → peer_at p.addr m ≡ Some p → May m p.addr) → ((p : Peer) → test p ≡ true → (big || is_not_local m.groups p.addr) ≡ true) →
+      number ≤ wanted big m - number_with counts big m →
+      ((p : Peer) → test p ≡ true → peer_at p.addr m ≡ Some p → May m p.addr) → ((p : Peer) → test p ≡ true → (big || not (is_local m.groups p.addr)) ≡ true) →
       AllByRecursion Within (for_each carries_out (orders_for big word order number test m.peers) m).moves
   class-within big word number test m h within few may among =
       let picks : List Addr = chosen big word number test m.peers in
@@ -256,14 +242,14 @@ module _ {status : Status} {wanted : Bool → Machine → ℕ} {valency : Group 
       (record {
         number = omega (arith, most, few);
         class = chosen-class big word number test m.peers h.formed.peers;
-        among = chosen-all (λ a. (big || is_not_local m.groups a) ≡ true) big word number test m.peers h.formed.peers (λ p passes found. among p passes);
+        among = chosen-all (λ a. (big || not (is_local m.groups a)) ≡ true) big word number test m.peers h.formed.peers (λ p passes found. among p passes);
       })
 
   -- ---- by the valencies of groups
 
   -- as many more members are wanted at least as orders are still to come for members
   abbrev HasLeft : List Addr → Machine → Group → Type 0
-  HasLeft addrs m group = count_by (λ a. is_listed a group.members) addrs ≤ valency group - members_with status group m
+  HasLeft addrs m group = count_by (λ a. is_listed a group.members) addrs ≤ valency group - members_with counts group m
 
   record GroupsLeft (addrs : List Addr) (m : Machine) : Type 0 where
     numbers : AllByRecursion (HasLeft addrs m) m.groups
@@ -274,10 +260,8 @@ module _ {status : Status} {wanted : Bool → Machine → ℕ} {valency : Group 
   groups-lets a addrs m n h changes left = (
     record {
       by_target = λ p found either.
-          let unlisted : is_listed a (members_of m.groups) ≡ false =
-          not_in-all a m.groups (recursion_from_All (λ group. is_listed a group.members ≡ false) m.groups
-          (not_local-unlisted a m.groups (subst (λ b. (b || is_not_local m.groups a) ≡ true) (class_of p found) either))) in
-          absurd (both_ways (is_listed a (members_of m.groups)) unlisted left.among.0);
+          let unlisted = not-true (is_local m.groups a) (subst (λ b. (b || not (is_local m.groups a)) ≡ true) (class_of p found) either) in
+          absurd (both_ways (is_local m.groups a) unlisted left.among.0);
       by_valency = λ p found ordinary. All-from_recursion Within_valency m.groups
           (all-weaker (HasLeft (a ∷ addrs) m) Within_valency (λ group left listed. listed-within group left listed) m.groups left.numbers);
     },
@@ -291,7 +275,7 @@ module _ {status : Status} {wanted : Bool → Machine → ℕ} {valency : Group 
   )
     where
       Within_valency : Group → Type 0
-      Within_valency group = is_listed a group.members ≡ true → members_with status group n ≤ valency group
+      Within_valency group = is_listed a group.members ≡ true → members_with counts group n ≤ valency group
 
       class_of : (p : Peer) → peer_at a m ≡ Some p → p.big ≡ false
       class_of p found = class-is a m.peers p false found left.class.0
@@ -299,25 +283,25 @@ module _ {status : Status} {wanted : Bool → Machine → ℕ} {valency : Group 
       one-of : (b : Bool) → b ≡ true → cond {A = ℕ} b 1 0 ≡ 1
       one-of b is = ap (λ c. cond {A = ℕ} c 1 0) is
 
-      listed-within : (group : Group) → HasLeft (a ∷ addrs) m group → is_listed a group.members ≡ true → members_with status group n ≤ valency group
+      listed-within : (group : Group) → HasLeft (a ∷ addrs) m group → is_listed a group.members ≡ true → members_with counts group n ≤ valency group
       listed-within group number listed =
           let first = sum_by-cons (λ b. cond {A = ℕ} (is_listed b group.members) 1 0) a addrs in
-          omega (arith, number, first, one-of (is_listed a group.members) listed, members-one status group a m n h.formed.peers changes)
+          omega (arith, number, first, one-of (is_listed a group.members) listed, members-one counts uses.local group a m n h.formed.peers changes)
 
       still_left : (group : Group) → HasLeft (a ∷ addrs) m group → (b : Bool) → is_listed a group.members ≡ b → HasLeft addrs n group
       still_left group number true listed =
           let first = sum_by-cons (λ b. cond {A = ℕ} (is_listed b group.members) 1 0) a addrs in
-          omega (arith, number, first, one-of (is_listed a group.members) listed, members-one status group a m n h.formed.peers changes)
+          omega (arith, number, first, one-of (is_listed a group.members) listed, members-one counts uses.local group a m n h.formed.peers changes)
       still_left group number false unlisted =
           let first = sum_by-cons (λ b. cond {A = ℕ} (is_listed b group.members) 1 0) a addrs in
-          omega (arith, number, first, members-none status group a m n unlisted changes)
+          omega (arith, number, first, members-none counts uses.local group a m n unlisted changes)
 
-  groups-within : (word : ℕ) (test : Peer → Bool) (m : Machine) → IsOrdered m → counted_in m ≤ m.settings.hard →
-      ((p : Peer) → test p ≡ true → peer_at p.addr m ≡ Some p → May m p.addr) →
+  groups-within : (word : ℕ) (count : Group → ℕ) (test : Peer → Bool) (m : Machine) → ((group : Group) → count group ≡ members_with counts group m) →
+      IsOrdered m → counted_in m ≤ m.settings.hard → ((p : Peer) → test p ≡ true → peer_at p.addr m ≡ Some p → May m p.addr) →
       AllByRecursion Within (for_each carries_out
-      (flat_map (λ g. orders_for false word order (valency g - members_with status g m) (is_member_and g test) m.peers) m.groups) m).moves
-  groups-within word test m h within may =
-      let number : Group → ℕ = λ g. valency g - members_with status g m in
+      (flat_map (λ g. orders_for false word order (valency g - count g) (is_member_and g test) m.peers) m.groups) m).moves
+  groups-within word count test m same h within may =
+      let number : Group → ℕ = λ g. valency g - count g in
       let pick : Group → List Addr = λ g. chosen false word (number g) (is_member_and g test) m.peers in
       let picks : PicksMembers pick = record {
         apart = λ g. chosen-apart false word (number g) (is_member_and g test) m.peers h.formed.peers;
@@ -330,7 +314,7 @@ module _ {status : Status} {wanted : Bool → Machine → ℕ} {valency : Group 
       (λ p passes found. may p (and_parts (is_listed p.addr g.members) (test p) passes).1 found)))
       (record {
         numbers = all-weaker (λ g. count_by (λ a. is_listed a g.members) (flat_map pick m.groups) ≤ length (pick g)) (HasLeft (flat_map pick m.groups) m)
-            (λ g own. let most = picks-most false word (number g) (filter (λ p. is_of false p && is_member_and g test p) m.peers) in omega (arith, own, most))
+            (λ g own. let most = picks-most false word (number g) (filter (λ p. is_of false p && is_member_and g test p) m.peers) in let number = same g in omega (arith, own, most, number))
             m.groups (own_picks pick m.groups picks h.formed.groups);
         class = groups_picks-all (λ a. class_at a m.peers ≡ Some false) pick m.groups
             (λ g. chosen-class false word (number g) (is_member_and g test) m.peers h.formed.peers);
@@ -354,31 +338,46 @@ count_by-either {X} c s t (x ∷ xs) =
     one true false k = omega arith
     one false j k = omega arith
 
+-- What the rules see of an address is what its connections are.
+linked : (test : Link → Bool) (addr : Addr) (es : List Entry) →
+    some_link test (map link_of es) addr ≡ list_any (λ e. same_address e.facts.addr addr && test (link_of e)) es
+linked test addr [] = refl
+linked test addr (e ∷ es) = ap (λ b. (same_address e.facts.addr addr && test (link_of e)) || b) (linked test addr es)
+
+pending-seen : (addr : Addr) (m : Machine) → is_pending_link (map link_of m.connections) addr ≡ some_connection (λ e. is_pending e.facts) addr m
+pending-seen addr m = linked (λ l. l.pending) addr m.connections
+
+asked-seen : (addr : Addr) (m : Machine) → owes_on_2 (map link_of m.connections) addr ≡ some_connection (λ e. is_some (reply_on 2 e)) addr m
+asked-seen addr m = linked (λ l. l.owes2) addr m.connections
+
 promotes-number : (big : Bool) (word : ℕ) (m : Machine) →
-    established_target big (view_of word m) - established_of big m.peers - count_of big (is_pending (map link_of m.connections)) m.peers
-    ≤ established_wanted big m - number_with EstablishedOrPending big m
+    established_target big (view_of word m) - established_of big m.peers - count_of big (is_pending_link (map link_of m.connections)) m.peers
+    ≤ established_wanted big m - number_with is_established_or_pending big m
 promotes-number big word m =
-    let split = count_by-either (is_of big) (λ p. is_established p.temp) (λ p. is_pending (map link_of m.connections) p.addr) m.peers in
+    let split = count_by-either (is_of big) (λ p. is_established p.temp) (λ p. some_connection (λ e. is_pending e.facts) p.addr m) m.peers in
+    let pending : count_of big (is_pending_link (map link_of m.connections)) m.peers ≡ count_by (λ p. is_of big p && some_connection (λ e. is_pending e.facts) p.addr m) m.peers =
+    λ i. count_by (λ p. is_of big p && pending-seen p.addr m i) m.peers in
     let same : established_target big (view_of word m) ≡ established_wanted big m = by_class big in
-    omega (arith, split, same)
+    omega (arith, split, pending, same)
   where
     by_class : (b : Bool) → established_target b (view_of word m) ≡ established_wanted b m
     by_class true = refl
     by_class false = refl
 
-active-hot : (t : Temp) → is_active t ≡ same_temp t Hot
-active-hot Cold = refl
-active-hot Warm = refl
-active-hot Hot = refl
+hot-active : (t : Temp) → same_temp t Hot ≡ is_active t
+hot-active Cold = refl
+hot-active Warm = refl
+hot-active Hot = refl
 
 activates-number : (big : Bool) (word : ℕ) (m : Machine) →
     active_target big (view_of word m) - active_of big m.peers - count_of big (owes_on_2 (map link_of m.connections)) m.peers
-    ≤ active_wanted big m - number_with HotOrOwesOn2 big m
+    ≤ active_wanted big m - number_with is_active_or_asked big m
 activates-number big word m =
-    let split = count_by-either (is_of big) (λ p. same_temp p.temp Hot) (λ p. owes_on_2 (map link_of m.connections) p.addr) m.peers in
-    let hot : active_of big m.peers ≡ count_by (λ p. is_of big p && same_temp p.temp Hot) m.peers = λ i. count_by (λ p. is_of big p && active-hot p.temp i) m.peers in
+    let split = count_by-either (is_of big) (λ p. is_active p.temp) (λ p. some_connection (λ e. is_some (reply_on 2 e)) p.addr m) m.peers in
+    let asked : count_of big (owes_on_2 (map link_of m.connections)) m.peers ≡ count_by (λ p. is_of big p && some_connection (λ e. is_some (reply_on 2 e)) p.addr m) m.peers =
+    λ i. count_by (λ p. is_of big p && asked-seen p.addr m i) m.peers in
     let same : active_target big (view_of word m) ≡ active_wanted big m = by_class big in
-    omega (arith, split, hot, same)
+    omega (arith, split, asked, same)
   where
     by_class : (b : Bool) → active_target b (view_of word m) ≡ active_wanted b m
     by_class true = refl
@@ -399,18 +398,18 @@ activate-may p m passes found =
 
 -- of big ledger peers, or of ordinary ones among those that are no local peers
 pub promotes-within : (big : Bool) (among : Addr → Bool) (word : ℕ) (m : Machine) →
-    ((a : Addr) → among a ≡ true → (big || is_not_local m.groups a) ≡ true) → IsOrdered m → counted_in m ≤ m.settings.hard →
+    ((a : Addr) → among a ≡ true → (big || not (is_local m.groups a)) ≡ true) → IsOrdered m → counted_in m ≤ m.settings.hard →
     AllByRecursion Within (for_each carries_out (promotes big among (view_of word m) m.peers) m).moves
 promotes-within big among word m only h within =
     let eligible : Peer → Bool = is_eligible m.now (map link_of m.connections) in
     class-within promotes-use big word
-    (established_target big (view_of word m) - established_of big m.peers - count_of big (is_pending (map link_of m.connections)) m.peers)
+    (established_target big (view_of word m) - established_of big m.peers - count_of big (is_pending_link (map link_of m.connections)) m.peers)
     (λ p. among p.addr && eligible p) m h within (promotes-number big word m)
     (λ p passes found. eligible-may p m h (and_parts (among p.addr) (eligible p) passes).1 found)
     (λ p passes. only p.addr (and_parts (among p.addr) (eligible p) passes).0)
 
 pub activates-within : (big : Bool) (among : Addr → Bool) (word : ℕ) (m : Machine) →
-    ((a : Addr) → among a ≡ true → (big || is_not_local m.groups a) ≡ true) → IsOrdered m → counted_in m ≤ m.settings.hard →
+    ((a : Addr) → among a ≡ true → (big || not (is_local m.groups a)) ≡ true) → IsOrdered m → counted_in m ≤ m.settings.hard →
     AllByRecursion Within (for_each carries_out (activates_class big among (view_of word m) m.peers) m).moves
 activates-within big among word m only h within =
     let warm : Peer → Bool = may_be_activated (map link_of m.connections) in
@@ -425,9 +424,15 @@ activates-within big among word m only h within =
 pub groups_promotes-within : (word : ℕ) (m : Machine) → IsOrdered m → counted_in m ≤ m.settings.hard →
     AllByRecursion Within (for_each carries_out (g4_orders (view_of word m) m.peers m.groups) m).moves
 groups_promotes-within word m h within =
-    groups-within promotes-use word (is_eligible m.now (map link_of m.connections)) m h within (λ p passes found. eligible-may p m h passes found)
+    groups-within promotes-use word (λ g. members_count g (λ p. is_established p.temp || is_pending_link (map link_of m.connections) p.addr) m.peers)
+    (is_eligible m.now (map link_of m.connections)) m
+    (λ g i. count_by (λ p. is_of false p && (is_listed p.addr g.members && (is_established p.temp || pending-seen p.addr m i))) m.peers)
+    h within (λ p passes found. eligible-may p m h passes found)
 
 pub groups_activates-within : (word : ℕ) (m : Machine) → IsOrdered m → counted_in m ≤ m.settings.hard →
     AllByRecursion Within (for_each carries_out (g7_orders (view_of word m) m.peers m.groups) m).moves
 groups_activates-within word m h within =
-    groups-within activates-use word (may_be_activated (map link_of m.connections)) m h within (λ p passes found. activate-may p m passes found)
+    groups-within activates-use word (λ g. members_count g (λ p. same_temp p.temp Hot || owes_on_2 (map link_of m.connections) p.addr) m.peers)
+    (may_be_activated (map link_of m.connections)) m
+    (λ g i. count_by (λ p. is_of false p && (is_listed p.addr g.members && (hot-active p.temp i || asked-seen p.addr m i))) m.peers)
+    h within (λ p passes found. activate-may p m passes found)

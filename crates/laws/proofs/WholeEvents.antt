@@ -35,8 +35,7 @@ use Rattle.machine.specs.Stream.{bytes_come_in}
 use Rattle.machine.specs.Step.{step}
 use Rattle.laws.specs.AtMoves.{IsLawful}
 use Rattle.laws.specs.Whole.{IsShaped, IsFormed, IsSteady, TiedBy, IsTied, AreApart, IsOwing, IsOrdered}
-use Rattle.govern_rules.specs.Rules.{is_not_local}
-use Rattle.laws.specs.Laws.{LocalsAreOrdinary}
+use Rattle.laws.specs.Laws.{is_local, LocalsAreOrdinary}
 use Rattle.laws.proofs.Addresses.{same_address-true}
 use Rattle.laws.proofs.Entries.{TurnsInto}
 use Rattle.laws.proofs.Firing.{Due, due_of}
@@ -117,7 +116,7 @@ comes_big-keeps addr m h = by_test (is_wanted_big addr m) refl
   where
     by_test : (b : Bool) → is_wanted_big addr m ≡ b → Keeps 0 m (if b then as_move (shared addr) m (peer_comes true addr m) else nothing_more m).machine
     by_test true wanted = peer_comes-keeps true addr m h (wanted-other addr m wanted)
-        (λ local. absurd (both_ways (is_not_local m.groups addr) local (wanted-not_local addr m wanted)))
+        (λ local. absurd (both_ways (is_local m.groups addr) (wanted-not_local addr m wanted) local))
     by_test false unwanted = keeps_nothing m h
 
 roots_say-keeps : (answer : RootAnswer) (m : Machine) → IsOrdered m → Keeps 0 m (roots_say answer m).machine

@@ -1,21 +1,18 @@
 -- What an operator counts on at each move of an event: in the record just before it and in the one just after it.
-use Rattle.std.specs.Prelude.{ℕ, ◌+◌, ◌≡◌, ◌≤◌, Bool, true, false, ◌||◌, ◌==◌, List, map, All, Option, Some, None, is_some, if◌then◌else◌, Result, Ok, Err}
+use Rattle.std.specs.Prelude.{ℕ, ◌+◌, ◌≡◌, ◌≤◌, Bool, true, false, not, ◌&&◌, ◌||◌, ◌==◌, List, count_by, All, Option, Some, None, is_some}
 use Rattle.std.specs.List.{list_any}
+use Rattle.std.specs.Option.{option_map}
+use Rattle.accept_gate.specs.Prune.{is_candidate, rank_of_candidate, goes_before}
+use Rattle.accept_gate.specs.declared.prune.Candidate.{Candidate}
 use Rattle.churn_clock.specs.Windows.{effective_of, effective_big_of}
-use Rattle.conn_state.specs.Use.{is_negotiated, some_runs, agreed_sharing}
-use Rattle.govern_rules.specs.Rules.{is_not_local, members_count}
-use Rattle.govern_rules.specs.Statuses.{has_status, count_with}
-use Rattle.govern_rules.specs.declared.link.Link.{Link}
-use Rattle.govern_rules.specs.declared.status.Status.{Status}
-use Rattle.govern_rules.specs.declared.status.Status.TheVariants.{EstablishedOrPending, HotOrOwesOn2}
+use Rattle.conn_state.specs.Counted.{is_counted}
+use Rattle.conn_state.specs.Use.{is_negotiated, is_pending, some_runs}
 use Rattle.mux_segment.specs.Protocols.{node_limits}
 use Rattle.mux_segment.specs.Stream.{FedBy, fed_by}
-use Rattle.mux_segment.specs.declared.item.Item.{Item}
 use Rattle.net_base.specs.Address.{same_address}
+use Rattle.net_base.specs.Peer.{failed_peer}
 use Rattle.net_base.specs.declared.action.CloseCause.{CloseCause}
 use Rattle.net_base.specs.declared.action.CloseCause.TheVariants.{Unused, Pruned, Overwritten, Refused, Query, Fault}
-use Rattle.net_base.specs.declared.action.FaultKind.{FaultKind}
-use Rattle.net_base.specs.declared.action.FaultKind.TheVariants.{Protocol}
 use Rattle.net_base.specs.declared.address.Addr.{Addr}
 use Rattle.net_base.specs.declared.connection.Facts.{Facts}
 use Rattle.net_base.specs.declared.connection.Grace.{Grace}
@@ -26,19 +23,15 @@ use Rattle.net_base.specs.declared.event.Group.{Group}
 use Rattle.net_base.specs.declared.event.RootAnswer.{RootAnswer}
 use Rattle.net_base.specs.declared.event.RootAnswer.TheVariants.{Found, Failed}
 use Rattle.net_base.specs.declared.peer.Peer.{Peer}
-use Rattle.peer_book.specs.Book.{is_active, known_of}
-use Rattle.remote_watch.specs.Watch.{watched}
-use Rattle.remote_watch.specs.declared.seen.Seen.{Seen}
+use Rattle.peer_book.specs.Book.{is_of, is_established, is_active, known_of}
 use Rattle.root_groups.specs.Cleaned.{is_listed, members_of}
 use Rattle.machine.specs.Effect.{Happened, Move, promoted, activated, shared, ended, unused, gone}
-use Rattle.machine.specs.Govern.{link_of}
-use Rattle.machine.specs.Machine.{Machine, Entry, Owed, counted_in, entry_at, live_entry_at}
+use Rattle.machine.specs.Machine.{Machine, Entry, counted_in, entry_at, live_entry_at}
 use Rattle.machine.specs.Peers.{peer_at}
 use Rattle.machine.specs.Replies.{reply_on}
-use Rattle.machine.specs.Talking.{takes_requests, pays}
 use Rattle.machine.specs.Step.{step}
 use Rattle.laws.specs.Stages.{IsLateCause}
-use Rattle.laws.specs.Laws.{is_used_connection, is_pending_connection}
+use Rattle.laws.specs.Laws.{is_local, is_used_connection, is_pending_connection}
 
 -- ---- back-off
 
@@ -58,16 +51,25 @@ OutOfBackOff (gone cid) before = Unit {0}
 
 -- ---- targets and valencies
 
-abbrev pub links_in : Machine → List Link
-links_in m = map link_of m.connections
+-- some connection of an address passes a test
+abbrev pub some_connection : (Entry → Bool) → Addr → Machine → Bool
+some_connection test addr m = list_any (λ e. same_address e.facts.addr addr && test e) m.connections
 
--- how many peers of a class have a status
-abbrev pub number_with : Status → Bool → Machine → ℕ
-number_with status big m = count_with status big (links_in m) m.peers
+-- warm or hot, or dialed by this node and with a handshake that is not done
+abbrev pub is_established_or_pending : Machine → Peer → Bool
+is_established_or_pending m p = is_established p.temp || some_connection (λ e. is_pending e.facts) p.addr m
 
--- how many members of a group have a status
-abbrev pub members_with : Status → Group → Machine → ℕ
-members_with status group m = members_count group (has_status status (links_in m)) m.peers
+-- hot, or asked to become so and with an answer that is owed
+abbrev pub is_active_or_asked : Machine → Peer → Bool
+is_active_or_asked m p = is_active p.temp || some_connection (λ e. is_some (reply_on 2 e)) p.addr m
+
+-- how many peers of a class pass a test
+abbrev pub number_with : (Machine → Peer → Bool) → Bool → Machine → ℕ
+number_with test big m = count_by (λ p. is_of big p && test m p) m.peers
+
+-- how many members of a group do: those that are ordinary peers, as all are
+abbrev pub members_with : (Machine → Peer → Bool) → Group → Machine → ℕ
+members_with test group m = count_by (λ p. is_of false p && (is_listed p.addr group.members && test m p)) m.peers
 
 -- the targets of a class in a moment
 abbrev pub known_wanted : Bool → Machine → ℕ
@@ -82,13 +84,13 @@ abbrev pub active_wanted : Bool → Machine → ℕ
 active_wanted false m = (effective_of m.targets m.now).active
 active_wanted true m = (effective_big_of m.big_targets m.now).active
 
--- After a move on a peer so many are wanted at least as have a status: of its class where it is no local peer, of the
+-- After a move on a peer so many are wanted at least as pass a test: of its class where it is no local peer, of the
 -- members of its group where it is one. No address is in two groups.
-pub record IsWanted (status : Status) (wanted : Bool → Machine → ℕ) (valency : Group → ℕ) (addr : Addr) (before after : Machine) : Type 0 where
-  pub by_target : (p : Peer) → peer_at addr before ≡ Some p → (p.big || is_not_local before.groups addr) ≡ true →
-      number_with status p.big after ≤ wanted p.big after
+pub record IsWanted (test : Machine → Peer → Bool) (wanted : Bool → Machine → ℕ) (valency : Group → ℕ) (addr : Addr) (before after : Machine) : Type 0 where
+  pub by_target : (p : Peer) → peer_at addr before ≡ Some p → (p.big || not (is_local before.groups addr)) ≡ true →
+      number_with test p.big after ≤ wanted p.big after
   pub by_valency : (p : Peer) → peer_at addr before ≡ Some p → p.big ≡ false →
-      All (λ group. is_listed addr group.members ≡ true → members_with status group after ≤ valency group) before.groups
+      All (λ group. is_listed addr group.members ≡ true → members_with test group after ≤ valency group) before.groups
 
 -- After an address has come into the book, no more are known of its class than wanted.
 abbrev pub IsWantedNew : Addr → Machine → Machine → Type 0
@@ -96,8 +98,8 @@ IsWantedNew addr before after = peer_at addr before ≡ None → (p : Peer) → 
 
 -- Nobody is promoted or activated, and no address that was told is taken, beyond what is wanted.
 abbrev pub WithinTargets : Happened → Machine → Machine → Type 0
-WithinTargets (promoted addr) before after = IsWanted EstablishedOrPending established_wanted (λ group. group.warm) addr before after
-WithinTargets (activated addr) before after = IsWanted HotOrOwesOn2 active_wanted (λ group. group.hot) addr before after
+WithinTargets (promoted addr) before after = IsWanted is_established_or_pending established_wanted (λ group. group.warm) addr before after
+WithinTargets (activated addr) before after = IsWanted is_active_or_asked active_wanted (λ group. group.hot) addr before after
 WithinTargets (shared addr) before after = IsWantedNew addr before after
 WithinTargets (ended cid cause) before after = Unit {0}
 WithinTargets (unused cid) before after = Unit {0}
@@ -105,14 +107,45 @@ WithinTargets (gone cid) before after = Unit {0}
 
 -- ---- why a connection ends
 
--- whoever is pruned is so because one more than the hard limit are counted
-abbrev pub IsCrowded : CloseCause → Machine → Type 0
-IsCrowded Unused m = Unit {0}
-IsCrowded Pruned m = counted_in m ≡ m.settings.hard + 1
-IsCrowded Overwritten m = Unit {0}
-IsCrowded Refused m = Unit {0}
-IsCrowded Query m = Unit {0}
-IsCrowded (Fault kind) m = Unit {0}
+abbrev pub as_candidate : Entry → Candidate
+as_candidate e = record { cid = e.facts.cid; rank = rank_of_candidate e.facts }
+
+-- One more than the hard limit are counted, the connection among them. And of those that may go, it goes first: where there
+-- is one, it is one itself, and no other is before it, by a lower rank or, of one rank, as a newer connection.
+pub record IsDueToGo (e : Entry) (m : Machine) : Type 0 where
+  pub crowded : counted_in m ≡ m.settings.hard + 1
+  pub counted : is_counted e.facts ≡ true
+  pub first : All (λ f. is_candidate f.facts ≡ true → (is_candidate e.facts ≡ true) × (goes_before (as_candidate f) (as_candidate e) ≡ false)) m.connections
+
+abbrev pub IsPrunedRightly : CloseCause → Entry → Machine → Type 0
+IsPrunedRightly Unused e m = Unit {0}
+IsPrunedRightly Pruned e m = IsDueToGo e m
+IsPrunedRightly Overwritten e m = Unit {0}
+IsPrunedRightly Refused e m = Unit {0}
+IsPrunedRightly Query e m = Unit {0}
+IsPrunedRightly (Fault kind) e m = Unit {0}
+
+-- this node used the connection, or was on its way to it
+abbrev pub is_missed : Facts → Bool
+is_missed f = f.local || is_pending f
+
+-- a dial that a crossing overwrites is no failure
+abbrev pub is_failure : CloseCause → Facts → Bool
+is_failure Unused f = is_missed f
+is_failure Pruned f = is_missed f
+is_failure Overwritten f = false
+is_failure Refused f = is_missed f
+is_failure Query f = is_missed f
+is_failure (Fault kind) f = is_missed f
+
+abbrev pub failed_where : Bool → ℕ → ℕ → Option Peer → Option Peer
+failed_where true now base p = option_map (failed_peer now base) p
+failed_where false now base p = p
+
+-- With a failure the peer of a connection that goes is cold, has one failure more, and is left alone for its back-off; else
+-- it stays as it was.
+abbrev pub FailsWhere : Bool → Entry → Machine → Machine → Type 0
+FailsWhere fails e before after = peer_at e.facts.addr after ≡ failed_where fails before.now before.settings.backoff (peer_at e.facts.addr before)
 
 abbrev pub IsPast : ℕ → Grace → Type 0
 IsPast now Off = ⊥
@@ -129,32 +162,20 @@ abbrev pub OnEntry : Option Entry → (Entry → Type 0) → Type 0
 OnEntry None law = ⊥
 OnEntry (Some e) law = law e
 
--- No connection whose handshake is done ends but unused past its grace, pruned, or for a fault.
-abbrev pub ForCause : Happened → Machine → Type 0
-ForCause (promoted addr) before = Unit {0}
-ForCause (activated addr) before = Unit {0}
-ForCause (shared addr) before = Unit {0}
-ForCause (ended cid cause) before = OnEntry (entry_at cid before) (λ e. (is_negotiated e.facts ≡ true → IsLateCause cause) × IsCrowded cause before)
-ForCause (unused cid) before = OnEntry (entry_at cid before) (λ e. IsOver before.now e.facts)
-ForCause (gone cid) before = OnEntry (entry_at cid before) (λ e. is_negotiated e.facts ≡ false)
+-- No connection whose handshake is done ends but unused past its grace, pruned in its turn, or for a fault. The peer of one
+-- that goes fails where it is missed.
+abbrev pub ForCause : Happened → Machine → Machine → Type 0
+ForCause (promoted addr) before after = Unit {0}
+ForCause (activated addr) before after = Unit {0}
+ForCause (shared addr) before after = Unit {0}
+ForCause (ended cid cause) before after = OnEntry (entry_at cid before)
+    (λ e. (is_negotiated e.facts ≡ true → IsLateCause cause) × IsPrunedRightly cause e before × FailsWhere (is_failure cause e.facts) e before after)
+ForCause (unused cid) before after = OnEntry (entry_at cid before) (λ e. IsOver before.now e.facts)
+ForCause (gone cid) before after = OnEntry (entry_at cid before) (λ e. (is_negotiated e.facts ≡ false) × FailsWhere (is_missed e.facts) e before after)
 
--- ---- which items are faults
+-- ---- what comes in
 
--- the fault that an item is on a connection whose handshake is done, if it is one
-abbrev pub fault_of_request : Result Seen FaultKind → Entry → Option FaultKind
-fault_of_request (Err kind) e = Some kind
-fault_of_request (Ok seen) e = if takes_requests e then None else Some Protocol
-
-abbrev pub fault_of_answer : Option Owed → List ℕ → Option FaultKind
-fault_of_answer None body = Some Protocol
-fault_of_answer (Some owed) body = if pays owed body then None else Some Protocol
-
-abbrev pub fault_of : Item → Entry → Option FaultKind
-fault_of item e =
-    if item.side == 0 then fault_of_request (watched item.id (agreed_sharing e.facts.agreed) item.body) e
-    else fault_of_answer (reply_on item.id e) item.body
-
--- what came in, after what was not decoded yet
+-- after what was not decoded yet
 abbrev pub fed_on : Entry → List ℕ → FedBy
 fed_on e bytes = fed_by node_limits (record { undecoded = e.undecoded; fault = None }) bytes
 
@@ -163,7 +184,7 @@ fed_on e bytes = fed_by node_limits (record { undecoded = e.undecoded; fault = N
 pub record IsLawful (move : Move) : Type 0 where
   pub back_off : OutOfBackOff move.happened move.before
   pub targets : WithinTargets move.happened move.before move.after
-  pub cause : ForCause move.happened move.before
+  pub cause : ForCause move.happened move.before move.after
 
 abbrev pub is_negotiated_entry : Option Entry → Bool
 is_negotiated_entry None = false

@@ -1,14 +1,15 @@
 -- What an operator counts on after each event.
-use Rattle.std.specs.Prelude.{◌≡◌, ◌<◌, ◌≤◌, ◌≢◌, Bool, true, false, ◌&&◌, ◌||◌, IsTrue, All, AllPairs, Option, Some, None}
+use Rattle.std.specs.Prelude.{◌≡◌, ◌<◌, ◌≤◌, ◌≢◌, Bool, true, false, ◌&&◌, ◌||◌, IsTrue, List, All, AllPairs, Option, Some, None}
 use Rattle.conn_state.specs.Use.{is_live, is_negotiated, is_pending}
-use Rattle.govern_rules.specs.Rules.{is_not_local}
 use Rattle.machine.specs.Deadlines.{deadlines}
 use Rattle.machine.specs.Machine.{Machine, Entry, counted_in, live_entry_at}
 use Rattle.machine.specs.Peers.{peer_at}
 use Rattle.net_base.specs.declared.address.Addr.{Addr}
+use Rattle.net_base.specs.declared.event.Group.{Group}
 use Rattle.net_base.specs.declared.peer.Peer.{Peer}
 use Rattle.net_base.specs.declared.peer.Temp.TheVariants.{Cold}
 use Rattle.peer_book.specs.Book.{is_established, same_temp}
+use Rattle.root_groups.specs.Cleaned.{is_listed, members_of}
 
 -- if both are live
 abbrev pub DifferInAddress : Entry → Entry → Type 0
@@ -59,6 +60,10 @@ abbrev pub UsedAreOutOfBackOff : Machine → Type 0
 UsedAreOutOfBackOff m = (addr : Addr) (p : Peer) → peer_at addr m ≡ Some p →
     (is_used_connection (live_entry_at addr m) || is_pending_connection (live_entry_at addr m)) ≡ true → p.not_before ≤ m.now
 
+-- a member of some group
+abbrev pub is_local : List Group → Addr → Bool
+is_local groups addr = is_listed addr (members_of groups)
+
 -- Each local peer is an ordinary one.
 abbrev pub LocalsAreOrdinary : Machine → Type 0
-LocalsAreOrdinary m = (addr : Addr) (p : Peer) → peer_at addr m ≡ Some p → is_not_local m.groups addr ≡ false → p.big ≡ false
+LocalsAreOrdinary m = (addr : Addr) (p : Peer) → peer_at addr m ≡ Some p → is_local m.groups addr ≡ true → p.big ≡ false

@@ -1,6 +1,8 @@
 pub mod Acts
 pub mod AtMoves
+pub mod CarriedOut
 pub mod Carrying
+pub mod Ends
 pub mod Laws
 pub mod Parts
 pub mod Props
@@ -9,4 +11,5 @@ pub mod Sound
 pub mod Stages
 pub mod Told
 pub mod Telling
+pub mod Waits
 pub mod Whole

@@ -1,118 +1,25 @@
 -- What an operator counts on in each part of an event, between the records that it really reaches.
-use Rattle.std.specs.Prelude.{ℕ, ◌≡◌, ◌≤◌, Bool, true, false, not, nat_le, ◌&&◌, ◌||◌, ◌==◌, List, [], ◌∷◌, map, filter, All, Contains, if◌then◌else◌, Option, Some, None}
-use Rattle.std.specs.List.{list_any}
-use Rattle.conn_state.specs.Use.{is_live_at, is_pending}
-use Rattle.govern_rules.specs.declared.order.Order.{Order}
-use Rattle.govern_rules.specs.declared.order.Order.TheVariants.{Ask, Forget, Promote, Release, Activate, Deactivate}
-use Rattle.hs_decide.specs.Agreement.{verdict_of}
-use Rattle.hs_decide.specs.declared.role.Role.{Role}
-use Rattle.hs_decide.specs.declared.verdict.Verdict.{Verdict}
-use Rattle.hs_decide.specs.declared.verdict.Verdict.TheVariants as verdict
-use Rattle.hs_message.specs.Reading.{message_of}
-use Rattle.hs_message.specs.declared.message.Message.{Message}
-use Rattle.mux_segment.specs.declared.fault.CutFault.{CutFault}
-use Rattle.mux_segment.specs.declared.item.Item.{Item}
-use Rattle.net_base.specs.Address.{same_address, address_below}
+use Rattle.std.specs.Prelude.{ℕ, ◌≡◌, ◌≤◌, Bool, true, false, ◌||◌, List, [], ◌∷◌, All, Contains}
+use Rattle.std.specs.List.{AllByRecursion, list_any}
 use Rattle.net_base.specs.declared.action.CloseCause.{CloseCause}
-use Rattle.net_base.specs.declared.action.CloseCause.TheVariants as cause
-use Rattle.net_base.specs.declared.action.FaultKind.{FaultKind}
-use Rattle.net_base.specs.declared.action.FaultKind.TheVariants.{Malformed, Protocol, HandshakeWait, ReplyWait}
 use Rattle.net_base.specs.declared.address.Addr.{Addr}
-use Rattle.net_base.specs.declared.connection.Phase.{Phase}
-use Rattle.net_base.specs.declared.connection.Phase.TheVariants.{Dialing, Greeting, Negotiated, Closing}
 use Rattle.net_base.specs.declared.event.Event.{Event}
 use Rattle.net_base.specs.Timer.{deadline_before}
 use Rattle.net_base.specs.declared.timer.Deadline.{Deadline}
-use Rattle.net_base.specs.declared.timer.Kind.{Kind}
-use Rattle.net_base.specs.declared.timer.Kind.TheVariants.{Handshake, Grace, TimeWait, Reply2, Reply8, Reply10}
 use Rattle.machine.specs.Deadlines.{deadlines}
-use Rattle.machine.specs.Effect.{Effect, Happened, promoted, activated, for_each}
-use Rattle.machine.specs.Greeting.{role_of, is_awaited, fits_side}
-use Rattle.machine.specs.Machine.{Machine, Entry, counted_in, entry_at, live_entry_at}
-use Rattle.machine.specs.Own.{own_info}
-use Rattle.machine.specs.Stream.{kind_of}
+use Rattle.machine.specs.Effect.{Effect, Happened, for_each}
+use Rattle.machine.specs.Machine.{Machine}
 use Rattle.machine.specs.Step.{step}
-use Rattle.laws.specs.Acts.{Act, fires_one, carries, connects, handles_item, ends_stream, does, acts, Part, effect_of, parts_of}
-use Rattle.laws.specs.AtMoves.{fault_of, is_closed_by, is_negotiated_at, is_up, is_hot_or_asked, is_known, promotes, activates, is_shared_in, is_provided_by, MovesAreLawful}
+use Rattle.laws.specs.Acts.{Act, fires_one, does, acts, Part, effect_of, parts_of}
+use Rattle.laws.specs.AtMoves.{is_closed_by, is_negotiated_at, is_up, is_hot_or_asked, is_known, promotes, activates, is_shared_in, is_provided_by, MovesAreLawful}
+use Rattle.laws.specs.CarriedOut.{IsDoneByOrder, TreatsBook, Forgives, PausesRight, IsSet}
+use Rattle.laws.specs.Ends.{ends_due, but_pruned, pruned_in, IsPrunedIn}
 use Rattle.laws.specs.Stages.{causes_in, IsLateCause}
 use Rattle.laws.specs.Telling.{IsTold}
-use Rattle.laws.specs.Told.{End, ends_in}
+use Rattle.laws.specs.Waits.{WaitsRight}
+use Rattle.laws.specs.Told.{ends_in}
 
--- ---- whom a part ends
-
-abbrev pub ends_on : Option Entry → (Entry → List CloseCause) → List End
-ends_on None causes = []
-ends_on (Some e) causes = map (λ cause. record { cid = e.facts.cid.0; cause = cause }) (causes e)
-
--- a deadline that fires
-abbrev pub causes_of_kind : Kind → Entry → List CloseCause
-causes_of_kind Handshake e = cause.Fault HandshakeWait ∷ []
-causes_of_kind Grace e = if e.facts.local then [] else cause.Unused ∷ []
-causes_of_kind TimeWait e = []
-causes_of_kind Reply2 e = cause.Fault ReplyWait ∷ []
-causes_of_kind Reply8 e = cause.Fault ReplyWait ∷ []
-causes_of_kind Reply10 e = cause.Fault ReplyWait ∷ []
-
--- a message in the handshake
-abbrev pub causes_of_verdict : Verdict → List CloseCause
-causes_of_verdict (verdict.Accept agreed) = []
-causes_of_verdict (verdict.Refuse why) = cause.Refused ∷ []
-causes_of_verdict verdict.Query = cause.Query ∷ []
-causes_of_verdict (verdict.Agree agreed) = []
-causes_of_verdict verdict.Refused = cause.Refused ∷ []
-causes_of_verdict verdict.Wrong = cause.Fault Protocol ∷ []
-
-abbrev pub causes_of_message : Option Message → Role → ℕ → Machine → List CloseCause
-causes_of_message None role side m = cause.Fault Malformed ∷ []
-causes_of_message (Some message) role side m =
-    if fits_side role side message then causes_of_verdict (verdict_of role (own_info m.settings) message) else cause.Fault Protocol ∷ []
-
-abbrev pub causes_of_greeting : Item → Entry → Machine → List CloseCause
-causes_of_greeting item e m =
-    let role = role_of e.facts.provenance in
-    if item.id == 0 && is_awaited role item.side then causes_of_message (message_of item.body) role item.side m
-    else cause.Fault Protocol ∷ []
-
--- an item once the handshake is done
-abbrev pub causes_of_fault : Option FaultKind → List CloseCause
-causes_of_fault None = []
-causes_of_fault (Some kind) = cause.Fault kind ∷ []
-
-abbrev pub causes_of_item : Phase → Item → Entry → Machine → List CloseCause
-causes_of_item Dialing item e m = []
-causes_of_item (Greeting until) item e m = causes_of_greeting item e m
-causes_of_item Negotiated item e m = causes_of_fault (fault_of item e)
-causes_of_item (Closing until) item e m = []
-
--- the end of the stream
-abbrev pub causes_of_cut : Option CutFault → List CloseCause
-causes_of_cut None = []
-causes_of_cut (Some fault) = cause.Fault (kind_of fault) ∷ []
-
--- a peer that connects, where both have dialed: the connection that the lower address dialed survives
-abbrev pub causes_of_crossing : Addr → Machine → Entry → List CloseCause
-causes_of_crossing addr m e =
-    if not (same_address addr m.settings.own) && not (nat_le m.settings.hard (counted_in m)) && is_pending e.facts && address_below addr m.settings.own
-    then cause.Overwritten ∷ [] else []
-
--- Whom an act ends, and why, but for pruning.
-abbrev pub ends_due : Act → Machine → List End
-ends_due (fires_one d) m = ends_on (entry_at d.cid.0 m) (causes_of_kind d.kind)
-ends_due (handles_item cid item) m = ends_on (entry_at cid.0 m) (λ e. causes_of_item e.facts.phase item e m)
-ends_due (ends_stream cid fault) m = ends_on (entry_at cid.0 m) (λ e. causes_of_cut fault)
-ends_due (connects addr) m = ends_on (live_entry_at addr m) (causes_of_crossing addr m)
-ends_due other m = []
-
-abbrev pub is_pruned : CloseCause → Bool
-is_pruned cause.Unused = false
-is_pruned cause.Pruned = true
-is_pruned cause.Overwritten = false
-is_pruned cause.Refused = false
-is_pruned cause.Query = false
-is_pruned (cause.Fault kind) = false
-
-abbrev pub but_pruned : List End → List End
-but_pruned ends = filter (λ end. not (is_pruned end.cause)) ends
+-- ---- what a part does
 
 -- a deadline is due, and none fires before it
 pub record IsLeastDue (m : Machine) (d : Deadline) : Type 0 where
@@ -123,27 +30,6 @@ pub record IsLeastDue (m : Machine) (d : Deadline) : Type 0 where
 abbrev pub IsNext : Act → Machine → Type 0
 IsNext (fires_one d) m = IsLeastDue m d
 IsNext other m = Unit {0}
-
--- An order that promotes or activates is that one move, between the record before it and the one after it.
-abbrev pub IsOneMove : Happened → Machine → Effect → Type 0
-IsOneMove happened before effect = effect.moves ≡ record { happened = happened; before = before; after = effect.machine } ∷ []
-
--- no connection of an address is in local use
-abbrev pub IsUsedByNobody : Addr → Machine → Type 0
-IsUsedByNobody addr m = All (λ e. is_live_at addr e.facts ≡ true → e.facts.local ≡ false) m.connections
-
--- After a release nobody uses the address, and one that is forgotten is not known.
-abbrev pub IsCarriedOut : Order → Machine → Effect → Type 0
-IsCarriedOut (Ask addr n) before effect = Unit {0}
-IsCarriedOut (Forget addr) before effect = is_known addr effect.machine ≡ false
-IsCarriedOut (Promote addr) before effect = IsOneMove (promoted addr) before effect
-IsCarriedOut (Release addr) before effect = IsUsedByNobody addr effect.machine
-IsCarriedOut (Activate addr) before effect = IsOneMove (activated addr) before effect
-IsCarriedOut (Deactivate addr) before effect = Unit {0}
-
-abbrev pub IsDoneByOrder : Act → Machine → Effect → Type 0
-IsDoneByOrder (carries order) before effect = IsCarriedOut order before effect
-IsDoneByOrder other before effect = Unit {0}
 
 -- ---- whose handshake was done before it
 
@@ -186,8 +72,20 @@ pub record IsLawfulPart (event : Event) (part : Part) : Type 0 where
   pub next : IsNext part.act part.before
   -- an order does what it says
   pub order : IsDoneByOrder part.act part.before (effect_of part)
+  -- the book changes only where it is to
+  pub book : TreatsBook part.act part.before (effect_of part).machine
+  -- a peer that comes into use by it has no failures
+  pub forgiven : Forgives part.act part.before (effect_of part).machine
+  -- accepting pauses where it must, and for how long it must
+  pub pauses : PausesRight part.act part.before (effect_of part)
   -- it ends whom it must, for the cause that stands, and nobody else but by pruning
   pub ends : but_pruned (ends_in (effect_of part).moves) ≡ ends_due part.act part.before
+  -- it prunes only one that may go, or that moved
+  pub pruned : AllByRecursion (IsPrunedIn part.act part.before) (pruned_in (effect_of part).moves)
+  -- whatever a connection comes to wait for, it does so as long as the settings say
+  pub waits : WaitsRight part.before (effect_of part).machine
+  -- the clock, the targets and the groups are what was set last
+  pub sets : IsSet part.act part.before (effect_of part).machine
 
 pub record IsLawfulEvent (m : Machine) (event : Event) : Type 0 where
   -- it is its parts, one after the other

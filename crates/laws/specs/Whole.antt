@@ -7,14 +7,12 @@ use Rattle.net_base.specs.declared.peer.Peer.{Peer}
 use Rattle.root_groups.specs.Cleaned.{members_of}
 use Rattle.net_base.specs.declared.connection.Facts.{Facts}
 use Rattle.net_base.specs.declared.connection.Grace.TheVariants.{Off}
-use Rattle.net_base.specs.declared.event.Event.{Event}
 use Rattle.net_base.specs.declared.peer.Temp.TheVariants.{Warm}
 use Rattle.peer_book.specs.Book.{is_established, most_peers}
 use Rattle.conn_state.specs.Use.{agreed_sharing, is_dialing, is_duplex, is_for_local, is_for_remote, is_negotiated, is_outbound, is_pending, some_runs}
 use Rattle.machine.specs.Machine.{Machine, Entry, live_entry_at}
 use Rattle.machine.specs.Peers.{peer_at}
 use Rattle.machine.specs.Replies.{reply_on, is_owed_on}
-use Rattle.machine.specs.Step.{step}
 use Rattle.laws.specs.Laws.{LocalsAreOrdinary}
 use Rattle.laws.specs.Sound.{IsOrderly, IsSound}
 

@@ -1,7 +1,6 @@
 -- The moments at which something happens by itself, and what happens then.
-use Rattle.std.specs.Prelude.{ℕ, zero, suc, nat_le, List, [], ◌∷◌, ◌++◌, map, filter, length, if◌then◌else◌, Option, Some, None}
+use Rattle.std.specs.Prelude.{ℕ, zero, suc, List, [], ◌∷◌, ◌++◌, map, length, Option, Some, None}
 use Rattle.std.specs.List.{flat_map}
-use Rattle.net_base.specs.Timer.{deadline_before}
 use Rattle.net_base.specs.declared.action.CloseCause.TheVariants.{Fault}
 use Rattle.net_base.specs.declared.action.FaultKind.TheVariants.{HandshakeWait, ReplyWait}
 use Rattle.net_base.specs.declared.connection.Cid.{Cid}
@@ -16,26 +15,24 @@ use Rattle.machine.specs.Machine.{Machine, Entry, Owed}
 use Rattle.machine.specs.Effect.{Effect, nothing_more, then_do, on_connection}
 use Rattle.machine.specs.Replies.{by_reply}
 use Rattle.machine.specs.Connections.{ending, grace_over, wait_over}
-
-abbrev pub deadline : Cid → Kind → ℕ → Deadline
-deadline cid kind at = record { at = at; cid = cid; kind = kind }
+use Rattle.timer_queue.specs.Timers.{timer, least, due_at}
 
 abbrev pub phase_deadlines : Cid → Phase → List Deadline
 phase_deadlines cid Dialing = []
-phase_deadlines cid (Greeting until) = deadline cid Handshake until ∷ []
+phase_deadlines cid (Greeting until) = timer cid Handshake until ∷ []
 phase_deadlines cid Negotiated = []
-phase_deadlines cid (Closing until) = deadline cid TimeWait until ∷ []
+phase_deadlines cid (Closing until) = timer cid TimeWait until ∷ []
 
 abbrev pub grace_deadlines : Cid → Grace → List Deadline
 grace_deadlines cid Off = []
-grace_deadlines cid (ForRemote until) = deadline cid GraceKind until ∷ []
-grace_deadlines cid (ForLocal until) = deadline cid GraceKind until ∷ []
+grace_deadlines cid (ForRemote until) = timer cid GraceKind until ∷ []
+grace_deadlines cid (ForLocal until) = timer cid GraceKind until ∷ []
 
 abbrev pub reply_kind : ℕ → Kind
 reply_kind protocol = by_reply protocol Reply2 Reply8 Reply10
 
 abbrev pub reply_deadline : Cid → Owed → Deadline
-reply_deadline cid owed = deadline cid (reply_kind owed.protocol) owed.until
+reply_deadline cid owed = timer cid (reply_kind owed.protocol) owed.until
 
 abbrev pub deadlines_of : Entry → List Deadline
 deadlines_of entry =
@@ -46,18 +43,9 @@ deadlines_of entry =
 abbrev pub deadlines : Machine → List Deadline
 deadlines m = flat_map deadlines_of m.connections
 
--- the one of two that fires first
-abbrev pub earlier : Deadline → Option Deadline → Deadline
-earlier d None = d
-earlier d (Some e) = if deadline_before e d then e else d
-
--- the deadline that no other one is before
-abbrev pub least : List Deadline → Option Deadline
-least [] = None
-least (d ∷ ds) = Some (earlier d (least ds))
-
+-- the deadline that is due and that no other one is before
 abbrev pub due : Machine → Option Deadline
-due m = least (filter (λ d. nat_le d.at m.now) (deadlines m))
+due m = least (due_at m.now (deadlines m))
 
 -- what a deadline of each kind does
 abbrev pub fires_as : Kind → Entry → Machine → Effect

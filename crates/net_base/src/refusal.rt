@@ -9,8 +9,6 @@ pub enum RefusalKind {
     Targets,
     /// A setting that stands before one that it should follow, or after an event.
     Order,
-    /// An event that the program does not handle yet.
-    NotBuilt,
     /// The input ended before its `end` line.
     NoEnd,
 }

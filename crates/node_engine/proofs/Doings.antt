@@ -22,7 +22,7 @@ use Rattle.machine.specs.Machine.{Machine, Entry, entry_at}
 use Rattle.machine.specs.Peers.{peer_becomes}
 use Rattle.machine.specs.Replies.{owing}
 use Rattle.node_engine.proofs.FindLemmas.{IfSome-find}
-use Rattle.node_engine.specs.Standing.{Standing, entry_with, turned, Turns, moved}
+use Rattle.connections.specs.Standing.{Standing, entry_with, turned, Turns, moved}
 use Rattle.node_engine.specs.State.{Does, DoesTo, IsKnown, machine_of, name_notice, is_used_from}
 
 -- ---- parts one after another

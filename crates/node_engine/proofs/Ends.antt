@@ -14,7 +14,8 @@ use Rattle.laws.proofs.Lists.{find_some}
 use Rattle.laws.proofs.Moves.{ending-lowers}
 use Rattle.laws.proofs.Ties.{gone_here}
 use Rattle.machine.specs.Connections.{ending, without_entry, trim, candidates_in}
-use Rattle.machine.specs.Deadlines.{deadline, due, grace_deadlines}
+use Rattle.machine.specs.Deadlines.{due, grace_deadlines}
+use Rattle.timer_queue.specs.Timers.{timer}
 use Rattle.machine.specs.Effect.{then_do}
 use Rattle.machine.specs.Events.{admitted, crossed}
 use Rattle.machine.specs.Machine.{Machine, Entry, counted_in, entry_at, live_entry_at}
@@ -106,9 +107,9 @@ cross_does addr m n p before middle after below h comes =
 late-due : (now : ℕ) (cid : Cid) (grace : Grace) → All (λ d. is_late now d ≡ true → is_due now grace ≡ true) (grace_deadlines cid grace)
 late-due now cid Off = All-nil (λ d. is_late now d ≡ true → is_due now Off ≡ true)
 late-due now cid (ForRemote until) =
-    all_one (λ d. is_late now d ≡ true → is_due now (ForRemote until) ≡ true) (deadline cid GraceKind until) (λ late. late)
+    all_one (λ d. is_late now d ≡ true → is_due now (ForRemote until) ≡ true) (timer cid GraceKind until) (λ late. late)
 late-due now cid (ForLocal until) =
-    all_one (λ d. is_late now d ≡ true → is_due now (ForLocal until) ≡ true) (deadline cid GraceKind until) (λ late. late)
+    all_one (λ d. is_late now d ≡ true → is_due now (ForLocal until) ≡ true) (timer cid GraceKind until) (λ late. late)
 
 -- where the deadline that fires next is a grace's, it is that of the connection with its id
 pub grace_due : (d : Deadline) (facts : Facts) (m : Machine) → IsOrderly m → due m ≡ Some d → facts.cid ≡ d.cid → IsKnown facts m →

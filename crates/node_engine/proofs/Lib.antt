@@ -1,4 +1,3 @@
-pub mod ClockLemmas
 pub mod DoesLemmas
 pub mod Doings
 pub mod EachLemmas
@@ -8,13 +7,6 @@ pub mod FireLemmas
 pub mod GreetLemmas
 pub mod StreamLemmas
 pub mod Going
-pub mod LinkLooks
 pub mod LocalUse
 pub mod RuleSteps
-pub mod TalkFeeds
-pub mod TalkFinds
-pub mod TalkLooks
-pub mod TalkMoves
-pub mod TalkPairs
-pub mod TalkTurns
 pub mod Together

@@ -19,11 +19,11 @@ use Rattle.mux_segment.specs.declared.item.Item.{Item}
 use Rattle.net_base.specs.declared.action.Action.{Action}
 use Rattle.net_base.specs.declared.connection.Cid.{Cid}
 use Rattle.net_base.specs.declared.connection.Facts.{Facts}
-use Rattle.node_engine.specs.Owed.{reply_of}
-use Rattle.node_engine.specs.Standing.{fed_of, fed_entry}
+use Rattle.connections.specs.Owed.{reply_of}
+use Rattle.connections.specs.Standing.{fed_of, fed_entry}
 use Rattle.node_engine.specs.State.{Does, DoesSilently}
-use Rattle.node_engine.specs.Talks.{IsFed}
-use Rattle.node_engine.specs.declared.reply.Reply.{Reply}
+use Rattle.connections.specs.Talks.{IsFed}
+use Rattle.connections.specs.declared.reply.Reply.{Reply}
 use Rattle.node_engine.proofs.DoesLemmas.{does_silently}
 use Rattle.node_engine.proofs.Doings.{does_nothing, does_then}
 use Rattle.remote_watch.specs.Watch.{watched}

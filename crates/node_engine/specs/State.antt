@@ -20,7 +20,7 @@ use Rattle.machine.specs.Effect.{Effect, tells, then_do}
 use Rattle.machine.specs.Machine.{Machine, Entry, entry_at}
 use Rattle.machine.specs.Peers.{note_of, peer_succeeds}
 use Rattle.machine.specs.Replies.{owing, sends_as_initiator}
-use Rattle.node_engine.specs.Standing.{Standing}
+use Rattle.connections.specs.Standing.{Standing}
 use Rattle.peer_book.specs.Book.{same_temp}
 use Rattle.peer_book.specs.declared.added.Added.{Added}
 use Rattle.peer_book.specs.declared.added.Added.TheVariants.{New, Present, Full}

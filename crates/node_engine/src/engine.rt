@@ -1,9 +1,10 @@
-ghost use Rattle.std.specs.Prelude.{◌≡◌, ◌≤◌, ◌<◌, ◌+◌, ◌*◌, ◌↔◌, Some, Err, IfOk, OnOk};
+ghost use Rattle.std.specs.Prelude.{◌≡◌, ◌≤◌, ◌<◌, ◌+◌, ◌*◌, ◌↔◌, map, Some, Err, IfOk, OnOk};
 ghost use Rattle.conn_state.specs.Use.{facts_at};
 ghost use Rattle.laws.specs.Parts.{IsLawfulEvent};
 ghost use Rattle.laws.specs.Props.{IsSteady-prop};
 ghost use Rattle.laws.specs.Records.{IsLawfulRecord};
 ghost use Rattle.laws.specs.Whole.{IsSteady, GivesFew};
+ghost use Rattle.machine.specs.Deadlines.{deadlines};
 ghost use Rattle.machine.specs.Machine.{start_of, facts_of};
 ghost use Rattle.machine.specs.Peers.{peer_at};
 ghost use Rattle.machine.specs.Step.{step};
@@ -11,18 +12,21 @@ ghost use Rattle.net_base.specs.Bounds.{settings_fault, AreSound};
 ghost use Rattle.net_base.specs.declared.settings.Field.{Field};
 ghost use Rattle.net_base.specs.Limits.{IsWithinLimits};
 ghost use Rattle.node_engine.specs.Tally.{tally_of};
+ghost use Rattle.timer_queue.specs.Queue.{IsOrderly};
+ghost use Rattle.timer_queue.specs.Timers.{HaveSame};
 ghost use Rattle.node_engine.specs.declared.refusal.NewRefusal.TheVariants.{BadSetting};
 
-use crate::{NewRefusal, NodeState, Tally};
+use crate::{HeldState, NewRefusal, NodeState, Tally};
 use net_base::{ActionList, Addr, Cid, Event, Facts, OutOfMemory, Peer, Settings};
 use pick_policy::{Picker, RankedPicker};
 use std::alloc::Global;
+use timer_queue::TimerQueue;
 
 /// A node's engine: the machine's record, how it picks peers, and how many events it took. An event gives out at
 /// most 20,000 ids and one job.
 #[derive(Drop)]
 pub struct Engine {
-    pub machine: NodeState,
+    pub machine: HeldState,
     picker: Picker,
     ranked: RankedPicker,
     pub events: u64,
@@ -44,15 +48,18 @@ impl Engine {
         ensures sound { OnOk result (AreSound settings) }
         ensures none_taken { IfOk result (λ e. e.events ≡ 0) }
     {
-        match settings.check() {
-            Some(field) => Err(NewRefusal::BadSetting(field)),
-            None => Ok(Engine {
-                machine: NodeState::new(alloc, &settings),
-                picker,
-                ranked,
-                events: 0,
-            }),
+        if let Some(field) = settings.check() {
+            return Err(NewRefusal::BadSetting(field));
         }
+        let Ok(machine) = HeldState::new(alloc, NodeState::new(alloc, &settings)) else {
+            return Err(NewRefusal::OutOfMemory);
+        };
+        Ok(Engine {
+            machine,
+            picker,
+            ranked,
+            events: 0,
+        })
     }
 
     /// Takes an event, and gives what the node does about it. On a refusal the engine is gone.
@@ -96,28 +103,37 @@ impl Engine {
     pub fn now(&self) -> u64
         ensures { result ≡ self.now.machine.now }
     {
-        self.machine.moment()
+        self.machine.state().moment()
+    }
+
+    /// The timers: the deadlines of all connections.
+    pub fn timers(&self) -> &TimerQueue
+        ensures enrolled { result.now.enrolled ≡ map (λ e. e.facts.cid) self.now.machine.connections }
+        ensures timers { HaveSame result.now.timers (deadlines self.now.machine) }
+        ensures orderly { IsOrderly result.now }
+    {
+        self.machine.state().timers()
     }
 
     /// What is known of the connection with an id. None where there is none.
     pub fn facts(&self, cid: Cid) -> Option<Facts>
         ensures { result ≡ facts_at cid.0 (facts_of self.now.machine) }
     {
-        self.machine.facts(cid)
+        self.machine.state().facts(cid)
     }
 
     /// What is known of the peer with an address. None where there is none.
     pub fn peer(&self, addr: Addr) -> Option<Peer>
         ensures { result ≡ peer_at addr self.now.machine }
     {
-        self.machine.peer(addr)
+        self.machine.state().peer(addr)
     }
 
     /// How many peers and connections there are.
     pub fn tally(&self) -> Tally
         ensures { result ≡ tally_of self.now.machine }
     {
-        self.machine.tally()
+        self.machine.state().tally()
     }
 }
 

@@ -1,6 +1,7 @@
-ghost use Rattle.std.specs.Prelude.{◌≡◌, ◌≤◌, ◌+◌, ◌^◌, OnOk, IfOk};
+ghost use Rattle.std.specs.Prelude.{◌≡◌, ◌≤◌, ◌+◌, ◌^◌, map, OnOk, IfOk};
 ghost use Rattle.conn_state.specs.Use.{facts_at};
 ghost use Rattle.laws.specs.Whole.{IsSteady};
+ghost use Rattle.machine.specs.Deadlines.{deadlines};
 ghost use Rattle.machine.specs.Machine.{start_of, facts_of};
 ghost use Rattle.machine.specs.Peers.{peer_at};
 ghost use Rattle.machine.specs.Step.{step};
@@ -8,31 +9,15 @@ ghost use Rattle.net_base.specs.Bounds.{AreSound};
 ghost use Rattle.net_base.specs.Limits.{IsWithinLimits};
 ghost use Rattle.node_engine.specs.State.{Does};
 ghost use Rattle.node_engine.specs.Tally.{tally_of};
+ghost use Rattle.timer_queue.specs.Queue.{IsOrderly};
+ghost use Rattle.timer_queue.specs.Timers.{HaveSame};
 
-mod accept;
-mod answers;
-mod clock;
-mod close;
-mod dialed;
-mod dials;
-mod ending;
-mod found;
-mod govern;
-mod grace;
-mod greeting;
+mod events;
+mod governor;
 mod moves;
-mod orders;
-mod peers;
-mod provided;
-mod roots;
-mod rules;
-mod sends;
-mod stream;
-mod talking;
-mod trim;
-mod turns;
 
-use crate::{Connections, Tally};
+use crate::Tally;
+use connections::Connections;
 use net_base::{
     ActionList, Addr, BigTargets, Cid, Event, Facts, OutOfMemory, Peer, Sequence, Settings, Targets,
 };
@@ -41,6 +26,7 @@ use pick_policy::{Picker, RankedPicker};
 use root_groups::{Groups, Roots};
 use std::alloc::Global;
 use std::marker::Model;
+use timer_queue::TimerQueue;
 
 /// What a node knows. Contracts see the machine's record.
 #[derive(Drop)]
@@ -154,6 +140,15 @@ impl NodeState {
         ensures bound { result ≤ 2 ^ 48 }
     {
         self.moment
+    }
+
+    /// The timers: the deadlines of all connections.
+    pub(crate) fn timers(&self) -> &TimerQueue
+        ensures enrolled { result.now.enrolled ≡ map (λ e. e.facts.cid) self.now.connections }
+        ensures timers { HaveSame result.now.timers (deadlines self.now) }
+        ensures orderly { IsOrderly result.now }
+    {
+        self.connections.timers()
     }
 
     /// What is known of a connection. None where there is none with the id.

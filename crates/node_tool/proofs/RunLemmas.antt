@@ -1,13 +1,15 @@
 -- What a replay's status says of the whole input.
 use Rattle.std.proofs.Common.{◌≡◌, ℕ, List, Option, Some, refl, sym, ◌∙◌, subst}
+use Rattle.trace_replay.specs.Again.{TakesItsOwnOutput}
 use Rattle.trace_replay.specs.Output.{output_of}
 use Rattle.trace_replay.specs.Replays.{TakesPrefix, Replays}
 use Rattle.trace_replay.specs.declared.outcome.Outcome.{Outcome}
 use Rattle.trace_replay.specs.declared.outcome.Outcome.TheVariants as outcome
-use Rattle.trace_replay.proofs.Inputs.{Replays-memory}
-use Rattle.node_tool.specs.Run.{status_told, IsReplayed}
+use Rattle.trace_replay.proofs.Again.{some_own_output}
+use Rattle.trace_replay.proofs.Inputs.{Replays-memory, some_done, some_refused, some_too_long, some_read_fault, some_write_fault, some_memory}
+use Rattle.node_tool.specs.Run.{status_told, IsReplayed, HasSomeOutput}
 use Rattle.node_tool.specs.declared.status.Status.{Status}
-use Rattle.node_tool.specs.declared.status.Status.TheVariants.{OutOfMemory}
+use Rattle.node_tool.specs.declared.status.Status.TheVariants.{Done, OutOfMemory}
 
 outcome_memory : (o : Outcome) → OutOfMemory ≡ status_told o → o ≡ outcome.OutOfMemory
 outcome_memory outcome.Done e = absurd cc
@@ -24,3 +26,21 @@ pub IsReplayed-memory : (l0 l1 t0 t1 : Option (List ℕ)) (r0 r1 w0 w1 : ℕ) (s
 IsReplayed-memory l0 l1 t0 t1 r0 r1 w0 w1 status input replayed told is =
     Replays-memory l0 l1 t0 t1 input
     (subst (λ (o : Outcome). Replays l0 l1 t0 t1 o) (outcome_memory replayed.outcome (sym is ∙ replayed.told)) replayed.replays) told
+
+outcome_output : (l0 l1 t0 t1 : Option (List ℕ)) (o : Outcome) → Replays l0 l1 t0 t1 o → HasSomeOutput (status_told o) t0 t1
+outcome_output l0 l1 t0 t1 outcome.Done r = some_done l0 l1 t0 t1 r
+outcome_output l0 l1 t0 t1 (outcome.Differ line) r = r.is_outcome
+outcome_output l0 l1 t0 t1 (outcome.Refused line kind) r = some_refused l0 l1 t0 t1 line kind r
+outcome_output l0 l1 t0 t1 outcome.ReadFault r = some_read_fault l0 l1 t0 t1 r
+outcome_output l0 l1 t0 t1 outcome.WriteFault r = some_write_fault l0 l1 t0 t1 r
+outcome_output l0 l1 t0 t1 outcome.OutOfMemory r = some_memory l0 l1 t0 t1 r
+outcome_output l0 l1 t0 t1 outcome.WorldFault r = r.is_outcome
+outcome_output l0 l1 t0 t1 (outcome.TooLong line) r = some_too_long l0 l1 t0 t1 line r
+
+pub IsReplayed-output : (l0 l1 t0 t1 : Option (List ℕ)) (r0 r1 w0 w1 : ℕ) (status : Status) → IsReplayed l0 l1 t0 t1 r0 r1 w0 w1 status → HasSomeOutput status t0 t1
+IsReplayed-output l0 l1 t0 t1 r0 r1 w0 w1 status replayed =
+    subst (λ (s : Status). HasSomeOutput s t0 t1) (sym replayed.told) (outcome_output l0 l1 t0 t1 replayed.outcome replayed.replays)
+
+pub IsReplayed-again : (l0 l1 t0 t1 : Option (List ℕ)) (r0 r1 w0 w1 : ℕ) (status : Status) → IsReplayed l0 l1 t0 t1 r0 r1 w0 w1 status → status ≡ Done → TakesItsOwnOutput t0 t1
+IsReplayed-again l0 l1 t0 t1 r0 r1 w0 w1 status replayed is =
+    some_own_output t0 t1 (subst (λ (s : Status). HasSomeOutput s t0 t1) is (IsReplayed-output l0 l1 t0 t1 r0 r1 w0 w1 status replayed))

@@ -1,6 +1,7 @@
 -- What a run of the program comes to.
 use Rattle.std.specs.Prelude.{◌≡◌, ℕ, Bool, false, ◌⊎◌, List, [], ◌∷◌, codes, bytes_eq, Option}
 use Rattle.trace_replay.specs.Judgement.{Verdict, ended, refused, too_long}
+use Rattle.trace_replay.specs.Inputs.{IsOutputOfSome, IsOutputSoFar, IsProperFrontOfSome, IsFrontOfSome}
 use Rattle.trace_replay.specs.Replays.{Replays}
 use Rattle.trace_replay.specs.UnderWay.{HasReadCount, HasWriteCount}
 use Rattle.trace_replay.specs.declared.outcome.Outcome.{Outcome}
@@ -58,3 +59,19 @@ pub record IsReplayed (left_before left_after taken_before taken_after : Option 
   pub replays : Replays left_before left_after taken_before taken_after outcome
   pub reads : HasReadCount reads_before reads_after outcome
   pub writes : HasWriteCount writes_before writes_after outcome
+
+-- Whatever the source tells, a sink that tells its bytes has the output of some input: all of it, where a line decides
+-- or the source fails, a proper front after a write fault, a front where memory is wanting. Usage writes nothing.
+abbrev pub HasSomeOutput : Status → Option (List ℕ) → Option (List ℕ) → Type 0
+HasSomeOutput Done taken_before taken_after = IsOutputOfSome ended taken_before taken_after
+HasSomeOutput (Differ line) taken_before taken_after = ⊥
+HasSomeOutput Usage taken_before taken_after = taken_after ≡ taken_before
+HasSomeOutput (Refused line kind) taken_before taken_after = IsOutputOfSome (refused line kind) taken_before taken_after
+HasSomeOutput ReadFault taken_before taken_after = IsOutputSoFar taken_before taken_after
+HasSomeOutput WriteFault taken_before taken_after = IsProperFrontOfSome taken_before taken_after
+HasSomeOutput OutOfMemory taken_before taken_after = IsFrontOfSome taken_before taken_after
+HasSomeOutput WorldFault taken_before taken_after = ⊥
+HasSomeOutput (FileFault which) taken_before taken_after = ⊥
+HasSomeOutput (TooLong line) taken_before taken_after = IsOutputOfSome (too_long line) taken_before taken_after
+HasSomeOutput (BadSettings what) taken_before taken_after = ⊥
+HasSomeOutput (FileTooLarge which size) taken_before taken_after = ⊥

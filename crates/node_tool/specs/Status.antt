@@ -1,7 +1,7 @@
 -- Statuses: their codes and their texts.
 use Rattle.std.specs.Prelude.{ℕ, List, [], ◌++◌, codes, decimal}
 use Rattle.net_base.specs.declared.refusal.RefusalKind.{RefusalKind}
-use Rattle.net_base.specs.declared.refusal.RefusalKind.TheVariants.{Word, Number, Targets, Order, NotBuilt, NoEnd}
+use Rattle.net_base.specs.declared.refusal.RefusalKind.TheVariants.{Word, Number, Targets, Order, NoEnd}
 use Rattle.net_base.specs.declared.settings.Field.{Field}
 use Rattle.net_base.specs.declared.settings.Field.TheVariants.{Version, Own, Magic, InitiatorOnly, Sharing, Hard, Soft, Delay, Idle, Timewait, Handshake, Reply, Backoff, Sharegap, Shares, Root, Known, Established, Active, Rootttl, Tick, Seed, Announce, LocalRoots, AccessPoints, Address, Port, Advertise, HotValency, Valency, WarmValency, PublicRoots, Unknown}
 use Rattle.node_tool.specs.declared.status.Status.{Status}
@@ -77,7 +77,6 @@ kind_text (Word place) = codes "word " ++ decimal place
 kind_text (Number place) = codes "number " ++ decimal place
 kind_text Targets = codes "targets"
 kind_text Order = codes "order"
-kind_text NotBuilt = codes "not built"
 kind_text NoEnd = codes "no end"
 
 -- the commands; only `replay` is there yet

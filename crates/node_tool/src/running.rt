@@ -4,11 +4,12 @@ ghost use Rattle.laws.specs.Parts.{IsLawfulEvent};
 ghost use Rattle.laws.specs.Records.{IsLawfulRecord};
 ghost use Rattle.net_base.specs.declared.event.Event.{Event};
 ghost use Rattle.net_base.specs.declared.refusal.RefusalKind.{RefusalKind};
+ghost use Rattle.trace_replay.specs.Again.{TakesItsOwnOutput};
 ghost use Rattle.trace_replay.specs.Inputs.{IsDecided, StopsReading, StopsWriting, machine_after};
 ghost use Rattle.trace_replay.specs.Judgement.{ended, refused, too_long};
 ghost use Rattle.trace_replay.specs.Output.{output_of};
 ghost use Rattle.trace_replay.specs.Replays.{verdict_of, TakesPrefix};
-ghost use Rattle.node_tool.specs.Run.{is_replay, status_of, status_told, IsAnswered, IsReplayStatus, IsReplayed};
+ghost use Rattle.node_tool.specs.Run.{is_replay, status_of, status_told, IsAnswered, IsReplayStatus, IsReplayed, HasSomeOutput};
 ghost use Rattle.node_tool.specs.Status.{status_text};
 ghost use Rattle.node_tool.specs.Telling.{IsTold};
 
@@ -58,6 +59,12 @@ pub fn run<S: Source, K: Sink, E: Sink>(
     ensures no_other { IsReplayStatus result }
 
     ensures told { IsTold (E.taken err.old) (E.taken err.new) (E.faults err.old) (E.faults err.new) (status_text result) }
+
+    // Whatever the source tells: what a sink that tells its bytes took is the output of some input.
+    ensures output { HasSomeOutput result (K.taken out.old) (K.taken out.new) }
+
+    // The output of a trace that is read to its `end`, replayed, is written again as it is.
+    ensures again { result ≡ Status.Done → TakesItsOwnOutput (K.taken out.old) (K.taken out.new) }
 
     // Whatever the source and the sink tell: the sink took the output of what was read, and a count of faults rises with
     // that fault alone.

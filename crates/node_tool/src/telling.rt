@@ -37,7 +37,6 @@ fn tell_refused<E: Sink>(line: u64, kind: RefusalKind, err: &mut E) -> Result<()
         RefusalKind::Number(place) => tell_place(line, "number ", place, err),
         RefusalKind::Targets => tell_kind(line, "targets", err),
         RefusalKind::Order => tell_kind(line, "order", err),
-        RefusalKind::NotBuilt => tell_kind(line, "not built", err),
         RefusalKind::NoEnd => tell_kind(line, "no end", err),
     }
 }

@@ -263,19 +263,8 @@ fn each_reading_fails_in_turn(rt: HostRuntime) -> Result<(), Fail> {
 
 #[test]
 fn each_writing_fails_in_turn(rt: HostRuntime) -> Result<(), Fail> {
-    // how many bytes stand before each line with its actions
-    for (call, before) in [
-        (1u64, 0usize),
-        (2, 8),
-        (3, 27),
-        (4, 38),
-        (5, 49),
-        (6, 128),
-        (7, 220),
-        (8, 260),
-        (9, 290),
-        (10, 351),
-    ] {
+    // Lines are put before the second and the third reading, and at the end: how many bytes stand before each time.
+    for (call, before) in [(1u64, 0usize), (2, 49), (3, 260)] {
         let (left, _) = failing_run(rt.alloc(), LIMITS, &[], &[call])?;
         assert_eq!(rt; left.status, Status::WriteFault);
         assert_eq!(rt; left.err.bytes(), b"write fault\n".as_slice());

@@ -46,19 +46,13 @@ module _ {cid : Cid} {rows : List Row} {place : ℕ} (s : StandsAt cid rows plac
   count old rises e =
       omega (arith, sum-with_row new_row s.row rows rises s.found, timers_in-with_at kind at s.row, ap one_if_set e)
 
--- as `place_of` answers where there is a row
-pub stands_as_seen : (cid : Cid) (rows seen : List Row) (place : ℕ) → AreRising rows → seen ≡ rows → is_some (row_at cid rows) ≡ true →
-    place ≡ place_at cid seen → StandsAt cid rows place
-stands_as_seen cid rows seen place rises e there at = stands_at cid rows place rises there (at ∙ ap (place_at cid) e)
-
 -- as `place_in` answers
-pub stands_as_found : (cid : Cid) (rows seen : List Row) (place : ℕ) (answer : Option ℕ) → AreRising rows → seen ≡ rows →
-    answer ≡ then_some (is_some (row_at cid seen)) (place_at cid seen) → answer ≡ Some place → StandsAt cid rows place
-stands_as_found cid rows seen place answer rises e told some =
-    let found = place_found (row_at cid seen) (place_at cid seen) place (sym told ∙ some) in
-    stands_as_seen cid rows seen place rises e (ap (λ rs. is_some (row_at cid rs)) (sym e) ∙ found.0) found.1
+pub stands_as_found : (cid : Cid) (rows : List Row) (place : ℕ) (answer : Option ℕ) → AreRising rows →
+    answer ≡ then_some (is_some (row_at cid rows)) (place_at cid rows) → answer ≡ Some place → StandsAt cid rows place
+stands_as_found cid rows place answer rises told some =
+    let found = place_found (row_at cid rows) (place_at cid rows) place (sym told ∙ some) in
+    stands_at cid rows place rises found.0 found.1
 
-pub missing : (cid : Cid) (rows seen : List Row) (answer : Option ℕ) → seen ≡ rows →
-    answer ≡ then_some (is_some (row_at cid seen)) (place_at cid seen) → answer ≡ None → row_at cid rows ≡ None
-missing cid rows seen answer e told none =
-    ap (row_at cid) (sym e) ∙ place_missing (row_at cid seen) (place_at cid seen) (sym told ∙ none)
+pub missing : (cid : Cid) (rows : List Row) (answer : Option ℕ) →
+    answer ≡ then_some (is_some (row_at cid rows)) (place_at cid rows) → answer ≡ None → row_at cid rows ≡ None
+missing cid rows answer told none = place_missing (row_at cid rows) (place_at cid rows) (sym told ∙ none)

@@ -38,11 +38,11 @@ set_somewhere at kind (Some row) h = refl
 
 pub orderly_when_kept : (kept : Kept) → IsKept kept → IsOrderly (queue_of kept)
 orderly_when_kept kept h = record {
-  ids_rise = IsRising-map cid_below same_cid cid_order cid_of kept.rows.items h.rows_rise;
+  ids_rise = IsRising-map cid_below same_cid cid_order cid_of kept.rows h.rows_rise;
   in_order = h.in_order;
-  one_each = one_each kept.rows.items kept.line.items h.agreeing;
+  one_each = one_each kept.rows kept.line.items h.agreeing;
   of_enrolled = λ d there.
-      enrolled-is d.cid kept.rows.items ∙ set_somewhere d.at d.kind (row_at d.cid kept.rows.items) (sym (h.agreeing d) ∙ there);
+      enrolled-is d.cid kept.rows ∙ set_somewhere d.at d.kind (row_at d.cid kept.rows) (sym (h.agreeing d) ∙ there);
 }
 
 -- ---- changes that change nothing

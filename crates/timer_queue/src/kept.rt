@@ -7,6 +7,7 @@ ghost use Rattle.timer_queue.specs.Queue.{is_enrolled, empty_queue, with_enrolle
 
 use crate::line::{put_in, take_out, take_out_all};
 use crate::rows::{Row, change_row, insert_row, place_in, place_of};
+use chunked_list::ChunkedList;
 use net_base::{Cid, Deadline, Kind, OutOfMemory};
 use std::alloc::{AllocError, Global};
 use std::collections::VecDeque;
@@ -17,7 +18,7 @@ const KINDS: usize = 6;
 // The moments of each connection, in order of id, and all timers in the order in which they fire.
 #[derive(Debug, Drop)]
 pub struct Kept {
-    pub rows: Vec<Row>,
+    pub rows: ChunkedList<Row>,
     pub line: VecDeque<Deadline>,
 }
 
@@ -29,7 +30,7 @@ impl Kept {
         ensures queue { queue_of result ≡ empty_queue }
     {
         Kept {
-            rows: Vec::new(alloc),
+            rows: ChunkedList::new(alloc),
             line: VecDeque::new(alloc),
         }
     }
@@ -67,9 +68,9 @@ impl Kept {
     fn reserve(&mut self) -> Result<(), AllocError>
         requires { IsKept self.old }
         ensures kept { IsKept self.new }
-        ensures rows { self.new.rows.items ≡ self.old.rows.items }
+        ensures rows { self.new.rows ≡ self.old.rows }
         ensures line { self.new.line.items ≡ self.old.line.items }
-        ensures room { OnOk result (6 * (length self.new.rows.items + 1) ≤ deque_capacity self.new.line) }
+        ensures room { OnOk result (6 * (length self.new.rows + 1) ≤ deque_capacity self.new.line) }
     {
         let unset = KINDS * self.rows.len() - self.line.len();
         self.line.try_reserve(unset + KINDS)
@@ -78,8 +79,8 @@ impl Kept {
     // A connection with no timers. There has to be room for them.
     fn admit(&mut self, cid: Cid) -> Result<(), OutOfMemory>
         requires kept { IsKept self.old }
-        requires absent { row_at cid self.old.rows.items ≡ None }
-        requires room { 6 * (length self.old.rows.items + 1) ≤ deque_capacity self.old.line }
+        requires absent { row_at cid self.old.rows ≡ None }
+        requires room { 6 * (length self.old.rows + 1) ≤ deque_capacity self.old.line }
         ensures kept { IsKept self.new }
         ensures ok { OnOk result (queue_of self.new ≡ with_enrolled cid (queue_of self.old)) }
         ensures err { OnErr result (queue_of self.new ≡ queue_of self.old) }

@@ -1,15 +1,11 @@
 -- What the grammar says of a line that is read at a stage.
-use Rattle.std.proofs.Common.{◌≡◌, ℕ, zero, suc, ◌+◌, ◌-◌, ◌^◌, ◌<◌, ◌≤◌, Bool, true, false, cond, eqb, leb, List, [], ◌∷◌, length, get_or, Option, Some, None, Result, Ok, Err, IfOk, ◌⊎◌, inl, inr, refl, sym, ap, ◌∙◌, subst, arith, leb-true, leb-false, eqb-true}
+use Rattle.std.proofs.Common.{◌≡◌, ℕ, suc, ◌+◌, ◌-◌, ◌<◌, ◌≤◌, Bool, true, false, cond, eqb, leb, List, [], ◌∷◌, length, get_or, Option, Some, None, Result, Ok, Err, IfOk, refl, sym, ap, ◌∙◌, subst, arith, leb-true, leb-false, eqb-true}
 use Rattle.std.specs.Prelude.{codes, bytes_eq}
 use Rattle.std.specs.Option.{ok_or}
 use Rattle.net_base.specs.Limits.{IsWithinLimits}
 use Rattle.net_base.specs.Number.{number_of, number_up_to, up_to}
-use Rattle.net_base.specs.declared.address.Addr.{Addr}
-use Rattle.net_base.specs.declared.event.Event.{Event}
-use Rattle.trace_text.specs.Addresses.{address_of}
-use Rattle.trace_text.specs.Events.{event_line}
 use Rattle.trace_text.specs.Lines.{version_of, first_line, second_line, setting_line, set_line, end_line, later_line, is_action_line, line_of}
-use Rattle.trace_text.specs.Reading.{◌>>=◌, first_word, next_word, next_read, from_least, next_number, next_address, no_words, no_more, this_word}
+use Rattle.trace_text.specs.Reading.{◌>>=◌, first_word, next_word, next_read, from_least, next_number, next_address, no_more, this_word}
 use Rattle.trace_text.specs.Settings.{Setting, setting, settings_under, setting_from, setting_of}
 use Rattle.trace_text.specs.Words.{Unread, words_of}
 use Rattle.trace_text.specs.declared.line.HeadLine.{HeadLine}

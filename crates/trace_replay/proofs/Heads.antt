@@ -1,18 +1,17 @@
 -- What the lines of a head say, and the settings that they give.
-use Rattle.std.proofs.Common.{◌≡◌, ◌≢◌, ℕ, zero, suc, ◌+◌, ◌-◌, ◌<◌, ◌≤◌, min, Bool, true, false, cond, eqb, leb, List, [], ◌∷◌, ◌++◌, length, get_or, drop, Option, Some, None, ◌⊎◌, inl, inr, ⊎_elim, refl, sym, ap, ◌∙◌, subst, arith, leb-true, leb-false, eqb-true}
+use Rattle.std.proofs.Common.{◌≡◌, ◌≢◌, ℕ, zero, suc, ◌-◌, ◌<◌, ◌≤◌, min, Bool, true, false, cond, eqb, leb, List, [], ◌∷◌, ◌++◌, length, get_or, drop, Option, Some, None, ◌⊎◌, inl, inr, ⊎_elim, refl, sym, ap, ◌∙◌, subst, arith, eqb-true}
 use Rattle.std.proofs.lemmas.Bool.{le-leb, and_from, eq-eqb, ne_eqb, eqb-false, cases_eq, cases_lt}
 use Rattle.std.specs.Prelude.{codes, unwrap_or}
-use Rattle.net_base.specs.Bounds.{within, is_interval, first_failing, settings_tests, settings_fault, AreSound}
+use Rattle.net_base.specs.Bounds.{within, is_interval, first_failing, settings_tests, AreSound}
 use Rattle.net_base.specs.declared.address.Addr.{Addr}
 use Rattle.net_base.specs.declared.settings.Field.{Field}
-use Rattle.net_base.specs.declared.settings.Field.TheVariants.{Version, Magic, InitiatorOnly, Sharing, Hard, Soft, Delay, Idle, Timewait, Handshake, Reply, Backoff, Sharegap, Shares}
 use Rattle.trace_text.specs.Settings.{Setting, setting, settings_under}
 use Rattle.trace_text.specs.Stages.{first_stage, stage_after_head}
 use Rattle.trace_text.specs.declared.line.HeadLine.{HeadLine}
 use Rattle.trace_text.specs.declared.line.HeadLine.TheVariants.{Trace, Own, Set}
 use Rattle.trace_text.specs.declared.stage.Stage.{Stage}
-use Rattle.trace_replay.specs.Settings.{version_in, own_in, set_in, set_or, settings_in}
-use Rattle.trace_replay.proofs.Grammar.{setting_at, IsInRange, IsBehindHead, IsSetAt, IsHeadAt}
+use Rattle.trace_replay.specs.Settings.{version_in, set_in, set_or, settings_in}
+use Rattle.trace_replay.proofs.Grammar.{setting_at, IsInRange, IsSetAt, IsHeadAt}
 
 -- what head lines that were read say, and what the stage behind them keeps of it
 pub record AreHeads (stage : Stage) (heads : List HeadLine) : Type 0 where

@@ -1,24 +1,23 @@
 -- What a replay comes to, in terms of the whole input: proofs.
-use Rattle.std.proofs.Common.{◌≡◌, ◌≢◌, ℕ, ◌+◌, ◌<◌, ◌≤◌, List, [], ◌∷◌, ◌++◌, length, take, Option, Some, None, ◌⊎◌, inl, inr, refl, sym, ap, ◌∙◌, subst, arith}
+use Rattle.std.proofs.Common.{◌≡◌, ℕ, List, [], ◌++◌, Option, Some, refl, sym, ap, ◌∙◌, subst}
 use Rattle.std.proofs.lemmas.List.{append_assoc}
 use Rattle.io_edge.specs.Lines.{whole_lines, unfinished_line}
 use Rattle.io_edge.specs.Told.{Gives, Takes}
 use Rattle.io_edge.proofs.ToldLemmas.{Gives-told}
 use Rattle.net_base.specs.Bounds.{AreSound}
 use Rattle.net_base.specs.declared.refusal.RefusalKind.{RefusalKind}
-use Rattle.trace_text.specs.Stages.{first_stage}
-use Rattle.trace_replay.specs.Reading.{Reading, stage_behind, readings_from, readings_of, heads_in, events_in}
+use Rattle.trace_replay.specs.Reading.{stage_behind, heads_in}
 use Rattle.trace_replay.specs.Settings.{settings_in}
 use Rattle.trace_replay.specs.Judgement.{Verdict, ended, refused, too_long, judged}
 use Rattle.trace_replay.specs.Output.{output_for, output_of}
 use Rattle.trace_replay.specs.Passing.{ArePassed}
 use Rattle.trace_replay.specs.Replays.{verdict_of, outcome_of, AreDecisive, TakesPrefix, Replays}
-use Rattle.trace_replay.specs.Inputs.{IsDecided, IsReadUpTo, StopsReading, StopsWriting}
+use Rattle.trace_replay.specs.Inputs.{IsDecided, IsReadUpTo, StopsReading, StopsWriting, IsOutputOfSome, IsOutputSoFar, IsProperFrontOfSome, IsFrontOfSome}
 use Rattle.trace_replay.specs.declared.outcome.Outcome.{Outcome}
-use Rattle.trace_replay.specs.declared.outcome.Outcome.TheVariants.{Done, Differ, Refused, ReadFault, WriteFault, OutOfMemory, WorldFault, TooLong}
+use Rattle.trace_replay.specs.declared.outcome.Outcome.TheVariants.{Done, Refused, ReadFault, WriteFault, OutOfMemory, TooLong}
 use Rattle.trace_replay.proofs.Heads.{AreSound-heads}
 use Rattle.trace_replay.proofs.Readings.{AreFront-passed}
-use Rattle.trace_replay.proofs.Prefixes.{Begins, Continues, judged_from-continues, ArePassed-lines, output_of-front}
+use Rattle.trace_replay.proofs.Prefixes.{judged_from-continues, ArePassed-lines, output_of-front}
 
 -- ---- what is told of a verdict tells it
 
@@ -102,6 +101,26 @@ Replays-memory l0 l1 t0 t1 input r told =
           ∙ append_assoc r.is_outcome.front r.is_outcome.rest whole.rest;
       taken = r.is_outcome.taken;
     }
+
+-- ---- whatever the source tells
+
+pub some_done : (l0 l1 t0 t1 : Option (List ℕ)) → Replays l0 l1 t0 t1 Done → IsOutputOfSome ended t0 t1
+some_done l0 l1 t0 t1 r = record { input = r.seen; verdict_is = verdict_done (verdict_of r.seen) r.is_outcome.0.told; taken = r.is_outcome.1 }
+
+pub some_refused : (l0 l1 t0 t1 : Option (List ℕ)) (line : ℕ) (kind : RefusalKind) → Replays l0 l1 t0 t1 (Refused line kind) → IsOutputOfSome (refused line kind) t0 t1
+some_refused l0 l1 t0 t1 line kind r = record { input = r.seen; verdict_is = verdict_refused (verdict_of r.seen) line kind r.is_outcome.0.told; taken = r.is_outcome.1 }
+
+pub some_too_long : (l0 l1 t0 t1 : Option (List ℕ)) (line : ℕ) → Replays l0 l1 t0 t1 (TooLong line) → IsOutputOfSome (too_long line) t0 t1
+some_too_long l0 l1 t0 t1 line r = record { input = r.seen; verdict_is = verdict_too_long (verdict_of r.seen) line r.is_outcome.0.told; taken = r.is_outcome.1 }
+
+pub some_read_fault : (l0 l1 t0 t1 : Option (List ℕ)) → Replays l0 l1 t0 t1 ReadFault → IsOutputSoFar t0 t1
+some_read_fault l0 l1 t0 t1 r = record { input = r.seen; undecided = r.is_outcome.0; taken = r.is_outcome.1 }
+
+pub some_write_fault : (l0 l1 t0 t1 : Option (List ℕ)) → Replays l0 l1 t0 t1 WriteFault → IsProperFrontOfSome t0 t1
+some_write_fault l0 l1 t0 t1 r = record { input = r.seen; part = r.is_outcome }
+
+pub some_memory : (l0 l1 t0 t1 : Option (List ℕ)) → Replays l0 l1 t0 t1 OutOfMemory → IsFrontOfSome t0 t1
+some_memory l0 l1 t0 t1 r = record { input = r.seen; front = r.is_outcome }
 
 -- ---- the settings
 

@@ -1,17 +1,16 @@
 -- The line that decides, by what was read so far and what stands behind it.
-use Rattle.std.proofs.Common.{◌≡◌, ◌≢◌, ℕ, zero, suc, ◌+◌, ◌-◌, ◌<◌, ◌≤◌, Bool, true, false, cond, eqb, leb, ltb, List, [], ◌∷◌, ◌++◌, length, map, All, Option, Some, None, Result, Ok, Err, ◌⊎◌, inl, inr, ⊎_elim, refl, sym, ap, ◌∙◌, subst, arith}
+use Rattle.std.proofs.Common.{◌≡◌, ℕ, ◌<◌, ◌≤◌, true, false, ltb, List, [], ◌∷◌, ◌++◌, length, All, Some, None, ⊎_elim, refl, sym, ap, ◌∙◌, subst, arith}
 use Rattle.std.specs.List.{before_first, after_first, position_or_len}
-use Rattle.std.proofs.lemmas.Bool.{both_ways, or_left, or_right, or_from, lt-ltb, le-ltb, cases_lt}
-use Rattle.std.proofs.lemmas.List.{append_assoc, append-nil, length-append, length-map, map-append}
-use Rattle.io_edge.specs.Lines.{is_line_feed, HasNoLineFeed, whole_lines, unfinished_line, ended_lines, line_limit, FitsLine, IsPastLimit}
-use Rattle.io_edge.proofs.LineLemmas.{whole_lines-ended, unfinished_line-ended, whole_lines-line, unfinished_line-line, whole_lines-none, unfinished_line-none, whole_lines-append, first_cut, before_first-none, HasNoLineFeed-before_first, HasNoLineFeed-not_found}
+use Rattle.std.proofs.lemmas.Bool.{or_left, or_right, or_from, lt-ltb, le-ltb, cases_lt}
+use Rattle.std.proofs.lemmas.List.{append_assoc, append-nil, map-append}
+use Rattle.io_edge.specs.Lines.{is_line_feed, HasNoLineFeed, whole_lines, unfinished_line, ended_lines, line_limit, IsPastLimit}
+use Rattle.io_edge.proofs.LineLemmas.{whole_lines-ended, unfinished_line-ended, whole_lines-line, whole_lines-none, unfinished_line-none, first_cut, before_first-none, HasNoLineFeed-before_first, HasNoLineFeed-not_found}
 use Rattle.net_base.specs.declared.refusal.RefusalKind.TheVariants.{NoEnd}
 use Rattle.trace_text.specs.Stages.{first_stage}
-use Rattle.trace_text.specs.declared.stage.Stage.{Stage}
-use Rattle.trace_replay.specs.Reading.{Reading, said_at, stage_past, reading_at, stage_behind, readings_from, readings_of, events_in}
-use Rattle.trace_replay.specs.Judgement.{Verdict, ended, refused, too_long, most_lines, verdict_by, verdict_at, verdict_of_rest, number_behind, is_too_long_at, Judgement, judged_at, judged_from, judged}
+use Rattle.trace_replay.specs.Reading.{Reading, reading_at, stage_behind, readings_from, readings_of, events_in}
+use Rattle.trace_replay.specs.Judgement.{Verdict, refused, too_long, most_lines, verdict_by, verdict_at, verdict_of_rest, number_behind, is_too_long_at, Judgement, judged_from, judged}
 use Rattle.trace_replay.specs.Passing.{texts_of, PassBehind, ArePassed}
-use Rattle.trace_replay.proofs.Readings.{stage_behind-append, stage_behind-push, readings_from-append, texts-readings_from, Passes, Passes-from}
+use Rattle.trace_replay.proofs.Readings.{readings_from-append}
 
 -- ---- from a front that passes
 

@@ -1,3 +1,4 @@
+pub mod Again
 pub mod Grammar
 pub mod Heads
 pub mod Inputs

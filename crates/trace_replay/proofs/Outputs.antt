@@ -1,25 +1,19 @@
 -- The output of lines that pass, one line after another.
-use Rattle.std.proofs.Common.{◌≡◌, ◌≢◌, ℕ, zero, suc, ◌+◌, ◌-◌, ◌<◌, ◌≤◌, Bool, true, false, cond, List, [], ◌∷◌, ◌++◌, length, map, All, Option, Some, None, Result, Ok, Err, ◌⊎◌, inl, inr, ⊎_elim, refl, sym, ap, ◌∙◌, subst, arith}
-use Rattle.std.specs.List.{filter_map, cons_option, flat_map, zip}
-use Rattle.std.proofs.lemmas.List.{append_assoc, append-nil, length-append, length_push, nil_from_length}
+use Rattle.std.proofs.Common.{◌≡◌, ℕ, suc, List, [], ◌∷◌, ◌++◌, length, Option, Some, None, Ok, refl, sym, ap, ◌∙◌, arith}
+use Rattle.std.specs.List.{cons_option, zip}
+use Rattle.std.proofs.lemmas.List.{append_assoc, append-nil, nil_from_length}
 use Rattle.std.proofs.lemmas.List.Elements.{filter_map-append}
 use Rattle.std.proofs.lemmas.List.Concat.{flat_map-append}
-use Rattle.io_edge.specs.Lines.{ended_lines}
 use Rattle.machine.specs.Step.{step}
-use Rattle.machine.specs.Machine.{Machine, start_of}
+use Rattle.machine.specs.Machine.{Machine}
 use Rattle.machine.specs.Run.{after_all, actions_of}
 use Rattle.net_base.specs.declared.action.Action.{Action}
 use Rattle.net_base.specs.declared.event.Event.{Event}
-use Rattle.trace_text.specs.Stages.{first_stage}
 use Rattle.trace_text.specs.declared.line.HeadLine.{HeadLine}
-use Rattle.trace_text.specs.declared.line.Line.{Line}
-use Rattle.trace_text.specs.declared.line.Line.TheVariants.{Head, Happen, Acted, End}
-use Rattle.trace_text.specs.declared.line.LineRefusal.{LineRefusal}
-use Rattle.trace_replay.specs.Reading.{Reading, reading_at, stage_behind, head_in, event_in, heads_in, events_in}
-use Rattle.trace_replay.specs.Settings.{settings_in}
+use Rattle.trace_text.specs.declared.line.Line.TheVariants.{Head, Happen, Acted}
+use Rattle.trace_replay.specs.Reading.{Reading, head_in, event_in, heads_in, events_in}
 use Rattle.trace_replay.specs.Output.{text_if, head_texts, event_texts, start_in, told_event, told_events, lines_for}
-use Rattle.trace_replay.proofs.Grammar.{IsHeadAt}
-use Rattle.trace_replay.proofs.Readings.{heads_in-append, events_in-append, IsFront, AreFront, no_events_before_head, Passes, line_at, AreFront-more}
+use Rattle.trace_replay.proofs.Readings.{heads_in-append, events_in-append}
 
 -- ---- runs
 

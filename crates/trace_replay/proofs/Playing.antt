@@ -1,7 +1,7 @@
 -- What one line more does to what is kept of those before it.
-use Rattle.std.proofs.Common.{◌≡◌, ◌≢◌, ℕ, zero, suc, ◌+◌, ◌-◌, ◌<◌, ◌≤◌, Bool, true, false, cond, eqb, leb, ltb, List, [], ◌∷◌, ◌++◌, length, map, take, get_or, All, Option, Some, None, IfSome, IfOk, Result, Ok, Err, ◌⊎◌, inl, inr, ⊎_elim, refl, sym, ap, ◌∙◌, subst, arith}
+use Rattle.std.proofs.Common.{◌≡◌, ℕ, ◌+◌, ◌<◌, ◌≤◌, List, [], ◌∷◌, ◌++◌, length, Option, Some, None, IfSome, IfOk, Result, Ok, Err, refl, sym, ap, ◌∙◌, subst, arith}
 use Rattle.std.proofs.lemmas.Bool.{lt-leb, le-leb}
-use Rattle.std.proofs.lemmas.List.{append_assoc, append-nil, length-append, length_push, map_push, take_more}
+use Rattle.std.proofs.lemmas.List.{append-nil, length_push}
 use Rattle.std.proofs.lemmas.List.Concat.{flat_map-append}
 use Rattle.io_edge.specs.Lines.{ended_lines, line_limit}
 use Rattle.machine.specs.Machine.{Machine, start_of}
@@ -9,8 +9,6 @@ use Rattle.machine.specs.Run.{after_all}
 use Rattle.machine.specs.Step.{step}
 use Rattle.net_base.specs.Bounds.{AreSound}
 use Rattle.net_base.specs.declared.event.Event.{Event}
-use Rattle.net_base.specs.declared.event.Event.TheVariants.{Now, Govern, Accepted, Dialed, Bytes, Closed, Aims, Locals, Roots, BigAims, Bigs}
-use Rattle.net_base.specs.Limits.{IsWithinLimits}
 use Rattle.trace_text.specs.Lines.{line_of, IsReading}
 use Rattle.trace_text.specs.Stages.{first_stage, stage_after}
 use Rattle.trace_text.specs.declared.line.HeadLine.{HeadLine}
@@ -19,17 +17,17 @@ use Rattle.trace_text.specs.declared.line.Line.TheVariants.{Head, Happen, Acted,
 use Rattle.trace_text.specs.declared.line.LineRefusal.{LineRefusal}
 use Rattle.trace_text.specs.declared.line.LineRefusal.TheVariants.{BadWord, BadNumber, BadTargets, OutOfOrder, OutOfMemory as NoMemory}
 use Rattle.trace_text.specs.declared.stage.Stage.{Stage}
-use Rattle.trace_replay.specs.Reading.{Reading, said_at, stage_past, reading_at, stage_behind, heads_in, events_in}
+use Rattle.trace_replay.specs.Reading.{Reading, said_at, reading_at, stage_behind, heads_in, events_in}
 use Rattle.trace_replay.specs.Settings.{settings_in}
-use Rattle.trace_replay.specs.Judgement.{Verdict, ended, refused, too_long, most_lines, most_events, verdict_by, verdict_at, number_behind}
+use Rattle.trace_replay.specs.Judgement.{Verdict, ended, too_long, most_lines, most_events, verdict_by, verdict_at, number_behind}
 use Rattle.trace_replay.specs.Output.{start_in, told_event, lines_for}
 use Rattle.trace_replay.specs.Passing.{ArePassed}
 use Rattle.trace_replay.specs.Playback.{Begun, Kept, machine_or, events_taken, machine_before, StandsBehind, GoesOn, IsPlayed, IsLineWithin, IsSaid, TakesEvent, IsHappened, refusal_told}
 use Rattle.trace_replay.specs.declared.stop.Stop.{Stop}
 use Rattle.trace_replay.specs.declared.stop.Stop.TheVariants.{Ended, Refused, TooLong, OutOfMemory}
-use Rattle.trace_replay.proofs.Grammar.{IsHeadAt, IsLineAt, said_at-is}
+use Rattle.trace_replay.proofs.Grammar.{IsLineAt, said_at-is}
 use Rattle.trace_replay.proofs.Heads.{AreSound-heads}
-use Rattle.trace_replay.proofs.Readings.{stage_behind-push, heads_in-append, events_in-append, IsFront, AreFront, AreFront-passed, no_events_before_head}
+use Rattle.trace_replay.proofs.Readings.{stage_behind-push, heads_in-append, events_in-append, AreFront-passed, no_events_before_head}
 use Rattle.trace_replay.proofs.Judging.{verdict_at-short, ArePassed-none, ArePassed-more}
 use Rattle.trace_replay.proofs.Outputs.{after_all-push, lines_for-head, lines_for-acted, told_behind, lines_for-event}
 
@@ -137,11 +135,12 @@ verdict_by-event_late : (number events : ℕ) (event : Event) → most_events �
 verdict_by-event_late number events event late = rw (le-leb most_events events late) refl
 
 -- an event line goes on
-event_on : (before next : Kept) (readings : List Reading) (text : List ℕ) (event : Event) (written : List ℕ) →
+event_on : (before next : Kept) (readings : List Reading) (text : List ℕ) (event : Event) (pending later : List ℕ) →
     StandsBehind before readings → length readings < most_lines → length text ≤ line_limit → Said readings text (Happen event) → events_taken before.engine < most_events →
-    next.stage ≡ stage_after before.stage (Happen event) → TakesEvent before event text next written → GoesOn readings (said_reading text (Happen event)) next written
+    next.stage ≡ stage_after before.stage (Happen event) → TakesEvent before event text next pending later →
+    GoesOn readings (said_reading text (Happen event)) next (ended_lines (told_event (text, (step (machine_before before) event).actions)))
 unfolding told_behind
-event_on before next readings text event written stands few short said early stage takes =
+event_on before next readings text event pending later stands few short said early stage takes =
     let reading = said_reading text (Happen event) in
     let on : verdict_by (number_behind readings) (length (events_in readings)) (Ok (Happen event)) ≡ None =
     verdict_by-event (number_behind readings) (length (events_in readings)) event (omega (arith, stands.events)) in
@@ -150,8 +149,8 @@ event_on before next readings text event written stands few short said early sta
     let found = machine_found before readings stands in
     let stepped : (step (machine_before before) event).machine ≡ after_all (start_in readings) (events_in readings ++ event ∷ []) =
     ap (λ (m : Machine). (step m event).machine) found ∙ sym (after_all-push (start_in readings) (events_in readings) event) in
-    let told : written ≡ ended_lines (told_behind readings text event) =
-    takes.lines ∙ ap (λ (m : Machine). ended_lines (told_event (text, (step m event).actions))) found in
+    let told : ended_lines (told_event (text, (step (machine_before before) event).actions)) ≡ ended_lines (told_behind readings text event) =
+    ap (λ (m : Machine). ended_lines (told_event (text, (step m event).actions))) found in
     record {
       passes = passes_said readings text (Happen event) stands.passed few short said on;
       stands = record {
@@ -213,27 +212,31 @@ pub end_played : (before : Kept) (readings : List Reading) (number : ℕ) (text 
     verdict_at readings (reading_at (stage_behind readings first_stage) text) ≡ Some ended
 end_played before readings number text due says = decides_by before readings number text (Ok End) ended due says refl
 
-pub event_played : (before next : Kept) (readings : List Reading) (number : ℕ) (text : List ℕ) (event : Event) (result : Result (List ℕ) Stop) →
-    IsDue before readings number text → said_at before.stage text ≡ Ok (Happen event) → IsHappened before next number (stage_after before.stage (Happen event)) event text result →
-    IsPlayed readings (reading_at (stage_behind readings first_stage) text) next result
-event_played before next readings number text event (Ok written) due says is =
+pub event_played : (before next : Kept) (readings : List Reading) (number : ℕ) (text : List ℕ) (event : Event) (pending later : List ℕ) (result : Result (Unit {0}) Stop) →
+    IsDue before readings number text → said_at before.stage text ≡ Ok (Happen event) → IsHappened before next number (stage_after before.stage (Happen event)) event text pending later result →
+    IsPlayed readings (reading_at (stage_behind readings first_stage) text) next pending later result
+event_played before next readings number text event pending later (Ok done) due says is =
     let said = said_behind before readings text (Ok (Happen event)) due.stands says in
-    goes_on_read readings text (Happen event) next written said
-    (event_on before next readings text event written due.stands (omega (arith, due.number_is, due.few)) due.short said is.0 is.1 is.2)
-event_played before next readings number text event (Err (TooLong line)) due says is =
+    let written = ended_lines (told_event (text, (step (machine_before before) event).actions)) in (
+      written,
+      goes_on_read readings text (Happen event) next written said
+          (event_on before next readings text event pending later due.stands (omega (arith, due.number_is, due.few)) due.short said is.0 is.1 is.2),
+      is.2.lines,
+    )
+event_played before next readings number text event pending later (Err (TooLong line)) due says is =
     let late = verdict_by-event_late line (length (events_in readings)) event (omega (arith, is.0, due.stands.events)) in
-    decides_by before readings number text (Ok (Happen event)) (too_long line) due says (rw (← is.1) late)
-event_played before next readings number text event (Err OutOfMemory) due says is = tt
-event_played before next readings number text event (Err Ended) due says is = absurd is
-event_played before next readings number text event (Err (Refused line kind)) due says is = absurd is
+    (decides_by before readings number text (Ok (Happen event)) (too_long line) due says (rw (← is.1) late), is.2)
+event_played before next readings number text event pending later (Err OutOfMemory) due says is = is
+event_played before next readings number text event pending later (Err Ended) due says is = absurd is
+event_played before next readings number text event pending later (Err (Refused line kind)) due says is = absurd is
 
-pub refusal_played : (before next : Kept) (readings : List Reading) (number : ℕ) (text : List ℕ) (refusal : LineRefusal) → IsDue before readings number text →
-    IsSaid before.stage text (Err refusal) → IsPlayed readings (reading_at (stage_behind readings first_stage) text) next (Err (refusal_told number refusal))
-refusal_played before next readings number text (BadWord place) due says = decides_by before readings number text _ _ due says refl
-refusal_played before next readings number text (BadNumber place) due says = decides_by before readings number text _ _ due says refl
-refusal_played before next readings number text BadTargets due says = decides_by before readings number text _ _ due says refl
-refusal_played before next readings number text OutOfOrder due says = decides_by before readings number text _ _ due says refl
-refusal_played before next readings number text NoMemory due says = tt
+pub refusal_played : (before next : Kept) (readings : List Reading) (number : ℕ) (text pending : List ℕ) (refusal : LineRefusal) → IsDue before readings number text →
+    IsSaid before.stage text (Err refusal) → IsPlayed readings (reading_at (stage_behind readings first_stage) text) next pending pending (Err (refusal_told number refusal))
+refusal_played before next readings number text pending (BadWord place) due says = (decides_by before readings number text _ _ due says refl, refl)
+refusal_played before next readings number text pending (BadNumber place) due says = (decides_by before readings number text _ _ due says refl, refl)
+refusal_played before next readings number text pending BadTargets due says = (decides_by before readings number text _ _ due says refl, refl)
+refusal_played before next readings number text pending OutOfOrder due says = (decides_by before readings number text _ _ due says refl, refl)
+refusal_played before next readings number text pending NoMemory due says = refl
 
 pub IsSaid-from : (stage : Stage) (text : List ℕ) (result : Result Line LineRefusal) → IsReading result (line_of stage text) → IsSaid stage text result
 unfolding said_at

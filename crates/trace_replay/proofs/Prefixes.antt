@@ -1,25 +1,21 @@
 -- The output of a front of a trace is a front of its output.
-use Rattle.std.proofs.Common.{◌≡◌, ◌≢◌, ℕ, zero, suc, ◌+◌, ◌-◌, ◌<◌, ◌≤◌, Bool, true, false, cond, List, [], ◌∷◌, ◌++◌, length, map, All, Option, Some, None, Result, Ok, Err, ◌⊎◌, inl, inr, ⊎_elim, refl, sym, ap, ◌∙◌, subst, arith}
-use Rattle.std.specs.List.{flat_map}
+use Rattle.std.proofs.Common.{◌≡◌, ℕ, Bool, true, false, cond, List, [], ◌∷◌, ◌++◌, length, All, Option, Some, None, Ok, ◌⊎◌, inl, inr, ⊎_elim, refl, sym, ap, ◌∙◌}
 use Rattle.std.proofs.lemmas.List.{append_assoc, append-nil}
 use Rattle.std.proofs.lemmas.List.Concat.{flat_map-append}
 use Rattle.io_edge.specs.Lines.{HasNoLineFeed, whole_lines, unfinished_line, ended_lines}
-use Rattle.io_edge.proofs.LineLemmas.{whole_lines-append, unfinished_line-append}
-use Rattle.net_base.specs.declared.event.Event.{Event}
+use Rattle.io_edge.proofs.LineLemmas.{whole_lines-append}
 use Rattle.net_base.specs.declared.refusal.RefusalKind.TheVariants.{NoEnd}
 use Rattle.trace_text.specs.Stages.{first_stage}
-use Rattle.trace_text.specs.declared.line.HeadLine.{HeadLine}
 use Rattle.trace_text.specs.declared.line.Line.{Line}
 use Rattle.trace_text.specs.declared.line.Line.TheVariants.{Head, Happen, Acted, End}
-use Rattle.trace_text.specs.declared.stage.Stage.{Stage}
 use Rattle.trace_replay.specs.Reading.{Reading, said_at, stage_past, reading_at, stage_behind, readings_from, readings_of, events_in}
-use Rattle.trace_replay.specs.Judgement.{Verdict, ended, refused, too_long, verdict_by, verdict_at, verdict_of_rest, number_behind, is_too_long_at, Judgement, judged_at, judged_from, judged}
+use Rattle.trace_replay.specs.Judgement.{Verdict, refused, too_long, verdict_by, verdict_at, verdict_of_rest, number_behind, is_too_long_at, Judgement, judged_at, judged_from, judged}
 use Rattle.trace_replay.specs.Output.{lines_for, last_lines, output_for, output_of}
 use Rattle.trace_replay.specs.Passing.{texts_of, PassBehind, ArePassed}
 use Rattle.trace_replay.proofs.Grammar.{IsLineAt}
-use Rattle.trace_replay.proofs.Readings.{stage_behind-append, stage_behind-push, readings_from-append, texts-readings_from, Passes, Passes-from, AreFront, AreFront-none, AreFront-more, AreFront-passed, no_events_before_head, line_at, passed_behind}
+use Rattle.trace_replay.proofs.Readings.{stage_behind-push, readings_from-append, texts-readings_from, Passes, AreFront, AreFront-more, AreFront-passed, no_events_before_head, line_at, passed_behind}
 use Rattle.trace_replay.proofs.Outputs.{lines_for-head, lines_for-acted, lines_for-event, told_behind}
-use Rattle.trace_replay.proofs.Judging.{judged_from-passes, judged_behind, judgement_of}
+use Rattle.trace_replay.proofs.Judging.{judged_from-passes, judged_behind}
 
 -- the whole list begins with the front
 pub record Begins {A : Type 0} (whole front : List A) : Type 0 where

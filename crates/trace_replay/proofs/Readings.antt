@@ -1,21 +1,21 @@
 -- Lines read one after another, and what lines that pass leave behind.
-use Rattle.std.proofs.Common.{◌≡◌, ◌≢◌, ℕ, zero, suc, ◌+◌, ◌<◌, ◌≤◌, Bool, true, false, cond, eqb, leb, List, [], ◌∷◌, ◌++◌, length, map, Option, Some, None, Result, Ok, Err, ◌⊎◌, inl, inr, ⊎_elim, refl, sym, ap, ◌∙◌, subst, arith}
-use Rattle.std.specs.List.{filter_map, cons_option}
-use Rattle.std.proofs.lemmas.Bool.{both_ways, eqb-false, false≢true}
-use Rattle.std.proofs.lemmas.List.{append_assoc, append-nil, length-append, map-append}
+use Rattle.std.proofs.Common.{◌≡◌, ℕ, Bool, true, false, cond, List, [], ◌∷◌, ◌++◌, length, Some, None, Result, Ok, Err, ◌⊎◌, inl, inr, ⊎_elim, refl, ap}
+use Rattle.std.specs.List.{cons_option}
+use Rattle.std.proofs.lemmas.Bool.{both_ways, eqb-false}
+use Rattle.std.proofs.lemmas.List.{append_assoc, append-nil}
 use Rattle.std.proofs.lemmas.List.Elements.{filter_map-append}
 use Rattle.net_base.specs.declared.event.Event.{Event}
-use Rattle.trace_text.specs.Stages.{first_stage, stage_after, stage_after_head}
+use Rattle.trace_text.specs.Stages.{first_stage, stage_after}
 use Rattle.trace_text.specs.declared.line.HeadLine.{HeadLine}
 use Rattle.trace_text.specs.declared.line.HeadLine.TheVariants.{Trace, Own, Set}
 use Rattle.trace_text.specs.declared.line.Line.{Line}
 use Rattle.trace_text.specs.declared.line.Line.TheVariants.{Head, Happen, Acted, End}
 use Rattle.trace_text.specs.declared.line.LineRefusal.{LineRefusal}
 use Rattle.trace_text.specs.declared.stage.Stage.{Stage}
-use Rattle.trace_replay.specs.Reading.{Reading, said_at, stage_past, reading_at, stage_behind, readings_from, readings_of, head_in, event_in, heads_in, events_in}
+use Rattle.trace_replay.specs.Reading.{Reading, said_at, stage_past, reading_at, stage_behind, readings_from, head_in, event_in, heads_in, events_in}
 use Rattle.trace_replay.specs.Judgement.{too_long, verdict_by, verdict_at, number_behind, is_too_long_at}
 use Rattle.trace_replay.specs.Passing.{texts_of, PassBehind, ArePassed}
-use Rattle.trace_replay.proofs.Grammar.{IsBehindHead, IsSetAt, IsHeadAt, IsLineAt, said_at-is}
+use Rattle.trace_replay.proofs.Grammar.{IsBehindHead, IsHeadAt, IsLineAt, said_at-is}
 use Rattle.trace_replay.proofs.Heads.{AreHeads, AreHeads-none, AreHeads-more}
 
 -- ---- lines appended

@@ -1,26 +1,26 @@
 -- How a replay that is on its way goes on, and what it has come to where it ends.
-use Rattle.std.proofs.Common.{◌≡◌, ◌≢◌, ℕ, zero, suc, ◌+◌, ◌-◌, ◌<◌, ◌≤◌, Bool, true, false, cond, List, [], ◌∷◌, ◌++◌, length, map, All, Option, Some, None, Result, Ok, Err, MatchResult, OnOk, IfErr, ◌⊎◌, inl, inr, ⊎_elim, refl, sym, ap, ◌∙◌, subst, arith}
+use Rattle.std.proofs.Common.{◌≡◌, ℕ, ◌+◌, ◌<◌, ◌≤◌, List, [], ◌∷◌, ◌++◌, length, All, Option, Some, Result, Ok, Err, MatchResult, IfErr, refl, sym, ap, ◌∙◌, subst, arith}
 use Rattle.std.specs.Io.KnownBytes.{IsAtEnd}
-use Rattle.std.proofs.lemmas.List.{append_assoc, append-nil, length-append, length-map, length_push, map-append}
+use Rattle.std.proofs.lemmas.List.{append_assoc, append-nil, length-map, length_push, map-append}
 use Rattle.std.proofs.lemmas.List.Concat.{flat_map-append}
 use Rattle.std.proofs.lemmas.List.Elements.{All-push, All-nil}
-use Rattle.io_edge.specs.Lines.{HasNoLineFeed, whole_lines, unfinished_line, ended_lines, FitsLine, IsPastLimit}
-use Rattle.io_edge.specs.Reading.{IsAnswer, ReadsLine}
-use Rattle.io_edge.specs.Told.{Gives, Takes, TakesProperPrefix}
+use Rattle.io_edge.specs.Lines.{HasNoLineFeed, whole_lines, ended_lines, FitsLine, IsPastLimit}
+use Rattle.io_edge.specs.Reading.{ReadsLine}
+use Rattle.io_edge.specs.Told.{Gives, Takes, TakesProperPrefix, TakesFront}
 use Rattle.io_edge.specs.declared.got.Got.TheVariants.{Line, Over}
 use Rattle.io_edge.specs.declared.line_fault.LineFault.TheVariants.{Failed, TooLong as LineTooLong, OutOfMemory as NoMemory}
 use Rattle.io_edge.proofs.LineLemmas.{whole_lines-ended, whole_lines-none, IsPastLimit-append}
-use Rattle.io_edge.proofs.ToldLemmas.{Gives-nothing, Gives-append, Gives-told, Takes-nothing, Takes-append}
+use Rattle.io_edge.proofs.ToldLemmas.{Gives-nothing, Gives-append, Takes-nothing, Takes-append, TakesProperPrefix-after, TakesProperPrefix-more}
 use Rattle.net_base.specs.declared.refusal.RefusalKind.{RefusalKind}
 use Rattle.net_base.specs.declared.refusal.RefusalKind.TheVariants.{NoEnd}
 use Rattle.trace_text.specs.Stages.{first_stage}
 use Rattle.trace_replay.specs.Reading.{Reading, reading_at, stage_behind}
-use Rattle.trace_replay.specs.Judgement.{Verdict, ended, refused, too_long, most_lines, verdict_at, verdict_of_rest, number_behind, judged}
+use Rattle.trace_replay.specs.Judgement.{Verdict, ended, refused, too_long, most_lines, verdict_at, number_behind, judged}
 use Rattle.trace_replay.specs.Output.{lines_for, last_lines, output_for, output_of}
 use Rattle.trace_replay.specs.Passing.{texts_of, ArePassed}
 use Rattle.trace_replay.specs.Playback.{Kept, StandsBehind, GoesOn}
-use Rattle.trace_replay.specs.Replays.{verdict_of, outcome_of, AreDecisive, AreUndecided, TakesPrefix, IsOutcome, Replays}
-use Rattle.trace_replay.specs.UnderWay.{IsUnderWay, IsTurn, IsLineOutput, passing, last, IsCutShort, IsWritten, HasReadCount}
+use Rattle.trace_replay.specs.Replays.{verdict_of, outcome_of, AreDecisive, Replays}
+use Rattle.trace_replay.specs.UnderWay.{HasSaid, IsUnderWay, IsEnding, IsLineNext, IsTurn, IsSaidFor, HasReadCount, HasWriteCount}
 use Rattle.trace_replay.specs.declared.outcome.Outcome.{Outcome}
 use Rattle.trace_replay.specs.declared.outcome.Outcome.TheVariants.{Done, Differ, Refused, ReadFault, WriteFault, OutOfMemory, WorldFault, TooLong}
 use Rattle.trace_replay.proofs.Judging.{judgement_of, judged_line, judged_rest, judged_too_long, long_by_bytes, long_by_number, rest_refused, ArePassed-none}
@@ -64,6 +64,13 @@ decisive readings tail left verdict decides =
       settled = λ more _. ap judged (append_assoc (ended_lines (texts_of readings)) tail more) ∙ decides more ∙ sym now;
     }
 
+-- the output of lines that pass, and of an `end` behind them
+output_ended : (readings : List Reading) (tail : List ℕ) → Decides readings tail ended →
+    output_of (seen_of readings tail) ≡ ended_lines (lines_for readings) ++ ended_lines (last_lines ended)
+output_ended readings tail decides =
+    output_decided readings tail ended (judged_now readings tail ended decides)
+    ∙ flat_map-append (λ line. line ++ 10 ∷ []) (lines_for readings) (last_lines ended)
+
 -- ---- what it has come to
 
 takes_decided : (readings : List Reading) (tail : List ℕ) (verdict : Verdict) (before now : Option (List ℕ)) → Decides readings tail verdict → last_lines verdict ≡ [] →
@@ -90,20 +97,16 @@ too_long_at readings tail number l0 l1 t0 t1 read decides = record {
   is_outcome = (decisive readings tail l1 (too_long number) decides, takes_decided readings tail (too_long number) t0 t1 decides refl read.takes);
 }
 
-pub done_at : (readings : List Reading) (tail : List ℕ) (l0 l1 t0 t1 t2 : Option (List ℕ)) → HasRead readings tail l0 l1 t0 t1 →
-    Decides readings tail ended → Takes t1 t2 (ended_lines (last_lines ended)) → Replays l0 l1 t0 t2 Done
-done_at readings tail l0 l1 t0 t1 t2 read decides takes =
-    let output : output_of (seen_of readings tail) ≡ ended_lines (lines_for readings) ++ ended_lines (last_lines ended) =
-    output_decided readings tail ended (judged_now readings tail ended decides)
-    ∙ flat_map-append (λ line. line ++ 10 ∷ []) (lines_for readings) (last_lines ended) in
-    record {
-      seen = seen_of readings tail;
-      gives = read.gives;
-      is_outcome = (
-        decisive readings tail l1 ended decides,
-        subst (λ (bytes : List ℕ). Takes t0 t2 bytes) (sym output) (Takes-append t0 t1 t2 _ _ read.takes takes),
-      );
-    }
+pub done_at : (readings : List Reading) (tail : List ℕ) (l0 l1 t0 t1 : Option (List ℕ)) → Gives l0 l1 (seen_of readings tail) →
+    Decides readings tail ended → Takes t0 t1 (ended_lines (lines_for readings) ++ ended_lines (last_lines ended)) → Replays l0 l1 t0 t1 Done
+done_at readings tail l0 l1 t0 t1 gives decides takes = record {
+  seen = seen_of readings tail;
+  gives = gives;
+  is_outcome = (
+    decisive readings tail l1 ended decides,
+    subst (λ (bytes : List ℕ). Takes t0 t1 bytes) (sym (output_ended readings tail decides)) takes,
+  );
+}
 
 -- the input is over
 pub over_at : (readings : List Reading) (tail : List ℕ) (l0 l1 t0 t1 : Option (List ℕ)) → HasRead readings tail l0 l1 t0 t1 → FitsLine tail → IsAtEnd l1 →
@@ -160,11 +163,11 @@ memory_at readings tail l0 l1 t0 t1 read =
 -- ---- a line with its line feed
 
 -- a whole line decides
-pub line_decides : (readings : List Reading) (line kept : List ℕ) (verdict : Verdict) (l0 l1 t0 t1 : Option (List ℕ)) → HasRead readings (line ++ 10 ∷ kept) l0 l1 t0 t1 →
+line_decides : (readings : List Reading) (line kept : List ℕ) (verdict : Verdict) → ArePassed readings → All HasNoLineFeed (texts_of readings) →
     HasNoLineFeed line → verdict_at readings (reading_at (stage_behind readings first_stage) line) ≡ Some verdict → Decides readings (line ++ 10 ∷ kept) verdict
-line_decides readings line kept verdict l0 l1 t0 t1 read one at more =
+line_decides readings line kept verdict passed whole one at more =
     ap (λ (bytes : List ℕ). judged (seen_of readings bytes)) (append_assoc line (10 ∷ kept) more)
-    ∙ judged_line readings line (kept ++ more) verdict read.passed read.whole one at
+    ∙ judged_line readings line (kept ++ more) verdict passed whole one at
 
 -- a line is too long, by its bytes or by its number
 pub past_decides : (readings : List Reading) (tail : List ℕ) → ArePassed readings → All HasNoLineFeed (texts_of readings) → IsPastLimit tail → Decides readings tail (too_long (number_behind readings))
@@ -194,178 +197,270 @@ whole_further readings reading whole one =
     let texts : texts_of (readings ++ reading ∷ []) ≡ texts_of readings ++ reading.text ∷ [] = map-append (λ (r : Reading). r.text) readings (reading ∷ []) in
     subst (λ (ls : List (List ℕ)). All HasNoLineFeed ls) (sym texts) (All-push HasNoLineFeed (texts_of readings) reading.text whole one)
 
--- what is written for a line stands behind what was written, at the front of the output
-written_begins : (readings : List Reading) (line kept written : List ℕ) (l0 l1 t0 t1 : Option (List ℕ)) → HasRead readings (line ++ 10 ∷ kept) l0 l1 t0 t1 → HasNoLineFeed line →
-    IsLineOutput readings (reading_at (stage_behind readings first_stage) line) written →
-    Begins (output_of (seen_of readings (line ++ 10 ∷ kept))) (ended_lines (lines_for readings) ++ written)
-written_begins readings line kept written l0 l1 t0 t1 read one (passing next on) =
-    let reading = reading_at (stage_behind readings first_stage) line in
-    let begins = output_behind (readings ++ reading ∷ []) kept on.stands.passed (whole_further readings reading read.whole one) in
-    subst (λ (bytes : List ℕ). Begins (output_of bytes) (ended_lines (lines_for readings) ++ written)) (sym (seen_further readings reading kept))
-    (subst (λ (bytes : List ℕ). Begins (output_of (seen_of (readings ++ reading ∷ []) kept)) bytes) on.lines begins)
-written_begins readings line kept written l0 l1 t0 t1 read one (last at is) =
-    let decides = line_decides readings line kept ended l0 l1 t0 t1 read one at in
-    let output = output_decided readings (line ++ 10 ∷ kept) ended (judged_now readings (line ++ 10 ∷ kept) ended decides) in
-    Begins-from _ _ (output ∙ flat_map-append (λ line. line ++ 10 ∷ []) (lines_for readings) (last_lines ended)
-    ∙ ap (λ (bytes : List ℕ). ended_lines (lines_for readings) ++ bytes) (sym is))
+-- ---- what is pending
 
-regrouped : (xs ys front rest more : List ℕ) → ys ≡ front ++ rest → (xs ++ ys) ++ more ≡ (xs ++ front) ++ (rest ++ more)
-regrouped xs ys front rest more split =
-    ap (λ (zs : List ℕ). (xs ++ zs) ++ more) split
-    ∙ ap (λ (zs : List ℕ). zs ++ more) (sym (append_assoc xs front rest)) ∙ append_assoc (xs ++ front) rest more
+-- what was said was taken, where what is pending is
+said_taken : (t0 t1 t2 : Option (List ℕ)) (pending said : List ℕ) → HasSaid t0 t1 pending said → Takes t1 t2 pending → Takes t0 t2 said
+said_taken t0 t1 t2 pending said so takes = subst (λ (bytes : List ℕ). Takes t0 t2 bytes) (sym so.all) (Takes-append t0 t1 t2 so.written pending so.taken takes)
 
--- a front of what is written for a line was taken
-cut_at : (readings : List Reading) (line kept : List ℕ) (l0 l1 t0 t1 t2 : Option (List ℕ)) → HasRead readings (line ++ 10 ∷ kept) l0 l1 t0 t1 → HasNoLineFeed line →
-    IsCutShort readings (reading_at (stage_behind readings first_stage) line) t1 t2 → Replays l0 l1 t0 t2 WriteFault
-cut_at readings line kept l0 l1 t0 t1 t2 read one cut =
-    let begins = written_begins readings line kept cut.written l0 l1 t0 t1 read one cut.output in
+said_part : (t0 t1 t2 : Option (List ℕ)) (pending said : List ℕ) → HasSaid t0 t1 pending said → TakesProperPrefix t1 t2 pending → TakesProperPrefix t0 t2 said
+said_part t0 t1 t2 pending said so part =
+    subst (λ (bytes : List ℕ). TakesProperPrefix t0 t2 bytes) (sym so.all) (TakesProperPrefix-after t0 t1 t2 so.written pending so.taken part)
+
+said_none : (taken : Option (List ℕ)) → HasSaid taken taken [] []
+said_none taken = record { written = []; taken = Takes-nothing taken; all = refl }
+
+-- more is said
+said_more : (t0 t1 : Option (List ℕ)) (pending later said more : List ℕ) → HasSaid t0 t1 pending said → later ≡ pending ++ more → HasSaid t0 t1 later (said ++ more)
+said_more t0 t1 pending later said more so is = record {
+  written = so.written;
+  taken = so.taken;
+  all = ap (λ (bytes : List ℕ). bytes ++ more) so.all ∙ append_assoc so.written pending more ∙ ap (λ (bytes : List ℕ). so.written ++ bytes) (sym is);
+}
+
+-- lines that pass were read, with some bytes behind them, and what those lines give was said
+record HasSaidAll (readings : List Reading) (tail pending : List ℕ) (left_before left_now taken_before taken_now : Option (List ℕ)) : Type 0 where
+  pub passed : ArePassed readings
+  pub whole : All HasNoLineFeed (texts_of readings)
+  pub gives : Gives left_before left_now (seen_of readings tail)
+  pub said : HasSaid taken_before taken_now pending (ended_lines (lines_for readings))
+
+-- once what is pending is taken
+all_taken : (readings : List Reading) (tail pending : List ℕ) (l0 l1 t0 t1 t2 : Option (List ℕ)) → HasSaidAll readings tail pending l0 l1 t0 t1 → Takes t1 t2 pending → HasRead readings tail l0 l1 t0 t2
+all_taken readings tail pending l0 l1 t0 t1 t2 all takes = record {
+  passed = all.passed;
+  whole = all.whole;
+  gives = all.gives;
+  takes = said_taken t0 t1 t2 pending (ended_lines (lines_for readings)) all.said takes;
+}
+
+-- a front of the output was taken, and not all of it
+cut_of : (seen said : List ℕ) (l0 l1 t0 t1 : Option (List ℕ)) → Gives l0 l1 seen → Begins (output_of seen) said → TakesProperPrefix t0 t1 said → Replays l0 l1 t0 t1 WriteFault
+cut_of seen said l0 l1 t0 t1 gives begins part = record {
+  seen = seen;
+  gives = gives;
+  is_outcome = subst (λ (bytes : List ℕ). TakesProperPrefix t0 t1 bytes) (sym begins.split) (TakesProperPrefix-more t0 t1 said begins.rest part);
+}
+
+cut_short : (readings : List Reading) (tail pending : List ℕ) (l0 l1 t0 t1 t2 : Option (List ℕ)) → HasSaidAll readings tail pending l0 l1 t0 t1 → TakesProperPrefix t1 t2 pending → Replays l0 l1 t0 t2 WriteFault
+cut_short readings tail pending l0 l1 t0 t1 t2 all part =
+    cut_of (seen_of readings tail) (ended_lines (lines_for readings)) l0 l1 t0 t2 all.gives (output_behind readings tail all.passed all.whole)
+    (said_part t0 t1 t2 pending (ended_lines (lines_for readings)) all.said part)
+
+-- it ends so, by what it comes to once what is pending is taken
+ending : (readings : List Reading) (tail pending : List ℕ) (l0 l1 t0 t1 : Option (List ℕ)) (outcome : Outcome) → HasSaidAll readings tail pending l0 l1 t0 t1 →
+    ((t2 : Option (List ℕ)) → HasRead readings tail l0 l1 t0 t2 → Replays l0 l1 t0 t2 outcome) → IsEnding l0 l1 t0 t1 pending outcome
+ending readings tail pending l0 l1 t0 t1 outcome all comes = record {
+  whole = λ t2 takes. comes t2 (all_taken readings tail pending l0 l1 t0 t1 t2 all takes);
+  part = λ t2 part. cut_short readings tail pending l0 l1 t0 t1 t2 all part;
+}
+
+-- `end` was said too
+ending_done : (readings : List Reading) (tail pending later : List ℕ) (l0 l1 t0 t1 : Option (List ℕ)) → HasSaidAll readings tail pending l0 l1 t0 t1 → Decides readings tail ended →
+    later ≡ pending ++ ended_lines (last_lines ended) → IsEnding l0 l1 t0 t1 later Done
+ending_done readings tail pending later l0 l1 t0 t1 all decides is =
+    let lines = ended_lines (lines_for readings) in
+    let last = ended_lines (last_lines ended) in
+    let so = said_more t0 t1 pending later lines last all.said is in
     record {
-      seen = seen_of readings (line ++ 10 ∷ kept);
-      gives = read.gives;
-      is_outcome = record {
-        front = ended_lines (lines_for readings) ++ cut.part.front;
-        rest = cut.part.rest ++ begins.rest;
-        split = begins.split ∙ regrouped (ended_lines (lines_for readings)) cut.written cut.part.front cut.part.rest begins.rest cut.part.split;
-        proper = omega (arith, cut.part.proper, length-append cut.part.rest begins.rest);
-        taken = Takes-append t0 t1 t2 _ _ read.takes cut.part.taken;
-      };
+      whole = λ t2 takes. done_at readings tail l0 l1 t0 t2 all.gives decides (said_taken t0 t1 t2 later (lines ++ last) so takes);
+      part = λ t2 part. cut_of (seen_of readings tail) (lines ++ last) l0 l1 t0 t2 all.gives (Begins-from _ _ (output_ended readings tail decides))
+          (said_part t0 t1 t2 later (lines ++ last) so part);
     }
 
--- a line passes, and what it gives was written
-goes_at : (number : ℕ) (readings : List Reading) (line kept written : List ℕ) (next : Kept) (l0 l1 t0 t1 t2 : Option (List ℕ)) → number ≡ length readings + 1 →
-    HasRead readings (line ++ 10 ∷ kept) l0 l1 t0 t1 → HasNoLineFeed line → GoesOn readings (reading_at (stage_behind readings first_stage) line) next written →
-    Takes t1 t2 written → IsUnderWay (number + 1) next kept l0 l1 t0 t2
-goes_at number readings line kept written next l0 l1 t0 t1 t2 at read one on takes =
+-- ---- a turn
+
+-- a line passes, and what it gives was said
+goes_at : (number : ℕ) (readings : List Reading) (line kept pending later written : List ℕ) (next : Kept) (l0 l1 t0 t1 : Option (List ℕ)) → number ≡ length readings + 1 →
+    HasSaidAll readings (line ++ 10 ∷ kept) pending l0 l1 t0 t1 → HasNoLineFeed line → GoesOn readings (reading_at (stage_behind readings first_stage) line) next written →
+    later ≡ pending ++ written → IsUnderWay (number + 1) next kept later l0 l1 t0 t1
+goes_at number readings line kept pending later written next l0 l1 t0 t1 at all one on is =
     let reading = reading_at (stage_behind readings first_stage) line in
     record {
       readings = readings ++ reading ∷ [];
       stands = on.stands;
       number_is = omega (arith, at, length_push readings reading);
-      whole = whole_further readings reading read.whole one;
-      gives = subst (λ (bytes : List ℕ). Gives l0 l1 bytes) (seen_further readings reading kept) read.gives;
-      takes = subst (λ (bytes : List ℕ). Takes t0 t2 bytes) (sym on.lines) (Takes-append t0 t1 t2 _ _ read.takes takes);
+      whole = whole_further readings reading all.whole one;
+      gives = subst (λ (bytes : List ℕ). Gives l0 l1 bytes) (seen_further readings reading kept) all.gives;
+      said = subst (λ (bytes : List ℕ). HasSaid t0 t1 later bytes) (sym on.lines) (said_more t0 t1 pending later _ written all.said is);
     }
 
-same_takes : (readings : List Reading) (tail : List ℕ) (l0 l1 t0 t1 t2 : Option (List ℕ)) → HasRead readings tail l0 l1 t0 t1 → t2 ≡ t1 → HasRead readings tail l0 l1 t0 t2
-same_takes readings tail l0 l1 t0 t1 t2 read same = subst (λ (t : Option (List ℕ)). HasRead readings tail l0 l1 t0 t) (sym same) read
+all_of : (number : ℕ) (playback : Kept) (tail pending : List ℕ) (l0 l1 t0 t1 : Option (List ℕ)) → (way : IsUnderWay number playback tail pending l0 l1 t0 t1) →
+    HasSaidAll way.readings tail pending l0 l1 t0 t1
+all_of number playback tail pending l0 l1 t0 t1 way = record { passed = way.stands.passed; whole = way.whole; gives = way.gives; said = way.said }
 
--- a line was read, played and written
-line_turn : (number : ℕ) (next : Kept) (readings : List Reading) (line kept : List ℕ) (l0 l1 t0 t1 t2 : Option (List ℕ)) (result : Result (Unit {0}) Outcome) → number ≡ length readings + 1 →
-    HasRead readings (line ++ 10 ∷ kept) l0 l1 t0 t1 → HasNoLineFeed line → IsWritten readings (reading_at (stage_behind readings first_stage) line) next t1 t2 result →
-    IsTurn number next kept l0 l1 t0 t2 result
-line_turn number next readings line kept l0 l1 t0 t1 t2 (Ok done) at read one is = goes_at number readings line kept is.0 next l0 l1 t0 t1 t2 at read one is.1 is.2
-line_turn number next readings line kept l0 l1 t0 t1 t2 (Err Done) at read one is =
-    done_at readings (line ++ 10 ∷ kept) l0 l1 t0 t1 t2 read (line_decides readings line kept ended l0 l1 t0 t1 read one is.0) is.1
-line_turn number next readings line kept l0 l1 t0 t1 t2 (Err (Refused n kind)) at read one is =
-    refused_at readings (line ++ 10 ∷ kept) n kind l0 l1 t0 t2 (same_takes readings _ l0 l1 t0 t1 t2 read is.1)
-    (line_decides readings line kept (refused n kind) l0 l1 t0 t1 read one is.0)
-line_turn number next readings line kept l0 l1 t0 t1 t2 (Err (TooLong n)) at read one is =
-    too_long_at readings (line ++ 10 ∷ kept) n l0 l1 t0 t2 (same_takes readings _ l0 l1 t0 t1 t2 read is.1)
-    (line_decides readings line kept (too_long n) l0 l1 t0 t1 read one is.0)
-line_turn number next readings line kept l0 l1 t0 t1 t2 (Err WriteFault) at read one is = cut_at readings line kept l0 l1 t0 t1 t2 read one is
-line_turn number next readings line kept l0 l1 t0 t1 t2 (Err OutOfMemory) at read one is = memory_at readings (line ++ 10 ∷ kept) l0 l1 t0 t2 (same_takes readings _ l0 l1 t0 t1 t2 read is)
-line_turn number next readings line kept l0 l1 t0 t1 t2 (Err (Differ n)) at read one is = absurd is
-line_turn number next readings line kept l0 l1 t0 t1 t2 (Err ReadFault) at read one is = absurd is
-line_turn number next readings line kept l0 l1 t0 t1 t2 (Err WorldFault) at read one is = absurd is
+same_pending : (readings : List Reading) (tail pending later : List ℕ) (l0 l1 t0 t1 : Option (List ℕ)) → HasSaidAll readings tail pending l0 l1 t0 t1 → later ≡ pending →
+    HasSaidAll readings tail later l0 l1 t0 t1
+same_pending readings tail pending later l0 l1 t0 t1 all same = subst (λ (bytes : List ℕ). HasSaidAll readings tail bytes l0 l1 t0 t1) (sym same) all
 
--- ---- a turn
+-- a line was read and played
+line_turn : (number : ℕ) (next : Kept) (readings : List Reading) (line kept pending later : List ℕ) (l0 l1 t0 t1 : Option (List ℕ)) (result : Result (Unit {0}) Outcome) → number ≡ length readings + 1 →
+    HasSaidAll readings (line ++ 10 ∷ kept) pending l0 l1 t0 t1 → HasNoLineFeed line → IsSaidFor readings (reading_at (stage_behind readings first_stage) line) next pending later result →
+    IsTurn number next kept later l0 l1 t0 t1 result
+line_turn number next readings line kept pending later l0 l1 t0 t1 (Ok done) at all one is = goes_at number readings line kept pending later is.0 next l0 l1 t0 t1 at all one is.1 is.2
+line_turn number next readings line kept pending later l0 l1 t0 t1 (Err Done) at all one is =
+    ending_done readings (line ++ 10 ∷ kept) pending later l0 l1 t0 t1 all (line_decides readings line kept ended all.passed all.whole one is.0) is.1
+line_turn number next readings line kept pending later l0 l1 t0 t1 (Err (Refused n kind)) at all one is =
+    ending readings (line ++ 10 ∷ kept) later l0 l1 t0 t1 (Refused n kind) (same_pending readings _ pending later l0 l1 t0 t1 all is.1)
+    (λ t2 read. refused_at readings (line ++ 10 ∷ kept) n kind l0 l1 t0 t2 read (line_decides readings line kept (refused n kind) all.passed all.whole one is.0))
+line_turn number next readings line kept pending later l0 l1 t0 t1 (Err (TooLong n)) at all one is =
+    ending readings (line ++ 10 ∷ kept) later l0 l1 t0 t1 (TooLong n) (same_pending readings _ pending later l0 l1 t0 t1 all is.1)
+    (λ t2 read. too_long_at readings (line ++ 10 ∷ kept) n l0 l1 t0 t2 read (line_decides readings line kept (too_long n) all.passed all.whole one is.0))
+line_turn number next readings line kept pending later l0 l1 t0 t1 (Err OutOfMemory) at all one is =
+    ending readings (line ++ 10 ∷ kept) later l0 l1 t0 t1 OutOfMemory (same_pending readings _ pending later l0 l1 t0 t1 all is)
+    (λ t2 read. memory_at readings (line ++ 10 ∷ kept) l0 l1 t0 t2 read)
+line_turn number next readings line kept pending later l0 l1 t0 t1 (Err WriteFault) at all one is = absurd is
+line_turn number next readings line kept pending later l0 l1 t0 t1 (Err (Differ n)) at all one is = absurd is
+line_turn number next readings line kept pending later l0 l1 t0 t1 (Err ReadFault) at all one is = absurd is
+line_turn number next readings line kept pending later l0 l1 t0 t1 (Err WorldFault) at all one is = absurd is
 
--- what was read by a call on the reader, behind what was kept
-has_read : (number : ℕ) (playback : Kept) (kept bytes : List ℕ) (l0 l1 l2 t0 t1 : Option (List ℕ)) → (way : IsUnderWay number playback kept l0 l1 t0 t1) → Gives l1 l2 bytes →
-    HasRead way.readings (kept ++ bytes) l0 l2 t0 t1
-has_read number playback kept bytes l0 l1 l2 t0 t1 way gives = record {
+pub line_played : (number : ℕ) (playback next : Kept) (line kept pending later : List ℕ) (l0 l1 t0 t1 : Option (List ℕ)) (result : Result (Unit {0}) Outcome) →
+    FitsLine line × IsUnderWay number playback (line ++ 10 ∷ kept) pending l0 l1 t0 t1 →
+    ((readings : List Reading) → StandsBehind playback readings → number ≡ length readings + 1 →
+    IsSaidFor readings (reading_at (stage_behind readings first_stage) line) next pending later result) →
+    IsTurn number next kept later l0 l1 t0 t1 result
+line_played number playback next line kept pending later l0 l1 t0 t1 result there said =
+    let way = there.1 in
+    line_turn number next way.readings line kept pending later l0 l1 t0 t1 result way.number_is (all_of number playback _ pending l0 l1 t0 t1 way) there.0.one_line
+    (said way.readings way.stands way.number_is)
+
+-- ---- what is pending is put on the way
+
+pub way_front : (number : ℕ) (playback : Kept) (kept pending rest : List ℕ) (l0 l1 t0 t1 t2 : Option (List ℕ)) → IsUnderWay number playback kept pending l0 l1 t0 t1 →
+    TakesFront t1 t2 pending rest → IsUnderWay number playback kept rest l0 l1 t0 t2
+way_front number playback kept pending rest l0 l1 t0 t1 t2 way front = record {
+  readings = way.readings;
+  stands = way.stands;
+  number_is = way.number_is;
+  whole = way.whole;
+  gives = way.gives;
+  said = record {
+    written = way.said.written ++ front.front;
+    taken = Takes-append t0 t1 t2 way.said.written front.front way.said.taken front.taken;
+    all = way.said.all ∙ ap (λ (bytes : List ℕ). way.said.written ++ bytes) front.split ∙ sym (append_assoc way.said.written front.front rest);
+  };
+}
+
+pub way_cut : (number : ℕ) (playback : Kept) (kept pending : List ℕ) (l0 l1 t0 t1 t2 : Option (List ℕ)) → IsUnderWay number playback kept pending l0 l1 t0 t1 →
+    TakesProperPrefix t1 t2 pending → Replays l0 l1 t0 t2 WriteFault
+way_cut number playback kept pending l0 l1 t0 t1 t2 way part =
+    cut_short way.readings kept pending l0 l1 t0 t1 t2 (all_of number playback kept pending l0 l1 t0 t1 way) part
+
+-- a front of what is pending is put behind a line
+pub turn_put : (number : ℕ) (next : Kept) (kept pending rest : List ℕ) (l0 l1 t0 t1 t2 : Option (List ℕ)) (result : Result (Unit {0}) Outcome) → IsUnderWay (number + 1) next kept pending l0 l1 t0 t1 →
+    TakesFront t1 t2 pending rest → IfErr result (λ outcome. TakesProperPrefix t1 t2 pending) → IfErr result (λ outcome. outcome ≡ WriteFault) → IsTurn number next kept rest l0 l1 t0 t2 result
+turn_put number next kept pending rest l0 l1 t0 t1 t2 (Ok done) way front part fault = way_front (number + 1) next kept pending rest l0 l1 t0 t1 t2 way front
+turn_put number next kept pending rest l0 l1 t0 t1 t2 (Err outcome) way front part fault = rw fault (way_cut (number + 1) next kept pending l0 l1 t0 t1 t2 way part)
+
+-- a line is there under another name
+pub line_there : (number : ℕ) (playback : Kept) (line text kept pending : List ℕ) (l0 l1 t0 t1 : Option (List ℕ)) → text ≡ line →
+    FitsLine line × IsUnderWay number playback (line ++ 10 ∷ kept) pending l0 l1 t0 t1 → FitsLine text × IsUnderWay number playback (text ++ 10 ∷ kept) pending l0 l1 t0 t1
+line_there number playback line text kept pending l0 l1 t0 t1 same there =
+    subst (λ (bytes : List ℕ). FitsLine bytes × IsUnderWay number playback (bytes ++ 10 ∷ kept) pending l0 l1 t0 t1) (sym same) there
+
+-- ---- counts of faults
+
+pub reads_same : (before now : ℕ) (outcome : Outcome) → now ≡ before → HasReadCount before before outcome → HasReadCount before now outcome
+reads_same before now outcome same count = subst (λ (n : ℕ). HasReadCount before n outcome) (sym same) count
+
+pub writes_same : (before now : ℕ) (outcome : Outcome) → now ≡ before → HasWriteCount before before outcome → HasWriteCount before now outcome
+writes_same before now outcome same count = subst (λ (n : ℕ). HasWriteCount before n outcome) (sym same) count
+
+pub writes_calm : {A : Type 0} (before now : ℕ) (result : Result A Outcome) → now ≡ before → IfErr result (HasWriteCount before before) → MatchResult result (λ x. now ≡ before) (HasWriteCount before now)
+writes_calm before now (Ok x) same count = same
+writes_calm before now (Err outcome) same count = writes_same before now outcome same count
+
+-- ---- the next line
+
+pub kept_next : (number : ℕ) (playback : Kept) (kept next line pending : List ℕ) (l0 l1 t0 t1 : Option (List ℕ)) → IsUnderWay number playback kept pending l0 l1 t0 t1 →
+    FitsLine line × (kept ≡ line ++ 10 ∷ next) → IsLineNext number playback next pending l0 l1 t0 t1 (Ok line)
+kept_next number playback kept next line pending l0 l1 t0 t1 way found =
+    (found.0, subst (λ (bytes : List ℕ). IsUnderWay number playback bytes pending l0 l1 t0 t1) found.1 way)
+
+pub memory_next : (number : ℕ) (playback : Kept) (kept pending : List ℕ) (l0 l1 t0 t1 : Option (List ℕ)) → IsUnderWay number playback kept pending l0 l1 t0 t1 →
+    IsEnding l0 l1 t0 t1 pending OutOfMemory
+memory_next number playback kept pending l0 l1 t0 t1 way =
+    ending way.readings kept pending l0 l1 t0 t1 OutOfMemory (all_of number playback kept pending l0 l1 t0 t1 way) (λ t2 read. memory_at way.readings kept l0 l1 t0 t2 read)
+
+-- more was read behind what was kept
+way_further : (number : ℕ) (playback : Kept) (kept bytes : List ℕ) (l0 l1 l2 t0 t1 : Option (List ℕ)) → IsUnderWay number playback kept [] l0 l1 t0 t1 → Gives l1 l2 bytes →
+    IsUnderWay number playback (kept ++ bytes) [] l0 l2 t0 t1
+way_further number playback kept bytes l0 l1 l2 t0 t1 way gives = record {
+  readings = way.readings;
+  stands = way.stands;
+  number_is = way.number_is;
+  whole = way.whole;
+  gives = subst (λ (xs : List ℕ). Gives l0 l2 xs) (append_assoc (ended_lines (texts_of way.readings)) kept bytes)
+      (Gives-append l0 l1 l2 (seen_of way.readings kept) bytes way.gives gives);
+  said = way.said;
+}
+
+-- the same, of the lines that were read
+all_further : (number : ℕ) (playback : Kept) (kept bytes : List ℕ) (l0 l1 l2 t0 t1 : Option (List ℕ)) → (way : IsUnderWay number playback kept [] l0 l1 t0 t1) → Gives l1 l2 bytes →
+    HasSaidAll way.readings (kept ++ bytes) [] l0 l2 t0 t1
+all_further number playback kept bytes l0 l1 l2 t0 t1 way gives = record {
   passed = way.stands.passed;
   whole = way.whole;
   gives = subst (λ (xs : List ℕ). Gives l0 l2 xs) (append_assoc (ended_lines (texts_of way.readings)) kept bytes)
       (Gives-append l0 l1 l2 (seen_of way.readings kept) bytes way.gives gives);
-  takes = way.takes;
+  said = way.said;
 }
 
-pub line_read : (number : ℕ) (playback next : Kept) (kept next_kept line : List ℕ) (l0 l1 l2 t0 t1 t2 : Option (List ℕ)) (result : Result (Unit {0}) Outcome) →
-    IsUnderWay number playback kept l0 l1 t0 t1 → ReadsLine l1 l2 kept next_kept (Ok (Line line)) →
-    ((readings : List Reading) → StandsBehind playback readings → number ≡ length readings + 1 → IsWritten readings (reading_at (stage_behind readings first_stage) line) next t1 t2 result) →
-    IsTurn number next next_kept l0 l2 t0 t2 result
-line_read number playback next kept next_kept line l0 l1 l2 t0 t1 t2 result way read written =
-    let all = has_read number playback kept read.taken l0 l1 l2 t0 t1 way read.gives in
-    line_turn number next way.readings line next_kept l0 l2 t0 t1 t2 result way.number_is
-    (subst (λ (bytes : List ℕ). HasRead way.readings bytes l0 l2 t0 t1) read.answer.1 all)
-    read.answer.0.one_line (written way.readings way.stands way.number_is)
+pub line_next : (number : ℕ) (playback : Kept) (kept next line : List ℕ) (l0 l1 l2 t0 t1 : Option (List ℕ)) → IsUnderWay number playback kept [] l0 l1 t0 t1 →
+    ReadsLine l1 l2 kept next (Ok (Line line)) → IsLineNext number playback next [] l0 l2 t0 t1 (Ok line)
+line_next number playback kept next line l0 l1 l2 t0 t1 way read =
+    kept_next number playback (kept ++ read.taken) next line [] l0 l2 t0 t1 (way_further number playback kept read.taken l0 l1 l2 t0 t1 way read.gives) read.answer
 
-pub over_read : (number : ℕ) (playback : Kept) (kept next_kept : List ℕ) (l0 l1 l2 t0 t1 : Option (List ℕ)) → number ≤ most_lines →
-    IsUnderWay number playback kept l0 l1 t0 t1 → ReadsLine l1 l2 kept next_kept (Ok Over) → Replays l0 l2 t0 t1 (Refused number NoEnd)
-over_read number playback kept next_kept l0 l1 l2 t0 t1 few way read =
-    let all = has_read number playback kept read.taken l0 l1 l2 t0 t1 way read.gives in
-    subst (λ n. Replays l0 l2 t0 t1 (Refused n NoEnd)) (sym way.number_is)
-    (over_at way.readings (kept ++ read.taken) l0 l2 t0 t1 all read.answer.0 read.answer.2 (omega (arith, way.number_is)))
+pub over_next : (number : ℕ) (playback : Kept) (kept next : List ℕ) (l0 l1 l2 t0 t1 : Option (List ℕ)) → number ≤ most_lines → IsUnderWay number playback kept [] l0 l1 t0 t1 →
+    ReadsLine l1 l2 kept next (Ok Over) → IsEnding l0 l2 t0 t1 [] (Refused number NoEnd)
+over_next number playback kept next l0 l1 l2 t0 t1 few way read =
+    let on = all_further number playback kept read.taken l0 l1 l2 t0 t1 way read.gives in
+    ending way.readings (kept ++ read.taken) [] l0 l2 t0 t1 (Refused number NoEnd) on
+    (λ t2 all. subst (λ n. Replays l0 l2 t0 t2 (Refused n NoEnd)) (sym way.number_is)
+    (over_at way.readings (kept ++ read.taken) l0 l2 t0 t2 all read.answer.0 read.answer.2 (omega (arith, way.number_is))))
 
-pub failed_read : (number : ℕ) (playback : Kept) (kept next_kept : List ℕ) (l0 l1 l2 t0 t1 : Option (List ℕ)) → number ≤ most_lines →
-    IsUnderWay number playback kept l0 l1 t0 t1 → ReadsLine l1 l2 kept next_kept (Err Failed) → Replays l0 l2 t0 t1 ReadFault
-failed_read number playback kept next_kept l0 l1 l2 t0 t1 few way read =
-    let all = has_read number playback kept read.taken l0 l1 l2 t0 t1 way read.gives in
-    failed_at way.readings (kept ++ read.taken) l0 l2 t0 t1 all read.answer.0 (omega (arith, way.number_is))
+pub failed_next : (number : ℕ) (playback : Kept) (kept next : List ℕ) (l0 l1 l2 t0 t1 : Option (List ℕ)) → number ≤ most_lines → IsUnderWay number playback kept [] l0 l1 t0 t1 →
+    ReadsLine l1 l2 kept next (Err Failed) → Replays l0 l2 t0 t1 ReadFault
+failed_next number playback kept next l0 l1 l2 t0 t1 few way read =
+    let on = all_further number playback kept read.taken l0 l1 l2 t0 t1 way read.gives in
+    failed_at way.readings (kept ++ read.taken) l0 l2 t0 t1
+    (all_taken way.readings _ [] l0 l2 t0 t1 t1 on (Takes-nothing t1)) read.answer.0 (omega (arith, way.number_is))
 
-pub too_long_read : (number : ℕ) (playback : Kept) (kept next_kept : List ℕ) (l0 l1 l2 t0 t1 : Option (List ℕ)) →
-    IsUnderWay number playback kept l0 l1 t0 t1 → ReadsLine l1 l2 kept next_kept (Err LineTooLong) → Replays l0 l2 t0 t1 (TooLong number)
-too_long_read number playback kept next_kept l0 l1 l2 t0 t1 way read =
-    let all = has_read number playback kept read.taken l0 l1 l2 t0 t1 way read.gives in
-    subst (λ n. Replays l0 l2 t0 t1 (TooLong n)) (sym way.number_is)
-    (too_long_at way.readings (kept ++ read.taken) (number_behind way.readings) l0 l2 t0 t1 all
-    (past_decides way.readings (kept ++ read.taken) all.passed all.whole read.answer.0))
+pub too_long_next : (number : ℕ) (playback : Kept) (kept next : List ℕ) (l0 l1 l2 t0 t1 : Option (List ℕ)) → IsUnderWay number playback kept [] l0 l1 t0 t1 →
+    ReadsLine l1 l2 kept next (Err LineTooLong) → IsEnding l0 l2 t0 t1 [] (TooLong number)
+too_long_next number playback kept next l0 l1 l2 t0 t1 way read =
+    let on = all_further number playback kept read.taken l0 l1 l2 t0 t1 way read.gives in
+    ending way.readings (kept ++ read.taken) [] l0 l2 t0 t1 (TooLong number) on
+    (λ t2 all. subst (λ n. Replays l0 l2 t0 t2 (TooLong n)) (sym way.number_is)
+    (too_long_at way.readings (kept ++ read.taken) (number_behind way.readings) l0 l2 t0 t2 all
+    (past_decides way.readings (kept ++ read.taken) all.passed all.whole read.answer.0)))
 
-pub memory_read : (number : ℕ) (playback : Kept) (kept next_kept : List ℕ) (l0 l1 l2 t0 t1 : Option (List ℕ)) →
-    IsUnderWay number playback kept l0 l1 t0 t1 → ReadsLine l1 l2 kept next_kept (Err NoMemory) → Replays l0 l2 t0 t1 OutOfMemory
-memory_read number playback kept next_kept l0 l1 l2 t0 t1 way read =
-    memory_at way.readings (kept ++ read.taken) l0 l2 t0 t1 (has_read number playback kept read.taken l0 l1 l2 t0 t1 way read.gives)
+pub no_memory_next : (number : ℕ) (playback : Kept) (kept next : List ℕ) (l0 l1 l2 t0 t1 : Option (List ℕ)) → IsUnderWay number playback kept [] l0 l1 t0 t1 →
+    ReadsLine l1 l2 kept next (Err NoMemory) → IsEnding l0 l2 t0 t1 [] OutOfMemory
+no_memory_next number playback kept next l0 l1 l2 t0 t1 way read =
+    memory_next number playback _ [] l0 l2 t0 t1 (way_further number playback kept read.taken l0 l1 l2 t0 t1 way read.gives)
 
 -- as many lines as a trace may have were read, and none of them was the last
-pub most_read : (number : ℕ) (playback : Kept) (kept : List ℕ) (l0 l1 t0 t1 : Option (List ℕ)) → most_lines < number →
-    IsUnderWay number playback kept l0 l1 t0 t1 → Replays l0 l1 t0 t1 (TooLong number)
-most_read number playback kept l0 l1 t0 t1 most way =
-    let all : HasRead way.readings kept l0 l1 t0 t1 = record { passed = way.stands.passed; whole = way.whole; gives = way.gives; takes = way.takes } in
-    subst (λ n. Replays l0 l1 t0 t1 (TooLong n)) (sym way.number_is)
-    (too_long_at way.readings kept (number_behind way.readings) l0 l1 t0 t1 all
-    (most_decides way.readings kept all.passed all.whole (omega (arith, way.number_is))))
-
--- what a line that passes gives was put
-pub put_written : (readings : List Reading) (reading : Reading) (next : Kept) (t1 t2 : Option (List ℕ)) (written : List ℕ) (result : Result (Unit {0}) Outcome) → GoesOn readings reading next written →
-    OnOk result (Takes t1 t2 written) → IfErr result (λ outcome. TakesProperPrefix t1 t2 written) → IfErr result (λ outcome. outcome ≡ WriteFault) →
-    IsWritten readings reading next t1 t2 result
-put_written readings reading next t1 t2 written (Ok done) on whole part fault = (written, on, whole)
-put_written readings reading next t1 t2 written (Err outcome) on whole part fault =
-    rw fault (record { written = written; output = passing next on; part = part })
+pub most_read : (number : ℕ) (playback : Kept) (kept pending : List ℕ) (l0 l1 t0 t1 : Option (List ℕ)) → most_lines < number →
+    IsUnderWay number playback kept pending l0 l1 t0 t1 → IsEnding l0 l1 t0 t1 pending (TooLong number)
+most_read number playback kept pending l0 l1 t0 t1 most way =
+    ending way.readings kept pending l0 l1 t0 t1 (TooLong number) (all_of number playback kept pending l0 l1 t0 t1 way)
+    (λ t2 all. subst (λ n. Replays l0 l1 t0 t2 (TooLong n)) (sym way.number_is)
+    (too_long_at way.readings kept (number_behind way.readings) l0 l1 t0 t2 all
+    (most_decides way.readings kept all.passed all.whole (omega (arith, way.number_is)))))
 
 -- before any line
-pub way_none : (playback : Kept) (left taken : Option (List ℕ)) → StandsBehind playback [] → IsUnderWay 1 playback [] left left taken taken
+pub way_none : (playback : Kept) (left taken : Option (List ℕ)) → StandsBehind playback [] → IsUnderWay 1 playback [] [] left left taken taken
 way_none playback left taken stands = record {
   readings = [];
   stands = stands;
   number_is = refl;
   whole = All-nil HasNoLineFeed;
   gives = Gives-nothing left;
-  takes = Takes-nothing taken;
+  said = said_none taken;
 }
 
 -- memory is wanting before anything was read
 pub no_memory : (left taken : Option (List ℕ)) → Replays left left taken taken OutOfMemory
 no_memory left taken =
     memory_at [] [] left left taken taken (record { passed = ArePassed-none; whole = All-nil HasNoLineFeed; gives = Gives-nothing left; takes = Takes-nothing taken })
-
--- no read fault comes of writing
-line_reads : (before now : ℕ) (next : Kept) (readings : List Reading) (reading : Reading) (t0 t1 : Option (List ℕ)) (result : Result (Unit {0}) Outcome) → now ≡ before →
-    IsWritten readings reading next t0 t1 result → MatchResult result (λ _. now ≡ before) (HasReadCount before now)
-line_reads before now next readings reading t0 t1 (Ok done) calm is = calm
-line_reads before now next readings reading t0 t1 (Err Done) calm is = calm
-line_reads before now next readings reading t0 t1 (Err (Refused n kind)) calm is = calm
-line_reads before now next readings reading t0 t1 (Err (TooLong n)) calm is = calm
-line_reads before now next readings reading t0 t1 (Err WriteFault) calm is = calm
-line_reads before now next readings reading t0 t1 (Err OutOfMemory) calm is = calm
-line_reads before now next readings reading t0 t1 (Err (Differ n)) calm is = absurd is
-line_reads before now next readings reading t0 t1 (Err ReadFault) calm is = absurd is
-line_reads before now next readings reading t0 t1 (Err WorldFault) calm is = absurd is
-
-pub line_read-reads : (before now number : ℕ) (playback next : Kept) (kept line : List ℕ) (l0 l1 t0 t1 t2 : Option (List ℕ)) (result : Result (Unit {0}) Outcome) →
-    IsUnderWay number playback kept l0 l1 t0 t1 → now ≡ before →
-    ((readings : List Reading) → StandsBehind playback readings → number ≡ length readings + 1 → IsWritten readings (reading_at (stage_behind readings first_stage) line) next t1 t2 result) →
-    MatchResult result (λ _. now ≡ before) (HasReadCount before now)
-line_read-reads before now number playback next kept line l0 l1 t0 t1 t2 result way calm written =
-    line_reads before now next way.readings _ t1 t2 result calm (written way.readings way.stands way.number_is)

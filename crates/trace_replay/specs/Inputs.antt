@@ -1,12 +1,12 @@
 -- What a replay comes to, in terms of the whole input.
-use Rattle.std.specs.Prelude.{◌≡◌, ℕ, ◌^◌, List, ◌++◌, take, Option, Some}
+use Rattle.std.specs.Prelude.{◌≡◌, ℕ, List, ◌++◌, take, Option, Some}
 use Rattle.io_edge.specs.Told.{Takes, TakesProperPrefix}
 use Rattle.machine.specs.Machine.{Machine}
 use Rattle.machine.specs.Run.{after_all}
 use Rattle.trace_replay.specs.Reading.{events_in}
 use Rattle.trace_replay.specs.Judgement.{Verdict, judged}
 use Rattle.trace_replay.specs.Output.{start_in, output_of}
-use Rattle.trace_replay.specs.Replays.{verdict_of, AreUndecided}
+use Rattle.trace_replay.specs.Replays.{verdict_of, AreUndecided, TakesPrefix}
 
 -- The bytes that were read are a front of the input, and the rest is left.
 pub record IsReadUpTo (input seen : List ℕ) (left_after : Option (List ℕ)) : Type 0 where
@@ -35,6 +35,28 @@ pub record StopsWriting (input : List ℕ) (left_after taken_before taken_after 
   pub seen : List ℕ
   pub read : IsReadUpTo input seen left_after
   pub part : TakesProperPrefix taken_before taken_after (output_of seen)
+
+-- The sink took the whole output of some input that is decided so.
+pub record IsOutputOfSome (verdict : Verdict) (taken_before taken_after : Option (List ℕ)) : Type 0 where
+  pub input : List ℕ
+  pub verdict_is : verdict_of input ≡ verdict
+  pub taken : Takes taken_before taken_after (output_of input)
+
+-- The sink took what some input gives that ends inside a line or before `end`.
+pub record IsOutputSoFar (taken_before taken_after : Option (List ℕ)) : Type 0 where
+  pub input : List ℕ
+  pub undecided : AreUndecided input
+  pub taken : Takes taken_before taken_after (output_of input)
+
+-- The sink took a front of the output of some input, and not all of it.
+pub record IsProperFrontOfSome (taken_before taken_after : Option (List ℕ)) : Type 0 where
+  pub input : List ℕ
+  pub part : TakesProperPrefix taken_before taken_after (output_of input)
+
+-- The sink took a front of the output of some input.
+pub record IsFrontOfSome (taken_before taken_after : Option (List ℕ)) : Type 0 where
+  pub input : List ℕ
+  pub front : TakesPrefix taken_before taken_after (output_of input)
 
 -- the machine after so many events of the lines of an input that pass
 abbrev pub machine_after : ℕ → List ℕ → Machine

@@ -1,3 +1,4 @@
+pub mod Again
 pub mod Inputs
 pub mod Judgement
 pub mod Output

@@ -1,14 +1,11 @@
 -- What `replay` writes for the bytes of a trace.
-use Rattle.std.specs.Prelude.{ℕ, List, [], ◌∷◌, ◌++◌, map, codes, Option, Some, None, Result, Ok, Err}
+use Rattle.std.specs.Prelude.{ℕ, List, [], ◌∷◌, ◌++◌, map, codes, Option, Some, None}
 use Rattle.std.specs.List.{filter_map, flat_map, zip}
 use Rattle.io_edge.specs.Lines.{ended_lines}
 use Rattle.machine.specs.Machine.{Machine, start_of}
 use Rattle.machine.specs.Run.{actions_of}
 use Rattle.net_base.specs.declared.action.Action.{Action}
 use Rattle.trace_text.specs.Actions.{printed_action}
-use Rattle.trace_text.specs.declared.line.Line.{Line}
-use Rattle.trace_text.specs.declared.line.Line.TheVariants.{Head, Happen, Acted, End}
-use Rattle.trace_text.specs.declared.line.LineRefusal.{LineRefusal}
 use Rattle.trace_replay.specs.Reading.{Reading, heads_in, events_in, head_in, event_in}
 use Rattle.trace_replay.specs.Settings.{settings_in}
 use Rattle.trace_replay.specs.Judgement.{Verdict, ended, refused, too_long, Judgement, judged}

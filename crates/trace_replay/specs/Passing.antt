@@ -1,5 +1,5 @@
 -- Lines that pass: they were read, and none of them decides.
-use Rattle.std.specs.Prelude.{◌≡◌, ℕ, List, [], ◌∷◌, ◌++◌, map, Option, None}
+use Rattle.std.specs.Prelude.{◌≡◌, ℕ, List, [], ◌∷◌, ◌++◌, map, None}
 use Rattle.trace_replay.specs.Reading.{Reading, readings_of}
 use Rattle.trace_replay.specs.Judgement.{verdict_at}
 

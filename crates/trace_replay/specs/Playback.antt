@@ -16,7 +16,7 @@ use Rattle.trace_text.specs.declared.line.LineRefusal.TheVariants.{BadWord, BadN
 use Rattle.trace_text.specs.declared.stage.Stage.{Stage}
 use Rattle.trace_replay.specs.Reading.{Reading, said_at, stage_behind, heads_in, events_in}
 use Rattle.trace_replay.specs.Settings.{settings_in}
-use Rattle.trace_replay.specs.Judgement.{Verdict, ended, refused, too_long, most_events, verdict_at}
+use Rattle.trace_replay.specs.Judgement.{ended, refused, too_long, most_events, verdict_at}
 use Rattle.trace_replay.specs.Output.{start_in, told_event, lines_for}
 use Rattle.trace_replay.specs.Passing.{ArePassed}
 use Rattle.trace_replay.specs.declared.stop.Stop.{Stop}
@@ -68,13 +68,18 @@ pub record GoesOn (readings : List Reading) (reading : Reading) (next : Kept) (w
   pub stands : StandsBehind next (readings ++ reading ∷ [])
   pub lines : ended_lines (lines_for (readings ++ reading ∷ [])) ≡ ended_lines (lines_for readings) ++ written
 
--- What one line more comes to: it passes, or it decides. Where it decides nothing is said of what is kept.
-abbrev pub IsPlayed : List Reading → Reading → Kept → Result (List ℕ) Stop → Type 0
-IsPlayed readings reading next (Ok written) = GoesOn readings reading next written
-IsPlayed readings reading next (Err Ended) = verdict_at readings reading ≡ Some ended
-IsPlayed readings reading next (Err (Refused line kind)) = verdict_at readings reading ≡ Some (refused line kind)
-IsPlayed readings reading next (Err (TooLong line)) = verdict_at readings reading ≡ Some (too_long line)
-IsPlayed readings reading next (Err OutOfMemory) = Unit {0}
+-- these lines were said behind what was pending
+abbrev pub Says : List ℕ → List ℕ → List (List ℕ) → Type 0
+Says before after lines = after ≡ before ++ ended_lines lines
+
+-- What one line more comes to, with what is pending before and after it: it passes, or it decides. Where it decides
+-- nothing is said, neither in the output nor here of what is kept.
+abbrev pub IsPlayed : List Reading → Reading → Kept → List ℕ → List ℕ → Result (Unit {0}) Stop → Type 0
+IsPlayed readings reading next before after (Ok done) = (written : List ℕ) × GoesOn readings reading next written × (after ≡ before ++ written)
+IsPlayed readings reading next before after (Err Ended) = (verdict_at readings reading ≡ Some ended) × (after ≡ before)
+IsPlayed readings reading next before after (Err (Refused line kind)) = (verdict_at readings reading ≡ Some (refused line kind)) × (after ≡ before)
+IsPlayed readings reading next before after (Err (TooLong line)) = (verdict_at readings reading ≡ Some (too_long line)) × (after ≡ before)
+IsPlayed readings reading next before after (Err OutOfMemory) = after ≡ before
 
 -- an event line says an event that the engine takes
 abbrev pub IsLineWithin : Line → Type 0
@@ -92,22 +97,23 @@ IsSaid stage text (Err BadTargets) = said_at stage text ≡ Err BadTargets
 IsSaid stage text (Err OutOfOrder) = said_at stage text ≡ Err OutOfOrder
 IsSaid stage text (Err NoMemory) = Unit {0}
 
--- An event is taken: the engine's machine steps, or the one that it begins with; the event line and its actions are written.
-pub record TakesEvent (before : Kept) (event : Event) (text : List ℕ) (next : Kept) (written : List ℕ) : Type 0 where
+-- An event is taken: the engine's machine steps, or the one that it begins with; the event line and its actions are said.
+pub record TakesEvent (before : Kept) (event : Event) (text : List ℕ) (next : Kept) (pending later : List ℕ) : Type 0 where
   pub heads : next.heads ≡ before.heads
   pub machine : (start : Machine) → machine_or start next.engine ≡ (step (machine_before before) event).machine
   pub events : events_taken next.engine ≡ events_taken before.engine + 1
   pub begun : IfSome next.engine (λ engine. 0 < engine.events)
-  pub lines : written ≡ ended_lines (told_event (text, (step (machine_before before) event).actions))
+  pub lines : Says pending later (told_event (text, (step (machine_before before) event).actions))
 
 -- An event line is played: the event is taken, or it is one too many.
-abbrev pub IsHappened : Kept → Kept → ℕ → Stage → Event → List ℕ → Result (List ℕ) Stop → Type 0
-IsHappened before next number stage event text (Ok written) =
-    (events_taken before.engine < most_events) × (next.stage ≡ stage) × TakesEvent before event text next written
-IsHappened before next number stage event text (Err (TooLong line)) = (most_events ≤ events_taken before.engine) × (line ≡ number)
-IsHappened before next number stage event text (Err OutOfMemory) = Unit {0}
-IsHappened before next number stage event text (Err Ended) = ⊥
-IsHappened before next number stage event text (Err (Refused line kind)) = ⊥
+abbrev pub IsHappened : Kept → Kept → ℕ → Stage → Event → List ℕ → List ℕ → List ℕ → Result (Unit {0}) Stop → Type 0
+IsHappened before next number stage event text pending later (Ok done) =
+    (events_taken before.engine < most_events) × (next.stage ≡ stage) × TakesEvent before event text next pending later
+IsHappened before next number stage event text pending later (Err (TooLong line)) =
+    (most_events ≤ events_taken before.engine) × (line ≡ number) × (later ≡ pending)
+IsHappened before next number stage event text pending later (Err OutOfMemory) = later ≡ pending
+IsHappened before next number stage event text pending later (Err Ended) = ⊥
+IsHappened before next number stage event text pending later (Err (Refused line kind)) = ⊥
 
 -- how the refusal of a line is told
 abbrev pub refusal_told : ℕ → LineRefusal → Stop

@@ -1,5 +1,5 @@
 -- What a call of `replay` has read and written, by how it ended.
-use Rattle.std.specs.Prelude.{◌≡◌, ℕ, ◌+◌, ◌<◌, List, ◌++◌, length, Option, Some, Result, Ok, Err}
+use Rattle.std.specs.Prelude.{◌≡◌, ℕ, ◌+◌, List, ◌++◌, length, Option, Some, Result, Ok, Err}
 use Rattle.io_edge.specs.Lines.{whole_lines}
 use Rattle.io_edge.specs.Told.{Gives, Takes, TakesProperPrefix}
 use Rattle.net_base.specs.declared.refusal.RefusalKind.TheVariants.{NoEnd}

@@ -2,6 +2,7 @@
 #![tactic(auto)]
 
 mod head;
+mod law;
 mod outcome;
 mod pickers;
 mod playback;
@@ -10,5 +11,6 @@ mod start;
 mod stop;
 mod told;
 
+pub use law::outputs_are_their_own;
 pub use outcome::Outcome;
 pub use replaying::replay;

@@ -1,4 +1,4 @@
-ghost use Rattle.std.specs.Prelude.{◌≡◌, ℕ, ◌+◌, ◌<◌, ◌≤◌, List, [], ◌∷◌, ◌++◌, length, IfOk, OnOk, Ok};
+ghost use Rattle.std.specs.Prelude.{◌≡◌, ℕ, ◌+◌, ◌<◌, ◌≤◌, List, [], ◌∷◌, ◌++◌, length, IfOk, OnOk, OnErr, Ok};
 ghost use Rattle.io_edge.specs.Lines.{ended_lines};
 ghost use Rattle.net_base.specs.Bounds.{AreSound};
 ghost use Rattle.net_base.specs.Limits.{IsWithinLimits};
@@ -10,8 +10,9 @@ ghost use Rattle.trace_replay.specs.Settings.{settings_in};
 use crate::pickers::Pickers;
 use crate::start::engine_or_first;
 use crate::stop::Stop;
-use crate::told::{ended_line, told};
-use net_base::{Event, Octets, OutOfMemory, RefusalKind};
+use crate::told::tell;
+use io_edge::PieceWriter;
+use net_base::{Event, OutOfMemory, RefusalKind};
 use node_engine::Engine;
 use std::alloc::Global;
 use trace_text::{HeadLine, Line, LineRefusal, Stage, read_line};
@@ -58,34 +59,48 @@ impl Playback {
     }
 
     // A line of the head, with the stage behind it.
-    fn head(&mut self, stage: Stage, head: HeadLine, text: &[u8]) -> Result<Octets, OutOfMemory>
+    fn head(
+        &mut self,
+        stage: Stage,
+        head: HeadLine,
+        text: &[u8],
+        pieces: &mut PieceWriter,
+    ) -> Result<(), OutOfMemory>
         ensures stage { OnOk result (self.new.stage ≡ stage) }
         ensures heads { OnOk result (self.new.heads.items ≡ self.old.heads.items ++ head ∷ []) }
         ensures engine { OnOk result (self.new.engine ≡ self.old.engine) }
-        ensures written { IfOk result (λ written. written ≡ ended_lines (text.now ∷ [])) }
+        ensures said { OnOk result (pieces.new ≡ pieces.old ++ ended_lines (text.now ∷ [])) }
+        ensures unsaid { OnErr result (pieces.new ≡ pieces.old) }
     {
-        let written = ended_line(self.alloc, text)?;
         self.heads.push(head)?;
+        pieces.push_line(text)?;
         self.stage = stage;
-        Ok(written)
+        Ok(())
     }
 
     // An event line, with the stage behind it.
-    fn event(&mut self, stage: Stage, event: Event, text: &[u8]) -> Result<Octets, OutOfMemory>
+    fn event(
+        &mut self,
+        stage: Stage,
+        event: Event,
+        text: &[u8],
+        pieces: &mut PieceWriter,
+    ) -> Result<(), OutOfMemory>
         requires sound { AreSound (settings_in self.old.heads.items) }
         requires few { events_taken (begun self.old.engine (λ e. e.machine) (λ e. e.events)) < 1_000_000 }
         requires within { IsWithinLimits event }
         ensures stage { OnOk result (self.new.stage ≡ stage) }
-        ensures taken { IfOk result (λ written. TakesEvent (kept self.old.stage self.old.heads.items (begun self.old.engine (λ e. e.machine) (λ e. e.events))) event text.now
-            (kept self.new.stage self.new.heads.items (begun self.new.engine (λ e. e.machine) (λ e. e.events))) written) }
+        ensures taken { OnOk result (TakesEvent (kept self.old.stage self.old.heads.items (begun self.old.engine (λ e. e.machine) (λ e. e.events))) event text.now
+            (kept self.new.stage self.new.heads.items (begun self.new.engine (λ e. e.machine) (λ e. e.events))) pieces.old pieces.new) }
+        ensures unsaid { OnErr result (pieces.new ≡ pieces.old) }
     {
         let (engine, pickers) = (self.engine.take(), self.pickers.take());
         let engine = engine_or_first(self.alloc, engine, pickers, &self.heads)?;
         let (engine, actions) = engine.step(event)?;
-        let written = told(self.alloc, text, actions.as_slice())?;
+        tell(self.alloc, text, actions.as_slice(), pieces)?;
         self.stage = stage;
         self.engine = Some(engine);
-        Ok(written)
+        Ok(())
     }
 
     // An event line, with its number and the stage behind it.
@@ -95,48 +110,59 @@ impl Playback {
         stage: Stage,
         event: Event,
         text: &[u8],
-    ) -> Result<Octets, Stop>
+        pieces: &mut PieceWriter,
+    ) -> Result<(), Stop>
         requires sound { AreSound (settings_in self.old.heads.items) }
         requires within { IsWithinLimits event }
         ensures { IsHappened (kept self.old.stage self.old.heads.items (begun self.old.engine (λ e. e.machine) (λ e. e.events)))
-            (kept self.new.stage self.new.heads.items (begun self.new.engine (λ e. e.machine) (λ e. e.events))) number stage event text.now result }
+            (kept self.new.stage self.new.heads.items (begun self.new.engine (λ e. e.machine) (λ e. e.events))) number stage event text.now pieces.old pieces.new result }
     {
         if self.events() >= EVENTS_MOST {
             return Err(Stop::TooLong { line: number });
         }
-        Ok(self.event(stage, event, text)?)
+        Ok(self.event(stage, event, text, pieces)?)
     }
 
     // A line, with its number and what it says.
-    fn play(&mut self, number: u64, line: Line, text: &[u8]) -> Result<Octets, Stop>
+    fn play(
+        &mut self,
+        number: u64,
+        line: Line,
+        text: &[u8],
+        pieces: &mut PieceWriter,
+    ) -> Result<(), Stop>
         requires sound { AreSound (settings_in self.old.heads.items) }
         requires within { IsLineWithin line }
         requires few { number ≤ 4_000_000 }
         requires short { length text.now ≤ 140_000 }
         ensures { (readings : List Reading) → StandsBehind (kept self.old.stage self.old.heads.items (begun self.old.engine (λ e. e.machine) (λ e. e.events))) readings → number ≡ length readings + 1
             → said_at self.old.stage text.now ≡ Ok line
-            → IsPlayed readings (reading_at (stage_behind readings first_stage) text.now) (kept self.new.stage self.new.heads.items (begun self.new.engine (λ e. e.machine) (λ e. e.events))) result }
+            → IsPlayed readings (reading_at (stage_behind readings first_stage) text.now) (kept self.new.stage self.new.heads.items (begun self.new.engine (λ e. e.machine) (λ e. e.events))) pieces.old pieces.new result }
     {
         let stage = self.stage.after(&line);
         match line {
-            Line::Head(head) => Ok(self.head(stage, head, text)?),
-            Line::Happen(event) => self.happen(number, stage, event, text),
-            Line::Acted => Ok(Octets::new(self.alloc)),
+            Line::Head(head) => Ok(self.head(stage, head, text, pieces)?),
+            Line::Happen(event) => self.happen(number, stage, event, text, pieces),
+            Line::Acted => Ok(()),
             Line::End => Err(Stop::Ended),
         }
     }
 
-    /// One line more, given without its line feed, with its number from 1. Answers the text that is to be written for
-    /// the line.
-    pub(crate) fn line(&mut self, number: u64, text: &[u8]) -> Result<Octets, Stop>
+    /// One line more, given without its line feed, with its number from 1. Says the lines that are to be written for it.
+    pub(crate) fn line(
+        &mut self,
+        number: u64,
+        text: &[u8],
+        pieces: &mut PieceWriter,
+    ) -> Result<(), Stop>
         requires sound { AreSound (settings_in self.old.heads.items) }
         requires few { number ≤ 4_000_000 }
         requires short { length text.now ≤ 140_000 }
         ensures { (readings : List Reading) → StandsBehind (kept self.old.stage self.old.heads.items (begun self.old.engine (λ e. e.machine) (λ e. e.events))) readings → number ≡ length readings + 1
-            → IsPlayed readings (reading_at (stage_behind readings first_stage) text.now) (kept self.new.stage self.new.heads.items (begun self.new.engine (λ e. e.machine) (λ e. e.events))) result }
+            → IsPlayed readings (reading_at (stage_behind readings first_stage) text.now) (kept self.new.stage self.new.heads.items (begun self.new.engine (λ e. e.machine) (λ e. e.events))) pieces.old pieces.new result }
     {
         match read(self.alloc, &self.stage, text) {
-            Ok(line) => self.play(number, line, text),
+            Ok(line) => self.play(number, line, text, pieces),
             Err(refusal) => Err(refused(number, refusal)),
         }
     }

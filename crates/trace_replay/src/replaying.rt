@@ -1,29 +1,30 @@
-ghost use Rattle.std.specs.Prelude.{◌≡◌, ℕ, ◌+◌, ◌≤◌, List, [], Option, length, MatchResult, OnOk, IfErr};
+ghost use Rattle.std.specs.Prelude.{◌≡◌, ℕ, ◌+◌, ◌≤◌, List, [], Option, length, MatchResult, OnOk, IfOk, IfErr};
 ghost use Rattle.io_edge.specs.Causes.{HasCause};
 ghost use Rattle.io_edge.specs.Lines.{HasNoLineFeed};
-ghost use Rattle.io_edge.specs.Told.{Takes, TakesProperPrefix};
+ghost use Rattle.io_edge.specs.Told.{Takes, TakesProperPrefix, TakesFront};
 ghost use Rattle.net_base.specs.Bounds.{AreSound};
 ghost use Rattle.trace_text.specs.Stages.{first_stage};
-ghost use Rattle.trace_replay.specs.Playback.{begun, kept, StandsBehind};
+ghost use Rattle.trace_replay.specs.Playback.{Kept, begun, kept, StandsBehind};
 ghost use Rattle.trace_replay.specs.Reading.{Reading, reading_at, stage_behind};
 ghost use Rattle.trace_replay.specs.Replays.{Replays, outcome_or};
 ghost use Rattle.trace_replay.specs.Settings.{settings_in};
-ghost use Rattle.trace_replay.specs.UnderWay.{IsUnderWay, IsTurn, IsWritten, HasReadCount, HasWriteCount};
+ghost use Rattle.trace_replay.specs.UnderWay.{IsUnderWay, IsTurn, IsLineNext, IsSaidFor, Ends, HasReadCount, HasWriteCount};
 
 use crate::Outcome;
 use crate::pickers::Pickers;
 use crate::playback::Playback;
 use crate::stop::Stop;
-use io_edge::{Got, LineFault, LineReader, Sink, Source, put_all};
-use net_base::{Addr, OutOfMemory, RefusalKind};
+use io_edge::{Got, LineFault, LineReader, PieceWriter, Sink, Source};
+use net_base::{Addr, Octets, OutOfMemory, RefusalKind};
 use pick_policy::{Picker, RankedPicker};
 use std::alloc::Global;
 
 // How many lines a trace may have.
 const LINES_MOST: u64 = 4_000_000;
 
-/// Reads a trace from a source and writes it again with the machine's actions, line by line. Reading stops at the
-/// line that decides, and nothing is read behind it but what came with it.
+/// Reads a trace from a source and writes it again with the machine's actions. Reading stops at the line that decides,
+/// and nothing is read behind it but what came with it. What is written is put in pieces: before each reading, and
+/// where much has collected.
 pub fn replay<S: Source, K: Sink>(alloc: Global, src: &mut S, out: &mut K) -> Outcome
     ensures replays { Replays (S.left src.old) (S.left src.new) (K.taken out.old) (K.taken out.new) result }
     ensures reads { HasReadCount (S.faults src.old) (S.faults src.new) result }
@@ -53,26 +54,30 @@ fn replay_anew<S: Source, K: Sink>(
             + addr.key().wrapping_add(word) % 281_474_976_710_656
     })?);
     let mut reader = LineReader::new(alloc)?;
+    let mut pieces = PieceWriter::new(alloc)?;
     let pickers = Pickers { picker, ranked };
-    Ok(replay_lines(alloc, pickers, &mut reader, src, out))
+    let outcome = replay_lines(alloc, pickers, &mut reader, &mut pieces, src, out);
+    Ok(close(outcome, &mut pieces, out))
 }
 
-// Replays a trace of which nothing was read yet.
+// Replays a trace of which nothing was read yet. What is said at the end is pending still.
 fn replay_lines<S: Source, K: Sink>(
     alloc: Global,
     pickers: Pickers,
     reader: &mut LineReader,
+    pieces: &mut PieceWriter,
     src: &mut S,
     out: &mut K,
 ) -> Outcome
-    requires { reader.old ≡ [] }
-    ensures replays { Replays (S.left src.old) (S.left src.new) (K.taken out.old) (K.taken out.new) result }
+    requires fresh { reader.old ≡ [] }
+    requires silent { pieces.old ≡ [] }
+    ensures ends { Ends (S.left src.old) (S.left src.new) (K.taken out.old) (K.taken out.new) pieces.new result }
     ensures reads { HasReadCount (S.faults src.old) (S.faults src.new) result }
     ensures writes { HasWriteCount (K.faults out.old) (K.faults out.new) result }
 {
     let mut playback = Playback::new(alloc, pickers);
     for number in 1..=LINES_MOST {
-        match turn(number, &mut playback, reader, src, out) {
+        match turn(number, &mut playback, reader, pieces, src, out) {
             Ok(()) => {}
             Err(outcome) => return outcome,
         }
@@ -82,26 +87,70 @@ fn replay_lines<S: Source, K: Sink>(
     }
 }
 
-// Reads the line with a number, plays it, and writes what it gives.
+// Reads the line with a number, plays it, and says what it gives.
 fn turn<S: Source, K: Sink>(
     number: u64,
     playback: &mut Playback,
     reader: &mut LineReader,
+    pieces: &mut PieceWriter,
     src: &mut S,
     out: &mut K,
 ) -> Result<(), Outcome>
     requires sound { AreSound (settings_in playback.old.heads.items) }
     requires few { number ≤ 4_000_000 }
     ensures turn { (left taken : Option (List ℕ)) →
-        IsUnderWay number (kept playback.old.stage playback.old.heads.items (begun playback.old.engine (λ e. e.machine) (λ e. e.events))) reader.old left (S.left src.old) taken (K.taken out.old) →
-        IsTurn number (kept playback.new.stage playback.new.heads.items (begun playback.new.engine (λ e. e.machine) (λ e. e.events))) reader.new left (S.left src.new) taken (K.taken out.new) result }
-    ensures reads { (left taken : Option (List ℕ)) →
-        IsUnderWay number (kept playback.old.stage playback.old.heads.items (begun playback.old.engine (λ e. e.machine) (λ e. e.events))) reader.old left (S.left src.old) taken (K.taken out.old) →
-        MatchResult result (λ _. S.faults src.new ≡ S.faults src.old) (HasReadCount (S.faults src.old) (S.faults src.new)) }
+        IsUnderWay number (kept playback.old.stage playback.old.heads.items (begun playback.old.engine (λ e. e.machine) (λ e. e.events))) reader.old pieces.old left (S.left src.old) taken (K.taken out.old) →
+        IsTurn number (kept playback.new.stage playback.new.heads.items (begun playback.new.engine (λ e. e.machine) (λ e. e.events))) reader.new pieces.new left (S.left src.new) taken (K.taken out.new) result }
+    ensures reads { MatchResult result (λ _. S.faults src.new ≡ S.faults src.old) (HasReadCount (S.faults src.old) (S.faults src.new)) }
     ensures writes { MatchResult result (λ _. K.faults out.new ≡ K.faults out.old) (HasWriteCount (K.faults out.old) (K.faults out.new)) }
 {
+    let line = next_line(number, reader, pieces, src, out)?;
+    play_line(number, playback, line.as_slice(), pieces)?;
+    put_full(pieces, out)
+}
+
+// The line with a number. Before the source is asked for more, which may wait, all that was said is put.
+fn next_line<S: Source, K: Sink>(
+    number: u64,
+    reader: &mut LineReader,
+    pieces: &mut PieceWriter,
+    src: &mut S,
+    out: &mut K,
+) -> Result<Octets, Outcome>
+    requires few { number ≤ 4_000_000 }
+    ensures next { (playback : Kept) (left taken : Option (List ℕ)) →
+        IsUnderWay number playback reader.old pieces.old left (S.left src.old) taken (K.taken out.old) →
+        IsLineNext number playback reader.new pieces.new left (S.left src.new) taken (K.taken out.new) result }
+    ensures short { IfOk result (λ line. length line ≤ 140_000) }
+    ensures reads { MatchResult result (λ _. S.faults src.new ≡ S.faults src.old) (HasReadCount (S.faults src.old) (S.faults src.new)) }
+    ensures writes { MatchResult result (λ _. K.faults out.new ≡ K.faults out.old) (HasWriteCount (K.faults out.old) (K.faults out.new)) }
+{
+    match reader.kept_line() {
+        Ok(Some(line)) => Ok(line),
+        Ok(None) => {
+            put(pieces, out)?;
+            read_line(number, reader, src)
+        }
+        Err(OutOfMemory) => Err(Outcome::OutOfMemory),
+    }
+}
+
+// Reads the line with a number.
+fn read_line<S: Source>(
+    number: u64,
+    reader: &mut LineReader,
+    src: &mut S,
+) -> Result<Octets, Outcome>
+    requires few { number ≤ 4_000_000 }
+    ensures read { (playback : Kept) (left taken_before taken : Option (List ℕ)) →
+        IsUnderWay number playback reader.old [] left (S.left src.old) taken_before taken →
+        IsLineNext number playback reader.new [] left (S.left src.new) taken_before taken result }
+    ensures short { IfOk result (λ line. length line ≤ 140_000) }
+    ensures reads { MatchResult result (λ _. S.faults src.new ≡ S.faults src.old) (HasReadCount (S.faults src.old) (S.faults src.new)) }
+    ensures writes { (count : ℕ) → IfErr result (HasWriteCount count count) }
+{
     match reader.next_line(src) {
-        Ok(Got::Line(line)) => write_line(number, playback, line.as_slice(), out),
+        Ok(Got::Line(line)) => Ok(line),
         Ok(Got::Over) => Err(Outcome::Refused {
             line: number,
             kind: RefusalKind::NoEnd,
@@ -112,40 +161,72 @@ fn turn<S: Source, K: Sink>(
     }
 }
 
-// Plays a line, and writes what it gives.
-fn write_line<K: Sink>(
+// Plays a line, and says what it gives.
+fn play_line(
     number: u64,
     playback: &mut Playback,
     line: &[u8],
-    out: &mut K,
+    pieces: &mut PieceWriter,
 ) -> Result<(), Outcome>
     requires sound { AreSound (settings_in playback.old.heads.items) }
     requires few { number ≤ 4_000_000 }
     requires short { length line.now ≤ 140_000 }
-    ensures written { (readings : List Reading) → StandsBehind (kept playback.old.stage playback.old.heads.items (begun playback.old.engine (λ e. e.machine) (λ e. e.events))) readings → number ≡ length readings + 1
-        → IsWritten readings (reading_at (stage_behind readings first_stage) line.now) (kept playback.new.stage playback.new.heads.items (begun playback.new.engine (λ e. e.machine) (λ e. e.events))) (K.taken out.old) (K.taken out.new) result }
-    ensures writes { MatchResult result (λ _. K.faults out.new ≡ K.faults out.old) (HasWriteCount (K.faults out.old) (K.faults out.new)) }
+    ensures said { (readings : List Reading) → StandsBehind (kept playback.old.stage playback.old.heads.items (begun playback.old.engine (λ e. e.machine) (λ e. e.events))) readings → number ≡ length readings + 1
+        → IsSaidFor readings (reading_at (stage_behind readings first_stage) line.now) (kept playback.new.stage playback.new.heads.items (begun playback.new.engine (λ e. e.machine) (λ e. e.events))) pieces.old pieces.new result }
+    ensures reads { (count : ℕ) → IfErr result (HasReadCount count count) }
+    ensures writes { (count : ℕ) → IfErr result (HasWriteCount count count) }
 {
-    match playback.line(number, line) {
-        Ok(text) => put(out, text.as_slice()),
-        Err(Stop::Ended) => {
-            put(out, b"end\n")?;
-            Err(Outcome::Done)
-        }
+    match playback.line(number, line, pieces) {
+        Ok(()) => Ok(()),
+        Err(Stop::Ended) => match pieces.push_line(b"end") {
+            Ok(()) => Err(Outcome::Done),
+            Err(OutOfMemory) => Err(Outcome::OutOfMemory),
+        },
         Err(Stop::Refused { line, kind }) => Err(Outcome::Refused { line, kind }),
         Err(Stop::TooLong { line }) => Err(Outcome::TooLong { line }),
         Err(Stop::OutOfMemory) => Err(Outcome::OutOfMemory),
     }
 }
 
-// Writes a piece whole.
-fn put<K: Sink>(out: &mut K, piece: &[u8]) -> Result<(), Outcome>
-    ensures whole { OnOk result (Takes (K.taken out.old) (K.taken out.new) piece.now) }
-    ensures part { IfErr result (λ outcome. TakesProperPrefix (K.taken out.old) (K.taken out.new) piece.now) }
+// Puts what is pending where a replay ends. After a fault nothing more is put: before a reading all was.
+fn close<K: Sink>(outcome: Outcome, pieces: &mut PieceWriter, out: &mut K) -> Outcome
+    ensures closed { (l0 l1 t0 : Option (List ℕ)) → Ends l0 l1 t0 (K.taken out.old) pieces.old outcome → Replays l0 l1 t0 (K.taken out.new) result }
+    ensures reads { (before now : ℕ) → HasReadCount before now outcome → HasReadCount before now result }
+    ensures writes { (before : ℕ) → HasWriteCount before (K.faults out.old) outcome → HasWriteCount before (K.faults out.new) result }
+{
+    match outcome {
+        Outcome::ReadFault | Outcome::WriteFault => outcome,
+        _ => match put(pieces, out) {
+            Ok(()) => outcome,
+            Err(fault) => fault,
+        },
+    }
+}
+
+// Puts what is pending where it makes a piece.
+fn put_full<K: Sink>(pieces: &mut PieceWriter, out: &mut K) -> Result<(), Outcome>
+    ensures front { TakesFront (K.taken out.old) (K.taken out.new) pieces.old pieces.new }
+    ensures part { IfErr result (λ outcome. TakesProperPrefix (K.taken out.old) (K.taken out.new) pieces.old) }
     ensures fault { IfErr result (λ outcome. outcome ≡ Outcome.WriteFault) }
     ensures cause { HasCause (K.faults out.old) (K.faults out.new) result }
 {
-    match put_all(out, piece) {
+    if pieces.is_full() {
+        put(pieces, out)
+    } else {
+        Ok(())
+    }
+}
+
+// Puts all that is pending.
+fn put<K: Sink>(pieces: &mut PieceWriter, out: &mut K) -> Result<(), Outcome>
+    ensures front { TakesFront (K.taken out.old) (K.taken out.new) pieces.old pieces.new }
+    ensures whole { OnOk result (Takes (K.taken out.old) (K.taken out.new) pieces.old) }
+    ensures silent { OnOk result (pieces.new ≡ []) }
+    ensures part { IfErr result (λ outcome. TakesProperPrefix (K.taken out.old) (K.taken out.new) pieces.old) }
+    ensures fault { IfErr result (λ outcome. outcome ≡ Outcome.WriteFault) }
+    ensures cause { HasCause (K.faults out.old) (K.faults out.new) result }
+{
+    match pieces.put(out) {
         Ok(()) => Ok(()),
         Err(_) => Err(Outcome::WriteFault),
     }

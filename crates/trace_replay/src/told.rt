@@ -1,30 +1,45 @@
-ghost use Rattle.std.specs.Prelude.{◌≡◌, ℕ, ◌+◌, ◌<◌, ◌≤◌, List, [], ◌∷◌, ◌++◌, length, IfOk};
+ghost use Rattle.std.specs.Prelude.{◌≡◌, ℕ, ◌≤◌, List, ◌++◌, length, take, OnOk, OnErr};
 ghost use Rattle.io_edge.specs.Lines.{ended_lines};
 ghost use Rattle.trace_replay.specs.Output.{told_event};
 
-use net_base::{Action, Octets, OutOfMemory};
+use io_edge::PieceWriter;
+use net_base::{Action, OutOfMemory};
 use std::alloc::Global;
 use trace_text::print_action;
 
-/// A line with its line feed.
-pub(crate) fn ended_line(alloc: Global, text: &[u8]) -> Result<Octets, OutOfMemory>
-    ensures { IfOk result (λ written. written ≡ ended_lines (text.now ∷ [])) }
+/// Says an event line, and below it a line for each of its actions. Where memory is wanting nothing is said.
+pub(crate) fn tell(
+    alloc: Global,
+    text: &[u8],
+    actions: &[Action],
+    pieces: &mut PieceWriter,
+) -> Result<(), OutOfMemory>
+    ensures said { OnOk result (pieces.new ≡ pieces.old ++ ended_lines (told_event (text.now, actions.now))) }
+    ensures unsaid { OnErr result (pieces.new ≡ pieces.old) }
 {
-    let mut written = Octets::new(alloc);
-    written.extend_from_slice(text)?;
-    written.extend_from_slice(b"\n")?;
-    Ok(written)
+    let before = pieces.len();
+    let told = tell_on(alloc, text, actions, pieces);
+    if told.is_err() {
+        pieces.truncate(before);
+    }
+    told
 }
 
-/// An event line, and below it a line for each of its actions.
-pub(crate) fn told(alloc: Global, text: &[u8], actions: &[Action]) -> Result<Octets, OutOfMemory>
-    ensures { IfOk result (λ written. written ≡ ended_lines (told_event (text.now, actions.now))) }
+// The same, where a want of memory may come in the middle.
+fn tell_on(
+    alloc: Global,
+    text: &[u8],
+    actions: &[Action],
+    pieces: &mut PieceWriter,
+) -> Result<(), OutOfMemory>
+    ensures said { OnOk result (pieces.new ≡ pieces.old ++ ended_lines (told_event (text.now, actions.now))) }
+    ensures more { length pieces.old ≤ length pieces.new }
+    ensures front { take (length pieces.old) pieces.new ≡ pieces.old }
 {
-    let mut written = ended_line(alloc, text)?;
+    pieces.push_line(text)?;
     for action in actions {
         let line = print_action(alloc, action)?;
-        written.extend_from_slice(line.as_slice())?;
-        written.extend_from_slice(b"\n")?;
+        pieces.push_line(line.as_slice())?;
     }
-    Ok(written)
+    Ok(())
 }

@@ -7,6 +7,7 @@ use net_base::{
     StateName, Temp,
 };
 use std::alloc::AllocError;
+use std::process::Abort;
 use std::test::Fail;
 
 // A node proposes two versions, or takes the greater one.
@@ -71,6 +72,13 @@ fn locals(alloc: Global, port: u16) -> Result<Event, OutOfMemory>
     Ok(Event::Locals(groups))
 }
 
+// The other side takes the proposal.
+fn acceptance(alloc: Global) -> Result<Event, OutOfMemory>
+    ensures { IfOk result (λ event. IsWithinLimits event) }
+{
+    Ok(Event::Bytes(Cid(1), Octets::from_slice(alloc, &ACCEPTANCE)?))
+}
+
 fn sends(alloc: Global, bytes: &[u8]) -> Result<Action, OutOfMemory> {
     Ok(Action::Send(Cid(1), Octets::from_slice(alloc, bytes)?))
 }
@@ -95,157 +103,99 @@ fn waited(cid: u64) -> Action {
     Action::Close(Cid(cid), CloseCause::Fault(FaultKind::HandshakeWait))
 }
 
-// An event is taken.
-fn take(engine: Engine, event: Event) -> Result<(Engine, ActionList), Fail>
+// An event is taken, and the node does that.
+fn expect(rt: &impl Abort, engine: Engine, event: Event, wanted: &[Action]) -> Result<Engine, Fail>
     requires few { engine.events < 100 }
     requires within { IsWithinLimits event }
-    ensures { IfOk result (λ r. r.0.events ≡ engine.events + 1) }
+    ensures { IfOk result (λ e. e.events ≡ engine.events + 1) }
 {
     let (engine, actions) = engine.step(event)?;
-    Ok((engine, actions))
+    assert_eq!(rt; actions.as_slice(), wanted);
+    Ok(engine)
 }
 
-#[test]
-fn pauses_above_soft_and_turns_away_at_hard(rt: HostRuntime) -> Result<(), Fail> {
-    let alloc = rt.alloc();
-    let picker = Picker::new(Box::new(alloc, |addr: Addr, word: u64| {
-        addr.key().wrapping_add(word)
-    })?);
-    let ranked = RankedPicker::new(Box::new(alloc, |addr: Addr, failures: u64, word: u64| {
-        failures.min(65_535) * 281_474_976_710_656
-            + addr.key().wrapping_add(word) % 281_474_976_710_656
-    })?);
-    let engine = Engine::new(alloc, settings(2, 1), picker, ranked)?;
-    let (engine, actions) = take(engine, accepted(3002))?;
-    assert_eq!(rt;
-        actions.as_slice(),
-        [admitted(1, 3002), greets(1)].as_slice()
-    );
-    let (engine, actions) = take(engine, accepted(3003))?;
-    assert_eq!(rt;
-        actions.as_slice(),
-        [admitted(2, 3003), greets(2), Action::Pause(5000)].as_slice()
-    );
-    let (engine, actions) = take(engine, accepted(3004))?;
-    assert_eq!(rt;
-        actions.as_slice(),
-        [Action::Turnaway(Away::Full)].as_slice()
-    );
-    let (engine, actions) = take(engine, Event::Closed(Cid(1)))?;
-    assert_eq!(rt; actions.as_slice(), [went(1)].as_slice());
-    let (engine, actions) = take(engine, Event::Now(10_000))?;
-    assert_eq!(rt; actions.as_slice(), [waited(2), went(2)].as_slice());
+fn pauses_and_turns_away(rt: &impl Abort, engine: Engine) -> Result<(), Fail>
+    requires { engine.events ≡ 0 }
+{
+    let engine = expect(rt, engine, accepted(3002), &[admitted(1, 3002), greets(1)])?;
+    let pause = Action::Pause(5000);
+    let second = [admitted(2, 3003), greets(2), pause];
+    let engine = expect(rt, engine, accepted(3003), &second)?;
+    let full = [Action::Turnaway(Away::Full)];
+    let engine = expect(rt, engine, accepted(3004), &full)?;
+    let engine = expect(rt, engine, Event::Closed(Cid(1)), &[went(1)])?;
+    let engine = expect(rt, engine, Event::Now(10_000), &[waited(2), went(2)])?;
     assert_eq!(rt; engine.taken(), 5);
     assert_eq!(rt; engine.now(), 10_000);
     Ok(())
 }
 
-#[test]
-fn ends_a_handshake_at_its_deadline(rt: HostRuntime) -> Result<(), Fail> {
-    let alloc = rt.alloc();
-    let picker = Picker::new(Box::new(alloc, |addr: Addr, word: u64| {
-        addr.key().wrapping_add(word)
-    })?);
-    let ranked = RankedPicker::new(Box::new(alloc, |addr: Addr, failures: u64, word: u64| {
-        failures.min(65_535) * 281_474_976_710_656
-            + addr.key().wrapping_add(word) % 281_474_976_710_656
-    })?);
-    let engine = Engine::new(alloc, settings(512, 384), picker, ranked)?;
-    let (engine, actions) = take(engine, accepted(3002))?;
-    assert_eq!(rt;
-        actions.as_slice(),
-        [admitted(1, 3002), greets(1)].as_slice()
-    );
+fn waits_for_the_handshake(rt: &impl Abort, engine: Engine) -> Result<(), Fail>
+    requires { engine.events ≡ 0 }
+{
+    let engine = expect(rt, engine, accepted(3002), &[admitted(1, 3002), greets(1)])?;
     assert_eq!(rt; engine.tally().counted, 1);
-    let (engine, actions) = take(engine, Event::Now(9_999))?;
-    assert!(rt; actions.as_slice().is_empty());
+    let engine = expect(rt, engine, Event::Now(9_999), &[])?;
     assert!(rt; engine.facts(Cid(1)).is_some());
-    let (engine, actions) = take(engine, Event::Now(10_000))?;
-    assert_eq!(rt; actions.as_slice(), [waited(1), went(1)].as_slice());
+    let engine = expect(rt, engine, Event::Now(10_000), &[waited(1), went(1)])?;
     assert_eq!(rt; engine.facts(Cid(1)), None);
     assert_eq!(rt; engine.tally().counted, 0);
-    let (engine, actions) = take(engine, Event::Now(5))?;
-    assert!(rt; actions.as_slice().is_empty());
+    let engine = expect(rt, engine, Event::Now(5), &[])?;
     assert_eq!(rt; engine.now(), 10_000);
     Ok(())
 }
 
-#[test]
-fn turns_away_itself_and_whom_it_has(rt: HostRuntime) -> Result<(), Fail> {
-    let alloc = rt.alloc();
-    let picker = Picker::new(Box::new(alloc, |addr: Addr, word: u64| {
-        addr.key().wrapping_add(word)
-    })?);
-    let ranked = RankedPicker::new(Box::new(alloc, |addr: Addr, failures: u64, word: u64| {
-        failures.min(65_535) * 281_474_976_710_656
-            + addr.key().wrapping_add(word) % 281_474_976_710_656
-    })?);
-    let engine = Engine::new(alloc, settings(512, 384), picker, ranked)?;
-    let (engine, actions) = take(engine, accepted(3001))?;
-    assert_eq!(rt;
-        actions.as_slice(),
-        [Action::Turnaway(Away::OwnAddr)].as_slice()
-    );
-    let (engine, actions) = take(engine, accepted(3002))?;
-    assert_eq!(rt;
-        actions.as_slice(),
-        [admitted(1, 3002), greets(1)].as_slice()
-    );
-    let (engine, actions) = take(engine, accepted(3002))?;
-    assert_eq!(rt;
-        actions.as_slice(),
-        [Action::Turnaway(Away::Present)].as_slice()
-    );
+fn turns_away_whom_it_has(rt: &impl Abort, engine: Engine) -> Result<(), Fail>
+    requires { engine.events ≡ 0 }
+{
+    let itself = [Action::Turnaway(Away::OwnAddr)];
+    let engine = expect(rt, engine, accepted(3001), &itself)?;
+    let engine = expect(rt, engine, accepted(3002), &[admitted(1, 3002), greets(1)])?;
+    let present = [Action::Turnaway(Away::Present)];
+    let engine = expect(rt, engine, accepted(3002), &present)?;
     assert_eq!(rt; engine.taken(), 3);
     assert_eq!(rt; engine.now(), 0);
     Ok(())
 }
 
-#[test]
-fn dials_a_local_peer_and_uses_the_connection(rt: HostRuntime) -> Result<(), Fail> {
-    let alloc = rt.alloc();
-    let picker = Picker::new(Box::new(alloc, |addr: Addr, word: u64| {
-        addr.key().wrapping_add(word)
-    })?);
-    let ranked = RankedPicker::new(Box::new(alloc, |addr: Addr, failures: u64, word: u64| {
-        failures.min(65_535) * 281_474_976_710_656
-            + addr.key().wrapping_add(word) % 281_474_976_710_656
-    })?);
-    let engine = Engine::new(alloc, settings(512, 384), picker, ranked)?;
-    let (engine, actions) = take(engine, locals(alloc, 3002)?)?;
-    assert_eq!(rt;
-        actions.as_slice(),
-        [Action::Peer(local(3002), PeerNote::Known)].as_slice()
-    );
-    let (engine, actions) = take(engine, Event::Govern(0))?;
-    assert_eq!(rt;
-        actions.as_slice(),
-        [
-            Action::Dial(Cid(1), local(3002)),
-            named(1, StateName::ReservedOutbound),
-        ]
-        .as_slice()
-    );
-    let (engine, actions) = take(engine, Event::Dialed(Cid(1), true))?;
-    assert_eq!(rt;
-        actions.as_slice(),
-        [
-            named(1, StateName::UnnegotiatedOutbound),
-            sends(alloc, &PROPOSAL)?,
-        ]
-        .as_slice()
-    );
-    let answer = Event::Bytes(Cid(1), Octets::from_slice(alloc, &ACCEPTANCE)?);
-    let (engine, actions) = take(engine, answer)?;
-    assert_eq!(rt;
-        actions.as_slice(),
-        [
-            named(1, StateName::OutboundDupTicking),
-            Action::Peer(local(3002), PeerNote::Warm),
-            sends(alloc, &ALIVE)?,
-        ]
-        .as_slice()
-    );
+// A dial comes to be.
+fn dials(rt: &impl Abort, engine: Engine, alloc: Global) -> Result<Engine, Fail>
+    requires { engine.events ≡ 0 }
+    ensures { IfOk result (λ e. e.events ≡ 2) }
+{
+    let known = [Action::Peer(local(3002), PeerNote::Known)];
+    let engine = expect(rt, engine, locals(alloc, 3002)?, &known)?;
+    let dial = Action::Dial(Cid(1), local(3002));
+    let dialed = [dial, named(1, StateName::ReservedOutbound)];
+    expect(rt, engine, Event::Govern(0), &dialed)
+}
+
+// It is open, and versions are proposed.
+fn proposed(alloc: Global) -> Result<[Action; 2], OutOfMemory> {
+    let opened = named(1, StateName::UnnegotiatedOutbound);
+    Ok([opened, sends(alloc, &PROPOSAL)?])
+}
+
+fn proposes(rt: &impl Abort, engine: Engine, alloc: Global) -> Result<Engine, Fail>
+    requires { engine.events ≡ 2 }
+    ensures { IfOk result (λ e. e.events ≡ 3) }
+{
+    let wanted = proposed(alloc)?;
+    expect(rt, engine, Event::Dialed(Cid(1), true), &wanted)
+}
+
+// It is agreed on and used.
+fn used(alloc: Global) -> Result<[Action; 3], OutOfMemory> {
+    let ticking = named(1, StateName::OutboundDupTicking);
+    let warm = Action::Peer(local(3002), PeerNote::Warm);
+    Ok([ticking, warm, sends(alloc, &ALIVE)?])
+}
+
+fn agrees(rt: &impl Abort, engine: Engine, alloc: Global) -> Result<(), Fail>
+    requires { engine.events ≡ 3 }
+{
+    let wanted = used(alloc)?;
+    let engine = expect(rt, engine, acceptance(alloc)?, &wanted)?;
     let temp = engine.peer(local(3002)).map(|peer| peer.temp);
     assert_eq!(rt; temp, Some(Temp::Warm));
     assert_eq!(rt; engine.tally().established, 1);
@@ -253,15 +203,48 @@ fn dials_a_local_peer_and_uses_the_connection(rt: HostRuntime) -> Result<(), Fai
 }
 
 #[test]
+fn pauses_above_soft_and_turns_away_at_hard(rt: HostRuntime) -> Result<(), Fail> {
+    let alloc = rt.alloc();
+    let picker = Picker::new(Box::new(alloc, |_: Addr, word: u64| word)?);
+    let ranked = RankedPicker::new(Box::new(alloc, |_: Addr, _: u64, word: u64| word)?);
+    let engine = Engine::new(alloc, settings(2, 1), picker, ranked)?;
+    pauses_and_turns_away(&rt, engine)
+}
+
+#[test]
+fn ends_a_handshake_at_its_deadline(rt: HostRuntime) -> Result<(), Fail> {
+    let alloc = rt.alloc();
+    let picker = Picker::new(Box::new(alloc, |_: Addr, word: u64| word)?);
+    let ranked = RankedPicker::new(Box::new(alloc, |_: Addr, _: u64, word: u64| word)?);
+    let engine = Engine::new(alloc, settings(512, 384), picker, ranked)?;
+    waits_for_the_handshake(&rt, engine)
+}
+
+#[test]
+fn turns_away_itself_and_whom_it_has(rt: HostRuntime) -> Result<(), Fail> {
+    let alloc = rt.alloc();
+    let picker = Picker::new(Box::new(alloc, |_: Addr, word: u64| word)?);
+    let ranked = RankedPicker::new(Box::new(alloc, |_: Addr, _: u64, word: u64| word)?);
+    let engine = Engine::new(alloc, settings(512, 384), picker, ranked)?;
+    turns_away_whom_it_has(&rt, engine)
+}
+
+#[test]
+fn dials_a_local_peer_and_uses_the_connection(rt: HostRuntime) -> Result<(), Fail> {
+    let alloc = rt.alloc();
+    let picker = Picker::new(Box::new(alloc, |_: Addr, word: u64| word)?);
+    let ranked = RankedPicker::new(Box::new(alloc, |_: Addr, _: u64, word: u64| word)?);
+    let engine = Engine::new(alloc, settings(512, 384), picker, ranked)?;
+    let engine = dials(&rt, engine, alloc)?;
+    let engine = proposes(&rt, engine, alloc)?;
+    agrees(&rt, engine, alloc)
+}
+
+#[test]
 fn names_the_first_bad_setting(rt: HostRuntime) -> Result<(), Fail> {
     let alloc = rt.alloc();
-    let picker = Picker::new(Box::new(alloc, |addr: Addr, word: u64| {
-        addr.key().wrapping_add(word)
-    })?);
-    let ranked = RankedPicker::new(Box::new(alloc, |addr: Addr, failures: u64, word: u64| {
-        failures.min(65_535) * 281_474_976_710_656
-            + addr.key().wrapping_add(word) % 281_474_976_710_656
-    })?);
+    let picker = Picker::new(Box::new(alloc, |_: Addr, word: u64| word)?);
+    let ranked = RankedPicker::new(Box::new(alloc, |_: Addr, _: u64, word: u64| word)?);
     let refusal = Engine::new(alloc, settings(2, 3), picker, ranked).err();
     assert_eq!(rt; refusal, Some(NewRefusal::BadSetting(Field::Soft)));
     Ok(())

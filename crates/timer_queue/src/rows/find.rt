@@ -5,10 +5,11 @@ ghost use Rattle.timer_queue.specs.Rows.{row_at, found_at, place_at};
 ghost use Rattle.timer_queue.specs.Timers.{cid_below};
 
 use super::Row;
+use chunked_list::ChunkedList;
 use net_base::Cid;
 
 // How many rows of a rising list are below an id.
-pub fn place_of(rows: &[Row], cid: Cid) -> usize
+pub fn place_of(rows: &ChunkedList<Row>, cid: Cid) -> usize
     requires { IsRising cid_below (λ r. r.cid) rows.now }
     ensures value { result ≡ place_at cid rows.now }
     ensures bound { result ≤ length rows.now }
@@ -17,7 +18,7 @@ pub fn place_of(rows: &[Row], cid: Cid) -> usize
 }
 
 // The place of the row of an id.
-pub fn place_in(rows: &[Row], cid: Cid) -> Option<usize>
+pub fn place_in(rows: &ChunkedList<Row>, cid: Cid) -> Option<usize>
     requires { IsRising cid_below (λ r. r.cid) rows.now }
     ensures { result ≡ then_some (is_some (row_at cid rows.now)) (place_at cid rows.now) }
 {
@@ -26,7 +27,7 @@ pub fn place_in(rows: &[Row], cid: Cid) -> Option<usize>
 }
 
 // Whether the row at a place is that of an id.
-fn is_at(rows: &[Row], place: usize, cid: Cid) -> bool
+fn is_at(rows: &ChunkedList<Row>, place: usize, cid: Cid) -> bool
     ensures { result ≡ is_some (found_at cid (slice_get rows.now place)) }
 {
     match rows.get(place) {

@@ -1,13 +1,13 @@
 use Rattle.std.proofs.Common.{◌≡◌, List, take, drop, sym, ap, subst, ◌∙◌}
 use Rattle.std.specs.List.{prefix_len}
-use Rattle.govern_rules.specs.SortedLinks.{IsByAddress, is_below, is_up_to}
+use Rattle.govern_rules.specs.SortedLinks.{IsInOrder, is_below, is_up_to}
 use Rattle.govern_rules.specs.declared.link.Link.{Link}
-use Rattle.govern_rules.proofs.ByAddress.{by_address-drop, own_run}
+use Rattle.govern_rules.proofs.ByAddress.{in_order-drop, own_run}
 use Rattle.govern_rules.proofs.links.links_of.Goals as goal
 
 pub end_of-requires : goal.end_of-requires
 end_of-requires c =
-    subst IsByAddress (sym c.split_at.ensures.back) (by_address-drop c.start_of.result c.args.links.now c.requires)
+    subst IsInOrder (sym c.split_at.ensures.back) (in_order-drop c.start_of.result c.args.links.now c.requires)
 
 pub returns : goal.returns
 returns c =

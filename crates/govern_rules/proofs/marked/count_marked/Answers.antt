@@ -2,7 +2,7 @@ use Rattle.std.proofs.Common.{◌≡◌, ◌+◌, ◌∷◌, [], true, false, le
 use Rattle.govern_rules.specs.ClassRules.{count_of}
 use Rattle.govern_rules.specs.Links.{some_link}
 use Rattle.govern_rules.specs.Marks.{has_mark}
-use Rattle.govern_rules.specs.SortedLinks.{IsByAddress}
+use Rattle.govern_rules.specs.SortedLinks.{IsInOrder}
 use Rattle.govern_rules.proofs.Apart.{nothing}
 use Rattle.govern_rules.proofs.Counting.{one-link, no-link}
 use Rattle.govern_rules.proofs.marked.count_marked.Goals as goal
@@ -10,7 +10,7 @@ use Rattle.govern_rules.proofs.marked.count_marked.Goals as goal
 pub counts-requires : goal.counts-requires
 counts-requires c =
     let front : c.loop-link.rest.now ≡ c.in-Some.link.now ∷ c.in-Some.after.now = search rules in
-    (subst IsByAddress front c.loop-link.invariant.ordered).1
+    (subst IsInOrder front c.loop-link.invariant.ordered).1
 
 pub loop-link-preserved-then-counts : goal.loop-link-preserved-then-counts
 loop-link-preserved-then-counts c =
@@ -20,7 +20,7 @@ loop-link-preserved-then-counts c =
     record {
       so_far = omega (arith, more, before);
       few = omega (arith, ap length front, c.loop-link.invariant.few);
-      ordered = (subst IsByAddress front c.loop-link.invariant.ordered).1;
+      ordered = (subst IsInOrder front c.loop-link.invariant.ordered).1;
     }
 
 pub loop-link-preserved : goal.loop-link-preserved
@@ -31,7 +31,7 @@ loop-link-preserved c =
     record {
       so_far = omega (arith, more, before);
       few = omega (arith, ap length front, c.loop-link.invariant.few);
-      ordered = (subst IsByAddress front c.loop-link.invariant.ordered).1;
+      ordered = (subst IsInOrder front c.loop-link.invariant.ordered).1;
     }
 
 pub returns : goal.returns

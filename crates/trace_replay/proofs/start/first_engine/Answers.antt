@@ -1,4 +1,4 @@
-use Rattle.std.proofs.Common.{◌≡◌, Err, None, Some, sym, ap, ◌∙◌}
+use Rattle.std.proofs.Common.{◌≡◌, Err, None, Some, ap, ◌∙◌}
 use Rattle.net_base.specs.Bounds.{settings_fault}
 use Rattle.trace_replay.proofs.start.first_engine.Goals as goal
 

@@ -31,16 +31,16 @@ returns-clause-kept c =
     let fs : List Facts = facts_kept kept in
     let f : Facts = facts_of c.args.state in
     let rises : IdsRise 0 kept.given fs = c.requires.kept.ids_rise in
-    let new : map facts_of c.push_within.new.states.items ≡ fs ++ f ∷ [] =
-    ap (map facts_of) (c.push_within.ensures ∙ ap (λ l. l ++ c.args.state ∷ []) c.in_ok-try_reserve.ensures.items)
-    ∙ map-append facts_of kept.states.items (c.args.state ∷ []) in
+    let new : map facts_of c.push.new.self ≡ fs ++ f ∷ [] =
+    ap (map facts_of) c.in_ok-push.ensures.ok
+    ∙ map-append facts_of kept.states (c.args.state ∷ []) in
     let placed : c.placed.result ≡ placed_of f = c.placed.ensures ∙ ap placed_of c.facts-facts.ensures.value in
     let is_counted_now : c.is_counted.result ≡ is_counted f = c.is_counted.ensures ∙ ap is_counted c.facts-facts.ensures.value in
     record {
       few = omega (arith, c.requires.few);
       ids_rise = subst (IdsRise 0 (kept.given + 1)) (sym new) (IdsRise-push 0 kept.given fs f rises c.requires.next);
       last_lives = subst OnlyLastLives (sym new) (OnlyLastLives-push fs f c.requires.kept.last_lives c.requires.alone);
-      indexed = c.in_ok-insert.ensures.ok ∙ (ap (λ p. put_in p kept.index) placed ∙ (ap (put_in (placed_of f)) c.requires.kept.indexed
+      indexed = c.in_default.ensures.ok ∙ (ap (λ p. put_in p kept.index) placed ∙ (ap (put_in (placed_of f)) c.requires.kept.indexed
           ∙ (sym (index_of-push 0 kept.given fs f rises c.requires.next) ∙ ap index_of (sym new))));
       counted = omega (
         arith,

@@ -1,5 +1,4 @@
-use Rattle.std.proofs.Common.{◌∙◌, ap, rules}
-use Rattle.std.specs.List.{prefix_len}
+use Rattle.std.proofs.Common.{◌∙◌, rules}
 use Rattle.std.proofs.lemmas.List.Sorted.{IsPartitionPoint-from_clause}
 use Rattle.conn_table.proofs.IdPlaces.{state_under, parted, id_place-map}
 use Rattle.conn_table.proofs.PlacedPlaces.{place_is}
@@ -7,8 +6,8 @@ use Rattle.conn_table.proofs.kept.Kept.place_of.Goals as goal
 
 pub returns : goal.returns
 returns c =
-    let xs = c.args.self.now.states.items in
-    let at = place_is (state_under c.args.cid.0) c.deref.result.now c.partition_point.result c.partition_point.ensures.bound
-    (IsPartitionPoint-from_clause (state_under c.args.cid.0) c.deref.result.now c.partition_point.result c.partition_point.ensures.partitioned
-    (rw c.deref.ensures.value (parted c.args.cid.0 0 c.args.self.now.given xs c.requires.ids_rise)) (λ a r f k. search rules)) in
-    at ∙ (ap (prefix_len (state_under c.args.cid.0)) c.deref.ensures.value ∙ id_place-map c.args.cid.0 xs)
+    let xs = c.args.self.now.states in
+    place_is (state_under c.args.cid.0) xs c.partition_point.result c.partition_point.ensures.bound
+    (IsPartitionPoint-from_clause (state_under c.args.cid.0) xs c.partition_point.result c.partition_point.ensures.partitioned
+    (parted c.args.cid.0 0 c.args.self.now.given xs c.requires.ids_rise) (λ a r f k. search rules))
+    ∙ id_place-map c.args.cid.0 xs

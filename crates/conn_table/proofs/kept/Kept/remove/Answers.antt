@@ -15,11 +15,11 @@ use Rattle.conn_table.proofs.StateFacts.{some_of, state_inside, state_at}
 use Rattle.conn_table.proofs.Turns.{one_if, map-remove, count_within}
 use Rattle.conn_table.proofs.kept.Kept.remove.Goals as goal
 
-pub index-requires : goal.index-requires
-index-requires c =
+pub at-requires : goal.at-requires
+at-requires c =
     let kept = c.args.self.now in
     let found = some_of (facts_at c.args.cid.0 (facts_kept kept)) c.requires.there in
-    omega (arith, c.place_of-place.ensures, state_inside c.args.cid.0 0 kept.given kept.states.items found.0 c.requires.kept.ids_rise found.1)
+    omega (arith, c.place_of-place.ensures, state_inside c.args.cid.0 0 kept.given kept.states found.0 c.requires.kept.ids_rise found.1)
 
 pub remove-requires-clause-rising : goal.remove-requires-clause-rising
 remove-requires-clause-rising c =
@@ -31,9 +31,9 @@ remove-requires-clause-there c =
     let kept = c.args.self.now in
     let fs : List Facts = facts_kept kept in
     let found = some_of (facts_at c.args.cid.0 fs) c.requires.there in
-    let is : facts_of c.index.result.now ≡ found.0 = ap facts_of c.index.ensures
-    ∙ (ap (λ n. facts_of (get_or kept.states.items n c.index.result.now)) c.place_of-place.ensures
-    ∙ state_at c.args.cid.0 0 kept.given kept.states.items found.0 c.index.result.now c.requires.kept.ids_rise found.1) in
+    let is : facts_of c.at.result.now ≡ found.0 = ap facts_of c.at.ensures
+    ∙ (ap (λ n. facts_of (get_or kept.states n c.at.result.now)) c.place_of-place.ensures
+    ∙ state_at c.args.cid.0 0 kept.given kept.states found.0 c.at.result.now c.requires.kept.ids_rise found.1) in
     ap (λ p. stands p kept.index) (c.placed.ensures ∙ ap placed_of (c.facts-facts.ensures.value ∙ is))
     ∙ (ap (stands (placed_of found.0)) c.requires.kept.indexed ∙ index_stands c.args.cid.0 fs found.0 found.1)
 
@@ -42,9 +42,9 @@ recounted-self-requires c =
     let kept = c.args.self.now in
     let fs : List Facts = facts_kept kept in
     let found = some_of (facts_at c.args.cid.0 fs) c.requires.there in
-    let is : facts_of c.index.result.now ≡ found.0 = ap facts_of c.index.ensures
-    ∙ (ap (λ n. facts_of (get_or kept.states.items n c.index.result.now)) c.place_of-place.ensures
-    ∙ state_at c.args.cid.0 0 kept.given kept.states.items found.0 c.index.result.now c.requires.kept.ids_rise found.1) in
+    let is : facts_of c.at.result.now ≡ found.0 = ap facts_of c.at.ensures
+    ∙ (ap (λ n. facts_of (get_or kept.states n c.at.result.now)) c.place_of-place.ensures
+    ∙ state_at c.args.cid.0 0 kept.given kept.states found.0 c.at.result.now c.requires.kept.ids_rise found.1) in
     let was_counted : c.is_counted.result ≡ is_counted found.0 = c.is_counted.ensures ∙ ap is_counted (c.facts-facts.ensures.value ∙ is) in
     let rest : counted (without_at c.args.cid.0 fs) + cond (is_counted found.0) 1 0 ≡ counted fs =
     count-without is_counted c.args.cid.0 0 kept.given fs found.0 c.requires.kept.ids_rise found.1 in (
@@ -57,15 +57,15 @@ pub remove-requires-2 : goal.remove-requires-2
 remove-requires-2 c =
     let kept = c.args.self.now in
     let found = some_of (facts_at c.args.cid.0 (facts_kept kept)) c.requires.there in
-    omega (arith, c.place_of-place.ensures, state_inside c.args.cid.0 0 kept.given kept.states.items found.0 c.requires.kept.ids_rise found.1)
+    omega (arith, c.place_of-place.ensures, state_inside c.args.cid.0 0 kept.given kept.states found.0 c.requires.kept.ids_rise found.1)
 
 pub returns-clause-facts : goal.returns-clause-facts
 returns-clause-facts c =
     let kept = c.args.self.now in
     let fs : List Facts = facts_kept kept in
     let found = some_of (facts_at c.args.cid.0 fs) c.requires.there in
-    ap (map facts_of) (c.remove-2.ensures.items ∙ ap (remove kept.states.items) c.place_of-place.ensures)
-    ∙ (map-remove kept.states.items (id_place c.args.cid.0 fs) (state_inside c.args.cid.0 0 kept.given kept.states.items found.0 c.requires.kept.ids_rise found.1)
+    ap (map facts_of) (c.remove-2.ensures.items ∙ ap (remove kept.states) c.place_of-place.ensures)
+    ∙ (map-remove kept.states (id_place c.args.cid.0 fs) (state_inside c.args.cid.0 0 kept.given kept.states found.0 c.requires.kept.ids_rise found.1)
     ∙ remove-place c.args.cid.0 0 kept.given fs found.0 c.requires.kept.ids_rise found.1)
 
 pub returns-clause-kept : goal.returns-clause-kept
@@ -75,9 +75,9 @@ returns-clause-kept c =
     let fs : List Facts = facts_kept kept in
     let rises : IdsRise 0 kept.given fs = c.requires.kept.ids_rise in
     let found = some_of (facts_at cid fs) c.requires.there in
-    let is : facts_of c.index.result.now ≡ found.0 = ap facts_of c.index.ensures
-    ∙ (ap (λ n. facts_of (get_or kept.states.items n c.index.result.now)) c.place_of-place.ensures
-    ∙ state_at cid 0 kept.given kept.states.items found.0 c.index.result.now rises found.1) in
+    let is : facts_of c.at.result.now ≡ found.0 = ap facts_of c.at.ensures
+    ∙ (ap (λ n. facts_of (get_or kept.states n c.at.result.now)) c.place_of-place.ensures
+    ∙ state_at cid 0 kept.given kept.states found.0 c.at.result.now rises found.1) in
     let placed : c.placed.result ≡ placed_of found.0 = c.placed.ensures ∙ ap placed_of (c.facts-facts.ensures.value ∙ is) in
     let was_counted : c.is_counted.result ≡ is_counted found.0 = c.is_counted.ensures ∙ ap is_counted (c.facts-facts.ensures.value ∙ is) in
     let new = returns-clause-facts c in

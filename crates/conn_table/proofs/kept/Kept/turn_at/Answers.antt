@@ -1,4 +1,4 @@
-use Rattle.std.proofs.Common.{◌≡◌, ◌+◌, ℕ, true, cond, List, Some, IsSomeAnd, set, slice_get, sym, subst, ap, ◌∙◌, arith}
+use Rattle.std.proofs.Common.{◌≡◌, ◌+◌, ℕ, true, cond, List, Some, IsSomeAnd, length, length-set, map, set, slice_get, sym, subst, ap, ◌∙◌, arith}
 use Rattle.net_base.specs.declared.connection.Facts.{Facts}
 use Rattle.conn_state.specs.Counted.{is_counted, counted}
 use Rattle.conn_state.specs.State.{facts_of}
@@ -21,8 +21,8 @@ recounted-self-requires c =
     let fs : List Facts = facts_kept kept in
     let was : Facts = c.facts-was.result in
     let rises : IdsRise 0 kept.given fs = c.requires.kept.ids_rise in
-    let at : slice_get fs c.args.place ≡ Some was = was_there (CanStep c.args.step) kept.states.items c.args.place c.replace-old.result c.index_mut.result.now was
-    c.requires.can (c.replace-old.ensures.value ∙ c.index_mut.ensures.value) c.facts-was.ensures.value in
+    let at : slice_get fs c.args.place ≡ Some was = was_there (CanStep c.args.step) kept.states c.args.place c.replace-old.result c.replace-old.result was
+    c.requires.can c.replace-old.ensures.value c.facts-was.ensures.value in
     let rest : counted (without_at was.cid.0 fs) + cond (is_counted was) 1 0 ≡ counted fs =
     count-without is_counted was.cid.0 0 kept.given fs was rises (found-get 0 kept.given fs c.args.place was rises at) in (
       counted (without_at was.cid.0 fs),
@@ -30,17 +30,17 @@ recounted-self-requires c =
       omega (arith, rest, count_within is_counted kept.given fs rises, c.requires.kept.few),
     )
 
-pub index_mut-requires-2 : goal.index_mut-requires-2
-index_mut-requires-2 c =
+pub replace-requires : goal.replace-requires
+replace-requires c =
     let kept = c.args.self.now in
-    let at : slice_get (facts_kept kept) c.args.place ≡ Some c.facts-was.result = was_there (CanStep c.args.step) kept.states.items c.args.place c.replace-old.result
-    c.index_mut.result.now c.facts-was.result c.requires.can (c.replace-old.ensures.value ∙ c.index_mut.ensures.value) c.facts-was.ensures.value in
-    omega (arith, place_inside kept.states.items c.args.place c.facts-was.result at)
+    let at : slice_get (facts_kept kept) c.args.place ≡ Some c.facts-was.result = was_there (CanStep c.args.step) kept.states c.args.place c.replace-old.result
+    c.replace-old.result c.facts-was.result c.requires.can c.replace-old.ensures.value c.facts-was.ensures.value in
+    omega (arith, place_inside kept.states c.args.place c.facts-was.result at, ap length c.replace-old.ensures.items, length-set kept.states c.args.place c.spare.result)
 
 pub returns-clause-was : goal.returns-clause-was
 returns-clause-was c =
-    was_there (CanStep c.args.step) c.args.self.now.states.items c.args.place c.replace-old.result c.index_mut.result.now c.facts-was.result
-    c.requires.can (c.replace-old.ensures.value ∙ c.index_mut.ensures.value) c.facts-was.ensures.value
+    was_there (CanStep c.args.step) c.args.self.now.states c.args.place c.replace-old.result c.replace-old.result c.facts-was.result
+    c.requires.can c.replace-old.ensures.value c.facts-was.ensures.value
 
 pub returns-clause-facts : goal.returns-clause-facts
 returns-clause-facts c =
@@ -50,10 +50,11 @@ returns-clause-facts c =
     let rises : IdsRise 0 kept.given fs = c.requires.kept.ids_rise in
     let at : slice_get fs c.args.place ≡ Some was = returns-clause-was c in
     let is : facts_of c.stepped-new.result ≡ after_step c.args.step was = c.stepped-new.ensures ∙ ap (after_step c.args.step) (sym c.facts-was.ensures.value) in
-    map-set_twice kept.states.items c.args.place c.replace-old.new.dest c.stepped-new.result
+    ap (map facts_of) (c.replace.ensures.items ∙ ap (λ l. set l c.args.place c.stepped-new.result) c.replace-old.ensures.items)
+    ∙ (map-set_twice kept.states c.args.place c.spare.result c.stepped-new.result
     ∙ (ap (λ n. set fs n (facts_of c.stepped-new.result)) (sym (place-get 0 kept.given fs c.args.place was rises at))
     ∙ (ap (set fs (id_place was.cid.0 fs)) is
-    ∙ set-place was.cid.0 0 kept.given (after_step c.args.step) fs was rises (found-get 0 kept.given fs c.args.place was rises at)))
+    ∙ set-place was.cid.0 0 kept.given (after_step c.args.step) fs was rises (found-get 0 kept.given fs c.args.place was rises at))))
 
 pub returns-clause-kept : goal.returns-clause-kept
 returns-clause-kept c =

@@ -1,10 +1,10 @@
 use Rattle.std.proofs.Common.{◌≡◌, rules}
 use Rattle.std.proofs.lemmas.List.Sorted.{answers_always}
 use Rattle.govern_rules.specs.declared.link.Link.{Link}
-use Rattle.govern_rules.proofs.ByAddress.{by_address_from_sort}
+use Rattle.govern_rules.proofs.ByAddress.{in_order_from_sort}
 use Rattle.govern_rules.proofs.links.LinkList.from_vec.Goals as goal
 
 pub invariant_of-result-2 : goal.invariant_of-result-2
 invariant_of-result-2 c =
-    by_address_from_sort _ (c.in_ok-sort_by_key.ensures.sorted (λ (l : Link). l.addr)
-    (answers_always _ (λ a r. r ≡ a.0.now.addr) _ (λ f a r f' k. search rules)))
+    in_order_from_sort _ (c.in_ok-sort_by_key.ensures.sorted (λ (l : Link). (l.addr, l.cid))
+    (answers_always _ (λ a r. r ≡ (a.0.now.addr, a.0.now.cid)) _ (λ f a r f' k. search rules)))

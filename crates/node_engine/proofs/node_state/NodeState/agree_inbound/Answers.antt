@@ -2,7 +2,7 @@ use Rattle.std.proofs.Common.{◌+◌, refl, ap}
 use Rattle.std.proofs.lemmas.Result.{on_ok_weaker}
 use Rattle.conn_state.specs.Moves.{agreed_inbound}
 use Rattle.machine.specs.Connections.{is_agreed_inbound}
-use Rattle.node_engine.specs.Standing.{moved}
+use Rattle.connections.specs.Standing.{moved}
 use Rattle.node_engine.proofs.Doings.{HasTurned, has_turned, turned_as, on_some, turn_does, negotiated_keeps, negotiated_inbound}
 use Rattle.node_engine.proofs.node_state.NodeState.agree_inbound.Goals.{After-negotiated}
 use Rattle.node_engine.proofs.node_state.NodeState.agree_inbound.Goals as goal

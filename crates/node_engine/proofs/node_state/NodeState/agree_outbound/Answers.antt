@@ -2,7 +2,7 @@ use Rattle.std.proofs.Common.{◌+◌, refl, ap}
 use Rattle.std.proofs.lemmas.Result.{on_ok_weaker}
 use Rattle.conn_state.specs.Moves.{agreed_outbound}
 use Rattle.machine.specs.Connections.{is_agreed_outbound}
-use Rattle.node_engine.specs.Standing.{moved}
+use Rattle.connections.specs.Standing.{moved}
 use Rattle.node_engine.proofs.Doings.{HasTurned, has_turned, turned_as, on_some, used_does, negotiated_keeps, negotiated_outbound}
 use Rattle.node_engine.proofs.node_state.NodeState.agree_outbound.Goals.{After-negotiated}
 use Rattle.node_engine.proofs.node_state.NodeState.agree_outbound.Goals as goal

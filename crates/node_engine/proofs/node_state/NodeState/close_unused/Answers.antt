@@ -1,7 +1,7 @@
 use Rattle.std.proofs.Common.{◌+◌, refl, ap}
 use Rattle.std.proofs.lemmas.Result.{on_ok_weaker}
 use Rattle.machine.specs.Connections.{entry_turns, closing_entry}
-use Rattle.node_engine.specs.Standing.{closed}
+use Rattle.connections.specs.Standing.{closed}
 use Rattle.node_engine.proofs.Doings.{HasTurned, has_turned, on_some, turn_does}
 use Rattle.node_engine.proofs.node_state.NodeState.close_unused.Goals.{After-close}
 use Rattle.node_engine.proofs.node_state.NodeState.close_unused.Goals as goal

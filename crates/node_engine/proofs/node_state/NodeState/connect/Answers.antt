@@ -2,7 +2,7 @@ use Rattle.std.proofs.Common.{◌+◌, refl, ap}
 use Rattle.std.proofs.lemmas.Result.{on_ok_weaker}
 use Rattle.conn_state.specs.Moves.{connected}
 use Rattle.machine.specs.Connections.{entry_turns}
-use Rattle.node_engine.specs.Standing.{moved}
+use Rattle.connections.specs.Standing.{moved}
 use Rattle.node_engine.proofs.Doings.{HasTurned, has_turned, on_some, turn_does}
 use Rattle.node_engine.proofs.node_state.NodeState.connect.Goals.{After-connected}
 use Rattle.node_engine.proofs.node_state.NodeState.connect.Goals as goal

@@ -3,9 +3,9 @@ use Rattle.machine.specs.Connections.{entry_turns}
 use Rattle.machine.specs.Machine.{entry_at}
 use Rattle.machine.specs.Effect.{on_connection, for_each}
 use Rattle.machine.specs.Stream.{handles, faulted, feeds}
-use Rattle.node_engine.specs.Standing.{fed_of, fed_entry}
+use Rattle.connections.specs.Standing.{fed_of, fed_entry}
 use Rattle.node_engine.specs.State.{Does, DoesSilently, DoesTo}
-use Rattle.node_engine.specs.Talks.{IsFed}
+use Rattle.connections.specs.Talks.{IsFed}
 use Rattle.node_engine.proofs.DoesLemmas.{on_ok, if_found}
 use Rattle.node_engine.proofs.Doings.{of_entry}
 use Rattle.node_engine.proofs.StreamLemmas.{feeds-does, no_fault}

@@ -2,7 +2,7 @@ use Rattle.std.proofs.Common.{◌+◌, refl, ap}
 use Rattle.std.proofs.lemmas.Result.{on_ok_weaker}
 use Rattle.conn_state.specs.Moves.{idled}
 use Rattle.machine.specs.Connections.{idle}
-use Rattle.node_engine.specs.Standing.{moved}
+use Rattle.connections.specs.Standing.{moved}
 use Rattle.node_engine.proofs.Doings.{HasTurned, has_turned, on_some, turn_does}
 use Rattle.node_engine.proofs.node_state.NodeState.idle.Goals.{After-idle}
 use Rattle.node_engine.proofs.node_state.NodeState.idle.Goals as goal

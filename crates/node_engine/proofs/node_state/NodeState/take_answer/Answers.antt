@@ -3,7 +3,7 @@ use Rattle.std.specs.Option.{option_map}
 use Rattle.machine.specs.Machine.{entry_at}
 use Rattle.machine.specs.Replies.{reply_on}
 use Rattle.machine.specs.Talking.{answered_as}
-use Rattle.node_engine.specs.Owed.{reply_of}
+use Rattle.connections.specs.Owed.{reply_of}
 use Rattle.node_engine.proofs.DoesLemmas.{does_other}
 use Rattle.node_engine.proofs.Doings.{of_entry}
 use Rattle.node_engine.proofs.StreamLemmas.{owed_as, answered-owed}

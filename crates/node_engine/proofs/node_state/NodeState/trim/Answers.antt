@@ -5,7 +5,7 @@ use Rattle.accept_gate.specs.Prune.{choice_of}
 use Rattle.conn_state.specs.Counted.{counted}
 use Rattle.machine.specs.Connections.{candidates_in}
 use Rattle.machine.specs.Machine.{counted_in}
-use Rattle.node_engine.specs.Standing.{facts_in}
+use Rattle.connections.specs.Standing.{facts_in}
 use Rattle.node_engine.proofs.Ends.{trim_does}
 use Rattle.node_engine.proofs.node_state.NodeState.trim.Goals as goal
 

@@ -12,10 +12,10 @@ use Rattle.timer_queue.proofs.kept.Kept.admit.Goals as goal
 pub returns-clause-kept : goal.returns-clause-kept
 returns-clause-kept c =
     let cid : Cid = c.args.cid in
-    let rows : List Row = c.args.self.now.rows.items in
+    let rows : List Row = c.args.self.now.rows in
     let line : List Deadline = c.args.self.now.line.items in
     let kept = c.requires.kept in
-    let e : c.insert_row.new.rows.items ≡ with_new_row (empty_row cid) rows =
+    let e : c.insert_row.new.rows ≡ with_new_row (empty_row cid) rows =
     c.in_ok-insert_row.ensures.ok ∙ ap (λ r. with_new_row r rows) c.empty.ensures in
     record {
       rows_rise = subst AreRising (sym e) (AreRising-with_new_row (empty_row cid) rows kept.rows_rise c.requires.absent);
@@ -28,8 +28,8 @@ returns-clause-kept c =
 pub returns-clause-ok : goal.returns-clause-ok
 returns-clause-ok c =
     let cid : Cid = c.args.cid in
-    let rows : List Row = c.args.self.now.rows.items in
-    let e : c.insert_row.new.rows.items ≡ with_new_row (empty_row cid) rows =
+    let rows : List Row = c.args.self.now.rows in
+    let e : c.insert_row.new.rows ≡ with_new_row (empty_row cid) rows =
     c.in_ok-insert_row.ensures.ok ∙ ap (λ r. with_new_row r rows) c.empty.ensures in
     let queue : List Cid → Queue = λ ids. record { enrolled = ids; timers = c.args.self.now.line.items } in
     ap queue (ap ids_of e ∙ ids_of-with_new_row (empty_row cid) rows c.requires.kept.rows_rise c.requires.absent)

@@ -12,9 +12,9 @@ use Rattle.timer_queue.proofs.kept.Kept.clear.Goals as goal
 
 pub returns-in_default-clause-queue : goal.returns-in_default-clause-queue
 returns-in_default-clause-queue c =
-    let rows : List Row = c.args.self.now.rows.items in
+    let rows : List Row = c.args.self.now.rows in
     let line : List Deadline = c.args.self.now.line.items in
-    let none = missing c.args.cid rows c.deref.result.now c.place_in.result c.deref.ensures.value c.place_in.ensures c.in_default.is in
+    let none = missing c.args.cid rows c.place_in.result c.place_in.ensures c.in_default.is in
     let told : IsMomentOf c.args.cid c.args.kind None line = subst (λ o. IsMomentOf c.args.cid c.args.kind o line) (ap (moment_of c.args.kind) none)
     (has-of c.args.cid c.args.kind rows line c.requires.agreeing) in
     let same = without_kind-unset c.args.cid c.args.kind line told in
@@ -22,26 +22,26 @@ returns-in_default-clause-queue c =
 
 pub change_row-old-requires : goal.change_row-old-requires
 change_row-old-requires c =
-    let rows : List Row = c.args.self.now.rows.items in
-    let s = stands_as_found c.args.cid rows c.deref.result.now c.in-Some.place c.place_in.result c.requires.rows_rise c.deref.ensures.value c.place_in.ensures c.in-Some.is in
+    let rows : List Row = c.args.self.now.rows in
+    let s = stands_as_found c.args.cid rows c.in-Some.place c.place_in.result c.requires.rows_rise c.place_in.ensures c.in-Some.is in
     slice_get_within rows c.in-Some.place s.row s.here
 
 pub take_out-requires-clause-told : goal.take_out-requires-clause-told
 take_out-requires-clause-told c =
-    let rows : List Row = c.args.self.now.rows.items in
-    let s = stands_as_found c.args.cid rows c.deref.result.now c.in-Some.place c.place_in.result c.requires.rows_rise c.deref.ensures.value c.place_in.ensures c.in-Some.is in
+    let rows : List Row = c.args.self.now.rows in
+    let s = stands_as_found c.args.cid rows c.in-Some.place c.place_in.result c.requires.rows_rise c.place_in.ensures c.in-Some.is in
     let old = c.change_row-old.ensures.old ∙ ap (moment_of c.args.kind) s.here in
     old_told s c.args.kind None c.args.self.now.line.items c.change_row-old.result c.requires.agreeing old
 
 pub returns-clause-kept : goal.returns-clause-kept
 returns-clause-kept c =
-    let rows : List Row = c.args.self.now.rows.items in
+    let rows : List Row = c.args.self.now.rows in
     let line : List Deadline = c.args.self.now.line.items in
     let kept = c.requires in
-    let s = stands_as_found c.args.cid rows c.deref.result.now c.in-Some.place c.place_in.result kept.rows_rise c.deref.ensures.value c.place_in.ensures c.in-Some.is in
+    let s = stands_as_found c.args.cid rows c.in-Some.place c.place_in.result kept.rows_rise c.place_in.ensures c.in-Some.is in
     let old = c.change_row-old.ensures.old ∙ ap (moment_of c.args.kind) s.here in
     let new : Row = new_row s c.args.kind None in
-    let e : c.change_row-old.new.rows.items ≡ with_row new rows = changed s c.args.kind None c.change_row-old.new.rows.items kept.rows_rise c.change_row-old.ensures.rows in
+    let e : c.change_row-old.new.rows ≡ with_row new rows = changed s c.args.kind None c.change_row-old.new.rows kept.rows_rise c.change_row-old.ensures.rows in
     let agreeing : Agree (with_row new rows) (without_kind c.args.cid c.args.kind line) =
     subst (λ i. Agree (with_row new rows) (without_kind i c.args.kind line)) s.its (Agree-cleared s.row c.args.kind rows line s.found kept.agreeing) in
     record {
@@ -60,9 +60,9 @@ returns-clause-kept c =
 
 pub returns-clause-queue : goal.returns-clause-queue
 returns-clause-queue c =
-    let rows : List Row = c.args.self.now.rows.items in
-    let s = stands_as_found c.args.cid rows c.deref.result.now c.in-Some.place c.place_in.result c.requires.rows_rise c.deref.ensures.value c.place_in.ensures c.in-Some.is in
+    let rows : List Row = c.args.self.now.rows in
+    let s = stands_as_found c.args.cid rows c.in-Some.place c.place_in.result c.requires.rows_rise c.place_in.ensures c.in-Some.is in
     let new : Row = new_row s c.args.kind None in
-    let e : c.change_row-old.new.rows.items ≡ with_row new rows = changed s c.args.kind None c.change_row-old.new.rows.items c.requires.rows_rise c.change_row-old.ensures.rows in
+    let e : c.change_row-old.new.rows ≡ with_row new rows = changed s c.args.kind None c.change_row-old.new.rows c.requires.rows_rise c.change_row-old.ensures.rows in
     let ids = ap ids_of e ∙ ids_of-with_row new rows in
     λ i. record { enrolled = ids i; timers = c.take_out.ensures.items i }

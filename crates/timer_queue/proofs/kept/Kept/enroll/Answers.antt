@@ -12,5 +12,5 @@ returns-then-has-clause-ok c =
 
 pub admit-requires-clause-absent : goal.admit-requires-clause-absent
 admit-requires-clause-absent c =
-    let rows = c.args.self.now.rows.items in
+    let rows = c.args.self.now.rows in
     ap (row_at c.args.cid) c.reserve.ensures.rows ∙ is_none (row_at c.args.cid rows) (sym (enrolled-is c.args.cid rows) ∙ sym c.if-has.ensures)

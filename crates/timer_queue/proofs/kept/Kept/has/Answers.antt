@@ -12,5 +12,5 @@ pub returns : goal.returns
 returns c =
     c.is_some.ensures
     ∙ (ap is_some c.place_in.ensures
-    ∙ (told_some (is_some (row_at c.args.cid c.deref.result.now)) _
-    ∙ (ap (λ rs. is_some (row_at c.args.cid rs)) c.deref.ensures.value ∙ sym (enrolled-is c.args.cid c.args.self.now.rows.items))))
+    ∙ (told_some (is_some (row_at c.args.cid c.args.self.now.rows)) _
+    ∙ sym (enrolled-is c.args.cid c.args.self.now.rows)))

@@ -1,0 +1,5 @@
+pub mod Edits
+pub mod Numbers
+pub mod Spots
+pub mod Splits
+pub mod Points

@@ -1,0 +1,71 @@
+-- A list in chunks, each with the number of items before it.
+use Rattle.std.specs.Prelude.{◌≡◌, ℕ, Bool, false, ◌+◌, ◌-◌, ◌<◌, ◌≤◌, List, [], ◌∷◌, ◌++◌, length, take, drop, slice_index_or, nat_lt, if◌then◌else◌}
+use Rattle.std.specs.List.{AllByRecursion, flat_map}
+use Rattle.chunked_list.specs.declared.chunk.Chunk.{Chunk}
+use Rattle.chunked_list.specs.declared.spot.Spot.{Spot}
+
+module _ {T : Type 0} where
+  abbrev pub items_in : Chunk T → List T
+  items_in c = c.items.items
+
+  -- the items of chunks, one chunk after another
+  abbrev pub joined : List (Chunk T) → List T
+  joined cs = flat_map items_in cs
+
+  -- a chunk has some items, and not too many
+  pub record IsFilled (c : Chunk T) : Type 0 where
+    pub some : 0 < length (items_in c)
+    pub few : length (items_in c) ≤ 128
+
+  abbrev pub AreFilled : List (Chunk T) → Type 0
+  AreFilled cs = AllByRecursion IsFilled cs
+
+  -- each knows how many items stand before it, and so many before the first
+  abbrev pub AreNumbered : ℕ → List (Chunk T) → Type 0
+  AreNumbered before [] = Unit {0}
+  AreNumbered before (c ∷ cs) = (c.before ≡ before) × AreNumbered (before + length (items_in c)) cs
+
+  pub record AreChunks (cs : List (Chunk T)) : Type 0 where
+    pub filled : AreFilled cs
+    pub numbers : AreNumbered 0 cs
+
+  -- the chunks, told how many items stand before them
+  abbrev pub numbered : ℕ → List (Chunk T) → List (Chunk T)
+  numbered before [] = []
+  numbered before (c ∷ cs) = record { before = before; items = c.items } ∷ numbered (before + length (items_in c)) cs
+
+  -- ---- a spot
+
+  -- the place in the list
+  abbrev pub place_of : List (Chunk T) → Spot → ℕ
+  place_of cs s = length (joined (take s.chunk cs)) + s.at
+
+  -- an item stands there
+  pub record IsInside (cs : List (Chunk T)) (s : Spot) : Type 0 where
+    pub chunk : s.chunk < length cs
+    pub at : (d : Chunk T) → s.at < length (items_in (slice_index_or cs s.chunk d))
+
+  -- its chunk has room for one more
+  abbrev pub HasRoom : List (Chunk T) → ℕ → Type 0
+  HasRoom cs i = (d : Chunk T) → length (items_in (slice_index_or cs i d)) < 128
+
+  -- its first item passes
+  abbrev pub first_passes : (T → Bool) → List T → Bool
+  first_passes p [] = false
+  first_passes p (x ∷ xs) = p x
+
+  abbrev pub begins : (T → Bool) → Chunk T → Bool
+  begins p c = first_passes p (items_in c)
+
+  -- ---- a chunk cut in two
+
+  pub record IsSplit (old : List (Chunk T)) (i : ℕ) (new : List (Chunk T)) : Type 0 where
+    pub low : Chunk T
+    pub high : Chunk T
+    pub new_is : new ≡ take i old ++ low ∷ high ∷ drop (i + 1) old
+    pub low_is : (d : Chunk T) → items_in low ≡ take 64 (items_in (slice_index_or old i d))
+    pub high_is : (d : Chunk T) → items_in high ≡ drop 64 (items_in (slice_index_or old i d))
+
+-- the spot of an item of a chunk that was cut in two
+abbrev pub halved : Spot → Spot
+halved s = if nat_lt s.at 64 then s else record { chunk = s.chunk + 1; at = s.at - 64 }

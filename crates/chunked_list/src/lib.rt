@@ -1,0 +1,13 @@
+//! A list in chunks: an item that is put in or taken out moves no more than a chunk of the others.
+#![tactic(auto)]
+
+mod chunk;
+mod edit;
+mod list;
+mod search;
+mod spot;
+
+pub use list::ChunkedList;
+
+#[cfg(test)]
+mod tests;

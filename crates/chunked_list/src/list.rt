@@ -1,0 +1,130 @@
+ghost use Rattle.std.specs.Prelude.{◌≡◌, ◌<◌, ◌≤◌, ◌∷◌, ◌++◌, [], Bool, true, false, length, slice_get, slice_index_or, slice_set, nat_eq, OnOk, OnErr};
+ghost use Rattle.std.specs.Fn.{ComputesKey};
+ghost use Rattle.std.specs.List.{insert, remove};
+ghost use Rattle.std.specs.List.Sorted.{IsPartitionedBy, IsPartitionPoint};
+ghost use Rattle.std.specs.Option.{option_copied};
+
+use crate::chunk::Chunk;
+use crate::edit::{exchange, insert_at, remove_at};
+use crate::search::point_in;
+use crate::spot::spot_of;
+use net_base::OutOfMemory;
+use std::alloc::Global;
+use std::marker::Model;
+
+/// Items one after another. Contracts see the list of them.
+#[derive(Debug, Drop)]
+pub struct ChunkedList<T> {
+    chunks: Vec<Chunk<T>>,
+    len: usize,
+}
+
+impl<T> Model for ChunkedList<T> {
+    ghost use Rattle.std.specs.Prelude.{List, ◌≡◌, length};
+    ghost use Rattle.chunked_list.specs.Chunks.{AreChunks, joined};
+
+    ghost Value = { List T };
+
+    ghost view = { λ l. joined l.chunks.items };
+
+    ghost invariant = { λ l. AreChunks l.chunks.items × (l.len ≡ length (joined l.chunks.items)) };
+}
+
+impl<T> ChunkedList<T> {
+    /// No items yet. Takes no memory.
+    pub fn new(alloc: Global) -> Self
+        ensures { result ≡ [] }
+    {
+        ChunkedList {
+            chunks: Vec::new(alloc),
+            len: 0,
+        }
+    }
+
+    pub fn len(&self) -> usize
+        ensures { result ≡ length self.now }
+    {
+        self.len
+    }
+
+    pub fn is_empty(&self) -> bool
+        ensures { result ≡ nat_eq (length self.now) 0 }
+    {
+        self.len == 0
+    }
+
+    /// The item at a place.
+    pub fn at(&self, place: usize) -> &T
+        requires { place < length self.now }
+        ensures { result.now ≡ slice_index_or self.now place result.now }
+    {
+        let spot = spot_of(&self.chunks, place);
+        &self.chunks[spot.chunk].items[spot.at]
+    }
+
+    /// The item at a place. None where the list is shorter.
+    pub fn get(&self, place: usize) -> Option<&T>
+        ensures { option_copied result ≡ slice_get self.now place }
+    {
+        if place < self.len {
+            Some(self.at(place))
+        } else {
+            None
+        }
+    }
+
+    /// How many items pass, where those that do stand before the others.
+    pub fn partition_point<P: Fn(&T) -> bool>(&self, pred: P) -> usize
+        requires { P.IsAlwaysCallable pred }
+        ensures bound { result ≤ length self.now }
+        ensures partitioned { (p : T → Bool) → ComputesKey P.FnMut p pred → IsPartitionedBy p self.now → IsPartitionPoint (λ y. p y ≡ true) (λ y. p y ≡ false) self.now result }
+    {
+        if self.len == 0 {
+            return 0;
+        }
+        point_in(&self.chunks, pred)
+    }
+}
+
+impl<T: Drop> ChunkedList<T> {
+    /// Puts an item in before the one at a place, or at the end. A refusal changes nothing.
+    pub fn insert(&mut self, place: usize, item: T) -> Result<(), OutOfMemory>
+        requires { place ≤ length self.old }
+        ensures ok { OnOk result (self.new ≡ insert self.old place item) }
+        ensures err { OnErr result (self.new ≡ self.old) }
+    {
+        let len = self.len.checked_add(1).ok_or(OutOfMemory)?;
+        insert_at(&mut self.chunks, place, self.len, item)?;
+        self.len = len;
+        Ok(())
+    }
+
+    /// Puts an item at the end. A refusal changes nothing.
+    pub fn push(&mut self, item: T) -> Result<(), OutOfMemory>
+        ensures ok { OnOk result (self.new ≡ self.old ++ item ∷ []) }
+        ensures err { OnErr result (self.new ≡ self.old) }
+    {
+        self.insert(self.len, item)
+    }
+
+    /// Takes out the item at a place. Takes no memory.
+    pub fn remove(&mut self, place: usize) -> T
+        requires { place < length self.old }
+        ensures value { result ≡ slice_index_or self.old place result }
+        ensures items { self.new ≡ remove self.old place }
+    {
+        let item = remove_at(&mut self.chunks, place);
+        self.len -= 1;
+        item
+    }
+
+    /// Puts an item in the place of another, which is the answer. Takes no memory.
+    pub fn replace(&mut self, place: usize, item: T) -> T
+        requires { place < length self.old }
+        ensures value { result ≡ slice_index_or self.old place result }
+        ensures items { self.new ≡ slice_set self.old place item }
+    {
+        let spot = spot_of(&self.chunks, place);
+        exchange(&mut self.chunks, spot, item)
+    }
+}

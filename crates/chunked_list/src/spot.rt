@@ -1,0 +1,40 @@
+ghost use Rattle.std.specs.Prelude.{◌≡◌, ◌<◌, ◌^◌, length};
+ghost use Rattle.chunked_list.specs.Chunks.{joined, AreChunks, IsInside, place_of, halved};
+
+use crate::chunk::{Chunk, HALF};
+
+// Where an item stands: in which chunk, and where in it.
+#[derive(Clone, Copy, Debug)]
+pub struct Spot {
+    pub chunk: usize,
+    pub at: usize,
+}
+
+// Where the item at a place of the list stands.
+pub fn spot_of<T>(chunks: &[Chunk<T>], place: usize) -> Spot
+    requires kept { AreChunks chunks.now }
+    requires inside { place < length (joined chunks.now) }
+    ensures inside { IsInside chunks.now result }
+    ensures place { place_of chunks.now result ≡ place }
+{
+    let chunk = chunks.partition_point(|chunk| chunk.before <= place) - 1;
+    Spot {
+        chunk,
+        at: place - chunks[chunk].before,
+    }
+}
+
+// Where an item stands after its chunk was cut in two.
+pub fn halved(spot: Spot) -> Spot
+    requires { spot.chunk < 2 ^ 63 }
+    ensures { result ≡ halved spot }
+{
+    if spot.at < HALF {
+        spot
+    } else {
+        Spot {
+            chunk: spot.chunk + 1,
+            at: spot.at - HALF,
+        }
+    }
+}

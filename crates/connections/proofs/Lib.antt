@@ -1,0 +1,9 @@
+pub mod LinkLooks
+pub mod Retimed
+pub mod TalkFeeds
+pub mod TalkFinds
+pub mod TalkLooks
+pub mod TalkMoves
+pub mod TalkPairs
+pub mod TalkTurns
+pub mod TimedTurns

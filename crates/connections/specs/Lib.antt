@@ -1,0 +1,5 @@
+pub mod Overview
+pub mod Owed
+pub mod Standing
+pub mod Talks
+pub mod Timed

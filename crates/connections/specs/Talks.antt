@@ -1,0 +1,74 @@
+-- What is kept of each connection beside its facts.
+use Rattle.std.specs.Prelude.{◌≡◌, ℕ, ◌+◌, List, [], ◌∷◌, set, slice_get, Option, Some, None, IfSome, if◌then◌else◌}
+use Rattle.conn_table.specs.Table.{Table, IdsRise}
+use Rattle.machine.specs.Machine.{Entry, Owed}
+use Rattle.mux_segment.specs.Protocols.{node_limits}
+use Rattle.mux_segment.specs.Stream.{CutterState, FedBy, nothing_fed, fed_by}
+use Rattle.mux_segment.specs.declared.fed.Fed.{Fed}
+use Rattle.net_base.specs.declared.connection.Cid.{Cid}
+use Rattle.net_base.specs.declared.connection.Facts.{Facts}
+use Rattle.connections.specs.Standing.{Standing}
+use Rattle.connections.specs.declared.talk.Talk.{Talk}
+
+-- a connection, by its facts and what is kept beside them
+abbrev pub entry_of : Facts → Talk → Entry
+entry_of facts talk = record { facts = facts; undecoded = talk.cutter.undecoded; owed = talk.replies }
+
+abbrev pub entries_of : List Facts → List Talk → List Entry
+entries_of [] ts = []
+entries_of (f ∷ fs) [] = []
+entries_of (f ∷ fs) (t ∷ ts) = entry_of f t ∷ entries_of fs ts
+
+abbrev pub standing_of : Table → List Talk → Standing
+standing_of t talks = record { settings = t.settings; entries = entries_of t.facts talks; next_id = t.given + 1 }
+
+pub record IsTalkOf (facts : Facts) (talk : Talk) : Type 0 where
+  -- a lease is there exactly where the connection is in local use
+  pub lease : talk.lease ≡ (if facts.local then Some facts.cid else None)
+  -- its stream goes on
+  pub no_fault : talk.cutter.fault ≡ None
+
+-- one for each connection
+abbrev pub AreTalksOf : List Facts → List Talk → Type 0
+AreTalksOf [] [] = Unit {0}
+AreTalksOf [] (t ∷ ts) = ⊥
+AreTalksOf (f ∷ fs) [] = ⊥
+AreTalksOf (f ∷ fs) (t ∷ ts) = IsTalkOf f t × AreTalksOf fs ts
+
+-- what always holds of the table and of what is kept beside it
+pub record IsStanding (t : Table) (talks : List Talk) : Type 0 where
+  pub ids_rise : IdsRise 0 t.given t.facts
+  pub talks_are : AreTalksOf t.facts talks
+
+-- ---- changes of what is kept
+
+-- what stands at a place turns into another, by itself
+abbrev pub TurnsAt : ℕ → (Talk → Talk) → List Talk → List Talk → Type 0
+TurnsAt place change old new = IfSome (slice_get old place) (λ t. new ≡ set old place (change t))
+
+abbrev pub with_lease : Option Cid → Talk → Talk
+with_lease lease talk = record talk { lease = lease }
+
+abbrev pub with_cutter : CutterState → Talk → Talk
+with_cutter cutter talk = record talk { cutter = cutter }
+
+abbrev pub with_owed : (List Owed → List Owed) → Talk → Talk
+with_owed change talk = record talk { replies = change talk.replies }
+
+-- nothing came in, nothing is owed, and this node does not use the connection
+abbrev pub fresh_talk : Talk
+fresh_talk = record { cutter = nothing_fed; replies = []; lease = None }
+
+-- ---- what comes in
+
+-- a stream that goes on from here; after a fault nothing of it is left
+abbrev pub going_on : CutterState → CutterState
+going_on state = record { undecoded = state.undecoded; fault = None }
+
+abbrev pub fed_talk : List ℕ → Talk → Talk
+fed_talk bytes talk = with_cutter (going_on (fed_by node_limits talk.cutter bytes).state) talk
+
+-- the answer to new bytes has the items, and the fault of the stream
+pub record IsFed (expected : FedBy) (fed : Fed) : Type 0 where
+  pub items : fed.items ≡ expected.items
+  pub fault : fed.fault ≡ expected.state.fault

@@ -1,0 +1,53 @@
+ghost use Rattle.std.specs.Prelude.{◌≡◌, ◌≤◌, ◌+◌, ◌^◌, true, IsSome, IfSome, IfOk, OnOk, OnErr};
+ghost use Rattle.std.specs.Option.{option_map};
+ghost use Rattle.machine.specs.Replies.{reply_on, paid, is_owed_on};
+ghost use Rattle.connections.specs.Owed.{reply_of};
+ghost use Rattle.connections.specs.Standing.{entry_with, Turns, owes, fed_of, fed_entry, unread};
+ghost use Rattle.connections.specs.Talks.{IsFed};
+
+use super::Connections;
+use crate::Reply;
+use mux_segment::Fed;
+use net_base::{Cid, OutOfMemory};
+
+impl Connections {
+    /// The reply that is owed on a protocol of a connection that stands. None where there is none.
+    pub fn reply(&self, cid: Cid, protocol: u16) -> Option<Reply>
+        requires { IsSome (entry_with cid.0 self.now) }
+        ensures { IfSome (entry_with cid.0 self.now) (λ e. result ≡ option_map reply_of (reply_on protocol e)) }
+    {
+        self.kept.reply(cid, protocol)
+    }
+
+    /// A reply on a protocol comes to be owed from a moment on, for what was asked.
+    pub fn owe(&mut self, cid: Cid, protocol: u16, asked: u64, now: u64)
+        requires stands { IsSome (entry_with cid.0 self.old) }
+        requires known { is_owed_on protocol ≡ true }
+        requires moment { now ≤ 2 ^ 48 }
+        ensures { Turns cid.0 (owes protocol asked (now + self.old.settings.reply)) self.old self.new }
+    {
+        self.kept.owe(cid, protocol, asked, now);
+        self.kept.retime(cid, &mut self.timers);
+    }
+
+    /// The reply on a protocol is there.
+    pub fn pay(&mut self, cid: Cid, protocol: u16)
+        requires { IsSome (entry_with cid.0 self.old) }
+        ensures { Turns cid.0 (paid protocol) self.old self.new }
+    {
+        self.kept.pay(cid, protocol);
+        self.kept.retime(cid, &mut self.timers);
+    }
+
+    /// Bytes come in on a connection: the items that they make whole, up to the first fault. Where memory is refused,
+    /// what came in and was not decoded is lost.
+    pub fn feed(&mut self, cid: Cid, bytes: &[u8]) -> Result<Fed, OutOfMemory>
+        requires { IsSome (entry_with cid.0 self.old) }
+        ensures turns { OnOk result (Turns cid.0 (fed_entry bytes.now) self.old self.new) }
+        ensures err { OnErr result (Turns cid.0 unread self.old self.new) }
+        ensures gives { IfOk result (λ fed. IfSome (entry_with cid.0 self.old) (λ e. IsFed (fed_of bytes.now e) fed)) }
+    {
+        // no deadline comes or goes
+        self.kept.feed(cid, bytes)
+    }
+}

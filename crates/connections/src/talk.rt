@@ -1,0 +1,156 @@
+ghost use Rattle.std.specs.Prelude.{◌≡◌, ◌<◌, length, slice_get, set, None, Some, IfSome, OnOk, OnErr, IfOk, true};
+ghost use Rattle.machine.specs.Replies.{with_reply, without_reply, is_owed_on};
+ghost use Rattle.mux_segment.specs.Protocols.{node_limits};
+ghost use Rattle.mux_segment.specs.Stream.{nothing_fed, fed_by};
+ghost use Rattle.net_base.specs.Shared.{nothing_undecoded};
+ghost use Rattle.connections.specs.Talks.{TurnsAt, with_lease, with_cutter, with_owed, fresh_talk, fed_talk, going_on, IsFed};
+
+use crate::Reply;
+use crate::replies::Replies;
+use chunked_list::ChunkedList;
+use conn_table::LocalLease;
+use mux_segment::{CutFault, Cutter, Fed};
+use net_base::OutOfMemory;
+use std::alloc::Global;
+use std::mem;
+
+/// What is kept of a connection beside its facts.
+#[derive(Debug, Drop)]
+pub struct Talk {
+    /// What came in and is not decoded yet.
+    pub cutter: Cutter,
+    pub replies: Replies,
+    /// There where the connection is in local use.
+    pub lease: Option<LocalLease>,
+}
+
+impl Talk {
+    /// Nothing came in, nothing is owed, and this node does not use the connection. Takes no memory.
+    pub fn new(alloc: Global) -> Talk
+        ensures { result ≡ fresh_talk }
+    {
+        Talk {
+            cutter: Cutter::new(alloc),
+            replies: Replies::new(),
+            lease: None,
+        }
+    }
+}
+
+// This node uses a connection from now on.
+pub fn lend(talks: &mut ChunkedList<Talk>, place: usize, alloc: Global, lease: LocalLease)
+    requires { place < length talks.old }
+    ensures { TurnsAt place (with_lease (Some lease)) talks.old talks.new }
+{
+    let mut talk = take_out(talks, place, alloc);
+    talk.lease = Some(lease);
+    put_back(talks, place, talk);
+}
+
+// This node gives a connection out of its use.
+pub fn take_lease(talks: &mut ChunkedList<Talk>, place: usize, alloc: Global) -> Option<LocalLease>
+    requires { place < length talks.old }
+    ensures lease { IfSome (slice_get talks.old place) (λ t. result ≡ t.lease) }
+    ensures talks { TurnsAt place (with_lease None) talks.old talks.new }
+{
+    let mut talk = take_out(talks, place, alloc);
+    let lease = mem::replace(&mut talk.lease, None);
+    put_back(talks, place, talk);
+    lease
+}
+
+// Another cutter goes on with a stream.
+pub fn swap_cutter(
+    talks: &mut ChunkedList<Talk>,
+    place: usize,
+    alloc: Global,
+    cutter: Cutter,
+) -> Cutter
+    requires { place < length talks.old }
+    ensures old { IfSome (slice_get talks.old place) (λ t. result ≡ t.cutter) }
+    ensures talks { TurnsAt place (with_cutter cutter) talks.old talks.new }
+{
+    let mut talk = take_out(talks, place, alloc);
+    let old = mem::replace(&mut talk.cutter, cutter);
+    put_back(talks, place, talk);
+    old
+}
+
+// New bytes of a stream that goes on. Where memory is refused, nothing of it is left.
+pub fn feed_at(
+    talks: &mut ChunkedList<Talk>,
+    place: usize,
+    alloc: Global,
+    bytes: &[u8],
+) -> Result<Fed, OutOfMemory>
+    requires inside { place < length talks.old }
+    requires goes_on { IfSome (slice_get talks.old place) (λ t. t.cutter.fault ≡ None) }
+    ensures ok { OnOk result (TurnsAt place (fed_talk bytes.now) talks.old talks.new) }
+    ensures gives { IfOk result (λ fed. IfSome (slice_get talks.old place)
+        (λ t. IsFed (fed_by node_limits t.cutter bytes.now) fed)) }
+    ensures err { OnErr result (TurnsAt place (with_cutter nothing_fed) talks.old talks.new) }
+{
+    let cutter = swap_cutter(talks, place, alloc, Cutter::new(alloc));
+    let (cutter, fed) = cutter.feed(bytes)?;
+    let cutter = next_cutter(alloc, cutter, fed.fault);
+    swap_cutter(talks, place, alloc, cutter);
+    Ok(fed)
+}
+
+// The cutter with which a stream goes on.
+fn next_cutter(alloc: Global, cutter: Cutter, fault: Option<CutFault>) -> Cutter
+    requires same { cutter.fault ≡ fault }
+    requires empty { IfSome fault (λ f. cutter.undecoded ≡ nothing_undecoded) }
+    ensures { result ≡ going_on cutter }
+{
+    match fault {
+        Some(_) => Cutter::new(alloc),
+        None => cutter,
+    }
+}
+
+// A reply comes to be owed.
+pub fn owe_at(
+    talks: &mut ChunkedList<Talk>,
+    place: usize,
+    alloc: Global,
+    protocol: u16,
+    reply: Reply,
+)
+    requires inside { place < length talks.old }
+    requires asked { is_owed_on protocol ≡ true }
+    ensures { TurnsAt place
+        (with_owed (with_reply (record { protocol = protocol; until = reply.until; asked = reply.asked })))
+        talks.old talks.new }
+{
+    let mut talk = take_out(talks, place, alloc);
+    talk.replies.owe(protocol, reply);
+    put_back(talks, place, talk);
+}
+
+// A reply is owed no more.
+pub fn pay_at(talks: &mut ChunkedList<Talk>, place: usize, alloc: Global, protocol: u16)
+    requires { place < length talks.old }
+    ensures { TurnsAt place (with_owed (without_reply protocol)) talks.old talks.new }
+{
+    let mut talk = take_out(talks, place, alloc);
+    talk.replies.pay(protocol);
+    put_back(talks, place, talk);
+}
+
+// Takes one out of its place, where a fresh one stands meanwhile.
+fn take_out(talks: &mut ChunkedList<Talk>, place: usize, alloc: Global) -> Talk
+    requires { place < length talks.old }
+    ensures there { slice_get talks.old place ≡ Some result }
+    ensures rest { talks.new ≡ set talks.old place fresh_talk }
+{
+    talks.replace(place, Talk::new(alloc))
+}
+
+// Puts one at a place, over the fresh one.
+fn put_back(talks: &mut ChunkedList<Talk>, place: usize, talk: Talk)
+    requires { place < length talks.old }
+    ensures { talks.new ≡ set talks.old place talk }
+{
+    talks.replace(place, talk);
+}

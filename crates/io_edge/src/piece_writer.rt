@@ -1,0 +1,109 @@
+ghost use Rattle.std.specs.Prelude.{◌≡◌, ◌<◌, ◌≤◌, [], ◌∷◌, ◌++◌, nat_le, length, take, drop, IfOk, OnOk, OnErr};
+ghost use Rattle.io_edge.specs.Causes.{HasCause};
+ghost use Rattle.io_edge.specs.Told.{TakesFront};
+
+use crate::{Failed, Sink};
+use net_base::OutOfMemory;
+use std::alloc::Global;
+use std::marker::Model;
+
+// How many bytes make a piece.
+const PIECE: usize = 65_536;
+
+/// Collects lines, and puts them to a sink in pieces, so that many lines cost one call. Contracts see the bytes that are
+/// pending: those collected and not yet put.
+#[derive(Debug, Drop)]
+pub struct PieceWriter {
+    bytes: Vec<u8>,
+    // How many of them were put.
+    done: usize,
+}
+
+impl Model for PieceWriter {
+    ghost use Rattle.std.specs.Prelude.{◌≤◌, ℕ, List, length, drop};
+
+    ghost Value = { List ℕ };
+
+    ghost view = { λ w. drop w.done w.bytes.items };
+
+    ghost invariant = { λ w. w.done ≤ length w.bytes.items };
+}
+
+impl PieceWriter {
+    /// Nothing is pending. Takes the memory of a piece; a line that goes beyond it takes more.
+    pub fn new(alloc: Global) -> Result<PieceWriter, OutOfMemory>
+        ensures { IfOk result (λ writer. writer ≡ []) }
+    {
+        let bytes = Vec::with_capacity(alloc, PIECE)?;
+        Ok(PieceWriter { bytes, done: 0 })
+    }
+
+    /// How many bytes are pending.
+    pub fn len(&self) -> usize
+        ensures { result ≡ length self.now }
+    {
+        self.bytes.len() - self.done
+    }
+
+    /// Whether a piece is pending.
+    pub fn is_full(&self) -> bool
+        ensures { result ≡ nat_le 65_536 (length self.now) }
+    {
+        self.len() >= PIECE
+    }
+
+    /// Collects a line, given without its line feed.
+    pub fn push_line(&mut self, line: &[u8]) -> Result<(), OutOfMemory>
+        ensures ok { OnOk result (self.new ≡ self.old ++ (line.now ++ 10 ∷ [])) }
+        ensures err { OnErr result (self.new ≡ self.old) }
+    {
+        push_ended(&mut self.bytes, line)
+    }
+
+    /// Gives up all that is pending but the first bytes.
+    pub fn truncate(&mut self, count: usize)
+        requires { count ≤ length self.old }
+        ensures { self.new ≡ take count self.old }
+    {
+        self.bytes.truncate(self.done + count);
+    }
+
+    /// Puts all that is pending, by as many calls as that needs. After a fault the rest is pending still.
+    pub fn put<K: Sink>(&mut self, sink: &mut K) -> Result<(), Failed>
+        ensures front { TakesFront (K.taken sink.old) (K.taken sink.new) self.old self.new }
+        ensures whole { OnOk result (self.new ≡ []) }
+        ensures part { OnErr result (0 < length self.new) }
+        ensures cause { HasCause (K.faults sink.old) (K.faults sink.new) result }
+    {
+        put_from(&mut self.done, &self.bytes, sink)?;
+        self.bytes.clear();
+        self.done = 0;
+        Ok(())
+    }
+}
+
+// A line with its line feed.
+fn push_ended(bytes: &mut Vec<u8>, line: &[u8]) -> Result<(), OutOfMemory>
+    ensures ok { OnOk result (bytes.new.items ≡ bytes.old.items ++ (line.now ++ 10 ∷ [])) }
+    ensures err { OnErr result (bytes.new.items ≡ bytes.old.items) }
+{
+    bytes.reserve(line.len() + 1)?;
+    bytes.extend_from_slice(line).unwrap();
+    bytes.push(b'\n').unwrap();
+    Ok(())
+}
+
+// Puts the bytes behind those that were put already.
+fn put_from<K: Sink>(done: &mut usize, bytes: &[u8], sink: &mut K) -> Result<(), Failed>
+    requires { done.old ≤ length bytes.now }
+    ensures within { done.new ≤ length bytes.now }
+    ensures front { TakesFront (K.taken sink.old) (K.taken sink.new) (drop done.old bytes.now) (drop done.new bytes.now) }
+    ensures whole { OnOk result (done.new ≡ length bytes.now) }
+    ensures part { OnErr result (done.new < length bytes.now) }
+    ensures cause { HasCause (K.faults sink.old) (K.faults sink.new) result }
+{
+    'calls: while *done < bytes.len() {
+        *done += sink.put(&bytes[*done..])?;
+    }
+    Ok(())
+}

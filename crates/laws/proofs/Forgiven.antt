@@ -1,0 +1,122 @@
+-- A peer whose handshake ends in use has no failures.
+use Rattle.std.proofs.Common.{ℕ, ◌+◌, ◌%◌, ◌≡◌, true, false, ◌&&◌, ◌==◌, find, if◌then◌else◌, Option, Some, None, refl, sym, ap, ◌∙◌, subst, eq-eqb, eqb-true}
+use Rattle.std.specs.Option.{option_map}
+use Rattle.std.proofs.lemmas.Bool.{cond_both, both_ways, false≢true}
+use Rattle.conn_state.specs.Moves.{agreed_inbound, agreed_outbound}
+use Rattle.conn_state.specs.Use.{has_id, is_greeting_phase}
+use Rattle.hs_decide.specs.Agreement.{verdict_of}
+use Rattle.hs_decide.specs.Answers.{answer_of}
+use Rattle.hs_decide.specs.declared.verdict.Verdict.{Verdict}
+use Rattle.hs_decide.specs.declared.verdict.Verdict.TheVariants as verdict
+use Rattle.hs_message.specs.Reading.{message_of}
+use Rattle.hs_message.specs.declared.message.Message.{Message}
+use Rattle.mux_segment.specs.declared.item.Item.{Item}
+use Rattle.net_base.specs.declared.action.CloseCause.{CloseCause}
+use Rattle.net_base.specs.declared.action.CloseCause.TheVariants.{Refused, Query, Fault}
+use Rattle.net_base.specs.declared.action.FaultKind.TheVariants.{Malformed, Protocol}
+use Rattle.net_base.specs.declared.connection.Cid.{Cid}
+use Rattle.net_base.specs.declared.connection.Phase.{Phase}
+use Rattle.net_base.specs.declared.connection.Phase.TheVariants.{Dialing, Greeting, Negotiated, Closing}
+use Rattle.net_base.specs.declared.peer.Temp.TheVariants.{Warm}
+use Rattle.machine.specs.Connections.{with_entry, without_entry, ending}
+use Rattle.machine.specs.Effect.{on_entry}
+use Rattle.machine.specs.Greeting.{role_of, is_awaited, fits_side, judged, decided, greeted_by, greets}
+use Rattle.machine.specs.Machine.{Machine, Entry, entry_at}
+use Rattle.machine.specs.Own.{own_info}
+use Rattle.machine.specs.Peers.{peer_at}
+use Rattle.machine.specs.Replies.{owing}
+use Rattle.machine.specs.Stream.{handled_in, handled}
+use Rattle.laws.specs.Acts.{Act, shows, fires_one, asks_for_roots, carries, connects, ends_dial, stores, handles_item, ends_stream, is_closed, sets_targets, sets_big_targets, sets_groups, sets_roots, makes_ordinary, provides, provides_big, does}
+use Rattle.laws.specs.CarriedOut.{OnPeer, WhereGreeting, is_in_use, Forgives}
+use Rattle.laws.proofs.CarriedOut.{changed-here}
+use Rattle.laws.proofs.Handshakes.{answer-machine}
+use Rattle.laws.proofs.Lawful.{lost_by-quiet}
+use Rattle.laws.proofs.Lists.{find_some}
+use Rattle.laws.proofs.Waits.{replaced, gone-found}
+
+-- where the connection is in use after it, its peer has no failures
+abbrev Forgiven : Entry → Machine → Type 0
+Forgiven e after = is_in_use (entry_at e.facts.cid.0 after) ≡ true → OnPeer (peer_at e.facts.addr after) (λ p. p.failures ≡ 0)
+
+-- one that has ended is not in use
+ending-forgiven : (c : CloseCause) (e : Entry) (m : Machine) → Forgiven e (ending c e m).machine
+ending-forgiven c e m used = absurd (both_ways (is_in_use (entry_at e.facts.cid.0 (ending c e m).machine)) (ap is_in_use none) used)
+  where
+    none : entry_at e.facts.cid.0 (ending c e m).machine ≡ None
+    none =
+        ap (find (λ x. has_id e.facts.cid.0 x.facts)) (lost_by-quiet c e.facts (without_entry e.facts.cid.0 m)).connections
+        ∙ (gone-found e.facts.cid.0 e.facts.cid.0 m.connections
+        ∙ ap (λ b. if b then None else find (λ x. has_id e.facts.cid.0 x.facts) m.connections) (eq-eqb e.facts.cid.0 e.facts.cid.0 refl))
+
+judged-forgiven : (v : Verdict) (e : Entry) (m : Machine) → e.facts.local ≡ false → Forgiven e (judged v e m).machine
+judged-forgiven (verdict.Accept agreed) e m unused used =
+    absurd (both_ways (is_in_use (entry_at e.facts.cid.0 (with_entry new m))) (ap is_in_use turned ∙ by_found (entry_at e.facts.cid.0 m)) used)
+  where
+    new : Entry
+    new = record e { facts = agreed_inbound agreed (m.now + m.settings.idle) e.facts }
+
+    turned : entry_at e.facts.cid.0 (with_entry new m) ≡ option_map (λ x. new) (entry_at e.facts.cid.0 m)
+    turned =
+        replaced e.facts.cid.0 new m.connections
+        ∙ ap (λ b. if b then option_map (λ x. new) (entry_at e.facts.cid.0 m) else entry_at e.facts.cid.0 m) (eq-eqb e.facts.cid.0 e.facts.cid.0 refl)
+
+    by_found : (o : Option Entry) → is_in_use (option_map (λ x. new) o) ≡ false
+    by_found None = refl
+    by_found (Some f) = unused
+judged-forgiven (verdict.Refuse why) e m unused used = ending-forgiven Refused e m used
+judged-forgiven verdict.Query e m unused used = ending-forgiven Query e m used
+judged-forgiven (verdict.Agree agreed) e m unused used =
+    changed-here e.facts.addr (λ p. record p { temp = Warm; failures = 0 })
+    (with_entry (owing 8 (e.facts.cid.0 % 65536) m (record e { facts = agreed_outbound agreed (m.now + m.settings.idle) e.facts })) m)
+    (λ p. refl) (λ p. p.failures ≡ 0) (λ p. refl)
+judged-forgiven verdict.Refused e m unused used = ending-forgiven Refused e m used
+judged-forgiven verdict.Wrong e m unused used = ending-forgiven (Fault Protocol) e m used
+
+greeted_by-forgiven : (o : Option Message) (side : ℕ) (e : Entry) (m : Machine) → e.facts.local ≡ false → Forgiven e (greeted_by o side e m).machine
+greeted_by-forgiven None side e m unused = ending-forgiven (Fault Malformed) e m
+greeted_by-forgiven (Some msg) side e m unused =
+    let v : Verdict = verdict_of (role_of e.facts.provenance) (own_info m.settings) msg in
+    cond_both (fits_side (role_of e.facts.provenance) side msg) (decided v e m) (ending (Fault Protocol) e m) (λ effect. Forgiven e effect.machine)
+    (λ fits. subst (λ n. Forgiven e (judged v e n).machine) (sym (answer-machine (answer_of v (own_info m.settings)) e.facts.cid m)) (judged-forgiven v e m unused))
+    (λ other. ending-forgiven (Fault Protocol) e m)
+
+greets-forgiven : (item : Item) (e : Entry) (m : Machine) → e.facts.local ≡ false → Forgiven e (greets item e m).machine
+greets-forgiven item e m unused =
+    cond_both (item.id == 0 && is_awaited (role_of e.facts.provenance) item.side) (greeted_by (message_of item.body) item.side e m) (ending (Fault Protocol) e m)
+    (λ effect. Forgiven e effect.machine) (λ heard. greeted_by-forgiven (message_of item.body) item.side e m unused) (λ other. ending-forgiven (Fault Protocol) e m)
+
+handled_in-forgiven : (p : Phase) (item : Item) (e : Entry) (m : Machine) → is_greeting_phase p ≡ true → e.facts.local ≡ false → Forgiven e (handled_in p item e m).machine
+handled_in-forgiven Dialing item e m greeting unused = absurd (false≢true greeting)
+handled_in-forgiven (Greeting until) item e m greeting unused = greets-forgiven item e m unused
+handled_in-forgiven Negotiated item e m greeting unused = absurd (false≢true greeting)
+handled_in-forgiven (Closing until) item e m greeting unused = absurd (false≢true greeting)
+
+handled-forgiven : (own : Cid) (item : Item) (m : Machine) → Forgives (handles_item own item) m (does (handles_item own item) m).machine
+handled-forgiven own item m = by_entry (entry_at own.0 m) refl
+  where
+    by_entry : (o : Option Entry) → entry_at own.0 m ≡ o → WhereGreeting o
+        (λ e. e.facts.local ≡ false → is_in_use (entry_at own.0 (on_entry o (handled item) m).machine) ≡ true →
+        OnPeer (peer_at e.facts.addr (on_entry o (handled item) m).machine) (λ p. p.failures ≡ 0))
+    by_entry None is = tt
+    by_entry (Some e) is = λ greeting unused used. handled_in-forgiven e.facts.phase item e m greeting unused
+        (subst (λ c. is_in_use (entry_at c (handled item e m).machine) ≡ true)
+        (sym (eqb-true e.facts.cid.0 own.0 (find_some (λ x. has_id own.0 x.facts) m.connections e is).passes)) used)
+
+pub forgives : (act : Act) (m : Machine) → Forgives act m (does act m).machine
+forgives (shows t) m = tt
+forgives (fires_one d) m = tt
+forgives asks_for_roots m = tt
+forgives (carries order) m = tt
+forgives (connects addr) m = tt
+forgives (ends_dial cid opened) m = tt
+forgives (stores entry undecoded) m = tt
+forgives (handles_item cid item) m = handled-forgiven cid item m
+forgives (ends_stream cid fault) m = tt
+forgives (is_closed cid) m = tt
+forgives (sets_targets targets) m = tt
+forgives (sets_big_targets targets) m = tt
+forgives (sets_groups groups) m = tt
+forgives (sets_roots roots) m = tt
+forgives (makes_ordinary addr) m = tt
+forgives (provides addr) m = tt
+forgives (provides_big addr) m = tt

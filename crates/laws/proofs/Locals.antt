@@ -1,0 +1,45 @@
+-- Local peers: the members of the groups, taken together and group by group.
+use Rattle.std.proofs.Common.{◌≡◌, Bool, true, false, nat_lt, List, [], ◌∷◌, ◌++◌, length, All, is_some, refl, inl, inr, arith}
+use Rattle.std.specs.List.{AllByRecursion, position, position_or_len}
+use Rattle.std.proofs.lemmas.Bool.{or_parts, or_from, not-true, cases_Bool, ltb-false}
+use Rattle.std.proofs.lemmas.List.Elements.{All-from_recursion, recursion_from_All}
+use Rattle.std.proofs.lemmas.List.Sums.{fails_before_first}
+use Rattle.net_base.specs.Address.{same_address}
+use Rattle.net_base.specs.declared.address.Addr.{Addr}
+use Rattle.net_base.specs.declared.event.Group.{Group}
+use Rattle.govern_rules.specs.Rules.{is_not_local}
+use Rattle.root_groups.specs.Cleaned.{is_listed, members_of, group_of}
+use Rattle.laws.specs.Laws.{is_local}
+use Rattle.laws.proofs.GroupsApart.{unlisted_append}
+
+-- who is local in no group
+no_member-each : (a : Addr) (groups : List Group) → is_local groups a ≡ false → AllByRecursion (λ group. is_listed a group.members ≡ false) groups
+no_member-each a [] h = tt
+no_member-each a (g ∷ groups) h =
+    let parts = unlisted_append a g.members (members_of groups) h in
+    (parts.0, no_member-each a groups parts.1)
+
+pub no_member-unlisted : (a : Addr) (groups : List Group) → is_local groups a ≡ false → All (λ group. is_listed a group.members ≡ false) groups
+no_member-unlisted a groups h = All-from_recursion (λ group. is_listed a group.members ≡ false) groups (no_member-each a groups h)
+
+not_in-both : (a : Addr) (xs ys : List Addr) → is_listed a xs ≡ false → is_listed a ys ≡ false → is_listed a (xs ++ ys) ≡ false
+not_in-both a [] ys h k = k
+not_in-both a (x ∷ xs) ys h k =
+    let parts = or_parts (same_address a x) (is_listed a xs) h in
+    or_from (same_address a x) (is_listed a (xs ++ ys)) parts.0 (not_in-both a xs ys parts.1 k)
+
+not_in-all : (a : Addr) (groups : List Group) → AllByRecursion (λ group. is_listed a group.members ≡ false) groups → is_local groups a ≡ false
+not_in-all a [] h = refl
+not_in-all a (g ∷ groups) h = not_in-both a g.members (members_of groups) h.0 (not_in-all a groups h.1)
+
+unplaced : {X : Type 0} (p : X → Bool) (xs : List X) → is_some (position p xs) ≡ false → All (λ x. p x ≡ false) xs
+unplaced p xs none k d inside = elim (cases_Bool (nat_lt (position_or_len p xs) (length xs))) [
+  | inl within ↦ let some : true ≡ false = rw within at none in absurd cc
+  | inr past ↦ fails_before_first p xs k d (omega (arith, ltb-false (position_or_len p xs) (length xs) past, inside))
+]
+
+-- The rules see the same.
+pub not_local-no_member : (a : Addr) (groups : List Group) → is_not_local groups a ≡ true → is_local groups a ≡ false
+not_local-no_member a groups h =
+    not_in-all a groups (recursion_from_All (λ group. is_listed a group.members ≡ false) groups
+    (unplaced (λ group. is_listed a group.members) groups (not-true (is_some (group_of a groups)) h)))

@@ -1,0 +1,293 @@
+-- How long is waited, through each change of a connection.
+use Rattle.std.proofs.Common.{ℕ, ◌+◌, ◌≡◌, Bool, true, false, cond, not, ◌==◌, nat_lt, if◌then◌else◌, List, [], ◌∷◌, ◌++◌, map, filter, find, Option, Some, None, refl, sym, ap, ◌∙◌, subst, inl, inr, eqb-true}
+use Rattle.std.specs.Option.{option_map}
+use Rattle.conn_state.specs.Use.{has_id}
+use Rattle.net_base.specs.declared.timer.Kind.{Kind}
+use Rattle.machine.specs.Connections.{with_entry, without_entry}
+use Rattle.machine.specs.Effect.{Effect, then_do}
+use Rattle.machine.specs.Machine.{Machine, Entry, Owed, entry_at}
+use Rattle.machine.specs.Replies.{reply_on, owing, paid}
+use Rattle.laws.specs.Waits.{until_paid, until_of, until_in, until_at, length_of, IsWait}
+
+-- ---- one wait
+
+pub kept : (whole : ℕ) (o : Option ℕ) → IsWait whole o o
+kept whole None = tt
+kept whole (Some until) = inl refl
+
+wait_then : (whole : ℕ) (a b c : Option ℕ) → IsWait whole a b → IsWait whole b c → IsWait whole a c
+wait_then whole a b None one two = tt
+wait_then whole a b (Some until) one two = elim two [
+  | inl same ↦ subst (IsWait whole a) same one
+  | inr new ↦ inr new
+]
+
+-- ---- a part of a step
+
+-- where nothing is set
+pub record Waits (before after : Machine) : Type 0 where
+  pub now : after.now ≡ before.now
+  pub settings : after.settings ≡ before.settings
+  pub targets : after.targets ≡ before.targets
+  pub big_targets : after.big_targets ≡ before.big_targets
+  pub groups : after.groups ≡ before.groups
+  pub each : (kind : Kind) (cid : ℕ) → IsWait (before.now + length_of kind before.settings) (until_at kind cid before) (until_at kind cid after)
+
+pub waits_then : (m n o : Machine) → Waits m n → Waits n o → Waits m o
+waits_then m n o one two = record {
+  now = two.now ∙ one.now;
+  settings = two.settings ∙ one.settings;
+  targets = two.targets ∙ one.targets;
+  big_targets = two.big_targets ∙ one.big_targets;
+  groups = two.groups ∙ one.groups;
+  each = λ kind cid. wait_then (m.now + length_of kind m.settings) (until_at kind cid m) (until_at kind cid n) (until_at kind cid o) (one.each kind cid)
+      (subst (λ s. IsWait (m.now + length_of kind s) (until_at kind cid n) (until_at kind cid o)) one.settings
+      (subst (λ t. IsWait (t + length_of kind n.settings) (until_at kind cid n) (until_at kind cid o)) one.now (two.each kind cid)));
+}
+
+pub waits_both : (m : Machine) (first : Effect) (next : Machine → Effect) → Waits m first.machine → Waits first.machine (next first.machine).machine → Waits m (then_do first next).machine
+waits_both m first next one two = waits_then m first.machine (next first.machine).machine one two
+
+-- no connection changes
+pub waits_same : (m n : Machine) → n.now ≡ m.now → n.settings ≡ m.settings → n.targets ≡ m.targets → n.big_targets ≡ m.big_targets → n.groups ≡ m.groups →
+    n.connections ≡ m.connections → Waits m n
+waits_same m n now settings targets big_targets groups same = record {
+  now = now;
+  settings = settings;
+  targets = targets;
+  big_targets = big_targets;
+  groups = groups;
+  each = λ kind cid. subst (λ es. IsWait (m.now + length_of kind m.settings) (until_at kind cid m) (until_in kind (find (λ e. has_id cid e.facts) es))) (sym same)
+      (kept (m.now + length_of kind m.settings) (until_at kind cid m));
+}
+
+pub waits_nothing : (m : Machine) → Waits m m
+waits_nothing m = waits_same m m refl refl refl refl refl refl
+
+-- ---- a connection that comes, goes or turns
+
+either_way : {X : Type 0} (o : Option X) (b : Bool) → o ≡ (if b then o else o)
+either_way o true = refl
+either_way o false = refl
+
+-- what is found once one that has its id takes the place of each
+pub replaced : (c : ℕ) (new : Entry) (es : List Entry) → find (λ e. has_id c e.facts) (map (λ e. if has_id new.facts.cid.0 e.facts then new else e) es)
+    ≡ (if has_id c new.facts then option_map (λ e. new) (find (λ e. has_id c e.facts) es) else find (λ e. has_id c e.facts) es)
+replaced c new [] = either_way {X = Entry} None (has_id c new.facts)
+replaced c new (e ∷ es) = by_own (has_id new.facts.cid.0 e.facts) refl (has_id c new.facts) refl (has_id c e.facts) refl (replaced c new es)
+  where
+    later : Option Entry
+    later = find (λ x. has_id c x.facts) (map (λ x. if has_id new.facts.cid.0 x.facts then new else x) es)
+
+    was : Option Entry
+    was = find (λ x. has_id c x.facts) es
+
+    skip : (b h : Bool) → b ≡ false → h ≡ b → later ≡ (if b then option_map (λ x. new) was else was) → cond b (Some new) later ≡ (if b then option_map (λ x. new) (cond h (Some e) was) else cond h (Some e) was)
+    skip true h never same rest = absurd cc
+    skip false true never same rest = absurd cc
+    skip false false never same rest = rest
+
+    by_own : (a : Bool) → has_id new.facts.cid.0 e.facts ≡ a → (b : Bool) → has_id c new.facts ≡ b → (h : Bool) → has_id c e.facts ≡ h →
+        later ≡ (if b then option_map (λ x. new) was else was) →
+        cond (has_id c (if a then new else e).facts) (Some (if a then new else e)) later
+        ≡ (if b then option_map (λ x. new) (cond h (Some e) was) else cond h (Some e) was)
+    by_own true own b is h has rest =
+        let same : h ≡ b = sym has ∙ (ap (λ n. n == c) (eqb-true e.facts.cid.0 new.facts.cid.0 own) ∙ is) in
+        subst (λ x. cond x (Some new) later ≡ (if b then option_map (λ y. new) (cond h (Some e) was) else cond h (Some e) was)) (sym is) (here b h same rest)
+      where
+        here : (x y : Bool) → y ≡ x → later ≡ (if x then option_map (λ z. new) was else was) →
+            cond x (Some new) later ≡ (if x then option_map (λ z. new) (cond y (Some e) was) else cond y (Some e) was)
+        here true true same rest = refl
+        here true false same rest = absurd cc
+        here false true same rest = absurd cc
+        here false false same rest = rest
+    by_own false own b is h has rest =
+        subst (λ x. cond x (Some e) later ≡ (if b then option_map (λ y. new) (cond h (Some e) was) else cond h (Some e) was)) (sym has) (there b h other rest)
+      where
+        other : (b ≡ true) → h ≡ false
+        other here = sym has ∙ (ap (λ n. e.facts.cid.0 == n) (sym (eqb-true new.facts.cid.0 c (is ∙ here))) ∙ own)
+
+        there : (x y : Bool) → (x ≡ true → y ≡ false) → later ≡ (if x then option_map (λ z. new) was else was) →
+            cond y (Some e) later ≡ (if x then option_map (λ z. new) (cond y (Some e) was) else cond y (Some e) was)
+        there true true apart rest = absurd (let never : true ≡ false = apart refl in cc)
+        there true false apart rest = rest
+        there false true apart rest = refl
+        there false false apart rest = rest
+
+-- what one turns into waits as it did, or for a whole length
+abbrev pub TurnsRight : Machine → Entry → Entry → Type 0
+TurnsRight m e new = (kind : Kind) → IsWait (m.now + length_of kind m.settings) (until_of kind e) (until_of kind new)
+
+pub waits_turned : (m : Machine) (e new : Entry) → entry_at e.facts.cid.0 m ≡ Some e → new.facts.cid ≡ e.facts.cid → TurnsRight m e new → Waits m (with_entry new m)
+waits_turned m e new found same right = record {
+  now = refl;
+  settings = refl;
+  targets = refl;
+  big_targets = refl;
+  groups = refl;
+  each = λ kind cid. subst (λ o. IsWait (whole kind) (until_at kind cid m) (until_in kind o)) (sym (replaced cid new m.connections)) (by_id kind cid (has_id cid new.facts) refl);
+}
+  where
+    whole : Kind → ℕ
+    whole kind = m.now + length_of kind m.settings
+
+    by_id : (kind : Kind) (cid : ℕ) (b : Bool) → has_id cid new.facts ≡ b →
+        IsWait (whole kind) (until_at kind cid m) (until_in kind (if b then option_map (λ x. new) (entry_at cid m) else entry_at cid m))
+    by_id kind cid true is =
+        let at : entry_at cid m ≡ Some e = subst (λ c. entry_at c m ≡ Some e) (ap (λ c. c.0) (sym same) ∙ eqb-true new.facts.cid.0 cid is) found in
+        subst (λ o. IsWait (whole kind) (until_in kind o) (until_in kind (option_map (λ x. new) o))) (sym at) (right kind)
+    by_id kind cid false is = kept (whole kind) (until_at kind cid m)
+
+-- one goes
+pub gone-found : (c cid : ℕ) (es : List Entry) → find (λ e. has_id c e.facts) (filter (λ e. not (has_id cid e.facts)) es)
+    ≡ (if cid == c then None else find (λ e. has_id c e.facts) es)
+gone-found c cid [] = either_way {X = Entry} None (cid == c)
+gone-found c cid (e ∷ es) = by_own (has_id cid e.facts) refl (has_id c e.facts) refl (cid == c) refl (gone-found c cid es)
+  where
+    later : Option Entry
+    later = find (λ x. has_id c x.facts) (filter (λ x. not (has_id cid x.facts)) es)
+
+    was : Option Entry
+    was = find (λ x. has_id c x.facts) es
+
+    by_own : (a : Bool) → has_id cid e.facts ≡ a → (h : Bool) → has_id c e.facts ≡ h → (b : Bool) → (cid == c) ≡ b → later ≡ (if b then None else was) →
+        find (λ x. has_id c x.facts) (cond (not a) (e ∷ filter (λ x. not (has_id cid x.facts)) es) (filter (λ x. not (has_id cid x.facts)) es))
+        ≡ (if b then None else cond h (Some e) was)
+    by_own true own true has true is rest = rest
+    by_own true own true has false is rest =
+        let same : (cid == c) ≡ true = ap (λ n. n == c) (sym (eqb-true e.facts.cid.0 cid own)) ∙ has in absurd cc
+    by_own true own false has b is rest = rest
+    by_own false own true has true is rest =
+        let same : has_id cid e.facts ≡ true = ap (λ n. e.facts.cid.0 == n) (eqb-true cid c is) ∙ has in absurd cc
+    by_own false own true has false is rest = ap (λ b. cond b (Some e) later) has
+    by_own false own false has b is rest = ap (λ x. cond x (Some e) later) has ∙ rest
+
+pub waits_gone : (m : Machine) (cid : ℕ) → Waits m (without_entry cid m)
+waits_gone m cid = record {
+  now = refl;
+  settings = refl;
+  targets = refl;
+  big_targets = refl;
+  groups = refl;
+  each = λ kind c. subst (λ o. IsWait (m.now + length_of kind m.settings) (until_at kind c m) (until_in kind o)) (sym (gone-found c cid m.connections))
+      (by_id kind c (cid == c));
+}
+  where
+    by_id : (kind : Kind) (c : ℕ) (b : Bool) → IsWait (m.now + length_of kind m.settings) (until_at kind c m) (until_in kind (if b then None else entry_at c m))
+    by_id kind c true = tt
+    by_id kind c false = kept (m.now + length_of kind m.settings) (until_at kind c m)
+
+-- one comes
+abbrev first_of_two : Option Entry → Option Entry → Option Entry
+first_of_two None o = o
+first_of_two (Some e) o = Some e
+
+pushed-found : (c : ℕ) (new : Entry) (es : List Entry) →
+    find (λ e. has_id c e.facts) (es ++ new ∷ []) ≡ first_of_two (find (λ e. has_id c e.facts) es) (cond (has_id c new.facts) (Some new) None)
+pushed-found c new [] = refl
+pushed-found c new (e ∷ es) = by_test (has_id c e.facts) (pushed-found c new es)
+  where
+    by_test : (b : Bool) → find (λ x. has_id c x.facts) (es ++ new ∷ []) ≡ first_of_two (find (λ x. has_id c x.facts) es) (cond (has_id c new.facts) (Some new) None) →
+        cond b (Some e) (find (λ x. has_id c x.facts) (es ++ new ∷ []))
+        ≡ first_of_two (cond b (Some e) (find (λ x. has_id c x.facts) es)) (cond (has_id c new.facts) (Some new) None)
+    by_test true rest = refl
+    by_test false rest = rest
+
+pub waits_come : (m : Machine) (new : Entry) (next : ℕ) → ((kind : Kind) → IsWait (m.now + length_of kind m.settings) None (until_of kind new)) →
+    Waits m (record m { connections = m.connections ++ new ∷ []; next_id = next })
+waits_come m new next right = record {
+  now = refl;
+  settings = refl;
+  targets = refl;
+  big_targets = refl;
+  groups = refl;
+  each = λ kind c. subst (λ o. IsWait (whole kind) (until_at kind c m) (until_in kind o)) (sym (pushed-found c new m.connections)) (by_found kind (entry_at c m) (has_id c new.facts));
+}
+  where
+    whole : Kind → ℕ
+    whole kind = m.now + length_of kind m.settings
+
+    by_found : (kind : Kind) (o : Option Entry) (b : Bool) → IsWait (whole kind) (until_in kind o) (until_in kind (first_of_two o (cond b (Some new) None)))
+    by_found kind None true = right kind
+    by_found kind None false = tt
+    by_found kind (Some e) b = kept (whole kind) (until_of kind e)
+
+-- ---- what is owed
+
+first_or : Option Owed → Option Owed → Option Owed
+first_or None o = o
+first_or (Some e) o = Some e
+
+found-append : (q : Owed → Bool) (xs ys : List Owed) → find q (xs ++ ys) ≡ first_or (find q xs) (find q ys)
+unfolding first_or
+found-append q [] ys = refl
+found-append q (x ∷ xs) ys = by_test (q x) (found-append q xs ys)
+  where
+    by_test : (b : Bool) → find q (xs ++ ys) ≡ first_or (find q xs) (find q ys) → cond b (Some x) (find q (xs ++ ys)) ≡ first_or (cond b (Some x) (find q xs)) (find q ys)
+    by_test true rest = refl
+    by_test false rest = rest
+
+-- where all that pass one test pass another, or none does
+found-filter : (q r : Owed → Bool) (b : Bool) → ((o : Owed) → q o ≡ true → r o ≡ b) → (xs : List Owed) → find q (filter r xs) ≡ (if b then find q xs else None)
+found-filter q r b each [] = either_way {X = Owed} None b
+found-filter q r b each (x ∷ xs) = by_tests (q x) refl (r x) refl b (each x) (found-filter q r b each xs)
+  where
+    by_tests : (c : Bool) → q x ≡ c → (d : Bool) → r x ≡ d → (e : Bool) → (q x ≡ true → r x ≡ e) → find q (filter r xs) ≡ (if e then find q xs else None) →
+        find q (cond d (x ∷ filter r xs) (filter r xs)) ≡ (if e then cond c (Some x) (find q xs) else None)
+    by_tests true passes true keeps true same rest = ap (λ y. cond y (Some x) (find q (filter r xs))) passes
+    by_tests true passes true keeps false same rest = absurd (let never : true ≡ false = sym keeps ∙ same passes in cc)
+    by_tests true passes false keeps true same rest = absurd (let never : false ≡ true = sym keeps ∙ same passes in cc)
+    by_tests true passes false keeps false same rest = rest
+    by_tests false fails true keeps true same rest = ap (λ y. cond y (Some x) (find q (filter r xs))) fails ∙ rest
+    by_tests false fails true keeps false same rest = ap (λ y. cond y (Some x) (find q (filter r xs))) fails ∙ rest
+    by_tests false fails false keeps true same rest = rest
+    by_tests false fails false keeps false same rest = rest
+
+-- a reply comes to be owed
+pub owing-right : (p protocol asked : ℕ) (m : Machine) (e : Entry) →
+    IsWait (m.now + m.settings.reply) (until_paid (reply_on p e)) (until_paid (reply_on p (owing protocol asked m e)))
+unfolding first_or
+owing-right p protocol asked m e =
+    subst (λ o. IsWait whole (until_paid was) (until_paid o)) (sym found) (by_tests (nat_lt p protocol) (protocol == p) (nat_lt protocol p) was)
+  where
+    whole : ℕ
+    whole = m.now + m.settings.reply
+
+    new : Owed
+    new = record { protocol = protocol; until = m.now + m.settings.reply; asked = asked }
+
+    on : Owed → Bool
+    on o = o.protocol == p
+
+    was : Option Owed
+    was = reply_on p e
+
+    found : reply_on p (owing protocol asked m e)
+        ≡ first_or (if nat_lt p protocol then was else None) (cond (protocol == p) (Some new) (if nat_lt protocol p then was else None))
+    found =
+        found-append (λ o. o.protocol == p) (filter (λ o. nat_lt o.protocol protocol) e.owed) (new ∷ filter (λ o. nat_lt protocol o.protocol) e.owed)
+        ∙ (ap (λ o. first_or o (cond (protocol == p) (Some new) (find (λ x. x.protocol == p) (filter (λ x. nat_lt protocol x.protocol) e.owed))))
+        (found-filter (λ o. o.protocol == p) (λ o. nat_lt o.protocol protocol) (nat_lt p protocol) (λ o is. ap (λ n. nat_lt n protocol) (eqb-true o.protocol p is)) e.owed)
+        ∙ ap (λ o. first_or (if nat_lt p protocol then was else None) (cond (protocol == p) (Some new) o))
+        (found-filter (λ o. o.protocol == p) (λ o. nat_lt protocol o.protocol) (nat_lt protocol p) (λ o is. ap (λ n. nat_lt protocol n) (eqb-true o.protocol p is)) e.owed))
+
+    by_tests : (a b c : Bool) (o : Option Owed) → IsWait whole (until_paid o) (until_paid (first_or (if a then o else None) (cond b (Some new) (if c then o else None))))
+    by_tests true b c (Some x) = inl refl
+    by_tests true true c None = inr refl
+    by_tests true false true None = tt
+    by_tests true false false None = tt
+    by_tests false true c o = inr refl
+    by_tests false false true o = kept whole (until_paid o)
+    by_tests false false false o = tt
+
+-- it is paid
+pub paid-right : (p protocol : ℕ) (whole : ℕ) (e : Entry) → IsWait whole (until_paid (reply_on p e)) (until_paid (reply_on p (paid protocol e)))
+paid-right p protocol whole e =
+    subst (λ o. IsWait whole (until_paid (reply_on p e)) (until_paid o))
+    (sym (found-filter (λ o. o.protocol == p) (λ o. not (o.protocol == protocol)) (not (p == protocol))
+    (λ o is. ap (λ n. not (n == protocol)) (eqb-true o.protocol p is)) e.owed))
+    (by_test (not (p == protocol)))
+  where
+    by_test : (b : Bool) → IsWait whole (until_paid (reply_on p e)) (until_paid (if b then reply_on p e else None))
+    by_test true = kept whole (until_paid (reply_on p e))
+    by_test false = tt

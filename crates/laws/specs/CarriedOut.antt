@@ -1,0 +1,125 @@
+-- What an act does by its kind: an order of the governor, what changes the book, when accepting pauses, and what is set.
+use Rattle.std.specs.Prelude.{ℕ, ◌+◌, ◌≡◌, Bool, true, false, ◌&&◌, nat_lt, List, [], ◌∷◌, All, if◌then◌else◌, Option, Some, None}
+use Rattle.std.specs.List.{flat_map}
+use Rattle.accept_gate.specs.Gate.{pause_of}
+use Rattle.conn_state.specs.Use.{is_acquirable, is_greeting, is_live, is_live_at}
+use Rattle.govern_rules.specs.declared.order.Order.{Order}
+use Rattle.govern_rules.specs.declared.order.Order.TheVariants.{Ask, Forget, Promote, Release, Activate, Deactivate}
+use Rattle.net_base.specs.declared.action.Action.{Action}
+use Rattle.net_base.specs.declared.action.Action.TheVariants.{Pause}
+use Rattle.net_base.specs.declared.address.Addr.{Addr}
+use Rattle.net_base.specs.declared.peer.Peer.{Peer}
+use Rattle.machine.specs.Effect.{Effect, Happened, promoted, activated}
+use Rattle.machine.specs.Machine.{Machine, Entry, counted_in, entry_at, live_entry_at}
+use Rattle.machine.specs.Peers.{peer_at}
+use Rattle.laws.specs.Acts.{Act, shows, asks_for_roots, carries, connects, stores, handles_item, is_closed, sets_targets, sets_big_targets, sets_groups, sets_roots}
+use Rattle.laws.specs.AtMoves.{is_missed, FailsWhere, OnEntry, is_known}
+
+-- An order that promotes or activates is that one move, between the record before it and the one after it.
+abbrev pub IsOneMove : Happened → Machine → Effect → Type 0
+IsOneMove happened before effect = effect.moves ≡ record { happened = happened; before = before; after = effect.machine } ∷ []
+
+abbrev pub OnPeer : Option Peer → (Peer → Type 0) → Type 0
+OnPeer None law = Unit {0}
+OnPeer (Some p) law = law p
+
+-- A connection that is taken into use stands as it did but for that, so its grace runs on; and its peer has no failures.
+pub record IsReused (e : Entry) (after : Machine) : Type 0 where
+  pub stands : OnEntry (entry_at e.facts.cid.0 after) (λ f. f.facts ≡ record e.facts { local = true })
+  pub forgiven : OnPeer (peer_at e.facts.addr after) (λ p. p.failures ≡ 0)
+
+abbrev pub Reuses : Addr → Machine → Machine → Type 0
+Reuses addr before after = (e : Entry) → live_entry_at addr before ≡ Some e → is_acquirable e.facts ≡ true → IsReused e after
+
+-- A peer that is asked on its connection in use is asked again only after a while.
+abbrev pub LeavesAlone : Addr → Machine → Machine → Type 0
+LeavesAlone addr before after = (e : Entry) → live_entry_at addr before ≡ Some e → e.facts.local ≡ true →
+    OnPeer (peer_at addr after) (λ p. p.share_next ≡ before.now + before.settings.sharegap)
+
+-- no connection of an address is in local use
+abbrev pub IsUsedByNobody : Addr → Machine → Type 0
+IsUsedByNobody addr m = All (λ e. is_live_at addr e.facts ≡ true → e.facts.local ≡ false) m.connections
+
+-- After a release nobody uses the address, and one that is forgotten is not known.
+abbrev pub IsCarriedOut : Order → Machine → Effect → Type 0
+IsCarriedOut (Ask addr n) before effect = LeavesAlone addr before effect.machine
+IsCarriedOut (Forget addr) before effect = is_known addr effect.machine ≡ false
+IsCarriedOut (Promote addr) before effect = IsOneMove (promoted addr) before effect × Reuses addr before effect.machine
+IsCarriedOut (Release addr) before effect = IsUsedByNobody addr effect.machine
+IsCarriedOut (Activate addr) before effect = IsOneMove (activated addr) before effect
+IsCarriedOut (Deactivate addr) before effect = Unit {0}
+
+abbrev pub IsDoneByOrder : Act → Machine → Effect → Type 0
+IsDoneByOrder (carries order) before effect = IsCarriedOut order before effect
+IsDoneByOrder other before effect = Unit {0}
+
+abbrev pub WhereLive : Option Entry → (Entry → Type 0) → Type 0
+WhereLive None law = Unit {0}
+WhereLive (Some e) law = is_live e.facts ≡ true → law e
+
+-- Who connects is no matter of the book, so a dial that is overwritten is no failure; nor is what is set, stored or asked.
+-- Where the other side closes a live connection, its peer fails where it is missed.
+abbrev pub TreatsBook : Act → Machine → Machine → Type 0
+TreatsBook (shows t) before after = after.peers ≡ before.peers
+TreatsBook asks_for_roots before after = after.peers ≡ before.peers
+TreatsBook (connects addr) before after = after.peers ≡ before.peers
+TreatsBook (stores entry undecoded) before after = after.peers ≡ before.peers
+TreatsBook (sets_targets targets) before after = after.peers ≡ before.peers
+TreatsBook (sets_big_targets targets) before after = after.peers ≡ before.peers
+TreatsBook (sets_groups groups) before after = after.peers ≡ before.peers
+TreatsBook (sets_roots roots) before after = after.peers ≡ before.peers
+TreatsBook (is_closed cid) before after = WhereLive (entry_at cid.0 before) (λ e. FailsWhere (is_missed e.facts) e before after)
+TreatsBook other before after = Unit {0}
+
+-- ---- the pause
+
+abbrev pub pauses_by : Action → List ℕ
+pauses_by (Pause length) = length ∷ []
+pauses_by other = []
+
+abbrev pub pauses_in : List Action → List ℕ
+pauses_in actions = flat_map pauses_by actions
+
+-- Where an address is admitted and the soft limit is passed then, accepting pauses by how many are counted then.
+abbrev pub pauses_due : Machine → Machine → List ℕ
+pauses_due before after =
+    if nat_lt before.next_id after.next_id && nat_lt after.settings.soft (counted_in after) then pause_of after.settings (counted_in after) ∷ [] else []
+
+abbrev pub PausesRight : Act → Machine → Effect → Type 0
+PausesRight (connects addr) before effect = pauses_in effect.actions ≡ pauses_due before effect.machine
+PausesRight other before effect = Unit {0}
+
+-- ---- what is set
+
+-- nothing
+pub record IsUnset (before after : Machine) : Type 0 where
+  pub now : after.now ≡ before.now
+  pub settings : after.settings ≡ before.settings
+  pub targets : after.targets ≡ before.targets
+  pub big_targets : after.big_targets ≡ before.big_targets
+  pub groups : after.groups ≡ before.groups
+
+-- What is set stands, and nothing else changes with it; and nothing else sets it.
+abbrev pub IsSet : Act → Machine → Machine → Type 0
+IsSet (shows t) before after = after ≡ record before { now = t }
+IsSet (sets_targets targets) before after = after ≡ record before { targets = targets }
+IsSet (sets_big_targets targets) before after = after ≡ record before { big_targets = targets }
+IsSet (sets_groups groups) before after = after ≡ record before { groups = groups }
+IsSet (sets_roots roots) before after = after ≡ record before { roots = roots }
+IsSet other before after = IsUnset before after
+
+-- ---- a handshake that ends in use
+
+abbrev pub WhereGreeting : Option Entry → (Entry → Type 0) → Type 0
+WhereGreeting None law = Unit {0}
+WhereGreeting (Some e) law = is_greeting e.facts ≡ true → law e
+
+abbrev pub is_in_use : Option Entry → Bool
+is_in_use None = false
+is_in_use (Some e) = e.facts.local
+
+-- Its peer has no failures.
+abbrev pub Forgives : Act → Machine → Machine → Type 0
+Forgives (handles_item own item) before after = WhereGreeting (entry_at own.0 before)
+    (λ e. e.facts.local ≡ false → is_in_use (entry_at own.0 after) ≡ true → OnPeer (peer_at e.facts.addr after) (λ p. p.failures ≡ 0))
+Forgives other before after = Unit {0}

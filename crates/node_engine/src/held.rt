@@ -1,0 +1,58 @@
+ghost use Rattle.std.specs.Prelude.{◌≡◌, ◌≤◌, ◌+◌, ◌^◌, OnOk, IfOk};
+ghost use Rattle.laws.specs.Whole.{IsSteady};
+ghost use Rattle.machine.specs.Step.{step};
+ghost use Rattle.net_base.specs.Limits.{IsWithinLimits};
+
+use crate::NodeState;
+use net_base::{ActionList, Event, OutOfMemory};
+use pick_policy::{Picker, RankedPicker};
+use std::alloc::Global;
+use std::marker::Model;
+
+/// What a node knows, on the heap, since each step moves the engine. Contracts see the machine's record.
+#[derive(Drop)]
+pub struct HeldState {
+    state: Box<NodeState>,
+}
+
+impl Model for HeldState {
+    ghost use Rattle.machine.specs.Machine.{Machine};
+
+    ghost Value = { Machine };
+
+    ghost view = { λ h. h.state.value };
+}
+
+impl HeldState {
+    pub(crate) fn new(alloc: Global, state: NodeState) -> Result<HeldState, OutOfMemory>
+        ensures { IfOk result (λ held. held ≡ state) }
+    {
+        match Box::new(alloc, state) {
+            Ok(state) => Ok(HeldState { state }),
+            Err(_) => Err(OutOfMemory),
+        }
+    }
+
+    pub(crate) fn state(&self) -> &NodeState
+        ensures { result.now ≡ self.now }
+    {
+        &self.state
+    }
+
+    /// What happens to the node, and what it does about it.
+    pub(crate) fn handle(
+        &mut self,
+        event: &Event,
+        picker: &Picker,
+        ranked: &RankedPicker,
+    ) -> Result<ActionList, OutOfMemory>
+        requires steady { IsSteady self.old }
+        requires few_ids { self.old.next_id + 60000 ≤ 2 ^ 48 }
+        requires few_jobs { self.old.roots.next_job ≤ 2 ^ 48 }
+        requires within { IsWithinLimits event.now }
+        ensures machine { OnOk result (self.new ≡ (step self.old event.now).machine) }
+        ensures actions { IfOk result (λ actions. actions ≡ (step self.old event.now).actions) }
+    {
+        self.state.handle(event, picker, ranked)
+    }
+}

@@ -1,0 +1,172 @@
+ghost use Rattle.std.specs.Prelude.{◌≡◌, true, Ok, IfSome, OnOk, IfOk};
+ghost use Rattle.conn_state.specs.Protocols.{has_responder};
+ghost use Rattle.conn_state.specs.Shapes.{serves_remote};
+ghost use Rattle.conn_state.specs.Use.{is_negotiated, agreed_sharing, runs};
+ghost use Rattle.machine.specs.Effect.{on_connection};
+ghost use Rattle.machine.specs.Machine.{entry_at};
+ghost use Rattle.machine.specs.Talking.{served_peers, replies, serves, begins, asked_as, talks};
+ghost use Rattle.node_engine.specs.State.{Does, DoesTo, IsKnown};
+ghost use Rattle.remote_watch.specs.Watch.{watched};
+
+use crate::NodeState;
+use conn_state::facts::{is_sharing, serves_remote};
+use conn_state::responders::runs;
+use mux_segment::Item;
+use net_base::{ActionList, Addr, AddrList, Cid, CloseCause, Facts, FaultKind, OutOfMemory};
+use remote_watch::{Reply, Seen, WatchRefusal, reply_bytes, watch};
+use share_rounds::served;
+
+impl NodeState {
+    /// An item comes in on a connection whose handshake is done.
+    pub(crate) fn talk(
+        &mut self,
+        facts: Facts,
+        item: &Item,
+        actions: &mut ActionList,
+    ) -> Result<(), OutOfMemory>
+        requires known { IsKnown facts self.old }
+        requires negotiated { is_negotiated facts ≡ true }
+        ensures { OnOk result (DoesTo facts.cid.0 (talks item.now) actions.old self.old self.new actions.new) }
+    {
+        if item.side == 0 {
+            self.watch_item(facts, item, actions)
+        } else {
+            self.take_answer(facts, item, actions)
+        }
+    }
+
+    // The other side asks.
+    fn watch_item(
+        &mut self,
+        facts: Facts,
+        item: &Item,
+        actions: &mut ActionList,
+    ) -> Result<(), OutOfMemory>
+        requires known { IsKnown facts self.old }
+        requires negotiated { is_negotiated facts ≡ true }
+        ensures { OnOk result (DoesTo facts.cid.0
+            (asked_as (watched item.now.id (agreed_sharing facts.agreed) item.now.body) item.now.id)
+            actions.old self.old self.new actions.new) }
+    {
+        match watch(
+            self.alloc,
+            item.id,
+            is_sharing(&facts),
+            item.body.as_slice(),
+        ) {
+            Ok(seen) => self.take_request(facts, item.id, seen, actions),
+            Err(WatchRefusal::Fault(kind)) => self.end(facts, CloseCause::Fault(kind), actions),
+            Err(WatchRefusal::OutOfMemory) => Err(OutOfMemory),
+        }
+    }
+
+    // What the other side asks is understood.
+    fn take_request(
+        &mut self,
+        facts: Facts,
+        protocol: u16,
+        seen: Seen,
+        actions: &mut ActionList,
+    ) -> Result<(), OutOfMemory>
+        requires known { IsKnown facts self.old }
+        requires negotiated { is_negotiated facts ≡ true }
+        requires responder { has_responder protocol ≡ true }
+        ensures { OnOk result (DoesTo facts.cid.0 (asked_as (Ok seen) protocol) actions.old self.old self.new actions.new) }
+    {
+        // nothing is taken from the other side where this node alone may begin protocols
+        if !serves_remote(&facts) {
+            return self.end(facts, CloseCause::Fault(FaultKind::Protocol), actions);
+        }
+        self.begin(facts, protocol, actions)?;
+        self.serve(facts.cid, protocol, seen, actions)
+    }
+
+    // A protocol that does not run starts with its first item. That may end the connection.
+    fn begin(
+        &mut self,
+        facts: Facts,
+        protocol: u16,
+        actions: &mut ActionList,
+    ) -> Result<(), OutOfMemory>
+        requires known { IsKnown facts self.old }
+        requires negotiated { is_negotiated facts ≡ true }
+        requires serves { serves_remote facts ≡ true }
+        requires responder { has_responder protocol ≡ true }
+        ensures does { OnOk result (DoesTo facts.cid.0 (begins protocol) actions.old self.old self.new actions.new) }
+        ensures runs { OnOk result (IfSome (entry_at facts.cid.0 self.new) (λ e. runs protocol e.facts.running ≡ true)) }
+    {
+        if runs(protocol, facts.running) {
+            return Ok(());
+        }
+        self.awake(facts, protocol, actions)
+    }
+
+    // Where the connection still stands, the reply is sent, and the protocol that is done stops.
+    fn serve(
+        &mut self,
+        cid: Cid,
+        protocol: u16,
+        seen: Seen,
+        actions: &mut ActionList,
+    ) -> Result<(), OutOfMemory>
+        requires responder { has_responder protocol ≡ true }
+        requires runs { IfSome (entry_at cid.0 self.old) (λ e. runs protocol e.facts.running ≡ true) }
+        ensures { OnOk result (Does (on_connection cid (serves seen protocol) self.old) actions.old self.new actions.new) }
+    {
+        match self.found(cid) {
+            Some(facts) => self.serve_on(facts, protocol, seen, actions),
+            None => Ok(()),
+        }
+    }
+
+    // The reply is sent, and the protocol that is done stops.
+    fn serve_on(
+        &mut self,
+        facts: Facts,
+        protocol: u16,
+        seen: Seen,
+        actions: &mut ActionList,
+    ) -> Result<(), OutOfMemory>
+        requires known { IsKnown facts self.old }
+        requires responder { has_responder protocol ≡ true }
+        requires runs { runs protocol facts.running ≡ true }
+        ensures { OnOk result (DoesTo facts.cid.0 (serves seen protocol) actions.old self.old self.new actions.new) }
+    {
+        self.reply(facts, protocol, seen.reply, actions)?;
+        if seen.done {
+            self.idle(facts, protocol, actions)
+        } else {
+            Ok(())
+        }
+    }
+
+    // A reply is sent, where there is one.
+    fn reply(
+        &self,
+        facts: Facts,
+        protocol: u16,
+        reply: Reply,
+        actions: &mut ActionList,
+    ) -> Result<(), OutOfMemory>
+        requires known { IsKnown facts self.now }
+        requires responder { has_responder protocol ≡ true }
+        ensures { OnOk result (DoesTo facts.cid.0 (replies reply protocol) actions.old self.now self.now actions.new) }
+    {
+        if matches!(reply, Reply::Nothing) {
+            return Ok(());
+        }
+        let peers = self.served_peers(reply, facts.addr)?;
+        let bytes = reply_bytes(self.alloc, &reply, peers.as_slice())?;
+        self.answer(facts.cid, protocol, bytes.as_slice(), actions)
+    }
+
+    // The peers that are handed out to the other side.
+    fn served_peers(&self, reply: Reply, asker: Addr) -> Result<AddrList, OutOfMemory>
+        ensures { IfOk result (λ peers. peers ≡ served_peers reply asker self.now) }
+    {
+        match reply {
+            Reply::Share(n) => served(self.alloc, &self.book, &self.groups, &self.roots, asker, n),
+            _ => Ok(AddrList::new(self.alloc)),
+        }
+    }
+}

@@ -1,0 +1,5 @@
+// What the governor does.
+mod govern;
+mod orders;
+mod roots;
+mod rules;

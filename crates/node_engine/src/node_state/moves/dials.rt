@@ -1,0 +1,76 @@
+ghost use Rattle.std.specs.Prelude.{◌≡◌, ◌≤◌, ◌+◌, ◌^◌, true, false, OnOk};
+ghost use Rattle.conn_state.specs.Moves.{connected};
+ghost use Rattle.conn_state.specs.Use.{is_dialing};
+ghost use Rattle.conn_table.specs.Answers.{any_at};
+ghost use Rattle.hs_decide.specs.Answers.{proposal_of};
+ghost use Rattle.machine.specs.Connections.{entry_turns, dial, dial_opens, dial_fails};
+ghost use Rattle.machine.specs.Machine.{facts_of};
+ghost use Rattle.machine.specs.Own.{own_info};
+ghost use Rattle.machine.specs.Replies.{sends_as_initiator};
+ghost use Rattle.connections.specs.Standing.{moved};
+ghost use Rattle.node_engine.specs.State.{Does, DoesTo, IsKnown};
+
+use crate::NodeState;
+use crate::own::own_info;
+use hs_decide::proposal;
+use net_base::{Action, ActionList, Addr, Cid, Facts, OutOfMemory, StateName};
+
+impl NodeState {
+    /// An address is dialed, under the next id.
+    pub(crate) fn dial(&mut self, addr: Addr, actions: &mut ActionList) -> Result<(), OutOfMemory>
+        requires none { any_at addr (facts_of self.old) ≡ false }
+        requires few_ids { self.old.next_id ≤ 2 ^ 48 }
+        ensures { OnOk result (Does (dial addr self.old) actions.old self.new actions.new) }
+    {
+        let cid = self.connections.dial(addr)?;
+        actions.push(Action::Dial(cid, addr))?;
+        actions.push(Action::State(cid, StateName::ReservedOutbound))
+    }
+
+    /// The socket is open: the handshake begins with this node's proposal.
+    pub(crate) fn dial_opens(
+        &mut self,
+        facts: Facts,
+        actions: &mut ActionList,
+    ) -> Result<(), OutOfMemory>
+        requires known { IsKnown facts self.old }
+        requires dialing { is_dialing facts ≡ true }
+        ensures { OnOk result (DoesTo facts.cid.0 dial_opens actions.old self.old self.new actions.new) }
+    {
+        self.connect(facts, actions)?;
+        self.propose(facts.cid, actions)
+    }
+
+    /// It is not: the connection goes, and its peer has failed.
+    pub(crate) fn dial_fails(
+        &mut self,
+        facts: Facts,
+        actions: &mut ActionList,
+    ) -> Result<(), OutOfMemory>
+        requires { IsKnown facts self.old }
+        ensures { OnOk result (DoesTo facts.cid.0 dial_fails actions.old self.old self.new actions.new) }
+    {
+        self.vanish(facts, actions)
+    }
+
+    // The handshake begins.
+    fn connect(&mut self, facts: Facts, actions: &mut ActionList) -> Result<(), OutOfMemory>
+        requires known { IsKnown facts self.old }
+        requires dialing { is_dialing facts ≡ true }
+        ensures { OnOk result (DoesTo facts.cid.0
+            (λ e m. entry_turns e (moved (connected (m.now + m.settings.handshake)) e) m)
+            actions.old self.old self.new actions.new) }
+    {
+        self.connections.connected(facts.cid, self.moment);
+        self.tell_turn(facts, actions)
+    }
+
+    // This node's proposal.
+    fn propose(&self, cid: Cid, actions: &mut ActionList) -> Result<(), OutOfMemory>
+        ensures { OnOk result (Does (sends_as_initiator cid 0 (proposal_of (own_info self.now.settings)) self.now)
+            actions.old self.now actions.new) }
+    {
+        let payload = proposal(self.alloc, &own_info(self.connections.settings()))?;
+        self.ask(cid, 0, payload.as_slice(), actions)
+    }
+}

@@ -1,0 +1,38 @@
+ghost use Rattle.std.specs.Prelude.{◌≡◌, Some, IfSome};
+ghost use Rattle.std.specs.Option.{option_map};
+ghost use Rattle.machine.specs.Govern.{is_used_at};
+ghost use Rattle.machine.specs.Machine.{entry_at, live_entry_at};
+ghost use Rattle.node_engine.specs.State.{IsKnown};
+ghost use Rattle.std.specs.Prelude.{find};
+
+use crate::NodeState;
+use net_base::{Addr, Cid, Facts};
+
+impl NodeState {
+    /// What is known of the connection with an id.
+    pub(crate) fn found(&self, cid: Cid) -> Option<Facts>
+        ensures entry { result ≡ option_map (λ e. e.facts) (entry_at cid.0 self.now) }
+        ensures id { IfSome result (λ f. f.cid ≡ cid) }
+        ensures known { IfSome result (λ f. IsKnown f self.now) }
+    {
+        self.connections.facts(cid)
+    }
+
+    /// The live connection of an address.
+    pub(crate) fn live(&self, addr: Addr) -> Option<Facts>
+        ensures entry { result ≡ option_map (λ e. e.facts) (live_entry_at addr self.now) }
+        ensures by_id { IfSome (live_entry_at addr self.now) (λ e. entry_at e.facts.cid.0 self.now ≡ Some e) }
+        ensures known { IfSome result (λ f. IsKnown f self.now) }
+    {
+        self.connections.live(addr)
+    }
+
+    /// The connection of an address that is in local use.
+    pub(crate) fn used(&self, addr: Addr) -> Option<Facts>
+        ensures entry { result ≡ option_map (λ e. e.facts) (find (is_used_at addr) self.now.connections) }
+        ensures by_id { IfSome (find (is_used_at addr) self.now.connections) (λ e. entry_at e.facts.cid.0 self.now ≡ Some e) }
+        ensures known { IfSome result (λ f. IsKnown f self.now) }
+    {
+        self.connections.used(addr)
+    }
+}

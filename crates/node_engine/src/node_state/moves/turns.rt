@@ -1,0 +1,53 @@
+ghost use Rattle.std.specs.Prelude.{◌≡◌, ◌++◌, true, IsSome, IfSome, OnOk};
+ghost use Rattle.machine.specs.Connections.{entry_turns};
+ghost use Rattle.machine.specs.Machine.{entry_at};
+ghost use Rattle.machine.specs.Replies.{owing, paid, is_owed_on};
+ghost use Rattle.node_engine.specs.State.{DoesSilently, name_notice};
+
+use crate::NodeState;
+use conn_state::names::name_of;
+use net_base::{Action, ActionList, Cid, Facts, OutOfMemory};
+
+impl NodeState {
+    /// A reply on a protocol comes to be owed from now on, for what was asked. Nothing is told of that.
+    pub(crate) fn owe(&mut self, cid: Cid, protocol: u16, asked: u64)
+        requires stands { IsSome (entry_at cid.0 self.old) }
+        requires asked_on { is_owed_on protocol ≡ true }
+        ensures { IfSome (entry_at cid.0 self.old)
+            (λ e. DoesSilently (entry_turns e (owing protocol asked self.old e) self.old) self.new) }
+    {
+        self.connections.owe(cid, protocol, asked, self.moment);
+    }
+
+    /// The reply on a protocol is there. Nothing is told of that.
+    pub(crate) fn pay(&mut self, cid: Cid, protocol: u16)
+        requires { IsSome (entry_at cid.0 self.old) }
+        ensures { IfSome (entry_at cid.0 self.old)
+            (λ e. DoesSilently (entry_turns e (paid protocol e) self.old) self.new) }
+    {
+        self.connections.pay(cid, protocol);
+    }
+
+    /// A connection has turned: its name is told, where it is another one than before.
+    pub(crate) fn tell_turn(&self, old: Facts, actions: &mut ActionList) -> Result<(), OutOfMemory>
+        requires { IsSome (entry_at old.cid.0 self.now) }
+        ensures { OnOk result (IfSome (entry_at old.cid.0 self.now)
+            (λ e. actions.new ≡ actions.old ++ name_notice old e.facts)) }
+    {
+        match self.connections.facts(old.cid) {
+            Some(new) => tell_name(old, new, actions),
+            None => unreachable!(),
+        }
+    }
+}
+
+// The name of a connection is told where it is another one than before.
+fn tell_name(old: Facts, new: Facts, actions: &mut ActionList) -> Result<(), OutOfMemory>
+    ensures { OnOk result (actions.new ≡ actions.old ++ name_notice old new) }
+{
+    let name = name_of(&new);
+    if name_of(&old) == name {
+        return Ok(());
+    }
+    actions.push(Action::State(old.cid, name))
+}
