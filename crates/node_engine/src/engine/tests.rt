@@ -205,8 +205,13 @@ fn agrees(rt: &impl Abort, engine: Engine, alloc: Global) -> Result<(), Fail>
 #[test]
 fn pauses_above_soft_and_turns_away_at_hard(rt: HostRuntime) -> Result<(), Fail> {
     let alloc = rt.alloc();
-    let picker = Picker::new(Box::new(alloc, |_: Addr, word: u64| word)?);
-    let ranked = RankedPicker::new(Box::new(alloc, |_: Addr, _: u64, word: u64| word)?);
+    let picker = Picker::new(Box::new(alloc, |addr: Addr, word: u64| {
+        addr.key().wrapping_add(word)
+    })?);
+    let ranked = RankedPicker::new(Box::new(alloc, |addr: Addr, failures: u64, word: u64| {
+        failures.min(65_535) * 281_474_976_710_656
+            + addr.key().wrapping_add(word) % 281_474_976_710_656
+    })?);
     let engine = Engine::new(alloc, settings(2, 1), picker, ranked)?;
     pauses_and_turns_away(&rt, engine)
 }
@@ -214,8 +219,13 @@ fn pauses_above_soft_and_turns_away_at_hard(rt: HostRuntime) -> Result<(), Fail>
 #[test]
 fn ends_a_handshake_at_its_deadline(rt: HostRuntime) -> Result<(), Fail> {
     let alloc = rt.alloc();
-    let picker = Picker::new(Box::new(alloc, |_: Addr, word: u64| word)?);
-    let ranked = RankedPicker::new(Box::new(alloc, |_: Addr, _: u64, word: u64| word)?);
+    let picker = Picker::new(Box::new(alloc, |addr: Addr, word: u64| {
+        addr.key().wrapping_add(word)
+    })?);
+    let ranked = RankedPicker::new(Box::new(alloc, |addr: Addr, failures: u64, word: u64| {
+        failures.min(65_535) * 281_474_976_710_656
+            + addr.key().wrapping_add(word) % 281_474_976_710_656
+    })?);
     let engine = Engine::new(alloc, settings(512, 384), picker, ranked)?;
     waits_for_the_handshake(&rt, engine)
 }
@@ -223,8 +233,13 @@ fn ends_a_handshake_at_its_deadline(rt: HostRuntime) -> Result<(), Fail> {
 #[test]
 fn turns_away_itself_and_whom_it_has(rt: HostRuntime) -> Result<(), Fail> {
     let alloc = rt.alloc();
-    let picker = Picker::new(Box::new(alloc, |_: Addr, word: u64| word)?);
-    let ranked = RankedPicker::new(Box::new(alloc, |_: Addr, _: u64, word: u64| word)?);
+    let picker = Picker::new(Box::new(alloc, |addr: Addr, word: u64| {
+        addr.key().wrapping_add(word)
+    })?);
+    let ranked = RankedPicker::new(Box::new(alloc, |addr: Addr, failures: u64, word: u64| {
+        failures.min(65_535) * 281_474_976_710_656
+            + addr.key().wrapping_add(word) % 281_474_976_710_656
+    })?);
     let engine = Engine::new(alloc, settings(512, 384), picker, ranked)?;
     turns_away_whom_it_has(&rt, engine)
 }
@@ -232,8 +247,13 @@ fn turns_away_itself_and_whom_it_has(rt: HostRuntime) -> Result<(), Fail> {
 #[test]
 fn dials_a_local_peer_and_uses_the_connection(rt: HostRuntime) -> Result<(), Fail> {
     let alloc = rt.alloc();
-    let picker = Picker::new(Box::new(alloc, |_: Addr, word: u64| word)?);
-    let ranked = RankedPicker::new(Box::new(alloc, |_: Addr, _: u64, word: u64| word)?);
+    let picker = Picker::new(Box::new(alloc, |addr: Addr, word: u64| {
+        addr.key().wrapping_add(word)
+    })?);
+    let ranked = RankedPicker::new(Box::new(alloc, |addr: Addr, failures: u64, word: u64| {
+        failures.min(65_535) * 281_474_976_710_656
+            + addr.key().wrapping_add(word) % 281_474_976_710_656
+    })?);
     let engine = Engine::new(alloc, settings(512, 384), picker, ranked)?;
     let engine = dials(&rt, engine, alloc)?;
     let engine = proposes(&rt, engine, alloc)?;
@@ -243,8 +263,13 @@ fn dials_a_local_peer_and_uses_the_connection(rt: HostRuntime) -> Result<(), Fai
 #[test]
 fn names_the_first_bad_setting(rt: HostRuntime) -> Result<(), Fail> {
     let alloc = rt.alloc();
-    let picker = Picker::new(Box::new(alloc, |_: Addr, word: u64| word)?);
-    let ranked = RankedPicker::new(Box::new(alloc, |_: Addr, _: u64, word: u64| word)?);
+    let picker = Picker::new(Box::new(alloc, |addr: Addr, word: u64| {
+        addr.key().wrapping_add(word)
+    })?);
+    let ranked = RankedPicker::new(Box::new(alloc, |addr: Addr, failures: u64, word: u64| {
+        failures.min(65_535) * 281_474_976_710_656
+            + addr.key().wrapping_add(word) % 281_474_976_710_656
+    })?);
     let refusal = Engine::new(alloc, settings(2, 3), picker, ranked).err();
     assert_eq!(rt; refusal, Some(NewRefusal::BadSetting(Field::Soft)));
     Ok(())
