@@ -1,6 +1,7 @@
 -- What a queue has once the timers of a connection are its deadlines.
-use Rattle.std.proofs.Common.{◌≡◌, ℕ, ◌==◌, ◌&&◌, ◌||◌, Bool, true, false, not, cond, List, [], ◌∷◌, ◌++◌, map, Option, Some, None, refl, sym, ap, ◌∙◌, inl, inr, arith}
-use Rattle.std.proofs.lemmas.Bool.{cases_Bool}
+use Rattle.std.proofs.Common.{◌≡◌, ℕ, ◌==◌, nat_eq, ◌&&◌, ◌||◌, Bool, true, false, not, cond, List, [], ◌∷◌, ◌++◌, map, Option, Some, None, refl, sym, ap, ◌∙◌, inl, inr, arith}
+use Rattle.std.specs.Option.{option_eq}
+use Rattle.std.proofs.lemmas.Bool.{cases_Bool, and_parts, and_right, false≢true}
 use Rattle.std.proofs.lemmas.Bool.Decides.{nat_tests}
 use Rattle.std.proofs.lemmas.List.{map-append}
 use Rattle.std.proofs.lemmas.List.Folds.{list_any-append}
@@ -9,6 +10,7 @@ use Rattle.connections.specs.Timed.{timed_at, handshake_end, time_wait_end, grac
 use Rattle.connections.specs.declared.reply.Reply.{Reply}
 use Rattle.machine.specs.Deadlines.{phase_deadlines, grace_deadlines, reply_kind, reply_deadline}
 use Rattle.machine.specs.Machine.{Owed}
+use Rattle.net_base.proofs.AddressOrder.{same_number}
 use Rattle.net_base.specs.Timer.{deadline_before, kind_place}
 use Rattle.net_base.specs.declared.connection.Cid.{Cid}
 use Rattle.net_base.specs.declared.connection.Grace.{Grace}
@@ -19,10 +21,11 @@ use Rattle.net_base.specs.declared.timer.Deadline.{Deadline}
 use Rattle.net_base.specs.declared.timer.Kind.{Kind}
 use Rattle.net_base.specs.declared.timer.Kind.TheVariants.{Handshake, Grace as GraceKind, TimeWait, Reply2, Reply8, Reply10}
 use Rattle.timer_queue.specs.Queue.{Queue, IsOrderly}
-use Rattle.timer_queue.specs.Rows.{is_set_at}
-use Rattle.timer_queue.specs.Timers.{timer, same_kind, same_timer, has_timer, HaveSame, is_of, is_timer_of, without_cid}
+use Rattle.timer_queue.specs.Rows.{is_set_at, IsMomentOf}
+use Rattle.timer_queue.specs.Timers.{timer, same_cid, same_kind, same_timer, has_timer, HaveSame, is_of, is_timer_of, without_cid}
+use Rattle.timer_queue.proofs.Agreement.{put_in-again, without_kind-unset}
 use Rattle.timer_queue.proofs.Orderly.{has-with_timer}
-use Rattle.timer_queue.proofs.Orders.{timer_order}
+use Rattle.timer_queue.proofs.Orders.{timer_order, same_kind-is}
 use Rattle.timer_queue.proofs.Rising.{has-filter}
 
 -- whether a timer is the one of a connection and kind at a moment, where there is one
@@ -129,6 +132,33 @@ timed d cid kind (Some at) old new orderly is =
   where
     one : same_timer (timer cid kind at) d ≡ (is_timer_of cid kind d && (at == d.at))
     one = left _ false ∙ has-one d cid kind at
+
+-- a timer of another kind is told as before
+pub still_had : (cid : Cid) (kind other : Kind) (at : Option ℕ) (old new : Queue) (had : Option ℕ) → same_kind other kind ≡ false → IsOrderly old →
+    new ≡ timed_at cid kind at old → IsMomentOf cid other had old.timers → IsMomentOf cid other had new.timers
+still_had cid kind other at old new had apart orderly is told d of_it =
+    let parts = and_parts (same_cid d.cid cid) (same_kind d.kind other) of_it in
+    let gone : is_timer_of cid kind d ≡ false =
+    and_right (same_cid d.cid cid) (same_kind d.kind kind) (ap (λ k. same_kind k kind) (same_kind-is d.kind other parts.1) ∙ apart) in
+    timed d cid kind at old new orderly is ∙ (ap (λ b. cond b (is_set_at d.at at) (has_timer d old.timers)) gone ∙ told d of_it)
+
+-- a timer that is at its moment already is left there
+pub timed_already : (cid : Cid) (kind : Kind) (at : Option ℕ) (queue : Queue) → IsOrderly queue → IsMomentOf cid kind at queue.timers →
+    queue ≡ timed_at cid kind at queue
+timed_already cid kind None queue orderly told =
+    let same = without_kind-unset cid kind queue.timers told in λ i. record { enrolled = queue.enrolled; timers = sym same i }
+timed_already cid kind (Some at) queue orderly told =
+    let same = put_in-again cid kind at queue.timers orderly.in_order told in λ i. record { enrolled = queue.enrolled; timers = sym same i }
+
+pub same_moment : (a b : Option ℕ) → false ≡ not (option_eq nat_eq a b) → a ≡ b
+same_moment None None e = refl
+same_moment None (Some n) e = absurd (false≢true e)
+same_moment (Some m) None e = absurd (false≢true e)
+same_moment (Some m) (Some n) e = ap Some (same_number m n (one (nat_eq m n) e))
+  where
+    one : (b : Bool) → false ≡ not b → b ≡ true
+    one true e = refl
+    one false e = absurd (false≢true e)
 
 -- of each timer of the connection the call of its kind decides, and every other stays
 choose : (k : Kind) (own h g t a b c old : Bool) →

@@ -3,6 +3,7 @@ ghost use Rattle.connections.specs.Timed.{timed_at, handshake_end, time_wait_end
 ghost use Rattle.machine.specs.Deadlines.{deadlines_of};
 ghost use Rattle.net_base.specs.Shared.{nothing_undecoded};
 ghost use Rattle.timer_queue.specs.Queue.{IsOrderly, is_enrolled};
+ghost use Rattle.timer_queue.specs.Rows.{IsMomentOf};
 ghost use Rattle.timer_queue.specs.Timers.{HaveSame, without_cid};
 
 use crate::Reply;
@@ -21,13 +22,36 @@ pub fn retime(timers: &mut TimerQueue, facts: &Facts, replies: &Replies)
     ensures orderly { IsOrderly timers.new }
 {
     let cid = facts.cid;
+    let had = timers.moments(cid);
     let (chain_sync, keep_alive, peer_sharing) = replies.by_protocol();
-    set_or_clear(timers, cid, Kind::Handshake, handshake_end(facts.phase));
-    set_or_clear(timers, cid, Kind::Grace, grace_end(facts.grace));
-    set_or_clear(timers, cid, Kind::TimeWait, time_wait_end(facts.phase));
-    set_or_clear(timers, cid, Kind::Reply2, reply_end(chain_sync));
-    set_or_clear(timers, cid, Kind::Reply8, reply_end(keep_alive));
-    set_or_clear(timers, cid, Kind::Reply10, reply_end(peer_sharing));
+    let handshake = handshake_end(facts.phase);
+    turn(timers, cid, Kind::Handshake, had.handshake, handshake);
+    turn(timers, cid, Kind::Grace, had.grace, grace_end(facts.grace));
+    let time_wait = time_wait_end(facts.phase);
+    turn(timers, cid, Kind::TimeWait, had.time_wait, time_wait);
+    turn(timers, cid, Kind::Reply2, had.reply2, reply_end(chain_sync));
+    turn(timers, cid, Kind::Reply8, had.reply8, reply_end(keep_alive));
+    turn(
+        timers,
+        cid,
+        Kind::Reply10,
+        had.reply10,
+        reply_end(peer_sharing),
+    );
+}
+
+// The timer of a kind, which had a moment or none, is at another one. Most don't change, and then nothing is looked for.
+fn turn(timers: &mut TimerQueue, cid: Cid, kind: Kind, had: Option<u64>, at: Option<u64>)
+    requires enrolled { IsTrue (is_enrolled cid timers.old) }
+    requires orderly { IsOrderly timers.old }
+    requires had { IsMomentOf cid kind had timers.old.timers }
+    ensures timer { timers.new ≡ timed_at cid kind at timers.old }
+    ensures enrolled { timers.new.enrolled ≡ timers.old.enrolled }
+    ensures orderly { IsOrderly timers.new }
+{
+    if at != had {
+        set_or_clear(timers, cid, kind, at);
+    }
 }
 
 // The timer of a kind is at a moment, or there is none.

@@ -1,11 +1,12 @@
 ghost use Rattle.std.specs.Prelude.{◌≡◌, ◌+◌, ◌*◌, ◌≤◌, true, false, None, Some, OnOk, OnErr, length};
 ghost use Rattle.std.specs.VecDeque.{deque_capacity};
 ghost use Rattle.net_base.specs.declared.timer.Deadline.{Deadline};
-ghost use Rattle.timer_queue.specs.Rows.{row_at};
+ghost use Rattle.timer_queue.specs.Rows.{row_at, AreMomentsOf};
 ghost use Rattle.timer_queue.specs.Timers.{timer, least};
 ghost use Rattle.timer_queue.specs.Queue.{is_enrolled, empty_queue, with_enrolled, with_timer, without_timer, without_connection, least_due, without_fired};
 
 use crate::line::{put_in, take_out, take_out_all};
+use crate::moments::Moments;
 use crate::rows::{Row, change_row, insert_row, place_in, place_of};
 use chunked_list::ChunkedList;
 use net_base::{Cid, Deadline, Kind, OutOfMemory};
@@ -48,6 +49,17 @@ impl Kept {
         ensures { result ≡ is_enrolled cid (queue_of self.now) }
     {
         place_in(&self.rows, cid).is_some()
+    }
+
+    // The moments of a connection's timers.
+    pub fn moments(&self, cid: Cid) -> Moments
+        requires { IsKept self.now }
+        ensures { AreMomentsOf cid result self.now.line.items }
+    {
+        match place_in(&self.rows, cid) {
+            Some(place) => self.rows.at(place).moments,
+            None => Moments::none(),
+        }
     }
 
     pub fn enroll(&mut self, cid: Cid) -> Result<(), OutOfMemory>

@@ -3,7 +3,7 @@ ghost use Rattle.std.specs.Prelude.{◌≡◌};
 use net_base::Kind;
 use std::mem;
 
-// The moments of one connection's timers, at most one of each kind.
+/// The moments of one connection's timers, at most one of each kind, in milliseconds.
 #[derive(Clone, Copy, Debug, PartialEq, Eq)]
 pub struct Moments {
     pub handshake: Option<u64>,
@@ -17,7 +17,7 @@ pub struct Moments {
 impl Moments {
     ghost use Rattle.timer_queue.specs.Rows.{moment, with_moment, no_moments};
 
-    pub fn none() -> Moments
+    pub(crate) fn none() -> Moments
         ensures { result ≡ no_moments }
     {
         Moments {
@@ -31,7 +31,7 @@ impl Moments {
     }
 
     // Puts a moment in place of the one of a kind, and gives that one.
-    pub fn replace(&mut self, kind: Kind, at: Option<u64>) -> Option<u64>
+    pub(crate) fn replace(&mut self, kind: Kind, at: Option<u64>) -> Option<u64>
         ensures moments { self.new ≡ with_moment kind at self.old }
         ensures old { result ≡ moment kind self.old }
     {

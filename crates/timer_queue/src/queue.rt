@@ -1,8 +1,10 @@
 ghost use Rattle.std.specs.Prelude.{◌≡◌, ◌<◌, ◌↔◌, true, false, [], All, IsTrue, IsNone, OnOk, OnErr};
+ghost use Rattle.timer_queue.specs.Rows.{AreMomentsOf};
 ghost use Rattle.timer_queue.specs.Timers.{timer, least as least_of};
 ghost use Rattle.timer_queue.specs.Queue.{IsOrderly, empty_queue, is_enrolled as enrolls, with_enrolled, with_timer, without_timer, without_connection, least_due, without_fired, told};
 
 use crate::kept::Kept;
+use crate::moments::Moments;
 use net_base::{Cid, Deadline, Kind, OutOfMemory};
 use std::alloc::Global;
 use std::marker::Model;
@@ -44,6 +46,13 @@ impl TimerQueue {
         ensures { result ≡ enrolls cid self.now }
     {
         self.kept.has(cid)
+    }
+
+    /// The moments of a connection's timers, by their kinds.
+    pub fn moments(&self, cid: Cid) -> Moments
+        ensures { AreMomentsOf cid result self.now.timers }
+    {
+        self.kept.moments(cid)
     }
 
     /// Makes room for the six timers of a connection. No other call takes memory.

@@ -56,6 +56,8 @@ fn timers_of_a_connection(rt: HostRuntime) -> Result<(), Fail> {
     set(&rt, &mut queue, (6000, one, Kind::Reply8));
     assert_eq!(rt; queue.pop_due(5000), None);
     assert_eq!(rt; queue.least(), Some((6000, one, Kind::Reply8)));
+    assert_eq!(rt; queue.moments(one).grace, Some(7000));
+    assert_eq!(rt; queue.moments(two).grace, None);
 
     // of one that is there already, and of one that isn't there, nothing changes
     queue.enroll(one)?;
