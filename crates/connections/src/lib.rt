@@ -4,6 +4,7 @@
 mod connections;
 mod kept;
 mod link;
+mod linked;
 mod replies;
 mod reply;
 mod talk;
