@@ -1,7 +1,7 @@
 -- The list of links, after an edit: its order, and what some of them pass.
-use Rattle.std.proofs.Common.{◌≡◌, ℕ, ◌<◌, Bool, true, false, not, cond, ◌&&◌, ◌||◌, if◌then◌else◌, List, [], ◌∷◌, map, filter, length, set, refl, sym, ap, subst, ◌∙◌, inl, inr}
+use Rattle.std.proofs.Common.{◌≡◌, ℕ, ◌<◌, Bool, true, false, not, ◌&&◌, ◌||◌, if◌then◌else◌, List, [], ◌∷◌, map, filter, length, set, refl, sym, ap, subst, ◌∙◌, inl, inr}
 use Rattle.std.specs.List.{prefix_len, insert, remove, list_any}
-use Rattle.std.proofs.lemmas.Bool.{cases_Bool, or_parts, and_right, false≢true, true≢false}
+use Rattle.std.proofs.lemmas.Bool.{cases_Bool, or_parts}
 use Rattle.conn_table.specs.Index.{placed_below, same_placed}
 use Rattle.conn_table.specs.declared.placed.Placed.{Placed}
 use Rattle.conn_table.proofs.PlacedOrder.{placed_irreflexive, placed_transitive, placed_connected, same_placed-is, same_placed-itself}

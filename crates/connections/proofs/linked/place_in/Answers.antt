@@ -1,4 +1,4 @@
-use Rattle.std.proofs.Common.{Bool, rules}
+use Rattle.std.proofs.Common.{rules}
 use Rattle.std.proofs.lemmas.List.Sorted.{IsPartitionPoint-from_clause}
 use Rattle.conn_table.specs.Index.{placed_below, same_placed}
 use Rattle.timer_queue.proofs.Rising.{is_under, partitioned, place_is}

@@ -1,4 +1,4 @@
-use Rattle.std.proofs.Common.{◌≡◌, ◌<◌, true, length, sym, ap, subst, ◌∙◌}
+use Rattle.std.proofs.Common.{◌≡◌, ◌<◌, length, sym, ap, subst, ◌∙◌}
 use Rattle.connections.specs.Linked.{place_of, AreInOrder, stands_at, with_link}
 use Rattle.connections.proofs.LinkEdits.{row_of, row-inside, set-row, in_order-set}
 use Rattle.connections.proofs.linked.Links.set.Goals.{After-replace}
