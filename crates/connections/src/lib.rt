@@ -1,4 +1,4 @@
-//! The connections of a node: what is read, owed and timed of each.
+//! The connections of a node: what is read, owed and timed of each, and what the rules see of it.
 #![tactic(auto)]
 
 mod connections;
