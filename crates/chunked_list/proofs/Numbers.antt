@@ -1,10 +1,10 @@
 -- The numbers of items before the chunks.
-use Rattle.std.proofs.Common.{◌≡◌, ℕ, zero, suc, ◌+◌, ◌-◌, ◌<◌, ◌≤◌, List, [], ◌∷◌, ◌++◌, length, take, drop, get_or, set, refl, ap, sym, subst, ◌∙◌, length-append, arith}
+use Rattle.std.proofs.Common.{◌≡◌, ℕ, zero, suc, ◌+◌, ◌<◌, ◌≤◌, List, [], ◌∷◌, ◌++◌, length, take, drop, get_or, set, refl, ap, sym, subst, ◌∙◌, append-nil, append_assoc, length-append, arith}
 use Rattle.std.specs.List.{insert}
 use Rattle.std.proofs.lemmas.List.{take_all}
 use Rattle.std.proofs.lemmas.List.Edits.{insert_end}
 use Rattle.chunked_list.proofs.Edits.{put_in_chunk}
-use Rattle.chunked_list.specs.Chunks.{items_in, joined, numbered, AreNumbered, AreFilled, AreChunks, IsFilled}
+use Rattle.chunked_list.specs.Chunks.{items_in, joined, numbered, AreNumbered, AreFilled, AreChunks}
 use Rattle.chunked_list.specs.declared.chunk.Chunk.{Chunk}
 
 next_is : (i : ℕ) → suc i ≡ i + 1
@@ -47,6 +47,18 @@ module _ {T : Type 0} where
   pub front-next : (cs : List (Chunk T)) (i : ℕ) (d : Chunk T) → i < length cs →
       length (joined (take (i + 1) cs)) ≡ length (joined (take i cs)) + length (items_in (get_or cs i d))
   front-next cs i d inside = ap (λ m. length (joined (take m cs))) (sym (next_is i)) ∙ front-suc cs i d inside
+
+  -- the items of one chunk more
+  joined-suc : (cs : List (Chunk T)) (i : ℕ) (d : Chunk T) → i < length cs →
+      joined (take (suc i) cs) ≡ joined (take i cs) ++ items_in (get_or cs i d)
+  joined-suc [] i d inside = absurd (omega (arith, inside))
+  joined-suc (c ∷ cs) zero d inside = append-nil (items_in c)
+  joined-suc (c ∷ cs) (suc i) d inside =
+      ap (λ l. items_in c ++ l) (joined-suc cs i d (omega arith)) ∙ sym (append_assoc (items_in c) (joined (take i cs)) (items_in (get_or cs i d)))
+
+  pub joined-next : (cs : List (Chunk T)) (i : ℕ) (d : Chunk T) → i < length cs →
+      joined (take (i + 1) cs) ≡ joined (take i cs) ++ items_in (get_or cs i d)
+  joined-next cs i d inside = ap (λ m. joined (take m cs)) (sym (next_is i)) ∙ joined-suc cs i d inside
 
   pub front-upto : (cs : List (Chunk T)) (i : ℕ) → length (joined (take i cs)) ≤ length (joined cs)
   front-upto [] zero = omega arith

@@ -1,4 +1,4 @@
-ghost use Rattle.std.specs.Prelude.{◌≡◌, ◌<◌, ◌≤◌, ◌∷◌, ◌++◌, [], Bool, true, false, length, slice_get, slice_index_or, slice_set, nat_eq, OnOk, OnErr};
+ghost use Rattle.std.specs.Prelude.{◌≡◌, ◌<◌, ◌≤◌, ◌∷◌, ◌++◌, [], Bool, true, false, length, slice_get, slice_index_or, slice_set, nat_eq, IfOk, OnOk, OnErr};
 ghost use Rattle.std.specs.Fn.{ComputesKey};
 ghost use Rattle.std.specs.List.{insert, remove};
 ghost use Rattle.std.specs.List.Sorted.{IsPartitionedBy, IsPartitionPoint};
@@ -9,7 +9,7 @@ use crate::edit::{exchange, insert_at, remove_at};
 use crate::search::point_in;
 use crate::spot::spot_of;
 use net_base::OutOfMemory;
-use std::alloc::Global;
+use std::alloc::{AllocError, Global};
 use std::marker::Model;
 
 /// Items one after another. Contracts see the list of them.
@@ -83,6 +83,19 @@ impl<T> ChunkedList<T> {
             return 0;
         }
         point_in(&self.chunks, pred)
+    }
+}
+
+impl<T: Copy> ChunkedList<T> {
+    /// The items as a vector: a copy of one chunk after another.
+    pub fn to_vec(&self, alloc: Global) -> Result<Vec<T>, AllocError>
+        ensures { IfOk result (λ items. items.items ≡ self.now) }
+    {
+        let mut items = Vec::with_capacity(alloc, self.len)?;
+        for place in 0..self.chunks.len() {
+            items.extend_from_slice(&self.chunks[place].items)?;
+        }
+        Ok(items)
     }
 }
 

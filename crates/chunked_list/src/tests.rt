@@ -116,3 +116,17 @@ fn rising_numbers_are_found(rt: HostRuntime) -> Result<(), Fail> {
     assert_eq!(rt; list.partition_point(|_| true), 0);
     Ok(())
 }
+
+#[test]
+fn a_copy_has_the_items_in_their_order(rt: HostRuntime) -> Result<(), Fail> {
+    let mut list = ChunkedList::new(rt.alloc());
+    for number in (0..1000_u64).rev() {
+        list.insert(0, number)?;
+    }
+    let copy = list.to_vec(rt.alloc())?;
+    assert_eq!(rt; copy.len(), 1000);
+    for number in 0..1000_u64 {
+        assert_eq!(rt; copy.get(number as usize), Some(&number));
+    }
+    Ok(())
+}

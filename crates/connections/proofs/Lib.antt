@@ -1,4 +1,5 @@
-pub mod LinkLooks
+pub mod LinkEdits
+pub mod LinkedTurns
 pub mod Retimed
 pub mod TalkFeeds
 pub mod TalkFinds

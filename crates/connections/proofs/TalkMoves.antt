@@ -6,6 +6,7 @@ use Rattle.conn_state.specs.Moves.{released, acquired, expired}
 use Rattle.conn_table.specs.Choices.{negotiated, grace_ended}
 use Rattle.conn_state.specs.Use.{is_outbound}
 use Rattle.conn_table.specs.Answers.{lease_of}
+use Rattle.conn_table.specs.Index.{placed_of}
 use Rattle.conn_table.specs.declared.step.Step.TheVariants.{Negotiated, GraceOver}
 use Rattle.conn_table.proofs.StateFacts.{step_keeps}
 use Rattle.mux_segment.specs.Stream.{nothing_fed}
@@ -18,8 +19,11 @@ use Rattle.connections.specs.declared.talk.Talk.{Talk}
 
 -- ---- the handshake is over
 
+pub placed_negotiated : (agreed : Agreed) (until : ℕ) (f : Facts) → placed_of (negotiated agreed until f) ≡ placed_of f
+placed_negotiated agreed until f = step_keeps (Negotiated agreed until) f
+
 pub keeps_negotiated : (agreed : Agreed) (until : ℕ) (f : Facts) → (negotiated agreed until f).cid ≡ f.cid
-keeps_negotiated agreed until f = ap (λ p. p.cid) (step_keeps (Negotiated agreed until) f)
+keeps_negotiated agreed until f = ap (λ p. p.cid) (placed_negotiated agreed until f)
 
 pub leased : (agreed : Agreed) (until : ℕ) (f : Facts) (talk : Talk) (lease : Cid) → Some lease ≡ lease_of f → IsTalkOf f talk →
     IsTalkOf (negotiated agreed until f) (with_lease (Some lease) talk)

@@ -30,7 +30,7 @@ use Rattle.timer_queue.proofs.Orderly.{nobody_leaves}
 use Rattle.timer_queue.proofs.Orders.{timer_order, cid_order, same_cid-is}
 use Rattle.timer_queue.proofs.Rising.{has-filter, any-find, any-map, find-replaced, map-replaced, map-taken_out}
 
-abbrev id_of : Entry → Cid
+abbrev pub id_of : Entry → Cid
 id_of e = e.facts.cid
 
 has-append : (d : Deadline) (xs ys : List Deadline) → has_timer d (xs ++ ys) ≡ (has_timer d xs || has_timer d ys)
@@ -86,7 +86,7 @@ among-both d e f es fs first rest =
 
 -- ---- the connection turns
 
-abbrev turned_in : Entry → List Entry → List Entry
+abbrev pub turned_in : Entry → List Entry → List Entry
 turned_in new es = map (λ e. cond (same_cid e.facts.cid new.facts.cid) new e) es
 
 among-turned : (d : Deadline) (new : Entry) (es : List Entry) → is_of new.facts.cid d ≡ false → among d (turned_in new es) ≡ among d es
@@ -99,7 +99,7 @@ among-turned d new (e ∷ es) other = elim (cases_Bool (same_cid e.facts.cid new
   | inr gone ↦ rw gone (among-both d e e (turned_in new es) es refl (among-turned d new es other))
 ]
 
-stands_as : (cid : Cid) (es : List Entry) → is_some (find (λ e. has_id cid.0 e.facts) es) ≡ list_any (λ e. same_cid e.facts.cid cid) es
+pub stands_as : (cid : Cid) (es : List Entry) → is_some (find (λ e. has_id cid.0 e.facts) es) ≡ list_any (λ e. same_cid e.facts.cid cid) es
 stands_as cid es = any-find cid_below same_cid cid_order id_of cid es
 
 pub own_id : (cid : Cid) (es : List Entry) (e : Entry) → find (λ x. has_id cid.0 x.facts) es ≡ Some e → e.facts.cid ≡ cid
@@ -110,11 +110,11 @@ own_id cid (x ∷ xs) e found = elim (cases_Bool (same_cid x.facts.cid cid)) [
 ]
 
 -- what was found, by itself
-found_one : (o : Option Entry) → IsSome o → (e : Entry) × (o ≡ Some e)
+pub found_one : (o : Option Entry) → IsSome o → (e : Entry) × (o ≡ Some e)
 found_one None h = absurd (false≢true h)
 found_one (Some e) h = (e, refl)
 
-if_found : (P : Entry → Type 0) (o : Option Entry) (e : Entry) → o ≡ Some e → IfSome o P → P e
+pub if_found : (P : Entry → Type 0) (o : Option Entry) (e : Entry) → o ≡ Some e → IfSome o P → P e
 if_found P o e is h = subst (λ p. IfSome p P) is h
 
 apart_both : (x y b : Bool) → (b ≡ false → x ≡ y) → (x && not b) ≡ (y && not b)
@@ -147,14 +147,14 @@ turned_but cid change old new queue timed there keeps turns =
 pub stands_in : (cid : Cid) (s t : Standing) → t ≡ s → IsSome (entry_with cid.0 s) → IsSome (entry_with cid.0 t)
 stands_in cid s t is there = subst (λ r. IsSome (entry_with cid.0 r)) (sym is) there
 
+pub some_of : (P : Entry → Type 0) (o : Option Entry) → IsSomeAnd o P → IsSome o
+some_of P None h = absurd h
+some_of P (Some e) h = refl
+
 pub moved_but : (cid : Cid) (P : Entry → Type 0) (change : Entry → Entry) (s old new : Standing) (queue : Queue) → IsTimed old queue → old ≡ s →
     IsSomeAnd (entry_with cid.0 s) P → ((e : Entry) → (change e).facts.cid ≡ e.facts.cid) → Turns cid.0 change old new → IsTimedBut cid new queue
 moved_but cid P change s old new queue timed is asked keeps turns =
-    turned_but cid change old new queue timed (stands_in cid s old is (some_of (entry_with cid.0 s) asked)) keeps turns
-  where
-    some_of : (o : Option Entry) → IsSomeAnd o P → IsSome o
-    some_of None h = absurd h
-    some_of (Some e) h = refl
+    turned_but cid change old new queue timed (stands_in cid s old is (some_of P (entry_with cid.0 s) asked)) keeps turns
 
 -- ---- its timers are its deadlines again
 
@@ -348,7 +348,7 @@ left_again next s old enrolled new timed below is_then is orderly =
 
 -- ---- a connection goes
 
-abbrev others_in : Cid → List Entry → List Entry
+abbrev pub others_in : Cid → List Entry → List Entry
 others_in cid es = filter (λ e. not (same_cid e.facts.cid cid)) es
 
 among-gone : (cid : Cid) (d : Deadline) (es : List Entry) → among d (others_in cid es) ≡ (among d es && not (is_of cid d))

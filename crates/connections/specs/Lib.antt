@@ -1,3 +1,4 @@
+pub mod Linked
 pub mod Overview
 pub mod Owed
 pub mod Standing

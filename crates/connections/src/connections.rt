@@ -9,27 +9,31 @@ mod overview;
 mod talking;
 
 use crate::kept::Kept;
+use crate::linked::Links;
 use net_base::{Addr, Cid, Facts, Settings};
 use std::alloc::Global;
 use std::marker::Model;
 use timer_queue::TimerQueue;
 
-/// The connections that stand, with what is read and owed of each, in order of id, and their deadlines as timers.
+/// The connections that stand, with what is read and owed of each, in order of id, their deadlines as timers, and what
+/// the rules see of them.
 #[derive(Debug, Drop)]
 pub struct Connections {
     kept: Kept,
     timers: TimerQueue,
+    links: Links,
 }
 
 impl Model for Connections {
     ghost use Rattle.connections.specs.Standing.{Standing};
+    ghost use Rattle.connections.specs.Linked.{IsLinked};
     ghost use Rattle.connections.specs.Timed.{IsTimed};
 
     ghost Value = { Standing };
 
     ghost view = { λ c. c.kept };
 
-    ghost invariant = { λ c. IsTimed c.kept c.timers };
+    ghost invariant = { λ c. IsTimed c.kept c.timers × IsLinked c.kept c.links };
 }
 
 impl Connections {
@@ -41,6 +45,7 @@ impl Connections {
         Connections {
             kept: Kept::new(alloc, settings),
             timers: TimerQueue::new(alloc),
+            links: Links::new(alloc),
         }
     }
 

@@ -1,9 +1,10 @@
-//! The connections of a node: what is read, owed and timed of each.
+//! The connections of a node: what is read, owed and timed of each, and what the rules see of it.
 #![tactic(auto)]
 
 mod connections;
 mod kept;
 mod link;
+mod linked;
 mod replies;
 mod reply;
 mod talk;

@@ -6,10 +6,15 @@ ghost use Rattle.conn_state.specs.Protocols.{has_responder};
 ghost use Rattle.conn_state.specs.Use.{is_dialing, is_greeting, is_acquirable, runs};
 ghost use Rattle.conn_table.specs.Answers.{any_at, is_due};
 ghost use Rattle.conn_table.specs.Conditions.{CanAwake};
+ghost use Rattle.timer_queue.specs.Queue.{IsOrderly, with_enrolled};
+ghost use Rattle.connections.specs.Linked.{stands_at, blank, with_new};
 ghost use Rattle.connections.specs.Standing.{entry_with, live_entry, facts_in, come, gone, Turns, moved, closed};
 
 use super::Connections;
+use crate::linked::Links;
+use conn_table::Placed;
 use net_base::{Addr, Agreed, Cid, OutOfMemory};
+use timer_queue::TimerQueue;
 
 impl Connections {
     /// Lets in a peer that connected at a moment, under the next id. A refusal changes nothing.
@@ -23,15 +28,17 @@ impl Connections {
             (self.new ≡ come (accepted self.old.next_id addr (now + self.old.settings.handshake)) self.old) }
         ensures err { OnErr result (self.new ≡ self.old) }
     {
-        let next = Cid(self.kept.given() + 1);
-        self.timers.enroll(next)?;
+        let cid = Cid(self.kept.given() + 1);
+        let placed = Placed { addr, cid };
+        enroll(&mut self.timers, &mut self.links, placed)?;
         match self.kept.admit(addr, now) {
             Ok(cid) => {
-                self.kept.retime(cid, &mut self.timers);
+                self.kept.follow(cid, &mut self.timers, &mut self.links);
                 Ok(cid)
             }
             Err(refusal) => {
-                self.timers.leave(next);
+                self.timers.leave(placed.cid);
+                self.links.leave(placed);
                 Err(refusal)
             }
         }
@@ -45,15 +52,17 @@ impl Connections {
         ensures ok { OnOk result (self.new ≡ come (dialing self.old.next_id addr) self.old) }
         ensures err { OnErr result (self.new ≡ self.old) }
     {
-        let next = Cid(self.kept.given() + 1);
-        self.timers.enroll(next)?;
+        let cid = Cid(self.kept.given() + 1);
+        let placed = Placed { addr, cid };
+        enroll(&mut self.timers, &mut self.links, placed)?;
         match self.kept.dial(addr) {
             Ok(cid) => {
-                self.kept.retime(cid, &mut self.timers);
+                self.kept.follow(cid, &mut self.timers, &mut self.links);
                 Ok(cid)
             }
             Err(refusal) => {
-                self.timers.leave(next);
+                self.timers.leave(placed.cid);
+                self.links.leave(placed);
                 Err(refusal)
             }
         }
@@ -66,7 +75,7 @@ impl Connections {
         ensures { Turns cid.0 (moved (connected (now + self.old.settings.handshake))) self.old self.new }
     {
         self.kept.connected(cid, now);
-        self.kept.retime(cid, &mut self.timers);
+        self.kept.follow(cid, &mut self.timers, &mut self.links);
     }
 
     /// The handshake is over.
@@ -76,7 +85,7 @@ impl Connections {
         ensures { Turns cid.0 (moved (negotiated agreed (now + self.old.settings.idle))) self.old self.new }
     {
         self.kept.negotiated(cid, agreed, now);
-        self.kept.retime(cid, &mut self.timers);
+        self.kept.follow(cid, &mut self.timers, &mut self.links);
     }
 
     /// This node takes a connection into its use.
@@ -85,7 +94,7 @@ impl Connections {
         ensures { Turns cid.0 (moved acquired) self.old self.new }
     {
         self.kept.acquire(cid);
-        self.kept.retime(cid, &mut self.timers);
+        self.kept.follow(cid, &mut self.timers, &mut self.links);
     }
 
     /// This node gives a connection out of its use.
@@ -95,7 +104,7 @@ impl Connections {
         ensures { Turns cid.0 (moved (released (now + self.old.settings.idle))) self.old self.new }
     {
         self.kept.release(cid, now);
-        self.kept.retime(cid, &mut self.timers);
+        self.kept.follow(cid, &mut self.timers, &mut self.links);
     }
 
     /// The other side begins a protocol.
@@ -105,7 +114,7 @@ impl Connections {
         ensures { Turns cid.0 (moved (awakened protocol)) self.old self.new }
     {
         self.kept.awake(cid, protocol);
-        self.kept.retime(cid, &mut self.timers);
+        self.kept.follow(cid, &mut self.timers, &mut self.links);
     }
 
     /// The other side ends a protocol.
@@ -115,7 +124,7 @@ impl Connections {
         ensures { Turns cid.0 (moved (idled protocol (now + self.old.settings.idle))) self.old self.new }
     {
         self.kept.idle(cid, protocol, now);
-        self.kept.retime(cid, &mut self.timers);
+        self.kept.follow(cid, &mut self.timers, &mut self.links);
     }
 
     /// The grace of a connection in local use is over: it goes on without one.
@@ -126,7 +135,7 @@ impl Connections {
         ensures { Turns cid.0 (moved expired) self.old self.new }
     {
         self.kept.expire(cid, now);
-        self.kept.retime(cid, &mut self.timers);
+        self.kept.follow(cid, &mut self.timers, &mut self.links);
     }
 
     /// The grace of a connection that this node does not use is over: this side closes it, and keeps it for the
@@ -138,7 +147,7 @@ impl Connections {
         ensures { Turns cid.0 (closed (now + self.old.settings.timewait)) self.old self.new }
     {
         self.kept.close(cid, now);
-        self.kept.retime(cid, &mut self.timers);
+        self.kept.follow(cid, &mut self.timers, &mut self.links);
     }
 
     /// A connection goes.
@@ -146,7 +155,31 @@ impl Connections {
         requires { IsSome (entry_with cid.0 self.old) }
         ensures { self.new ≡ gone cid.0 self.old }
     {
+        match self.kept.facts(cid) {
+            Some(facts) => self.links.leave(Placed {
+                addr: facts.addr,
+                cid,
+            }),
+            None => unreachable!(),
+        }
         self.kept.remove(cid);
         self.timers.leave(cid);
     }
+}
+
+// One more connection has room for its timers, and a blank link. A refusal changes nothing.
+fn enroll(timers: &mut TimerQueue, links: &mut Links, placed: Placed) -> Result<(), OutOfMemory>
+    requires { stands_at placed links.old ≡ false }
+    ensures timers { OnOk result (timers.new ≡ with_enrolled placed.cid timers.old) }
+    ensures links { OnOk result (links.new ≡ with_new (blank placed) links.old) }
+    ensures timers_stay { OnErr result (timers.new ≡ timers.old) }
+    ensures links_stay { OnErr result (links.new ≡ links.old) }
+    ensures orderly { OnOk result (IsOrderly timers.new) }
+{
+    links.enroll(placed)?;
+    let enrolled = timers.enroll(placed.cid);
+    if enrolled.is_err() {
+        links.leave(placed);
+    }
+    enrolled
 }

@@ -48,6 +48,6 @@ impl Connections {
     pub fn links(&self, alloc: Global) -> Result<LinkList, OutOfMemory>
         ensures { IfOk result (λ links. SaySame links (map link_of self.now.entries)) }
     {
-        self.kept.links(alloc)
+        self.links.to_list(alloc)
     }
 }

@@ -27,7 +27,7 @@ impl Connections {
         ensures { Turns cid.0 (owes protocol asked (now + self.old.settings.reply)) self.old self.new }
     {
         self.kept.owe(cid, protocol, asked, now);
-        self.kept.retime(cid, &mut self.timers);
+        self.kept.follow(cid, &mut self.timers, &mut self.links);
     }
 
     /// The reply on a protocol is there.
@@ -36,7 +36,7 @@ impl Connections {
         ensures { Turns cid.0 (paid protocol) self.old self.new }
     {
         self.kept.pay(cid, protocol);
-        self.kept.retime(cid, &mut self.timers);
+        self.kept.follow(cid, &mut self.timers, &mut self.links);
     }
 
     /// Bytes come in on a connection: the items that they make whole, up to the first fault. Where memory is refused,
@@ -47,7 +47,7 @@ impl Connections {
         ensures err { OnErr result (Turns cid.0 unread self.old self.new) }
         ensures gives { IfOk result (λ fed. IfSome (entry_with cid.0 self.old) (λ e. IsFed (fed_of bytes.now e) fed)) }
     {
-        // no deadline comes or goes
+        // no deadline comes or goes, and no link changes
         self.kept.feed(cid, bytes)
     }
 }

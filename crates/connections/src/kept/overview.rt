@@ -1,33 +1,33 @@
-ghost use Rattle.std.specs.Prelude.{◌≡◌, map, IfOk};
+ghost use Rattle.std.specs.Prelude.{◌≡◌};
 ghost use Rattle.std.specs.List.{filter_map};
 ghost use Rattle.std.specs.Option.{option_map};
 ghost use Rattle.accept_gate.specs.Prune.{choice_of};
-ghost use Rattle.govern_rules.specs.SortedLinks.{SaySame};
 ghost use Rattle.machine.specs.Connections.{candidate_of};
-ghost use Rattle.machine.specs.Govern.{link_of};
-ghost use Rattle.connections.specs.Standing.{entry_with, facts_in};
+ghost use Rattle.connections.specs.Linked.{IsLinked, IsLinkedBut};
+ghost use Rattle.connections.specs.Standing.{facts_in};
 ghost use Rattle.connections.specs.Timed.{IsTimed, IsTimedBut};
 
 use super::Kept;
 use crate::link::{first_with, link_of};
+use crate::linked::Links;
 use crate::timed::retime;
 use accept_gate::Candidate;
-use conn_table::PlacedList;
-use govern_rules::{Link, LinkList};
-use net_base::{Cid, OutOfMemory};
-use std::alloc::{AllocError, Global};
+use net_base::Cid;
 use timer_queue::TimerQueue;
 
 impl Kept {
-    /// The deadlines of a connection are its timers.
-    pub fn retime(&self, cid: Cid, timers: &mut TimerQueue)
-        requires { IsTimedBut cid self.now timers.old }
-        ensures { IsTimed self.now timers.new }
+    /// The deadlines of a connection are its timers, and what the rules see of it is its link.
+    pub fn follow(&self, cid: Cid, timers: &mut TimerQueue, links: &mut Links)
+        requires timed { IsTimedBut cid self.now timers.old }
+        requires linked { IsLinkedBut cid self.now links.old }
+        ensures timed { IsTimed self.now timers.new }
+        ensures linked { IsLinked self.now links.new }
     {
         let place = self.table.place_of(cid);
         let facts = self.table.at(place);
         let talk = self.talks.at(place);
         retime(timers, &facts, &talk.replies);
+        links.set(link_of(&facts, &talk.replies));
     }
 
     /// Which connection goes where there are too many.
@@ -40,43 +40,6 @@ impl Kept {
             first = first_with(&self.table.at(place), first);
         }
         id_of(first)
-    }
-
-    /// What the rules see of the connections, in address order.
-    pub fn links(&self, alloc: Global) -> Result<LinkList, OutOfMemory>
-        ensures { IfOk result (λ links. SaySame links (map link_of self.now.entries)) }
-    {
-        let links = self.links_at(alloc, self.table.index())?;
-        LinkList::from_vec(links)
-    }
-
-    // What they see of the connections of a list.
-    fn links_at(&self, alloc: Global, placed: &PlacedList) -> Result<Vec<Link>, AllocError>
-        ensures { IfOk result (λ links. links.items ≡ filter_map (λ p. option_map link_of (entry_with p.cid.0 self.now)) placed.now) }
-    {
-        let mut links = Vec::new(alloc);
-        for place in 0..placed.len() {
-            if let Some(link) = self.link(placed.at(place).cid) {
-                links.push(link)?;
-            }
-        }
-        Ok(links)
-    }
-
-    // What they see of the connection with an id.
-    fn link(&self, cid: Cid) -> Option<Link>
-        ensures { result ≡ option_map link_of (entry_with cid.0 self.now) }
-    {
-        let place = self.table.place_of(cid);
-        if place >= self.talks.len() {
-            return None;
-        }
-        let talk = self.talks.at(place);
-        let facts = self.table.at(place);
-        if facts.cid != cid {
-            return None;
-        }
-        Some(link_of(&facts, &talk.replies))
     }
 }
 

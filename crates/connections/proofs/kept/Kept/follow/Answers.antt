@@ -3,6 +3,7 @@ use Rattle.std.proofs.lemmas.Option.{get_or_from_slice_get, same_Some, slice_get
 use Rattle.conn_table.specs.Finds.{id_place}
 use Rattle.conn_table.proofs.IdPlaces.{get-place}
 use Rattle.machine.specs.Deadlines.{deadlines_of}
+use Rattle.machine.specs.Govern.{link_of}
 use Rattle.machine.specs.Machine.{Entry}
 use Rattle.net_base.specs.Shared.{nothing_undecoded}
 use Rattle.net_base.specs.declared.connection.Cid.{Cid}
@@ -12,21 +13,22 @@ use Rattle.timer_queue.specs.Timers.{HaveSame, without_cid}
 use Rattle.connections.specs.Standing.{entry_with}
 use Rattle.connections.specs.Talks.{entry_of, entries_of}
 use Rattle.connections.specs.declared.talk.Talk.{Talk}
+use Rattle.connections.proofs.LinkedTurns.{has_link, linked_again}
 use Rattle.connections.proofs.TalkTurns.{Any, Found, found, some_one, place_inside}
 use Rattle.connections.proofs.TimedTurns.{own_id, has_room, timed_again}
-use Rattle.connections.proofs.kept.Kept.retime.Goals.{After-at-talk}
-use Rattle.connections.proofs.kept.Kept.retime.Goals as goal
+use Rattle.connections.proofs.kept.Kept.follow.Goals.{After-at-talk}
+use Rattle.connections.proofs.kept.Kept.follow.Goals as goal
 
 pub at-facts-requires : goal.at-facts-requires
 at-facts-requires c =
-    let it = found Any c.args.cid.0 _ _ c.args.self.now c.self.invariant c.self.view_is (some_one c.args.cid.0 c.args.self.now c.requires.stands) in
+    let it = found Any c.args.cid.0 _ _ c.args.self.now c.self.invariant c.self.view_is (some_one c.args.cid.0 c.args.self.now c.requires.timed.stands) in
     subst (λ n. n < length c.self.inside.table.facts) (sym c.place_of-place.ensures)
     (slice_get_within c.self.inside.table.facts (id_place c.args.cid.0 c.self.inside.table.facts) it.facts
     (get-place c.args.cid.0 0 c.self.inside.table.given c.self.inside.table.facts it.facts c.self.invariant.ids_rise it.at.facts_there))
 
 pub at-talk-requires : goal.at-talk-requires
 at-talk-requires c =
-    let it = found Any c.args.cid.0 _ _ c.args.self.now c.self.invariant c.self.view_is (some_one c.args.cid.0 c.args.self.now c.requires.stands) in
+    let it = found Any c.args.cid.0 _ _ c.args.self.now c.self.invariant c.self.view_is (some_one c.args.cid.0 c.args.self.now c.requires.timed.stands) in
     let inside : c.place_of-place.result < length c.self.inside.talks = place_inside _ _ _ _ it.facts it.talk c.place_of-place.ensures it.at in
     omega (arith, inside)
 
@@ -34,7 +36,7 @@ at-talk-requires c =
 read : (c : After-at-talk) → (it : Found Any c.args.cid.0 c.self.inside.table c.self.inside.talks)
     × (c.at-facts.result ≡ it.facts) × (c.at-talk.result.now ≡ it.talk)
 read c =
-    let it = found Any c.args.cid.0 _ _ c.args.self.now c.self.invariant c.self.view_is (some_one c.args.cid.0 c.args.self.now c.requires.stands) in
+    let it = found Any c.args.cid.0 _ _ c.args.self.now c.self.invariant c.self.view_is (some_one c.args.cid.0 c.args.self.now c.requires.timed.stands) in
     let fs = c.self.inside.table.facts in
     let talks = c.self.inside.talks in
     let there : slice_get fs (id_place c.args.cid.0 fs) ≡ Some it.facts =
@@ -45,16 +47,30 @@ read c =
     ∙ get_or_from_slice_get talks (id_place c.args.cid.0 fs) it.talk c.at-talk.result.now it.at.talk_there) in
     (it, facts, talk)
 
+-- what the rules see of it
+seen : (g f : Facts) (u t : Talk) → g ≡ f → u ≡ t →
+    link_of (record { facts = g; undecoded = nothing_undecoded; owed = u.replies }) ≡ link_of (entry_of f t)
+seen g f u t facts talk =
+    ap (λ (h : Facts). link_of (record { facts = h; undecoded = nothing_undecoded; owed = u.replies })) facts
+    ∙ ap (λ (v : Talk). link_of (record { facts = f; undecoded = nothing_undecoded; owed = v.replies })) talk
+
 pub retime-requires-clause-enrolled : goal.retime-requires-clause-enrolled
 retime-requires-clause-enrolled c =
     let r = read (goal.at.retime-requires-clause-enrolled c).After-at-talk in
     let own : r.0.facts.cid ≡ c.args.cid =
     own_id c.args.cid (entries_of c.self.inside.table.facts c.self.inside.talks) (entry_of r.0.facts r.0.talk) r.0.at.entry_there in
-    ap (λ (i : Cid). is_enrolled i c.args.timers.now) (ap (λ (f : Facts). f.cid) r.1 ∙ own) ∙ has_room c.args.cid c.args.self.now c.args.timers.now c.requires
+    ap (λ (i : Cid). is_enrolled i c.args.timers.now) (ap (λ (f : Facts). f.cid) r.1 ∙ own) ∙ has_room c.args.cid c.args.self.now c.args.timers.now c.requires.timed
 
-pub returns : goal.returns
-returns c =
-    let r = read (goal.at.returns c).After-at-talk in
+pub set-requires : goal.set-requires
+set-requires c =
+    let r = read (goal.at.set-requires c).After-at-talk in
+    has_link c.args.cid c.args.self.now c.args.links.now (entry_of r.0.facts r.0.talk) c.link_of.result c.requires.linked
+    (ap (entry_with c.args.cid.0) (sym c.self.view_is) ∙ r.0.at.entry_there)
+    (c.link_of.ensures ∙ seen c.at-facts.result r.0.facts c.at-talk.result.now r.0.talk r.1 r.2)
+
+pub returns-clause-timed : goal.returns-clause-timed
+returns-clause-timed c =
+    let r = read (goal.at.returns-clause-timed c).After-at-talk in
     let e : Entry = entry_of r.0.facts r.0.talk in
     let old = c.args.timers.now.timers in
     let new = c.retime.new.timers.timers in
@@ -65,5 +81,12 @@ returns c =
     let of_talk : HaveSame new (deadlines_of e ++ without_cid r.0.facts.cid old) =
     subst (λ (t : Talk). HaveSame new
     (deadlines_of (record { facts = r.0.facts; undecoded = nothing_undecoded; owed = t.replies }) ++ without_cid r.0.facts.cid old)) r.2 of_facts in
-    timed_again c.args.cid c.args.self.now c.args.timers.now c.retime.new.timers e c.requires
+    timed_again c.args.cid c.args.self.now c.args.timers.now c.retime.new.timers e c.requires.timed
     (ap (entry_with c.args.cid.0) (sym c.self.view_is) ∙ r.0.at.entry_there) c.retime.ensures.enrolled of_talk c.retime.ensures.orderly
+
+pub returns-clause-linked : goal.returns-clause-linked
+returns-clause-linked c =
+    let r = read (goal.at.returns-clause-linked c).After-at-talk in
+    linked_again c.args.cid c.args.self.now c.args.links.now c.set.new.self (entry_of r.0.facts r.0.talk) c.link_of.result c.requires.linked
+    (ap (entry_with c.args.cid.0) (sym c.self.view_is) ∙ r.0.at.entry_there)
+    (c.link_of.ensures ∙ seen c.at-facts.result r.0.facts c.at-talk.result.now r.0.talk r.1 r.2) c.set.ensures

@@ -1,0 +1,72 @@
+-- The links of the connections that stand: what the rules see of each, found by its address and id.
+use Rattle.std.specs.Prelude.{◌≡◌, Bool, true, false, not, List, [], ◌∷◌, map, filter, IsSomeAnd, if◌then◌else◌}
+use Rattle.std.specs.List.{list_any}
+use Rattle.conn_table.specs.Index.{placed_below, same_placed}
+use Rattle.conn_table.specs.declared.placed.Placed.{Placed}
+use Rattle.govern_rules.specs.declared.link.Link.{Link}
+use Rattle.machine.specs.Govern.{link_of}
+use Rattle.net_base.specs.declared.connection.Cid.{Cid}
+use Rattle.timer_queue.specs.Order.{IsRising}
+use Rattle.connections.specs.Standing.{Standing, entry_with}
+
+abbrev pub links_in : Standing → List Link
+links_in s = map link_of s.entries
+
+-- its address and id
+abbrev pub place_of : Link → Placed
+place_of l = record { addr = l.addr; cid = l.cid }
+
+-- in order of address and then id, and none twice
+abbrev pub AreInOrder : List Link → Type 0
+AreInOrder links = IsRising placed_below place_of links
+
+abbrev pub stands_at : Placed → List Link → Bool
+stands_at placed links = list_any (λ l. same_placed (place_of l) placed) links
+
+-- whatever is asked: some of the one pass where some of the others do
+abbrev pub HaveSameLinks : List Link → List Link → Type 0
+HaveSameLinks links others = (test : Link → Bool) → list_any test links ≡ list_any test others
+
+-- ---- changes
+
+-- of a connection of which nothing is known yet
+abbrev pub blank : Placed → Link
+blank placed = record {
+  addr = placed.addr;
+  cid = placed.cid;
+  live = false;
+  acquirable = false;
+  pending = false;
+  local = false;
+  sharing = false;
+  owes2 = false;
+  owes8 = false;
+  owes10 = false;
+}
+
+-- one more, at its place
+abbrev pub with_new : Link → List Link → List Link
+with_new new [] = new ∷ []
+with_new new (l ∷ links) = if placed_below (place_of l) (place_of new) then l ∷ with_new new links else new ∷ l ∷ links
+
+-- in place of the one with its address and id
+abbrev pub with_link : Link → List Link → List Link
+with_link new links = map (λ l. if same_placed (place_of l) (place_of new) then new else l) links
+
+abbrev pub without_link : Placed → List Link → List Link
+without_link placed links = filter (λ l. not (same_placed (place_of l) placed)) links
+
+-- ---- of the connections
+
+-- they are the links of the connections
+abbrev pub IsLinked : Standing → List Link → Type 0
+IsLinked s links = HaveSameLinks links (links_in s)
+
+-- they are, once a link is put in its place
+pub record IsLinkedWith (link : Link) (s : Standing) (links : List Link) : Type 0 where
+  pub there : stands_at (place_of link) links ≡ true
+  pub same : IsLinked s (with_link link links)
+
+-- they are, but for the link of one of them
+abbrev pub IsLinkedBut : Cid → Standing → List Link → Type 0
+IsLinkedBut cid s links = IsSomeAnd (entry_with cid.0 s) (λ e. IsLinkedWith (link_of e) s links)
