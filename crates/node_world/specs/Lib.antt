@@ -1,0 +1,5 @@
+pub mod Meanings
+pub mod Script
+pub mod Segments
+pub mod Start
+pub mod Town
