@@ -1,9 +1,8 @@
 //! A made town of peers: what happens in it, and what its peers answer.
-ghost use Rattle.std.specs.Prelude.{◌≡◌, ◌≤◌, ◌<◌, ◌^◌, [], ◌∷◌, true, length, IfOk, OnOk, OnErr};
+ghost use Rattle.std.specs.Prelude.{◌≡◌, ◌≤◌, ◌<◌, ◌^◌, true, length, IfOk, OnOk, OnErr};
 ghost use Rattle.net_base.specs.Limits.{IsWithinLimits, IsBounded};
 ghost use Rattle.net_base.specs.declared.event.Event.TheVariants.{Bytes as BytesOf, Roots as RootsOf};
 ghost use Rattle.net_base.specs.declared.event.RootAnswer.TheVariants.{Found as FoundOf};
-ghost use Rattle.warm_messages.specs.Writing.{written_peers};
 ghost use Rattle.node_world.specs.Segments.{spoken as spoken_of, heard as heard_of, proposal, begins_asking, alive_reply, question_of as asked};
 ghost use Rattle.node_world.specs.Town.{new_town, next_of, later_of, made_of, draw as draw_of, event_of, clock_after, clock_rises, some_connection, answers, dial_ends, peer_told, replies, replies_where, does, is_heeded as heeded, act_of, names, root_peers as town_roots};
 
@@ -18,7 +17,7 @@ mod waiting;
 use beginning::{first_locals, first_targets};
 use draws::draw;
 use mux_segment::Header;
-use net_base::{Action, Addr, Cid, Event, Job, Octets, OutOfMemory, RootAnswer};
+use net_base::{Action, Cid, Event, Job, OutOfMemory, RootAnswer};
 use peers::{root_peers, some_peer};
 use question::{Question, question_of};
 use rand_core::SeedableRng;
@@ -237,7 +236,7 @@ impl Town {
     fn reply_to(&mut self, cid: Cid, header: Header, payload: &[u8]) -> Result<(), OutOfMemory>
         requires cid { IsBounded cid.0 }
         requires size { length payload.now ≤ 65_528 }
-        ensures after { OnOk result (let s = record { header = header; payload = payload.now } in self.new ≡ replies cid (asked s) payload.now self.old) }
+        ensures after { OnOk result (self.new ≡ replies cid (asked (record { header = header; payload = payload.now })) payload.now self.old) }
         ensures unchanged { OnErr result (self.new ≡ self.old) }
     {
         match question_of(header, payload) {
@@ -266,7 +265,7 @@ impl Town {
         ensures unchanged { OnErr result (self.new ≡ self.old) }
     {
         let (word, generator) = draw(&self.generator)?;
-        let message = peers_message(self.alloc, some_peer(word))?;
+        let message = write_peers(self.alloc, &[some_peer(word)])?;
         self.say(cid, RESPONDER, PEER_SHARING, message.as_slice())?;
         self.generator = generator;
         Ok(())
@@ -310,12 +309,4 @@ fn is_heeded(action: &Action) -> bool
         Action::AskRoots(job) => job.0 <= LAST,
         _ => false,
     }
-}
-
-// A peers message with one address of the town.
-fn peers_message(alloc: Global, addr: Addr) -> Result<Octets, OutOfMemory>
-    ensures value { IfOk result (λ message. message ≡ written_peers (addr ∷ [])) }
-    ensures size { IfOk result (λ message. length message ≤ 65_528) }
-{
-    write_peers(alloc, &[addr])
 }
