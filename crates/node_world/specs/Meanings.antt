@@ -3,20 +3,14 @@ use Rattle.std.specs.Prelude.{◌≡◌, ℕ, ◌+◌, ◌-◌, ◌^◌, ◌≤�
 use Rattle.std.specs.Option.{option_map}
 use Rattle.net_base.specs.Limits.{IsWithinLimits}
 use Rattle.net_base.specs.declared.action.Action.{Action}
-use Rattle.net_base.specs.declared.address.Addr.{Addr}
 use Rattle.net_base.specs.declared.event.Event.{Event}
-use Rattle.node_settings.specs.declared.config.Config.{Config}
 use Rattle.node_world.specs.declared.next.Next.{Next}
 use Rattle.node_world.specs.declared.next.Next.TheVariants.{Event as Happens, End}
+use Rattle.node_world.specs.declared.opening.Opening.{Opening}
 use Rattle.node_world.specs.declared.refusal.WorldRefusal.{WorldRefusal}
 use Rattle.node_world.specs.declared.refusal.WorldRefusal.TheVariants.{Failed, OutOfMemory}
 
--- what a world is opened with: the settings, and the public root peers
-pub record Opening : Type 0 where
-  pub config : Config
-  pub publics : List Addr
-
--- what it was opened with, where that is told: the last opening, none before it
+-- what the world was opened with, where that is told: none before it was
 abbrev pub opening_after : {T E : Type 0} → Option (Option Opening) → Opening → Result T E → Option (Option Opening)
 opening_after told opening (Ok done) = option_map (λ before. Some opening) told
 opening_after told opening (Err refusal) = told
@@ -41,9 +35,12 @@ says_end (Ok End) = true
 says_end (Err refusal) = false
 
 -- an event that is given is one that there can be
+abbrev pub IsNextWithinLimits : Next → Type 0
+IsNextWithinLimits (Happens event) = IsWithinLimits event
+IsNextWithinLimits End = Unit {0}
+
 abbrev pub GivesWithinLimits : {E : Type 0} → Result Next E → Type 0
-GivesWithinLimits (Ok (Happens event)) = IsWithinLimits event
-GivesWithinLimits (Ok End) = Unit {0}
+GivesWithinLimits (Ok next) = IsNextWithinLimits next
 GivesWithinLimits (Err refusal) = Unit {0}
 
 -- a count has risen, or stands at the last value of 64 bits

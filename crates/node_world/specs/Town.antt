@@ -28,6 +28,12 @@ pub record Town : Type 0 where
   -- the greatest connection id that an admission or a dial named, or 1
   pub newest : ℕ
 
+-- a town with the events that were taken from it and the actions that were done
+pub record LivedTown : Type 0 where
+  pub town : Town
+  pub taken : List Event
+  pub done : List Action
+
 -- ---- peers
 
 -- 10.0.0.NUMBER:3001

@@ -12,10 +12,10 @@ mod peers;
 mod question;
 mod segments;
 mod start;
-mod waiting;
 
 use beginning::{first_locals, first_targets};
 use draws::draw;
+use crate::waiting::Waiting;
 use mux_segment::Header;
 use net_base::{Action, Cid, Event, Job, OutOfMemory, RootAnswer};
 use peers::{root_peers, some_peer};
@@ -29,7 +29,7 @@ use segments::{
 use start::Start;
 use std::alloc::Global;
 use std::marker::Model;
-use waiting::Waiting;
+
 use warm_messages::write_peers;
 
 // No moment, id of a connection or number of a question is greater.

@@ -1,7 +1,8 @@
 ghost use Rattle.std.specs.Prelude.{◌≡◌, ℕ, Bool, true, false, List, Option, is_ok};
 ghost use Rattle.net_base.specs.declared.action.Action.{Action as Act};
 ghost use Rattle.net_base.specs.declared.event.Event.{Event as Happening};
-ghost use Rattle.node_world.specs.Meanings.{Opening, opening_after, taken_after, done_after, says_end, GivesWithinLimits, HasCause};
+ghost use Rattle.node_world.specs.declared.opening.Opening.{Opening as Opened};
+ghost use Rattle.node_world.specs.Meanings.{opening_after, taken_after, done_after, says_end, GivesWithinLimits, HasCause};
 
 use crate::{Next, WorldRefusal};
 use net_base::{Action, AddrList};
@@ -19,7 +20,7 @@ pub trait World {
     ghost faults: { Self → ℕ };
 
     /// What it was opened with, where the world tells it.
-    ghost opening: { Self → Option (Option Opening) };
+    ghost opening: { Self → Option (Option Opened) };
 
     /// The events that were taken from it, where it tells them.
     ghost taken: { Self → Option (List Happening) };

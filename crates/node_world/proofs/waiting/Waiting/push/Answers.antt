@@ -1,7 +1,7 @@
 use Rattle.std.proofs.Common.{[], ◌∷◌}
 use Rattle.std.proofs.lemmas.List.Elements.{All-append, All-cons, All-nil}
 use Rattle.net_base.specs.Limits.{IsWithinLimits}
-use Rattle.node_world.proofs.town.waiting.Waiting.push.Goals as goal
+use Rattle.node_world.proofs.waiting.Waiting.push.Goals as goal
 
 pub invariant_of-self-2 : goal.invariant_of-self-2
 invariant_of-self-2 c =

@@ -1,7 +1,7 @@
-ghost use Rattle.std.specs.Prelude.{◌≡◌, ◌++◌, ◌∷◌, [], IfSome, IfNone, OnOk, OnErr};
+ghost use Rattle.std.specs.Prelude.{◌≡◌, ◌++◌, ◌∷◌, [], All, IfSome, IfNone, OnOk, OnErr};
 ghost use Rattle.net_base.specs.Limits.{IsWithinLimits};
 
-use net_base::{Event, OutOfMemory};
+use net_base::{Event, EventList, OutOfMemory};
 use std::alloc::Global;
 use std::collections::VecDeque;
 use std::marker::Model;
@@ -30,6 +30,16 @@ impl Waiting {
     {
         Waiting {
             events: VecDeque::new(alloc),
+        }
+    }
+
+    // The events of a list. Takes no memory.
+    pub(crate) fn of_list(events: EventList) -> Waiting
+        requires { All IsWithinLimits events }
+        ensures { result ≡ events }
+    {
+        Waiting {
+            events: VecDeque::from(events.into_vec()),
         }
     }
 
