@@ -41,8 +41,16 @@ pub length-written_peers : (addr : Addr) → length (written_peers (addr ∷ [])
 length-written_peers addr =
     let numbers = address_numbers addr in
     omega (
-      arith, length-append (written_opening 2) (written_number 1), length-append (written_opening 2 ++ written_number 1) (written_addresses (addr ∷ [])),
-      length-append (written_opening 1) (flat_map written_address (addr ∷ [])), length-append (written_address addr) [],
+      arith,
+      length-append (written_opening 2) (written_number 1),
+      length-append (written_opening 2 ++ written_number 1) (written_addresses (addr ∷ [])),
+      length-append (written_opening 1) (flat_map written_address (addr ∷ [])),
+      length-append (written_address addr) [],
       length-append (written_opening (length numbers)) (flat_map written_number numbers),
-      length-shortest_head 4 2, length-shortest_head 0 1, length-shortest_head 4 1, length-shortest_head 4 (length numbers), length-written numbers, length-ip addr.ip addr.port,
+      length-shortest_head 4 2,
+      length-shortest_head 0 1,
+      length-shortest_head 4 1,
+      length-shortest_head 4 (length numbers),
+      length-written numbers,
+      length-ip addr.ip addr.port,
     )

@@ -11,7 +11,10 @@ pub(crate) fn copy_of(alloc: Global, action: &Action) -> Result<Action, OutOfMem
         Action::Admit(cid, addr) => Action::Admit(*cid, *addr),
         Action::Turnaway(away) => Action::Turnaway(*away),
         Action::Dial(cid, addr) => Action::Dial(*cid, *addr),
-        Action::Send(cid, bytes) => Action::Send(*cid, Octets::from_slice(alloc, bytes.as_slice())?),
+        Action::Send(cid, bytes) => Action::Send(
+            *cid,
+            Octets::from_slice(alloc, bytes.as_slice())?,
+        ),
         Action::Close(cid, cause) => Action::Close(*cid, *cause),
         Action::Pause(time) => Action::Pause(*time),
         Action::AskRoots(job) => Action::AskRoots(*job),

@@ -19,3 +19,6 @@ pub use refusal::WorldRefusal;
 pub use script_world::ScriptWorld;
 pub use town_world::TownWorld;
 pub use world::World;
+
+#[cfg(test)]
+mod tests;

@@ -13,9 +13,9 @@ mod question;
 mod segments;
 mod start;
 
+use crate::waiting::Waiting;
 use beginning::{first_locals, first_targets};
 use draws::draw;
-use crate::waiting::Waiting;
 use mux_segment::Header;
 use net_base::{Action, Cid, Event, Job, OutOfMemory, RootAnswer};
 use peers::{root_peers, some_peer};
@@ -29,7 +29,6 @@ use segments::{
 use start::Start;
 use std::alloc::Global;
 use std::marker::Model;
-
 use warm_messages::write_peers;
 
 // No moment, id of a connection or number of a question is greater.
@@ -280,13 +279,7 @@ impl Town {
         self.queue.push(Event::Roots(job, answer))
     }
 
-    fn say(
-        &mut self,
-        cid: Cid,
-        side: u8,
-        protocol: u16,
-        payload: &[u8],
-    ) -> Result<(), OutOfMemory>
+    fn say(&mut self, cid: Cid, side: u8, protocol: u16, payload: &[u8]) -> Result<(), OutOfMemory>
         requires cid { IsBounded cid.0 }
         requires side { side ≤ 1 }
         requires protocol { protocol < 2 ^ 15 }

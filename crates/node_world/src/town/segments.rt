@@ -7,12 +7,16 @@ use std::alloc::Global;
 
 // The numbers of protocols.
 pub(crate) const HANDSHAKE: u16 = 0;
+
 pub(crate) const CHAIN_SYNC: u16 = 2;
+
 pub(crate) const KEEP_ALIVE: u16 = 8;
+
 pub(crate) const PEER_SHARING: u16 = 10;
 
 // Who speaks.
 pub(crate) const INITIATOR: u8 = 0;
+
 pub(crate) const RESPONDER: u8 = 1;
 
 // Versions 13 and 14, each with the network magic 42, both directions, peer sharing, and no query.

@@ -6,4 +6,4 @@ use Rattle.node_world.proofs.waiting.Waiting.push.Goals as goal
 pub invariant_of-self-2 : goal.invariant_of-self-2
 invariant_of-self-2 c =
     rw c.in_ok-push_back.ensures.items (All-append IsWithinLimits c.self.inside.events.items (c.args.event ∷ []) c.self.invariant
-        (All-cons IsWithinLimits c.args.event [] c.requires (All-nil IsWithinLimits)))
+    (All-cons IsWithinLimits c.args.event [] c.requires (All-nil IsWithinLimits)))
