@@ -2,8 +2,8 @@ ghost use Rattle.std.specs.Prelude.{◌≡◌, true, is_some, IfOk};
 
 use crate::*;
 use net_base::{
-    Action, ActionList, Addr, AddrList, Cid, Event, EventList, Group, GroupList, Ip, Job,
-    NumberList, Octets, OutOfMemory, RootAnswer, Settings, Targets,
+    Action, Addr, AddrList, Cid, Event, EventList, Group, GroupList, Ip, Job, NumberList, Octets,
+    OutOfMemory, RootAnswer, Settings, Targets,
 };
 use node_settings::Config;
 use std::alloc::Global;
@@ -112,24 +112,15 @@ fn opened_script(alloc: Global, failing: &[u64]) -> Result<ScriptWorld, Fail>
     Ok(world)
 }
 
-// The actions that the script is asked for.
-fn script_actions(alloc: Global) -> Result<ActionList, OutOfMemory> {
-    let mut actions = ActionList::new(alloc);
-    actions.push(Action::Dial(Cid(2), peer(5)))?;
-    actions.push(sent(alloc, 2, b"\x07")?)?;
-    Ok(actions)
-}
-
 #[test]
 fn a_script_gives_its_events_and_keeps_what_was_done(rt: HostRuntime) -> Result<(), Fail> {
     let alloc = rt.alloc();
-    let actions = script_actions(alloc)?;
+    let actions = [Action::Dial(Cid(2), peer(5)), sent(alloc, 2, b"\x07")?];
     let mut world = opened_script(alloc, &[])?;
     expect_event(&rt, &mut world, Event::Now(5))?;
-    for action in actions.as_slice() {
-        expect_act(&rt, &mut world, action, Ok(()))?;
-    }
-    assert_eq!(rt; world.done(), &actions);
+    expect_act(&rt, &mut world, &actions[0], Ok(()))?;
+    expect_act(&rt, &mut world, &actions[1], Ok(()))?;
+    assert_eq!(rt; world.done().as_slice(), actions.as_slice());
     Ok(())
 }
 
