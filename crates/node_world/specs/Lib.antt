@@ -1,3 +1,4 @@
+pub mod Law
 pub mod Meanings
 pub mod Script
 pub mod Segments

@@ -4,6 +4,7 @@
 mod calls;
 mod copy;
 mod history;
+pub mod law;
 mod next;
 mod opening;
 mod refusal;
