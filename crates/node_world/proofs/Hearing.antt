@@ -1,13 +1,12 @@
 -- What the town hears of what a node writes.
-use Rattle.std.proofs.Common.{◌≡◌, ℕ, zero, suc, ◌+◌, ◌*◌, ◌≤◌, ◌<◌, ◌^◌, List, [], ◌∷◌, ◌++◌, length, take, drop, refl, sym, ap, ◌∙◌, arith, lit<, Option, Some, None, ◌==◌, if◌then◌else◌}
-use Rattle.std.specs.List.{flat_map}
+use Rattle.std.proofs.Common.{◌≡◌, ℕ, zero, suc, ◌+◌, ◌*◌, ◌≤◌, ◌^◌, List, [], ◌∷◌, ◌++◌, length, take, drop, refl, ap, ◌∙◌, arith, lit<, Option, Some, None, ◌==◌, if◌then◌else◌}
 use Rattle.std.proofs.lemmas.Bool.{eq-eqb}
 use Rattle.std.proofs.lemmas.Nat.{mod_below}
 use Rattle.std.proofs.lemmas.List.{append-nil, take_all, drop_all}
 use Rattle.cbor_items.specs.Head.{shortest_head}
 use Rattle.mux_segment.specs.declared.header.Header.{Header}
 use Rattle.mux_segment.specs.Segment.{Segment, FitsHeader, header_of, header_bytes, segment_bytes}
-use Rattle.mux_segment.specs.Frame.{payload_limit, pieces_within, pieces_of, time_of, segment_of, segments_of, frame_of}
+use Rattle.mux_segment.specs.Frame.{payload_limit, pieces_within, pieces_of, time_of, segment_of, frame_of}
 use Rattle.mux_segment.proofs.Headers.{header_again}
 use Rattle.node_world.specs.Segments.{heard}
 use Rattle.node_world.specs.Law.{HearsFrames, SpeaksMessages}
@@ -50,7 +49,7 @@ hears_segment header payload fits size =
 pub hears_frames : HearsFrames
 hears_frames side id now payload side_fits id_fits short =
     rw (one_segment side id now payload short) (hears_segment (segment_of side id (time_of now) payload).header payload
-        (record { time = mod_below (now * 1000) (2 ^ 32) (lit< tt); side = side_fits; id = id_fits; size = omega arith }) refl)
+    (record { time = mod_below (now * 1000) (2 ^ 32) (lit< tt); side = side_fits; id = id_fits; size = omega arith }) refl)
 
 pub speaks_messages : SpeaksMessages
 unfolding shortest_head

@@ -1,5 +1,5 @@
 -- A world that follows a script.
-use Rattle.std.specs.Prelude.{◌≡◌, ℕ, ◌+◌, ◌-◌, ◌^◌, min, Bool, true, false, ◌==◌, List, [], ◌∷◌, ◌++◌, if◌then◌else◌, Option, Some, None, Result, Ok, Err}
+use Rattle.std.specs.Prelude.{◌≡◌, ℕ, ◌+◌, ◌-◌, ◌^◌, min, Bool, true, false, ◌==◌, List, [], ◌∷◌, ◌++◌, if◌then◌else◌, Option, None, Result, Ok, Err}
 use Rattle.std.specs.List.{list_any}
 use Rattle.net_base.specs.declared.action.Action.{Action}
 use Rattle.net_base.specs.declared.event.Event.{Event}

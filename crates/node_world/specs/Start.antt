@@ -1,5 +1,5 @@
 -- How far the town's beginning has come.
-use Rattle.std.specs.Prelude.{List, [], ◌∷◌, drop}
+use Rattle.std.specs.Prelude.{List, [], drop}
 use Rattle.net_base.specs.declared.event.Event.{Event}
 use Rattle.node_world.specs.Town.{first_events}
 use Rattle.node_world.specs.declared.town.start.Start.{Start}
