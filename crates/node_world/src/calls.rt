@@ -1,0 +1,48 @@
+ghost use Rattle.std.specs.Prelude.{◌≡◌, ◌≤◌};
+ghost use Rattle.node_world.specs.Script.{next_fails, after_call};
+
+use net_base::NumberList;
+use std::marker::Model;
+
+// The calls that were made, those that are to fail, and how many did.
+#[derive(Debug, Drop)]
+pub(crate) struct CallLog {
+    made: u64,
+    failing: NumberList,
+    faults: u64,
+}
+
+impl Model for CallLog {
+    ghost use Rattle.node_world.specs.Script.{Calls};
+
+    ghost Value = { Calls };
+
+    ghost view = { λ c. record { made = c.made; failing = c.failing; faults = c.faults } };
+}
+
+impl CallLog {
+    // No call is made yet. Of the calls, counted from 1, those fail whose numbers are given.
+    pub(crate) fn new(failing: NumberList) -> CallLog
+        ensures { result ≡ record { made = 0; failing = failing; faults = 0 } }
+    {
+        CallLog {
+            made: 0,
+            failing,
+            faults: 0,
+        }
+    }
+
+    // Counts a call, and its fault where it is one of those that fail. Answers whether it is.
+    pub(crate) fn count_call(&mut self) -> bool
+        ensures answer { result ≡ next_fails self.old }
+        ensures after { self.new ≡ after_call self.old }
+        ensures later { self.old.faults ≤ self.new.faults }
+    {
+        self.made = self.made.saturating_add(1);
+        let fails = self.failing.as_slice().contains(&self.made);
+        if fails {
+            self.faults = self.faults.saturating_add(1);
+        }
+        fails
+    }
+}

@@ -1,0 +1,9 @@
+use net_base::Event;
+
+/// What comes next.
+#[derive(Debug, PartialEq, Drop)]
+pub enum Next {
+    Event(Event),
+    /// There are no more events.
+    End,
+}

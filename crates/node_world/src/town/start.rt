@@ -1,0 +1,8 @@
+/// Which of its first events the town gives next.
+#[derive(Clone, Copy, Debug, PartialEq, Eq)]
+pub(crate) enum Start {
+    Targets,
+    Locals,
+    /// Both are given.
+    Over,
+}
