@@ -15,7 +15,7 @@ module _ {T : Type 0} where
   -- a chunk has some items, and not too many
   pub record IsFilled (c : Chunk T) : Type 0 where
     pub some : 0 < length (items_in c)
-    pub few : length (items_in c) ≤ 128
+    pub few : length (items_in c) ≤ 64
 
   abbrev pub AreFilled : List (Chunk T) → Type 0
   AreFilled cs = AllByRecursion IsFilled cs
@@ -47,7 +47,7 @@ module _ {T : Type 0} where
 
   -- its chunk has room for one more
   abbrev pub HasRoom : List (Chunk T) → ℕ → Type 0
-  HasRoom cs i = (d : Chunk T) → length (items_in (slice_index_or cs i d)) < 128
+  HasRoom cs i = (d : Chunk T) → length (items_in (slice_index_or cs i d)) < 64
 
   -- its first item passes
   abbrev pub first_passes : (T → Bool) → List T → Bool
@@ -63,9 +63,9 @@ module _ {T : Type 0} where
     pub low : Chunk T
     pub high : Chunk T
     pub new_is : new ≡ take i old ++ low ∷ high ∷ drop (i + 1) old
-    pub low_is : (d : Chunk T) → items_in low ≡ take 64 (items_in (slice_index_or old i d))
-    pub high_is : (d : Chunk T) → items_in high ≡ drop 64 (items_in (slice_index_or old i d))
+    pub low_is : (d : Chunk T) → items_in low ≡ take 32 (items_in (slice_index_or old i d))
+    pub high_is : (d : Chunk T) → items_in high ≡ drop 32 (items_in (slice_index_or old i d))
 
 -- the spot of an item of a chunk that was cut in two
 abbrev pub halved : Spot → Spot
-halved s = if nat_lt s.at 64 then s else record { chunk = s.chunk + 1; at = s.at - 64 }
+halved s = if nat_lt s.at 32 then s else record { chunk = s.chunk + 1; at = s.at - 32 }

@@ -4,9 +4,9 @@ ghost use Rattle.std.specs.List.{insert};
 use net_base::OutOfMemory;
 
 // How many items a chunk has at most.
-pub const LIMIT: usize = 128;
+pub const LIMIT: usize = 64;
 // How many items a full chunk keeps where it is cut in two.
-pub const HALF: usize = 64;
+pub const HALF: usize = 32;
 
 // Items that stand one after another.
 #[derive(Debug, Drop)]
