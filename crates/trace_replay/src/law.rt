@@ -1,8 +1,11 @@
 ghost use Rattle.std.specs.Prelude.{◌≡◌, ℕ, List};
 ghost use Rattle.trace_replay.specs.Again.{FitsTrace};
+ghost use Rattle.trace_replay.specs.Checks.{outcome_told};
+ghost use Rattle.trace_replay.specs.Compare.{comparison_of};
 ghost use Rattle.trace_replay.specs.Judgement.{ended};
 ghost use Rattle.trace_replay.specs.Output.{output_of};
 ghost use Rattle.trace_replay.specs.Replays.{verdict_of};
+ghost use Rattle.trace_replay.specs.declared.outcome.Outcome.TheVariants.{Done};
 
 /// A law: the output of a trace that is read to its `end` is such a trace too, where it keeps the limits of one, and its
 /// output is itself.
@@ -11,4 +14,10 @@ pub fn outputs_are_their_own()
         → verdict_of (output_of input) ≡ ended }
     ensures same { (input : List ℕ) → verdict_of input ≡ ended → FitsTrace (output_of input)
         → output_of (output_of input) ≡ output_of input }
+{}
+
+/// A law: the output of a trace that is read to its `end` agrees, where it keeps the limits of one.
+pub fn outputs_agree()
+    ensures { (input : List ℕ) → verdict_of input ≡ ended → FitsTrace (output_of input)
+        → outcome_told (comparison_of (output_of input)) ≡ Done }
 {}
