@@ -1,6 +1,7 @@
-//! The program of a Cardano node's connection manager: it replays traces.
+//! The program of a Cardano node's connection manager: it replays traces and checks them.
 #![tactic(auto)]
 
+mod command;
 mod names;
 mod running;
 mod status;
@@ -8,6 +9,7 @@ mod telling;
 mod words;
 
 use io_edge::{StdSink, StdSource};
+pub use command::Command;
 pub use running::run;
 pub use status::{Status, What, Which};
 use std::process::ExitCode;

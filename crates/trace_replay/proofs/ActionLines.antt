@@ -1,6 +1,6 @@
 -- Lines that begin as those of actions do, and what they say.
-use Rattle.std.proofs.Common.{◌≡◌, ℕ, Bool, true, false, cond, eqb, List, [], ◌∷◌, ◌++◌, take, drop, map, All, Result, Ok, Err, IfOk, refl, sym, ap, ◌∙◌, subst}
-use Rattle.std.specs.Prelude.{codes}
+use Rattle.std.proofs.Common.{◌≡◌, ℕ, Bool, true, false, cond, eqb, leb, List, [], ◌∷◌, ◌++◌, take, drop, map, All, Result, Ok, Err, IfOk, refl, sym, ap, ◌∙◌, subst}
+use Rattle.std.specs.Prelude.{codes, bytes_eq}
 use Rattle.std.proofs.lemmas.List.{take-append-drop}
 use Rattle.std.proofs.lemmas.List.Elements.{All-nil, All-cons}
 use Rattle.net_base.specs.declared.action.Action.{Action}
@@ -67,19 +67,26 @@ second_says version unread =
     IfOk-chain IsNoAction (next_address version p.1) _ (λ q _.
     IfOk-chain IsNoAction (no_more q.1) _ (λ _ _. tt)))
 
+setting_says : (place least most : ℕ) (unread : Unread) → IfOk (setting_line place least most unread) IsNoAction
+setting_says place least most unread =
+    IfOk-chain IsNoAction (next_number least most unread) _ (λ p _.
+    IfOk-chain IsNoAction (no_more p.1) _ (λ _ _. tt))
+
 set_says : (stage : Stage) (unread : Unread) → IfOk (set_line stage unread) IsNoAction
 set_says stage unread =
     IfOk-cond IsNoAction stage.events _ _ tt (
     IfOk-chain IsNoAction (next_read (setting_of stage.hard) BadWord unread) _ (λ p _.
-    IfOk-cond IsNoAction _ _ _ tt (
-    IfOk-chain IsNoAction (next_number p.0.1.least p.0.1.most p.1) _ (λ q _.
-    IfOk-chain IsNoAction (no_more q.1) _ (λ _ _. tt)))))
+    IfOk-cond IsNoAction (leb p.0.0 stage.last) (Err OutOfOrder) (setting_line p.0.0 p.0.1.least p.0.1.most p.1) tt
+    (setting_says p.0.0 p.0.1.least p.0.1.most p.1)))
+
+end_says : (unread : Unread) → IfOk (end_line unread) IsNoAction
+end_says unread = IfOk-chain IsNoAction (no_more unread) _ (λ _ _. tt)
 
 later_says : (stage : Stage) (unread : Unread) → IfOk (later_line stage unread) IsNoAction
 later_says stage unread =
     IfOk-chain IsNoAction (next_word unread) _ (λ p _.
-    IfOk-cond IsNoAction _ _ _ (set_says stage p.1) (
-    IfOk-cond IsNoAction _ _ _ (IfOk-chain IsNoAction (no_more p.1) _ (λ _ _. tt)) (
+    IfOk-cond IsNoAction (bytes_eq p.0 (codes "set")) _ _ (set_says stage p.1) (
+    IfOk-cond IsNoAction (bytes_eq p.0 (codes "end")) _ _ (end_says p.1) (
     event_line-is stage.version p.1 IsNoAction (λ _ _. tt) p.0)))
 
 pub acted_begins : (stage : Stage) (text : List ℕ) → said_at stage text ≡ Ok Acted → is_action_line text ≡ true

@@ -63,7 +63,7 @@ Checks-input l0 l1 t0 t1 input (TooLong line) c told =
 Checks-input l0 l1 t0 t1 input ReadFault c told = record {
   seen = c.seen;
   read = read_up_to l0 l1 input c.seen c.gives told;
-  agree = c.is_checked.0;
+  agreeing = c.is_checked.0;
   untouched = c.is_checked.1;
 }
 Checks-input l0 l1 t0 t1 input WriteFault c told =

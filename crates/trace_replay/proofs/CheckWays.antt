@@ -65,18 +65,18 @@ differs_for readings tail left comparison whatever = (
 record HasAgreed (readings : List Reading) (due : List (List ℕ)) : Type 0 where
   passed : ArePassed readings
   whole : All HasNoLineFeed (texts_of readings)
-  agree : lines_for readings ≡ texts_of readings ++ due
+  agreed : lines_for readings ≡ texts_of readings ++ due
   actions : All IsAction due
 
 agreed_of : (number : ℕ) (playback : Kept) (kept due : List ℕ) (l0 l1 : Option (List ℕ)) → (so : AgreesSoFar number playback kept due l0 l1) → HasAgreed so.readings so.lines_due
-agreed_of number playback kept due l0 l1 so = record { passed = so.stands.passed; whole = so.whole; agree = so.agree; actions = so.actions }
+agreed_of number playback kept due l0 l1 so = record { passed = so.stands.passed; whole = so.whole; agreed = so.agreed; actions = so.actions }
 
 finds_refused : (readings : List Reading) (due : List (List ℕ)) (tail : List ℕ) (number : ℕ) (kind : RefusalKind) (l0 l1 : Option (List ℕ)) → HasAgreed readings due →
     Gives l0 l1 (seen_of readings tail) → Decides readings tail (refused number kind) → Finds l0 l1 (Err (Refused number kind))
 finds_refused readings due tail number kind l0 l1 so gives decides = record {
   seen = seen_of readings tail;
   gives = gives;
-  is_found = decides_for readings tail l1 (refused number kind) (refused_at number kind) decides (compared_silent readings due (refused number kind) so.agree refl);
+  is_found = decides_for readings tail l1 (refused number kind) (refused_at number kind) decides (compared_silent readings due (refused number kind) so.agreed refl);
 }
 
 finds_too_long : (readings : List Reading) (due : List (List ℕ)) (tail : List ℕ) (number : ℕ) (l0 l1 : Option (List ℕ)) → HasAgreed readings due →
@@ -84,7 +84,7 @@ finds_too_long : (readings : List Reading) (due : List (List ℕ)) (tail : List 
 finds_too_long readings due tail number l0 l1 so gives decides = record {
   seen = seen_of readings tail;
   gives = gives;
-  is_found = decides_for readings tail l1 (too_long number) (too_long_at number) decides (compared_silent readings due (too_long number) so.agree refl);
+  is_found = decides_for readings tail l1 (too_long number) (too_long_at number) decides (compared_silent readings due (too_long number) so.agreed refl);
 }
 
 finds_no_memory : (seen : List ℕ) (l0 l1 : Option (List ℕ)) → Gives l0 l1 seen → Finds l0 l1 (Err OutOfMemory)
@@ -95,7 +95,7 @@ ended_early : (readings : List Reading) (due : List (List ℕ)) (tail : List ℕ
     comparison_of (seen_of readings tail) ≡ refused_at (length readings + 1) NoEnd
 ended_early readings due tail so fits few =
     ap comparison_for (judged_rest readings tail so.passed so.whole fits.one_line ∙ ap (judgement_of readings) (rest_refused readings tail few fits.short))
-    ∙ compared_silent readings due (refused (number_behind readings) NoEnd) so.agree refl
+    ∙ compared_silent readings due (refused (number_behind readings) NoEnd) so.agreed refl
 
 finds_over : (readings : List Reading) (due : List (List ℕ)) (tail : List ℕ) (l0 l1 : Option (List ℕ)) → HasAgreed readings due → Gives l0 l1 (seen_of readings tail) → FitsLine tail →
     IsAtEnd l1 → length readings < most_lines → Finds l0 l1 (Err (Refused (length readings + 1) NoEnd))
@@ -143,7 +143,7 @@ line_there number playback kept next due line l0 l1 l2 so read = by_got read.got
             whole = so.whole;
             gives = subst (λ (xs : List ℕ). Gives l0 l2 (seen_of so.readings xs)) bytes (gives_further so.readings kept reads.taken l0 l1 l2 so.gives reads.gives);
             lines_due = so.lines_due;
-            agree = so.agree;
+            agreed = so.agreed;
             actions = so.actions;
             due_is = so.due_is;
           },
@@ -273,7 +273,7 @@ agrees_on number readings text kept before after written due next l0 l1 at so be
       whole = whole_further readings reading so.whole one;
       gives = subst (λ (bytes : List ℕ). Gives l0 l1 bytes) (seen_further readings reading kept) gives;
       lines_due = behind.rest;
-      agree = added.output ∙ ap (λ (ls : List (List ℕ)). ls ++ added.lines) so.agree ∙ append_assoc (texts_of readings) due added.lines
+      agreed = added.output ∙ ap (λ (ls : List (List ℕ)). ls ++ added.lines) so.agreed ∙ append_assoc (texts_of readings) due added.lines
           ∙ ap (λ (ls : List (List ℕ)). texts_of readings ++ ls) behind.split ∙ sym (append_assoc (texts_of readings) (text ∷ []) behind.rest)
           ∙ ap (λ (ls : List (List ℕ)). ls ++ behind.rest) (sym texts);
       actions = behind.actions;
@@ -301,7 +301,7 @@ differs_on number line readings text kept before found want due next l0 l1 at so
       seen = seen_of (readings ++ reading ∷ []) kept;
       gives = subst (λ (bytes : List ℕ). Gives l0 l1 bytes) (seen_further readings reading kept) gives;
       is_found = differs_for (readings ++ reading ∷ []) kept l1 _ (λ bytes.
-          line_differs readings text bytes due so.agree so.actions added apart is.goes.stands.passed (whole_further readings reading so.whole one) ∙ told);
+          line_differs readings text bytes due so.agreed so.actions added apart is.goes.stands.passed (whole_further readings reading so.whole one) ∙ told);
     }
 
 -- ---- the last line
@@ -328,7 +328,7 @@ differs_at_end number line readings text kept before found want due l0 l1 at so 
       seen = seen_of readings (text ++ 10 ∷ kept);
       gives = gives;
       is_found = decides_for readings (text ++ 10 ∷ kept) l1 ended _ (line_decides readings text kept ended so.passed so.whole one is.ends)
-          (end_differs readings is.line_due first.0 (so.agree ∙ ap (λ (ls : List (List ℕ)). texts_of readings ++ ls) first.1) first.2 ∙ told);
+          (end_differs readings is.line_due first.0 (so.agreed ∙ ap (λ (ls : List (List ℕ)). texts_of readings ++ ls) first.1) first.2 ∙ told);
     }
 
 agrees_at_end : (events actions : ℕ) (readings : List Reading) (text kept before : List ℕ) (due : List (List ℕ)) (l0 l1 : Option (List ℕ)) → HasAgreed readings due → before ≡ ended_lines due →
@@ -336,7 +336,7 @@ agrees_at_end : (events actions : ℕ) (readings : List Reading) (text kept befo
     events ≡ length (events_in readings) → actions ≡ actions_in readings → Finds l0 l1 (Ok (Agrees events actions))
 agrees_at_end events actions readings text kept before due l0 l1 so before_is one gives ends none events_are actions_are =
     let nothing = nothing_due due before so.actions before_is none in
-    let same : lines_for readings ≡ texts_of readings = so.agree ∙ ap (λ (ls : List (List ℕ)). texts_of readings ++ ls) nothing ∙ append-nil (texts_of readings) in
+    let same : lines_for readings ≡ texts_of readings = so.agreed ∙ ap (λ (ls : List (List ℕ)). texts_of readings ++ ls) nothing ∙ append-nil (texts_of readings) in
     record {
       seen = seen_of readings (text ++ 10 ∷ kept);
       gives = gives;
@@ -402,7 +402,7 @@ agrees_none playback left stands = record {
   whole = All-nil HasNoLineFeed;
   gives = Gives-nothing left;
   lines_due = [];
-  agree = refl;
+  agreed = refl;
   actions = All-nil IsAction;
   due_is = refl;
 }

@@ -20,7 +20,7 @@ pub record IsReported (input : List ℕ) (outcome : Outcome) (left_after taken_b
 pub record StopsComparing (input : List ℕ) (left_after taken_before taken_after : Option (List ℕ)) : Type 0 where
   pub seen : List ℕ
   pub read : IsReadUpTo input seen left_after
-  pub agree : AgreeSoFar seen
+  pub agreeing : AgreeSoFar seen
   pub untouched : taken_after ≡ taken_before
 
 -- The sink took a front of the report, and not all of it.

@@ -30,7 +30,7 @@ pub record AgreesSoFar (number : ℕ) (playback : Kept) (kept due : List ℕ) (l
   pub whole : All HasNoLineFeed (texts_of readings)
   pub gives : Gives left_before left_now (ended_lines (texts_of readings) ++ kept)
   pub lines_due : List (List ℕ)
-  pub agree : lines_for readings ≡ texts_of readings ++ lines_due
+  pub agreed : lines_for readings ≡ texts_of readings ++ lines_due
   pub actions : All IsAction lines_due
   pub due_is : due ≡ ended_lines lines_due
 
