@@ -1,5 +1,5 @@
 -- How a check that is on its way goes on, and what it finds where it ends.
-use Rattle.std.proofs.Common.{◌≡◌, ℕ, ◌+◌, ◌-◌, ◌<◌, ◌≤◌, true, false, List, [], ◌∷◌, ◌++◌, length, drop, All, Option, Some, None, Result, Ok, Err, ◌⊎◌, inl, inr, ⊎_elim, refl, sym, ap, ◌∙◌, subst, arith}
+use Rattle.std.proofs.Common.{◌≡◌, ℕ, ◌+◌, ◌-◌, ◌<◌, ◌≤◌, true, false, List, [], ◌∷◌, ◌++◌, length, drop, All, Option, Some, None, Result, Ok, Err, MatchResult, IfErr, ◌⊎◌, inl, inr, ⊎_elim, refl, sym, ap, ◌∙◌, subst, arith}
 use Rattle.std.specs.Prelude.{codes}
 use Rattle.std.specs.Io.KnownBytes.{IsAtEnd}
 use Rattle.std.proofs.Math.Seq.{drop-append-add}
@@ -27,9 +27,10 @@ use Rattle.trace_replay.specs.Output.{lines_for, last_lines}
 use Rattle.trace_replay.specs.Passing.{texts_of, ArePassed}
 use Rattle.trace_replay.specs.Playback.{Kept, events_taken, StandsBehind, GoesOn}
 use Rattle.trace_replay.specs.LineRead.{line_told, IsLineRead}
-use Rattle.trace_replay.specs.Compare.{Comparison, agree, differ, refused_at, too_long_at, agreement, actions_in, comparison_for, comparison_of, report_of}
-use Rattle.trace_replay.specs.Checks.{AreSettled, AgreeSoFar, Checks}
-use Rattle.trace_replay.specs.Checking.{IsAction, AgreesSoFar, comparison_told, DecidesFor, IsFound, Finds, IsCheckTurn, DiffersAt, DiffersAtEnd, IsFoundAt, IsCompared}
+use Rattle.trace_replay.specs.Compare.{Comparison, agree, differ, refused_at, too_long_at, agreement, actions_in, comparison_for, comparison_of, report_lines}
+use Rattle.trace_replay.specs.Checks.{outcome_told, AreSettled, AgreeSoFar, Checks}
+use Rattle.trace_replay.specs.UnderWay.{HasReadCount}
+use Rattle.trace_replay.specs.Checking.{IsAction, AgreesSoFar, comparison_told, DecidesFor, IsFound, Finds, IsCheckTurn, DiffersAt, DiffersAtEnd, IsFoundAt, IsFoundAtEnd, end_found, IsCompared}
 use Rattle.trace_replay.specs.declared.finding.Finding.{Finding}
 use Rattle.trace_replay.specs.declared.finding.Finding.TheVariants.{Agrees, Differs}
 use Rattle.trace_replay.specs.declared.outcome.Outcome.{Outcome}
@@ -38,7 +39,7 @@ use Rattle.trace_replay.proofs.Added.{IsAdded, Adds, adds, lines_counted}
 use Rattle.trace_replay.proofs.Comparing.{first_of, compared_silent, compared_ended, line_differs, end_differs}
 use Rattle.trace_replay.proofs.Judging.{judgement_of, judged_rest, rest_refused, ArePassed-none}
 use Rattle.trace_replay.proofs.Readings.{Passes-from, AreFront-passed}
-use Rattle.trace_replay.proofs.Ways.{seen_of, Decides, line_decides, past_decides, most_decides, seen_further, whole_further}
+use Rattle.trace_replay.proofs.Ways.{seen_of, Decides, line_decides, past_decides, most_decides, seen_further, whole_further, reads_same}
 
 -- ---- bytes that decide
 
@@ -167,19 +168,23 @@ none_there number playback kept next due outcome l0 l1 l2 few so read = by_got r
     by_got : (got : Result Got LineFault) → ReadsLine l1 l2 kept next got → Err outcome ≡ line_told number got → Finds l0 l2 (Err outcome)
     by_got (Ok (Line line)) reads told = absurd cc
     by_got (Ok Over) reads told =
-        let same : Refused (length so.readings + 1) NoEnd ≡ outcome = ap (λ (n : ℕ). Refused n NoEnd) (sym so.number_is) ∙ cc in
+        let at : Refused number NoEnd ≡ outcome = cc in
+        let same : Refused (length so.readings + 1) NoEnd ≡ outcome = ap (λ (n : ℕ). Refused n NoEnd) (sym so.number_is) ∙ at in
         subst (λ (o : Outcome). Finds l0 l2 (Err o)) same
         (finds_over so.readings so.lines_due (kept ++ reads.taken) l0 l2 agreed (gives_further so.readings kept reads.taken l0 l1 l2 so.gives reads.gives) reads.answer.0 reads.answer.2 early)
     by_got (Err Failed) reads told =
-        subst (λ (o : Outcome). Finds l0 l2 (Err o)) cc
+        let same : ReadFault ≡ outcome = cc in
+        subst (λ (o : Outcome). Finds l0 l2 (Err o)) same
         (finds_failed so.readings so.lines_due (kept ++ reads.taken) l0 l2 agreed (gives_further so.readings kept reads.taken l0 l1 l2 so.gives reads.gives) reads.answer.0 early)
     by_got (Err LineTooLong) reads told =
-        let same : TooLong (number_behind so.readings) ≡ outcome = ap (λ (n : ℕ). TooLong n) (sym so.number_is) ∙ cc in
+        let at : TooLong number ≡ outcome = cc in
+        let same : TooLong (number_behind so.readings) ≡ outcome = ap (λ (n : ℕ). TooLong n) (sym so.number_is) ∙ at in
         subst (λ (o : Outcome). Finds l0 l2 (Err o)) same
         (finds_too_long so.readings so.lines_due (kept ++ reads.taken) (number_behind so.readings) l0 l2 agreed (gives_further so.readings kept reads.taken l0 l1 l2 so.gives reads.gives)
         (past_decides so.readings (kept ++ reads.taken) agreed.passed agreed.whole reads.answer.0))
     by_got (Err NoMemory) reads told =
-        subst (λ (o : Outcome). Finds l0 l2 (Err o)) cc
+        let same : OutOfMemory ≡ outcome = cc in
+        subst (λ (o : Outcome). Finds l0 l2 (Err o)) same
         (finds_no_memory _ l0 l2 (gives_further so.readings kept reads.taken l0 l1 l2 so.gives reads.gives))
 
 -- ---- what is due, in bytes
@@ -346,6 +351,19 @@ agrees_at_end events actions readings text kept before due l0 l1 so before_is on
 
 -- ---- a turn
 
+-- what is found at `end`, with what was counted before it
+pub end_compared : (readings : List Reading) (reading : Reading) (next : Kept) (number events actions : ℕ) (before : List ℕ) (agreement finding : Finding) →
+    verdict_at readings reading ≡ Some ended → agreement ≡ Agrees events actions → events ≡ length (events_in readings) → actions ≡ actions_in readings →
+    IsFoundAtEnd number agreement before finding → IsFoundAt readings reading next number before finding
+end_compared readings reading next number events actions before agreement finding ends agreement_is events_are actions_are is = by_front (front_line before) refl is
+  where
+    by_front : (first : Option (List ℕ)) → front_line before ≡ first → finding ≡ end_found number agreement first → IsFoundAt readings reading next number before finding
+    by_front None none is =
+        subst (λ (f : Finding). IsFoundAt readings reading next number before f) (sym (is ∙ agreement_is)) (ends, none, events_are, actions_are)
+    by_front (Some line) some is =
+        subst (λ (f : Finding). IsFoundAt readings reading next number before f) (sym is)
+        (refl, inr (record { ends = ends; found_is = refl; line_due = line; want_is = refl; first_due = some }))
+
 -- a line was read, played and compared
 pub line_compared : (number : ℕ) (playback next : Kept) (text kept before after : List ℕ) (l0 l1 : Option (List ℕ)) (result : Result (Option Finding) Outcome) →
     FitsLine text × AgreesSoFar number playback (text ++ 10 ∷ kept) before l0 l1 →
@@ -420,7 +438,73 @@ actions_counted number playback readings stands at =
     let heads : length playback.heads ≡ length (heads_in readings) = ap length stands.heads in
     omega (arith, heads, stands.events, at, lines_counted readings stands.passed)
 
+-- ---- counts of faults
+
+pub reads_calm : {A : Type 0} (before now : ℕ) (result : Result A Outcome) → now ≡ before → IfErr result (HasReadCount before before) → MatchResult result (λ x. now ≡ before) (HasReadCount before now)
+reads_calm before now (Ok x) same count = same
+reads_calm before now (Err outcome) same count = reads_same before now outcome same count
+
 -- ---- what is written of it
+
+-- what was found is told, once the sink took its report
+pub found_told : (l0 l1 t0 t1 : Option (List ℕ)) (finding : Finding) (text : List ℕ) → Finds l0 l1 (Ok finding) → text ≡ ended_lines (report_lines (comparison_told finding)) → Takes t0 t1 text →
+    Checks l0 l1 t0 t1 (outcome_told (comparison_told finding))
+found_told l0 l1 t0 t1 finding text finds is takes =
+    by_finding finding finds.is_found (subst (λ (bytes : List ℕ). Takes t0 t1 bytes) is takes)
+  where
+    by_finding : (finding : Finding) → DecidesFor finds.seen l1 (comparison_told finding) → Takes t0 t1 (ended_lines (report_lines (comparison_told finding))) →
+        Checks l0 l1 t0 t1 (outcome_told (comparison_told finding))
+    by_finding (Agrees events actions) decides takes = record {
+      seen = finds.seen;
+      gives = finds.gives;
+      is_checked = (
+        record { told = ap outcome_told (sym decides.0); settled = decides.1 },
+        subst (λ (c : Comparison). Takes t0 t1 (ended_lines (report_lines c))) (sym decides.0) takes,
+      );
+    }
+    by_finding (Differs line found want) decides takes = record {
+      seen = finds.seen;
+      gives = finds.gives;
+      is_checked = (
+        record { told = ap outcome_told (sym decides.0); settled = decides.1 },
+        subst (λ (c : Comparison). Takes t0 t1 (ended_lines (report_lines c))) (sym decides.0) takes,
+      );
+    }
+
+-- or the sink took a front of it
+pub found_cut : (l0 l1 t0 t1 : Option (List ℕ)) (finding : Finding) (text : List ℕ) → Finds l0 l1 (Ok finding) → text ≡ ended_lines (report_lines (comparison_told finding)) →
+    TakesProperPrefix t0 t1 text → Checks l0 l1 t0 t1 WriteFault
+found_cut l0 l1 t0 t1 finding text finds is part = record {
+  seen = finds.seen;
+  gives = finds.gives;
+  is_checked = (
+    finds.is_found.1,
+    subst (λ (bytes : List ℕ). TakesProperPrefix t0 t1 bytes) (is ∙ ap (λ (c : Comparison). ended_lines (report_lines c)) (sym finds.is_found.0)) part,
+  );
+}
+
+-- nothing was found, and nothing is written
+pub none_found : (l0 l1 taken : Option (List ℕ)) (outcome : Outcome) → Finds l0 l1 (Err outcome) → Checks l0 l1 taken taken outcome
+none_found l0 l1 taken (Refused line kind) finds = record {
+  seen = finds.seen;
+  gives = finds.gives;
+  is_checked = (record { told = ap outcome_told (sym finds.is_found.0); settled = finds.is_found.1 }, refl);
+}
+none_found l0 l1 taken (TooLong line) finds = record {
+  seen = finds.seen;
+  gives = finds.gives;
+  is_checked = (record { told = ap outcome_told (sym finds.is_found.0); settled = finds.is_found.1 }, refl);
+}
+none_found l0 l1 taken ReadFault finds = record { seen = finds.seen; gives = finds.gives; is_checked = (finds.is_found, refl) }
+none_found l0 l1 taken OutOfMemory finds = record { seen = finds.seen; gives = finds.gives; is_checked = refl }
+none_found l0 l1 taken Done finds = absurd finds.is_found
+none_found l0 l1 taken (Differ line) finds = absurd finds.is_found
+none_found l0 l1 taken WriteFault finds = absurd finds.is_found
+none_found l0 l1 taken WorldFault finds = absurd finds.is_found
+
+-- want of memory before the report is written
+pub found_no_memory : (l0 l1 taken : Option (List ℕ)) (finding : Finding) → Finds l0 l1 (Ok finding) → Checks l0 l1 taken taken OutOfMemory
+found_no_memory l0 l1 taken finding finds = record { seen = finds.seen; gives = finds.gives; is_checked = refl }
 
 pub no_memory_checked : (left taken : Option (List ℕ)) → Checks left left taken taken OutOfMemory
 no_memory_checked left taken = record { seen = []; gives = Gives-nothing left; is_checked = refl }

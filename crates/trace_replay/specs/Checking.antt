@@ -101,8 +101,8 @@ abbrev pub end_found : ℕ → Finding → Option (List ℕ) → Finding
 end_found number agreement None = agreement
 end_found number agreement (Some line) = Differs number (codes "end") (Some line)
 
-abbrev pub IsAtEnd : ℕ → Finding → List ℕ → Finding → Type 0
-IsAtEnd number agreement before finding = finding ≡ end_found number agreement (front_line before)
+abbrev pub IsFoundAtEnd : ℕ → Finding → List ℕ → Finding → Type 0
+IsFoundAtEnd number agreement before finding = finding ≡ end_found number agreement (front_line before)
 
 -- a line is played and compared, with what is due before and after it
 abbrev pub IsCompared : List Reading → Reading → Kept → ℕ → List ℕ → List ℕ → Result (Option Finding) Outcome → Type 0

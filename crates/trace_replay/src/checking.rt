@@ -2,7 +2,7 @@ ghost use Rattle.std.specs.Prelude.{◌≡◌, ℕ, ◌+◌, ◌-◌, ◌<◌, �
 ghost use Rattle.io_edge.specs.Pending.{front_line};
 ghost use Rattle.net_base.specs.Bounds.{AreSound};
 ghost use Rattle.trace_text.specs.Stages.{first_stage};
-ghost use Rattle.trace_replay.specs.Checking.{AgreesSoFar, IsCheckTurn, IsCompared, IsNext, IsAtEnd, Finds};
+ghost use Rattle.trace_replay.specs.Checking.{AgreesSoFar, IsCheckTurn, IsCompared, IsNext, IsFoundAtEnd, Finds};
 ghost use Rattle.trace_replay.specs.Checks.{Checks};
 ghost use Rattle.trace_replay.specs.Playback.{begun, kept, events_taken, StandsBehind};
 ghost use Rattle.trace_replay.specs.Reading.{Reading, reading_at, stage_behind};
@@ -193,7 +193,7 @@ fn at_end(
     agreement: Finding,
     due: &PieceWriter,
 ) -> Result<Finding, OutOfMemory>
-    ensures { IfOk result (IsAtEnd number agreement due.now) }
+    ensures { IfOk result (IsFoundAtEnd number agreement due.now) }
 {
     match first_due(alloc, due)? {
         None => Ok(agreement),
