@@ -1,10 +1,9 @@
 -- Lines that begin as those of actions do, and what they say.
-use Rattle.std.proofs.Common.{◌≡◌, ℕ, Bool, true, false, cond, eqb, leb, List, [], ◌∷◌, ◌++◌, take, drop, map, All, Result, Ok, Err, IfOk, refl, sym, ap, ◌∙◌, subst}
+use Rattle.std.proofs.Common.{◌≡◌, ℕ, Bool, true, false, cond, eqb, leb, List, [], ◌∷◌, ◌++◌, take, drop, map, All, Ok, Err, IfOk, refl, sym, ap, ◌∙◌, subst}
 use Rattle.std.specs.Prelude.{codes, bytes_eq}
 use Rattle.std.proofs.lemmas.List.{take-append-drop}
 use Rattle.std.proofs.lemmas.List.Elements.{All-nil, All-cons}
 use Rattle.net_base.specs.declared.action.Action.{Action}
-use Rattle.net_base.specs.declared.event.Event.{Event}
 use Rattle.trace_text.specs.Actions.{printed_action}
 use Rattle.trace_text.specs.Lines.{version_of, first_line, second_line, set_line, setting_line, end_line, later_line, is_action_line, line_of}
 use Rattle.trace_text.specs.Reading.{next_word, next_read, next_number, next_address, no_more, this_word}
@@ -12,8 +11,7 @@ use Rattle.trace_text.specs.Settings.{setting_of}
 use Rattle.trace_text.specs.Words.{Unread, words_of}
 use Rattle.trace_text.specs.declared.line.Line.{Line}
 use Rattle.trace_text.specs.declared.line.Line.TheVariants.{Head, Happen, Acted, End}
-use Rattle.trace_text.specs.declared.line.LineRefusal.{LineRefusal}
-use Rattle.trace_text.specs.declared.line.LineRefusal.TheVariants.{BadWord, BadNumber, OutOfOrder}
+use Rattle.trace_text.specs.declared.line.LineRefusal.TheVariants.{BadWord, OutOfOrder}
 use Rattle.trace_text.specs.declared.stage.Stage.{Stage}
 use Rattle.trace_text.proofs.ReadEvents.{event_line-is}
 use Rattle.trace_text.proofs.Spelled.{same_bytes}

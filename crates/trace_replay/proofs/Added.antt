@@ -1,5 +1,5 @@
 -- What a line that passes adds to the output, and how the lines of the output go on behind it.
-use Rattle.std.proofs.Common.{◌≡◌, ℕ, ◌+◌, true, false, List, [], ◌∷◌, ◌++◌, length, map, All, Some, None, Ok, ◌⊎◌, inl, inr, refl, sym, ap, ◌∙◌, arith}
+use Rattle.std.proofs.Common.{◌≡◌, ℕ, ◌+◌, true, false, List, [], ◌∷◌, ◌++◌, length, map, All, None, Ok, ◌⊎◌, inl, inr, refl, sym, ap, ◌∙◌, arith}
 use Rattle.std.specs.List.{filter}
 use Rattle.std.proofs.lemmas.List.{append_assoc, append-nil, length-append, length_push}
 use Rattle.std.proofs.lemmas.List.Elements.{All-nil, filter-append}
@@ -11,7 +11,7 @@ use Rattle.trace_text.specs.Stages.{first_stage}
 use Rattle.trace_text.specs.declared.line.Line.{Line}
 use Rattle.trace_text.specs.declared.line.Line.TheVariants.{Head, Happen, Acted, End}
 use Rattle.trace_replay.specs.Reading.{Reading, said_at, reading_at, stage_behind, readings_from, heads_in, events_in}
-use Rattle.trace_replay.specs.Judgement.{Verdict, ended, refused, too_long, verdict_by, verdict_at, number_behind}
+use Rattle.trace_replay.specs.Judgement.{Verdict, ended, refused, too_long, verdict_by, number_behind}
 use Rattle.trace_replay.specs.Output.{start_in, lines_for, last_lines}
 use Rattle.trace_replay.specs.Passing.{texts_of, PassBehind, ArePassed}
 use Rattle.trace_replay.specs.Compare.{is_acted, actions_in}
@@ -19,7 +19,7 @@ use Rattle.trace_replay.specs.Checking.{IsAction}
 use Rattle.trace_replay.proofs.ActionLines.{quiet_text, acted_begins, all_actions}
 use Rattle.trace_replay.proofs.Grammar.{IsLineAt}
 use Rattle.trace_replay.proofs.Outputs.{lines_for-head, lines_for-acted, lines_for-event, told_behind}
-use Rattle.trace_replay.proofs.Readings.{heads_in-append, events_in-append, Passes, Passes-from, AreFront, AreFront-none, AreFront-more, AreFront-passed, no_events_before_head, line_at, passed_behind}
+use Rattle.trace_replay.proofs.Readings.{heads_in-append, events_in-append, Passes, AreFront, AreFront-none, AreFront-more, no_events_before_head, line_at, passed_behind}
 
 -- nothing where it is an action line, else itself, and action lines below it
 abbrev pub IsAdded : List ℕ → List (List ℕ) → Type 0

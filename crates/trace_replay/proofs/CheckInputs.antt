@@ -1,13 +1,12 @@
 -- What a check comes to, in terms of the whole input: proofs.
-use Rattle.std.proofs.Common.{◌≡◌, ℕ, List, [], ◌++◌, Option, Some, refl, sym, ap, ◌∙◌, subst}
+use Rattle.std.proofs.Common.{◌≡◌, ℕ, List, [], Option, Some, refl, sym, ap, ◌∙◌, subst}
 use Rattle.io_edge.specs.Lines.{ended_lines}
 use Rattle.io_edge.specs.Told.{Gives, Takes, TakesProperPrefix}
-use Rattle.io_edge.proofs.ToldLemmas.{Gives-told, Takes-nothing}
+use Rattle.io_edge.proofs.ToldLemmas.{Takes-nothing}
 use Rattle.net_base.specs.declared.refusal.RefusalKind.{RefusalKind}
-use Rattle.trace_replay.specs.Compare.{Difference, Comparison, agree, differ, refused_at, too_long_at, comparison_of, report_lines, report_of}
+use Rattle.trace_replay.specs.Compare.{Comparison, agree, differ, refused_at, too_long_at, comparison_of, report_lines, report_of}
 use Rattle.trace_replay.specs.Checks.{outcome_told, AreSettled, AreCompared, Checks}
 use Rattle.trace_replay.specs.CheckedInputs.{IsReported, IsCheckOf}
-use Rattle.trace_replay.specs.Inputs.{IsReadUpTo}
 use Rattle.trace_replay.specs.declared.outcome.Outcome.{Outcome}
 use Rattle.trace_replay.specs.declared.outcome.Outcome.TheVariants.{Done, Differ, Refused, ReadFault, WriteFault, OutOfMemory, WorldFault, TooLong}
 use Rattle.trace_replay.proofs.Inputs.{read_up_to}

@@ -1,5 +1,5 @@
 -- How a check that is on its way goes on, and what it finds where it ends.
-use Rattle.std.proofs.Common.{◌≡◌, ℕ, ◌+◌, ◌-◌, ◌<◌, ◌≤◌, true, false, List, [], ◌∷◌, ◌++◌, length, drop, All, Option, Some, None, Result, Ok, Err, MatchResult, IfErr, ◌⊎◌, inl, inr, ⊎_elim, refl, sym, ap, ◌∙◌, subst, arith}
+use Rattle.std.proofs.Common.{◌≡◌, ℕ, ◌+◌, ◌-◌, ◌<◌, ◌≤◌, List, [], ◌∷◌, ◌++◌, length, drop, All, Option, Some, None, Result, Ok, Err, MatchResult, IfErr, inl, inr, ⊎_elim, refl, sym, ap, ◌∙◌, subst, arith}
 use Rattle.std.specs.Prelude.{codes}
 use Rattle.std.specs.Io.KnownBytes.{IsAtEnd}
 use Rattle.std.proofs.Math.Seq.{drop-append-add}
@@ -7,7 +7,7 @@ use Rattle.std.proofs.lemmas.Bool.{both_ways}
 use Rattle.std.proofs.lemmas.List.{append_assoc, append-nil, append_cancel_left, length-map, length_push, map-append}
 use Rattle.std.proofs.lemmas.List.Concat.{flat_map-append}
 use Rattle.std.proofs.lemmas.List.Elements.{All-nil, All-cons, All-head, All-tail, All-append}
-use Rattle.io_edge.specs.Lines.{is_line_feed, HasNoLineFeed, whole_lines, ended_lines, FitsLine, IsPastLimit}
+use Rattle.io_edge.specs.Lines.{HasNoLineFeed, whole_lines, ended_lines, FitsLine}
 use Rattle.io_edge.specs.Pending.{front_line}
 use Rattle.io_edge.specs.Reading.{ReadsLine}
 use Rattle.io_edge.specs.Told.{Gives, Takes, TakesProperPrefix}
@@ -16,28 +16,28 @@ use Rattle.io_edge.specs.declared.got.Got.TheVariants.{Line, Over}
 use Rattle.io_edge.specs.declared.line_fault.LineFault.{LineFault}
 use Rattle.io_edge.specs.declared.line_fault.LineFault.TheVariants.{Failed, TooLong as LineTooLong, OutOfMemory as NoMemory}
 use Rattle.io_edge.proofs.LineLemmas.{before_first-line, whole_lines-ended, whole_lines-none}
-use Rattle.io_edge.proofs.ToldLemmas.{Gives-nothing, Gives-append, Takes-nothing}
+use Rattle.io_edge.proofs.ToldLemmas.{Gives-nothing, Gives-append}
 use Rattle.net_base.specs.declared.refusal.RefusalKind.{RefusalKind}
 use Rattle.net_base.specs.declared.refusal.RefusalKind.TheVariants.{NoEnd}
 use Rattle.trace_text.specs.Lines.{is_action_line}
 use Rattle.trace_text.specs.Stages.{first_stage}
 use Rattle.trace_replay.specs.Reading.{Reading, reading_at, stage_behind, heads_in, events_in}
-use Rattle.trace_replay.specs.Judgement.{Verdict, ended, refused, too_long, most_lines, verdict_at, number_behind, judged}
-use Rattle.trace_replay.specs.Output.{lines_for, last_lines}
+use Rattle.trace_replay.specs.Judgement.{Verdict, ended, refused, too_long, most_lines, verdict_at, number_behind}
+use Rattle.trace_replay.specs.Output.{lines_for}
 use Rattle.trace_replay.specs.Passing.{texts_of, ArePassed}
 use Rattle.trace_replay.specs.Playback.{Kept, events_taken, StandsBehind, GoesOn}
 use Rattle.trace_replay.specs.LineRead.{line_told, IsLineRead}
-use Rattle.trace_replay.specs.Compare.{Comparison, agree, differ, refused_at, too_long_at, agreement, actions_in, comparison_for, comparison_of, report_lines}
-use Rattle.trace_replay.specs.Checks.{outcome_told, AreSettled, AgreeSoFar, Checks}
+use Rattle.trace_replay.specs.Compare.{Comparison, differ, refused_at, too_long_at, agreement, actions_in, comparison_for, comparison_of, report_lines}
+use Rattle.trace_replay.specs.Checks.{outcome_told, Checks}
 use Rattle.trace_replay.specs.UnderWay.{HasReadCount}
-use Rattle.trace_replay.specs.Checking.{IsAction, AgreesSoFar, comparison_told, DecidesFor, IsFound, Finds, IsCheckTurn, DiffersAt, DiffersAtEnd, IsFoundAt, IsFoundAtEnd, end_found, IsCompared}
+use Rattle.trace_replay.specs.Checking.{IsAction, AgreesSoFar, comparison_told, DecidesFor, Finds, IsCheckTurn, DiffersAt, DiffersAtEnd, IsFoundAt, IsFoundAtEnd, end_found, IsCompared}
 use Rattle.trace_replay.specs.declared.finding.Finding.{Finding}
 use Rattle.trace_replay.specs.declared.finding.Finding.TheVariants.{Agrees, Differs}
 use Rattle.trace_replay.specs.declared.outcome.Outcome.{Outcome}
 use Rattle.trace_replay.specs.declared.outcome.Outcome.TheVariants.{Done, Differ, Refused, ReadFault, WriteFault, OutOfMemory, WorldFault, TooLong}
 use Rattle.trace_replay.proofs.Added.{IsAdded, Adds, adds, lines_counted}
 use Rattle.trace_replay.proofs.Comparing.{first_of, compared_silent, compared_ended, line_differs, end_differs}
-use Rattle.trace_replay.proofs.Judging.{judgement_of, judged_rest, rest_refused, ArePassed-none}
+use Rattle.trace_replay.proofs.Judging.{judgement_of, judged_rest, rest_refused}
 use Rattle.trace_replay.proofs.Readings.{Passes-from, AreFront-passed}
 use Rattle.trace_replay.proofs.Ways.{seen_of, Decides, line_decides, past_decides, most_decides, seen_further, whole_further, reads_same}
 

@@ -1,23 +1,22 @@
 -- How lines compare with those of their output, whatever stands behind them.
-use Rattle.std.proofs.Common.{◌≡◌, ℕ, ◌+◌, Bool, true, false, cond, List, [], ◌∷◌, ◌++◌, length, map, All, Option, Some, None, ◌⊎◌, inl, inr, refl, sym, ap, ◌∙◌, subst, arith}
+use Rattle.std.proofs.Common.{◌≡◌, ℕ, ◌+◌, Bool, true, false, List, [], ◌∷◌, ◌++◌, length, All, Option, Some, None, inl, inr, refl, sym, ap, ◌∙◌, arith}
 use Rattle.std.specs.Prelude.{codes, bytes_eq}
 use Rattle.std.proofs.lemmas.Bool.{both_ways}
 use Rattle.std.proofs.lemmas.List.{append_assoc, append-nil, length-map, map-append}
-use Rattle.std.proofs.lemmas.List.Elements.{All-head, All-tail}
+use Rattle.std.proofs.lemmas.List.Elements.{All-head}
 use Rattle.std.proofs.lemmas.Slice.Eq.{bytes_eq-Decides}
-use Rattle.io_edge.specs.Lines.{HasNoLineFeed, whole_lines, unfinished_line, ended_lines}
+use Rattle.io_edge.specs.Lines.{HasNoLineFeed, whole_lines, unfinished_line}
 use Rattle.trace_text.specs.Lines.{is_action_line}
 use Rattle.trace_text.specs.Stages.{first_stage}
 use Rattle.trace_replay.specs.Reading.{Reading, reading_at, stage_behind, readings_from, events_in}
-use Rattle.trace_replay.specs.Judgement.{Verdict, ended, refused, too_long, verdict_at, Judgement, judged_from, judged}
+use Rattle.trace_replay.specs.Judgement.{Verdict, ended, Judgement, judged_from}
 use Rattle.trace_replay.specs.Output.{lines_for, last_lines, output_of}
 use Rattle.trace_replay.specs.Passing.{texts_of, ArePassed}
 use Rattle.trace_replay.specs.Replays.{verdict_of}
 use Rattle.trace_replay.specs.Again.{FitsTrace}
-use Rattle.trace_replay.specs.Compare.{lines_found, lines_written, Difference, difference_at, action_due, first_difference, Comparison, agree, differ, agreement, difference_or, actions_in, comparison_for, comparison_of}
+use Rattle.trace_replay.specs.Compare.{lines_found, lines_written, difference_at, action_due, first_difference, agree, differ, agreement, difference_or, actions_in, comparison_for, comparison_of}
 use Rattle.trace_replay.specs.Checks.{outcome_told}
 use Rattle.trace_replay.specs.Checking.{IsAction}
-use Rattle.trace_replay.specs.declared.outcome.Outcome.{Outcome}
 use Rattle.trace_replay.specs.declared.outcome.Outcome.TheVariants.{Done}
 use Rattle.trace_replay.proofs.Added.{IsAdded, Adds, BeginsQuietly, BeginsQuietly-last, goes_on_quietly}
 use Rattle.trace_replay.proofs.Again.{output_lines}

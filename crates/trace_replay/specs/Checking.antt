@@ -1,5 +1,5 @@
 -- A check that is on its way, and how it goes on.
-use Rattle.std.specs.Prelude.{◌≡◌, ℕ, ◌+◌, true, List, [], ◌∷◌, ◌++◌, length, drop, All, codes, ◌⊎◌, Option, Some, None, Result, Ok, Err}
+use Rattle.std.specs.Prelude.{◌≡◌, ℕ, ◌+◌, true, List, ◌++◌, length, drop, All, codes, ◌⊎◌, Option, Some, None, Result, Ok, Err}
 use Rattle.io_edge.specs.Lines.{HasNoLineFeed, ended_lines}
 use Rattle.io_edge.specs.Pending.{front_line}
 use Rattle.io_edge.specs.Told.{Gives}
