@@ -8,8 +8,8 @@ mod status;
 mod telling;
 mod words;
 
-use io_edge::{StdSink, StdSource};
 pub use command::Command;
+use io_edge::{StdSink, StdSource};
 pub use running::run;
 pub use status::{Status, What, Which};
 use std::process::ExitCode;
