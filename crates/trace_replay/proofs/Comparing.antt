@@ -107,7 +107,7 @@ abbrev pub first_of : List (List ℕ) → Option (List ℕ)
 first_of [] = None
 first_of (line ∷ lines) = Some line
 
-action_apart : (line other : List ℕ) → is_action_line line ≡ true → is_action_line other ≡ false → ¬ (line ≡ other)
+pub action_apart : (line other : List ℕ) → is_action_line line ≡ true → is_action_line other ≡ false → ¬ (line ≡ other)
 action_apart line other acts quiet same = both_ways (is_action_line line) (ap is_action_line same ∙ quiet) acts
 
 quiet_due : (lines : List (List ℕ)) → BeginsQuietly lines → action_due lines ≡ None

@@ -1,6 +1,7 @@
 pub mod ActionLines
 pub mod Added
 pub mod Again
+pub mod Agreeing
 pub mod CheckInputs
 pub mod CheckWays
 pub mod Comparing

@@ -1,8 +1,8 @@
 ghost use Rattle.std.specs.Prelude.{◌≡◌, ℕ, List};
 ghost use Rattle.trace_replay.specs.Again.{FitsTrace};
 ghost use Rattle.trace_replay.specs.Checks.{outcome_told};
-ghost use Rattle.trace_replay.specs.Compare.{comparison_of};
-ghost use Rattle.trace_replay.specs.Judgement.{ended};
+ghost use Rattle.trace_replay.specs.Compare.{agree, lines_found, lines_written, comparison_of};
+ghost use Rattle.trace_replay.specs.Judgement.{ended, judged};
 ghost use Rattle.trace_replay.specs.Output.{output_of};
 ghost use Rattle.trace_replay.specs.Replays.{verdict_of};
 ghost use Rattle.trace_replay.specs.declared.outcome.Outcome.TheVariants.{Done};
@@ -20,4 +20,10 @@ pub fn outputs_are_their_own()
 pub fn outputs_agree()
     ensures { (input : List ℕ) → verdict_of input ≡ ended → FitsTrace (output_of input)
         → outcome_told (comparison_of (output_of input)) ≡ Done }
+{}
+
+/// A law: a trace that agrees has exactly the lines of its output, up to `end`.
+pub fn agreeing_traces_are_their_output()
+    ensures { (input : List ℕ) (events actions : ℕ) → comparison_of input ≡ agree events actions
+        → lines_found (judged input) ≡ lines_written (judged input) }
 {}

@@ -15,6 +15,6 @@ mod stop;
 mod told;
 
 pub use checking::check;
-pub use law::{outputs_agree, outputs_are_their_own};
+pub use law::{agreeing_traces_are_their_output, outputs_agree, outputs_are_their_own};
 pub use outcome::Outcome;
 pub use replaying::replay;
