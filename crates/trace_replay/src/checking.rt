@@ -12,7 +12,7 @@ ghost use Rattle.trace_replay.specs.UnderWay.{HasReadCount, HasWriteCount};
 
 use crate::Outcome;
 use crate::finding::Finding;
-use crate::pickers::Pickers;
+use crate::pickers::{Pickers, ranked_score, score};
 use crate::playback::Playback;
 use crate::reading::{LINES_MOST, read_line};
 use crate::stop::Stop;
@@ -45,12 +45,9 @@ fn check_anew<S: Source, K: Sink>(
     ensures reads { HasReadCount (S.faults src.old) (S.faults src.new) (outcome_or result) }
     ensures writes { HasWriteCount (K.faults out.old) (K.faults out.new) (outcome_or result) }
 {
-    let picker = Picker::new(Box::new(alloc, |addr: Addr, word: u64| {
-        addr.key().wrapping_add(word)
-    })?);
+    let picker = Picker::new(Box::new(alloc, |addr: Addr, word: u64| score(addr, word))?);
     let ranked = RankedPicker::new(Box::new(alloc, |addr: Addr, failures: u64, word: u64| {
-        failures.min(65_535) * 281_474_976_710_656
-            + addr.key().wrapping_add(word) % 281_474_976_710_656
+        ranked_score(addr, failures, word)
     })?);
     let mut reader = LineReader::new(alloc)?;
     let mut due = PieceWriter::new(alloc)?;

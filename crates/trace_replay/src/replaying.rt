@@ -11,7 +11,7 @@ ghost use Rattle.trace_replay.specs.Settings.{settings_in};
 ghost use Rattle.trace_replay.specs.UnderWay.{IsUnderWay, IsTurn, IsLineNext, IsSaidFor, Ends, HasReadCount, HasWriteCount};
 
 use crate::Outcome;
-use crate::pickers::Pickers;
+use crate::pickers::{Pickers, ranked_score, score};
 use crate::playback::Playback;
 use crate::reading::{LINES_MOST, read_line};
 use crate::stop::Stop;
@@ -44,12 +44,9 @@ fn replay_anew<S: Source, K: Sink>(
     ensures reads { HasReadCount (S.faults src.old) (S.faults src.new) (outcome_or result) }
     ensures writes { HasWriteCount (K.faults out.old) (K.faults out.new) (outcome_or result) }
 {
-    let picker = Picker::new(Box::new(alloc, |addr: Addr, word: u64| {
-        addr.key().wrapping_add(word)
-    })?);
+    let picker = Picker::new(Box::new(alloc, |addr: Addr, word: u64| score(addr, word))?);
     let ranked = RankedPicker::new(Box::new(alloc, |addr: Addr, failures: u64, word: u64| {
-        failures.min(65_535) * 281_474_976_710_656
-            + addr.key().wrapping_add(word) % 281_474_976_710_656
+        ranked_score(addr, failures, word)
     })?);
     let mut reader = LineReader::new(alloc)?;
     let mut pieces = PieceWriter::new(alloc)?;
