@@ -6,7 +6,8 @@ ghost use Rattle.net_base.specs.declared.event.Event.{Event};
 ghost use Rattle.net_base.specs.declared.refusal.RefusalKind.{RefusalKind};
 ghost use Rattle.trace_replay.specs.Again.{FitsTrace, TakesItsOwnOutput};
 ghost use Rattle.trace_replay.specs.Inputs.{IsDecided, StopsReading, StopsWriting, machine_after};
-ghost use Rattle.trace_replay.specs.Judgement.{ended, refused, too_long};
+ghost use Rattle.trace_replay.specs.Compare.{lines_found, lines_written};
+ghost use Rattle.trace_replay.specs.Judgement.{ended, refused, too_long, judged};
 ghost use Rattle.trace_replay.specs.Output.{output_of};
 ghost use Rattle.trace_replay.specs.Replays.{verdict_of, TakesPrefix};
 ghost use Rattle.node_tool.specs.Run.{command_of, status_of, status_compared, status_told, IsAnswered, IsStatusOf, IsReplayed, IsChecked, HasComeOf, HasSomeOutput};
@@ -67,6 +68,10 @@ pub fn run<S: Source, K: Sink, E: Sink>(
     ensures compared_complete { (input : List ℕ) → S.left src.old ≡ Some input → command_of (map string_bytes words.now) ≡ Some Command.Check →
         ¬ Rose (S.faults src.old) (S.faults src.new) → ¬ Rose (K.faults out.old) (K.faults out.new) →
         (result ≡ status_compared input) ⊎ (result ≡ Status.OutOfMemory) }
+
+    // What agrees is the trace's own output, line by line, up to its `end`.
+    ensures agreed { (input : List ℕ) → S.left src.old ≡ Some input → command_of (map string_bytes words.now) ≡ Some Command.Check → result ≡ Status.Done →
+        lines_found (judged input) ≡ lines_written (judged input) }
 
     ensures no_other { IsStatusOf (command_of (map string_bytes words.now)) result }
 

@@ -5,7 +5,7 @@ use Rattle.std.proofs.lemmas.List.{append-nil, length-append}
 use Rattle.std.proofs.lemmas.List.Elements.{All-nil, All-cons, All-head, All-tail, All-append}
 use Rattle.std.proofs.lemmas.Slice.Eq.{bytes_eq-Decides}
 use Rattle.io_edge.specs.Lines.{whole_lines, unfinished_line}
-use Rattle.trace_text.specs.Lines.{first_line, second_line, later_line, is_action_line, line_of}
+use Rattle.trace_text.specs.Lines.{first_line, second_line, later_line}
 use Rattle.trace_text.specs.Stages.{first_stage}
 use Rattle.trace_text.specs.Words.{words_of}
 use Rattle.trace_text.specs.declared.line.Line.{Line}
@@ -15,8 +15,10 @@ use Rattle.trace_replay.specs.Reading.{Reading, said_at, reading_at, stage_behin
 use Rattle.trace_replay.specs.Judgement.{Verdict, ended, refused, too_long, verdict_by, number_behind, Judgement, judged}
 use Rattle.trace_replay.specs.Output.{lines_for, last_lines}
 use Rattle.trace_replay.specs.Passing.{texts_of}
-use Rattle.trace_replay.specs.Compare.{lines_found, lines_written, Difference, difference_at, first_difference, Comparison, agree, differ, agreement, difference_or, comparison_for, comparison_of}
+use Rattle.trace_replay.specs.Compare.{lines_found, lines_written, Difference, difference_at, first_difference, agreement, difference_or, comparison_for, comparison_of}
+use Rattle.trace_replay.specs.Checks.{outcome_told}
 use Rattle.trace_replay.specs.Checking.{IsAction}
+use Rattle.trace_replay.specs.declared.outcome.Outcome.TheVariants.{Done}
 use Rattle.trace_replay.proofs.Added.{IsAdded, adds}
 use Rattle.trace_replay.proofs.Comparing.{action_apart}
 use Rattle.trace_replay.proofs.Prefixes.{judged_from-continues}
@@ -123,23 +125,23 @@ record AgreesToItsEnd (j : Judgement) : Type 0 where
   ends : j.verdict ≡ ended
   none : first_difference 1 (lines_found j) (lines_written j) ≡ None
 
-agrees_to_end : (j : Judgement) (events actions : ℕ) → comparison_for j ≡ agree events actions → AgreesToItsEnd j
-agrees_to_end j events actions e = by_difference (first_difference 1 (lines_found j) (lines_written j)) refl e
+agrees_to_end : (j : Judgement) → outcome_told (comparison_for j) ≡ Done → AgreesToItsEnd j
+agrees_to_end j e = by_difference (first_difference 1 (lines_found j) (lines_written j)) refl e
   where
-    by_verdict : (verdict : Verdict) → j.verdict ≡ verdict → agreement j.passed verdict ≡ agree events actions → j.verdict ≡ ended
+    by_verdict : (verdict : Verdict) → j.verdict ≡ verdict → outcome_told (agreement j.passed verdict) ≡ Done → j.verdict ≡ ended
     by_verdict ended is e = is
     by_verdict (refused line kind) is e = absurd cc
     by_verdict (too_long line) is e = absurd cc
 
     by_difference : (found : Option Difference) → first_difference 1 (lines_found j) (lines_written j) ≡ found →
-        difference_or (agreement j.passed j.verdict) found ≡ agree events actions → AgreesToItsEnd j
+        outcome_told (difference_or (agreement j.passed j.verdict) found) ≡ Done → AgreesToItsEnd j
     by_difference None is e = record { ends = by_verdict j.verdict refl e; none = is }
     by_difference (Some difference) is e = absurd cc
 
-pub agreeing_lines : (input : List ℕ) (events actions : ℕ) → comparison_of input ≡ agree events actions → lines_found (judged input) ≡ lines_written (judged input)
-agreeing_lines input events actions e =
+pub agreeing_lines : (input : List ℕ) → outcome_told (comparison_of input) ≡ Done → lines_found (judged input) ≡ lines_written (judged input)
+agreeing_lines input e =
     let j = judged input in
-    let so = agrees_to_end j events actions e in
+    let so = agrees_to_end j e in
     let over = none_differs 1 (lines_found j) (lines_written j) so.none in
     let last : last_lines j.verdict ≡ codes "end" ∷ [] = ap last_lines so.ends in
     let ends : lines_for j.passed ++ codes "end" ∷ [] ≡ (texts_of j.passed ++ codes "end" ∷ []) ++ over.more =

@@ -1,7 +1,7 @@
 ghost use Rattle.std.specs.Prelude.{◌≡◌, ℕ, List};
 ghost use Rattle.trace_replay.specs.Again.{FitsTrace};
 ghost use Rattle.trace_replay.specs.Checks.{outcome_told};
-ghost use Rattle.trace_replay.specs.Compare.{agree, lines_found, lines_written, comparison_of};
+ghost use Rattle.trace_replay.specs.Compare.{lines_found, lines_written, comparison_of};
 ghost use Rattle.trace_replay.specs.Judgement.{ended, judged};
 ghost use Rattle.trace_replay.specs.Output.{output_of};
 ghost use Rattle.trace_replay.specs.Replays.{verdict_of};
@@ -24,6 +24,6 @@ pub fn outputs_agree()
 
 /// A law: a trace that agrees has exactly the lines of its output, up to `end`.
 pub fn agreeing_traces_are_their_output()
-    ensures { (input : List ℕ) (events actions : ℕ) → comparison_of input ≡ agree events actions
+    ensures { (input : List ℕ) → outcome_told (comparison_of input) ≡ Done
         → lines_found (judged input) ≡ lines_written (judged input) }
 {}

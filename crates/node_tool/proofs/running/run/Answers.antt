@@ -3,7 +3,7 @@ use Rattle.trace_replay.specs.Judgement.{judged}
 use Rattle.trace_replay.specs.Reading.{heads_in, events_in}
 use Rattle.trace_replay.specs.Settings.{settings_in}
 use Rattle.trace_replay.proofs.Inputs.{settings_sound}
-use Rattle.node_tool.proofs.RunLemmas.{IsReplayed-refused, IsReplayed-memory, IsReplayed-output, IsReplayed-again, IsChecked-compared}
+use Rattle.node_tool.proofs.RunLemmas.{IsReplayed-refused, IsReplayed-memory, IsReplayed-output, IsReplayed-again, IsChecked-compared, IsChecked-agreed}
 use Rattle.node_tool.proofs.running.run.Goals as goal
 
 pub returns-clause-refused : goal.returns-clause-refused
@@ -15,6 +15,9 @@ returns-clause-memory g c = λ input replays told is. IsReplayed-memory _ _ _ _ 
 
 pub returns-clause-compared : goal.returns-clause-compared
 returns-clause-compared g c = λ input told checks. IsChecked-compared _ _ _ _ _ _ _ _ c.answer-status.result input (c.answer-status.ensures.checked checks) told
+
+pub returns-clause-agreed : goal.returns-clause-agreed
+returns-clause-agreed g c = λ input told checks is. IsChecked-agreed _ _ _ _ _ _ _ _ c.answer-status.result input (c.answer-status.ensures.checked checks) told is
 
 pub returns-clause-output : goal.returns-clause-output
 returns-clause-output g c = λ replays. IsReplayed-output _ _ _ _ _ _ _ _ c.answer-status.result (c.answer-status.ensures.replayed replays)
