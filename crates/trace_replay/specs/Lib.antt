@@ -1,6 +1,11 @@
 pub mod Again
+pub mod CheckedInputs
+pub mod Checking
+pub mod Checks
+pub mod Compare
 pub mod Inputs
 pub mod Judgement
+pub mod LineRead
 pub mod Output
 pub mod Passing
 pub mod Playback
