@@ -1,4 +1,6 @@
 pub mod Again
+pub mod Drill
+pub mod DrillCourse
 pub mod Inputs
 pub mod Judgement
 pub mod Output
