@@ -1,4 +1,5 @@
 pub mod Again
+pub mod Drills
 pub mod Grammar
 pub mod Heads
 pub mod Inputs

@@ -68,10 +68,10 @@ impl Course {
     /// What is told of it.
     pub(crate) fn tallies(&self) -> Tallies
         ensures { result ≡ record {
-            events = self.now.engine.events;
-            counts = self.now.counts;
-            established = (tally_of self.now.engine.machine).established;
-            active = (tally_of self.now.engine.machine).active;
+          events = self.now.engine.events;
+          counts = self.now.counts;
+          established = (tally_of self.now.engine.machine).established;
+          active = (tally_of self.now.engine.machine).active;
         } }
     {
         let tally = self.engine.tally();
@@ -107,10 +107,20 @@ fn act_all(
     ensures counted { OnOk result (counts.new ≡ counts_joined counts.old (counts_of actions.now)) }
 {
     for action in actions {
-        world.act(action).map_err(wanting)?;
+        act(action, world)?;
         *counts = counts.and(action)?;
     }
     Ok(())
+}
+
+// Hands an action to the town.
+fn act(action: &Action, world: &mut TownWorld) -> Result<(), OutOfMemory>
+    ensures { OnOk result (world.new.town ≡ act_of world.old.town action.now) }
+{
+    match world.act(action) {
+        Ok(()) => Ok(()),
+        Err(refusal) => Err(wanting(refusal)),
+    }
 }
 
 // The town refuses for want of memory alone.

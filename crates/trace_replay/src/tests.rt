@@ -35,7 +35,8 @@ fn a_town_of_a_hundred_events(rt: HostRuntime) -> Result<(), Fail> {
     expect_drill(
         &rt,
         rt.alloc(),
-        4, 100,
+        4,
+        100,
         &mut out,
         Outcome::Done,
         "events 100\nactions 210\nadmitted 1\nturned 0\ndials 21\ncloses 0\nestablished 16\nactive 6\n",
@@ -49,7 +50,8 @@ fn a_town_of_hundred_thousand_events(rt: HostRuntime) -> Result<(), Fail> {
     expect_drill(
         &rt,
         rt.alloc(),
-        7, 100_000,
+        7,
+        100_000,
         &mut out,
         Outcome::Done,
         "events 100000\nactions 63749\nadmitted 8140\nturned 3174\ndials 173\ncloses 8218\nestablished 16\nactive 6\n",
@@ -63,7 +65,8 @@ fn a_town_without_events(rt: HostRuntime) -> Result<(), Fail> {
     expect_drill(
         &rt,
         rt.alloc(),
-        7, 0,
+        7,
+        0,
         &mut out,
         Outcome::Done,
         "events 0\nactions 0\nadmitted 0\nturned 0\ndials 0\ncloses 0\nestablished 0\nactive 0\n",
@@ -74,8 +77,24 @@ fn a_town_without_events(rt: HostRuntime) -> Result<(), Fail> {
 #[test]
 fn a_sink_fails_or_is_full(rt: HostRuntime) -> Result<(), Fail> {
     let mut failing = sink(rt.alloc(), 100, &[1])?;
-    expect_drill(&rt, rt.alloc(), 4, 10, &mut failing, Outcome::WriteFault, "");
+    expect_drill(
+        &rt,
+        rt.alloc(),
+        4,
+        10,
+        &mut failing,
+        Outcome::WriteFault,
+        "",
+    );
     let mut full = sink(rt.alloc(), 12, &[])?;
-    expect_drill(&rt, rt.alloc(), 4, 10, &mut full, Outcome::WriteFault, "events 10\nac");
+    expect_drill(
+        &rt,
+        rt.alloc(),
+        4,
+        10,
+        &mut full,
+        Outcome::WriteFault,
+        "events 10\nac",
+    );
     Ok(())
 }
