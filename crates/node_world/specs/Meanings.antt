@@ -15,8 +15,12 @@ abbrev pub opening_after : {T E : Type 0} → Option (Option Opening) → Openin
 opening_after told opening (Ok done) = option_map (λ before. Some opening) told
 opening_after told opening (Err refusal) = told
 
+-- a list, where it is told, with these items behind it
+abbrev pub with_more : {T : Type 0} → Option (List T) → List T → Option (List T)
+with_more told more = option_map (λ items. items ++ more) told
+
 abbrev pub with_one_more : {T : Type 0} → Option (List T) → T → Option (List T)
-with_one_more told item = option_map (λ items. items ++ item ∷ []) told
+with_one_more told item = with_more told (item ∷ [])
 
 -- the events taken, where they are told: one more where one was given
 abbrev pub taken_after : {E : Type 0} → Option (List Event) → Result Next E → Option (List Event)
