@@ -134,7 +134,7 @@ fn take_line(
 }
 
 // How many bytes stand before the first line feed, or before the end where there is none.
-fn line_length(bytes: &[u8]) -> usize
+pub(crate) fn line_length(bytes: &[u8]) -> usize
     ensures value { result ≡ position_or_len is_line_feed bytes.now }
     ensures bound { result ≤ length bytes.now }
 {

@@ -1,7 +1,9 @@
-ghost use Rattle.std.specs.Prelude.{◌≡◌, ◌<◌, ◌≤◌, [], ◌∷◌, ◌++◌, nat_le, length, take, drop, IfOk, OnOk, OnErr};
+ghost use Rattle.std.specs.Prelude.{◌≡◌, ◌<◌, ◌≤◌, [], ◌∷◌, ◌++◌, nat_le, length, take, drop, Some, None, MatchOption, IfOk, OnOk, OnErr};
 ghost use Rattle.io_edge.specs.Causes.{HasCause};
+ghost use Rattle.io_edge.specs.Pending.{front_line};
 ghost use Rattle.io_edge.specs.Told.{TakesFront};
 
+use crate::line_reader::line_length;
 use crate::{Failed, Sink};
 use net_base::OutOfMemory;
 use std::alloc::Global;
@@ -66,6 +68,28 @@ impl PieceWriter {
         ensures { self.new ≡ take count self.old }
     {
         self.bytes.truncate(self.done + count);
+    }
+
+    /// The first line that is pending, without its line feed.
+    pub fn first_line(&self) -> Option<&[u8]>
+        ensures { MatchOption result (front_line self.now ≡ None) (λ line. front_line self.now ≡ Some line.now) }
+    {
+        let pending = &self.bytes[self.done..];
+        if pending.is_empty() {
+            return None;
+        }
+        Some(&pending[..line_length(pending)])
+    }
+
+    /// Gives up the first bytes that are pending, or all where there are no more.
+    pub fn skip(&mut self, count: usize)
+        ensures { self.new ≡ drop count self.old }
+    {
+        self.done += count.min(self.len());
+        if self.done == self.bytes.len() {
+            self.bytes.clear();
+            self.done = 0;
+        }
     }
 
     /// Puts all that is pending, by as many calls as that needs. After a fault the rest is pending still.

@@ -213,3 +213,18 @@ fn lines_are_put_in_pieces(rt: HostRuntime) -> Result<(), Fail> {
     assert!(rt; writer.is_full());
     Ok(())
 }
+
+#[test]
+fn lines_are_given_up_from_the_front(rt: HostRuntime) -> Result<(), Fail> {
+    let mut writer = PieceWriter::new(rt.alloc())?;
+    assert!(rt; writer.first_line().is_none());
+    writer.push_line(b"ab")?;
+    writer.push_line(b"")?;
+    assert!(rt; writer.first_line() == Some(b"ab".as_slice()));
+    writer.skip(3);
+    assert!(rt; writer.first_line() == Some(b"".as_slice()));
+    writer.skip(7);
+    assert!(rt; writer.first_line().is_none());
+    assert_eq!(rt; writer.len(), 0);
+    Ok(())
+}

@@ -1,19 +1,30 @@
 -- What a run of the program comes to.
-use Rattle.std.specs.Prelude.{◌≡◌, ℕ, Bool, false, ◌⊎◌, List, [], ◌∷◌, codes, bytes_eq, Option}
+use Rattle.std.specs.Prelude.{◌≡◌, ℕ, ◌⊎◌, List, [], ◌∷◌, codes, bytes_eq, if◌then◌else◌, Option, Some, None}
+use Rattle.trace_replay.specs.Compare.{comparison_of}
+use Rattle.trace_replay.specs.CheckedInputs.{IsCheckOf}
+use Rattle.trace_replay.specs.Checks.{outcome_told, Checks}
 use Rattle.trace_replay.specs.Judgement.{Verdict, ended, refused, too_long}
 use Rattle.trace_replay.specs.Inputs.{IsOutputOfSome, IsOutputSoFar, IsProperFrontOfSome, IsFrontOfSome}
 use Rattle.trace_replay.specs.Replays.{Replays}
 use Rattle.trace_replay.specs.UnderWay.{HasReadCount, HasWriteCount}
 use Rattle.trace_replay.specs.declared.outcome.Outcome.{Outcome}
 use Rattle.trace_replay.specs.declared.outcome.Outcome.TheVariants as outcome
+use Rattle.node_tool.specs.declared.command.Command.{Command}
+use Rattle.node_tool.specs.declared.command.Command.TheVariants.{Replay, Check}
 use Rattle.node_tool.specs.declared.status.Status.{Status}
 use Rattle.node_tool.specs.declared.status.Status.TheVariants.{Done, Differ, Usage, Refused, ReadFault, WriteFault, OutOfMemory, WorldFault, FileFault, TooLong, BadSettings, FileTooLarge}
 
--- the words are a command: the one word `replay`
-abbrev pub is_replay : List (List ℕ) → Bool
-is_replay [] = false
-is_replay (word ∷ []) = bytes_eq word (codes "replay")
-is_replay (word ∷ next ∷ words) = false
+abbrev pub command_named : List ℕ → Option Command
+command_named word =
+    if bytes_eq word (codes "replay") then Some Replay
+    else if bytes_eq word (codes "check") then Some Check
+    else None
+
+-- the command that the words are: its one word
+abbrev pub command_of : List (List ℕ) → Option Command
+command_of [] = None
+command_of (word ∷ []) = command_named word
+command_of (word ∷ next ∷ words) = None
 
 -- how an outcome is told
 abbrev pub status_told : Outcome → Status
@@ -37,11 +48,14 @@ abbrev pub IsAnswered : Status → Type 0 → Type 0 → Status → Type 0
 IsAnswered due read_cause write_cause status =
     (status ≡ due) ⊎ ((status ≡ OutOfMemory) ⊎ (((status ≡ ReadFault) × read_cause) ⊎ ((status ≡ WriteFault) × write_cause)))
 
--- the statuses that a replay may have, and that of words which are no command
+-- the status of how an input compares with its output
+abbrev pub status_compared : List ℕ → Status
+status_compared input = status_told (outcome_told (comparison_of input))
+
 abbrev pub IsReplayStatus : Status → Type 0
 IsReplayStatus Done = Unit {0}
 IsReplayStatus (Differ line) = ⊥
-IsReplayStatus Usage = Unit {0}
+IsReplayStatus Usage = ⊥
 IsReplayStatus (Refused line kind) = Unit {0}
 IsReplayStatus ReadFault = Unit {0}
 IsReplayStatus WriteFault = Unit {0}
@@ -52,6 +66,17 @@ IsReplayStatus (TooLong line) = Unit {0}
 IsReplayStatus (BadSettings what) = ⊥
 IsReplayStatus (FileTooLarge which size) = ⊥
 
+-- a check may also show a line that differs
+abbrev pub IsCheckStatus : Status → Type 0
+IsCheckStatus (Differ line) = Unit {0}
+IsCheckStatus status = IsReplayStatus status
+
+-- the statuses that a command may have, and that of words which are none
+abbrev pub IsStatusOf : Option Command → Status → Type 0
+IsStatusOf None status = status ≡ Usage
+IsStatusOf (Some Replay) status = IsReplayStatus status
+IsStatusOf (Some Check) status = IsCheckStatus status
+
 -- A trace was replayed: by what the source had left and what the sink had taken, and by the counts of their faults.
 pub record IsReplayed (left_before left_after taken_before taken_after : Option (List ℕ)) (reads_before reads_after writes_before writes_after : ℕ) (status : Status) : Type 0 where
   pub outcome : Outcome
@@ -60,12 +85,26 @@ pub record IsReplayed (left_before left_after taken_before taken_after : Option 
   pub reads : HasReadCount reads_before reads_after outcome
   pub writes : HasWriteCount writes_before writes_after outcome
 
+-- A trace was checked, likewise.
+pub record IsChecked (left_before left_after taken_before taken_after : Option (List ℕ)) (reads_before reads_after writes_before writes_after : ℕ) (status : Status) : Type 0 where
+  pub outcome : Outcome
+  pub told : status ≡ status_told outcome
+  pub checks : Checks left_before left_after taken_before taken_after outcome
+  pub reads : HasReadCount reads_before reads_after outcome
+  pub writes : HasWriteCount writes_before writes_after outcome
+
+-- what has come of the check of an input
+pub record HasComeOf (input : List ℕ) (left_after taken_before taken_after : Option (List ℕ)) (status : Status) : Type 0 where
+  pub outcome : Outcome
+  pub told : status ≡ status_told outcome
+  pub is_of : IsCheckOf input outcome left_after taken_before taken_after
+
 -- Whatever the source tells, a sink that tells its bytes has the output of some input: all of it, where a line decides
--- or the source fails, a proper front after a write fault, a front where memory is wanting. Usage writes nothing.
+-- or the source fails, a proper front after a write fault, a front where memory is wanting.
 abbrev pub HasSomeOutput : Status → Option (List ℕ) → Option (List ℕ) → Type 0
 HasSomeOutput Done taken_before taken_after = IsOutputOfSome ended taken_before taken_after
 HasSomeOutput (Differ line) taken_before taken_after = ⊥
-HasSomeOutput Usage taken_before taken_after = taken_after ≡ taken_before
+HasSomeOutput Usage taken_before taken_after = ⊥
 HasSomeOutput (Refused line kind) taken_before taken_after = IsOutputOfSome (refused line kind) taken_before taken_after
 HasSomeOutput ReadFault taken_before taken_after = IsOutputSoFar taken_before taken_after
 HasSomeOutput WriteFault taken_before taken_after = IsProperFrontOfSome taken_before taken_after

@@ -1,12 +1,14 @@
-//! The program of a Cardano node's connection manager: it replays traces.
+//! The program of a Cardano node's connection manager: it replays traces and checks them.
 #![tactic(auto)]
 
+mod command;
 mod names;
 mod running;
 mod status;
 mod telling;
 mod words;
 
+pub use command::Command;
 use io_edge::{StdSink, StdSource};
 pub use running::run;
 pub use status::{Status, What, Which};

@@ -1,24 +1,25 @@
-ghost use Rattle.std.specs.Prelude.{◌≡◌, ℕ, ◌⊎◌, ◌↔◌, List, Some, map, string_bytes, true, false};
+ghost use Rattle.std.specs.Prelude.{◌≡◌, ℕ, ◌⊎◌, ◌↔◌, List, Some, None, map, string_bytes};
 ghost use Rattle.io_edge.specs.Causes.{Rose};
 ghost use Rattle.laws.specs.Parts.{IsLawfulEvent};
 ghost use Rattle.laws.specs.Records.{IsLawfulRecord};
 ghost use Rattle.net_base.specs.declared.event.Event.{Event};
 ghost use Rattle.net_base.specs.declared.refusal.RefusalKind.{RefusalKind};
-ghost use Rattle.trace_replay.specs.Again.{TakesItsOwnOutput};
+ghost use Rattle.trace_replay.specs.Again.{FitsTrace, TakesItsOwnOutput};
 ghost use Rattle.trace_replay.specs.Inputs.{IsDecided, StopsReading, StopsWriting, machine_after};
-ghost use Rattle.trace_replay.specs.Judgement.{ended, refused, too_long};
+ghost use Rattle.trace_replay.specs.Compare.{lines_found, lines_written};
+ghost use Rattle.trace_replay.specs.Judgement.{ended, refused, too_long, judged};
 ghost use Rattle.trace_replay.specs.Output.{output_of};
 ghost use Rattle.trace_replay.specs.Replays.{verdict_of, TakesPrefix};
-ghost use Rattle.node_tool.specs.Run.{is_replay, status_of, status_told, IsAnswered, IsReplayStatus, IsReplayed, HasSomeOutput};
+ghost use Rattle.node_tool.specs.Run.{command_of, status_of, status_compared, status_told, IsAnswered, IsStatusOf, IsReplayed, IsChecked, HasComeOf, HasSomeOutput};
 ghost use Rattle.node_tool.specs.Status.{status_text};
 ghost use Rattle.node_tool.specs.Telling.{IsTold};
 
-use crate::Status;
 use crate::telling::tell;
+use crate::{Command, Status};
 use io_edge::{Sink, Source};
 use laws::{laws_of_events, laws_of_records};
 use std::alloc::Global;
-use trace_replay::{Outcome, replay};
+use trace_replay::{Outcome, check, outputs_agree, replay};
 
 /// Does what the words of a command line say, from a source to a sink, and tells on another sink how it ended. The
 /// words stand without the program's name.
@@ -29,47 +30,70 @@ pub fn run<S: Source, K: Sink, E: Sink>(
     out: &mut K,
     err: &mut E,
 ) -> Status
-    ensures usage { (result ≡ Status.Usage) ↔ (is_replay (map string_bytes words.now) ≡ false) }
+    ensures usage { (result ≡ Status.Usage) ↔ (command_of (map string_bytes words.now) ≡ None) }
     ensures usage_source { result ≡ Status.Usage → src.new ≡ src.old }
     ensures usage_out { result ≡ Status.Usage → out.new ≡ out.old }
 
-    // Each clause about an input is for a source that tells it.
-    ensures done { (input : List ℕ) → S.left src.old ≡ Some input → result ≡ Status.Done →
+    // Each clause about an input is for a source that tells it. First those of `replay`.
+    ensures done { (input : List ℕ) → command_of (map string_bytes words.now) ≡ Some Command.Replay → S.left src.old ≡ Some input → result ≡ Status.Done →
         IsDecided input ended (S.left src.new) (K.taken out.old) (K.taken out.new) }
-    ensures refused { (input : List ℕ) (line : ℕ) (kind : RefusalKind) → S.left src.old ≡ Some input → result ≡ Status.Refused line kind →
+    ensures refused { (input : List ℕ) (line : ℕ) (kind : RefusalKind) → command_of (map string_bytes words.now) ≡ Some Command.Replay →
+        S.left src.old ≡ Some input → result ≡ Status.Refused line kind →
         IsDecided input (refused line kind) (S.left src.new) (K.taken out.old) (K.taken out.new) }
-    ensures too_long { (input : List ℕ) (line : ℕ) → S.left src.old ≡ Some input → result ≡ Status.TooLong line →
+    ensures too_long { (input : List ℕ) (line : ℕ) → command_of (map string_bytes words.now) ≡ Some Command.Replay →
+        S.left src.old ≡ Some input → result ≡ Status.TooLong line →
         IsDecided input (too_long line) (S.left src.new) (K.taken out.old) (K.taken out.new) }
 
     ensures read_cause { result ≡ Status.ReadFault → Rose (S.faults src.old) (S.faults src.new) }
-    ensures read_fault { (input : List ℕ) → S.left src.old ≡ Some input → result ≡ Status.ReadFault →
+    ensures read_fault { (input : List ℕ) → command_of (map string_bytes words.now) ≡ Some Command.Replay → S.left src.old ≡ Some input → result ≡ Status.ReadFault →
         StopsReading input (S.left src.new) (K.taken out.old) (K.taken out.new) }
     ensures write_cause { result ≡ Status.WriteFault → Rose (K.faults out.old) (K.faults out.new) }
-    ensures write_fault { (input : List ℕ) → S.left src.old ≡ Some input → result ≡ Status.WriteFault →
+    ensures write_fault { (input : List ℕ) → command_of (map string_bytes words.now) ≡ Some Command.Replay → S.left src.old ≡ Some input → result ≡ Status.WriteFault →
         StopsWriting input (S.left src.new) (K.taken out.old) (K.taken out.new) }
-    ensures memory { (input : List ℕ) → S.left src.old ≡ Some input → result ≡ Status.OutOfMemory →
+    ensures memory { (input : List ℕ) → command_of (map string_bytes words.now) ≡ Some Command.Replay → S.left src.old ≡ Some input → result ≡ Status.OutOfMemory →
         TakesPrefix (K.taken out.old) (K.taken out.new) (output_of input) }
 
     // The line that decides has its status, but for want of memory and for faults.
-    ensures answered { (input : List ℕ) → S.left src.old ≡ Some input → is_replay (map string_bytes words.now) ≡ true →
+    ensures answered { (input : List ℕ) → S.left src.old ≡ Some input → command_of (map string_bytes words.now) ≡ Some Command.Replay →
         IsAnswered (status_of (verdict_of input)) (Rose (S.faults src.old) (S.faults src.new)) (Rose (K.faults out.old) (K.faults out.new)) result }
-    ensures complete { (input : List ℕ) → S.left src.old ≡ Some input → is_replay (map string_bytes words.now) ≡ true →
+    ensures complete { (input : List ℕ) → S.left src.old ≡ Some input → command_of (map string_bytes words.now) ≡ Some Command.Replay →
         ¬ Rose (S.faults src.old) (S.faults src.new) → ¬ Rose (K.faults out.old) (K.faults out.new) →
         (result ≡ status_of (verdict_of input)) ⊎ (result ≡ Status.OutOfMemory) }
-    ensures no_other { IsReplayStatus result }
+
+    // The same of `check`: what was read and written by each status, and that the comparison has its status.
+    ensures compared { (input : List ℕ) → S.left src.old ≡ Some input → command_of (map string_bytes words.now) ≡ Some Command.Check →
+        HasComeOf input (S.left src.new) (K.taken out.old) (K.taken out.new) result }
+    ensures compared_answered { (input : List ℕ) → S.left src.old ≡ Some input → command_of (map string_bytes words.now) ≡ Some Command.Check →
+        IsAnswered (status_compared input) (Rose (S.faults src.old) (S.faults src.new)) (Rose (K.faults out.old) (K.faults out.new)) result }
+    ensures compared_complete { (input : List ℕ) → S.left src.old ≡ Some input → command_of (map string_bytes words.now) ≡ Some Command.Check →
+        ¬ Rose (S.faults src.old) (S.faults src.new) → ¬ Rose (K.faults out.old) (K.faults out.new) →
+        (result ≡ status_compared input) ⊎ (result ≡ Status.OutOfMemory) }
+
+    // What agrees is the trace's own output, line by line, up to its `end`.
+    ensures agreed { (input : List ℕ) → S.left src.old ≡ Some input → command_of (map string_bytes words.now) ≡ Some Command.Check → result ≡ Status.Done →
+        lines_found (judged input) ≡ lines_written (judged input) }
+
+    ensures no_other { IsStatusOf (command_of (map string_bytes words.now)) result }
 
     ensures told { IsTold (E.taken err.old) (E.taken err.new) (E.faults err.old) (E.faults err.new) (status_text result) }
 
     // Whatever the source tells: what a sink that tells its bytes took is the output of some input.
-    ensures output { HasSomeOutput result (K.taken out.old) (K.taken out.new) }
+    ensures output { command_of (map string_bytes words.now) ≡ Some Command.Replay → HasSomeOutput result (K.taken out.old) (K.taken out.new) }
 
-    // The output of a trace that is read to its `end`, replayed, is written again as it is.
-    ensures again { result ≡ Status.Done → TakesItsOwnOutput (K.taken out.old) (K.taken out.new) }
+    // The output of a trace that is read to its `end`, replayed, is written again as it is, and checked, agrees.
+    ensures again { command_of (map string_bytes words.now) ≡ Some Command.Replay → result ≡ Status.Done → TakesItsOwnOutput (K.taken out.old) (K.taken out.new) }
+    ensures agrees { (trace : List ℕ) → S.left src.old ≡ Some (output_of trace) → command_of (map string_bytes words.now) ≡ Some Command.Check →
+        verdict_of trace ≡ ended → FitsTrace (output_of trace) →
+        ¬ Rose (S.faults src.old) (S.faults src.new) → ¬ Rose (K.faults out.old) (K.faults out.new) →
+        (result ≡ Status.Done) ⊎ (result ≡ Status.OutOfMemory) }
 
-    // Whatever the source and the sink tell: the sink took the output of what was read, and a count of faults rises with
-    // that fault alone.
-    ensures replayed { is_replay (map string_bytes words.now) ≡ true →
+    // Whatever the source and the sink tell: the sink took the output of what was read, or the report of it, and a count of
+    // faults rises with that fault alone.
+    ensures replayed { command_of (map string_bytes words.now) ≡ Some Command.Replay →
         IsReplayed (S.left src.old) (S.left src.new) (K.taken out.old) (K.taken out.new)
+        (S.faults src.old) (S.faults src.new) (K.faults out.old) (K.faults out.new) result }
+    ensures checked { command_of (map string_bytes words.now) ≡ Some Command.Check →
+        IsChecked (S.left src.old) (S.left src.new) (K.taken out.old) (K.taken out.new)
         (S.faults src.old) (S.faults src.new) (K.faults out.old) (K.faults out.new) result }
 
     // What holds in every record that the events of an input reach, and at each event there.
@@ -78,6 +102,7 @@ pub fn run<S: Source, K: Sink, E: Sink>(
 {
     laws_of_records();
     laws_of_events();
+    outputs_agree();
     let status = answer(alloc, words, src, out);
     // A text that is not taken changes no status.
     let _ = tell(&status, err);
@@ -86,27 +111,20 @@ pub fn run<S: Source, K: Sink, E: Sink>(
 
 // The status of a command.
 fn answer<S: Source, K: Sink>(alloc: Global, words: &[String], src: &mut S, out: &mut K) -> Status
-    ensures usage { is_replay (map string_bytes words.now) ≡ false → result ≡ Status.Usage }
-    ensures source { is_replay (map string_bytes words.now) ≡ false → src.new ≡ src.old }
-    ensures out { is_replay (map string_bytes words.now) ≡ false → out.new ≡ out.old }
-    ensures replayed { is_replay (map string_bytes words.now) ≡ true →
+    ensures usage { command_of (map string_bytes words.now) ≡ None → result ≡ Status.Usage }
+    ensures source { command_of (map string_bytes words.now) ≡ None → src.new ≡ src.old }
+    ensures out { command_of (map string_bytes words.now) ≡ None → out.new ≡ out.old }
+    ensures replayed { command_of (map string_bytes words.now) ≡ Some Command.Replay →
         IsReplayed (S.left src.old) (S.left src.new) (K.taken out.old) (K.taken out.new)
         (S.faults src.old) (S.faults src.new) (K.faults out.old) (K.faults out.new) result }
+    ensures checked { command_of (map string_bytes words.now) ≡ Some Command.Check →
+        IsChecked (S.left src.old) (S.left src.new) (K.taken out.old) (K.taken out.new)
+        (S.faults src.old) (S.faults src.new) (K.faults out.old) (K.faults out.new) result }
 {
-    if is_replay(words) {
-        told(replay(alloc, src, out))
-    } else {
-        Status::Usage
-    }
-}
-
-// The words are the one word of the command.
-fn is_replay(words: &[String]) -> bool
-    ensures { result ≡ is_replay (map string_bytes words.now) }
-{
-    match words {
-        [word] => word.as_str() == "replay",
-        _ => false,
+    match Command::of_words(words) {
+        Some(Command::Replay) => told(replay(alloc, src, out)),
+        Some(Command::Check) => told(check(alloc, src, out)),
+        None => Status::Usage,
     }
 }
 

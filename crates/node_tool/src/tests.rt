@@ -1,5 +1,6 @@
 ghost use Rattle.std.specs.Prelude.{◌≤◌};
 
+mod checking;
 mod rows;
 
 use self::rows::ROWS;
@@ -204,7 +205,7 @@ fn lines_are_refused(rt: HostRuntime) -> Result<(), Fail> {
 fn other_words_are_no_command(rt: HostRuntime) -> Result<(), Fail> {
     for words in [
         [].as_slice(),
-        &["check"],
+        &["check", "x"],
         &["replay", "x"],
         &["drill", "7", "100"],
         &["--help"],
@@ -218,14 +219,15 @@ fn other_words_are_no_command(rt: HostRuntime) -> Result<(), Fail> {
     Ok(())
 }
 
-// A run of `replay` on an input, of which each reading gives at most 64 bytes, with the calls that fail.
+// A run on an input, of which each reading gives at most 64 bytes, with the calls that fail.
 fn failing_run(
     alloc: Global,
+    word: &str,
     input: &str,
     readings: &[u64],
     writings: &[u64],
 ) -> Result<(Left, u64), Fail> {
-    let words = [String::from_str(alloc, "replay")?];
+    let words = [String::from_str(alloc, word)?];
     let readings = NumberList::from_vec(readings.to_vec(alloc)?);
     let writings = NumberList::from_vec(writings.to_vec(alloc)?);
     let mut src = MemSource::new(octets(alloc, input)?, 64, readings);
@@ -239,7 +241,7 @@ fn failing_run(
 fn each_reading_fails_in_turn(rt: HostRuntime) -> Result<(), Fail> {
     // how many lines stand whole in the bytes before each reading
     for (call, lines) in [(1, 0), (2, 4), (3, 7)] {
-        let (left, _) = failing_run(rt.alloc(), LIMITS, &[call], &[])?;
+        let (left, _) = failing_run(rt.alloc(), "replay", LIMITS, &[call], &[])?;
         assert_eq!(rt; left.status, Status::ReadFault);
         assert_eq!(rt; left.err.bytes(), b"read fault\n".as_slice());
         let output = LIMITS_REPLAYED.as_bytes();
@@ -265,7 +267,7 @@ fn each_reading_fails_in_turn(rt: HostRuntime) -> Result<(), Fail> {
 fn each_writing_fails_in_turn(rt: HostRuntime) -> Result<(), Fail> {
     // Lines are put before the second and the third reading, and at the end: how many bytes stand before each time.
     for (call, before) in [(1u64, 0usize), (2, 49), (3, 260)] {
-        let (left, _) = failing_run(rt.alloc(), LIMITS, &[], &[call])?;
+        let (left, _) = failing_run(rt.alloc(), "replay", LIMITS, &[], &[call])?;
         assert_eq!(rt; left.status, Status::WriteFault);
         assert_eq!(rt; left.err.bytes(), b"write fault\n".as_slice());
         assert_eq!(rt; left.out.bytes().len(), before);
@@ -277,12 +279,13 @@ fn each_writing_fails_in_turn(rt: HostRuntime) -> Result<(), Fail> {
 #[test]
 fn nothing_is_read_behind_the_line_that_decides(rt: HostRuntime) -> Result<(), Fail> {
     // the second reading would fail
-    let (left, calls) = failing_run(rt.alloc(), "trace 1\nown x\n", &[2], &[])?;
+    let (left, calls) = failing_run(rt.alloc(), "replay", "trace 1\nown x\n", &[2], &[])?;
     let kind = RefusalKind::Word(2);
     assert_eq!(rt; left.status, Status::Refused { line: 2, kind });
     assert_eq!(rt; calls, 1);
     let (left, calls) = failing_run(
         rt.alloc(),
+        "replay",
         "trace 1\nown 127.0.0.1:3001\nend\nnow 5\n",
         &[2],
         &[],

@@ -193,7 +193,7 @@ AreReadAs-skip readings lines text read = record {
   pass = read.pass;
 }
 
-clean_action : (action : Action) → HasNoLineFeed (printed_action action)
+pub clean_action : (action : Action) → HasNoLineFeed (printed_action action)
 clean_action action k d within = by_byte (is_line_feed (get_or (printed_action action) k d)) refl
   where
     by_byte : (b : Bool) → is_line_feed (get_or (printed_action action) k d) ≡ b → b ≡ false
@@ -379,18 +379,45 @@ judged_again passed again clean behind fits =
     ap judged (ended_lines_push lines (codes "end") ∙ ap (λ (xs : List (List ℕ)). ended_lines xs ++ (codes "end" ++ 10 ∷ [])) (sym texts))
     ∙ judged_line readings (codes "end") [] ended passes (subst (All HasNoLineFeed) (sym texts) (again.read.clean clean)) clean_end decides
 
-own_ended : (passed : List Reading) → AreReadAgain passed → All HasNoLineFeed (texts_of passed) → IsBehindHead (stage_behind passed first_stage) →
-    FitsTrace (ended_output passed) → IsItsOwnOutput (ended_output passed)
-own_ended passed again clean behind fits =
+-- the limits hold of its lines
+fits_ended : (passed : List Reading) → AreReadAgain passed → All HasNoLineFeed (texts_of passed) → FitsTrace (ended_output passed) →
+    AreFewShortLines (lines_for passed ++ codes "end" ∷ [])
+fits_ended passed again clean fits =
     let lines = lines_for passed ++ codes "end" ∷ [] in
     let one_line = All-push HasNoLineFeed (lines_for passed) (codes "end") (again.read.clean clean) clean_end in
     let cut : whole_lines (ended_lines lines) ≡ lines =
     whole_lines_are (ended_lines lines) lines [] (record { joined = sym (append-nil (ended_lines lines)); each_one_line = one_line; rest_unfinished = All-nil _ }) in
-    let same = judged_again passed again clean behind (subst AreFewShortLines cut fits) in
+    subst AreFewShortLines cut fits
+
+own_ended : (passed : List Reading) → AreReadAgain passed → All HasNoLineFeed (texts_of passed) → IsBehindHead (stage_behind passed first_stage) →
+    FitsTrace (ended_output passed) → IsItsOwnOutput (ended_output passed)
+own_ended passed again clean behind fits =
+    let same = judged_again passed again clean behind (fits_ended passed again clean fits) in
     record {
       ends = ap (λ (j : Judgement). j.verdict) same;
       same = ap output_for same ∙ ap (λ (xs : List (List ℕ)). ended_lines (xs ++ codes "end" ∷ [])) (lines_for-same (readings_of (lines_for passed)) passed again.read.same);
     }
+
+-- Lines that are read to their `end`, and each is the line of the output at its place.
+pub record AreTheirOutput (bytes : List ℕ) : Type 0 where
+  pub readings : List Reading
+  pub ends : judged bytes ≡ judgement_of readings ended
+  pub same : lines_for readings ≡ texts_of readings
+
+their_output : (passed : List Reading) → AreReadAgain passed → All HasNoLineFeed (texts_of passed) → IsBehindHead (stage_behind passed first_stage) →
+    FitsTrace (ended_output passed) → AreTheirOutput (ended_output passed)
+their_output passed again clean behind fits = record {
+  readings = readings_of (lines_for passed);
+  ends = judged_again passed again clean behind (fits_ended passed again clean fits);
+  same = lines_for-same (readings_of (lines_for passed)) passed again.read.same ∙ sym (texts-readings_from first_stage (lines_for passed));
+}
+
+pub output_lines : (input : List ℕ) → verdict_of input ≡ ended → FitsTrace (output_of input) → AreTheirOutput (output_of input)
+output_lines input e fits =
+    let passed = (judged input).passed in
+    let output : output_of input ≡ ended_output passed = ap (λ (verdict : Verdict). ended_lines (lines_for passed ++ last_lines verdict)) e in
+    let is_ended = ended_of input e in
+    subst AreTheirOutput (sym output) (their_output passed (again_of input) is_ended.clean is_ended.behind (subst FitsTrace output fits))
 
 pub own_output : (input : List ℕ) → verdict_of input ≡ ended → FitsTrace (output_of input) → IsItsOwnOutput (output_of input)
 own_output input e fits =

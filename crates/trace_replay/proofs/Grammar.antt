@@ -20,7 +20,7 @@ use Rattle.trace_replay.specs.Reading.{said_at}
 
 -- ---- a chain of readings
 
-IfOk-chain : {A B : Type 0} (P : B → Type 0) (r : Result A LineRefusal) (f : A → Result B LineRefusal) →
+pub IfOk-chain : {A B : Type 0} (P : B → Type 0) (r : Result A LineRefusal) (f : A → Result B LineRefusal) →
     ((x : A) → r ≡ Ok x → IfOk (f x) P) → IfOk (r >>= f) P
 IfOk-chain P (Ok x) f h = h x refl
 IfOk-chain P (Err refusal) f h = tt
@@ -188,7 +188,7 @@ end_line-is stage unread behind = IfOk-chain (IsLineAt stage) (no_more unread) _
 
 -- ---- a line by its stage
 
-IfOk-cond : (P : Line → Type 0) (b : Bool) (r s : Result Line LineRefusal) → IfOk r P → IfOk s P → IfOk (cond b r s) P
+pub IfOk-cond : (P : Line → Type 0) (b : Bool) (r s : Result Line LineRefusal) → IfOk r P → IfOk s P → IfOk (cond b r s) P
 IfOk-cond P true r s h k = h
 IfOk-cond P false r s h k = k
 

@@ -38,7 +38,7 @@ verdict_too_long (too_long n) line e = cc
 
 -- ---- the whole input
 
-read_up_to : (before after : Option (List ℕ)) (input seen : List ℕ) → Gives before after seen → before ≡ Some input → IsReadUpTo input seen after
+pub read_up_to : (before after : Option (List ℕ)) (input seen : List ℕ) → Gives before after seen → before ≡ Some input → IsReadUpTo input seen after
 read_up_to before after input seen gives told =
     let left = Gives-told before after input seen gives told in
     record { rest = left.0; split = left.2; left = left.1 }

@@ -1,4 +1,10 @@
+pub mod ActionLines
+pub mod Added
 pub mod Again
+pub mod Agreeing
+pub mod CheckInputs
+pub mod CheckWays
+pub mod Comparing
 pub mod Drills
 pub mod Grammar
 pub mod Heads

@@ -7,7 +7,9 @@ use Rattle.std.proofs.lemmas.List.Elements.{All-push, All-nil}
 use Rattle.io_edge.specs.Lines.{HasNoLineFeed, whole_lines, ended_lines, FitsLine, IsPastLimit}
 use Rattle.io_edge.specs.Reading.{ReadsLine}
 use Rattle.io_edge.specs.Told.{Gives, Takes, TakesProperPrefix, TakesFront}
+use Rattle.io_edge.specs.declared.got.Got.{Got}
 use Rattle.io_edge.specs.declared.got.Got.TheVariants.{Line, Over}
+use Rattle.io_edge.specs.declared.line_fault.LineFault.{LineFault}
 use Rattle.io_edge.specs.declared.line_fault.LineFault.TheVariants.{Failed, TooLong as LineTooLong, OutOfMemory as NoMemory}
 use Rattle.io_edge.proofs.LineLemmas.{whole_lines-ended, whole_lines-none, IsPastLimit-append}
 use Rattle.io_edge.proofs.ToldLemmas.{Gives-nothing, Gives-append, Takes-nothing, Takes-append, TakesProperPrefix-after, TakesProperPrefix-more}
@@ -19,6 +21,7 @@ use Rattle.trace_replay.specs.Judgement.{Verdict, ended, refused, too_long, most
 use Rattle.trace_replay.specs.Output.{lines_for, last_lines, output_for, output_of}
 use Rattle.trace_replay.specs.Passing.{texts_of, ArePassed}
 use Rattle.trace_replay.specs.Playback.{Kept, StandsBehind, GoesOn}
+use Rattle.trace_replay.specs.LineRead.{line_told, IsLineRead}
 use Rattle.trace_replay.specs.Replays.{verdict_of, outcome_of, AreDecisive, Replays}
 use Rattle.trace_replay.specs.UnderWay.{HasSaid, IsUnderWay, IsEnding, IsLineNext, IsTurn, IsSaidFor, HasReadCount, HasWriteCount}
 use Rattle.trace_replay.specs.declared.outcome.Outcome.{Outcome}
@@ -27,7 +30,7 @@ use Rattle.trace_replay.proofs.Judging.{judgement_of, judged_line, judged_rest, 
 use Rattle.trace_replay.proofs.Prefixes.{Begins, Begins-from, output_behind}
 
 -- the bytes of lines that were read, and those behind them
-abbrev seen_of : List Reading → List ℕ → List ℕ
+abbrev pub seen_of : List Reading → List ℕ → List ℕ
 seen_of readings tail = ended_lines (texts_of readings) ++ tail
 
 -- Lines that pass were read, with some bytes behind them, and what those lines give was written.
@@ -40,7 +43,7 @@ pub record HasRead (readings : List Reading) (tail : List ℕ) (left_before left
 -- ---- bytes that decide
 
 -- what stands behind the lines decides, whatever follows it
-abbrev Decides : List Reading → List ℕ → Verdict → Type 0
+abbrev pub Decides : List Reading → List ℕ → Verdict → Type 0
 Decides readings tail verdict = (more : List ℕ) → judged (seen_of readings (tail ++ more)) ≡ judgement_of readings verdict
 
 judged_now : (readings : List Reading) (tail : List ℕ) (verdict : Verdict) → Decides readings tail verdict → judged (seen_of readings tail) ≡ judgement_of readings verdict
@@ -163,7 +166,7 @@ memory_at readings tail l0 l1 t0 t1 read =
 -- ---- a line with its line feed
 
 -- a whole line decides
-line_decides : (readings : List Reading) (line kept : List ℕ) (verdict : Verdict) → ArePassed readings → All HasNoLineFeed (texts_of readings) →
+pub line_decides : (readings : List Reading) (line kept : List ℕ) (verdict : Verdict) → ArePassed readings → All HasNoLineFeed (texts_of readings) →
     HasNoLineFeed line → verdict_at readings (reading_at (stage_behind readings first_stage) line) ≡ Some verdict → Decides readings (line ++ 10 ∷ kept) verdict
 line_decides readings line kept verdict passed whole one at more =
     ap (λ (bytes : List ℕ). judged (seen_of readings bytes)) (append_assoc line (10 ∷ kept) more)
@@ -182,7 +185,7 @@ most_decides readings tail passed whole most more =
 -- ---- a line that was read whole
 
 -- the line joins those before it
-seen_further : (readings : List Reading) (reading : Reading) (kept : List ℕ) → seen_of readings (reading.text ++ 10 ∷ kept) ≡ seen_of (readings ++ reading ∷ []) kept
+pub seen_further : (readings : List Reading) (reading : Reading) (kept : List ℕ) → seen_of readings (reading.text ++ 10 ∷ kept) ≡ seen_of (readings ++ reading ∷ []) kept
 seen_further readings reading kept =
     let texts : texts_of (readings ++ reading ∷ []) ≡ texts_of readings ++ reading.text ∷ [] = map-append (λ (r : Reading). r.text) readings (reading ∷ []) in
     let ended : ended_lines (texts_of (readings ++ reading ∷ [])) ≡ ended_lines (texts_of readings) ++ (reading.text ++ 10 ∷ []) =
@@ -192,7 +195,7 @@ seen_further readings reading kept =
     ∙ append_assoc (ended_lines (texts_of readings)) (reading.text ++ 10 ∷ []) kept
     ∙ ap (λ (bytes : List ℕ). ended_lines (texts_of readings) ++ bytes) (append_assoc reading.text (10 ∷ []) kept))
 
-whole_further : (readings : List Reading) (reading : Reading) → All HasNoLineFeed (texts_of readings) → HasNoLineFeed reading.text → All HasNoLineFeed (texts_of (readings ++ reading ∷ []))
+pub whole_further : (readings : List Reading) (reading : Reading) → All HasNoLineFeed (texts_of readings) → HasNoLineFeed reading.text → All HasNoLineFeed (texts_of (readings ++ reading ∷ []))
 whole_further readings reading whole one =
     let texts : texts_of (readings ++ reading ∷ []) ≡ texts_of readings ++ reading.text ∷ [] = map-append (λ (r : Reading). r.text) readings (reading ∷ []) in
     subst (λ (ls : List (List ℕ)). All HasNoLineFeed ls) (sym texts) (All-push HasNoLineFeed (texts_of readings) reading.text whole one)
@@ -406,12 +409,12 @@ all_further number playback kept bytes l0 l1 l2 t0 t1 way gives = record {
   said = way.said;
 }
 
-pub line_next : (number : ℕ) (playback : Kept) (kept next line : List ℕ) (l0 l1 l2 t0 t1 : Option (List ℕ)) → IsUnderWay number playback kept [] l0 l1 t0 t1 →
+line_next : (number : ℕ) (playback : Kept) (kept next line : List ℕ) (l0 l1 l2 t0 t1 : Option (List ℕ)) → IsUnderWay number playback kept [] l0 l1 t0 t1 →
     ReadsLine l1 l2 kept next (Ok (Line line)) → IsLineNext number playback next [] l0 l2 t0 t1 (Ok line)
 line_next number playback kept next line l0 l1 l2 t0 t1 way read =
     kept_next number playback (kept ++ read.taken) next line [] l0 l2 t0 t1 (way_further number playback kept read.taken l0 l1 l2 t0 t1 way read.gives) read.answer
 
-pub over_next : (number : ℕ) (playback : Kept) (kept next : List ℕ) (l0 l1 l2 t0 t1 : Option (List ℕ)) → number ≤ most_lines → IsUnderWay number playback kept [] l0 l1 t0 t1 →
+over_next : (number : ℕ) (playback : Kept) (kept next : List ℕ) (l0 l1 l2 t0 t1 : Option (List ℕ)) → number ≤ most_lines → IsUnderWay number playback kept [] l0 l1 t0 t1 →
     ReadsLine l1 l2 kept next (Ok Over) → IsEnding l0 l2 t0 t1 [] (Refused number NoEnd)
 over_next number playback kept next l0 l1 l2 t0 t1 few way read =
     let on = all_further number playback kept read.taken l0 l1 l2 t0 t1 way read.gives in
@@ -419,14 +422,14 @@ over_next number playback kept next l0 l1 l2 t0 t1 few way read =
     (λ t2 all. subst (λ n. Replays l0 l2 t0 t2 (Refused n NoEnd)) (sym way.number_is)
     (over_at way.readings (kept ++ read.taken) l0 l2 t0 t2 all read.answer.0 read.answer.2 (omega (arith, way.number_is))))
 
-pub failed_next : (number : ℕ) (playback : Kept) (kept next : List ℕ) (l0 l1 l2 t0 t1 : Option (List ℕ)) → number ≤ most_lines → IsUnderWay number playback kept [] l0 l1 t0 t1 →
+failed_next : (number : ℕ) (playback : Kept) (kept next : List ℕ) (l0 l1 l2 t0 t1 : Option (List ℕ)) → number ≤ most_lines → IsUnderWay number playback kept [] l0 l1 t0 t1 →
     ReadsLine l1 l2 kept next (Err Failed) → Replays l0 l2 t0 t1 ReadFault
 failed_next number playback kept next l0 l1 l2 t0 t1 few way read =
     let on = all_further number playback kept read.taken l0 l1 l2 t0 t1 way read.gives in
     failed_at way.readings (kept ++ read.taken) l0 l2 t0 t1
     (all_taken way.readings _ [] l0 l2 t0 t1 t1 on (Takes-nothing t1)) read.answer.0 (omega (arith, way.number_is))
 
-pub too_long_next : (number : ℕ) (playback : Kept) (kept next : List ℕ) (l0 l1 l2 t0 t1 : Option (List ℕ)) → IsUnderWay number playback kept [] l0 l1 t0 t1 →
+too_long_next : (number : ℕ) (playback : Kept) (kept next : List ℕ) (l0 l1 l2 t0 t1 : Option (List ℕ)) → IsUnderWay number playback kept [] l0 l1 t0 t1 →
     ReadsLine l1 l2 kept next (Err LineTooLong) → IsEnding l0 l2 t0 t1 [] (TooLong number)
 too_long_next number playback kept next l0 l1 l2 t0 t1 way read =
     let on = all_further number playback kept read.taken l0 l1 l2 t0 t1 way read.gives in
@@ -435,10 +438,23 @@ too_long_next number playback kept next l0 l1 l2 t0 t1 way read =
     (too_long_at way.readings (kept ++ read.taken) (number_behind way.readings) l0 l2 t0 t2 all
     (past_decides way.readings (kept ++ read.taken) all.passed all.whole read.answer.0)))
 
-pub no_memory_next : (number : ℕ) (playback : Kept) (kept next : List ℕ) (l0 l1 l2 t0 t1 : Option (List ℕ)) → IsUnderWay number playback kept [] l0 l1 t0 t1 →
+no_memory_next : (number : ℕ) (playback : Kept) (kept next : List ℕ) (l0 l1 l2 t0 t1 : Option (List ℕ)) → IsUnderWay number playback kept [] l0 l1 t0 t1 →
     ReadsLine l1 l2 kept next (Err NoMemory) → IsEnding l0 l2 t0 t1 [] OutOfMemory
 no_memory_next number playback kept next l0 l1 l2 t0 t1 way read =
     memory_next number playback _ [] l0 l2 t0 t1 (way_further number playback kept read.taken l0 l1 l2 t0 t1 way read.gives)
+
+-- the line with a number was read, or it is told why not
+pub read_next : (number : ℕ) (playback : Kept) (kept next : List ℕ) (l0 l1 l2 t0 t1 : Option (List ℕ)) (result : Result (List ℕ) Outcome) → number ≤ most_lines →
+    IsUnderWay number playback kept [] l0 l1 t0 t1 → IsLineRead number kept next l1 l2 result → IsLineNext number playback next [] l0 l2 t0 t1 result
+read_next number playback kept next l0 l1 l2 t0 t1 result few way read =
+    subst (λ (r : Result (List ℕ) Outcome). IsLineNext number playback next [] l0 l2 t0 t1 r) (sym read.told) (by_got read.got read.reads)
+  where
+    by_got : (got : Result Got LineFault) → ReadsLine l1 l2 kept next got → IsLineNext number playback next [] l0 l2 t0 t1 (line_told number got)
+    by_got (Ok (Line line)) reads = line_next number playback kept next line l0 l1 l2 t0 t1 way reads
+    by_got (Ok Over) reads = over_next number playback kept next l0 l1 l2 t0 t1 few way reads
+    by_got (Err Failed) reads = failed_next number playback kept next l0 l1 l2 t0 t1 few way reads
+    by_got (Err LineTooLong) reads = too_long_next number playback kept next l0 l1 l2 t0 t1 way reads
+    by_got (Err NoMemory) reads = no_memory_next number playback kept next l0 l1 l2 t0 t1 way reads
 
 -- as many lines as a trace may have were read, and none of them was the last
 pub most_read : (number : ℕ) (playback : Kept) (kept pending : List ℕ) (l0 l1 t0 t1 : Option (List ℕ)) → most_lines < number →

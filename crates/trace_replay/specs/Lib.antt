@@ -1,8 +1,13 @@
 pub mod Again
+pub mod CheckedInputs
+pub mod Checking
+pub mod Checks
+pub mod Compare
 pub mod Drill
 pub mod DrillCourse
 pub mod Inputs
 pub mod Judgement
+pub mod LineRead
 pub mod Output
 pub mod Passing
 pub mod Playback

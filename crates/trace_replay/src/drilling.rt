@@ -5,7 +5,7 @@ ghost use Rattle.trace_replay.specs.UnderWay.{HasWriteCount};
 
 use crate::Outcome;
 use crate::course::Course;
-use crate::pickers::Pickers;
+use crate::pickers::{Pickers, ranked_score, score};
 use crate::replaying::put;
 use crate::tallies::Tallies;
 use io_edge::{PieceWriter, Sink};
@@ -42,12 +42,9 @@ fn tallies(alloc: Global, seed: u64, count: u64) -> Result<Tallies, OutOfMemory>
     requires few { count ≤ 1_000_000 }
     ensures { IfOk result (λ t. t ≡ tallies seed count) }
 {
-    let picker = Picker::new(Box::new(alloc, |addr: Addr, word: u64| {
-        addr.key().wrapping_add(word)
-    })?);
+    let picker = Picker::new(Box::new(alloc, |addr: Addr, word: u64| score(addr, word))?);
     let ranked = RankedPicker::new(Box::new(alloc, |addr: Addr, failures: u64, word: u64| {
-        failures.min(65_535) * 281_474_976_710_656
-            + addr.key().wrapping_add(word) % 281_474_976_710_656
+        ranked_score(addr, failures, word)
     })?);
     let course = Course::new(alloc, seed, Pickers { picker, ranked })?;
     Ok(run(seed, count, course)?.tallies())

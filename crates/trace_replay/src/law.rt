@@ -1,8 +1,11 @@
 ghost use Rattle.std.specs.Prelude.{◌≡◌, ℕ, List};
 ghost use Rattle.trace_replay.specs.Again.{FitsTrace};
-ghost use Rattle.trace_replay.specs.Judgement.{ended};
+ghost use Rattle.trace_replay.specs.Checks.{outcome_told};
+ghost use Rattle.trace_replay.specs.Compare.{lines_found, lines_written, comparison_of};
+ghost use Rattle.trace_replay.specs.Judgement.{ended, judged};
 ghost use Rattle.trace_replay.specs.Output.{output_of};
 ghost use Rattle.trace_replay.specs.Replays.{verdict_of};
+ghost use Rattle.trace_replay.specs.declared.outcome.Outcome.TheVariants.{Done};
 
 /// A law: the output of a trace that is read to its `end` is such a trace too, where it keeps the limits of one, and its
 /// output is itself.
@@ -11,4 +14,16 @@ pub fn outputs_are_their_own()
         → verdict_of (output_of input) ≡ ended }
     ensures same { (input : List ℕ) → verdict_of input ≡ ended → FitsTrace (output_of input)
         → output_of (output_of input) ≡ output_of input }
+{}
+
+/// A law: the output of a trace that is read to its `end` agrees, where it keeps the limits of one.
+pub fn outputs_agree()
+    ensures { (input : List ℕ) → verdict_of input ≡ ended → FitsTrace (output_of input)
+        → outcome_told (comparison_of (output_of input)) ≡ Done }
+{}
+
+/// A law: a trace that agrees has exactly the lines of its output, up to `end`.
+pub fn agreeing_traces_are_their_output()
+    ensures { (input : List ℕ) → outcome_told (comparison_of input) ≡ Done
+        → lines_found (judged input) ≡ lines_written (judged input) }
 {}

@@ -1,4 +1,4 @@
-use net_base::RefusalKind;
+use net_base::{OutOfMemory, RefusalKind};
 
 /// How a command over a trace ended. Lines are numbered from 1.
 #[derive(Clone, Copy, Debug, PartialEq, Eq)]
@@ -15,4 +15,15 @@ pub enum Outcome {
     WorldFault,
     /// The first line past a limit on bytes, lines or events.
     TooLong { line: u64 },
+}
+
+impl From<OutOfMemory> for Outcome {
+    ghost use Rattle.std.specs.Prelude.{◌≡◌};
+    ghost use Rattle.trace_replay.specs.declared.outcome.Outcome.TheVariants.{OutOfMemory as NoMemory};
+
+    ghost from_gives = { λ _ outcome. outcome ≡ NoMemory };
+
+    fn from(_: OutOfMemory) -> Self {
+        Outcome::OutOfMemory
+    }
 }

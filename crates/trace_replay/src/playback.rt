@@ -48,8 +48,8 @@ impl Playback {
         }
     }
 
-    // How many events were taken.
-    fn events(&self) -> u64
+    /// How many events were taken.
+    pub(crate) fn events(&self) -> u64
         ensures { result ≡ events_taken (begun self.now.engine (λ e. e.machine) (λ e. e.events)) }
     {
         match &self.engine {

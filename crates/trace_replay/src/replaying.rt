@@ -11,16 +11,14 @@ ghost use Rattle.trace_replay.specs.Settings.{settings_in};
 ghost use Rattle.trace_replay.specs.UnderWay.{IsUnderWay, IsTurn, IsLineNext, IsSaidFor, Ends, HasReadCount, HasWriteCount};
 
 use crate::Outcome;
-use crate::pickers::Pickers;
+use crate::pickers::{Pickers, ranked_score, score};
 use crate::playback::Playback;
+use crate::reading::{LINES_MOST, read_line};
 use crate::stop::Stop;
-use io_edge::{Got, LineFault, LineReader, PieceWriter, Sink, Source};
-use net_base::{Addr, Octets, OutOfMemory, RefusalKind};
+use io_edge::{LineReader, PieceWriter, Sink, Source};
+use net_base::{Addr, Octets, OutOfMemory};
 use pick_policy::{Picker, RankedPicker};
 use std::alloc::Global;
-
-// How many lines a trace may have.
-const LINES_MOST: u64 = 4_000_000;
 
 /// Reads a trace from a source and writes it again with the machine's actions. Reading stops at the line that decides,
 /// and nothing is read behind it but what came with it. What is written is put in pieces: before each reading, and
@@ -46,12 +44,9 @@ fn replay_anew<S: Source, K: Sink>(
     ensures reads { HasReadCount (S.faults src.old) (S.faults src.new) (outcome_or result) }
     ensures writes { HasWriteCount (K.faults out.old) (K.faults out.new) (outcome_or result) }
 {
-    let picker = Picker::new(Box::new(alloc, |addr: Addr, word: u64| {
-        addr.key().wrapping_add(word)
-    })?);
+    let picker = Picker::new(Box::new(alloc, |addr: Addr, word: u64| score(addr, word))?);
     let ranked = RankedPicker::new(Box::new(alloc, |addr: Addr, failures: u64, word: u64| {
-        failures.min(65_535) * 281_474_976_710_656
-            + addr.key().wrapping_add(word) % 281_474_976_710_656
+        ranked_score(addr, failures, word)
     })?);
     let mut reader = LineReader::new(alloc)?;
     let mut pieces = PieceWriter::new(alloc)?;
@@ -132,32 +127,6 @@ fn next_line<S: Source, K: Sink>(
             read_line(number, reader, src)
         }
         Err(OutOfMemory) => Err(Outcome::OutOfMemory),
-    }
-}
-
-// Reads the line with a number.
-fn read_line<S: Source>(
-    number: u64,
-    reader: &mut LineReader,
-    src: &mut S,
-) -> Result<Octets, Outcome>
-    requires few { number ≤ 4_000_000 }
-    ensures read { (playback : Kept) (left taken_before taken : Option (List ℕ)) →
-        IsUnderWay number playback reader.old [] left (S.left src.old) taken_before taken →
-        IsLineNext number playback reader.new [] left (S.left src.new) taken_before taken result }
-    ensures short { IfOk result (λ line. length line ≤ 140_000) }
-    ensures reads { MatchResult result (λ _. S.faults src.new ≡ S.faults src.old) (HasReadCount (S.faults src.old) (S.faults src.new)) }
-    ensures writes { (count : ℕ) → IfErr result (HasWriteCount count count) }
-{
-    match reader.next_line(src) {
-        Ok(Got::Line(line)) => Ok(line),
-        Ok(Got::Over) => Err(Outcome::Refused {
-            line: number,
-            kind: RefusalKind::NoEnd,
-        }),
-        Err(LineFault::Failed) => Err(Outcome::ReadFault),
-        Err(LineFault::TooLong) => Err(Outcome::TooLong { line: number }),
-        Err(LineFault::OutOfMemory) => Err(Outcome::OutOfMemory),
     }
 }
 

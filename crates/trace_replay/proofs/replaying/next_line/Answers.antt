@@ -1,7 +1,7 @@
 use Rattle.std.proofs.Common.{◌≡◌, ℕ, List, [], sym, subst}
 use Rattle.std.proofs.lemmas.Result.{err_from_is_err_and}
 use Rattle.trace_replay.specs.UnderWay.{IsUnderWay}
-use Rattle.trace_replay.proofs.Ways.{way_front, way_cut, memory_next, writes_calm}
+use Rattle.trace_replay.proofs.Ways.{way_front, way_cut, memory_next, read_next, writes_calm}
 use Rattle.trace_replay.proofs.replaying.next_line.Goals as goal
 
 pub returns-in_err-put-in-Ok-None-clause-next : goal.returns-in_err-put-in-Ok-None-clause-next
@@ -21,7 +21,8 @@ returns-in_ok-put-in-Ok-None-clause-next g c = λ playback left taken way.
     (g.K.Sink.taken c.put.new.out) kept c.put.ensures.front in
     let none : IsUnderWay c.args.number playback c.kept_line.new.self [] left (g.S.Source.left c.args.src.now) taken (g.K.Sink.taken c.put.new.out) =
     subst (λ (bytes : List ℕ). IsUnderWay c.args.number playback c.kept_line.new.self bytes left (g.S.Source.left c.args.src.now) taken (g.K.Sink.taken c.put.new.out)) silent put in
-    rw silent (c.read_line.ensures.read playback left taken (g.K.Sink.taken c.put.new.out) none)
+    rw silent (read_next c.args.number playback c.kept_line.new.self c.read_line.new.reader left (g.S.Source.left c.args.src.now) (g.S.Source.left c.read_line.new.src) taken
+    (g.K.Sink.taken c.put.new.out) c.read_line.result c.requires.few none c.read_line.ensures.read)
 
 pub returns-in_ok-put-in-Ok-None-clause-writes : goal.returns-in_ok-put-in-Ok-None-clause-writes
 returns-in_ok-put-in-Ok-None-clause-writes g c =
