@@ -37,14 +37,16 @@ returns-clause-events g c = λ input count event.
     c.laws_of_events.ensures.runs (settings_in (heads_in (judged input).passed)) (take count (events_in (judged input).passed)) event (settings_sound input)
 
 pub returns-clause-usage : goal.returns-clause-usage
-returns-clause-usage g c =
-    (usage-none (command_of (map string_bytes c.args.words.now)) c.answer-status.result
-    (HasAnswered-status _ _ _ _ _ _ _ _ drill_text c.answer-status.result (command_of (map string_bytes c.args.words.now)) (record {
-      usage = c.answer-status.ensures.usage;
-      replayed = c.answer-status.ensures.replayed;
-      checked = c.answer-status.ensures.checked;
-      drilled = c.answer-status.ensures.drilled;
-    })), c.answer-status.ensures.usage)
+returns-clause-usage g c = (
+  usage-none (command_of (map string_bytes c.args.words.now)) c.answer-status.result
+      (HasAnswered-status _ _ _ _ _ _ _ _ drill_text c.answer-status.result (command_of (map string_bytes c.args.words.now)) (record {
+        usage = c.answer-status.ensures.usage;
+        replayed = c.answer-status.ensures.replayed;
+        checked = c.answer-status.ensures.checked;
+        drilled = c.answer-status.ensures.drilled;
+      })),
+  c.answer-status.ensures.usage,
+)
 
 pub returns-clause-usage_out : goal.returns-clause-usage_out
 returns-clause-usage_out g c = λ is.
