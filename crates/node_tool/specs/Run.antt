@@ -1,16 +1,19 @@
 -- What a run of the program comes to.
-use Rattle.std.specs.Prelude.{◌≡◌, ℕ, ◌⊎◌, List, [], ◌∷◌, codes, bytes_eq, if◌then◌else◌, Option, Some, None}
+use Rattle.std.specs.Prelude.{◌≡◌, ℕ, ◌≤◌, nat_le, ◌&&◌, ◌⊎◌, List, [], ◌∷◌, codes, bytes_eq, if◌then◌else◌, Option, Some, None}
+use Rattle.io_edge.specs.Told.{Takes, TakesProperPrefix}
+use Rattle.net_base.specs.Number.{number_up_to}
 use Rattle.trace_replay.specs.Compare.{comparison_of}
 use Rattle.trace_replay.specs.CheckedInputs.{IsCheckOf}
 use Rattle.trace_replay.specs.Checks.{outcome_told, Checks}
+use Rattle.trace_replay.specs.Drill.{IsDrilled}
 use Rattle.trace_replay.specs.Judgement.{Verdict, ended, refused, too_long}
 use Rattle.trace_replay.specs.Inputs.{IsOutputOfSome, IsOutputSoFar, IsProperFrontOfSome, IsFrontOfSome}
-use Rattle.trace_replay.specs.Replays.{Replays}
+use Rattle.trace_replay.specs.Replays.{Replays, TakesPrefix}
 use Rattle.trace_replay.specs.UnderWay.{HasReadCount, HasWriteCount}
 use Rattle.trace_replay.specs.declared.outcome.Outcome.{Outcome}
 use Rattle.trace_replay.specs.declared.outcome.Outcome.TheVariants as outcome
 use Rattle.node_tool.specs.declared.command.Command.{Command}
-use Rattle.node_tool.specs.declared.command.Command.TheVariants.{Replay, Check}
+use Rattle.node_tool.specs.declared.command.Command.TheVariants.{Replay, Check, Drill}
 use Rattle.node_tool.specs.declared.status.Status.{Status}
 use Rattle.node_tool.specs.declared.status.Status.TheVariants.{Done, Differ, Usage, Refused, ReadFault, WriteFault, OutOfMemory, WorldFault, FileFault, TooLong, BadSettings, FileTooLarge}
 
@@ -20,11 +23,27 @@ command_named word =
     else if bytes_eq word (codes "check") then Some Check
     else None
 
--- the command that the words are: its one word
+-- a drill's seed and number of events, where they are numbers and there is an event
+abbrev pub drill_of : Option ℕ → Option ℕ → Option Command
+drill_of (Some seed) (Some count) = if nat_le 1 count && nat_le count 1000000 then Some (Drill seed count) else None
+drill_of (Some seed) None = None
+drill_of None count = None
+
+-- The command that the words are: one word, or `drill` and two numbers, each in decimal without a sign and without
+-- leading zeros. A seed has 64 bits.
 abbrev pub command_of : List (List ℕ) → Option Command
 command_of [] = None
 command_of (word ∷ []) = command_named word
-command_of (word ∷ next ∷ words) = None
+command_of (word ∷ seed ∷ []) = None
+command_of (word ∷ seed ∷ count ∷ []) =
+    if bytes_eq word (codes "drill") then drill_of (number_up_to 18446744073709551615 seed) (number_up_to 1000000 count) else None
+command_of (word ∷ seed ∷ count ∷ next ∷ words) = None
+
+-- a drill has no more events than a machine may take
+abbrev pub HasFewEvents : Command → Type 0
+HasFewEvents Replay = Unit {0}
+HasFewEvents Check = Unit {0}
+HasFewEvents (Drill seed count) = count ≤ 1000000
 
 -- how an outcome is told
 abbrev pub status_told : Outcome → Status
@@ -71,11 +90,18 @@ abbrev pub IsCheckStatus : Status → Type 0
 IsCheckStatus (Differ line) = Unit {0}
 IsCheckStatus status = IsReplayStatus status
 
+abbrev pub IsDrillStatus : Status → Type 0
+IsDrillStatus Done = Unit {0}
+IsDrillStatus WriteFault = Unit {0}
+IsDrillStatus OutOfMemory = Unit {0}
+IsDrillStatus other = ⊥
+
 -- the statuses that a command may have, and that of words which are none
 abbrev pub IsStatusOf : Option Command → Status → Type 0
 IsStatusOf None status = status ≡ Usage
 IsStatusOf (Some Replay) status = IsReplayStatus status
 IsStatusOf (Some Check) status = IsCheckStatus status
+IsStatusOf (Some (Drill seed count)) status = IsDrillStatus status
 
 -- A trace was replayed: by what the source had left and what the sink had taken, and by the counts of their faults.
 pub record IsReplayed (left_before left_after taken_before taken_after : Option (List ℕ)) (reads_before reads_after writes_before writes_after : ℕ) (status : Status) : Type 0 where
@@ -92,6 +118,20 @@ pub record IsChecked (left_before left_after taken_before taken_after : Option (
   pub checks : Checks left_before left_after taken_before taken_after outcome
   pub reads : HasReadCount reads_before reads_after outcome
   pub writes : HasWriteCount writes_before writes_after outcome
+
+-- A town was run: by what the sink had taken, and by the count of its faults.
+pub record HasDrilled (text : List ℕ) (taken_before taken_after : Option (List ℕ)) (writes_before writes_after : ℕ) (status : Status) : Type 0 where
+  pub outcome : Outcome
+  pub told : status ≡ status_told outcome
+  pub drilled : IsDrilled text taken_before taken_after outcome
+  pub writes : HasWriteCount writes_before writes_after outcome
+
+-- The sink took the whole text, a front of it and not all after a write fault, a front where memory is wanting.
+abbrev pub IsDrillText : Status → List ℕ → Option (List ℕ) → Option (List ℕ) → Type 0
+IsDrillText Done text taken_before taken_after = Takes taken_before taken_after text
+IsDrillText WriteFault text taken_before taken_after = TakesProperPrefix taken_before taken_after text
+IsDrillText OutOfMemory text taken_before taken_after = TakesPrefix taken_before taken_after text
+IsDrillText other text taken_before taken_after = ⊥
 
 -- what has come of the check of an input
 pub record HasComeOf (input : List ℕ) (left_after taken_before taken_after : Option (List ℕ)) (status : Status) : Type 0 where

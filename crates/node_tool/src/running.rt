@@ -7,10 +7,11 @@ ghost use Rattle.net_base.specs.declared.refusal.RefusalKind.{RefusalKind};
 ghost use Rattle.trace_replay.specs.Again.{FitsTrace, TakesItsOwnOutput};
 ghost use Rattle.trace_replay.specs.Inputs.{IsDecided, StopsReading, StopsWriting, machine_after};
 ghost use Rattle.trace_replay.specs.Compare.{lines_found, lines_written};
+ghost use Rattle.trace_replay.specs.Drill.{drill_text};
 ghost use Rattle.trace_replay.specs.Judgement.{ended, refused, too_long, judged};
 ghost use Rattle.trace_replay.specs.Output.{output_of};
 ghost use Rattle.trace_replay.specs.Replays.{verdict_of, TakesPrefix};
-ghost use Rattle.node_tool.specs.Run.{command_of, status_of, status_compared, status_told, IsAnswered, IsStatusOf, IsReplayed, IsChecked, HasComeOf, HasSomeOutput};
+ghost use Rattle.node_tool.specs.Run.{command_of, status_of, status_compared, status_told, IsAnswered, IsStatusOf, IsReplayed, IsChecked, HasDrilled, IsDrillText, HasComeOf, HasSomeOutput};
 ghost use Rattle.node_tool.specs.Status.{status_text};
 ghost use Rattle.node_tool.specs.Telling.{IsTold};
 
@@ -19,7 +20,7 @@ use crate::{Command, Status};
 use io_edge::{Sink, Source};
 use laws::{laws_of_events, laws_of_records};
 use std::alloc::Global;
-use trace_replay::{Outcome, check, outputs_agree, replay};
+use trace_replay::{Outcome, check, drill, outputs_agree, replay};
 
 /// Does what the words of a command line say, from a source to a sink, and tells on another sink how it ended. The
 /// words stand without the program's name.
@@ -73,6 +74,15 @@ pub fn run<S: Source, K: Sink, E: Sink>(
     ensures agreed { (input : List ℕ) → S.left src.old ≡ Some input → command_of (map string_bytes words.now) ≡ Some Command.Check → result ≡ Status.Done →
         lines_found (judged input) ≡ lines_written (judged input) }
 
+    // A town is run, and the source is left alone: what was written by each status, and that the status is Done.
+    ensures drill_source { (seed count : ℕ) → command_of (map string_bytes words.now) ≡ Some (Command.Drill seed count) → src.new ≡ src.old }
+    ensures drill_text { (seed count : ℕ) → command_of (map string_bytes words.now) ≡ Some (Command.Drill seed count) →
+        IsDrillText result (drill_text seed count) (K.taken out.old) (K.taken out.new) }
+    ensures drill_answered { (seed count : ℕ) → command_of (map string_bytes words.now) ≡ Some (Command.Drill seed count) →
+        IsAnswered Status.Done ⊥ (Rose (K.faults out.old) (K.faults out.new)) result }
+    ensures drill_complete { (seed count : ℕ) → command_of (map string_bytes words.now) ≡ Some (Command.Drill seed count) →
+        ¬ Rose (K.faults out.old) (K.faults out.new) → (result ≡ Status.Done) ⊎ (result ≡ Status.OutOfMemory) }
+
     ensures no_other { IsStatusOf (command_of (map string_bytes words.now)) result }
 
     ensures told { IsTold (E.taken err.old) (E.taken err.new) (E.faults err.old) (E.faults err.new) (status_text result) }
@@ -87,14 +97,17 @@ pub fn run<S: Source, K: Sink, E: Sink>(
         ¬ Rose (S.faults src.old) (S.faults src.new) → ¬ Rose (K.faults out.old) (K.faults out.new) →
         (result ≡ Status.Done) ⊎ (result ≡ Status.OutOfMemory) }
 
-    // Whatever the source and the sink tell: the sink took the output of what was read, or the report of it, and a count of
-    // faults rises with that fault alone.
+    // Whatever the source and the sink tell: the sink took the output of what was read, the report of it or what was
+    // counted of a town, and a count of faults rises with that fault alone.
     ensures replayed { command_of (map string_bytes words.now) ≡ Some Command.Replay →
         IsReplayed (S.left src.old) (S.left src.new) (K.taken out.old) (K.taken out.new)
         (S.faults src.old) (S.faults src.new) (K.faults out.old) (K.faults out.new) result }
     ensures checked { command_of (map string_bytes words.now) ≡ Some Command.Check →
         IsChecked (S.left src.old) (S.left src.new) (K.taken out.old) (K.taken out.new)
         (S.faults src.old) (S.faults src.new) (K.faults out.old) (K.faults out.new) result }
+
+    ensures drilled { (seed count : ℕ) → command_of (map string_bytes words.now) ≡ Some (Command.Drill seed count) →
+        HasDrilled (drill_text seed count) (K.taken out.old) (K.taken out.new) (K.faults out.old) (K.faults out.new) result }
 
     // What holds in every record that the events of an input reach, and at each event there.
     ensures records { (input : List ℕ) (count : ℕ) → IsLawfulRecord (machine_after count input) }
@@ -120,10 +133,14 @@ fn answer<S: Source, K: Sink>(alloc: Global, words: &[String], src: &mut S, out:
     ensures checked { command_of (map string_bytes words.now) ≡ Some Command.Check →
         IsChecked (S.left src.old) (S.left src.new) (K.taken out.old) (K.taken out.new)
         (S.faults src.old) (S.faults src.new) (K.faults out.old) (K.faults out.new) result }
+    ensures drill_source { (seed count : ℕ) → command_of (map string_bytes words.now) ≡ Some (Command.Drill seed count) → src.new ≡ src.old }
+    ensures drilled { (seed count : ℕ) → command_of (map string_bytes words.now) ≡ Some (Command.Drill seed count) →
+        HasDrilled (drill_text seed count) (K.taken out.old) (K.taken out.new) (K.faults out.old) (K.faults out.new) result }
 {
     match Command::of_words(words) {
         Some(Command::Replay) => told(replay(alloc, src, out)),
         Some(Command::Check) => told(check(alloc, src, out)),
+        Some(Command::Drill { seed, count }) => told(drill(alloc, seed, count, out)),
         None => Status::Usage,
     }
 }

@@ -1,6 +1,7 @@
 ghost use Rattle.std.specs.Prelude.{◌≤◌};
 
 mod checking;
+mod drilling;
 mod rows;
 
 use self::rows::ROWS;
@@ -207,7 +208,6 @@ fn other_words_are_no_command(rt: HostRuntime) -> Result<(), Fail> {
         [].as_slice(),
         &["check", "x"],
         &["replay", "x"],
-        &["drill", "7", "100"],
         &["--help"],
     ] {
         let left = run_on(rt.alloc(), words, LIMITS, 64)?;

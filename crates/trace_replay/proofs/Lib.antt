@@ -5,6 +5,7 @@ pub mod Agreeing
 pub mod CheckInputs
 pub mod CheckWays
 pub mod Comparing
+pub mod Drills
 pub mod Grammar
 pub mod Heads
 pub mod Inputs

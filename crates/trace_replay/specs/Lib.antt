@@ -3,6 +3,8 @@ pub mod CheckedInputs
 pub mod Checking
 pub mod Checks
 pub mod Compare
+pub mod Drill
+pub mod DrillCourse
 pub mod Inputs
 pub mod Judgement
 pub mod LineRead

@@ -2,6 +2,8 @@
 #![tactic(auto)]
 
 mod checking;
+mod course;
+mod drilling;
 mod finding;
 mod head;
 mod law;
@@ -12,9 +14,14 @@ mod reading;
 mod replaying;
 mod start;
 mod stop;
+mod tallies;
 mod told;
 
 pub use checking::check;
+pub use drilling::drill;
 pub use law::{agreeing_traces_are_their_output, outputs_agree, outputs_are_their_own};
 pub use outcome::Outcome;
 pub use replaying::replay;
+
+#[cfg(test)]
+mod tests;

@@ -187,7 +187,7 @@ fn put_full<K: Sink>(pieces: &mut PieceWriter, out: &mut K) -> Result<(), Outcom
 }
 
 // Puts all that is pending.
-fn put<K: Sink>(pieces: &mut PieceWriter, out: &mut K) -> Result<(), Outcome>
+pub(crate) fn put<K: Sink>(pieces: &mut PieceWriter, out: &mut K) -> Result<(), Outcome>
     ensures front { TakesFront (K.taken out.old) (K.taken out.new) pieces.old pieces.new }
     ensures whole { OnOk result (Takes (K.taken out.old) (K.taken out.new) pieces.old) }
     ensures silent { OnOk result (pieces.new ≡ []) }

@@ -30,7 +30,11 @@ pub(crate) fn engine_or_first(
     }
 }
 
-fn first_engine(alloc: Global, settings: Settings, pickers: Pickers) -> Result<Engine, OutOfMemory>
+pub(crate) fn first_engine(
+    alloc: Global,
+    settings: Settings,
+    pickers: Pickers,
+) -> Result<Engine, OutOfMemory>
     requires { AreSound settings }
     ensures machine { IfOk result (λ e. e.machine ≡ start_of settings) }
     ensures events { IfOk result (λ e. e.events ≡ 0) }
