@@ -1,4 +1,5 @@
-//! The program of a Cardano node's connection manager: it replays traces and checks them.
+//! The program of a Cardano node's connection manager: it replays traces and checks them,
+//! and runs a made town.
 #![tactic(auto)]
 
 mod command;

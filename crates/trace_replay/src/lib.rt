@@ -1,4 +1,5 @@
-//! Traces, replayed: the bytes of a trace in, the same trace with the machine's actions out; and compared with that.
+//! Traces, replayed: the bytes of a trace in, the same trace with the machine's actions out; and compared with that. A
+//! made town, run and counted.
 #![tactic(auto)]
 
 mod checking;
