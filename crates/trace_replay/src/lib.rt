@@ -5,6 +5,7 @@
 mod checking;
 mod course;
 mod drilling;
+mod driving;
 mod finding;
 mod head;
 mod law;
