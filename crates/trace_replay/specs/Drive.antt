@@ -67,7 +67,7 @@ IsDriven other settings first count ended events written acts = ⊥
 
 abbrev pub outcome_of_drive : Result (Unit {0}) Outcome → Outcome
 outcome_of_drive (Ok done) = outcome.Done
-outcome_of_drive (Err outcome) = outcome
+outcome_of_drive (Err other) = other
 
 -- What was taken, done and written in a call of `drive`, in the meanings of its world and its sink.
 pub record Drives (settings : Settings) (first : List Event) (count : ℕ) (taken_before taken_after : Option (List Event)) (done_before done_after : Option (List Action))
