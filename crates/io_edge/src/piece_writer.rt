@@ -87,8 +87,7 @@ impl PieceWriter {
     {
         self.done += count.min(self.len());
         if self.done == self.bytes.len() {
-            self.bytes.clear();
-            self.done = 0;
+            self.clear();
         }
     }
 
@@ -100,9 +99,16 @@ impl PieceWriter {
         ensures cause { HasCause (K.faults sink.old) (K.faults sink.new) result }
     {
         put_from(&mut self.done, &self.bytes, sink)?;
+        self.clear();
+        Ok(())
+    }
+
+    // Gives up all that is pending.
+    fn clear(&mut self)
+        ensures { self.new ≡ [] }
+    {
         self.bytes.clear();
         self.done = 0;
-        Ok(())
     }
 }
 

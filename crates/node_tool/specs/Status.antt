@@ -79,7 +79,7 @@ kind_text Targets = codes "targets"
 kind_text Order = codes "order"
 kind_text NoEnd = codes "no end"
 
--- the commands; only `replay` is there yet
+-- the commands; only `replay` and `check` are there yet
 abbrev pub usage_text : List ℕ
 usage_text = codes "usage: replay | check | drill SEED COUNT | node CONF TOPO COUNT"
 
