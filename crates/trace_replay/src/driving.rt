@@ -187,7 +187,7 @@ fn take_from<W: World, K: Sink>(
     ensures writes { MatchResult result (λ _. K.faults out.new ≡ K.faults out.old) (HasWriteCount (K.faults out.old) (K.faults out.new)) }
 {
     let mut engine = engine;
-    for _ in 0..count {
+    for turn in 0..count {
         match next(world)? {
             Next::Event(event) => engine = take(alloc, engine, &event, world, pieces, out)?,
             Next::End => return Ok(()),
