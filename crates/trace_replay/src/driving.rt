@@ -225,6 +225,7 @@ fn take<W: World, K: Sink>(
 }
 
 // The step of an event, and the writing. Nothing is pending then.
+#[tactic(auto, unfolding(crate::specs::DriveCourse::event_text))]
 fn say<K: Sink>(
     alloc: Global,
     engine: Engine,

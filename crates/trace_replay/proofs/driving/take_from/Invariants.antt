@@ -11,7 +11,7 @@ invariant-loop-turn g l = record {
   ran : (events : List Event) × (g.W.World.taken l.world ≡ with_more (g.W.World.taken l.initial.world) events) × (length events ≡ l.turn)
       × Ran l.fn.engine.machine events l.engine.machine (g.W.World.done l.initial.world) (g.W.World.done l.world) (g.K.Sink.taken l.initial.out) (g.K.Sink.taken l.out);
   events : l.engine.events ≡ l.fn.engine.events + l.turn;
-  open : g.W.World.is_open l.world ≡ true;
+  opened : g.W.World.is_open l.world ≡ true;
   silent : l.pieces ≡ [];
   worlds : g.W.World.faults l.world ≡ g.W.World.faults l.initial.world;
   writes : g.K.Sink.faults l.out ≡ g.K.Sink.faults l.initial.out;
