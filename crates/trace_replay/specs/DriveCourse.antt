@@ -69,6 +69,11 @@ pub record BrokeAt (m : Machine) (events : List Event) (done_before done_now : O
   pub split : events ≡ before ++ event ∷ later
   pub broke : Broke m before event done_before done_now out_before out_now result
 
+-- as many events of a world as there were turns were taken whole
+abbrev pub RanFor : Machine → ℕ → Machine → Option (List Event) → Option (List Event) → Option (List Action) → Option (List Action) → Option (List ℕ) → Option (List ℕ) → Type 0
+RanFor m turns next taken_before taken_now done_before done_now out_before out_now =
+    (events : List Event) × (taken_now ≡ with_more taken_before events) × (length events ≡ turns) × Ran m events next done_before done_now out_before out_now
+
 -- The events of a world were taken, as many as were asked for or up to its end.
 pub record Came (m : Machine) (count : ℕ) (taken_before taken_now : Option (List Event)) (ended : Bool) (done_before done_now : Option (List Action)) (out_before out_now : Option (List ℕ)) : Type 0 where
   pub events : List Event
