@@ -1,6 +1,7 @@
 -- How a drive ends, by where it broke off.
-use Rattle.std.proofs.Common.{◌≡◌, ℕ, ◌+◌, ◌<◌, ◌≤◌, ◌⊎◌, Bool, List, [], ◌∷◌, ◌++◌, length, take, codes, Option, inl, inr, refl, sym, ap, ◌∙◌, subst, arith, length-append}
+use Rattle.std.proofs.Common.{◌≡◌, ℕ, ◌+◌, ◌<◌, ◌≤◌, ◌⊎◌, Bool, List, [], ◌∷◌, ◌++◌, length, take, codes, Option, Result, Ok, Err, IfErr, OnOk, inl, inr, refl, sym, ap, ◌∙◌, subst, arith, length-append}
 use Rattle.std.proofs.lemmas.List.{append-nil, append_assoc}
+use Rattle.std.proofs.Math.Seq.{take-append_seam}
 use Rattle.io_edge.specs.Lines.{ended_lines}
 use Rattle.io_edge.specs.Told.{Takes, TakesProperPrefix}
 use Rattle.io_edge.proofs.ToldLemmas.{Takes-nothing, Takes-append}
@@ -12,7 +13,7 @@ use Rattle.net_base.specs.declared.settings.Settings.{Settings}
 use Rattle.node_world.specs.Meanings.{with_more}
 use Rattle.node_world.proofs.Told.{with_more-nil}
 use Rattle.trace_text.specs.HeadTexts.{printed_head}
-use Rattle.trace_replay.specs.Drive.{IsFrontOf, text_of, acts_of, text_up_to, whole_text, all_actions, AreAll, BreaksOff, IsDriven, Drives}
+use Rattle.trace_replay.specs.Drive.{IsFrontOf, text_of, acts_of, text_up_to, whole_text, all_actions, AreAll, BreaksOff, IsDriven, Drives, outcome_of_drive}
 use Rattle.trace_replay.specs.DriveCourse.{Ran, Broke, BrokeAt, Came, Stopped, IsBreak, IsUnsaid, IsOfWorld}
 use Rattle.trace_replay.specs.declared.outcome.Outcome.{Outcome}
 use Rattle.trace_replay.specs.declared.outcome.Outcome.TheVariants as outcome
@@ -45,7 +46,7 @@ push_apart before last e = let lengths = ap length e in grind (arith, length-app
 before_last : (xs ys : List Event) (x y : Event) → xs ++ x ∷ [] ≡ ys ++ y ∷ [] → xs ≡ ys
 before_last xs ys x y e =
     let lengths : length xs ≡ length ys = let all = ap length e in omega (arith, all, length-append xs (x ∷ []), length-append ys (y ∷ [])) in
-    sym (take-length-append xs (x ∷ [])) ∙ ap (λ (es : List Event). take (length xs) es) e ∙ ap (λ n. take n (ys ++ y ∷ [])) lengths ∙ take-length-append ys (y ∷ [])
+    sym (take-append_seam xs (x ∷ [])) ∙ ap (λ (es : List Event). take (length xs) es) e ∙ ap (λ n. take n (ys ++ y ∷ [])) lengths ∙ take-append_seam ys (y ∷ [])
 
 all_before : (first before : List Event) (event : Event) → first ++ (before ++ event ∷ []) ≡ (first ++ before) ++ event ∷ []
 all_before first before event = sym (append_assoc first before (event ∷ []))
@@ -304,3 +305,13 @@ ended_whole s m next first count t0 t1 t2 d0 d1 d2 ended o0 o1 o2 o3 o4 start sa
       few = up_to_count count ended came.events came.all;
       is_driven = (came.all, refl, refl);
     }
+
+-- the last line is put, or not whole
+pub at_last : (s : Settings) (m next : Machine) (first : List Event) (count : ℕ) (t0 t1 t2 : Option (List Event)) (d0 d1 d2 : Option (List Action)) (ended : Bool)
+    (o0 o1 o2 o3 o4 : Option (List ℕ)) (r : Result (Unit {0}) Outcome) → m ≡ start_of s → t1 ≡ t0 → Takes o0 o1 (printed_head s) → Ran m first next d0 d1 o1 o2 →
+    Came next count t1 t2 ended d1 d2 o2 o3 → OnOk r (Takes o3 o4 (ended_lines (codes "end" ∷ []))) → IfErr r (IsUnsaid o3 o4 (ended_lines (codes "end" ∷ []))) →
+    Drives s first count t0 t2 d0 d2 ended o0 o4 (outcome_of_drive r)
+at_last s m next first count t0 t1 t2 d0 d1 d2 ended o0 o1 o2 o3 o4 (Ok done) start same head ran came whole part =
+    ended_whole s m next first count t0 t1 t2 d0 d1 d2 ended o0 o1 o2 o3 o4 start same head ran came whole
+at_last s m next first count t0 t1 t2 d0 d1 d2 ended o0 o1 o2 o3 o4 (Err outcome) start same head ran came whole part =
+    at_end s m next first count t0 t1 t2 d0 d1 d2 ended ended o0 o1 o2 o3 o4 outcome start same head ran came part

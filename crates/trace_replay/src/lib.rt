@@ -21,6 +21,7 @@ mod told;
 
 pub use checking::check;
 pub use drilling::drill;
+pub use driving::drive;
 pub use law::{agreeing_traces_are_their_output, outputs_agree, outputs_are_their_own};
 pub use outcome::Outcome;
 pub use replaying::replay;
