@@ -288,8 +288,7 @@ pub RanFor-more : (m next last : Machine) (turns : ℕ) (event : Event) (t0 t1 t
     RanFor m turns next t0 t1 d0 d1 o0 o1 → t2 ≡ with_one_more t1 event → d2 ≡ d1 → Ran next (event ∷ []) last d2 d3 o1 o2 →
     RanFor m (turns + 1) last t0 t2 d0 d3 o0 o2
 RanFor-more m next last turns event t0 t1 t2 d0 d1 d2 d3 o0 o1 o2 a t d b =
-    let behind : Ran next (event ∷ []) last d1 d3 o1 o2 = subst (λ done. Ran next (event ∷ []) last done d3 o1 o2) d b in
-    (
+    let behind : Ran next (event ∷ []) last d1 d3 o1 o2 = subst (λ done. Ran next (event ∷ []) last done d3 o1 o2) d b in (
       a.0 ++ event ∷ [],
       one_more t0 t1 t2 a.0 event a.1 t,
       length-append a.0 (event ∷ []) ∙ ap (λ n. n + 1) a.2,

@@ -79,7 +79,16 @@ fn drive_anew<W: World, K: Sink>(
     })?);
     let engine = first_engine(alloc, *settings, Pickers { picker, ranked })?;
     let mut pieces = PieceWriter::new(alloc)?;
-    match drive_all(alloc, engine, settings, first, world, count, &mut pieces, out) {
+    match drive_all(
+        alloc,
+        engine,
+        settings,
+        first,
+        world,
+        count,
+        &mut pieces,
+        out,
+    ) {
         Ok(()) => Ok(Outcome::Done),
         Err(outcome) => Ok(outcome),
     }
