@@ -75,13 +75,27 @@ impl Engine {
         ensures record { IfOk result (λ r. IsLawfulRecord r.0.machine) }
         ensures event { IfOk result (λ r. IsLawfulEvent self.machine event) }
     {
+        self.step_on(&event)
+    }
+
+    /// The same of an event that is lent.
+    pub fn step_on(self, event: &Event) -> Result<(Engine, ActionList), OutOfMemory>
+        requires few { self.events < 1000000 }
+        requires within { IsWithinLimits event.now }
+        ensures machine { IfOk result (λ r. r.0.machine ≡ (step self.machine event.now).machine) }
+        ensures actions { IfOk result (λ r. r.1 ≡ (step self.machine event.now).actions) }
+        ensures taken { IfOk result (λ r. r.0.events ≡ self.events + 1) }
+        ensures numbers { IfOk result (λ r. GivesFew self.machine r.0.machine) }
+        ensures record { IfOk result (λ r. IsLawfulRecord r.0.machine) }
+        ensures event { IfOk result (λ r. IsLawfulEvent self.machine event.now) }
+    {
         let Engine {
             mut machine,
             picker,
             ranked,
             events,
         } = self;
-        let actions = machine.handle(&event, &picker, &ranked)?;
+        let actions = machine.handle(event, &picker, &ranked)?;
         let events = events + 1;
         let engine = Engine {
             machine,

@@ -6,6 +6,8 @@ pub mod CheckInputs
 pub mod CheckWays
 pub mod Comparing
 pub mod Drills
+pub mod DriveEnds
+pub mod Drives
 pub mod Grammar
 pub mod Heads
 pub mod Inputs

@@ -5,6 +5,8 @@ pub mod Checks
 pub mod Compare
 pub mod Drill
 pub mod DrillCourse
+pub mod Drive
+pub mod DriveCourse
 pub mod Inputs
 pub mod Judgement
 pub mod LineRead

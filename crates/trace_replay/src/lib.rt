@@ -5,6 +5,7 @@
 mod checking;
 mod course;
 mod drilling;
+mod driving;
 mod finding;
 mod head;
 mod law;
@@ -20,6 +21,7 @@ mod told;
 
 pub use checking::check;
 pub use drilling::drill;
+pub use driving::drive;
 pub use law::{agreeing_traces_are_their_output, outputs_agree, outputs_are_their_own};
 pub use outcome::Outcome;
 pub use replaying::replay;

@@ -7,6 +7,8 @@ use std::alloc::Global;
 use std::process::Abort;
 use std::test::Fail;
 
+mod drives;
+
 fn sink(alloc: Global, room: usize, failing: &[u64]) -> Result<MemSink, OutOfMemory> {
     MemSink::new(alloc, room, NumberList::from_slice(alloc, failing)?)
 }
