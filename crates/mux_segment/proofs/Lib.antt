@@ -9,3 +9,4 @@ pub mod Laws
 pub mod Grammars
 pub mod Frames
 pub mod Orders
+pub mod Keeps

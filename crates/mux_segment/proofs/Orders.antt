@@ -60,13 +60,13 @@ module _ (side id : ℕ) (q : Part) (qs : List Part) where
   place_here : comes_before side id q ≡ false → place_of side id (q ∷ qs) ≡ 0
   place_here e = rw e refl
 
-  found_later : comes_before side id q ≡ true → found_part side id (q ∷ qs) ≡ found_part side id qs
+  pub found_later : comes_before side id q ≡ true → found_part side id (q ∷ qs) ≡ found_part side id qs
   found_later e = ap (slice_get (q ∷ qs)) (place_later e)
 
-  found_here : comes_before side id q ≡ false → found_part side id (q ∷ qs) ≡ Some q
+  pub found_here : comes_before side id q ≡ false → found_part side id (q ∷ qs) ≡ Some q
   found_here e = ap (slice_get (q ∷ qs)) (place_here e)
 
-  without_later : comes_before side id q ≡ true → without_part side id (q ∷ qs) ≡ q ∷ without_part side id qs
+  pub without_later : comes_before side id q ≡ true → without_part side id (q ∷ qs) ≡ q ∷ without_part side id qs
   unfolding without_part
   without_later e =
       elim (cases_Bool (is_of side id (found_part side id qs))) [
@@ -78,7 +78,7 @@ module _ (side id : ℕ) (q : Part) (qs : List Part) where
             rw (none, none') refl
       ]
 
-  without_here : comes_before side id q ≡ false → is_of side id (Some q) ≡ true → without_part side id (q ∷ qs) ≡ qs
+  pub without_here : comes_before side id q ≡ false → is_of side id (Some q) ≡ true → without_part side id (q ∷ qs) ≡ qs
   unfolding without_part
   without_here e same =
       let some : is_of side id (found_part side id (q ∷ qs)) ≡ true = ap (is_of side id) (found_here e) ∙ same in
@@ -91,15 +91,15 @@ module _ (side id : ℕ) (q : Part) (qs : List Part) where
       rw none refl
 
   module _ (bytes : List ℕ) (some : 0 < length bytes) where
-    with_later : comes_before side id q ≡ true → with_part side id bytes (q ∷ qs) ≡ q ∷ with_part side id bytes qs
+    pub with_later : comes_before side id q ≡ true → with_part side id bytes (q ∷ qs) ≡ q ∷ with_part side id bytes qs
     unfolding with_part
     with_later e = rw (ne_eqb (length bytes) 0 (λ none. omega arith)) (ap (λ (n : ℕ). insert (q ∷ qs) n (record { side = side; protocol = id; bytes = bytes })) (place_later e))
 
-    with_here : comes_before side id q ≡ false → with_part side id bytes (q ∷ qs) ≡ record { side = side; protocol = id; bytes = bytes } ∷ q ∷ qs
+    pub with_here : comes_before side id q ≡ false → with_part side id bytes (q ∷ qs) ≡ record { side = side; protocol = id; bytes = bytes } ∷ q ∷ qs
     unfolding with_part
     with_here e = rw (ne_eqb (length bytes) 0 (λ none. omega arith)) (ap (λ (n : ℕ). insert (q ∷ qs) n (record { side = side; protocol = id; bytes = bytes })) (place_here e))
 
-with_alone : (side id : ℕ) (bytes : List ℕ) → 0 < length bytes → with_part side id bytes [] ≡ record { side = side; protocol = id; bytes = bytes } ∷ []
+pub with_alone : (side id : ℕ) (bytes : List ℕ) → 0 < length bytes → with_part side id bytes [] ≡ record { side = side; protocol = id; bytes = bytes } ∷ []
 unfolding with_part
 with_alone side id bytes some = rw (ne_eqb (length bytes) 0 (λ none. omega arith)) refl
 
@@ -141,7 +141,7 @@ abbrev IsAbsent : ℕ → ℕ → List Part → Type 0
 IsAbsent side id parts = is_of side id (found_part side id parts) ≡ false
 
 -- what comes after a part of this side and protocol is another one
-after_is_late : (side id : ℕ) (p r : Part) → is_of side id (Some p) ≡ true → comes_before r.side r.protocol p ≡ true → (comes_before side id r ≡ false) × (is_of side id (Some r) ≡ false)
+pub after_is_late : (side id : ℕ) (p r : Part) → is_of side id (Some p) ≡ true → comes_before r.side r.protocol p ≡ true → (comes_before side id r ≡ false) × (is_of side id (Some r) ≡ false)
 unfolding IsBefore
 after_is_late side id p r same before =
     let s = and_parts (eqb p.side side) (eqb p.protocol id) same in
@@ -208,7 +208,7 @@ order_put side id (byte ∷ bytes) parts order absent = order_with side id (byte
 
 -- ---- and so through a whole stream
 
-order_payload : (limit : Option ℕ) (parts : List Part) (side id : ℕ) (payload : List ℕ) → AreInOrder parts → AreInOrder (payload_decoded limit parts side id payload).parts
+pub order_payload : (limit : Option ℕ) (parts : List Part) (side id : ℕ) (payload : List ℕ) → AreInOrder parts → AreInOrder (payload_decoded limit parts side id payload).parts
 order_payload None parts side id payload order = order
 order_payload (Some limit) parts side id payload order =
     order_put side id (taken_of limit (part_bytes side id parts ++ payload)).left (without_part side id parts)

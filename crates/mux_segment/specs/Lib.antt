@@ -8,3 +8,4 @@ pub mod Steps
 pub mod PartView
 pub mod Given
 pub mod Law
+pub mod Kept

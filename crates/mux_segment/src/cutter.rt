@@ -23,10 +23,14 @@ pub struct Cutter {
 
 impl Model for Cutter {
     ghost use Rattle.mux_segment.specs.Stream.{CutterState};
+    ghost use Rattle.mux_segment.specs.Protocols.{node_limits};
+    ghost use Rattle.mux_segment.specs.Kept.{AreKept};
 
     ghost Value = { CutterState };
 
     ghost view = { λ c. record { undecoded = record { rest = c.rest; parts = c.parts }; fault = c.fault } };
+
+    ghost invariant = { λ c. AreKept node_limits c.parts };
 }
 
 impl Cutter {

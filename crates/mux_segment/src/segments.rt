@@ -1,8 +1,9 @@
-ghost use Rattle.std.specs.Prelude.{◌≡◌, ◌≤◌, length, drop, IfOk, OnOk, MatchOption, None, Some};
+ghost use Rattle.std.specs.Prelude.{◌≡◌, ◌≤◌, ◌<◌, length, drop, IfOk, IfSome, OnOk, MatchOption, None, Some};
 ghost use Rattle.mux_segment.specs.Segment.{Segment, segment_at, cut_of};
 ghost use Rattle.mux_segment.specs.Protocols.{node_limits};
 ghost use Rattle.mux_segment.specs.Stream.{segment_decoded, decoded};
 ghost use Rattle.mux_segment.specs.Steps.{Adds, segment_with};
+ghost use Rattle.mux_segment.specs.Kept.{AreKept};
 
 use crate::bodies::take_items;
 use crate::bytes::behind;
@@ -18,6 +19,7 @@ pub(crate) fn take_segments(
     parts: &mut Parts,
     items: &mut ItemList,
 ) -> Result<usize, Stopped>
+    requires { AreKept node_limits parts.old }
     ensures items { let d = decoded node_limits parts.old (cut_of stream.now).segments in Adds result items.old items.new d.items d.fault }
     ensures parts { OnOk result (parts.new ≡ (decoded node_limits parts.old (cut_of stream.now).segments).parts) }
     ensures rest { IfOk result (λ count. (count ≤ length stream.now) × (drop count stream.now ≡ (cut_of stream.now).rest)) }
@@ -53,12 +55,16 @@ fn take_segment(
     parts: &mut Parts,
     items: &mut ItemList,
 ) -> Result<(), Stopped>
+    requires { AreKept node_limits parts.old }
     ensures items { let d = segment_decoded node_limits parts.old (segment_with header payload.now) in Adds result items.old items.new d.items d.fault }
     ensures parts { OnOk result (parts.new ≡ (segment_decoded node_limits parts.old (segment_with header payload.now)).parts) }
 {
     let Some(limit) = limit_of(header.id) else {
         return Err(Stopped::Fault(CutFault::UnknownId));
     };
+    if payload.is_empty() {
+        return Ok(());
+    }
     let mut part = parts.take(alloc, header.side, header.id);
     part.extend_from_slice(payload)?;
     let count = take_items(alloc, header.side, header.id, limit, part.as_slice(), items)?;
@@ -69,7 +75,8 @@ fn take_segment(
 
 // How many bytes an item of a protocol may have. None where the protocol is not known.
 fn limit_of(id: u16) -> Option<usize>
-    ensures { result ≡ node_limits id }
+    ensures limit { result ≡ node_limits id }
+    ensures some { IfSome result (λ limit. 0 < limit) }
 {
     match id {
         0 => Some(5760),

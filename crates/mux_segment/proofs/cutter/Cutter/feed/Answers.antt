@@ -1,14 +1,22 @@
-use Rattle.std.proofs.Common.{◌≡◌, ◌++◌, List, sym, ap, ◌∙◌, drop}
+use Rattle.std.proofs.Common.{◌≡◌, ◌++◌, List, sym, ap, subst, ◌∙◌, drop}
 use Rattle.mux_segment.specs.declared.item.Item.{Item}
 use Rattle.mux_segment.specs.Segment.{cut_of}
 use Rattle.mux_segment.specs.Protocols.{node_limits}
 use Rattle.mux_segment.specs.Stream.{decoded, CutterState}
+use Rattle.mux_segment.specs.Kept.{AreKept}
+use Rattle.mux_segment.proofs.Keeps.{kept_decoded}
 use Rattle.mux_segment.proofs.Feeds.{fed_ended, fed_read, fed_stopped}
 use Rattle.mux_segment.proofs.cutter.Cutter.feed.Goals as goal
 
 pub returns-then-is_some : goal.returns-then-is_some
 returns-then-is_some c =
     rw (← c.self.view_is) (fed_ended node_limits _ c.args.bytes.now c.new-items.result c.new-items.ensures (sym c.if-is_some.ensures))
+
+pub invariant_of-result-in-Ok : goal.invariant_of-result-in-Ok
+invariant_of-result-in-Ok c =
+    let inside = c.self.inside in
+    let segments = (cut_of c.as_slice.result.now).segments in
+    subst (AreKept node_limits) (sym c.in-Ok.ensures.parts) (kept_decoded node_limits segments inside.parts c.self.invariant c.in-Ok.ensures.items.0)
 
 pub returns-in-Ok : goal.returns-in-Ok
 returns-in-Ok c =
