@@ -8,3 +8,4 @@ pub mod Levels
 pub mod Meaning
 pub mod Shortest
 pub mod Fronts
+pub mod Resumes

@@ -3,6 +3,7 @@ use Rattle.std.specs.Prelude.{◌≡◌, ℕ, ◌≤◌, ◌<◌, ◌^◌, false
 use Rattle.cbor_items.specs.declared.head.Head.{Head}
 use Rattle.cbor_items.specs.Head.{IsHead, head_at, shortest_head, written_head}
 use Rattle.cbor_items.specs.Item.{AreBytes, IsItem}
+use Rattle.cbor_items.specs.Resume.{Place, HasSeen}
 
 -- no item is a proper prefix of another, whatever their depths
 abbrev pub ArePrefixFree : Type 0
@@ -28,3 +29,7 @@ AreReadAgain = (major value : ℕ) (rest : List ℕ) → CanWrite major value
 abbrev pub AreShortest : Type 0
 AreShortest = (head : Head) (bytes : List ℕ) → AreBytes bytes → IsHead head bytes → head.indefinite ≡ false
     → length (shortest_head head.major head.value) ≤ length bytes
+
+-- A place that was reached in some bytes is reached where more of them came, so that a scan goes on from it.
+abbrev pub StayReached : Type 0
+StayReached = (place : Place) (bytes more : List ℕ) → HasSeen place bytes → HasSeen place (bytes ++ more)

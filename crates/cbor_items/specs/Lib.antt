@@ -4,4 +4,7 @@ pub mod Item
 pub mod Scan
 pub mod Answer
 pub mod Part
+pub mod Level
+pub mod Resume
+pub mod Steps
 pub mod Law

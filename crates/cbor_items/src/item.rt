@@ -7,7 +7,10 @@ ghost use Rattle.cbor_items.specs.Part.{part_of};
 use crate::head::{split_argument, split_initial};
 use crate::stop::Stop;
 
-const BREAK: u8 = 0xff;
+/// How many arrays, maps and tags may stand inside each other.
+pub(crate) const LEVEL_LIMIT: u8 = 64;
+
+pub(crate) const BREAK: u8 = 0xff;
 
 /// What arrays and maps are rows of.
 #[derive(Clone, Copy)]
@@ -93,7 +96,7 @@ fn skip_part(part: Part, bytes: &[u8], inner: u8) -> Result<&[u8], Stop>
 
 // Passes over what stands behind the initial byte of an item that holds no other.
 #[tactic(auto, unfolding(crate::specs::Scan::skip_flat_content))]
-fn skip_flat(initial: u8, bytes: &[u8]) -> Result<&[u8], Stop>
+pub(crate) fn skip_flat(initial: u8, bytes: &[u8]) -> Result<&[u8], Stop>
     ensures { Gives (λ rest. rest.now) result (skip_flat initial bytes.now) }
 {
     let (head, rest) = split_argument(initial, bytes)?;
@@ -135,7 +138,7 @@ fn skip_chunks(major: u8, bytes: &[u8]) -> Result<&[u8], Stop>
 
 // Passes over a definite string of a major type.
 #[tactic(auto, unfolding(crate::specs::Scan::skip_chunk))]
-fn skip_chunk(major: u8, bytes: &[u8]) -> Result<&[u8], Stop>
+pub(crate) fn skip_chunk(major: u8, bytes: &[u8]) -> Result<&[u8], Stop>
     ensures { Gives (λ rest. rest.now) result (skip_chunk major bytes.now) }
 {
     match bytes {
@@ -151,7 +154,7 @@ fn skip_chunk(major: u8, bytes: &[u8]) -> Result<&[u8], Stop>
 }
 
 // Arrays, maps and tags.
-fn is_nested(initial: u8) -> bool
+pub(crate) fn is_nested(initial: u8) -> bool
     ensures { result ≡ is_nested initial }
 {
     matches!(initial / 32, 4..=6)

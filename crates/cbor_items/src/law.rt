@@ -1,6 +1,6 @@
 //! Laws on items and heads, whatever function reads or writes them. The functions do nothing.
 
-ghost use Rattle.cbor_items.specs.Law.{ArePrefixFree, AreNested, AreReadAgain, AreShortest};
+ghost use Rattle.cbor_items.specs.Law.{ArePrefixFree, AreNested, AreReadAgain, AreShortest, StayReached};
 
 /// No item is a proper prefix of another.
 pub fn items_are_prefix_free()
@@ -20,4 +20,9 @@ pub fn heads_are_read_again()
 /// No head of a major type and a value has fewer bytes than the one that is written.
 pub fn heads_are_shortest()
     ensures { AreShortest }
+{}
+
+/// Where a scan stopped in some bytes it goes on when more of them came.
+pub fn places_stay_reached()
+    ensures { StayReached }
 {}

@@ -1,13 +1,19 @@
 //! Items of CBOR (RFC 8949): where the first one ends, and the heads of items, read and written.
 #![tactic(auto)]
 
+mod halt;
 mod head;
 mod item;
+mod item_scan;
 pub mod law;
+mod level;
+mod opening;
 mod scan;
+mod stack;
 mod stop;
 
 pub use head::{Head, read_head, write_head};
+pub use item_scan::ItemScan;
 pub use scan::{Scan, first_item};
 
 #[cfg(test)]

@@ -3,11 +3,8 @@ ghost use Rattle.cbor_items.specs.declared.scan.Scan.{Scan};
 ghost use Rattle.cbor_items.specs.Scan.{scan_of};
 ghost use Rattle.cbor_items.specs.Answer.{IsAnswer};
 
-use crate::item::skip_item;
+use crate::item::{LEVEL_LIMIT, skip_item};
 use crate::stop::Stop;
-
-// How many arrays, maps and tags may stand inside each other.
-const LEVEL_LIMIT: u8 = 64;
 
 /// What stands at the front of some bytes.
 #[derive(Clone, Copy, Debug, PartialEq, Eq)]

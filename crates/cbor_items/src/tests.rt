@@ -1,5 +1,8 @@
+ghost use Rattle.std.specs.Prelude.{◌≡◌, ◌≤◌, length, take, IfOk};
+ghost use Rattle.cbor_items.specs.Scan.{scan_of};
+
 use super::*;
-use net_base::Octets;
+use net_base::{Octets, OutOfMemory};
 use std::alloc::{AllocError, Global};
 use std::test::Fail;
 
@@ -48,6 +51,40 @@ fn the_first_byte_of_a_head_decides(rt: HostRuntime) {
     assert_eq!(rt; first_item(b"\x5f\x19"), Scan::Bad);
     assert_eq!(rt; first_item(b"\x5f\x5f"), Scan::Bad);
     assert_eq!(rt; first_item(b"\xf8"), Scan::More);
+}
+
+// What is found at the first bytes, and then at all of them.
+fn scanned_twice(alloc: Global, bytes: &[u8], first: usize) -> Result<(Scan, Scan), OutOfMemory>
+    requires { first ≤ length bytes.now }
+    ensures { IfOk result (λ found. (found.0 ≡ scan_of (take first bytes.now)) × (found.1 ≡ scan_of bytes.now)) }
+{
+    let mut scan = ItemScan::new(alloc);
+    let before = scan.resume(&bytes[..first])?;
+    let after = scan.resume(bytes)?;
+    Ok((before, after))
+}
+
+#[test]
+fn a_scan_goes_on(rt: HostRuntime) -> Result<(), Fail> {
+    let rows: [(&[u8], usize, Scan); 8] = [
+        (b"\x82\x01\x82\x02\x03", 3, Scan::Whole(5)),
+        (b"\xa2\x01\x02\x03\xc1\x05", 3, Scan::Whole(6)),
+        (b"\xbf\x61a\x01\xff", 3, Scan::Whole(5)),
+        (b"\xbf\x61a\xff", 3, Scan::Bad),
+        (b"\x9f\x19\x01\x02\xff", 3, Scan::Whole(5)),
+        (b"\x5f\x42\x01\x02\x41\x03\xff", 5, Scan::Whole(7)),
+        (b"\x7f\x61a\x41\x03\xff", 3, Scan::Bad),
+        (b"\x43\x01\x02\x03", 2, Scan::Whole(4)),
+    ];
+    for (bytes, first, found) in rows {
+        assert!(rt; first <= bytes.len());
+        assert_eq!(rt;
+            scanned_twice(rt.alloc(), bytes, first)?,
+            (Scan::More, found),
+            "at {bytes:?}"
+        );
+    }
+    Ok(())
 }
 
 // So many arrays of one element, and then some bytes.

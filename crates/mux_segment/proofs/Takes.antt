@@ -97,6 +97,11 @@ taken_enough limit (suc n) (suc m) part a b =
 
 -- ---- the steps of the code
 
+-- by a scan that was made before
+pub next_again : (limit : ℕ) (part : List ℕ) (answer : Scan) (next : Result (Option ℕ) CutFault) → answer ≡ scan_of part → next_of answer limit part ≡ next
+    → next_of (scan_of part) limit part ≡ next
+next_again limit part answer next scanned e = ap (λ (a : Scan). next_of a limit part) (sym scanned) ∙ e
+
 pub taken_some : (limit n : ℕ) (part : List ℕ) → next_of (scan_of part) limit part ≡ Ok (Some n) → taken_of limit part ≡ with_body (take n part) (taken_of limit (drop n part))
 unfolding taken_of
 taken_some limit n part some =
@@ -174,7 +179,13 @@ module _ (limit side id : ℕ) (old : List Item) (part : List ℕ) where
         sym (append-nil items) ∙ sym (ap (λ (x : Taken). items ++ map (item_of side id) x.bodies) t) ∙ so_far.items-are,
       )
 
-  pub taking_adds : (X : Type 0) (items : List Item) (rest : List ℕ) (stop : Stopped) → IsNext (Err stop) limit rest → IsTaking limit side id old part items rest
+  pub taking_adds : (X : Type 0) (items : List Item) (rest : List ℕ) (answer : Scan) (stop : Stopped) → answer ≡ scan_of rest → IsNext (Err stop) answer limit rest → IsTaking limit side id old part items rest
       → Adds {X = X} (Err stop) old items (map (item_of side id) (taken_of limit part).bodies) (taken_of limit part).fault
-  taking_adds X items rest (Fault fault) stops so_far = taking_stops items rest fault stops so_far
-  taking_adds X items rest NoMemory stops so_far = tt
+  taking_adds X items rest answer (Fault fault) scanned stops so_far = taking_stops items rest fault (next_again limit rest answer (Err fault) scanned stops) so_far
+  taking_adds X items rest answer NoMemory scanned stops so_far = tt
+
+-- what was added where it stopped, whatever would have been returned
+pub adds_any : (X Y : Type 0) (stop : Stopped) (old new items : List Item) (fault : Option CutFault)
+    → Adds {X = X} (Err stop) old new items fault → Adds {X = Y} (Err stop) old new items fault
+adds_any X Y (Fault f) old new items fault adds = adds
+adds_any X Y NoMemory old new items fault adds = tt

@@ -5,7 +5,6 @@ use Rattle.mux_segment.specs.declared.header.Header.{Header}
 use Rattle.mux_segment.specs.Segment.{Segment}
 use Rattle.cbor_items.specs.declared.scan.Scan.{Scan}
 use Rattle.cbor_items.specs.declared.scan.Scan.TheVariants as scan
-use Rattle.cbor_items.specs.Scan.{scan_of}
 use Rattle.mux_segment.specs.declared.fault.CutFault.{CutFault}
 use Rattle.mux_segment.specs.declared.fault.CutFault.TheVariants.{Bad, Deep, TooLong}
 use Rattle.mux_segment.specs.declared.stopped.Stopped.{Stopped}
@@ -24,10 +23,10 @@ next_of scan.More limit part = if nat_le limit (length part) then Err TooLong el
 next_of scan.Bad limit part = Err Bad
 next_of scan.Deep limit part = Err Deep
 
-abbrev pub IsNext : Result (Option ℕ) Stopped → ℕ → List ℕ → Type 0
-IsNext (Ok next) limit part = next_of (scan_of part) limit part ≡ Ok next
-IsNext (Err (Fault f)) limit part = next_of (scan_of part) limit part ≡ Err f
-IsNext (Err NoMemory) limit part = ⊥
+abbrev pub IsNext : Result (Option ℕ) Stopped → Scan → ℕ → List ℕ → Type 0
+IsNext (Ok next) answer limit part = next_of answer limit part ≡ Ok next
+IsNext (Err (Fault f)) answer limit part = next_of answer limit part ≡ Err f
+IsNext (Err NoMemory) answer limit part = ⊥
 
 abbrev pub segment_with : Header → List ℕ → Segment
 segment_with header payload = record { header = header; payload = payload }

@@ -1,28 +1,72 @@
-ghost use Rattle.std.specs.Prelude.{◌≡◌, ◌≤◌, length, drop, map, IfOk};
+ghost use Rattle.std.specs.Prelude.{◌≡◌, ◌≤◌, ◌++◌, length, drop, map, IfOk};
+ghost use Rattle.cbor_items.specs.Scan.{scan_of};
 ghost use Rattle.mux_segment.specs.Items.{taken_of};
 ghost use Rattle.mux_segment.specs.Stream.{item_of};
 ghost use Rattle.mux_segment.specs.Steps.{Adds, IsNext};
 
 use crate::stopped::Stopped;
+use crate::waiting::Waiting;
 use crate::{CutFault, Item, ItemList};
 use cbor_items::{Scan, first_item};
 use net_base::Octets;
 use std::alloc::Global;
 
-/// Takes the whole items off the front of a part, and says how many bytes they are.
-pub(crate) fn take_items(
+/// Takes the whole items off what waits and the payload behind it, and gives what waits then.
+pub(crate) fn take_payload(
+    alloc: Global,
+    side: u8,
+    id: u16,
+    limit: usize,
+    waiting: Waiting,
+    payload: &[u8],
+    items: &mut ItemList,
+) -> Result<Waiting, Stopped>
+    ensures items { let t = taken_of limit (waiting ++ payload.now) in Adds result items.old items.new (map (item_of side id) t.bodies) t.fault }
+    ensures left { IfOk result (λ left. left ≡ (taken_of limit (waiting ++ payload.now)).left) }
+{
+    // where nothing waits the items are taken where they lie
+    if waiting.as_slice().is_empty() {
+        return take_alone(alloc, side, id, limit, payload, items);
+    }
+    let mut waiting = waiting;
+    let first = waiting.extend(payload)?;
+    let count = take_items(alloc, side, id, limit, waiting.as_slice(), first, items)?;
+    Ok(waiting.behind(alloc, count)?)
+}
+
+fn take_alone(
+    alloc: Global,
+    side: u8,
+    id: u16,
+    limit: usize,
+    payload: &[u8],
+    items: &mut ItemList,
+) -> Result<Waiting, Stopped>
+    ensures items { let t = taken_of limit payload.now in Adds result items.old items.new (map (item_of side id) t.bodies) t.fault }
+    ensures left { IfOk result (λ left. left ≡ (taken_of limit payload.now).left) }
+{
+    let first = first_item(payload);
+    let count = take_items(alloc, side, id, limit, payload, first, items)?;
+    Ok(Waiting::from_slice(alloc, &payload[count..])?)
+}
+
+// Takes the whole items off the front of a part, of which the first was scanned, and says how many bytes they are.
+fn take_items(
     alloc: Global,
     side: u8,
     id: u16,
     limit: usize,
     part: &[u8],
+    first: Scan,
     items: &mut ItemList,
 ) -> Result<usize, Stopped>
+    requires { first ≡ scan_of part.now }
     ensures items { let t = taken_of limit part.now in Adds result items.old items.new (map (item_of side id) t.bodies) t.fault }
     ensures left { IfOk result (λ count. (count ≤ length part.now) × (drop count part.now ≡ (taken_of limit part.now).left)) }
 {
     let mut rest = part;
-    while let Some(size) = next_item(limit, rest)? {
+    let mut scan = first;
+    while let Some(size) = next_item(limit, rest, scan)? {
         let (body, after) = rest.split_at(size);
         items.push(Item {
             side,
@@ -30,15 +74,16 @@ pub(crate) fn take_items(
             body: Octets::from_slice(alloc, body)?,
         })?;
         rest = after;
+        scan = first_item(rest);
     }
     Ok(part.len() - rest.len())
 }
 
-// The size of the item at the front, or None where it is not whole.
-fn next_item(limit: usize, part: &[u8]) -> Result<Option<usize>, Stopped>
-    ensures { IsNext result limit part.now }
+// The size of the item at the front, by its scan, or None where it is not whole.
+fn next_item(limit: usize, part: &[u8], scan: Scan) -> Result<Option<usize>, Stopped>
+    ensures { IsNext result scan limit part.now }
 {
-    match first_item(part) {
+    match scan {
         Scan::Whole(size) if size <= limit => Ok(Some(size)),
         Scan::More if part.len() < limit => Ok(None),
         Scan::Whole(_) | Scan::More => Err(Stopped::Fault(CutFault::TooLong)),

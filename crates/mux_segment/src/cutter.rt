@@ -1,11 +1,10 @@
-ghost use Rattle.std.specs.Prelude.{◌≡◌, IfOk};
+ghost use Rattle.std.specs.Prelude.{◌≡◌, IfOk, None};
 ghost use Rattle.mux_segment.specs.Protocols.{node_limits};
 ghost use Rattle.mux_segment.specs.Stream.{nothing_fed, ended_with, fed_by};
 ghost use Rattle.mux_segment.specs.Given.{IsGiven};
 
-use crate::bytes::behind;
 use crate::parts::Parts;
-use crate::segments::take_segments;
+use crate::segments::take_stream;
 use crate::stopped::Stopped;
 use crate::{CutFault, Fed, ItemList};
 use net_base::{Octets, OutOfMemory};
@@ -51,6 +50,19 @@ impl Cutter {
     pub fn feed(self, bytes: &[u8]) -> Result<(Cutter, Fed), OutOfMemory>
         ensures { IfOk result (λ fed. IsGiven (fed_by node_limits self bytes.now) fed.0 fed.1) }
     {
+        if self.fault.is_some() {
+            let items = ItemList::new(self.alloc);
+            let fault = self.fault;
+            return Ok((self, Fed { items, fault }));
+        }
+        self.read_on(bytes)
+    }
+
+    // Takes the next piece of a stream that has not ended.
+    fn read_on(self, bytes: &[u8]) -> Result<(Cutter, Fed), OutOfMemory>
+        requires { self.fault ≡ None }
+        ensures { IfOk result (λ fed. IsGiven (fed_by node_limits self bytes.now) fed.0 fed.1) }
+    {
         let Cutter {
             alloc,
             rest,
@@ -58,8 +70,8 @@ impl Cutter {
             fault,
         } = self;
         let mut items = ItemList::new(alloc);
-        if fault.is_some() {
-            return Ok((
+        match take_stream(alloc, rest, bytes, &mut parts, &mut items) {
+            Ok(rest) => Ok((
                 Cutter {
                     alloc,
                     rest,
@@ -67,23 +79,7 @@ impl Cutter {
                     fault,
                 },
                 Fed { items, fault },
-            ));
-        }
-        let mut stream = rest;
-        stream.extend_from_slice(bytes)?;
-        match take_segments(alloc, stream.as_slice(), &mut parts, &mut items) {
-            Ok(count) => {
-                let rest = behind(alloc, stream, count)?;
-                Ok((
-                    Cutter {
-                        alloc,
-                        rest,
-                        parts,
-                        fault,
-                    },
-                    Fed { items, fault },
-                ))
-            }
+            )),
             Err(Stopped::Fault(fault)) => Ok(ended(alloc, items, fault)),
             Err(Stopped::NoMemory) => Err(OutOfMemory),
         }

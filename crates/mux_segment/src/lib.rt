@@ -14,6 +14,7 @@ mod part;
 mod parts;
 mod segments;
 mod stopped;
+mod waiting;
 
 pub use cutter::Cutter;
 pub use fault::CutFault;

@@ -2,14 +2,14 @@ ghost use Rattle.std.specs.Prelude.{◌≡◌, Some};
 ghost use Rattle.mux_segment.specs.PartView.{part_view};
 ghost use Rattle.mux_segment.specs.Parts.{comes_before, is_of};
 
-use net_base::Octets;
+use crate::waiting::Waiting;
 
 /// The bytes of one side and protocol that are no whole item yet.
 #[derive(Debug, Drop)]
 pub(crate) struct Part {
     pub side: u8,
     pub id: u16,
-    pub bytes: Octets,
+    pub bytes: Waiting,
 }
 
 impl Part {

@@ -3,7 +3,8 @@ ghost use Rattle.mux_segment.specs.PartView.{parts_view};
 ghost use Rattle.mux_segment.specs.Parts.{place_of, is_of, part_bytes, without_part, with_part};
 
 use crate::part::Part;
-use net_base::{Octets, OutOfMemory};
+use crate::waiting::Waiting;
+use net_base::OutOfMemory;
 use std::alloc::Global;
 use std::marker::Model;
 
@@ -34,13 +35,13 @@ impl Parts {
     }
 
     /// Takes a part out: its bytes, none where there is no such part. Takes no memory.
-    pub fn take(&mut self, alloc: Global, side: u8, id: u16) -> Octets
+    pub fn take(&mut self, alloc: Global, side: u8, id: u16) -> Waiting
         ensures bytes { result ≡ part_bytes side id self.old }
         ensures parts { self.new ≡ without_part side id self.old }
     {
         let place = place(&self.parts, side, id);
         if !is_at(&self.parts, place, side, id) {
-            return Octets::new(alloc);
+            return Waiting::new(alloc);
         }
         let Part {
             side: _,
@@ -51,7 +52,7 @@ impl Parts {
     }
 
     /// Puts bytes as a part in its place, where they are some.
-    pub fn put(&mut self, side: u8, id: u16, bytes: Octets) -> Result<(), OutOfMemory>
+    pub fn put(&mut self, side: u8, id: u16, bytes: Waiting) -> Result<(), OutOfMemory>
         ensures { OnOk result (self.new ≡ with_part side id bytes self.old) }
     {
         if bytes.as_slice().is_empty() {

@@ -1,19 +1,44 @@
-ghost use Rattle.std.specs.Prelude.{◌≡◌, ◌≤◌, ◌<◌, length, drop, IfOk, IfSome, OnOk, MatchOption, None, Some};
+ghost use Rattle.std.specs.Prelude.{◌≡◌, ◌≤◌, ◌<◌, ◌++◌, length, drop, IfOk, IfSome, OnOk, MatchOption, None, Some};
 ghost use Rattle.mux_segment.specs.Segment.{Segment, segment_at, cut_of};
 ghost use Rattle.mux_segment.specs.Protocols.{node_limits};
 ghost use Rattle.mux_segment.specs.Stream.{segment_decoded, decoded};
 ghost use Rattle.mux_segment.specs.Steps.{Adds, segment_with};
 ghost use Rattle.mux_segment.specs.Kept.{AreKept};
 
-use crate::bodies::take_items;
+use crate::bodies::take_payload;
 use crate::bytes::behind;
 use crate::parts::Parts;
 use crate::stopped::Stopped;
 use crate::{CutFault, Header, ItemList, read_header};
+use net_base::Octets;
 use std::alloc::Global;
 
-/// Takes the items of the whole segments at the front of a stream, and says how many bytes these are.
-pub(crate) fn take_segments(
+/// Takes the items of the whole segments of a stream, which is a rest and new bytes: the rest that it leaves.
+pub(crate) fn take_stream(
+    alloc: Global,
+    rest: Octets,
+    bytes: &[u8],
+    parts: &mut Parts,
+    items: &mut ItemList,
+) -> Result<Octets, Stopped>
+    requires { AreKept node_limits parts.old }
+    ensures items { let d = decoded node_limits parts.old (cut_of (rest ++ bytes.now)).segments in Adds result items.old items.new d.items d.fault }
+    ensures parts { OnOk result (parts.new ≡ (decoded node_limits parts.old (cut_of (rest ++ bytes.now)).segments).parts) }
+    ensures rest { IfOk result (λ left. left ≡ (cut_of (rest ++ bytes.now)).rest) }
+{
+    // where no rest is the segments are taken where they lie
+    if rest.as_slice().is_empty() {
+        let count = take_segments(alloc, bytes, parts, items)?;
+        return Ok(Octets::from_slice(alloc, &bytes[count..])?);
+    }
+    let mut stream = rest;
+    stream.extend_from_slice(bytes)?;
+    let count = take_segments(alloc, stream.as_slice(), parts, items)?;
+    Ok(behind(alloc, stream, count)?)
+}
+
+// Takes the items of the whole segments at the front of a stream, and says how many bytes these are.
+fn take_segments(
     alloc: Global,
     stream: &[u8],
     parts: &mut Parts,
@@ -65,10 +90,16 @@ fn take_segment(
     if payload.is_empty() {
         return Ok(());
     }
-    let mut part = parts.take(alloc, header.side, header.id);
-    part.extend_from_slice(payload)?;
-    let count = take_items(alloc, header.side, header.id, limit, part.as_slice(), items)?;
-    let left = behind(alloc, part, count)?;
+    let waiting = parts.take(alloc, header.side, header.id);
+    let left = take_payload(
+        alloc,
+        header.side,
+        header.id,
+        limit,
+        waiting,
+        payload,
+        items,
+    )?;
     parts.put(header.side, header.id, left)?;
     Ok(())
 }

@@ -1,4 +1,4 @@
-use Rattle.std.proofs.Common.{◌≡◌, ℕ, List, [], ◌++◌, drop, refl, sym, ap, ◌∙◌}
+use Rattle.std.proofs.Common.{◌≡◌, ℕ, List, [], ◌++◌, map, refl, sym, ap, ◌∙◌}
 use Rattle.std.proofs.lemmas.Bool.{eqb-true}
 use Rattle.std.proofs.lemmas.List.{append-nil, nil_from_length}
 use Rattle.std.proofs.lemmas.Result.{err_from_is_err_and}
@@ -7,8 +7,9 @@ use Rattle.mux_segment.specs.declared.item.Item.{Item}
 use Rattle.mux_segment.specs.Protocols.{node_limits}
 use Rattle.mux_segment.specs.Items.{taken_of}
 use Rattle.mux_segment.specs.Parts.{part_bytes, with_part}
-use Rattle.mux_segment.specs.Stream.{Decoded}
+use Rattle.mux_segment.specs.Stream.{Decoded, item_of}
 use Rattle.mux_segment.proofs.Keeps.{touches_nothing}
+use Rattle.mux_segment.proofs.Takes.{adds_any}
 use Rattle.mux_segment.proofs.Streams.{unknown_decoded, segment_items, segment_fault, segment_parts, segment_adds}
 use Rattle.mux_segment.proofs.segments.take_segment.Goals as goal
 
@@ -19,35 +20,38 @@ returns-in_default-clause-items c =
       sym (append-nil c.args.items.now) ∙ ap (λ (d : Decoded). c.args.items.now ++ d.items) (sym unknown),
     )
 
-pub returns-in_err-count-clause-items : goal.returns-in_err-count-clause-items
-returns-in_err-count-clause-items c =
-    let p = err_from_is_err_and c.from_residual-in_err-count.result c.from_residual-in_err-count.ensures.1 in
-    let part : c.as_slice.result.now ≡ part_bytes c.args.header.side c.args.header.id c.args.parts.now ++ c.args.payload.now =
-    c.as_slice.ensures ∙ c.in_ok-extend_from_slice.ensures.ok ∙ ap (λ (x : List ℕ). x ++ c.args.payload.now) c.take-part.ensures.bytes in
-    rw (p.1, p.2) (segment_adds node_limits c.args.parts.now c.args.header c.args.payload.now c.in-Some.limit (sym c.in-Some.ensures.limit) c.as_slice.result.now part
-    (Unit {0}) c.args.items.now c.take_items.new.items c.in_err-count.field-0.0 c.in_err-count.ensures.items)
+pub returns-in_err-left-clause-items : goal.returns-in_err-left-clause-items
+returns-in_err-left-clause-items c =
+    let p = err_from_is_err_and c.from_residual.result c.from_residual.ensures.1 in
+    let part : c.take-waiting.result ++ c.args.payload.now ≡ part_bytes c.args.header.side c.args.header.id c.args.parts.now ++ c.args.payload.now =
+    ap (λ (x : List ℕ). x ++ c.args.payload.now) c.take-waiting.ensures.bytes in
+    let t = taken_of c.in-Some.limit (c.take-waiting.result ++ c.args.payload.now) in
+    let fields = item_of c.args.header.side c.args.header.id in
+    rw (p.1, p.2) (segment_adds node_limits c.args.parts.now c.args.header c.args.payload.now c.in-Some.limit (sym c.in-Some.ensures.limit)
+    (c.take-waiting.result ++ c.args.payload.now) part (Unit {0}) c.args.items.now c.take_payload.new.items c.in_err-left.field-0.0
+    (adds_any (List ℕ) ℕ c.in_err-left.field-0.0 c.args.items.now c.take_payload.new.items (map fields t.bodies) t.fault c.in_err-left.ensures.items))
 
 pub returns-clause-items : goal.returns-clause-items
 returns-clause-items c =
-    let part : c.as_slice.result.now ≡ part_bytes c.args.header.side c.args.header.id c.args.parts.now ++ c.args.payload.now =
-    c.as_slice.ensures ∙ c.in_ok-extend_from_slice.ensures.ok ∙ ap (λ (x : List ℕ). x ++ c.args.payload.now) c.take-part.ensures.bytes in
-    let adds = c.in_ok-count.ensures.items in (
-      segment_fault node_limits c.args.parts.now c.args.header c.args.payload.now c.in-Some.limit (sym c.in-Some.ensures.limit) c.as_slice.result.now part ∙ adds.0,
+    let part : c.take-waiting.result ++ c.args.payload.now ≡ part_bytes c.args.header.side c.args.header.id c.args.parts.now ++ c.args.payload.now =
+    ap (λ (x : List ℕ). x ++ c.args.payload.now) c.take-waiting.ensures.bytes in
+    let stream = c.take-waiting.result ++ c.args.payload.now in
+    let adds = c.in_ok-left.ensures.items in (
+      segment_fault node_limits c.args.parts.now c.args.header c.args.payload.now c.in-Some.limit (sym c.in-Some.ensures.limit) stream part ∙ adds.0,
       adds.1 ∙ ap (λ (x : List Item). c.args.items.now ++ x)
-          (sym (segment_items node_limits c.args.parts.now c.args.header c.args.payload.now c.in-Some.limit (sym c.in-Some.ensures.limit) c.as_slice.result.now part)),
+          (sym (segment_items node_limits c.args.parts.now c.args.header c.args.payload.now c.in-Some.limit (sym c.in-Some.ensures.limit) stream part)),
     )
 
 pub returns-clause-parts : goal.returns-clause-parts
 returns-clause-parts c =
     let header = c.args.header in
-    let part : c.as_slice.result.now ≡ part_bytes c.args.header.side c.args.header.id c.args.parts.now ++ c.args.payload.now =
-    c.as_slice.ensures ∙ c.in_ok-extend_from_slice.ensures.ok ∙ ap (λ (x : List ℕ). x ++ c.args.payload.now) c.take-part.ensures.bytes in
-    let left : c.in_ok-left.left ≡ (taken_of c.in-Some.limit c.as_slice.result.now).left =
-    c.in_ok-left.ensures ∙ ap (drop c.in_ok-count.count) (sym c.as_slice.ensures) ∙ c.in_ok-count.ensures.left.1 in
+    let stream = c.take-waiting.result ++ c.args.payload.now in
+    let part : stream ≡ part_bytes c.args.header.side c.args.header.id c.args.parts.now ++ c.args.payload.now =
+    ap (λ (x : List ℕ). x ++ c.args.payload.now) c.take-waiting.ensures.bytes in
     c.in_ok-put.ensures
-    ∙ ap (λ (x : List ℕ). with_part header.side header.id x c.take-part.new.self) left
-    ∙ ap (λ (x : List Part). with_part header.side header.id (taken_of c.in-Some.limit c.as_slice.result.now).left x) c.take-part.ensures.parts
-    ∙ sym (segment_parts node_limits c.args.parts.now header c.args.payload.now c.in-Some.limit (sym c.in-Some.ensures.limit) c.as_slice.result.now part)
+    ∙ ap (λ (x : List ℕ). with_part header.side header.id x c.take-waiting.new.self) c.in_ok-left.ensures.left
+    ∙ ap (λ (x : List Part). with_part header.side header.id (taken_of c.in-Some.limit stream).left x) c.take-waiting.ensures.parts
+    ∙ sym (segment_parts node_limits c.args.parts.now header c.args.payload.now c.in-Some.limit (sym c.in-Some.ensures.limit) stream part)
 
 pub returns-then-is_empty-clause-items : goal.returns-then-is_empty-clause-items
 returns-then-is_empty-clause-items c =
