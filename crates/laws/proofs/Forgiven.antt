@@ -18,9 +18,10 @@ use Rattle.net_base.specs.declared.connection.Cid.{Cid}
 use Rattle.net_base.specs.declared.connection.Phase.{Phase}
 use Rattle.net_base.specs.declared.connection.Phase.TheVariants.{Dialing, Greeting, Negotiated, Closing}
 use Rattle.net_base.specs.declared.peer.Temp.TheVariants.{Warm}
+use Rattle.hs_receive.specs.Receiving.{is_awaited, fits_side}
 use Rattle.machine.specs.Connections.{with_entry, without_entry, ending}
 use Rattle.machine.specs.Effect.{on_entry}
-use Rattle.machine.specs.Greeting.{role_of, is_awaited, fits_side, judged, decided, greeted_by, greets}
+use Rattle.machine.specs.Greeting.{role_of, judged, decided, greeted_by, greets}
 use Rattle.machine.specs.Machine.{Machine, Entry, entry_at}
 use Rattle.machine.specs.Own.{own_info}
 use Rattle.machine.specs.Peers.{peer_at}

@@ -28,12 +28,13 @@ use Rattle.net_base.specs.declared.connection.Provenance.{Provenance}
 use Rattle.net_base.specs.declared.connection.Provenance.TheVariants.{FromRemote, FromLocal}
 use Rattle.conn_state.specs.Moves.{agreed_inbound, agreed_outbound}
 use Rattle.conn_state.specs.Use.{is_greeting, is_greeting_phase, is_negotiated, opening_phase, is_outbound, is_outbound_by, is_pending}
+use Rattle.hs_receive.specs.Receiving.{is_awaited, fits_side}
 use Rattle.machine.specs.Machine.{Machine, Entry, counted_in}
 use Rattle.machine.specs.Replies.{sends_as_responder}
 use Rattle.machine.specs.Effect.{Effect}
 use Rattle.machine.specs.Own.{own_info}
 use Rattle.machine.specs.Connections.{ending}
-use Rattle.machine.specs.Greeting.{role_of, is_awaited, fits_side, sends_answer, judged, decided, greeted_by, greets}
+use Rattle.machine.specs.Greeting.{role_of, sends_answer, judged, decided, greeted_by, greets}
 use Rattle.laws.specs.AtMoves.{IsPrunedRightly, IsLawful, is_up_connection}
 use Rattle.laws.specs.Whole.{IsShaped, IsOrdered}
 use Rattle.laws.proofs.Keeping.{Keeps, keeps_nothing}

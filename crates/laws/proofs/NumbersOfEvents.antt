@@ -37,17 +37,18 @@ use Rattle.root_groups.specs.RootAsk.{awaits}
 use Rattle.warm_messages.specs.Reading.{share_of}
 use Rattle.warm_messages.specs.declared.share.Share.{Share}
 use Rattle.warm_messages.specs.declared.share.Share.TheVariants as share
+use Rattle.hs_receive.specs.Receiving.{is_awaited, fits_side, kind_of}
 use Rattle.machine.specs.Machine.{Machine, Entry, Owed, counted_in, entry_at, live_entry_at}
 use Rattle.machine.specs.Effect.{Effect, unused, nothing_more, tells, then_do, as_move, for_each, on_connection}
 use Rattle.machine.specs.Peers.{peer_at, peer_becomes, peer_is_ordinary}
 use Rattle.machine.specs.Connections.{with_entry, entry_turns, ending, closing_entry, grace_over, awake, dial_opens, dial_fails}
 use Rattle.machine.specs.Deadlines.{due, fires_as, fires, fires_some, fire_due, fire_all}
 use Rattle.machine.specs.Events.{clock_shows, turned_away, admitted, crossed, accepted_beside, peer_connects, dialed}
-use Rattle.machine.specs.Greeting.{role_of, is_awaited, fits_side, judged, decided, greeted_by, greets}
+use Rattle.machine.specs.Greeting.{role_of, judged, decided, greeted_by, greets}
 use Rattle.machine.specs.Own.{own_info}
 use Rattle.machine.specs.Provided.{comes_ordinary, locals_are, is_wanted_big, comes_big, roots_say, roots_answer}
 use Rattle.machine.specs.Replies.{paid, reply_on}
-use Rattle.machine.specs.Stream.{handled_in, handled, handles, kind_of, faulted, fed_with, feeds, comes_in}
+use Rattle.machine.specs.Stream.{handled_in, handled, handles, faulted, fed_with, feeds, comes_in}
 use Rattle.machine.specs.Talking.{stops_if, serves, begins, takes_requests, asked_as, shares_address, taken_of, takes_addresses, pays, brings, answered_as, talks}
 use Rattle.laws.proofs.Handshakes.{answer-machine}
 use Rattle.laws.proofs.Talks.{replies-machine}

@@ -24,9 +24,10 @@ use Rattle.remote_watch.specs.declared.seen.Seen.{Seen}
 use Rattle.warm_messages.specs.Reading.{share_of}
 use Rattle.warm_messages.specs.declared.share.Share.{Share}
 use Rattle.warm_messages.specs.declared.share.Share.TheVariants as share
+use Rattle.hs_receive.specs.Receiving.{is_awaited, fits_side}
 use Rattle.machine.specs.Connections.{with_entry, without_entry, ending, is_used, awake}
 use Rattle.machine.specs.Effect.{nothing_more, then_do, for_each, on_entry, on_connection}
-use Rattle.machine.specs.Greeting.{role_of, is_awaited, fits_side, judged, decided, greeted_by, greets}
+use Rattle.machine.specs.Greeting.{role_of, judged, decided, greeted_by, greets}
 use Rattle.machine.specs.Machine.{Machine, Entry, Owed, entry_at}
 use Rattle.machine.specs.Own.{own_info}
 use Rattle.machine.specs.Peers.{peer_at, peer_becomes}

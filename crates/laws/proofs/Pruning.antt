@@ -40,18 +40,19 @@ use Rattle.root_groups.specs.RootAsk.{may_ask, asked}
 use Rattle.warm_messages.specs.Reading.{share_of}
 use Rattle.warm_messages.specs.declared.share.Share.{Share}
 use Rattle.warm_messages.specs.declared.share.Share.TheVariants as share
+use Rattle.hs_receive.specs.Receiving.{is_awaited, fits_side, kind_of}
 use Rattle.machine.specs.Connections.{with_entry, without_entry, entry_turns, ending, vanishes, closing_entry, candidates_in, trim, says_done, release, awake, dial_opens, dial_fails}
 use Rattle.machine.specs.Deadlines.{fires_as}
 use Rattle.machine.specs.Effect.{Effect, Happened, Move, promoted, activated, shared, ended, unused, gone, on_entry, on_connection, nothing_more, tells, then_do, as_move, for_each}
 use Rattle.machine.specs.Events.{turned_away, admitted, crossed, accepted_beside, peer_connects, closes, dialed}
 use Rattle.machine.specs.Govern.{is_used_at, on_used, asks_peer, deactivates, carries_out, asks_roots}
-use Rattle.machine.specs.Greeting.{role_of, is_awaited, fits_side, sends_answer, judged, decided, greeted_by, greets}
+use Rattle.machine.specs.Greeting.{role_of, sends_answer, judged, decided, greeted_by, greets}
 use Rattle.machine.specs.Machine.{Machine, Entry, Owed, counted_in, entry_at, live_entry_at}
 use Rattle.machine.specs.Own.{own_info}
 use Rattle.machine.specs.Peers.{peer_at, peer_becomes, peer_is_ordinary, peer_comes}
 use Rattle.machine.specs.Provided.{comes_ordinary, is_wanted_big, comes_big}
 use Rattle.machine.specs.Replies.{reply_on, owing, paid}
-use Rattle.machine.specs.Stream.{handled_in, handled, kind_of, faulted}
+use Rattle.machine.specs.Stream.{handled_in, handled, faulted}
 use Rattle.machine.specs.Talking.{replies, stops_if, serves, begins, takes_requests, asked_as, shares_address, taken_of, takes_addresses, pays, brings, answered_as, talks}
 use Rattle.laws.specs.Acts.{Act, shows, fires_one, asks_for_roots, carries, connects, ends_dial, stores, handles_item, ends_stream, is_closed, sets_targets, sets_big_targets, sets_groups, sets_roots, makes_ordinary, provides, provides_big, does}
 use Rattle.laws.specs.CarriedOut.{IsOneMove}

@@ -9,10 +9,11 @@ use Rattle.net_base.specs.declared.connection.Cid.{Cid}
 use Rattle.net_base.specs.declared.connection.Phase.{Phase}
 use Rattle.net_base.specs.declared.connection.Phase.TheVariants.{Dialing, Greeting, Negotiated, Closing}
 use Rattle.conn_state.specs.Use.{has_id, is_live, live_phase, is_greeting_phase, is_negotiated_phase, is_greeting, is_negotiated}
+use Rattle.hs_receive.specs.Receiving.{kind_of}
 use Rattle.machine.specs.Machine.{Machine, Entry, counted_in, entry_at}
 use Rattle.machine.specs.Effect.{Effect, then_do, for_each, on_entry, on_connection, nothing_more}
 use Rattle.machine.specs.Connections.{entry_turns}
-use Rattle.machine.specs.Stream.{handled_in, handled, handles, kind_of, faulted, fed_with, feeds, comes_in, bytes_come_in}
+use Rattle.machine.specs.Stream.{handled_in, handled, handles, faulted, fed_with, feeds, comes_in, bytes_come_in}
 use Rattle.laws.specs.AtMoves.{fed_on, IsLawful}
 use Rattle.laws.specs.Whole.{IsOrdered}
 use Rattle.laws.proofs.Handshakes.{greets-trimmed}

@@ -41,18 +41,19 @@ use Rattle.root_groups.specs.RootAsk.{may_ask, asked}
 use Rattle.warm_messages.specs.Reading.{share_of}
 use Rattle.warm_messages.specs.declared.share.Share.{Share}
 use Rattle.warm_messages.specs.declared.share.Share.TheVariants as share
+use Rattle.hs_receive.specs.Receiving.{is_awaited, fits_side, kind_of}
 use Rattle.machine.specs.Connections.{with_entry, without_entry, entry_turns, is_missed, lost, lost_by, ending, vanishes, closing_entry, grace_over, is_used, acquire, candidates_in, trim, release, awake, idle, dial, dial_opens, dial_fails}
 use Rattle.machine.specs.Deadlines.{fires_as}
 use Rattle.machine.specs.Effect.{Effect, unused, nothing_more, tells, then_do, as_move, on_entry, on_connection, for_each, shared}
 use Rattle.machine.specs.Events.{turned_away, admitted, crossed, accepted_beside, peer_connects, closes, dialed}
 use Rattle.machine.specs.Govern.{promoted_at, is_used_at, on_used, asks_peer, activates, deactivates, carries_out, asks_roots}
-use Rattle.machine.specs.Greeting.{role_of, is_awaited, fits_side, judged, decided, greeted_by, greets}
+use Rattle.machine.specs.Greeting.{role_of, judged, decided, greeted_by, greets}
 use Rattle.machine.specs.Machine.{Machine, Entry, Owed, fresh_entry, counted_in, entry_at, live_entry_at}
 use Rattle.machine.specs.Own.{own_info}
 use Rattle.machine.specs.Peers.{peer_at, turns_at, peer_fails, peer_succeeds, peer_becomes, peer_was_asked, peer_comes}
 use Rattle.machine.specs.Provided.{is_wanted_big, comes_big}
 use Rattle.machine.specs.Replies.{reply_on, owing, paid}
-use Rattle.machine.specs.Stream.{handled_in, handled, faulted, kind_of}
+use Rattle.machine.specs.Stream.{handled_in, handled, faulted}
 use Rattle.machine.specs.Talking.{stops_if, serves, begins, takes_requests, asked_as, shares_address, taken_of, takes_addresses, pays, brings, answered_as, talks}
 use Rattle.laws.specs.Acts.{Act, shows, fires_one, asks_for_roots, carries, connects, ends_dial, stores, handles_item, ends_stream, is_closed, sets_targets, sets_big_targets, sets_groups, sets_roots, makes_ordinary, provides, provides_big, does}
 use Rattle.laws.specs.CarriedOut.{IsUnset, IsSet}

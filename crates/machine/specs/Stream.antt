@@ -1,14 +1,12 @@
 -- The bytes that come in on a connection.
 use Rattle.std.specs.Prelude.{ℕ, ◌||◌, List, Option, Some, None, if◌then◌else◌}
 use Rattle.conn_state.specs.Use.{is_greeting, is_negotiated}
+use Rattle.hs_receive.specs.Receiving.{kind_of}
 use Rattle.mux_segment.specs.Protocols.{node_limits}
 use Rattle.mux_segment.specs.Stream.{FedBy, fed_by}
 use Rattle.mux_segment.specs.declared.fault.CutFault.{CutFault}
-use Rattle.mux_segment.specs.declared.fault.CutFault.TheVariants as cut
 use Rattle.mux_segment.specs.declared.item.Item.{Item}
 use Rattle.net_base.specs.declared.action.CloseCause.TheVariants.{Fault}
-use Rattle.net_base.specs.declared.action.FaultKind.{FaultKind}
-use Rattle.net_base.specs.declared.action.FaultKind.TheVariants as fault
 use Rattle.net_base.specs.declared.connection.Cid.{Cid}
 use Rattle.net_base.specs.declared.connection.Phase.{Phase}
 use Rattle.net_base.specs.declared.connection.Phase.TheVariants.{Greeting, Negotiated}
@@ -30,12 +28,6 @@ handled item entry m = handled_in entry.facts.phase item entry m
 -- where the connection has ended, nothing more is handled
 abbrev pub handles : Cid → Item → Machine → Effect
 handles cid item m = on_connection cid (handled item) m
-
-abbrev pub kind_of : CutFault → FaultKind
-kind_of cut.Bad = fault.Malformed
-kind_of cut.Deep = fault.Deep
-kind_of cut.TooLong = fault.TooLong
-kind_of cut.UnknownId = fault.UnknownId
 
 abbrev pub faulted : Option CutFault → Entry → Machine → Effect
 faulted None entry m = nothing_more m

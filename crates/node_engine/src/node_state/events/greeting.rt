@@ -2,7 +2,8 @@ ghost use Rattle.std.specs.Prelude.{◌≡◌, true, Some, OnOk};
 ghost use Rattle.conn_state.specs.Use.{is_greeting};
 ghost use Rattle.hs_decide.specs.Answers.{answer_of, CanAnswer};
 ghost use Rattle.hs_message.specs.Reading.{message_of};
-ghost use Rattle.machine.specs.Greeting.{role_of, is_awaited, fits_side, sends_answer, judged, greeted_by, greets};
+ghost use Rattle.hs_receive.specs.Receiving.{is_awaited, fits_side};
+ghost use Rattle.machine.specs.Greeting.{role_of, sends_answer, judged, greeted_by, greets};
 ghost use Rattle.machine.specs.Own.{own_info};
 ghost use Rattle.node_engine.specs.Greets.{CanJudge};
 ghost use Rattle.node_engine.specs.State.{Does, DoesTo, IsKnown};
@@ -11,6 +12,7 @@ use crate::NodeState;
 use crate::own::own_info;
 use hs_decide::{Role, Verdict, answer, decide};
 use hs_message::{Message, ReadRefusal, VersionInfo, read_message};
+use hs_receive::{fits_side, is_awaited};
 use mux_segment::Item;
 use net_base::{ActionList, Cid, CloseCause, Facts, FaultKind, OutOfMemory, Provenance};
 
@@ -126,26 +128,5 @@ fn role_of(provenance: Provenance) -> Role
     match provenance {
         Provenance::FromRemote => Role::Acceptor,
         Provenance::FromLocal => Role::Dialer,
-    }
-}
-
-// An acceptor awaits side 0, whatever comes there.
-fn is_awaited(role: Role, side: u8) -> bool
-    ensures { result ≡ is_awaited role side }
-{
-    match role {
-        Role::Acceptor => side == 0,
-        Role::Dialer => true,
-    }
-}
-
-// A dialer takes a proposal on side 0, where both have dialed at once, and every other message on side 1.
-fn fits_side(role: Role, side: u8, message: &Message) -> bool
-    ensures { result ≡ fits_side role side message.now }
-{
-    match (role, message) {
-        (Role::Acceptor, _) => true,
-        (Role::Dialer, Message::Propose(_)) => side == 0,
-        (Role::Dialer, _) => side == 1,
     }
 }

@@ -1,13 +1,15 @@
 ghost use Rattle.std.specs.Prelude.{◌≡◌, Some, IsSome, IfSome, OnOk, IfOk};
+ghost use Rattle.hs_receive.specs.Receiving.{kind_of};
 ghost use Rattle.machine.specs.Connections.{entry_turns};
 ghost use Rattle.machine.specs.Effect.{on_connection, for_each};
 ghost use Rattle.machine.specs.Machine.{entry_at};
-ghost use Rattle.machine.specs.Stream.{handled, handles, kind_of, faulted, feeds, comes_in, bytes_come_in};
+ghost use Rattle.machine.specs.Stream.{handled, handles, faulted, feeds, comes_in, bytes_come_in};
 ghost use Rattle.connections.specs.Standing.{fed_of, fed_entry};
 ghost use Rattle.node_engine.specs.State.{Does, DoesTo, DoesSilently, IsKnown};
 ghost use Rattle.connections.specs.Talks.{IsFed};
 
 use crate::NodeState;
+use hs_receive::kind_of;
 use mux_segment::{CutFault, Fed, Item};
 use net_base::{ActionList, Cid, CloseCause, Facts, FaultKind, OutOfMemory, Phase};
 
@@ -130,16 +132,5 @@ impl NodeState {
             Some(facts) => self.end(facts, CloseCause::Fault(kind_of(fault)), actions),
             None => Ok(()),
         }
-    }
-}
-
-fn kind_of(fault: CutFault) -> FaultKind
-    ensures { result ≡ kind_of fault }
-{
-    match fault {
-        CutFault::Bad => FaultKind::Malformed,
-        CutFault::Deep => FaultKind::Deep,
-        CutFault::TooLong => FaultKind::TooLong,
-        CutFault::UnknownId => FaultKind::UnknownId,
     }
 }

@@ -1,10 +1,12 @@
 use Rattle.std.proofs.Common.{◌≡◌, Some, sym, ap, subst, ◌∙◌}
 use Rattle.hs_decide.specs.Agreement.{verdict_of}
 use Rattle.hs_decide.specs.Answers.{CanAnswer}
-use Rattle.machine.specs.Greeting.{fits_side, judged, greeted_by}
+use Rattle.hs_receive.specs.Receiving.{fits_side}
+use Rattle.hs_receive.proofs.Answerable.{verdict-answers}
+use Rattle.machine.specs.Greeting.{judged, greeted_by}
 use Rattle.machine.specs.Own.{own_info}
 use Rattle.node_engine.proofs.DoesLemmas.{does_other}
-use Rattle.node_engine.proofs.GreetLemmas.{verdict-answers, greeted-does}
+use Rattle.node_engine.proofs.GreetLemmas.{greeted-does}
 use Rattle.node_engine.proofs.node_state.NodeState.take_greeting.Goals as goal
 
 pub say-requires : goal.say-requires
