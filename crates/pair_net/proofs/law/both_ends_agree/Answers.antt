@@ -1,0 +1,11 @@
+use Rattle.pair_net.proofs.Runs.{ends_agree_alike, meetings_agree, crossings_agree}
+use Rattle.pair_net.proofs.law.both_ends_agree.Goals as goal
+
+pub returns-clause-alike : goal.returns-clause-alike
+returns-clause-alike c = ends_agree_alike
+
+pub returns-clause-meetings : goal.returns-clause-meetings
+returns-clause-meetings c = meetings_agree
+
+pub returns-clause-crossings : goal.returns-clause-crossings
+returns-clause-crossings c = crossings_agree

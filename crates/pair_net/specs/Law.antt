@@ -1,0 +1,53 @@
+-- What holds whatever the pipes deliver, in whatever order and cuts.
+use Rattle.std.specs.Prelude.{◌≡◌, ℕ, ◌<◌, ◌^◌, false, List, [], ◌∷◌}
+use Rattle.std.specs.List.{AllByRecursion}
+use Rattle.hs_message.specs.declared.info.VersionInfo.{VersionInfo}
+use Rattle.net_base.specs.declared.connection.Agreed.{Agreed as AgreedOn}
+use Rattle.pair_net.specs.Pair.{PairState, fresh_pair, end_of, other}
+use Rattle.pair_net.specs.Steps.{pair_after}
+use Rattle.pair_net.specs.declared.end.End.{End}
+use Rattle.pair_net.specs.declared.end.EndPhase.TheVariants.{Agreed}
+use Rattle.pair_net.specs.declared.end_state.EndState.{EndState}
+use Rattle.pair_net.specs.declared.pair_step.PairStep.{PairStep}
+use Rattle.pair_net.specs.declared.pair_step.PairStep.TheVariants.{Meet, Cross, Deliver, Timeout, Close}
+
+-- an end may say this of itself: it doesn't only ask, and its magic has 32 bits
+pub record CanOffer (info : VersionInfo) : Type 0 where
+  pub offers : info.query ≡ false
+  pub magic : info.magic < 2 ^ 32
+
+abbrev pub HasAgreed : EndState → Type 0
+HasAgreed e = (agreed : AgreedOn) × (e.phase ≡ Agreed agreed)
+
+abbrev pub HaveAgreed : PairState → Type 0
+HaveAgreed p = HasAgreed p.left × HasAgreed p.right
+
+-- nothing is on the way
+pub record AllIsDelivered (p : PairState) : Type 0 where
+  pub to_left : p.left.incoming ≡ []
+  pub to_right : p.right.incoming ≡ []
+
+abbrev pub IsDelivery : PairStep → Type 0
+IsDelivery (Meet end) = ⊥
+IsDelivery Cross = ⊥
+IsDelivery (Deliver end count) = Unit {0}
+IsDelivery (Timeout end) = ⊥
+IsDelivery (Close end) = ⊥
+
+-- Two ends that both agreed have agreed on the same version, flow and sharing, whatever steps led there.
+abbrev pub AgreeAlike : Type 0
+AgreeAlike = (left right : VersionInfo) (steps : List PairStep) (one two : AgreedOn) → CanOffer left → CanOffer right
+    → let p = pair_after steps (fresh_pair left right) in
+    p.left.phase ≡ Agreed one → p.right.phase ≡ Agreed two → one ≡ two
+
+-- Where an end of the same network has dialed, and then everything is delivered, in any order and cuts, both have agreed.
+abbrev pub MeetingsAgree : Type 0
+MeetingsAgree = (left right : VersionInfo) (end : End) (deliveries : List PairStep) → CanOffer left → CanOffer right
+    → left.magic ≡ right.magic → AllByRecursion IsDelivery deliveries
+    → let p = pair_after (Meet end ∷ deliveries) (fresh_pair left right) in AllIsDelivered p → HaveAgreed p
+
+-- The same where both have dialed at once, and neither is initiator only.
+abbrev pub CrossingsAgree : Type 0
+CrossingsAgree = (left right : VersionInfo) (deliveries : List PairStep) → CanOffer left → CanOffer right
+    → left.magic ≡ right.magic → left.initiator_only ≡ false → right.initiator_only ≡ false → AllByRecursion IsDelivery deliveries
+    → let p = pair_after (Cross ∷ deliveries) (fresh_pair left right) in AllIsDelivered p → HaveAgreed p
