@@ -6,3 +6,4 @@ pub mod Listening
 pub mod Meetings
 pub mod Crossings
 pub mod Runs
+pub mod Reached

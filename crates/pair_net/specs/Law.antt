@@ -16,6 +16,19 @@ pub record CanOffer (info : VersionInfo) : Type 0 where
   pub offers : info.query ≡ false
   pub magic : info.magic < 2 ^ 32
 
+-- some steps lead to this pair
+pub record IsReached (p : PairState) : Type 0 where
+  pub left : VersionInfo
+  pub right : VersionInfo
+  pub steps : List PairStep
+  pub left_offers : CanOffer left
+  pub right_offers : CanOffer right
+  pub leads : p ≡ pair_after steps (fresh_pair left right)
+
+-- Where both ends have agreed, they have agreed on the same: version, flow and sharing.
+abbrev pub AgreesAlike : PairState → Type 0
+AgreesAlike p = (left right : AgreedOn) → p.left.phase ≡ Agreed left → p.right.phase ≡ Agreed right → left ≡ right
+
 abbrev pub HasAgreed : EndState → Type 0
 HasAgreed e = (agreed : AgreedOn) × (e.phase ≡ Agreed agreed)
 
@@ -34,11 +47,10 @@ IsDelivery (Deliver end count) = Unit {0}
 IsDelivery (Timeout end) = ⊥
 IsDelivery (Close end) = ⊥
 
--- Two ends that both agreed have agreed on the same version, flow and sharing, whatever steps led there.
+-- Two ends agree alike, whatever steps led there.
 abbrev pub AgreeAlike : Type 0
-AgreeAlike = (left right : VersionInfo) (steps : List PairStep) (one two : AgreedOn) → CanOffer left → CanOffer right
-    → let p = pair_after steps (fresh_pair left right) in
-    p.left.phase ≡ Agreed one → p.right.phase ≡ Agreed two → one ≡ two
+AgreeAlike = (left right : VersionInfo) (steps : List PairStep) → CanOffer left → CanOffer right
+    → AgreesAlike (pair_after steps (fresh_pair left right))
 
 -- Where an end of the same network has dialed, and then everything is delivered, in any order and cuts, both have agreed.
 abbrev pub MeetingsAgree : Type 0

@@ -1,6 +1,7 @@
 //! Two nodes that shake hands, over every interleaving of what their pipes deliver.
 #![tactic(auto)]
 
+mod both_ends;
 mod end;
 mod end_state;
 mod hearing;

@@ -1,233 +1,60 @@
-ghost use Rattle.std.specs.Prelude.{◌≡◌, false, IfOk, Some};
-ghost use Rattle.hs_receive.specs.Receiving.{CanBeAnswered};
-ghost use Rattle.pair_net.specs.Hearing.{heard};
-ghost use Rattle.pair_net.specs.Pair.{fresh_pair, other, end_of, pair_of};
-ghost use Rattle.pair_net.specs.Steps.{IsTurn, nothing_changes, are_fresh, concludes, ends_by, stepped};
+ghost use Rattle.std.specs.Prelude.{◌≡◌, false, IfOk};
+ghost use Rattle.pair_net.specs.Law.{AgreesAlike};
+ghost use Rattle.pair_net.specs.Pair.{fresh_pair, end_of};
+ghost use Rattle.pair_net.specs.Steps.{IsTurn, stepped};
 
-use crate::end_state::EndState;
-use crate::hearing::{hear, phase_after};
-use crate::note::tell;
-use crate::speaking::{answer_after, dial, say};
-use crate::{End, EndCause, EndPhase, NoteList, PairStep};
-use hs_decide::Role;
+use crate::both_ends::BothEnds;
+use crate::{End, EndPhase, NoteList, PairStep};
 use hs_message::VersionInfo;
-use hs_receive::Received;
 use net_base::OutOfMemory;
 use std::alloc::Global;
 use std::marker::Model;
 
-/// Two ends that shake hands, and between them two pipes that deliver all bytes in their order.
+/// Two ends that shake hands, and between them two pipes that lose nothing and keep the order of the bytes. Every pair is
+/// one that some steps lead to.
 #[derive(Debug, Drop)]
 pub struct Pair {
-    alloc: Global,
-    left: EndState,
-    right: EndState,
+    ends: BothEnds,
 }
 
 impl Model for Pair {
-    ghost use Rattle.pair_net.specs.Hearing.{heard};
-ghost use Rattle.pair_net.specs.Pair.{PairState};
+    ghost use Rattle.pair_net.specs.Law.{IsReached};
+    ghost use Rattle.pair_net.specs.Pair.{PairState};
 
     ghost Value = { PairState };
 
-    ghost view = { λ p. record { left = p.left; right = p.right } };
+    ghost view = { λ p. p.ends };
+
+    ghost invariant = { λ p. IsReached p.ends };
 }
 
 impl Pair {
-    /// Two fresh ends that say this of themselves. Takes no memory.
+    /// Two fresh ends that say this of themselves, and empty pipes. Takes no memory.
     pub fn new(alloc: Global, left: VersionInfo, right: VersionInfo) -> Self
         requires left_offers { left.query ≡ false }
         requires right_offers { right.query ≡ false }
         ensures { result ≡ fresh_pair left right }
     {
         Pair {
-            alloc,
-            left: EndState::new(alloc, left),
-            right: EndState::new(alloc, right),
+            ends: BothEnds::new(alloc, left, right),
         }
     }
 
-    /// How far an end has come.
+    /// How far an end has come. Where both have agreed, they have agreed on the same version, flow and sharing.
     pub fn phase(&self, end: End) -> EndPhase
-        ensures { result ≡ (end_of end self.now).phase }
+        ensures phase { result ≡ (end_of end self.now).phase }
+        ensures alike { AgreesAlike self.now }
     {
-        match end {
-            End::Left => self.left.phase,
-            End::Right => self.right.phase,
-        }
+        self.ends.phase(end)
     }
 
     /// The pair after a step, and what is told of it. Where memory is refused the pair is gone.
     pub fn step(self, step: PairStep) -> Result<(Pair, NoteList), OutOfMemory>
-        ensures { IfOk result (λ turned. IsTurn (stepped step self) turned.0 turned.1) }
+        ensures turn { IfOk result (λ turned. IsTurn (stepped step self) turned.0 turned.1) }
+        ensures alike { IfOk result (λ turned. AgreesAlike turned.0) }
     {
-        match step {
-            PairStep::Meet(end) => self.meet(end),
-            PairStep::Cross => self.cross(),
-            PairStep::Deliver(end, count) => self.deliver(end, count),
-            PairStep::Timeout(end) => self.time_out(end),
-            PairStep::Close(end) => self.close(end),
-        }
+        let Pair { ends } = self;
+        let (ends, notes) = ends.step(step)?;
+        Ok((Pair { ends }, notes))
     }
-
-    fn meet(self, end: End) -> Result<(Pair, NoteList), OutOfMemory>
-        ensures { IfOk result (λ turned. IsTurn (stepped (PairStep.Meet end) self) turned.0 turned.1) }
-    {
-        if !self.is_fresh() {
-            return self.stay();
-        }
-        let alloc = self.alloc;
-        let mut notes = NoteList::new(alloc);
-        let (mut near, mut far) = self.split(end);
-        dial(alloc, end, &mut near, &mut far, &mut notes)?;
-        far.phase = EndPhase::Waiting(Role::Acceptor);
-        tell(&mut notes, end.other(), far.phase)?;
-        Ok((joined(alloc, end, near, far), notes))
-    }
-
-    fn cross(self) -> Result<(Pair, NoteList), OutOfMemory>
-        ensures { IfOk result (λ turned. IsTurn (stepped PairStep.Cross self) turned.0 turned.1) }
-    {
-        if !self.is_fresh() {
-            return self.stay();
-        }
-        let alloc = self.alloc;
-        let mut notes = NoteList::new(alloc);
-        let (mut left, mut right) = self.split(End::Left);
-        dial(alloc, End::Left, &mut left, &mut right, &mut notes)?;
-        dial(alloc, End::Right, &mut right, &mut left, &mut notes)?;
-        Ok((joined(alloc, End::Left, left, right), notes))
-    }
-
-    fn deliver(self, end: End, count: u64) -> Result<(Pair, NoteList), OutOfMemory>
-        ensures { IfOk result (λ turned. IsTurn (stepped (PairStep.Deliver end count) self) turned.0 turned.1) }
-    {
-        let alloc = self.alloc;
-        let (mut near, far) = self.split(end);
-        let bytes = near.take(alloc, count)?;
-        match near.phase {
-            EndPhase::Waiting(role) => {
-                near.received.extend_from_slice(bytes.as_slice())?;
-                listen(alloc, role, end, near, far)
-            }
-            EndPhase::Fresh | EndPhase::Agreed(_) | EndPhase::Ended(_) => {
-                Ok((joined(alloc, end, near, far), NoteList::new(alloc)))
-            }
-        }
-    }
-
-    fn time_out(self, end: End) -> Result<(Pair, NoteList), OutOfMemory>
-        ensures { IfOk result (λ turned. IsTurn (stepped (PairStep.Timeout end) self) turned.0 turned.1) }
-    {
-        match self.phase(end) {
-            EndPhase::Waiting(_) => self.end_by(end, EndCause::Timeout),
-            EndPhase::Fresh | EndPhase::Agreed(_) | EndPhase::Ended(_) => self.stay(),
-        }
-    }
-
-    fn close(self, end: End) -> Result<(Pair, NoteList), OutOfMemory>
-        ensures { IfOk result (λ turned. IsTurn (stepped (PairStep.Close end) self) turned.0 turned.1) }
-    {
-        match self.phase(end) {
-            EndPhase::Ended(_) => self.stay(),
-            EndPhase::Fresh | EndPhase::Waiting(_) | EndPhase::Agreed(_) => {
-                self.end_by(end, EndCause::Closed)
-            }
-        }
-    }
-
-    fn end_by(self, end: End, cause: EndCause) -> Result<(Pair, NoteList), OutOfMemory>
-        ensures { IfOk result (λ turned. IsTurn (ends_by cause end self) turned.0 turned.1) }
-    {
-        let alloc = self.alloc;
-        let (mut near, far) = self.split(end);
-        near.phase = EndPhase::Ended(cause);
-        let mut notes = NoteList::new(alloc);
-        tell(&mut notes, end, near.phase)?;
-        Ok((joined(alloc, end, near, far), notes))
-    }
-
-    // The step changes nothing.
-    fn stay(self) -> Result<(Pair, NoteList), OutOfMemory>
-        ensures { IfOk result (λ turned. IsTurn (nothing_changes self) turned.0 turned.1) }
-    {
-        let notes = NoteList::new(self.alloc);
-        Ok((self, notes))
-    }
-
-    fn is_fresh(&self) -> bool
-        ensures { result ≡ are_fresh self.now }
-    {
-        self.left.phase.is_fresh() && self.right.phase.is_fresh()
-    }
-
-    // An end, and the other one.
-    fn split(self, end: End) -> (EndState, EndState)
-        ensures near { result.0 ≡ end_of end self }
-        ensures far { result.1 ≡ end_of (other end) self }
-    {
-        let Pair {
-            alloc: _,
-            left,
-            right,
-        } = self;
-        match end {
-            End::Left => (left, right),
-            End::Right => (right, left),
-        }
-    }
-}
-
-// The pair in which an end is this one, `near`, and the other end is that one, `far`.
-fn joined(alloc: Global, end: End, near: EndState, far: EndState) -> Pair
-    ensures { result ≡ pair_of end near far }
-{
-    match end {
-        End::Left => Pair {
-            alloc,
-            left: near,
-            right: far,
-        },
-        End::Right => Pair {
-            alloc,
-            left: far,
-            right: near,
-        },
-    }
-}
-
-// An end that waits has received more.
-fn listen(
-    alloc: Global,
-    role: Role,
-    end: End,
-    near: EndState,
-    far: EndState,
-) -> Result<(Pair, NoteList), OutOfMemory>
-    ensures { IfOk result (λ turned.
-        IsTurn (concludes (heard role near.info near.received) end near far) turned.0 turned.1) }
-{
-    match hear(alloc, role, &near.info, near.received.as_slice())? {
-        Some(received) => conclude(alloc, received, end, near, far),
-        None => Ok((joined(alloc, end, near, far), NoteList::new(alloc))),
-    }
-}
-
-// An end that waited has received what decides.
-fn conclude(
-    alloc: Global,
-    received: Received,
-    end: End,
-    mut near: EndState,
-    mut far: EndState,
-) -> Result<(Pair, NoteList), OutOfMemory>
-    requires { CanBeAnswered received }
-    ensures { IfOk result (λ turned. IsTurn (concludes (Some received) end near far) turned.0 turned.1) }
-{
-    let mut notes = NoteList::new(alloc);
-    let said = answer_after(alloc, &received, &near.info)?;
-    say(end, said, &mut far, &mut notes)?;
-    near.phase = phase_after(received);
-    tell(&mut notes, end, near.phase)?;
-    Ok((joined(alloc, end, near, far), notes))
 }
