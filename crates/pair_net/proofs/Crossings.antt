@@ -80,8 +80,11 @@ module _ (own theirs : VersionInfo) where
                 inr (record { near = refused_now; pair-is = ap (λ (t : Turn). t.pair) is; ended = (cause.Refused, refl); decided = refuses })
             | inr meets ↦
                 let is = on_hearing h (verdict.Agree (common own theirs)) meets hears.hears in
-                inl (record { near = agreed_now; pair-is = ap (λ (t : Turn). t.pair) is;
-                crosses = agrees (record { agreed = common own theirs; phase-is = refl; decided = meets }) })
+                inl (record {
+                  near = agreed_now;
+                  pair-is = ap (λ (t : Turn). t.pair) is;
+                  crosses = agrees (record { agreed = common own theirs; phase-is = refl; decided = meets });
+                })
           ]
         ]
 

@@ -7,3 +7,4 @@ pub mod Meetings
 pub mod Crossings
 pub mod Runs
 pub mod Reached
+pub mod InTurn

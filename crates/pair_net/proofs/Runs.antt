@@ -63,11 +63,11 @@ answered-phase : (said : Option (List ℕ)) (e : EndState) → (answered said e)
 answered-phase None e = refl
 answered-phase (Some bytes) e = refl
 
-pair-far : (end : End) (x y : EndState) → end_of (other end) (pair_of end x y) ≡ y
+pub pair-far : (end : End) (x y : EndState) → end_of (other end) (pair_of end x y) ≡ y
 pair-far Left x y = refl
 pair-far Right x y = refl
 
-pair-near : (end : End) (x y : EndState) → end_of end (pair_of end x y) ≡ x
+pub pair-near : (end : End) (x y : EndState) → end_of end (pair_of end x y) ≡ x
 pair-near Left x y = refl
 pair-near Right x y = refl
 
@@ -77,7 +77,7 @@ concludes-far (Some received) end near far =
     let said = answer_after received near.info in
     ap (λ (e : EndState). e.phase) (pair-far end _ (answered said far)) ∙ answered-phase said far
 
-delivers-far : (phase : EndPhase) (count : ℕ) (end : End) (near far : EndState) → (end_of (other end) (delivers_in phase count end near far).pair).phase ≡ far.phase
+pub delivers-far : (phase : EndPhase) (count : ℕ) (end : End) (near far : EndState) → (end_of (other end) (delivers_in phase count end near far).pair).phase ≡ far.phase
 delivers-far Fresh count end near far = ap (λ (e : EndState). e.phase) (pair-far end (taken_out count near) far)
 delivers-far (Waiting role) count end near far =
     concludes-far (heard role near.info (given count near).received) end (given count near) far
@@ -130,11 +130,11 @@ over_stays (Close end) p h = closes_over (end_of end p).phase end p refl
 
 -- ---- how a pair may stand
 
-abbrev info_of : End → VersionInfo → VersionInfo → VersionInfo
+abbrev pub info_of : End → VersionInfo → VersionInfo → VersionInfo
 info_of Left left right = left
 info_of Right left right = right
 
-abbrev Meeting : VersionInfo → VersionInfo → End → PairState → Type 0
+abbrev pub Meeting : VersionInfo → VersionInfo → End → PairState → Type 0
 Meeting left right d p = Meets (info_of d left right) (info_of (other d) left right) (end_of d p) (end_of (other d) p)
 
 record Crossing (left right : VersionInfo) (p : PairState) : Type 0 where
@@ -150,7 +150,7 @@ data Stands (left right : VersionInfo) : PairState → Type 0 where
 module _ (left right : VersionInfo) (left_offers : CanOffer left) (right_offers : CanOffer right) where
   -- ---- a fresh pair
 
-  meets_first : (d : End) → Meeting left right d (stepped (Meet d) (fresh_pair left right)).pair
+  pub meets_first : (d : End) → Meeting left right d (stepped (Meet d) (fresh_pair left right)).pair
   meets_first Left = Meets.proposed (record {
     dials = record { phase-is = refl; info-is = refl; joined = refl; unheard = nothing_heard role.Dialer left };
     listens = record { phase-is = refl; info-is = refl; joined = refl; unheard = nothing_heard role.Acceptor right };
@@ -319,7 +319,7 @@ module _ (left right : VersionInfo) (left_offers : CanOffer left) (right_offers 
   meeting_goes_on d p same (Goes.on h) = h
   meeting_goes_on d p same (Goes.refused differ h) = let is = same_at d same in absurd cc
 
-  meeting_after : (d : End) (steps : List PairStep) (p : PairState) → left.magic ≡ right.magic → AllByRecursion IsDelivery steps → Meeting left right d p
+  pub meeting_after : (d : End) (steps : List PairStep) (p : PairState) → left.magic ≡ right.magic → AllByRecursion IsDelivery steps → Meeting left right d p
       → Meeting left right d (pair_after steps p)
   meeting_after d [] p same each h = h
   meeting_after d (Deliver e count ∷ steps) p same each h =

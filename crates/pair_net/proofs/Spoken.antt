@@ -55,14 +55,30 @@ info_small info =
 proposal_small : (own : VersionInfo) → length (node_spelling (message.Propose (own_table own))) ≤ limit
 unfolding node_spelling
 proposal_small own =
-    simp length-append (omega (arith, head_small 4 2, head_small 0 0, head_small 5 2, head_small 0 13, head_small 0 14,
-    head_small 4 4, head_small 0 own.magic, head_small 0 (if own.sharing then 1 else 0)))
+    simp length-append (omega (
+      arith,
+      head_small 4 2,
+      head_small 0 0,
+      head_small 5 2,
+      head_small 0 13,
+      head_small 0 14,
+      head_small 4 4,
+      head_small 0 own.magic,
+      head_small 0 (if own.sharing then 1 else 0),
+    ))
 
 acceptance_small : (version : ℕ) (info : VersionInfo) → length (node_spelling (message.Accept version (Known info))) ≤ limit
 unfolding node_spelling
 acceptance_small version info =
-    simp length-append (omega (arith, head_small 4 3, head_small 0 1, head_small 0 version,
-    head_small 4 4, head_small 0 info.magic, head_small 0 (if info.sharing then 1 else 0)))
+    simp length-append (omega (
+      arith,
+      head_small 4 3,
+      head_small 0 1,
+      head_small 0 version,
+      head_small 4 4,
+      head_small 0 info.magic,
+      head_small 0 (if info.sharing then 1 else 0),
+    ))
 
 -- ---- what an end that waits for these bytes hears of them: nothing of a front, and of all a verdict
 

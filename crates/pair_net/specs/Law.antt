@@ -1,5 +1,5 @@
 -- What holds whatever the pipes deliver, in whatever order and cuts.
-use Rattle.std.specs.Prelude.{◌≡◌, ℕ, ◌<◌, ◌^◌, false, List, [], ◌∷◌}
+use Rattle.std.specs.Prelude.{◌≡◌, ℕ, ◌<◌, ◌^◌, ◌≤◌, false, List, [], ◌∷◌, length, map, sum}
 use Rattle.std.specs.List.{AllByRecursion}
 use Rattle.hs_message.specs.declared.info.VersionInfo.{VersionInfo}
 use Rattle.net_base.specs.declared.connection.Agreed.{Agreed as AgreedOn}
@@ -51,6 +51,24 @@ IsDelivery (Close end) = ⊥
 abbrev pub AgreeAlike : Type 0
 AgreeAlike = (left right : VersionInfo) (steps : List PairStep) → CanOffer left → CanOffer right
     → AgreesAlike (pair_after steps (fresh_pair left right))
+
+-- so many bytes come out of the pipe towards an end, and then so many, and so on
+abbrev pub deliveries_to : End → List ℕ → List PairStep
+deliveries_to end counts = map (Deliver end) counts
+
+-- A pipe is empty once as many bytes were asked of it as stood in it, in whatever cuts.
+abbrev pub PipesEmpty : Type 0
+PipesEmpty = (p : PairState) (end : End) (counts : List ℕ) → length (end_of end p).incoming ≤ sum counts
+    → (end_of end (pair_after (deliveries_to end counts) p)).incoming ≡ []
+
+-- Where an end of the same network has dialed, and then everything is delivered to the other end and then everything to it,
+-- in any cuts, both have agreed.
+abbrev pub MeetingsAgreeInTurn : Type 0
+MeetingsAgreeInTurn = (left right : VersionInfo) (end : End) (first second : List ℕ) → CanOffer left → CanOffer right → left.magic ≡ right.magic
+    → let met = pair_after (Meet end ∷ []) (fresh_pair left right) in
+    let answered = pair_after (deliveries_to (other end) first) met in
+    length (end_of (other end) met).incoming ≤ sum first → length (end_of end answered).incoming ≤ sum second
+    → HaveAgreed (pair_after (deliveries_to end second) answered)
 
 -- Where an end of the same network has dialed, and then everything is delivered, in any order and cuts, both have agreed.
 abbrev pub MeetingsAgree : Type 0

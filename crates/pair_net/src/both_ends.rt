@@ -26,7 +26,7 @@ pub(crate) struct BothEnds {
 
 impl Model for BothEnds {
     ghost use Rattle.pair_net.specs.Hearing.{heard};
-ghost use Rattle.pair_net.specs.Pair.{PairState};
+    ghost use Rattle.pair_net.specs.Pair.{PairState};
 
     ghost Value = { PairState };
 
