@@ -1,0 +1,10 @@
+pub mod Hears
+pub mod Frames
+pub mod Spoken
+pub mod Verdicts
+pub mod Listening
+pub mod Meetings
+pub mod Crossings
+pub mod Runs
+pub mod Reached
+pub mod InTurn
