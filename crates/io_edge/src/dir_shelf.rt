@@ -1,4 +1,4 @@
-ghost use Rattle.std.specs.Prelude.{◌≡◌, ℕ, List, None};
+ghost use Rattle.std.specs.Prelude.{◌≡◌, ◌<◌, ◌≤◌, ℕ, List, length, None, Err, IfOk, MatchResult};
 ghost use Rattle.io_edge.specs.Files.{IsReading, HasFileCause, count_after};
 
 use crate::{Shelf, ShelfRefusal};
@@ -41,6 +41,23 @@ impl<R: Files> DirShelf<R> {
     }
 }
 
+impl<R: Files> DirShelf<R> {
+    // Want of memory is no fault of the file.
+    fn refusal_of(&mut self, error: io::Error) -> ShelfRefusal
+        ensures reading { (limit : ℕ) → IsReading None limit (Err result) }
+        ensures cause { (name : List ℕ) → HasFileCause (λ _. self.old) (λ _. self.new) name (Err result) }
+        ensures count { self.new ≡ count_after self.old (Err result) }
+    {
+        match error.kind() {
+            ErrorKind::OutOfMemory => ShelfRefusal::OutOfMemory,
+            _ => {
+                self.faults = self.faults.saturating_add(1);
+                ShelfRefusal::Failed
+            }
+        }
+    }
+}
+
 impl<R: Files> Shelf for DirShelf<R> {
     ghost file = { λ _ _. None };
 
@@ -51,50 +68,43 @@ impl<R: Files> Shelf for DirShelf<R> {
         ensures cause { HasFileCause (λ _. self.old) (λ _. self.new) name.now result }
         ensures count { self.new ≡ count_after self.old result }
     {
-        let answer = read_file(self.alloc, &self.rt, name, limit);
-        if let Err(ShelfRefusal::Failed) = answer {
-            self.faults = self.faults.saturating_add(1);
+        match read_file(self.alloc, &self.rt, name, limit) {
+            Ok(found) => found.map_err(ShelfRefusal::TooLarge),
+            Err(error) => Err(self.refusal_of(error)),
         }
-        answer
     }
 }
 
-// The bytes of a file, where they are at most so many. No more than one byte beyond is held of another.
+// The bytes of a file, or how many there are where they are more than so many. No more than one byte beyond is held.
 fn read_file<R: Files>(
     alloc: Global,
     rt: &R,
     path: &str,
     limit: usize,
-) -> Result<Octets, ShelfRefusal>
-    ensures { IsReading None limit result }
+) -> io::Result<Result<Octets, usize>>
+    ensures { IfOk result (λ found. MatchResult found (λ bytes. length bytes ≤ limit) (λ size. limit < size)) }
 {
-    let mut file = fs::open(rt, path).map_err(refusal_of)?;
+    let mut file = fs::open(rt, path)?;
     let size = size_of(&file)?;
     if size > limit {
-        return Err(ShelfRefusal::TooLarge(size));
+        return Ok(Err(size));
     }
     let mut bytes = Vec::new(alloc);
     let most = (limit as u64).saturating_add(1);
-    (&mut file).take(most).read_to_end(&mut bytes).map_err(refusal_of)?;
+    (&mut file).take(most).read_to_end(&mut bytes)?;
     if bytes.len() > limit {
         // It has grown, or is a device that tells no size.
-        return Err(ShelfRefusal::TooLarge(size_of(&file)?.max(bytes.len())));
+        let size = size_of(&file)?;
+        return Ok(Err(size.max(bytes.len())));
     }
-    Ok(Octets::from_vec(bytes))
+    Ok(Ok(Octets::from_vec(bytes)))
 }
 
 // How many bytes a file has. A directory has none to read.
-fn size_of<F: OpenFile>(file: &F) -> Result<usize, ShelfRefusal> {
-    let metadata = file.metadata().map_err(refusal_of)?;
+fn size_of<F: OpenFile>(file: &F) -> io::Result<usize> {
+    let metadata = file.metadata()?;
     if metadata.is_dir() {
-        return Err(ShelfRefusal::Failed);
+        return Err(io::Error::from(ErrorKind::IsADirectory));
     }
     Ok(metadata.len() as usize)
-}
-
-fn refusal_of(error: io::Error) -> ShelfRefusal {
-    match error.kind() {
-        ErrorKind::OutOfMemory => ShelfRefusal::OutOfMemory,
-        _ => ShelfRefusal::Failed,
-    }
 }

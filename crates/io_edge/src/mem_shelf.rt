@@ -2,7 +2,7 @@ ghost use Rattle.std.specs.Prelude.{◌≡◌, ℕ, [], ◌∷◌, ◌++◌, Lis
 ghost use Rattle.io_edge.specs.declared.shelf_refusal.ShelfRefusal.TheVariants.{Failed as ReadingFailed, OutOfMemory as NoMemory};
 ghost use Rattle.io_edge.specs.Memory.{after_call};
 ghost use Rattle.io_edge.specs.Files.{IsReading, HasFileCause};
-ghost use Rattle.io_edge.specs.Shelves.{place_of, bytes_of, faults_of, reading_of, next_reading, IsAnswerOr, failed_after, after_reading};
+ghost use Rattle.io_edge.specs.Shelves.{has_name, place_of, bytes_of, faults_of, reading_of, next_reading, IsAnswerOr, failed_after, after_reading};
 
 use crate::call_log::CallLog;
 use crate::{FileList, NamedFile, Shelf, ShelfRefusal};
@@ -69,10 +69,13 @@ impl Shelf for MemShelf {
     {
         let fails = self.calls.count_call();
         let place = place_of(self.files.as_slice(), name);
-        if fails || place == self.files.as_slice().len() {
+        if fails {
             return Err(self.fault_at(place));
         }
-        copy_of(self.alloc, &self.files.as_slice()[place], limit)
+        match self.files.as_slice().get(place) {
+            Some(file) => copy_of(self.alloc, file, limit),
+            None => Err(self.fault_at(place)),
+        }
     }
 }
 
@@ -80,10 +83,18 @@ impl Shelf for MemShelf {
 fn place_of(files: &[NamedFile], name: &str) -> usize
     ensures { result ≡ place_of files.now name.now }
 {
-    files
-        .iter()
-        .position(|file| file.name.as_slice() == name.as_bytes())
-        .unwrap_or(files.len())
+    for (place, file) in files.iter().enumerate() {
+        if has_name(file, name) {
+            return place;
+        }
+    }
+    files.len()
+}
+
+fn has_name(file: &NamedFile, name: &str) -> bool
+    ensures { result ≡ has_name name.now file.now }
+{
+    file.name.as_slice() == name.as_bytes()
 }
 
 // The bytes of a file, where they are at most so many.
