@@ -4,12 +4,11 @@ ghost use Rattle.io_edge.specs.Files.{IsReading, HasFileCause, count_after};
 use crate::{Shelf, ShelfRefusal};
 use net_base::Octets;
 use std::alloc::Global;
-use std::fs;
 use std::fs::OpenFile;
-use std::io;
 use std::io::{ErrorKind, Read};
 use std::marker::Model;
 use std::rt::Files;
+use std::{fs, io};
 
 /// The files of a runtime, each by its path. Their bytes are not told. Contracts see the count of faults, which is one
 /// for all names.

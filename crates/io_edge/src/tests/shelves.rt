@@ -30,7 +30,13 @@ fn expect<S: Shelf>(
     wanted: Result<&[u8], ShelfRefusal>,
 ) {
     let found = shelf.read(name, limit);
-    assert_eq!(rt; found.as_ref().map(|bytes| bytes.as_slice()).map_err(|refusal| *refusal), wanted);
+    assert_eq!(rt;
+        found
+            .as_ref()
+            .map(|bytes| bytes.as_slice())
+            .map_err(|refusal| *refusal),
+        wanted
+    );
 }
 
 #[test]
@@ -53,11 +59,23 @@ fn a_file_of_the_system_is_read_by_its_path(rt: HostRuntime) -> Result<(), Fail>
     fs::write(&rt, path.as_path(), b"content".as_slice())?;
     let mut shelf = DirShelf::new(alloc, &rt);
     expect(&rt, &mut shelf, path.as_str(), 7, Ok(b"content"));
-    expect(&rt, &mut shelf, path.as_str(), 6, Err(ShelfRefusal::TooLarge(7)));
+    expect(
+        &rt,
+        &mut shelf,
+        path.as_str(),
+        6,
+        Err(ShelfRefusal::TooLarge(7)),
+    );
     fs::remove_file(&rt, path.as_path())?;
     expect(&rt, &mut shelf, path.as_str(), 7, Err(ShelfRefusal::Failed));
     // a directory, and a device that has no end
     expect(&rt, &mut shelf, "/", 7, Err(ShelfRefusal::Failed));
-    expect(&rt, &mut shelf, "/dev/zero", 7, Err(ShelfRefusal::TooLarge(8)));
+    expect(
+        &rt,
+        &mut shelf,
+        "/dev/zero",
+        7,
+        Err(ShelfRefusal::TooLarge(8)),
+    );
     Ok(())
 }

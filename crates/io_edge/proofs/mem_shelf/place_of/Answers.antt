@@ -20,4 +20,4 @@ pub returns : goal.returns
 returns c =
     let files = c.args.files.now in
     sym (position_or_len_is (has_name c.args.name.now) files (length files) no_file (omega arith)
-        (λ k below. c.loop-place.invariant k no_file (omega (arith, below))) (λ past. absurd (omega (arith, past))))
+    (λ k below. c.loop-place.invariant k no_file (omega (arith, below))) (λ past. absurd (omega (arith, past))))
