@@ -1,4 +1,5 @@
-ghost use Rattle.std.specs.Prelude.{◌≡◌, string_bytes};
+ghost use Rattle.std.specs.Prelude.{◌≡◌, bytes_eq};
+ghost use Rattle.std.specs.List.{list_any};
 ghost use Rattle.std.specs.Option.{option_map};
 ghost use Rattle.toml.specs.Data.{get_member, as_bool};
 ghost use Rattle.toml.specs.View.{view, table_view};
@@ -10,31 +11,6 @@ use net_base::{Addr, Field, Settings, Targets};
 use std::alloc::Global;
 use toml::{Table, Value};
 use trace_text::read_address;
-
-const SETTING_NAMES: [&str; 22] = [
-    "own",
-    "magic",
-    "initiatoronly",
-    "sharing",
-    "hard",
-    "soft",
-    "delay",
-    "idle",
-    "timewait",
-    "handshake",
-    "reply",
-    "backoff",
-    "sharegap",
-    "shares",
-    "root",
-    "known",
-    "established",
-    "active",
-    "rootttl",
-    "tick",
-    "seed",
-    "announce",
-];
 
 // What a value counts as that is no whole number, or is below 0: no range has it.
 const OUT_OF_RANGE: u64 = u64::MAX;
@@ -78,18 +54,53 @@ fn read_table(table: &Table) -> Result<Config, Field>
 fn check_names(table: &Table) -> Result<(), Field>
     ensures { result ≡ known_names (table_view table.now) }
 {
-    for name in table.keys() {
-        if !is_setting(name.as_str()) {
-            return Err(Field::Unknown);
-        }
+    if has_known_names(table) {
+        Ok(())
+    } else {
+        Err(Field::Unknown)
     }
-    Ok(())
+}
+
+fn has_known_names(table: &Table) -> bool
+    ensures { result ≡ has_known_names (table_view table.now) }
+{
+    table.keys().all(|name| is_setting(name.as_str()))
 }
 
 fn is_setting(name: &str) -> bool
     ensures { result ≡ is_setting name.now }
 {
-    SETTING_NAMES.iter().any(|setting| name == *setting)
+    let names = [
+        "own",
+        "magic",
+        "initiatoronly",
+        "sharing",
+        "hard",
+        "soft",
+        "delay",
+        "idle",
+        "timewait",
+        "handshake",
+        "reply",
+        "backoff",
+        "sharegap",
+        "shares",
+        "root",
+        "known",
+        "established",
+        "active",
+        "rootttl",
+        "tick",
+        "seed",
+        "announce",
+    ];
+    is_among(name, &names)
+}
+
+fn is_among(name: &str, names: &[&str]) -> bool
+    ensures { result ≡ list_any (λ other. bytes_eq name.now other.now) names.now }
+{
+    names.iter().any(|other| name == *other)
 }
 
 fn read_own(table: &Table) -> Result<Addr, Field>

@@ -1,4 +1,4 @@
-ghost use Rattle.std.specs.Prelude.{◌≡◌, ◌++◌, OnOk};
+ghost use Rattle.std.specs.Prelude.{◌≡◌, IfOk};
 ghost use Rattle.std.specs.Option.{option_map};
 ghost use Rattle.serde_json.specs.Find.{get, as_str};
 ghost use Rattle.serde_json.specs.View.{view, items_view};
@@ -50,19 +50,15 @@ fn point_at(port: u16, text: &str) -> Option<Addr>
     Some(Addr { ip, port })
 }
 
-/// Puts the addresses of points that have one behind others. A refusal may have put some of them.
-pub(crate) fn add_addresses(
-    addresses: &mut AddrList,
+/// The addresses of points that have one.
+pub(crate) fn addresses_of(
+    alloc: Global,
     points: &[Option<Addr>],
-) -> Result<(), OutOfMemory>
-    ensures { OnOk result (addresses.new ≡ addresses.old ++ addresses_of points.now) }
+) -> Result<AddrList, OutOfMemory>
+    ensures { IfOk result (λ addresses. addresses ≡ addresses_of points.now) }
 {
-    for point in points {
-        if let Some(address) = point {
-            addresses.push(*address)?;
-        }
-    }
-    Ok(())
+    let addresses = points.iter().filter_map(|point| *point).collect(alloc)?;
+    Ok(AddrList::from_vec(addresses))
 }
 
 /// How many points have none.

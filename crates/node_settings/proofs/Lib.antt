@@ -1,0 +1,4 @@
+mod Hosts
+mod Names
+mod Parts
+mod Rest
