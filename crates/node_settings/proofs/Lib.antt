@@ -1,3 +1,4 @@
+mod Documents
 mod Hosts
 mod Names
 mod Parts

@@ -1,6 +1,6 @@
 -- The items of an array, of which some are read already.
-use Rattle.std.proofs.Common.{◌≡◌, ℕ, ◌+◌, ◌<◌, ◌≤◌, List, [], ◌∷◌, length, get_or, drop, Result, Ok, Err, refl, sym, ap, ◌∙◌, subst}
-use Rattle.std.proofs.lemmas.List.{at_drop_more, at_drop_all}
+use Rattle.std.proofs.Common.{◌≡◌, ℕ, ◌+◌, ◌<◌, ◌≤◌, List, [], ◌∷◌, ◌++◌, length, get_or, drop, Result, Ok, Err, refl, sym, ap, ◌∙◌, subst}
+use Rattle.std.proofs.lemmas.List.{at_drop_more, at_drop_all, append_assoc, append-nil}
 use Rattle.serde_json.specs.Data.{Data, item}
 use Rattle.serde_json.specs.View.{view, items_view}
 use Rattle.serde_json.specs.declared.value.Value.{Value}
@@ -15,6 +15,16 @@ pub record Joins {A B : Type 0} (add : A → B → B) (none : B) : Type 0 where
   pub none_first : (all : B) → join none all ≡ all
   pub none_last : (all : B) → join all none ≡ all
   pub pushed : (front : B) (value : A) (rest : B) → join (push front value) rest ≡ join front (add value rest)
+
+-- a list of what is read
+pub lists : {A : Type 0} → Joins {A = A} {B = List A} (λ x xs. x ∷ xs) []
+lists = record {
+  join = λ xs ys. xs ++ ys;
+  push = λ xs x. xs ++ x ∷ [];
+  none_first = λ xs. refl;
+  none_last = append-nil;
+  pushed = λ xs x ys. append_assoc xs (x ∷ []) ys;
+}
 
 module _ {A B : Type 0} (read : Data → Result A Field) (add : A → B → B) (none : B) (joins : Joins add none) where
   -- what was read, with what the rest gives

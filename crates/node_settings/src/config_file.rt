@@ -1,10 +1,12 @@
-ghost use Rattle.std.specs.Prelude.{◌≡◌, bytes_eq};
+ghost use Rattle.std.specs.Prelude.{◌≡◌, ◌⊎◌, bytes_eq};
 ghost use Rattle.std.specs.List.{list_any};
 ghost use Rattle.std.specs.Option.{option_map};
 ghost use Rattle.toml.specs.Data.{get_member, as_bool};
+ghost use Rattle.toml.specs.Errors.{IsMemory};
 ghost use Rattle.toml.specs.View.{view, table_view};
+ghost use Rattle.node_settings.specs.declared.config_refusal.ConfigRefusal.TheVariants.{BadToml as NoToml, OutOfMemory as NoMemory};
 ghost use Rattle.node_settings.specs.Reading.{optional};
-ghost use Rattle.node_settings.specs.Config.{is_setting, has_known_names, whole_number, ranged_number, number_at, known_names, own_in, settings_in, checked_settings_in, targets_in, checked_targets_in, interval_in, config_in, config_of, IsConfigOr};
+ghost use Rattle.node_settings.specs.Config.{is_setting, has_known_names, whole_number, ranged_number, number_at, known_names, own_in, settings_in, checked_settings_in, targets_in, checked_targets_in, interval_in, config_in, refused, config_of, IsConfigOr};
 
 use crate::{Config, ConfigRefusal};
 use net_base::{Addr, Field, Settings, Targets};
@@ -24,10 +26,25 @@ pub fn read_config(alloc: Global, bytes: &[u8]) -> Result<Config, ConfigRefusal>
     ensures { IsConfigOr (config_of bytes.now) result }
 {
     match toml::table_from_slice(alloc, bytes) {
-        Ok(table) => read_table(&table).map_err(ConfigRefusal::BadSetting),
-        Err(error) if error.is_memory() => Err(ConfigRefusal::OutOfMemory),
-        Err(_) => Err(ConfigRefusal::BadToml),
+        Ok(table) => read_document(&table),
+        Err(error) => Err(refusal_of(&error)),
     }
+}
+
+fn refusal_of(error: &toml::de::Error) -> ConfigRefusal
+    ensures { (result ≡ NoMemory) ⊎ ((result ≡ NoToml) × ¬ IsMemory error.now) }
+{
+    if error.is_memory() {
+        ConfigRefusal::OutOfMemory
+    } else {
+        ConfigRefusal::BadToml
+    }
+}
+
+fn read_document(table: &Table) -> Result<Config, ConfigRefusal>
+    ensures { result ≡ refused (config_in (table_view table.now)) }
+{
+    read_table(table).map_err(ConfigRefusal::BadSetting)
 }
 
 fn read_table(table: &Table) -> Result<Config, Field>
