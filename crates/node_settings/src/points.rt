@@ -1,5 +1,5 @@
-ghost use Rattle.std.specs.Prelude.{◌≡◌, IfOk};
-ghost use Rattle.std.specs.Option.{option_map};
+ghost use Rattle.std.specs.Prelude.{◌≡◌, ◌++◌, IfOk, OnOk};
+ghost use Rattle.std.specs.Option.{option_to_list};
 ghost use Rattle.serde_json.specs.Find.{get, as_str};
 ghost use Rattle.serde_json.specs.View.{view, items_view};
 ghost use Rattle.node_settings.specs.Reading.{required};
@@ -57,8 +57,20 @@ pub(crate) fn addresses_of(
 ) -> Result<AddrList, OutOfMemory>
     ensures { IfOk result (λ addresses. addresses ≡ addresses_of points.now) }
 {
-    let addresses = points.iter().filter_map(|point| *point).collect(alloc)?;
-    Ok(AddrList::from_vec(addresses))
+    let mut addresses = AddrList::new(alloc);
+    for point in points {
+        push_address(&mut addresses, *point)?;
+    }
+    Ok(addresses)
+}
+
+fn push_address(addresses: &mut AddrList, point: Option<Addr>) -> Result<(), OutOfMemory>
+    ensures { OnOk result (addresses.new ≡ addresses.old ++ option_to_list point) }
+{
+    match point {
+        Some(address) => addresses.push(address),
+        None => Ok(()),
+    }
 }
 
 /// How many points have none.
