@@ -1,0 +1,357 @@
+"""One screen of a run: sections of lines, as text with colours or plain."""
+
+from __future__ import annotations
+
+from dataclasses import dataclass
+
+from rich.text import Text
+
+from .durations import in_words
+from .run import Connection, Notice, PeerClass, Run
+from .targets import Targets, effective, next_edge
+
+# Okabe and Ito's colours, which colour-blind readers tell apart; no meaning hangs on them alone
+GOOD = "#009e73"
+CAREFUL = "#e69f00"
+BAD = "#d55e00"
+QUIET = "#999999"
+HEADING = "bold #56b4e9"
+
+TWO_COLUMNS_FROM = 160
+ROWS_AT_LEAST = 3
+GROUPS_SHOWN = 8
+
+
+@dataclass(frozen=True)
+class Glyphs:
+    """What bars and headings are made of."""
+
+    full: str
+    empty: str
+    mark: str
+    rule: str
+
+
+PLAIN = Glyphs("#", ".", "|", "-")
+DRAWN = Glyphs("\u2588", "\u2591", "\u2502", "\u2500")
+
+
+@dataclass(frozen=True)
+class View:
+    """How a run is to be shown."""
+
+    width: int
+    glyphs: Glyphs = PLAIN
+    height: int | None = None
+    busiest: bool = False
+    rows: int = 10
+
+
+@dataclass
+class Section:
+    title: str
+    rows: list[Text]
+
+
+def styled(*parts: str | tuple[str, str]) -> Text:
+    return Text.assemble(*parts, no_wrap=True, overflow="ellipsis")
+
+
+def bar(value: int, whole: int, length: int, glyphs: Glyphs, mark: int | None = None) -> str:
+    """A bar that is full where the value reaches the whole, with a mark at a value in between."""
+    filled = length if value >= whole else value * length // whole
+    if value and not filled:
+        filled = 1
+    cells = [glyphs.full] * filled + [glyphs.empty] * (length - filled)
+    if mark is not None and 0 < mark < whole:
+        cells[min(length - 1, mark * length // whole)] = glyphs.mark
+    return "[" + "".join(cells) + "]"
+
+
+def header(run: Run) -> list[Text]:
+    own = run.own or "an address that was not told"
+    version = "no version told" if run.version is None else f"version {run.version}"
+    return [
+        styled(("Heomtsel", "bold"), f" at {own}, {version}, now {run.moment} ms ({in_words(run.moment)})"),
+        styled(f"{run.events} events, {run.actions} actions, {ending(run)}"),
+    ]
+
+
+def ending(run: Run) -> str:
+    if run.has_ended:
+        said = "the trace has ended"
+    elif run.input_has_ended:
+        said = "the input ended before the trace did"
+    else:
+        said = "more may come"
+    if run.events and not run.actions:
+        said += "; no action lines (./heomtsel replay writes them)"
+    return said
+
+
+# Connections against the limits
+
+
+def limits(run: Run, view: View) -> Section:
+    counted, soft, hard = run.counted, run.settings.soft, run.settings.hard
+    if counted >= hard:
+        word, style = "full", BAD
+    elif counted > soft:
+        word, style = "above soft", CAREFUL
+    else:
+        word, style = "below the limits", GOOD
+    drawn = bar(counted, hard, 30, view.glyphs, soft)
+    return Section(
+        "Connections against the limits",
+        [
+            styled("counted      ", (drawn, style), f" {counted} of hard {hard}, soft {soft}: ", (word, style)),
+            styled("accepting    ", accepting(run)),
+            styled("turned away  ", turned_away(run)),
+            styled(f"came         {run.admitted} accepted, {run.dialed} dialed, of which {run.failed_dials} failed"),
+            styled("closed       ", closed(run)),
+        ],
+    )
+
+
+def accepting(run: Run) -> tuple[str, str]:
+    times = f"pauses {run.pauses}"
+    if run.pauses:
+        times += f", the last for {in_words(run.last_pause)}"
+    left = run.paused_until - run.moment
+    if left > 0:
+        return f"paused till {run.paused_until} ms ({in_words(left)} more); {times}", CAREFUL
+    return f"open; {times}", ""
+
+
+def turned_away(run: Run) -> str:
+    last = "" if run.last_turned_away is None else f"; the last {run.last_turned_away}"
+    return in_parts(run.turn_aways, "nobody") + last
+
+
+def closed(run: Run) -> str:
+    parts = in_parts(run.closes, "none")
+    return f"{parts} ({in_parts(run.faults, '', False)})" if run.faults else parts
+
+
+def in_parts(counts: dict[str, int], nothing: str, with_sum: bool = True) -> str:
+    told = [f"{name} {count}" for name, count in sorted(counts.items()) if count]
+    if not told:
+        return nothing
+    return (f"{sum(counts.values())}: " if with_sum else "") + ", ".join(told)
+
+
+# Peers against their targets
+
+
+def peers(run: Run, view: View) -> Section:
+    rows = []
+    for peer_class in PeerClass:
+        if peer_class is PeerClass.BIG and not shows_big(run):
+            continue
+        rows += peers_of(run, peer_class, view)
+        if peer_class is PeerClass.ORDINARY:
+            rows.append(public_roots(run, view))
+    return Section("Peers against their targets", rows)
+
+
+def shows_big(run: Run) -> bool:
+    return run.version == 2 or run.known(PeerClass.BIG) > 0
+
+
+def peers_of(run: Run, peer_class: PeerClass, view: View) -> list[Text]:
+    given, now = run.targets[peer_class], run.effective(peer_class)
+    measures = [
+        ("known", run.known(peer_class), now.known, given.known),
+        ("established", run.established(peer_class), now.established, given.established),
+        ("active", run.active(peer_class), now.active, given.active),
+    ]
+    rows = []
+    for place, (name, count, target, usual) in enumerate(measures):
+        heading = peer_class.value if place == 0 else ""
+        said = styled(f"{heading:<12}", *measure(name, count, target, view))
+        if target < usual:
+            left = in_words(next_edge(run.moment) - run.moment)
+            said.append(f"  churn: lowered from {usual} for {left} more", CAREFUL)
+        rows.append(said)
+    return rows
+
+
+def measure(name: str, count: int, target: int, view: View) -> tuple[str | tuple[str, str], ...]:
+    style = GOOD if count == target else CAREFUL
+    drawn = bar(count, target, 20, view.glyphs) if target else " " * 22
+    word = "" if count == target else "  below" if count < target else "  above"
+    return f"{name:<13}", (drawn, style), f" {count:>5} of {target:<5}", (word, style)
+
+
+def public_roots(run: Run, view: View) -> Text:
+    roots = run.roots
+    said = styled(" " * 12, *measure("public roots", len(roots.addresses), roots.target, view))
+    if roots.job is not None:
+        said.append(f"  asked, question {roots.job}")
+    elif roots.due > run.moment:
+        said.append(f"  next question not before {roots.due} ms")
+    return said
+
+
+def groups(run: Run, _: View) -> Section:
+    rows = [group_row(run, place) for place in range(min(len(run.groups), GROUPS_SHOWN))]
+    if len(run.groups) > GROUPS_SHOWN:
+        rows.append(styled(f"and {len(run.groups) - GROUPS_SHOWN} groups more"))
+    return Section("Local groups", rows or [styled(("none", QUIET))])
+
+
+def group_row(run: Run, place: int) -> Text:
+    group = run.groups[place]
+    temperatures = [run.peers[member].temperature for member in group.members if member in run.peers]
+    hot = temperatures.count("hot")
+    established = hot + temperatures.count("warm")
+    told = "told to others" if group.advertised else "kept to this node"
+    enough = established >= group.warm and hot >= group.hot
+    return styled(
+        f"group {place + 1:<4}",
+        (f"warm or hot {established} of {group.warm}, hot {hot} of {group.hot}", GOOD if enough else CAREFUL),
+        f"; {len(group.members)} members, {told}",
+    )
+
+
+# Connections
+
+
+def states(run: Run, view: View) -> Section:
+    told = [f"{name} {count}" for name, count in run.by_state.most_common() if count > 0]
+    return Section(f"Connections by state: {len(run.connections)}", wrapped(told, view.width) or [styled(("none", QUIET))])
+
+
+def wrapped(words: list[str], width: int) -> list[Text]:
+    rows: list[str] = []
+    for word in words:
+        if rows and len(rows[-1]) + 3 + len(word) <= width:
+            rows[-1] += "   " + word
+        else:
+            rows.append(word)
+    return [styled(row) for row in rows]
+
+
+def table(run: Run, view: View, rows: int) -> Section:
+    if view.busiest:
+        order, title = (lambda connection: connection.bytes_in + connection.bytes_out), "The busiest connections"
+    else:
+        order, title = (lambda connection: connection.id), "The newest connections"
+    # of as many bytes the newest goes first
+    newest_first = sorted(run.connections.values(), key=lambda connection: -connection.id)
+    shown = sorted(newest_first, key=order, reverse=True)[:rows]
+    cells = [("id", "address", "dialed by", "state", "since ms", "for", "peer", "bytes in", "out")]
+    cells += [connection_cells(run, connection) for connection in shown]
+    return Section(title, aligned(cells, view.width))
+
+
+def connection_cells(run: Run, connection: Connection) -> tuple[str, ...]:
+    peer = run.peers.get(connection.address)
+    return (
+        str(connection.id),
+        connection.address,
+        connection.dialer.value,
+        connection.state or "?",
+        str(connection.since),
+        in_words(run.moment - connection.since),
+        "-" if peer is None else peer.temperature,
+        str(connection.bytes_in),
+        str(connection.bytes_out),
+    )
+
+
+def aligned(cells: list[tuple[str, ...]], width: int) -> list[Text]:
+    """The cells in columns. The second one, the address, is cut where the width does not do."""
+    widths = [max(len(row[place]) for row in cells) for place in range(len(cells[0]))]
+    excess = sum(widths) + 2 * (len(widths) - 1) - width
+    if excess > 0:
+        widths[1] = max(9, widths[1] - excess)
+    rows = ["  ".join(cut(cell, size) for cell, size in zip(row, widths)).rstrip() for row in cells]
+    return [styled((row, QUIET if place == 0 else "")) for place, row in enumerate(rows)]
+
+
+def cut(cell: str, size: int) -> str:
+    return cell.ljust(size) if len(cell) <= size else cell[: size - 2] + ".."
+
+
+# What is worth a look
+
+
+def notices(run: Run, _: View, rows: int) -> Section:
+    last = list(run.notices)[-rows:] if rows else []
+    return Section("The last things worth a look", [notice_row(each) for each in reversed(last)] or [styled(("none", QUIET))])
+
+
+def notice_row(notice: Notice) -> Text:
+    said = styled(f"{notice.moment:>10} ms  ", (f"{notice.what:<20}", BAD))
+    if notice.connection is not None:
+        said.append(f"  {notice.connection}")
+    if notice.address is not None:
+        said.append(f"  {notice.address}")
+    if notice.back_off is not None:
+        left = notice.back_off
+        row = "" if left.failures == 1 else f", failure {left.failures} in a row"
+        said.append(f"  left alone for {in_words(left.duration)}, till {left.until} ms{row}")
+    return said
+
+
+def without_trace(run: Run, _: View) -> Section | None:
+    if not run.lines_without_trace:
+        return None
+    rows = [styled((f"line {number}: {text}", CAREFUL)) for number, text in run.last_without_trace]
+    return Section(f"Lines that are no trace: {run.lines_without_trace}", rows)
+
+
+# The whole screen
+
+
+def drawn(section: Section, view: View) -> list[Text]:
+    rule = view.glyphs.rule
+    title = f"{rule * 2} {section.title} "
+    return [styled((title + rule * max(0, view.width - len(title)), HEADING)), *section.rows]
+
+
+def fixed_sections(run: Run, view: View) -> list[Section]:
+    sections = [limits(run, view), peers(run, view), groups(run, view), states(run, view), without_trace(run, view)]
+    return [section for section in sections if section is not None]
+
+
+def whole(run: Run, view: View) -> list[Text]:
+    """The lines of one screen: as long as it is, or as high as the view says."""
+    if view.height is not None and view.width >= TWO_COLUMNS_FROM:
+        return in_two_columns(run, view)
+    rows = header(run)
+    for section in fixed_sections(run, view):
+        rows += drawn(section, view)
+    count, last = shares_of(view, len(rows))
+    rows += drawn(table(run, view, count), view)
+    rows += drawn(notices(run, view, last), view)
+    return rows[: view.height]
+
+
+def shares_of(view: View, taken: int) -> tuple[int, int]:
+    """How many rows the table of connections has, and how many the last things."""
+    if view.height is None:
+        return view.rows, view.rows
+    # two headings and the names of the columns
+    left = max(2 * ROWS_AT_LEAST, view.height - taken - 3)
+    last = min(view.rows, left // 2)
+    return min(view.rows, left - last), last
+
+
+def in_two_columns(run: Run, view: View) -> list[Text]:
+    gap = 2
+    left_view = View((view.width - gap) // 2, view.glyphs, view.height, view.busiest, view.rows)
+    left = [row for section in fixed_sections(run, left_view) for row in drawn(section, left_view)]
+    top = header(run)
+    count, last = shares_of(view, len(top))
+    right = drawn(table(run, left_view, count), left_view) + drawn(notices(run, left_view, last), left_view)
+    rows = []
+    for place in range(max(len(left), len(right))):
+        row = left[place].copy() if place < len(left) else styled("")
+        row.truncate(left_view.width, overflow="ellipsis", pad=True)
+        row.append(" " * gap)
+        if place < len(right):
+            row.append_text(right[place])
+        rows.append(row)
+    return (top + rows)[: view.height]
