@@ -25,18 +25,19 @@ BLACK, ORANGE, SKY, GREEN = "#000000", "#e69f00", "#56b4e9", "#009e73"
 YELLOW, BLUE, VERMILLION, PURPLE = "#f0e442", "#0072b2", "#d55e00", "#cc79a7"
 GREY = "#c8c8c8"
 
-# A hue says who uses a connection, a hatch how far it is; both stand in the order of a connection's life.
+# A hue says who uses a connection, and the hatch tells each state from all others in print without colours. They stand in
+# the order of a connection's life.
 STATE_LOOKS = {
     "ReservedOutbound": (YELLOW, "...."),
     "UnnegotiatedOutbound": (YELLOW, "////"),
     "UnnegotiatedInbound": (YELLOW, ""),
     "InboundIdle": (SKY, "...."),
     "Inbound": (SKY, ""),
-    "Duplex": (GREEN, ""),
-    "OutboundUni": (PURPLE, ""),
-    "OutboundDupTicking": (ORANGE, "////"),
-    "OutboundDupExpired": (ORANGE, ""),
-    "OutboundIdle": (ORANGE, "...."),
+    "Duplex": (GREEN, "++++"),
+    "OutboundUni": (PURPLE, "----"),
+    "OutboundDupTicking": (ORANGE, "\\\\\\\\"),
+    "OutboundDupExpired": (ORANGE, "||||"),
+    "OutboundIdle": (ORANGE, "ooo"),
     "Terminating": (GREY, "xxxx"),
 }
 TEMPERATURE_LOOKS = {"hot": (VERMILLION, "////"), "warm": (ORANGE, ""), "cold": (SKY, "....")}

@@ -12,7 +12,10 @@ def in_words(milliseconds: int) -> str:
     if milliseconds < SECOND:
         return f"{milliseconds} ms"
     if milliseconds < MINUTE:
-        return f"{milliseconds / SECOND:.3f}".rstrip("0").rstrip(".") + " s"
+        digits = 3 if milliseconds < 10 * SECOND else 1
+        # rounded down, so that no second is told that has not passed
+        seconds = milliseconds // 10 ** (3 - digits) / 10**digits
+        return f"{seconds:.{digits}f}".rstrip("0").rstrip(".") + " s"
     if milliseconds < HOUR:
         return f"{milliseconds // MINUTE} min {milliseconds % MINUTE // SECOND:02d} s"
     if milliseconds < DAY:

@@ -8,7 +8,7 @@ from rich.text import Text
 
 from .durations import in_words
 from .run import Connection, Notice, PeerClass, Run
-from .targets import Targets, effective, next_edge
+from .targets import next_edge
 
 # Okabe and Ito's colours, which colour-blind readers tell apart; no meaning hangs on them alone
 GOOD = "#009e73"
@@ -17,7 +17,10 @@ BAD = "#d55e00"
 QUIET = "#999999"
 HEADING = "bold #56b4e9"
 
-TWO_COLUMNS_FROM = 160
+LIMIT_BAR = 30
+TARGET_BAR = 12
+CLASS_WIDTH = 11
+TWO_COLUMNS_FROM = 180
 ROWS_AT_LEAST = 3
 GROUPS_SHOWN = 8
 
@@ -100,15 +103,16 @@ def limits(run: Run, view: View) -> Section:
         word, style = "above soft", CAREFUL
     else:
         word, style = "below the limits", GOOD
-    drawn = bar(counted, hard, 30, view.glyphs, soft)
+    drawn = bar(counted, hard, LIMIT_BAR, view.glyphs, soft)
     return Section(
         "Connections against the limits",
         [
             styled("counted      ", (drawn, style), f" {counted} of hard {hard}, soft {soft}: ", (word, style)),
             styled("accepting    ", accepting(run)),
-            styled("turned away  ", turned_away(run)),
+            *listed("turned away  ", turned_away(run), view.width),
             styled(f"came         {run.admitted} accepted, {run.dialed} dialed, of which {run.failed_dials} failed"),
-            styled("closed       ", closed(run)),
+            *listed("closed       ", in_parts(run.closes, "none"), view.width),
+            *(listed("faults       ", in_parts(run.faults, "none"), view.width) if run.faults else []),
         ],
     )
 
@@ -123,21 +127,26 @@ def accepting(run: Run) -> tuple[str, str]:
     return f"open; {times}", ""
 
 
-def turned_away(run: Run) -> str:
-    last = "" if run.last_turned_away is None else f"; the last {run.last_turned_away}"
-    return in_parts(run.turn_aways, "nobody") + last
+def turned_away(run: Run) -> list[str]:
+    parts = in_parts(run.turn_aways, "nobody")
+    return parts if run.last_turned_away is None else [*parts, f"the last {run.last_turned_away}"]
 
 
-def closed(run: Run) -> str:
-    parts = in_parts(run.closes, "none")
-    return f"{parts} ({in_parts(run.faults, '', False)})" if run.faults else parts
-
-
-def in_parts(counts: dict[str, int], nothing: str, with_sum: bool = True) -> str:
+def in_parts(counts: dict[str, int], nothing: str) -> list[str]:
     told = [f"{name} {count}" for name, count in sorted(counts.items()) if count]
-    if not told:
-        return nothing
-    return (f"{sum(counts.values())}: " if with_sum else "") + ", ".join(told)
+    return [f"{sum(counts.values())} in all", *told] if told else [nothing]
+
+
+def listed(heading: str, parts: list[str], width: int) -> list[Text]:
+    """The parts behind a heading, in as many rows as the width wants."""
+    rows = [heading + parts[0]]
+    for part in parts[1:]:
+        if len(rows[-1]) + 3 + len(part) <= width:
+            rows[-1] += ", " + part
+        else:
+            rows[-1] += ","
+            rows.append(" " * len(heading) + part)
+    return [styled(row) for row in rows]
 
 
 # Peers against their targets
@@ -168,28 +177,28 @@ def peers_of(run: Run, peer_class: PeerClass, view: View) -> list[Text]:
     rows = []
     for place, (name, count, target, usual) in enumerate(measures):
         heading = peer_class.value if place == 0 else ""
-        said = styled(f"{heading:<12}", *measure(name, count, target, view))
+        said = styled(f"{heading:<{CLASS_WIDTH}}", *measure(name, count, target, view))
         if target < usual:
             left = in_words(next_edge(run.moment) - run.moment)
-            said.append(f"  churn: lowered from {usual} for {left} more", CAREFUL)
+            said.append(f"  churn lowers {usual} for {left}", CAREFUL)
         rows.append(said)
     return rows
 
 
 def measure(name: str, count: int, target: int, view: View) -> tuple[str | tuple[str, str], ...]:
     style = GOOD if count == target else CAREFUL
-    drawn = bar(count, target, 20, view.glyphs) if target else " " * 22
+    drawn = bar(count, target, TARGET_BAR, view.glyphs) if target else " " * (TARGET_BAR + 2)
     word = "" if count == target else "  below" if count < target else "  above"
     return f"{name:<13}", (drawn, style), f" {count:>5} of {target:<5}", (word, style)
 
 
 def public_roots(run: Run, view: View) -> Text:
     roots = run.roots
-    said = styled(" " * 12, *measure("public roots", len(roots.addresses), roots.target, view))
+    said = styled(" " * CLASS_WIDTH, *measure("public roots", len(roots.addresses), roots.target, view))
     if roots.job is not None:
         said.append(f"  asked, question {roots.job}")
     elif roots.due > run.moment:
-        said.append(f"  next question not before {roots.due} ms")
+        said.append(f"  next question from {roots.due} ms on")
     return said
 
 
@@ -219,17 +228,8 @@ def group_row(run: Run, place: int) -> Text:
 
 def states(run: Run, view: View) -> Section:
     told = [f"{name} {count}" for name, count in run.by_state.most_common() if count > 0]
-    return Section(f"Connections by state: {len(run.connections)}", wrapped(told, view.width) or [styled(("none", QUIET))])
-
-
-def wrapped(words: list[str], width: int) -> list[Text]:
-    rows: list[str] = []
-    for word in words:
-        if rows and len(rows[-1]) + 3 + len(word) <= width:
-            rows[-1] += "   " + word
-        else:
-            rows.append(word)
-    return [styled(row) for row in rows]
+    rows = listed("", told, view.width) if told else [styled(("none", QUIET))]
+    return Section(f"Connections by state: {len(run.connections)}", rows)
 
 
 def table(run: Run, view: View, rows: int) -> Section:
@@ -277,22 +277,21 @@ def cut(cell: str, size: int) -> str:
 # What is worth a look
 
 
-def notices(run: Run, _: View, rows: int) -> Section:
+def notices(run: Run, view: View, rows: int) -> Section:
+    title = "The last things worth a look"
     last = list(run.notices)[-rows:] if rows else []
-    return Section("The last things worth a look", [notice_row(each) for each in reversed(last)] or [styled(("none", QUIET))])
+    if not last:
+        return Section(title, [styled(("none", QUIET))])
+    cells = [("at ms", "address", "what", "id", "left alone for", "till ms", "failures")]
+    cells += [notice_cells(notice) for notice in reversed(last)]
+    return Section(title, aligned(cells, view.width))
 
 
-def notice_row(notice: Notice) -> Text:
-    said = styled(f"{notice.moment:>10} ms  ", (f"{notice.what:<20}", BAD))
-    if notice.connection is not None:
-        said.append(f"  {notice.connection}")
-    if notice.address is not None:
-        said.append(f"  {notice.address}")
-    if notice.back_off is not None:
-        left = notice.back_off
-        row = "" if left.failures == 1 else f", failure {left.failures} in a row"
-        said.append(f"  left alone for {in_words(left.duration)}, till {left.until} ms{row}")
-    return said
+def notice_cells(notice: Notice) -> tuple[str, ...]:
+    back_off = notice.back_off
+    alone = ("", "", "") if back_off is None else (in_words(back_off.duration), str(back_off.until), str(back_off.failures))
+    number = "" if notice.connection is None else str(notice.connection)
+    return (str(notice.moment), notice.address or "", notice.what, number, *alone)
 
 
 def without_trace(run: Run, _: View) -> Section | None:
