@@ -7,6 +7,7 @@ from dataclasses import dataclass
 from rich.text import Text
 
 from .durations import in_words
+from .lines import Group
 from .run import Connection, Notice, PeerClass, Run
 from .targets import next_edge
 
@@ -21,7 +22,9 @@ LIMIT_BAR = 30
 TARGET_BAR = 12
 CLASS_WIDTH = 11
 TWO_COLUMNS_FROM = 180
-ROWS_AT_LEAST = 3
+SHORT_BELOW = 34
+NARROWEST_ADDRESS = 9
+ROWS_AT_LEAST = 2
 GROUPS_SHOWN = 8
 
 
@@ -48,6 +51,15 @@ class View:
     height: int | None = None
     busiest: bool = False
     rows: int = 10
+
+    @property
+    def has_two_columns(self) -> bool:
+        return self.height is not None and self.width >= TWO_COLUMNS_FROM
+
+    @property
+    def is_short(self) -> bool:
+        """Whether some rows have to be left out, so that the connections and the last things have their place."""
+        return self.height is not None and self.height < SHORT_BELOW and not self.has_two_columns
 
 
 @dataclass
@@ -104,17 +116,18 @@ def limits(run: Run, view: View) -> Section:
     else:
         word, style = "below the limits", GOOD
     drawn = bar(counted, hard, LIMIT_BAR, view.glyphs, soft)
-    return Section(
-        "Connections against the limits",
-        [
-            styled("counted      ", (drawn, style), f" {counted} of hard {hard}, soft {soft}: ", (word, style)),
-            styled("accepting    ", accepting(run)),
-            *listed("turned away  ", turned_away(run), view.width),
-            styled(f"came         {run.admitted} accepted, {run.dialed} dialed, of which {run.failed_dials} failed"),
-            *listed("closed       ", in_parts(run.closes, "none"), view.width),
-            *(listed("faults       ", in_parts(run.faults, "none"), view.width) if run.faults else []),
-        ],
-    )
+    rows = [
+        styled("counted      ", (drawn, style), f" {counted} of hard {hard}, soft {soft}: ", (word, style)),
+        styled("accepting    ", accepting(run)),
+        *listed("turned away  ", turned_away(run), view.width),
+        *listed("closed       ", in_parts(run.closes, "none"), view.width),
+    ]
+    if view.is_short:
+        return Section("", rows)
+    if run.faults:
+        rows += listed("faults       ", in_parts(run.faults, "none"), view.width)
+    rows.append(styled(f"came         {run.admitted} accepted, {run.dialed} dialed, of which {run.failed_dials} failed"))
+    return Section("Connections against the limits", rows)
 
 
 def accepting(run: Run) -> tuple[str, str]:
@@ -155,7 +168,7 @@ def listed(heading: str, parts: list[str], width: int) -> list[Text]:
 def peers(run: Run, view: View) -> Section:
     rows = []
     for peer_class in PeerClass:
-        if peer_class is PeerClass.BIG and not shows_big(run):
+        if peer_class is PeerClass.BIG and not shows_big(run, view):
             continue
         rows += peers_of(run, peer_class, view)
         if peer_class is PeerClass.ORDINARY:
@@ -163,8 +176,9 @@ def peers(run: Run, view: View) -> Section:
     return Section("Peers against their targets", rows)
 
 
-def shows_big(run: Run) -> bool:
-    return run.version == 2 or run.known(PeerClass.BIG) > 0
+def shows_big(run: Run, view: View) -> bool:
+    has_any = run.known(PeerClass.BIG) > 0 or run.targets[PeerClass.BIG].known > 0
+    return has_any or (run.version == 2 and not view.is_short)
 
 
 def peers_of(run: Run, peer_class: PeerClass, view: View) -> list[Text]:
@@ -202,23 +216,37 @@ def public_roots(run: Run, view: View) -> Text:
     return said
 
 
-def groups(run: Run, _: View) -> Section:
+def groups(run: Run, view: View) -> Section:
+    if view.is_short:
+        satisfied = sum(is_satisfied(run, group) for group in run.groups)
+        return Section("", [styled(f"local groups {satisfied} of {len(run.groups)} have as many peers as they want")])
     rows = [group_row(run, place) for place in range(min(len(run.groups), GROUPS_SHOWN))]
     if len(run.groups) > GROUPS_SHOWN:
         rows.append(styled(f"and {len(run.groups) - GROUPS_SHOWN} groups more"))
     return Section("Local groups", rows or [styled(("none", QUIET))])
 
 
+def in_use(run: Run, group: Group) -> tuple[int, int]:
+    """How many members are warm or hot, and how many of these hot."""
+    temperatures = [run.peers[member].temperature for member in group.members if member in run.peers]
+    return temperatures.count("hot") + temperatures.count("warm"), temperatures.count("hot")
+
+
+def is_satisfied(run: Run, group: Group) -> bool:
+    established, hot = in_use(run, group)
+    return established >= group.warm and hot >= group.hot
+
+
 def group_row(run: Run, place: int) -> Text:
     group = run.groups[place]
-    temperatures = [run.peers[member].temperature for member in group.members if member in run.peers]
-    hot = temperatures.count("hot")
-    established = hot + temperatures.count("warm")
+    established, hot = in_use(run, group)
     told = "told to others" if group.advertised else "kept to this node"
-    enough = established >= group.warm and hot >= group.hot
     return styled(
         f"group {place + 1:<4}",
-        (f"warm or hot {established} of {group.warm}, hot {hot} of {group.hot}", GOOD if enough else CAREFUL),
+        (
+            f"warm or hot {established} of {group.warm}, hot {hot} of {group.hot}",
+            GOOD if is_satisfied(run, group) else CAREFUL,
+        ),
         f"; {len(group.members)} members, {told}",
     )
 
@@ -228,6 +256,8 @@ def group_row(run: Run, place: int) -> Text:
 
 def states(run: Run, view: View) -> Section:
     told = [f"{name} {count}" for name, count in run.by_state.most_common() if count > 0]
+    if view.is_short:
+        return Section("", listed("connections  ", [f"{len(run.connections)} in all", *told], view.width))
     rows = listed("", told, view.width) if told else [styled(("none", QUIET))]
     return Section(f"Connections by state: {len(run.connections)}", rows)
 
@@ -242,7 +272,7 @@ def table(run: Run, view: View, rows: int) -> Section:
     shown = sorted(newest_first, key=order, reverse=True)[:rows]
     cells = [("id", "address", "dialed by", "state", "since ms", "for", "peer", "bytes in", "out")]
     cells += [connection_cells(run, connection) for connection in shown]
-    return Section(title, aligned(cells, view.width))
+    return Section(title, aligned(cells, view.width, needed=7))
 
 
 def connection_cells(run: Run, connection: Connection) -> tuple[str, ...]:
@@ -260,14 +290,18 @@ def connection_cells(run: Run, connection: Connection) -> tuple[str, ...]:
     )
 
 
-def aligned(cells: list[tuple[str, ...]], width: int) -> list[Text]:
-    """The cells in columns. The second one, the address, is cut where the width does not do."""
+def aligned(cells: list[tuple[str, ...]], width: int, needed: int) -> list[Text]:
+    """The cells in columns: where the width does not do, as many as are needed, with the addresses in the second one cut."""
     widths = [max(len(row[place]) for row in cells) for place in range(len(cells[0]))]
-    excess = sum(widths) + 2 * (len(widths) - 1) - width
-    if excess > 0:
-        widths[1] = max(9, widths[1] - excess)
+    while len(widths) > needed and excess_of(widths, width) > 0:
+        widths.pop()
+    widths[1] -= min(max(0, excess_of(widths, width)), max(0, widths[1] - NARROWEST_ADDRESS))
     rows = ["  ".join(cut(cell, size) for cell, size in zip(row, widths)).rstrip() for row in cells]
     return [styled((row, QUIET if place == 0 else "")) for place, row in enumerate(rows)]
+
+
+def excess_of(widths: list[int], width: int) -> int:
+    return sum(widths) + 2 * (len(widths) - 1) - width
 
 
 def cut(cell: str, size: int) -> str:
@@ -284,7 +318,7 @@ def notices(run: Run, view: View, rows: int) -> Section:
         return Section(title, [styled(("none", QUIET))])
     cells = [("at ms", "address", "what", "id", "left alone for", "till ms", "failures")]
     cells += [notice_cells(notice) for notice in reversed(last)]
-    return Section(title, aligned(cells, view.width))
+    return Section(title, aligned(cells, view.width, needed=5))
 
 
 def notice_cells(notice: Notice) -> tuple[str, ...]:
@@ -294,10 +328,11 @@ def notice_cells(notice: Notice) -> tuple[str, ...]:
     return (str(notice.moment), notice.address or "", notice.what, number, *alone)
 
 
-def without_trace(run: Run, _: View) -> Section | None:
+def without_trace(run: Run, view: View) -> Section | None:
     if not run.lines_without_trace:
         return None
-    rows = [styled((f"line {number}: {text}", CAREFUL)) for number, text in run.last_without_trace]
+    last = list(run.last_without_trace)[-1 if view.is_short else 0 :]
+    rows = [styled((f"line {number}: {text}", CAREFUL)) for number, text in last]
     return Section(f"Lines that are no trace: {run.lines_without_trace}", rows)
 
 
@@ -305,6 +340,8 @@ def without_trace(run: Run, _: View) -> Section | None:
 
 
 def drawn(section: Section, view: View) -> list[Text]:
+    if not section.title:
+        return section.rows
     rule = view.glyphs.rule
     title = f"{rule * 2} {section.title} "
     return [styled((title + rule * max(0, view.width - len(title)), HEADING)), *section.rows]
@@ -317,7 +354,7 @@ def fixed_sections(run: Run, view: View) -> list[Section]:
 
 def whole(run: Run, view: View) -> list[Text]:
     """The lines of one screen: as long as it is, or as high as the view says."""
-    if view.height is not None and view.width >= TWO_COLUMNS_FROM:
+    if view.has_two_columns:
         return in_two_columns(run, view)
     rows = header(run)
     for section in fixed_sections(run, view):
@@ -332,8 +369,8 @@ def shares_of(view: View, taken: int) -> tuple[int, int]:
     """How many rows the table of connections has, and how many the last things."""
     if view.height is None:
         return view.rows, view.rows
-    # two headings and the names of the columns
-    left = max(2 * ROWS_AT_LEAST, view.height - taken - 3)
+    # two headings, each with the names of the columns
+    left = max(2 * ROWS_AT_LEAST, view.height - taken - 4)
     last = min(view.rows, left // 2)
     return min(view.rows, left - last), last
 
