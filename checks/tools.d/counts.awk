@@ -5,6 +5,9 @@ function is_counted(name) {
     return name == "UnnegotiatedInbound" || name == "InboundIdle" || name == "Inbound" || name == "Duplex"
 }
 
+# a line whose number is misspelled is none of the trace
+$1 == "now" && $2 !~ /^(0|[1-9][0-9]*)$/ { next }
+
 $1 == "set" { setting[$2] = $3 }
 $1 == "now" && $2 > moment { moment = $2 }
 $1 != ">" { event = $1 }

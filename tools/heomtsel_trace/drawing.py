@@ -2,6 +2,7 @@
 
 from __future__ import annotations
 
+from collections import Counter
 from collections.abc import Callable
 from dataclasses import dataclass
 
@@ -25,29 +26,32 @@ BLACK, ORANGE, SKY, GREEN = "#000000", "#e69f00", "#56b4e9", "#009e73"
 YELLOW, BLUE, VERMILLION, PURPLE = "#f0e442", "#0072b2", "#d55e00", "#cc79a7"
 GREY = "#c8c8c8"
 
-# A hue says who uses a connection, and the hatch tells each state from all others in print without colours. They stand in
-# the order of a connection's life.
+# A hue says who uses a connection, and the hatch tells each state from all others in print without colours. Hatches are of
+# lines, since dots make a drawing large. They stand in the order of a connection's life.
 STATE_LOOKS = {
-    "ReservedOutbound": (YELLOW, "...."),
+    "ReservedOutbound": (YELLOW, "----"),
     "UnnegotiatedOutbound": (YELLOW, "////"),
     "UnnegotiatedInbound": (YELLOW, ""),
-    "InboundIdle": (SKY, "...."),
+    "InboundIdle": (SKY, "----"),
     "Inbound": (SKY, ""),
     "Duplex": (GREEN, "++++"),
-    "OutboundUni": (PURPLE, "----"),
+    "OutboundUni": (PURPLE, "////"),
     "OutboundDupTicking": (ORANGE, "\\\\\\\\"),
     "OutboundDupExpired": (ORANGE, "||||"),
-    "OutboundIdle": (ORANGE, "ooo"),
-    "Terminating": (GREY, "xxxx"),
+    "OutboundIdle": (ORANGE, "xxxx"),
+    "Terminating": (GREY, "xxx"),
 }
-TEMPERATURE_LOOKS = {"hot": (VERMILLION, "////"), "warm": (ORANGE, ""), "cold": (SKY, "....")}
+TEMPERATURE_LOOKS = {"hot": (VERMILLION, "////"), "warm": (ORANGE, "\\\\\\\\"), "cold": (SKY, "")}
 MARK_LOOKS = {"fault": ("X", VERMILLION), "pruned": ("v", BLACK), "overwritten": ("s", "white")}
 
 MOST_BANDS = 48
 MARK_CELLS = 40
-MOST_POINTS = 3_000
+REST_STEPS = 400
+MOST_POINTS = 2_000
 MOST_EDGES = 2_000
+# of the whole length: the narrowest band, and the briefest state that is drawn by itself
 NARROWEST = 0.004
+BRIEFEST = 0.001
 WIDTH = 11.0
 
 
@@ -85,6 +89,8 @@ def scale_of(history: History, over: str | None) -> Scale:
     length = int(moments[-1] - moments[0])
     if over == "events" or (over is None and length == 0):
         events = np.arange(len(moments), dtype=float)
+        # what the last event has brought is seen for a while
+        events[-1] -= 0.2
         at = f", all at moment {moments[0]} ms" if length == 0 else ""
         return Scale(events, f"event (number{at})", moments, None)
     name, unit = unit_for(length)
@@ -146,20 +152,22 @@ def title_of(history: History) -> list[str]:
     own = run.own or "a node that was not told"
     length = in_words(history.moments[-1] - history.moments[0])
     turned = sum(run.turn_aways.values())
-    told = [
-        f"The run of {own}, trace version {run.version or 'not told'}: {run.events:,} events in {length}",
+    told = [f"The run of {own}, trace version {run.version or 'not told'}: {run.events:,} events in {length}"]
+    totals = (
         f"{run.admitted:,} connections accepted, {turned:,} turned away, {run.dialed:,} dialed; "
         f"{run.closes['fault']:,} closed for a fault, {run.closes['pruned']:,} pruned, "
-        f"{run.closes['overwritten']:,} overwritten",
-    ]
+        f"{run.closes['overwritten']:,} overwritten"
+    )
     notes = []
-    if not run.actions:
+    if run.actions:
+        told.append(totals)
+    else:
         notes.append("no action lines: what the node did is not told (./heomtsel replay writes them)")
     if not run.has_ended:
         notes.append("the trace breaks off before its end")
     if run.lines_without_trace:
         notes.append(f"{run.lines_without_trace:,} lines were no trace and are left out")
-    if all(counts.is_empty() for counts in history.peers.values()):
+    if run.actions and all(counts.is_empty() for counts in history.peers.values()):
         notes.append("no peers are known, and none are wanted")
     return told + (["; ".join(notes)] if notes else [])
 
@@ -191,8 +199,16 @@ def last_of_each(across: np.ndarray) -> np.ndarray:
     return np.unique(last[steps])
 
 
+def turns(*series: np.ndarray) -> np.ndarray:
+    """The places where one of the series changes, with the first and the last one: all that steps need."""
+    changes = np.any([np.diff(values) != 0 for values in series], axis=0)
+    return np.flatnonzero(np.concatenate([[True], changes[:-1], [True]]) if len(changes) else np.array([True]))
+
+
 def draw_step(axes: Axes, across: np.ndarray, up: np.ndarray, **look: object) -> Line2D:
-    (line,) = axes.plot(*thinned(across, up), drawstyle="steps-post", **look)
+    across, up = thinned(across, up)
+    places = turns(up)
+    (line,) = axes.plot(across[places], up[places], drawstyle="steps-post", **look)
     return line
 
 
@@ -210,6 +226,7 @@ def draw_limits(axes: Axes, history: History, scale: Scale) -> None:
     soft, hard = history.run.settings.soft, history.run.settings.hard
     counted = np.array(history.counted)
     places = last_of_each(scale.places)
+    places = places[turns(counted[places])]
     axes.fill_between(scale.places[places], counted[places], step="post", color=SKY, linewidth=0)
     line = draw_step(axes, scale.places, counted, color=BLUE, linewidth=1.2, label="counted")
     handles = [line]
@@ -235,13 +252,15 @@ def peers_panel(scale: Scale, peer_class: PeerClass, counts: PeerCounts) -> Pane
 
 
 def draw_peers(axes: Axes, scale: Scale, peer_class: PeerClass, counts: PeerCounts) -> None:
+    layers = {name: np.array(values) for name, values in (("hot", counts.hot), ("warm", counts.warm), ("cold", counts.cold))}
     places = last_of_each(scale.places)
+    places = places[turns(*(values[places] for values in layers.values()))]
     across = scale.places[places]
     below = np.zeros(len(places))
     handles = []
-    for temperature, values in (("hot", counts.hot), ("warm", counts.warm), ("cold", counts.cold)):
+    for temperature, values in layers.items():
         color, hatch = TEMPERATURE_LOOKS[temperature]
-        above = below + np.array(values)[places]
+        above = below + values[places]
         axes.fill_between(
             across, below, above, step="post", facecolor=color, hatch=hatch, edgecolor=BLACK, linewidth=0.3
         )
@@ -323,17 +342,23 @@ def start_of(life: Life, scale: Scale) -> float:
 
 
 def spans_of(life: Life, scale: Scale) -> list[tuple[float, float, str]]:
-    """From where to where which state was; states that are too short to be seen give way to the one before."""
+    """From where to where which state was. Of states that follow each other too fast to be seen the longest one stands."""
     told: list[tuple[float, float, str]] = []
     ends = [float(scale.places[event]) for event, _ in life.spans[1:]] + [end_of(life, scale)]
-    least = NARROWEST / 8 * scale.span
+    lengths: Counter[str] = Counter()
+    start = start_of(life, scale)
     for (event, name), end in zip(life.spans, ends):
-        start = float(scale.places[event])
-        if told and end - start < least and end is not ends[-1]:
-            told[-1] = (told[-1][0], end, told[-1][2])
-        else:
-            told.append((start, end, name))
-    return [span for span in told if span[1] > span[0]] or told[-1:]
+        lengths[name] += end - float(scale.places[event])
+        if end - start >= BRIEFEST * scale.span:
+            most = max(lengths, key=lambda each: lengths[each])
+            if told and told[-1][2] == most:
+                start = told.pop()[0]
+            told.append((start, end, most))
+            start = end
+            lengths.clear()
+    if not told and life.spans:
+        told.append((start, ends[-1], life.spans[-1][1]))
+    return told
 
 
 def draw_bands(axes: Axes, lives: list[Life], whole: int, scale: Scale) -> None:
@@ -380,7 +405,7 @@ def label_of(life: Life) -> str:
 
 
 def draw_rest(axes: Axes, lives: list[Life], scale: Scale) -> None:
-    grid = np.linspace(scale.first, scale.last, 600)
+    grid = np.linspace(scale.first, scale.last, REST_STEPS)
     names = list(STATE_LOOKS)
     changes = np.zeros((len(names), len(grid) + 1))
     starts, ends, states = [], [], []
@@ -397,7 +422,7 @@ def draw_rest(axes: Axes, lives: list[Life], scale: Scale) -> None:
     for place, name in enumerate(names):
         if counts[place].any():
             color, hatch = STATE_LOOKS[name]
-            look = {"facecolor": color, "hatch": hatch, "edgecolor": BLACK, "linewidth": 0.2}
+            look = {"facecolor": color, "hatch": hatch, "edgecolor": BLACK, "linewidth": 0.0}
             axes.fill_between(grid, below, below + counts[place], step="post", **look)
             handles.insert(0, Patch(label=name, **look))
             below = below + counts[place]

@@ -54,7 +54,7 @@ class PeerCounts:
 
 @dataclass
 class History:
-    """Place 0 of each list is before the first event, and place n is after the n-th one."""
+    """Place 0 of each list is before the first event, place n is after the n-th one, and one more closes them."""
 
     run: Run = field(default_factory=Run)
     moments: list[int] = field(default_factory=list)
@@ -76,6 +76,7 @@ class History:
             self._follow(line)
 
     def end(self) -> None:
+        self._sample()
         self._sample()
 
     def _sample(self) -> None:

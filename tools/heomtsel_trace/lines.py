@@ -14,6 +14,7 @@ GREATEST_INTERVAL = 86_400_000
 GREATEST_VALENCY = 10_000
 GREATEST_BYTES = 65_536
 LONGEST_LINE = 140_000
+LONGEST_SHOWN = 200
 
 TURN_AWAYS = ("full", "self", "crossed", "present")
 CLOSE_CAUSES = ("unused", "pruned", "overwritten", "refused", "query")
@@ -287,7 +288,7 @@ def is_address(word: str, version: int) -> bool:
 
 def printable(text: str) -> str:
     """The text with its control characters and undecodable bytes spelled, so that no terminal obeys it."""
-    return "".join(c if c.isprintable() else c.encode("utf-8", "surrogateescape").hex("?").join("<>") for c in text)
+    return "".join(c if c.isprintable() else f"<{c.encode('utf-8', 'surrogateescape').hex()}>" for c in text)
 
 
 class LineReader:
@@ -337,7 +338,7 @@ class LineReader:
                 return self._action_readers[words[1]](words[1:])
             line = self._readers[words[0]](words)
         except (NotTrace, KeyError, IndexError):
-            return NoTrace(printable(text))
+            return NoTrace(printable(text[:LONGEST_SHOWN]))
         if isinstance(line, Event):
             self._has_begun = True
         return line

@@ -85,7 +85,7 @@ def bar(value: int, whole: int, length: int, glyphs: Glyphs, mark: int | None = 
 
 def header(run: Run) -> list[Text]:
     own = run.own or "an address that was not told"
-    version = "no version told" if run.version is None else f"version {run.version}"
+    version = "its version not told" if run.version is None else f"trace version {run.version}"
     return [
         styled(("Heomtsel", "bold"), f" at {own}, {version}, now {run.moment} ms ({in_words(run.moment)})"),
         styled(f"{run.events} events, {run.actions} actions, {ending(run)}"),
@@ -114,7 +114,7 @@ def limits(run: Run, view: View) -> Section:
     elif counted > soft:
         word, style = "above soft", CAREFUL
     else:
-        word, style = "below the limits", GOOD
+        word, style = "within the limits", GOOD
     drawn = bar(counted, hard, LIMIT_BAR, view.glyphs, soft)
     rows = [
         styled("counted      ", (drawn, style), f" {counted} of hard {hard}, soft {soft}: ", (word, style)),
