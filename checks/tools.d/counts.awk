@@ -17,7 +17,7 @@ $1 == "locals" { for (place = 2; place <= NF; place++) is_ordinary[$place] = 1 }
 
 $1 == ">" && $2 == "admit" { admitted++ }
 $1 == ">" && $2 == "dial" { dials++ }
-$1 == "dialed" && $3 == "failed" && last_state[$2] == "ReservedOutbound" { failed++ }
+$1 == "dialed" && $3 == "failed" && $2 in last_state && last_state[$2] == "ReservedOutbound" { failed++ }
 $1 == ">" && $2 == "turnaway" { turned[$3]++; all_turned++ }
 $1 == ">" && $2 == "close" { closed[$4]++; all_closed++ }
 $1 == ">" && $2 == "close" && $4 == "fault" { faults[$5]++ }
