@@ -28,6 +28,9 @@ ROWS_AT_LEAST = 2
 GROUPS_SHOWN = 8
 
 
+Cells = list[tuple[str, ...]]
+
+
 @dataclass(frozen=True)
 class Glyphs:
     """What bars and headings are made of."""
@@ -126,7 +129,9 @@ def limits(run: Run, view: View) -> Section:
         return Section("", rows)
     if run.faults:
         rows += listed("faults       ", in_parts(run.faults, "none"), view.width)
-    rows.append(styled(f"came         {run.admitted} accepted, {run.dialed} dialed, of which {run.failed_dials} failed"))
+    rows.append(
+        styled(f"came         {run.admitted} accepted, {run.dialed} dialed, of which {run.failed_dials} failed")
+    )
     return Section("Connections against the limits", rows)
 
 
@@ -270,7 +275,7 @@ def table(run: Run, view: View, rows: int) -> Section:
     # of as many bytes the newest goes first
     newest_first = sorted(run.connections.values(), key=lambda connection: -connection.id)
     shown = sorted(newest_first, key=order, reverse=True)[:rows]
-    cells = [("id", "address", "dialed by", "state", "since ms", "for", "peer", "bytes in", "out")]
+    cells: Cells = [("id", "address", "dialed by", "state", "since ms", "for", "peer", "bytes in", "out")]
     cells += [connection_cells(run, connection) for connection in shown]
     return Section(title, aligned(cells, view.width, needed=7))
 
@@ -290,7 +295,7 @@ def connection_cells(run: Run, connection: Connection) -> tuple[str, ...]:
     )
 
 
-def aligned(cells: list[tuple[str, ...]], width: int, needed: int) -> list[Text]:
+def aligned(cells: Cells, width: int, needed: int) -> list[Text]:
     """The cells in columns: where the width does not do, as many as are needed, with the addresses in the second one cut."""
     widths = [max(len(row[place]) for row in cells) for place in range(len(cells[0]))]
     while len(widths) > needed and excess_of(widths, width) > 0:
@@ -316,14 +321,16 @@ def notices(run: Run, view: View, rows: int) -> Section:
     last = list(run.notices)[-rows:] if rows else []
     if not last:
         return Section(title, [styled(("none", QUIET))])
-    cells = [("at ms", "address", "what", "id", "left alone for", "till ms", "failures")]
+    cells: Cells = [("at ms", "address", "what", "id", "left alone for", "till ms", "failures")]
     cells += [notice_cells(notice) for notice in reversed(last)]
     return Section(title, aligned(cells, view.width, needed=5))
 
 
 def notice_cells(notice: Notice) -> tuple[str, ...]:
     back_off = notice.back_off
-    alone = ("", "", "") if back_off is None else (in_words(back_off.duration), str(back_off.until), str(back_off.failures))
+    alone = (
+        ("", "", "") if back_off is None else (in_words(back_off.duration), str(back_off.until), str(back_off.failures))
+    )
     number = "" if notice.connection is None else str(notice.connection)
     return (str(notice.moment), notice.address or "", notice.what, number, *alone)
 

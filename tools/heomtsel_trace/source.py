@@ -5,7 +5,7 @@ from __future__ import annotations
 import os
 from collections.abc import Iterator
 
-from .lines import LONGEST_LINE
+from .line_reader import LONGEST_LINE
 
 PIECE = 1 << 16
 
