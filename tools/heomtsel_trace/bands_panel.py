@@ -17,7 +17,7 @@ from .run import Dialer
 from .scale import Scale
 
 MOST_BANDS = 48
-MARK_CELLS = 40
+MARK_CELLS = 30
 REST_STEPS = 400
 # of the whole length: the narrowest band, and the briefest state that is drawn by itself
 NARROWEST = 0.004
