@@ -44,7 +44,6 @@ class Peer:
     peer_class: PeerClass
     temperature: str = "cold"
     failures: int = 0
-    alone_until: int = 0
 
 
 @dataclass(frozen=True, slots=True)
@@ -355,9 +354,7 @@ class Run:
         if peer is None or connection.state not in FAILS_ITS_PEER:
             return None
         peer.failures = min(peer.failures + 1, MOST_FAILURES)
-        back_off = self._back_off(peer.failures)
-        peer.alone_until = back_off.until
-        return back_off
+        return self._back_off(peer.failures)
 
     def _back_off(self, failures: int) -> BackOff:
         duration = self.settings.back_off << min(failures - 1, 5)
