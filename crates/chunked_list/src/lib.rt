@@ -11,3 +11,5 @@ pub use list::ChunkedList;
 
 #[cfg(test)]
 mod tests;
+#[cfg(test)]
+mod threads;

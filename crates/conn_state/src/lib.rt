@@ -36,3 +36,5 @@ pub use unnegotiated::Unnegotiated;
 
 #[cfg(test)]
 mod tests;
+#[cfg(test)]
+mod threads;

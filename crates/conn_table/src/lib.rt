@@ -18,3 +18,5 @@ pub use table::ConnTable;
 
 #[cfg(test)]
 mod tests;
+#[cfg(test)]
+mod threads;

@@ -13,6 +13,8 @@ mod peer;
 mod refusal;
 mod settings;
 mod targets;
+#[cfg(test)]
+mod threads;
 mod timer;
 
 pub use action::{Action, ActionList, Away, CloseCause, FaultKind, PeerNote, StateName};
