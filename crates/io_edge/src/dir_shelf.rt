@@ -38,10 +38,8 @@ impl<R: Files> DirShelf<R> {
             faults: 0,
         }
     }
-}
 
-impl<R: Files> DirShelf<R> {
-    // Want of memory is no fault of the file.
+    // Why a file was not read. Want of memory is no fault of the file.
     fn refusal_of(&mut self, error: io::Error) -> ShelfRefusal
         ensures reading { (limit : ℕ) → IsReading None limit (Err result) }
         ensures cause { (name : List ℕ) → HasFileCause (λ _. self.old) (λ _. self.new) name (Err result) }

@@ -1,6 +1,5 @@
-ghost use Rattle.std.specs.Prelude.{◌≡◌, ℕ, [], ◌∷◌, ◌++◌, List, IsTrue, OnOk};
-ghost use Rattle.io_edge.specs.declared.shelf_refusal.ShelfRefusal.TheVariants.{Failed as ReadingFailed, OutOfMemory as NoMemory};
-ghost use Rattle.io_edge.specs.Memory.{after_call};
+ghost use Rattle.std.specs.Prelude.{◌≡◌, ℕ, [], List, Err};
+ghost use Rattle.io_edge.specs.declared.shelf_refusal.ShelfRefusal.TheVariants.{Failed as ReadingFailed};
 ghost use Rattle.io_edge.specs.Files.{IsReading, HasFileCause};
 ghost use Rattle.io_edge.specs.Shelves.{has_name, place_of, bytes_of, faults_of, reading_of, next_reading, IsAnswerOr, failed_after, after_reading};
 

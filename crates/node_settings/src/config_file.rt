@@ -6,7 +6,7 @@ ghost use Rattle.toml.specs.Errors.{IsMemory};
 ghost use Rattle.toml.specs.View.{view, table_view};
 ghost use Rattle.node_settings.specs.declared.config_refusal.ConfigRefusal.TheVariants.{BadToml as NoToml, OutOfMemory as NoMemory};
 ghost use Rattle.node_settings.specs.Reading.{optional};
-ghost use Rattle.node_settings.specs.Config.{is_setting, has_known_names, whole_number, ranged_number, number_at, known_names, own_in, settings_in, checked_settings_in, targets_in, checked_targets_in, interval_in, config_in, refused, config_of, IsConfigOr};
+ghost use Rattle.node_settings.specs.Config.{is_setting, has_known_names, whole_number, number_at, known_names, own_in, settings_in, checked_settings_in, targets_in, checked_targets_in, interval_in, config_in, refused, config_of, IsConfigOr};
 
 use crate::{Config, ConfigRefusal};
 use net_base::{Addr, Field, Settings, Targets};

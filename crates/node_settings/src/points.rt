@@ -1,9 +1,7 @@
 ghost use Rattle.std.specs.Prelude.{◌≡◌, ◌++◌, IfOk, OnOk};
 ghost use Rattle.std.specs.Option.{option_to_list};
-ghost use Rattle.serde_json.specs.Find.{get, as_str};
 ghost use Rattle.serde_json.specs.View.{view, items_view};
-ghost use Rattle.node_settings.specs.Reading.{required};
-ghost use Rattle.node_settings.specs.Topology.{an_object, point_at, access_point, access_points, points_of, addresses_of, unresolved_of, IsPartOr};
+ghost use Rattle.node_settings.specs.Topology.{point_at, access_point, access_points, points_of, addresses_of, unresolved_of, IsPartOr};
 
 use crate::TopologyRefusal;
 use crate::host::read_ip;
@@ -51,10 +49,7 @@ fn point_at(port: u16, text: &str) -> Option<Addr>
 }
 
 /// The addresses of points that have one.
-pub(crate) fn addresses_of(
-    alloc: Global,
-    points: &[Option<Addr>],
-) -> Result<AddrList, OutOfMemory>
+pub(crate) fn addresses_of(alloc: Global, points: &[Option<Addr>]) -> Result<AddrList, OutOfMemory>
     ensures { IfOk result (λ addresses. addresses ≡ addresses_of points.now) }
 {
     let mut addresses = AddrList::new(alloc);

@@ -11,9 +11,9 @@ use net_base::Field;
 use serde_json::Value;
 use std::alloc::Global;
 
-/// Reads a topology file: a JSON object, of which the members are read that the node of Cardano has under the same
-/// names, and the others ignored. The first member that is missing, of another type or out of its range is named, in the
-/// order of the file's local roots and then its public roots. Names but `localhost` are not resolved, and counted.
+/// Reads a topology file: a JSON object with the members that a Cardano node reads under the same names. All others are
+/// ignored. The first member that is missing, of another type or out of its range is named, in the order of the local
+/// roots and then the public roots. Names are not resolved, `localhost` apart, and counted.
 pub fn read_topology(alloc: Global, bytes: &[u8]) -> Result<Topology, TopologyRefusal>
     ensures { IsTopologyOr (topology_of bytes.now) result }
 {

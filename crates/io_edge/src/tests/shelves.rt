@@ -3,7 +3,7 @@ use net_base::{NumberList, Octets, OutOfMemory, Sequence};
 use std::alloc::Global;
 use std::process::Abort;
 use std::test::Fail;
-use std::{env, fs};
+use std::{env, fs, process};
 
 fn file(alloc: Global, name: &[u8], bytes: &[u8]) -> Result<NamedFile, OutOfMemory> {
     Ok(NamedFile {
@@ -54,8 +54,8 @@ fn a_file_in_memory_is_read_by_its_name(rt: HostRuntime) -> Result<(), Fail> {
 #[test]
 fn a_file_of_the_system_is_read_by_its_path(rt: HostRuntime) -> Result<(), Fail> {
     let alloc = rt.alloc();
-    let folder = env::temp_dir(&rt)?;
-    let path = folder.join(alloc, "heomtsel_shelf_test")?;
+    let name = format!(in alloc; "heomtsel-shelf-{}", process::id(rt.process()))?;
+    let path = env::temp_dir(&rt)?.join(alloc, name.as_str())?;
     fs::write(&rt, path.as_path(), b"content".as_slice())?;
     let mut shelf = DirShelf::new(alloc, &rt);
     expect(&rt, &mut shelf, path.as_str(), 7, Ok(b"content"));

@@ -20,7 +20,7 @@ returns-in_err-point c =
     let field = c.in_err-point.field-0.0 in
     let here : access_point (view (get_or values i value)) ≡ Err field = search rules in
     let wrong : access_points (items_view values) ≡ Err field =
-        sym c.loop-value.invariant ∙ at_wrong access_point (λ point points. point ∷ points) [] lists c.loop-value.points i values value field c.loop-value-test.true here in
+    sym c.loop-value.invariant ∙ at_wrong access_point (λ point points. point ∷ points) [] lists c.loop-value.points i values value field c.loop-value-test.true here in
     let told : c.from_residual.result ≡ Err (BadSetting field) = search rules in
     subst (λ (answer : Result (List Point) TopologyRefusal). IsPartOr (access_points (items_view values)) answer) (sym told) wrong
 

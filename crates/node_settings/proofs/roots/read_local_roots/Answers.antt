@@ -21,8 +21,8 @@ returns-in_err-group c =
     let refusal = c.in_err-group.field-0.0 in
     let at_item : IsPartOr (local_root (view (get_or values i value))) (Err refusal) = search (rules, c.in_err-group.ensures) in
     let refused : IsPartOr (local_roots (items_view values)) (Err refusal) =
-        subst (λ (all : Result (Counted (List Group)) Field). IsPartOr all (Err refusal)) c.loop-root.invariant
-        (at_refused local_root add_local ([], 0) locals (c.loop-root.groups, c.loop-root.unresolved) i values value refusal c.loop-root-test.true at_item) in
+    subst (λ (all : Result (Counted (List Group)) Field). IsPartOr all (Err refusal)) c.loop-root.invariant
+    (at_refused local_root add_local ([], 0) locals (c.loop-root.groups, c.loop-root.unresolved) i values value refusal c.loop-root-test.true at_item) in
     let told : c.from_residual.result ≡ Err refusal = search rules in
     subst (λ (answer : Result (Counted (List Group)) TopologyRefusal). IsPartOr (local_roots (items_view values)) answer) (sym told) refused
 

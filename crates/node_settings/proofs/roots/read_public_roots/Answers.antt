@@ -21,8 +21,8 @@ returns-in_err-points c =
     let refusal = c.in_err-points.field-0.0 in
     let at_item : IsPartOr (public_root (view (get_or values i value))) (Err refusal) = search (rules, c.in_err-points.ensures) in
     let refused : IsPartOr (public_roots (items_view values)) (Err refusal) =
-        subst (λ (all : Result (Counted (List Addr)) Field). IsPartOr all (Err refusal)) c.loop-root.invariant
-        (at_refused public_root add_public ([], 0) publics (c.loop-root.addresses, c.loop-root.unresolved) i values value refusal c.loop-root-test.true at_item) in
+    subst (λ (all : Result (Counted (List Addr)) Field). IsPartOr all (Err refusal)) c.loop-root.invariant
+    (at_refused public_root add_public ([], 0) publics (c.loop-root.addresses, c.loop-root.unresolved) i values value refusal c.loop-root-test.true at_item) in
     let told : c.from_residual.result ≡ Err refusal = search rules in
     subst (λ (answer : Result (Counted (List Addr)) TopologyRefusal). IsPartOr (public_roots (items_view values)) answer) (sym told) refused
 
