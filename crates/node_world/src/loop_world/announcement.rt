@@ -1,8 +1,6 @@
 //! How a dialer tells the address at which it listens, before its first segment.
-ghost use Rattle.std.specs.Prelude.{◌≡◌, ◌++◌, ◌∷◌, IfOk, IfSome};
-ghost use Rattle.std.specs.Int.{w16, to_be_bytes};
-ghost use Rattle.node_world.specs.Loop.{IsHeard};
-ghost use Rattle.node_world.specs.Announcement.{announced, announced_ip as told_ip, announced_size as told_size};
+ghost use Rattle.std.specs.Prelude.{◌≡◌, IfOk};
+ghost use Rattle.node_world.specs.Announcement.{announced, announced_ip, announced_size as size_of, ip_of as ip_told, address_of as told, whole_of, hearing};
 
 use net_base::{Addr, Ip, Octets, OutOfMemory};
 use std::alloc::Global;
@@ -17,7 +15,7 @@ pub(crate) fn announcement(alloc: Global, addr: Addr) -> Result<Octets, OutOfMem
 }
 
 fn ip_announcement(alloc: Global, ip: Ip) -> Result<Octets, OutOfMemory>
-    ensures { IfOk result (λ bytes. bytes ≡ told_ip ip) }
+    ensures { IfOk result (λ bytes. bytes ≡ announced_ip ip) }
 {
     let mut bytes = Octets::new(alloc);
     match ip {
@@ -34,7 +32,7 @@ fn ip_announcement(alloc: Global, ip: Ip) -> Result<Octets, OutOfMemory>
 }
 
 /// What was heard of an announcement.
-#[derive(Clone, Copy)]
+#[derive(Clone, Copy, Debug, PartialEq, Eq)]
 pub(crate) enum Heard {
     /// Its front, or nothing yet.
     Front,
@@ -45,16 +43,18 @@ pub(crate) enum Heard {
 
 /// What bytes are that stand at the front of a stream, and are no more than their announcement has.
 pub(crate) fn read_announcement(bytes: &[u8]) -> Heard
-    ensures { IsHeard bytes.now result }
+    ensures { result ≡ hearing bytes.now }
 {
     match announced_size(bytes) {
         Some(size) if bytes.len() < size => Heard::Front,
-        Some(_) => whole_or_else(announced_addr(bytes)),
+        Some(_) => whole_or_else(address_of(bytes)),
         None => Heard::Else,
     }
 }
 
-fn whole_or_else(addr: Option<Addr>) -> Heard {
+fn whole_or_else(addr: Option<Addr>) -> Heard
+    ensures { result ≡ whole_of addr }
+{
     match addr {
         Some(addr) => Heard::Whole(addr),
         None => Heard::Else,
@@ -63,38 +63,32 @@ fn whole_or_else(addr: Option<Addr>) -> Heard {
 
 /// How many bytes the announcement has that begins so. None is where there is no such one.
 pub(crate) fn announced_size(front: &[u8]) -> Option<usize>
-    ensures { result ≡ told_size front.now }
+    ensures { result ≡ size_of front.now }
 {
-    match front {
-        [] | [4, ..] => Some(7),
-        [6, ..] => Some(19),
-        _ => None,
+    match front.first() {
+        None | Some(4) => Some(7),
+        Some(6) => Some(19),
+        Some(_) => None,
     }
 }
 
-/// The address that is announced by exactly these bytes.
-pub(crate) fn announced_addr(bytes: &[u8]) -> Option<Addr>
-    ensures { IfSome result (λ addr. bytes.now ≡ announced addr) }
+fn address_of(bytes: &[u8]) -> Option<Addr>
+    ensures { result ≡ told bytes.now }
 {
-    let (ip, port) = bytes.split_last_chunk::<2>()?;
+    let (family, rest) = bytes.split_first()?;
+    let (ip, port) = rest.split_last_chunk::<2>()?;
     Some(Addr {
-        ip: announced_ip(ip)?,
+        ip: ip_of(*family, ip)?,
         port: u16::from_be_bytes(*port),
     })
 }
 
-fn announced_ip(bytes: &[u8]) -> Option<Ip>
-    ensures { IfSome result (λ ip. bytes.now ≡ told_ip ip) }
+fn ip_of(family: u8, bytes: &[u8]) -> Option<Ip>
+    ensures { result ≡ ip_told family bytes.now }
 {
-    match bytes {
-        [4, ip @ ..] if ip.len() == 4 => {
-            let ip = ip.first_chunk::<4>()?;
-            Some(Ip::V4(u32::from_be_bytes(*ip)))
-        }
-        [6, ip @ ..] if ip.len() == 16 => {
-            let ip = ip.first_chunk::<16>()?;
-            Some(Ip::V6(u128::from_be_bytes(*ip)))
-        }
+    match family {
+        4 if bytes.len() == 4 => Some(Ip::V4(u32::from_be_bytes(*bytes.first_chunk()?))),
+        6 if bytes.len() == 16 => Some(Ip::V6(u128::from_be_bytes(*bytes.first_chunk()?))),
         _ => None,
     }
 }
