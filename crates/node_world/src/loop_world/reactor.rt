@@ -1,4 +1,4 @@
-ghost use Rattle.std.specs.Prelude.{IfOk};
+ghost use Rattle.std.specs.Prelude.{IfOk, IfSome};
 ghost use Rattle.net_base.specs.Limits.{IsWithinLimits};
 
 use super::acceptor::Acceptor;
@@ -77,7 +77,9 @@ impl Reactor {
     }
 
     // The next event that waits. A peer that connected and is not heeded is turned away.
-    fn given(&mut self) -> Option<Event> {
+    fn given(&mut self) -> Option<Event>
+        ensures { IfSome result IsWithinLimits }
+    {
         let given = self.sockets.queue.pop()?;
         if given.caller.is_some() {
             self.sockets.turn_away();
