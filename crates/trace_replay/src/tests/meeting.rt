@@ -109,12 +109,7 @@ fn has_met(engine: &Engine, other: Addr) -> bool {
 }
 
 // A node that has heard of the other one.
-fn begun<W: World>(
-    alloc: Global,
-    port: u16,
-    other: Addr,
-    world: &mut W,
-) -> Result<Engine, Fail>
+fn begun<W: World>(alloc: Global, port: u16, other: Addr, world: &mut W) -> Result<Engine, Fail>
     requires { W.is_open world.old ≡ true }
     ensures { W.is_open world.new ≡ true }
 {
