@@ -46,10 +46,14 @@ impl EventQueue {
         Ok(())
     }
 
-    /// Somebody with this address has connected, by this socket.
+    /// Somebody with this address has connected, by this socket. A refusal changes nothing.
     pub(crate) fn push_caller(&mut self, addr: Addr, key: usize) -> Result<(), OutOfMemory> {
         self.callers.push_back(key)?;
-        self.events.push(Event::Accepted(addr))
+        let pushed = self.events.push(Event::Accepted(addr));
+        if pushed.is_err() {
+            self.callers.pop_back();
+        }
+        pushed
     }
 
     pub(crate) fn pop(&mut self) -> Option<Given>

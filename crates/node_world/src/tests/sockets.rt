@@ -52,12 +52,23 @@ fn opened<R: Net + Clock + Drop>(rt: R, alloc: Global, port: u16) -> Result<Loop
     Ok(world)
 }
 
+// The address of the peer that connected, where that is what comes next.
+fn caller<W: World>(world: &mut W) -> Result<Option<Addr>, Fail>
+    requires { W.is_open world.old ≡ true }
+    ensures { W.is_open world.new ≡ true }
+{
+    match world.next()? {
+        Next::Event(Event::Accepted(addr)) => Ok(Some(addr)),
+        _ => Ok(None),
+    }
+}
+
 // The address of the next peer that connected.
-fn next_caller<R: Net + Clock>(world: &mut LoopWorld<R>) -> Result<Addr, Fail>
-    requires { world.old.is_open ≡ true }
+fn next_caller<W: World>(world: &mut W) -> Result<Addr, Fail>
+    requires { W.is_open world.old ≡ true }
 {
     for _ in 0..1000 {
-        if let Next::Event(Event::Accepted(addr)) = world.next()? {
+        if let Some(addr) = caller(world)? {
             return Ok(addr);
         }
     }

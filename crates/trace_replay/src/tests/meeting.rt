@@ -117,20 +117,44 @@ fn begun<W: World>(alloc: Global, port: u16, other: Addr, world: &mut W) -> Resu
     step(engine, &other_as_local(alloc, other)?, world)
 }
 
-#[test]
-fn two_nodes_meet(rt: HostRuntime) -> Result<(), Fail> {
-    let alloc = rt.alloc();
-    let (left_port, right_port) = free_ports(&rt)?;
-    let mut left_world = opened(&rt, alloc, left_port)?;
-    let mut right_world = opened(&rt, alloc, right_port)?;
-    let mut left = begun(alloc, left_port, local(right_port), &mut left_world)?;
-    let mut right = begun(alloc, right_port, local(left_port), &mut right_world)?;
+// Each node in turn, until each has met the other.
+fn meet<W: World>(
+    left: Engine,
+    left_world: &mut W,
+    left_addr: Addr,
+    right: Engine,
+    right_world: &mut W,
+    right_addr: Addr,
+) -> Result<(), Fail>
+    requires left { W.is_open left_world.old ≡ true }
+    requires right { W.is_open right_world.old ≡ true }
+{
+    let (mut left, mut right) = (left, right);
     for _ in 0..20_000 {
-        left = turn(left, &mut left_world)?;
-        right = turn(right, &mut right_world)?;
-        if has_met(&left, local(right_port)) && has_met(&right, local(left_port)) {
+        left = turn(left, left_world)?;
+        right = turn(right, right_world)?;
+        if has_met(&left, right_addr) && has_met(&right, left_addr) {
             return Ok(());
         }
     }
     Err("they did not meet".into())
+}
+
+#[test]
+fn two_nodes_meet(rt: HostRuntime) -> Result<(), Fail> {
+    let alloc = rt.alloc();
+    let (left_port, right_port) = free_ports(&rt)?;
+    let (left_addr, right_addr) = (local(left_port), local(right_port));
+    let mut left_world = opened(&rt, alloc, left_port)?;
+    let mut right_world = opened(&rt, alloc, right_port)?;
+    let left = begun(alloc, left_port, right_addr, &mut left_world)?;
+    let right = begun(alloc, right_port, left_addr, &mut right_world)?;
+    meet(
+        left,
+        &mut left_world,
+        left_addr,
+        right,
+        &mut right_world,
+        right_addr,
+    )
 }
