@@ -26,7 +26,7 @@ setting_names =
     ∷ codes "shares" ∷ codes "root" ∷ codes "known" ∷ codes "established" ∷ codes "active" ∷ codes "rootttl"
     ∷ codes "tick" ∷ codes "seed" ∷ codes "announce" ∷ []
 
-abbrev pub is_setting : List ℕ → Bool
+unfoldable pub is_setting : List ℕ → Bool
 is_setting name = list_any (bytes_eq name) setting_names
 
 abbrev pub has_known_names : Members → Bool

@@ -25,6 +25,14 @@ small_number most value = up_to most (option_and_then as_u64 (as_number value))
 abbrev pub an_object : Field → Data → Result (Unit {0}) Field
 an_object holder value = ok_or (option_map (λ _. tt) (as_object value)) holder
 
+-- What the items of an array give together, each read in some way: the first that is wrong decides.
+abbrev pub each_of : {A B : Type 0} → (Data → Result A Field) → (A → B → B) → B → Items → Result B Field
+each_of read add none no_items = Ok none
+each_of read add none (item value values) = do
+  first ← read value
+  rest ← each_of read add none values
+  Ok (add first rest)
+
 -- ---- access points
 
 -- an access point, or none where its address stands for none
@@ -42,11 +50,7 @@ access_point value = do
   Ok (point_at port text)
 
 abbrev pub access_points : Items → Result (List Point) Field
-access_points no_items = Ok []
-access_points (item value values) = do
-  point ← access_point value
-  points ← access_points values
-  Ok (point ∷ points)
+access_points values = each_of access_point (λ point points. point ∷ points) [] values
 
 -- the access points of a root, which must have them
 abbrev pub points_of : Data → Result (List Point) Field
@@ -74,7 +78,11 @@ hot_valency_of count None None = ok_or (up_to most_valency (Some count)) HotVale
 abbrev pub hot_valency : ℕ → Data → Result ℕ Field
 hot_valency count root = hot_valency_of count (get (codes "hotValency") root) (get (codes "valency") root)
 
-abbrev pub local_root : Data → Result (Group × ℕ) Field
+-- some roots, and how many of their access points are unresolved
+abbrev pub Counted : Type 0 → Type 0
+Counted A = A × ℕ
+
+abbrev pub local_root : Data → Result (Counted Group) Field
 local_root root = do
   is_object ← an_object LocalRoots root
   points ← points_of root
@@ -83,13 +91,12 @@ local_root root = do
   warm ← optional WarmValency (small_number most_valency) hot (get (codes "warmValency") root)
   Ok (record { hot = hot; warm = warm; advertise = advertise; members = addresses_of points }, unresolved_of points)
 
--- the groups in file order, and how many access points are unresolved
-abbrev pub local_roots : Items → Result (List Group × ℕ) Field
-local_roots no_items = Ok ([], 0)
-local_roots (item root roots) = do
-  (group, here) ← local_root root
-  (groups, behind) ← local_roots roots
-  Ok (group ∷ groups, here + behind)
+abbrev pub add_local : Counted Group → Counted (List Group) → Counted (List Group)
+add_local root roots = (root.0 ∷ roots.0, root.1 + roots.1)
+
+-- the groups in file order
+abbrev pub local_roots : Items → Result (Counted (List Group)) Field
+local_roots values = each_of local_root add_local ([], 0) values
 
 -- ---- public roots
 
@@ -98,13 +105,12 @@ public_root root = do
   is_object ← an_object PublicRoots root
   points_of root
 
--- the addresses in file order, and how many access points are unresolved
-abbrev pub public_roots : Items → Result (List Addr × ℕ) Field
-public_roots no_items = Ok ([], 0)
-public_roots (item root roots) = do
-  points ← public_root root
-  (addresses, behind) ← public_roots roots
-  Ok (addresses_of points ++ addresses, unresolved_of points + behind)
+abbrev pub add_public : List Point → Counted (List Addr) → Counted (List Addr)
+add_public points roots = (addresses_of points ++ roots.0, unresolved_of points + roots.1)
+
+-- the addresses in file order
+abbrev pub public_roots : Items → Result (Counted (List Addr)) Field
+public_roots values = each_of public_root add_public ([], 0) values
 
 -- ---- the file
 

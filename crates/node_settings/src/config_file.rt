@@ -1,40 +1,18 @@
-ghost use Rattle.std.specs.Prelude.{◌≡◌, string_bytes};
+ghost use Rattle.std.specs.Prelude.{◌≡◌, ◌⊎◌, bytes_eq};
+ghost use Rattle.std.specs.List.{list_any};
 ghost use Rattle.std.specs.Option.{option_map};
 ghost use Rattle.toml.specs.Data.{get_member, as_bool};
+ghost use Rattle.toml.specs.Errors.{IsMemory};
 ghost use Rattle.toml.specs.View.{view, table_view};
+ghost use Rattle.node_settings.specs.declared.config_refusal.ConfigRefusal.TheVariants.{BadToml as NoToml, OutOfMemory as NoMemory};
 ghost use Rattle.node_settings.specs.Reading.{optional};
-ghost use Rattle.node_settings.specs.Config.{is_setting, has_known_names, whole_number, ranged_number, number_at, known_names, own_in, settings_in, checked_settings_in, targets_in, checked_targets_in, interval_in, config_in, config_of, IsConfigOr};
+ghost use Rattle.node_settings.specs.Config.{is_setting, has_known_names, whole_number, ranged_number, number_at, known_names, own_in, settings_in, checked_settings_in, targets_in, checked_targets_in, interval_in, config_in, refused, config_of, IsConfigOr};
 
 use crate::{Config, ConfigRefusal};
 use net_base::{Addr, Field, Settings, Targets};
 use std::alloc::Global;
 use toml::{Table, Value};
 use trace_text::read_address;
-
-const SETTING_NAMES: [&str; 22] = [
-    "own",
-    "magic",
-    "initiatoronly",
-    "sharing",
-    "hard",
-    "soft",
-    "delay",
-    "idle",
-    "timewait",
-    "handshake",
-    "reply",
-    "backoff",
-    "sharegap",
-    "shares",
-    "root",
-    "known",
-    "established",
-    "active",
-    "rootttl",
-    "tick",
-    "seed",
-    "announce",
-];
 
 // What a value counts as that is no whole number, or is below 0: no range has it.
 const OUT_OF_RANGE: u64 = u64::MAX;
@@ -48,10 +26,25 @@ pub fn read_config(alloc: Global, bytes: &[u8]) -> Result<Config, ConfigRefusal>
     ensures { IsConfigOr (config_of bytes.now) result }
 {
     match toml::table_from_slice(alloc, bytes) {
-        Ok(table) => read_table(&table).map_err(ConfigRefusal::BadSetting),
-        Err(error) if error.is_memory() => Err(ConfigRefusal::OutOfMemory),
-        Err(_) => Err(ConfigRefusal::BadToml),
+        Ok(table) => read_document(&table),
+        Err(error) => Err(refusal_of(&error)),
     }
+}
+
+fn refusal_of(error: &toml::de::Error) -> ConfigRefusal
+    ensures { (result ≡ NoMemory) ⊎ ((result ≡ NoToml) × ¬ IsMemory error.now) }
+{
+    if error.is_memory() {
+        ConfigRefusal::OutOfMemory
+    } else {
+        ConfigRefusal::BadToml
+    }
+}
+
+fn read_document(table: &Table) -> Result<Config, ConfigRefusal>
+    ensures { result ≡ refused (config_in (table_view table.now)) }
+{
+    read_table(table).map_err(ConfigRefusal::BadSetting)
 }
 
 fn read_table(table: &Table) -> Result<Config, Field>
@@ -78,18 +71,53 @@ fn read_table(table: &Table) -> Result<Config, Field>
 fn check_names(table: &Table) -> Result<(), Field>
     ensures { result ≡ known_names (table_view table.now) }
 {
-    for name in table.keys() {
-        if !is_setting(name.as_str()) {
-            return Err(Field::Unknown);
-        }
+    if has_known_names(table) {
+        Ok(())
+    } else {
+        Err(Field::Unknown)
     }
-    Ok(())
+}
+
+fn has_known_names(table: &Table) -> bool
+    ensures { result ≡ has_known_names (table_view table.now) }
+{
+    table.keys().all(|name| is_setting(name.as_str()))
 }
 
 fn is_setting(name: &str) -> bool
     ensures { result ≡ is_setting name.now }
 {
-    SETTING_NAMES.iter().any(|setting| name == *setting)
+    let names = [
+        "own",
+        "magic",
+        "initiatoronly",
+        "sharing",
+        "hard",
+        "soft",
+        "delay",
+        "idle",
+        "timewait",
+        "handshake",
+        "reply",
+        "backoff",
+        "sharegap",
+        "shares",
+        "root",
+        "known",
+        "established",
+        "active",
+        "rootttl",
+        "tick",
+        "seed",
+        "announce",
+    ];
+    is_among(name, &names)
+}
+
+fn is_among(name: &str, names: &[&str]) -> bool
+    ensures { result ≡ list_any (λ other. bytes_eq name.now other.now) names.now }
+{
+    names.iter().any(|other| name == *other)
 }
 
 fn read_own(table: &Table) -> Result<Addr, Field>

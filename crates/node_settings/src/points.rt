@@ -1,5 +1,5 @@
-ghost use Rattle.std.specs.Prelude.{◌≡◌, ◌++◌, OnOk};
-ghost use Rattle.std.specs.Option.{option_map};
+ghost use Rattle.std.specs.Prelude.{◌≡◌, ◌++◌, IfOk, OnOk};
+ghost use Rattle.std.specs.Option.{option_to_list};
 ghost use Rattle.serde_json.specs.Find.{get, as_str};
 ghost use Rattle.serde_json.specs.View.{view, items_view};
 ghost use Rattle.node_settings.specs.Reading.{required};
@@ -50,19 +50,27 @@ fn point_at(port: u16, text: &str) -> Option<Addr>
     Some(Addr { ip, port })
 }
 
-/// Puts the addresses of points that have one behind others. A refusal may have put some of them.
-pub(crate) fn add_addresses(
-    addresses: &mut AddrList,
+/// The addresses of points that have one.
+pub(crate) fn addresses_of(
+    alloc: Global,
     points: &[Option<Addr>],
-) -> Result<(), OutOfMemory>
-    ensures { OnOk result (addresses.new ≡ addresses.old ++ addresses_of points.now) }
+) -> Result<AddrList, OutOfMemory>
+    ensures { IfOk result (λ addresses. addresses ≡ addresses_of points.now) }
 {
+    let mut addresses = AddrList::new(alloc);
     for point in points {
-        if let Some(address) = point {
-            addresses.push(*address)?;
-        }
+        push_address(&mut addresses, *point)?;
     }
-    Ok(())
+    Ok(addresses)
+}
+
+fn push_address(addresses: &mut AddrList, point: Option<Addr>) -> Result<(), OutOfMemory>
+    ensures { OnOk result (addresses.new ≡ addresses.old ++ option_to_list point) }
+{
+    match point {
+        Some(address) => addresses.push(address),
+        None => Ok(()),
+    }
 }
 
 /// How many points have none.

@@ -7,7 +7,7 @@ ghost use Rattle.node_settings.specs.Topology.{small_number, most_valency, hot_v
 
 use crate::TopologyRefusal;
 use crate::members::{check_object, flag_or, small_number};
-use crate::points::{PointList, add_addresses, read_points, unresolved_of};
+use crate::points::{PointList, addresses_of, read_points, unresolved_of};
 use net_base::{AddrList, Field, Group, GroupList, OutOfMemory};
 use serde_json::Value;
 use std::alloc::Global;
@@ -39,8 +39,7 @@ fn read_local_root(alloc: Global, root: &Value) -> Result<(Group, u64), Topology
     let advertise = flag_or(root, "advertise", false, Field::Advertise)?;
     let hot = hot_valency(points.as_slice().len() as u64, root)?;
     let warm = warm_valency(hot, root)?;
-    let mut members = AddrList::new(alloc);
-    add_addresses(&mut members, points.as_slice())?;
+    let members = addresses_of(alloc, points.as_slice())?;
     let group = Group {
         hot,
         warm,
@@ -86,7 +85,7 @@ pub(crate) fn read_public_roots(
     let mut unresolved = 0;
     for root in roots {
         let points = read_public_root(alloc, root)?;
-        add_addresses(&mut addresses, points.as_slice())?;
+        addresses.extend_from_slice(addresses_of(alloc, points.as_slice())?.as_slice())?;
         unresolved = sum(unresolved, unresolved_of(points.as_slice()))?;
     }
     Ok((addresses, unresolved))

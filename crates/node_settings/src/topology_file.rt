@@ -1,5 +1,7 @@
-ghost use Rattle.std.specs.Prelude.{Some};
+ghost use Rattle.std.specs.Prelude.{◌≡◌, ◌⊎◌, Some};
+ghost use Rattle.serde_json.specs.Errors.{IsMemory};
 ghost use Rattle.serde_json.specs.View.{view};
+ghost use Rattle.node_settings.specs.declared.topology_refusal.TopologyRefusal.TheVariants.{BadJson as NoJson, OutOfMemory as NoMemory};
 ghost use Rattle.node_settings.specs.Topology.{topology_in, topology_of_document, topology_of, IsTopologyOr, IsPartOr};
 
 use crate::members::array_or_empty;
@@ -17,8 +19,17 @@ pub fn read_topology(alloc: Global, bytes: &[u8]) -> Result<Topology, TopologyRe
 {
     match Value::from_slice(alloc, bytes) {
         Ok(document) => read_document(alloc, &document),
-        Err(error) if error.is_memory() => Err(TopologyRefusal::OutOfMemory),
-        Err(_) => Err(TopologyRefusal::BadJson),
+        Err(error) => Err(refusal_of(&error)),
+    }
+}
+
+fn refusal_of(error: &serde_json::Error) -> TopologyRefusal
+    ensures { (result ≡ NoMemory) ⊎ ((result ≡ NoJson) × ¬ IsMemory error.now) }
+{
+    if error.is_memory() {
+        TopologyRefusal::OutOfMemory
+    } else {
+        TopologyRefusal::BadJson
     }
 }
 

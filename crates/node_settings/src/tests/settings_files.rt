@@ -117,7 +117,12 @@ fn the_first_wrong_setting_is_named(rt: HostRuntime) -> Result<(), Fail> {
         ("shares = 9\nroot = 21", Field::Shares),
     ];
     for (line, field) in &lines {
-        expect_with(&rt, rt.alloc(), *line, Err(ConfigRefusal::BadSetting(*field)))?;
+        expect_with(
+            &rt,
+            rt.alloc(),
+            *line,
+            Err(ConfigRefusal::BadSetting(*field)),
+        )?;
     }
     Ok(())
 }
@@ -142,7 +147,12 @@ fn the_first_wrong_target_is_named(rt: HostRuntime) -> Result<(), Fail> {
         ("[announce]", Field::Announce),
     ];
     for (line, field) in &lines {
-        expect_with(&rt, rt.alloc(), *line, Err(ConfigRefusal::BadSetting(*field)))?;
+        expect_with(
+            &rt,
+            rt.alloc(),
+            *line,
+            Err(ConfigRefusal::BadSetting(*field)),
+        )?;
     }
     Ok(())
 }

@@ -89,10 +89,17 @@ fn valencies_have_defaults(rt: HostRuntime) -> Result<(), Fail> {
     };
     let text = r#"{"localRoots":[{"accessPoints":[{"address":"FE80::1","port":1}]}]}"#;
     expect_group(&rt, alloc, text, group(alloc, 1, 1, false, &[address])?, 0)?;
-    let text = r#"{"localRoots":[{"accessPoints":[{"address":"x","port":1},{"address":"y","port":1}],"warmValency":0}]}"#;
+    let text =
+        r#"{"localRoots":[{"accessPoints":[{"address":"x","port":1},{"address":"y","port":1}],"warmValency":0}]}"#;
     expect_group(&rt, alloc, text, group(alloc, 2, 0, false, &[])?, 2)?;
     let text = r#"{"localRoots":[{"accessPoints":[],"valency":"x","hotValency":10000}]}"#;
-    expect_group(&rt, alloc, text, group(alloc, 10_000, 10_000, false, &[])?, 0)?;
+    expect_group(
+        &rt,
+        alloc,
+        text,
+        group(alloc, 10_000, 10_000, false, &[])?,
+        0,
+    )?;
     let text = r#"{"localRoots":5,"localRoots":[{"accessPoints":[],"valency":3,"valency":4}]}"#;
     expect_group(&rt, alloc, text, group(alloc, 4, 4, false, &[])?, 0)
 }
@@ -101,7 +108,11 @@ fn valencies_have_defaults(rt: HostRuntime) -> Result<(), Fail> {
 fn expect_refused(rt: &impl Abort, alloc: Global, members: &str, field: Field) -> Result<(), Fail> {
     let text = format!(in alloc; "{{\"localRoots\":[{{{members}}}]}}")?;
     let found = read_topology(alloc, text.as_bytes()).err();
-    assert_eq!(rt; found, Some(TopologyRefusal::BadSetting(field)), "{members}");
+    assert_eq!(rt;
+        found,
+        Some(TopologyRefusal::BadSetting(field)),
+        "{members}"
+    );
     Ok(())
 }
 
@@ -110,16 +121,34 @@ fn the_first_wrong_member_of_a_local_root_is_named(rt: HostRuntime) -> Result<()
     let members = [
         ("", Field::AccessPoints),
         (r#""accessPoints":null"#, Field::AccessPoints),
-        (r#""accessPoints":[{"address":"x","port":1},5],"advertise":0"#, Field::AccessPoints),
+        (
+            r#""accessPoints":[{"address":"x","port":1},5],"advertise":0"#,
+            Field::AccessPoints,
+        ),
         (r#""accessPoints":[{"port":"x"}]"#, Field::Address),
-        (r#""accessPoints":[{"address":null,"port":1}]"#, Field::Address),
+        (
+            r#""accessPoints":[{"address":null,"port":1}]"#,
+            Field::Address,
+        ),
         (r#""accessPoints":[{"address":"x"}]"#, Field::Port),
         (r#""accessPoints":[],"advertise":null"#, Field::Advertise),
-        (r#""accessPoints":[],"advertise":0,"hotValency":-1"#, Field::Advertise),
+        (
+            r#""accessPoints":[],"advertise":0,"hotValency":-1"#,
+            Field::Advertise,
+        ),
         (r#""accessPoints":[],"hotValency":10001"#, Field::HotValency),
-        (r#""accessPoints":[],"hotValency":null,"valency":1"#, Field::HotValency),
-        (r#""accessPoints":[],"valency":1.0,"warmValency":"x""#, Field::Valency),
-        (r#""accessPoints":[],"warmValency":10001"#, Field::WarmValency),
+        (
+            r#""accessPoints":[],"hotValency":null,"valency":1"#,
+            Field::HotValency,
+        ),
+        (
+            r#""accessPoints":[],"valency":1.0,"warmValency":"x""#,
+            Field::Valency,
+        ),
+        (
+            r#""accessPoints":[],"warmValency":10001"#,
+            Field::WarmValency,
+        ),
     ];
     for (text, field) in &members {
         expect_refused(&rt, rt.alloc(), *text, *field)?;
@@ -130,8 +159,12 @@ fn the_first_wrong_member_of_a_local_root_is_named(rt: HostRuntime) -> Result<()
 #[test]
 fn a_port_is_a_whole_number_of_16_bits(rt: HostRuntime) -> Result<(), Fail> {
     let alloc = rt.alloc();
-    for port in ["65536", "-1", "-0", "3002.0", "3e3", "\"1\"", "null", "true"] {
-        let members = format!(in alloc; "\"accessPoints\":[{{\"address\":\"::1\",\"port\":{port}}}]")?;
+    for port in [
+        "65536", "-1", "-0", "3002.0", "3e3", "\"1\"", "null", "true",
+    ] {
+        let members = format!(in alloc;
+            "\"accessPoints\":[{{\"address\":\"::1\",\"port\":{port}}}]"
+        )?;
         expect_refused(&rt, alloc, members.as_str(), Field::Port)?;
     }
     Ok(())
@@ -151,9 +184,18 @@ fn what_is_wrong_outside_a_root_is_named_too(rt: HostRuntime) {
         (b"{\"x\":\"\\ud800\"}", TopologyRefusal::BadJson),
         (b"\xef\xbb\xbf{}", TopologyRefusal::BadJson),
         (b"{\"localRoots\":null}", bad(Field::LocalRoots)),
-        (b"{\"localRoots\":[{\"accessPoints\":[]},5]}", bad(Field::LocalRoots)),
-        (b"{\"localRoots\":[],\"localRoots\":{}}", bad(Field::LocalRoots)),
-        (b"{\"publicRoots\":1,\"localRoots\":[[]]}", bad(Field::LocalRoots)),
+        (
+            b"{\"localRoots\":[{\"accessPoints\":[]},5]}",
+            bad(Field::LocalRoots),
+        ),
+        (
+            b"{\"localRoots\":[],\"localRoots\":{}}",
+            bad(Field::LocalRoots),
+        ),
+        (
+            b"{\"publicRoots\":1,\"localRoots\":[[]]}",
+            bad(Field::LocalRoots),
+        ),
         (b"{\"publicRoots\":{}}", bad(Field::PublicRoots)),
         (b"{\"publicRoots\":[null]}", bad(Field::PublicRoots)),
         (b"{\"publicRoots\":[{}]}", bad(Field::AccessPoints)),
@@ -177,7 +219,13 @@ fn answer_to_nesting(alloc: Global, depth: usize) -> Result<Option<TopologyRefus
 #[test]
 fn a_file_nests_at_most_127_deep(rt: HostRuntime) -> Result<(), Fail> {
     assert_eq!(rt; answer_to_nesting(rt.alloc(), 126)?, None);
-    assert_eq!(rt; answer_to_nesting(rt.alloc(), 127)?, Some(TopologyRefusal::BadJson));
-    assert_eq!(rt; answer_to_nesting(rt.alloc(), 100_000)?, Some(TopologyRefusal::BadJson));
+    assert_eq!(rt;
+        answer_to_nesting(rt.alloc(), 127)?,
+        Some(TopologyRefusal::BadJson)
+    );
+    assert_eq!(rt;
+        answer_to_nesting(rt.alloc(), 100_000)?,
+        Some(TopologyRefusal::BadJson)
+    );
     Ok(())
 }
