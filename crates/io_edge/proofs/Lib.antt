@@ -4,4 +4,5 @@ pub mod InputLemmas
 pub mod LineLemmas
 pub mod LinesRead
 pub mod ReadingLemmas
+mod ShelfLemmas
 pub mod ToldLemmas

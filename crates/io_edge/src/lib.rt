@@ -1,16 +1,21 @@
-//! Where bytes come from and where they go: sources, sinks and a reader of lines. Each counts its faults, and a
-//! fault is answered only where the count rose.
+//! Where bytes come from and where they go: sources, sinks, a reader of lines, and shelves of files. Each counts its
+//! faults, and a fault is answered only where the count rose.
 #![tactic(auto)]
 
 mod call_log;
+mod dir_shelf;
 mod failed;
 mod got;
 mod law;
 mod line_fault;
 mod line_reader;
+mod mem_shelf;
 mod mem_sink;
 mod mem_source;
+mod named_file;
 mod piece_writer;
+mod shelf;
+mod shelf_refusal;
 mod sink;
 mod source;
 mod std_sink;
@@ -18,14 +23,19 @@ mod std_source;
 mod sure_source;
 mod window;
 
+pub use dir_shelf::DirShelf;
 pub use failed::Failed;
 pub use got::Got;
 pub use law::{bytes_are_cut_in_one_way, inputs_have_one_answer};
 pub use line_fault::LineFault;
 pub use line_reader::LineReader;
+pub use mem_shelf::MemShelf;
 pub use mem_sink::MemSink;
 pub use mem_source::MemSource;
+pub use named_file::{FileList, NamedFile};
 pub use piece_writer::PieceWriter;
+pub use shelf::Shelf;
+pub use shelf_refusal::ShelfRefusal;
 pub use sink::{Sink, put_all};
 pub use source::Source;
 pub use std_sink::StdSink;

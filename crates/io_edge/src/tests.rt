@@ -1,5 +1,6 @@
 ghost use Rattle.std.specs.Prelude.{◌≤◌};
 
+mod shelves;
 mod std_streams;
 
 use crate::*;

@@ -3,8 +3,11 @@
 #![tactic(auto)]
 
 mod command;
+mod files;
 mod names;
+mod node_words;
 mod running;
+mod serving;
 mod status;
 mod telling;
 mod words;
@@ -12,6 +15,7 @@ mod words;
 pub use command::Command;
 use io_edge::{StdSink, StdSource};
 pub use running::run;
+pub use serving::run_node;
 pub use status::{Status, What, Which};
 use std::process::ExitCode;
 

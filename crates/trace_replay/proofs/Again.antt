@@ -26,7 +26,7 @@ use Rattle.trace_replay.specs.Output.{text_if, head_texts, event_texts, lines_fo
 use Rattle.trace_replay.specs.Passing.{texts_of, PassBehind}
 use Rattle.trace_replay.specs.Replays.{verdict_of}
 use Rattle.trace_replay.proofs.Grammar.{IsBehindHead, IsLineAt, said_at-is}
-use Rattle.trace_replay.proofs.Readings.{stage_behind-push, readings_from-append, texts-readings_from, Passes, AreFront, AreFront-none, AreFront-more, IsPastHead-event, no_events_before_head, line_at, passed_behind}
+use Rattle.trace_replay.proofs.Readings.{stage_behind-push, readings_from-append, texts-readings_from, Passes, AreFront, AreFront-none, AreFront-said, AreFront-more, IsPastHead-event, no_events_before_head, line_at, passed_behind}
 use Rattle.trace_replay.proofs.Outputs.{lines_for-head, lines_for-acted, lines_for-event, told_behind}
 use Rattle.trace_replay.proofs.Judging.{judgement_of, judged_line, verdict_at-short, PassBehind-push}
 use Rattle.trace_replay.proofs.Prefixes.{judged_from-continues, ArePassed-lines}
@@ -42,12 +42,12 @@ All-last P xs x all = subst P (get_or_at xs x [] x (length xs) refl) (all (lengt
 -- ---- lines that say the same
 
 -- they leave the same stage, and the same heads and events are read in the same lines
-record SaySame (xs ys : List Reading) : Type 0 where
-  stage : stage_behind xs first_stage ≡ stage_behind ys first_stage
-  heads : heads_in xs ≡ heads_in ys
-  head_lines : head_texts xs ≡ head_texts ys
-  events : events_in xs ≡ events_in ys
-  event_lines : event_texts xs ≡ event_texts ys
+pub record SaySame (xs ys : List Reading) : Type 0 where
+  pub stage : stage_behind xs first_stage ≡ stage_behind ys first_stage
+  pub heads : heads_in xs ≡ heads_in ys
+  pub head_lines : head_texts xs ≡ head_texts ys
+  pub events : events_in xs ≡ events_in ys
+  pub event_lines : event_texts xs ≡ event_texts ys
 
 SaySame-itself : (xs : List Reading) → SaySame xs xs
 SaySame-itself xs = record { stage = refl; heads = refl; head_lines = refl; events = refl; event_lines = refl }
@@ -149,10 +149,10 @@ pass_more lines text line said passes before fits =
 
 -- ---- lines that are read as what other lines say
 
-record AreReadAs (readings : List Reading) (lines : List (List ℕ)) : Type 0 where
-  same : SaySame (readings_of lines) readings
-  clean : All HasNoLineFeed (texts_of readings) → All HasNoLineFeed lines
-  pass : AreFewShortLines lines → PassBehind [] (readings_of lines)
+pub record AreReadAs (readings : List Reading) (lines : List (List ℕ)) : Type 0 where
+  pub same : SaySame (readings_of lines) readings
+  pub clean : All HasNoLineFeed (texts_of readings) → All HasNoLineFeed lines
+  pub pass : AreFewShortLines lines → PassBehind [] (readings_of lines)
 
 clean_before : (readings : List Reading) (reading : Reading) → All HasNoLineFeed (texts_of (readings ++ reading ∷ [])) → All HasNoLineFeed (texts_of readings)
 clean_before readings reading clean =
@@ -228,11 +228,11 @@ AreReadAs-actions readings lines (action ∷ actions) behind read =
 -- ---- the output of lines that pass
 
 -- what is written for lines is read as what they say
-record AreReadAgain (readings : List Reading) : Type 0 where
-  front : AreFront readings
-  read : AreReadAs readings (lines_for readings)
+pub record AreReadAgain (readings : List Reading) : Type 0 where
+  pub front : AreFront readings
+  pub read : AreReadAs readings (lines_for readings)
 
-AreReadAgain-none : AreReadAgain []
+pub AreReadAgain-none : AreReadAgain []
 unfolding actions_of
 AreReadAgain-none = record { front = AreFront-none; read = AreReadAs-none }
 
@@ -262,6 +262,16 @@ line_again readings text Acted n said front at passes read =
     let reading : Reading = record { text = text; says = Ok Acted } in
     subst (AreReadAs (readings ++ reading ∷ [])) (sym (lines_for-acted readings text)) (AreReadAs-skip readings (lines_for readings) text read)
 line_again readings text End n said front at passes read = absurd cc
+
+-- one line more that says something, and passes at some place
+pub AreReadAgain-said : (before : List Reading) (text : List ℕ) (line : Line) (n : ℕ) → said_at (stage_behind before first_stage) text ≡ Ok line →
+    verdict_by n (length (events_in before)) (Ok line) ≡ None → AreReadAgain before → AreReadAgain (before ++ record { text = text; says = Ok line } ∷ [])
+AreReadAgain-said before text line n said passes again =
+    let at = said_at-is (stage_behind before first_stage) text line said in
+    record {
+      front = AreFront-said before text line said again.front;
+      read = line_again before text line n said again.front at passes again.read;
+    }
 
 AreReadAgain-more : (before : List Reading) (text : List ℕ) → AreReadAgain before → Passes before (reading_at (stage_behind before first_stage) text) →
     AreReadAgain (before ++ reading_at (stage_behind before first_stage) text ∷ [])
@@ -360,7 +370,7 @@ clean_end : HasNoLineFeed (codes "end")
 clean_end = All-from_recursion StandsInLine (codes "end") (refl, (refl, (refl, tt)))
 
 -- what is written for these lines and `end`
-abbrev ended_output : List Reading → List ℕ
+abbrev pub ended_output : List Reading → List ℕ
 ended_output passed = ended_lines (lines_for passed ++ codes "end" ∷ [])
 
 judged_again : (passed : List Reading) → AreReadAgain passed → All HasNoLineFeed (texts_of passed) → IsBehindHead (stage_behind passed first_stage) →
@@ -404,7 +414,7 @@ pub record AreTheirOutput (bytes : List ℕ) : Type 0 where
   pub ends : judged bytes ≡ judgement_of readings ended
   pub same : lines_for readings ≡ texts_of readings
 
-their_output : (passed : List Reading) → AreReadAgain passed → All HasNoLineFeed (texts_of passed) → IsBehindHead (stage_behind passed first_stage) →
+pub their_output : (passed : List Reading) → AreReadAgain passed → All HasNoLineFeed (texts_of passed) → IsBehindHead (stage_behind passed first_stage) →
     FitsTrace (ended_output passed) → AreTheirOutput (ended_output passed)
 their_output passed again clean behind fits = record {
   readings = readings_of (lines_for passed);

@@ -7,17 +7,22 @@ use Rattle.io_edge.specs.Told.{Takes, TakesProperPrefix}
 use Rattle.io_edge.proofs.ToldLemmas.{Takes-nothing, Takes-append}
 use Rattle.machine.specs.Machine.{Machine, start_of}
 use Rattle.machine.specs.Run.{after_all}
+use Rattle.net_base.specs.Bounds.{AreSound}
 use Rattle.net_base.specs.declared.action.Action.{Action}
 use Rattle.net_base.specs.declared.event.Event.{Event}
 use Rattle.net_base.specs.declared.settings.Settings.{Settings}
 use Rattle.node_world.specs.Meanings.{with_more}
 use Rattle.node_world.proofs.Told.{with_more-nil}
+use Rattle.trace_text.specs.Addresses.{IsAddress}
 use Rattle.trace_text.specs.HeadTexts.{printed_head}
-use Rattle.trace_replay.specs.Drive.{IsFrontOf, text_of, acts_of, text_up_to, whole_text, all_actions, AreAll, BreaksOff, IsDriven, Drives, outcome_of_drive}
+use Rattle.trace_replay.specs.Drive.{IsFrontOf, text_of, acts_of, text_up_to, whole_text, all_actions, AreAll, BreaksOff, SaysUpTo, IsDriven, Drives, outcome_of_drive}
 use Rattle.trace_replay.specs.DriveCourse.{Ran, Broke, BrokeAt, Came, Stopped, IsBreak, IsUnsaid, IsOfWorld}
+use Rattle.trace_replay.specs.Judgement.{most_events}
+use Rattle.trace_replay.specs.Written.{IsWrittenTrace, TakesAgreeing}
 use Rattle.trace_replay.specs.declared.outcome.Outcome.{Outcome}
 use Rattle.trace_replay.specs.declared.outcome.Outcome.TheVariants as outcome
 use Rattle.trace_replay.proofs.Drives.{front_all, front_none, front_behind, front_more, text_of-append, acts_of-append, why_behind, of_world, Ran-Ran, Ran-Broke}
+use Rattle.trace_replay.proofs.Written.{whole_agrees}
 
 front_whole : {T : Type 0} (a b c : List T) → IsFrontOf a b → IsFrontOf b c → IsFrontOf a c
 front_whole {T} a b c ab bc = record {
@@ -56,15 +61,31 @@ all_before first before event = sym (append_assoc first before (event ∷ []))
 -- why it broke off, where no more than the whole is due
 as_broken : (o : Outcome) (s : Settings) (first : List Event) (count : ℕ) (ended : Bool) (events : List Event) (written due : List ℕ) (acts : List Action) →
     BreaksOff s first events written acts → IsBreak o written due → length due ≤ length (whole_text s (first ++ events)) →
-    (0 < length events → due ≡ text_up_to s (first ++ events)) → IsDriven o s first count ended events written acts
-as_broken outcome.Done s first count ended events written due acts b why short all = absurd why
-as_broken (outcome.Differ line) s first count ended events written due acts b why short all = absurd why
-as_broken (outcome.Refused line kind) s first count ended events written due acts b why short all = absurd why
-as_broken outcome.ReadFault s first count ended events written due acts b why short all = absurd why
-as_broken outcome.WriteFault s first count ended events written due acts b why short all = (b, omega (arith, why, short))
-as_broken outcome.OutOfMemory s first count ended events written due acts b why short all = b
-as_broken outcome.WorldFault s first count ended events written due acts b why short all = (b, λ some. why ∙ all some)
-as_broken (outcome.TooLong line) s first count ended events written due acts b why short all = absurd why
+    (0 < length events → due ≡ text_up_to s (first ++ events)) → (o ≡ outcome.WorldFault → SaysUpTo s (first ++ events) written acts) →
+    IsDriven o s first count ended events written acts
+as_broken outcome.Done s first count ended events written due acts b why short all says = absurd why
+as_broken (outcome.Differ line) s first count ended events written due acts b why short all says = absurd why
+as_broken (outcome.Refused line kind) s first count ended events written due acts b why short all says = absurd why
+as_broken outcome.ReadFault s first count ended events written due acts b why short all says = absurd why
+as_broken outcome.WriteFault s first count ended events written due acts b why short all says = (b, omega (arith, why, short))
+as_broken outcome.OutOfMemory s first count ended events written due acts b why short all says = b
+as_broken outcome.WorldFault s first count ended events written due acts b why short all says = (b, λ some. why ∙ all some, says refl)
+as_broken (outcome.TooLong line) s first count ended events written due acts b why short all says = absurd why
+
+-- where the world fails, all that is due is written
+all_due : (o : Outcome) (written due : List ℕ) → IsBreak o written due → o ≡ outcome.WorldFault → written ≡ due
+all_due o written due why world = subst (λ (r : Outcome). IsBreak r written due) world why
+
+-- it promises nothing of what was written as a trace
+no_trace : (o : Outcome) (s : Settings) (events : List Event) (written due : List ℕ) → IsBreak o written due → IsWrittenTrace o s events written
+no_trace outcome.Done s events written due why = absurd why
+no_trace (outcome.Differ line) s events written due why = absurd why
+no_trace (outcome.Refused line kind) s events written due why = absurd why
+no_trace outcome.ReadFault s events written due why = absurd why
+no_trace outcome.WriteFault s events written due why = tt
+no_trace outcome.OutOfMemory s events written due why = tt
+no_trace outcome.WorldFault s events written due why = tt
+no_trace (outcome.TooLong line) s events written due why = absurd why
 
 -- ---- before an event of the world
 
@@ -79,8 +100,8 @@ breaks_before s first written acts text done = record {
 
 -- nothing was done, and no more than a front of the head written
 before_all : (s : Settings) (first : List Event) (count : ℕ) (t : Option (List Event)) (d : Option (List Action)) (ended : Bool) (o0 o1 : Option (List ℕ)) (o : Outcome) (front rest : List ℕ) →
-    Takes o0 o1 front → printed_head s ≡ front ++ rest → IsBreak o front (printed_head s) → Drives s first count t t d d ended o0 o1 o
-before_all s first count t d ended o0 o1 o front rest takes split why =
+    Takes o0 o1 front → printed_head s ≡ front ++ rest → IsBreak o front (printed_head s) → ¬ (o ≡ outcome.WorldFault) → Drives s first count t t d d ended o0 o1 o
+before_all s first count t d ended o0 o1 o front rest takes split why other =
     let head : IsFrontOf (printed_head s) (whole_text s (first ++ [])) =
     front_more (printed_head s) (text_up_to s (first ++ [])) (ended_lines (codes "end" ∷ [])) (record { rest = text_of (start_of s) (first ++ []); split = refl }) in
     let text : IsFrontOf front (whole_text s (first ++ [])) = front_whole front (printed_head s) (whole_text s (first ++ [])) (record { rest = rest; split = split }) head in
@@ -93,13 +114,14 @@ before_all s first count t d ended o0 o1 o front rest takes split why =
       out = takes;
       few = omega arith;
       is_driven = as_broken o s first count ended [] front (printed_head s) [] (breaks_before s first front [] text (front_none (all_actions s (first ++ [])))) why
-          (front_short (printed_head s) (whole_text s (first ++ [])) head) (λ some. absurd (omega (arith, some)));
+          (front_short (printed_head s) (whole_text s (first ++ [])) head) (λ some. absurd (omega (arith, some))) (λ world. absurd (other world));
+      is_trace = no_trace o s (first ++ []) front (printed_head s) why;
     }
 
 -- memory was wanting before anything
 pub wanting : (s : Settings) (first : List Event) (count : ℕ) (t : Option (List Event)) (d : Option (List Action)) (ended : Bool) (o : Option (List ℕ)) →
     Drives s first count t t d d ended o o outcome.OutOfMemory
-wanting s first count t d ended o = before_all s first count t d ended o o outcome.OutOfMemory [] (printed_head s) (Takes-nothing o) refl tt
+wanting s first count t d ended o = before_all s first count t d ended o o outcome.OutOfMemory [] (printed_head s) (Takes-nothing o) refl tt (λ e. absurd cc)
 
 -- the head is not written whole
 pub in_head : (s : Settings) (first : List Event) (count : ℕ) (t : Option (List Event)) (d : Option (List Action)) (ended : Bool) (o0 o1 : Option (List ℕ)) (o : Outcome) →
@@ -110,9 +132,9 @@ in_head s first count t d ended o0 o1 (outcome.Refused line kind) h = absurd h
 in_head s first count t d ended o0 o1 outcome.ReadFault h = absurd h
 in_head s first count t d ended o0 o1 outcome.WriteFault h =
     before_all s first count t d ended o0 o1 outcome.WriteFault h.front h.rest h.taken h.split
-    (subst (λ (text : List ℕ). length h.front < length text) (sym h.split) (omega (arith, h.proper, length-append h.front h.rest)))
+    (subst (λ (text : List ℕ). length h.front < length text) (sym h.split) (omega (arith, h.proper, length-append h.front h.rest))) (λ e. absurd cc)
 in_head s first count t d ended o0 o1 outcome.OutOfMemory h =
-    before_all s first count t d ended o0 o1 outcome.OutOfMemory [] (printed_head s) (subst (λ (o : Option (List ℕ)). Takes o0 o []) (sym h) (Takes-nothing o0)) refl tt
+    before_all s first count t d ended o0 o1 outcome.OutOfMemory [] (printed_head s) (subst (λ (o : Option (List ℕ)). Takes o0 o []) (sym h) (Takes-nothing o0)) refl tt (λ e. absurd cc)
 in_head s first count t d ended o0 o1 outcome.WorldFault h = absurd h
 in_head s first count t d ended o0 o1 (outcome.TooLong line) h = absurd h
 
@@ -129,6 +151,12 @@ in_first s m first count t0 t1 d0 d1 ended o0 o1 o2 o start same head at =
     (up_to_front s (first ++ []) (at.before ++ at.event ∷ []) at.later split) in
     let text : IsFrontOf (printed_head s ++ broke.written) (whole_text s (first ++ [])) =
     front_whole (printed_head s ++ broke.written) (printed_head s ++ due) (whole_text s (first ++ [])) (front_behind (printed_head s) broke.written due broke.text_before) up_to in
+    let says : o ≡ outcome.WorldFault → SaysUpTo s (first ++ []) (printed_head s ++ broke.written) broke.acts = λ world. record {
+      heard = at.before ++ at.event ∷ [];
+      front = record { rest = at.later; split = split };
+      written_is = ap (λ (text : List ℕ). printed_head s ++ text) (all_due o broke.written due broke.why world);
+      why = inr (broke.short world);
+    } in
     let acts : IsFrontOf broke.acts (all_actions s (first ++ [])) =
     front_whole broke.acts (acts_of (start_of s) (at.before ++ at.event ∷ [])) (all_actions s (first ++ [])) broke.acts_before
     (acts_front (start_of s) (first ++ []) (at.before ++ at.event ∷ []) at.later split) in
@@ -142,7 +170,8 @@ in_first s m first count t0 t1 d0 d1 ended o0 o1 o2 o start same head at =
       few = omega arith;
       is_driven = as_broken o s first count ended [] (printed_head s ++ broke.written) (printed_head s ++ due) broke.acts
           (breaks_before s first (printed_head s ++ broke.written) broke.acts text acts) (why_behind o (printed_head s) broke.written due broke.why)
-          (front_short (printed_head s ++ due) (whole_text s (first ++ [])) up_to) (λ some. absurd (omega (arith, some)));
+          (front_short (printed_head s ++ due) (whole_text s (first ++ [])) up_to) (λ some. absurd (omega (arith, some))) says;
+      is_trace = no_trace o s (first ++ []) (printed_head s ++ broke.written) (printed_head s ++ due) (why_behind o (printed_head s) broke.written due broke.why);
     }
 
 -- ---- at an event of the world
@@ -168,6 +197,12 @@ at_event s first count before event t0 t1 d0 d1 ended o0 o1 o2 o taken few head 
     let due : List ℕ = text_of (start_of s) ((first ++ before) ++ event ∷ []) in
     let is_due : printed_head s ++ due ≡ text_up_to s (first ++ (before ++ event ∷ [])) =
     ap (λ es. text_up_to s es) (sym (all_before first before event)) in
+    let says : o ≡ outcome.WorldFault → SaysUpTo s (first ++ (before ++ event ∷ [])) (printed_head s ++ b.written) b.acts = λ world. record {
+      heard = first ++ (before ++ event ∷ []);
+      front = front_all (first ++ (before ++ event ∷ []));
+      written_is = ap (λ (text : List ℕ). printed_head s ++ text) (all_due o b.written due b.why world) ∙ is_due;
+      why = inl refl;
+    } in
     let short : length (printed_head s ++ due) ≤ length (whole_text s (first ++ (before ++ event ∷ []))) =
     front_short (printed_head s ++ due) (whole_text s (first ++ (before ++ event ∷ []))) (record {
       rest = ended_lines (codes "end" ∷ []);
@@ -182,7 +217,8 @@ at_event s first count before event t0 t1 d0 d1 ended o0 o1 o2 o taken few head 
       out = Takes-append o0 o1 o2 (printed_head s) b.written head b.out;
       few = omega (arith, few, length-append before (event ∷ []));
       is_driven = as_broken o s first count ended (before ++ event ∷ []) (printed_head s ++ b.written) (printed_head s ++ due) b.acts
-          (breaks_at s first before event d0 d1 o1 o2 o b) (why_behind o (printed_head s) b.written due b.why) short (λ some. is_due);
+          (breaks_at s first before event d0 d1 o1 o2 o b) (why_behind o (printed_head s) b.written due b.why) short (λ some. is_due) says;
+      is_trace = no_trace o s (first ++ (before ++ event ∷ [])) (printed_head s ++ b.written) (printed_head s ++ due) (why_behind o (printed_head s) b.written due b.why);
     }
 
 -- ---- between two events
@@ -205,8 +241,9 @@ between : (s : Settings) (first : List Event) (count : ℕ) (events : List Event
     (o0 o1 o2 o3 : Option (List ℕ)) (o : Outcome) → t1 ≡ with_more t0 events → length events ≤ count → Takes o0 o1 (printed_head s) →
     Ran (start_of s) (first ++ events) next d0 d1 o1 o2 → Takes o2 o3 more → IsFrontOf more (ended_lines (codes "end" ∷ [])) →
     IsFrontOf due (ended_lines (codes "end" ∷ [])) → IsBreak o (text_up_to s (first ++ events) ++ more) (text_up_to s (first ++ events) ++ due) →
-    (0 < length events → text_up_to s (first ++ events) ++ due ≡ text_up_to s (first ++ events)) → Drives s first count t0 t1 d0 d1 ended o0 o3 o
-between s first count events next more due t0 t1 d0 d1 ended o0 o1 o2 o3 o taken few head ran takes front due_front why all = record {
+    (0 < length events → text_up_to s (first ++ events) ++ due ≡ text_up_to s (first ++ events)) → (o ≡ outcome.WorldFault → more ≡ []) →
+    Drives s first count t0 t1 d0 d1 ended o0 o3 o
+between s first count events next more due t0 t1 d0 d1 ended o0 o1 o2 o3 o taken few head ran takes front due_front why all nothing = record {
   events = events;
   taken = taken;
   acts = all_actions s (first ++ events);
@@ -217,7 +254,14 @@ between s first count events next more due t0 t1 d0 d1 ended o0 o1 o2 o3 o taken
   is_driven = as_broken o s first count ended events (text_up_to s (first ++ events) ++ more) (text_up_to s (first ++ events) ++ due) (all_actions s (first ++ events))
       (breaks_between s first events more front) why
       (front_short (text_up_to s (first ++ events) ++ due) (whole_text s (first ++ events))
-      (front_behind (text_up_to s (first ++ events)) due (ended_lines (codes "end" ∷ [])) due_front)) all;
+      (front_behind (text_up_to s (first ++ events)) due (ended_lines (codes "end" ∷ [])) due_front)) all
+      (λ world. record {
+        heard = first ++ events;
+        front = front_all (first ++ events);
+        written_is = ap (λ (text : List ℕ). text_up_to s (first ++ events) ++ text) (nothing world) ∙ append-nil (text_up_to s (first ++ events));
+        why = inl refl;
+      });
+  is_trace = no_trace o s (first ++ events) (text_up_to s (first ++ events) ++ more) (text_up_to s (first ++ events) ++ due) why;
 }
 
 -- ---- behind the events that are given
@@ -237,7 +281,7 @@ in_world s m next first count t0 t1 t2 d0 d1 d2 ended o0 o1 o2 o3 o start same h
     (behind.taken ∙ ap (λ told. with_more told behind.events) same) (omega (arith, few)) head
     (Ran-Ran (start_of s) next behind.next first behind.events d0 d1 d2 o1 o2 o3 begun behind.ran) (Takes-nothing o3)
     (front_none (ended_lines (codes "end" ∷ []))) (front_none (ended_lines (codes "end" ∷ [])))
-    (of_world o (text_up_to s (first ++ behind.events) ++ []) behind.why) (λ some. append-nil (text_up_to s (first ++ behind.events)))
+    (of_world o (text_up_to s (first ++ behind.events) ++ []) behind.why) (λ some. append-nil (text_up_to s (first ++ behind.events))) (λ world. refl)
 
 up_to_count : (count : ℕ) (ended : Bool) (events : List Event) → AreAll count ended events → length events ≤ count
 up_to_count count ended events (inl all) = omega (arith, all)
@@ -279,21 +323,24 @@ at_end s m next first count t0 t1 t2 d0 d1 d2 came_ended ended o0 o1 o2 o3 o4 o 
             breaks_between s first came.events h.front (record { rest = h.rest; split = h.split }),
             omega (arith, proper, length-append up_to h.front, length-append up_to last),
           );
+          is_trace = tt;
         }
     by outcome.OutOfMemory taken few all h =
         between s first count came.events came.next [] [] t0 t2 d0 d2 ended o0 o1 o3 o4 outcome.OutOfMemory taken few head all
-        (subst (λ (o : Option (List ℕ)). Takes o3 o []) (sym h) (Takes-nothing o3)) (front_none last) (front_none last) tt (λ some. append-nil (text_up_to s (first ++ came.events)))
+        (subst (λ (o : Option (List ℕ)). Takes o3 o []) (sym h) (Takes-nothing o3)) (front_none last) (front_none last) tt (λ some. append-nil (text_up_to s (first ++ came.events))) (λ world. refl)
     by outcome.WorldFault taken few all h = absurd h
     by (outcome.TooLong line) taken few all h = absurd h
 
 -- all is written
 pub ended_whole : (s : Settings) (m next : Machine) (first : List Event) (count : ℕ) (t0 t1 t2 : Option (List Event)) (d0 d1 d2 : Option (List Action)) (ended : Bool)
-    (o0 o1 o2 o3 o4 : Option (List ℕ)) → m ≡ start_of s → t1 ≡ t0 → Takes o0 o1 (printed_head s) → Ran m first next d0 d1 o1 o2 →
-    Came next count t1 t2 ended d1 d2 o2 o3 → Takes o3 o4 (ended_lines (codes "end" ∷ [])) → Drives s first count t0 t2 d0 d2 ended o0 o4 outcome.Done
-ended_whole s m next first count t0 t1 t2 d0 d1 d2 ended o0 o1 o2 o3 o4 start same head ran came last =
+    (o0 o1 o2 o3 o4 : Option (List ℕ)) → AreSound s → IsAddress s.own → length first + count ≤ most_events → m ≡ start_of s → t1 ≡ t0 → Takes o0 o1 (printed_head s) →
+    Ran m first next d0 d1 o1 o2 → Came next count t1 t2 ended d1 d2 o2 o3 → Takes o3 o4 (ended_lines (codes "end" ∷ [])) →
+    Drives s first count t0 t2 d0 d2 ended o0 o4 outcome.Done
+ended_whole s m next first count t0 t1 t2 d0 d1 d2 ended o0 o1 o2 o3 o4 sound own few start same head ran came last =
     let begun : Ran (start_of s) first next d0 d1 o1 o2 = subst (λ machine. Ran machine first next d0 d1 o1 o2) start ran in
     let all : Ran (start_of s) (first ++ came.events) came.next d0 d2 o1 o3 =
     Ran-Ran (start_of s) next came.next first came.events d0 d1 d2 o1 o2 o3 begun came.ran in
+    let up_to : length came.events ≤ count = up_to_count count ended came.events came.all in
     record {
       events = came.events;
       taken = came.taken ∙ ap (λ told. with_more told came.events) same;
@@ -302,16 +349,24 @@ ended_whole s m next first count t0 t1 t2 d0 d1 d2 ended o0 o1 o2 o3 o4 start sa
       written = whole_text s (first ++ came.events);
       out = Takes-append o0 o3 o4 (text_up_to s (first ++ came.events)) (ended_lines (codes "end" ∷ []))
           (Takes-append o0 o1 o3 (printed_head s) (text_of (start_of s) (first ++ came.events)) head all.out) last;
-      few = up_to_count count ended came.events came.all;
+      few = up_to;
       is_driven = (came.all, refl, refl);
+      is_trace = whole_agrees s (first ++ came.events) sound own all.traceable (omega (arith, few, up_to, length-append first came.events));
     }
 
 -- the last line is put, or not whole
 pub at_last : (s : Settings) (m next : Machine) (first : List Event) (count : ℕ) (t0 t1 t2 : Option (List Event)) (d0 d1 d2 : Option (List Action)) (ended : Bool)
-    (o0 o1 o2 o3 o4 : Option (List ℕ)) (r : Result (Unit {0}) Outcome) → m ≡ start_of s → t1 ≡ t0 → Takes o0 o1 (printed_head s) → Ran m first next d0 d1 o1 o2 →
-    Came next count t1 t2 ended d1 d2 o2 o3 → OnOk r (Takes o3 o4 (ended_lines (codes "end" ∷ []))) → IfErr r (IsUnsaid o3 o4 (ended_lines (codes "end" ∷ []))) →
+    (o0 o1 o2 o3 o4 : Option (List ℕ)) (r : Result (Unit {0}) Outcome) → AreSound s → IsAddress s.own → length first + count ≤ most_events → m ≡ start_of s → t1 ≡ t0 →
+    Takes o0 o1 (printed_head s) → Ran m first next d0 d1 o1 o2 → Came next count t1 t2 ended d1 d2 o2 o3 → OnOk r (Takes o3 o4 (ended_lines (codes "end" ∷ []))) → IfErr r (IsUnsaid o3 o4 (ended_lines (codes "end" ∷ []))) →
     Drives s first count t0 t2 d0 d2 ended o0 o4 (outcome_of_drive r)
-at_last s m next first count t0 t1 t2 d0 d1 d2 ended o0 o1 o2 o3 o4 (Ok done) start same head ran came whole part =
-    ended_whole s m next first count t0 t1 t2 d0 d1 d2 ended o0 o1 o2 o3 o4 start same head ran came whole
-at_last s m next first count t0 t1 t2 d0 d1 d2 ended o0 o1 o2 o3 o4 (Err outcome) start same head ran came whole part =
+at_last s m next first count t0 t1 t2 d0 d1 d2 ended o0 o1 o2 o3 o4 (Ok done) sound own few start same head ran came whole part =
+    ended_whole s m next first count t0 t1 t2 d0 d1 d2 ended o0 o1 o2 o3 o4 sound own few start same head ran came whole
+at_last s m next first count t0 t1 t2 d0 d1 d2 ended o0 o1 o2 o3 o4 (Err outcome) sound own few start same head ran came whole part =
     at_end s m next first count t0 t1 t2 d0 d1 d2 ended ended o0 o1 o2 o3 o4 outcome start same head ran came part
+
+-- what was written with version 2 agrees
+pub drives_agreeing : (s : Settings) (first : List Event) (count : ℕ) (t0 t1 : Option (List Event)) (d0 d1 : Option (List Action)) (ended : Bool) (o0 o1 : Option (List ℕ)) (o : Outcome) →
+    Drives s first count t0 t1 d0 d1 ended o0 o1 o → o ≡ outcome.Done → s.version ≡ 2 → TakesAgreeing o0 o1
+drives_agreeing s first count t0 t1 d0 d1 ended o0 o1 o drives done two =
+    let all : Drives s first count t0 t1 d0 d1 ended o0 o1 outcome.Done = subst (λ (r : Outcome). Drives s first count t0 t1 d0 d1 ended o0 o1 r) done drives in
+    record { written = all.written; taken = all.out; agrees = all.is_trace (inl two) }

@@ -1,8 +1,9 @@
 -- What one event more, and some events more, make of a drive.
 use Rattle.std.proofs.Common.{◌≡◌, ℕ, zero, suc, ◌+◌, ◌<◌, Bool, true, List, [], ◌∷◌, ◌++◌, length, map, take, drop, get_or, Option, inl, inr, refl, sym, ap, ◌∙◌, subst, arith, length-append}
 use Rattle.std.specs.List.{flat_map, zip}
-use Rattle.std.proofs.lemmas.List.{append-nil, append_assoc, take_more, take-append-drop}
+use Rattle.std.proofs.lemmas.List.{append-nil, append_assoc, take_more, take-append-drop, length-take-le}
 use Rattle.std.proofs.Math.Seq.{split_at}
+use Rattle.std.proofs.lemmas.List.Elements.{All-nil, All-cons, All-append}
 use Rattle.std.proofs.lemmas.List.Concat.{flat_map-append, flat_map-cons}
 use Rattle.io_edge.specs.Lines.{ended_lines}
 use Rattle.io_edge.specs.Told.{Takes, TakesProperPrefix}
@@ -18,6 +19,7 @@ use Rattle.trace_text.specs.EventTexts.{printed_event}
 use Rattle.trace_replay.specs.Drive.{IsFrontOf, text_of, acts_of}
 use Rattle.trace_replay.specs.DriveCourse.{event_text, Ran, RanFor, Broke, BrokeAt, Came, Stopped, IsBreak, IsUnsaid, DoesFront, IsOfWorld}
 use Rattle.trace_replay.specs.Output.{told_event}
+use Rattle.trace_replay.specs.Written.{IsTraceable}
 use Rattle.trace_replay.specs.declared.outcome.Outcome.{Outcome}
 use Rattle.trace_replay.specs.declared.outcome.Outcome.TheVariants as outcome
 
@@ -106,6 +108,7 @@ Ran-none m d o = record {
   machine_is = refl;
   done = sym (ap (λ acts. with_more d acts) (acts_of-none m) ∙ with_more-nil d);
   out = subst (λ text. Takes o o text) (sym (text_of-none m)) (Takes-nothing o);
+  traceable = All-nil IsTraceable;
 }
 
 pub Ran-Ran : (m next last : Machine) (xs ys : List Event) (d0 d1 d2 : Option (List Action)) (o0 o1 o2 : Option (List ℕ)) →
@@ -119,6 +122,7 @@ Ran-Ran m next last xs ys d0 d1 d2 o0 o1 o2 a b =
       machine_is = b.machine_is ∙ ap (λ n. after_all n ys) a.machine_is ∙ sym (after_all-append m xs ys);
       done = b.done ∙ ap (λ d. with_more d (acts_of next ys)) a.done ∙ with_more-append d0 (acts_of m xs) (acts_of next ys) ∙ ap (λ more. with_more d0 more) acts;
       out = subst (λ bytes. Takes o0 o2 bytes) text (Takes-append o0 o1 o2 (text_of m xs) (text_of next ys) a.out b.out);
+      traceable = All-append IsTraceable xs ys a.traceable b.traceable;
     }
 
 -- with the same before both
@@ -163,6 +167,10 @@ module _ (m next : Machine) (xs before : List Event) (event : Event) (d0 d1 d2 :
     acts_before = subst (λ acts. IsFrontOf (acts_of m xs ++ b.acts) acts) acts_last
         (front_behind (acts_of m xs) b.acts (acts_of next (before ++ event ∷ [])) b.acts_before);
     why = subst (λ text. IsBreak o (text_of m xs ++ b.written) text) text_last (why_behind o (text_of m xs) b.written (text_of next (before ++ event ∷ [])) b.why);
+    short = λ world.
+        let less = b.short world in
+        subst (λ acts. length (acts_of m xs ++ b.acts) < length acts) acts_last
+        (omega (arith, less, length-append (acts_of m xs) b.acts, length-append (acts_of m xs) (acts_of next (before ++ event ∷ []))));
   }
 
 -- ---- one event
@@ -180,25 +188,29 @@ said-text m event before pieces line actions o0 o1 b l a p t =
     subst (λ text. Takes o0 o1 text) all t
 
 -- the actions so far were done
-pub does-front : (before now then : Option (List Action)) (actions : List Action) (i : ℕ) → now ≡ with_more before (take i actions) → then ≡ now → DoesFront before then actions
-does-front before now then actions i d e = record {
+pub does-front : (before now then : Option (List Action)) (actions : List Action) (i : ℕ) → i < length actions → now ≡ with_more before (take i actions) → then ≡ now →
+    DoesFront before then actions
+does-front before now then actions i inside d e = record {
   acts = take i actions;
   front = record { rest = drop i actions; split = sym (take-append-drop i actions) };
+  proper = let long = length-take-le i actions (omega (arith, inside)) in omega (arith, inside, long);
   done = e ∙ d;
 }
 
 pub said-ran : (m next : Machine) (event : Event) (actions : List Action) (d0 d1 : Option (List Action)) (o0 o1 : Option (List ℕ)) →
-    next ≡ (step m event).machine → actions ≡ (step m event).actions → d1 ≡ with_more d0 actions → Takes o0 o1 (event_text m event) → Ran m (event ∷ []) next d0 d1 o0 o1
-said-ran m next event actions d0 d1 o0 o1 n a d t = record {
+    next ≡ (step m event).machine → actions ≡ (step m event).actions → d1 ≡ with_more d0 actions → Takes o0 o1 (event_text m event) → IsTraceable event →
+    Ran m (event ∷ []) next d0 d1 o0 o1
+said-ran m next event actions d0 d1 o0 o1 n a d t traceable = record {
   machine_is = n ∙ sym (after_all-one m event);
   done = d ∙ ap (λ acts. with_more d0 acts) (a ∙ sym (acts_of-one m event));
   out = subst (λ text. Takes o0 o1 text) (sym (text_of-one m event)) t;
+  traceable = All-cons IsTraceable event [] traceable (All-nil IsTraceable);
 }
 
 -- the front of an event is written, and none of its actions done
 unsaid : (m : Machine) (event : Event) (d : Option (List Action)) (o0 o1 : Option (List ℕ)) (o : Outcome) (written rest : List ℕ) →
-    Takes o0 o1 written → event_text m event ≡ written ++ rest → IsBreak o written (event_text m event) → Broke m [] event d d o0 o1 o
-unsaid m event d o0 o1 o written rest t split why = record {
+    Takes o0 o1 written → event_text m event ≡ written ++ rest → IsBreak o written (event_text m event) → ¬ (o ≡ outcome.WorldFault) → Broke m [] event d d o0 o1 o
+unsaid m event d o0 o1 o written rest t split why other = record {
   written = written;
   out = t;
   acts = [];
@@ -208,6 +220,7 @@ unsaid m event d o0 o1 o written rest t split why = record {
   acts_behind = subst (λ acts. IsFrontOf acts []) (sym (acts_of-none m)) (front_none []);
   acts_before = front_none (acts_of m (event ∷ []));
   why = subst (λ text. IsBreak o written text) (sym (text_of-one m event)) why;
+  short = λ world. absurd (other world);
 }
 
 pub unsaid-broke : (m : Machine) (event : Event) (d : Option (List Action)) (o0 o1 : Option (List ℕ)) (o : Outcome) →
@@ -218,8 +231,9 @@ unsaid-broke m event d o0 o1 (outcome.Refused line kind) h = absurd h
 unsaid-broke m event d o0 o1 outcome.ReadFault h = absurd h
 unsaid-broke m event d o0 o1 outcome.WriteFault h =
     unsaid m event d o0 o1 outcome.WriteFault h.front h.rest h.taken h.split (subst (λ text. length h.front < length text) (sym h.split) (omega (arith, h.proper, length-append h.front h.rest)))
+    (λ e. absurd cc)
 unsaid-broke m event d o0 o1 outcome.OutOfMemory h =
-    unsaid m event d o0 o1 outcome.OutOfMemory [] (event_text m event) (rw h (Takes-nothing o0)) refl tt
+    unsaid m event d o0 o1 outcome.OutOfMemory [] (event_text m event) (rw h (Takes-nothing o0)) refl tt (λ e. absurd cc)
 unsaid-broke m event d o0 o1 outcome.WorldFault h = absurd h
 unsaid-broke m event d o0 o1 (outcome.TooLong line) h = absurd h
 
@@ -247,6 +261,10 @@ acts-broke m event actions d0 d1 o0 o1 o a t does ofs = record {
   acts_behind = subst (λ acts. IsFrontOf acts does.acts) (sym (acts_of-none m)) (front_none does.acts);
   acts_before = subst (λ acts. IsFrontOf does.acts acts) (a ∙ sym (acts_of-one m event)) does.front;
   why = subst (λ text. IsBreak o (event_text m event) text) (sym (text_of-one m event)) (of_world o (event_text m event) ofs);
+  short = λ world.
+      let due : length (acts_of m (event ∷ [])) ≡ length actions = ap (λ (acts : List Action). length acts) (acts_of-one m event ∙ sym a) in
+      let less = does.proper in
+      omega (arith, less, due);
 }
 
 -- ---- the events that are given

@@ -17,3 +17,4 @@ pub mod Playing
 pub mod Prefixes
 pub mod Readings
 pub mod Ways
+pub mod Written

@@ -50,10 +50,10 @@ length-event_texts (reading ∷ readings) = by_event (event_in reading.says) (le
     by_event None same = same
     by_event (Some event) same = ap suc same
 
-head_texts-append : (xs ys : List Reading) → head_texts (xs ++ ys) ≡ head_texts xs ++ head_texts ys
+pub head_texts-append : (xs ys : List Reading) → head_texts (xs ++ ys) ≡ head_texts xs ++ head_texts ys
 head_texts-append xs ys = filter_map-append (λ (reading : Reading). text_if (head_in reading.says) reading.text) xs ys
 
-event_texts-append : (xs ys : List Reading) → event_texts (xs ++ ys) ≡ event_texts xs ++ event_texts ys
+pub event_texts-append : (xs ys : List Reading) → event_texts (xs ++ ys) ≡ event_texts xs ++ event_texts ys
 event_texts-append xs ys = filter_map-append (λ (reading : Reading). text_if (event_in reading.says) reading.text) xs ys
 
 told_events-none : (readings : List Reading) → events_in readings ≡ [] → told_events readings ≡ []

@@ -128,6 +128,14 @@ line_at before stage text passes = by_cases (said_at stage text) refl passes.by
     by_cases (Ok line) is e = (line, is, said_at-is stage text line is)
     by_cases (Err refusal) is e = absurd cc
 
+-- behind lines of a front, one that says something
+pub AreFront-said : (before : List Reading) (text : List ℕ) (line : Line) → said_at (stage_behind before first_stage) text ≡ Ok line → AreFront before →
+    AreFront (before ++ record { text = text; says = Ok line } ∷ [])
+AreFront-said before text line said front =
+    let reading : Reading = record { text = text; says = Ok line } in
+    let next = front_line (stage_behind before first_stage) (heads_in before) (events_in before) line front (said_at-is (stage_behind before first_stage) text line said) in
+    rw (stage_behind-push before reading first_stage, heads_in-append before (reading ∷ []), events_in-append before (reading ∷ [])) next
+
 pub AreFront-more : (before : List Reading) (text : List ℕ) → AreFront before → Passes before (reading_at (stage_behind before first_stage) text) →
     AreFront (before ++ reading_at (stage_behind before first_stage) text ∷ [])
 AreFront-more before text front passes =

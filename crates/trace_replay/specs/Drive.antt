@@ -12,6 +12,7 @@ use Rattle.node_world.specs.Meanings.{with_more, Rose}
 use Rattle.trace_text.specs.EventTexts.{printed_event}
 use Rattle.trace_text.specs.HeadTexts.{printed_head}
 use Rattle.trace_replay.specs.Output.{told_event}
+use Rattle.trace_replay.specs.Written.{IsWrittenTrace}
 use Rattle.trace_replay.specs.declared.outcome.Outcome.{Outcome}
 use Rattle.trace_replay.specs.declared.outcome.Outcome.TheVariants as outcome
 
@@ -53,6 +54,13 @@ pub record BreaksOff (settings : Settings) (first events : List Event) (written 
   pub written_before : (before : List Event) (last : Event) → events ≡ before ++ last ∷ [] → IsFrontOf (text_up_to settings (first ++ before)) written
   pub done_before : (before : List Event) (last : Event) → events ≡ before ++ last ∷ [] → IsFrontOf (all_actions settings (first ++ before)) acts
 
+-- All is written up to one of the events: the last, or one whose actions are not all done.
+pub record SaysUpTo (settings : Settings) (events : List Event) (written : List ℕ) (acts : List Action) : Type 0 where
+  pub heard : List Event
+  pub front : IsFrontOf heard events
+  pub written_is : written ≡ text_up_to settings heard
+  pub why : (heard ≡ events) ⊎ (length acts < length (all_actions settings heard))
+
 -- by the outcome, with the events that were taken from the world, what was written and the actions that were done
 abbrev pub IsDriven : Outcome → Settings → List Event → ℕ → Bool → List Event → List ℕ → List Action → Type 0
 IsDriven outcome.Done settings first count ended events written acts =
@@ -61,7 +69,7 @@ IsDriven outcome.WriteFault settings first count ended events written acts =
     BreaksOff settings first events written acts × (length written < length (whole_text settings (first ++ events)))
 -- only `end` is missing, where an event of the world was taken
 IsDriven outcome.WorldFault settings first count ended events written acts =
-    BreaksOff settings first events written acts × (0 < length events → written ≡ text_up_to settings (first ++ events))
+    BreaksOff settings first events written acts × (0 < length events → written ≡ text_up_to settings (first ++ events)) × SaysUpTo settings (first ++ events) written acts
 IsDriven outcome.OutOfMemory settings first count ended events written acts = BreaksOff settings first events written acts
 IsDriven other settings first count ended events written acts = ⊥
 
@@ -80,6 +88,7 @@ pub record Drives (settings : Settings) (first : List Event) (count : ℕ) (take
   pub out : Takes out_before out_after written
   pub few : length events ≤ count
   pub is_driven : IsDriven result settings first count ended events written acts
+  pub is_trace : IsWrittenTrace result settings (first ++ events) written
 
 -- The world's count of faults rises with a world fault alone.
 abbrev pub HasWorldCount : ℕ → ℕ → Outcome → Type 0

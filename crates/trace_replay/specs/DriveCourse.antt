@@ -1,5 +1,5 @@
 -- How a drive stands while it runs.
-use Rattle.std.specs.Prelude.{◌≡◌, ℕ, ◌<◌, ◌⊎◌, Bool, List, [], ◌∷◌, ◌++◌, length, Option}
+use Rattle.std.specs.Prelude.{◌≡◌, ℕ, ◌<◌, ◌⊎◌, Bool, List, [], ◌∷◌, ◌++◌, length, All, Option}
 use Rattle.io_edge.specs.Lines.{ended_lines}
 use Rattle.io_edge.specs.Told.{Takes, TakesProperPrefix}
 use Rattle.machine.specs.Machine.{Machine}
@@ -11,6 +11,7 @@ use Rattle.node_world.specs.Meanings.{with_more}
 use Rattle.trace_text.specs.EventTexts.{printed_event}
 use Rattle.trace_replay.specs.Drive.{IsFrontOf, text_of, acts_of, AreAll}
 use Rattle.trace_replay.specs.Output.{told_event}
+use Rattle.trace_replay.specs.Written.{IsTraceable}
 use Rattle.trace_replay.specs.declared.outcome.Outcome.{Outcome}
 use Rattle.trace_replay.specs.declared.outcome.Outcome.TheVariants as outcome
 
@@ -23,6 +24,7 @@ pub record Ran (m : Machine) (events : List Event) (next : Machine) (done_before
   pub machine_is : next ≡ after_all m events
   pub done : done_now ≡ with_more done_before (acts_of m events)
   pub out : Takes out_before out_now (text_of m events)
+  pub traceable : All IsTraceable events
 
 -- why it broke off, by what was written of what is due
 abbrev pub IsBreak : Outcome → List ℕ → List ℕ → Type 0
@@ -42,6 +44,8 @@ pub record Broke (m : Machine) (before : List Event) (event : Event) (done_befor
   pub acts_behind : IsFrontOf (acts_of m before) acts
   pub acts_before : IsFrontOf acts (acts_of m (before ++ event ∷ []))
   pub why : IsBreak result written (text_of m (before ++ event ∷ []))
+  -- where the world fails, it is at an action of the event
+  pub short : result ≡ outcome.WorldFault → length acts < length (acts_of m (before ++ event ∷ []))
 
 -- what was written of an event that was not acted on
 abbrev pub IsUnsaid : Option (List ℕ) → Option (List ℕ) → List ℕ → Outcome → Type 0
@@ -49,10 +53,11 @@ IsUnsaid before now text outcome.WriteFault = TakesProperPrefix before now text
 IsUnsaid before now text outcome.OutOfMemory = now ≡ before
 IsUnsaid before now text other = ⊥
 
--- some of the actions were done, and no more
+-- some of the actions were done, and not all
 pub record DoesFront (before now : Option (List Action)) (actions : List Action) : Type 0 where
   pub acts : List Action
   pub front : IsFrontOf acts actions
+  pub proper : length acts < length actions
   pub done : now ≡ with_more before acts
 
 -- why the world did not do an action

@@ -17,3 +17,4 @@ pub mod Reading
 pub mod Replays
 pub mod Settings
 pub mod UnderWay
+pub mod Written

@@ -10,12 +10,15 @@ ghost use Rattle.node_world.specs.Meanings.{with_more, taken_after, done_after, 
 ghost use Rattle.trace_replay.specs.DriveCourse.{event_text, Ran, Broke, BrokeAt, Came, Stopped, IsUnsaid, DoesFront, IsOfWorld};
 ghost use Rattle.net_base.specs.Bounds.{AreSound};
 ghost use Rattle.net_base.specs.Limits.{IsWithinLimits};
+ghost use Rattle.trace_text.specs.EventTexts.{IsEventIn};
 ghost use Rattle.trace_text.specs.HeadTexts.{printed_head};
 ghost use Rattle.trace_replay.specs.Drive.{Drives, HasWorldCount, outcome_of_drive};
 ghost use Rattle.trace_replay.specs.Replays.{outcome_or};
 ghost use Rattle.trace_replay.specs.UnderWay.{HasWriteCount};
+ghost use Rattle.trace_replay.specs.Written.{TakesAgreeing};
 
 use crate::Outcome;
+use crate::holding::{hold_address, hold_event};
 use crate::pickers::{Pickers, ranked_score, score};
 use crate::replaying::put;
 use crate::start::first_engine;
@@ -44,7 +47,9 @@ pub fn drive<W: World, K: Sink>(
     requires few { length first.now + count ≤ 1_000_000 }
     ensures drives { Drives settings.now first.now count (W.taken world.old) (W.taken world.new) (W.done world.old) (W.done world.new)
         (W.has_ended world.new) (K.taken out.old) (K.taken out.new) result }
+    ensures agrees { result ≡ Outcome.Done → settings.now.version ≡ 2 → TakesAgreeing (K.taken out.old) (K.taken out.new) }
     ensures open { W.is_open world.new ≡ true }
+    ensures opening { W.opening world.new ≡ W.opening world.old }
     ensures worlds { HasWorldCount (W.faults world.old) (W.faults world.new) result }
     ensures writes { HasWriteCount (K.faults out.old) (K.faults out.new) result }
 {
@@ -70,6 +75,7 @@ fn drive_anew<W: World, K: Sink>(
     ensures drives { Drives settings.now first.now count (W.taken world.old) (W.taken world.new) (W.done world.old) (W.done world.new)
         (W.has_ended world.new) (K.taken out.old) (K.taken out.new) (outcome_or result) }
     ensures open { W.is_open world.new ≡ true }
+    ensures opening { W.opening world.new ≡ W.opening world.old }
     ensures worlds { HasWorldCount (W.faults world.old) (W.faults world.new) (outcome_or result) }
     ensures writes { HasWriteCount (K.faults out.old) (K.faults out.new) (outcome_or result) }
 {
@@ -106,6 +112,7 @@ fn drive_all<W: World, K: Sink>(
     out: &mut K,
 ) -> Result<(), Outcome>
     requires open { W.is_open world.old ≡ true }
+    requires sound { AreSound settings.now }
     requires within { All IsWithinLimits first.now }
     requires few { length first.now + count ≤ 1_000_000 }
     requires none { engine.events ≡ 0 }
@@ -114,9 +121,11 @@ fn drive_all<W: World, K: Sink>(
     ensures drives { Drives settings.now first.now count (W.taken world.old) (W.taken world.new) (W.done world.old) (W.done world.new)
         (W.has_ended world.new) (K.taken out.old) (K.taken out.new) (outcome_of_drive result) }
     ensures open { W.is_open world.new ≡ true }
+    ensures opening { W.opening world.new ≡ W.opening world.old }
     ensures worlds { HasWorldCount (W.faults world.old) (W.faults world.new) (outcome_of_drive result) }
     ensures writes { HasWriteCount (K.faults out.old) (K.faults out.new) (outcome_of_drive result) }
 {
+    hold_address(settings.own);
     put_head(alloc, settings, out)?;
     let engine = take_first(alloc, engine, first, world, pieces, out)?;
     take_from(alloc, engine, world, count, pieces, out)?;
@@ -165,6 +174,7 @@ fn take_first<W: World, K: Sink>(
     ensures events { IfOk result (λ e. e.events ≡ engine.events + length first.now) }
     ensures silent { OnOk result (pieces.new ≡ []) }
     ensures open { W.is_open world.new ≡ true }
+    ensures opening { W.opening world.new ≡ W.opening world.old }
     ensures taken { W.taken world.new ≡ W.taken world.old }
     ensures worlds { MatchResult result (λ _. W.faults world.new ≡ W.faults world.old) (HasWorldCount (W.faults world.old) (W.faults world.new)) }
     ensures writes { MatchResult result (λ _. K.faults out.new ≡ K.faults out.old) (HasWriteCount (K.faults out.old) (K.faults out.new)) }
@@ -192,6 +202,7 @@ fn take_from<W: World, K: Sink>(
     ensures stopped { IfErr result (Stopped engine.machine count (W.taken world.old) (W.taken world.new) (W.done world.old) (W.done world.new) (K.taken out.old) (K.taken out.new)) }
     ensures silent { OnOk result (pieces.new ≡ []) }
     ensures open { W.is_open world.new ≡ true }
+    ensures opening { W.opening world.new ≡ W.opening world.old }
     ensures worlds { MatchResult result (λ _. W.faults world.new ≡ W.faults world.old) (HasWorldCount (W.faults world.old) (W.faults world.new)) }
     ensures writes { MatchResult result (λ _. K.faults out.new ≡ K.faults out.old) (HasWriteCount (K.faults out.old) (K.faults out.new)) }
 {
@@ -223,6 +234,7 @@ fn take<W: World, K: Sink>(
     ensures events { IfOk result (λ e. e.events ≡ engine.events + 1) }
     ensures silent { OnOk result (pieces.new ≡ []) }
     ensures open { W.is_open world.new ≡ true }
+    ensures opening { W.opening world.new ≡ W.opening world.old }
     ensures ended { W.has_ended world.new ≡ W.has_ended world.old }
     ensures taken { W.taken world.new ≡ W.taken world.old }
     ensures worlds { MatchResult result (λ _. W.faults world.new ≡ W.faults world.old) (HasWorldCount (W.faults world.old) (W.faults world.new)) }
@@ -251,8 +263,10 @@ fn say<K: Sink>(
     ensures said { OnOk result (Takes (K.taken out.old) (K.taken out.new) (event_text engine.machine event.now)) }
     ensures silent { OnOk result (pieces.new ≡ []) }
     ensures unsaid { IfErr result (IsUnsaid (K.taken out.old) (K.taken out.new) (event_text engine.machine event.now)) }
+    ensures traced { IsEventIn 2 event.now }
     ensures writes { MatchResult result (λ _. K.faults out.new ≡ K.faults out.old) (HasWriteCount (K.faults out.old) (K.faults out.new)) }
 {
+    hold_event(event);
     let line = print_event(alloc, event)?;
     let (engine, actions) = engine.step_on(event)?;
     tell(alloc, line.as_slice(), actions.as_slice(), pieces)?;
@@ -267,6 +281,7 @@ fn act_all<W: World>(actions: &[Action], world: &mut W) -> Result<(), Outcome>
     ensures front { OnErr result (DoesFront (W.done world.old) (W.done world.new) actions.now) }
     ensures why { IfErr result IsOfWorld }
     ensures open { W.is_open world.new ≡ true }
+    ensures opening { W.opening world.new ≡ W.opening world.old }
     ensures ended { W.has_ended world.new ≡ W.has_ended world.old }
     ensures taken { W.taken world.new ≡ W.taken world.old }
     ensures worlds { MatchResult result (λ _. W.faults world.new ≡ W.faults world.old) (HasWorldCount (W.faults world.old) (W.faults world.new)) }
@@ -282,6 +297,7 @@ fn act<W: World>(action: &Action, world: &mut W) -> Result<(), Outcome>
     ensures done { W.done world.new ≡ done_after (W.done world.old) action.now result }
     ensures why { IfErr result IsOfWorld }
     ensures open { W.is_open world.new ≡ true }
+    ensures opening { W.opening world.new ≡ W.opening world.old }
     ensures ended { W.has_ended world.new ≡ W.has_ended world.old }
     ensures taken { W.taken world.new ≡ W.taken world.old }
     ensures worlds { MatchResult result (λ _. W.faults world.new ≡ W.faults world.old) (HasWorldCount (W.faults world.old) (W.faults world.new)) }
@@ -301,6 +317,7 @@ fn next<W: World>(world: &mut W) -> Result<Next, Outcome>
     ensures taken { W.taken world.new ≡ taken_after (W.taken world.old) result }
     ensures why { IfErr result IsOfWorld }
     ensures open { W.is_open world.new ≡ true }
+    ensures opening { W.opening world.new ≡ W.opening world.old }
     ensures done { W.done world.new ≡ W.done world.old }
     ensures worlds { MatchResult result (λ _. W.faults world.new ≡ W.faults world.old) (HasWorldCount (W.faults world.old) (W.faults world.new)) }
 {

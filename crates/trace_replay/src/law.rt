@@ -1,10 +1,16 @@
-ghost use Rattle.std.specs.Prelude.{◌≡◌, ℕ, List};
+ghost use Rattle.std.specs.Prelude.{◌≡◌, ◌≤◌, ℕ, List, All, length};
+ghost use Rattle.net_base.specs.Bounds.{AreSound};
+ghost use Rattle.net_base.specs.Limits.{IsWithinLimits};
+ghost use Rattle.net_base.specs.declared.event.Event.{Event};
+ghost use Rattle.net_base.specs.declared.settings.Settings.{Settings};
 ghost use Rattle.trace_replay.specs.Again.{FitsTrace};
 ghost use Rattle.trace_replay.specs.Checks.{outcome_told};
 ghost use Rattle.trace_replay.specs.Compare.{lines_found, lines_written, comparison_of};
+ghost use Rattle.trace_replay.specs.Drive.{whole_text};
 ghost use Rattle.trace_replay.specs.Judgement.{ended, judged};
 ghost use Rattle.trace_replay.specs.Output.{output_of};
 ghost use Rattle.trace_replay.specs.Replays.{verdict_of};
+ghost use Rattle.trace_replay.specs.Written.{CanHold, IsAgreeing};
 ghost use Rattle.trace_replay.specs.declared.outcome.Outcome.TheVariants.{Done};
 
 /// A law: the output of a trace that is read to its `end` is such a trace too, where it keeps the limits of one, and its
@@ -26,4 +32,11 @@ pub fn outputs_agree()
 pub fn agreeing_traces_are_their_output()
     ensures { (input : List ℕ) → outcome_told (comparison_of input) ≡ Done
         → lines_found (judged input) ≡ lines_written (judged input) }
+{}
+
+/// A law: the text of a run agrees, where a trace of its version can hold its events, and it keeps the limits of one.
+pub fn runs_agree()
+    ensures { (settings : Settings) (events : List Event) → AreSound settings → CanHold settings.version settings.own events
+        → All IsWithinLimits events → length events ≤ 1_000_000 → FitsTrace (whole_text settings events)
+        → IsAgreeing (whole_text settings events) }
 {}

@@ -8,6 +8,7 @@ mod drilling;
 mod driving;
 mod finding;
 mod head;
+mod holding;
 mod law;
 mod outcome;
 mod pickers;
@@ -22,7 +23,7 @@ mod told;
 pub use checking::check;
 pub use drilling::drill;
 pub use driving::drive;
-pub use law::{agreeing_traces_are_their_output, outputs_agree, outputs_are_their_own};
+pub use law::{agreeing_traces_are_their_output, outputs_agree, outputs_are_their_own, runs_agree};
 pub use outcome::Outcome;
 pub use replaying::replay;
 

@@ -23,19 +23,19 @@ use Rattle.trace_text.proofs.Apart.{IsApart, from_test as apart_from_test, numbe
 use Rattle.trace_text.proofs.Printed.{all_join}
 
 -- no line feed
-abbrev OneLine : List ℕ → Type 0
+abbrev pub OneLine : List ℕ → Type 0
 OneLine = IsApart 10 (omega arith)
 
-from_test : (bytes : List ℕ) → list_all (λ b. not (eqb b 10)) bytes ≡ true → OneLine bytes
+pub from_test : (bytes : List ℕ) → list_all (λ b. not (eqb b 10)) bytes ≡ true → OneLine bytes
 from_test = apart_from_test 10 (omega arith)
 
-number_line : (n : ℕ) → OneLine (decimal n)
+pub number_line : (n : ℕ) → OneLine (decimal n)
 number_line = number_apart 10 (omega arith) 10
 
-address_line : (address : Addr) → OneLine (printed_address address)
+pub address_line : (address : Addr) → OneLine (printed_address address)
 address_line = address_apart 10 (omega arith)
 
-hex_line : (bytes : List ℕ) → OneLine (encode_lower bytes)
+pub hex_line : (bytes : List ℕ) → OneLine (encode_lower bytes)
 hex_line bytes = hex_apart 10 (omega arith) lower_digits bytes (λ e. omega arith) (from_test lower_digits refl)
 
 away_line : (why : Away) → OneLine (away_word why)

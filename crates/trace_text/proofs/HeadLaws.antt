@@ -2,10 +2,11 @@
 use Rattle.std.proofs.Common.{◌≡◌, ◌≢◌, ℕ, ◌+◌, ◌^◌, ◌<◌, true, false, not, eqb, leb, List, [], ◌∷◌, ◌++◌, Option, Some, decimal, refl, ap, ◌∙◌, arith, lit<, inl, inr, if◌then◌else◌}
 use Rattle.std.specs.Prelude.{codes, Result, Ok, Err}
 use Rattle.std.specs.Option.{ok_or}
-use Rattle.std.specs.List.{AllByRecursion, list_all, flat_map, join_with_byte}
+use Rattle.std.specs.List.{All, AllByRecursion, list_all, flat_map, join_with_byte}
 use Rattle.std.specs.Fmt.{digits}
 use Rattle.std.proofs.lemmas.Bool.{and_parts, cases_eq}
 use Rattle.std.proofs.lemmas.List.{append_assoc}
+use Rattle.std.proofs.lemmas.List.Elements.{All-from_recursion}
 use Rattle.std.proofs.lemmas.List.Splits.{slice_split_at}
 use Rattle.net_base.specs.Bounds.{within, settings_tests, AreSound}
 use Rattle.net_base.specs.Number.{number_up_to}
@@ -58,6 +59,15 @@ one_lines s = (
     setting_lines (settings_under s.hard) (setting_values s) refl,
   ),
 )
+
+-- each line in another form: the test fails at each byte
+lines_tested : (lines : List (List ℕ)) → AllByRecursion OneLine lines → AllByRecursion (All (λ b. eqb b 10 ≡ false)) lines
+lines_tested [] h = tt
+lines_tested (line ∷ lines) h = (tested_apart 10 line h.0, lines_tested lines h.1)
+
+-- no line feed stands in a line of a head
+pub head_lines-no_feed : (s : Settings) → All (All (λ b. eqb b 10 ≡ false)) (head_lines s)
+head_lines-no_feed s = All-from_recursion (All (λ b. eqb b 10 ≡ false)) (head_lines s) (lines_tested (head_lines s) (one_lines s))
 
 cut_lines : (lines : List (List ℕ)) → AllByRecursion OneLine lines → pieces_of 10 (flat_map ended lines) ≡ lines ++ [] ∷ []
 cut_lines [] h = refl

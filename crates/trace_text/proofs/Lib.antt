@@ -4,6 +4,7 @@ pub mod Apart
 pub mod Binds
 pub mod Cutting
 pub mod Digits
+pub mod EventLines
 pub mod GroupLaws
 pub mod GroupLists
 pub mod Groups

@@ -17,6 +17,7 @@ mod stage;
 mod text;
 mod words;
 
+pub use address::read_address;
 pub use event_text::print_event;
 pub use head_text::print_head;
 pub use law::{

@@ -23,5 +23,5 @@ returns-in_err-take_from-clause-drives g c =
 
 pub returns-clause-drives : goal.returns-clause-drives
 returns-clause-drives g c =
-    at_last c.args.settings.now _ _ c.args.first.now c.args.count _ _ _ _ _ _ _ _ _ _ _ _ c.put_end.result c.requires.start c.take_first.ensures.taken
+    at_last c.args.settings.now _ _ c.args.first.now c.args.count _ _ _ _ _ _ _ _ _ _ _ _ c.put_end.result c.requires.sound c.hold_address.ensures.0 c.requires.few c.requires.start c.take_first.ensures.taken
     c.in_ok-put_head.ensures.whole c.in_ok-engine.ensures.ran c.in_ok-take_from.ensures.came c.put_end.ensures.whole c.put_end.ensures.part

@@ -18,4 +18,4 @@ returns-in_err-act_all-clause-broke g c =
 pub returns-clause-ran : goal.returns-clause-ran
 returns-clause-ran g c =
     said-ran _ _ _ c.as_slice.result.now _ _ _ _ c.in_ok-engine.ensures.machine (c.as_slice.ensures ∙ c.in_ok-engine.ensures.actions) c.in_ok-act_all.ensures.done
-    c.in_ok-engine.ensures.said
+    c.in_ok-engine.ensures.said (c.requires.within, c.say.ensures.traced)

@@ -8,6 +8,7 @@ loop-event-init g c = record {
   ran = Ran-none _ _ _;
   events = omega arith;
   opened = c.requires.open;
+  opening = refl;
   silent = c.requires.silent;
   taken = refl;
   worlds = refl;
@@ -27,6 +28,7 @@ loop-event-preserved g c = record {
       c.in_ok-engine.ensures.ran;
   events = omega (arith, c.in_ok-engine.ensures.events, c.loop-event.invariant.events);
   opened = c.take.ensures.open;
+  opening = c.take.ensures.opening ∙ c.loop-event.invariant.opening;
   silent = c.in_ok-engine.ensures.silent;
   taken = c.take.ensures.taken ∙ c.loop-event.invariant.taken;
   worlds = c.in_ok-engine.ensures.worlds ∙ c.loop-event.invariant.worlds;

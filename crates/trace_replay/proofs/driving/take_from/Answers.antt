@@ -8,6 +8,7 @@ loop-turn-init g c = record {
   ran = RanFor-none _ _ _ _;
   events = omega arith;
   opened = c.requires.open;
+  opening = refl;
   silent = c.requires.silent;
   worlds = refl;
   writes = refl;
@@ -29,6 +30,7 @@ loop-turn-preserved g c =
           c.in_ok-engine-in-Event.ensures.ran;
       events = omega (arith, c.in_ok-engine-in-Event.ensures.events, c.loop-turn.invariant.events);
       opened = c.take.ensures.open;
+      opening = c.take.ensures.opening ∙ c.next.ensures.opening ∙ c.loop-turn.invariant.opening;
       silent = c.in_ok-engine-in-Event.ensures.silent;
       worlds = c.in_ok-engine-in-Event.ensures.worlds ∙ c.in_ok-event.ensures.worlds ∙ c.loop-turn.invariant.worlds;
       writes = c.in_ok-engine-in-Event.ensures.writes ∙ c.loop-turn.invariant.writes;

@@ -8,6 +8,7 @@ invariant-loop-turn g l = record {
       (g.K.Sink.taken l.initial.out) (g.K.Sink.taken l.out);
   events : l.engine.events ≡ l.fn.engine.events + l.turn;
   opened : g.W.World.is_open l.world ≡ true;
+  opening : g.W.World.opening l.world ≡ g.W.World.opening l.initial.world;
   silent : l.pieces ≡ [];
   worlds : g.W.World.faults l.world ≡ g.W.World.faults l.initial.world;
   writes : g.K.Sink.faults l.out ≡ g.K.Sink.faults l.initial.out;

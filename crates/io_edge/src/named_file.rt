@@ -1,0 +1,11 @@
+use net_base::{Octets, Sequence};
+
+/// The bytes of a file under its name.
+#[derive(Debug, PartialEq, Drop)]
+pub struct NamedFile {
+    pub name: Octets,
+    pub bytes: Octets,
+}
+
+/// Files one after another.
+pub type FileList = Sequence<NamedFile>;

@@ -1,0 +1,5 @@
+mod Documents
+mod Hosts
+mod Names
+mod Parts
+mod Rest

@@ -1,0 +1,4 @@
+pub mod Config
+pub mod Host
+pub mod Reading
+pub mod Topology

@@ -1,0 +1,3 @@
+mod hosts;
+mod settings_files;
+mod topology_files;
