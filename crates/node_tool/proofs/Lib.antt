@@ -1,3 +1,7 @@
 pub mod CommandLemmas
+pub mod FileLaws
+pub mod Judging
+pub mod NodeLaws
+pub mod NodeRuns
 pub mod RunLemmas
 pub mod TellingLemmas

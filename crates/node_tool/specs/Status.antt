@@ -98,3 +98,7 @@ status_text (FileFault which) = codes "file fault " ++ (which_name which ++ code
 status_text (TooLong line) = codes "too long: line " ++ (decimal line ++ codes "\n")
 status_text (BadSettings what) = codes "settings refused: " ++ (what_name what ++ codes "\n")
 status_text (FileTooLarge which size) = codes "file too large " ++ (which_name which ++ (codes " " ++ (decimal size ++ codes "\n")))
+
+-- What a node writes there of its topology file, before it begins: how many access points have no address.
+abbrev pub unresolved_text : ℕ → List ℕ
+unresolved_text count = codes "unresolved " ++ (decimal count ++ codes "\n")

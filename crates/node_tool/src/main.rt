@@ -1,29 +1,30 @@
 //! The program of a Cardano node's connection manager: it replays traces and checks them,
-//! and runs a made town.
+//! runs a made town, and runs a node on sockets.
 #![tactic(auto)]
 
 mod command;
+mod files;
 mod names;
+mod node_words;
 mod running;
+mod serving;
 mod status;
 mod telling;
 mod words;
 
 pub use command::Command;
-use io_edge::{StdSink, StdSource};
+use io_edge::{DirShelf, Sink, StdSink, StdSource};
+use node_world::LoopWorld;
 pub use running::run;
+pub use serving::run_node;
 pub use status::{Status, What, Which};
 use std::process::ExitCode;
 
 fn main(rt: HostRuntime) -> ExitCode {
-    let alloc = rt.alloc();
-    let mut src = StdSource::new(&rt);
     let mut err = StdSink::err(rt.stderr());
     let status = match words::command_words(&rt) {
-        Ok(words) => {
-            let mut out = StdSink::out(rt);
-            run(alloc, &words, &mut src, &mut out, &mut err)
-        }
+        Ok(words) if is_node(&words) => on_sockets(&rt, &words, &mut err),
+        Ok(words) => on_streams(&rt, &words, &mut err),
         Err(_) => {
             // A text that is not taken changes no status.
             let _ = telling::tell(&Status::OutOfMemory, &mut err);
@@ -31,6 +32,27 @@ fn main(rt: HostRuntime) -> ExitCode {
         }
     };
     ExitCode::from(status.code())
+}
+
+// A node, in a world that is not open yet.
+fn on_sockets<E: Sink>(rt: &HostRuntime, words: &[String], err: &mut E) -> Status {
+    let alloc = rt.alloc();
+    let mut shelf = DirShelf::new(alloc, rt);
+    let mut world = LoopWorld::new(alloc, rt);
+    let mut out = StdSink::out(rt);
+    run_node(alloc, words, &mut shelf, &mut world, &mut out, err)
+}
+
+// Every other command.
+fn on_streams<E: Sink>(rt: &HostRuntime, words: &[String], err: &mut E) -> Status {
+    let mut src = StdSource::new(rt);
+    let mut out = StdSink::out(rt);
+    run(rt.alloc(), words, &mut src, &mut out, err)
+}
+
+// Whether the first word is the node's.
+fn is_node(words: &[String]) -> bool {
+    words.first().is_some_and(|word| word.as_str() == "node")
 }
 
 #[cfg(test)]

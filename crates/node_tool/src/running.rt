@@ -146,7 +146,7 @@ fn answer<S: Source, K: Sink>(alloc: Global, words: &[String], src: &mut S, out:
 }
 
 // How an outcome is told.
-fn told(outcome: Outcome) -> Status
+pub(crate) fn told(outcome: Outcome) -> Status
     ensures { result ≡ status_told outcome }
 {
     match outcome {

@@ -1,6 +1,6 @@
-ghost use Rattle.std.specs.Prelude.{◌≡◌, ◌++◌, codes, decimal};
+ghost use Rattle.std.specs.Prelude.{◌≡◌, ◌++◌, OnOk, OnErr, codes, decimal};
 ghost use Rattle.std.specs.List.{flat_map};
-ghost use Rattle.node_tool.specs.Status.{status_text};
+ghost use Rattle.node_tool.specs.Status.{status_text, unresolved_text};
 ghost use Rattle.node_tool.specs.Telling.{Says};
 
 use crate::{Status, What, Which};
@@ -27,6 +27,27 @@ pub(crate) fn tell<E: Sink>(status: &Status, err: &mut E) -> Result<(), Failed>
         Status::BadSettings { what } => tell_bad_settings(*what, err),
         Status::FileTooLarge { which, size } => tell_file_too_large(*which, *size, err),
     }
+}
+
+/// Writes the text of a status behind what was to be told before it, where that was taken.
+pub(crate) fn tell_behind<E: Sink>(
+    before: Result<(), Failed>,
+    status: &Status,
+    err: &mut E,
+) -> Result<(), Failed>
+    ensures whole { OnOk before (Says (E.taken err.old) (E.taken err.new) (E.faults err.old) (E.faults err.new) (status_text status.now) result) }
+    ensures cut { OnErr before (err.new ≡ err.old) }
+{
+    before?;
+    tell(status, err)
+}
+
+/// Writes how many access points of a topology are named by something else than an address. Takes no memory.
+pub(crate) fn tell_unresolved<E: Sink>(count: u64, err: &mut E) -> Result<(), Failed>
+    ensures { Says (E.taken err.old) (E.taken err.new) (E.faults err.old) (E.faults err.new) (unresolved_text count) result }
+{
+    let mut number = Buffer::new();
+    put_pieces(err, &["unresolved ", number.format(count), "\n"])
 }
 
 fn tell_refused<E: Sink>(line: u64, kind: RefusalKind, err: &mut E) -> Result<(), Failed>

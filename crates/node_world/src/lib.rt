@@ -1,12 +1,15 @@
-//! What is around a node: a world gives events and takes actions. One follows a script, and one is a made town of peers.
+//! What is around a node: a world gives events and takes actions. One follows a script, one is a made town of peers, and one is on
+//! sockets.
 #![tactic(auto)]
 
 mod calls;
 mod copy;
 mod history;
 pub mod law;
+mod loop_world;
 mod next;
 mod opening;
+mod out_queue;
 mod refusal;
 mod script_world;
 mod town;
@@ -14,8 +17,10 @@ mod town_world;
 mod waiting;
 mod world;
 
+pub use loop_world::LoopWorld;
 pub use next::Next;
 pub use opening::Opening;
+pub use out_queue::OutQueue;
 pub use refusal::WorldRefusal;
 pub use script_world::ScriptWorld;
 pub use town_world::TownWorld;

@@ -1,5 +1,7 @@
 ghost use Rattle.std.specs.Prelude.{◌≡◌, true, is_some, IfOk};
 
+mod sockets;
+
 use crate::*;
 use net_base::{
     Action, Addr, AddrList, Cid, Event, EventList, Group, GroupList, Ip, Job, NumberList, Octets,

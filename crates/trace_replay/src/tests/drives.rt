@@ -15,14 +15,14 @@ use std::process::Abort;
 use std::test::Fail;
 
 // 127.0.0.1 with a port.
-fn local(port: u16) -> Addr {
+pub(super) fn local(port: u16) -> Addr {
     Addr {
         ip: Ip::V4(0x7f00_0001),
         port,
     }
 }
 
-fn settings() -> Settings
+pub(super) fn settings() -> Settings
     ensures sound { AreSound result }
 {
     Settings {
@@ -44,7 +44,7 @@ fn settings() -> Settings
     }
 }
 
-fn config() -> Config {
+pub(super) fn config() -> Config {
     Config {
         settings: settings(),
         targets: Targets {

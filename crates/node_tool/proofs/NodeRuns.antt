@@ -1,0 +1,105 @@
+-- What a node's run comes to, put together from its parts.
+use Rattle.std.proofs.Common.{◌≡◌, ℕ, ◌+◌, ◌<◌, ◌≤◌, Bool, true, false, List, [], ◌∷◌, ◌++◌, length, Option, Some, None, Result, Ok, Err, OnOk, OnErr, ◌⊎◌, inl, inr, refl, sym, ap, ◌∙◌, subst, arith}
+use Rattle.std.proofs.lemmas.List.{append-nil, append_assoc, length-append}
+use Rattle.io_edge.specs.Causes.{Rose, HasCause}
+use Rattle.io_edge.specs.Told.{Takes, TakesProperPrefix}
+use Rattle.io_edge.proofs.ToldLemmas.{Takes-append, TakesProperPrefix-after}
+use Rattle.io_edge.specs.declared.failed.Failed.{Failed}
+use Rattle.machine.specs.Machine.{Machine, start_of}
+use Rattle.machine.specs.Run.{actions_of}
+use Rattle.net_base.specs.declared.action.Action.{Action}
+use Rattle.net_base.specs.declared.event.Event.{Event}
+use Rattle.net_base.specs.declared.event.Event.TheVariants.{Aims, Locals}
+use Rattle.net_base.specs.declared.event.Group.{Group}
+use Rattle.net_base.specs.declared.settings.Settings.{Settings}
+use Rattle.net_base.specs.declared.targets.Targets.{Targets}
+use Rattle.node_settings.specs.declared.config.Config.{Config}
+use Rattle.node_settings.specs.declared.topology.Topology.{Topology}
+use Rattle.node_world.specs.declared.opening.Opening.{Opening}
+use Rattle.trace_replay.specs.Drive.{IsFrontOf, acts_of, text_up_to, all_actions, SaysUpTo, BreaksOff, IsDriven, Drives}
+use Rattle.trace_replay.specs.declared.outcome.Outcome.{Outcome}
+use Rattle.trace_replay.specs.declared.outcome.Outcome.TheVariants as outcomes
+use Rattle.node_tool.specs.Node.{WorldTold, SinkTold, world_told, opened_world, opening_for, opened_with, first_events, IsDriving}
+use Rattle.node_tool.specs.Telling.{Says, IsTold}
+use Rattle.node_tool.specs.declared.status.Status.{Status}
+use Rattle.node_tool.proofs.TellingLemmas.{TakesProperPrefix-more}
+
+-- ---- the text of standard error
+
+-- one text behind another
+pub told_both : (t0 t1 t2 : Option (List ℕ)) (f0 f1 f2 : ℕ) (first second : List ℕ) (r s : Result (Unit {0}) Failed) → Says t0 t1 f0 f1 first r →
+    OnOk r (Says t1 t2 f1 f2 second s) → OnErr r ((t2 ≡ t1) × (f2 ≡ f1)) → IsTold t0 t2 f0 f2 (first ++ second)
+told_both t0 t1 t2 f0 f1 f2 first second (Ok done) s says behind cut = by_second s behind
+  where
+    by_second : (s : Result (Unit {0}) Failed) → Says t1 t2 f1 f2 second s → IsTold t0 t2 f0 f2 (first ++ second)
+    by_second (Ok done) more = inl (Takes-append t0 t1 t2 first second says.whole more.whole)
+    by_second (Err failed) more =
+        inr (subst (λ (f : ℕ). Rose f f2) says.cause.calm more.cause.failed, TakesProperPrefix-after t0 t1 t2 first second says.whole more.part)
+told_both t0 t1 t2 f0 f1 f2 first second (Err failed) s says behind cut =
+    inr (subst (λ (f : ℕ). Rose f0 f) (sym cut.1) says.cause.failed,
+    TakesProperPrefix-more t0 t2 first second (subst (λ (t : Option (List ℕ)). TakesProperPrefix t0 t first) (sym cut.0) says.part))
+
+-- ---- the world
+
+-- a world that was opened tells nothing else than before
+pub opened_is : (is_open0 is_open1 has_ended0 has_ended1 : Bool) (faults0 faults1 : ℕ) (opening0 opening1 : Option (Option Opening)) (taken0 taken1 : Option (List Event))
+    (done0 done1 : Option (List Action)) (config : Config) (topology : Topology) → is_open1 ≡ true → has_ended1 ≡ has_ended0 → faults1 ≡ faults0 →
+    opening1 ≡ opened_with opening0 (opening_for config topology) → taken1 ≡ taken0 → done1 ≡ done0 →
+    world_told is_open1 has_ended1 faults1 opening1 taken1 done1 ≡ opened_world (world_told is_open0 has_ended0 faults0 opening0 taken0 done0) config topology
+opened_is is_open0 is_open1 has_ended0 has_ended1 faults0 faults1 opening0 opening1 taken0 taken1 done0 done1 config topology o e f p t d = rw (o, e, f, p, t, d) refl
+
+-- ---- a world that fails
+
+-- the targets alone have no action
+acts_of-targets : (m : Machine) (targets : Targets) → acts_of m (Aims targets ∷ []) ≡ []
+unfolding acts_of actions_of
+acts_of-targets m targets = refl
+
+acts_of-none : (m : Machine) → acts_of m [] ≡ []
+unfolding acts_of actions_of
+acts_of-none m = refl
+
+none_below : (acts due : List Action) → due ≡ [] → length acts < length due → ⊥
+none_below acts due none less = absurd (let zero : length due ≡ 0 = ap (λ (xs : List Action). length xs) none in omega (arith, less, zero))
+
+-- of the two events before those of the world, all is written
+module _ (s : Settings) (targets : Targets) (groups : List Group) (written : List ℕ) (acts : List Action) where
+  abbrev first : List Event
+  first = Aims targets ∷ Locals groups ∷ []
+
+  heard_all : (heard rest : List Event) → first ≡ heard ++ rest → length acts < length (all_actions s heard) → heard ≡ first
+  heard_all [] rest split less = absurd (none_below acts (all_actions s []) (acts_of-none (start_of s)) less)
+  heard_all (x ∷ []) rest split less =
+      let same : Aims targets ≡ x = cc in
+      absurd (none_below acts (all_actions s (x ∷ [])) (ap (λ (e : Event). all_actions s (e ∷ [])) (sym same) ∙ acts_of-targets (start_of s) targets) less)
+  heard_all (x ∷ y ∷ heard) rest split less =
+      let lengths : length first ≡ length ((x ∷ y ∷ heard) ++ rest) = ap (λ (es : List Event). length es) split in
+      let none : heard ++ rest ≡ [] = cc in
+      let over : heard ≡ [] = no_more heard rest none in
+      let a : Aims targets ≡ x = cc in
+      let b : Locals groups ≡ y = cc in
+      ap (λ (es : List Event). x ∷ y ∷ es) over ∙ ap (λ (e : Event). e ∷ y ∷ []) (sym a) ∙ ap (λ (e : Event). Aims targets ∷ e ∷ []) (sym b)
+    where
+      no_more : (xs ys : List Event) → xs ++ ys ≡ [] → xs ≡ []
+      no_more [] ys e = refl
+      no_more (x ∷ xs) ys e = absurd cc
+
+  said_all : SaysUpTo s (first ++ []) written acts → written ≡ text_up_to s (first ++ [])
+  said_all says = by_why says.why
+    where
+      by_why : (says.heard ≡ first ++ []) ⊎ (length acts < length (all_actions s says.heard)) → written ≡ text_up_to s (first ++ [])
+      by_why (inl all) = says.written_is ∙ ap (λ (es : List Event). text_up_to s es) all
+      by_why (inr less) = says.written_is ∙ ap (λ (es : List Event). text_up_to s es) (heard_all says.heard says.front.rest (sym (append-nil first) ∙ says.front.split) less ∙ sym (append-nil first))
+
+  -- where the world fails, only `end` is missing
+  pub said_but_end : (count : ℕ) (ended : Bool) (events : List Event) → IsDriven outcomes.WorldFault s first count ended events written acts →
+      written ≡ text_up_to s (first ++ events)
+  said_but_end count ended [] driven = said_all driven.2
+  said_but_end count ended (event ∷ events) driven = driven.1 (omega arith)
+
+pub but_end : (s : Settings) (targets : Targets) (groups : List Group) (count : ℕ) (t0 t1 : Option (List Event)) (d0 d1 : Option (List Action)) (ended : Bool) (o0 o1 : Option (List ℕ)) (o : Outcome)
+    (drives : Drives s (Aims targets ∷ Locals groups ∷ []) count t0 t1 d0 d1 ended o0 o1 o) → o ≡ outcomes.WorldFault →
+    drives.written ≡ text_up_to s ((Aims targets ∷ Locals groups ∷ []) ++ drives.events)
+but_end s targets groups count t0 t1 d0 d1 ended o0 o1 o drives world =
+    said_but_end s targets groups drives.written drives.acts count ended drives.events
+    (subst (λ (r : Outcome). IsDriven r s (Aims targets ∷ Locals groups ∷ []) count ended drives.events drives.written drives.acts) world drives.is_driven)
