@@ -9,6 +9,7 @@ use Rattle.trace_replay.specs.UnderWay.{HasWriteCount}
 use Rattle.trace_replay.specs.Drive.{HasWorldCount, IsDriven}
 use Rattle.trace_replay.specs.declared.outcome.Outcome.{Outcome}
 use Rattle.trace_replay.specs.declared.outcome.Outcome.TheVariants as outcomes
+use Rattle.node_tool.specs.Asked.{Asked}
 use Rattle.node_tool.specs.Files.{file_limit, config_judged, topology_judged, FileTold, FilesTold, IsUnread, IsJudged, IsConfJudged, IsTopoJudged, AreJudged, IsAcceptedFile, IsRefusedFile, IsDue, HasRisen}
 use Rattle.node_tool.specs.Node.{WorldTold, SinkTold, first_events, IsDriving, IsShut, IsOpenRefused, IsServing, ComesTo, IsNodeRun, IsNodeAnswered, HasNodeCause}
 use Rattle.node_tool.specs.Run.{status_told}
@@ -287,3 +288,7 @@ module _ (count : ℕ) (files : FilesTold) (before after : WorldTold) (out0 out1
       by : (res : Result (Config × Topology) Status) → AreJudged files res → ComesTo res count before after out0 out1 err0 err1 s → HasNodeCause files Writes Worlds s
       by (Ok both) judged comes = served s (served_as both.0 both.1 count before after out0 out1 s comes.0)
       by (Err refusal) judged comes = subst (λ (x : Status). HasNodeCause files Writes Worlds x) (sym comes.0) (of_file refusal judged)
+
+-- what is said of what the code read of the words is said of what the words ask for
+pub run_asked : (P : Asked → Type 0) (found : Option Asked) (mine asked : Asked) → Some mine ≡ found → found ≡ Some asked → P mine → P asked
+run_asked P found mine asked is told p = let same : mine ≡ asked = let both : Some mine ≡ Some asked = is ∙ told in cc in subst P same p

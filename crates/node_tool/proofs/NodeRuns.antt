@@ -22,7 +22,7 @@ use Rattle.node_world.specs.declared.opening.Opening.{Opening}
 use Rattle.trace_replay.specs.Drive.{IsFrontOf, acts_of, text_up_to, all_actions, SaysUpTo, BreaksOff, IsDriven, Drives}
 use Rattle.trace_replay.specs.declared.outcome.Outcome.{Outcome}
 use Rattle.trace_replay.specs.declared.outcome.Outcome.TheVariants as outcomes
-use Rattle.node_tool.specs.Node.{WorldTold, SinkTold, world_told, opened_world, opening_for, opened_with, first_events, IsDriving}
+use Rattle.node_tool.specs.Node.{WorldTold, SinkTold, world_told, opened_world, opening_for, opened_with, first_events, IsDriving, IsServing}
 use Rattle.node_tool.specs.Telling.{Says, IsTold}
 use Rattle.node_tool.specs.declared.status.Status.{Status}
 use Rattle.node_tool.proofs.TellingLemmas.{TakesProperPrefix-more}
@@ -50,6 +50,12 @@ pub opened_is : (is_open0 is_open1 has_ended0 has_ended1 : Bool) (faults0 faults
     opening1 ≡ opened_with opening0 (opening_for config topology) → taken1 ≡ taken0 → done1 ≡ done0 →
     world_told is_open1 has_ended1 faults1 opening1 taken1 done1 ≡ opened_world (world_told is_open0 has_ended0 faults0 opening0 taken0 done0) config topology
 opened_is is_open0 is_open1 has_ended0 has_ended1 faults0 faults1 opening0 opening1 taken0 taken1 done0 done1 config topology o e f p t d = rw (o, e, f, p, t, d) refl
+
+-- driven behind the opening, it is served
+pub serving_opened : (config : Config) (topology : Topology) (count : ℕ) (before opened after : WorldTold) (out0 out1 : SinkTold) (s : Status) →
+    opened ≡ opened_world before config topology → IsDriving config topology count opened after out0 out1 s → IsServing config topology count before after out0 out1 s
+serving_opened config topology count before opened after out0 out1 s is driving =
+    inl (subst (λ (world : WorldTold). IsDriving config topology count world after out0 out1 s) is driving)
 
 -- ---- a world that fails
 

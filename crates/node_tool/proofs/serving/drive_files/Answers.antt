@@ -3,8 +3,8 @@ use Rattle.node_tool.proofs.NodeRuns.{but_end, first_within}
 use Rattle.node_tool.proofs.RunLemmas.{outcome_done}
 use Rattle.node_tool.proofs.serving.drive_files.Goals as goal
 
-pub drive-requires-within : goal.drive-requires-within
-drive-requires-within g c = first_within c.args.config.now.targets c.args.topology.groups c.requires.can_run.2 c.requires.valencies
+pub drive-requires-clause-within : goal.drive-requires-clause-within
+drive-requires-clause-within g c = first_within c.args.config.now.targets c.args.topology.groups c.requires.can_run.2 c.requires.valencies
 
 pub returns-clause-drives : goal.returns-clause-drives
 returns-clause-drives g c = record {
