@@ -39,8 +39,10 @@ told_both t0 t1 t2 f0 f1 f2 first second (Ok done) s says behind cut_taken cut_f
     by_second (Err failed) more =
         inr (subst (λ (f : ℕ). Rose f f2) says.cause.calm more.cause.failed, TakesProperPrefix-after t0 t1 t2 first second says.whole more.part)
 told_both t0 t1 t2 f0 f1 f2 first second (Err failed) s says behind cut_taken cut_faults =
-    inr (subst (λ (f : ℕ). Rose f0 f) (sym cut_faults) says.cause.failed,
-    TakesProperPrefix-more t0 t2 first second (subst (λ (t : Option (List ℕ)). TakesProperPrefix t0 t first) (sym cut_taken) says.part))
+    inr (
+      subst (λ (f : ℕ). Rose f0 f) (sym cut_faults) says.cause.failed,
+      TakesProperPrefix-more t0 t2 first second (subst (λ (t : Option (List ℕ)). TakesProperPrefix t0 t first) (sym cut_taken) says.part),
+    )
 
 -- ---- the world
 

@@ -14,9 +14,12 @@ pub returns-in_err-topology-clause-judged : goal.returns-in_err-topology-clause-
 returns-in_err-topology-clause-judged g c =
     let p = err_from_is_err_and c.from_residual-in_err-topology.result c.from_residual-in_err-topology.ensures.1 in
     rw (p.1, p.2)
-    (inr (c.in_ok-config.config, c.in_ok-config.ensures.judged,
-    judged_from Topo topology_judged _ _ _ _ (g.H.Shelf.faults c.read_topo.new.shelf c.args.asked.topo.now) (Err _)
-    (c.read_conf.ensures.kept c.args.asked.topo.now) (c.in_ok-config.ensures.counts c.args.asked.topo.now) c.in_err-topology.ensures.judged))
+    (inr (
+      c.in_ok-config.config,
+      c.in_ok-config.ensures.judged,
+      judged_from Topo topology_judged _ _ _ _ (g.H.Shelf.faults c.read_topo.new.shelf c.args.asked.topo.now) (Err _)
+          (c.read_conf.ensures.kept c.args.asked.topo.now) (c.in_ok-config.ensures.counts c.args.asked.topo.now) c.in_err-topology.ensures.judged,
+    ))
 
 pub returns-clause-judged : goal.returns-clause-judged
 returns-clause-judged g c = (
