@@ -1,3 +1,4 @@
+pub mod Accepted
 mod Documents
 mod Hosts
 mod Names

@@ -1,5 +1,4 @@
 pub mod CommandLemmas
-pub mod FileLaws
 pub mod Judging
 pub mod NodeLaws
 pub mod NodeRuns

@@ -9,6 +9,7 @@ use Rattle.trace_replay.specs.UnderWay.{HasWriteCount}
 use Rattle.trace_replay.specs.Drive.{HasWorldCount, IsDriven}
 use Rattle.trace_replay.specs.declared.outcome.Outcome.{Outcome}
 use Rattle.trace_replay.specs.declared.outcome.Outcome.TheVariants as outcomes
+use Rattle.node_tool.specs.Asked.{Asked}
 use Rattle.node_tool.specs.Files.{file_limit, config_judged, topology_judged, FileTold, FilesTold, IsUnread, IsJudged, IsConfJudged, IsTopoJudged, AreJudged, IsAcceptedFile, IsRefusedFile, IsDue, HasRisen}
 use Rattle.node_tool.specs.Node.{WorldTold, SinkTold, first_events, IsDriving, IsShut, IsOpenRefused, IsServing, ComesTo, IsNodeRun, IsNodeAnswered, HasNodeCause}
 use Rattle.node_tool.specs.Run.{status_told}
@@ -137,12 +138,12 @@ err_is : {T : Type 0} (s t : Status) → ◌≡◌ {A = Result T Status} (Err s)
 err_is s t e = cc
 
 conf_answer : (files : FilesTold) (due s : Status) → InPlace {T = Config} Conf config_judged files.conf.faults files.conf_faults_after (Err s) → IsAnswer files due s
-conf_answer files due s (inl wanting) = inr (inl (err_is s status.OutOfMemory wanting))
-conf_answer files due s (inr faulty) = inr (inr (Conf, err_is s (status.FileFault Conf) faulty.0, faulty.1))
+conf_answer files due s (inl want) = inr (inl (err_is s status.OutOfMemory want))
+conf_answer files due s (inr fault) = inr (inr (Conf, err_is s (status.FileFault Conf) fault.0, fault.1))
 
 topo_answer : (files : FilesTold) (due s : Status) → InPlace {T = Topology} Topo topology_judged files.topo.faults files.topo_faults_after (Err s) → IsAnswer files due s
-topo_answer files due s (inl wanting) = inr (inl (err_is s status.OutOfMemory wanting))
-topo_answer files due s (inr faulty) = inr (inr (Topo, err_is s (status.FileFault Topo) faulty.0, faulty.1))
+topo_answer files due s (inl want) = inr (inl (err_is s status.OutOfMemory want))
+topo_answer files due s (inr fault) = inr (inr (Topo, err_is s (status.FileFault Topo) fault.0, fault.1))
 
 -- a file that is refused or not read answers as is due
 files_answer : (files : FilesTold) (due s : Status) → IsDueOf files due → AreJudged files (Err s) → IsAnswer files due s
@@ -232,13 +233,13 @@ module _ (count : ℕ) (files : FilesTold) (before after : WorldTold) (out0 out1
       of_files : IsAnswer files due s → IsNodeAnswered due files Writes Worlds s
       of_files (inl is) = inl is
       of_files (inr (inl is)) = inr (inl is)
-      of_files (inr (inr faulty)) = inr (inr (inl faulty))
+      of_files (inr (inr fault)) = inr (inr (inl fault))
 
       of_world : due ≡ status.Done → IsServedAs Writes Worlds s → IsNodeAnswered due files Writes Worlds s
       of_world done (inl is) = inl (is ∙ sym done)
       of_world done (inr (inl is)) = inr (inl is)
-      of_world done (inr (inr (inl faulty))) = inr (inr (inr (inl faulty)))
-      of_world done (inr (inr (inr faulty))) = inr (inr (inr (inr faulty)))
+      of_world done (inr (inr (inl fault))) = inr (inr (inr (inl fault)))
+      of_world done (inr (inr (inr fault))) = inr (inr (inr (inr fault)))
 
       by : (res : Result (Config × Topology) Status) → AreJudged files res → ComesTo res count before after out0 out1 err0 err1 s → IsNodeAnswered due files Writes Worlds s
       by (Ok both) judged comes = of_world (done_due files due both (due_of files due d) judged) (served_as both.0 both.1 count before after out0 out1 s comes.0)
@@ -255,9 +256,9 @@ module _ (count : ℕ) (files : FilesTold) (before after : WorldTold) (out0 out1
       by : IsNodeAnswered due files Writes Worlds s → (s ≡ due) ⊎ (s ≡ status.OutOfMemory)
       by (inl is) = inl is
       by (inr (inl is)) = inr is
-      by (inr (inr (inl faulty))) = absurd (no_file faulty.0 faulty.2)
-      by (inr (inr (inr (inl faulty)))) = absurd (writes faulty.1)
-      by (inr (inr (inr (inr faulty)))) = absurd (worlds faulty.1)
+      by (inr (inr (inl fault))) = absurd (no_file fault.0 fault.2)
+      by (inr (inr (inr (inl fault)))) = absurd (writes fault.1)
+      by (inr (inr (inr (inr fault)))) = absurd (worlds fault.1)
 
   pub node_cause : HasNodeCause files Writes Worlds s
   node_cause = by run.files run.judged run.comes
@@ -265,8 +266,8 @@ module _ (count : ℕ) (files : FilesTold) (before after : WorldTold) (out0 out1
       served : (x : Status) → IsServedAs Writes Worlds x → HasNodeCause files Writes Worlds x
       served x (inl is) = subst (λ (y : Status). HasNodeCause files Writes Worlds y) (sym is) tt
       served x (inr (inl is)) = subst (λ (y : Status). HasNodeCause files Writes Worlds y) (sym is) tt
-      served x (inr (inr (inl faulty))) = subst (λ (y : Status). HasNodeCause files Writes Worlds y) (sym faulty.0) faulty.1
-      served x (inr (inr (inr faulty))) = subst (λ (y : Status). HasNodeCause files Writes Worlds y) (sym faulty.0) faulty.1
+      served x (inr (inr (inl fault))) = subst (λ (y : Status). HasNodeCause files Writes Worlds y) (sym fault.0) fault.1
+      served x (inr (inr (inr fault))) = subst (λ (y : Status). HasNodeCause files Writes Worlds y) (sym fault.0) fault.1
 
       of_file : (x : Status) → AreJudged files (Err x) → HasNodeCause files Writes Worlds x
       of_file status.Done j = tt
@@ -287,3 +288,7 @@ module _ (count : ℕ) (files : FilesTold) (before after : WorldTold) (out0 out1
       by : (res : Result (Config × Topology) Status) → AreJudged files res → ComesTo res count before after out0 out1 err0 err1 s → HasNodeCause files Writes Worlds s
       by (Ok both) judged comes = served s (served_as both.0 both.1 count before after out0 out1 s comes.0)
       by (Err refusal) judged comes = subst (λ (x : Status). HasNodeCause files Writes Worlds x) (sym comes.0) (of_file refusal judged)
+
+-- what is said of what the code read of the words is said of what the words ask for
+pub run_asked : (P : Asked → Type 0) (found : Option Asked) (mine asked : Asked) → Some mine ≡ found → found ≡ Some asked → P mine → P asked
+run_asked P found mine asked is told p = let same : mine ≡ asked = let both : Some mine ≡ Some asked = is ∙ told in cc in subst P same p

@@ -1,7 +1,10 @@
 -- What a node's run comes to, put together from its parts.
-use Rattle.std.proofs.Common.{◌≡◌, ℕ, ◌+◌, ◌<◌, ◌≤◌, Bool, true, false, List, [], ◌∷◌, ◌++◌, length, Option, Some, None, Result, Ok, Err, OnOk, OnErr, ◌⊎◌, inl, inr, refl, sym, ap, ◌∙◌, subst, arith}
+use Rattle.std.proofs.Common.{◌≡◌, ℕ, ◌+◌, ◌<◌, ◌≤◌, Bool, true, false, List, [], ◌∷◌, ◌++◌, length, All, Option, Some, None, Result, Ok, Err, OnOk, OnErr, ◌⊎◌, inl, inr, refl, sym, ap, ◌∙◌, subst, arith}
 use Rattle.std.proofs.lemmas.List.{append-nil, append_assoc, length-append}
+use Rattle.std.proofs.lemmas.List.Elements.{All-nil, All-cons}
 use Rattle.io_edge.specs.Causes.{Rose, HasCause}
+use Rattle.net_base.specs.Bounds.{targets_fault}
+use Rattle.net_base.specs.Limits.{HasValencies, IsWithinLimits}
 use Rattle.io_edge.specs.Told.{Takes, TakesProperPrefix}
 use Rattle.io_edge.proofs.ToldLemmas.{Takes-append, TakesProperPrefix-after}
 use Rattle.io_edge.specs.declared.failed.Failed.{Failed}
@@ -19,7 +22,7 @@ use Rattle.node_world.specs.declared.opening.Opening.{Opening}
 use Rattle.trace_replay.specs.Drive.{IsFrontOf, acts_of, text_up_to, all_actions, SaysUpTo, BreaksOff, IsDriven, Drives}
 use Rattle.trace_replay.specs.declared.outcome.Outcome.{Outcome}
 use Rattle.trace_replay.specs.declared.outcome.Outcome.TheVariants as outcomes
-use Rattle.node_tool.specs.Node.{WorldTold, SinkTold, world_told, opened_world, opening_for, opened_with, first_events, IsDriving}
+use Rattle.node_tool.specs.Node.{WorldTold, SinkTold, world_told, opened_world, opening_for, opened_with, first_events, IsDriving, IsServing}
 use Rattle.node_tool.specs.Telling.{Says, IsTold}
 use Rattle.node_tool.specs.declared.status.Status.{Status}
 use Rattle.node_tool.proofs.TellingLemmas.{TakesProperPrefix-more}
@@ -28,16 +31,18 @@ use Rattle.node_tool.proofs.TellingLemmas.{TakesProperPrefix-more}
 
 -- one text behind another
 pub told_both : (t0 t1 t2 : Option (List ℕ)) (f0 f1 f2 : ℕ) (first second : List ℕ) (r s : Result (Unit {0}) Failed) → Says t0 t1 f0 f1 first r →
-    OnOk r (Says t1 t2 f1 f2 second s) → OnErr r ((t2 ≡ t1) × (f2 ≡ f1)) → IsTold t0 t2 f0 f2 (first ++ second)
-told_both t0 t1 t2 f0 f1 f2 first second (Ok done) s says behind cut = by_second s behind
+    OnOk r (Says t1 t2 f1 f2 second s) → OnErr r (t2 ≡ t1) → OnErr r (f2 ≡ f1) → IsTold t0 t2 f0 f2 (first ++ second)
+told_both t0 t1 t2 f0 f1 f2 first second (Ok done) s says behind cut_taken cut_faults = by_second s behind
   where
     by_second : (s : Result (Unit {0}) Failed) → Says t1 t2 f1 f2 second s → IsTold t0 t2 f0 f2 (first ++ second)
     by_second (Ok done) more = inl (Takes-append t0 t1 t2 first second says.whole more.whole)
     by_second (Err failed) more =
         inr (subst (λ (f : ℕ). Rose f f2) says.cause.calm more.cause.failed, TakesProperPrefix-after t0 t1 t2 first second says.whole more.part)
-told_both t0 t1 t2 f0 f1 f2 first second (Err failed) s says behind cut =
-    inr (subst (λ (f : ℕ). Rose f0 f) (sym cut.1) says.cause.failed,
-    TakesProperPrefix-more t0 t2 first second (subst (λ (t : Option (List ℕ)). TakesProperPrefix t0 t first) (sym cut.0) says.part))
+told_both t0 t1 t2 f0 f1 f2 first second (Err failed) s says behind cut_taken cut_faults =
+    inr (
+      subst (λ (f : ℕ). Rose f0 f) (sym cut_faults) says.cause.failed,
+      TakesProperPrefix-more t0 t2 first second (subst (λ (t : Option (List ℕ)). TakesProperPrefix t0 t first) (sym cut_taken) says.part),
+    )
 
 -- ---- the world
 
@@ -47,6 +52,12 @@ pub opened_is : (is_open0 is_open1 has_ended0 has_ended1 : Bool) (faults0 faults
     opening1 ≡ opened_with opening0 (opening_for config topology) → taken1 ≡ taken0 → done1 ≡ done0 →
     world_told is_open1 has_ended1 faults1 opening1 taken1 done1 ≡ opened_world (world_told is_open0 has_ended0 faults0 opening0 taken0 done0) config topology
 opened_is is_open0 is_open1 has_ended0 has_ended1 faults0 faults1 opening0 opening1 taken0 taken1 done0 done1 config topology o e f p t d = rw (o, e, f, p, t, d) refl
+
+-- driven behind the opening, it is served
+pub serving_opened : (config : Config) (topology : Topology) (count : ℕ) (before opened after : WorldTold) (out0 out1 : SinkTold) (s : Status) →
+    opened ≡ opened_world before config topology → IsDriving config topology count opened after out0 out1 s → IsServing config topology count before after out0 out1 s
+serving_opened config topology count before opened after out0 out1 s is driving =
+    inl (subst (λ (world : WorldTold). IsDriving config topology count world after out0 out1 s) is driving)
 
 -- ---- a world that fails
 
@@ -103,3 +114,9 @@ pub but_end : (s : Settings) (targets : Targets) (groups : List Group) (count : 
 but_end s targets groups count t0 t1 d0 d1 ended o0 o1 o drives world =
     said_but_end s targets groups drives.written drives.acts count ended drives.events
     (subst (λ (r : Outcome). IsDriven r s (Aims targets ∷ Locals groups ∷ []) count ended drives.events drives.written drives.acts) world drives.is_driven)
+
+-- ---- the events before those of the world
+
+pub first_within : (targets : Targets) (groups : List Group) → targets_fault targets ≡ None → All HasValencies groups → All IsWithinLimits (Aims targets ∷ Locals groups ∷ [])
+first_within targets groups t g =
+    All-cons IsWithinLimits (Aims targets) (Locals groups ∷ []) t (All-cons IsWithinLimits (Locals groups) [] g (All-nil IsWithinLimits))

@@ -59,7 +59,7 @@ IsChecked-compared l0 l1 t0 t1 r0 r1 w0 w1 status input checked told = record {
   is_of = Checks-input l0 l1 t0 t1 input checked.outcome checked.checks told;
 }
 
-outcome_done : (o : Outcome) → Done ≡ status_told o → o ≡ outcome.Done
+pub outcome_done : (o : Outcome) → Done ≡ status_told o → o ≡ outcome.Done
 outcome_done outcome.Done e = refl
 outcome_done (outcome.Differ line) e = absurd cc
 outcome_done (outcome.Refused line kind) e = absurd cc

@@ -10,9 +10,7 @@ use crate::node_words::NodeWords;
 use crate::{Status, What, Which};
 use io_edge::{Shelf, ShelfRefusal};
 use net_base::Octets;
-use node_settings::{
-    Config, ConfigRefusal, Topology, TopologyRefusal, read_config, read_topology,
-};
+use node_settings::{Config, ConfigRefusal, Topology, TopologyRefusal, read_config, read_topology};
 use std::alloc::Global;
 
 // How many bytes a file may have.
@@ -25,10 +23,11 @@ pub(crate) fn read_files<H: Shelf>(
     shelf: &mut H,
 ) -> Result<(Config, Topology), Status>
     ensures judged { AreJudged (record {
-        conf = record { bytes = H.file shelf.old asked.entry.conf.now; faults = H.faults shelf.old asked.entry.conf.now };
-        topo = record { bytes = H.file shelf.old asked.entry.topo.now; faults = H.faults shelf.old asked.entry.topo.now };
-        conf_faults_after = H.faults shelf.new asked.entry.conf.now;
-        topo_faults_after = H.faults shelf.new asked.entry.topo.now }) result }
+      conf = record { bytes = H.file shelf.old asked.entry.conf.now; faults = H.faults shelf.old asked.entry.conf.now };
+      topo = record { bytes = H.file shelf.old asked.entry.topo.now; faults = H.faults shelf.old asked.entry.topo.now };
+      conf_faults_after = H.faults shelf.new asked.entry.conf.now;
+      topo_faults_after = H.faults shelf.new asked.entry.topo.now;
+    }) result }
     ensures served { IfOk result CanBeServed }
 {
     let config = read_conf(alloc, asked.conf, shelf)?;

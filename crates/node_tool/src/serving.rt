@@ -11,11 +11,11 @@ ghost use Rattle.node_tool.specs.Status.{status_text, unresolved_text};
 ghost use Rattle.node_tool.specs.Telling.{IsTold};
 ghost use Rattle.trace_replay.specs.Written.{TakesAgreeing};
 
+use crate::Status;
 use crate::files::read_files;
 use crate::node_words::NodeWords;
 use crate::running::told;
 use crate::telling::{tell, tell_behind, tell_unresolved};
-use crate::Status;
 use io_edge::{Shelf, Sink};
 use net_base::Event;
 use node_settings::{Config, Topology};
@@ -90,8 +90,7 @@ fn serve<H: Shelf, W: World, K: Sink, E: Sink>(
 ) -> Status
     requires shut { W.is_open world.old ≡ false }
     requires few { asked.count ≤ 900_000 }
-    ensures runs {
-        IsNodeRun asked.entry.count (files_told (H.file shelf.old) (H.faults shelf.old) (H.faults shelf.new) (asked_by asked.entry))
+    ensures runs { IsNodeRun asked.entry.count (files_told (H.file shelf.old) (H.faults shelf.old) (H.faults shelf.new) (asked_by asked.entry))
         (world_told (W.is_open world.old) (W.has_ended world.old) (W.faults world.old) (W.opening world.old) (W.taken world.old) (W.done world.old))
         (world_told (W.is_open world.new) (W.has_ended world.new) (W.faults world.new) (W.opening world.new) (W.taken world.new) (W.done world.new))
         (sink_told (K.taken out.old) (K.faults out.old)) (sink_told (K.taken out.new) (K.faults out.new))
@@ -183,9 +182,6 @@ fn drive_files<W: World, K: Sink>(
         (sink_told (K.taken out.old) (K.faults out.old)) (sink_told (K.taken out.new) (K.faults out.new)) result }
     ensures agrees { result ≡ Status.Done → TakesAgreeing (K.taken out.old) (K.taken out.new) }
 {
-    let first = [
-        Event::Aims(config.targets),
-        Event::Locals(topology.groups),
-    ];
+    let first = [Event::Aims(config.targets), Event::Locals(topology.groups)];
     told(drive(alloc, &config.settings, &first, world, count, out))
 }

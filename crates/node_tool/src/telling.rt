@@ -36,7 +36,8 @@ pub(crate) fn tell_behind<E: Sink>(
     err: &mut E,
 ) -> Result<(), Failed>
     ensures whole { OnOk before (Says (E.taken err.old) (E.taken err.new) (E.faults err.old) (E.faults err.new) (status_text status.now) result) }
-    ensures cut { OnErr before (err.new ≡ err.old) }
+    ensures cut_taken { OnErr before (E.taken err.new ≡ E.taken err.old) }
+    ensures cut_faults { OnErr before (E.faults err.new ≡ E.faults err.old) }
 {
     before?;
     tell(status, err)

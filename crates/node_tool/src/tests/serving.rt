@@ -66,11 +66,7 @@ fn world(alloc: Global, failing: &[u64]) -> Result<ScriptWorld, Fail>
 {
     let mut events = EventList::new(alloc);
     events.push(connects())?;
-    Ok(ScriptWorld::new(
-        alloc,
-        events,
-        NumberList::from_slice(alloc, failing)?,
-    ))
+    Ok(ScriptWorld::new(alloc, events, NumberList::from_slice(alloc, failing)?))
 }
 
 fn named(alloc: Global, name: &str, bytes: Octets) -> Result<NamedFile, Fail> {
@@ -90,12 +86,7 @@ struct Served {
 }
 
 // Runs a node over files.
-fn serve(
-    alloc: Global,
-    words: &[&str],
-    files: FileList,
-    failing: &[u64],
-) -> Result<Served, Fail> {
+fn serve(alloc: Global, words: &[&str], files: FileList, failing: &[u64]) -> Result<Served, Fail> {
     let mut given = Vec::new(alloc);
     for word in words {
         given.push(String::from_str(alloc, word)?)?;
@@ -144,7 +135,8 @@ fn expect_served(
 #[test]
 fn each_call_of_a_world_fails_in_turn(rt: HostRuntime) -> Result<(), Fail> {
     let end = "end\n";
-    let all = "accepted 127.0.0.1:3005\n> admit 1 127.0.0.1:3005\n> state 1 UnnegotiatedInbound\nend\n";
+    let all =
+        "accepted 127.0.0.1:3005\n> admit 1 127.0.0.1:3005\n> state 1 UnnegotiatedInbound\nend\n";
     let fine = "unresolved 1\n";
     let fault = "unresolved 1\nworld fault\n";
     for (count, failing, wanted) in [
@@ -199,7 +191,12 @@ fn expect_refused(
 #[test]
 fn files_are_refused(rt: HostRuntime) -> Result<(), Fail> {
     for (settings, topology, what, told) in [
-        ("own = 5", TOPOLOGY, What::Named(Field::Own), "settings refused: own\n"),
+        (
+            "own = 5",
+            TOPOLOGY,
+            What::Named(Field::Own),
+            "settings refused: own\n",
+        ),
         ("own =", "[]", What::Toml, "settings refused: toml\n"),
         (SETTINGS, "[]", What::Json, "settings refused: json\n"),
         (
@@ -211,7 +208,14 @@ fn files_are_refused(rt: HostRuntime) -> Result<(), Fail> {
     ] {
         let files = both(rt.alloc(), settings, topology)?;
         let status = Status::BadSettings { what };
-        expect_refused(&rt, rt.alloc(), &["node", "c", "t", "0"], files, status, told)?;
+        expect_refused(
+            &rt,
+            rt.alloc(),
+            &["node", "c", "t", "0"],
+            files,
+            status,
+            told,
+        )?;
     }
     Ok(())
 }
@@ -222,16 +226,44 @@ fn files_are_missing_or_too_large(rt: HostRuntime) -> Result<(), Fail> {
     let words = ["node", "c", "t", "0"].as_slice();
     let mut which = Which::Conf;
     let none = FileList::new(alloc);
-    expect_refused(&rt, alloc, words, none, Status::FileFault { which }, "file fault settings\n")?;
+    expect_refused(
+        &rt,
+        alloc,
+        words,
+        none,
+        Status::FileFault { which },
+        "file fault settings\n",
+    )?;
     which = Which::Topo;
     let mut files = FileList::new(alloc);
     files.push(named(alloc, "c", octets(alloc, SETTINGS)?)?)?;
-    expect_refused(&rt, alloc, words, files, Status::FileFault { which }, "file fault topology\n")?;
+    expect_refused(
+        &rt,
+        alloc,
+        words,
+        files,
+        Status::FileFault { which },
+        "file fault topology\n",
+    )?;
     let mut files = FileList::new(alloc);
     files.push(named(alloc, "c", octets(alloc, SETTINGS)?)?)?;
-    files.push(named(alloc, "t", Octets::from_vec(vec![in alloc; b' '; 1_048_577]?))?)?;
-    let status = Status::FileTooLarge { which, size: 1_048_577 };
-    expect_refused(&rt, alloc, words, files, status, "file too large topology 1048577\n")
+    files.push(named(
+        alloc,
+        "t",
+        Octets::from_vec(vec![in alloc; b' '; 1_048_577]?),
+    )?)?;
+    let status = Status::FileTooLarge {
+        which,
+        size: 1_048_577,
+    };
+    expect_refused(
+        &rt,
+        alloc,
+        words,
+        files,
+        status,
+        "file too large topology 1048577\n",
+    )
 }
 
 #[test]

@@ -1,6 +1,6 @@
 use Rattle.std.proofs.Common.{ap}
 use Rattle.node_tool.specs.Files.{what_of_config, judged_by}
-use Rattle.node_tool.proofs.FileLaws.{accepted_config}
+use Rattle.node_settings.proofs.Accepted.{accepted_config}
 use Rattle.node_tool.proofs.files.judge_config.Goals as goal
 
 pub returns-in-Ok-clause-judged : goal.returns-in-Ok-clause-judged

@@ -1,6 +1,6 @@
 use Rattle.std.proofs.Common.{ap}
 use Rattle.node_tool.specs.Files.{what_of_topology, judged_by}
-use Rattle.node_tool.proofs.FileLaws.{accepted_topology}
+use Rattle.node_settings.proofs.Accepted.{accepted_topology}
 use Rattle.node_tool.proofs.files.judge_topology.Goals as goal
 
 pub returns-in-Ok-clause-judged : goal.returns-in-Ok-clause-judged

@@ -6,7 +6,8 @@ use Rattle.node_tool.proofs.files.read_topo.Goals as goal
 
 pub returns-in_err-bytes-clause-judged : goal.returns-in_err-bytes-clause-judged
 returns-in_err-bytes-clause-judged g c =
-    rw (err_from_is_err_and c.from_residual.result c.from_residual.ensures.1).1 (unread_judged Topo topology_judged _ _ _ c.in_err-bytes.ensures.read)
+    let p = err_from_is_err_and c.from_residual.result c.from_residual.ensures.1 in
+    rw (p.1, p.2) (unread_judged Topo topology_judged _ _ _ c.in_err-bytes.ensures.read)
 
 pub returns-clause-judged : goal.returns-clause-judged
 returns-clause-judged g c =

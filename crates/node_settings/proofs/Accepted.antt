@@ -4,7 +4,7 @@ use Rattle.std.specs.Option.{ok_or, option_map, option_and_then}
 use Rattle.std.specs.Str.{is_utf8}
 use Rattle.std.proofs.lemmas.List.Elements.{All-nil, All-cons}
 use Rattle.serde_json.specs.Data.{Data, null, boolean, number, string, array, object, Items, no_items, item}
-use Rattle.serde_json.specs.Find.{get, as_array, as_bool as as_flag}
+use Rattle.serde_json.specs.Find.{get, as_u64, as_number, as_array, as_bool as as_flag}
 use Rattle.serde_json.specs.Read.{read}
 use Rattle.toml.specs.Data.{Members, get_member, as_bool}
 use Rattle.toml.specs.Parse.{parse_document}
@@ -24,7 +24,6 @@ use Rattle.node_settings.specs.declared.config.Config.{Config}
 use Rattle.node_settings.specs.declared.config_refusal.ConfigRefusal.TheVariants.{BadToml}
 use Rattle.node_settings.specs.declared.topology.Topology.{Topology}
 use Rattle.node_settings.specs.declared.topology_refusal.TopologyRefusal.TheVariants.{BadJson}
-use Rattle.node_tool.specs.Files.{CanRun}
 
 -- ---- readings, one after the other
 
@@ -46,6 +45,10 @@ right {A} Q fault value q = by_fault (fault value) refl
     by_fault (Some field) is = tt
 
 -- ---- the settings file
+
+-- settings and targets in their ranges, for traces of version 2
+abbrev pub CanRun : Config → Type 0
+CanRun config = AreSound config.settings × (config.settings.version ≡ 2) × (targets_fault config.targets ≡ None)
 
 settings_right : (table : Members) (own : Addr) → IfOk (checked_settings_in table own) (λ s. AreSound s × (s.version ≡ 2))
 settings_right table own = right (λ s. s.version ≡ 2) settings_fault (settings_in table own) refl
@@ -96,13 +99,13 @@ small (Some n) field = by_test (leb n most_valency) refl
     by_test false is = tt
 
 hot_small : (count : ℕ) (hot valency : Option Data) → IfOk (hot_valency_of count hot valency) IsValency
-hot_small count (Some hot) valency = small _ HotValency
-hot_small count None (Some valency) = small _ Valency
+hot_small count (Some hot) valency = small (option_and_then as_u64 (as_number hot)) HotValency
+hot_small count None (Some valency) = small (option_and_then as_u64 (as_number valency)) Valency
 hot_small count None None = small (Some count) HotValency
 
 warm_small : (hot : ℕ) (found : Option Data) → IsValency hot → IfOk (optional WarmValency (small_number most_valency) hot found) IsValency
 warm_small hot None h = h
-warm_small hot (Some value) h = small _ WarmValency
+warm_small hot (Some value) h = small (option_and_then as_u64 (as_number value)) WarmValency
 
 abbrev IsRoot : (Group × ℕ) → Type 0
 IsRoot root = HasValencies root.0
