@@ -1,4 +1,5 @@
-use super::addresses::{socket_addr, socket_addr};
+use super::addresses::socket_addr;
+use mio::net::{TcpListener, TcpStream};
 use mio::{Interest, Registry, Token};
 use net_base::Addr;
 use std::io;
