@@ -1,7 +1,9 @@
 -- What a worker has done when it ends.
-use Rattle.std.specs.Prelude.{ℕ, ◌≡◌, ◌+◌, ◌-◌, ◌≤◌, ◌^◌, min, List, ◌++◌, length, map, take}
+use Rattle.std.specs.Prelude.{ℕ, ◌≡◌, ◌+◌, ◌-◌, ◌≤◌, ◌^◌, min, List, [], ◌∷◌, ◌++◌, length, map, take}
 use Rattle.shared_table.specs.declared.call.TableCall.{TableCall}
+use Rattle.shared_table.specs.Entries.{noted}
 use Rattle.shared_table.specs.declared.entry.Noted.{Noted}
+use Rattle.shared_table.specs.declared.reply.TableReply.{TableReply}
 use Rattle.shared_table.specs.declared.work_end.WorkEnd.{WorkEnd}
 use Rattle.shared_table.specs.declared.work_end.WorkEnd.TheVariants.{All, Held, OutOfMemory}
 
@@ -21,6 +23,18 @@ abbrev pub Ended : WorkEnd → List TableCall → List Noted → List Noted → 
 Ended All calls before after = GrewBy calls before after
 Ended (Held index) calls before after = StoppedAt index calls before after
 Ended (OutOfMemory index) calls before after = StoppedAt index calls before after
+
+-- ---- one call
+
+-- a seat's list has grown by this call with a reply
+abbrev pub MadeOne : TableCall → List Noted → List Noted → Type 0
+MadeOne call before after = (reply : TableReply) × (after ≡ before ++ noted call reply ∷ [])
+
+-- the worker has to stop at the call of this number
+abbrev pub StopsAt : ℕ → WorkEnd → Type 0
+StopsAt index All = ⊥
+StopsAt index (Held at_call) = at_call ≡ index
+StopsAt index (OutOfMemory at_call) = at_call ≡ index
 
 -- ---- what a gate has said
 

@@ -1,8 +1,8 @@
-ghost use Rattle.std.specs.Prelude.{◌≡◌, ◌∷◌, true, IfOk, OnOk, OnErr};
+ghost use Rattle.std.specs.Prelude.{◌≡◌, ◌==◌, true, position, IfOk, OnOk, OnErr};
 ghost use Rattle.conn_table.specs.Table.{empty_table};
 ghost use Rattle.net_base.specs.Bounds.{AreSound};
 ghost use Rattle.shared_table.specs.Calls.{is_met, met_reply, after_met, out_is_met, in_is_met, out_reply, in_reply, after_out, after_in, reply_to, table_after};
-ghost use Rattle.shared_table.specs.Leases.{is_kept};
+ghost use Rattle.shared_table.specs.Leases.{is_kept, OthersStay};
 ghost use Rattle.shared_table.specs.declared.call.OutCall.TheVariants as outs;
 ghost use Rattle.shared_table.specs.declared.call.InCall.TheVariants as ins;
 
@@ -226,10 +226,16 @@ impl LeasedTable {
 fn taken(leases: &mut Vec<LocalLease>, cid: Cid) -> LocalLease
     requires { is_kept cid.0 leases.old.items ≡ true }
     ensures lease { result ≡ cid }
-    ensures others { (other : ℕ) → (other == cid.0) ≡ false → is_kept other leases.new.items ≡ is_kept other leases.old.items }
+    ensures others { OthersStay cid.0 leases.old.items leases.new.items }
 {
-    let Some(place) = leases.iter().position(|lease| lease.cid() == cid) else {
+    let Some(place) = place_of(leases.as_slice(), cid) else {
         unreachable!()
     };
     leases.swap_remove(place)
+}
+
+fn place_of(leases: &[LocalLease], cid: Cid) -> Option<usize>
+    ensures { result ≡ position (λ lease. lease.0 == cid.0) leases.now }
+{
+    leases.iter().position(|lease| lease.cid().0 == cid.0)
 }

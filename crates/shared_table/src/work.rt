@@ -1,8 +1,10 @@
-ghost use Rattle.std.specs.Prelude.{◌≡◌, ◌+◌, ◌≤◌, ◌^◌, ℕ, false, length, map};
-ghost use Rattle.shared_table.specs.Ends.{Ended, KeptShut, OnHeld};
+ghost use Rattle.std.specs.Prelude.{◌≡◌, ◌+◌, ◌<◌, ◌≤◌, ◌^◌, ℕ, false, length, map, IfSome, IfNone};
+ghost use Rattle.shared_table.specs.Ends.{Ended, KeptShut, MadeOne, OnHeld, StopsAt};
 ghost use Rattle.shared_table.specs.declared.call.TableCall.TheVariants as made;
 
-use crate::{Gate, InCallList, InSeat, OutCallList, OutSeat, SharedTable, WorkEnd};
+use crate::{
+    Gate, InCall, InCallList, InSeat, OutCall, OutCallList, OutSeat, SharedTable, WorkEnd,
+};
 use std::sync::Wait;
 use std::sync::ledger::Ledger;
 use std::thread::{Threads, join};
@@ -56,21 +58,24 @@ pub fn run_two<
     ensures out_held { OnHeld result.out_end (G.noes out_gate) (G.noes result.out_gate) }
     ensures in_held { OnHeld result.in_end (H.noes in_gate) (H.noes result.in_gate) }
 {
-    let (outer, inner) = join(
-        rt,
-        move || work_out(rt, table, out, outs, out_gate),
-        move || work_in(rt, table, inn, ins, in_gate),
-    );
+    let outbound = move || -> Ran<OutSeat<L>, G>
+        requires { (out.parts ≡ L.parts) × (length out.noted + length outs.now ≤ 2 ^ 32) }
+    { work_out(rt, table, out, outs, out_gate) };
+    let inbound = move || -> Ran<InSeat<M>, H>
+        requires { (inn.parts ≡ M.parts) × (length inn.noted + length ins.now ≤ 2 ^ 32) }
+    { work_in(rt, table, inn, ins, in_gate) };
+    let (outbound, inbound) = join(rt, outbound, inbound);
     Worked {
-        out: outer.seat,
-        inn: inner.seat,
-        out_end: outer.end,
-        in_end: inner.end,
-        out_gate: outer.gate,
-        in_gate: inner.gate,
+        out: outbound.seat,
+        inn: inbound.seat,
+        out_end: outbound.end,
+        in_end: inbound.end,
+        out_gate: outbound.gate,
+        in_gate: inbound.gate,
     }
 }
 
+// Makes the calls of the outbound governor, up to the first at which it has to stop.
 fn work_out<L: Ledger, M: Ledger, G: Gate, R: Wait>(
     rt: &R,
     table: &SharedTable<L, M>,
@@ -80,34 +85,103 @@ fn work_out<L: Ledger, M: Ledger, G: Gate, R: Wait>(
 ) -> Ran<OutSeat<L>, G>
     requires here { seat.parts ≡ L.parts }
     requires few { length seat.noted + length calls.now ≤ 2 ^ 32 }
-    ensures seat { result.seat.parts ≡ L.parts }
+    ensures here { result.seat.parts ≡ L.parts }
     ensures end { Ended result.end (map (λ call. made.Out call) calls.now) seat.noted result.seat.noted }
     ensures held { OnHeld result.end (G.noes gate) (G.noes result.gate) }
 {
     let mut seat = seat;
     let mut gate = gate;
-    let mut index = 0;
-    for call in calls.as_slice() {
-        index += 1;
-        if !opens(&mut gate, index) {
-            return Ran {
-                seat,
-                end: WorkEnd::Held { index },
-                gate,
-            };
-        }
-        if table.call_out(rt, &mut seat, *call).is_err() {
-            return Ran {
-                seat,
-                end: WorkEnd::OutOfMemory { index },
-                gate,
-            };
+    for (place, call) in calls.as_slice().iter().enumerate() {
+        let index = place as u64 + 1;
+        if let Some(end) = step_out(rt, table, &mut seat, *call, &mut gate, index) {
+            return Ran { seat, end, gate };
         }
     }
     Ran {
         seat,
         end: WorkEnd::All,
         gate,
+    }
+}
+
+// Makes one call once the gate is open. Where it has to stop, says how.
+fn step_out<L: Ledger, M: Ledger, G: Gate, R: Wait>(
+    rt: &R,
+    table: &SharedTable<L, M>,
+    seat: &mut OutSeat<L>,
+    call: OutCall,
+    gate: &mut G,
+    index: u64,
+) -> Option<WorkEnd>
+    requires here { seat.old.parts ≡ L.parts }
+    requires few { length seat.old.noted < 2 ^ 32 }
+    ensures here { seat.new.parts ≡ L.parts }
+    ensures made { IfNone result (MadeOne (made.Out call) seat.old.noted seat.new.noted) }
+    ensures stopped { IfSome result (λ end. StopsAt index end × (seat.new.noted ≡ seat.old.noted)) }
+    ensures held { IfSome result (λ end. OnHeld end (G.noes gate.old) (G.noes gate.new)) }
+    ensures later { (n : ℕ) → G.noes gate.old n ≤ G.noes gate.new n }
+{
+    if !opens(gate, index) {
+        return Some(WorkEnd::Held { index });
+    }
+    match table.call_out(rt, seat, call) {
+        Ok(_) => None,
+        Err(_) => Some(WorkEnd::OutOfMemory { index }),
+    }
+}
+
+// Makes the calls of the inbound governor, up to the first at which it has to stop.
+fn work_in<L: Ledger, M: Ledger, H: Gate, R: Wait>(
+    rt: &R,
+    table: &SharedTable<L, M>,
+    seat: InSeat<M>,
+    calls: &InCallList,
+    gate: H,
+) -> Ran<InSeat<M>, H>
+    requires here { seat.parts ≡ M.parts }
+    requires few { length seat.noted + length calls.now ≤ 2 ^ 32 }
+    ensures here { result.seat.parts ≡ M.parts }
+    ensures end { Ended result.end (map (λ call. made.In call) calls.now) seat.noted result.seat.noted }
+    ensures held { OnHeld result.end (H.noes gate) (H.noes result.gate) }
+{
+    let mut seat = seat;
+    let mut gate = gate;
+    for (place, call) in calls.as_slice().iter().enumerate() {
+        let index = place as u64 + 1;
+        if let Some(end) = step_in(rt, table, &mut seat, *call, &mut gate, index) {
+            return Ran { seat, end, gate };
+        }
+    }
+    Ran {
+        seat,
+        end: WorkEnd::All,
+        gate,
+    }
+}
+
+// Makes one call once the gate is open. Where it has to stop, says how.
+fn step_in<L: Ledger, M: Ledger, H: Gate, R: Wait>(
+    rt: &R,
+    table: &SharedTable<L, M>,
+    seat: &mut InSeat<M>,
+    call: InCall,
+    gate: &mut H,
+    index: u64,
+) -> Option<WorkEnd>
+    requires here { seat.old.parts ≡ M.parts }
+    requires few { length seat.old.noted < 2 ^ 32 }
+    ensures here { seat.new.parts ≡ M.parts }
+    ensures made { IfNone result (MadeOne (made.In call) seat.old.noted seat.new.noted) }
+    ensures stopped { IfSome result (λ end. StopsAt index end × (seat.new.noted ≡ seat.old.noted)) }
+    ensures held { IfSome result (λ end. OnHeld end (H.noes gate.old) (H.noes gate.new)) }
+    ensures later { (n : ℕ) → H.noes gate.old n ≤ H.noes gate.new n }
+{
+    if !opens(gate, index) {
+        return Some(WorkEnd::Held { index });
+    }
+    match table.call_in(rt, seat, call) {
+        Ok(_) => None,
+        Err(_) => Some(WorkEnd::OutOfMemory { index }),
     }
 }
 
@@ -122,44 +196,4 @@ fn opens<G: Gate>(gate: &mut G, index: u64) -> bool
         }
     }
     false
-}
-
-fn work_in<L: Ledger, M: Ledger, H: Gate, R: Wait>(
-    rt: &R,
-    table: &SharedTable<L, M>,
-    seat: InSeat<M>,
-    calls: &InCallList,
-    gate: H,
-) -> Ran<InSeat<M>, H>
-    requires here { seat.parts ≡ M.parts }
-    requires few { length seat.noted + length calls.now ≤ 2 ^ 32 }
-    ensures seat { result.seat.parts ≡ M.parts }
-    ensures end { Ended result.end (map (λ call. made.In call) calls.now) seat.noted result.seat.noted }
-    ensures held { OnHeld result.end (H.noes gate) (H.noes result.gate) }
-{
-    let mut seat = seat;
-    let mut gate = gate;
-    let mut index = 0;
-    for call in calls.as_slice() {
-        index += 1;
-        if !opens(&mut gate, index) {
-            return Ran {
-                seat,
-                end: WorkEnd::Held { index },
-                gate,
-            };
-        }
-        if table.call_in(rt, &mut seat, *call).is_err() {
-            return Ran {
-                seat,
-                end: WorkEnd::OutOfMemory { index },
-                gate,
-            };
-        }
-    }
-    Ran {
-        seat,
-        end: WorkEnd::All,
-        gate,
-    }
 }
