@@ -72,7 +72,7 @@ fn torn_at(entry: &Entry, kept: &[Noted], others: usize) -> Option<Torn>
 }
 
 // An entry as its caller keeps it.
-fn noted(entry: &Entry) -> Noted
+pub fn noted(entry: &Entry) -> Noted
     ensures { result ≡ noted_in entry.now }
 {
     Noted {

@@ -1,9 +1,12 @@
-ghost use Rattle.std.specs.Prelude.{◌≡◌, ◌<◌};
+ghost use Rattle.std.specs.Prelude.{◌≡◌, ◌+◌, ◌<◌, ◌≤◌, ◌^◌, length, OnOk};
 ghost use Rattle.net_base.specs.Bounds.{AreSound};
+ghost use Rattle.shared_table.specs.Entries.{entry_of};
+ghost use Rattle.shared_table.specs.declared.call.TableCall.TheVariants as calls;
 
+use crate::tear::{first_torn, noted};
 use crate::{
-    Entry, Gate, InCall, InCallList, InSeat, OutCall, OutCallList, OutSeat, Shared, SharedTable,
-    TableCall, TableReply, Who, WorkEnd, run_two,
+    Entry, Gate, InCall, InCallList, InSeat, Noted, OutCall, OutCallList, OutSeat, Shared,
+    SharedTable, TableCall, TableReply, Torn, Who, WorkEnd, run_two,
 };
 use conn_state::names::name_of;
 use conn_table::GraceEnd;
@@ -76,7 +79,9 @@ fn talk() -> [Entry; 7] {
     ]
 }
 
-fn out(call: OutCall, reply: TableReply) -> Entry {
+fn out(call: OutCall, reply: TableReply) -> Entry
+    ensures { result ≡ entry_of (calls.Out call) reply }
+{
     Entry {
         who: Who::Out,
         call: TableCall::Out(call),
@@ -84,7 +89,9 @@ fn out(call: OutCall, reply: TableReply) -> Entry {
     }
 }
 
-fn inn(call: InCall, reply: TableReply) -> Entry {
+fn inn(call: InCall, reply: TableReply) -> Entry
+    ensures { result ≡ entry_of (calls.In call) reply }
+{
     Entry {
         who: Who::In,
         call: TableCall::In(call),
@@ -96,7 +103,8 @@ fn inn(call: InCall, reply: TableReply) -> Entry {
 fn calls_of_both_are_answered_in_turn(rt: HostRuntime) -> Result<(), Fail> {
     let mut shared = Shared::new(rt.alloc(), &settings());
     for entry in &talk() {
-        assert_eq!(rt; shared.apply(entry.call)?, entry.reply);
+        let reply = shared.apply(entry.call)?;
+        assert_eq!(rt; reply, entry.reply);
     }
     assert_eq!(rt; shared.history().as_slice(), talk().as_slice());
     let facts = shared.table().facts(FIRST).ok_or("it stands")?;
@@ -129,17 +137,59 @@ fn talked<L: Ledger, M: Ledger, R: Wait + Abort>(
         in_share,
     )?;
     for entry in &talk() {
-        let reply = match entry.call {
-            TableCall::Out(call) => table.call_out(rt, &mut out, call)?,
-            TableCall::In(call) => table.call_in(rt, &mut inn, call)?,
-        };
-        assert_eq!(rt; reply, entry.reply);
+        ask(rt, &table, &mut out, &mut inn, entry)?;
     }
     assert_eq!(rt; (out.made(), inn.made()), (3, 4));
+    assert_eq!(rt; inn.noted().as_slice().len(), 4);
     let gathered = table.gather(out, inn).ok().ok_or("nothing is torn")?;
     assert_eq!(rt; gathered.history.as_slice(), talk().as_slice());
     assert_eq!(rt; (gathered.made_out, gathered.made_in), (3, 4));
+    assert_eq!(rt; gathered.table.given(), 1);
     Ok(())
+}
+
+// Makes a call through its governor's seat, and compares the reply.
+fn ask<L: Ledger, M: Ledger, R: Wait + Abort>(
+    rt: &R,
+    table: &SharedTable<L, M>,
+    out: &mut OutSeat<L>,
+    inn: &mut InSeat<M>,
+    entry: &Entry,
+) -> Result<(), Fail>
+    requires here { (out.old.parts ≡ L.parts) × (inn.old.parts ≡ M.parts) }
+    requires few { (length out.old.noted < 2 ^ 32) × (length inn.old.noted < 2 ^ 32) }
+    ensures here { (out.new.parts ≡ L.parts) × (inn.new.parts ≡ M.parts) }
+    ensures few { OnOk result ((length out.new.noted ≤ length out.old.noted + 1) × (length inn.new.noted ≤ length inn.old.noted + 1)) }
+{
+    let reply = match entry.call {
+        TableCall::Out(call) => table.call_out(rt, out, call)?,
+        TableCall::In(call) => table.call_in(rt, inn, call)?,
+    };
+    assert_eq!(rt; reply, entry.reply);
+    Ok(())
+}
+
+#[test]
+fn the_first_call_that_differs_is_told(rt: HostRuntime) {
+    let kept = out(OutCall::Dial(local(3002)), TableReply::Unmet);
+    let found = out(OutCall::Dial(local(3002)), TableReply::Made(FIRST));
+    let torn = first_torn(
+        &[inn(InCall::DropIn(FIRST), TableReply::Unmet), found],
+        &[noted(&kept)],
+        &[Noted {
+            call: TableCall::In(InCall::DropIn(FIRST)),
+            reply: TableReply::Unmet,
+        }],
+    );
+    assert_eq!(rt;
+        torn,
+        Some(Torn {
+            who: Who::Out,
+            place: 1,
+            kept: noted(&kept),
+            found: noted(&found)
+        })
+    );
 }
 
 // A gate that sets a flag when it is asked for one call, and opens another call only once another flag is set.
