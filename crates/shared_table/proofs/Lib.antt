@@ -1,0 +1,4 @@
+mod LeaseLemmas
+mod ReplayLemmas
+mod TearLemmas
+mod WorkLemmas

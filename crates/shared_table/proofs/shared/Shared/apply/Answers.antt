@@ -1,0 +1,8 @@
+use Rattle.shared_table.proofs.ReplayLemmas.{replayed-push}
+use Rattle.shared_table.proofs.shared.Shared.apply.Goals as goal
+
+pub invariant_of-self-2 : goal.invariant_of-self-2
+invariant_of-self-2 c =
+    rw (c.put.ensures, c.who.ensures, c.in_ok-make_room.ensures.items)
+    (replayed-push c.self.inside.history.items c.args.call c.in_ok-reply.reply c.self.inside.leased c.make.new.self c.self.invariant
+    c.in_ok-reply.ensures.reply c.in_ok-reply.ensures.table)

@@ -1,0 +1,9 @@
+pub mod Calls
+pub mod Entries
+pub mod Ends
+pub mod Gathers
+pub mod Leases
+pub mod Logs
+pub mod Replay
+pub mod Seats
+pub mod Tears

@@ -1,0 +1,8 @@
+/// Which of the two governors makes a call.
+#[derive(Clone, Copy, Debug, PartialEq, Eq)]
+pub enum Who {
+    /// The outbound governor.
+    Out,
+    /// The inbound governor.
+    In,
+}
