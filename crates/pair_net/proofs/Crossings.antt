@@ -1,5 +1,5 @@
 -- A crossing: both ends have dialed at once.
-use Rattle.std.proofs.Common.{◌≡◌, ℕ, ◌⊎◌, List, [], Option, Some, None, refl, ap, ◌∙◌, inl, inr}
+use Rattle.std.proofs.Common.{◌≡◌, ℕ, ◌⊎◌, Some, None, refl, ap, ◌∙◌, inl, inr}
 use Rattle.hs_message.specs.declared.info.VersionInfo.{VersionInfo}
 use Rattle.hs_message.specs.declared.message.Message.TheVariants as message
 use Rattle.hs_decide.specs.Agreement.{verdict_of}
@@ -7,13 +7,12 @@ use Rattle.hs_decide.specs.Answers.{own_table}
 use Rattle.hs_decide.specs.declared.role.Role.TheVariants.{Dialer}
 use Rattle.hs_decide.specs.declared.verdict.Verdict.{Verdict}
 use Rattle.hs_decide.specs.declared.verdict.Verdict.TheVariants as verdict
-use Rattle.hs_receive.specs.declared.received.Received.{Received}
 use Rattle.hs_receive.specs.declared.received.Received.TheVariants.{Decided}
 use Rattle.net_base.specs.declared.connection.Agreed.{Agreed as AgreedOn}
 use Rattle.pair_net.specs.Ends.{given, taken_out}
 use Rattle.pair_net.specs.Hearing.{heard}
 use Rattle.pair_net.specs.Law.{CanOffer}
-use Rattle.pair_net.specs.Pair.{PairState, pair_of}
+use Rattle.pair_net.specs.Pair.{pair_of}
 use Rattle.pair_net.specs.Speaking.{proposal_frame}
 use Rattle.pair_net.specs.Steps.{Turn, concludes, delivers}
 use Rattle.pair_net.specs.declared.end.End.{End}
@@ -22,7 +21,7 @@ use Rattle.pair_net.specs.declared.end.EndPhase.TheVariants.{Agreed, Ended}
 use Rattle.pair_net.specs.declared.end_state.EndState.{EndState}
 use Rattle.pair_net.proofs.Spoken.{IsSpoken, proposal_spoken}
 use Rattle.pair_net.proofs.Verdicts.{common, meets_or_refuses}
-use Rattle.pair_net.proofs.Listening.{IsListening, HearsNow, WaitsOn, by_heard, hears_or_waits}
+use Rattle.pair_net.proofs.Listening.{IsListening, by_heard, hears_or_waits}
 use Rattle.pair_net.proofs.Meetings.{HasEnded, dropped}
 
 -- what one end decides on the proposal of the other

@@ -1,5 +1,5 @@
 -- What is heard is what comes of the whole stream.
-use Rattle.std.proofs.Common.{◌≡◌, ℕ, List, Option, Result, Ok, Err, refl, sym, ap, ◌∙◌}
+use Rattle.std.proofs.Common.{◌≡◌, ℕ, List, Option, Result, Ok, Err, ap, ◌∙◌}
 use Rattle.std.specs.Prelude.{IfOk}
 use Rattle.hs_decide.specs.declared.role.Role.{Role}
 use Rattle.hs_message.specs.declared.info.VersionInfo.{VersionInfo}

@@ -1,7 +1,6 @@
 -- Everything is delivered to one end, and then everything to the other.
-use Rattle.std.proofs.Common.{◌≡◌, ℕ, ◌≤◌, List, [], ◌∷◌, length, drop, map, Option, Some, None, refl, ap, ◌∙◌, arith}
+use Rattle.std.proofs.Common.{◌≡◌, ℕ, ◌≤◌, List, [], ◌∷◌, length, drop, Option, Some, None, refl, ap, ◌∙◌, arith}
 use Rattle.std.specs.List.{AllByRecursion}
-use Rattle.std.specs.Prelude.{sum}
 use Rattle.std.proofs.lemmas.List.{length-drop}
 use Rattle.std.proofs.lemmas.List.Sums.{sum_by-cons}
 use Rattle.hs_message.specs.declared.info.VersionInfo.{VersionInfo}
@@ -10,10 +9,10 @@ use Rattle.hs_decide.specs.declared.role.Role.TheVariants as role
 use Rattle.hs_receive.specs.declared.received.Received.{Received}
 use Rattle.pair_net.specs.Ends.{given, taken_out, answered}
 use Rattle.pair_net.specs.Hearing.{heard, phase_after}
-use Rattle.pair_net.specs.Law.{CanOffer, HasAgreed, HaveAgreed, IsDelivery, deliveries_to, PipesEmpty, MeetingsAgreeInTurn}
-use Rattle.pair_net.specs.Pair.{PairState, fresh_pair, other, end_of, pair_of}
+use Rattle.pair_net.specs.Law.{CanOffer, HasAgreed, IsDelivery, deliveries_to, PipesEmpty, MeetingsAgreeInTurn}
+use Rattle.pair_net.specs.Pair.{PairState, fresh_pair, other, end_of}
 use Rattle.pair_net.specs.Speaking.{answer_after}
-use Rattle.pair_net.specs.Steps.{concludes, delivers_in, delivers, stepped, pair_after}
+use Rattle.pair_net.specs.Steps.{concludes, delivers_in, stepped, pair_after}
 use Rattle.pair_net.specs.declared.end.End.{End}
 use Rattle.pair_net.specs.declared.end.End.TheVariants.{Left, Right}
 use Rattle.pair_net.specs.declared.end.EndPhase.{EndPhase}
@@ -23,8 +22,8 @@ use Rattle.pair_net.specs.declared.pair_step.PairStep.TheVariants.{Meet, Deliver
 use Rattle.pair_net.proofs.Spoken.{proposal_spoken, acceptance_spoken}
 use Rattle.pair_net.proofs.Verdicts.{common}
 use Rattle.pair_net.proofs.Listening.{never_silent}
-use Rattle.pair_net.proofs.Meetings.{HasProposed, HasAccepted, IsDone, Meets, the_proposal, the_acceptance}
-use Rattle.pair_net.proofs.Runs.{pair-near, delivers-far, info_of, Meeting, meets_first, meeting_after}
+use Rattle.pair_net.proofs.Meetings.{Meets, the_proposal, the_acceptance}
+use Rattle.pair_net.proofs.Runs.{pair-near, delivers-far, Meeting, meets_first, meeting_after}
 
 -- ---- what stands in a pipe after a delivery
 

@@ -1,5 +1,5 @@
 -- An end that waits for bytes of which some have come, while the others are on their way.
-use Rattle.std.proofs.Common.{◌≡◌, ℕ, ◌≤◌, ◌<◌, ◌⊎◌, List, [], ◌∷◌, ◌++◌, length, take, drop, Option, Some, None, refl, sym, ap, subst, ◌∙◌, append_assoc, arith, inl, inr}
+use Rattle.std.proofs.Common.{◌≡◌, ℕ, ◌<◌, ◌⊎◌, List, [], ◌∷◌, ◌++◌, length, take, drop, Option, Some, None, refl, sym, ap, ◌∙◌, append_assoc, arith, inl, inr}
 use Rattle.std.proofs.lemmas.List.{append-nil, length-drop, take-append-drop, drop_all}
 use Rattle.std.proofs.lemmas.Bool.{cases_lt}
 use Rattle.hs_decide.specs.declared.role.Role.{Role}
@@ -8,10 +8,8 @@ use Rattle.hs_message.specs.declared.info.VersionInfo.{VersionInfo}
 use Rattle.hs_receive.specs.declared.received.Received.{Received}
 use Rattle.hs_receive.specs.declared.received.Received.TheVariants.{Decided}
 use Rattle.pair_net.specs.Ends.{given, answered}
-use Rattle.pair_net.specs.Hearing.{heard, phase_by}
-use Rattle.pair_net.specs.Speaking.{answer_frame}
-use Rattle.pair_net.specs.Pair.{pair_of, PairState}
-use Rattle.pair_net.specs.Steps.{Turn, concludes, delivers_in, delivers}
+use Rattle.pair_net.specs.Hearing.{heard}
+use Rattle.pair_net.specs.Steps.{concludes, delivers_in, delivers}
 use Rattle.pair_net.specs.declared.end.End.{End}
 use Rattle.pair_net.specs.declared.end.EndPhase.{EndPhase}
 use Rattle.pair_net.specs.declared.end.EndPhase.TheVariants.{Waiting}

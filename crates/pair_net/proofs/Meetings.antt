@@ -1,5 +1,5 @@
 -- A meeting: one end has dialed the other.
-use Rattle.std.proofs.Common.{◌≡◌, ℕ, ◌⊎◌, Bool, true, false, eqb, List, [], drop, Option, Some, None, refl, sym, ap, subst, ◌∙◌, arith, inl, inr}
+use Rattle.std.proofs.Common.{◌≡◌, ℕ, true, false, eqb, List, [], drop, Some, None, refl, sym, ap, subst, ◌∙◌, arith, inl, inr}
 use Rattle.std.proofs.lemmas.List.{drop_all}
 use Rattle.std.proofs.lemmas.Bool.{cases_Bool}
 use Rattle.hs_message.specs.declared.info.VersionInfo.{VersionInfo}
@@ -27,11 +27,11 @@ use Rattle.pair_net.specs.declared.end.End.TheVariants.{Left, Right}
 use Rattle.pair_net.specs.declared.end.EndCause.{EndCause}
 use Rattle.pair_net.specs.declared.end.EndCause.TheVariants as cause
 use Rattle.pair_net.specs.declared.end.EndPhase.{EndPhase}
-use Rattle.pair_net.specs.declared.end.EndPhase.TheVariants.{Waiting, Agreed, Ended}
+use Rattle.pair_net.specs.declared.end.EndPhase.TheVariants.{Agreed, Ended}
 use Rattle.pair_net.specs.declared.end_state.EndState.{EndState}
 use Rattle.pair_net.proofs.Spoken.{IsSpoken, proposal_spoken, acceptance_spoken}
 use Rattle.pair_net.proofs.Verdicts.{common, accepts, refuses, agrees}
-use Rattle.pair_net.proofs.Listening.{IsListening, HearsNow, WaitsOn, by_heard, hears_or_waits, silent_waits, reached_listens}
+use Rattle.pair_net.proofs.Listening.{IsListening, by_heard, hears_or_waits, silent_waits, reached_listens}
 use Rattle.pair_net.proofs.Frames.{nothing_heard}
 
 -- ---- the two ends of a pair, seen from one of them

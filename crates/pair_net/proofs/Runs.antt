@@ -1,12 +1,11 @@
 -- What holds after every list of steps.
-use Rattle.std.proofs.Common.{◌≡◌, ℕ, ◌⊎◌, Bool, true, false, eqb, if◌then◌else◌, ◌&&◌, ◌||◌, List, [], ◌∷◌, drop, Option, Some, None, refl, sym, ap, subst, ◌∙◌, arith, inl, inr}
+use Rattle.std.proofs.Common.{◌≡◌, ℕ, ◌⊎◌, Bool, true, false, eqb, if◌then◌else◌, ◌&&◌, List, [], ◌∷◌, Option, Some, None, refl, sym, ap, subst, ◌∙◌, arith, inl, inr}
 use Rattle.std.specs.List.{AllByRecursion}
 use Rattle.std.proofs.lemmas.List.{drop_all}
 use Rattle.std.proofs.lemmas.Bool.{cond_both, eq-eqb}
 use Rattle.hs_message.specs.declared.info.VersionInfo.{VersionInfo}
 use Rattle.hs_decide.specs.Answers.{agreed_info}
 use Rattle.hs_decide.specs.declared.role.Role.TheVariants as role
-use Rattle.hs_decide.specs.declared.verdict.Verdict.{Verdict}
 use Rattle.hs_decide.specs.declared.verdict.Verdict.TheVariants as verdict
 use Rattle.hs_decide.proofs.Ends.{meet_alike}
 use Rattle.hs_receive.specs.declared.received.Received.{Received}
@@ -29,9 +28,9 @@ use Rattle.pair_net.specs.declared.pair_step.PairStep.TheVariants.{Meet, Cross, 
 use Rattle.pair_net.proofs.Frames.{nothing_heard}
 use Rattle.pair_net.proofs.Spoken.{proposal_spoken, acceptance_spoken}
 use Rattle.pair_net.proofs.Verdicts.{common, meets as both_meet}
-use Rattle.pair_net.proofs.Listening.{IsListening, never_silent}
-use Rattle.pair_net.proofs.Meetings.{HasEnded, HasProposed, HasAccepted, IsDone, Meets, Goes, the_proposal, the_acceptance, dialer_is_given, acceptor_is_given}
-use Rattle.pair_net.proofs.Crossings.{on_crossing, HasAgreedOn, Crosses, GoesOn, Stops, one_is_given}
+use Rattle.pair_net.proofs.Listening.{never_silent}
+use Rattle.pair_net.proofs.Meetings.{HasEnded, Meets, Goes, the_proposal, the_acceptance, dialer_is_given, acceptor_is_given}
+use Rattle.pair_net.proofs.Crossings.{on_crossing, Crosses, one_is_given}
 
 -- ---- an end that has ended stays so
 

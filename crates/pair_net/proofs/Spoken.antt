@@ -1,10 +1,9 @@
 -- What an end says, as the other one hears it.
-use Rattle.std.proofs.Common.{◌≡◌, ℕ, ◌+◌, ◌*◌, ◌≤◌, ◌<◌, ◌^◌, Bool, true, false, eqb, cond, not, ◌&&◌, ◌||◌, List, [], ◌∷◌, ◌++◌, length, if◌then◌else◌, Option, Some, None, refl, sym, ap, subst, ◌∙◌, arith, lit<, lit≤, ltb}
+use Rattle.std.proofs.Common.{◌≡◌, ℕ, ◌+◌, ◌*◌, ◌≤◌, ◌<◌, ◌^◌, Bool, true, cond, List, [], ◌∷◌, ◌++◌, length, if◌then◌else◌, Option, Some, None, refl, sym, ap, ◌∙◌, arith, lit<, lit≤, ltb}
 use Rattle.std.specs.Int.{w16, w32, w64, to_be_bytes}
 use Rattle.std.proofs.lemmas.List.{append-nil, length-append}
-use Rattle.std.proofs.lemmas.Bool.{cond_both, eqb-true}
+use Rattle.std.proofs.lemmas.Bool.{cond_both}
 use Rattle.cbor_items.specs.Head.{shortest_head}
-use Rattle.cbor_items.specs.declared.scan.Scan.{Scan}
 use Rattle.cbor_items.specs.declared.scan.Scan.TheVariants.{Whole}
 use Rattle.cbor_items.specs.Scan.{scan_of}
 use Rattle.hs_message.specs.declared.info.VersionInfo.{VersionInfo}
@@ -22,8 +21,7 @@ use Rattle.hs_decide.specs.declared.verdict.Verdict.{Verdict}
 use Rattle.hs_decide.specs.Agreement.{verdict_of}
 use Rattle.hs_decide.specs.Answers.{own_table, proposal_of}
 use Rattle.mux_segment.specs.Frame.{frame_of}
-use Rattle.hs_receive.specs.Receiving.{is_awaited, fits_side, receives, receives_message}
-use Rattle.hs_receive.specs.declared.received.Received.{Received}
+use Rattle.hs_receive.specs.Receiving.{is_awaited, fits_side, receives_message}
 use Rattle.hs_receive.specs.declared.received.Received.TheVariants.{Decided, Fault}
 use Rattle.net_base.specs.declared.action.FaultKind.TheVariants.{Protocol}
 use Rattle.pair_net.specs.Hearing.{heard}

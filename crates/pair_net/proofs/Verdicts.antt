@@ -1,5 +1,5 @@
 -- What each end decides.
-use Rattle.std.proofs.Common.{◌≡◌, ℕ, ◌⊎◌, Bool, true, false, eqb, ◌||◌, if◌then◌else◌, refl, ap, ◌∙◌, inl, inr}
+use Rattle.std.proofs.Common.{◌≡◌, ◌⊎◌, Bool, true, false, eqb, ◌||◌, if◌then◌else◌, refl, ap, ◌∙◌, inl, inr}
 use Rattle.std.proofs.lemmas.Bool.{cases_Bool}
 use Rattle.hs_message.specs.declared.info.VersionInfo.{VersionInfo}
 use Rattle.hs_message.specs.declared.info.Info.TheVariants.{Known}
@@ -7,7 +7,6 @@ use Rattle.hs_message.specs.declared.message.Message.TheVariants as message
 use Rattle.hs_decide.specs.Agreement.{joined, meets_joined, verdict_of}
 use Rattle.hs_decide.specs.Answers.{own_table, agreed_info}
 use Rattle.hs_decide.specs.declared.role.Role.TheVariants.{Acceptor, Dialer}
-use Rattle.hs_decide.specs.declared.verdict.Verdict.{Verdict}
 use Rattle.hs_decide.specs.declared.verdict.Verdict.TheVariants.{Accept, Refuse, Agree, Refused}
 use Rattle.hs_decide.specs.declared.verdict.Why.TheVariants.{Magic}
 use Rattle.hs_decide.proofs.Ends.{are_agreed}

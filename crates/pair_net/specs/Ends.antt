@@ -2,7 +2,6 @@
 use Rattle.std.specs.Prelude.{ℕ, List, [], ◌++◌, take, drop, Option, Some, None}
 use Rattle.hs_decide.specs.declared.role.Role.{Role}
 use Rattle.hs_message.specs.declared.info.VersionInfo.{VersionInfo}
-use Rattle.pair_net.specs.declared.end.EndPhase.{EndPhase}
 use Rattle.pair_net.specs.declared.end.EndPhase.TheVariants.{Fresh, Waiting}
 use Rattle.pair_net.specs.declared.end_state.EndState.{EndState}
 

@@ -1,5 +1,5 @@
 -- What an end says: segments of the handshake, of time 0.
-use Rattle.std.specs.Prelude.{◌≡◌, ℕ, List, [], ◌∷◌, ◌++◌, Option, Some, None}
+use Rattle.std.specs.Prelude.{◌≡◌, ℕ, List, [], ◌∷◌, ◌++◌, Option, None}
 use Rattle.std.specs.Option.{option_map}
 use Rattle.hs_decide.specs.Answers.{answer_of, proposal_of}
 use Rattle.hs_decide.specs.declared.role.Role.TheVariants.{Dialer}
