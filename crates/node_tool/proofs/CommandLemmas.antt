@@ -1,5 +1,5 @@
 -- What a status says of the command, and of whose count rose.
-use Rattle.std.proofs.Common.{◌≡◌, ℕ, ◌≤◌, ◌⊎◌, List, Option, Some, None, inl, inr, refl, sym, ◌∙◌, subst}
+use Rattle.std.proofs.Common.{◌≡◌, ℕ, ◌⊎◌, List, Option, Some, None, inl, inr, refl, sym, ◌∙◌, subst}
 use Rattle.io_edge.specs.Causes.{Rose}
 use Rattle.trace_replay.specs.Checks.{Checks}
 use Rattle.trace_replay.specs.Drill.{IsDrilled}

@@ -1,10 +1,7 @@
 -- How a file is judged, from its reading and the judgement of its bytes.
-use Rattle.std.proofs.Common.{◌≡◌, ℕ, List, Option, Some, None, Result, Ok, Err, inl, inr, refl, sym, ap, ◌∙◌, subst}
-use Rattle.io_edge.specs.Causes.{Rose}
+use Rattle.std.proofs.Common.{◌≡◌, ℕ, List, Option, Result, Ok, Err, ap, ◌∙◌, subst}
 use Rattle.io_edge.specs.Files.{IsReading}
-use Rattle.node_settings.specs.declared.config.Config.{Config}
-use Rattle.node_settings.specs.declared.topology.Topology.{Topology}
-use Rattle.node_tool.specs.Files.{file_limit, FileTold, IsUnread, IsFileRead, IsVerdict, IsJudged}
+use Rattle.node_tool.specs.Files.{file_limit, FileTold, IsUnread, IsVerdict, IsJudged}
 use Rattle.node_tool.specs.declared.status.Status.{Status}
 use Rattle.node_tool.specs.declared.status.Status.TheVariants as status
 use Rattle.node_tool.specs.declared.status.What.{What}

@@ -2,7 +2,6 @@
 use Rattle.std.proofs.Common.{◌≡◌, ℕ, ◌<◌, ◌≤◌, List, length, Option, Some, None, Result, Ok, Err, ◌⊎◌, inl, inr, ⊎_elim, refl, sym, ap, ◌∙◌, subst, arith}
 use Rattle.std.specs.Prelude.{IsOk}
 use Rattle.io_edge.specs.Causes.{Rose}
-use Rattle.io_edge.specs.Files.{IsReading}
 use Rattle.node_settings.specs.declared.config.Config.{Config}
 use Rattle.node_settings.specs.declared.topology.Topology.{Topology}
 use Rattle.trace_replay.specs.UnderWay.{HasWriteCount}
@@ -10,7 +9,7 @@ use Rattle.trace_replay.specs.Drive.{HasWorldCount, IsDriven}
 use Rattle.trace_replay.specs.declared.outcome.Outcome.{Outcome}
 use Rattle.trace_replay.specs.declared.outcome.Outcome.TheVariants as outcomes
 use Rattle.node_tool.specs.Asked.{Asked}
-use Rattle.node_tool.specs.Files.{file_limit, config_judged, topology_judged, FileTold, FilesTold, IsUnread, IsJudged, IsConfJudged, IsTopoJudged, AreJudged, IsAcceptedFile, IsRefusedFile, IsDue, HasRisen}
+use Rattle.node_tool.specs.Files.{file_limit, config_judged, topology_judged, FilesTold, IsJudged, AreJudged, IsAcceptedFile, IsRefusedFile, IsDue, HasRisen}
 use Rattle.node_tool.specs.Node.{WorldTold, SinkTold, first_events, IsDriving, IsShut, IsOpenRefused, IsServing, ComesTo, IsNodeRun, IsNodeAnswered, HasNodeCause}
 use Rattle.node_tool.specs.Run.{status_told}
 use Rattle.node_tool.specs.declared.status.Status.{Status}

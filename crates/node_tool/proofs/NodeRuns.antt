@@ -1,11 +1,11 @@
 -- What a node's run comes to, put together from its parts.
-use Rattle.std.proofs.Common.{◌≡◌, ℕ, ◌+◌, ◌<◌, ◌≤◌, Bool, true, false, List, [], ◌∷◌, ◌++◌, length, All, Option, Some, None, Result, Ok, Err, OnOk, OnErr, ◌⊎◌, inl, inr, refl, sym, ap, ◌∙◌, subst, arith}
-use Rattle.std.proofs.lemmas.List.{append-nil, append_assoc, length-append}
+use Rattle.std.proofs.Common.{◌≡◌, ℕ, ◌<◌, Bool, true, List, [], ◌∷◌, ◌++◌, length, All, Option, None, Result, Ok, Err, OnOk, OnErr, ◌⊎◌, inl, inr, refl, sym, ap, ◌∙◌, subst, arith}
+use Rattle.std.proofs.lemmas.List.{append-nil}
 use Rattle.std.proofs.lemmas.List.Elements.{All-nil, All-cons}
-use Rattle.io_edge.specs.Causes.{Rose, HasCause}
+use Rattle.io_edge.specs.Causes.{Rose}
 use Rattle.net_base.specs.Bounds.{targets_fault}
 use Rattle.net_base.specs.Limits.{HasValencies, IsWithinLimits}
-use Rattle.io_edge.specs.Told.{Takes, TakesProperPrefix}
+use Rattle.io_edge.specs.Told.{TakesProperPrefix}
 use Rattle.io_edge.proofs.ToldLemmas.{Takes-append, TakesProperPrefix-after}
 use Rattle.io_edge.specs.declared.failed.Failed.{Failed}
 use Rattle.machine.specs.Machine.{Machine, start_of}
@@ -19,10 +19,10 @@ use Rattle.net_base.specs.declared.targets.Targets.{Targets}
 use Rattle.node_settings.specs.declared.config.Config.{Config}
 use Rattle.node_settings.specs.declared.topology.Topology.{Topology}
 use Rattle.node_world.specs.declared.opening.Opening.{Opening}
-use Rattle.trace_replay.specs.Drive.{IsFrontOf, acts_of, text_up_to, all_actions, SaysUpTo, BreaksOff, IsDriven, Drives}
+use Rattle.trace_replay.specs.Drive.{acts_of, text_up_to, all_actions, SaysUpTo, IsDriven, Drives}
 use Rattle.trace_replay.specs.declared.outcome.Outcome.{Outcome}
 use Rattle.trace_replay.specs.declared.outcome.Outcome.TheVariants as outcomes
-use Rattle.node_tool.specs.Node.{WorldTold, SinkTold, world_told, opened_world, opening_for, opened_with, first_events, IsDriving, IsServing}
+use Rattle.node_tool.specs.Node.{WorldTold, SinkTold, world_told, opened_world, opening_for, opened_with, IsDriving, IsServing}
 use Rattle.node_tool.specs.Telling.{Says, IsTold}
 use Rattle.node_tool.specs.declared.status.Status.{Status}
 use Rattle.node_tool.proofs.TellingLemmas.{TakesProperPrefix-more}

@@ -50,14 +50,6 @@ fn opened<'a>(
     Ok(world)
 }
 
-fn engine_at(alloc: Global, port: u16) -> Result<Engine, OutOfMemory> {
-    let picker = Picker::new(Box::new(alloc, |addr: Addr, word: u64| score(addr, word))?);
-    let ranked = RankedPicker::new(Box::new(alloc, |addr: Addr, failures: u64, word: u64| {
-        ranked_score(addr, failures, word)
-    })?);
-    first_engine(alloc, settings_at(port), Pickers { picker, ranked })
-}
-
 // The other node is a local root, of which one is to be warm.
 fn other_as_local(alloc: Global, other: Addr) -> Result<Event, OutOfMemory>
     ensures { IfOk result IsWithinLimits }
@@ -109,11 +101,17 @@ fn has_met(engine: &Engine, other: Addr) -> bool {
 }
 
 // A node that has heard of the other one.
-fn begun<W: World>(alloc: Global, port: u16, other: Addr, world: &mut W) -> Result<Engine, Fail>
+fn begun<W: World>(
+    alloc: Global,
+    pickers: Pickers,
+    port: u16,
+    other: Addr,
+    world: &mut W,
+) -> Result<Engine, Fail>
     requires { W.is_open world.old ≡ true }
     ensures { W.is_open world.new ≡ true }
 {
-    let engine = engine_at(alloc, port)?;
+    let engine = first_engine(alloc, settings_at(port), pickers)?;
     step(engine, &other_as_local(alloc, other)?, world)
 }
 
@@ -140,15 +138,14 @@ fn meet<W: World>(
     Err("they did not meet".into())
 }
 
-#[test]
-fn two_nodes_meet(rt: HostRuntime) -> Result<(), Fail> {
-    let alloc = rt.alloc();
-    let (left_port, right_port) = free_ports(&rt)?;
+// Two nodes with these pickers.
+fn meet_as(rt: &HostRuntime, alloc: Global, left: Pickers, right: Pickers) -> Result<(), Fail> {
+    let (left_port, right_port) = free_ports(rt)?;
     let (left_addr, right_addr) = (local(left_port), local(right_port));
-    let mut left_world = opened(&rt, alloc, left_port)?;
-    let mut right_world = opened(&rt, alloc, right_port)?;
-    let left = begun(alloc, left_port, right_addr, &mut left_world)?;
-    let right = begun(alloc, right_port, left_addr, &mut right_world)?;
+    let mut left_world = opened(rt, alloc, left_port)?;
+    let mut right_world = opened(rt, alloc, right_port)?;
+    let left = begun(alloc, left, left_port, right_addr, &mut left_world)?;
+    let right = begun(alloc, right, right_port, left_addr, &mut right_world)?;
     meet(
         left,
         &mut left_world,
@@ -157,4 +154,20 @@ fn two_nodes_meet(rt: HostRuntime) -> Result<(), Fail> {
         &mut right_world,
         right_addr,
     )
+}
+
+#[test]
+fn two_nodes_meet(rt: HostRuntime) -> Result<(), Fail> {
+    let alloc = rt.alloc();
+    let picker = Picker::new(Box::new(alloc, |addr: Addr, word: u64| score(addr, word))?);
+    let ranked = RankedPicker::new(Box::new(alloc, |addr: Addr, failures: u64, word: u64| {
+        ranked_score(addr, failures, word)
+    })?);
+    let left = Pickers { picker, ranked };
+    let picker = Picker::new(Box::new(alloc, |addr: Addr, word: u64| score(addr, word))?);
+    let ranked = RankedPicker::new(Box::new(alloc, |addr: Addr, failures: u64, word: u64| {
+        ranked_score(addr, failures, word)
+    })?);
+    let right = Pickers { picker, ranked };
+    meet_as(&rt, alloc, left, right)
 }

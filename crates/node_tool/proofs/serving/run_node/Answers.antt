@@ -1,4 +1,4 @@
-use Rattle.node_tool.specs.Asked.{Asked, asked_by, node_of}
+use Rattle.node_tool.specs.Asked.{Asked, asked_by}
 use Rattle.node_tool.specs.Files.{files_told}
 use Rattle.node_tool.specs.Node.{world_told, sink_told, IsNodeRun}
 use Rattle.node_tool.proofs.NodeLaws.{run_asked, node_answered, node_complete, node_cause}
