@@ -215,7 +215,9 @@ impl<'a> Gate for FlagGate<'a> {
             return true;
         }
         self.noes = self.noes.saturating_add(1);
-        thread::yield_now();
+        if self.noes % 16_384 == 0 {
+            thread::yield_now();
+        }
         false
     }
 }

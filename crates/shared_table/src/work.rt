@@ -51,8 +51,8 @@ pub fn run_two<
 ) -> Worked<L, M, G, H>
     requires out { (out.parts ≡ L.parts) × (length out.noted + length outs.now ≤ 2 ^ 32) }
     requires inn { (inn.parts ≡ M.parts) × (length inn.noted + length ins.now ≤ 2 ^ 32) }
-    ensures out_seat { result.out.parts ≡ L.parts }
-    ensures in_seat { result.inn.parts ≡ M.parts }
+    ensures out_here { result.out.parts ≡ L.parts }
+    ensures in_here { result.inn.parts ≡ M.parts }
     ensures out_end { Ended result.out_end (map (λ call. made.Out call) outs.now) out.noted result.out.noted }
     ensures in_end { Ended result.in_end (map (λ call. made.In call) ins.now) inn.noted result.inn.noted }
     ensures out_held { OnHeld result.out_end (G.noes out_gate) (G.noes result.out_gate) }
