@@ -8,7 +8,6 @@ use std::process::Abort;
 use std::test::Fail;
 
 mod drives;
-mod meeting;
 
 fn sink(alloc: Global, room: usize, failing: &[u64]) -> Result<MemSink, OutOfMemory> {
     MemSink::new(alloc, room, NumberList::from_slice(alloc, failing)?)
