@@ -3,7 +3,6 @@ ghost use Rattle.std.specs.Prelude.{◌≤◌};
 mod checking;
 mod drilling;
 mod rows;
-mod serving;
 
 use self::rows::ROWS;
 use crate::{Status, run};
