@@ -20,8 +20,8 @@ const ARRAY: u8 = 4;
 
 const MAP: u8 = 5;
 
-/// The one spelling of a message between nodes. Each info has to be known and to stand with version 13 or 14, and the versions of a
-/// table have to rise strictly.
+/// The one spelling of a message between nodes. Each info has to be known and to stand with version 13 or 14, and the
+/// versions of a table have to rise strictly.
 #[tactic(auto, unfolding(crate::specs::Canonical::node_spelling))]
 pub fn write_message(alloc: Global, message: &Message) -> Result<Octets, OutOfMemory>
     requires { CanWrite message.now }
