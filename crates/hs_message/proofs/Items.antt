@@ -12,7 +12,7 @@ use Rattle.hs_message.specs.declared.message.Message.TheVariants.{Propose, Accep
 use Rattle.hs_message.specs.declared.message.Reason.{Reason}
 use Rattle.hs_message.specs.declared.message.Reason.TheVariants.{NoCommon, NotDecoded, Declined}
 use Rattle.hs_message.specs.Parts.{IsNumber, IsText, IsArray, IsOpenArray, IsMap, flag_byte, IsFlag, IsListOf}
-use Rattle.hs_message.specs.Info.{IsSharing, IsVersionInfo}
+use Rattle.hs_message.specs.Info.{IsSharing, IsVersionInfo, IsClientVersionInfo}
 use Rattle.hs_message.specs.Spelling.{IsOffer, IsTable, IsVersionList, IsReason, IsMessage}
 
 -- ---- the parts
@@ -116,6 +116,9 @@ pair_is_item : (depth tag : ℕ) (Rest : List ℕ → Type 0) (bytes : List ℕ)
 pair_is_item depth tag Rest bytes to p =
     array_is_item depth 2 (IsPair (IsNumber tag) Rest) bytes
     (λ x. row_more (IsItem depth) (IsNumber tag) Rest 1 x (number_is_item depth tag) (λ y is. row_of_one (IsItem depth) y (to y is))) p
+
+pub client_version_info_is_item : (depth : ℕ) (info : VersionInfo) (bytes : List ℕ) → IsClientVersionInfo info bytes → IsItem (suc depth) bytes
+client_version_info_is_item depth info bytes is = pair_is_item depth info.magic (IsFlag info.query) bytes (flag_is_item depth info.query) is.is_array
 
 -- an array of three, of which the first two are numbers
 triple_is_item : (depth tag version : ℕ) (Rest : List ℕ → Type 0) (bytes : List ℕ) → ((x : List ℕ) → Rest x → IsItem depth x)

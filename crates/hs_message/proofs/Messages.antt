@@ -15,9 +15,9 @@ use Rattle.hs_message.specs.declared.message.Message.TheVariants.{Propose, Accep
 use Rattle.hs_message.specs.declared.message.Reason.{Reason}
 use Rattle.hs_message.specs.declared.message.Reason.TheVariants.{NoCommon, NotDecoded, Declined}
 use Rattle.hs_message.specs.Parts.{IsDefinite, IsIndefinite, IsNumber, IsArray}
-use Rattle.hs_message.specs.Info.{IsInfo, IsUnderstoodAs, is_node_version, IsVersionInfo, IsNodeInfo}
+use Rattle.hs_message.specs.Info.{IsInfo, IsUnderstoodAs, is_node_version, IsVersionInfo, IsNodeInfo, is_client_version, IsClientVersionInfo, IsClientInfo}
 use Rattle.hs_message.specs.Spelling.{rises, IsOffer, IsTable, IsVersionList, IsReason, IsMessage}
-use Rattle.hs_message.specs.Reading.{◌>>=◌, any_head_at, definite_at, number_at, array_at, flag_at, sharing_at, version_info_at, whole, known_of, as_info, info_of, item_at, offer_at, row_at, table_at, row_to_break_at, version_row_at, version_list_at, tag_at, noted_at, no_common_at, not_decoded_at, declined_at, reason_behind, reason_at, propose_at, accept_at, refuse_at, query_reply_at, message_behind, message_at}
+use Rattle.hs_message.specs.Reading.{◌>>=◌, any_head_at, definite_at, number_at, array_at, flag_at, sharing_at, version_info_at, whole, known_of, client_version_info_at, client_known_of, Knowing, as_info, info_of, item_at, offer_at, row_at, table_at, row_to_break_at, version_row_at, version_list_at, tag_at, noted_at, no_common_at, not_decoded_at, declined_at, reason_behind, reason_at, propose_at, accept_at, refuse_at, query_reply_at, message_behind, message_at}
 use Rattle.hs_message.proofs.Fronts.{Reads, bind_some, guard_some, some_is, pair_front, front_as, pair_parts, reads_any_head, reads_definite, reads_number, definite_starts, array_found, array_again, reads_flag, reads_sharing, reads_item, row_found, row_again, closed_found, closed_again, IsTag, reads_tag, reads_noted}
 
 -- ---- what stands beside a version
@@ -78,6 +78,43 @@ info_again info front rest is =
       low,
     ) refl
 
+client_info_found : (bytes : List ℕ) (info : VersionInfo) (rest : List ℕ) → client_version_info_at bytes ≡ Some (info, rest) → HasFront (IsClientVersionInfo info) bytes rest
+unfolding client_version_info_at
+client_info_found bytes info rest e =
+    let made : ℕ → Bool → VersionInfo = λ magic query. info_with magic true false query in
+    let a = bind_some (array_at 2 bytes) (λ (elements : List ℕ).
+    number_at elements >>= λ magic. flag_at magic.1 >>= λ query. cond (ltb magic.0 (2 ^ 32)) (Some (made magic.0 query.0, query.1)) None) (info, rest) e in
+    let b = bind_some (number_at a.0) (λ (magic : ℕ × List ℕ).
+    flag_at magic.1 >>= λ query. cond (ltb magic.0 (2 ^ 32)) (Some (made magic.0 query.0, query.1)) None) (info, rest) a.2 in
+    let c = bind_some (flag_at b.0.1) (λ (query : Bool × List ℕ). cond (ltb b.0.0 (2 ^ 32)) (Some (made b.0.0 query.0, query.1)) None) (info, rest) b.2 in
+    let is : VersionInfo × List ℕ = (made b.0.0 c.0.0, c.0.1) in
+    let g = guard_some (ltb b.0.0 (2 ^ 32)) is (info, rest) c.2 in
+    let parts = pair_front (array_found 2 bytes a.0 a.1) (pair_front (reads_number.found a.0 b.0.0 b.0.1 b.1) (reads_flag.found b.0.1 c.0.0 c.0.1 c.1)) in
+    let stands : HasFront (IsClientVersionInfo (made b.0.0 c.0.0)) bytes c.0.1 = record {
+      front = parts.front;
+      joined = parts.joined;
+      is = record { magic_fits = ltb-true _ _ g.0; is_array = parts.is; initiates = refl; unshared = refl };
+    } in
+    subst (λ (p : VersionInfo × List ℕ). HasFront (IsClientVersionInfo p.0) bytes p.1) g.1 stands
+
+client_info_again : (info : VersionInfo) (front rest : List ℕ) → IsClientVersionInfo info front → client_version_info_at (front ++ rest) ≡ Some (info, rest)
+unfolding client_version_info_at
+client_info_again info front rest is =
+    let elements = is.is_array.is_second in
+    let low : ltb info.magic (2 ^ 32) ≡ true = lt-ltb _ _ is.magic_fits in
+    let one : front ++ rest ≡ is.is_array.first ++ (elements.first ++ (elements.second ++ rest)) =
+    pair_parts is.is_array rest ∙ ap (λ (x : List ℕ). is.is_array.first ++ x) (pair_parts elements rest) in
+    let same : Some (info_with info.magic true false info.query, rest) ≡ Some (info, rest) =
+    ap (λ (i : Bool). Some (info_with info.magic i false info.query, rest)) (sym is.initiates)
+    ∙ ap (λ (s : Bool). Some (info_with info.magic info.initiator_only s info.query, rest)) (sym is.unshared) in
+    ap client_version_info_at one
+    ∙ rw (
+      array_again 2 is.is_array.first (elements.first ++ (elements.second ++ rest)) is.is_array.is_first,
+      reads_number.again info.magic elements.first (elements.second ++ rest) elements.is_first,
+      reads_flag.again info.query elements.second rest elements.is_second,
+      low,
+    ) same
+
 whole_is : {X : Type 0} (r : Option (X × List ℕ)) (x : X) → whole r ≡ Some x → r ≡ Some (x, [])
 whole_is None x e = absurd cc
 whole_is {X} (Some read) x e =
@@ -85,9 +122,9 @@ whole_is {X} (Some read) x e =
     let none : read.1 ≡ [] = nil_from_length read.1 (eqb-true _ _ g.0) in
     ap (λ (y : X). Some (y, read.1)) g.1 ∙ ap (λ (y : List ℕ). Some (x, y)) none
 
-known_found : (version : ℕ) (item : List ℕ) (known : VersionInfo) → known_of version item ≡ Some known → IsNodeInfo version known item
+node_found : (version : ℕ) (item : List ℕ) (known : VersionInfo) → known_of version item ≡ Some known → IsNodeInfo version known item
 unfolding known_of
-known_found version item known e =
+node_found version item known e =
     elim (chosen (is_node_version version) (whole (version_info_at item)) None (Some known) e) [
       | inl (own, is) ↦
           let f = info_found item known [] (whole_is (version_info_at item) known is) in
@@ -96,71 +133,96 @@ known_found version item known e =
       | inr (other, is) ↦ absurd cc
     ]
 
-known_again : (version : ℕ) (item : List ℕ) (known : VersionInfo) → IsNodeInfo version known item → known_of version item ≡ Some known
+node_again : (version : ℕ) (item : List ℕ) (known : VersionInfo) → IsNodeInfo version known item → known_of version item ≡ Some known
 unfolding known_of
-known_again version item known (own, is) =
+node_again version item known (own, is) =
     let read : version_info_at item ≡ Some (known, []) = ap version_info_at (sym (append-nil item)) ∙ info_again known item [] is in
     rw (own, read) refl
 
--- what an item is read as
-abbrev pub NodeInfos : ℕ → Info → List ℕ → Type 0
-NodeInfos = IsInfo IsNodeInfo
+client_found : (version : ℕ) (item : List ℕ) (known : VersionInfo) → client_known_of version item ≡ Some known → IsClientInfo version known item
+unfolding client_known_of
+client_found version item known e =
+    elim (chosen (is_client_version version) (whole (client_version_info_at item)) None (Some known) e) [
+      | inl (own, is) ↦
+          let f = client_info_found item known [] (whole_is (client_version_info_at item) known is) in
+          let all : f.front ≡ item = sym (append-nil f.front) ∙ sym f.joined in
+          (own, subst (IsClientVersionInfo known) all f.is)
+      | inr (other, is) ↦ absurd cc
+    ]
 
-understood : (version : ℕ) (item : List ℕ) (read : Option VersionInfo) → known_of version item ≡ read → IsUnderstoodAs IsNodeInfo version (as_info read) item
-understood version item (Some known) e = known_found version item known e
-understood version item None e = λ known is. let read = known_again version item known is in absurd cc
+client_again : (version : ℕ) (item : List ℕ) (known : VersionInfo) → IsClientInfo version known item → client_known_of version item ≡ Some known
+unfolding client_known_of
+client_again version item known (own, is) =
+    let read : client_version_info_at item ≡ Some (known, []) = ap client_version_info_at (sym (append-nil item)) ∙ client_info_again known item [] is in
+    rw (own, read) refl
 
-info_only : (version : ℕ) (info : Info) (item : List ℕ) (read : Option VersionInfo) → known_of version item ≡ read → IsUnderstoodAs IsNodeInfo version info item → as_info read ≡ info
-info_only version (Known known) item read e is = ap as_info (sym e ∙ known_again version item known is)
-info_only version Foreign item (Some known) e not = absurd (not known (known_found version item known e))
-info_only version Foreign item None e not = refl
+-- What an item beside a version is known as is what it is understood as.
+pub record Knows (Understood : ℕ → VersionInfo → List ℕ → Type 0) (known : Knowing) : Type 0 where
+  pub found : (version : ℕ) (item : List ℕ) (info : VersionInfo) → known version item ≡ Some info → Understood version info item
+  pub again : (version : ℕ) (item : List ℕ) (info : VersionInfo) → Understood version info item → known version item ≡ Some info
 
--- ---- tables
+pub knows_node : Knows IsNodeInfo known_of
+knows_node = record { found = node_found; again = node_again }
 
-offer_found : (bytes : List ℕ) (offer : Offer) (rest : List ℕ) → offer_at bytes ≡ Some (offer, rest) → HasFront (IsOffer NodeInfos offer) bytes rest
-unfolding offer_at
-offer_found bytes offer rest e =
-    let made : ℕ → List ℕ → Offer = λ version item. record { version = version; info = info_of version item } in
-    let a = bind_some (number_at bytes) (λ (version : ℕ × List ℕ). item_at version.1 >>= λ item. Some (made version.0 item.0, item.1)) (offer, rest) e in
-    let b = bind_some (item_at a.0.1) (λ (item : List ℕ × List ℕ). Some (made a.0.0 item.0, item.1)) (offer, rest) a.2 in
-    let item = reads_item.found a.0.1 b.0.0 b.0.1 b.1 in
-    let info : HasFront (NodeInfos a.0.0 (info_of a.0.0 b.0.0)) a.0.1 b.0.1 =
-    front_as (λ x is. (is.1, subst (IsUnderstoodAs IsNodeInfo a.0.0 (info_of a.0.0 b.0.0)) (sym is.0) (understood a.0.0 b.0.0 (known_of a.0.0 b.0.0) refl))) item in
-    let is : Offer × List ℕ = (made a.0.0 b.0.0, b.0.1) in
-    subst (λ (p : Offer × List ℕ). HasFront (IsOffer NodeInfos p.0) bytes p.1) (some_is is (offer, rest) b.2)
-    (pair_front (reads_number.found bytes a.0.0 a.0.1 a.1) info)
+pub knows_client : Knows IsClientInfo client_known_of
+knows_client = record { found = client_found; again = client_again }
 
-offer_again : (offer : Offer) (front rest : List ℕ) → IsOffer NodeInfos offer front → offer_at (front ++ rest) ≡ Some (offer, rest)
-unfolding offer_at
-offer_again offer front rest p =
-    let info : info_of offer.version p.second ≡ offer.info = info_only offer.version offer.info p.second (known_of offer.version p.second) refl p.is_second.1 in
-    ap offer_at (pair_parts p rest)
-    ∙ rw (reads_number.again offer.version p.first (p.second ++ rest) p.is_first, reads_item.again p.second p.second rest (refl, p.is_second.0), info) refl
+module _ (Understood : ℕ → VersionInfo → List ℕ → Type 0) (known : Knowing) (knows : Knows Understood known) where
+  understood : (version : ℕ) (item : List ℕ) (read : Option VersionInfo) → known version item ≡ read → IsUnderstoodAs Understood version (as_info read) item
+  understood version item (Some info) e = knows.found version item info e
+  understood version item None e = λ info is. let read = knows.again version item info is in absurd cc
 
-pub reads_offer : Reads (IsOffer NodeInfos) offer_at
-reads_offer = record { found = offer_found; again = offer_again }
+  info_only : (version : ℕ) (info : Info) (item : List ℕ) (read : Option VersionInfo) → known version item ≡ read → IsUnderstoodAs Understood version info item → as_info read ≡ info
+  info_only version (Known info) item read e is = ap as_info (sym e ∙ knows.again version item info is)
+  info_only version Foreign item (Some info) e not = absurd (not info (knows.found version item info e))
+  info_only version Foreign item None e not = refl
 
-table_found : (bytes : List ℕ) (table : List Offer) (rest : List ℕ) → table_at bytes ≡ Some (table, rest) → HasFront (IsTable NodeInfos table) bytes rest
-unfolding table_at
-table_found bytes table rest e =
-    let a = bind_some (definite_at 5 bytes) (λ (count : ℕ × List ℕ). row_at offer_at count.0 count.1 >>= λ offers. cond (rises offers.0) (Some offers) None) (table, rest) e in
-    let b = bind_some (row_at offer_at a.0.0 a.0.1) (λ (offers : List Offer × List ℕ). cond (rises offers.0) (Some offers) None) (table, rest) a.2 in
-    let g = guard_some (rises b.0.0) b.0 (table, rest) b.2 in
-    let row = row_found (IsOffer NodeInfos) offer_at reads_offer a.0.0 a.0.1 b.0.0 b.0.1 b.1 in
-    let head = subst (λ (n : ℕ). HasFront (IsDefinite 5 n) bytes a.0.1) (sym row.0) ((reads_definite 5).found bytes a.0.0 a.0.1 a.1) in
-    let map = pair_front head row.1 in
-    let stands : HasFront (IsTable NodeInfos b.0.0) bytes b.0.1 = record { front = map.front; joined = map.joined; is = record { rising = g.0; is_map = map.is } } in
-    subst (λ (p : List Offer × List ℕ). HasFront (IsTable NodeInfos p.0) bytes p.1) g.1 stands
+  -- ---- tables
 
-table_again : (table : List Offer) (front rest : List ℕ) → IsTable NodeInfos table front → table_at (front ++ rest) ≡ Some (table, rest)
-unfolding table_at
-table_again table front rest is =
-    let p = is.is_map in
-    ap table_at (pair_parts p rest)
-    ∙ rw ((reads_definite 5).again (length table) p.first (p.second ++ rest) p.is_first, row_again (IsOffer NodeInfos) offer_at reads_offer table p.second rest p.is_second, is.rising) refl
+  offer_found : (bytes : List ℕ) (offer : Offer) (rest : List ℕ) → offer_at known bytes ≡ Some (offer, rest) → HasFront (IsOffer (IsInfo Understood) offer) bytes rest
+  unfolding offer_at
+  offer_found bytes offer rest e =
+      let made : ℕ → List ℕ → Offer = λ version item. record { version = version; info = info_of known version item } in
+      let a = bind_some (number_at bytes) (λ (version : ℕ × List ℕ). item_at version.1 >>= λ item. Some (made version.0 item.0, item.1)) (offer, rest) e in
+      let b = bind_some (item_at a.0.1) (λ (item : List ℕ × List ℕ). Some (made a.0.0 item.0, item.1)) (offer, rest) a.2 in
+      let item = reads_item.found a.0.1 b.0.0 b.0.1 b.1 in
+      let info : HasFront (IsInfo Understood a.0.0 (info_of known a.0.0 b.0.0)) a.0.1 b.0.1 =
+      front_as (λ x is. (is.1, subst (IsUnderstoodAs Understood a.0.0 (info_of known a.0.0 b.0.0)) (sym is.0) (understood a.0.0 b.0.0 (known a.0.0 b.0.0) refl))) item in
+      let is : Offer × List ℕ = (made a.0.0 b.0.0, b.0.1) in
+      subst (λ (p : Offer × List ℕ). HasFront (IsOffer (IsInfo Understood) p.0) bytes p.1) (some_is is (offer, rest) b.2)
+      (pair_front (reads_number.found bytes a.0.0 a.0.1 a.1) info)
 
-pub reads_table : Reads (IsTable NodeInfos) table_at
-reads_table = record { found = table_found; again = table_again }
+  offer_again : (offer : Offer) (front rest : List ℕ) → IsOffer (IsInfo Understood) offer front → offer_at known (front ++ rest) ≡ Some (offer, rest)
+  unfolding offer_at
+  offer_again offer front rest p =
+      let info : info_of known offer.version p.second ≡ offer.info = info_only offer.version offer.info p.second (known offer.version p.second) refl p.is_second.1 in
+      ap (offer_at known) (pair_parts p rest)
+      ∙ rw (reads_number.again offer.version p.first (p.second ++ rest) p.is_first, reads_item.again p.second p.second rest (refl, p.is_second.0), info) refl
+
+  pub reads_offer : Reads (IsOffer (IsInfo Understood)) (offer_at known)
+  reads_offer = record { found = offer_found; again = offer_again }
+
+  table_found : (bytes : List ℕ) (table : List Offer) (rest : List ℕ) → table_at known bytes ≡ Some (table, rest) → HasFront (IsTable (IsInfo Understood) table) bytes rest
+  unfolding table_at
+  table_found bytes table rest e =
+      let a = bind_some (definite_at 5 bytes) (λ (count : ℕ × List ℕ). row_at (offer_at known) count.0 count.1 >>= λ offers. cond (rises offers.0) (Some offers) None) (table, rest) e in
+      let b = bind_some (row_at (offer_at known) a.0.0 a.0.1) (λ (offers : List Offer × List ℕ). cond (rises offers.0) (Some offers) None) (table, rest) a.2 in
+      let g = guard_some (rises b.0.0) b.0 (table, rest) b.2 in
+      let row = row_found (IsOffer (IsInfo Understood)) (offer_at known) reads_offer a.0.0 a.0.1 b.0.0 b.0.1 b.1 in
+      let head = subst (λ (n : ℕ). HasFront (IsDefinite 5 n) bytes a.0.1) (sym row.0) ((reads_definite 5).found bytes a.0.0 a.0.1 a.1) in
+      let map = pair_front head row.1 in
+      let stands : HasFront (IsTable (IsInfo Understood) b.0.0) bytes b.0.1 = record { front = map.front; joined = map.joined; is = record { rising = g.0; is_map = map.is } } in
+      subst (λ (p : List Offer × List ℕ). HasFront (IsTable (IsInfo Understood) p.0) bytes p.1) g.1 stands
+
+  table_again : (table : List Offer) (front rest : List ℕ) → IsTable (IsInfo Understood) table front → table_at known (front ++ rest) ≡ Some (table, rest)
+  unfolding table_at
+  table_again table front rest is =
+      let p = is.is_map in
+      ap (table_at known) (pair_parts p rest)
+      ∙ rw ((reads_definite 5).again (length table) p.first (p.second ++ rest) p.is_first, row_again (IsOffer (IsInfo Understood)) (offer_at known) reads_offer table p.second rest p.is_second, is.rising) refl
+
+  pub reads_table : Reads (IsTable (IsInfo Understood)) (table_at known)
+  reads_table = record { found = table_found; again = table_again }
 
 -- ---- reasons
 
@@ -293,62 +355,63 @@ reads_reason = record { found = reason_found; again = reason_again }
 
 -- ---- messages
 
-message_behind_found : (bytes mid : List ℕ) (tag : ℕ × ℕ) (message : Message) (rest : List ℕ) → HasFront (IsTag tag) bytes mid → message_behind tag mid ≡ Some (message, rest)
-    → HasFront (IsMessage NodeInfos message) bytes rest
-message_behind_found bytes mid tag message rest t e =
-    let fourth : Option (Message × List ℕ) = cond (eqb tag.0 2 && eqb tag.1 3) (query_reply_at mid) None in
-    let third : Option (Message × List ℕ) = cond (eqb tag.0 2 && eqb tag.1 2) (refuse_at mid) fourth in
-    let second : Option (Message × List ℕ) = cond (eqb tag.0 3 && eqb tag.1 1) (accept_at mid) third in
-    elim (chosen (eqb tag.0 2 && eqb tag.1 0) (propose_at mid) second (Some (message, rest)) e) [
-      | inl (is, read) ↦
-          let b = bind_some (table_at mid) (λ (table : List Offer × List ℕ). Some (Propose table.0, table.1)) (message, rest) read in
-          let made : Message × List ℕ = (Propose b.0.0, b.0.1) in
-          let t' = subst (λ (p : ℕ × ℕ). HasFront (IsTag p) bytes mid) (tag_is tag 2 0 is) t in
-          subst (λ (p : Message × List ℕ). HasFront (IsMessage NodeInfos p.0) bytes p.1) (some_is made (message, rest) b.2)
-          (tagged_front 2 0 t' (reads_table.found mid b.0.0 b.0.1 b.1))
-      | inr (not_first, e2) ↦ elim (chosen (eqb tag.0 3 && eqb tag.1 1) (accept_at mid) third (Some (message, rest)) e2) [
+module _ (Understood : ℕ → VersionInfo → List ℕ → Type 0) (known : Knowing) (knows : Knows Understood known) where
+  message_behind_found : (bytes mid : List ℕ) (tag : ℕ × ℕ) (message : Message) (rest : List ℕ) → HasFront (IsTag tag) bytes mid → message_behind known tag mid ≡ Some (message, rest)
+      → HasFront (IsMessage (IsInfo Understood) message) bytes rest
+  message_behind_found bytes mid tag message rest t e =
+      let fourth : Option (Message × List ℕ) = cond (eqb tag.0 2 && eqb tag.1 3) (query_reply_at known mid) None in
+      let third : Option (Message × List ℕ) = cond (eqb tag.0 2 && eqb tag.1 2) (refuse_at mid) fourth in
+      let second : Option (Message × List ℕ) = cond (eqb tag.0 3 && eqb tag.1 1) (accept_at known mid) third in
+      elim (chosen (eqb tag.0 2 && eqb tag.1 0) (propose_at known mid) second (Some (message, rest)) e) [
         | inl (is, read) ↦
-            let b = bind_some (offer_at mid) (λ (offer : Offer × List ℕ). Some (Accept offer.0.version offer.0.info, offer.1)) (message, rest) read in
-            let made : Message × List ℕ = (Accept b.0.0.version b.0.0.info, b.0.1) in
-            let t' = subst (λ (p : ℕ × ℕ). HasFront (IsTag p) bytes mid) (tag_is tag 3 1 is) t in
-            subst (λ (p : Message × List ℕ). HasFront (IsMessage NodeInfos p.0) bytes p.1) (some_is made (message, rest) b.2)
-            (tagged_front 3 1 t' (reads_offer.found mid b.0.0 b.0.1 b.1))
-        | inr (not_second, e3) ↦ elim (chosen (eqb tag.0 2 && eqb tag.1 2) (refuse_at mid) fourth (Some (message, rest)) e3) [
+            let b = bind_some (table_at known mid) (λ (table : List Offer × List ℕ). Some (Propose table.0, table.1)) (message, rest) read in
+            let made : Message × List ℕ = (Propose b.0.0, b.0.1) in
+            let t' = subst (λ (p : ℕ × ℕ). HasFront (IsTag p) bytes mid) (tag_is tag 2 0 is) t in
+            subst (λ (p : Message × List ℕ). HasFront (IsMessage (IsInfo Understood) p.0) bytes p.1) (some_is made (message, rest) b.2)
+            (tagged_front 2 0 t' ((reads_table Understood known knows).found mid b.0.0 b.0.1 b.1))
+        | inr (not_first, e2) ↦ elim (chosen (eqb tag.0 3 && eqb tag.1 1) (accept_at known mid) third (Some (message, rest)) e2) [
           | inl (is, read) ↦
-              let b = bind_some (reason_at mid) (λ (reason : Reason × List ℕ). Some (Refuse reason.0, reason.1)) (message, rest) read in
-              let made : Message × List ℕ = (Refuse b.0.0, b.0.1) in
-              let t' = subst (λ (p : ℕ × ℕ). HasFront (IsTag p) bytes mid) (tag_is tag 2 2 is) t in
-              subst (λ (p : Message × List ℕ). HasFront (IsMessage NodeInfos p.0) bytes p.1) (some_is made (message, rest) b.2)
-              (tagged_front 2 2 t' (reads_reason.found mid b.0.0 b.0.1 b.1))
-          | inr (not_third, e4) ↦ elim (chosen (eqb tag.0 2 && eqb tag.1 3) (query_reply_at mid) None (Some (message, rest)) e4) [
+              let b = bind_some (offer_at known mid) (λ (offer : Offer × List ℕ). Some (Accept offer.0.version offer.0.info, offer.1)) (message, rest) read in
+              let made : Message × List ℕ = (Accept b.0.0.version b.0.0.info, b.0.1) in
+              let t' = subst (λ (p : ℕ × ℕ). HasFront (IsTag p) bytes mid) (tag_is tag 3 1 is) t in
+              subst (λ (p : Message × List ℕ). HasFront (IsMessage (IsInfo Understood) p.0) bytes p.1) (some_is made (message, rest) b.2)
+              (tagged_front 3 1 t' ((reads_offer Understood known knows).found mid b.0.0 b.0.1 b.1))
+          | inr (not_second, e3) ↦ elim (chosen (eqb tag.0 2 && eqb tag.1 2) (refuse_at mid) fourth (Some (message, rest)) e3) [
             | inl (is, read) ↦
-                let b = bind_some (table_at mid) (λ (table : List Offer × List ℕ). Some (QueryReply table.0, table.1)) (message, rest) read in
-                let made : Message × List ℕ = (QueryReply b.0.0, b.0.1) in
-                let t' = subst (λ (p : ℕ × ℕ). HasFront (IsTag p) bytes mid) (tag_is tag 2 3 is) t in
-                subst (λ (p : Message × List ℕ). HasFront (IsMessage NodeInfos p.0) bytes p.1) (some_is made (message, rest) b.2)
-                (tagged_front 2 3 t' (reads_table.found mid b.0.0 b.0.1 b.1))
-            | inr (none, never) ↦ absurd cc
+                let b = bind_some (reason_at mid) (λ (reason : Reason × List ℕ). Some (Refuse reason.0, reason.1)) (message, rest) read in
+                let made : Message × List ℕ = (Refuse b.0.0, b.0.1) in
+                let t' = subst (λ (p : ℕ × ℕ). HasFront (IsTag p) bytes mid) (tag_is tag 2 2 is) t in
+                subst (λ (p : Message × List ℕ). HasFront (IsMessage (IsInfo Understood) p.0) bytes p.1) (some_is made (message, rest) b.2)
+                (tagged_front 2 2 t' (reads_reason.found mid b.0.0 b.0.1 b.1))
+            | inr (not_third, e4) ↦ elim (chosen (eqb tag.0 2 && eqb tag.1 3) (query_reply_at known mid) None (Some (message, rest)) e4) [
+              | inl (is, read) ↦
+                  let b = bind_some (table_at known mid) (λ (table : List Offer × List ℕ). Some (QueryReply table.0, table.1)) (message, rest) read in
+                  let made : Message × List ℕ = (QueryReply b.0.0, b.0.1) in
+                  let t' = subst (λ (p : ℕ × ℕ). HasFront (IsTag p) bytes mid) (tag_is tag 2 3 is) t in
+                  subst (λ (p : Message × List ℕ). HasFront (IsMessage (IsInfo Understood) p.0) bytes p.1) (some_is made (message, rest) b.2)
+                  (tagged_front 2 3 t' ((reads_table Understood known knows).found mid b.0.0 b.0.1 b.1))
+              | inr (none, never) ↦ absurd cc
+            ]
           ]
         ]
       ]
-    ]
 
-message_found : (bytes : List ℕ) (message : Message) (rest : List ℕ) → message_at bytes ≡ Some (message, rest) → HasFront (IsMessage NodeInfos message) bytes rest
-unfolding message_at
-message_found bytes message rest e =
-    let a = bind_some (tag_at bytes) (λ (tag : (ℕ × ℕ) × List ℕ). message_behind tag.0 tag.1) (message, rest) e in
-    message_behind_found bytes a.0.1 a.0.0 message rest (reads_tag.found bytes a.0.0 a.0.1 a.1) a.2
+  message_found : (bytes : List ℕ) (message : Message) (rest : List ℕ) → message_at known bytes ≡ Some (message, rest) → HasFront (IsMessage (IsInfo Understood) message) bytes rest
+  unfolding message_at
+  message_found bytes message rest e =
+      let a = bind_some (tag_at bytes) (λ (tag : (ℕ × ℕ) × List ℕ). message_behind known tag.0 tag.1) (message, rest) e in
+      message_behind_found bytes a.0.1 a.0.0 message rest (reads_tag.found bytes a.0.0 a.0.1 a.1) a.2
 
-message_again : (message : Message) (front rest : List ℕ) → IsMessage NodeInfos message front → message_at (front ++ rest) ≡ Some (message, rest)
-unfolding message_at
-message_again (Propose table) front rest p =
-    rw (tagged_again 2 0 front rest p, reads_table.again table p.is_second.second rest p.is_second.is_second) refl
-message_again (Accept version info) front rest p =
-    rw (tagged_again 3 1 front rest p, reads_offer.again (record { version = version; info = info }) p.is_second.second rest p.is_second.is_second) refl
-message_again (Refuse reason) front rest p =
-    rw (tagged_again 2 2 front rest p, reads_reason.again reason p.is_second.second rest p.is_second.is_second) refl
-message_again (QueryReply table) front rest p =
-    rw (tagged_again 2 3 front rest p, reads_table.again table p.is_second.second rest p.is_second.is_second) refl
+  message_again : (message : Message) (front rest : List ℕ) → IsMessage (IsInfo Understood) message front → message_at known (front ++ rest) ≡ Some (message, rest)
+  unfolding message_at
+  message_again (Propose table) front rest p =
+      rw (tagged_again 2 0 front rest p, (reads_table Understood known knows).again table p.is_second.second rest p.is_second.is_second) refl
+  message_again (Accept version info) front rest p =
+      rw (tagged_again 3 1 front rest p, (reads_offer Understood known knows).again (record { version = version; info = info }) p.is_second.second rest p.is_second.is_second) refl
+  message_again (Refuse reason) front rest p =
+      rw (tagged_again 2 2 front rest p, reads_reason.again reason p.is_second.second rest p.is_second.is_second) refl
+  message_again (QueryReply table) front rest p =
+      rw (tagged_again 2 3 front rest p, (reads_table Understood known knows).again table p.is_second.second rest p.is_second.is_second) refl
 
-pub reads_message : Reads (IsMessage NodeInfos) message_at
-reads_message = record { found = message_found; again = message_again }
+  pub reads_message : Reads (IsMessage (IsInfo Understood)) (message_at known)
+  reads_message = record { found = message_found; again = message_again }

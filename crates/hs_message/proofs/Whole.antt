@@ -1,5 +1,5 @@
 -- The message that is read off bytes is the one that they spell, all of them.
-use Rattle.std.proofs.Common.{◌≡◌, ℕ, true, List, [], ◌++◌, length, Some, None, Result, Ok, Err, refl, sym, ap, subst, ◌∙◌, inl, inr, arith}
+use Rattle.std.proofs.Common.{◌≡◌, ℕ, true, List, [], ◌++◌, length, Option, Some, None, Result, Ok, Err, refl, sym, ap, subst, ◌∙◌, inl, inr, arith}
 use Rattle.std.specs.Prelude.{IfOk}
 use Rattle.std.proofs.lemmas.Bool.{eqb-true, eq-eqb}
 use Rattle.std.proofs.lemmas.List.{append-nil, take_all}
@@ -13,11 +13,13 @@ use Rattle.cbor_items.proofs.Fronts.{scan_found, scan_again}
 use Rattle.hs_message.specs.declared.message.Message.{Message}
 use Rattle.hs_message.specs.declared.refusal.ReadRefusal.{ReadRefusal}
 use Rattle.hs_message.specs.declared.refusal.ReadRefusal.TheVariants.{NotAMessage}
-use Rattle.hs_message.specs.Spelling.{IsMessage, NodeSpells}
-use Rattle.hs_message.specs.Reading.{Gives, message_at, is_all_of, without_rest, message_of}
-use Rattle.hs_message.specs.Law.{SpellOne, AreReadOff}
+use Rattle.hs_message.specs.declared.info.VersionInfo.{VersionInfo}
+use Rattle.hs_message.specs.Info.{IsInfo, IsNodeInfo, IsClientInfo}
+use Rattle.hs_message.specs.Spelling.{IsMessage, Spells, NodeSpells, ClientSpells}
+use Rattle.hs_message.specs.Reading.{Gives, Knowing, known_of, client_known_of, message_at, is_all_of, without_rest, message_with, message_of, client_message_of}
+use Rattle.hs_message.specs.Law.{SpellOne, AreReadOff, ClientsSpellOne, ClientsAreReadOff, AreReadOffIn}
 use Rattle.hs_message.proofs.Fronts.{bind_some, some_is}
-use Rattle.hs_message.proofs.Messages.{NodeInfos, reads_message}
+use Rattle.hs_message.proofs.Messages.{Knows, knows_node, knows_client, reads_message}
 use Rattle.hs_message.proofs.Items.{message_is_item}
 
 all_is : (bytes : List ℕ) (answer : Scan) → is_all_of bytes answer ≡ true → answer ≡ Whole (length bytes)
@@ -31,27 +33,48 @@ whole_item bytes e =
     let f = scan_found bytes (length bytes) (all_is bytes (scan_of bytes) e) in
     subst (IsItem level_limit) (take_all (length bytes) bytes (omega arith)) f.1
 
+module _ (Understood : ℕ → VersionInfo → List ℕ → Type 0) (known : Knowing) (knows : Knows Understood known) where
+  whole_found : (bytes : List ℕ) (message : Message) → message_with known bytes ≡ Some message → Spells Understood message bytes
+  unfolding message_with
+  whole_found bytes message e =
+      let Infos = IsInfo Understood in
+      elim (chosen (is_all_of bytes (scan_of bytes)) (without_rest (message_at known bytes)) None (Some message) e) [
+        | inl (all, read) ↦
+            let item = whole_item bytes all in
+            let b = bind_some (message_at known bytes) (λ (x : Message × List ℕ). Some x.0) message read in
+            let f = (reads_message Understood known knows).found bytes b.0.0 b.0.1 b.1 in
+            let short : IsItem 66 f.front = message_is_item Infos 63 (λ version info item is. is.0) b.0.0 f.front f.is in
+            let none : b.0.1 ≡ [] = prefix_is_whole 66 64 f.front b.0.1 short (subst (IsItem level_limit) f.joined item) in
+            let front : f.front ≡ bytes = sym (f.joined ∙ ap (λ (x : List ℕ). f.front ++ x) none ∙ append-nil f.front) in
+            record { is_item = item; is_message = subst (λ (m : Message). IsMessage Infos m bytes) (some_is b.0.0 message b.2) (subst (IsMessage Infos b.0.0) front f.is) }
+        | inr (other, read) ↦ absurd cc
+      ]
+
+  whole_again : (bytes : List ℕ) (message : Message) → Spells Understood message bytes → message_with known bytes ≡ Some message
+  unfolding message_with
+  whole_again bytes message is =
+      let scanned : scan_of bytes ≡ Whole (length bytes) = ap scan_of (sym (append-nil bytes)) ∙ scan_again bytes [] is.is_item in
+      let read : message_at known bytes ≡ Some (message, []) =
+      ap (message_at known) (sym (append-nil bytes)) ∙ (reads_message Understood known knows).again message bytes [] is.is_message in
+      rw (scanned, eq-eqb (length bytes) (length bytes) refl, read) refl
+
+-- ---- in each handshake
+
 pub message_found : (bytes : List ℕ) (message : Message) → message_of bytes ≡ Some message → NodeSpells message bytes
 unfolding message_of
-message_found bytes message e =
-    elim (chosen (is_all_of bytes (scan_of bytes)) (without_rest (message_at bytes)) None (Some message) e) [
-      | inl (all, read) ↦
-          let item = whole_item bytes all in
-          let b = bind_some (message_at bytes) (λ (x : Message × List ℕ). Some x.0) message read in
-          let f = reads_message.found bytes b.0.0 b.0.1 b.1 in
-          let short : IsItem 66 f.front = message_is_item NodeInfos 63 (λ version info item is. is.0) b.0.0 f.front f.is in
-          let none : b.0.1 ≡ [] = prefix_is_whole 66 64 f.front b.0.1 short (subst (IsItem level_limit) f.joined item) in
-          let front : f.front ≡ bytes = sym (f.joined ∙ ap (λ (x : List ℕ). f.front ++ x) none ∙ append-nil f.front) in
-          record { is_item = item; is_message = subst (λ (m : Message). IsMessage NodeInfos m bytes) (some_is b.0.0 message b.2) (subst (IsMessage NodeInfos b.0.0) front f.is) }
-      | inr (other, read) ↦ absurd cc
-    ]
+message_found bytes message e = whole_found IsNodeInfo known_of knows_node bytes message e
 
 pub message_again : (bytes : List ℕ) (message : Message) → NodeSpells message bytes → message_of bytes ≡ Some message
 unfolding message_of
-message_again bytes message is =
-    let scanned : scan_of bytes ≡ Whole (length bytes) = ap scan_of (sym (append-nil bytes)) ∙ scan_again bytes [] is.is_item in
-    let read : message_at bytes ≡ Some (message, []) = ap message_at (sym (append-nil bytes)) ∙ reads_message.again message bytes [] is.is_message in
-    rw (scanned, eq-eqb (length bytes) (length bytes) refl, read) refl
+message_again bytes message is = whole_again IsNodeInfo known_of knows_node bytes message is
+
+pub client_message_found : (bytes : List ℕ) (message : Message) → client_message_of bytes ≡ Some message → ClientSpells message bytes
+unfolding client_message_of
+client_message_found bytes message e = whole_found IsClientInfo client_known_of knows_client bytes message e
+
+pub client_message_again : (bytes : List ℕ) (message : Message) → ClientSpells message bytes → client_message_of bytes ≡ Some message
+unfolding client_message_of
+client_message_again bytes message is = whole_again IsClientInfo client_known_of knows_client bytes message is
 
 pub spell_one : SpellOne
 spell_one bytes one two first second = some_is one two (sym (message_again bytes one first) ∙ message_again bytes two second)
@@ -59,15 +82,22 @@ spell_one bytes one two first second = some_is one two (sym (message_again bytes
 pub are_read_off : AreReadOff
 are_read_off bytes message = (message_found bytes message, message_again bytes message)
 
+pub clients_spell_one : ClientsSpellOne
+clients_spell_one bytes one two first second = some_is one two (sym (client_message_again bytes one first) ∙ client_message_again bytes two second)
+
+pub clients_are_read_off : ClientsAreReadOff
+clients_are_read_off bytes message = (client_message_found bytes message, client_message_again bytes message)
+
 -- ---- what is answered
 
-pub is_found : (bytes : List ℕ) (answer : Result Message ReadRefusal) → Gives (λ message. message) answer (message_of bytes) → IfOk answer (λ message. NodeSpells message bytes)
-is_found bytes (Ok message) given = message_found bytes message given
-is_found bytes (Err refusal) given = tt
+module _ (Spelled : Message → List ℕ → Type 0) (read : List ℕ → Option Message) (read_off : AreReadOffIn Spelled read) where
+  pub is_found : (bytes : List ℕ) (answer : Result Message ReadRefusal) → Gives (λ message. message) answer (read bytes) → IfOk answer (λ message. Spelled message bytes)
+  is_found bytes (Ok message) given = (read_off bytes message).0 given
+  is_found bytes (Err refusal) given = tt
 
-pub is_none : (bytes : List ℕ) (answer : Result Message ReadRefusal) → Gives (λ message. message) answer (message_of bytes) → answer ≡ Err NotAMessage
-    → (message : Message) → NodeSpells message bytes → ⊥
-is_none bytes answer given is message spelled =
-    let none : message_of bytes ≡ None = subst (λ (a : Result Message ReadRefusal). Gives (λ message. message) a (message_of bytes)) is given in
-    let some = message_again bytes message spelled in
-    absurd cc
+  pub is_none : (bytes : List ℕ) (answer : Result Message ReadRefusal) → Gives (λ message. message) answer (read bytes) → answer ≡ Err NotAMessage
+      → (message : Message) → Spelled message bytes → ⊥
+  is_none bytes answer given is message spelled =
+      let none : read bytes ≡ None = subst (λ (a : Result Message ReadRefusal). Gives (λ message. message) a (read bytes)) is given in
+      let some = (read_off bytes message).1 spelled in
+      absurd cc

@@ -1,6 +1,5 @@
 -- What is written spells the message, and is read again.
-use Rattle.std.proofs.Common.{ℕ, ◌<◌, ◌^◌, Bool, true, false, cond, List, [], ◌∷◌, ◌++◌, length, refl, arith, inl, lit<}
-use Rattle.std.specs.Prelude.{IsTrue}
+use Rattle.std.proofs.Common.{◌≡◌, ℕ, ◌<◌, ◌^◌, Bool, true, false, cond, List, [], ◌∷◌, ◌++◌, length, refl, arith, inl, lit<}
 use Rattle.std.specs.List.{flat_map, AllByRecursion}
 use Rattle.std.proofs.lemmas.List.Concat.{flat_map-cons}
 use Rattle.cbor_items.specs.Head.{shortest_head, written_head}
@@ -17,11 +16,11 @@ use Rattle.hs_message.specs.declared.message.Message.TheVariants.{Propose, Accep
 use Rattle.hs_message.specs.declared.message.Reason.{Reason}
 use Rattle.hs_message.specs.declared.message.Reason.TheVariants.{NoCommon, NotDecoded, Declined}
 use Rattle.hs_message.specs.Parts.{IsDefinite, IsNumber, IsText, IsListOf}
-use Rattle.hs_message.specs.Info.{IsInfo, is_node_version, IsVersionInfo, IsNodeInfo}
-use Rattle.hs_message.specs.Spelling.{IsOffer, IsTable, IsReason, IsMessage}
-use Rattle.hs_message.specs.Canonical.{number_spelling, text_spelling, flag_spelling, array_spelling, info_spelling, offer_spelling, table_spelling, reason_spelling, message_spelling, version_info_spelling, node_spelling, IsOwn, IsOwnTable, CanWrite}
-use Rattle.hs_message.specs.Law.{FitsInfo, FitsTable, FitsReason, Fits, AreReadAgain}
-use Rattle.hs_message.proofs.Items.{version_info_is_item, message_is_item}
+use Rattle.hs_message.specs.Info.{IsInfo, IsVersionInfo, IsNodeInfo, IsClientVersionInfo, IsClientInfo}
+use Rattle.hs_message.specs.Spelling.{IsOffer, IsTable, IsReason, IsMessage, Spells}
+use Rattle.hs_message.specs.Canonical.{number_spelling, text_spelling, flag_spelling, array_spelling, info_spelling, offer_spelling, table_spelling, reason_spelling, message_spelling, version_info_spelling, node_spelling, client_info_spelling, client_spelling, IsOwnBy, IsOwnTableBy, CanWriteBy, IsNodeOwn, IsClientOwn}
+use Rattle.hs_message.specs.Law.{FitsInfo, FitsTable, FitsReason, Fits, AreReadAgainIn, AreReadAgain, ClientsAreReadAgain}
+use Rattle.hs_message.proofs.Items.{version_info_is_item, client_version_info_is_item, message_is_item}
 
 -- ---- the parts
 
@@ -90,65 +89,88 @@ reason_is (Declined version text) fits =
 
 -- ---- messages
 
--- what an offer is that can be written
-abbrev IsGood : Offer → Type 0
-IsGood offer = (offer.version < 2 ^ 64) × FitsInfo offer.info × IsOwn offer.version offer.info
+module _ (Own : ℕ → VersionInfo → Type 0) (spelled : VersionInfo → List ℕ) (Infos : ℕ → Info → List ℕ → Type 0)
+    (known_is : (version : ℕ) (known : VersionInfo) → Own version known → known.magic < 2 ^ 32 → Infos version (Known known) (spelled known)) where
+  -- what an offer is that can be written
+  abbrev IsGood : Offer → Type 0
+  IsGood offer = (offer.version < 2 ^ 64) × FitsInfo offer.info × IsOwnBy Own offer.version offer.info
 
-module _ (Infos : ℕ → Info → List ℕ → Type 0) (known_is : (version : ℕ) (known : VersionInfo) → IsTrue (is_node_version version) → known.magic < 2 ^ 32
-    → Infos version (Known known) (version_info_spelling known)) where
-  info_is : (version : ℕ) (info : Info) → FitsInfo info → IsOwn version info → Infos version info (info_spelling version_info_spelling info)
+  info_is : (version : ℕ) (info : Info) → FitsInfo info → IsOwnBy Own version info → Infos version info (info_spelling spelled info)
   info_is version (Known known) fits own = known_is version known own fits
   info_is version Foreign fits never = absurd never
 
-  offer_is : (offer : Offer) → IsGood offer → IsOffer Infos offer (offer_spelling version_info_spelling offer)
-  offer_is offer good = pair_is (number_spelling offer.version) (info_spelling version_info_spelling offer.info)
+  offer_is : (offer : Offer) → IsGood offer → IsOffer Infos offer (offer_spelling spelled offer)
+  offer_is offer good = pair_is (number_spelling offer.version) (info_spelling spelled offer.info)
       (number_is offer.version good.0) (info_is offer.version offer.info good.1 good.2)
 
-  good_offers : (table : List Offer) → AllByRecursion (λ offer. (offer.version < 2 ^ 64) × FitsInfo offer.info) table → AllByRecursion (λ offer. IsOwn offer.version offer.info) table
+  good_offers : (table : List Offer) → AllByRecursion (λ offer. (offer.version < 2 ^ 64) × FitsInfo offer.info) table → AllByRecursion (λ offer. IsOwnBy Own offer.version offer.info) table
       → AllByRecursion IsGood table
   good_offers [] fits own = tt
   good_offers (offer ∷ table) fits own = ((fits.0.0, fits.0.1, own.0), good_offers table fits.1 own.1)
 
-  table_is : (table : List Offer) → FitsTable table → IsOwnTable table → IsTable Infos table (table_spelling version_info_spelling table)
+  table_is : (table : List Offer) → FitsTable table → IsOwnTableBy Own table → IsTable Infos table (table_spelling spelled table)
   table_is table fits own = record {
     rising = own.1;
-    is_map = pair_is (shortest_head 5 (length table)) (flat_map (offer_spelling version_info_spelling) table) (definite_is 5 (length table) (lit< tt) fits.0)
-        (list_is (IsOffer Infos) (offer_spelling version_info_spelling) IsGood table offer_is (good_offers table fits.1 own.0));
+    is_map = pair_is (shortest_head 5 (length table)) (flat_map (offer_spelling spelled) table) (definite_is 5 (length table) (lit< tt) fits.0)
+        (list_is (IsOffer Infos) (offer_spelling spelled) IsGood table offer_is (good_offers table fits.1 own.0));
   }
 
-  pub message_is : (message : Message) → Fits message → CanWrite message → IsMessage Infos message (message_spelling version_info_spelling message)
+  pub message_is : (message : Message) → Fits message → CanWriteBy Own message → IsMessage Infos message (message_spelling spelled message)
   message_is (Propose table) fits can =
-      pair_is (shortest_head 4 2) (number_spelling 0 ++ table_spelling version_info_spelling table) (definite_is 4 2 (lit< tt) (lit< tt))
-      (pair_is (number_spelling 0) (table_spelling version_info_spelling table) (number_is 0 (lit< tt)) (table_is table fits can))
+      pair_is (shortest_head 4 2) (number_spelling 0 ++ table_spelling spelled table) (definite_is 4 2 (lit< tt) (lit< tt))
+      (pair_is (number_spelling 0) (table_spelling spelled table) (number_is 0 (lit< tt)) (table_is table fits can))
   message_is (Accept version info) fits can =
-      pair_is (shortest_head 4 3) (number_spelling 1 ++ (number_spelling version ++ info_spelling version_info_spelling info)) (definite_is 4 3 (lit< tt) (lit< tt))
-      (pair_is (number_spelling 1) (number_spelling version ++ info_spelling version_info_spelling info) (number_is 1 (lit< tt))
-      (pair_is (number_spelling version) (info_spelling version_info_spelling info) (number_is version fits.0) (info_is version info fits.1 can)))
+      pair_is (shortest_head 4 3) (number_spelling 1 ++ (number_spelling version ++ info_spelling spelled info)) (definite_is 4 3 (lit< tt) (lit< tt))
+      (pair_is (number_spelling 1) (number_spelling version ++ info_spelling spelled info) (number_is 1 (lit< tt))
+      (pair_is (number_spelling version) (info_spelling spelled info) (number_is version fits.0) (info_is version info fits.1 can)))
   message_is (Refuse reason) fits can =
       pair_is (shortest_head 4 2) (number_spelling 2 ++ reason_spelling reason) (definite_is 4 2 (lit< tt) (lit< tt))
       (pair_is (number_spelling 2) (reason_spelling reason) (number_is 2 (lit< tt)) (reason_is reason fits))
   message_is (QueryReply table) fits can =
-      pair_is (shortest_head 4 2) (number_spelling 3 ++ table_spelling version_info_spelling table) (definite_is 4 2 (lit< tt) (lit< tt))
-      (pair_is (number_spelling 3) (table_spelling version_info_spelling table) (number_is 3 (lit< tt)) (table_is table fits can))
+      pair_is (shortest_head 4 2) (number_spelling 3 ++ table_spelling spelled table) (definite_is 4 2 (lit< tt) (lit< tt))
+      (pair_is (number_spelling 3) (table_spelling spelled table) (number_is 3 (lit< tt)) (table_is table fits can))
 
--- a message of known infos has three levels at most
-written_is_item : (message : Message) → Fits message → CanWrite message → IsItem 64 (message_spelling version_info_spelling message)
-written_is_item message fits can =
-    let Infos : ℕ → Info → List ℕ → Type 0 = λ version info bytes. IsItem 1 bytes in
-    let is = message_is Infos (λ version known own magic. version_info_is_item 0 known (version_info_spelling known) (version_info_is known magic)) message fits can in
-    wider_by 61 3 64 (message_spelling version_info_spelling message) refl
-    (message_is_item Infos 0 (λ version info bytes item. item) message (message_spelling version_info_spelling message) is)
+module _ (Own : ℕ → VersionInfo → Type 0) (spelled : VersionInfo → List ℕ) (Understood : ℕ → VersionInfo → List ℕ → Type 0)
+    (understood : (version : ℕ) (known : VersionInfo) → Own version known → known.magic < 2 ^ 32 → Understood version known (spelled known))
+    (is_flat : (version : ℕ) (known : VersionInfo) → Own version known → known.magic < 2 ^ 32 → IsItem 1 (spelled known)) where
+  -- a message of known infos has three levels at most
+  written_is_item : (message : Message) → Fits message → CanWriteBy Own message → IsItem 64 (message_spelling spelled message)
+  written_is_item message fits can =
+      let Infos : ℕ → Info → List ℕ → Type 0 = λ version info bytes. IsItem 1 bytes in
+      let is = message_is Own spelled Infos is_flat message fits can in
+      wider_by 61 3 64 (message_spelling spelled message) refl
+      (message_is_item Infos 0 (λ version info bytes item. item) message (message_spelling spelled message) is)
 
-known_info_is : (version : ℕ) (known : VersionInfo) → IsTrue (is_node_version version) → known.magic < 2 ^ 32
-    → IsInfo IsNodeInfo version (Known known) (version_info_spelling known)
-known_info_is version known own magic =
-    let is = version_info_is known magic in
-    (version_info_is_item 63 known (version_info_spelling known) is, (own, is))
+  known_info_is : (version : ℕ) (known : VersionInfo) → Own version known → known.magic < 2 ^ 32 → IsInfo Understood version (Known known) (spelled known)
+  known_info_is version known own magic =
+      (wider_by 63 1 64 (spelled known) refl (is_flat version known own magic), understood version known own magic)
+
+  written_in : AreReadAgainIn (Spells Understood) (message_spelling spelled) (CanWriteBy Own)
+  written_in message rest fits can =
+      let item = written_is_item message fits can in (
+        record { is_item = item; is_message = message_is Own spelled (IsInfo Understood) known_info_is message fits can },
+        scan_again (message_spelling spelled message) rest item,
+      )
+
+-- ---- in each handshake
 
 pub written_is_read : AreReadAgain
 unfolding node_spelling
-written_is_read message rest fits can =
-    let item = written_is_item message fits can in (
-      record { is_item = item; is_message = message_is (IsInfo IsNodeInfo) known_info_is message fits can },
-      scan_again (message_spelling version_info_spelling message) rest item,
-    )
+written_is_read = written_in IsNodeOwn version_info_spelling IsNodeInfo
+    (λ version known own magic. (own, version_info_is known magic))
+    (λ version known own magic. version_info_is_item 0 known (version_info_spelling known) (version_info_is known magic))
+
+client_info_is : (info : VersionInfo) → info.initiator_only ≡ true → info.sharing ≡ false → info.magic < 2 ^ 32 → IsClientVersionInfo info (client_info_spelling info)
+client_info_is info initiates unshared fits = record {
+  magic_fits = fits;
+  is_array = pair_is (shortest_head 4 2) (number_spelling info.magic ++ flag_spelling info.query) (definite_is 4 2 (lit< tt) (lit< tt))
+      (pair_is (number_spelling info.magic) (flag_spelling info.query) (number_is info.magic (omega arith)) refl);
+  initiates = initiates;
+  unshared = unshared;
+}
+
+pub client_written_is_read : ClientsAreReadAgain
+unfolding client_spelling
+client_written_is_read = written_in IsClientOwn client_info_spelling IsClientInfo
+    (λ version known own magic. (own.0, client_info_is known own.1 own.2 magic))
+    (λ version known own magic. client_version_info_is_item 0 known (client_info_spelling known) (client_info_is known own.1 own.2 magic))

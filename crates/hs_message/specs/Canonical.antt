@@ -1,5 +1,5 @@
 -- The one spelling that is written: heads are the shortest and lengths are told.
-use Rattle.std.specs.Prelude.{ℕ, Bool, List, [], ◌∷◌, ◌++◌, length, IsTrue, if◌then◌else◌}
+use Rattle.std.specs.Prelude.{◌≡◌, ℕ, Bool, true, false, List, [], ◌∷◌, ◌++◌, length, IsTrue, if◌then◌else◌}
 use Rattle.std.specs.List.{flat_map, AllByRecursion}
 use Rattle.cbor_items.specs.Head.{shortest_head}
 use Rattle.hs_message.specs.declared.info.VersionInfo.{VersionInfo}
@@ -10,8 +10,10 @@ use Rattle.hs_message.specs.declared.message.Message.{Message}
 use Rattle.hs_message.specs.declared.message.Message.TheVariants.{Propose, Accept, Refuse, QueryReply}
 use Rattle.hs_message.specs.declared.message.Reason.{Reason}
 use Rattle.hs_message.specs.declared.message.Reason.TheVariants.{NoCommon, NotDecoded, Declined}
+use Rattle.hs_message.specs.declared.profile.Profile.{Profile}
+use Rattle.hs_message.specs.declared.profile.Profile.TheVariants.{NodeToNode, NodeToClient}
 use Rattle.hs_message.specs.Parts.{flag_byte}
-use Rattle.hs_message.specs.Info.{is_node_version}
+use Rattle.hs_message.specs.Info.{is_node_version, is_client_version}
 use Rattle.hs_message.specs.Spelling.{rises}
 
 -- ---- the parts
@@ -70,19 +72,45 @@ version_info_spelling info = array_spelling 4
 unfoldable pub node_spelling : Message → List ℕ
 node_spelling message = message_spelling version_info_spelling message
 
--- ---- what is written
+-- ---- between a node and its local clients
 
--- a known info of a version that the node understands
-abbrev pub IsOwn : ℕ → Info → Type 0
-IsOwn version (Known known) = IsTrue (is_node_version version)
-IsOwn version Foreign = ⊥
+abbrev pub client_info_spelling : VersionInfo → List ℕ
+client_info_spelling info = array_spelling 2 (number_spelling info.magic ++ flag_spelling info.query)
 
-abbrev pub IsOwnTable : List Offer → Type 0
-IsOwnTable table = AllByRecursion (λ offer. IsOwn offer.version offer.info) table × IsTrue (rises table)
+-- the one spelling of a message between a node and a local client
+unfoldable pub client_spelling : Message → List ℕ
+client_spelling message = message_spelling client_info_spelling message
 
--- each info is known and stands with a version that the node understands, and the versions of a table rise strictly
+abbrev pub info_spelling_in : Profile → VersionInfo → List ℕ
+info_spelling_in NodeToNode = version_info_spelling
+info_spelling_in NodeToClient = client_info_spelling
+
+-- ---- what is written. Which known infos may stand beside a version is an argument, `Own`.
+
+abbrev pub IsOwnBy : (ℕ → VersionInfo → Type 0) → ℕ → Info → Type 0
+IsOwnBy Own version (Known known) = Own version known
+IsOwnBy Own version Foreign = ⊥
+
+abbrev pub IsOwnTableBy : (ℕ → VersionInfo → Type 0) → List Offer → Type 0
+IsOwnTableBy Own table = AllByRecursion (λ offer. IsOwnBy Own offer.version offer.info) table × IsTrue (rises table)
+
+-- each info is one that may stand beside its version, and the versions of a table rise strictly
+abbrev pub CanWriteBy : (ℕ → VersionInfo → Type 0) → Message → Type 0
+CanWriteBy Own (Propose table) = IsOwnTableBy Own table
+CanWriteBy Own (Accept version info) = IsOwnBy Own version info
+CanWriteBy Own (Refuse reason) = Unit {0}
+CanWriteBy Own (QueryReply table) = IsOwnTableBy Own table
+
+-- between nodes: any known info of a version that a node understands
+abbrev pub IsNodeOwn : ℕ → VersionInfo → Type 0
+IsNodeOwn version known = IsTrue (is_node_version version)
+
 abbrev pub CanWrite : Message → Type 0
-CanWrite (Propose table) = IsOwnTable table
-CanWrite (Accept version info) = IsOwn version info
-CanWrite (Refuse reason) = Unit {0}
-CanWrite (QueryReply table) = IsOwnTable table
+CanWrite message = CanWriteBy IsNodeOwn message
+
+-- between a node and a local client: a known info that says no more than is written
+abbrev pub IsClientOwn : ℕ → VersionInfo → Type 0
+IsClientOwn version known = IsTrue (is_client_version version) × (known.initiator_only ≡ true) × (known.sharing ≡ false)
+
+abbrev pub CanWriteToClient : Message → Type 0
+CanWriteToClient message = CanWriteBy IsClientOwn message

@@ -1,5 +1,5 @@
 -- Laws on messages, whatever function reads or writes them.
-use Rattle.std.specs.Prelude.{◌≡◌, ℕ, ◌^◌, ◌<◌, List, ◌++◌, length, Some, ◌↔◌}
+use Rattle.std.specs.Prelude.{◌≡◌, ℕ, ◌^◌, ◌<◌, List, ◌++◌, length, Option, Some, ◌↔◌}
 use Rattle.std.specs.List.{AllByRecursion}
 use Rattle.cbor_items.specs.declared.scan.Scan.TheVariants.{Whole}
 use Rattle.cbor_items.specs.Scan.{scan_of}
@@ -10,17 +10,34 @@ use Rattle.hs_message.specs.declared.message.Message.{Message}
 use Rattle.hs_message.specs.declared.message.Message.TheVariants.{Propose, Accept, Refuse, QueryReply}
 use Rattle.hs_message.specs.declared.message.Reason.{Reason}
 use Rattle.hs_message.specs.declared.message.Reason.TheVariants.{NoCommon, NotDecoded, Declined}
-use Rattle.hs_message.specs.Spelling.{NodeSpells}
-use Rattle.hs_message.specs.Canonical.{CanWrite, node_spelling}
-use Rattle.hs_message.specs.Reading.{message_of}
+use Rattle.hs_message.specs.Spelling.{NodeSpells, ClientSpells}
+use Rattle.hs_message.specs.Canonical.{CanWrite, node_spelling, CanWriteToClient, client_spelling}
+use Rattle.hs_message.specs.Reading.{message_of, client_message_of}
+
+-- Each law is of one handshake: which bytes spell which message in it (`Spelled`), which message is read off them
+-- (`read`), how a message is written (`written`) and which can be (`Can`).
 
 -- bytes spell at most one message
-abbrev pub SpellOne : Type 0
-SpellOne = (bytes : List ℕ) (one two : Message) → NodeSpells one bytes → NodeSpells two bytes → one ≡ two
+abbrev pub SpellOneIn : (Message → List ℕ → Type 0) → Type 0
+SpellOneIn Spelled = (bytes : List ℕ) (one two : Message) → Spelled one bytes → Spelled two bytes → one ≡ two
 
 -- the message that the bytes spell is the one that is read off them
+abbrev pub AreReadOffIn : (Message → List ℕ → Type 0) → (List ℕ → Option Message) → Type 0
+AreReadOffIn Spelled read = (bytes : List ℕ) (message : Message) → (read bytes ≡ Some message) ↔ Spelled message bytes
+
+-- between nodes
+abbrev pub SpellOne : Type 0
+SpellOne = SpellOneIn NodeSpells
+
 abbrev pub AreReadOff : Type 0
-AreReadOff = (bytes : List ℕ) (message : Message) → (message_of bytes ≡ Some message) ↔ NodeSpells message bytes
+AreReadOff = AreReadOffIn NodeSpells message_of
+
+-- between a node and a local client
+abbrev pub ClientsSpellOne : Type 0
+ClientsSpellOne = SpellOneIn ClientSpells
+
+abbrev pub ClientsAreReadOff : Type 0
+ClientsAreReadOff = AreReadOffIn ClientSpells client_message_of
 
 -- ---- what is written is read again
 
@@ -44,7 +61,13 @@ Fits (Refuse reason) = FitsReason reason
 Fits (QueryReply table) = FitsTable table
 
 -- What is written spells the message. In a stream it is the first item, whatever follows it.
+abbrev pub AreReadAgainIn : (Message → List ℕ → Type 0) → (Message → List ℕ) → (Message → Type 0) → Type 0
+AreReadAgainIn Spelled written Can = (message : Message) (rest : List ℕ) → Fits message → Can message
+    → Spelled message (written message)
+    × (scan_of (written message ++ rest) ≡ Whole (length (written message)))
+
 abbrev pub AreReadAgain : Type 0
-AreReadAgain = (message : Message) (rest : List ℕ) → Fits message → CanWrite message
-    → NodeSpells message (node_spelling message)
-    × (scan_of (node_spelling message ++ rest) ≡ Whole (length (node_spelling message)))
+AreReadAgain = AreReadAgainIn NodeSpells node_spelling CanWrite
+
+abbrev pub ClientsAreReadAgain : Type 0
+ClientsAreReadAgain = AreReadAgainIn ClientSpells client_spelling CanWriteToClient

@@ -17,7 +17,9 @@ use Rattle.hs_message.specs.declared.message.Reason.{Reason}
 use Rattle.hs_message.specs.declared.message.Reason.TheVariants.{NoCommon, NotDecoded, Declined}
 use Rattle.hs_message.specs.declared.refusal.ReadRefusal.{ReadRefusal}
 use Rattle.hs_message.specs.declared.refusal.ReadRefusal.TheVariants.{NotAMessage, OutOfMemory}
-use Rattle.hs_message.specs.Info.{is_node_version}
+use Rattle.hs_message.specs.declared.profile.Profile.{Profile}
+use Rattle.hs_message.specs.declared.profile.Profile.TheVariants.{NodeToNode, NodeToClient}
+use Rattle.hs_message.specs.Info.{is_node_version, is_client_version}
 use Rattle.hs_message.specs.Spelling.{rises}
 
 abbrev pub Reader : Type 0 → Type 0
@@ -91,16 +93,38 @@ abbrev pub whole : {X : Type 0} → Option (X × List ℕ) → Option X
 whole None = None
 whole (Some read) = if length read.1 == 0 then Some read.0 else None
 
--- the known info that an item beside a version is
+-- the known info that an item beside a version is, between nodes
 unfoldable pub known_of : ℕ → List ℕ → Option VersionInfo
 known_of version item = if is_node_version version then whole (version_info_at item) else None
+
+-- a local client runs no responder and shares no peers
+unfoldable pub client_version_info_at : Reader VersionInfo
+client_version_info_at bytes = do
+  elements ← array_at 2 bytes
+  magic ← number_at elements
+  query ← flag_at magic.1
+  if nat_lt magic.0 (2 ^ 32)
+      then Some (record { magic = magic.0; initiator_only = true; sharing = false; query = query.0 }, query.1)
+      else None
+
+-- the same between a node and a local client
+unfoldable pub client_known_of : ℕ → List ℕ → Option VersionInfo
+client_known_of version item = if is_client_version version then whole (client_version_info_at item) else None
+
+-- What an item beside a version is known as: the readings below take it as an argument, `known`.
+abbrev pub Knowing : Type 0
+Knowing = ℕ → List ℕ → Option VersionInfo
+
+abbrev pub known_in : Profile → Knowing
+known_in NodeToNode = known_of
+known_in NodeToClient = client_known_of
 
 abbrev pub as_info : Option VersionInfo → Info
 as_info (Some known) = Known known
 as_info None = Foreign
 
-abbrev pub info_of : ℕ → List ℕ → Info
-info_of version item = as_info (known_of version item)
+abbrev pub info_of : Knowing → ℕ → List ℕ → Info
+info_of known version item = as_info (known version item)
 
 -- ---- tables
 
@@ -114,11 +138,11 @@ front_of bytes scan.Deep = None
 abbrev pub item_at : Reader (List ℕ)
 item_at bytes = front_of bytes (scan_of bytes)
 
-unfoldable pub offer_at : Reader Offer
-offer_at bytes = do
+unfoldable pub offer_at : Knowing → Reader Offer
+offer_at known bytes = do
   version ← number_at bytes
   item ← item_at version.1
-  Some (record { version = version.0; info = info_of version.0 item.0 }, item.1)
+  Some (record { version = version.0; info = info_of known version.0 item.0 }, item.1)
 
 -- so many things
 unfoldable pub row_at : {X : Type 0} → Reader X → ℕ → Reader (List X)
@@ -128,10 +152,10 @@ row_at thing (suc n) bytes = do
   others ← row_at thing n first.1
   Some (first.0 ∷ others.0, others.1)
 
-unfoldable pub table_at : Reader (List Offer)
-table_at bytes = do
+unfoldable pub table_at : Knowing → Reader (List Offer)
+table_at known bytes = do
   count ← definite_at 5 bytes
-  offers ← row_at offer_at count.0 count.1
+  offers ← row_at (offer_at known) count.0 count.1
   if rises offers.0 then Some offers else None
 
 -- ---- reasons
@@ -193,29 +217,29 @@ reason_at bytes = tag_at bytes >>= λ tag. reason_behind tag.0 tag.1
 
 -- ---- messages
 
-abbrev pub propose_at : Reader Message
-propose_at bytes = table_at bytes >>= λ table. Some (Propose table.0, table.1)
+abbrev pub propose_at : Knowing → Reader Message
+propose_at known bytes = table_at known bytes >>= λ table. Some (Propose table.0, table.1)
 
-abbrev pub accept_at : Reader Message
-accept_at bytes = offer_at bytes >>= λ offer. Some (Accept offer.0.version offer.0.info, offer.1)
+abbrev pub accept_at : Knowing → Reader Message
+accept_at known bytes = offer_at known bytes >>= λ offer. Some (Accept offer.0.version offer.0.info, offer.1)
 
 abbrev pub refuse_at : Reader Message
 refuse_at bytes = reason_at bytes >>= λ reason. Some (Refuse reason.0, reason.1)
 
-abbrev pub query_reply_at : Reader Message
-query_reply_at bytes = table_at bytes >>= λ table. Some (QueryReply table.0, table.1)
+abbrev pub query_reply_at : Knowing → Reader Message
+query_reply_at known bytes = table_at known bytes >>= λ table. Some (QueryReply table.0, table.1)
 
 -- what stands behind the first number of a message
-abbrev pub message_behind : ℕ × ℕ → Reader Message
-message_behind tag bytes =
-    if tag.0 == 2 && tag.1 == 0 then propose_at bytes
-    else (if tag.0 == 3 && tag.1 == 1 then accept_at bytes
+abbrev pub message_behind : Knowing → ℕ × ℕ → Reader Message
+message_behind known tag bytes =
+    if tag.0 == 2 && tag.1 == 0 then propose_at known bytes
+    else (if tag.0 == 3 && tag.1 == 1 then accept_at known bytes
     else (if tag.0 == 2 && tag.1 == 2 then refuse_at bytes
-    else (if tag.0 == 2 && tag.1 == 3 then query_reply_at bytes
+    else (if tag.0 == 2 && tag.1 == 3 then query_reply_at known bytes
     else None)))
 
-unfoldable pub message_at : Reader Message
-message_at bytes = tag_at bytes >>= λ tag. message_behind tag.0 tag.1
+unfoldable pub message_at : Knowing → Reader Message
+message_at known bytes = tag_at bytes >>= λ tag. message_behind known tag.0 tag.1
 
 -- the scan says that the bytes are one item, with nothing behind it
 abbrev pub is_all_of : List ℕ → Scan → Bool
@@ -227,6 +251,14 @@ is_all_of bytes scan.Deep = false
 abbrev pub without_rest : {X : Type 0} → Option (X × List ℕ) → Option X
 without_rest read = read >>= λ x. Some x.0
 
+-- the message that the bytes spell
+unfoldable pub message_with : Knowing → List ℕ → Option Message
+message_with known bytes = if is_all_of bytes (scan_of bytes) then without_rest (message_at known bytes) else None
+
 -- the message between nodes that the bytes spell
 unfoldable pub message_of : List ℕ → Option Message
-message_of bytes = if is_all_of bytes (scan_of bytes) then without_rest (message_at bytes) else None
+message_of bytes = message_with known_of bytes
+
+-- the message between a node and a local client that the bytes spell
+unfoldable pub client_message_of : List ℕ → Option Message
+client_message_of bytes = message_with client_known_of bytes

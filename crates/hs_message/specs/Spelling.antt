@@ -11,7 +11,7 @@ use Rattle.hs_message.specs.declared.message.Message.TheVariants.{Propose, Accep
 use Rattle.hs_message.specs.declared.message.Reason.{Reason}
 use Rattle.hs_message.specs.declared.message.Reason.TheVariants.{NoCommon, NotDecoded, Declined}
 use Rattle.hs_message.specs.Parts.{IsNumber, IsText, IsArray, IsOpenArray, IsMap, IsListOf}
-use Rattle.hs_message.specs.Info.{IsInfo, IsNodeInfo}
+use Rattle.hs_message.specs.Info.{IsInfo, IsNodeInfo, IsClientInfo}
 
 -- ---- tables
 
@@ -61,3 +61,7 @@ pub record Spells (Understood : ℕ → VersionInfo → List ℕ → Type 0) (me
 -- the bytes spell the message between nodes
 abbrev pub NodeSpells : Message → List ℕ → Type 0
 NodeSpells message bytes = Spells IsNodeInfo message bytes
+
+-- the bytes spell the message between a node and a local client
+abbrev pub ClientSpells : Message → List ℕ → Type 0
+ClientSpells message bytes = Spells IsClientInfo message bytes

@@ -1,4 +1,5 @@
-/// What a node says of itself beside a version. Known of the versions 13 and 14.
+/// What one end says of itself beside a version. A local client says its magic and query alone: it runs no responder and
+/// shares no peers, so that `initiator_only` stands and `sharing` does not.
 #[derive(Clone, Copy, Debug, PartialEq, Eq)]
 pub struct VersionInfo {
     /// The number of the network.

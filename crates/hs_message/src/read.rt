@@ -1,15 +1,15 @@
 ghost use Rattle.std.specs.Prelude.{◌≡◌, IfOk, Err, length};
 ghost use Rattle.hs_message.specs.declared.message.Message.{Message as AnyMessage};
-ghost use Rattle.hs_message.specs.Info.{is_node_version};
-ghost use Rattle.hs_message.specs.Spelling.{is_below_next, rises, NodeSpells};
-ghost use Rattle.hs_message.specs.Reading.{Finds, Gives, version_info_at, known_of, info_of, offer_at, number_at, row_at, row_to_break_at, table_at, version_row_at, version_list_at, reason_behind, reason_at, message_behind, message_at, message_of};
+ghost use Rattle.hs_message.specs.Info.{is_node_version, is_client_version};
+ghost use Rattle.hs_message.specs.Spelling.{is_below_next, rises, NodeSpells, ClientSpells};
+ghost use Rattle.hs_message.specs.Reading.{Finds, Gives, version_info_at, known_of, client_version_info_at, client_known_of, known_in, info_of, offer_at, number_at, row_at, row_to_break_at, table_at, version_row_at, version_list_at, reason_behind, reason_at, message_behind, message_at, message_with, message_of, client_message_of};
 
 use crate::part::{
     split_array, split_definite, split_flag, split_head, split_item, split_noted, split_number,
     split_sharing, split_tag,
 };
 use crate::refusal::Absent;
-use crate::{Info, Message, Offer, ReadRefusal, Reason, Table, VersionInfo};
+use crate::{Info, Message, Offer, Profile, ReadRefusal, Reason, Table, VersionInfo};
 use cbor_items::{Head, Scan, first_item};
 use net_base::{NumberList, Octets, OutOfMemory};
 use std::alloc::Global;
@@ -21,8 +21,9 @@ const MAP: u8 = 5;
 
 const BREAK: u8 = 0xff;
 
-/// The message that the bytes spell, all of them. `NotAMessage` comes exactly where they spell none. No more memory is
-/// asked for than what was read so far takes, whatever lengths are announced.
+/// The message between nodes that the bytes spell, all of them. `NotAMessage` comes exactly where they spell none. No more
+/// memory is asked for than what was read so far takes, whatever lengths are announced.
+#[tactic(auto, unfolding(crate::specs::Reading::message_of))]
 pub fn read_message(alloc: Global, bytes: &[u8]) -> Result<Message, ReadRefusal>
     ensures reading { Gives (λ message. message) result (message_of bytes.now) }
     // What is read is spelled by the bytes.
@@ -30,43 +31,60 @@ pub fn read_message(alloc: Global, bytes: &[u8]) -> Result<Message, ReadRefusal>
     ensures none { result ≡ Err ReadRefusal.NotAMessage →
         (message : AnyMessage) → NodeSpells message bytes.now → ⊥ }
 {
-    read_whole(alloc, bytes)
+    read_whole(alloc, Profile::NodeToNode, bytes)
 }
 
-#[tactic(auto, unfolding(crate::specs::Reading::message_of))]
-fn read_whole(alloc: Global, bytes: &[u8]) -> Result<Message, ReadRefusal>
-    ensures { Gives (λ message. message) result (message_of bytes.now) }
+/// As `read_message`, between a node and a local client.
+#[tactic(auto, unfolding(crate::specs::Reading::client_message_of))]
+pub fn read_client_message(alloc: Global, bytes: &[u8]) -> Result<Message, ReadRefusal>
+    ensures reading { Gives (λ message. message) result (client_message_of bytes.now) }
+    // What is read is spelled by the bytes.
+    ensures found { IfOk result (λ message. ClientSpells message bytes.now) }
+    ensures none { result ≡ Err ReadRefusal.NotAMessage →
+        (message : AnyMessage) → ClientSpells message bytes.now → ⊥ }
+{
+    read_whole(alloc, Profile::NodeToClient, bytes)
+}
+
+#[tactic(auto, unfolding(crate::specs::Reading::message_with))]
+fn read_whole(alloc: Global, profile: Profile, bytes: &[u8]) -> Result<Message, ReadRefusal>
+    ensures { Gives (λ message. message) result (message_with (known_in profile) bytes.now) }
 {
     if first_item(bytes) != Scan::Whole(bytes.len()) {
         return Err(ReadRefusal::NotAMessage);
     }
-    let (message, _) = read_front(alloc, bytes)?;
+    let (message, _) = read_front(alloc, profile, bytes)?;
     Ok(message)
 }
 
 #[tactic(auto, unfolding(crate::specs::Reading::message_at))]
-fn read_front(alloc: Global, bytes: &[u8]) -> Result<(Message, &[u8]), ReadRefusal>
-    ensures { Gives (λ read. (read.0, read.1.now)) result (message_at bytes.now) }
+fn read_front(
+    alloc: Global,
+    profile: Profile,
+    bytes: &[u8],
+) -> Result<(Message, &[u8]), ReadRefusal>
+    ensures { Gives (λ read. (read.0, read.1.now)) result (message_at (known_in profile) bytes.now) }
 {
     let (tag, rest) = split_tag(bytes)?;
-    read_message_behind(alloc, tag, rest)
+    read_message_behind(alloc, profile, tag, rest)
 }
 
 // What stands behind the first number of a message.
 fn read_message_behind(
     alloc: Global,
+    profile: Profile,
     tag: (u64, u64),
     bytes: &[u8],
 ) -> Result<(Message, &[u8]), ReadRefusal>
-    ensures { Gives (λ read. (read.0, read.1.now)) result (message_behind tag bytes.now) }
+    ensures { Gives (λ read. (read.0, read.1.now)) result (message_behind (known_in profile) tag bytes.now) }
 {
     match tag {
         (2, 0) => {
-            let (table, rest) = read_table(alloc, bytes)?;
+            let (table, rest) = read_table(alloc, profile, bytes)?;
             Ok((Message::Propose(table), rest))
         }
         (3, 1) => {
-            let (offer, rest) = split_offer(bytes)?;
+            let (offer, rest) = split_offer(profile, bytes)?;
             Ok((Message::Accept(offer.version, offer.info), rest))
         }
         (2, 2) => {
@@ -74,7 +92,7 @@ fn read_message_behind(
             Ok((Message::Refuse(reason), rest))
         }
         (2, 3) => {
-            let (table, rest) = read_table(alloc, bytes)?;
+            let (table, rest) = read_table(alloc, profile, bytes)?;
             Ok((Message::QueryReply(table), rest))
         }
         _ => Err(ReadRefusal::NotAMessage),
@@ -82,11 +100,11 @@ fn read_message_behind(
 }
 
 #[tactic(auto, unfolding(crate::specs::Reading::table_at))]
-fn read_table(alloc: Global, bytes: &[u8]) -> Result<(Table, &[u8]), ReadRefusal>
-    ensures { Gives (λ read. (read.0, read.1.now)) result (table_at bytes.now) }
+fn read_table(alloc: Global, profile: Profile, bytes: &[u8]) -> Result<(Table, &[u8]), ReadRefusal>
+    ensures { Gives (λ read. (read.0, read.1.now)) result (table_at (known_in profile) bytes.now) }
 {
     let (count, rest) = split_definite(MAP, bytes)?;
-    let (table, rest) = read_offers(alloc, count, rest)?;
+    let (table, rest) = read_offers(alloc, profile, count, rest)?;
     if rises(table.as_slice()) {
         Ok((table, rest))
     } else {
@@ -94,13 +112,18 @@ fn read_table(alloc: Global, bytes: &[u8]) -> Result<(Table, &[u8]), ReadRefusal
     }
 }
 
-fn read_offers(alloc: Global, count: u64, bytes: &[u8]) -> Result<(Table, &[u8]), ReadRefusal>
-    ensures { Gives (λ read. (read.0, read.1.now)) result (row_at offer_at count bytes.now) }
+fn read_offers(
+    alloc: Global,
+    profile: Profile,
+    count: u64,
+    bytes: &[u8],
+) -> Result<(Table, &[u8]), ReadRefusal>
+    ensures { Gives (λ read. (read.0, read.1.now)) result (row_at (offer_at (known_in profile)) count bytes.now) }
 {
     let mut table = Table::new(alloc);
     let mut rest = bytes;
     for _ in 0..count {
-        let (offer, after) = split_offer(rest)?;
+        let (offer, after) = split_offer(profile, rest)?;
         table.push(offer)?;
         rest = after;
     }
@@ -131,26 +154,35 @@ fn is_below_next(offer: &Offer, rest: &[Offer]) -> bool
 }
 
 #[tactic(auto, unfolding(crate::specs::Reading::offer_at))]
-fn split_offer(bytes: &[u8]) -> Result<(Offer, &[u8]), Absent>
-    ensures { Finds (λ read. (read.0, read.1.now)) result (offer_at bytes.now) }
+fn split_offer(profile: Profile, bytes: &[u8]) -> Result<(Offer, &[u8]), Absent>
+    ensures { Finds (λ read. (read.0, read.1.now)) result (offer_at (known_in profile) bytes.now) }
 {
     let (version, rest) = split_number(bytes)?;
     let (item, rest) = split_item(rest)?;
-    let info = read_info(version, item);
+    let info = read_info(profile, version, item);
     Ok((Offer { version, info }, rest))
 }
 
-fn read_info(version: u64, item: &[u8]) -> Info
-    ensures { result ≡ info_of version item.now }
+fn read_info(profile: Profile, version: u64, item: &[u8]) -> Info
+    ensures { result ≡ info_of (known_in profile) version item.now }
 {
-    match read_known(version, item) {
+    match read_known(profile, version, item) {
         Some(known) => Info::Known(known),
         None => Info::Foreign,
     }
 }
 
+fn read_known(profile: Profile, version: u64, item: &[u8]) -> Option<VersionInfo>
+    ensures { result ≡ known_in profile version item.now }
+{
+    match profile {
+        Profile::NodeToNode => read_node_info(version, item),
+        Profile::NodeToClient => read_client_info(version, item),
+    }
+}
+
 #[tactic(auto, unfolding(crate::specs::Reading::known_of))]
-fn read_known(version: u64, item: &[u8]) -> Option<VersionInfo>
+fn read_node_info(version: u64, item: &[u8]) -> Option<VersionInfo>
     ensures { result ≡ known_of version item.now }
 {
     if !is_node_version(version) {
@@ -162,10 +194,29 @@ fn read_known(version: u64, item: &[u8]) -> Option<VersionInfo>
     }
 }
 
+#[tactic(auto, unfolding(crate::specs::Reading::client_known_of))]
+fn read_client_info(version: u64, item: &[u8]) -> Option<VersionInfo>
+    ensures { result ≡ client_known_of version item.now }
+{
+    if !is_client_version(version) {
+        return None;
+    }
+    match split_client_version_info(item) {
+        Ok((info, [])) => Some(info),
+        _ => None,
+    }
+}
+
 fn is_node_version(version: u64) -> bool
     ensures { result ≡ is_node_version version }
 {
     matches!(version, 13 | 14)
+}
+
+fn is_client_version(version: u64) -> bool
+    ensures { result ≡ is_client_version version }
+{
+    matches!(version, 32784 | 32785)
 }
 
 #[tactic(auto, unfolding(crate::specs::Reading::version_info_at))]
@@ -177,13 +228,32 @@ fn split_version_info(bytes: &[u8]) -> Result<(VersionInfo, &[u8]), Absent>
     let (initiator_only, rest) = split_flag(rest)?;
     let (sharing, rest) = split_sharing(rest)?;
     let (query, rest) = split_flag(rest)?;
-    if magic > 0xffff_ffff {
+    let Ok(magic) = u32::try_from(magic) else {
         return Err(Absent);
-    }
+    };
     let info = VersionInfo {
-        magic: magic as u32,
+        magic,
         initiator_only,
         sharing,
+        query,
+    };
+    Ok((info, rest))
+}
+
+#[tactic(auto, unfolding(crate::specs::Reading::client_version_info_at))]
+fn split_client_version_info(bytes: &[u8]) -> Result<(VersionInfo, &[u8]), Absent>
+    ensures { Finds (λ read. (read.0, read.1.now)) result (client_version_info_at bytes.now) }
+{
+    let rest = split_array(2, bytes)?;
+    let (magic, rest) = split_number(rest)?;
+    let (query, rest) = split_flag(rest)?;
+    let Ok(magic) = u32::try_from(magic) else {
+        return Err(Absent);
+    };
+    let info = VersionInfo {
+        magic,
+        initiator_only: true,
+        sharing: false,
         query,
     };
     Ok((info, rest))

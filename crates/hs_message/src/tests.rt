@@ -1,11 +1,13 @@
 ghost use Rattle.std.specs.Prelude.{IfOk};
-ghost use Rattle.hs_message.specs.Canonical.{IsOwnTable};
+ghost use Rattle.hs_message.specs.Canonical.{IsOwnTableBy, IsNodeOwn};
 
 use super::*;
 use net_base::{NumberList, Octets, OutOfMemory};
 use std::alloc::{AllocError, Global};
 use std::process::Abort;
 use std::test::Fail;
+
+mod clients;
 
 const OWN: VersionInfo = VersionInfo {
     magic: 42,
@@ -16,7 +18,7 @@ const OWN: VersionInfo = VersionInfo {
 
 // 13 and 14 with the own info.
 fn both(alloc: Global) -> Result<Table, OutOfMemory>
-    ensures { IfOk result (λ table. IsOwnTable table) }
+    ensures { IfOk result (λ table. IsOwnTableBy IsNodeOwn table) }
 {
     let info = Info::Known(OWN);
     let offers = [Offer { version: 13, info }, Offer { version: 14, info }];

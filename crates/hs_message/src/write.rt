@@ -1,8 +1,8 @@
 ghost use Rattle.std.specs.Prelude.{◌≡◌, ◌++◌, ◌<◌, ◌≤◌, IsTrue, IfOk, OnOk, length, if◌then◌else◌};
 ghost use Rattle.std.specs.List.{flat_map, AllByRecursion};
-ghost use Rattle.hs_message.specs.Canonical.{number_spelling, text_spelling, flag_spelling, array_spelling, map_spelling, info_spelling, offer_spelling, table_spelling, noted_spelling, reason_spelling, message_spelling, version_info_spelling, node_spelling, IsOwn, CanWrite};
+ghost use Rattle.hs_message.specs.Canonical.{number_spelling, text_spelling, flag_spelling, array_spelling, map_spelling, info_spelling, offer_spelling, table_spelling, noted_spelling, reason_spelling, message_spelling, version_info_spelling, node_spelling, client_info_spelling, client_spelling, info_spelling_in, CanWrite, CanWriteToClient};
 
-use crate::{Info, Message, Offer, Reason, VersionInfo};
+use crate::{Info, Message, Offer, Profile, Reason, VersionInfo};
 use cbor_items::write_head;
 use net_base::{Octets, OutOfMemory};
 use std::alloc::Global;
@@ -20,30 +20,43 @@ const ARRAY: u8 = 4;
 
 const MAP: u8 = 5;
 
-/// The one spelling of a message. Each info has to be known and to stand with version 13 or 14, and the versions of a
-/// table have to rise strictly.
+/// The one spelling of a message between nodes. Each info has to be known and to stand with version 13 or 14, and the
+/// versions of a table have to rise strictly.
 #[tactic(auto, unfolding(crate::specs::Canonical::node_spelling))]
 pub fn write_message(alloc: Global, message: &Message) -> Result<Octets, OutOfMemory>
     requires { CanWrite message.now }
     ensures { IfOk result (λ octets. octets ≡ node_spelling message.now) }
 {
     let mut out = Octets::new(alloc);
-    put_message(&mut out, message)?;
+    put_message(&mut out, Profile::NodeToNode, message)?;
     Ok(out)
 }
 
-fn put_message(out: &mut Octets, message: &Message) -> Result<(), OutOfMemory>
-    ensures { OnOk result (out.new ≡ out.old ++ message_spelling version_info_spelling message.now) }
+/// The one spelling of a message between a node and a local client. Each info has to be known, to stand with version
+/// 32784 or 32785, and to say that a local client runs no responder and shares no peers. The versions of a table have to
+/// rise strictly.
+#[tactic(auto, unfolding(crate::specs::Canonical::client_spelling))]
+pub fn write_client_message(alloc: Global, message: &Message) -> Result<Octets, OutOfMemory>
+    requires { CanWriteToClient message.now }
+    ensures { IfOk result (λ octets. octets ≡ client_spelling message.now) }
+{
+    let mut out = Octets::new(alloc);
+    put_message(&mut out, Profile::NodeToClient, message)?;
+    Ok(out)
+}
+
+fn put_message(out: &mut Octets, profile: Profile, message: &Message) -> Result<(), OutOfMemory>
+    ensures { OnOk result (out.new ≡ out.old ++ message_spelling (info_spelling_in profile) message.now) }
 {
     match message {
         Message::Propose(table) => {
             put_tag(out, 2, 0)?;
-            put_table(out, table.as_slice())
+            put_table(out, profile, table.as_slice())
         }
         Message::Accept(version, info) => {
             put_tag(out, 3, 1)?;
             put_number(out, *version)?;
-            put_info(out, info)
+            put_info(out, profile, info)
         }
         Message::Refuse(reason) => {
             put_tag(out, 2, 2)?;
@@ -51,30 +64,47 @@ fn put_message(out: &mut Octets, message: &Message) -> Result<(), OutOfMemory>
         }
         Message::QueryReply(table) => {
             put_tag(out, 2, 3)?;
-            put_table(out, table.as_slice())
+            put_table(out, profile, table.as_slice())
         }
     }
 }
 
-fn put_table(out: &mut Octets, table: &[Offer]) -> Result<(), OutOfMemory>
-    ensures { OnOk result (out.new ≡ out.old ++ table_spelling version_info_spelling table.now) }
+fn put_table(out: &mut Octets, profile: Profile, table: &[Offer]) -> Result<(), OutOfMemory>
+    ensures { OnOk result (out.new ≡ out.old ++ table_spelling (info_spelling_in profile) table.now) }
 {
     write_head(out, MAP, table.len() as u64)?;
     for offer in table {
         put_number(out, offer.version)?;
-        put_info(out, &offer.info)?;
+        put_info(out, profile, &offer.info)?;
     }
     Ok(())
 }
 
 // A foreign info is never written: nothing tells which item it was.
-fn put_info(out: &mut Octets, info: &Info) -> Result<(), OutOfMemory>
-    ensures { OnOk result (out.new ≡ out.old ++ info_spelling version_info_spelling info.now) }
+fn put_info(out: &mut Octets, profile: Profile, info: &Info) -> Result<(), OutOfMemory>
+    ensures { OnOk result (out.new ≡ out.old ++ info_spelling (info_spelling_in profile) info.now) }
 {
     match info {
-        Info::Known(known) => put_version_info(out, known),
+        Info::Known(known) => put_known(out, profile, known),
         Info::Foreign => Ok(()),
     }
+}
+
+fn put_known(out: &mut Octets, profile: Profile, info: &VersionInfo) -> Result<(), OutOfMemory>
+    ensures { OnOk result (out.new ≡ out.old ++ info_spelling_in profile info.now) }
+{
+    match profile {
+        Profile::NodeToNode => put_version_info(out, info),
+        Profile::NodeToClient => put_client_info(out, info),
+    }
+}
+
+fn put_client_info(out: &mut Octets, info: &VersionInfo) -> Result<(), OutOfMemory>
+    ensures { OnOk result (out.new ≡ out.old ++ client_info_spelling info.now) }
+{
+    write_head(out, ARRAY, 2)?;
+    put_number(out, u64::from(info.magic))?;
+    put_flag(out, info.query)
 }
 
 fn put_version_info(out: &mut Octets, info: &VersionInfo) -> Result<(), OutOfMemory>
