@@ -1,14 +1,14 @@
 ghost use Rattle.std.specs.Prelude.{IfOk, IfSome};
 ghost use Rattle.net_base.specs.Limits.{IsWithinLimits};
 
-use super::acceptor::Acceptor;
-use super::announcement::announcement;
-use super::sockets::Sockets;
-use super::world_clock::WorldClock;
-use crate::WorldRefusal;
+use crate::acceptor::Acceptor;
+use crate::announcement::announcement;
+use crate::sockets::Sockets;
+use crate::world_clock::WorldClock;
 use mio::{Events, Poll};
 use net_base::{Action, AddrList, Event, Job, Octets, OutOfMemory, RootAnswer};
 use node_settings::Config;
+use node_world::WorldRefusal;
 use rand_core::SeedableRng;
 use rand_core::utils::NextWord;
 use rand_pcg::Pcg64;

@@ -1,4 +1,4 @@
-use super::addresses::socket_addr;
+use crate::addresses::socket_addr;
 use mio::net::{TcpListener, TcpStream};
 use mio::{Interest, Registry, Token};
 use net_base::Addr;

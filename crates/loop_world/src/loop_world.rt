@@ -1,21 +1,10 @@
 ghost use Rattle.std.specs.Prelude.{◌≡◌, true, false, None, is_ok};
 ghost use Rattle.node_world.specs.Meanings.{GivesWithinLimits, HasCause, says_end};
 
-mod acceptor;
-mod acting;
-mod addresses;
-mod announcement;
-mod event_queue;
-mod reactor;
-mod socket;
-mod socket_table;
-mod sockets;
-mod world_clock;
-
-use crate::{Next, World, WorldRefusal};
+use crate::reactor::Reactor;
 use net_base::{Action, AddrList};
 use node_settings::Config;
-use reactor::Reactor;
+use node_world::{Next, World, WorldRefusal};
 use std::alloc::Global;
 use std::marker::Model;
 use std::net::Net;
@@ -34,7 +23,7 @@ pub struct LoopWorld<R> {
 
 impl<R> Model for LoopWorld<R> {
     ghost use Rattle.std.specs.Prelude.{is_some};
-    ghost use Rattle.node_world.specs.Loop.{SocketWorld};
+    ghost use Rattle.loop_world.specs.Sockets.{SocketWorld};
 
     ghost Value = { SocketWorld };
 

@@ -1,7 +1,7 @@
 -- What a world on sockets tells of itself, and what it reads.
 use Rattle.std.specs.Prelude.{ℕ, ◌≤◌, Bool}
-use Rattle.node_world.specs.declared.loop_world.socket.Got.{Got}
-use Rattle.node_world.specs.declared.loop_world.socket.Got.TheVariants.{Bytes, Nothing, Ended}
+use Rattle.loop_world.specs.declared.socket.Got.{Got}
+use Rattle.loop_world.specs.declared.socket.Got.TheVariants.{Bytes, Nothing, Ended}
 
 pub record SocketWorld : Type 0 where
   pub is_open : Bool

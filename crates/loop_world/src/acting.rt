@@ -1,12 +1,12 @@
 //! What a node has done with its sockets.
 
-use super::addresses::{addr_of, socket_addr};
-use super::socket::{Socket, Stage};
-use super::sockets::Sockets;
-use crate::OutQueue;
+use crate::addresses::{addr_of, socket_addr};
+use crate::socket::{Socket, Stage};
+use crate::sockets::Sockets;
 use mio::net::TcpStream;
 use mio::{Registry, Token};
 use net_base::{Addr, Cid, Event, Octets, OutOfMemory};
+use node_world::OutQueue;
 use std::net::{Net, SocketAddr};
 
 impl Sockets {

@@ -1,11 +1,11 @@
 ghost use Rattle.std.specs.Prelude.{length};
-ghost use Rattle.node_world.specs.Loop.{IsWithin};
+ghost use Rattle.loop_world.specs.Sockets.{IsWithin};
 
-use super::announcement::{Heard, announced_size, read_announcement};
-use crate::OutQueue;
+use crate::announcement::{Heard, announced_size, read_announcement};
 use mio::net::TcpStream;
 use mio::{Interest, Registry, Token};
 use net_base::{Cid, Octets, OutOfMemory};
+use node_world::OutQueue;
 use std::io;
 use std::io::{ErrorKind, Read, Write};
 

@@ -5,8 +5,8 @@ use Rattle.std.specs.Int.{w16, w32, w128, to_be_bytes, from_be_bytes}
 use Rattle.net_base.specs.declared.address.Addr.{Addr}
 use Rattle.net_base.specs.declared.address.Ip.{Ip}
 use Rattle.net_base.specs.declared.address.Ip.TheVariants.{V4, V6}
-use Rattle.node_world.specs.declared.loop_world.announcement.Heard.{Heard}
-use Rattle.node_world.specs.declared.loop_world.announcement.Heard.TheVariants.{Front, Whole, Else}
+use Rattle.loop_world.specs.declared.announcement.Heard.{Heard}
+use Rattle.loop_world.specs.declared.announcement.Heard.TheVariants.{Front, Whole, Else}
 
 -- ---- what is written
 

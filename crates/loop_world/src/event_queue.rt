@@ -1,8 +1,8 @@
 ghost use Rattle.std.specs.Prelude.{◌≡◌, true, IfSome};
 ghost use Rattle.net_base.specs.Limits.{IsWithinLimits};
 
-use crate::waiting::Waiting;
 use net_base::{Addr, Cid, Event, OutOfMemory, RootAnswer};
+use node_world::Waiting;
 use std::alloc::Global;
 use std::collections::VecDeque;
 

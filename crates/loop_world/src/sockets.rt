@@ -1,9 +1,9 @@
 //! What is done when a socket is ready.
 
-use super::announcement::Heard;
-use super::event_queue::EventQueue;
-use super::socket::{Dialed, Got, Stage};
-use super::socket_table::SocketTable;
+use crate::announcement::Heard;
+use crate::event_queue::EventQueue;
+use crate::socket::{Dialed, Got, Stage};
+use crate::socket_table::SocketTable;
 use mio::{Registry, Token};
 use net_base::{Addr, Event, Octets, OutOfMemory};
 use std::alloc::Global;
@@ -15,17 +15,17 @@ const READ_MOST: usize = 16_384;
 // The sockets of a node, and what they brought.
 #[derive(Drop)]
 pub(crate) struct Sockets {
-    pub(super) alloc: Global,
-    pub(super) table: SocketTable,
-    pub(super) queue: EventQueue,
+    pub(crate) alloc: Global,
+    pub(crate) table: SocketTable,
+    pub(crate) queue: EventQueue,
     // What this node says first where it dials. Nothing where addresses are not announced.
-    pub(super) greeting: Octets,
+    pub(crate) greeting: Octets,
     // Whoever connects has as many milliseconds to announce its address.
-    pub(super) patience: u64,
+    pub(crate) patience: u64,
     // Until when which socket has time for that, in order.
-    pub(super) awaited: VecDeque<(u64, usize)>,
+    pub(crate) awaited: VecDeque<(u64, usize)>,
     // The socket of the last peer that connected, until it is admitted or turned away.
-    pub(super) caller: Option<usize>,
+    pub(crate) caller: Option<usize>,
     buffer: Vec<u8>,
 }
 
@@ -135,7 +135,7 @@ impl Sockets {
     }
 
     // Sends what the socket takes at once.
-    pub(super) fn flush(&mut self, registry: &Registry, key: usize) -> Result<(), OutOfMemory> {
+    pub(crate) fn flush(&mut self, registry: &Registry, key: usize) -> Result<(), OutOfMemory> {
         let Some(socket) = self.table.get_mut(key) else {
             return Ok(());
         };
@@ -146,7 +146,7 @@ impl Sockets {
     }
 
     // Has the poll tell again what the socket is ready for.
-    pub(super) fn arm(&mut self, registry: &Registry, key: usize) -> Result<(), OutOfMemory> {
+    pub(crate) fn arm(&mut self, registry: &Registry, key: usize) -> Result<(), OutOfMemory> {
         let Some(socket) = self.table.get_mut(key) else {
             return Ok(());
         };

@@ -1,6 +1,6 @@
 ghost use Rattle.std.specs.Prelude.{◌≤◌, ◌^◌, IfOk};
 
-use crate::WorldRefusal;
+use node_world::WorldRefusal;
 use std::time::{Clock, Duration, Instant};
 
 // No moment is later.

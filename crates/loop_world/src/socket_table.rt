@@ -1,4 +1,4 @@
-use super::socket::{Socket, Stage};
+use crate::socket::{Socket, Stage};
 use net_base::{Cid, OutOfMemory};
 use slab::Slab;
 use std::alloc::Global;
