@@ -1,19 +1,11 @@
 ghost use Rattle.std.specs.Prelude.{◌≡◌, true, IfSome};
 ghost use Rattle.net_base.specs.Limits.{IsWithinLimits};
 
+use crate::limits::{INTERVAL_MOST, LAST, PIECE_MOST};
 use net_base::{Addr, Cid, Event, OutOfMemory, RootAnswer};
 use node_world::Waiting;
 use std::alloc::Global;
 use std::collections::VecDeque;
-
-// No moment, id of a connection or number of a question is greater.
-const LAST: u64 = 281_474_976_710_656;
-
-// As many bytes an event has at most.
-const PIECE_MOST: usize = 65_536;
-
-// As many milliseconds an answer with root peers serves at most.
-const INTERVAL_MOST: u64 = 86_400_000;
 
 // What happened and is not given yet, in its order.
 #[derive(Drop)]

@@ -6,6 +6,7 @@ mod acting;
 mod addresses;
 mod announcement;
 mod event_queue;
+mod limits;
 mod loop_world;
 mod reactor;
 mod socket;

@@ -3,6 +3,7 @@ ghost use Rattle.net_base.specs.Limits.{IsWithinLimits};
 
 use crate::acceptor::Acceptor;
 use crate::announcement::announcement;
+use crate::limits::{INTERVAL_MOST, LAST};
 use crate::sockets::Sockets;
 use crate::world_clock::WorldClock;
 use mio::{Events, Poll};
@@ -16,9 +17,6 @@ use std::alloc::Global;
 use std::io;
 use std::net::Net;
 use std::time::{Clock, Duration};
-
-// No id of a connection or number of a question is greater.
-const LAST: u64 = 281_474_976_710_656;
 
 // As many sockets are looked after in one turn.
 const TURN_MOST: usize = 256;
@@ -58,7 +56,7 @@ impl Reactor {
             clock: WorldClock::start(rt, config.tick)?,
             generator: Pcg64::seed_from_u64(config.seed),
             publics: AddrList::from_slice(alloc, publics.as_slice())?,
-            roots_serve: config.rootttl.clamp(1, 86_400_000),
+            roots_serve: config.rootttl.clamp(1, INTERVAL_MOST),
         })
     }
 

@@ -1,10 +1,8 @@
 ghost use Rattle.std.specs.Prelude.{◌≤◌, ◌^◌, IfOk};
 
+use crate::limits::LAST;
 use node_world::WorldRefusal;
 use std::time::{Clock, Duration, Instant};
-
-// No moment is later.
-const LAST_MOMENT: u64 = 281_474_976_710_656;
 
 // The moments of a world, in milliseconds since it was opened, and its ticks.
 #[derive(Drop)]
@@ -32,7 +30,7 @@ impl WorldClock {
         ensures { IfOk result (λ moment. moment ≤ 2 ^ 48) }
     {
         let passed = self.start.elapsed(clock).map_err(|_| WorldRefusal::Failed)?;
-        Ok(passed.as_millis().min(u128::from(LAST_MOMENT)) as u64)
+        Ok(u64::try_from(passed.as_millis()).unwrap_or(LAST).min(LAST))
     }
 
     /// The last moment that was told.
