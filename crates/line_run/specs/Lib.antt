@@ -1,0 +1,5 @@
+pub mod Meaning
+pub mod Judgement
+pub mod Runs
+pub mod LineRead
+pub mod UnderWay
