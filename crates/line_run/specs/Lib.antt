@@ -3,3 +3,4 @@ pub mod Judgement
 pub mod Runs
 pub mod LineRead
 pub mod UnderWay
+pub mod Inputs

@@ -1,6 +1,7 @@
-ghost use Rattle.std.specs.Prelude.{◌≡◌, ℕ, ◌+◌, ◌≤◌, List, [], Option, length, MatchResult, OnOk, IfOk, IfErr};
+ghost use Rattle.std.specs.Prelude.{◌≡◌, ℕ, ◌+◌, ◌≤◌, List, [], Option, Some, length, MatchResult, OnOk, IfOk, IfErr};
 ghost use Rattle.io_edge.specs.Causes.{HasCause};
 ghost use Rattle.io_edge.specs.Told.{Takes, TakesProperPrefix, TakesFront};
+ghost use Rattle.line_run.specs.Inputs.{IsRunOver};
 ghost use Rattle.line_run.specs.Runs.{Runs, outcome_or, HasReadCount, HasWriteCount};
 ghost use Rattle.line_run.specs.UnderWay.{IsUnderWay, IsTurn, IsLineNext, IsInterpretedAt, Ends};
 
@@ -23,10 +24,17 @@ pub fn run_lines<I: Interpreter, S: Source, K: Sink>(
     out: &mut K,
 ) -> LineOutcome
     ensures runs { Runs I.means interpreter.old (S.left src.old) (S.left src.new) (K.taken out.old) (K.taken out.new) result }
+    ensures over { (input : List ℕ) → S.left src.old ≡ Some input → IsRunOver I.means interpreter.old input result (S.left src.new) (K.taken out.old) (K.taken out.new) }
     ensures reads { HasReadCount (S.faults src.old) (S.faults src.new) result }
     ensures writes { HasWriteCount (K.faults out.old) (K.faults out.new) result }
 {
-    match run_anew(alloc, interpreter, src, out) {
+    outcome_or_memory(run_anew(alloc, interpreter, src, out))
+}
+
+fn outcome_or_memory(outcome: Result<LineOutcome, OutOfMemory>) -> LineOutcome
+    ensures { result ≡ outcome_or outcome }
+{
+    match outcome {
         Ok(outcome) => outcome,
         Err(OutOfMemory) => LineOutcome::OutOfMemory,
     }
