@@ -1,9 +1,12 @@
 -- What each line of a pair means: the head says what the ends say of themselves, and each line behind it is a step.
-use Rattle.std.specs.Prelude.{◌≡◌, ℕ, ◌+◌, nat_le, false, List, [], ◌∷◌, codes, map, if◌then◌else◌, Result, Ok, Err}
+use Rattle.std.specs.Prelude.{◌≡◌, ℕ, ◌+◌, nat_le, false, List, [], ◌∷◌, codes, map, if◌then◌else◌, Option, Result, Ok, Err}
+use Rattle.line_run.specs.Inputs.{IsRunOver}
+use Rattle.line_run.specs.Judgement.{Verdict, verdict_of}
+use Rattle.line_run.specs.Runs.{Runs}
+use Rattle.line_run.specs.declared.outcome.LineOutcome.{LineOutcome}
 use Rattle.line_run.specs.Meaning.{Meaning, goes_on, ends, is_refused, is_too_many, Says}
 use Rattle.line_run.specs.declared.stop.Stop.{Stop}
 use Rattle.line_run.specs.declared.stop.Stop.TheVariants as stop
-use Rattle.hs_message.specs.declared.info.VersionInfo.{VersionInfo}
 use Rattle.net_base.specs.declared.refusal.RefusalKind.{RefusalKind}
 use Rattle.net_base.specs.declared.refusal.RefusalKind.TheVariants.{Word, Number, Targets, Order, NoEnd}
 use Rattle.trace_text.specs.declared.line.LineRefusal.{LineRefusal}
@@ -72,3 +75,17 @@ stop_of (BadNumber place) = stop.Refused (Number place)
 stop_of BadTargets = stop.Refused Targets
 stop_of OutOfOrder = stop.Refused Order
 stop_of OutOfMemory = stop.OutOfMemory
+
+-- ---- a whole input
+
+-- What a run over the lines of a pair has read and written, by its outcome.
+abbrev pub PairRuns : Option (List ℕ) → Option (List ℕ) → Option (List ℕ) → Option (List ℕ) → LineOutcome → Type 0
+PairRuns = Runs line_means Opening
+
+-- The same in terms of an input that the source tells.
+abbrev pub IsPairOver : List ℕ → LineOutcome → Option (List ℕ) → Option (List ℕ) → Option (List ℕ) → Type 0
+IsPairOver = IsRunOver line_means Opening
+
+-- how an input ends, and at which line
+abbrev pub pair_verdict : List ℕ → Verdict
+pair_verdict = verdict_of line_means Opening

@@ -1,4 +1,4 @@
-use Rattle.std.proofs.Common.{[], ◌∷◌, Ok, Err, refl, sym}
+use Rattle.std.proofs.Common.{[], ◌∷◌, Err, refl, sym}
 use Rattle.line_run.specs.declared.stop.Stop.TheVariants.{Ended}
 use Rattle.pair_net.specs.Lines.{later_line}
 use Rattle.pair_net.specs.Replay.{step_means}

@@ -1,4 +1,4 @@
-use Rattle.std.proofs.Common.{eqb, length, arith, ap}
+use Rattle.std.proofs.Common.{eqb, arith}
 use Rattle.std.proofs.lemmas.List.Splits.{length-slice_split}
 use Rattle.std.proofs.lemmas.List.Sums.{count_by-le-length}
 use Rattle.pair_net.proofs.words.Words.of.Goals as goal
