@@ -11,7 +11,7 @@ use net_base::{NumberList, Octets, RefusalKind};
 use std::alloc::Global;
 use std::test::Fail;
 
-const USAGE: &str = "usage: replay | check | drill SEED COUNT | node CONF TOPO COUNT\n";
+const USAGE: &str = "usage: replay | check | pair | drill SEED COUNT | node CONF TOPO COUNT\n";
 
 // Peers that connect up to the hard limit, one that hangs up, and a handshake that never comes.
 const LIMITS: &str = "trace 1
