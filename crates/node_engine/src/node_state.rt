@@ -19,8 +19,8 @@ mod moves;
 use crate::Tally;
 use connections::Connections;
 use net_base::{
-    ActionList, Addr, AddrList, BigTargets, Cid, Event, Facts, OutOfMemory, Peer, Sequence, Settings,
-    Targets,
+    ActionList, Addr, AddrList, BigTargets, Cid, Event, Facts, OutOfMemory, Peer, Sequence,
+    Settings, Targets,
 };
 use peer_book::PeerBook;
 use pick_policy::{Picker, RankedPicker};
