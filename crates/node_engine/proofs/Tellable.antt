@@ -1,5 +1,5 @@
 -- What may be told to anyone stays where no address comes or goes.
-use Rattle.std.proofs.Common.{◌≡◌, ℕ, Bool, true, false, cond, List, [], ◌∷◌, map, Option, Some, None, refl, sym, ap, subst, ◌∙◌, inl, inr}
+use Rattle.std.proofs.Common.{◌≡◌, true, List, [], ◌∷◌, Option, Some, None, refl, sym, ap, subst, ◌∙◌, inl, inr}
 use Rattle.std.specs.Prelude.{IfSome, is_some, take, filter}
 use Rattle.std.proofs.lemmas.Bool.{cases_Bool}
 use Rattle.net_base.specs.Address.{same_address}
@@ -7,10 +7,8 @@ use Rattle.net_base.specs.declared.address.Addr.{Addr}
 use Rattle.net_base.specs.declared.event.Group.{Group}
 use Rattle.net_base.specs.declared.peer.Peer.{Peer}
 use Rattle.net_base.proofs.AddressOrder.{same_address-is}
-use Rattle.net_base.specs.Shared.{RootState}
 use Rattle.peer_book.specs.Book.{addresses_of, with_peer}
 use Rattle.peer_book.specs.Order.{IsRising}
-use Rattle.root_groups.specs.RootAsk.{may_ask, asked, awaits, failed}
 use Rattle.share_rounds.specs.Rounds.{AreTellable, is_advertised, most_tellable}
 
 addresses_stay : (new : Peer) (peers : List Peer) → addresses_of (with_peer new peers) ≡ addresses_of peers
@@ -48,16 +46,3 @@ pub tellable-there : (found : Option Peer) (change : Peer → Peer) (kept : Opti
 tellable-there None change kept peers others groups publics there changed are = absurd cc
 tellable-there (Some peer) change kept peers others groups publics there changed are =
     tellable-changed (Some peer) peer change kept peers others groups publics refl changed are
-
--- the public roots stay where they are asked for, and where the provider fails
-pub publics-asked : (now target : ℕ) (roots : RootState) → (cond (may_ask now target roots) (asked roots) roots).publics ≡ roots.publics
-publics-asked now target roots = elim (cases_Bool (may_ask now target roots)) [
-  | inl may ↦ rw may (refl)
-  | inr not_now ↦ rw not_now (refl)
-]
-
-pub publics-failed : (job now base : ℕ) (roots : RootState) → (cond (awaits job roots) (failed now base roots) roots).publics ≡ roots.publics
-publics-failed job now base roots = elim (cases_Bool (awaits job roots)) [
-  | inl pending ↦ rw pending (refl)
-  | inr other ↦ rw other (refl)
-]
