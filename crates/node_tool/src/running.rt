@@ -7,8 +7,9 @@ ghost use Rattle.net_base.specs.declared.refusal.RefusalKind.{RefusalKind};
 ghost use Rattle.trace_replay.specs.Again.{FitsTrace, TakesItsOwnOutput};
 ghost use Rattle.trace_replay.specs.Inputs.{IsDecided, StopsReading, StopsWriting, machine_after};
 ghost use Rattle.trace_replay.specs.Compare.{lines_found, lines_written};
-ghost use Rattle.trace_replay.specs.Drill.{drill_text};
+ghost use Rattle.trace_replay.specs.Drill.{drill_text, town_settings};
 ghost use Rattle.trace_replay.specs.Judgement.{ended, refused, too_long, judged};
+ghost use Rattle.trace_replay.specs.Lawful.{IsLawfulRun, town_events, counted_text};
 ghost use Rattle.trace_replay.specs.Output.{output_of};
 ghost use Rattle.trace_replay.specs.Replays.{verdict_of, TakesPrefix};
 ghost use Rattle.pair_net.specs.Law.{AgreeAlike, PipesEmpty, MeetingsAgreeInTurn, MeetingsAgree, CrossingsAgree};
@@ -24,7 +25,7 @@ use laws::{laws_of_events, laws_of_records};
 use pair_net::law::both_ends_agree;
 use pair_net::{PairOutcome, pair_run};
 use std::alloc::Global;
-use trace_replay::{Outcome, check, drill, outputs_agree, replay};
+use trace_replay::{Outcome, check, drill, drills_are_lawful, outputs_agree, replay};
 
 /// Does what the words of a command line say, from a source to a sink, and tells on another sink how it ended. The
 /// words stand without the program's name.
@@ -136,11 +137,16 @@ pub fn run<S: Source, K: Sink, E: Sink>(
     // What holds in every record that the events of an input reach, and at each event there.
     ensures records { (input : List ℕ) (count : ℕ) → IsLawfulRecord (machine_after count input) }
     ensures events { (input : List ℕ) (count : ℕ) (event : Event) → IsLawfulEvent (machine_after count input) event }
+
+    // What is told of a town is counted of the run of its events, and the same holds there.
+    ensures drill_counted { (seed count : ℕ) → drill_text seed count ≡ counted_text town_settings (town_events seed count) }
+    ensures drill_lawful { (seed count : ℕ) → IsLawfulRun town_settings (town_events seed count) }
 {
     laws_of_records();
     laws_of_events();
     outputs_agree();
     both_ends_agree();
+    drills_are_lawful();
     let status = answer(alloc, words, src, out);
     // A text that is not taken changes no status.
     let _ = tell(&status, err);
