@@ -2,7 +2,9 @@ ghost use Rattle.std.specs.Prelude.{◌≤◌};
 
 mod checking;
 mod drilling;
+mod place;
 mod rows;
+mod serving;
 
 use self::rows::ROWS;
 use crate::{Status, run};
@@ -63,6 +65,14 @@ fn octets(alloc: Global, text: &str) -> Result<Octets, Fail> {
 
 fn sink(alloc: Global) -> Result<MemSink, Fail> {
     Ok(MemSink::new(alloc, 4096, NumberList::new(alloc))?)
+}
+
+fn strings(alloc: Global, words: &[&str]) -> Result<Vec<String>, Fail> {
+    let mut given = Vec::new(alloc);
+    for word in words {
+        given.push(String::from_str(alloc, word)?)?;
+    }
+    Ok(given)
 }
 
 // Runs the words on an input, of which each reading gives at most so many bytes.
