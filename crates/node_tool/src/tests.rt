@@ -5,6 +5,7 @@ mod drilling;
 mod place;
 mod rows;
 mod serving;
+mod streams;
 
 use self::rows::ROWS;
 use crate::{Status, run};
@@ -64,7 +65,7 @@ fn octets(alloc: Global, text: &str) -> Result<Octets, Fail> {
 }
 
 fn sink(alloc: Global) -> Result<MemSink, Fail> {
-    Ok(MemSink::new(alloc, 4096, NumberList::new(alloc))?)
+    Ok(MemSink::new(alloc, 16_384, NumberList::new(alloc))?)
 }
 
 fn strings(alloc: Global, words: &[&str]) -> Result<Vec<String>, Fail> {
