@@ -2,7 +2,10 @@ ghost use Rattle.std.specs.Prelude.{◌≤◌};
 
 mod checking;
 mod drilling;
+mod place;
 mod rows;
+mod serving;
+mod streams;
 
 use self::rows::ROWS;
 use crate::{Status, run};
@@ -62,7 +65,15 @@ fn octets(alloc: Global, text: &str) -> Result<Octets, Fail> {
 }
 
 fn sink(alloc: Global) -> Result<MemSink, Fail> {
-    Ok(MemSink::new(alloc, 4096, NumberList::new(alloc))?)
+    Ok(MemSink::new(alloc, 16_384, NumberList::new(alloc))?)
+}
+
+fn strings(alloc: Global, words: &[&str]) -> Result<Vec<String>, Fail> {
+    let mut given = Vec::new(alloc);
+    for word in words {
+        given.push(String::from_str(alloc, word)?)?;
+    }
+    Ok(given)
 }
 
 // Runs the words on an input, of which each reading gives at most so many bytes.
