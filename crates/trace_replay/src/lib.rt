@@ -29,6 +29,3 @@ pub use law::{
 };
 pub use outcome::Outcome;
 pub use replaying::replay;
-
-#[cfg(test)]
-mod tests;

@@ -3,7 +3,6 @@ ghost use Rattle.net_base.specs.Bounds.{AreSound};
 ghost use Rattle.net_base.specs.Limits.{IsWithinLimits};
 
 use crate::tests::sink;
-use crate::{Outcome, drive};
 use net_base::{
     Action, Addr, AddrList, Away, Cid, Event, EventList, Ip, NumberList, Settings, StateName,
     Targets,
@@ -13,6 +12,7 @@ use node_world::{ScriptWorld, World};
 use std::alloc::Global;
 use std::process::Abort;
 use std::test::Fail;
+use trace_replay::{Outcome, drive};
 
 // 127.0.0.1 with a port.
 pub(super) fn local(port: u16) -> Addr {

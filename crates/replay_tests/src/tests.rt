@@ -1,11 +1,11 @@
 ghost use Rattle.std.specs.Prelude.{◌≤◌};
 
-use super::*;
 use io_edge::MemSink;
 use net_base::{NumberList, OutOfMemory};
 use std::alloc::Global;
 use std::process::Abort;
 use std::test::Fail;
+use trace_replay::{Outcome, drill};
 
 mod drives;
 
