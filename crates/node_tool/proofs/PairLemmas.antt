@@ -6,7 +6,7 @@ use Rattle.line_run.specs.Runs.{outcome_of, HasReadCount, HasWriteCount}
 use Rattle.line_run.specs.declared.outcome.LineOutcome.{LineOutcome}
 use Rattle.line_run.specs.declared.outcome.LineOutcome.TheVariants as outcome
 use Rattle.line_run.proofs.Inputs.{Runs-input}
-use Rattle.pair_net.specs.Replay.{IsPairOver, pair_verdict}
+use Rattle.pair_net.specs.Replay.{IsPairOver}
 use Rattle.node_tool.specs.Paired.{status_run, pair_status, HasPaired, HasPairedOver}
 use Rattle.node_tool.specs.Run.{IsAnswered, IsReplayStatus}
 use Rattle.node_tool.specs.declared.status.Status.{Status}
@@ -61,7 +61,7 @@ module _ (l0 l1 t0 t1 : Option (List ℕ)) (r0 r1 w0 w1 : ℕ) (status : Status)
 
   pub HasPaired-answered : (input : List ℕ) → HasPaired l0 l1 t0 t1 r0 r1 w0 w1 status → l0 ≡ Some input → IsAnswered (pair_status input) (Rose r0 r1) (Rose w0 w1) status
   HasPaired-answered input p told =
-      let over = HasPaired-over input p told in due_over input l1 t0 t1 r0 r1 w0 w1 status over.outcome over.told over.over p.reads p.writes
+      due_over input l1 t0 t1 r0 r1 w0 w1 status p.outcome p.told (Runs-input _ _ l0 l1 t0 t1 input p.outcome p.runs told) p.reads p.writes
 
 -- where no reading and no put failed it is the status that is due, but for want of memory
 pub answered-due : (due status : Status) (read write : Type 0) → IsAnswered due read write status → (read → ⊥) → (write → ⊥) → (status ≡ due) ⊎ (status ≡ OutOfMemory)
