@@ -1,0 +1,5 @@
+pub mod Rules
+pub mod Agreement
+pub mod Hearing
+pub mod Clients
+pub mod Kept

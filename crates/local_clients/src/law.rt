@@ -1,0 +1,1 @@
+//! Laws on clients, whatever function carries them out. The functions do nothing.
