@@ -1,0 +1,3 @@
+pub mod Answerable
+pub mod Streams
+pub mod Keeps

@@ -1,5 +1,5 @@
 -- What a node and a local client agree on: this project's own rule.
-use Rattle.std.specs.Prelude.{ℕ, Bool, true, false, ◌==◌, not, List, [], ◌∷◌, codes, find, IsTrue, if◌then◌else◌, Option, Some, None}
+use Rattle.std.specs.Prelude.{ℕ, true, false, ◌==◌, not, List, [], ◌∷◌, codes, find, IsTrue, if◌then◌else◌, Option, Some, None}
 use Rattle.std.specs.Option.{option_or}
 use Rattle.hs_message.specs.Info.{is_client_version}
 use Rattle.hs_message.specs.Canonical.{client_spelling}

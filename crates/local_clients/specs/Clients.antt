@@ -1,5 +1,5 @@
 -- The clients, and what each event does.
-use Rattle.std.specs.Prelude.{◌≡◌, ℕ, ◌+◌, Bool, not, nat_le, List, [], ◌∷◌, ◌++◌, length, map, filter, if◌then◌else◌, Option, Some, None}
+use Rattle.std.specs.Prelude.{ℕ, ◌+◌, Bool, not, nat_le, List, [], ◌∷◌, ◌++◌, length, map, filter, if◌then◌else◌, Option, Some, None}
 use Rattle.std.specs.Option.{option_map}
 use Rattle.std.specs.Ordering.{nat_cmp}
 use Rattle.std.specs.Map.{lookup, remove_entry}
@@ -11,23 +11,22 @@ use Rattle.local_clients.specs.declared.action.ClientAction.TheVariants as actio
 use Rattle.local_clients.specs.declared.action.ClientCause.TheVariants.{Fault}
 use Rattle.local_clients.specs.declared.client.GreetingClient.{GreetingClient}
 use Rattle.local_clients.specs.declared.client.OpenClient.{OpenClient}
-use Rattle.local_clients.specs.declared.context.Context.{Context}
 use Rattle.local_clients.specs.declared.event.ClientEvent.{ClientEvent}
 use Rattle.local_clients.specs.declared.event.ClientEvent.TheVariants.{Now, Joined, Bytes, Gone}
 use Rattle.local_clients.specs.declared.phase.Phase.{Phase}
 use Rattle.local_clients.specs.declared.phase.Phase.TheVariants.{Greeting, Open}
 use Rattle.local_clients.specs.declared.rules.ClientRules.{ClientRules}
-use Rattle.local_clients.specs.Hearing.{Heard, heard}
+use Rattle.local_clients.specs.Hearing.{heard}
 
 -- the clients by id, in order: those that still greet, and those that are open
 pub record ClientTable : Type 0 where
-  pub now : ℕ
+  pub moment : ℕ
   pub next_id : ℕ
   pub greeting : List (ℕ × GreetingClient)
   pub opened : List (ℕ × OpenClient)
 
 abbrev pub no_clients : ClientTable
-no_clients = record { now = 0; next_id = 1; greeting = []; opened = [] }
+no_clients = record { moment = 0; next_id = 1; greeting = []; opened = [] }
 
 -- how many clients there are
 abbrev pub live : ClientTable → ℕ
@@ -70,18 +69,18 @@ waited_too_long entry = action.Close entry.0 (Fault HandshakeWait)
 -- Those whose time is over are closed, in order of id. It is the order of their deadlines too, as all have the same time.
 abbrev pub clock_shows : ℕ → ClientTable → Stepped
 clock_shows moment t =
-    if nat_le moment t.now then nothing_done t
+    if nat_le moment t.moment then nothing_done t
     else record {
-      table = record { now = moment; next_id = t.next_id; greeting = filter (λ entry. not (is_due moment entry)) t.greeting; opened = t.opened };
+      table = record { moment = moment; next_id = t.next_id; greeting = filter (λ entry. not (is_due moment entry)) t.greeting; opened = t.opened };
       actions = map waited_too_long (filter (is_due moment) t.greeting);
     }
 
 -- one more client, under the next id
 abbrev pub admitted : ℕ → ClientTable → ClientTable
 admitted wait t = record {
-  now = t.now;
+  moment = t.moment;
   next_id = t.next_id + 1;
-  greeting = with_client t.next_id (record { until = t.now + wait; rest = []; part = [] }) t.greeting;
+  greeting = with_client t.next_id (record { until = t.moment + wait; rest = []; part = [] }) t.greeting;
   opened = t.opened;
 }
 
@@ -91,19 +90,19 @@ joins rules t =
     else record { table = admitted rules.wait t; actions = action.Admit t.next_id ∷ [] }
 
 abbrev pub leaves : ℕ → ClientTable → ClientTable
-leaves id t = record { now = t.now; next_id = t.next_id; greeting = without id t.greeting; opened = without id t.opened }
+leaves id t = record { moment = t.moment; next_id = t.next_id; greeting = without id t.greeting; opened = without id t.opened }
 
 -- a client that was taken out is put back as far as it has come, with the bytes that are no whole segment yet
 abbrev pub put_back : ℕ → Option (Phase × List ℕ) → ClientTable → ClientTable
 put_back id None t = t
 put_back id (Some (Greeting until part, rest)) t = record {
-  now = t.now;
+  moment = t.moment;
   next_id = t.next_id;
   greeting = with_client id (record { until = until; rest = rest; part = part }) t.greeting;
   opened = t.opened;
 }
 put_back id (Some (Open version, rest)) t = record {
-  now = t.now;
+  moment = t.moment;
   next_id = t.next_id;
   greeting = t.greeting;
   opened = with_client id (record { version = version; rest = rest }) t.opened;
@@ -113,7 +112,7 @@ put_back id (Some (Open version, rest)) t = record {
 abbrev pub hears : ClientRules → ℕ → Phase → List ℕ → ClientTable → Stepped
 hears rules id phase stream t =
     let c = cut_of stream in
-    let h = heard (record { client = id; magic = rules.magic; moment = t.now }) phase c.segments in
+    let h = heard (record { client = id; magic = rules.magic; moment = t.moment }) phase c.segments in
     record { table = put_back id (option_map (λ next. (next, c.rest)) h.phase) t; actions = h.actions }
 
 -- new bytes follow the rest

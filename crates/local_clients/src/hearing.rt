@@ -23,6 +23,7 @@ use std::alloc::Global;
 const HANDSHAKE_LIMIT: usize = 5760;
 
 /// How far a client comes by a segment, or None where it is closed.
+#[tactic(auto, unfolding(crate::specs::Hearing::segment_heard))]
 pub(crate) fn hear_segment(
     alloc: Global,
     context: &Context,

@@ -18,7 +18,7 @@ use std::marker::Model;
 #[derive(Debug, Drop)]
 pub(crate) struct Table {
     alloc: Global,
-    now: u64,
+    moment: u64,
     next_id: u64,
     greeting: BTreeMap<u64, GreetingClient>,
     opened: BTreeMap<u64, OpenClient>,
@@ -30,7 +30,7 @@ impl Model for Table {
     ghost Value = { ClientTable };
 
     ghost view = { λ t. record {
-      now = t.now;
+      moment = t.moment;
       next_id = t.next_id;
       greeting = t.greeting.entries;
       opened = t.opened.entries;
@@ -44,7 +44,7 @@ impl Table {
     {
         Table {
             alloc,
-            now: 0,
+            moment: 0,
             next_id: 1,
             greeting: BTreeMap::new(alloc),
             opened: BTreeMap::new(alloc),
@@ -71,7 +71,7 @@ impl Table {
     ) -> Result<ClientActions, OutOfMemory>
         requires rise { RiseInTime self.old.greeting }
         requires id { self.old.next_id < 2 ^ 48 }
-        requires now { self.old.now ≤ 2 ^ 48 }
+        requires moment { self.old.moment ≤ 2 ^ 48 }
         requires wait { rules.now.wait ≤ 86400000 }
         ensures table { OnOk result (self.new ≡ (stepped rules.now event.now self.old).table) }
         ensures actions { IfOk result (λ actions. actions ≡ (stepped rules.now event.now self.old).actions) }
@@ -94,10 +94,10 @@ impl Table {
         ensures actions { IfOk result (λ actions. actions ≡ (clock_shows moment self.old).actions) }
     {
         let mut actions = ClientActions::new(self.alloc);
-        if moment <= self.now {
+        if moment <= self.moment {
             return Ok(actions);
         }
-        self.now = moment;
+        self.moment = moment;
         close_late(&mut self.greeting, moment, &mut actions)?;
         Ok(actions)
     }
@@ -105,7 +105,7 @@ impl Table {
     // One more client connects.
     fn joins(&mut self, rules: &ClientRules) -> Result<ClientActions, OutOfMemory>
         requires id { self.old.next_id < 2 ^ 48 }
-        requires now { self.old.now ≤ 2 ^ 48 }
+        requires moment { self.old.moment ≤ 2 ^ 48 }
         requires wait { rules.now.wait ≤ 86400000 }
         ensures table { OnOk result (self.new ≡ (joins rules.now self.old).table) }
         ensures actions { IfOk result (λ actions. actions ≡ (joins rules.now self.old).actions) }
@@ -123,14 +123,14 @@ impl Table {
     // Lets a client in under the next id.
     fn admit(&mut self, wait: u64) -> Result<u64, OutOfMemory>
         requires id { self.old.next_id < 2 ^ 48 }
-        requires now { self.old.now ≤ 2 ^ 48 }
+        requires moment { self.old.moment ≤ 2 ^ 48 }
         requires wait { wait ≤ 86400000 }
         ensures table { OnOk result (self.new ≡ admitted wait self.old) }
         ensures id { IfOk result (λ id. id ≡ self.old.next_id) }
     {
         let id = self.next_id;
         let client = GreetingClient {
-            until: self.now + wait,
+            until: self.moment + wait,
             rest: Octets::new(self.alloc),
             part: Waiting::new(self.alloc),
         };
@@ -187,7 +187,7 @@ impl Table {
         let context = Context {
             client: id,
             magic: rules.magic,
-            moment: self.now,
+            moment: self.moment,
         };
         let read = hear(self.alloc, &context, phase, rest, bytes, &mut actions)?;
         self.put_back(id, read)?;
