@@ -1,11 +1,11 @@
 -- What stands of the clients stands after each event.
-use Rattle.std.proofs.Common.{Less, Equal, Greater, ◌≡◌, ℕ, ◌+◌, ◌^◌, ◌≤◌, ◌<◌, Bool, true, false, cond, eqb, ltb, leb, not, ◌⊎◌, List, [], ◌∷◌, ◌++◌, length, take, drop, Option, Some, None, Result, Ok, Err, refl, sym, ap, subst, ◌∙◌, arith, inl, inr}
+use Rattle.std.proofs.Common.{◌≡◌, ℕ, ◌+◌, ◌^◌, ◌≤◌, ◌<◌, Bool, true, false, cond, eqb, leb, not, List, [], ◌∷◌, ◌++◌, length, take, drop, Option, Some, None, Result, Ok, Err, refl, sym, ap, subst, ◌∙◌, arith, inl, inr}
 use Rattle.std.specs.Prelude.{filter}
 use Rattle.std.specs.List.{AllByRecursion}
 use Rattle.std.specs.Option.{option_map}
 use Rattle.std.specs.declared.cmp.Ordering.{Ordering}
 use Rattle.std.specs.Ordering.{nat_cmp, is_eq}
-use Rattle.std.proofs.lemmas.Bool.{cases_Bool, eqb-true, ne_eqb, lt-ltb, le-ltb, le-leb, lt-leb, leb-false}
+use Rattle.std.proofs.lemmas.Bool.{cases_Bool, eqb-true, eqb-false, le-leb, lt-leb, leb-false}
 use Rattle.cbor_items.specs.Scan.{scan_of}
 use Rattle.mux_segment.specs.declared.fault.CutFault.{CutFault}
 use Rattle.mux_segment.specs.Segment.{Segment, cut_of}
@@ -28,114 +28,9 @@ use Rattle.local_clients.specs.Rules.{CanHappen}
 use Rattle.local_clients.specs.Agreement.{decision_of}
 use Rattle.local_clients.specs.Hearing.{Heard, decided, item_heard, handshake_limit, first_heard, header_fault, payload_heard, heard_unless, segment_heard, then_heard, heard}
 use Rattle.local_clients.specs.Clients.{ClientTable, ClientsState, live, client_at, without, with_client, is_due, clock_shows, admitted, joins, leaves, put_back, hears_client, stepped}
-use Rattle.local_clients.specs.Kept.{IsLater, RiseInTime, IsFirstInTime, IsGiven, AreKept}
-
--- ---- how two ids compare
-
-below : (m n : ℕ) → m < n → nat_cmp m n ≡ Less
-below m n lt = rw (lt-ltb m n lt) refl
-
-above : (m n : ℕ) → n < m → nat_cmp m n ≡ Greater
-above m n lt = rw (le-ltb m n (omega arith), ne_eqb m n (λ e. absurd (omega (arith, e)))) refl
-
--- an id is another one, or the same
-compared : (m n : ℕ) → ((m ≡ n) × (nat_cmp m n ≡ Equal)) ⊎ (is_eq (nat_cmp m n) ≡ false)
-compared m n =
-    elim (cases_Bool (ltb m n)) [
-      | inl lt ↦ inr (rw lt refl)
-      | inr ge ↦ elim (cases_Bool (eqb m n)) [
-        | inl eq ↦ inl (eqb-true m n eq, rw (ge, eq) refl)
-        | inr ne ↦ inr (rw (ge, ne) refl)
-      ]
-    ]
-
--- ---- a fact of each client
-
-module _ {X : Type 0} where
-  all_without : (P : ℕ × X → Type 0) (id : ℕ) (es : List (ℕ × X)) → AllByRecursion P es → AllByRecursion P (without id es)
-  all_without P id [] all = tt
-  all_without P id (e ∷ es) all =
-      elim (cases_Bool (is_eq (nat_cmp id e.0))) [
-        | inl at ↦ rw at all.1
-        | inr not_at ↦ rw not_at (all.0, all_without P id es all.1)
-      ]
-
-  all_with : (P : ℕ × X → Type 0) (id : ℕ) (x : X) (es : List (ℕ × X)) → AllByRecursion P es → P (id, x) → AllByRecursion P (with_client id x es)
-  all_with P id x [] all here = (here, tt)
-  all_with P id x (e ∷ es) all here =
-      elim (cases_Bool (ltb id e.0)) [
-        | inl lt ↦ rw lt (here, all)
-        | inr ge ↦ elim (cases_Bool (eqb id e.0)) [
-          | inl eq ↦ let same : id ≡ e.0 = eqb-true id e.0 eq in rw (ge, eq) (subst (λ (k : ℕ). P (k, x)) same here, all.1)
-          | inr ne ↦ rw (ge, ne) (all.0, all_with P id x es all.1 here)
-        ]
-      ]
-
-  all_filter : (P : ℕ × X → Type 0) (test : ℕ × X → Bool) (es : List (ℕ × X)) → AllByRecursion P es → AllByRecursion P (filter test es)
-  all_filter P test [] all = tt
-  all_filter P test (e ∷ es) all =
-      elim (cases_Bool (test e)) [
-        | inl passes ↦ rw passes (all.0, all_filter P test es all.1)
-        | inr fails ↦ rw fails (all_filter P test es all.1)
-      ]
-
-  all_to : (P Q : ℕ × X → Type 0) (es : List (ℕ × X)) → ((e : ℕ × X) → P e → Q e) → AllByRecursion P es → AllByRecursion Q es
-  all_to P Q [] to all = tt
-  all_to P Q (e ∷ es) to all = (to e all.0, all_to P Q es to all.1)
-
-  -- what is found is one of them
-  all_found : (P : ℕ × X → Type 0) (id : ℕ) (x : X) (es : List (ℕ × X)) → AllByRecursion P es → client_at id es ≡ Some x → P (id, x)
-  all_found P id x [] all found = absurd cc
-  all_found P id x (e ∷ es) all found =
-      elim (compared id e.0) [
-        | inl (same, equal) ↦
-            let here : Some e.1 ≡ Some x = ap (λ (o : Ordering). cond (is_eq o) (Some e.1) (client_at id es)) (sym equal) ∙ found in
-            let is : e.1 ≡ x = cc in
-            subst (λ (k : ℕ). P (k, x)) (sym same) (subst (λ (y : X). P (e.0, y)) is all.0)
-        | inr other ↦
-            let later : client_at id es ≡ Some x = ap (λ (b : Bool). cond b (Some e.1) (client_at id es)) (sym other) ∙ found in
-            all_found P id x es all.1 later
-      ]
-
-  -- ---- how many there are
-
-  fewer_without : (id : ℕ) (es : List (ℕ × X)) → length (without id es) ≤ length es
-  fewer_without id [] = omega arith
-  fewer_without id (e ∷ es) =
-      elim (cases_Bool (is_eq (nat_cmp id e.0))) [
-        | inl at ↦ rw at (omega arith)
-        | inr not_at ↦ rw not_at (omega (arith, fewer_without id es))
-      ]
-
-  -- one fewer, where it was there
-  one_fewer : (id : ℕ) (x : X) (es : List (ℕ × X)) → client_at id es ≡ Some x → length (without id es) + 1 ≤ length es
-  one_fewer id x [] found = absurd cc
-  one_fewer id x (e ∷ es) found =
-      elim (cases_Bool (is_eq (nat_cmp id e.0))) [
-        | inl at ↦ rw at (omega arith)
-        | inr not_at ↦
-            let later : client_at id es ≡ Some x = ap (λ (b : Bool). cond b (Some e.1) (client_at id es)) (sym not_at) ∙ found in
-            rw not_at (omega (arith, one_fewer id x es later))
-      ]
-
-  one_more : (id : ℕ) (x : X) (es : List (ℕ × X)) → length (with_client id x es) ≤ length es + 1
-  one_more id x [] = omega arith
-  one_more id x (e ∷ es) =
-      elim (cases_Bool (ltb id e.0)) [
-        | inl lt ↦ rw lt (omega arith)
-        | inr ge ↦ elim (cases_Bool (eqb id e.0)) [
-          | inl eq ↦ rw (ge, eq) (omega arith)
-          | inr ne ↦ rw (ge, ne) (omega (arith, one_more id x es))
-        ]
-      ]
-
-  fewer_filter : (test : ℕ × X → Bool) (es : List (ℕ × X)) → length (filter test es) ≤ length es
-  fewer_filter test [] = omega arith
-  fewer_filter test (e ∷ es) =
-      elim (cases_Bool (test e)) [
-        | inl passes ↦ rw passes (omega (arith, fewer_filter test es))
-        | inr fails ↦ rw fails (omega (arith, fewer_filter test es))
-      ]
+use Rattle.local_clients.specs.Kept.{IdsRise, IsLater, RiseInTime, IsFirstInTime, IsGiven, AreApart, AreKept}
+use Rattle.local_clients.proofs.Lists.{below, above, compared, all_without, all_with, all_filter, all_to, all_found, fewer_without, one_fewer, one_more, fewer_filter}
+use Rattle.local_clients.proofs.Ids.{gone_without, other_without, other_with, absent_filter, ids_without, ids_with}
 
 -- ---- the order in time
 
@@ -210,6 +105,10 @@ pub none_is_late : (now : ℕ) (es : List (ℕ × GreetingClient)) → IsFirstIn
 none_is_late now [] early rise = (refl, refl)
 none_is_late now (e ∷ es) early rise =
     none_late now e.1.until (e ∷ es) early (omega arith, all_to (IsLater e) (λ l. e.1.until ≤ l.1.until) es (λ l later. later.1) rise.0)
+
+pub ids_of_time : (es : List (ℕ × GreetingClient)) → RiseInTime es → IdsRise es
+ids_of_time [] rise = tt
+ids_of_time (e ∷ es) rise = (all_to (IsLater e) (λ l. e.0 < l.0) es (λ l later. later.0) rise.0, ids_of_time es rise.1)
 
 -- ---- how a client comes on: its time stays while it greets, and its version once it is open
 
@@ -314,6 +213,9 @@ module _ (c : ClientsState) (few : c.taken < 1000000) (kept : AreKept c) where
     limit = kept.limit;
     given = kept.given;
     rise = kept.rise;
+    opened_given = kept.opened_given;
+    opened_rise = kept.opened_rise;
+    apart = kept.apart;
   }
 
   clock_kept : (moment : ℕ) → moment ≤ 2 ^ 48 → AreKept (after (clock_shows moment c.table).table)
@@ -335,6 +237,9 @@ module _ (c : ClientsState) (few : c.taken < 1000000) (kept : AreKept c) where
               limit = omega (arith, kept.limit, fewer_filter stays greeting);
               given = all_filter (IsGiven c.rules.wait t) stays greeting given;
               rise = rise_filter stays greeting kept.rise;
+              opened_given = kept.opened_given;
+              opened_rise = kept.opened_rise;
+              apart = λ q client found. absent_filter stays q greeting (kept.apart q client found);
             } in
             rw late is
       ]
@@ -358,8 +263,29 @@ module _ (c : ClientsState) (few : c.taken < 1000000) (kept : AreKept c) where
               limit = omega (arith, leb-false c.rules.limit (live c.table) room, one_more id client greeting);
               given = all_with (IsGiven c.rules.wait t) id client greeting given (omega arith, omega arith);
               rise = rise_last id client greeting (all_to (IsGiven c.rules.wait c.table) (λ e. IsLater e (id, client)) greeting (λ e g. g) kept.given) kept.rise;
+              opened_given = all_to (λ (e : ℕ × OpenClient). e.0 < id) (λ e. e.0 < id + 1) c.table.opened (λ e g. omega (arith, g)) kept.opened_given;
+              opened_rise = kept.opened_rise;
+              apart = λ q one found.
+                  let given_before = all_found (λ (e : ℕ × OpenClient). e.0 < id) q one c.table.opened kept.opened_given found in
+                  other_with q id client greeting (λ is. absurd (omega (arith, is, given_before))) ∙ kept.apart q one found;
             } in
             rw room is
+      ]
+
+  opened_given_without : (id : ℕ) → AllByRecursion (λ e. e.0 < c.table.next_id) (without id c.table.opened)
+  opened_given_without id = all_without (λ (e : ℕ × OpenClient). e.0 < c.table.next_id) id c.table.opened kept.opened_given
+
+  -- who was taken out is not among the others
+  apart_without : (id : ℕ) → AreApart (leaves id c.table)
+  apart_without id q client found =
+      elim (cases_Bool (eqb q id)) [
+        | inl same ↦
+            let is : q ≡ id = eqb-true q id same in
+            rw is (gone_without id c.table.greeting (ids_of_time c.table.greeting kept.rise))
+        | inr other ↦
+            let ne = eqb-false q id other in
+            other_without q id c.table.greeting ne
+            ∙ kept.apart q client (sym (other_without q id c.table.opened ne) ∙ found)
       ]
 
   left_kept : (id : ℕ) → AreKept (after (leaves id c.table))
@@ -371,7 +297,22 @@ module _ (c : ClientsState) (few : c.taken < 1000000) (kept : AreKept c) where
     limit = omega (arith, kept.limit, fewer_without id c.table.greeting, fewer_without id c.table.opened);
     given = all_without (IsGiven c.rules.wait c.table) id c.table.greeting kept.given;
     rise = rise_without id c.table.greeting kept.rise;
+    opened_given = opened_given_without id;
+    opened_rise = ids_without id c.table.opened kept.opened_rise;
+    apart = apart_without id;
   }
+
+  opened_apart : (id : ℕ) (client : OpenClient) (q : ℕ) (one : OpenClient) → client_at q (with_client id client (without id c.table.opened)) ≡ Some one
+      → client_at q (without id c.table.greeting) ≡ None
+  opened_apart id client q one there =
+      elim (cases_Bool (eqb q id)) [
+        | inl same ↦
+            let is : q ≡ id = eqb-true q id same in
+            rw is (gone_without id c.table.greeting (ids_of_time c.table.greeting kept.rise))
+        | inr other ↦
+            let ne = eqb-false q id other in
+            apart_without id q one (sym (other_with q id client (without id c.table.opened) ne) ∙ there)
+      ]
 
   -- a client that was taken out comes on
   greeter_kept : (id : ℕ) (old : GreetingClient) (rest : List ℕ) (next : Option Phase) → client_at id c.table.greeting ≡ Some old
@@ -390,6 +331,16 @@ module _ (c : ClientsState) (few : c.taken < 1000000) (kept : AreKept c) where
         given = all_with (IsGiven c.rules.wait c.table) id client (without id greeting) (all_without (IsGiven c.rules.wait c.table) id greeting kept.given)
             (was.0, omega (arith, was.1, comes));
         rise = rise_back id old client greeting found comes kept.rise;
+        opened_given = opened_given_without id;
+        opened_rise = ids_without id c.table.opened kept.opened_rise;
+        apart = λ q one there. elim (cases_Bool (eqb q id)) [
+          | inl same ↦
+              let is : q ≡ id = eqb-true q id same in
+              let gone = gone_without id c.table.opened kept.opened_rise in
+              let here : client_at id (without id c.table.opened) ≡ Some one = ap (λ (n : ℕ). client_at n (without id c.table.opened)) (sym is) ∙ there in
+              absurd cc
+          | inr other ↦ other_with q id client (without id greeting) (eqb-false q id other) ∙ apart_without id q one there
+        ];
       }
   greeter_kept id old rest (Some (Open version)) found comes =
       let greeting = c.table.greeting in
@@ -403,6 +354,10 @@ module _ (c : ClientsState) (few : c.taken < 1000000) (kept : AreKept c) where
         limit = omega (arith, kept.limit, one_fewer id old greeting found, one_more id client (without id opened), fewer_without id opened);
         given = all_without (IsGiven c.rules.wait c.table) id greeting kept.given;
         rise = rise_without id greeting kept.rise;
+        opened_given = all_with (λ (e : ℕ × OpenClient). e.0 < c.table.next_id) id client (without id opened) (opened_given_without id)
+            (all_found (IsGiven c.rules.wait c.table) id old greeting kept.given found).0;
+        opened_rise = ids_with id client (without id opened) (ids_without id opened kept.opened_rise);
+        apart = opened_apart id client;
       }
 
   opened_kept : (id : ℕ) (old : OpenClient) (rest : List ℕ) (next : Option Phase) → client_at id c.table.opened ≡ Some old
@@ -421,6 +376,10 @@ module _ (c : ClientsState) (few : c.taken < 1000000) (kept : AreKept c) where
         limit = omega (arith, kept.limit, fewer_without id greeting, one_more id client (without id opened), one_fewer id old opened found);
         given = all_without (IsGiven c.rules.wait c.table) id greeting kept.given;
         rise = rise_without id greeting kept.rise;
+        opened_given = all_with (λ (e : ℕ × OpenClient). e.0 < c.table.next_id) id client (without id opened) (opened_given_without id)
+            (all_found (λ (e : ℕ × OpenClient). e.0 < c.table.next_id) id old opened kept.opened_given found);
+        opened_rise = ids_with id client (without id opened) (ids_without id opened kept.opened_rise);
+        apart = opened_apart id client;
       }
 
   heard_kept : (id : ℕ) (bytes : List ℕ) (greeter : Option GreetingClient) (open_one : Option OpenClient) → client_at id c.table.greeting ≡ greeter

@@ -2,8 +2,14 @@
 use Rattle.std.specs.Prelude.{◌≡◌, ℕ, ◌+◌, ◌^◌, ◌≤◌, ◌<◌, List, [], ◌∷◌, Option, Some, None}
 use Rattle.std.specs.List.{AllByRecursion}
 use Rattle.local_clients.specs.declared.client.GreetingClient.{GreetingClient}
+use Rattle.local_clients.specs.declared.client.OpenClient.{OpenClient}
 use Rattle.local_clients.specs.Rules.{AreInRange}
-use Rattle.local_clients.specs.Clients.{ClientTable, ClientsState, live}
+use Rattle.local_clients.specs.Clients.{ClientTable, ClientsState, live, client_at}
+
+-- the ids rise
+abbrev pub IdsRise : {X : Type 0} → List (ℕ × X) → Type 0
+IdsRise [] = Unit {0}
+IdsRise (entry ∷ entries) = AllByRecursion (λ later. entry.0 < later.0) entries × IdsRise entries
 
 -- a client joined later, and may shake hands as long or longer
 abbrev pub IsLater : ℕ × GreetingClient → ℕ × GreetingClient → Type 0
@@ -27,6 +33,10 @@ TakesLate now old None new = (new ≡ old) × IsFirstInTime now old
 abbrev pub IsGiven : ℕ → ClientTable → ℕ × GreetingClient → Type 0
 IsGiven wait t entry = (entry.0 < t.next_id) × (entry.1.until ≤ t.moment + wait)
 
+-- no client that is open greets too
+abbrev pub AreApart : ClientTable → Type 0
+AreApart t = (id : ℕ) (client : OpenClient) → client_at id t.opened ≡ Some client → client_at id t.greeting ≡ None
+
 pub record AreKept (c : ClientsState) : Type 0 where
   pub ranges : AreInRange c.rules
   pub few : c.taken ≤ 1000000
@@ -35,3 +45,6 @@ pub record AreKept (c : ClientsState) : Type 0 where
   pub limit : live c.table ≤ c.rules.limit
   pub given : AllByRecursion (IsGiven c.rules.wait c.table) c.table.greeting
   pub rise : RiseInTime c.table.greeting
+  pub opened_given : AllByRecursion (λ entry. entry.0 < c.table.next_id) c.table.opened
+  pub opened_rise : IdsRise c.table.opened
+  pub apart : AreApart c.table

@@ -3,3 +3,4 @@ pub mod Agreement
 pub mod Hearing
 pub mod Clients
 pub mod Kept
+pub mod Law

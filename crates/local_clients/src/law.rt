@@ -1,1 +1,23 @@
-//! Laws on clients, whatever function carries them out. The functions do nothing.
+//! Laws on the clients over whole runs, whatever function carries them out. The functions do nothing.
+
+ghost use Rattle.local_clients.specs.Law.{AreFew, AreTurnedAway, PiecesDoNotMatter, OpenClientsStay};
+
+/// There are never more clients than the limit.
+pub fn clients_are_few()
+    ensures { AreFew }
+{}
+
+/// A client is turned away exactly where it joins while there are as many as the limit.
+pub fn clients_are_turned_away()
+    ensures { AreTurnedAway }
+{}
+
+/// What is done does not depend on the pieces in which the bytes of a client come.
+pub fn pieces_do_not_matter()
+    ensures { PiecesDoNotMatter }
+{}
+
+/// An open client goes only where it says so, or by a fault of its own bytes.
+pub fn open_clients_stay()
+    ensures { OpenClientsStay }
+{}

@@ -21,3 +21,6 @@ pub use action::{ClientAction, ClientActions, ClientCause};
 pub use clients::Clients;
 pub use event::ClientEvent;
 pub use rules::ClientRules;
+
+#[cfg(test)]
+mod tests;
