@@ -32,7 +32,7 @@ use Rattle.local_clients.specs.Agreement.{decision_of}
 use Rattle.local_clients.specs.Hearing.{Heard, goes_on, faults, decided, item_heard, handshake_limit, first_heard, is_client_protocol, header_fault, payload_heard, heard_unless, segment_heard, then_heard, heard}
 use Rattle.local_clients.specs.Clients.{ClientTable, ClientsState, no_clients, live, client_at, without, version_of, open_version, Stepped, nothing_done, is_due, waited_too_long, leaves, put_back, hears, hears_client, bytes_come, stepped}
 use Rattle.local_clients.specs.Kept.{IdsRise, AreKept}
-use Rattle.local_clients.specs.Law.{run, AreReached, AreFew, IsTurnaway, AreTurnedAway, PiecesDoNotMatter, IsOpenFault, ClosesForBytes, OpenClientsStay}
+use Rattle.local_clients.specs.Law.{run, AreReached, AreFew, RiseInTheirTime, IsTurnaway, AreTurnedAway, PiecesDoNotMatter, IsOpenFault, ClosesForBytes, OpenClientsStay}
 use Rattle.local_clients.proofs.Ids.{gone_without, other_without, here_with, other_with, without_absent, without_with}
 use Rattle.local_clients.proofs.Keeps.{ids_of_time, kept_after}
 
@@ -72,6 +72,9 @@ reached rules t r =
 
 pub are_few : AreFew
 are_few rules t r = (reached rules t r).limit
+
+pub rise_in_their_time : RiseInTheirTime
+rise_in_their_time rules t r = (reached rules t r).rise
 
 -- ---- who is turned away
 

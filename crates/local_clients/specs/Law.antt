@@ -10,6 +10,7 @@ use Rattle.local_clients.specs.declared.event.ClientEvent.{ClientEvent}
 use Rattle.local_clients.specs.declared.event.ClientEvent.TheVariants.{Joined, Bytes, Gone}
 use Rattle.local_clients.specs.declared.rules.ClientRules.{ClientRules}
 use Rattle.local_clients.specs.Rules.{AreInRange, CanHappen}
+use Rattle.local_clients.specs.Kept.{RiseInTime}
 use Rattle.local_clients.specs.Clients.{ClientTable, no_clients, live, open_version, Stepped, nothing_done, bytes_come, stepped}
 
 -- one event after the other
@@ -31,6 +32,11 @@ pub record AreReached (rules : ClientRules) (t : ClientTable) : Type 0 where
 -- There are never more clients than the limit.
 abbrev pub AreFew : Type 0
 AreFew = (rules : ClientRules) (t : ClientTable) → AreReached rules t → live t ≤ rules.limit
+
+-- The clients that greet stand in order of their deadlines, and of their ids where these are the same. So late ones are closed
+-- in that order.
+abbrev pub RiseInTheirTime : Type 0
+RiseInTheirTime = (rules : ClientRules) (t : ClientTable) → AreReached rules t → RiseInTime t.greeting
 
 -- ---- who is turned away
 

@@ -1,10 +1,15 @@
 //! Laws on the clients over whole runs, whatever function carries them out. The functions do nothing.
 
-ghost use Rattle.local_clients.specs.Law.{AreFew, AreTurnedAway, PiecesDoNotMatter, OpenClientsStay};
+ghost use Rattle.local_clients.specs.Law.{AreFew, RiseInTheirTime, AreTurnedAway, PiecesDoNotMatter, OpenClientsStay};
 
 /// There are never more clients than the limit.
 pub fn clients_are_few()
     ensures { AreFew }
+{}
+
+/// Clients that greet stand in order of their deadlines, and of their ids where these are the same.
+pub fn greeting_clients_rise_in_time()
+    ensures { RiseInTheirTime }
 {}
 
 /// A client is turned away exactly where it joins while there are as many as the limit.
