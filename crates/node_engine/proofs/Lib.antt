@@ -10,3 +10,4 @@ pub mod Going
 pub mod LocalUse
 pub mod RuleSteps
 pub mod Together
+pub mod Tellable

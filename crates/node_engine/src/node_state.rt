@@ -19,7 +19,8 @@ mod moves;
 use crate::Tally;
 use connections::Connections;
 use net_base::{
-    ActionList, Addr, BigTargets, Cid, Event, Facts, OutOfMemory, Peer, Sequence, Settings, Targets,
+    ActionList, Addr, AddrList, BigTargets, Cid, Event, Facts, OutOfMemory, Peer, Sequence,
+    Settings, Targets,
 };
 use peer_book::PeerBook;
 use pick_policy::{Picker, RankedPicker};
@@ -38,19 +39,22 @@ pub struct NodeState {
     groups: Groups,
     roots: Roots,
     book: PeerBook,
+    // what may be told to anyone, from the first request for addresses on until something changes that
+    tellable: Option<AddrList>,
     connections: Connections,
 }
 
 impl Model for NodeState {
-    ghost use Rattle.std.specs.Prelude.{◌≤◌, ◌^◌};
+    ghost use Rattle.std.specs.Prelude.{◌≤◌, ◌^◌, IfSome};
     ghost use Rattle.machine.specs.Machine.{Machine};
     ghost use Rattle.node_engine.specs.State.{machine_of};
+    ghost use Rattle.share_rounds.specs.Rounds.{AreTellable};
 
     ghost Value = { Machine };
 
     ghost view = { λ s. machine_of s.moment s.targets s.big_targets s.groups s.roots s.book s.connections };
 
-    ghost invariant = { λ s. s.moment ≤ 2 ^ 48 };
+    ghost invariant = { λ s. (s.moment ≤ 2 ^ 48) × IfSome s.tellable (λ addrs. AreTellable addrs s.book s.groups s.roots.publics) };
 }
 
 impl NodeState {
@@ -76,6 +80,7 @@ impl NodeState {
             groups: Groups::new(alloc),
             roots: Roots::new(alloc),
             book: PeerBook::new(alloc),
+            tellable: None,
             connections: Connections::new(alloc, settings),
         }
     }

@@ -7,9 +7,11 @@ use Rattle.trace_replay.specs.Replays.{Replays}
 use Rattle.trace_replay.specs.UnderWay.{HasReadCount, HasWriteCount}
 use Rattle.trace_replay.specs.declared.outcome.Outcome.{Outcome}
 use Rattle.trace_replay.specs.declared.outcome.Outcome.TheVariants as outcome
+use Rattle.node_tool.specs.Paired.{HasPaired}
+use Rattle.node_tool.proofs.PairLemmas.{HasPaired-status, HasPaired-read, HasPaired-write}
 use Rattle.node_tool.specs.Run.{status_told, IsAnswered, IsReplayStatus, IsCheckStatus, IsDrillStatus, IsStatusOf, IsReplayed, IsChecked, HasDrilled}
 use Rattle.node_tool.specs.declared.command.Command.{Command}
-use Rattle.node_tool.specs.declared.command.Command.TheVariants.{Replay, Check, Drill}
+use Rattle.node_tool.specs.declared.command.Command.TheVariants.{Replay, Check, Pair, Drill}
 use Rattle.node_tool.specs.declared.status.Status.{Status}
 use Rattle.node_tool.specs.declared.status.Status.TheVariants.{Done, Usage, ReadFault, WriteFault, OutOfMemory}
 
@@ -74,6 +76,7 @@ pub record HasAnswered (command : Option Command) (l0 l1 t0 t1 : Option (List �
   pub usage : command ≡ None → status ≡ Usage
   pub replayed : command ≡ Some Replay → IsReplayed l0 l1 t0 t1 r0 r1 w0 w1 status
   pub checked : command ≡ Some Check → IsChecked l0 l1 t0 t1 r0 r1 w0 w1 status
+  pub paired : command ≡ Some Pair → HasPaired l0 l1 t0 t1 r0 r1 w0 w1 status
   pub drilled : (seed count : ℕ) → command ≡ Some (Drill seed count) → HasDrilled (text seed count) t0 t1 w0 w1 status
 
 module _ (l0 l1 t0 t1 : Option (List ℕ)) (r0 r1 w0 w1 : ℕ) (text : ℕ → ℕ → List ℕ) (status : Status) where
@@ -83,6 +86,7 @@ module _ (l0 l1 t0 t1 : Option (List ℕ)) (r0 r1 w0 w1 : ℕ) (text : ℕ → �
       let r = a.replayed refl in subst (λ (s : Status). IsReplayStatus s) (sym r.told) (replay_status l0 l1 t0 t1 r.outcome r.replays)
   HasAnswered-status (Some Check) a =
       let r = a.checked refl in subst (λ (s : Status). IsCheckStatus s) (sym r.told) (check_status l0 l1 t0 t1 r.outcome r.checks)
+  HasAnswered-status (Some Pair) a = HasPaired-status l0 l1 t0 t1 r0 r1 w0 w1 status (a.paired refl)
   HasAnswered-status (Some (Drill seed count)) a =
       let r = a.drilled seed count refl in subst (λ (s : Status). IsDrillStatus s) (sym r.told) (drill_status (text seed count) t0 t1 r.outcome r.drilled)
 
@@ -90,6 +94,7 @@ module _ (l0 l1 t0 t1 : Option (List ℕ)) (r0 r1 w0 w1 : ℕ) (text : ℕ → �
   HasAnswered-read None a is = absurd (let usage = a.usage refl in cc)
   HasAnswered-read (Some Replay) a is = let r = a.replayed refl in read_rose r0 r1 r.outcome (sym is ∙ r.told) r.reads
   HasAnswered-read (Some Check) a is = let r = a.checked refl in read_rose r0 r1 r.outcome (sym is ∙ r.told) r.reads
+  HasAnswered-read (Some Pair) a is = HasPaired-read l0 l1 t0 t1 r0 r1 w0 w1 status (a.paired refl) is
   HasAnswered-read (Some (Drill seed count)) a is =
       let r = a.drilled seed count refl in
       absurd (subst (λ (s : Status). IsDrillStatus s) (sym r.told ∙ is) (drill_status (text seed count) t0 t1 r.outcome r.drilled))
@@ -98,6 +103,7 @@ module _ (l0 l1 t0 t1 : Option (List ℕ)) (r0 r1 w0 w1 : ℕ) (text : ℕ → �
   HasAnswered-write None a is = absurd (let usage = a.usage refl in cc)
   HasAnswered-write (Some Replay) a is = let r = a.replayed refl in write_rose w0 w1 r.outcome (sym is ∙ r.told) r.writes
   HasAnswered-write (Some Check) a is = let r = a.checked refl in write_rose w0 w1 r.outcome (sym is ∙ r.told) r.writes
+  HasAnswered-write (Some Pair) a is = HasPaired-write l0 l1 t0 t1 r0 r1 w0 w1 status (a.paired refl) is
   HasAnswered-write (Some (Drill seed count)) a is = let r = a.drilled seed count refl in write_rose w0 w1 r.outcome (sym is ∙ r.told) r.writes
 
 -- only words that are no command have the status of usage
@@ -105,6 +111,7 @@ pub usage-none : (command : Option Command) (status : Status) → IsStatusOf com
 usage-none None status of is = refl
 usage-none (Some Replay) status of is = absurd (subst (λ (s : Status). IsReplayStatus s) is of)
 usage-none (Some Check) status of is = absurd (subst (λ (s : Status). IsCheckStatus s) is of)
+usage-none (Some Pair) status of is = absurd (subst (λ (s : Status). IsReplayStatus s) is of)
 usage-none (Some (Drill seed count)) status of is = absurd (subst (λ (s : Status). IsDrillStatus s) is of)
 
 -- ---- a drill

@@ -4,3 +4,4 @@ pub mod NodeLaws
 pub mod NodeRuns
 pub mod RunLemmas
 pub mod TellingLemmas
+mod PairLemmas

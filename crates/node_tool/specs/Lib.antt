@@ -4,3 +4,4 @@ pub mod Node
 pub mod Run
 pub mod Status
 pub mod Telling
+pub mod Paired

@@ -13,7 +13,7 @@ use Rattle.trace_replay.specs.UnderWay.{HasReadCount, HasWriteCount}
 use Rattle.trace_replay.specs.declared.outcome.Outcome.{Outcome}
 use Rattle.trace_replay.specs.declared.outcome.Outcome.TheVariants as outcome
 use Rattle.node_tool.specs.declared.command.Command.{Command}
-use Rattle.node_tool.specs.declared.command.Command.TheVariants.{Replay, Check, Drill}
+use Rattle.node_tool.specs.declared.command.Command.TheVariants.{Replay, Check, Pair, Drill}
 use Rattle.node_tool.specs.declared.status.Status.{Status}
 use Rattle.node_tool.specs.declared.status.Status.TheVariants.{Done, Differ, Usage, Refused, ReadFault, WriteFault, OutOfMemory, WorldFault, FileFault, TooLong, BadSettings, FileTooLarge}
 
@@ -21,6 +21,7 @@ abbrev pub command_named : List ℕ → Option Command
 command_named word =
     if bytes_eq word (codes "replay") then Some Replay
     else if bytes_eq word (codes "check") then Some Check
+    else if bytes_eq word (codes "pair") then Some Pair
     else None
 
 -- a drill's seed and number of events, where they are numbers and there is an event
@@ -43,6 +44,7 @@ command_of (word ∷ seed ∷ count ∷ next ∷ words) = None
 abbrev pub HasFewEvents : Command → Type 0
 HasFewEvents Replay = Unit {0}
 HasFewEvents Check = Unit {0}
+HasFewEvents Pair = Unit {0}
 HasFewEvents (Drill seed count) = count ≤ 1000000
 
 -- how an outcome is told
@@ -101,6 +103,7 @@ abbrev pub IsStatusOf : Option Command → Status → Type 0
 IsStatusOf None status = status ≡ Usage
 IsStatusOf (Some Replay) status = IsReplayStatus status
 IsStatusOf (Some Check) status = IsCheckStatus status
+IsStatusOf (Some Pair) status = IsReplayStatus status
 IsStatusOf (Some (Drill seed count)) status = IsDrillStatus status
 
 -- A trace was replayed: by what the source had left and what the sink had taken, and by the counts of their faults.

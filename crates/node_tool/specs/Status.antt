@@ -79,9 +79,9 @@ kind_text Targets = codes "targets"
 kind_text Order = codes "order"
 kind_text NoEnd = codes "no end"
 
--- the commands; only `replay` and `check` are there yet
+-- the commands
 abbrev pub usage_text : List ℕ
-usage_text = codes "usage: replay | check | drill SEED COUNT | node CONF TOPO COUNT"
+usage_text = codes "usage: replay | check | pair | drill SEED COUNT | node CONF TOPO COUNT"
 
 -- What is written to standard error, with its line feed. A command that is done, or that shows where a line differs,
 -- says nothing.

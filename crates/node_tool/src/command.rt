@@ -12,6 +12,7 @@ const EVENTS_MOST: u64 = 1_000_000;
 pub enum Command {
     Replay,
     Check,
+    Pair,
     /// The seed of a town, and how many events of it.
     Drill { seed: u64, count: u64 },
 }
@@ -39,6 +40,7 @@ impl Command {
         match word {
             "replay" => Some(Command::Replay),
             "check" => Some(Command::Check),
+            "pair" => Some(Command::Pair),
             _ => None,
         }
     }

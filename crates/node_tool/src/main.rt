@@ -14,7 +14,7 @@ mod words;
 
 pub use command::Command;
 use io_edge::{DirShelf, Sink, StdSink, StdSource};
-use node_world::LoopWorld;
+use loop_world::LoopWorld;
 pub use running::run;
 pub use serving::run_node;
 pub use status::{Status, What, Which};

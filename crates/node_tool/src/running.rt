@@ -7,10 +7,13 @@ ghost use Rattle.net_base.specs.declared.refusal.RefusalKind.{RefusalKind};
 ghost use Rattle.trace_replay.specs.Again.{FitsTrace, TakesItsOwnOutput};
 ghost use Rattle.trace_replay.specs.Inputs.{IsDecided, StopsReading, StopsWriting, machine_after};
 ghost use Rattle.trace_replay.specs.Compare.{lines_found, lines_written};
-ghost use Rattle.trace_replay.specs.Drill.{drill_text};
+ghost use Rattle.trace_replay.specs.Drill.{drill_text, town_settings};
 ghost use Rattle.trace_replay.specs.Judgement.{ended, refused, too_long, judged};
+ghost use Rattle.trace_replay.specs.Lawful.{IsLawfulRun, town_events, counted_text};
 ghost use Rattle.trace_replay.specs.Output.{output_of};
 ghost use Rattle.trace_replay.specs.Replays.{verdict_of, TakesPrefix};
+ghost use Rattle.pair_net.specs.Law.{AgreeAlike, PipesEmpty, MeetingsAgreeInTurn, MeetingsAgree, CrossingsAgree};
+ghost use Rattle.node_tool.specs.Paired.{HasPaired, HasPairedOver, pair_status, status_run};
 ghost use Rattle.node_tool.specs.Run.{command_of, status_of, status_compared, status_told, IsAnswered, IsStatusOf, IsReplayed, IsChecked, HasDrilled, IsDrillText, HasComeOf, HasSomeOutput};
 ghost use Rattle.node_tool.specs.Status.{status_text};
 ghost use Rattle.node_tool.specs.Telling.{IsTold};
@@ -19,8 +22,10 @@ use crate::telling::tell;
 use crate::{Command, Status};
 use io_edge::{Sink, Source};
 use laws::{laws_of_events, laws_of_records};
+use pair_net::law::both_ends_agree;
+use pair_net::{PairOutcome, pair_run};
 use std::alloc::Global;
-use trace_replay::{Outcome, check, drill, outputs_agree, replay};
+use trace_replay::{Outcome, check, drill, drills_are_lawful, outputs_agree, replay};
 
 /// Does what the words of a command line say, from a source to a sink, and tells on another sink how it ended. The
 /// words stand without the program's name.
@@ -83,6 +88,15 @@ pub fn run<S: Source, K: Sink, E: Sink>(
     ensures drill_complete { (seed count : ℕ) → command_of (map string_bytes words.now) ≡ Some (Command.Drill seed count) →
         ¬ Rose (K.faults out.old) (K.faults out.new) → (result ≡ Status.Done) ⊎ (result ≡ Status.OutOfMemory) }
 
+    // A pair is led by its lines: what was read and written by each status, and that the line that decides has its status.
+    ensures pair_over { (input : List ℕ) → S.left src.old ≡ Some input → command_of (map string_bytes words.now) ≡ Some Command.Pair →
+        HasPairedOver input (S.left src.new) (K.taken out.old) (K.taken out.new) result }
+    ensures pair_answered { (input : List ℕ) → S.left src.old ≡ Some input → command_of (map string_bytes words.now) ≡ Some Command.Pair →
+        IsAnswered (pair_status input) (Rose (S.faults src.old) (S.faults src.new)) (Rose (K.faults out.old) (K.faults out.new)) result }
+    ensures pair_complete { (input : List ℕ) → S.left src.old ≡ Some input → command_of (map string_bytes words.now) ≡ Some Command.Pair →
+        ¬ Rose (S.faults src.old) (S.faults src.new) → ¬ Rose (K.faults out.old) (K.faults out.new) →
+        (result ≡ pair_status input) ⊎ (result ≡ Status.OutOfMemory) }
+
     ensures no_other { IsStatusOf (command_of (map string_bytes words.now)) result }
 
     ensures told { IsTold (E.taken err.old) (E.taken err.new) (E.faults err.old) (E.faults err.new) (status_text result) }
@@ -109,13 +123,30 @@ pub fn run<S: Source, K: Sink, E: Sink>(
     ensures drilled { (seed count : ℕ) → command_of (map string_bytes words.now) ≡ Some (Command.Drill seed count) →
         HasDrilled (drill_text seed count) (K.taken out.old) (K.taken out.new) (K.faults out.old) (K.faults out.new) result }
 
+    ensures paired { command_of (map string_bytes words.now) ≡ Some Command.Pair →
+        HasPaired (S.left src.old) (S.left src.new) (K.taken out.old) (K.taken out.new)
+        (S.faults src.old) (S.faults src.new) (K.faults out.old) (K.faults out.new) result }
+
+    // What holds of every list of steps of a pair.
+    ensures ends_alike { AgreeAlike }
+    ensures pipes { PipesEmpty }
+    ensures meetings_in_turn { MeetingsAgreeInTurn }
+    ensures meetings { MeetingsAgree }
+    ensures crossings { CrossingsAgree }
+
     // What holds in every record that the events of an input reach, and at each event there.
     ensures records { (input : List ℕ) (count : ℕ) → IsLawfulRecord (machine_after count input) }
     ensures events { (input : List ℕ) (count : ℕ) (event : Event) → IsLawfulEvent (machine_after count input) event }
+
+    // What is told of a town is counted of the run of its events, and the same holds there.
+    ensures drill_counted { (seed count : ℕ) → drill_text seed count ≡ counted_text town_settings (town_events seed count) }
+    ensures drill_lawful { (seed count : ℕ) → IsLawfulRun town_settings (town_events seed count) }
 {
     laws_of_records();
     laws_of_events();
     outputs_agree();
+    both_ends_agree();
+    drills_are_lawful();
     let status = answer(alloc, words, src, out);
     // A text that is not taken changes no status.
     let _ = tell(&status, err);
@@ -133,6 +164,9 @@ fn answer<S: Source, K: Sink>(alloc: Global, words: &[String], src: &mut S, out:
     ensures checked { command_of (map string_bytes words.now) ≡ Some Command.Check →
         IsChecked (S.left src.old) (S.left src.new) (K.taken out.old) (K.taken out.new)
         (S.faults src.old) (S.faults src.new) (K.faults out.old) (K.faults out.new) result }
+    ensures paired { command_of (map string_bytes words.now) ≡ Some Command.Pair →
+        HasPaired (S.left src.old) (S.left src.new) (K.taken out.old) (K.taken out.new)
+        (S.faults src.old) (S.faults src.new) (K.faults out.old) (K.faults out.new) result }
     ensures drill_source { (seed count : ℕ) → command_of (map string_bytes words.now) ≡ Some (Command.Drill seed count) → src.new ≡ src.old }
     ensures drilled { (seed count : ℕ) → command_of (map string_bytes words.now) ≡ Some (Command.Drill seed count) →
         HasDrilled (drill_text seed count) (K.taken out.old) (K.taken out.new) (K.faults out.old) (K.faults out.new) result }
@@ -140,8 +174,23 @@ fn answer<S: Source, K: Sink>(alloc: Global, words: &[String], src: &mut S, out:
     match Command::of_words(words) {
         Some(Command::Replay) => told(replay(alloc, src, out)),
         Some(Command::Check) => told(check(alloc, src, out)),
+        Some(Command::Pair) => ran(pair_run(alloc, src, out)),
         Some(Command::Drill { seed, count }) => told(drill(alloc, seed, count, out)),
         None => Status::Usage,
+    }
+}
+
+// How the outcome of a run over lines is told.
+fn ran(outcome: PairOutcome) -> Status
+    ensures { result ≡ status_run outcome }
+{
+    match outcome {
+        PairOutcome::Done => Status::Done,
+        PairOutcome::Refused { line, kind } => Status::Refused { line, kind },
+        PairOutcome::ReadFault => Status::ReadFault,
+        PairOutcome::WriteFault => Status::WriteFault,
+        PairOutcome::OutOfMemory => Status::OutOfMemory,
+        PairOutcome::TooLong { line } => Status::TooLong { line },
     }
 }
 

@@ -4,11 +4,14 @@ ghost use Rattle.std.specs.Prelude.{◌≡◌, ◌≤◌, ◌++◌, ◌↔◌, �
 ghost use Rattle.io_edge.specs.Causes.{Rose};
 ghost use Rattle.net_base.specs.Bounds.{AreSound, targets_fault};
 ghost use Rattle.net_base.specs.Limits.{HasValencies, IsWithinLimits};
+ghost use Rattle.net_base.specs.declared.event.Event.{Event as Happening};
+ghost use Rattle.net_base.specs.declared.settings.Settings.{Settings as Given};
 ghost use Rattle.node_tool.specs.Asked.{Asked, asked_by, node_of};
 ghost use Rattle.node_tool.specs.Files.{files_told, CanRun, IsDue, IsOfFiles};
 ghost use Rattle.node_tool.specs.Node.{world_told, sink_told, IsNodeRun, IsDriving, IsServing, IsNodeAnswered, HasNodeCause};
 ghost use Rattle.node_tool.specs.Status.{status_text, unresolved_text};
 ghost use Rattle.node_tool.specs.Telling.{IsTold};
+ghost use Rattle.trace_replay.specs.Lawful.{IsLawfulRun};
 ghost use Rattle.trace_replay.specs.Written.{TakesAgreeing};
 
 use crate::Status;
@@ -21,7 +24,7 @@ use net_base::Event;
 use node_settings::{Config, Topology};
 use node_world::{World, WorldRefusal};
 use std::alloc::Global;
-use trace_replay::drive;
+use trace_replay::{drive, runs_are_lawful};
 
 /// Runs a node, with its files from a shelf, in a world that is not open. Its words are `node`, the names of the settings
 /// file and of the topology file, and how many events of the world there are to be at most.
@@ -68,7 +71,11 @@ pub fn run_node<H: Shelf, W: World, K: Sink, E: Sink>(
     ensures files_world { IsOfFiles result → world.new ≡ world.old }
     ensures files_out { IsOfFiles result → out.new ≡ out.old }
     ensures agrees { result ≡ Status.Done → TakesAgreeing (K.taken out.old) (K.taken out.new) }
+
+    // Every law holds in each record of a run like that, and at each event there.
+    ensures lawful { (settings : Given) (events : List Happening) → AreSound settings → IsLawfulRun settings events }
 {
+    runs_are_lawful();
     match NodeWords::of_words(words) {
         Some(asked) => serve(alloc, asked, shelf, world, out, err),
         None => {

@@ -8,7 +8,7 @@ use io_edge::{Failed, Sink, put_all};
 use itoa::Buffer;
 use net_base::RefusalKind;
 
-const USAGE: &str = "usage: replay | check | drill SEED COUNT | node CONF TOPO COUNT";
+const USAGE: &str = "usage: replay | check | pair | drill SEED COUNT | node CONF TOPO COUNT";
 
 /// Writes the text of a status. Takes no memory.
 pub(crate) fn tell<E: Sink>(status: &Status, err: &mut E) -> Result<(), Failed>

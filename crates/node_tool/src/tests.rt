@@ -2,7 +2,10 @@ ghost use Rattle.std.specs.Prelude.{◌≤◌};
 
 mod checking;
 mod drilling;
+mod place;
 mod rows;
+mod serving;
+mod streams;
 
 use self::rows::ROWS;
 use crate::{Status, run};
@@ -11,7 +14,7 @@ use net_base::{NumberList, Octets, RefusalKind};
 use std::alloc::Global;
 use std::test::Fail;
 
-const USAGE: &str = "usage: replay | check | drill SEED COUNT | node CONF TOPO COUNT\n";
+const USAGE: &str = "usage: replay | check | pair | drill SEED COUNT | node CONF TOPO COUNT\n";
 
 // Peers that connect up to the hard limit, one that hangs up, and a handshake that never comes.
 const LIMITS: &str = "trace 1
@@ -62,7 +65,15 @@ fn octets(alloc: Global, text: &str) -> Result<Octets, Fail> {
 }
 
 fn sink(alloc: Global) -> Result<MemSink, Fail> {
-    Ok(MemSink::new(alloc, 4096, NumberList::new(alloc))?)
+    Ok(MemSink::new(alloc, 16_384, NumberList::new(alloc))?)
+}
+
+fn strings(alloc: Global, words: &[&str]) -> Result<Vec<String>, Fail> {
+    let mut given = Vec::new(alloc);
+    for word in words {
+        given.push(String::from_str(alloc, word)?)?;
+    }
+    Ok(given)
 }
 
 // Runs the words on an input, of which each reading gives at most so many bytes.

@@ -1,6 +1,4 @@
-pub mod Announcement
 pub mod Law
-pub mod Loop
 pub mod Meanings
 pub mod Script
 pub mod Segments

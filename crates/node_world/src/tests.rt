@@ -1,7 +1,5 @@
 ghost use Rattle.std.specs.Prelude.{◌≡◌, true, is_some, IfOk};
 
-mod sockets;
-
 use crate::*;
 use net_base::{
     Action, Addr, AddrList, Cid, Event, EventList, Group, GroupList, Ip, Job, NumberList, Octets,
@@ -239,4 +237,15 @@ fn a_town_answers_before_anything_is_drawn(rt: HostRuntime) -> Result<(), Fail> 
     ask_for_all(&rt, alloc, &mut town)?;
     expect_answers(&rt, alloc, &mut town)?;
     expect_event(&rt, &mut town, Event::Govern(3_251_572_882_586_621_912))
+}
+
+#[test]
+fn what_is_sent_goes_from_the_front(rt: HostRuntime) -> Result<(), Fail> {
+    let mut queue = OutQueue::new(rt.alloc());
+    queue.put(b"abc")?;
+    queue.put(b"de")?;
+    assert_eq!(rt; queue.front(), b"abcde".as_slice());
+    queue.sent(2);
+    assert_eq!(rt; queue.front(), b"cde".as_slice());
+    Ok(())
 }

@@ -6,9 +6,9 @@ use std::alloc::Global;
 use std::collections::VecDeque;
 use std::marker::Model;
 
-// Events that wait, the first to come first.
+/// Events that wait, the first to come first. Contracts see the list of them, each within the limits of a trace.
 #[derive(Debug, Drop)]
-pub(crate) struct Waiting {
+pub struct Waiting {
     events: VecDeque<Event>,
 }
 
@@ -25,7 +25,8 @@ impl Model for Waiting {
 }
 
 impl Waiting {
-    pub(crate) fn new(alloc: Global) -> Waiting
+    /// None waits. Takes no memory.
+    pub fn new(alloc: Global) -> Waiting
         ensures { result ≡ [] }
     {
         Waiting {
@@ -33,8 +34,8 @@ impl Waiting {
         }
     }
 
-    // The events of a list. Takes no memory.
-    pub(crate) fn of_list(events: EventList) -> Waiting
+    /// The events of a list wait. Takes no memory.
+    pub fn of_list(events: EventList) -> Waiting
         requires { All IsWithinLimits events }
         ensures { result ≡ events }
     {
@@ -43,7 +44,8 @@ impl Waiting {
         }
     }
 
-    pub(crate) fn push(&mut self, event: Event) -> Result<(), OutOfMemory>
+    /// Puts an event behind the others. A refusal changes nothing.
+    pub fn push(&mut self, event: Event) -> Result<(), OutOfMemory>
         requires { IsWithinLimits event }
         ensures ok { OnOk result (self.new ≡ self.old ++ event ∷ []) }
         ensures err { OnErr result (self.new ≡ self.old) }
@@ -52,7 +54,8 @@ impl Waiting {
         Ok(())
     }
 
-    pub(crate) fn pop(&mut self) -> Option<Event>
+    /// Takes the first out, if any waits.
+    pub fn pop(&mut self) -> Option<Event>
         ensures some { IfSome result (λ event. self.old ≡ event ∷ self.new) }
         ensures none { IfNone result ((self.old ≡ []) × (self.new ≡ [])) }
         ensures limits { IfSome result IsWithinLimits }

@@ -8,3 +8,5 @@ pub mod Crossings
 pub mod Runs
 pub mod Reached
 pub mod InTurn
+mod WordLists
+mod Playing

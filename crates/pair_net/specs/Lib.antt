@@ -5,3 +5,6 @@ pub mod Speaking
 pub mod Pair
 pub mod Steps
 pub mod Law
+pub mod Lines
+pub mod Texts
+pub mod Replay

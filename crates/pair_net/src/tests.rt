@@ -5,6 +5,8 @@ use net_base::{Agreed, Octets, OutOfMemory};
 use std::alloc::Global;
 use std::test::Fail;
 
+mod lines;
+
 const DUPLEX: VersionInfo = VersionInfo {
     magic: 42,
     initiator_only: false,

@@ -1,3 +1,4 @@
 pub mod Homes
 pub mod Steps
 pub mod Rules
+pub mod Among

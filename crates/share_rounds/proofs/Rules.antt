@@ -17,7 +17,7 @@ use Rattle.share_rounds.specs.Rounds.{is_advertised, most_told, served_to, is_ne
 
 -- ---- facts of each element
 
-each_of_front : {X : Type 0} (P : X → Type 0) (n : ℕ) (xs : List X) → AllByRecursion P xs → AllByRecursion P (take n xs)
+pub each_of_front : {X : Type 0} (P : X → Type 0) (n : ℕ) (xs : List X) → AllByRecursion P xs → AllByRecursion P (take n xs)
 each_of_front P zero xs all = tt
 each_of_front P (suc n) [] all = tt
 each_of_front P (suc n) (x ∷ xs) all = (all.0, each_of_front P n xs all.1)
@@ -42,7 +42,7 @@ each_passes test (x ∷ xs) = elim (cases_Bool (test x)) [
 
 -- ---- what is told
 
-addresses_rise : (peers : List Peer) → IsRising (λ (p : Peer). p.addr) peers → IsRising (λ (a : Addr). a) (addresses_of peers)
+pub addresses_rise : (peers : List Peer) → IsRising (λ (p : Peer). p.addr) peers → IsRising (λ (a : Addr). a) (addresses_of peers)
 addresses_rise [] rising = tt
 addresses_rise (p ∷ peers) rising = (above peers rising.0, addresses_rise peers rising.1)
   where
@@ -50,7 +50,7 @@ addresses_rise (p ∷ peers) rising = (above peers rising.0, addresses_rise peer
     above [] all = tt
     above (q ∷ ps) all = (all.0, above ps all.1)
 
-filtered_rise : (test : Addr → Bool) (addrs : List Addr) → IsRising (λ (a : Addr). a) addrs → IsRising (λ (a : Addr). a) (filter test addrs)
+pub filtered_rise : (test : Addr → Bool) (addrs : List Addr) → IsRising (λ (a : Addr). a) addrs → IsRising (λ (a : Addr). a) (filter test addrs)
 filtered_rise test [] rising = tt
 filtered_rise test (addr ∷ addrs) rising = elim (cases_Bool (test addr)) [
   | inl passes ↦ rw passes (each_filtered _ test addrs rising.0, filtered_rise test addrs rising.1)

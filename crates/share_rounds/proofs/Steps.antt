@@ -51,6 +51,16 @@ peer_looked_at test most book i d kept new all within room is whole =
     whole ∙ ap (λ (peers : List Peer). kept ++ take (most - length kept) (filter test (addresses_of peers))) next in
     rw add-one (kept_of_filter test most (get_or book i d).addr (addresses_of (drop (suc i) book)) kept new all room is before)
 
+-- one more address is looked at
+pub address_looked_at : (test : Addr → Bool) (most : ℕ) (addrs : List Addr) (i : ℕ) (d : Addr) (kept new all : List Addr) → i < length addrs → length kept < most
+    → new ≡ cond (test (get_or addrs i d)) (kept ++ get_or addrs i d ∷ []) kept
+    → all ≡ kept ++ take (most - length kept) (filter test (drop i addrs)) → IsKept most new (filter test (drop (i + 1) addrs)) all
+address_looked_at test most addrs i d kept new all within room is whole =
+    let next : drop i addrs ≡ get_or addrs i d ∷ drop (suc i) addrs = drop-cons addrs i d within in
+    let before : all ≡ kept ++ take (most - length kept) (filter test (get_or addrs i d ∷ drop (suc i) addrs)) =
+    whole ∙ ap (λ (rest : List Addr). kept ++ take (most - length kept) (filter test rest)) next in
+    rw add-one (kept_of_filter test most (get_or addrs i d) (drop (suc i) addrs) kept new all room is before)
+
 -- one more told address is looked at
 pub told_looked_at : (may : Addr → Bool) (most : ℕ) (told : List Addr) (i : ℕ) (d : Addr) (kept new all : List Addr) → i < length told → length kept < most
     → new ≡ cond (may (get_or told i d) && not (is_listed (get_or told i d) kept)) (kept ++ get_or told i d ∷ []) kept
@@ -90,3 +100,11 @@ pub all_kept : (may : Addr → Bool) (most : ℕ) (told : List Addr) (i : ℕ) (
     → all ≡ kept ++ take (most - length kept) (taken_after kept may (drop i told)) → kept ≡ all
 unfolding taken_after
 all_kept may most told i kept all past whole = sym (whole ∙ rw (drop_of_length-le told past) (ap (λ (l : List Addr). kept ++ l) (take-nil (most - length kept)) ∙ append-nil kept))
+
+pub all_peers_kept : (test : Addr → Bool) (most : ℕ) (book : List Peer) (i : ℕ) (kept all : List Addr) → length book ≤ i
+    → all ≡ kept ++ take (most - length kept) (filter test (addresses_of (drop i book))) → kept ≡ all
+all_peers_kept test most book i kept all past whole = sym (whole ∙ rw (drop_of_length-le book past) (ap (λ (l : List Addr). kept ++ l) (take-nil (most - length kept)) ∙ append-nil kept))
+
+pub all_addresses_kept : (test : Addr → Bool) (most : ℕ) (addrs : List Addr) (i : ℕ) (kept all : List Addr) → length addrs ≤ i
+    → all ≡ kept ++ take (most - length kept) (filter test (drop i addrs)) → kept ≡ all
+all_addresses_kept test most addrs i kept all past whole = sym (whole ∙ rw (drop_of_length-le addrs past) (ap (λ (l : List Addr). kept ++ l) (take-nil (most - length kept)) ∙ append-nil kept))

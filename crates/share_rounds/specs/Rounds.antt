@@ -1,5 +1,5 @@
 -- Peer sharing: which peers are told, and which are taken. This project's own rules.
-use Rattle.std.specs.Prelude.{ℕ, ◌-◌, min, Bool, true, false, ◌&&◌, ◌||◌, ◌==◌, not, List, [], ◌∷◌, ◌++◌, length, take, filter, slice_get, is_some, if◌then◌else◌, Option, Some, None}
+use Rattle.std.specs.Prelude.{◌≡◌, ℕ, ◌-◌, min, Bool, true, false, ◌&&◌, ◌||◌, ◌==◌, not, List, [], ◌∷◌, ◌++◌, length, take, filter, slice_get, is_some, if◌then◌else◌, Option, Some, None}
 use Rattle.std.specs.Option.{option_and_then}
 use Rattle.net_base.specs.Address.{same_address}
 use Rattle.net_base.specs.declared.address.Addr.{Addr}
@@ -8,6 +8,7 @@ use Rattle.net_base.specs.declared.address.Ip.TheVariants.{V4, V6}
 use Rattle.net_base.specs.declared.event.Group.{Group}
 use Rattle.net_base.specs.declared.peer.Peer.{Peer}
 use Rattle.peer_book.specs.Book.{peer_at, known_of, addresses_of, most_peers}
+use Rattle.peer_book.specs.Order.{IsRising}
 use Rattle.root_groups.specs.Cleaned.{is_listed, group_of}
 
 -- ---- what is told
@@ -33,6 +34,30 @@ abbrev pub served_to : Addr → ℕ → List Peer → List Group → List Addr �
 served_to asker n peers groups publics =
     take (min n most_told)
     (filter (λ addr. is_advertised groups publics addr && not (same_address addr asker)) (addresses_of peers))
+
+-- ---- what is kept for every asker
+
+-- one more than are told at a time, since one of them may be the one that asks
+abbrev pub most_tellable : ℕ
+most_tellable = 11
+
+-- the first addresses of the book that may be told to anyone
+abbrev pub tellable_of : List Peer → List Group → List Addr → List Addr
+tellable_of peers groups publics = take most_tellable (filter (is_advertised groups publics) (addresses_of peers))
+
+-- what is told out of some addresses to one that asks for so many
+abbrev pub told_among : Addr → ℕ → List Addr → List Addr
+told_among asker n addrs = take (min n most_told) (filter (λ addr. not (same_address addr asker)) addrs)
+
+-- the addresses are the first that may be told of a book in address order
+pub record AreTellable (addrs : List Addr) (peers : List Peer) (groups : List Group) (publics : List Addr) : Type 0 where
+  pub rising : IsRising (λ addr. addr) (addresses_of peers)
+  pub first : addrs ≡ tellable_of peers groups publics
+
+-- Whatever book the addresses are kept of, this is what is told out of it.
+abbrev pub IsServedFor : Addr → ℕ → List Addr → List Addr → Type 0
+IsServedFor asker n addrs told = (peers : List Peer) (groups : List Group) (publics : List Addr)
+    → AreTellable addrs peers groups publics → told ≡ served_to asker n peers groups publics
 
 -- ---- what is taken
 

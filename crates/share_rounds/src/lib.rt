@@ -6,7 +6,7 @@ pub mod law;
 mod serving;
 mod taking;
 
-pub use serving::served;
+pub use serving::{served, served_among, tellable};
 pub use taking::fresh;
 
 #[cfg(test)]

@@ -1,6 +1,5 @@
-ghost use Rattle.std.specs.Prelude.{◌≡◌, ◌&&◌, not, IfOk};
-ghost use Rattle.net_base.specs.Address.{same_address};
-ghost use Rattle.share_rounds.specs.Rounds.{is_advertised, served_to};
+ghost use Rattle.std.specs.Prelude.{◌≡◌, IfOk};
+ghost use Rattle.share_rounds.specs.Rounds.{AreTellable, IsServedFor, is_advertised, served_to, told_among};
 
 use crate::keep::keep_where;
 use net_base::{Addr, AddrList, OutOfMemory};
@@ -11,8 +10,12 @@ use std::alloc::Global;
 // How many peers are told at a time: this project's own.
 const MOST_TOLD: u64 = 10;
 
+// How many are kept for every asker: one of them may be the one that asks.
+const MOST_TELLABLE: usize = 11;
+
 /// The peers that are told to one that asks for so many, in address order: at most ten, and itself not among them. A local
-/// peer is told where its group is advertised, any other one where it is no public root.
+/// peer is told where its group is advertised, any other one where it is no public root. It looks through the book: where
+/// many ask, `tellable` and `served_among` do that once for all of them.
 pub fn served(
     alloc: Global,
     book: &PeerBook,
@@ -23,22 +26,52 @@ pub fn served(
 ) -> Result<AddrList, OutOfMemory>
     ensures { IfOk result (λ told. told ≡ served_to asker n book.now groups.now roots.now.publics) }
 {
+    let tellable = tellable(alloc, book, groups, roots)?;
+    served_among(alloc, tellable.as_slice(), asker, n)
+}
+
+/// The first addresses of the book that may be told to anyone, in address order: at most eleven, so that ten are left
+/// whoever asks.
+pub fn tellable(
+    alloc: Global,
+    book: &PeerBook,
+    groups: &Groups,
+    roots: &Roots,
+) -> Result<AddrList, OutOfMemory>
+    ensures { IfOk result (λ addrs. AreTellable addrs book.now groups.now roots.now.publics) }
+{
+    let mut kept = AddrList::new(alloc);
+    for peer in book.as_slice() {
+        if kept.as_slice().len() >= MOST_TELLABLE {
+            return Ok(kept);
+        }
+        let may = is_advertised(groups, roots, peer.addr);
+        keep_where(&mut kept, may, peer.addr)?;
+    }
+    Ok(kept)
+}
+
+/// The peers that are told to one that asks for so many, out of the `tellable` ones of the book: at most ten, and itself
+/// not among them.
+pub fn served_among(
+    alloc: Global,
+    tellable: &[Addr],
+    asker: Addr,
+    n: u64,
+) -> Result<AddrList, OutOfMemory>
+    ensures told { IfOk result (λ told. told ≡ told_among asker n tellable.now) }
+    ensures served { IfOk result (IsServedFor asker n tellable.now) }
+{
     let most = n.min(MOST_TOLD) as usize;
     let mut told = AddrList::new(alloc);
-    for peer in book.as_slice() {
+    for addr in tellable {
         if told.as_slice().len() >= most {
             return Ok(told);
         }
-        let may = is_told(groups, roots, asker, peer.addr);
-        keep_where(&mut told, may, peer.addr)?;
+        let may = !addr.is_same(&asker);
+        keep_where(&mut told, may, *addr)?;
     }
     Ok(told)
-}
-
-fn is_told(groups: &Groups, roots: &Roots, asker: Addr, addr: Addr) -> bool
-    ensures { result ≡ (is_advertised groups.now roots.now.publics addr && not (same_address addr asker)) }
-{
-    is_advertised(groups, roots, addr) && !addr.is_same(&asker)
 }
 
 fn is_advertised(groups: &Groups, roots: &Roots, addr: Addr) -> bool

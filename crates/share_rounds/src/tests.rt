@@ -121,6 +121,36 @@ fn the_one_that_asks_is_left_out(rt: HostRuntime) -> Result<(), Fail> {
     Ok(())
 }
 
+// Of twelve that may be told eleven are kept, and ten of these are told to one of them and to a stranger.
+#[test]
+fn ten_are_left_whoever_asks(rt: HostRuntime) -> Result<(), Fail> {
+    let alloc = rt.alloc();
+    let twelve = [
+        local(1),
+        local(2),
+        local(3),
+        local(4),
+        local(5),
+        local(6),
+        local(7),
+        local(8),
+        local(9),
+        local(10),
+        local(11),
+        local(12),
+    ];
+    let book = book(alloc, &twelve, &[])?;
+    let kept = tellable(alloc, &book, &Groups::new(alloc), &Roots::new(alloc))?;
+    assert_eq!(rt; Some(kept.as_slice()), twelve.get(..11));
+    let to_the_last = served_among(alloc, kept.as_slice(), local(11), 10)?;
+    assert_eq!(rt; Some(to_the_last.as_slice()), twelve.get(..10));
+    let to_the_first = served_among(alloc, kept.as_slice(), local(1), 20)?;
+    assert_eq!(rt; Some(to_the_first.as_slice()), twelve.get(1..11));
+    let to_a_stranger = served_among(alloc, kept.as_slice(), local(12), 10)?;
+    assert_eq!(rt; Some(to_a_stranger.as_slice()), twelve.get(..10));
+    Ok(())
+}
+
 #[test]
 fn what_is_taken(rt: HostRuntime) -> Result<(), Fail> {
     let alloc = rt.alloc();

@@ -1,12 +1,12 @@
 -- What one event more, and some events more, make of a drive.
-use Rattle.std.proofs.Common.{◌≡◌, ℕ, zero, suc, ◌+◌, ◌<◌, Bool, true, List, [], ◌∷◌, ◌++◌, length, map, take, drop, get_or, Option, inl, inr, refl, sym, ap, ◌∙◌, subst, arith, length-append}
+use Rattle.std.proofs.Common.{◌≡◌, ℕ, suc, ◌+◌, ◌<◌, Bool, true, List, [], ◌∷◌, ◌++◌, length, map, take, drop, get_or, Option, inl, inr, refl, sym, ap, ◌∙◌, subst, arith, length-append}
 use Rattle.std.specs.List.{flat_map, zip}
 use Rattle.std.proofs.lemmas.List.{append-nil, append_assoc, take_more, take-append-drop, length-take-le}
 use Rattle.std.proofs.Math.Seq.{split_at}
 use Rattle.std.proofs.lemmas.List.Elements.{All-nil, All-cons, All-append}
 use Rattle.std.proofs.lemmas.List.Concat.{flat_map-append, flat_map-cons}
 use Rattle.io_edge.specs.Lines.{ended_lines}
-use Rattle.io_edge.specs.Told.{Takes, TakesProperPrefix}
+use Rattle.io_edge.specs.Told.{Takes}
 use Rattle.io_edge.proofs.ToldLemmas.{Takes-nothing, Takes-append}
 use Rattle.machine.specs.Machine.{Machine}
 use Rattle.machine.specs.Run.{after_all, actions_of}
@@ -79,7 +79,7 @@ pub text_of-one : (m : Machine) (event : Event) → text_of m (event ∷ []) ≡
 text_of-one m event =
     text_of-cons m event [] ∙ ap (λ text. event_text m event ++ text) (text_of-none (step m event).machine) ∙ append-nil (event_text m event)
 
-acts_of-none : (m : Machine) → acts_of m [] ≡ []
+pub acts_of-none : (m : Machine) → acts_of m [] ≡ []
 unfolding acts_of actions_of
 acts_of-none m = refl
 

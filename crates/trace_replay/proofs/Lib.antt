@@ -12,6 +12,7 @@ pub mod Grammar
 pub mod Heads
 pub mod Inputs
 pub mod Judging
+pub mod LawfulRuns
 pub mod Outputs
 pub mod Playing
 pub mod Prefixes

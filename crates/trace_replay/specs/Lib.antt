@@ -9,6 +9,7 @@ pub mod Drive
 pub mod DriveCourse
 pub mod Inputs
 pub mod Judgement
+pub mod Lawful
 pub mod LineRead
 pub mod Output
 pub mod Passing

@@ -1,10 +1,12 @@
 ghost use Rattle.std.specs.Prelude.{◌≡◌, ◌≤◌, ◌+◌, IfOk};
 ghost use Rattle.trace_replay.specs.Drill.{drilled, tallies, drill_text, IsDrilled};
 ghost use Rattle.trace_replay.specs.DrillCourse.{StandsAt};
+ghost use Rattle.trace_replay.specs.Lawful.{DrillsLawfully};
 ghost use Rattle.trace_replay.specs.UnderWay.{HasWriteCount};
 
 use crate::Outcome;
 use crate::course::Course;
+use crate::law::drills_are_lawful;
 use crate::pickers::{Pickers, ranked_score, score};
 use crate::replaying::put;
 use crate::tallies::Tallies;
@@ -18,8 +20,10 @@ use std::alloc::Global;
 pub fn drill<K: Sink>(alloc: Global, seed: u64, count: u64, out: &mut K) -> Outcome
     requires few { count ≤ 1_000_000 }
     ensures drilled { IsDrilled (drill_text seed count) (K.taken out.old) (K.taken out.new) result }
+    ensures lawful { DrillsLawfully seed count (K.taken out.old) (K.taken out.new) result }
     ensures writes { HasWriteCount (K.faults out.old) (K.faults out.new) result }
 {
+    drills_are_lawful();
     match told(alloc, seed, count) {
         Ok(mut pieces) => match put(&mut pieces, out) {
             Ok(()) => Outcome::Done,

@@ -13,12 +13,14 @@ ghost use Rattle.net_base.specs.Limits.{IsWithinLimits};
 ghost use Rattle.trace_text.specs.EventTexts.{IsEventIn};
 ghost use Rattle.trace_text.specs.HeadTexts.{printed_head};
 ghost use Rattle.trace_replay.specs.Drive.{Drives, HasWorldCount, outcome_of_drive};
+ghost use Rattle.trace_replay.specs.Lawful.{DrivesLawfully};
 ghost use Rattle.trace_replay.specs.Replays.{outcome_or};
 ghost use Rattle.trace_replay.specs.UnderWay.{HasWriteCount};
 ghost use Rattle.trace_replay.specs.Written.{TakesAgreeing};
 
 use crate::Outcome;
 use crate::holding::{hold_address, hold_event};
+use crate::law::runs_are_lawful;
 use crate::pickers::{Pickers, ranked_score, score};
 use crate::replaying::put;
 use crate::start::first_engine;
@@ -48,11 +50,14 @@ pub fn drive<W: World, K: Sink>(
     ensures drives { Drives settings.now first.now count (W.taken world.old) (W.taken world.new) (W.done world.old) (W.done world.new)
         (W.has_ended world.new) (K.taken out.old) (K.taken out.new) result }
     ensures agrees { result ≡ Outcome.Done → settings.now.version ≡ 2 → TakesAgreeing (K.taken out.old) (K.taken out.new) }
+    ensures lawful { DrivesLawfully settings.now first.now (W.taken world.old) (W.taken world.new) (W.done world.old) (W.done world.new)
+        (K.taken out.old) (K.taken out.new) }
     ensures open { W.is_open world.new ≡ true }
     ensures opening { W.opening world.new ≡ W.opening world.old }
     ensures worlds { HasWorldCount (W.faults world.old) (W.faults world.new) result }
     ensures writes { HasWriteCount (K.faults out.old) (K.faults out.new) result }
 {
+    runs_are_lawful();
     match drive_anew(alloc, settings, first, world, count, out) {
         Ok(outcome) => outcome,
         Err(OutOfMemory) => Outcome::OutOfMemory,

@@ -6,12 +6,16 @@ ghost use Rattle.net_base.specs.declared.settings.Settings.{Settings};
 ghost use Rattle.trace_replay.specs.Again.{FitsTrace};
 ghost use Rattle.trace_replay.specs.Checks.{outcome_told};
 ghost use Rattle.trace_replay.specs.Compare.{lines_found, lines_written, comparison_of};
+ghost use Rattle.trace_replay.specs.Drill.{town_settings, drill_text};
 ghost use Rattle.trace_replay.specs.Drive.{whole_text};
 ghost use Rattle.trace_replay.specs.Judgement.{ended, judged};
+ghost use Rattle.trace_replay.specs.Lawful.{IsLawfulRun, town_events, counted_text};
 ghost use Rattle.trace_replay.specs.Output.{output_of};
 ghost use Rattle.trace_replay.specs.Replays.{verdict_of};
 ghost use Rattle.trace_replay.specs.Written.{CanHold, IsAgreeing};
 ghost use Rattle.trace_replay.specs.declared.outcome.Outcome.TheVariants.{Done};
+
+use laws::{laws_of_events, laws_of_records};
 
 /// A law: the output of a trace that is read to its `end` is such a trace too, where it keeps the limits of one, and its
 /// output is itself.
@@ -40,3 +44,19 @@ pub fn runs_agree()
         → All IsWithinLimits events → length events ≤ 1_000_000 → FitsTrace (whole_text settings events)
         → IsAgreeing (whole_text settings events) }
 {}
+
+/// A law: every law of the machine holds in each record that a run reaches, and at each event there.
+pub fn runs_are_lawful()
+    ensures { (settings : Settings) (events : List Event) → AreSound settings → IsLawfulRun settings events }
+{
+    laws_of_records();
+    laws_of_events();
+}
+
+/// A law: what a drill tells is counted of the machine's run over the events that the town gives, and that run is lawful.
+pub fn drills_are_lawful()
+    ensures counted { (seed count : ℕ) → drill_text seed count ≡ counted_text town_settings (town_events seed count) }
+    ensures lawful { (seed count : ℕ) → IsLawfulRun town_settings (town_events seed count) }
+{
+    runs_are_lawful();
+}

@@ -23,9 +23,9 @@ mod told;
 pub use checking::check;
 pub use drilling::drill;
 pub use driving::drive;
-pub use law::{agreeing_traces_are_their_output, outputs_agree, outputs_are_their_own, runs_agree};
+pub use law::{
+    agreeing_traces_are_their_output, drills_are_lawful, outputs_agree, outputs_are_their_own,
+    runs_agree, runs_are_lawful,
+};
 pub use outcome::Outcome;
 pub use replaying::replay;
-
-#[cfg(test)]
-mod tests;

@@ -50,6 +50,7 @@ impl NodeState {
         ensures { OnOk result (self.new ≡ record self.old { groups = cleaned self.old.settings.own groups.now }) }
     {
         let own = self.connections.settings().own;
+        self.tellable = None;
         self.groups = Groups::replace(self.alloc, groups, own)?;
         Ok(())
     }
@@ -71,6 +72,7 @@ impl NodeState {
     ) -> Result<(), OutOfMemory>
         ensures { OnOk result (Does (for_each comes_ordinary addrs.now self.old) actions.old self.new actions.new) }
     {
+        self.tellable = None;
         let new = self.book.add_all(false, addrs, MOST_PEERS)?;
         tell_known(new.as_slice(), actions)
     }
@@ -87,6 +89,7 @@ impl NodeState {
     {
         let strangers = self.strangers(addrs)?;
         let wanted = effective_big(&self.big_targets, self.moment).known;
+        self.tellable = None;
         let new = self.book.add_all(true, strangers.as_slice(), wanted)?;
         tell_known(new.as_slice(), actions)
     }

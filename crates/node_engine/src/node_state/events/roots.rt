@@ -41,6 +41,7 @@ impl NodeState {
     {
         let own = self.connections.settings().own;
         let target = self.targets.root;
+        self.tellable = None;
         if !self.roots.found(job, ttl, addrs, own, target, self.moment)? {
             return Ok(());
         }

@@ -7,6 +7,7 @@ ghost use Rattle.machine.specs.Machine.{entry_at};
 ghost use Rattle.machine.specs.Talking.{served_peers, replies, serves, begins, asked_as, talks};
 ghost use Rattle.node_engine.specs.State.{Does, DoesTo, IsKnown};
 ghost use Rattle.remote_watch.specs.Watch.{watched};
+ghost use Rattle.share_rounds.specs.Rounds.{served_to};
 
 use crate::NodeState;
 use conn_state::facts::{is_sharing, serves_remote};
@@ -14,7 +15,7 @@ use conn_state::responders::runs;
 use mux_segment::Item;
 use net_base::{ActionList, Addr, AddrList, Cid, CloseCause, Facts, FaultKind, OutOfMemory};
 use remote_watch::{Reply, Seen, WatchRefusal, reply_bytes, watch};
-use share_rounds::served;
+use share_rounds::{served_among, tellable};
 
 impl NodeState {
     /// An item comes in on a connection whose handshake is done.
@@ -142,15 +143,16 @@ impl NodeState {
 
     // A reply is sent, where there is one.
     fn reply(
-        &self,
+        &mut self,
         facts: Facts,
         protocol: u16,
         reply: Reply,
         actions: &mut ActionList,
     ) -> Result<(), OutOfMemory>
-        requires known { IsKnown facts self.now }
+        requires known { IsKnown facts self.old }
         requires responder { has_responder protocol ≡ true }
-        ensures { OnOk result (DoesTo facts.cid.0 (replies reply protocol) actions.old self.now self.now actions.new) }
+        ensures does { OnOk result (DoesTo facts.cid.0 (replies reply protocol) actions.old self.old self.new actions.new) }
+        ensures same { OnOk result (self.new ≡ self.old) }
     {
         if matches!(reply, Reply::Nothing) {
             return Ok(());
@@ -161,12 +163,27 @@ impl NodeState {
     }
 
     // The peers that are handed out to the other side.
-    fn served_peers(&self, reply: Reply, asker: Addr) -> Result<AddrList, OutOfMemory>
-        ensures { IfOk result (λ peers. peers ≡ served_peers reply asker self.now) }
+    fn served_peers(&mut self, reply: Reply, asker: Addr) -> Result<AddrList, OutOfMemory>
+        ensures peers { IfOk result (λ peers. peers ≡ served_peers reply asker self.old) }
+        ensures same { self.new ≡ self.old }
     {
         match reply {
-            Reply::Share(n) => served(self.alloc, &self.book, &self.groups, &self.roots, asker, n),
+            Reply::Share(n) => self.served_to(asker, n),
             _ => Ok(AddrList::new(self.alloc)),
         }
+    }
+
+    // The peers that are told to one that asks for so many. What may be told to anyone is looked up once.
+    fn served_to(&mut self, asker: Addr, n: u64) -> Result<AddrList, OutOfMemory>
+        ensures peers { IfOk result (λ peers. peers ≡ served_to asker n self.old.peers self.old.groups self.old.roots.publics) }
+        ensures same { self.new ≡ self.old }
+    {
+        if let Some(addrs) = &self.tellable {
+            return served_among(self.alloc, addrs.as_slice(), asker, n);
+        }
+        let addrs = tellable(self.alloc, &self.book, &self.groups, &self.roots)?;
+        let served = served_among(self.alloc, addrs.as_slice(), asker, n);
+        self.tellable = Some(addrs);
+        served
     }
 }

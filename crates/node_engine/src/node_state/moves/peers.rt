@@ -81,6 +81,7 @@ impl NodeState {
     ) -> Result<(), OutOfMemory>
         ensures { OnOk result (Does (peer_comes false addr self.old) actions.old self.new actions.new) }
     {
+        self.tellable = None;
         let added = self.book.add(addr)?;
         tell_coming(added, addr, actions)
     }
@@ -94,6 +95,7 @@ impl NodeState {
         requires { IsSomeAnd (peer_at addr self.old) (λ p. p.temp ≡ IsCold) }
         ensures { OnOk result (Does (peer_goes addr self.old) actions.old self.new actions.new) }
     {
+        self.tellable = None;
         self.book.forget(addr);
         actions.push(Action::Peer(addr, PeerNote::Forgotten))
     }

@@ -7,6 +7,8 @@ use Rattle.trace_replay.proofs.Inputs.{settings_sound}
 use Rattle.node_tool.proofs.RunLemmas.{IsReplayed-refused, IsReplayed-memory, IsReplayed-output, IsReplayed-again, IsChecked-compared, IsChecked-agreed}
 use Rattle.node_tool.specs.Run.{command_of}
 use Rattle.node_tool.proofs.CommandLemmas.{HasAnswered-status, HasAnswered-read, HasAnswered-write, usage-none, HasDrilled-answered, answered-calm}
+use Rattle.node_tool.specs.Paired.{pair_status}
+use Rattle.node_tool.proofs.PairLemmas.{HasPaired-over, HasPaired-answered, answered-due}
 use Rattle.node_tool.proofs.running.run.Goals as goal
 
 pub returns-clause-refused : goal.returns-clause-refused
@@ -43,6 +45,7 @@ returns-clause-usage g c = (
         usage = c.answer-status.ensures.usage;
         replayed = c.answer-status.ensures.replayed;
         checked = c.answer-status.ensures.checked;
+        paired = c.answer-status.ensures.paired;
         drilled = c.answer-status.ensures.drilled;
       })),
   c.answer-status.ensures.usage,
@@ -55,6 +58,7 @@ returns-clause-usage_out g c = λ is.
       usage = c.answer-status.ensures.usage;
       replayed = c.answer-status.ensures.replayed;
       checked = c.answer-status.ensures.checked;
+      paired = c.answer-status.ensures.paired;
       drilled = c.answer-status.ensures.drilled;
     })) is)
 
@@ -64,6 +68,7 @@ returns-clause-read_cause g c = λ is.
       usage = c.answer-status.ensures.usage;
       replayed = c.answer-status.ensures.replayed;
       checked = c.answer-status.ensures.checked;
+      paired = c.answer-status.ensures.paired;
       drilled = c.answer-status.ensures.drilled;
     }) is
 
@@ -73,6 +78,7 @@ returns-clause-write_cause g c = λ is.
       usage = c.answer-status.ensures.usage;
       replayed = c.answer-status.ensures.replayed;
       checked = c.answer-status.ensures.checked;
+      paired = c.answer-status.ensures.paired;
       drilled = c.answer-status.ensures.drilled;
     }) is
 
@@ -89,5 +95,17 @@ returns-clause-no_other g c =
       usage = c.answer-status.ensures.usage;
       replayed = c.answer-status.ensures.replayed;
       checked = c.answer-status.ensures.checked;
+      paired = c.answer-status.ensures.paired;
       drilled = c.answer-status.ensures.drilled;
     })
+
+pub returns-clause-pair_over : goal.returns-clause-pair_over
+returns-clause-pair_over g c = λ input told pairs. HasPaired-over _ _ _ _ _ _ _ _ c.answer-status.result input (c.answer-status.ensures.paired pairs) told
+
+pub returns-clause-pair_answered : goal.returns-clause-pair_answered
+returns-clause-pair_answered g c = λ input told pairs. HasPaired-answered _ _ _ _ _ _ _ _ c.answer-status.result input (c.answer-status.ensures.paired pairs) told
+
+pub returns-clause-pair_complete : goal.returns-clause-pair_complete
+returns-clause-pair_complete g c = λ input told pairs calm still.
+    answered-due (pair_status input) c.answer-status.result _ _
+    (HasPaired-answered _ _ _ _ _ _ _ _ c.answer-status.result input (c.answer-status.ensures.paired pairs) told) calm still

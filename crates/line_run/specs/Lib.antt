@@ -1,0 +1,6 @@
+pub mod Meaning
+pub mod Judgement
+pub mod Runs
+pub mod LineRead
+pub mod UnderWay
+pub mod Inputs

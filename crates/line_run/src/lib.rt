@@ -1,0 +1,13 @@
+//! Lines, read one at a time and interpreted, by whatever gives them a meaning.
+#![tactic(auto)]
+
+mod interpreter;
+mod outcome;
+mod reading;
+mod running;
+mod stop;
+
+pub use interpreter::Interpreter;
+pub use outcome::LineOutcome;
+pub use running::run_lines;
+pub use stop::Stop;

@@ -1,0 +1,200 @@
+ghost use Rattle.std.specs.Prelude.{◌≡◌, ℕ, ◌+◌, ◌≤◌, List, [], Option, Some, length, MatchResult, OnOk, IfOk, IfErr};
+ghost use Rattle.io_edge.specs.Causes.{HasCause};
+ghost use Rattle.io_edge.specs.Told.{Takes, TakesProperPrefix, TakesFront};
+ghost use Rattle.line_run.specs.Inputs.{IsRunOver};
+ghost use Rattle.line_run.specs.Runs.{Runs, outcome_or, HasReadCount, HasWriteCount};
+ghost use Rattle.line_run.specs.UnderWay.{IsUnderWay, IsTurn, IsLineNext, IsInterpretedAt, Ends};
+
+use crate::reading::read_line;
+use crate::{Interpreter, LineOutcome, Stop};
+use io_edge::{LineReader, PieceWriter, Sink, Source};
+use net_base::{Octets, OutOfMemory};
+use std::alloc::Global;
+
+// How many lines an input may have.
+const LINES_MOST: u64 = 4_000_000;
+
+/// Reads lines from a source, has each interpreted, and writes what they give. Reading stops at the line that decides, and
+/// nothing is read behind it but what came with it. What is written is put in pieces: before each reading, and where much
+/// has collected.
+pub fn run_lines<I: Interpreter, S: Source, K: Sink>(
+    alloc: Global,
+    interpreter: &mut I,
+    src: &mut S,
+    out: &mut K,
+) -> LineOutcome
+    ensures runs { Runs I.means interpreter.old (S.left src.old) (S.left src.new) (K.taken out.old) (K.taken out.new) result }
+    ensures over { (input : List ℕ) → S.left src.old ≡ Some input → IsRunOver I.means interpreter.old input result (S.left src.new) (K.taken out.old) (K.taken out.new) }
+    ensures reads { HasReadCount (S.faults src.old) (S.faults src.new) result }
+    ensures writes { HasWriteCount (K.faults out.old) (K.faults out.new) result }
+{
+    outcome_or_memory(run_anew(alloc, interpreter, src, out))
+}
+
+fn outcome_or_memory(outcome: Result<LineOutcome, OutOfMemory>) -> LineOutcome
+    ensures { result ≡ outcome_or outcome }
+{
+    match outcome {
+        Ok(outcome) => outcome,
+        Err(OutOfMemory) => LineOutcome::OutOfMemory,
+    }
+}
+
+// Nothing is read or written where there is no memory for a line and a piece.
+fn run_anew<I: Interpreter, S: Source, K: Sink>(
+    alloc: Global,
+    interpreter: &mut I,
+    src: &mut S,
+    out: &mut K,
+) -> Result<LineOutcome, OutOfMemory>
+    ensures runs { Runs I.means interpreter.old (S.left src.old) (S.left src.new) (K.taken out.old) (K.taken out.new) (outcome_or result) }
+    ensures reads { HasReadCount (S.faults src.old) (S.faults src.new) (outcome_or result) }
+    ensures writes { HasWriteCount (K.faults out.old) (K.faults out.new) (outcome_or result) }
+{
+    let mut reader = LineReader::new(alloc)?;
+    let mut pieces = PieceWriter::new(alloc)?;
+    let outcome = run_from(interpreter, &mut reader, &mut pieces, src, out);
+    Ok(close::<I, K>(outcome, &mut pieces, out))
+}
+
+// Runs over an input of which nothing was read yet. What is said at the end is pending still.
+fn run_from<I: Interpreter, S: Source, K: Sink>(
+    interpreter: &mut I,
+    reader: &mut LineReader,
+    pieces: &mut PieceWriter,
+    src: &mut S,
+    out: &mut K,
+) -> LineOutcome
+    requires fresh { reader.old ≡ [] }
+    requires silent { pieces.old ≡ [] }
+    ensures ends { Ends I.means interpreter.old (S.left src.old) (S.left src.new) (K.taken out.old) (K.taken out.new) pieces.new result }
+    ensures reads { HasReadCount (S.faults src.old) (S.faults src.new) result }
+    ensures writes { HasWriteCount (K.faults out.old) (K.faults out.new) result }
+{
+    for number in 1..=LINES_MOST {
+        match turn(number, interpreter, reader, pieces, src, out) {
+            Ok(()) => {}
+            Err(outcome) => return outcome,
+        }
+    }
+    LineOutcome::TooLong {
+        line: LINES_MOST + 1,
+    }
+}
+
+// Reads the line with a number, has it interpreted, and says what it gives.
+fn turn<I: Interpreter, S: Source, K: Sink>(
+    number: u64,
+    interpreter: &mut I,
+    reader: &mut LineReader,
+    pieces: &mut PieceWriter,
+    src: &mut S,
+    out: &mut K,
+) -> Result<(), LineOutcome>
+    requires few { number ≤ 4_000_000 }
+    ensures turn { (start : I) (left taken : Option (List ℕ)) →
+        IsUnderWay I.means start number interpreter.old reader.old pieces.old left (S.left src.old) taken (K.taken out.old) →
+        IsTurn I.means start number interpreter.new reader.new pieces.new left (S.left src.new) taken (K.taken out.new) result }
+    ensures reads { MatchResult result (λ _. S.faults src.new ≡ S.faults src.old) (HasReadCount (S.faults src.old) (S.faults src.new)) }
+    ensures writes { MatchResult result (λ _. K.faults out.new ≡ K.faults out.old) (HasWriteCount (K.faults out.old) (K.faults out.new)) }
+{
+    let line = next_line::<I, S, K>(number, reader, pieces, src, out)?;
+    interpret_at(number, interpreter, line.as_slice(), pieces)?;
+    put_full(pieces, out)
+}
+
+// The line with a number. Before the source is asked for more, which may wait, all that was said is put.
+fn next_line<I: Interpreter, S: Source, K: Sink>(
+    number: u64,
+    reader: &mut LineReader,
+    pieces: &mut PieceWriter,
+    src: &mut S,
+    out: &mut K,
+) -> Result<Octets, LineOutcome>
+    requires few { number ≤ 4_000_000 }
+    ensures next { (start state : I) (left taken : Option (List ℕ)) →
+        IsUnderWay I.means start number state reader.old pieces.old left (S.left src.old) taken (K.taken out.old) →
+        IsLineNext I.means start number state reader.new pieces.new left (S.left src.new) taken (K.taken out.new) result }
+    ensures short { IfOk result (λ line. length line ≤ 140_000) }
+    ensures reads { MatchResult result (λ _. S.faults src.new ≡ S.faults src.old) (HasReadCount (S.faults src.old) (S.faults src.new)) }
+    ensures writes { MatchResult result (λ _. K.faults out.new ≡ K.faults out.old) (HasWriteCount (K.faults out.old) (K.faults out.new)) }
+{
+    match reader.kept_line() {
+        Ok(Some(line)) => Ok(line),
+        Ok(None) => {
+            put(pieces, out)?;
+            read_line(number, reader, src)
+        }
+        Err(OutOfMemory) => Err(LineOutcome::OutOfMemory),
+    }
+}
+
+// Has a line interpreted, and tells how the run ends at it.
+fn interpret_at<I: Interpreter>(
+    number: u64,
+    interpreter: &mut I,
+    line: &[u8],
+    pieces: &mut PieceWriter,
+) -> Result<(), LineOutcome>
+    requires short { length line.now ≤ 140_000 }
+    ensures said { IsInterpretedAt number (I.means interpreter.old line.now) interpreter.new pieces.old pieces.new result }
+    ensures reads { (count : ℕ) → IfErr result (HasReadCount count count) }
+    ensures writes { (count : ℕ) → IfErr result (HasWriteCount count count) }
+{
+    match interpreter.interpret(line, pieces) {
+        Ok(()) => Ok(()),
+        Err(Stop::Ended) => Err(LineOutcome::Done),
+        Err(Stop::Refused(kind)) => Err(LineOutcome::Refused { line: number, kind }),
+        Err(Stop::TooMany) => Err(LineOutcome::TooLong { line: number }),
+        Err(Stop::OutOfMemory) => Err(LineOutcome::OutOfMemory),
+    }
+}
+
+// Puts what is pending where a run ends. After a fault nothing more is put: before a reading all was.
+fn close<I: Interpreter, K: Sink>(
+    outcome: LineOutcome,
+    pieces: &mut PieceWriter,
+    out: &mut K,
+) -> LineOutcome
+    ensures closed { (start : I) (l0 l1 t0 : Option (List ℕ)) →
+        Ends I.means start l0 l1 t0 (K.taken out.old) pieces.old outcome → Runs I.means start l0 l1 t0 (K.taken out.new) result }
+    ensures reads { (before now : ℕ) → HasReadCount before now outcome → HasReadCount before now result }
+    ensures writes { (before : ℕ) → HasWriteCount before (K.faults out.old) outcome → HasWriteCount before (K.faults out.new) result }
+{
+    match outcome {
+        LineOutcome::ReadFault | LineOutcome::WriteFault => outcome,
+        _ => match put(pieces, out) {
+            Ok(()) => outcome,
+            Err(fault) => fault,
+        },
+    }
+}
+
+// Puts what is pending where it makes a piece.
+fn put_full<K: Sink>(pieces: &mut PieceWriter, out: &mut K) -> Result<(), LineOutcome>
+    ensures front { TakesFront (K.taken out.old) (K.taken out.new) pieces.old pieces.new }
+    ensures part { IfErr result (λ outcome. TakesProperPrefix (K.taken out.old) (K.taken out.new) pieces.old) }
+    ensures fault { IfErr result (λ outcome. outcome ≡ LineOutcome.WriteFault) }
+    ensures cause { HasCause (K.faults out.old) (K.faults out.new) result }
+{
+    if pieces.is_full() {
+        put(pieces, out)
+    } else {
+        Ok(())
+    }
+}
+
+// Puts all that is pending.
+fn put<K: Sink>(pieces: &mut PieceWriter, out: &mut K) -> Result<(), LineOutcome>
+    ensures front { TakesFront (K.taken out.old) (K.taken out.new) pieces.old pieces.new }
+    ensures whole { OnOk result (Takes (K.taken out.old) (K.taken out.new) pieces.old) }
+    ensures silent { OnOk result (pieces.new ≡ []) }
+    ensures part { IfErr result (λ outcome. TakesProperPrefix (K.taken out.old) (K.taken out.new) pieces.old) }
+    ensures fault { IfErr result (λ outcome. outcome ≡ LineOutcome.WriteFault) }
+    ensures cause { HasCause (K.faults out.old) (K.faults out.new) result }
+{
+    match pieces.put(out) {
+        Ok(()) => Ok(()),
+        Err(_) => Err(LineOutcome::WriteFault),
+    }
+}

@@ -1,0 +1,2 @@
+pub mod Announcement
+pub mod Sockets

@@ -1,0 +1,14 @@
+-- What a world on sockets tells of itself, and what it reads.
+use Rattle.std.specs.Prelude.{ℕ, ◌≤◌, Bool}
+use Rattle.loop_world.specs.declared.socket.Got.{Got}
+use Rattle.loop_world.specs.declared.socket.Got.TheVariants.{Bytes, Nothing, Ended}
+
+pub record SocketWorld : Type 0 where
+  pub is_open : Bool
+  pub faults : ℕ
+
+-- at least one byte, and no more than there is room for
+abbrev pub IsWithin : Got → ℕ → Type 0
+IsWithin (Bytes count) room = (1 ≤ count) × (count ≤ room)
+IsWithin Nothing room = Unit {0}
+IsWithin Ended room = Unit {0}

@@ -1,0 +1,226 @@
+ghost use Rattle.std.specs.Prelude.{◌≡◌, ℕ, ◌≤◌, false, List, ◌∷◌, ◌++◌, length, take, map, IfOk, OnOk, OnErr};
+ghost use Rattle.io_edge.specs.Lines.{ended_lines};
+ghost use Rattle.pair_net.specs.Replay.{step_means, line_means, IsOffered, IsMeant, stop_of};
+ghost use Rattle.pair_net.specs.Texts.{printed_note};
+
+use crate::note_text::print_note;
+use crate::pair_line::{PairLine, read_info, read_later, read_opening};
+use crate::{NoteList, Pair, PairNote, PairStep};
+use hs_message::VersionInfo;
+use io_edge::PieceWriter;
+use line_run::{Interpreter, Stop};
+use net_base::{OutOfMemory, RefusalKind};
+use std::alloc::Global;
+use std::marker::Model;
+use std::mem;
+use trace_text::LineRefusal;
+
+// How many steps a pair may have.
+const STEPS_MOST: u64 = 1_000_000;
+
+/// How far the lines of a pair have come, by the line that is due.
+#[derive(Drop)]
+pub(crate) enum Progress {
+    Opening,
+    Left,
+    /// What the left end says of itself is known.
+    Right(VersionInfo),
+    /// The pair, and how many steps it has made.
+    Steps(Pair, u64),
+}
+
+/// A pair, as lines make it and lead it on.
+#[derive(Drop)]
+pub(crate) struct PairReplay {
+    alloc: Global,
+    progress: Progress,
+}
+
+impl Model for PairReplay {
+    ghost use Rattle.pair_net.specs.Replay.{IsOffered};
+    ghost use Rattle.pair_net.specs.declared.pair_replay.Progress.{Progress};
+
+    ghost Value = { Progress };
+
+    ghost view = { λ p. p.progress };
+
+    ghost invariant = { λ p. IsOffered p.progress };
+}
+
+impl PairReplay {
+    /// No line was read yet. Takes no memory.
+    pub(crate) fn new(alloc: Global) -> Self
+        ensures { result ≡ Progress.Opening }
+    {
+        PairReplay {
+            alloc,
+            progress: Progress::Opening,
+        }
+    }
+}
+
+impl Interpreter for PairReplay {
+    ghost means = { line_means };
+
+    fn interpret(&mut self, line: &[u8], pieces: &mut PieceWriter) -> Result<(), Stop> {
+        let progress = mem::replace(&mut self.progress, Progress::Opening);
+        self.progress = go_on(self.alloc, progress, line, pieces)?;
+        Ok(())
+    }
+}
+
+// How far a line leads. Says the lines that are written for it.
+fn go_on(
+    alloc: Global,
+    progress: Progress,
+    line: &[u8],
+    pieces: &mut PieceWriter,
+) -> Result<Progress, Stop>
+    requires { IsOffered progress }
+    ensures meant { IsMeant (line_means progress line.now) pieces.old pieces.new result }
+    ensures offered { IfOk result IsOffered }
+{
+    match progress {
+        Progress::Opening => open(line, pieces),
+        Progress::Left => name_left(line, pieces),
+        Progress::Right(left) => name_right(alloc, left, line, pieces),
+        Progress::Steps(pair, count) => lead(alloc, pair, count, line, pieces),
+    }
+}
+
+fn open(line: &[u8], pieces: &mut PieceWriter) -> Result<Progress, Stop>
+    ensures meant { IsMeant (line_means Progress.Opening line.now) pieces.old pieces.new result }
+    ensures offered { IfOk result IsOffered }
+{
+    match read_opening(line) {
+        Ok(()) => {
+            pieces.push_line(line)?;
+            Ok(Progress::Left)
+        }
+        Err(refusal) => Err(refused(refusal)),
+    }
+}
+
+fn name_left(line: &[u8], pieces: &mut PieceWriter) -> Result<Progress, Stop>
+    ensures meant { IsMeant (line_means Progress.Left line.now) pieces.old pieces.new result }
+    ensures offered { IfOk result IsOffered }
+{
+    match read_info("left", line) {
+        Ok(left) => {
+            pieces.push_line(line)?;
+            Ok(Progress::Right(left))
+        }
+        Err(refusal) => Err(refused(refusal)),
+    }
+}
+
+fn name_right(
+    alloc: Global,
+    left: VersionInfo,
+    line: &[u8],
+    pieces: &mut PieceWriter,
+) -> Result<Progress, Stop>
+    requires { left.query ≡ false }
+    ensures meant { IsMeant (line_means (Progress.Right left) line.now) pieces.old pieces.new result }
+    ensures offered { IfOk result IsOffered }
+{
+    match read_info("right", line) {
+        Ok(right) => {
+            pieces.push_line(line)?;
+            Ok(Progress::Steps(Pair::new(alloc, left, right), 0))
+        }
+        Err(refusal) => Err(refused(refusal)),
+    }
+}
+
+// A pair that has made so many steps is led on by a line.
+fn lead(
+    alloc: Global,
+    pair: Pair,
+    count: u64,
+    line: &[u8],
+    pieces: &mut PieceWriter,
+) -> Result<Progress, Stop>
+    ensures meant { IsMeant (line_means (Progress.Steps pair count) line.now) pieces.old pieces.new result }
+    ensures offered { IfOk result IsOffered }
+{
+    match read_later(line) {
+        Ok(PairLine::Step(step)) => take_step(alloc, pair, count, step, line, pieces),
+        Ok(PairLine::Skipped) => Ok(Progress::Steps(pair, count)),
+        Ok(PairLine::End) => {
+            pieces.push_line(line)?;
+            Err(Stop::Ended)
+        }
+        Err(refusal) => Err(refused(refusal)),
+    }
+}
+
+fn take_step(
+    alloc: Global,
+    pair: Pair,
+    count: u64,
+    step: PairStep,
+    line: &[u8],
+    pieces: &mut PieceWriter,
+) -> Result<Progress, Stop>
+    ensures meant { IsMeant (step_means pair count line.now (PairLine.Step step)) pieces.old pieces.new result }
+    ensures offered { IfOk result IsOffered }
+{
+    if count >= STEPS_MOST {
+        return Err(Stop::TooMany);
+    }
+    let (pair, notes) = pair.step(step)?;
+    tell_step(alloc, line, notes.as_slice(), pieces)?;
+    Ok(Progress::Steps(pair, count + 1))
+}
+
+// Says a step's line, and below it a line for each note. Where memory is wanting nothing is said.
+fn tell_step(
+    alloc: Global,
+    line: &[u8],
+    notes: &[PairNote],
+    pieces: &mut PieceWriter,
+) -> Result<(), OutOfMemory>
+    ensures said { OnOk result (pieces.new ≡ pieces.old ++ ended_lines (line.now ∷ map printed_note notes.now)) }
+    ensures unsaid { OnErr result (pieces.new ≡ pieces.old) }
+{
+    let before = pieces.len();
+    let told = tell_on(alloc, line, notes, pieces);
+    if told.is_err() {
+        pieces.truncate(before);
+    }
+    told
+}
+
+// The same, where a want of memory may come in the middle.
+fn tell_on(
+    alloc: Global,
+    line: &[u8],
+    notes: &[PairNote],
+    pieces: &mut PieceWriter,
+) -> Result<(), OutOfMemory>
+    ensures said { OnOk result (pieces.new ≡ pieces.old ++ ended_lines (line.now ∷ map printed_note notes.now)) }
+    ensures more { length pieces.old ≤ length pieces.new }
+    ensures front { take (length pieces.old) pieces.new ≡ pieces.old }
+{
+    pieces.push_line(line)?;
+    for note in notes {
+        let text = print_note(alloc, note)?;
+        pieces.push_line(text.as_slice())?;
+    }
+    Ok(())
+}
+
+// How the refusal of a line is told.
+fn refused(refusal: LineRefusal) -> Stop
+    ensures { result ≡ stop_of refusal }
+{
+    let kind = match refusal {
+        LineRefusal::BadWord(place) => RefusalKind::Word(place),
+        LineRefusal::BadNumber(place) => RefusalKind::Number(place),
+        LineRefusal::BadTargets => RefusalKind::Targets,
+        LineRefusal::OutOfOrder => RefusalKind::Order,
+        LineRefusal::OutOfMemory => return Stop::OutOfMemory,
+    };
+    Stop::Refused(kind)
+}

@@ -1,0 +1,8 @@
+use Rattle.std.proofs.Common.{◌≡◌, true}
+use Rattle.two_nodes.proofs.tests.meet.Given as goal
+
+abbrev pub invariant-loop : goal.invariant-loop
+invariant-loop g l = record {
+  left : g.W.World.is_open l.left_world ≡ true;
+  right : g.W.World.is_open l.right_world ≡ true;
+}
