@@ -1,5 +1,5 @@
 ghost use Rattle.std.specs.Prelude.{◌≡◌, ◌+◌, ◌<◌, IfOk};
-ghost use Rattle.net_base.specs.Limits.{IsPiece};
+ghost use Rattle.net_base.specs.Limits.{IsBounded, IsPiece};
 ghost use Rattle.local_clients.specs.Rules.{CanHappen};
 
 use super::*;
@@ -64,38 +64,83 @@ fn first_words(
     Ok((clients, joined && same))
 }
 
+// The first client is open.
+fn opened(alloc: Global) -> Result<(Clients, bool), OutOfMemory>
+    ensures { IfOk result (λ done. done.0.taken ≡ 2) }
+{
+    let opens = [sends(alloc, ACCEPTANCE)?, ClientAction::Open(1, 32785)];
+    first_words(alloc, PROPOSAL, &opens)
+}
+
 #[test]
 fn a_client_is_let_in_and_opens(rt: HostRuntime) -> Result<(), Fail> {
-    let alloc = rt.alloc();
-    let opens = [sends(alloc, ACCEPTANCE)?, ClientAction::Open(1, 32785)];
-    let (clients, same) = first_words(alloc, PROPOSAL, &opens)?;
+    let (clients, same) = opened(rt.alloc())?;
     assert!(rt; same);
     assert_eq!(rt; clients.open(1), Some(32785));
     assert_eq!(rt; clients.live(), 1);
-    // there is no room for another one
-    let (clients, same) = does(clients, ClientEvent::Joined, &[ClientAction::Turnaway])?;
+    assert_eq!(rt; clients.taken(), 2);
+    Ok(())
+}
+
+#[test]
+fn one_too_many_is_turned_away(rt: HostRuntime) -> Result<(), Fail> {
+    let (clients, _) = opened(rt.alloc())?;
+    let (_, same) = does(clients, ClientEvent::Joined, &[ClientAction::Turnaway])?;
     assert!(rt; same);
-    // what it asks is passed over, and its deadline is past
-    let asks = says(alloc, b"\0\0\0\0\0\x07\0\x03\x82\0\0")?;
+    Ok(())
+}
+
+#[test]
+fn what_an_open_client_asks_is_passed_over(rt: HostRuntime) -> Result<(), Fail> {
+    let (clients, _) = opened(rt.alloc())?;
+    let asks = says(rt.alloc(), b"\0\0\0\0\0\x07\0\x03\x82\0\0")?;
     let (clients, silent) = does(clients, asks, &[])?;
-    assert!(rt; silent);
+    assert!(rt; silent && clients.open(1) == Some(32785));
+    Ok(())
+}
+
+#[test]
+fn an_open_client_has_no_deadline(rt: HostRuntime) -> Result<(), Fail> {
+    let (clients, _) = opened(rt.alloc())?;
     let (clients, silent) = does(clients, ClientEvent::Now(20_000), &[])?;
     assert!(rt; silent && clients.open(1) == Some(32785));
+    Ok(())
+}
+
+#[test]
+fn an_open_client_goes(rt: HostRuntime) -> Result<(), Fail> {
+    let (clients, _) = opened(rt.alloc())?;
     let (clients, silent) = does(clients, ClientEvent::Gone(1), &[])?;
     assert!(rt; silent && clients.live() == 0);
-    assert_eq!(rt; clients.taken(), 6);
+    Ok(())
+}
+
+// The first client greets, and the clock shows a moment.
+fn waited(
+    alloc: Global,
+    moment: u64,
+    actions: &[ClientAction],
+) -> Result<(Clients, bool), OutOfMemory>
+    requires { IsBounded moment }
+    ensures { IfOk result (λ done. done.0.taken ≡ 2) }
+{
+    let clients = Clients::new(alloc, RULES);
+    let (clients, joined) = does(clients, ClientEvent::Joined, &[ClientAction::Admit(1)])?;
+    let (clients, same) = does(clients, ClientEvent::Now(moment), actions)?;
+    Ok((clients, joined && same))
+}
+
+#[test]
+fn a_silent_client_waits(rt: HostRuntime) -> Result<(), Fail> {
+    let (clients, silent) = waited(rt.alloc(), 9_999, &[])?;
+    assert!(rt; silent && clients.live() == 1 && clients.open(1).is_none());
     Ok(())
 }
 
 #[test]
 fn a_silent_client_is_closed_in_time(rt: HostRuntime) -> Result<(), Fail> {
-    let clients = Clients::new(rt.alloc(), RULES);
-    let (clients, same) = does(clients, ClientEvent::Joined, &[ClientAction::Admit(1)])?;
-    assert!(rt; same);
-    let (clients, silent) = does(clients, ClientEvent::Now(9_999), &[])?;
-    assert!(rt; silent && clients.live() == 1 && clients.open(1).is_none());
     let late = [closes(ClientCause::Fault(FaultKind::HandshakeWait))];
-    let (clients, same) = does(clients, ClientEvent::Now(10_000), &late)?;
+    let (clients, same) = waited(rt.alloc(), 10_000, &late)?;
     assert!(rt; same && clients.live() == 0);
     let (_, same) = does(clients, ClientEvent::Joined, &[ClientAction::Admit(2)])?;
     assert!(rt; same);
