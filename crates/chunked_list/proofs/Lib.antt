@@ -3,3 +3,4 @@ pub mod Numbers
 pub mod Spots
 pub mod Splits
 pub mod Points
+pub mod Joins

@@ -1,10 +1,10 @@
 -- The numbers of items before the chunks.
-use Rattle.std.proofs.Common.{◌≡◌, ℕ, zero, suc, ◌+◌, ◌<◌, ◌≤◌, List, [], ◌∷◌, ◌++◌, length, take, drop, get_or, set, refl, ap, sym, subst, ◌∙◌, append-nil, append_assoc, length-append, arith}
+use Rattle.std.proofs.Common.{◌≡◌, ℕ, zero, suc, ◌+◌, ◌<◌, ◌≤◌, List, [], ◌∷◌, ◌++◌, length, take, drop, get_or, set, refl, ap, sym, subst, ◌∙◌, append-nil, append_assoc, length-append, length-take, arith}
 use Rattle.std.specs.List.{insert}
-use Rattle.std.proofs.lemmas.List.{take_all}
+use Rattle.std.proofs.lemmas.List.{take_all, take-take, take-append-drop, get_or-take}
 use Rattle.std.proofs.lemmas.List.Edits.{insert_end}
 use Rattle.chunked_list.proofs.Edits.{put_in_chunk}
-use Rattle.chunked_list.specs.Chunks.{items_in, joined, numbered, AreNumbered, AreFilled, AreChunks}
+use Rattle.chunked_list.specs.Chunks.{items_in, joined, numbered, AreNumbered, AreFilled, AreChunks, AreSameBefore}
 use Rattle.chunked_list.specs.declared.chunk.Chunk.{Chunk}
 
 next_is : (i : ℕ) → suc i ≡ i + 1
@@ -132,3 +132,37 @@ module _ {T : Type 0} where
         front-suc cs last d (omega (arith, is)),
         ap (λ l. length (joined l)) (take_all (suc last) cs (omega (arith, is))),
       )
+
+  -- ---- chunks that are numbered already
+
+  pub numbered-same : (n : ℕ) (cs : List (Chunk T)) → AreNumbered n cs → numbered n cs ≡ cs
+  numbered-same n [] h = refl
+  numbered-same n (c ∷ cs) h =
+      ap (λ m. record { before = m; items = c.items } ∷ numbered (n + length (items_in c)) cs) (sym h.0)
+      ∙ ap (λ l. c ∷ l) (numbered-same (n + length (items_in c)) cs h.1)
+
+  pub numbers-take : (n : ℕ) (cs : List (Chunk T)) (i : ℕ) → AreNumbered n cs → AreNumbered n (take i cs)
+  numbers-take n cs zero h = tt
+  numbers-take n [] (suc i) h = tt
+  numbers-take n (c ∷ cs) (suc i) h = (h.0, numbers-take (n + length (items_in c)) cs i h.1)
+
+  pub front-known : (old new : List (Chunk T)) (i : ℕ) → AreNumbered 0 old → AreSameBefore i old new → AreNumbered 0 (take i new)
+  front-known old new i h same = subst (AreNumbered 0) (sym same) (numbers-take 0 old i h)
+
+  pub front-less : (old new : List (Chunk T)) (i j : ℕ) → i ≤ j → AreSameBefore j old new → AreSameBefore i old new
+  front-less old new i j less same = sym (take-take i j new less) ∙ (ap (take i) same ∙ take-take i j old less)
+
+  pub front-inside : (old new : List (Chunk T)) (i : ℕ) → i ≤ length old → AreSameBefore i old new → i ≤ length new
+  front-inside old new i inside same = omega (arith, inside, ap length same, length-take i old, length-take i new)
+
+  -- what a loop that numbers begins with
+  pub number_from : (cs : List (Chunk T)) (i : ℕ) → AreNumbered 0 (take i cs) → cs ≡ numbered 0 (take i cs) ++ drop i cs
+  number_from cs i h = sym (ap (λ l. l ++ drop i cs) (numbered-same 0 (take i cs) h) ∙ take-append-drop i cs)
+
+  -- the chunk before a place
+  pub front-last : (cs : List (Chunk T)) (last : ℕ) (d : Chunk T) → last < length cs → AreNumbered 0 (take (last + 1) cs) →
+      (get_or cs last d).before ≡ length (joined (take last cs))
+  front-last cs last d inside h =
+      ap (λ x. x.before) (sym (get_or-take (last + 1) cs last d (omega arith)))
+      ∙ (number_is (take (last + 1) cs) h last d (omega (arith, inside, length-take (last + 1) cs))
+      ∙ ap (λ l. length (joined l)) (take-take last (last + 1) cs (omega arith)))

@@ -1,12 +1,12 @@
 -- Where a list in chunks is parted.
-use Rattle.std.proofs.Common.{◌≡◌, ℕ, zero, suc, ◌+◌, ◌-◌, ◌<◌, ◌≤◌, Bool, true, false, List, [], ◌∷◌, ◌++◌, length, take, drop, get_or, Some, None, slice_get, refl, ap, sym, subst, ◌∙◌, inl, inr, arith}
+use Rattle.std.proofs.Common.{◌≡◌, ℕ, ◌+◌, ◌-◌, ◌<◌, ◌≤◌, Bool, true, false, List, [], ◌∷◌, length, take, get_or, Some, None, slice_get, refl, ap, sym, ◌∙◌, inl, inr, arith}
 use Rattle.std.specs.List.Sorted.{IsPartitionedBy, IsPartitionPoint}
 use Rattle.std.proofs.lemmas.Bool.{cases_Bool, cases_order, true≢false}
 use Rattle.std.proofs.lemmas.List.{take_all}
-use Rattle.chunked_list.specs.Chunks.{items_in, joined, begins, first_passes, AreFilled, AreNumbered, IsFilled}
+use Rattle.chunked_list.specs.Chunks.{items_in, joined, begins, first_passes, AreFilled}
 use Rattle.chunked_list.specs.declared.chunk.Chunk.{Chunk}
 use Rattle.chunked_list.proofs.Edits.{get_in_chunk}
-use Rattle.chunked_list.proofs.Numbers.{number_at, front-next, front-upto, front-rises}
+use Rattle.chunked_list.proofs.Numbers.{front-next, front-upto, front-rises}
 use Rattle.chunked_list.proofs.Splits.{filled-at}
 
 -- a list is parted where the item before passes and the one behind doesn't

@@ -1,5 +1,5 @@
 -- A chunk cut in two.
-use Rattle.std.proofs.Common.{◌≡◌, ℕ, zero, suc, ◌+◌, ◌-◌, ◌<◌, ◌≤◌, nat_lt, true, false, List, [], ◌∷◌, ◌++◌, length, take, drop, get_or, set, refl, ap, sym, subst, ◌∙◌, inl, inr, append_assoc, length-append, length-take, length-drop, arith}
+use Rattle.std.proofs.Common.{◌≡◌, ℕ, zero, suc, ◌+◌, ◌<◌, ◌≤◌, nat_lt, true, false, List, [], ◌∷◌, ◌++◌, length, take, drop, get_or, set, refl, ap, sym, subst, ◌∙◌, inl, inr, append_assoc, length-append, length-take, length-drop, arith}
 use Rattle.std.specs.List.{insert}
 use Rattle.std.proofs.lemmas.Bool.{cases_Bool}
 use Rattle.std.proofs.lemmas.Bool.Decides.{nat_tests}
@@ -7,7 +7,6 @@ use Rattle.std.proofs.Math.Seq.{take-append_seam, take-append-add, get_or-append
 use Rattle.std.proofs.lemmas.List.{take-append-drop, get_or-append-add}
 use Rattle.chunked_list.specs.Chunks.{items_in, joined, AreFilled, IsFilled, IsInside, HasRoom, IsSplit, place_of, halved}
 use Rattle.chunked_list.specs.declared.chunk.Chunk.{Chunk}
-use Rattle.chunked_list.specs.declared.spot.Spot.{Spot}
 use Rattle.chunked_list.proofs.Edits.{joined-append, joined-parts}
 
 module _ {T : Type 0} where

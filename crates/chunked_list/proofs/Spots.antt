@@ -1,12 +1,11 @@
 -- Where the item at a place stands.
-use Rattle.std.proofs.Common.{◌≡◌, ℕ, zero, suc, ◌+◌, ◌-◌, ◌<◌, ◌≤◌, nat_le, true, false, List, [], ◌∷◌, ◌++◌, length, take, drop, get_or, set, refl, ap, sym, subst, ◌∙◌, inl, inr, length-append, arith}
+use Rattle.std.proofs.Common.{◌≡◌, ℕ, zero, suc, ◌+◌, ◌-◌, ◌<◌, ◌≤◌, nat_le, true, false, List, [], ◌∷◌, length, take, get_or, ap, inl, inr, arith}
 use Rattle.std.specs.List.Sorted.{IsPartitionedBy, IsPartitionPoint}
 use Rattle.std.proofs.lemmas.Bool.{cases_order}
 use Rattle.std.proofs.lemmas.List.{take_all}
 use Rattle.std.proofs.lemmas.Bool.Decides.{nat_tests}
-use Rattle.chunked_list.specs.Chunks.{items_in, joined, AreNumbered, AreChunks, IsInside, place_of}
+use Rattle.chunked_list.specs.Chunks.{items_in, joined, AreNumbered, IsInside, place_of}
 use Rattle.chunked_list.specs.declared.chunk.Chunk.{Chunk}
-use Rattle.chunked_list.specs.declared.spot.Spot.{Spot}
 use Rattle.chunked_list.proofs.Numbers.{number_at, front-rises, front-suc}
 
 upto_holds : (n m : ℕ) → n ≤ m → nat_le n m ≡ true

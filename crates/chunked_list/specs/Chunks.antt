@@ -1,6 +1,7 @@
 -- A list in chunks, each with the number of items before it.
 use Rattle.std.specs.Prelude.{◌≡◌, ℕ, Bool, false, ◌+◌, ◌-◌, ◌<◌, ◌≤◌, List, [], ◌∷◌, ◌++◌, length, take, drop, slice_index_or, nat_lt, if◌then◌else◌}
 use Rattle.std.specs.List.{AllByRecursion, flat_map}
+use Rattle.std.specs.Vec.{vec_capacity}
 use Rattle.chunked_list.specs.declared.chunk.Chunk.{Chunk}
 use Rattle.chunked_list.specs.declared.spot.Spot.{Spot}
 
@@ -34,6 +35,10 @@ module _ {T : Type 0} where
   numbered before [] = []
   numbered before (c ∷ cs) = record { before = before; items = c.items } ∷ numbered (before + length (items_in c)) cs
 
+  -- the chunks before a place stand as they stood
+  abbrev pub AreSameBefore : ℕ → List (Chunk T) → List (Chunk T) → Type 0
+  AreSameBefore place old new = take place new ≡ take place old
+
   -- ---- a spot
 
   -- the place in the list
@@ -65,6 +70,14 @@ module _ {T : Type 0} where
     pub new_is : new ≡ take i old ++ low ∷ high ∷ drop (i + 1) old
     pub low_is : (d : Chunk T) → items_in low ≡ take 32 (items_in (slice_index_or old i d))
     pub high_is : (d : Chunk T) → items_in high ≡ drop 32 (items_in (slice_index_or old i d))
+
+  -- ---- two chunks that can be one
+
+  -- the chunk at a place has the memory for its items and those of the one behind it, and they are not too many
+  pub record CanJoin (cs : List (Chunk T)) (i : ℕ) : Type 0 where
+    pub there : i + 1 < length cs
+    pub few : (d : Chunk T) → length (items_in (slice_index_or cs i d)) + length (items_in (slice_index_or cs (i + 1) d)) ≤ 64
+    pub room : (d : Chunk T) → length (items_in (slice_index_or cs i d)) + length (items_in (slice_index_or cs (i + 1) d)) ≤ vec_capacity (slice_index_or cs i d).items
 
 -- the spot of an item of a chunk that was cut in two
 abbrev pub halved : Spot → Spot

@@ -7,6 +7,8 @@ use net_base::OutOfMemory;
 pub const LIMIT: usize = 64;
 // How many items a full chunk keeps where it is cut in two.
 pub const HALF: usize = 32;
+// How many items two neighbours have at most that are joined.
+pub const JOINED: usize = 48;
 
 // Items that stand one after another.
 #[derive(Debug, Drop)]

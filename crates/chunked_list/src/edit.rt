@@ -1,24 +1,40 @@
-ghost use Rattle.std.specs.Prelude.{◌≡◌, ◌+◌, ◌<◌, ◌≤◌, ◌^◌, ◌∷◌, [], ◌++◌, length, slice_index_or, slice_set, OnOk, OnErr, IfOk, IfSome};
+ghost use Rattle.std.specs.Prelude.{◌≡◌, ◌+◌, ◌-◌, ◌<◌, ◌≤◌, ◌^◌, ◌∷◌, [], ◌++◌, true, length, take, slice_index_or, slice_set, OnOk, OnErr, IfOk, IfSome};
 ghost use Rattle.std.specs.List.{insert, remove};
-ghost use Rattle.chunked_list.specs.Chunks.{items_in, joined, numbered, AreChunks, AreFilled, IsInside, HasRoom, IsSplit, place_of};
+ghost use Rattle.chunked_list.specs.Chunks.{items_in, joined, numbered, AreNumbered, AreChunks, AreFilled, AreSameBefore, CanJoin, IsInside, HasRoom, IsSplit, place_of};
 
-use crate::chunk::{Chunk, HALF, LIMIT};
+use crate::chunk::{Chunk, HALF, JOINED, LIMIT};
 use crate::spot::{Spot, halved, spot_of};
 use net_base::OutOfMemory;
 use std::alloc::AllocError;
 use std::mem;
 
-// Tells each chunk how many items stand before it.
-fn number<T>(chunks: &mut Vec<Chunk<T>>)
-    requires { length (joined chunks.old.items) < 2 ^ 64 }
+// Tells each chunk from a place on how many items stand before it. Those before that place know it already.
+fn number<T>(chunks: &mut Vec<Chunk<T>>, from: usize)
+    requires few { length (joined chunks.old.items) < 2 ^ 64 }
+    requires upto { from ≤ length chunks.old.items }
+    requires known { AreNumbered 0 (take from chunks.old.items) }
     ensures { chunks.new.items ≡ numbered 0 chunks.old.items }
 {
-    let mut before = 0;
-    for place in 0..chunks.len() {
+    let mut before = items_before(chunks, from);
+    for place in from..chunks.len() {
         let chunk = &mut chunks[place];
         chunk.before = before;
         before += chunk.items.len();
     }
+}
+
+// How many items stand before the chunk at a place, where the chunks before it know their numbers.
+fn items_before<T>(chunks: &[Chunk<T>], place: usize) -> usize
+    requires few { length (joined chunks.now) < 2 ^ 64 }
+    requires upto { place ≤ length chunks.now }
+    requires known { AreNumbered 0 (take place chunks.now) }
+    ensures { result ≡ length (joined (take place chunks.now)) }
+{
+    let Some(last) = place.checked_sub(1) else {
+        return 0;
+    };
+    let chunk = &chunks[last];
+    chunk.before + chunk.items.len()
 }
 
 // Puts an item in before the one at a spot, where its chunk has room.
@@ -27,6 +43,7 @@ fn put<T: Drop>(chunks: &mut Vec<Chunk<T>>, spot: Spot, item: T) -> Result<(), O
     requires inside { IsInside chunks.old.items spot }
     requires room { HasRoom chunks.old.items spot.chunk }
     ensures filled { AreFilled chunks.new.items }
+    ensures front { AreSameBefore spot.chunk chunks.old.items chunks.new.items }
     ensures ok { OnOk result (joined chunks.new.items ≡ insert (joined chunks.old.items) (place_of chunks.old.items spot) item) }
     ensures err { OnErr result (joined chunks.new.items ≡ joined chunks.old.items) }
 {
@@ -38,7 +55,9 @@ fn make_room<T: Drop>(chunks: &mut Vec<Chunk<T>>, spot: Spot) -> Result<Spot, Al
     requires filled { AreFilled chunks.old.items }
     requires inside { IsInside chunks.old.items spot }
     ensures filled { AreFilled chunks.new.items }
+    ensures front { AreSameBefore spot.chunk chunks.old.items chunks.new.items }
     ensures same { joined chunks.new.items ≡ joined chunks.old.items }
+    ensures behind { IfOk result (λ s. spot.chunk ≤ s.chunk) }
     ensures inside { IfOk result (λ s. IsInside chunks.new.items s) }
     ensures room { IfOk result (λ s. HasRoom chunks.new.items s.chunk) }
     ensures place { IfOk result (λ s. place_of chunks.new.items s ≡ place_of chunks.old.items spot) }
@@ -74,6 +93,7 @@ fn split<T: Drop>(chunks: &mut Vec<Chunk<T>>, chunk: usize) -> Result<(), AllocE
 fn push<T: Drop>(chunks: &mut Vec<Chunk<T>>, item: T) -> Result<(), OutOfMemory>
     requires { AreFilled chunks.old.items }
     ensures filled { AreFilled chunks.new.items }
+    ensures front { AreSameBefore (length chunks.old.items - 1) chunks.old.items chunks.new.items }
     ensures ok { OnOk result (joined chunks.new.items ≡ joined chunks.old.items ++ item ∷ []) }
     ensures err { OnErr result (joined chunks.new.items ≡ joined chunks.old.items) }
 {
@@ -98,6 +118,7 @@ fn push_within<T: Drop>(chunks: &mut Vec<Chunk<T>>, last: usize, item: T) -> Res
     requires last { last + 1 ≡ length chunks.old.items }
     requires room { HasRoom chunks.old.items last }
     ensures filled { AreFilled chunks.new.items }
+    ensures front { AreSameBefore last chunks.old.items chunks.new.items }
     ensures ok { OnOk result (joined chunks.new.items ≡ joined chunks.old.items ++ item ∷ []) }
     ensures err { OnErr result (joined chunks.new.items ≡ joined chunks.old.items) }
 {
@@ -108,6 +129,7 @@ fn push_within<T: Drop>(chunks: &mut Vec<Chunk<T>>, last: usize, item: T) -> Res
 fn push_chunk<T: Drop>(chunks: &mut Vec<Chunk<T>>, item: T) -> Result<(), OutOfMemory>
     requires { AreFilled chunks.old.items }
     ensures filled { AreFilled chunks.new.items }
+    ensures front { AreSameBefore (length chunks.old.items) chunks.old.items chunks.new.items }
     ensures ok { OnOk result (joined chunks.new.items ≡ joined chunks.old.items ++ item ∷ []) }
     ensures err { OnErr result (joined chunks.new.items ≡ joined chunks.old.items) }
 {
@@ -122,6 +144,7 @@ fn take_out<T: Drop>(chunks: &mut Vec<Chunk<T>>, spot: Spot) -> T
     requires filled { AreFilled chunks.old.items }
     requires inside { IsInside chunks.old.items spot }
     ensures filled { AreFilled chunks.new.items }
+    ensures front { AreSameBefore spot.chunk chunks.old.items chunks.new.items }
     ensures value { result ≡ slice_index_or (joined chunks.old.items) (place_of chunks.old.items spot) result }
     ensures items { joined chunks.new.items ≡ remove (joined chunks.old.items) (place_of chunks.old.items spot) }
 {
@@ -130,6 +153,33 @@ fn take_out<T: Drop>(chunks: &mut Vec<Chunk<T>>, spot: Spot) -> T
         chunks.remove(spot.chunk);
     }
     item
+}
+
+// Joins the chunk at a place with the one behind it, where the two can be one.
+fn join_next<T: Drop>(chunks: &mut Vec<Chunk<T>>, place: usize)
+    requires { AreFilled chunks.old.items }
+    ensures filled { AreFilled chunks.new.items }
+    ensures front { AreSameBefore place chunks.old.items chunks.new.items }
+    ensures same { joined chunks.new.items ≡ joined chunks.old.items }
+{
+    if !can_join(chunks, place) {
+        return;
+    }
+    let mut next = chunks.remove(place + 1);
+    // there is room
+    let _ = chunks[place].items.append(&mut next.items);
+}
+
+// Whether the chunk at a place and the one behind it are small, and the first has the memory for both.
+fn can_join<T>(chunks: &[Chunk<T>], place: usize) -> bool
+    requires { AreFilled chunks.now }
+    ensures { result ≡ true → CanJoin chunks.now place }
+{
+    if chunks.len().saturating_sub(1) <= place {
+        return false;
+    }
+    let both = chunks[place].items.len() + chunks[place + 1].items.len();
+    both <= JOINED && both <= chunks[place].items.capacity()
 }
 
 // Puts an item in the place of the one at a spot.
@@ -158,29 +208,39 @@ pub fn insert_at<T: Drop>(
     ensures ok { OnOk result (joined chunks.new.items ≡ insert (joined chunks.old.items) place item) }
     ensures err { OnErr result (joined chunks.new.items ≡ joined chunks.old.items) }
 {
-    let done = put_at(chunks, place, len, item);
-    number(chunks);
+    if place == len {
+        return append(chunks, item);
+    }
+    let spot = spot_of(chunks, place);
+    let done = put_in(chunks, spot, item);
+    number(chunks, spot.chunk);
     done
 }
 
-// The same, and leaves the numbers of the chunks as they were.
-fn put_at<T: Drop>(
-    chunks: &mut Vec<Chunk<T>>,
-    place: usize,
-    len: usize,
-    item: T,
-) -> Result<(), OutOfMemory>
+// Puts an item in at the end of the list.
+fn append<T: Drop>(chunks: &mut Vec<Chunk<T>>, item: T) -> Result<(), OutOfMemory>
     requires kept { AreChunks chunks.old.items }
-    requires len { len ≡ length (joined chunks.old.items) }
-    requires upto { place ≤ len }
-    ensures filled { AreFilled chunks.new.items }
-    ensures ok { OnOk result (joined chunks.new.items ≡ insert (joined chunks.old.items) place item) }
+    requires few { length (joined chunks.old.items) + 1 < 2 ^ 64 }
+    ensures kept { AreChunks chunks.new.items }
+    ensures ok { OnOk result (joined chunks.new.items ≡ joined chunks.old.items ++ item ∷ []) }
     ensures err { OnErr result (joined chunks.new.items ≡ joined chunks.old.items) }
 {
-    if place == len {
-        return push(chunks, item);
-    }
-    let spot = make_room(chunks, spot_of(chunks, place))?;
+    let last = chunks.len().saturating_sub(1);
+    let done = push(chunks, item);
+    number(chunks, last);
+    done
+}
+
+// Puts an item in before the one at a spot, and leaves the numbers of the chunks as they were.
+fn put_in<T: Drop>(chunks: &mut Vec<Chunk<T>>, spot: Spot, item: T) -> Result<(), OutOfMemory>
+    requires filled { AreFilled chunks.old.items }
+    requires inside { IsInside chunks.old.items spot }
+    ensures filled { AreFilled chunks.new.items }
+    ensures front { AreSameBefore spot.chunk chunks.old.items chunks.new.items }
+    ensures ok { OnOk result (joined chunks.new.items ≡ insert (joined chunks.old.items) (place_of chunks.old.items spot) item) }
+    ensures err { OnErr result (joined chunks.new.items ≡ joined chunks.old.items) }
+{
+    let spot = make_room(chunks, spot)?;
     put(chunks, spot, item)
 }
 
@@ -195,6 +255,9 @@ pub fn remove_at<T: Drop>(chunks: &mut Vec<Chunk<T>>, place: usize) -> T
 {
     let spot = spot_of(chunks, place);
     let item = take_out(chunks, spot);
-    number(chunks);
+    join_next(chunks, spot.chunk);
+    let first = spot.chunk.saturating_sub(1);
+    join_next(chunks, first);
+    number(chunks, first);
     item
 }

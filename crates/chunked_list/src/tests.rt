@@ -118,6 +118,27 @@ fn rising_numbers_are_found(rt: HostRuntime) -> Result<(), Fail> {
 }
 
 #[test]
+fn one_of_each_sixty_four_is_left(rt: HostRuntime) -> Result<(), Fail> {
+    let mut list = ChunkedList::new(rt.alloc());
+    for number in 0..960_u64 {
+        list.push(number)?;
+    }
+    // the first go first, so that each chunk is small before the next one is
+    for place in 0..15 {
+        for _ in 0..63_u64 {
+            if place < list.len() {
+                list.remove(place);
+            }
+        }
+    }
+    assert_eq!(rt; list.len(), 15);
+    for number in 0..15_u64 {
+        assert_eq!(rt; list.get(number as usize), Some(&(64 * number + 63)));
+    }
+    Ok(())
+}
+
+#[test]
 fn a_copy_has_the_items_in_their_order(rt: HostRuntime) -> Result<(), Fail> {
     let mut list = ChunkedList::new(rt.alloc());
     for number in (0..1000_u64).rev() {

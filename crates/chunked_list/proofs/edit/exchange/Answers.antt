@@ -1,4 +1,4 @@
-use Rattle.std.proofs.Common.{◌≡◌, ◌<◌, sym, subst, ap, ◌∙◌, arith, length, get_or, set, length-set}
+use Rattle.std.proofs.Common.{◌≡◌, sym, subst, ap, ◌∙◌, length, get_or, set, length-set}
 use Rattle.std.specs.Vec.{with_item}
 use Rattle.chunked_list.specs.Chunks.{items_in, joined, place_of}
 use Rattle.chunked_list.proofs.Edits.{get_in_chunk, set_in_chunk}

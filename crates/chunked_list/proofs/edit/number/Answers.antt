@@ -1,7 +1,16 @@
-use Rattle.std.proofs.Common.{◌≡◌, ◌<◌, ◌+◌, ◌++◌, length, take, drop, get_or, set, ap, sym, ◌∙◌, arith}
+use Rattle.std.proofs.Common.{◌≡◌, ◌<◌, ◌+◌, ◌++◌, length, take, drop, get_or, set, ap, ◌∙◌, arith}
 use Rattle.chunked_list.specs.Chunks.{items_in, joined, numbered}
-use Rattle.chunked_list.proofs.Numbers.{front-next, front-upto, number_next, number_rest}
+use Rattle.chunked_list.proofs.Numbers.{front-next, front-upto, number_next, number_rest, number_from}
 use Rattle.chunked_list.proofs.edit.number.Goals as goal
+
+pub loop-place-init : goal.loop-place-init
+loop-place-init g c =
+    let cs = c.args.chunks.now.items in
+    let is = c.deref.ensures.value in
+    record {
+      told = number_from cs c.args.from c.requires.known;
+      sum = c.items_before-before.ensures ∙ ap (λ l. length (joined (take c.args.from l))) is;
+    }
 
 pub overflow_add-before : goal.overflow_add-before
 overflow_add-before g c =
@@ -13,7 +22,7 @@ overflow_add-before g c =
     let sum : c.loop-place.before ≡ length (joined (take i cs)) = c.loop-place.invariant.sum in
     let is : d ≡ get_or cs i d = c.index_mut-chunk.ensures.value ∙ (ap (λ l. get_or l i d) told ∙ number_rest 0 cs i d inside) in
     let long : c.len-before.result ≡ length (items_in d) = omega (arith, c.len-before.ensures) in
-    omega (arith, long, sum, ap (λ x. length (items_in x)) is, front-next cs i d inside, front-upto cs (i + 1), c.requires)
+    omega (arith, long, sum, ap (λ x. length (items_in x)) is, front-next cs i d inside, front-upto cs (i + 1), c.requires.few)
 
 pub loop-place-preserved : goal.loop-place-preserved
 loop-place-preserved g c =

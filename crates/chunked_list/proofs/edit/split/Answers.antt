@@ -1,4 +1,4 @@
-use Rattle.std.proofs.Common.{◌≡◌, ◌+◌, ◌<◌, cond, true, List, length, sym, ap, ◌∙◌, arith, take, drop, set, get_or}
+use Rattle.std.proofs.Common.{◌≡◌, ◌+◌, cond, true, ap, ◌∙◌, arith, take, drop, set, get_or}
 use Rattle.std.specs.List.{insert}
 use Rattle.std.specs.Result.{is_ok}
 use Rattle.std.proofs.lemmas.List.{get_or_default}

@@ -1,8 +1,8 @@
-use Rattle.std.proofs.Common.{◌≡◌, ◌<◌, ℕ, List, [], ◌∷◌, true, nat_eq, refl, length, get_or, set, sym, subst, ap, ◌∙◌, arith, length-set}
+use Rattle.std.proofs.Common.{◌≡◌, ◌<◌, ℕ, List, [], ◌∷◌, true, nat_eq, refl, length, get_or, set, sym, ap, ◌∙◌, arith, length-set}
 use Rattle.std.specs.List.{remove}
 use Rattle.std.proofs.lemmas.List.{get_or_default}
 use Rattle.std.proofs.lemmas.Bool.Decides.{nat_tests}
-use Rattle.chunked_list.specs.Chunks.{items_in, joined, place_of}
+use Rattle.chunked_list.specs.Chunks.{items_in, joined}
 use Rattle.chunked_list.specs.declared.chunk.Chunk.{Chunk}
 use Rattle.chunked_list.proofs.Edits.{get_in_chunk, taken_from_chunk, joined-without_empty}
 use Rattle.chunked_list.proofs.edit.take_out.Goals as goal

@@ -1,4 +1,4 @@
-use Rattle.std.proofs.Common.{◌≡◌, length, get_or, sym, subst, ap, ◌∙◌}
+use Rattle.std.proofs.Common.{◌≡◌, get_or, sym, subst, ap, ◌∙◌}
 use Rattle.chunked_list.specs.Chunks.{items_in, joined, place_of, IsInside}
 use Rattle.chunked_list.proofs.Edits.{get_in_chunk}
 use Rattle.chunked_list.proofs.list.ChunkedList.at.Goals as goal
