@@ -8,4 +8,6 @@ pub mod Levels
 pub mod Meaning
 pub mod Shortest
 pub mod Fronts
+pub mod Readers
 pub mod Resumes
+pub mod Turns

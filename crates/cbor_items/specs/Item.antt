@@ -17,6 +17,11 @@ abbrev pub IsRow : (List ℕ → Type 0) → ℕ → List ℕ → Type 0
 IsRow Thing zero bytes = bytes ≡ []
 IsRow Thing (suc n) bytes = IsPair Thing (IsRow Thing n) bytes
 
+-- a thing for each element of a list, one behind the other
+abbrev pub AreInTurn : {X : Type 0} → (X → List ℕ → Type 0) → List X → List ℕ → Type 0
+AreInTurn Thing [] bytes = bytes ≡ []
+AreInTurn Thing (x ∷ xs) bytes = IsPair (Thing x) (AreInTurn Thing xs) bytes
+
 -- any number of things, and a break behind them
 pub record IsRowToBreak (Thing : List ℕ → Type 0) (bytes : List ℕ) : Type 0 where
   pub count : ℕ

@@ -1,9 +1,11 @@
 pub mod Reading
 pub mod Head
 pub mod Item
+pub mod Definite
+pub mod Front
 pub mod Scan
 pub mod Answer
-pub mod Part
+pub mod Element
 pub mod Level
 pub mod Resume
 pub mod Steps

@@ -3,10 +3,11 @@ ghost use Rattle.cbor_items.specs.declared.head.Head.{Head};
 ghost use Rattle.cbor_items.specs.Reading.{Gives};
 ghost use Rattle.cbor_items.specs.Head.{argument_len, value_of, may_begin, may_follow, initial_at, argument_at, head_and_rest, head_at, IsHead, shortest_head};
 
+use crate::initial::NEXT_BYTE;
 use crate::stop::Stop;
 use net_base::{Octets, OutOfMemory};
 
-/// A head of an item: what kind of item it is, and its value or its length.
+/// A head of an item (RFC 8949, section 3): what kind of item it is, and its value or its length.
 #[derive(Clone, Copy, Debug, PartialEq, Eq)]
 pub struct Head {
     /// 0 to 7.
@@ -19,7 +20,8 @@ pub struct Head {
     pub size: usize,
 }
 
-/// The head at the front of the bytes. None exactly where they do not begin with a whole valid one.
+/// The head at the front of the bytes (RFC 8949, section 3). None exactly where they do not begin with a whole valid
+/// one.
 pub fn read_head(bytes: &[u8]) -> Option<Head>
     ensures head { result ≡ head_at bytes.now }
     ensures some { IfSome result (λ head. IsHead head (take head.size bytes.now)) }
@@ -31,8 +33,8 @@ pub fn read_head(bytes: &[u8]) -> Option<Head>
     }
 }
 
-/// Appends the shortest head of a major type, at most 7, and a value, which is below 24 with major type 7. A
-/// refusal changes nothing.
+/// Appends the shortest head (RFC 8949, section 4.2.1) of a major type, at most 7, and a value, which is below 24 with
+/// major type 7. A refusal changes nothing.
 #[tactic(auto, unfolding(crate::specs::Head::shortest_head))]
 pub fn write_head(out: &mut Octets, major: u8, value: u64) -> Result<(), OutOfMemory>
     requires major { major ≤ 7 }
@@ -93,8 +95,7 @@ pub(crate) fn split_argument(initial: u8, bytes: &[u8]) -> Result<(Head, &[u8]),
         return Err(Stop::More);
     }
     let (argument, rest) = bytes.split_at(len);
-    // a simple value in the next byte
-    if initial == 0xf8 && argument[0] < 32 {
+    if initial == NEXT_BYTE && argument[0] < 32 {
         return Err(Stop::Bad);
     }
     let head = Head {

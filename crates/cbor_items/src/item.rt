@@ -2,19 +2,18 @@ ghost use Rattle.std.specs.Prelude.{◌≡◌, ◌<◌, ◌==◌, length};
 ghost use Rattle.cbor_items.specs.Reading.{Gives};
 ghost use Rattle.cbor_items.specs.Head.{argument_at};
 ghost use Rattle.cbor_items.specs.Scan.{skip_bytes, skip_row, skip_to_break, skip_chunk, skip_flat, skip_nested, is_nested, skip_item};
-ghost use Rattle.cbor_items.specs.Part.{part_of};
+ghost use Rattle.cbor_items.specs.Element.{element_of};
 
 use crate::head::{split_argument, split_initial};
+use crate::initial::{ARRAY, BREAK, BYTES, MAP, TAG, TEXT};
 use crate::stop::Stop;
 
 /// How many arrays, maps and tags may stand inside each other.
 pub(crate) const LEVEL_LIMIT: u8 = 64;
 
-pub(crate) const BREAK: u8 = 0xff;
-
 /// What arrays and maps are rows of.
 #[derive(Clone, Copy)]
-enum Part {
+enum Element {
     Item,
     /// A key and its value.
     Entry,
@@ -44,31 +43,31 @@ fn skip_nested(initial: u8, bytes: &[u8], inner: u8) -> Result<&[u8], Stop>
 {
     let (head, rest) = split_argument(initial, bytes)?;
     match (head.major, head.indefinite) {
-        (4, false) => skip_parts(Part::Item, head.value, rest, inner),
-        (4, true) => skip_parts_to_break(Part::Item, rest, inner),
-        (5, false) => skip_parts(Part::Entry, head.value, rest, inner),
-        (5, true) => skip_parts_to_break(Part::Entry, rest, inner),
+        (ARRAY, false) => skip_elements(Element::Item, head.value, rest, inner),
+        (ARRAY, true) => skip_elements_to_break(Element::Item, rest, inner),
+        (MAP, false) => skip_elements(Element::Entry, head.value, rest, inner),
+        (MAP, true) => skip_elements_to_break(Element::Entry, rest, inner),
         _ => skip_item(rest, inner),
     }
 }
 
 #[cycle(item)]
-fn skip_parts(part: Part, count: u64, bytes: &[u8], inner: u8) -> Result<&[u8], Stop>
-    ensures { Gives (λ rest. rest.now) result (skip_row (part_of (skip_item inner) part) count bytes.now) }
+fn skip_elements(element: Element, count: u64, bytes: &[u8], inner: u8) -> Result<&[u8], Stop>
+    ensures { Gives (λ rest. rest.now) result (skip_row (element_of (skip_item inner) element) count bytes.now) }
 {
     let mut rest = bytes;
     for _ in 0..count {
-        rest = skip_part(part, rest, inner)?;
+        rest = skip_element(element, rest, inner)?;
     }
     Ok(rest)
 }
 
 #[cycle(item)]
-fn skip_parts_to_break(part: Part, bytes: &[u8], inner: u8) -> Result<&[u8], Stop>
-    ensures { Gives (λ rest. rest.now) result (skip_to_break (part_of (skip_item inner) part) (length bytes.now) bytes.now) }
+fn skip_elements_to_break(element: Element, bytes: &[u8], inner: u8) -> Result<&[u8], Stop>
+    ensures { Gives (λ rest. rest.now) result (skip_to_break (element_of (skip_item inner) element) (length bytes.now) bytes.now) }
 {
     let mut rest = bytes;
-    // each part takes a byte at least
+    // each one takes a byte at least
     for _ in 0..bytes.len() {
         let Some((first, after)) = rest.split_first() else {
             return Err(Stop::More);
@@ -76,18 +75,18 @@ fn skip_parts_to_break(part: Part, bytes: &[u8], inner: u8) -> Result<&[u8], Sto
         if *first == BREAK {
             return Ok(after);
         }
-        rest = skip_part(part, rest, inner)?;
+        rest = skip_element(element, rest, inner)?;
     }
     Err(Stop::More)
 }
 
 #[cycle(item)]
-fn skip_part(part: Part, bytes: &[u8], inner: u8) -> Result<&[u8], Stop>
-    ensures { Gives (λ rest. rest.now) result (part_of (skip_item inner) part bytes.now) }
+fn skip_element(element: Element, bytes: &[u8], inner: u8) -> Result<&[u8], Stop>
+    ensures { Gives (λ rest. rest.now) result (element_of (skip_item inner) element bytes.now) }
 {
-    match part {
-        Part::Item => skip_item(bytes, inner),
-        Part::Entry => {
+    match element {
+        Element::Item => skip_item(bytes, inner),
+        Element::Entry => {
             let rest = skip_item(bytes, inner)?;
             skip_item(rest, inner)
         }
@@ -101,8 +100,8 @@ pub(crate) fn skip_flat(initial: u8, bytes: &[u8]) -> Result<&[u8], Stop>
 {
     let (head, rest) = split_argument(initial, bytes)?;
     match (head.major, head.indefinite) {
-        (2 | 3, false) => skip_bytes(head.value, rest),
-        (2 | 3, true) => skip_chunks(head.major, rest),
+        (BYTES | TEXT, false) => skip_bytes(head.value, rest),
+        (BYTES | TEXT, true) => skip_chunks(head.major, rest),
         (_, false) => Ok(rest),
         // a break, which is no item
         (_, true) => Err(Stop::Bad),
@@ -112,11 +111,10 @@ pub(crate) fn skip_flat(initial: u8, bytes: &[u8]) -> Result<&[u8], Stop>
 fn skip_bytes(count: u64, bytes: &[u8]) -> Result<&[u8], Stop>
     ensures { Gives (λ rest. rest.now) result (skip_bytes count bytes.now) }
 {
-    if (bytes.len() as u64) < count {
-        return Err(Stop::More);
+    match usize::try_from(count) {
+        Ok(count) if count <= bytes.len() => Ok(&bytes[count..]),
+        _ => Err(Stop::More),
     }
-    let (_, rest) = bytes.split_at(count as usize);
-    Ok(rest)
 }
 
 // Passes over the chunks of an indefinite string, and over the break behind them.
@@ -157,5 +155,5 @@ pub(crate) fn skip_chunk(major: u8, bytes: &[u8]) -> Result<&[u8], Stop>
 pub(crate) fn is_nested(initial: u8) -> bool
     ensures { result ≡ is_nested initial }
 {
-    matches!(initial / 32, 4..=6)
+    matches!(initial / 32, ARRAY..=TAG)
 }

@@ -8,7 +8,8 @@ ghost use Rattle.cbor_items.specs.Steps.{levels_of, Goes, StepsTo, HasEnded, Ans
 
 use crate::Scan;
 use crate::halt::Halt;
-use crate::item::{BREAK, skip_chunk};
+use crate::initial::BREAK;
+use crate::item::skip_chunk;
 use crate::level::{Level, Thing};
 use crate::opening::begin_item;
 use crate::stack::Levels;

@@ -4,14 +4,10 @@ ghost use Rattle.cbor_items.specs.Level.{skip_level};
 ghost use Rattle.cbor_items.specs.Steps.{BeginsAs};
 
 use crate::head::{Head, split_argument, split_initial};
+use crate::initial::{ARRAY, BYTE_CHUNKS, MAP, TEXT_CHUNKS};
 use crate::item::{is_nested, skip_flat};
 use crate::level::{Level, Thing};
 use crate::stop::Stop;
-
-// The initial bytes of an indefinite string of bytes, and of one of text.
-const BYTE_CHUNKS: u8 = 0x5f;
-
-const TEXT_CHUNKS: u8 = 0x7f;
 
 /// Passes over what begins an item with at most so many levels: what is still to come of it, and the bytes behind.
 pub(crate) fn begin_item(bytes: &[u8], depth: u8) -> Result<(Level, &[u8]), Stop>
@@ -41,10 +37,10 @@ fn level_of(head: Head) -> Level
     ensures { (item : Skip) (bytes : List ℕ) → skip_nested_content item head bytes ≡ skip_level item result bytes }
 {
     match (head.major, head.indefinite) {
-        (4, false) => Level::Items(u128::from(head.value)),
-        (4, true) => Level::ToBreak(Thing::Item),
-        (5, false) => Level::Items(2 * u128::from(head.value)),
-        (5, true) => Level::ToBreak(Thing::Entry),
+        (ARRAY, false) => Level::Items(u128::from(head.value)),
+        (ARRAY, true) => Level::ToBreak(Thing::Item),
+        (MAP, false) => Level::Items(2 * u128::from(head.value)),
+        (MAP, true) => Level::ToBreak(Thing::Entry),
         _ => Level::Items(1),
     }
 }

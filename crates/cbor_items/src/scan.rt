@@ -19,7 +19,8 @@ pub enum Scan {
     Deep,
 }
 
-/// Scans the first item of the bytes. The first byte that decides gives the answer, whatever follows it.
+/// Scans the first item of the bytes (RFC 8949, sections 3.1 and 3.2). The first byte that decides gives the answer,
+/// whatever follows it.
 pub fn first_item(bytes: &[u8]) -> Scan
     ensures scan { result ≡ scan_of bytes.now }
     // What the answer means, by the grammar of items.

@@ -174,6 +174,21 @@ fn heads_of_every_width_are_read(rt: HostRuntime) {
     }
 }
 
+// Examples of RFC 8949, appendix A.
+#[test]
+fn numbers_and_lengths_stand_at_the_front(rt: HostRuntime) {
+    assert_eq!(rt;
+        split_number(b"\x1a\x00\x0f\x42\x40\x01"),
+        Ok((1_000_000, b"\x01".as_slice()))
+    );
+    assert_eq!(rt; split_number(b"\x38\x63"), Err(Absent));
+    assert_eq!(rt;
+        split_definite(TEXT, b"\x64IETF"),
+        Ok((4, b"IETF".as_slice()))
+    );
+    assert_eq!(rt; split_definite(ARRAY, b"\x9f\xff"), Err(Absent));
+}
+
 #[test]
 fn no_head_is_read_where_none_is_whole(rt: HostRuntime) {
     let none: [&[u8]; 12] = [

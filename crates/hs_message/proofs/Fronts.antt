@@ -1,46 +1,28 @@
 -- Reading parts: what is read stands at the front of the bytes, and what stands there is read, whatever follows it.
-use Rattle.std.proofs.Common.{◌≡◌, ℕ, zero, suc, ◌≤◌, ◌<◌, Bool, true, false, cond, eqb, ltb, not, ◌&&◌, ◌⊎◌, List, [], ◌∷◌, ◌++◌, length, take, drop, Option, Some, None, refl, sym, ap, subst, ◌∙◌, append_assoc, arith, inl, inr}
+use Rattle.std.proofs.Common.{◌≡◌, ℕ, zero, suc, ◌≤◌, ◌<◌, Bool, true, false, cond, eqb, ltb, ◌⊎◌, List, [], ◌∷◌, ◌++◌, length, take, drop, Option, Some, None, refl, sym, ap, subst, ◌∙◌, append_assoc, arith, inl, inr}
 use Rattle.std.specs.Option.{option_or}
-use Rattle.std.proofs.lemmas.Bool.{ltb-false, le-ltb, eqb-true, eq-eqb, ne_eqb, and_parts, and_from, not-true}
+use Rattle.std.proofs.lemmas.Bool.{ltb-false, le-ltb, eqb-true, eq-eqb, ne_eqb}
 use Rattle.std.proofs.lemmas.List.{length-append, length-take, take-append-drop, take_at, drop_at}
-use Rattle.cbor_items.specs.declared.head.Head.{Head}
 use Rattle.cbor_items.specs.declared.scan.Scan.{Scan}
 use Rattle.cbor_items.specs.declared.scan.Scan.TheVariants as scan
-use Rattle.cbor_items.specs.Head.{major_of, IsHead, head_at}
-use Rattle.cbor_items.specs.Item.{IsPair, IsItem, level_limit}
+use Rattle.cbor_items.specs.Head.{major_of}
+use Rattle.cbor_items.specs.Definite.{IsDefinite, IsNumber}
+use Rattle.cbor_items.specs.Front.{Reader, ◌>>=◌, definite_at, number_at}
+use Rattle.cbor_items.specs.Item.{IsPair, AreInTurn, IsItem, level_limit}
 use Rattle.cbor_items.specs.Scan.{scan_of}
 use Rattle.cbor_items.proofs.Skips.{HasFront, StartsPlain, chosen}
-use Rattle.cbor_items.proofs.Heads.{head_again, head_stands, size_of_head}
+use Rattle.cbor_items.proofs.Readers.{Reads, bind_some, guard_some, some_is, reads_definite, reads_number, definite_starts}
 use Rattle.cbor_items.proofs.Fronts.{scan_found, scan_again}
-use Rattle.hs_message.specs.Parts.{IsDefinite, IsNumber, IsText, flag_byte, IsFlag, IsListOf}
+use Rattle.hs_message.specs.Parts.{IsText, flag_byte, IsFlag}
 use Rattle.hs_message.specs.Info.{IsSharing}
-use Rattle.hs_message.specs.Reading.{Reader, ◌>>=◌, any_head_at, definite_at, number_at, array_at, flag_at, bit_at, sharing_at, text_at, front_of, item_at, row_at, row_to_break_at, tag_at, noted_at}
+use Rattle.hs_message.specs.Reading.{definite_array_at, flag_at, bit_at, sharing_at, text_at, front_of, item_at, row_at, row_to_break_at, tag_at, noted_at}
 
--- A reader reads things, and nothing else.
-pub record Reads {X : Type 0} (Thing : X → List ℕ → Type 0) (read : Reader X) : Type 0 where
-  pub found : (bytes : List ℕ) (x : X) (rest : List ℕ) → read bytes ≡ Some (x, rest) → HasFront (Thing x) bytes rest
-  pub again : (x : X) (front rest : List ℕ) → Thing x front → read (front ++ rest) ≡ Some (x, rest)
+-- ---- tests, and one thing behind another
 
--- ---- one reading behind another
-
-pub bind_some : {A B : Type 0} (r : Option A) (f : A → Option B) (y : B) → (r >>= f) ≡ Some y → (x : A) × (r ≡ Some x) × (f x ≡ Some y)
-bind_some (Some x) f y e = (x, refl, e)
-bind_some None f y e = absurd cc
-
--- a test that did not fail
-pub guard_some : {A : Type 0} (b : Bool) (x y : A) → cond b (Some x) None ≡ Some y → (b ≡ true) × (x ≡ y)
-guard_some true x y e = (refl, cc)
-guard_some false x y e = absurd cc
-
+-- a test that did fail
 pub guard_not : {A : Type 0} (b : Bool) (x y : A) → cond b None (Some x) ≡ Some y → (b ≡ false) × (x ≡ y)
 guard_not true x y e = absurd cc
 guard_not false x y e = (refl, cc)
-
-abbrev some : {A : Type 0} → A → Option A
-some x = Some x
-
-pub some_is : {A : Type 0} (x y : A) → some x ≡ some y → x ≡ y
-some_is x y e = cc
 
 pub pair_front : {First Second : List ℕ → Type 0} {bytes mid rest : List ℕ} → HasFront First bytes mid → HasFront Second mid rest → HasFront (IsPair First Second) bytes rest
 pair_front {First} {Second} {bytes} {mid} {rest} one two = record {
@@ -70,71 +52,19 @@ front_as {Thing} {Other} {bytes} {rest} to one = record { front = one.front; joi
 pub pair_parts : {First Second : List ℕ → Type 0} {front : List ℕ} (p : IsPair First Second front) (rest : List ℕ) → front ++ rest ≡ p.first ++ (p.second ++ rest)
 pair_parts {First} {Second} {front} p rest = ap (λ (x : List ℕ). x ++ rest) p.joined ∙ append_assoc p.first p.second rest
 
--- ---- heads
+-- ---- arrays
 
-pub reads_any_head : Reads IsHead any_head_at
-reads_any_head = record {
-  found = λ bytes head rest e.
-      let b = bind_some (head_at bytes) (λ h. Some (h, drop h.size bytes)) (head, rest) e in
-      let made : Head × List ℕ = (b.0, drop b.0.size bytes) in
-      let stands : HasFront (IsHead b.0) bytes (drop b.0.size bytes) = record {
-        front = take b.0.size bytes;
-        joined = sym (take-append-drop b.0.size bytes);
-        is = head_stands bytes b.0 b.1;
-      } in
-      subst (λ (p : Head × List ℕ). HasFront (IsHead p.0) bytes p.1) (some_is made (head, rest) b.2) stands;
-  again = λ head front rest is. rw (head_again head front rest is, drop_at front rest head.size (sym (size_of_head head front is))) refl;
-}
-
-pub reads_definite : (major : ℕ) → Reads (IsDefinite major) (definite_at major)
-unfolding definite_at
-reads_definite major = record {
-  found = λ bytes value rest e.
-      let b = bind_some (any_head_at bytes) (λ (read : Head × List ℕ). cond (eqb read.0.major major && not read.0.indefinite) (Some (read.0.value, read.1)) None) (value, rest) e in
-      let made : ℕ × List ℕ = (b.0.0.value, b.0.1) in
-      let g = guard_some (eqb b.0.0.major major && not b.0.0.indefinite) made (value, rest) b.2 in
-      let parts = and_parts (eqb b.0.0.major major) (not b.0.0.indefinite) g.0 in
-      let h = reads_any_head.found bytes b.0.0 b.0.1 b.1 in
-      let stands : HasFront (IsDefinite major b.0.0.value) bytes b.0.1 = record {
-        front = h.front;
-        joined = h.joined;
-        is = record { head = b.0.0; is_head = h.is; is_major = eqb-true _ _ parts.0; definite = not-true _ parts.1; is_value = refl };
-      } in
-      subst (λ (p : ℕ × List ℕ). HasFront (IsDefinite major p.0) bytes p.1) g.1 stands;
-  again = λ value front rest d.
-      let guard : (eqb d.head.major major && not d.head.indefinite) ≡ true = and_from _ _ (eq-eqb _ _ d.is_major) (ap not d.definite) in
-      rw (reads_any_head.again d.head front rest d.is_head, guard, d.is_value) refl;
-}
-
-pub reads_number : Reads IsNumber number_at
-reads_number = reads_definite 0
-
--- the initial byte tells the major type
-pub record Starts (major : ℕ) (bytes : List ℕ) : Type 0 where
-  pub first : ℕ
-  pub rest : List ℕ
-  pub joined : bytes ≡ first ∷ rest
-  pub is_major : major_of first ≡ major
-
-pub definite_starts : (major value : ℕ) (bytes : List ℕ) → IsDefinite major value bytes → Starts major bytes
-definite_starts major value bytes d = record {
-  first = d.is_head.initial;
-  rest = d.is_head.argument;
-  joined = d.is_head.joined;
-  is_major = sym (ap (λ (h : Head). h.major) d.is_head.is) ∙ d.is_major;
-}
-
--- an array of so many elements
-pub array_found : (count : ℕ) (bytes rest : List ℕ) → array_at count bytes ≡ Some rest → HasFront (IsDefinite 4 count) bytes rest
-unfolding array_at
+-- a definite array of so many elements
+pub array_found : (count : ℕ) (bytes rest : List ℕ) → definite_array_at count bytes ≡ Some rest → HasFront (IsDefinite 4 count) bytes rest
+unfolding definite_array_at
 array_found count bytes rest e =
     let b = bind_some (definite_at 4 bytes) (λ (read : ℕ × List ℕ). cond (eqb read.0 count) (Some read.1) None) rest e in
     let g = guard_some (eqb b.0.0 count) b.0.1 rest b.2 in
     let h = (reads_definite 4).found bytes b.0.0 b.0.1 b.1 in
     subst (λ (n : ℕ). HasFront (IsDefinite 4 n) bytes rest) (eqb-true _ _ g.0) (subst (HasFront (IsDefinite 4 b.0.0) bytes) g.1 h)
 
-pub array_again : (count : ℕ) (front rest : List ℕ) → IsDefinite 4 count front → array_at count (front ++ rest) ≡ Some rest
-unfolding array_at
+pub array_again : (count : ℕ) (front rest : List ℕ) → IsDefinite 4 count front → definite_array_at count (front ++ rest) ≡ Some rest
+unfolding definite_array_at
 array_again count front rest d = rw ((reads_definite 4).again count front rest d, eq-eqb count count refl) refl
 
 -- ---- flags
@@ -261,22 +191,22 @@ reads_item = record {
 -- ---- rows
 
 module _ {X : Type 0} (Thing : X → List ℕ → Type 0) (thing : Reader X) (reads : Reads Thing thing) where
-  pub row_found : (n : ℕ) (bytes : List ℕ) (xs : List X) (rest : List ℕ) → row_at thing n bytes ≡ Some (xs, rest) → (length xs ≡ n) × HasFront (IsListOf Thing xs) bytes rest
+  pub row_found : (n : ℕ) (bytes : List ℕ) (xs : List X) (rest : List ℕ) → row_at thing n bytes ≡ Some (xs, rest) → (length xs ≡ n) × HasFront (AreInTurn Thing xs) bytes rest
   unfolding row_at
   row_found zero bytes xs rest e =
       let made : List X × List ℕ = ([], bytes) in
-      let stands : HasFront (IsListOf Thing []) bytes bytes = record { front = []; joined = refl; is = refl } in
-      subst (λ (p : List X × List ℕ). (length p.0 ≡ 0) × HasFront (IsListOf Thing p.0) bytes p.1) (some_is made (xs, rest) e) (refl, stands)
+      let stands : HasFront (AreInTurn Thing []) bytes bytes = record { front = []; joined = refl; is = refl } in
+      subst (λ (p : List X × List ℕ). (length p.0 ≡ 0) × HasFront (AreInTurn Thing p.0) bytes p.1) (some_is made (xs, rest) e) (refl, stands)
   row_found (suc n) bytes xs rest e =
       let a = bind_some (thing bytes) (λ (first : X × List ℕ). row_at thing n first.1 >>= λ others. Some (first.0 ∷ others.0, others.1)) (xs, rest) e in
       let b = bind_some (row_at thing n a.0.1) (λ (others : List X × List ℕ). Some (a.0.0 ∷ others.0, others.1)) (xs, rest) a.2 in
       let first = reads.found bytes a.0.0 a.0.1 a.1 in
       let others = row_found n a.0.1 b.0.0 b.0.1 b.1 in
       let made : List X × List ℕ = (a.0.0 ∷ b.0.0, b.0.1) in
-      subst (λ (p : List X × List ℕ). (length p.0 ≡ suc n) × HasFront (IsListOf Thing p.0) bytes p.1) (some_is made (xs, rest) b.2)
+      subst (λ (p : List X × List ℕ). (length p.0 ≡ suc n) × HasFront (AreInTurn Thing p.0) bytes p.1) (some_is made (xs, rest) b.2)
       (ap suc others.0, pair_front first others.1)
 
-  pub row_again : (xs : List X) (front rest : List ℕ) → IsListOf Thing xs front → row_at thing (length xs) (front ++ rest) ≡ Some (xs, rest)
+  pub row_again : (xs : List X) (front rest : List ℕ) → AreInTurn Thing xs front → row_at thing (length xs) (front ++ rest) ≡ Some (xs, rest)
   unfolding row_at
   row_again [] front rest is = ap (λ (x : List ℕ). Some ([], x ++ rest)) is
   row_again (x ∷ xs) front rest p =
@@ -285,7 +215,7 @@ module _ {X : Type 0} (Thing : X → List ℕ → Type 0) (thing : Reader X) (re
 
   -- ---- up to a break
   abbrev pub IsClosed : List X → List ℕ → Type 0
-  IsClosed xs bytes = IsPair (IsListOf Thing xs) (λ end. end ≡ 0xff ∷ []) bytes
+  IsClosed xs bytes = IsPair (AreInTurn Thing xs) (λ end. end ≡ 0xff ∷ []) bytes
 
   pub closed_found : (n : ℕ) (bytes : List ℕ) (xs : List X) (rest : List ℕ) → row_to_break_at thing n bytes ≡ Some (xs, rest) → HasFront (IsClosed xs) bytes rest
   unfolding row_to_break_at
@@ -313,14 +243,14 @@ module _ {X : Type 0} (Thing : X → List ℕ → Type 0) (thing : Reader X) (re
 
   module _ (plain : (x : X) (bytes : List ℕ) → Thing x bytes → StartsPlain bytes) where
     -- each thing takes a byte at least
-    pub list_is_long : (xs : List X) (bytes : List ℕ) → IsListOf Thing xs bytes → length xs ≤ length bytes
+    pub list_is_long : (xs : List X) (bytes : List ℕ) → AreInTurn Thing xs bytes → length xs ≤ length bytes
     list_is_long [] bytes is = omega arith
     list_is_long (x ∷ xs) bytes p =
         let s = plain x p.first p.is_first in
         let others = list_is_long xs p.second p.is_second in
         omega (arith, ap length p.joined, length-append p.first p.second, ap length s.joined)
 
-    row_closes : (xs : List X) (n : ℕ) (front end rest : List ℕ) → length xs < n → IsListOf Thing xs front → end ≡ 0xff ∷ []
+    row_closes : (xs : List X) (n : ℕ) (front end rest : List ℕ) → length xs < n → AreInTurn Thing xs front → end ≡ 0xff ∷ []
         → row_to_break_at thing n (front ++ (end ++ rest)) ≡ Some (xs, rest)
     unfolding row_to_break_at
     row_closes xs zero front end rest lt is is_end = absurd (omega arith)

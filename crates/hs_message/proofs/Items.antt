@@ -1,8 +1,10 @@
 -- Messages are items, with two levels more than their infos.
-use Rattle.std.proofs.Common.{ℕ, zero, suc, Bool, true, false, cond, List, [], ◌∷◌, ◌++◌, length, refl, sym, ap, subst, ◌∙◌, arith, inl, inr}
+use Rattle.std.proofs.Common.{ℕ, suc, Bool, true, false, cond, List, [], ◌∷◌, ◌++◌, length, refl, sym, ap, subst, ◌∙◌, arith, inl, inr}
 use Rattle.std.proofs.lemmas.List.{append-nil}
 use Rattle.cbor_items.specs.Head.{head_of}
-use Rattle.cbor_items.specs.Item.{IsPair, IsRow, IsRowToBreak, IsFlat, alone, string, array, open_array, map, IsItem}
+use Rattle.cbor_items.specs.Definite.{IsNumber}
+use Rattle.cbor_items.specs.Item.{IsPair, AreInTurn, IsRow, IsRowToBreak, IsFlat, alone, string, array, open_array, map, IsItem}
+use Rattle.cbor_items.proofs.Turns.{flat_is_item, number_is_item, in_turn_is_row}
 use Rattle.cbor_items.proofs.Meaning.{wider_by}
 use Rattle.hs_message.specs.declared.info.VersionInfo.{VersionInfo}
 use Rattle.hs_message.specs.declared.info.Info.{Info}
@@ -11,19 +13,11 @@ use Rattle.hs_message.specs.declared.message.Message.{Message}
 use Rattle.hs_message.specs.declared.message.Message.TheVariants.{Propose, Accept, Refuse, QueryReply}
 use Rattle.hs_message.specs.declared.message.Reason.{Reason}
 use Rattle.hs_message.specs.declared.message.Reason.TheVariants.{NoCommon, NotDecoded, Declined}
-use Rattle.hs_message.specs.Parts.{IsNumber, IsText, IsArray, IsOpenArray, IsMap, flag_byte, IsFlag, IsListOf}
+use Rattle.hs_message.specs.Parts.{IsText, IsDefiniteArray, IsOpenArray, IsMap, flag_byte, IsFlag}
 use Rattle.hs_message.specs.Info.{IsSharing, IsVersionInfo, IsClientVersionInfo}
 use Rattle.hs_message.specs.Spelling.{IsOffer, IsTable, IsVersionList, IsReason, IsMessage}
 
 -- ---- the parts
-
-flat_is_item : (depth : ℕ) (bytes : List ℕ) → IsFlat bytes → IsItem depth bytes
-unfolding IsItem
-flat_is_item zero bytes flat = flat
-flat_is_item (suc depth) bytes flat = inl flat
-
-pub number_is_item : (depth n : ℕ) (bytes : List ℕ) → IsNumber n bytes → IsItem depth bytes
-number_is_item depth n bytes d = flat_is_item depth bytes (alone d.is_head (rw d.is_major refl) d.definite)
 
 pub text_is_item : (depth : ℕ) (text bytes : List ℕ) → IsText text bytes → IsItem depth bytes
 text_is_item depth text bytes p =
@@ -60,16 +54,10 @@ row_more : (Thing First Second : List ℕ → Type 0) (n : ℕ) (bytes : List �
 row_more Thing First Second n bytes one others p =
     record { first = p.first; second = p.second; joined = p.joined; is_first = one p.first p.is_first; is_second = others p.second p.is_second }
 
-list_is_row : {X : Type 0} (Thing : List ℕ → Type 0) (Each : X → List ℕ → Type 0) (xs : List X) (bytes : List ℕ) → ((x : X) (y : List ℕ) → Each x y → Thing y)
-    → IsListOf Each xs bytes → IsRow Thing (length xs) bytes
-list_is_row Thing Each [] bytes to is = is
-list_is_row Thing Each (x ∷ xs) bytes to p =
-    row_more Thing (Each x) (IsListOf Each xs) (length xs) bytes (to x) (λ y is. list_is_row Thing Each xs y to is) p
-
 -- ---- arrays and maps
 
 array_is_item : (depth count : ℕ) (Elements : List ℕ → Type 0) (bytes : List ℕ) → ((x : List ℕ) → Elements x → IsRow (IsItem depth) count x)
-    → IsArray count Elements bytes → IsItem (suc depth) bytes
+    → IsDefiniteArray count Elements bytes → IsItem (suc depth) bytes
 unfolding IsItem
 array_is_item depth count Elements bytes row p =
     let d = p.is_first in
@@ -112,7 +100,7 @@ version_info_is_item depth info bytes is =
 
 -- an array of two, of which the first is a number
 pair_is_item : (depth tag : ℕ) (Rest : List ℕ → Type 0) (bytes : List ℕ) → ((x : List ℕ) → Rest x → IsItem depth x)
-    → IsArray 2 (IsPair (IsNumber tag) Rest) bytes → IsItem (suc depth) bytes
+    → IsDefiniteArray 2 (IsPair (IsNumber tag) Rest) bytes → IsItem (suc depth) bytes
 pair_is_item depth tag Rest bytes to p =
     array_is_item depth 2 (IsPair (IsNumber tag) Rest) bytes
     (λ x. row_more (IsItem depth) (IsNumber tag) Rest 1 x (number_is_item depth tag) (λ y is. row_of_one (IsItem depth) y (to y is))) p
@@ -122,7 +110,7 @@ client_version_info_is_item depth info bytes is = pair_is_item depth info.magic 
 
 -- an array of three, of which the first two are numbers
 triple_is_item : (depth tag version : ℕ) (Rest : List ℕ → Type 0) (bytes : List ℕ) → ((x : List ℕ) → Rest x → IsItem depth x)
-    → IsArray 3 (IsPair (IsNumber tag) (IsPair (IsNumber version) Rest)) bytes → IsItem (suc depth) bytes
+    → IsDefiniteArray 3 (IsPair (IsNumber tag) (IsPair (IsNumber version) Rest)) bytes → IsItem (suc depth) bytes
 triple_is_item depth tag version Rest bytes to p =
     array_is_item depth 3 (IsPair (IsNumber tag) (IsPair (IsNumber version) Rest)) bytes
     (λ w. row_more (IsItem depth) (IsNumber tag) (IsPair (IsNumber version) Rest) 2 w (number_is_item depth tag)
@@ -130,9 +118,9 @@ triple_is_item depth tag version Rest bytes to p =
 
 versions_are_item : (depth : ℕ) (versions bytes : List ℕ) → IsVersionList versions bytes → IsItem (suc depth) bytes
 versions_are_item depth versions bytes (inl p) =
-    array_is_item depth (length versions) (IsListOf IsNumber versions) bytes (λ x. list_is_row (IsItem depth) IsNumber versions x (number_is_item depth)) p
+    array_is_item depth (length versions) (AreInTurn IsNumber versions) bytes (λ x. in_turn_is_row (IsItem depth) IsNumber (number_is_item depth) versions x) p
 versions_are_item depth versions bytes (inr p) =
-    open_array_is_item depth (length versions) (IsListOf IsNumber versions) bytes (λ x. list_is_row (IsItem depth) IsNumber versions x (number_is_item depth)) p
+    open_array_is_item depth (length versions) (AreInTurn IsNumber versions) bytes (λ x. in_turn_is_row (IsItem depth) IsNumber (number_is_item depth) versions x) p
 
 reason_is_item : (depth : ℕ) (reason : Reason) (bytes : List ℕ) → IsReason reason bytes → IsItem (suc (suc depth)) bytes
 reason_is_item depth (NoCommon versions) bytes p = pair_is_item (suc depth) 0 (IsVersionList versions) bytes (versions_are_item depth versions) p
@@ -143,14 +131,14 @@ module _ (Infos : ℕ → Info → List ℕ → Type 0) (depth : ℕ) (items : (
   table_is_item : (table : List Offer) (bytes : List ℕ) → IsTable Infos table bytes → IsItem (suc (suc depth)) bytes
   table_is_item table bytes is =
       let Item = IsItem (suc depth) in
-      map_is_item (suc depth) (length table) (IsListOf (IsOffer Infos) table) bytes
-      (λ x. list_is_row (IsPair Item Item) (IsOffer Infos) table x (λ offer y p. record {
+      map_is_item (suc depth) (length table) (AreInTurn (IsOffer Infos) table) bytes
+      (λ x. in_turn_is_row (IsPair Item Item) (IsOffer Infos) (λ offer y p. record {
         first = p.first;
         second = p.second;
         joined = p.joined;
         is_first = number_is_item (suc depth) offer.version p.first p.is_first;
         is_second = items offer.version offer.info p.second p.is_second;
-      })) is.is_map
+      }) table x) is.is_map
 
   pub message_is_item : (message : Message) (bytes : List ℕ) → IsMessage Infos message bytes → IsItem (suc (suc (suc depth))) bytes
   message_is_item (Propose table) bytes p = pair_is_item (suc (suc depth)) 0 (IsTable Infos table) bytes (table_is_item table) p

@@ -3,9 +3,9 @@ use Rattle.std.proofs.Common.{◌≡◌, ℕ, ◌^◌, Bool, true, false, cond, 
 use Rattle.std.proofs.lemmas.Bool.{ltb-true, lt-ltb, eqb-true, and_parts}
 use Rattle.std.proofs.lemmas.List.{append-nil, nil_from_length}
 use Rattle.cbor_items.specs.declared.head.Head.{Head}
-use Rattle.cbor_items.specs.Head.{major_of, IsHead}
+use Rattle.cbor_items.specs.Head.{IsHead}
 use Rattle.cbor_items.specs.Item.{IsPair}
-use Rattle.cbor_items.proofs.Skips.{HasFront, StartsPlain, chosen}
+use Rattle.cbor_items.proofs.Skips.{HasFront, chosen}
 use Rattle.hs_message.specs.declared.info.VersionInfo.{VersionInfo}
 use Rattle.hs_message.specs.declared.info.Info.{Info}
 use Rattle.hs_message.specs.declared.info.Info.TheVariants.{Known, Foreign}
@@ -14,11 +14,14 @@ use Rattle.hs_message.specs.declared.message.Message.{Message}
 use Rattle.hs_message.specs.declared.message.Message.TheVariants.{Propose, Accept, Refuse, QueryReply}
 use Rattle.hs_message.specs.declared.message.Reason.{Reason}
 use Rattle.hs_message.specs.declared.message.Reason.TheVariants.{NoCommon, NotDecoded, Declined}
-use Rattle.hs_message.specs.Parts.{IsDefinite, IsIndefinite, IsNumber, IsArray}
+use Rattle.cbor_items.specs.Definite.{IsDefinite, IsNumber}
+use Rattle.cbor_items.specs.Front.{◌>>=◌, any_head_at, definite_at, number_at}
+use Rattle.cbor_items.proofs.Readers.{Reads, bind_some, guard_some, some_is, reads_any_head, reads_definite, reads_number, number_is_plain}
+use Rattle.hs_message.specs.Parts.{IsIndefinite, IsDefiniteArray}
 use Rattle.hs_message.specs.Info.{IsInfo, IsUnderstoodAs, is_node_version, IsVersionInfo, IsNodeInfo, is_client_version, IsClientVersionInfo, IsClientInfo}
 use Rattle.hs_message.specs.Spelling.{rises, IsOffer, IsTable, IsVersionList, IsReason, IsMessage}
-use Rattle.hs_message.specs.Reading.{◌>>=◌, any_head_at, definite_at, number_at, array_at, flag_at, sharing_at, version_info_at, whole, known_of, client_version_info_at, client_known_of, Knowing, as_info, info_of, item_at, offer_at, row_at, table_at, row_to_break_at, version_row_at, version_list_at, tag_at, noted_at, no_common_at, not_decoded_at, declined_at, reason_behind, reason_at, propose_at, accept_at, refuse_at, query_reply_at, message_behind, message_at}
-use Rattle.hs_message.proofs.Fronts.{Reads, bind_some, guard_some, some_is, pair_front, front_as, pair_parts, reads_any_head, reads_definite, reads_number, definite_starts, array_found, array_again, reads_flag, reads_sharing, reads_item, row_found, row_again, closed_found, closed_again, IsTag, reads_tag, reads_noted}
+use Rattle.hs_message.specs.Reading.{definite_array_at, flag_at, sharing_at, version_info_at, whole, known_of, client_version_info_at, client_known_of, Knowing, as_info, info_of, item_at, offer_at, row_at, table_at, row_to_break_at, version_row_at, version_list_at, tag_at, noted_at, no_common_at, not_decoded_at, declined_at, reason_behind, reason_at, propose_at, accept_at, refuse_at, query_reply_at, message_behind, message_at}
+use Rattle.hs_message.proofs.Fronts.{pair_front, front_as, pair_parts, array_found, array_again, reads_flag, reads_sharing, reads_item, row_found, row_again, closed_found, closed_again, IsTag, reads_tag, reads_noted}
 
 -- ---- what stands beside a version
 
@@ -27,7 +30,7 @@ info_with magic initiator_only sharing query = record { magic = magic; initiator
 
 -- the five parts one behind the other
 info_from : (bytes elements a b c d : List ℕ) (magic : ℕ) (initiator_only sharing query : Bool) → ltb magic (2 ^ 32) ≡ true
-    → array_at 4 bytes ≡ Some elements → number_at elements ≡ Some (magic, a) → flag_at a ≡ Some (initiator_only, b) → sharing_at b ≡ Some (sharing, c) → flag_at c ≡ Some (query, d)
+    → definite_array_at 4 bytes ≡ Some elements → number_at elements ≡ Some (magic, a) → flag_at a ≡ Some (initiator_only, b) → sharing_at b ≡ Some (sharing, c) → flag_at c ≡ Some (query, d)
     → HasFront (IsVersionInfo (info_with magic initiator_only sharing query)) bytes d
 info_from bytes elements a b c d magic initiator_only sharing query low zeroth first second third fourth =
     let stands = pair_front (array_found 4 bytes elements zeroth) (pair_front (reads_number.found elements magic a first)
@@ -37,7 +40,7 @@ info_from bytes elements a b c d magic initiator_only sharing query low zeroth f
 info_found : (bytes : List ℕ) (info : VersionInfo) (rest : List ℕ) → version_info_at bytes ≡ Some (info, rest) → HasFront (IsVersionInfo info) bytes rest
 unfolding version_info_at
 info_found bytes info rest e =
-    let a = bind_some (array_at 4 bytes) (λ (elements : List ℕ).
+    let a = bind_some (definite_array_at 4 bytes) (λ (elements : List ℕ).
     number_at elements >>= λ magic. flag_at magic.1 >>= λ initiator_only. sharing_at initiator_only.1 >>= λ sharing. flag_at sharing.1 >>= λ query.
     cond (ltb magic.0 (2 ^ 32)) (Some (info_with magic.0 initiator_only.0 sharing.0 query.0, query.1)) None) (info, rest) e in
     let b = bind_some (number_at a.0) (λ (magic : ℕ × List ℕ).
@@ -82,7 +85,7 @@ client_info_found : (bytes : List ℕ) (info : VersionInfo) (rest : List ℕ) �
 unfolding client_version_info_at
 client_info_found bytes info rest e =
     let made : ℕ → Bool → VersionInfo = λ magic query. info_with magic true false query in
-    let a = bind_some (array_at 2 bytes) (λ (elements : List ℕ).
+    let a = bind_some (definite_array_at 2 bytes) (λ (elements : List ℕ).
     number_at elements >>= λ magic. flag_at magic.1 >>= λ query. cond (ltb magic.0 (2 ^ 32)) (Some (made magic.0 query.0, query.1)) None) (info, rest) e in
     let b = bind_some (number_at a.0) (λ (magic : ℕ × List ℕ).
     flag_at magic.1 >>= λ query. cond (ltb magic.0 (2 ^ 32)) (Some (made magic.0 query.0, query.1)) None) (info, rest) a.2 in
@@ -226,11 +229,6 @@ module _ (Understood : ℕ → VersionInfo → List ℕ → Type 0) (known : Kno
 
 -- ---- reasons
 
-number_is_plain : (n : ℕ) (bytes : List ℕ) → IsNumber n bytes → StartsPlain bytes
-number_is_plain n bytes d =
-    let s = definite_starts 0 n bytes d in
-    record { first = s.first; rest = s.rest; joined = s.joined; no_break = λ is. let seven : major_of 255 ≡ 0 = ap major_of (sym is) ∙ s.is_major in absurd cc }
-
 -- the versions behind the head of an array
 versions_found : (head : Head) (spelled : List ℕ) (bytes : List ℕ) (mid : List ℕ) (versions rest : List ℕ) (endless : Bool) → head.indefinite ≡ endless → head.major ≡ 4
     → HasFront (IsHead head) bytes mid → version_row_at head mid ≡ Some (versions, rest) → HasFront (IsVersionList versions) bytes rest
@@ -270,7 +268,7 @@ reads_version_list = record { found = version_list_found; again = version_list_a
 
 -- An array's head with its first number, and what is behind that.
 tagged_front : {Rest : List ℕ → Type 0} {bytes mid rest : List ℕ} (count tag : ℕ) → HasFront (IsTag (count, tag)) bytes mid → HasFront Rest mid rest
-    → HasFront (IsArray count (IsPair (IsNumber tag) Rest)) bytes rest
+    → HasFront (IsDefiniteArray count (IsPair (IsNumber tag) Rest)) bytes rest
 tagged_front {Rest} {bytes} {mid} {rest} count tag one two = record {
   front = one.is.first ++ (one.is.second ++ two.front);
   joined = one.joined ∙ ap (λ (x : List ℕ). x ++ mid) one.is.joined ∙ append_assoc one.is.first one.is.second mid
@@ -285,7 +283,7 @@ tagged_front {Rest} {bytes} {mid} {rest} count tag one two = record {
   };
 }
 
-tagged_again : {Rest : List ℕ → Type 0} (count tag : ℕ) (front rest : List ℕ) (p : IsArray count (IsPair (IsNumber tag) Rest) front)
+tagged_again : {Rest : List ℕ → Type 0} (count tag : ℕ) (front rest : List ℕ) (p : IsDefiniteArray count (IsPair (IsNumber tag) Rest) front)
     → tag_at (front ++ rest) ≡ Some ((count, tag), p.is_second.second ++ rest)
 tagged_again {Rest} count tag front rest p =
     let inner = p.is_second in

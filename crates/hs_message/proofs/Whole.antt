@@ -18,7 +18,7 @@ use Rattle.hs_message.specs.Info.{IsInfo, IsNodeInfo, IsClientInfo}
 use Rattle.hs_message.specs.Spelling.{IsMessage, Spells, NodeSpells, ClientSpells}
 use Rattle.hs_message.specs.Reading.{Gives, Knowing, known_of, client_known_of, message_at, is_all_of, without_rest, message_with, message_of, client_message_of}
 use Rattle.hs_message.specs.Law.{SpellOne, AreReadOff, ClientsSpellOne, ClientsAreReadOff, AreReadOffIn}
-use Rattle.hs_message.proofs.Fronts.{bind_some, some_is}
+use Rattle.cbor_items.proofs.Readers.{bind_some, some_is}
 use Rattle.hs_message.proofs.Messages.{Knows, knows_node, knows_client, reads_message}
 use Rattle.hs_message.proofs.Items.{message_is_item}
 

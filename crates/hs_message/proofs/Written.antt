@@ -1,10 +1,10 @@
 -- What is written spells the message, and is read again.
 use Rattle.std.proofs.Common.{◌≡◌, ℕ, ◌<◌, ◌^◌, Bool, true, false, cond, List, [], ◌∷◌, ◌++◌, length, refl, arith, inl, lit<}
 use Rattle.std.specs.List.{flat_map, AllByRecursion}
-use Rattle.std.proofs.lemmas.List.Concat.{flat_map-cons}
-use Rattle.cbor_items.specs.Head.{shortest_head, written_head}
+use Rattle.cbor_items.specs.Head.{shortest_head}
+use Rattle.cbor_items.specs.Definite.{IsNumber}
 use Rattle.cbor_items.specs.Item.{IsPair, IsItem}
-use Rattle.cbor_items.proofs.Shortest.{are_read_again}
+use Rattle.cbor_items.proofs.Turns.{definite_written, number_written, in_turn_written}
 use Rattle.cbor_items.proofs.Meaning.{wider_by}
 use Rattle.cbor_items.proofs.Fronts.{scan_again}
 use Rattle.hs_message.specs.declared.info.VersionInfo.{VersionInfo}
@@ -15,7 +15,7 @@ use Rattle.hs_message.specs.declared.message.Message.{Message}
 use Rattle.hs_message.specs.declared.message.Message.TheVariants.{Propose, Accept, Refuse, QueryReply}
 use Rattle.hs_message.specs.declared.message.Reason.{Reason}
 use Rattle.hs_message.specs.declared.message.Reason.TheVariants.{NoCommon, NotDecoded, Declined}
-use Rattle.hs_message.specs.Parts.{IsDefinite, IsNumber, IsText, IsListOf}
+use Rattle.hs_message.specs.Parts.{IsText}
 use Rattle.hs_message.specs.Info.{IsInfo, IsVersionInfo, IsNodeInfo, IsClientVersionInfo, IsClientInfo}
 use Rattle.hs_message.specs.Spelling.{IsOffer, IsTable, IsReason, IsMessage, Spells}
 use Rattle.hs_message.specs.Canonical.{number_spelling, text_spelling, flag_spelling, array_spelling, info_spelling, offer_spelling, table_spelling, reason_spelling, message_spelling, version_info_spelling, node_spelling, client_info_spelling, client_spelling, IsOwnBy, IsOwnTableBy, CanWriteBy, IsNodeOwn, IsClientOwn}
@@ -24,20 +24,8 @@ use Rattle.hs_message.proofs.Items.{version_info_is_item, client_version_info_is
 
 -- ---- the parts
 
-definite_is : (major value : ℕ) → major < 7 → value < 2 ^ 64 → IsDefinite major value (shortest_head major value)
-definite_is major value low fits = record {
-  head = written_head major value;
-  is_head = (are_read_again major value [] (record { major_fits = omega arith; simple_fits = λ seven. absurd (omega arith); value_fits = fits })).0;
-  is_major = refl;
-  definite = refl;
-  is_value = refl;
-}
-
-number_is : (n : ℕ) → n < 2 ^ 64 → IsNumber n (number_spelling n)
-number_is n fits = definite_is 0 n (lit< tt) fits
-
 text_is : (text : List ℕ) → length text < 2 ^ 64 → IsText text (text_spelling text)
-text_is text fits = record { first = shortest_head 3 (length text); second = text; joined = refl; is_first = definite_is 3 (length text) (lit< tt) fits; is_second = refl }
+text_is text fits = record { first = shortest_head 3 (length text); second = text; joined = refl; is_first = definite_written 3 (length text) (lit< tt) fits; is_second = refl }
 
 pair_is : {First Second : List ℕ → Type 0} (first second : List ℕ) → First first → Second second → IsPair First Second (first ++ second)
 pair_is {First} {Second} first second one two = record { first = first; second = second; joined = refl; is_first = one; is_second = two }
@@ -50,22 +38,11 @@ pub version_info_is : (info : VersionInfo) → info.magic < 2 ^ 32 → IsVersion
 version_info_is info fits = record {
   magic_fits = fits;
   is_array = pair_is (shortest_head 4 4) (number_spelling info.magic ++ (flag_spelling info.initiator_only ++ (number_spelling (cond info.sharing 1 0) ++ flag_spelling info.query)))
-      (definite_is 4 4 (lit< tt) (lit< tt))
+      (definite_written 4 4 (lit< tt) (lit< tt))
       (pair_is (number_spelling info.magic) (flag_spelling info.initiator_only ++ (number_spelling (cond info.sharing 1 0) ++ flag_spelling info.query))
-      (number_is info.magic (omega arith))
+      (number_written info.magic (omega arith))
       (pair_is (flag_spelling info.initiator_only) (number_spelling (cond info.sharing 1 0) ++ flag_spelling info.query) refl
-      (pair_is (number_spelling (cond info.sharing 1 0)) (flag_spelling info.query) (inl (number_is (cond info.sharing 1 0) (bit_fits info.sharing))) refl)));
-}
-
-list_is : {X : Type 0} (Thing : X → List ℕ → Type 0) (spelled : X → List ℕ) (Good : X → Type 0) (xs : List X) → ((x : X) → Good x → Thing x (spelled x)) → AllByRecursion Good xs
-    → IsListOf Thing xs (flat_map spelled xs)
-list_is Thing spelled Good [] each good = refl
-list_is {X} Thing spelled Good (x ∷ xs) each good = record {
-  first = spelled x;
-  second = flat_map spelled xs;
-  joined = flat_map-cons spelled x xs;
-  is_first = each x good.0;
-  is_second = list_is Thing spelled Good xs each good.1;
+      (pair_is (number_spelling (cond info.sharing 1 0)) (flag_spelling info.query) (inl (number_written (cond info.sharing 1 0) (bit_fits info.sharing))) refl)));
 }
 
 both_hold : {X : Type 0} (P Q : X → Type 0) (xs : List X) → AllByRecursion P xs → AllByRecursion Q xs → AllByRecursion (λ x. P x × Q x) xs
@@ -74,18 +51,18 @@ both_hold P Q (x ∷ xs) p q = ((p.0, q.0), both_hold P Q xs p.1 q.1)
 
 reason_is : (reason : Reason) → FitsReason reason → IsReason reason (reason_spelling reason)
 reason_is (NoCommon versions) fits =
-    pair_is (shortest_head 4 2) (number_spelling 0 ++ array_spelling (length versions) (flat_map number_spelling versions)) (definite_is 4 2 (lit< tt) (lit< tt))
-    (pair_is (number_spelling 0) (array_spelling (length versions) (flat_map number_spelling versions)) (number_is 0 (lit< tt))
-    (inl (pair_is (shortest_head 4 (length versions)) (flat_map number_spelling versions) (definite_is 4 (length versions) (lit< tt) fits.0)
-    (list_is IsNumber number_spelling (λ version. version < 2 ^ 64) versions number_is fits.1))))
+    pair_is (shortest_head 4 2) (number_spelling 0 ++ array_spelling (length versions) (flat_map number_spelling versions)) (definite_written 4 2 (lit< tt) (lit< tt))
+    (pair_is (number_spelling 0) (array_spelling (length versions) (flat_map number_spelling versions)) (number_written 0 (lit< tt))
+    (inl (pair_is (shortest_head 4 (length versions)) (flat_map number_spelling versions) (definite_written 4 (length versions) (lit< tt) fits.0)
+    (in_turn_written IsNumber number_spelling (λ version. version < 2 ^ 64) number_written versions fits.1))))
 reason_is (NotDecoded version text) fits =
-    pair_is (shortest_head 4 3) (number_spelling 1 ++ (number_spelling version ++ text_spelling text)) (definite_is 4 3 (lit< tt) (lit< tt))
-    (pair_is (number_spelling 1) (number_spelling version ++ text_spelling text) (number_is 1 (lit< tt))
-    (pair_is (number_spelling version) (text_spelling text) (number_is version fits.0) (text_is text fits.1)))
+    pair_is (shortest_head 4 3) (number_spelling 1 ++ (number_spelling version ++ text_spelling text)) (definite_written 4 3 (lit< tt) (lit< tt))
+    (pair_is (number_spelling 1) (number_spelling version ++ text_spelling text) (number_written 1 (lit< tt))
+    (pair_is (number_spelling version) (text_spelling text) (number_written version fits.0) (text_is text fits.1)))
 reason_is (Declined version text) fits =
-    pair_is (shortest_head 4 3) (number_spelling 2 ++ (number_spelling version ++ text_spelling text)) (definite_is 4 3 (lit< tt) (lit< tt))
-    (pair_is (number_spelling 2) (number_spelling version ++ text_spelling text) (number_is 2 (lit< tt))
-    (pair_is (number_spelling version) (text_spelling text) (number_is version fits.0) (text_is text fits.1)))
+    pair_is (shortest_head 4 3) (number_spelling 2 ++ (number_spelling version ++ text_spelling text)) (definite_written 4 3 (lit< tt) (lit< tt))
+    (pair_is (number_spelling 2) (number_spelling version ++ text_spelling text) (number_written 2 (lit< tt))
+    (pair_is (number_spelling version) (text_spelling text) (number_written version fits.0) (text_is text fits.1)))
 
 -- ---- messages
 
@@ -101,7 +78,7 @@ module _ (Own : ℕ → VersionInfo → Type 0) (spelled : VersionInfo → List 
 
   offer_is : (offer : Offer) → IsGood offer → IsOffer Infos offer (offer_spelling spelled offer)
   offer_is offer good = pair_is (number_spelling offer.version) (info_spelling spelled offer.info)
-      (number_is offer.version good.0) (info_is offer.version offer.info good.1 good.2)
+      (number_written offer.version good.0) (info_is offer.version offer.info good.1 good.2)
 
   good_offers : (table : List Offer) → AllByRecursion (λ offer. (offer.version < 2 ^ 64) × FitsInfo offer.info) table → AllByRecursion (λ offer. IsOwnBy Own offer.version offer.info) table
       → AllByRecursion IsGood table
@@ -111,24 +88,24 @@ module _ (Own : ℕ → VersionInfo → Type 0) (spelled : VersionInfo → List 
   table_is : (table : List Offer) → FitsTable table → IsOwnTableBy Own table → IsTable Infos table (table_spelling spelled table)
   table_is table fits own = record {
     rising = own.1;
-    is_map = pair_is (shortest_head 5 (length table)) (flat_map (offer_spelling spelled) table) (definite_is 5 (length table) (lit< tt) fits.0)
-        (list_is (IsOffer Infos) (offer_spelling spelled) IsGood table offer_is (good_offers table fits.1 own.0));
+    is_map = pair_is (shortest_head 5 (length table)) (flat_map (offer_spelling spelled) table) (definite_written 5 (length table) (lit< tt) fits.0)
+        (in_turn_written (IsOffer Infos) (offer_spelling spelled) IsGood offer_is table (good_offers table fits.1 own.0));
   }
 
   pub message_is : (message : Message) → Fits message → CanWriteBy Own message → IsMessage Infos message (message_spelling spelled message)
   message_is (Propose table) fits can =
-      pair_is (shortest_head 4 2) (number_spelling 0 ++ table_spelling spelled table) (definite_is 4 2 (lit< tt) (lit< tt))
-      (pair_is (number_spelling 0) (table_spelling spelled table) (number_is 0 (lit< tt)) (table_is table fits can))
+      pair_is (shortest_head 4 2) (number_spelling 0 ++ table_spelling spelled table) (definite_written 4 2 (lit< tt) (lit< tt))
+      (pair_is (number_spelling 0) (table_spelling spelled table) (number_written 0 (lit< tt)) (table_is table fits can))
   message_is (Accept version info) fits can =
-      pair_is (shortest_head 4 3) (number_spelling 1 ++ (number_spelling version ++ info_spelling spelled info)) (definite_is 4 3 (lit< tt) (lit< tt))
-      (pair_is (number_spelling 1) (number_spelling version ++ info_spelling spelled info) (number_is 1 (lit< tt))
-      (pair_is (number_spelling version) (info_spelling spelled info) (number_is version fits.0) (info_is version info fits.1 can)))
+      pair_is (shortest_head 4 3) (number_spelling 1 ++ (number_spelling version ++ info_spelling spelled info)) (definite_written 4 3 (lit< tt) (lit< tt))
+      (pair_is (number_spelling 1) (number_spelling version ++ info_spelling spelled info) (number_written 1 (lit< tt))
+      (pair_is (number_spelling version) (info_spelling spelled info) (number_written version fits.0) (info_is version info fits.1 can)))
   message_is (Refuse reason) fits can =
-      pair_is (shortest_head 4 2) (number_spelling 2 ++ reason_spelling reason) (definite_is 4 2 (lit< tt) (lit< tt))
-      (pair_is (number_spelling 2) (reason_spelling reason) (number_is 2 (lit< tt)) (reason_is reason fits))
+      pair_is (shortest_head 4 2) (number_spelling 2 ++ reason_spelling reason) (definite_written 4 2 (lit< tt) (lit< tt))
+      (pair_is (number_spelling 2) (reason_spelling reason) (number_written 2 (lit< tt)) (reason_is reason fits))
   message_is (QueryReply table) fits can =
-      pair_is (shortest_head 4 2) (number_spelling 3 ++ table_spelling spelled table) (definite_is 4 2 (lit< tt) (lit< tt))
-      (pair_is (number_spelling 3) (table_spelling spelled table) (number_is 3 (lit< tt)) (table_is table fits can))
+      pair_is (shortest_head 4 2) (number_spelling 3 ++ table_spelling spelled table) (definite_written 4 2 (lit< tt) (lit< tt))
+      (pair_is (number_spelling 3) (table_spelling spelled table) (number_written 3 (lit< tt)) (table_is table fits can))
 
 module _ (Own : ℕ → VersionInfo → Type 0) (spelled : VersionInfo → List ℕ) (Understood : ℕ → VersionInfo → List ℕ → Type 0)
     (understood : (version : ℕ) (known : VersionInfo) → Own version known → known.magic < 2 ^ 32 → Understood version known (spelled known))
@@ -163,8 +140,8 @@ written_is_read = written_in IsNodeOwn version_info_spelling IsNodeInfo
 client_info_is : (info : VersionInfo) → info.initiator_only ≡ true → info.sharing ≡ false → info.magic < 2 ^ 32 → IsClientVersionInfo info (client_info_spelling info)
 client_info_is info initiates unshared fits = record {
   magic_fits = fits;
-  is_array = pair_is (shortest_head 4 2) (number_spelling info.magic ++ flag_spelling info.query) (definite_is 4 2 (lit< tt) (lit< tt))
-      (pair_is (number_spelling info.magic) (flag_spelling info.query) (number_is info.magic (omega arith)) refl);
+  is_array = pair_is (shortest_head 4 2) (number_spelling info.magic ++ flag_spelling info.query) (definite_written 4 2 (lit< tt) (lit< tt))
+      (pair_is (number_spelling info.magic) (flag_spelling info.query) (number_written info.magic (omega arith)) refl);
   initiates = initiates;
   unshared = unshared;
 }

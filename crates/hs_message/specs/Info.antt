@@ -6,7 +6,8 @@ use Rattle.hs_message.specs.declared.info.Info.{Info}
 use Rattle.hs_message.specs.declared.info.Info.TheVariants.{Known, Foreign}
 use Rattle.hs_message.specs.declared.profile.Profile.{Profile}
 use Rattle.hs_message.specs.declared.profile.Profile.TheVariants.{NodeToNode, NodeToClient}
-use Rattle.hs_message.specs.Parts.{IsNumber, IsFlag, IsArray}
+use Rattle.cbor_items.specs.Definite.{IsNumber}
+use Rattle.hs_message.specs.Parts.{IsFlag, IsDefiniteArray}
 
 -- Which known infos an item beside a version may be is an argument, `Understood`: it is apart from the rest of the
 -- handshake. Every info is one item, and is known where it is so understood, else foreign.
@@ -30,7 +31,7 @@ IsSharing sharing bytes = IsNumber (if sharing then 1 else 0) bytes ⊎ IsFlag s
 -- an array of four: the magic, initiator only, peer sharing, query
 pub record IsVersionInfo (info : VersionInfo) (bytes : List ℕ) : Type 0 where
   pub magic_fits : info.magic < 2 ^ 32
-  pub is_array : IsArray 4 (IsPair (IsNumber info.magic) (IsPair (IsFlag info.initiator_only) (IsPair (IsSharing info.sharing) (IsFlag info.query)))) bytes
+  pub is_array : IsDefiniteArray 4 (IsPair (IsNumber info.magic) (IsPair (IsFlag info.initiator_only) (IsPair (IsSharing info.sharing) (IsFlag info.query)))) bytes
 
 -- what a node understands
 abbrev pub IsNodeInfo : ℕ → VersionInfo → List ℕ → Type 0
@@ -45,7 +46,7 @@ is_client_version version = version == 32784 || version == 32785
 -- an array of two: the magic, query. Who dials so runs no responder and shares no peers
 pub record IsClientVersionInfo (info : VersionInfo) (bytes : List ℕ) : Type 0 where
   pub magic_fits : info.magic < 2 ^ 32
-  pub is_array : IsArray 2 (IsPair (IsNumber info.magic) (IsFlag info.query)) bytes
+  pub is_array : IsDefiniteArray 2 (IsPair (IsNumber info.magic) (IsFlag info.query)) bytes
   pub initiates : info.initiator_only ≡ true
   pub unshared : info.sharing ≡ false
 

@@ -3,15 +3,8 @@
 use Rattle.std.specs.Prelude.{◌≡◌, ℕ, Bool, true, false, List, [], ◌∷◌, length}
 use Rattle.cbor_items.specs.declared.head.Head.{Head}
 use Rattle.cbor_items.specs.Head.{IsHead}
+use Rattle.cbor_items.specs.Definite.{IsDefinite}
 use Rattle.cbor_items.specs.Item.{IsPair}
-
--- a head of a major type that tells a value or a length
-pub record IsDefinite (major value : ℕ) (bytes : List ℕ) : Type 0 where
-  pub head : Head
-  pub is_head : IsHead head bytes
-  pub is_major : head.major ≡ major
-  pub definite : head.indefinite ≡ false
-  pub is_value : head.value ≡ value
 
 -- a head of a major type that tells no length
 pub record IsIndefinite (major : ℕ) (bytes : List ℕ) : Type 0 where
@@ -20,17 +13,13 @@ pub record IsIndefinite (major : ℕ) (bytes : List ℕ) : Type 0 where
   pub is_major : head.major ≡ major
   pub indefinite : head.indefinite ≡ true
 
--- an unsigned number
-abbrev pub IsNumber : ℕ → List ℕ → Type 0
-IsNumber n bytes = IsDefinite 0 n bytes
-
 -- a definite text string. Its bytes need not be UTF-8
 abbrev pub IsText : List ℕ → List ℕ → Type 0
 IsText text bytes = IsPair (IsDefinite 3 (length text)) (λ content. content ≡ text) bytes
 
 -- a definite array of so many elements, which are these bytes
-abbrev pub IsArray : ℕ → (List ℕ → Type 0) → List ℕ → Type 0
-IsArray count Elements bytes = IsPair (IsDefinite 4 count) Elements bytes
+abbrev pub IsDefiniteArray : ℕ → (List ℕ → Type 0) → List ℕ → Type 0
+IsDefiniteArray count Elements bytes = IsPair (IsDefinite 4 count) Elements bytes
 
 -- an array that ends with a break
 abbrev pub IsOpenArray : (List ℕ → Type 0) → List ℕ → Type 0
@@ -47,8 +36,3 @@ flag_byte true = 0xf5
 
 abbrev pub IsFlag : Bool → List ℕ → Type 0
 IsFlag flag bytes = bytes ≡ flag_byte flag ∷ []
-
--- one thing behind the other, for each element of a list
-abbrev pub IsListOf : {X : Type 0} → (X → List ℕ → Type 0) → List X → List ℕ → Type 0
-IsListOf Thing [] bytes = bytes ≡ []
-IsListOf Thing (x ∷ xs) bytes = IsPair (Thing x) (IsListOf Thing xs) bytes

@@ -1,9 +1,9 @@
 -- Reading from left to right: what stands at the front of the bytes, and the bytes behind it. None where nothing of
 -- the kind stands there.
-use Rattle.std.specs.Prelude.{◌≡◌, ℕ, zero, suc, ◌^◌, Bool, true, false, ◌&&◌, not, ◌==◌, nat_lt, List, [], ◌∷◌, length, take, drop, Option, Some, None, Result, Ok, Err, if◌then◌else◌}
+use Rattle.std.specs.Prelude.{◌≡◌, ℕ, zero, suc, ◌^◌, Bool, true, false, ◌&&◌, ◌==◌, nat_lt, List, [], ◌∷◌, length, take, drop, Option, Some, None, Result, Ok, Err, if◌then◌else◌}
 use Rattle.std.specs.Option.{option_or}
 use Rattle.cbor_items.specs.declared.head.Head.{Head}
-use Rattle.cbor_items.specs.Head.{head_at}
+use Rattle.cbor_items.specs.Front.{Reader, ◌>>=◌, any_head_at, definite_at, number_at}
 use Rattle.cbor_items.specs.declared.scan.Scan.{Scan}
 use Rattle.cbor_items.specs.declared.scan.Scan.TheVariants as scan
 use Rattle.cbor_items.specs.Scan.{scan_of}
@@ -22,43 +22,17 @@ use Rattle.hs_message.specs.declared.profile.Profile.TheVariants.{NodeToNode, No
 use Rattle.hs_message.specs.Info.{is_node_version, is_client_version}
 use Rattle.hs_message.specs.Spelling.{rises}
 
-abbrev pub Reader : Type 0 → Type 0
-Reader X = List ℕ → Option (X × List ℕ)
-
--- one reading and another behind it
-infixl 10 ◌>>=◌
-abbrev pub ◌>>=◌ : {A B : Type 0} → Option A → (A → Option B) → Option B
-(Some x) >>= f = f x
-None >>= f = None
-
--- what a function returned, seen by `view`, is what reading gives
-abbrev pub Finds : {X Y E : Type 0} → (X → Y) → Result X E → Option Y → Type 0
-Finds view (Ok x) read = read ≡ Some (view x)
-Finds view (Err e) read = read ≡ None
-
--- the same, unless memory ran out
+-- what a function returned, seen by `view`, is what reading gives, unless memory ran out
 abbrev pub Gives : {X Y : Type 0} → (X → Y) → Result X ReadRefusal → Option Y → Type 0
 Gives view (Ok x) read = read ≡ Some (view x)
 Gives view (Err NotAMessage) read = read ≡ None
 Gives view (Err OutOfMemory) read = Unit {0}
 
--- ---- heads
+-- ---- arrays
 
-abbrev pub any_head_at : Reader Head
-any_head_at bytes = head_at bytes >>= λ head. Some (head, drop head.size bytes)
-
--- the value of a definite head of a major type
-unfoldable pub definite_at : ℕ → Reader ℕ
-definite_at major bytes = do
-  read ← any_head_at bytes
-  if read.0.major == major && not read.0.indefinite then Some (read.0.value, read.1) else None
-
-abbrev pub number_at : Reader ℕ
-number_at bytes = definite_at 0 bytes
-
--- the bytes behind the head of an array of so many elements
-unfoldable pub array_at : ℕ → List ℕ → Option (List ℕ)
-array_at count bytes = do
+-- the bytes behind the head of a definite array of so many elements
+unfoldable pub definite_array_at : ℕ → List ℕ → Option (List ℕ)
+definite_array_at count bytes = do
   read ← definite_at 4 bytes
   if read.0 == count then Some read.1 else None
 
@@ -79,7 +53,7 @@ sharing_at bytes = option_or (flag_at bytes) (bit_at bytes)
 
 unfoldable pub version_info_at : Reader VersionInfo
 version_info_at bytes = do
-  elements ← array_at 4 bytes
+  elements ← definite_array_at 4 bytes
   magic ← number_at elements
   initiator_only ← flag_at magic.1
   sharing ← sharing_at initiator_only.1
@@ -100,7 +74,7 @@ known_of version item = if is_node_version version then whole (version_info_at i
 -- a local client runs no responder and shares no peers
 unfoldable pub client_version_info_at : Reader VersionInfo
 client_version_info_at bytes = do
-  elements ← array_at 2 bytes
+  elements ← definite_array_at 2 bytes
   magic ← number_at elements
   query ← flag_at magic.1
   if nat_lt magic.0 (2 ^ 32)

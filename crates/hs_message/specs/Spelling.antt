@@ -2,7 +2,8 @@
 -- outline; the spelling is this project's own. The infos beside versions are an argument, `Infos`: which info an item
 -- beside a version is.
 use Rattle.std.specs.Prelude.{ℕ, Bool, true, ◌&&◌, nat_lt, List, [], ◌∷◌, length, IsTrue, ◌⊎◌}
-use Rattle.cbor_items.specs.Item.{IsPair, IsItem, level_limit}
+use Rattle.cbor_items.specs.Definite.{IsNumber}
+use Rattle.cbor_items.specs.Item.{IsPair, AreInTurn, IsItem, level_limit}
 use Rattle.hs_message.specs.declared.info.VersionInfo.{VersionInfo}
 use Rattle.hs_message.specs.declared.info.Info.{Info}
 use Rattle.hs_message.specs.declared.offer.Offer.{Offer}
@@ -10,7 +11,7 @@ use Rattle.hs_message.specs.declared.message.Message.{Message}
 use Rattle.hs_message.specs.declared.message.Message.TheVariants.{Propose, Accept, Refuse, QueryReply}
 use Rattle.hs_message.specs.declared.message.Reason.{Reason}
 use Rattle.hs_message.specs.declared.message.Reason.TheVariants.{NoCommon, NotDecoded, Declined}
-use Rattle.hs_message.specs.Parts.{IsNumber, IsText, IsArray, IsOpenArray, IsMap, IsListOf}
+use Rattle.hs_message.specs.Parts.{IsText, IsDefiniteArray, IsOpenArray, IsMap}
 use Rattle.hs_message.specs.Info.{IsInfo, IsNodeInfo, IsClientInfo}
 
 -- ---- tables
@@ -31,26 +32,26 @@ IsOffer Infos offer bytes = IsPair (IsNumber offer.version) (Infos offer.version
 -- a map from versions to infos
 pub record IsTable (Infos : ℕ → Info → List ℕ → Type 0) (table : List Offer) (bytes : List ℕ) : Type 0 where
   pub rising : IsTrue (rises table)
-  pub is_map : IsMap (length table) (IsListOf (IsOffer Infos) table) bytes
+  pub is_map : IsMap (length table) (AreInTurn (IsOffer Infos) table) bytes
 
 -- ---- reasons
 
 -- the list of versions may be a definite or an indefinite array
 abbrev pub IsVersionList : List ℕ → List ℕ → Type 0
-IsVersionList versions bytes = IsArray (length versions) (IsListOf IsNumber versions) bytes ⊎ IsOpenArray (IsListOf IsNumber versions) bytes
+IsVersionList versions bytes = IsDefiniteArray (length versions) (AreInTurn IsNumber versions) bytes ⊎ IsOpenArray (AreInTurn IsNumber versions) bytes
 
 abbrev pub IsReason : Reason → List ℕ → Type 0
-IsReason (NoCommon versions) bytes = IsArray 2 (IsPair (IsNumber 0) (IsVersionList versions)) bytes
-IsReason (NotDecoded version text) bytes = IsArray 3 (IsPair (IsNumber 1) (IsPair (IsNumber version) (IsText text))) bytes
-IsReason (Declined version text) bytes = IsArray 3 (IsPair (IsNumber 2) (IsPair (IsNumber version) (IsText text))) bytes
+IsReason (NoCommon versions) bytes = IsDefiniteArray 2 (IsPair (IsNumber 0) (IsVersionList versions)) bytes
+IsReason (NotDecoded version text) bytes = IsDefiniteArray 3 (IsPair (IsNumber 1) (IsPair (IsNumber version) (IsText text))) bytes
+IsReason (Declined version text) bytes = IsDefiniteArray 3 (IsPair (IsNumber 2) (IsPair (IsNumber version) (IsText text))) bytes
 
 -- ---- messages
 
 abbrev pub IsMessage : (ℕ → Info → List ℕ → Type 0) → Message → List ℕ → Type 0
-IsMessage Infos (Propose table) bytes = IsArray 2 (IsPair (IsNumber 0) (IsTable Infos table)) bytes
-IsMessage Infos (Accept version info) bytes = IsArray 3 (IsPair (IsNumber 1) (IsPair (IsNumber version) (Infos version info))) bytes
-IsMessage Infos (Refuse reason) bytes = IsArray 2 (IsPair (IsNumber 2) (IsReason reason)) bytes
-IsMessage Infos (QueryReply table) bytes = IsArray 2 (IsPair (IsNumber 3) (IsTable Infos table)) bytes
+IsMessage Infos (Propose table) bytes = IsDefiniteArray 2 (IsPair (IsNumber 0) (IsTable Infos table)) bytes
+IsMessage Infos (Accept version info) bytes = IsDefiniteArray 3 (IsPair (IsNumber 1) (IsPair (IsNumber version) (Infos version info))) bytes
+IsMessage Infos (Refuse reason) bytes = IsDefiniteArray 2 (IsPair (IsNumber 2) (IsReason reason)) bytes
+IsMessage Infos (QueryReply table) bytes = IsDefiniteArray 2 (IsPair (IsNumber 3) (IsTable Infos table)) bytes
 
 -- The bytes spell the message: they are one item within the limit of levels, and this message. `Understood` says which
 -- known infos an item beside a version may be.

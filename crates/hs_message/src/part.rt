@@ -1,57 +1,17 @@
 //! The parts of a message at the front of bytes, each with the bytes behind it.
 
 ghost use Rattle.std.specs.Prelude.{◌≡◌};
-ghost use Rattle.hs_message.specs.Reading.{Finds, any_head_at, definite_at, number_at, array_at, flag_at, bit_at, sharing_at, text_at, item_at, tag_at, noted_at};
+ghost use Rattle.cbor_items.specs.Front.{Finds};
+ghost use Rattle.hs_message.specs.Reading.{definite_array_at, flag_at, bit_at, sharing_at, text_at, item_at, tag_at, noted_at};
 
-use crate::refusal::Absent;
-use cbor_items::{Head, Scan, first_item, read_head};
-
-const FALSE: u8 = 0xf4;
-
-const TRUE: u8 = 0xf5;
-
-// The major types of RFC 8949.
-const NUMBER: u8 = 0;
-
-const TEXT: u8 = 3;
-
-const ARRAY: u8 = 4;
-
-pub(crate) fn split_head(bytes: &[u8]) -> Result<(Head, &[u8]), Absent>
-    ensures { Finds (λ read. (read.0, read.1.now)) result (any_head_at bytes.now) }
-{
-    match read_head(bytes) {
-        Some(head) => {
-            let (_, rest) = bytes.split_at(head.size);
-            Ok((head, rest))
-        }
-        None => Err(Absent),
-    }
-}
-
-/// The value of a definite head of a major type.
-#[tactic(auto, unfolding(crate::specs::Reading::definite_at))]
-pub(crate) fn split_definite(major: u8, bytes: &[u8]) -> Result<(u64, &[u8]), Absent>
-    ensures { Finds (λ read. (read.0, read.1.now)) result (definite_at major bytes.now) }
-{
-    let (head, rest) = split_head(bytes)?;
-    if head.major == major && !head.indefinite {
-        Ok((head.value, rest))
-    } else {
-        Err(Absent)
-    }
-}
-
-pub(crate) fn split_number(bytes: &[u8]) -> Result<(u64, &[u8]), Absent>
-    ensures { Finds (λ read. (read.0, read.1.now)) result (number_at bytes.now) }
-{
-    split_definite(NUMBER, bytes)
-}
+use cbor_items::{
+    ARRAY, Absent, FALSE, Scan, TEXT, TRUE, first_item, split_definite, split_number,
+};
 
 /// The bytes behind the head of a definite array of so many elements.
-#[tactic(auto, unfolding(crate::specs::Reading::array_at))]
+#[tactic(auto, unfolding(crate::specs::Reading::definite_array_at))]
 pub(crate) fn split_array(count: u64, bytes: &[u8]) -> Result<&[u8], Absent>
-    ensures { Finds (λ rest. rest.now) result (array_at count bytes.now) }
+    ensures { Finds (λ rest. rest.now) result (definite_array_at count bytes.now) }
 {
     let (found, rest) = split_definite(ARRAY, bytes)?;
     if found == count {
@@ -102,10 +62,10 @@ fn split_text(bytes: &[u8]) -> Result<(&[u8], &[u8]), Absent>
     ensures { Finds (λ read. (read.0.now, read.1.now)) result (text_at bytes.now) }
 {
     let (length, rest) = split_definite(TEXT, bytes)?;
-    if (rest.len() as u64) < length {
-        return Err(Absent);
+    match usize::try_from(length) {
+        Ok(length) if length <= rest.len() => Ok(rest.split_at(length)),
+        _ => Err(Absent),
     }
-    Ok(rest.split_at(length as usize))
 }
 
 /// Any one item.

@@ -1,25 +1,17 @@
 ghost use Rattle.std.specs.Prelude.{◌≡◌, IfOk, Err, length};
+ghost use Rattle.cbor_items.specs.Front.{Finds, number_at};
 ghost use Rattle.hs_message.specs.declared.message.Message.{Message as AnyMessage};
 ghost use Rattle.hs_message.specs.Info.{is_node_version, is_client_version};
 ghost use Rattle.hs_message.specs.Spelling.{is_below_next, rises, NodeSpells, ClientSpells};
-ghost use Rattle.hs_message.specs.Reading.{Finds, Gives, version_info_at, known_of, client_version_info_at, client_known_of, known_in, info_of, offer_at, number_at, row_at, row_to_break_at, table_at, version_row_at, version_list_at, reason_behind, reason_at, message_behind, message_at, message_with, message_of, client_message_of};
+ghost use Rattle.hs_message.specs.Reading.{Gives, version_info_at, known_of, client_version_info_at, client_known_of, known_in, info_of, offer_at, row_at, row_to_break_at, table_at, version_row_at, version_list_at, reason_behind, reason_at, message_behind, message_at, message_with, message_of, client_message_of};
 
-use crate::part::{
-    split_array, split_definite, split_flag, split_head, split_item, split_noted, split_number,
-    split_sharing, split_tag,
-};
-use crate::refusal::Absent;
+use crate::part::{split_array, split_flag, split_item, split_noted, split_sharing, split_tag};
 use crate::{Info, Message, Offer, Profile, ReadRefusal, Reason, Table, VersionInfo};
-use cbor_items::{Head, Scan, first_item};
+use cbor_items::{
+    ARRAY, Absent, BREAK, Head, MAP, Scan, first_item, split_definite, split_head, split_number,
+};
 use net_base::{NumberList, Octets, OutOfMemory};
 use std::alloc::Global;
-
-// The major types of RFC 8949.
-const ARRAY: u8 = 4;
-
-const MAP: u8 = 5;
-
-const BREAK: u8 = 0xff;
 
 /// The message between nodes that the bytes spell, all of them. `NotAMessage` comes exactly where they spell none. No more
 /// memory is asked for than what was read so far takes, whatever lengths are announced.

@@ -1,6 +1,8 @@
 ghost use Rattle.std.specs.Prelude.{◌≡◌};
 ghost use Rattle.hs_message.specs.declared.refusal.ReadRefusal.TheVariants.{NotAMessage, OutOfMemory};
 
+use cbor_items::Absent;
+
 /// Why no message was read.
 #[derive(Clone, Copy, Debug, PartialEq, Eq)]
 pub enum ReadRefusal {
@@ -17,10 +19,6 @@ impl From<net_base::OutOfMemory> for ReadRefusal {
         ReadRefusal::OutOfMemory
     }
 }
-
-/// Nothing of the kind stands at the front of the bytes.
-#[derive(Clone, Copy, Debug, PartialEq, Eq)]
-pub(crate) struct Absent;
 
 impl From<Absent> for ReadRefusal {
     ghost from_gives = { λ _ e. e ≡ NotAMessage };

@@ -3,22 +3,9 @@ ghost use Rattle.std.specs.List.{flat_map, AllByRecursion};
 ghost use Rattle.hs_message.specs.Canonical.{number_spelling, text_spelling, flag_spelling, array_spelling, map_spelling, info_spelling, offer_spelling, table_spelling, noted_spelling, reason_spelling, message_spelling, version_info_spelling, node_spelling, client_info_spelling, client_spelling, info_spelling_in, CanWrite, CanWriteToClient};
 
 use crate::{Info, Message, Offer, Profile, Reason, VersionInfo};
-use cbor_items::write_head;
+use cbor_items::{ARRAY, FALSE, MAP, NUMBER, TEXT, TRUE, write_head};
 use net_base::{Octets, OutOfMemory};
 use std::alloc::Global;
-
-const FALSE: u8 = 0xf4;
-
-const TRUE: u8 = 0xf5;
-
-// The major types of RFC 8949.
-const NUMBER: u8 = 0;
-
-const TEXT: u8 = 3;
-
-const ARRAY: u8 = 4;
-
-const MAP: u8 = 5;
 
 /// The one spelling of a message between nodes. Each info has to be known and to stand with version 13 or 14, and the
 /// versions of a table have to rise strictly.

@@ -2,7 +2,7 @@ ghost use Rattle.std.specs.Prelude.{◌≡◌, ◌≤◌, ◌++◌, length, drop
 ghost use Rattle.cbor_items.specs.Scan.{scan_of};
 ghost use Rattle.mux_segment.specs.Items.{taken_of};
 ghost use Rattle.mux_segment.specs.Stream.{item_of};
-ghost use Rattle.mux_segment.specs.Steps.{Adds, IsNext};
+ghost use Rattle.mux_segment.specs.Steps.{Adds, IsNext, next_of};
 
 use crate::stopped::Stopped;
 use crate::waiting::Waiting;
@@ -66,7 +66,7 @@ fn take_items(
 {
     let mut rest = part;
     let mut scan = first;
-    while let Some(size) = next_item(limit, rest, scan)? {
+    while let Some(size) = next_item_of(limit, rest, scan)? {
         let (body, after) = rest.split_at(size);
         items.push(Item {
             side,
@@ -80,14 +80,25 @@ fn take_items(
 }
 
 // The size of the item at the front, by its scan, or None where it is not whole.
-fn next_item(limit: usize, part: &[u8], scan: Scan) -> Result<Option<usize>, Stopped>
+fn next_item_of(limit: usize, part: &[u8], scan: Scan) -> Result<Option<usize>, Stopped>
     ensures { IsNext result scan limit part.now }
+{
+    match next_item(limit, part, scan) {
+        Ok(next) => Ok(next),
+        Err(fault) => Err(Stopped::Fault(fault)),
+    }
+}
+
+/// The size of the item at the front of a part, by the scan of the part, or None where it is not whole yet. A fault where
+/// no item begins so, or where it has more bytes than the limit.
+pub fn next_item(limit: usize, part: &[u8], scan: Scan) -> Result<Option<usize>, CutFault>
+    ensures { result ≡ next_of scan limit part.now }
 {
     match scan {
         Scan::Whole(size) if size <= limit => Ok(Some(size)),
         Scan::More if part.len() < limit => Ok(None),
-        Scan::Whole(_) | Scan::More => Err(Stopped::Fault(CutFault::TooLong)),
-        Scan::Bad => Err(Stopped::Fault(CutFault::Bad)),
-        Scan::Deep => Err(Stopped::Fault(CutFault::Deep)),
+        Scan::Whole(_) | Scan::More => Err(CutFault::TooLong),
+        Scan::Bad => Err(CutFault::Bad),
+        Scan::Deep => Err(CutFault::Deep),
     }
 }

@@ -16,12 +16,16 @@ mod segments;
 mod stopped;
 mod waiting;
 
+pub use bodies::next_item;
+pub use bytes::behind;
 pub use cutter::Cutter;
 pub use fault::CutFault;
 pub use fed::Fed;
 pub use framing::frame;
 pub use header::{Header, read_header, write_header};
 pub use item::{Item, ItemList};
+pub use segments::split_segment;
+pub use waiting::Waiting;
 
 #[cfg(test)]
 mod tests;

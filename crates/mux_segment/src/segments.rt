@@ -57,8 +57,8 @@ fn take_segments(
     Ok(stream.len() - rest.len())
 }
 
-// The header and the payload of the segment at the front, and the bytes behind it.
-fn split_segment(bytes: &[u8]) -> Option<(Header, &[u8], &[u8])>
+/// The header and the payload of the segment at the front, and the bytes behind it. None where no whole segment is there.
+pub fn split_segment(bytes: &[u8]) -> Option<(Header, &[u8], &[u8])>
     ensures { MatchOption result (segment_at bytes.now ≡ None)
         (λ read. segment_at bytes.now ≡ Some (segment_with read.0 read.1.now, read.2.now)) }
 {

@@ -8,7 +8,7 @@ use std::marker::Model;
 
 /// Bytes that are no whole item yet, and where their scan stopped. Contracts see the bytes.
 #[derive(Debug, Drop)]
-pub(crate) struct Waiting {
+pub struct Waiting {
     bytes: Octets,
     scan: ItemScan,
 }

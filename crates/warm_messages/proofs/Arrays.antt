@@ -1,95 +1,44 @@
 -- Reading finds a thing exactly where the bytes spell it: numbers, and arrays of things.
-use Rattle.std.proofs.Common.{◌≡◌, ◌≢◌, ℕ, zero, suc, ◌+◌, ◌≤◌, Bool, true, false, cond, eqb, MatchBool, List, [], ◌∷◌, ◌++◌, length, drop, Option, Some, None, refl, sym, ap, subst, ◌∙◌, append_assoc, arith, inl, inr, ◌⊎◌}
+use Rattle.std.proofs.Common.{◌≡◌, ◌≢◌, ℕ, zero, suc, ◌+◌, ◌≤◌, Bool, true, false, cond, eqb, MatchBool, List, [], ◌∷◌, ◌++◌, length, Option, Some, None, refl, sym, ap, subst, ◌∙◌, append_assoc, arith, inl, inr, ◌⊎◌}
 use Rattle.std.proofs.lemmas.Bool.{eqb-true, ne_eqb, eq-eqb}
-use Rattle.std.proofs.lemmas.List.{append-nil, drop_at}
 use Rattle.cbor_items.specs.declared.head.Head.{Head}
-use Rattle.cbor_items.specs.Head.{IsHead, head_at}
+use Rattle.cbor_items.specs.Head.{IsHead}
+use Rattle.cbor_items.specs.Front.{Reader, ◌>>=◌, any_head_at, definite_at, number_at}
+use Rattle.cbor_items.specs.Item.{AreInTurn}
 use Rattle.cbor_items.proofs.Skips.{HasFront, StartsPlain}
-use Rattle.cbor_items.proofs.Heads.{head_found, head_again, size_of_head}
+use Rattle.cbor_items.proofs.Readers.{Reads, bind_some, guard_some, reads_any_head}
 use Rattle.cbor_items.proofs.Items.{head_is_plain, plain_same}
 use Rattle.warm_messages.specs.declared.array.Length.{Length}
 use Rattle.warm_messages.specs.declared.array.Length.TheVariants.{Of, ToBreak}
-use Rattle.warm_messages.specs.Array.{IsNumber, AreInTurn, IsArray}
-use Rattle.warm_messages.specs.Reading.{◌>>=◌, Reading, headed_at, length_of, number_at, opening_at, behind_break, ending_at, ended, elements_at, array_at}
-
--- ---- one reading behind another
-
-pub bind_some : {A B : Type 0} (o : Option A) (f : A → Option B) (y : B) → (o >>= f) ≡ Some y → (x : A) × (o ≡ Some x) × (f x ≡ Some y)
-bind_some (Some x) f y e = (x, refl, e)
-bind_some None f y e = absurd cc
-
--- a choice that gives something
-pub chosen_some : {A : Type 0} (b : Bool) (x y : A) → cond b (Some x) None ≡ Some y → (b ≡ true) × (x ≡ y)
-chosen_some true x y e = (refl, cc)
-chosen_some false x y e = absurd cc
-
--- what reads things finds those that the bytes spell, whatever follows them
-pub record ReadsAs {A : Type 0} (Spells : A → List ℕ → Type 0) (read : Reading A) : Type 0 where
-  pub found : (bytes : List ℕ) (x : A) (rest : List ℕ) → read bytes ≡ Some (x, rest) → HasFront (Spells x) bytes rest
-  pub again : (x : A) (front rest : List ℕ) → Spells x front → read (front ++ rest) ≡ Some (x, rest)
+use Rattle.warm_messages.specs.Array.{IsArray}
+use Rattle.warm_messages.specs.Reading.{length_of, opening_at, behind_break, ending_at, ended, elements_at, array_at}
 
 -- ---- heads
-
--- behind the head at the front
-behind_head : (head : Head) (spelled rest : List ℕ) → IsHead head spelled → drop head.size (spelled ++ rest) ≡ rest
-behind_head head spelled rest is = drop_at spelled rest head.size (sym (size_of_head head spelled is))
-
-pub headed_found : {A : Type 0} (major : ℕ) (says : Head → A) (bytes : List ℕ) (x : A) (rest : List ℕ) → headed_at major says bytes ≡ Some (x, rest)
-    → (head : Head) × (head.major ≡ major) × (says head ≡ x) × HasFront (IsHead head) bytes rest
-headed_found {A} major says bytes x rest e =
-    let b = bind_some (head_at bytes) (λ (head : Head). cond {A = Option (A × List ℕ)} (eqb head.major major) (Some (says head, drop head.size bytes)) None) (x, rest) e in
-    let head = b.0 in
-    let c = chosen_some (eqb head.major major) (says head, drop head.size bytes) (x, rest) b.2 in
-    let f = head_found bytes head b.1 in
-    let says-is : says head ≡ x = ap (λ (p : A × List ℕ). p.0) c.1 in
-    let rest-is : drop head.size bytes ≡ rest = ap (λ (p : A × List ℕ). p.1) c.1 in
-    let behind-is : drop head.size bytes ≡ f.0 = ap (drop head.size) f.1.joined ∙ behind_head head f.1.front f.0 f.1.is in
-    let same : f.0 ≡ rest = sym behind-is ∙ rest-is in
-    (head, eqb-true _ _ c.0, says-is, record { front = f.1.front; joined = f.1.joined ∙ ap (λ (y : List ℕ). f.1.front ++ y) same; is = f.1.is })
-
-pub headed_again : {A : Type 0} (major : ℕ) (says : Head → A) (head : Head) (spelled rest : List ℕ) → IsHead head spelled → head.major ≡ major
-    → headed_at major says (spelled ++ rest) ≡ Some (says head, rest)
-headed_again major says head spelled rest is major-is = rw (head_again head spelled rest is, eq-eqb _ _ major-is, behind_head head spelled rest is) refl
 
 -- a head that is no break
 pub type_is_plain : (head : Head) (spelled content : List ℕ) → IsHead head spelled → head.major ≢ 7 → StartsPlain (spelled ++ content)
 type_is_plain head spelled content is other = head_is_plain head spelled content is (λ seven break. other seven)
 
--- ---- numbers
-
-number_found : (bytes : List ℕ) (n : ℕ) (rest : List ℕ) → number_at bytes ≡ Some (n, rest) → HasFront (IsNumber n) bytes rest
-unfolding number_at
-number_found bytes n rest e =
-    let h = headed_found 0 (λ (head : Head). head.value) bytes n rest e in
-    record { front = h.3.front; joined = h.3.joined; is = record { head = h.0; is_head = h.3.is; unsigned = h.1; is_value = h.2 } }
-
-number_again : (n : ℕ) (front rest : List ℕ) → IsNumber n front → number_at (front ++ rest) ≡ Some (n, rest)
-unfolding number_at
-number_again n front rest is =
-    headed_again 0 (λ (head : Head). head.value) is.head front rest is.is_head is.unsigned ∙ rw is.is_value refl
-
-pub number_reads : ReadsAs IsNumber number_at
-number_reads = record { found = number_found; again = number_again }
-
-pub number_is_plain : (n : ℕ) (front : List ℕ) → IsNumber n front → StartsPlain front
-number_is_plain n front is =
-    plain_same front (front ++ []) (sym (append-nil front)) (type_is_plain is.head front [] is.is_head (λ seven. absurd cc))
-
 -- what begins with the head of an array is no number
 pub array_is_no_number : (head : Head) (spelled rest : List ℕ) → IsHead head spelled → head.major ≡ 4 → number_at (spelled ++ rest) ≡ None
-unfolding number_at
-array_is_no_number head spelled rest is array = rw (head_again head spelled rest is, array) refl
+unfolding definite_at
+array_is_no_number head spelled rest is array = rw (reads_any_head.again head spelled rest is, array) refl
 
 -- ---- the length of an array
 
 pub opening_again : (head : Head) (spelled rest : List ℕ) → IsHead head spelled → head.major ≡ 4 → opening_at (spelled ++ rest) ≡ Some (length_of head, rest)
 unfolding opening_at
-opening_again head spelled rest is array = headed_again 4 length_of head spelled rest is array
+opening_again head spelled rest is array = rw (reads_any_head.again head spelled rest is, array) refl
 
 pub opening_found : (bytes : List ℕ) (size : Length) (rest : List ℕ) → opening_at bytes ≡ Some (size, rest)
     → (head : Head) × (head.major ≡ 4) × (length_of head ≡ size) × HasFront (IsHead head) bytes rest
 unfolding opening_at
-opening_found bytes size rest e = headed_found 4 length_of bytes size rest e
+opening_found bytes size rest e =
+    let b = bind_some (any_head_at bytes) (λ (read : Head × List ℕ). cond {A = Option (Length × List ℕ)} (eqb read.0.major 4) (Some (length_of read.0, read.1)) None) (size, rest) e in
+    let g = guard_some (eqb b.0.0.major 4) (length_of b.0.0, b.0.1) (size, rest) b.2 in
+    let size-is : length_of b.0.0 ≡ size = ap (λ (p : Length × List ℕ). p.0) g.1 in
+    let rest-is : b.0.1 ≡ rest = ap (λ (p : Length × List ℕ). p.1) g.1 in
+    (b.0.0, eqb-true _ _ g.0, size-is, subst (HasFront (IsHead b.0.0) bytes) rest-is (reads_any_head.found bytes b.0.0 b.0.1 b.1))
 
 -- what ends an array of a length
 abbrev pub IsEnding : Length → ℕ → List ℕ → Type 0
@@ -109,12 +58,12 @@ is_ending false n count ending is = is
 pub break_found : (bytes rest : List ℕ) → behind_break bytes ≡ Some rest → bytes ≡ 255 ∷ rest
 break_found [] rest e = absurd cc
 break_found (byte ∷ bytes) rest e =
-    let c = chosen_some (eqb byte 255) bytes rest e in
+    let c = guard_some (eqb byte 255) bytes rest e in
     rw (eqb-true _ _ c.0, c.1) refl
 
 pub ending_found : (size : Length) (count : ℕ) (bytes rest : List ℕ) → ending_at size count bytes ≡ Some rest → HasFront (IsEnding size count) bytes rest
 ending_found (Of n) count bytes rest e =
-    let c = chosen_some (eqb n count) bytes rest e in
+    let c = guard_some (eqb n count) bytes rest e in
     record { front = []; joined = c.1; is = (refl, eqb-true _ _ c.0) }
 ending_found ToBreak count bytes rest e = record { front = 255 ∷ []; joined = break_found bytes rest e; is = refl }
 
@@ -169,10 +118,10 @@ ended_is : {A : Type 0} (end : Option (List ℕ)) (more : Option (List A × List
 ended_is (Some behind) more xs rest e = let is = some_pair [] xs behind rest e in inl (sym is.0, ap Some is.1)
 ended_is None more xs rest e = inr (refl, e)
 
-abbrev others_at : {A : Type 0} → Reading A → Length → ℕ → ℕ → (A × List ℕ) → Option (List A × List ℕ)
+abbrev others_at : {A : Type 0} → Reader A → Length → ℕ → ℕ → (A × List ℕ) → Option (List A × List ℕ)
 others_at thing size count most one = elements_at thing size (count + 1) most one.1 >>= λ others. Some (one.0 ∷ others.0, others.1)
 
-module _ {A : Type 0} (Spells : A → List ℕ → Type 0) (thing : Reading A) (reads : ReadsAs Spells thing) where
+module _ {A : Type 0} (Spells : A → List ℕ → Type 0) (thing : Reader A) (reads : Reads Spells thing) where
   pub elements_found : (most : ℕ) (size : Length) (count : ℕ) (bytes : List ℕ) (xs : List A) (rest : List ℕ)
       → elements_at thing size count most bytes ≡ Some (xs, rest) → HasElements Spells size count xs bytes rest
   unfolding elements_at
@@ -235,7 +184,7 @@ module _ {A : Type 0} (Spells : A → List ℕ → Type 0) (thing : Reading A) (
 
 -- ---- whole arrays
 
-module _ {A : Type 0} (Spells : A → List ℕ → Type 0) (thing : Reading A) (reads : ReadsAs Spells thing) where
+module _ {A : Type 0} (Spells : A → List ℕ → Type 0) (thing : Reader A) (reads : Reads Spells thing) where
   pub array_found : (most : ℕ) (bytes : List ℕ) (xs : List A) (rest : List ℕ) → array_at thing most bytes ≡ Some (xs, rest)
       → HasFront (IsArray (length xs) (AreInTurn Spells xs)) bytes rest
   array_found most bytes xs rest e =

@@ -1,16 +1,20 @@
 -- What spells a message is an item, and the first number of an item.
-use Rattle.std.proofs.Common.{◌≡◌, ℕ, zero, suc, Bool, true, false, eqb, MatchBool, List, [], ◌∷◌, ◌++◌, length, Option, Some, None, option_map, Ok, refl, sym, ap, subst, ◌∙◌, append_assoc, arith, inl, inr}
-use Rattle.std.proofs.lemmas.Bool.{eqb-true, eq-eqb, cases_Bool}
+use Rattle.std.proofs.Common.{◌≡◌, ℕ, zero, suc, Bool, true, false, MatchBool, List, [], ◌∷◌, ◌++◌, length, Option, Some, None, option_map, Ok, refl, sym, ap, subst, ◌∙◌, append_assoc, arith, inl, inr}
+use Rattle.std.proofs.lemmas.Bool.{eqb-true, eq-eqb}
 use Rattle.std.proofs.lemmas.List.{append-nil, append_cancel_right}
 use Rattle.std.proofs.Math.Seq.{take-length}
 use Rattle.cbor_items.specs.declared.head.Head.{Head}
 use Rattle.cbor_items.specs.declared.scan.Scan.{Scan}
 use Rattle.cbor_items.specs.declared.scan.Scan.TheVariants.{Whole, More, Bad, Deep}
-use Rattle.cbor_items.specs.Head.{IsHead, head_at, may_begin, info_of, major_of}
-use Rattle.cbor_items.specs.Item.{IsPair, IsRow, IsFlat, IsNested, IsItem, level_limit}
+use Rattle.cbor_items.specs.Head.{IsHead, head_at}
+use Rattle.cbor_items.specs.Definite.{IsNumber}
+use Rattle.cbor_items.specs.Front.{◌>>=◌, number_at}
+use Rattle.cbor_items.specs.Item.{IsPair, AreInTurn, IsRow, IsFlat, IsNested, IsItem, level_limit}
 use Rattle.cbor_items.specs.Item.IsFlat.{alone, string, chunks}
 use Rattle.cbor_items.specs.Item.IsNested.{array, open_array, map, open_map, tag}
 use Rattle.cbor_items.specs.Scan.{scan_of, skip_item}
+use Rattle.cbor_items.proofs.Readers.{bind_some, reads_number, number_is_plain}
+use Rattle.cbor_items.proofs.Turns.{number_is_item, in_turn_is_row}
 use Rattle.cbor_items.proofs.Skips.{chosen}
 use Rattle.cbor_items.proofs.Heads.{head_again}
 use Rattle.cbor_items.proofs.Grammar.{skips_item}
@@ -20,34 +24,12 @@ use Rattle.warm_messages.specs.declared.array.Length.{Length}
 use Rattle.warm_messages.specs.declared.alive.Alive.{Alive}
 use Rattle.warm_messages.specs.declared.share.Share.{Share}
 use Rattle.warm_messages.specs.declared.share.Share.TheVariants as share
-use Rattle.warm_messages.specs.Array.{IsNumber, IsNumbers, AreInTurn, EndsArray, IsArray}
+use Rattle.warm_messages.specs.Array.{IsNumbers, EndsArray, IsArray}
 use Rattle.warm_messages.specs.Address.{SpellsAddress}
 use Rattle.warm_messages.specs.Message.{alive_numbers, SpellsAlive, SpellsAddresses, SpellsShare}
-use Rattle.warm_messages.specs.Reading.{◌>>=◌, length_of, opening_at, number_at}
+use Rattle.warm_messages.specs.Reading.{length_of, opening_at}
 use Rattle.warm_messages.specs.First.{HasFirstNumber, is_whole, first_number_of}
-use Rattle.warm_messages.proofs.Arrays.{bind_some, some_pair, number_reads, number_is_plain, opening_found, opening_again}
-
--- ---- numbers are items
-
-definite : (initial : ℕ) → may_begin initial ≡ true → major_of initial ≡ 0 → eqb (info_of initial) 31 ≡ false
-definite initial begins zero-is =
-    elim (cases_Bool (eqb (info_of initial) 31)) [
-      | inl last ↦ let none : false ≡ true = rw (eqb-true _ _ last, zero-is) at begins in absurd cc
-      | inr other ↦ other
-    ]
-
-number_is_definite : (n : ℕ) (bytes : List ℕ) (is : IsNumber n bytes) → is.head.indefinite ≡ false
-number_is_definite n bytes is =
-    let h = is.is_head in
-    ap (λ (head : Head). head.indefinite) h.is ∙ definite h.initial h.begins (sym (ap (λ (head : Head). head.major) h.is) ∙ is.unsigned)
-
-number_is_flat : (n : ℕ) (bytes : List ℕ) → IsNumber n bytes → IsFlat bytes
-number_is_flat n bytes is = alone is.is_head (rw is.unsigned refl) (number_is_definite n bytes is)
-
-pub number_is_item : (depth n : ℕ) (bytes : List ℕ) → IsNumber n bytes → IsItem depth bytes
-unfolding IsItem
-number_is_item zero n bytes is = number_is_flat n bytes is
-number_is_item (suc depth) n bytes is = inl (number_is_flat n bytes is)
+use Rattle.warm_messages.proofs.Arrays.{some_pair, opening_found, opening_again}
 
 -- ---- arrays are items
 
@@ -66,20 +48,9 @@ array_is_item depth count Content bytes rows is =
     inr (subst (IsNested (IsItem depth)) (sym is.joined)
     (ended_array depth count is.head is.spelled is.content is.ending is.head.indefinite refl is.is_head is.array (rows is.content is.is_content) is.ends))
 
-in_turn_is_row : {A : Type 0} (depth : ℕ) (Spells : A → List ℕ → Type 0) → ((x : A) (bytes : List ℕ) → Spells x bytes → IsItem depth bytes)
-    → (xs : List A) (content : List ℕ) → AreInTurn Spells xs content → IsRow (IsItem depth) (length xs) content
-in_turn_is_row depth Spells items [] content is = is
-in_turn_is_row depth Spells items (x ∷ xs) content is = record {
-  first = is.first;
-  second = is.second;
-  joined = is.joined;
-  is_first = items x is.first is.is_first;
-  is_second = in_turn_is_row depth Spells items xs is.second is.is_second;
-}
-
 list_is_item : {A : Type 0} (depth : ℕ) (Spells : A → List ℕ → Type 0) → ((x : A) (bytes : List ℕ) → Spells x bytes → IsItem depth bytes)
     → (xs : List A) (bytes : List ℕ) → IsArray (length xs) (AreInTurn Spells xs) bytes → IsItem (suc depth) bytes
-list_is_item depth Spells items xs bytes is = array_is_item depth (length xs) (AreInTurn Spells xs) bytes (in_turn_is_row depth Spells items xs) is
+list_is_item depth Spells items xs bytes is = array_is_item depth (length xs) (AreInTurn Spells xs) bytes (in_turn_is_row (IsItem depth) Spells items xs) is
 
 numbers_are_item : (depth : ℕ) (numbers bytes : List ℕ) → IsNumbers numbers bytes → IsItem (suc depth) bytes
 numbers_are_item depth numbers bytes is = list_is_item depth IsNumber (number_is_item depth) numbers bytes is
@@ -133,14 +104,14 @@ BeginsNoNumber after = (n : ℕ) (rest : List ℕ) → number_at after ≡ Some 
 
 nothing_begins_no_number : BeginsNoNumber []
 nothing_begins_no_number n rest e =
-    let f = number_reads.found [] n rest e in
+    let f = reads_number.found [] n rest e in
     let p = number_is_plain n f.front f.is in
     let none : [] ≡ p.first ∷ (p.rest ++ rest) = f.joined ∙ ap (λ (y : List ℕ). y ++ rest) p.joined in
     absurd cc
 
 break_begins_no_number : BeginsNoNumber (255 ∷ [])
 break_begins_no_number n rest e =
-    let f = number_reads.found (255 ∷ []) n rest e in
+    let f = reads_number.found (255 ∷ []) n rest e in
     let p = number_is_plain n f.front f.is in
     let same : 255 ∷ [] ≡ p.first ∷ (p.rest ++ rest) = f.joined ∙ ap (λ (y : List ℕ). y ++ rest) p.joined in
     p.no_break cc
@@ -154,7 +125,7 @@ row_has_first : (count : ℕ) (content after : List ℕ) (n : ℕ) (rest : List 
     → number_at (content ++ after) ≡ Some (n, rest) → HasFirst n count content
 row_has_first zero content after n rest none row e = absurd (none n rest (ap (λ (y : List ℕ). number_at (y ++ after)) (sym row) ∙ e))
 row_has_first (suc others) content after n rest none row e =
-    let number = number_reads.found (content ++ after) n rest e in
+    let number = reads_number.found (content ++ after) n rest e in
     let skips = skips_item 63 in
     let behind = row.second ++ after in
     let split : content ++ after ≡ row.first ++ behind = ap (λ (y : List ℕ). y ++ after) row.joined ∙ append_assoc row.first row.second after in
@@ -269,5 +240,5 @@ spelled_first n bytes first =
     let joined : bytes ≡ is.spelled ++ (pair.first ++ behind) =
     is.joined ∙ ap (λ (y : List ℕ). is.spelled ++ (y ++ is.ending)) pair.joined ∙ ap (λ (y : List ℕ). is.spelled ++ y) (append_assoc pair.first pair.second is.ending) in
     let opened : opening_at bytes ≡ Some (length_of is.head, pair.first ++ behind) = ap opening_at joined ∙ opening_again is.head is.spelled (pair.first ++ behind) is.is_head is.array in
-    let number = number_reads.again n pair.first behind pair.is_first in
+    let number = reads_number.again n pair.first behind pair.is_first in
     rw (scanned, eq-eqb _ _ (let same : length bytes ≡ length bytes = refl in same), opened, number) refl

@@ -3,6 +3,9 @@ use Rattle.std.proofs.Common.{◌≡◌, ℕ, ◌≤◌, cond, eqb, ltb, List, [
 use Rattle.std.proofs.lemmas.Bool.{eqb-true, ltb-true, lt-ltb}
 use Rattle.std.proofs.lemmas.List.{append-nil}
 use Rattle.cbor_items.specs.Item.{IsPair}
+use Rattle.cbor_items.specs.Definite.{IsNumber}
+use Rattle.cbor_items.specs.Front.{◌>>=◌, number_at}
+use Rattle.cbor_items.proofs.Readers.{bind_some, guard_some, reads_number, number_is_plain}
 use Rattle.cbor_items.proofs.Skips.{HasFront, StartsPlain, chosen}
 use Rattle.net_base.specs.declared.address.Addr.{Addr}
 use Rattle.warm_messages.specs.declared.array.Length.{Length}
@@ -10,10 +13,10 @@ use Rattle.warm_messages.specs.declared.alive.Alive.{Alive}
 use Rattle.warm_messages.specs.declared.alive.Alive.TheVariants as alive
 use Rattle.warm_messages.specs.declared.share.Share.{Share}
 use Rattle.warm_messages.specs.declared.share.Share.TheVariants as share
-use Rattle.warm_messages.specs.Array.{IsNumber, IsNumbers, IsArray}
+use Rattle.warm_messages.specs.Array.{IsNumbers, IsArray}
 use Rattle.warm_messages.specs.Message.{HasCookie, alive_numbers, SpellsAlive, SpellsAddresses, SpellsShare}
-use Rattle.warm_messages.specs.Reading.{◌>>=◌, whole, length_of, opening_at, ending_at, number_at, elements_at, numbers_at, addresses_at, cookie_message, alive_of_numbers, alive_of, share_of_numbers, peers_in, peers_at, share_by, share_of}
-use Rattle.warm_messages.proofs.Arrays.{bind_some, chosen_some, some_pair, number_reads, number_is_plain, array_is_no_number, opening_found, opening_again, IsEnding, ending_found, ending_again, ends_array, is_ending, missing_some, goes_on, array_is_plain}
+use Rattle.warm_messages.specs.Reading.{whole, length_of, opening_at, ending_at, elements_at, numbers_at, addresses_at, cookie_message, alive_of_numbers, alive_of, share_of_numbers, peers_in, peers_at, share_by, share_of}
+use Rattle.warm_messages.proofs.Arrays.{some_pair, array_is_no_number, opening_found, opening_again, IsEnding, ending_found, ending_again, ends_array, is_ending, missing_some, goes_on, array_is_plain}
 use Rattle.warm_messages.proofs.Spelling.{whole_found, whole_again, only_numbers_found, only_numbers_again, addresses_read}
 
 -- ---- keep-alive
@@ -30,7 +33,7 @@ cookie_found kind cookie message e =
             let same : alive.Ask cookie ≡ message = cc in
             subst (IsAliveOf (kind ∷ cookie ∷ [])) same (ltb-true _ _ low, rw (eqb-true _ _ ask) refl)
         | inr (other, more) ↦
-            let c = chosen_some (eqb kind 1) (alive.Reply cookie) message more in
+            let c = guard_some (eqb kind 1) (alive.Reply cookie) message more in
             subst (IsAliveOf (kind ∷ cookie ∷ [])) c.1 (ltb-true _ _ low, rw (eqb-true _ _ c.0) refl)
       ]
       | inr (high, none) ↦ absurd cc
@@ -39,7 +42,7 @@ cookie_found kind cookie message e =
 alive_found : (numbers : List ℕ) (message : Alive) → alive_of_numbers numbers ≡ Some message → IsAliveOf numbers message
 alive_found [] message e = absurd cc
 alive_found (kind ∷ []) message e =
-    let c = chosen_some (eqb kind 2) alive.Done message e in
+    let c = guard_some (eqb kind 2) alive.Done message e in
     subst (IsAliveOf (kind ∷ [])) c.1 (tt, rw (eqb-true _ _ c.0) refl)
 alive_found (kind ∷ cookie ∷ []) message e = cookie_found kind cookie message e
 alive_found (kind ∷ cookie ∷ other ∷ more) message e = absurd cc
@@ -71,10 +74,10 @@ spelled_alive message bytes (fits, is) =
 share_numbers_found : (numbers : List ℕ) (message : Share) (bytes : List ℕ) → share_of_numbers numbers ≡ Some message → IsNumbers numbers bytes → SpellsShare message bytes
 share_numbers_found [] message bytes e is = absurd cc
 share_numbers_found (kind ∷ []) message bytes e is =
-    let c = chosen_some (eqb kind 2) share.Done message e in
+    let c = guard_some (eqb kind 2) share.Done message e in
     subst (λ (m : Share). SpellsShare m bytes) c.1 (subst (λ (k : ℕ). IsNumbers (k ∷ []) bytes) (eqb-true _ _ c.0) is)
 share_numbers_found (kind ∷ n ∷ []) message bytes e is =
-    let c = chosen_some (eqb kind 0) (share.Request n) message e in
+    let c = guard_some (eqb kind 0) (share.Request n) message e in
     subst (λ (m : Share). SpellsShare m bytes) c.1 (subst (λ (k : ℕ). IsNumbers (k ∷ n ∷ []) bytes) (eqb-true _ _ c.0) is)
 share_numbers_found (kind ∷ n ∷ other ∷ more) message bytes e is = absurd cc
 
@@ -91,7 +94,7 @@ peers_found bytes peers rest e =
     let size = b.0.0 in
     let inner = λ (kind : ℕ × List ℕ). addresses_at kind.1 >>= λ read. ending_at size 2 read.1 >>= λ behind. Some (read.0, behind) in
     let k = bind_some (number_at b.0.1) (λ (kind : ℕ × List ℕ). cond (eqb kind.0 1) (inner kind) None) (peers, rest) b.2 in
-    let number = number_reads.found b.0.1 k.0.0 k.0.1 k.1 in
+    let number = reads_number.found b.0.1 k.0.0 k.0.1 k.1 in
     elim (chosen (eqb k.0.0 1) (inner k.0) None (Some (peers, rest)) k.2) [
       | inl (one, more) ↦
           let a = bind_some (addresses_at k.0.1) (λ (read : List Addr × List ℕ). ending_at size 2 read.1 >>= λ behind. Some (read.0, behind)) (peers, rest) more in
@@ -137,7 +140,7 @@ unfolding peers_at
 peers_again peers front rest is =
     let second = is.is_content.second ++ (is.ending ++ rest) in
     let opened = opening_again is.head is.spelled (is.is_content.first ++ second) is.is_head is.array in
-    let number = number_reads.again 1 is.is_content.first second is.is_content.is_first in
+    let number = reads_number.again 1 is.is_content.first second is.is_content.is_first in
     let addresses = addresses_read.again peers is.is_content.second (is.ending ++ rest) is.is_content.is_second in
     let ends = ending_again (length_of is.head) 2 is.ending rest (is_ending is.head.indefinite is.head.value 2 is.ending is.ends) in
     ap peers_at (peers_joined peers front rest is) ∙ rw (opened, number, addresses, ends) refl
@@ -156,7 +159,7 @@ peers_are_no_numbers peers bytes is =
     let addresses = is.is_content.is_second in
     let ends = is_ending is.head.indefinite is.head.value 2 is.ending is.ends in
     let opened = opening_again is.head is.spelled all is.is_head is.array in
-    let number = number_reads.again 1 is.is_content.first second is.is_content.is_first in
+    let number = reads_number.again 1 is.is_content.first second is.is_content.is_first in
     let on = goes_on size 0 all (missing_some size 0 1 is.ending ends) (plain_before _ second (number_is_plain 1 is.is_content.first is.is_content.is_first)) in
     let next = goes_on size 1 second (missing_some size 1 0 is.ending ends) (plain_before _ behind (array_is_plain _ _ is.is_content.second addresses)) in
     let joined : second ≡ addresses.spelled ++ ((addresses.content ++ addresses.ending) ++ behind) =

@@ -1,13 +1,17 @@
 -- Reading finds a message exactly where the bytes spell it.
 use Rattle.std.proofs.Common.{◌≡◌, ℕ, suc, ◌+◌, ◌≤◌, List, [], ◌∷◌, ◌++◌, length, Some, refl, sym, ap, subst, ◌∙◌, arith}
 use Rattle.std.proofs.lemmas.List.{append-nil, length-append}
+use Rattle.cbor_items.specs.Definite.{IsNumber}
+use Rattle.cbor_items.specs.Front.{Reader, ◌>>=◌, number_at}
+use Rattle.cbor_items.specs.Item.{AreInTurn}
+use Rattle.cbor_items.proofs.Readers.{Reads, bind_some, reads_number, number_is_plain}
 use Rattle.cbor_items.proofs.Skips.{HasFront, StartsPlain}
 use Rattle.net_base.specs.declared.address.Addr.{Addr}
-use Rattle.warm_messages.specs.Array.{IsNumber, IsNumbers, AreInTurn}
+use Rattle.warm_messages.specs.Array.{IsNumbers}
 use Rattle.warm_messages.specs.Address.{address_of, SpellsAddress}
 use Rattle.warm_messages.specs.Message.{SpellsAddresses}
-use Rattle.warm_messages.specs.Reading.{◌>>=◌, Reading, all_read, whole, number_at, numbers_at, address_at, addresses_at}
-use Rattle.warm_messages.proofs.Arrays.{bind_some, some_pair, ReadsAs, number_reads, number_is_plain, array_found, array_again, array_is_plain}
+use Rattle.warm_messages.specs.Reading.{all_read, whole, numbers_at, address_at, addresses_at}
+use Rattle.warm_messages.proofs.Arrays.{some_pair, array_found, array_again, array_is_plain}
 
 -- ---- all of the bytes
 
@@ -15,13 +19,13 @@ all_read_is : {A : Type 0} (x : A) (rest : List ℕ) (y : A) → all_read x rest
 all_read_is x [] y e = (cc, refl)
 all_read_is x (byte ∷ rest) y e = absurd cc
 
-pub whole_found : {A : Type 0} (read : Reading A) (bytes : List ℕ) (x : A) → whole read bytes ≡ Some x → read bytes ≡ Some (x, [])
+pub whole_found : {A : Type 0} (read : Reader A) (bytes : List ℕ) (x : A) → whole read bytes ≡ Some x → read bytes ≡ Some (x, [])
 whole_found {A} read bytes x e =
     let b = bind_some (read bytes) (λ (one : A × List ℕ). all_read one.0 one.1) x e in
     let a = all_read_is b.0.0 b.0.1 x b.2 in
     b.1 ∙ ap (λ (y : A). Some (y, b.0.1)) a.0 ∙ ap (λ (r : List ℕ). Some (x, r)) a.1
 
-pub whole_again : {A : Type 0} (read : Reading A) (bytes : List ℕ) (x : A) → read bytes ≡ Some (x, []) → whole read bytes ≡ Some x
+pub whole_again : {A : Type 0} (read : Reader A) (bytes : List ℕ) (x : A) → read bytes ≡ Some (x, []) → whole read bytes ≡ Some x
 whole_again read bytes x e = rw e refl
 
 -- what stands at the front, with nothing behind it
@@ -32,11 +36,11 @@ all_front {Thing} bytes f = subst Thing (sym (f.joined ∙ append-nil f.front)) 
 
 pub numbers_found : (bytes : List ℕ) (numbers : List ℕ) (rest : List ℕ) → numbers_at bytes ≡ Some (numbers, rest) → HasFront (IsNumbers numbers) bytes rest
 unfolding numbers_at
-numbers_found bytes numbers rest e = array_found IsNumber number_at number_reads 8 bytes numbers rest e
+numbers_found bytes numbers rest e = array_found IsNumber number_at reads_number 8 bytes numbers rest e
 
 pub numbers_again : (numbers : List ℕ) (front rest : List ℕ) → length numbers ≤ 8 → IsNumbers numbers front → numbers_at (front ++ rest) ≡ Some (numbers, rest)
 unfolding numbers_at
-numbers_again numbers front rest fits is = array_again IsNumber number_at number_reads number_is_plain 8 numbers front rest fits is
+numbers_again numbers front rest fits is = array_again IsNumber number_at reads_number number_is_plain 8 numbers front rest fits is
 
 pub only_numbers_found : (bytes : List ℕ) (numbers : List ℕ) → whole numbers_at bytes ≡ Some numbers → IsNumbers numbers bytes
 only_numbers_found bytes numbers e = all_front bytes (numbers_found bytes numbers [] (whole_found numbers_at bytes numbers e))
@@ -79,7 +83,7 @@ address_again addr front rest s =
     let numbers = numbers_again s.numbers front rest (address_is_short s.numbers addr s.is) s.spelled in
     rw (numbers, s.is) refl
 
-pub address_reads : ReadsAs SpellsAddress address_at
+pub address_reads : Reads SpellsAddress address_at
 address_reads = record { found = address_found; again = address_again }
 
 pub address_is_plain : (addr : Addr) (front : List ℕ) → SpellsAddress addr front → StartsPlain front
@@ -106,5 +110,5 @@ addresses_again peers front rest is =
     omega (arith, length-append front rest, ap length is.joined, length-append is.spelled (is.content ++ is.ending), length-append is.content is.ending) in
     array_again SpellsAddress address_at address_reads address_is_plain (length (front ++ rest)) peers front rest (omega arith) is
 
-pub addresses_read : ReadsAs SpellsAddresses addresses_at
+pub addresses_read : Reads SpellsAddresses addresses_at
 addresses_read = record { found = addresses_found; again = addresses_again }

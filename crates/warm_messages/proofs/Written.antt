@@ -5,6 +5,9 @@ use Rattle.std.proofs.lemmas.Bool.{lt-ltb}
 use Rattle.std.proofs.lemmas.List.{append-nil}
 use Rattle.std.proofs.lemmas.List.Elements.{All-head, All-tail}
 use Rattle.cbor_items.specs.Head.{written_head}
+use Rattle.cbor_items.specs.Definite.{IsNumber}
+use Rattle.cbor_items.specs.Item.{AreInTurn}
+use Rattle.cbor_items.proofs.Turns.{number_written, in_turn_written}
 use Rattle.cbor_items.proofs.Shortest.{are_read_again}
 use Rattle.net_base.specs.declared.address.Ip.{Ip}
 use Rattle.net_base.specs.declared.address.Ip.TheVariants.{V4, V6}
@@ -12,18 +15,10 @@ use Rattle.net_base.specs.declared.address.Addr.{Addr}
 use Rattle.warm_messages.specs.declared.alive.Alive.{Alive}
 use Rattle.warm_messages.specs.declared.alive.Alive.TheVariants as alive
 use Rattle.warm_messages.specs.declared.share.Share.TheVariants as share
-use Rattle.warm_messages.specs.Array.{IsNumber, IsNumbers, AreInTurn, IsArray}
+use Rattle.warm_messages.specs.Array.{IsNumbers, IsArray}
 use Rattle.warm_messages.specs.Address.{ip_of_words, ipv6_of, address_of, SpellsAddress, ip_numbers, address_numbers, IsIp, IsAddress}
 use Rattle.warm_messages.specs.Message.{HasCookie, SpellsAlive, SpellsShare}
 use Rattle.warm_messages.specs.Writing.{written_number, written_opening, written_numbers, written_alive, written_request, written_address, written_addresses, written_peers}
-
-number_written : (n : ℕ) → n < 2 ^ 64 → IsNumber n (written_number n)
-number_written n fits = record {
-  head = written_head 0 n;
-  is_head = (are_read_again 0 n [] (record { major_fits = omega arith; simple_fits = λ seven. absurd (omega arith); value_fits = fits })).0;
-  unsigned = refl;
-  is_value = refl;
-}
 
 -- an array whose elements are written one behind the other
 array_written : (count : ℕ) (Content : List ℕ → Type 0) (content : List ℕ) → count < 2 ^ 64 → Content content → IsArray count Content (written_opening count ++ content)
@@ -37,17 +32,6 @@ array_written count Content content fits is = record {
   array = refl;
   is_content = is;
   ends = (refl, refl);
-}
-
-in_turn_written : {A : Type 0} (Spells : A → List ℕ → Type 0) (write : A → List ℕ) (Fits : A → Type 0) → ((x : A) → Fits x → Spells x (write x))
-    → (xs : List A) → AllByRecursion Fits xs → AreInTurn Spells xs (flat_map write xs)
-in_turn_written Spells write Fits written [] fit = refl
-in_turn_written Spells write Fits written (x ∷ xs) fit = record {
-  first = write x;
-  second = flat_map write xs;
-  joined = refl;
-  is_first = written x fit.0;
-  is_second = in_turn_written Spells write Fits written xs fit.1;
 }
 
 numbers_written : (numbers : List ℕ) → length numbers < 2 ^ 64 → AllByRecursion (λ n. n < 2 ^ 64) numbers → IsNumbers numbers (written_numbers numbers)

@@ -2,19 +2,8 @@
 use Rattle.std.specs.Prelude.{◌≡◌, ℕ, List, [], ◌∷◌, ◌++◌, length, MatchBool}
 use Rattle.cbor_items.specs.declared.head.Head.{Head}
 use Rattle.cbor_items.specs.Head.{IsHead}
-use Rattle.cbor_items.specs.Item.{IsPair}
-
--- the bytes are an unsigned number
-pub record IsNumber (n : ℕ) (bytes : List ℕ) : Type 0 where
-  pub head : Head
-  pub is_head : IsHead head bytes
-  pub unsigned : head.major ≡ 0
-  pub is_value : head.value ≡ n
-
--- so many things, each spelled in its way, one behind the other
-abbrev pub AreInTurn : {A : Type 0} → (A → List ℕ → Type 0) → List A → List ℕ → Type 0
-AreInTurn Spells [] bytes = bytes ≡ []
-AreInTurn Spells (x ∷ xs) bytes = IsPair (Spells x) (AreInTurn Spells xs) bytes
+use Rattle.cbor_items.specs.Definite.{IsNumber}
+use Rattle.cbor_items.specs.Item.{AreInTurn}
 
 -- what stands behind so many elements: a break, or nothing where the head told their number
 abbrev pub EndsArray : Head → ℕ → List ℕ → Type 0

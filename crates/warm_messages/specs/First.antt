@@ -2,10 +2,12 @@
 use Rattle.std.specs.Prelude.{ℕ, suc, ◌-◌, ◌==◌, Bool, false, List, length, option_map, Option, None, if◌then◌else◌}
 use Rattle.cbor_items.specs.declared.scan.Scan.{Scan}
 use Rattle.cbor_items.specs.declared.scan.Scan.TheVariants.{Whole, More, Bad, Deep}
+use Rattle.cbor_items.specs.Definite.{IsNumber}
+use Rattle.cbor_items.specs.Front.{◌>>=◌, number_at}
 use Rattle.cbor_items.specs.Item.{IsPair, IsRow, IsItem, level_limit}
 use Rattle.cbor_items.specs.Scan.{scan_of}
-use Rattle.warm_messages.specs.Array.{IsNumber, IsArray}
-use Rattle.warm_messages.specs.Reading.{◌>>=◌, opening_at, number_at}
+use Rattle.warm_messages.specs.Array.{IsArray}
+use Rattle.warm_messages.specs.Reading.{opening_at}
 
 -- an array whose first element is the unsigned number, and whose others are items
 pub record HasFirstNumber (n : ℕ) (bytes : List ℕ) : Type 0 where

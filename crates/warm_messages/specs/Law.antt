@@ -1,6 +1,8 @@
 -- Laws on messages, whatever function reads or writes them.
-use Rattle.std.specs.Prelude.{◌≡◌, ℕ, ◌<◌, ◌^◌, ◌↔◌, List, length, All, Some}
+use Rattle.std.specs.Prelude.{◌≡◌, ℕ, ◌<◌, ◌^◌, ◌↔◌, List, ◌++◌, length, All, Some}
+use Rattle.cbor_items.specs.declared.scan.Scan.TheVariants.{Whole}
 use Rattle.cbor_items.specs.Item.{IsItem, level_limit}
+use Rattle.cbor_items.specs.Scan.{scan_of}
 use Rattle.net_base.specs.declared.address.Addr.{Addr}
 use Rattle.warm_messages.specs.declared.alive.Alive.{Alive}
 use Rattle.warm_messages.specs.declared.share.Share.{Share}
@@ -28,7 +30,10 @@ pub record WritingIsSpelling : Type 0 where
   pub request : (n : ℕ) → n < 2 ^ 64 → SpellsShare (share.Request n) (written_request n)
   pub peers : (peers : List Addr) → All IsAddress peers → length peers < 2 ^ 64 → SpellsShare (share.Peers peers) (written_peers peers)
 
--- What spells a message is one item, so it is found at the front of a stream, whatever follows it.
+-- What spells a message is one item. In a stream it is the first item, whatever follows it.
+abbrev pub IsFirstItem : List ℕ → Type 0
+IsFirstItem bytes = IsItem level_limit bytes × ((rest : List ℕ) → scan_of (bytes ++ rest) ≡ Whole (length bytes))
+
 pub record MessagesAreItems : Type 0 where
-  pub alive : (message : Alive) (bytes : List ℕ) → SpellsAlive message bytes → IsItem level_limit bytes
-  pub share : (message : Share) (bytes : List ℕ) → SpellsShare message bytes → IsItem level_limit bytes
+  pub alive : (message : Alive) (bytes : List ℕ) → SpellsAlive message bytes → IsFirstItem bytes
+  pub share : (message : Share) (bytes : List ℕ) → SpellsShare message bytes → IsFirstItem bytes

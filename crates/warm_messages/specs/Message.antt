@@ -1,12 +1,13 @@
 -- Which bytes spell which message.
 use Rattle.std.specs.Prelude.{ℕ, ◌<◌, List, [], ◌∷◌, length}
-use Rattle.cbor_items.specs.Item.{IsPair}
+use Rattle.cbor_items.specs.Definite.{IsNumber}
+use Rattle.cbor_items.specs.Item.{IsPair, AreInTurn}
 use Rattle.net_base.specs.declared.address.Addr.{Addr}
 use Rattle.warm_messages.specs.declared.alive.Alive.{Alive}
 use Rattle.warm_messages.specs.declared.alive.Alive.TheVariants as alive
 use Rattle.warm_messages.specs.declared.share.Share.{Share}
 use Rattle.warm_messages.specs.declared.share.Share.TheVariants as share
-use Rattle.warm_messages.specs.Array.{IsArray, IsNumber, IsNumbers, AreInTurn}
+use Rattle.warm_messages.specs.Array.{IsArray, IsNumbers}
 use Rattle.warm_messages.specs.Address.{SpellsAddress}
 
 -- ---- keep-alive: [0, cookie], [1, cookie] and [2]

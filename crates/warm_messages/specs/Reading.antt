@@ -1,7 +1,7 @@
 -- Reading messages from left to right. That this reads what is spelled is a law.
-use Rattle.std.specs.Prelude.{◌≡◌, ℕ, zero, suc, ◌+◌, ◌==◌, nat_lt, List, [], ◌∷◌, length, drop, Option, Some, None, option_map, Result, Ok, Err, if◌then◌else◌}
+use Rattle.std.specs.Prelude.{◌≡◌, ℕ, zero, suc, ◌+◌, ◌==◌, nat_lt, List, [], ◌∷◌, length, Option, Some, None, option_map, Result, Ok, Err, if◌then◌else◌}
 use Rattle.cbor_items.specs.declared.head.Head.{Head}
-use Rattle.cbor_items.specs.Head.{head_at}
+use Rattle.cbor_items.specs.Front.{Reader, ◌>>=◌, any_head_at, number_at}
 use Rattle.net_base.specs.declared.address.Addr.{Addr}
 use Rattle.warm_messages.specs.declared.unread.Unread.{Unread}
 use Rattle.warm_messages.specs.declared.unread.Unread.TheVariants.{NoMessage, OutOfMemory}
@@ -13,42 +13,25 @@ use Rattle.warm_messages.specs.declared.share.Share.{Share}
 use Rattle.warm_messages.specs.declared.share.Share.TheVariants as share
 use Rattle.warm_messages.specs.Address.{address_of}
 
--- one reading and another behind it
-infixl 10 ◌>>=◌
-abbrev pub ◌>>=◌ : {A B : Type 0} → Option A → (A → Option B) → Option B
-(Some x) >>= f = f x
-None >>= f = None
-
 -- what a function returned, seen by `view`, is what reading gives
 abbrev pub Gives : {X Y : Type 0} → (X → Y) → Option X → Option Y → Type 0
 Gives view (Some x) read = read ≡ Some (view x)
 Gives view None read = read ≡ None
-
--- reading a thing at the front of the bytes: the thing, and the bytes behind it
-abbrev pub Reading : Type 0 → Type 0
-Reading A = List ℕ → Option (A × List ℕ)
 
 -- a thing that is all of the bytes
 abbrev pub all_read : {A : Type 0} → A → List ℕ → Option A
 all_read x [] = Some x
 all_read x (byte ∷ rest) = None
 
-abbrev pub whole : {A : Type 0} → Reading A → List ℕ → Option A
+abbrev pub whole : {A : Type 0} → Reader A → List ℕ → Option A
 whole read bytes = read bytes >>= λ one. all_read one.0 one.1
-
--- what a head of a major type says, at the front of the bytes
-abbrev pub headed_at : {A : Type 0} → ℕ → (Head → A) → Reading A
-headed_at major says bytes = head_at bytes >>= λ head. if head.major == major then Some (says head, drop head.size bytes) else None
-
-unfoldable pub number_at : Reading ℕ
-number_at bytes = headed_at 0 (λ head. head.value) bytes
 
 abbrev pub length_of : Head → Length
 length_of head = if head.indefinite then ToBreak else Of head.value
 
 -- the head of an array
-unfoldable pub opening_at : Reading Length
-opening_at bytes = headed_at 4 length_of bytes
+unfoldable pub opening_at : Reader Length
+opening_at bytes = any_head_at bytes >>= λ read. if read.0.major == 4 then Some (length_of read.0, read.1) else None
 
 abbrev pub behind_break : List ℕ → Option (List ℕ)
 behind_break [] = None
@@ -64,24 +47,24 @@ ended (Some rest) more = Some ([], rest)
 ended None more = more
 
 -- the elements of an array behind so many, and at most so many more
-unfoldable pub elements_at : {A : Type 0} → Reading A → Length → ℕ → ℕ → Reading (List A)
+unfoldable pub elements_at : {A : Type 0} → Reader A → Length → ℕ → ℕ → Reader (List A)
 elements_at thing size count zero bytes = ended (ending_at size count bytes) None
 elements_at thing size count (suc most) bytes = ended (ending_at size count bytes)
     (thing bytes >>= λ one. elements_at thing size (count + 1) most one.1 >>= λ others. Some (one.0 ∷ others.0, others.1))
 
 -- an array of at most so many elements
-abbrev pub array_at : {A : Type 0} → Reading A → ℕ → Reading (List A)
+abbrev pub array_at : {A : Type 0} → Reader A → ℕ → Reader (List A)
 array_at thing most bytes = opening_at bytes >>= λ opened. elements_at thing opened.0 0 most opened.1
 
 -- No message has an array of more than eight numbers.
-unfoldable pub numbers_at : Reading (List ℕ)
+unfoldable pub numbers_at : Reader (List ℕ)
 numbers_at bytes = array_at number_at 8 bytes
 
-unfoldable pub address_at : Reading Addr
+unfoldable pub address_at : Reader Addr
 address_at bytes = numbers_at bytes >>= λ read. address_of read.0 >>= λ addr. Some (addr, read.1)
 
 -- Each address has a byte at least.
-unfoldable pub addresses_at : Reading (List Addr)
+unfoldable pub addresses_at : Reader (List Addr)
 addresses_at bytes = array_at address_at (length bytes) bytes
 
 -- ---- keep-alive
@@ -109,13 +92,13 @@ share_of_numbers (kind ∷ n ∷ []) = if kind == 0 then Some (share.Request n) 
 share_of_numbers numbers = None
 
 -- the addresses of a peers message
-abbrev pub peers_in : Length → Reading (List Addr)
+abbrev pub peers_in : Length → Reader (List Addr)
 peers_in size bytes = number_at bytes >>= λ kind.
     if kind.0 == 1
     then (addresses_at kind.1 >>= λ peers. ending_at size 2 peers.1 >>= λ rest. Some (peers.0, rest))
     else None
 
-unfoldable pub peers_at : Reading (List Addr)
+unfoldable pub peers_at : Reader (List Addr)
 peers_at bytes = opening_at bytes >>= λ opened. peers_in opened.0 opened.1
 
 abbrev pub share_by : Option (List ℕ) → List ℕ → Option Share

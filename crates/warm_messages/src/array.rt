@@ -1,15 +1,9 @@
 ghost use Rattle.std.specs.Prelude.{◌≡◌, ◌++◌, length, IfSome, OnOk};
-ghost use Rattle.warm_messages.specs.Reading.{Gives, behind_break, number_at, opening_at, ending_at};
+ghost use Rattle.warm_messages.specs.Reading.{Gives, behind_break, opening_at, ending_at};
 ghost use Rattle.warm_messages.specs.Writing.{written_number, written_numbers, written_opening};
 
-use cbor_items::{read_head, write_head};
+use cbor_items::{ARRAY, BREAK, NUMBER, split_head, write_head};
 use net_base::{Octets, OutOfMemory};
-
-const NUMBER: u8 = 0;
-
-const ARRAY: u8 = 4;
-
-const BREAK: u8 = 0xff;
 
 /// How many elements an array has.
 #[derive(Clone, Copy, Debug, PartialEq, Eq)]
@@ -46,7 +40,7 @@ fn behind_break(bytes: &[u8]) -> Option<&[u8]>
 pub(crate) fn open_array(bytes: &[u8]) -> Option<(Length, &[u8])>
     ensures { Gives (λ read. (read.0, read.1.now)) result (opening_at bytes.now) }
 {
-    let head = read_head(bytes)?;
+    let (head, rest) = split_head(bytes).ok()?;
     if head.major != ARRAY {
         return None;
     }
@@ -55,19 +49,7 @@ pub(crate) fn open_array(bytes: &[u8]) -> Option<(Length, &[u8])>
     } else {
         Length::Of(head.value)
     };
-    Some((length, &bytes[head.size..]))
-}
-
-/// The unsigned number at the front of the bytes, and the bytes behind it.
-#[tactic(auto, unfolding(crate::specs::Reading::number_at))]
-pub(crate) fn split_number(bytes: &[u8]) -> Option<(u64, &[u8])>
-    ensures { Gives (λ read. (read.0, read.1.now)) result (number_at bytes.now) }
-{
-    let head = read_head(bytes)?;
-    if head.major != NUMBER {
-        return None;
-    }
-    Some((head.value, &bytes[head.size..]))
+    Some((length, rest))
 }
 
 pub(crate) fn write_opening(out: &mut Octets, count: u64) -> Result<(), OutOfMemory>

@@ -1,8 +1,8 @@
 ghost use Rattle.std.specs.Prelude.{◌≡◌, ℕ, MatchOption, Bool};
 ghost use Rattle.warm_messages.specs.First.{HasFirstNumber, first_number_of, is_whole};
 
-use crate::array::{open_array, split_number};
-use cbor_items::{Scan, first_item};
+use crate::array::open_array;
+use cbor_items::{Scan, first_item, split_number};
 
 /// The first element of the item that the bytes are, all of them. None exactly where they are no whole item, or one that is no
 /// array, definite or indefinite, whose first element is an unsigned number.
@@ -15,6 +15,6 @@ pub fn first_number(bytes: &[u8]) -> Option<u64>
         return None;
     }
     let (_, rest) = open_array(bytes)?;
-    let (number, _) = split_number(rest)?;
+    let (number, _) = split_number(rest).ok()?;
     Some(number)
 }

@@ -17,7 +17,7 @@ pub fn writing_is_spelling()
     ensures { WritingIsSpelling }
 {}
 
-/// What spells a message is one item.
+/// What spells a message is one item, and the first one of a stream that begins with it.
 pub fn messages_are_items()
     ensures { MessagesAreItems }
 {}

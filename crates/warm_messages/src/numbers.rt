@@ -1,7 +1,8 @@
 ghost use Rattle.std.specs.Prelude.{◌≡◌, ◌<◌, ◌++◌, ◌∷◌, [], length};
 ghost use Rattle.warm_messages.specs.Reading.{Gives, numbers_at, whole};
 
-use crate::array::{open_array, split_number};
+use crate::array::open_array;
+use cbor_items::split_number;
 use std::marker::Model;
 
 // No message has an array of more numbers.
@@ -60,7 +61,7 @@ pub(crate) fn split_numbers(bytes: &[u8]) -> Option<(Numbers, &[u8])>
         if let Some(behind) = length.end(count as u64, rest) {
             return Some((numbers, behind));
         }
-        let (number, after) = split_number(rest)?;
+        let (number, after) = split_number(rest).ok()?;
         numbers.push(number);
         rest = after;
     }

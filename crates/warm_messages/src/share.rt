@@ -6,9 +6,10 @@ ghost use Rattle.warm_messages.specs.Writing.{written_addresses, written_request
 
 use crate::PeerItems;
 use crate::address::{split_address, write_address};
-use crate::array::{open_array, split_number, write_number, write_numbers, write_opening};
+use crate::array::{open_array, write_number, write_numbers, write_opening};
 use crate::numbers::only_numbers;
 use crate::unread::Unread;
+use cbor_items::split_number;
 use net_base::{Addr, Octets, OutOfMemory};
 use std::alloc::Global;
 
@@ -65,7 +66,7 @@ fn split_peers(alloc: Global, bytes: &[u8]) -> Result<(PeerItems, &[u8]), Unread
     ensures { GivesOr (λ read. (read.0, read.1.now)) result (peers_at bytes.now) }
 {
     let (length, rest) = open_array(bytes).ok_or(Unread::NoMessage)?;
-    let (kind, rest) = split_number(rest).ok_or(Unread::NoMessage)?;
+    let (kind, rest) = split_number(rest)?;
     if kind != 1 {
         return Err(Unread::NoMessage);
     }

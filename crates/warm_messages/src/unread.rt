@@ -1,5 +1,7 @@
 ghost use Rattle.std.specs.Prelude.{◌≡◌};
 
+use cbor_items::Absent;
+
 /// Why no message was read.
 #[derive(Clone, Copy, Debug, PartialEq, Eq)]
 pub(crate) enum Unread {
@@ -15,5 +17,15 @@ impl From<net_base::OutOfMemory> for Unread {
 
     fn from(_: net_base::OutOfMemory) -> Self {
         Unread::OutOfMemory
+    }
+}
+
+impl From<Absent> for Unread {
+    ghost use Rattle.warm_messages.specs.declared.unread.Unread.TheVariants.{NoMessage};
+
+    ghost from_gives = { λ _ unread. unread ≡ NoMessage };
+
+    fn from(_: Absent) -> Self {
+        Unread::NoMessage
     }
 }

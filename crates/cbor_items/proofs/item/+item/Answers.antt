@@ -1,53 +1,53 @@
 use Rattle.std.proofs.Common.{◌<◌, length, sym, arith}
 use Rattle.std.proofs.lemmas.Result.{err_from_is_err_and}
 use Rattle.cbor_items.specs.Scan.{skip_item}
-use Rattle.cbor_items.specs.Part.{part_of}
+use Rattle.cbor_items.specs.Element.{element_of}
 use Rattle.cbor_items.proofs.Loops.{row_goes_on, row_stops, row_is_done, break_is_missing, break_is_found, break_goes_on, break_stops, break_is_out, item_stops, item_is_flat, item_is_nested, item_is_too_deep}
 use Rattle.cbor_items.proofs.item.+item.Goals as goal
 
-pub skip_parts-returns-in_err-rest : goal.skip_parts-returns-in_err-rest
-skip_parts-returns-in_err-rest t c =
+pub skip_elements-returns-in_err-rest : goal.skip_elements-returns-in_err-rest
+skip_elements-returns-in_err-rest t c =
     let p = err_from_is_err_and c.from_residual.result c.from_residual.ensures.1 in
-    rw (p.1, p.2) (row_stops (part_of (skip_item c.args.inner) c.args.part) c.args.count c.loop.counter c.loop.rest.now _ c.in_err-rest.field-0.0
+    rw (p.1, p.2) (row_stops (element_of (skip_item c.args.inner) c.args.element) c.args.count c.loop.counter c.loop.rest.now _ c.in_err-rest.field-0.0
     c.loop-test.true c.in_err-rest.ensures c.loop.invariant)
 
-pub skip_parts-loop-preserved : goal.skip_parts-loop-preserved
-skip_parts-loop-preserved t c =
-    row_goes_on (part_of (skip_item c.args.inner) c.args.part) c.args.count c.loop.counter c.loop.rest.now _ c.in_ok-rest.rest.now
+pub skip_elements-loop-preserved : goal.skip_elements-loop-preserved
+skip_elements-loop-preserved t c =
+    row_goes_on (element_of (skip_item c.args.inner) c.args.element) c.args.count c.loop.counter c.loop.rest.now _ c.in_ok-rest.rest.now
     c.loop-test.true c.in_ok-rest.ensures c.loop.invariant
 
-pub skip_parts-returns : goal.skip_parts-returns
-skip_parts-returns t c =
-    row_is_done (part_of (skip_item c.args.inner) c.args.part) c.args.count c.loop.counter c.loop.rest.now _ c.loop-test.false c.loop.invariant
+pub skip_elements-returns : goal.skip_elements-returns
+skip_elements-returns t c =
+    row_is_done (element_of (skip_item c.args.inner) c.args.element) c.args.count c.loop.counter c.loop.rest.now _ c.loop-test.false c.loop.invariant
 
-pub skip_parts_to_break-returns-in_default : goal.skip_parts_to_break-returns-in_default
-skip_parts_to_break-returns-in_default t c =
+pub skip_elements_to_break-returns-in_default : goal.skip_elements_to_break-returns-in_default
+skip_elements_to_break-returns-in_default t c =
     let bytes = c.args.bytes.now in
-    break_is_missing (part_of (skip_item c.args.inner) c.args.part) (length bytes) c.loop.counter c.loop.rest.now _ c.in_default.ensures.cases c.loop.invariant
+    break_is_missing (element_of (skip_item c.args.inner) c.args.element) (length bytes) c.loop.counter c.loop.rest.now _ c.in_default.ensures.cases c.loop.invariant
 
-pub skip_parts_to_break-returns-then-first : goal.skip_parts_to_break-returns-then-first
-skip_parts_to_break-returns-then-first t c =
+pub skip_elements_to_break-returns-then-first : goal.skip_elements_to_break-returns-then-first
+skip_elements_to_break-returns-then-first t c =
     let bytes = c.args.bytes.now in
-    break_is_found (part_of (skip_item c.args.inner) c.args.part) (length bytes) c.loop.counter c.loop.rest.now _ c.in-Some.first.now c.in-Some.after.now
+    break_is_found (element_of (skip_item c.args.inner) c.args.element) (length bytes) c.loop.counter c.loop.rest.now _ c.in-Some.first.now c.in-Some.after.now
     c.loop-test.true c.in-Some.ensures.cases.0 c.if-first.true c.loop.invariant
 
-pub skip_parts_to_break-returns-in_err-rest : goal.skip_parts_to_break-returns-in_err-rest
-skip_parts_to_break-returns-in_err-rest t c =
+pub skip_elements_to_break-returns-in_err-rest : goal.skip_elements_to_break-returns-in_err-rest
+skip_elements_to_break-returns-in_err-rest t c =
     let bytes = c.args.bytes.now in
     let p = err_from_is_err_and c.from_residual.result c.from_residual.ensures.1 in
-    rw (p.1, p.2) (break_stops (part_of (skip_item c.args.inner) c.args.part) (length bytes) c.loop.counter c.loop.rest.now _ c.in-Some.first.now c.in-Some.after.now c.in_err-rest.field-0.0
+    rw (p.1, p.2) (break_stops (element_of (skip_item c.args.inner) c.args.element) (length bytes) c.loop.counter c.loop.rest.now _ c.in-Some.first.now c.in-Some.after.now c.in_err-rest.field-0.0
     c.loop-test.true c.in-Some.ensures.cases.0 c.if-first.false c.in_err-rest.ensures c.loop.invariant)
 
-pub skip_parts_to_break-loop-preserved : goal.skip_parts_to_break-loop-preserved
-skip_parts_to_break-loop-preserved t c =
+pub skip_elements_to_break-loop-preserved : goal.skip_elements_to_break-loop-preserved
+skip_elements_to_break-loop-preserved t c =
     let bytes = c.args.bytes.now in
-    break_goes_on (part_of (skip_item c.args.inner) c.args.part) (length bytes) c.loop.counter c.loop.rest.now _ c.in-Some.first.now c.in-Some.after.now c.in_ok-rest.rest.now
+    break_goes_on (element_of (skip_item c.args.inner) c.args.element) (length bytes) c.loop.counter c.loop.rest.now _ c.in-Some.first.now c.in-Some.after.now c.in_ok-rest.rest.now
     c.loop-test.true c.in-Some.ensures.cases.0 c.if-first.false c.in_ok-rest.ensures c.loop.invariant
 
-pub skip_parts_to_break-returns : goal.skip_parts_to_break-returns
-skip_parts_to_break-returns t c =
+pub skip_elements_to_break-returns : goal.skip_elements_to_break-returns
+skip_elements_to_break-returns t c =
     let bytes = c.args.bytes.now in
-    break_is_out (part_of (skip_item c.args.inner) c.args.part) (length bytes) c.loop.counter c.loop.rest.now _ c.loop-test.false c.loop.invariant
+    break_is_out (element_of (skip_item c.args.inner) c.args.element) (length bytes) c.loop.counter c.loop.rest.now _ c.loop-test.false c.loop.invariant
 
 pub skip_item-returns-in_err-initial : goal.skip_item-returns-in_err-initial
 skip_item-returns-in_err-initial t c =

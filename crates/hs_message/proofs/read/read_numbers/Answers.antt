@@ -1,5 +1,5 @@
 use Rattle.std.proofs.lemmas.Result.{err_from_is_err_and}
-use Rattle.hs_message.specs.Reading.{number_at}
+use Rattle.cbor_items.specs.Front.{number_at}
 use Rattle.hs_message.proofs.Loops.{row_goes_on, row_stops, row_is_done}
 use Rattle.hs_message.proofs.read.read_numbers.Goals as goal
 

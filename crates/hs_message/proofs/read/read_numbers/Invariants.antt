@@ -1,5 +1,6 @@
 use Rattle.std.proofs.Common.{◌≡◌, ◌-◌}
-use Rattle.hs_message.specs.Reading.{number_at, row_at}
+use Rattle.cbor_items.specs.Front.{number_at}
+use Rattle.hs_message.specs.Reading.{row_at}
 use Rattle.hs_message.proofs.Loops.{with_front}
 use Rattle.hs_message.proofs.read.read_numbers.Given as goal
 

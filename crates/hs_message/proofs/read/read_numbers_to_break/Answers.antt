@@ -1,6 +1,6 @@
 use Rattle.std.proofs.Common.{length}
 use Rattle.std.proofs.lemmas.Result.{err_from_is_err_and}
-use Rattle.hs_message.specs.Reading.{number_at}
+use Rattle.cbor_items.specs.Front.{number_at}
 use Rattle.hs_message.proofs.Loops.{break_is_missing, break_is_found, break_goes_on, break_stops, break_is_out}
 use Rattle.hs_message.proofs.read.read_numbers_to_break.Goals as goal
 

@@ -1,6 +1,7 @@
 use Rattle.std.proofs.Common.{◌≡◌, suc, ◌+◌, ◌-◌, ◌<◌, ℕ, ap, arith, ◌∙◌}
 use Rattle.std.proofs.lemmas.List.{length_push}
-use Rattle.warm_messages.specs.Reading.{number_at}
+use Rattle.cbor_items.specs.Front.{number_at}
+use Rattle.warm_messages.proofs.Gives.{finds_some, finds_none}
 use Rattle.warm_messages.proofs.Elements.{one_read, end_read, none_read, too_many}
 use Rattle.warm_messages.proofs.numbers.split_numbers.Goals as goal
 
@@ -15,7 +16,7 @@ returns-in_err-number c =
     let left : 8 - c.loop-count.count ≡ suc (8 - (c.loop-count.count + 1)) = omega arith in
     rw c.from_residual-in_err-number.ensures
     (none_read number_at c.in_ok-length.length c.loop-count.count (8 - c.loop-count.count) (8 - (c.loop-count.count + 1)) c.loop-count.rest.now
-    c.loop-count.numbers _ left c.in_default.ensures c.in_err-number.ensures c.loop-count.invariant.1)
+    c.loop-count.numbers _ left c.in_default.ensures (finds_none _ _ _ c.in_err-number.ensures.value c.split_number.ensures) c.loop-count.invariant.1)
 
 pub loop-count-preserved : goal.loop-count-preserved
 loop-count-preserved c =
@@ -23,7 +24,7 @@ loop-count-preserved c =
     let left : 8 - c.loop-count.count ≡ suc (8 - (c.loop-count.count + 1)) = omega arith in (
       rw c.push.ensures (length_push c.loop-count.numbers c.in_ok-number.number ∙ ap (λ (n : ℕ). n + 1) c.loop-count.invariant.0),
       rw c.push.ensures (one_read number_at c.in_ok-length.length c.loop-count.count (8 - c.loop-count.count) (8 - (c.loop-count.count + 1)) c.loop-count.rest.now
-          c.in_ok-number.after.now c.in_ok-number.number c.loop-count.numbers _ left c.in_default.ensures c.in_ok-number.ensures c.loop-count.invariant.1),
+          c.in_ok-number.after.now c.in_ok-number.number c.loop-count.numbers _ left c.in_default.ensures (finds_some _ _ _ _ c.in_ok-number.ensures.value c.split_number.ensures) c.loop-count.invariant.1),
     )
 
 pub returns-in_err-behind : goal.returns-in_err-behind

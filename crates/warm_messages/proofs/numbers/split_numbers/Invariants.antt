@@ -1,5 +1,6 @@
 use Rattle.std.proofs.Common.{◌≡◌, ◌-◌, length}
-use Rattle.warm_messages.specs.Reading.{elements_at, number_at, numbers_at}
+use Rattle.cbor_items.specs.Front.{number_at}
+use Rattle.warm_messages.specs.Reading.{elements_at, numbers_at}
 use Rattle.warm_messages.proofs.Elements.{behind}
 use Rattle.warm_messages.proofs.numbers.split_numbers.Given as goal
 
