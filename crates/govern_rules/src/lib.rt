@@ -28,6 +28,3 @@ pub use links::LinkList;
 pub use order::{Order, OrderList};
 pub use rules::{rule_g2, rule_g3, rule_g4, rule_g5, rule_g6, rule_g7, rule_g8, rule_g9};
 pub use view::View;
-
-#[cfg(test)]
-mod tests;

@@ -150,6 +150,3 @@ impl Engine {
         self.machine.state().tally()
     }
 }
-
-#[cfg(test)]
-mod tests;

@@ -12,6 +12,3 @@ mod tally;
 
 pub use added::Added;
 pub use book::{MOST_PEERS, PeerBook};
-
-#[cfg(test)]
-mod tests;

@@ -11,6 +11,3 @@ pub use laws::picks_are_the_least;
 pub use picker::Picker;
 pub use ranked_picker::RankedPicker;
 pub use rated::Rated;
-
-#[cfg(test)]
-mod tests;

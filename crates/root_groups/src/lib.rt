@@ -11,6 +11,3 @@ mod roots;
 pub use groups::Groups;
 pub use laws::each_address_stays_in_its_first_group;
 pub use roots::Roots;
-
-#[cfg(test)]
-mod tests;

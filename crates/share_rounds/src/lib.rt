@@ -8,6 +8,3 @@ mod taking;
 
 pub use serving::{served, served_among, tellable};
 pub use taking::fresh;
-
-#[cfg(test)]
-mod tests;

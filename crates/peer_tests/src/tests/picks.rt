@@ -2,8 +2,8 @@ ghost use Rattle.std.specs.Prelude.{◌≡◌};
 ghost use Rattle.std.specs.List.{IsDistinct};
 ghost use Rattle.net_base.specs.Address.{same_address};
 
-use crate::{Picker, RankedPicker, Rated, picks_are_the_least};
 use net_base::{Addr, Ip};
+use pick_policy::{Picker, RankedPicker, Rated, picks_are_the_least};
 use std::alloc::{AllocError, Global};
 use std::test::Fail;
 
@@ -33,13 +33,13 @@ fn the_least_scores_are_picked(rt: HostRuntime) -> Result<(), Fail> {
     let (two, three, four) = (loopback(3002), loopback(3003), loopback(3004));
     let cands = three_peers();
     let picks = picker.pick(rt.alloc(), &cands, 2, 0)?;
-    assert_eq!(rt; picks.as_slice(), [two, three].as_slice());
+    assert!(rt; picks.as_slice() == [two, three].as_slice());
     let picks = picker.pick(rt.alloc(), &cands, 2, WRAPPING)?;
-    assert_eq!(rt; picks.as_slice(), [three, four].as_slice());
+    assert!(rt; picks.as_slice() == [three, four].as_slice());
     let picks = picker.pick(rt.alloc(), &cands, 9, WRAPPING)?;
-    assert_eq!(rt; picks.as_slice(), [three, four, two].as_slice());
+    assert!(rt; picks.as_slice() == [three, four, two].as_slice());
     let picks = picker.pick(rt.alloc(), &cands, 0, 0)?;
-    assert_eq!(rt; picks.as_slice().len(), 0);
+    assert!(rt; picks.as_slice().len() == 0);
     picks_are_the_least();
     Ok(())
 }
@@ -63,7 +63,7 @@ fn of_one_key_the_lower_address_is_picked(rt: HostRuntime) -> Result<(), Fail> {
         port: 8,
     };
     let picks = picker.pick(rt.alloc(), &[other, high, low], 2, 0)?;
-    assert_eq!(rt; picks.as_slice(), [low, high].as_slice());
+    assert!(rt; picks.as_slice() == [low, high].as_slice());
     Ok(())
 }
 
@@ -88,14 +88,8 @@ fn fewer_failures_are_picked_first(rt: HostRuntime) -> Result<(), Fail> {
         },
     ];
     let picks = picker.pick(rt.alloc(), &cands, 2, 0)?;
-    assert_eq!(rt;
-        picks.as_slice(),
-        [loopback(3003), loopback(3004)].as_slice()
-    );
+    assert!(rt; picks.as_slice() == [loopback(3003), loopback(3004)].as_slice());
     let picks = picker.pick(rt.alloc(), &cands, 3, 0)?;
-    assert_eq!(rt;
-        picks.as_slice(),
-        [loopback(3003), loopback(3004), loopback(3002)].as_slice()
-    );
+    assert!(rt; picks.as_slice() == [loopback(3003), loopback(3004), loopback(3002)].as_slice());
     Ok(())
 }

@@ -1,12 +1,13 @@
 ghost use Rattle.std.specs.Prelude.{◌≡◌, ◌+◌, ◌<◌, ◌≤◌, IfOk};
 ghost use Rattle.net_base.specs.Limits.{IsWithinLimits};
 
-use super::*;
 use net_base::{
-    Action, AddrList, Away, CloseCause, FaultKind, Field, Group, GroupList, Ip, Octets, PeerNote,
-    StateName, Temp,
+    Action, Addr, AddrList, Away, Cid, CloseCause, Event, FaultKind, Field, Group, GroupList, Ip,
+    Octets, OutOfMemory, PeerNote, Settings, StateName, Temp,
 };
-use std::alloc::AllocError;
+use node_engine::{Engine, NewRefusal};
+use pick_policy::{Picker, RankedPicker};
+use std::alloc::{AllocError, Global};
 use std::process::Abort;
 use std::test::Fail;
 
@@ -110,7 +111,7 @@ fn expect(rt: &impl Abort, engine: Engine, event: Event, wanted: &[Action]) -> R
     ensures { IfOk result (λ e. e.events ≡ engine.events + 1) }
 {
     let (engine, actions) = engine.step(event)?;
-    assert_eq!(rt; actions.as_slice(), wanted);
+    assert!(rt; actions.as_slice() == wanted);
     Ok(engine)
 }
 
@@ -125,8 +126,8 @@ fn pauses_and_turns_away(rt: &impl Abort, engine: Engine) -> Result<(), Fail>
     let engine = expect(rt, engine, accepted(3004), &full)?;
     let engine = expect(rt, engine, Event::Closed(Cid(1)), &[went(1)])?;
     let engine = expect(rt, engine, Event::Now(10_000), &[waited(2), went(2)])?;
-    assert_eq!(rt; engine.taken(), 5);
-    assert_eq!(rt; engine.now(), 10_000);
+    assert!(rt; engine.taken() == 5);
+    assert!(rt; engine.now() == 10_000);
     Ok(())
 }
 
@@ -134,14 +135,14 @@ fn waits_for_the_handshake(rt: &impl Abort, engine: Engine) -> Result<(), Fail>
     requires { engine.events ≡ 0 }
 {
     let engine = expect(rt, engine, accepted(3002), &[admitted(1, 3002), greets(1)])?;
-    assert_eq!(rt; engine.tally().counted, 1);
+    assert!(rt; engine.tally().counted == 1);
     let engine = expect(rt, engine, Event::Now(9_999), &[])?;
     assert!(rt; engine.facts(Cid(1)).is_some());
     let engine = expect(rt, engine, Event::Now(10_000), &[waited(1), went(1)])?;
-    assert_eq!(rt; engine.facts(Cid(1)), None);
-    assert_eq!(rt; engine.tally().counted, 0);
+    assert!(rt; engine.facts(Cid(1)) == None);
+    assert!(rt; engine.tally().counted == 0);
     let engine = expect(rt, engine, Event::Now(5), &[])?;
-    assert_eq!(rt; engine.now(), 10_000);
+    assert!(rt; engine.now() == 10_000);
     Ok(())
 }
 
@@ -153,8 +154,8 @@ fn turns_away_whom_it_has(rt: &impl Abort, engine: Engine) -> Result<(), Fail>
     let engine = expect(rt, engine, accepted(3002), &[admitted(1, 3002), greets(1)])?;
     let present = [Action::Turnaway(Away::Present)];
     let engine = expect(rt, engine, accepted(3002), &present)?;
-    assert_eq!(rt; engine.taken(), 3);
-    assert_eq!(rt; engine.now(), 0);
+    assert!(rt; engine.taken() == 3);
+    assert!(rt; engine.now() == 0);
     Ok(())
 }
 
@@ -197,8 +198,8 @@ fn agrees(rt: &impl Abort, engine: Engine, alloc: Global) -> Result<(), Fail>
     let wanted = used(alloc)?;
     let engine = expect(rt, engine, acceptance(alloc)?, &wanted)?;
     let temp = engine.peer(local(3002)).map(|peer| peer.temp);
-    assert_eq!(rt; temp, Some(Temp::Warm));
-    assert_eq!(rt; engine.tally().established, 1);
+    assert!(rt; temp == Some(Temp::Warm));
+    assert!(rt; engine.tally().established == 1);
     Ok(())
 }
 
@@ -271,6 +272,6 @@ fn names_the_first_bad_setting(rt: HostRuntime) -> Result<(), Fail> {
             + addr.key().wrapping_add(word) % 281_474_976_710_656
     })?);
     let refusal = Engine::new(alloc, settings(2, 3), picker, ranked).err();
-    assert_eq!(rt; refusal, Some(NewRefusal::BadSetting(Field::Soft)));
+    assert!(rt; refusal == Some(NewRefusal::BadSetting(Field::Soft)));
     Ok(())
 }

@@ -1,4 +1,4 @@
-use crate::{
+use govern_rules::{
     BigRule, Link, LinkList, Order, OrderList, View, rule_big, rule_g2, rule_g3, rule_g4, rule_g5,
     rule_g6, rule_g7, rule_g8, rule_g9,
 };
@@ -288,7 +288,7 @@ fn expect(
     scene.view.moment = case.moment;
     scene.view.word = case.word;
     let orders = orders(alloc, case.rule, scene, picker)?;
-    assert_eq!(rt; orders.as_slice(), case.want);
+    assert!(rt; orders.as_slice() == case.want);
     Ok(())
 }
 
@@ -680,7 +680,7 @@ fn expect_big(
     scene.view.big = case.big;
     scene.view.moment = case.moment;
     let orders = rule_big(alloc, case.rule, &scene.view, &scene.book, picker)?;
-    assert_eq!(rt; orders.as_slice(), case.want);
+    assert!(rt; orders.as_slice() == case.want);
     Ok(())
 }
 
@@ -785,8 +785,8 @@ fn links_come_in_order_of_address_and_id(rt: HostRuntime) -> Result<(), Fail> {
     let given = [later, pending(3003), entry(3004)];
     let links = LinkList::from_vec(Vec::from_slice(rt.alloc(), &given)?)?;
     let wanted = [pending(3003), entry(3004), later];
-    assert_eq!(rt; links.as_slice(), wanted.as_slice());
+    assert!(rt; links.as_slice() == wanted.as_slice());
     let again = LinkList::from_vec(Vec::from_slice(rt.alloc(), &wanted)?)?;
-    assert_eq!(rt; again.as_slice(), wanted.as_slice());
+    assert!(rt; again.as_slice() == wanted.as_slice());
     Ok(())
 }

@@ -1,6 +1,6 @@
 use Rattle.std.proofs.Common.{rules}
 use Rattle.std.specs.List.{IsDistinct}
-use Rattle.pick_policy.proofs.tests.three_peers.Goals as goal
+use Rattle.peer_tests.proofs.tests.picks.three_peers.Goals as goal
 
 pub returns : goal.returns
 unfolding IsDistinct

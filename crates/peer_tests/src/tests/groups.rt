@@ -1,5 +1,5 @@
-use crate::{Groups, Roots, each_address_stays_in_its_first_group};
 use net_base::{Addr, AddrList, Group, GroupList, Ip, Job, OutOfMemory};
+use root_groups::{Groups, Roots, each_address_stays_in_its_first_group};
 use std::alloc::Global;
 use std::test::Fail;
 
@@ -38,13 +38,10 @@ fn an_address_keeps_its_first_place(rt: HostRuntime) -> Result<(), Fail> {
     let [first, second] = groups.list().as_slice() else {
         return Err("not two groups")?;
     };
-    assert_eq!(rt;
-        first.members.as_slice(),
-        [loopback(3002), loopback(3003)].as_slice()
-    );
-    assert_eq!(rt; second.members.as_slice(), [loopback(3004)].as_slice());
-    assert_eq!(rt; (first.hot, first.warm, first.advertise), (1, 2, true));
-    assert_eq!(rt; (second.hot, second.warm, second.advertise), (0, 1, false));
+    assert!(rt; first.members.as_slice() == [loopback(3002), loopback(3003)].as_slice());
+    assert!(rt; second.members.as_slice() == [loopback(3004)].as_slice());
+    assert!(rt; (first.hot, first.warm, first.advertise) == (1, 2, true));
+    assert!(rt; (second.hot, second.warm, second.advertise) == (0, 1, false));
     for (port, place) in [
         (3001, None),
         (3002, Some(0)),
@@ -52,9 +49,9 @@ fn an_address_keeps_its_first_place(rt: HostRuntime) -> Result<(), Fail> {
         (3004, Some(1)),
         (3005, None),
     ] {
-        assert_eq!(rt; groups.group_of(loopback(port)), place, "of {port}");
+        assert!(rt; groups.group_of(loopback(port)) == place, "of {port}");
     }
-    assert_eq!(rt; Groups::new(rt.alloc()).group_of(loopback(3002)), None);
+    assert!(rt; Groups::new(rt.alloc()).group_of(loopback(3002)) == None);
     each_address_stays_in_its_first_group();
     Ok(())
 }
@@ -62,17 +59,17 @@ fn an_address_keeps_its_first_place(rt: HostRuntime) -> Result<(), Fail> {
 #[test]
 fn a_failed_ask_is_asked_again_after_the_back_off(rt: HostRuntime) {
     let mut roots = Roots::new(rt.alloc());
-    assert_eq!(rt; roots.ask(0, 1), Some(Job(1)));
+    assert!(rt; roots.ask(0, 1) == Some(Job(1)));
     assert!(rt; roots.failed(Job(1), 0, 5000));
-    assert_eq!(rt; roots.ask(4999, 1), None);
-    assert_eq!(rt; roots.ask(5000, 1), Some(Job(2)));
+    assert!(rt; roots.ask(4999, 1) == None);
+    assert!(rt; roots.ask(5000, 1) == Some(Job(2)));
     let nobody = AddrList::new(rt.alloc());
     assert!(rt;
         !roots
             .found(Job(1), 1000, &nobody, loopback(3001), 1, 5000)
             .expect(&rt, "no memory is asked for")
     );
-    assert_eq!(rt; roots.ask(10_000, 1), None);
+    assert!(rt; roots.ask(10_000, 1) == None);
 }
 
 #[test]
@@ -80,18 +77,15 @@ fn the_first_distinct_addresses_are_the_public_roots(rt: HostRuntime) -> Result<
     let own = loopback(3001);
     let mut roots = Roots::new(rt.alloc());
     let answer = addresses(rt.alloc(), &[3002, 3001, 3002, 3003, 3004])?;
-    assert_eq!(rt; roots.ask(0, 2), Some(Job(1)));
+    assert!(rt; roots.ask(0, 2) == Some(Job(1)));
     assert!(rt; roots.found(Job(1), 1000, &answer, own, 2, 7)?);
-    assert_eq!(rt;
-        roots.publics().as_slice(),
-        [loopback(3002), loopback(3003)].as_slice()
-    );
+    assert!(rt; roots.publics().as_slice() == [loopback(3002), loopback(3003)].as_slice());
     for (port, public) in [(3001, false), (3002, true), (3003, true), (3004, false)] {
-        assert_eq!(rt; roots.is_public(loopback(port)), public, "{port}");
+        assert!(rt; roots.is_public(loopback(port)) == public, "{port}");
     }
     // as many as are wanted; more are wanted, but not yet; and then they are asked for
-    assert_eq!(rt; roots.ask(5000, 2), None);
-    assert_eq!(rt; roots.ask(1006, 3), None);
-    assert_eq!(rt; roots.ask(1007, 3), Some(Job(2)));
+    assert!(rt; roots.ask(5000, 2) == None);
+    assert!(rt; roots.ask(1006, 3) == None);
+    assert!(rt; roots.ask(1007, 3) == Some(Job(2)));
     Ok(())
 }

@@ -1,6 +1,6 @@
 use Rattle.std.proofs.Common.{rules}
 use Rattle.std.specs.List.{IsDistinct}
-use Rattle.pick_policy.proofs.tests.fewer_failures_are_picked_first.Goals as goal
+use Rattle.peer_tests.proofs.tests.picks.fewer_failures_are_picked_first.Goals as goal
 
 pub pick-requires : goal.pick-requires
 unfolding IsDistinct

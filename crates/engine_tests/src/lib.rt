@@ -1,0 +1,5 @@
+//! Tests of the engine: events in, actions out.
+#![tactic(auto)]
+
+#[cfg(test)]
+mod tests;

@@ -1,0 +1,6 @@
+mod book;
+mod clock;
+mod groups;
+mod picks;
+mod rules;
+mod shares;
