@@ -1,3 +1,4 @@
 pub mod Judging
 pub mod Inputs
+pub mod Meant
 mod Ways

@@ -4,3 +4,4 @@ pub mod Runs
 pub mod LineRead
 pub mod UnderWay
 pub mod Inputs
+pub mod Refusals

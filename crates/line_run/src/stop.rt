@@ -1,4 +1,5 @@
 use net_base::{OutOfMemory, RefusalKind};
+use trace_text::LineRefusal;
 
 /// Why an interpreter stops at a line.
 #[derive(Clone, Copy, Debug, PartialEq, Eq)]
@@ -19,5 +20,22 @@ impl From<OutOfMemory> for Stop {
 
     fn from(_: OutOfMemory) -> Self {
         Stop::OutOfMemory
+    }
+}
+
+impl From<LineRefusal> for Stop {
+    ghost use Rattle.std.specs.Prelude.{◌≡◌};
+    ghost use Rattle.line_run.specs.Refusals.{stop_of};
+
+    ghost from_gives = { λ refusal stop. stop ≡ stop_of refusal };
+
+    fn from(refusal: LineRefusal) -> Self {
+        match refusal {
+            LineRefusal::BadWord(place) => Stop::Refused(RefusalKind::Word(place)),
+            LineRefusal::BadNumber(place) => Stop::Refused(RefusalKind::Number(place)),
+            LineRefusal::BadTargets => Stop::Refused(RefusalKind::Targets),
+            LineRefusal::OutOfOrder => Stop::Refused(RefusalKind::Order),
+            LineRefusal::OutOfMemory => Stop::OutOfMemory,
+        }
     }
 }

@@ -8,5 +8,4 @@ pub mod Crossings
 pub mod Runs
 pub mod Reached
 pub mod InTurn
-mod WordLists
 mod Playing

@@ -1,14 +1,14 @@
 -- What lines of a pair come to.
 use Rattle.std.proofs.Common.{◌≡◌, ℕ, ◌+◌, ◌<◌, Bool, false, cond, leb, List, [], ◌∷◌, ◌++◌, map, Result, Ok, Err, refl, sym, ap, ◌∙◌, subst}
 use Rattle.std.proofs.lemmas.Bool.{lt-leb}
-use Rattle.std.proofs.lemmas.List.{append-nil}
 use Rattle.io_edge.specs.Lines.{ended_lines}
 use Rattle.line_run.specs.Meaning.{Meaning, goes_on, is_too_many, Says}
+use Rattle.line_run.specs.Refusals.{if_read}
 use Rattle.line_run.specs.declared.stop.Stop.{Stop}
+use Rattle.line_run.proofs.Meant.{says_line}
 use Rattle.trace_text.specs.declared.line.LineRefusal.{LineRefusal}
-use Rattle.trace_text.specs.declared.line.LineRefusal.TheVariants.{BadWord, BadNumber, BadTargets, OutOfOrder, OutOfMemory}
 use Rattle.pair_net.specs.Pair.{PairState}
-use Rattle.pair_net.specs.Replay.{most_steps, if_read, step_means, IsMeant, stop_of}
+use Rattle.pair_net.specs.Replay.{most_steps, step_means, IsMeant}
 use Rattle.pair_net.specs.Steps.{IsTurn, stepped}
 use Rattle.pair_net.specs.Texts.{printed_note}
 use Rattle.pair_net.specs.declared.note.PairNote.{PairNote}
@@ -16,19 +16,6 @@ use Rattle.pair_net.specs.declared.pair_line.PairLine.TheVariants.{Step}
 use Rattle.pair_net.specs.declared.pair_step.PairStep.{PairStep}
 use Rattle.pair_net.specs.declared.pair_replay.Progress.{Progress}
 use Rattle.pair_net.specs.declared.pair_replay.Progress.TheVariants.{Steps}
-
--- a line that is refused
-pub refused_meant : {A : Type 0} (read : Result A LineRefusal) (refusal : LineRefusal) (meaning : A → Meaning Progress) (pending : List ℕ) → read ≡ Err refusal →
-    IsMeant (if_read read meaning) pending pending (Err (stop_of refusal))
-refused_meant {A} read (BadWord place) meaning pending is = (ap (λ (r : Result A LineRefusal). if_read r meaning) is, refl)
-refused_meant {A} read (BadNumber place) meaning pending is = (ap (λ (r : Result A LineRefusal). if_read r meaning) is, refl)
-refused_meant {A} read BadTargets meaning pending is = (ap (λ (r : Result A LineRefusal). if_read r meaning) is, refl)
-refused_meant {A} read OutOfOrder meaning pending is = (ap (λ (r : Result A LineRefusal). if_read r meaning) is, refl)
-refused_meant {A} read OutOfMemory meaning pending is = refl
-
--- a line is said alone
-pub says_line : (before after text : List ℕ) → after ≡ before ++ (text ++ 10 ∷ []) → Says before after (text ∷ [])
-says_line before after text is = is ∙ ap (λ (bytes : List ℕ). before ++ bytes) (sym (append-nil (text ++ 10 ∷ [])))
 
 -- a line that is written as it was read, and leads on
 pub line_meant : {A : Type 0} (read : Result A LineRefusal) (value : A) (meaning : A → Meaning Progress) (next : Progress) (text before after : List ℕ) → read ≡ Ok value →

@@ -5,12 +5,9 @@ use Rattle.line_run.specs.Judgement.{Verdict, verdict_of}
 use Rattle.line_run.specs.Runs.{Runs}
 use Rattle.line_run.specs.declared.outcome.LineOutcome.{LineOutcome}
 use Rattle.line_run.specs.Meaning.{Meaning, goes_on, ends, is_refused, is_too_many, Says}
+use Rattle.line_run.specs.Refusals.{if_read}
 use Rattle.line_run.specs.declared.stop.Stop.{Stop}
 use Rattle.line_run.specs.declared.stop.Stop.TheVariants as stop
-use Rattle.net_base.specs.declared.refusal.RefusalKind.{RefusalKind}
-use Rattle.net_base.specs.declared.refusal.RefusalKind.TheVariants.{Word, Number, Targets, Order, NoEnd}
-use Rattle.trace_text.specs.declared.line.LineRefusal.{LineRefusal}
-use Rattle.trace_text.specs.declared.line.LineRefusal.TheVariants.{BadWord, BadNumber, BadTargets, OutOfOrder, OutOfMemory}
 use Rattle.trace_text.specs.Words.{words_of}
 use Rattle.pair_net.specs.Lines.{opening_line, info_line, later_line}
 use Rattle.pair_net.specs.Pair.{PairState, fresh_pair}
@@ -24,19 +21,6 @@ use Rattle.pair_net.specs.declared.pair_replay.Progress.TheVariants.{Opening, Le
 -- how many steps a pair may have
 abbrev pub most_steps : ℕ
 most_steps = 1000000
-
--- No line of a pair has targets or an order, and none says that memory was wanting; those cases are none of it.
-abbrev pub kind_of : LineRefusal → RefusalKind
-kind_of (BadWord place) = Word place
-kind_of (BadNumber place) = Number place
-kind_of BadTargets = Targets
-kind_of OutOfOrder = Order
-kind_of OutOfMemory = NoEnd
-
--- what a line that is read means, and else it is refused
-abbrev pub if_read : {A : Type 0} → Result A LineRefusal → (A → Meaning Progress) → Meaning Progress
-if_read (Ok value) meaning = meaning value
-if_read (Err refusal) meaning = is_refused (kind_of refusal)
 
 -- a step is written as it was read, with what is told of it below
 abbrev pub step_means : PairState → ℕ → List ℕ → PairLine → Meaning Progress
@@ -68,24 +52,20 @@ IsMeant meaning before after (Err (stop.Refused kind)) = (meaning ≡ is_refused
 IsMeant meaning before after (Err stop.TooMany) = (meaning ≡ is_too_many) × (after ≡ before)
 IsMeant meaning before after (Err stop.OutOfMemory) = after ≡ before
 
--- how the refusal of a line is told
-abbrev pub stop_of : LineRefusal → Stop
-stop_of (BadWord place) = stop.Refused (Word place)
-stop_of (BadNumber place) = stop.Refused (Number place)
-stop_of BadTargets = stop.Refused Targets
-stop_of OutOfOrder = stop.Refused Order
-stop_of OutOfMemory = stop.OutOfMemory
-
 -- ---- a whole input
+
+-- no line was read yet
+abbrev pub pair_start : Progress
+pair_start = Opening
 
 -- What a run over the lines of a pair has read and written, by its outcome.
 abbrev pub PairRuns : Option (List ℕ) → Option (List ℕ) → Option (List ℕ) → Option (List ℕ) → LineOutcome → Type 0
-PairRuns = Runs line_means Opening
+PairRuns = Runs line_means pair_start
 
 -- The same in terms of an input that the source tells.
 abbrev pub IsPairOver : List ℕ → LineOutcome → Option (List ℕ) → Option (List ℕ) → Option (List ℕ) → Type 0
-IsPairOver = IsRunOver line_means Opening
+IsPairOver = IsRunOver line_means pair_start
 
 -- how an input ends, and at which line
 abbrev pub pair_verdict : List ℕ → Verdict
-pair_verdict = verdict_of line_means Opening
+pair_verdict = verdict_of line_means pair_start

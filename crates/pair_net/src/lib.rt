@@ -22,6 +22,3 @@ pub use note::{NoteList, PairNote};
 pub use pair::Pair;
 pub use pair_step::PairStep;
 pub use running::pair_run;
-
-#[cfg(test)]
-mod tests;

@@ -1,12 +1,12 @@
 ghost use Rattle.std.specs.Prelude.{◌≡◌, IfOk};
 ghost use Rattle.std.specs.String.{string_bytes};
-ghost use Rattle.trace_text.specs.Actions.{fault_words};
 ghost use Rattle.pair_net.specs.Texts.{end_word, role_word, flow_word, sharing_word, cause_words, printed_note};
 
 use crate::{End, EndCause, PairNote};
 use hs_decide::Role;
-use net_base::{FaultKind, Octets, OutOfMemory};
+use net_base::{Octets, OutOfMemory};
 use std::alloc::{AllocError, Global};
+use trace_text::fault_words;
 
 /// The line of a note, with its `> ` and without a line feed.
 pub(crate) fn print_note(alloc: Global, note: &PairNote) -> Result<Octets, OutOfMemory>
@@ -81,19 +81,5 @@ fn cause_words(cause: EndCause) -> &'static str
         EndCause::Timeout => "timeout",
         EndCause::Closed => "closed",
         EndCause::Fault(kind) => fault_words(kind),
-    }
-}
-
-fn fault_words(kind: FaultKind) -> &'static str
-    ensures { result.now ≡ fault_words kind }
-{
-    match kind {
-        FaultKind::Malformed => "fault malformed",
-        FaultKind::Deep => "fault deep",
-        FaultKind::TooLong => "fault toolong",
-        FaultKind::Protocol => "fault protocol",
-        FaultKind::UnknownId => "fault unknownid",
-        FaultKind::HandshakeWait => "fault handshakewait",
-        FaultKind::ReplyWait => "fault replywait",
     }
 }

@@ -2,10 +2,10 @@ ghost use Rattle.std.specs.Prelude.{◌≡◌, false, IfOk};
 ghost use Rattle.trace_text.specs.Words.{words_of};
 ghost use Rattle.pair_net.specs.Lines.{opening_line, info_line, last_end, end_step, deliver_step, alone, step_named, step_line, later_line};
 
-use crate::words::Words;
+use crate::words::{next_end, next_magic};
 use crate::{End, PairStep};
 use hs_message::VersionInfo;
-use trace_text::LineRefusal;
+use trace_text::{LineRefusal, Words};
 
 // How many bytes a step may deliver.
 const COUNT_MOST: u64 = 281_474_976_710_656;
@@ -36,7 +36,7 @@ pub(crate) fn read_info(name: &str, line: &[u8]) -> Result<VersionInfo, LineRefu
 {
     let mut words = Words::of(line);
     words.this(name)?;
-    let magic = words.magic()?;
+    let magic = next_magic(&mut words)?;
     let initiator_only = words.number(0, 1)?;
     let sharing = words.number(0, 1)?;
     words.end()?;
@@ -112,7 +112,7 @@ fn read_closing(words: Words) -> Result<PairLine, LineRefusal>
 fn last_end(mut words: Words) -> Result<End, LineRefusal>
     ensures { result ≡ last_end words.entry }
 {
-    let end = words.end_named()?;
+    let end = next_end(&mut words)?;
     words.end()?;
     Ok(end)
 }
@@ -120,7 +120,7 @@ fn last_end(mut words: Words) -> Result<End, LineRefusal>
 fn read_delivery(mut words: Words) -> Result<PairLine, LineRefusal>
     ensures { result ≡ deliver_step words.entry }
 {
-    let end = words.end_named()?;
+    let end = next_end(&mut words)?;
     let count = words.number(1, COUNT_MOST)?;
     words.end()?;
     Ok(PairLine::Step(PairStep::Deliver(end, count)))

@@ -1,6 +1,6 @@
 ghost use Rattle.std.specs.Prelude.{◌≡◌, ℕ, ◌≤◌, false, List, ◌∷◌, ◌++◌, length, take, map, IfOk, OnOk, OnErr};
 ghost use Rattle.io_edge.specs.Lines.{ended_lines};
-ghost use Rattle.pair_net.specs.Replay.{step_means, line_means, IsOffered, IsMeant, stop_of};
+ghost use Rattle.pair_net.specs.Replay.{step_means, line_means, IsOffered, IsMeant};
 ghost use Rattle.pair_net.specs.Texts.{printed_note};
 
 use crate::note_text::print_note;
@@ -9,11 +9,10 @@ use crate::{NoteList, Pair, PairNote, PairStep};
 use hs_message::VersionInfo;
 use io_edge::PieceWriter;
 use line_run::{Interpreter, Stop};
-use net_base::{OutOfMemory, RefusalKind};
+use net_base::OutOfMemory;
 use std::alloc::Global;
 use std::marker::Model;
 use std::mem;
-use trace_text::LineRefusal;
 
 // How many steps a pair may have.
 const STEPS_MOST: u64 = 1_000_000;
@@ -97,7 +96,7 @@ fn open(line: &[u8], pieces: &mut PieceWriter) -> Result<Progress, Stop>
             pieces.push_line(line)?;
             Ok(Progress::Left)
         }
-        Err(refusal) => Err(refused(refusal)),
+        Err(refusal) => Err(Stop::from(refusal)),
     }
 }
 
@@ -110,7 +109,7 @@ fn name_left(line: &[u8], pieces: &mut PieceWriter) -> Result<Progress, Stop>
             pieces.push_line(line)?;
             Ok(Progress::Right(left))
         }
-        Err(refusal) => Err(refused(refusal)),
+        Err(refusal) => Err(Stop::from(refusal)),
     }
 }
 
@@ -129,7 +128,7 @@ fn name_right(
             pieces.push_line(line)?;
             Ok(Progress::Steps(Pair::new(alloc, left, right), 0))
         }
-        Err(refusal) => Err(refused(refusal)),
+        Err(refusal) => Err(Stop::from(refusal)),
     }
 }
 
@@ -151,7 +150,7 @@ fn lead(
             pieces.push_line(line)?;
             Err(Stop::Ended)
         }
-        Err(refusal) => Err(refused(refusal)),
+        Err(refusal) => Err(Stop::from(refusal)),
     }
 }
 
@@ -209,18 +208,4 @@ fn tell_on(
         pieces.push_line(text.as_slice())?;
     }
     Ok(())
-}
-
-// How the refusal of a line is told.
-fn refused(refusal: LineRefusal) -> Stop
-    ensures { result ≡ stop_of refusal }
-{
-    let kind = match refusal {
-        LineRefusal::BadWord(place) => RefusalKind::Word(place),
-        LineRefusal::BadNumber(place) => RefusalKind::Number(place),
-        LineRefusal::BadTargets => RefusalKind::Targets,
-        LineRefusal::OutOfOrder => RefusalKind::Order,
-        LineRefusal::OutOfMemory => return Stop::OutOfMemory,
-    };
-    Stop::Refused(kind)
 }

@@ -25,11 +25,7 @@ pub use law::{
     lines_are_spelled_once, numbers_are_spelled_once, settings_are_those_of_the_check,
 };
 pub use line::{HeadLine, Line, LineRefusal};
-pub use print::print_action;
+pub use print::{fault_words, print_action};
 pub use read::read_line;
 pub use stage::Stage;
-
-#[cfg(test)]
-mod event_tests;
-#[cfg(test)]
-mod tests;
+pub use words::Words;

@@ -70,7 +70,8 @@ fn cause_words(cause: CloseCause) -> &'static str
     }
 }
 
-fn fault_words(kind: FaultKind) -> &'static str
+/// The words of a fault: `fault` and its kind.
+pub fn fault_words(kind: FaultKind) -> &'static str
     ensures { result.now ≡ fault_words kind }
 {
     match kind {

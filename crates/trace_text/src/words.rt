@@ -38,6 +38,7 @@ impl<'a> Model for Words<'a> {
 }
 
 impl<'a> Words<'a> {
+    /// A line is cut at every single space, so a word may be empty.
     pub fn of(line: &'a [u8]) -> Self
         ensures { result ≡ words_of line.now }
     {
@@ -45,6 +46,13 @@ impl<'a> Words<'a> {
             pieces: Pieces::new(b' ', line),
             place: 1,
         }
+    }
+
+    /// The place of the next word, from 1.
+    pub fn place(&self) -> u64
+        ensures { result ≡ self.now.place }
+    {
+        self.place
     }
 
     /// The next word, which must not be missing.
@@ -73,7 +81,7 @@ impl<'a> Words<'a> {
     }
 
     /// An address that a trace of a version may hold.
-    pub fn address(&mut self, version: u64) -> Result<Addr, LineRefusal>
+    pub(crate) fn address(&mut self, version: u64) -> Result<Addr, LineRefusal>
         ensures { Gives (λ address. address) result self.new (next_address version self.old) }
     {
         let place = self.place;
@@ -95,7 +103,7 @@ impl<'a> Words<'a> {
     }
 
     /// A version of the trace.
-    pub fn version(&mut self) -> Result<u64, LineRefusal>
+    pub(crate) fn version(&mut self) -> Result<u64, LineRefusal>
         ensures { Gives (λ version. version) result self.new (next_read version_of BadWord self.old) }
     {
         let place = self.place;
@@ -107,7 +115,7 @@ impl<'a> Words<'a> {
     }
 
     /// Whether something is so: `ok`, or `failed`.
-    pub fn outcome(&mut self) -> Result<bool, LineRefusal>
+    pub(crate) fn outcome(&mut self) -> Result<bool, LineRefusal>
         ensures { Gives (λ opened. opened) result self.new (next_read outcome_of BadWord self.old) }
     {
         let place = self.place;
@@ -144,7 +152,7 @@ impl<'a> Words<'a> {
     }
 
     /// Addresses up to the end, or to a slash.
-    pub fn addresses(&mut self, alloc: Global, version: u64) -> Result<AddrList, LineRefusal>
+    pub(crate) fn addresses(&mut self, alloc: Global, version: u64) -> Result<AddrList, LineRefusal>
         ensures { GivesIfRoom (λ addresses. addresses) result self.new (next_addresses version self.old) }
     {
         let mut addresses = AddrList::new(alloc);
@@ -172,7 +180,7 @@ impl<'a> Words<'a> {
     }
 
     /// Groups up to the end.
-    pub fn groups(&mut self, alloc: Global, version: u64) -> Result<GroupList, LineRefusal>
+    pub(crate) fn groups(&mut self, alloc: Global, version: u64) -> Result<GroupList, LineRefusal>
         ensures { IsReading result (all_groups version self.old) }
     {
         let mut groups = GroupList::new(alloc);
@@ -193,7 +201,7 @@ impl<'a> Words<'a> {
     }
 
     /// A setting's name.
-    pub fn setting(&mut self, hard: u64) -> Result<Found, LineRefusal>
+    pub(crate) fn setting(&mut self, hard: u64) -> Result<Found, LineRefusal>
         ensures { Gives found_view result self.new (next_read (setting_of hard) BadWord self.old) }
     {
         let place = self.place;

@@ -1,9 +1,10 @@
 use Rattle.std.proofs.Common.{[], ◌∷◌, Err, refl, sym}
+use Rattle.line_run.proofs.Meant.{says_line}
 use Rattle.line_run.specs.declared.stop.Stop.TheVariants.{Ended}
 use Rattle.pair_net.specs.Lines.{later_line}
 use Rattle.pair_net.specs.Replay.{step_means}
 use Rattle.pair_net.specs.declared.pair_line.PairLine.TheVariants.{End}
-use Rattle.pair_net.proofs.Playing.{read_meant, says_line}
+use Rattle.pair_net.proofs.Playing.{read_meant}
 use Rattle.pair_net.proofs.pair_replay.lead.Goals as goal
 
 pub returns-in_ok-push_line-in-Ok-End-clause-meant : goal.returns-in_ok-push_line-in-Ok-End-clause-meant
