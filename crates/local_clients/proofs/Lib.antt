@@ -1,0 +1,9 @@
+pub mod Answerable
+pub mod Streams
+pub mod Lists
+pub mod Ids
+pub mod Keeps
+pub mod Laws
+pub mod Readings
+pub mod Led
+pub mod Happening

@@ -1,0 +1,9 @@
+pub mod Rules
+pub mod Agreement
+pub mod Hearing
+pub mod Clients
+pub mod Kept
+pub mod Law
+pub mod Lines
+pub mod Texts
+pub mod Replay

@@ -1,0 +1,43 @@
+ghost use Rattle.std.specs.Prelude.{◌≡◌, IfOk};
+ghost use Rattle.std.specs.String.{string_bytes};
+ghost use Rattle.local_clients.specs.Texts.{cause_words, printed_action};
+
+use crate::{ClientAction, ClientCause};
+use net_base::{Octets, OutOfMemory};
+use std::alloc::{AllocError, Global};
+use trace_text::fault_words;
+
+/// The line of an action, with its `> ` and without a line feed.
+pub(crate) fn print_action(alloc: Global, action: &ClientAction) -> Result<Octets, OutOfMemory>
+    ensures { IfOk result (λ line. line ≡ printed_action action.now) }
+{
+    let text = action_text(alloc, action)?;
+    Ok(Octets::from_vec(text.into_bytes()))
+}
+
+fn action_text(alloc: Global, action: &ClientAction) -> Result<String, AllocError>
+    ensures { IfOk result (λ text. string_bytes text ≡ printed_action action.now) }
+{
+    match action {
+        ClientAction::Admit(id) => format!(in alloc; "> admit {id}"),
+        ClientAction::Turnaway => format!(in alloc; "> turnaway"),
+        ClientAction::Send(id, bytes) => {
+            let digits = hex::encode(alloc, bytes.as_slice())?;
+            format!(in alloc; "> send {id} {digits}")
+        }
+        ClientAction::Open(id, version) => format!(in alloc; "> open {id} {version}"),
+        ClientAction::Close(id, cause) => {
+            format!(in alloc; "> close {id} {}", cause_words(*cause))
+        }
+    }
+}
+
+fn cause_words(cause: ClientCause) -> &'static str
+    ensures { result.now ≡ cause_words cause }
+{
+    match cause {
+        ClientCause::Refused => "refused",
+        ClientCause::Query => "query",
+        ClientCause::Fault(kind) => fault_words(kind),
+    }
+}

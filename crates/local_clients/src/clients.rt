@@ -1,0 +1,99 @@
+ghost use Rattle.std.specs.Prelude.{◌≡◌, ◌+◌, ◌≤◌, ◌<◌, IfOk};
+ghost use Rattle.local_clients.specs.Rules.{AreInRange, CanHappen};
+ghost use Rattle.local_clients.specs.Clients.{no_clients, live, open_version, stepped};
+
+use crate::table::Table;
+use crate::{ClientActions, ClientEvent, ClientRules};
+use net_base::OutOfMemory;
+use std::alloc::Global;
+use std::marker::Model;
+
+/// The clients of a node on the same machine.
+#[derive(Debug, Drop)]
+pub struct Clients {
+    rules: ClientRules,
+    taken: u64,
+    table: Table,
+}
+
+impl Model for Clients {
+    ghost use Rattle.local_clients.specs.Clients.{ClientsState};
+    ghost use Rattle.local_clients.specs.Kept.{AreKept};
+
+    ghost Value = { ClientsState };
+
+    ghost view = { λ c. record { rules = c.rules; taken = c.taken; table = c.table } };
+
+    ghost invariant = { λ c. AreKept (record { rules = c.rules; taken = c.taken; table = c.table }) };
+}
+
+impl Clients {
+    /// Nobody connected yet, at moment 0. Takes no memory.
+    pub fn new(alloc: Global, rules: ClientRules) -> Self
+        requires { AreInRange rules }
+        ensures { result ≡ record { rules = rules; taken = 0; table = no_clients } }
+    {
+        Clients {
+            rules,
+            taken: 0,
+            table: Table::new(alloc),
+        }
+    }
+
+    /// What the node keeps to.
+    pub(crate) fn rules(&self) -> ClientRules
+        ensures rules { result ≡ self.now.rules }
+        ensures ranges { AreInRange result }
+    {
+        self.rules
+    }
+
+    /// How many events there were.
+    pub fn taken(&self) -> u64
+        ensures taken { result ≡ self.now.taken }
+        ensures few { result ≤ 1000000 }
+    {
+        self.taken
+    }
+
+    /// How many clients there are.
+    pub fn live(&self) -> u64
+        ensures live { result ≡ live self.now.table }
+        ensures few { result ≤ self.now.rules.limit }
+    {
+        self.table.live()
+    }
+
+    /// The version that a client agreed on. None where there is no such client, or it still shakes hands.
+    pub fn open(&self, id: u64) -> Option<u64>
+        ensures { result ≡ open_version id self.now.table }
+    {
+        self.table.open_version(id)
+    }
+
+    /// The clients after an event, and what is done. Where memory is refused the clients are gone.
+    pub fn step(self, event: ClientEvent) -> Result<(Clients, ClientActions), OutOfMemory>
+        requires few { self.taken < 1000000 }
+        requires event { CanHappen event }
+        ensures clients { IfOk result (λ done. done.0 ≡ record {
+          rules = self.rules;
+          taken = self.taken + 1;
+          table = (stepped self.rules event self.table).table;
+        }) }
+        ensures actions { IfOk result (λ done. done.1 ≡ (stepped self.rules event self.table).actions) }
+        ensures few { IfOk result (λ done. live done.0.table ≤ done.0.rules.limit) }
+    {
+        let Clients {
+            rules,
+            taken,
+            mut table,
+        } = self;
+        let actions = table.take(&rules, &event)?;
+        let clients = Clients {
+            rules,
+            taken: taken + 1,
+            table,
+        };
+        Ok((clients, actions))
+    }
+}

@@ -1,0 +1,34 @@
+//! Laws on the clients over whole runs, whatever function carries them out. The functions do nothing.
+
+ghost use Rattle.local_clients.specs.Law.{AreFew, RiseInTheirTime, AreTurnedAway, PiecesDoNotMatter, OpenClientsStay};
+ghost use Rattle.local_clients.specs.Replay.{LedAreLawful};
+
+/// There are never more clients than the limit.
+pub fn clients_are_few()
+    ensures { AreFew }
+{}
+
+/// Clients that greet stand in order of their deadlines, and of their ids where these are the same.
+pub fn greeting_clients_rise_in_time()
+    ensures { RiseInTheirTime }
+{}
+
+/// A client is turned away exactly where it joins while there are as many as the limit.
+pub fn clients_are_turned_away()
+    ensures { AreTurnedAway }
+{}
+
+/// What is done does not depend on the pieces in which the bytes of a client come.
+pub fn pieces_do_not_matter()
+    ensures { PiecesDoNotMatter }
+{}
+
+/// An open client goes only where it says so, or by a fault of its own bytes.
+pub fn open_clients_stay()
+    ensures { OpenClientsStay }
+{}
+
+/// All of that is so of the clients behind any number of lines of an input.
+pub fn led_clients_are_lawful()
+    ensures { LedAreLawful }
+{}
