@@ -1,4 +1,4 @@
-//! Runs of made towns and of scripted worlds, told and compared: tests of `trace_replay`, and no code beside them.
+//! Runs of made towns and of scripted worlds, told and compared: tests of `world_drive`, and no code beside them.
 #![tactic(auto)]
 
 #[cfg(test)]

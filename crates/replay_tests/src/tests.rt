@@ -5,7 +5,8 @@ use net_base::{NumberList, OutOfMemory};
 use std::alloc::Global;
 use std::process::Abort;
 use std::test::Fail;
-use trace_replay::{Outcome, drill};
+use trace_meaning::Outcome;
+use world_drive::drill;
 
 mod drives;
 

@@ -4,12 +4,13 @@ use Rattle.io_edge.specs.Lines.{ended_lines}
 use Rattle.io_edge.specs.Told.{Gives, Takes, TakesProperPrefix}
 use Rattle.io_edge.proofs.ToldLemmas.{Takes-nothing}
 use Rattle.net_base.specs.declared.refusal.RefusalKind.{RefusalKind}
-use Rattle.trace_replay.specs.Compare.{Comparison, agree, differ, refused_at, too_long_at, comparison_of, report_lines, report_of}
-use Rattle.trace_replay.specs.Checks.{outcome_told, AreSettled, AreCompared, Checks}
+use Rattle.trace_compare.specs.Compare.{Comparison, agree, differ, refused_at, too_long_at, comparison_of, report_lines, report_of}
+use Rattle.trace_compare.specs.Compare.{outcome_told}
+use Rattle.trace_replay.specs.Checks.{AreSettled, AreCompared, Checks}
 use Rattle.trace_replay.specs.CheckedInputs.{IsReported, IsCheckOf}
-use Rattle.trace_replay.specs.declared.outcome.Outcome.{Outcome}
-use Rattle.trace_replay.specs.declared.outcome.Outcome.TheVariants.{Done, Differ, Refused, ReadFault, WriteFault, OutOfMemory, WorldFault, TooLong}
-use Rattle.trace_replay.proofs.Inputs.{read_up_to}
+use Rattle.trace_meaning.specs.declared.outcome.Outcome.{Outcome}
+use Rattle.trace_meaning.specs.declared.outcome.Outcome.TheVariants.{Done, Differ, Refused, ReadFault, WriteFault, OutOfMemory, WorldFault, TooLong}
+use Rattle.trace_meaning.proofs.Inputs.{read_up_to}
 
 -- the whole input compares as the bytes that were read
 compares_whole : (l0 l1 : Option (List ℕ)) (input seen : List ℕ) → Gives l0 l1 seen → l0 ≡ Some input → AreSettled seen l1 → comparison_of seen ≡ comparison_of input

@@ -21,25 +21,29 @@ use Rattle.net_base.specs.declared.refusal.RefusalKind.{RefusalKind}
 use Rattle.net_base.specs.declared.refusal.RefusalKind.TheVariants.{NoEnd}
 use Rattle.trace_text.specs.Lines.{is_action_line}
 use Rattle.trace_text.specs.Stages.{first_stage}
-use Rattle.trace_replay.specs.Reading.{Reading, reading_at, stage_behind, heads_in, events_in}
-use Rattle.trace_replay.specs.Judgement.{Verdict, ended, refused, too_long, most_lines, verdict_at, number_behind}
-use Rattle.trace_replay.specs.Output.{lines_for}
-use Rattle.trace_replay.specs.Passing.{texts_of, ArePassed}
+use Rattle.trace_meaning.specs.Reading.{Reading, reading_at, stage_behind, heads_in, events_in}
+use Rattle.line_run.specs.Judgement.{Verdict, ended, refused, too_long, most_lines}
+use Rattle.trace_meaning.specs.Judgement.{verdict_at, number_behind}
+use Rattle.trace_meaning.specs.Output.{lines_for}
+use Rattle.trace_meaning.specs.Passing.{texts_of, ArePassed}
 use Rattle.trace_replay.specs.Playback.{Kept, events_taken, StandsBehind, GoesOn}
 use Rattle.trace_replay.specs.LineRead.{line_told, IsLineRead}
-use Rattle.trace_replay.specs.Compare.{Comparison, differ, refused_at, too_long_at, agreement, actions_in, comparison_for, comparison_of, report_lines}
-use Rattle.trace_replay.specs.Checks.{outcome_told, Checks}
-use Rattle.trace_replay.specs.UnderWay.{HasReadCount}
-use Rattle.trace_replay.specs.Checking.{IsAction, AgreesSoFar, comparison_told, DecidesFor, Finds, IsCheckTurn, DiffersAt, DiffersAtEnd, IsFoundAt, IsFoundAtEnd, end_found, IsCompared}
+use Rattle.trace_compare.specs.Compare.{Comparison, differ, refused_at, too_long_at, agreement, actions_in, comparison_for, comparison_of, report_lines}
+use Rattle.trace_compare.specs.Compare.{outcome_told}
+use Rattle.trace_replay.specs.Checks.{Checks}
+use Rattle.trace_meaning.specs.FaultCounts.{HasReadCount}
+use Rattle.trace_compare.specs.Compare.{IsAction}
+use Rattle.trace_replay.specs.Checking.{AgreesSoFar, comparison_told, DecidesFor, Finds, IsCheckTurn, DiffersAt, DiffersAtEnd, IsFoundAt, IsFoundAtEnd, end_found, IsCompared}
 use Rattle.trace_replay.specs.declared.finding.Finding.{Finding}
 use Rattle.trace_replay.specs.declared.finding.Finding.TheVariants.{Agrees, Differs}
-use Rattle.trace_replay.specs.declared.outcome.Outcome.{Outcome}
-use Rattle.trace_replay.specs.declared.outcome.Outcome.TheVariants.{Done, Differ, Refused, ReadFault, WriteFault, OutOfMemory, WorldFault, TooLong}
-use Rattle.trace_replay.proofs.Added.{IsAdded, Adds, adds, lines_counted}
-use Rattle.trace_replay.proofs.Comparing.{first_of, compared_silent, compared_ended, line_differs, end_differs}
-use Rattle.trace_replay.proofs.Judging.{judgement_of, judged_rest, rest_refused}
-use Rattle.trace_replay.proofs.Readings.{Passes-from, AreFront-passed}
-use Rattle.trace_replay.proofs.Ways.{seen_of, Decides, line_decides, past_decides, most_decides, seen_further, whole_further, reads_same}
+use Rattle.trace_meaning.specs.declared.outcome.Outcome.{Outcome}
+use Rattle.trace_meaning.specs.declared.outcome.Outcome.TheVariants.{Done, Differ, Refused, ReadFault, WriteFault, OutOfMemory, WorldFault, TooLong}
+use Rattle.trace_compare.proofs.Added.{IsAdded, Adds, adds, lines_counted}
+use Rattle.trace_compare.proofs.Comparing.{first_of, compared_silent, compared_ended, line_differs, end_differs}
+use Rattle.trace_meaning.proofs.Judging.{judgement_of, judged_rest, rest_refused}
+use Rattle.trace_meaning.proofs.Readings.{Passes-from, AreFront-passed}
+use Rattle.trace_meaning.proofs.Deciding.{seen_of, Decides, line_decides, past_decides, most_decides, seen_further, whole_further}
+use Rattle.trace_replay.proofs.Ways.{reads_same}
 
 -- ---- bytes that decide
 

@@ -17,19 +17,20 @@ use Rattle.trace_text.specs.declared.line.Line.TheVariants.{Head, Happen, Acted,
 use Rattle.trace_text.specs.declared.line.LineRefusal.{LineRefusal}
 use Rattle.trace_text.specs.declared.line.LineRefusal.TheVariants.{BadWord, BadNumber, BadTargets, OutOfOrder, OutOfMemory as NoMemory}
 use Rattle.trace_text.specs.declared.stage.Stage.{Stage}
-use Rattle.trace_replay.specs.Reading.{Reading, said_at, reading_at, stage_behind, heads_in, events_in}
-use Rattle.trace_replay.specs.Settings.{settings_in}
-use Rattle.trace_replay.specs.Judgement.{Verdict, ended, too_long, most_lines, most_events, verdict_by, verdict_at, number_behind}
-use Rattle.trace_replay.specs.Output.{start_in, told_event, lines_for}
-use Rattle.trace_replay.specs.Passing.{ArePassed}
+use Rattle.trace_meaning.specs.Reading.{Reading, said_at, reading_at, stage_behind, heads_in, events_in}
+use Rattle.trace_meaning.specs.Settings.{settings_in}
+use Rattle.line_run.specs.Judgement.{Verdict, ended, too_long, most_lines}
+use Rattle.trace_meaning.specs.Judgement.{most_events, verdict_by, verdict_at, number_behind}
+use Rattle.trace_meaning.specs.Output.{start_in, told_event, lines_for}
+use Rattle.trace_meaning.specs.Passing.{ArePassed}
 use Rattle.trace_replay.specs.Playback.{Begun, Kept, machine_or, events_taken, machine_before, StandsBehind, GoesOn, IsPlayed, IsLineWithin, IsSaid, TakesEvent, IsHappened, refusal_told}
 use Rattle.trace_replay.specs.declared.stop.Stop.{Stop}
 use Rattle.trace_replay.specs.declared.stop.Stop.TheVariants.{Ended, Refused, TooLong, OutOfMemory}
-use Rattle.trace_replay.proofs.Grammar.{IsLineAt, said_at-is}
-use Rattle.trace_replay.proofs.Heads.{AreSound-heads}
-use Rattle.trace_replay.proofs.Readings.{stage_behind-push, heads_in-append, events_in-append, AreFront-passed, no_events_before_head}
-use Rattle.trace_replay.proofs.Judging.{verdict_at-short, ArePassed-none, ArePassed-more}
-use Rattle.trace_replay.proofs.Outputs.{after_all-push, lines_for-head, lines_for-acted, told_behind, lines_for-event}
+use Rattle.trace_meaning.proofs.Grammar.{IsLineAt, said_at-is}
+use Rattle.trace_meaning.proofs.Heads.{AreSound-heads}
+use Rattle.trace_meaning.proofs.Readings.{stage_behind-push, heads_in-append, events_in-append, AreFront-passed, no_events_before_head}
+use Rattle.trace_meaning.proofs.Judging.{verdict_at-short, ArePassed-none, ArePassed-more}
+use Rattle.trace_meaning.proofs.Outputs.{after_all-push, lines_for-head, lines_for-acted, told_behind, lines_for-event}
 
 -- before any line
 pub StandsBehind-none : (playback : Kept) → playback.stage ≡ first_stage → playback.heads ≡ [] → playback.engine ≡ None → StandsBehind playback []

@@ -1,37 +1,36 @@
 -- How a replay that is on its way goes on, and what it has come to where it ends.
-use Rattle.std.proofs.Common.{◌≡◌, ℕ, ◌+◌, ◌<◌, ◌≤◌, List, [], ◌∷◌, ◌++◌, length, All, Option, Some, Result, Ok, Err, MatchResult, IfErr, refl, sym, ap, ◌∙◌, subst, arith}
+use Rattle.std.proofs.Common.{◌≡◌, ℕ, ◌+◌, ◌<◌, ◌≤◌, List, [], ◌∷◌, ◌++◌, length, All, Option, Result, Ok, Err, MatchResult, IfErr, refl, sym, ap, ◌∙◌, subst, arith}
 use Rattle.std.specs.Io.KnownBytes.{IsAtEnd}
-use Rattle.std.proofs.lemmas.List.{append_assoc, append-nil, length-map, length_push, map-append}
+use Rattle.std.proofs.lemmas.List.{append_assoc, append-nil, length-map, length_push}
 use Rattle.std.proofs.lemmas.List.Concat.{flat_map-append}
-use Rattle.std.proofs.lemmas.List.Elements.{All-push, All-nil}
-use Rattle.io_edge.specs.Lines.{HasNoLineFeed, whole_lines, ended_lines, FitsLine, IsPastLimit}
+use Rattle.std.proofs.lemmas.List.Elements.{All-nil}
+use Rattle.io_edge.specs.Lines.{HasNoLineFeed, whole_lines, ended_lines, FitsLine}
 use Rattle.io_edge.specs.Reading.{ReadsLine}
 use Rattle.io_edge.specs.Told.{Gives, Takes, TakesProperPrefix, TakesFront}
 use Rattle.io_edge.specs.declared.got.Got.{Got}
 use Rattle.io_edge.specs.declared.got.Got.TheVariants.{Line, Over}
 use Rattle.io_edge.specs.declared.line_fault.LineFault.{LineFault}
 use Rattle.io_edge.specs.declared.line_fault.LineFault.TheVariants.{Failed, TooLong as LineTooLong, OutOfMemory as NoMemory}
-use Rattle.io_edge.proofs.LineLemmas.{whole_lines-ended, whole_lines-none, IsPastLimit-append}
+use Rattle.io_edge.proofs.LineLemmas.{whole_lines-ended, whole_lines-none}
 use Rattle.io_edge.proofs.ToldLemmas.{Gives-nothing, Gives-append, Takes-nothing, Takes-append, TakesProperPrefix-after, TakesProperPrefix-more}
 use Rattle.net_base.specs.declared.refusal.RefusalKind.{RefusalKind}
 use Rattle.net_base.specs.declared.refusal.RefusalKind.TheVariants.{NoEnd}
 use Rattle.trace_text.specs.Stages.{first_stage}
-use Rattle.trace_replay.specs.Reading.{Reading, reading_at, stage_behind}
-use Rattle.trace_replay.specs.Judgement.{Verdict, ended, refused, too_long, most_lines, verdict_at, number_behind, judged}
-use Rattle.trace_replay.specs.Output.{lines_for, last_lines, output_for, output_of}
-use Rattle.trace_replay.specs.Passing.{texts_of, ArePassed}
+use Rattle.trace_meaning.specs.Reading.{Reading, reading_at, stage_behind}
+use Rattle.line_run.specs.Judgement.{Verdict, ended, refused, too_long, most_lines}
+use Rattle.trace_meaning.specs.Judgement.{number_behind, judged}
+use Rattle.trace_meaning.specs.Output.{lines_for, last_lines, output_for, output_of}
+use Rattle.trace_meaning.specs.Passing.{texts_of, ArePassed}
 use Rattle.trace_replay.specs.Playback.{Kept, StandsBehind, GoesOn}
 use Rattle.trace_replay.specs.LineRead.{line_told, IsLineRead}
-use Rattle.trace_replay.specs.Replays.{verdict_of, outcome_of, AreDecisive, Replays}
-use Rattle.trace_replay.specs.UnderWay.{HasSaid, IsUnderWay, IsEnding, IsLineNext, IsTurn, IsSaidFor, HasReadCount, HasWriteCount}
-use Rattle.trace_replay.specs.declared.outcome.Outcome.{Outcome}
-use Rattle.trace_replay.specs.declared.outcome.Outcome.TheVariants.{Done, Differ, Refused, ReadFault, WriteFault, OutOfMemory, WorldFault, TooLong}
-use Rattle.trace_replay.proofs.Judging.{judgement_of, judged_line, judged_rest, judged_too_long, long_by_bytes, long_by_number, rest_refused, ArePassed-none}
-use Rattle.trace_replay.proofs.Prefixes.{Begins, Begins-from, output_behind}
-
--- the bytes of lines that were read, and those behind them
-abbrev pub seen_of : List Reading → List ℕ → List ℕ
-seen_of readings tail = ended_lines (texts_of readings) ++ tail
+use Rattle.trace_meaning.specs.Replays.{verdict_of, outcome_of, AreDecisive, Replays}
+use Rattle.trace_replay.specs.UnderWay.{HasSaid, IsUnderWay, IsEnding, IsLineNext, IsTurn, IsSaidFor}
+use Rattle.trace_meaning.specs.FaultCounts.{HasReadCount, HasWriteCount}
+use Rattle.trace_meaning.specs.declared.outcome.Outcome.{Outcome}
+use Rattle.trace_meaning.specs.declared.outcome.Outcome.TheVariants.{Done, Differ, Refused, ReadFault, WriteFault, OutOfMemory, WorldFault, TooLong}
+use Rattle.trace_meaning.proofs.Deciding.{seen_of, Decides, line_decides, past_decides, most_decides, seen_further, whole_further}
+use Rattle.trace_meaning.proofs.Judging.{judgement_of, judged_rest, rest_refused, ArePassed-none}
+use Rattle.trace_meaning.proofs.Prefixes.{Begins, Begins-from, output_behind}
 
 -- Lines that pass were read, with some bytes behind them, and what those lines give was written.
 pub record HasRead (readings : List Reading) (tail : List ℕ) (left_before left_now taken_before taken_now : Option (List ℕ)) : Type 0 where
@@ -41,10 +40,6 @@ pub record HasRead (readings : List Reading) (tail : List ℕ) (left_before left
   pub takes : Takes taken_before taken_now (ended_lines (lines_for readings))
 
 -- ---- bytes that decide
-
--- what stands behind the lines decides, whatever follows it
-abbrev pub Decides : List Reading → List ℕ → Verdict → Type 0
-Decides readings tail verdict = (more : List ℕ) → judged (seen_of readings (tail ++ more)) ≡ judgement_of readings verdict
 
 judged_now : (readings : List Reading) (tail : List ℕ) (verdict : Verdict) → Decides readings tail verdict → judged (seen_of readings tail) ≡ judgement_of readings verdict
 judged_now readings tail verdict decides =
@@ -162,43 +157,6 @@ memory_at readings tail l0 l1 t0 t1 read =
       gives = read.gives;
       is_outcome = record { front = ended_lines (lines_for readings); rest = begins.rest; split = begins.split; taken = read.takes };
     }
-
--- ---- a line with its line feed
-
--- a whole line decides
-pub line_decides : (readings : List Reading) (line kept : List ℕ) (verdict : Verdict) → ArePassed readings → All HasNoLineFeed (texts_of readings) →
-    HasNoLineFeed line → verdict_at readings (reading_at (stage_behind readings first_stage) line) ≡ Some verdict → Decides readings (line ++ 10 ∷ kept) verdict
-line_decides readings line kept verdict passed whole one at more =
-    ap (λ (bytes : List ℕ). judged (seen_of readings bytes)) (append_assoc line (10 ∷ kept) more)
-    ∙ judged_line readings line (kept ++ more) verdict passed whole one at
-
--- a line is too long, by its bytes or by its number
-pub past_decides : (readings : List Reading) (tail : List ℕ) → ArePassed readings → All HasNoLineFeed (texts_of readings) → IsPastLimit tail → Decides readings tail (too_long (number_behind readings))
-past_decides readings tail passed whole past more =
-    judged_too_long readings (tail ++ more) passed whole (long_by_bytes readings (tail ++ more) (IsPastLimit-append tail more past))
-
-pub most_decides : (readings : List Reading) (tail : List ℕ) → ArePassed readings → All HasNoLineFeed (texts_of readings) → most_lines ≤ length readings →
-    Decides readings tail (too_long (number_behind readings))
-most_decides readings tail passed whole most more =
-    judged_too_long readings (tail ++ more) passed whole (long_by_number readings _ most)
-
--- ---- a line that was read whole
-
--- the line joins those before it
-pub seen_further : (readings : List Reading) (reading : Reading) (kept : List ℕ) → seen_of readings (reading.text ++ 10 ∷ kept) ≡ seen_of (readings ++ reading ∷ []) kept
-seen_further readings reading kept =
-    let texts : texts_of (readings ++ reading ∷ []) ≡ texts_of readings ++ reading.text ∷ [] = map-append (λ (r : Reading). r.text) readings (reading ∷ []) in
-    let ended : ended_lines (texts_of (readings ++ reading ∷ [])) ≡ ended_lines (texts_of readings) ++ (reading.text ++ 10 ∷ []) =
-    ap ended_lines texts ∙ flat_map-append (λ line. line ++ 10 ∷ []) (texts_of readings) (reading.text ∷ [])
-    ∙ ap (λ (bytes : List ℕ). ended_lines (texts_of readings) ++ bytes) (append-nil (reading.text ++ 10 ∷ [])) in
-    sym (ap (λ (bytes : List ℕ). bytes ++ kept) ended
-    ∙ append_assoc (ended_lines (texts_of readings)) (reading.text ++ 10 ∷ []) kept
-    ∙ ap (λ (bytes : List ℕ). ended_lines (texts_of readings) ++ bytes) (append_assoc reading.text (10 ∷ []) kept))
-
-pub whole_further : (readings : List Reading) (reading : Reading) → All HasNoLineFeed (texts_of readings) → HasNoLineFeed reading.text → All HasNoLineFeed (texts_of (readings ++ reading ∷ []))
-whole_further readings reading whole one =
-    let texts : texts_of (readings ++ reading ∷ []) ≡ texts_of readings ++ reading.text ∷ [] = map-append (λ (r : Reading). r.text) readings (reading ∷ []) in
-    subst (λ (ls : List (List ℕ)). All HasNoLineFeed ls) (sym texts) (All-push HasNoLineFeed (texts_of readings) reading.text whole one)
 
 -- ---- what is pending
 

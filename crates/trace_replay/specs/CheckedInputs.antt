@@ -1,11 +1,12 @@
 -- What a check comes to, in terms of the whole input.
 use Rattle.std.specs.Prelude.{◌≡◌, ℕ, List, Option}
 use Rattle.io_edge.specs.Told.{Takes, TakesProperPrefix}
-use Rattle.trace_replay.specs.Compare.{comparison_of, report_of}
-use Rattle.trace_replay.specs.Checks.{outcome_told, AgreeSoFar}
-use Rattle.trace_replay.specs.Inputs.{IsReadUpTo}
-use Rattle.trace_replay.specs.declared.outcome.Outcome.{Outcome}
-use Rattle.trace_replay.specs.declared.outcome.Outcome.TheVariants.{Done, Differ, Refused, ReadFault, WriteFault, OutOfMemory, WorldFault, TooLong}
+use Rattle.trace_compare.specs.Compare.{comparison_of, report_of}
+use Rattle.trace_compare.specs.Compare.{outcome_told}
+use Rattle.trace_replay.specs.Checks.{AgreeSoFar}
+use Rattle.line_run.specs.Inputs.{IsReadUpTo}
+use Rattle.trace_meaning.specs.declared.outcome.Outcome.{Outcome}
+use Rattle.trace_meaning.specs.declared.outcome.Outcome.TheVariants.{Done, Differ, Refused, ReadFault, WriteFault, OutOfMemory, WorldFault, TooLong}
 
 -- The bytes that were read compare as the input does, that is told, and the sink took the whole report.
 pub record IsReported (input : List ℕ) (outcome : Outcome) (left_after taken_before taken_after : Option (List ℕ)) : Type 0 where

@@ -1,25 +1,20 @@
 -- A check that is on its way, and how it goes on.
-use Rattle.std.specs.Prelude.{◌≡◌, ℕ, ◌+◌, true, List, ◌++◌, length, drop, All, codes, ◌⊎◌, Option, Some, None, Result, Ok, Err}
+use Rattle.std.specs.Prelude.{◌≡◌, ℕ, ◌+◌, List, ◌++◌, length, drop, All, codes, ◌⊎◌, Option, Some, None, Result, Ok, Err}
 use Rattle.io_edge.specs.Lines.{HasNoLineFeed, ended_lines}
 use Rattle.io_edge.specs.Pending.{front_line}
 use Rattle.io_edge.specs.Told.{Gives}
-use Rattle.trace_text.specs.Lines.{is_action_line}
-use Rattle.trace_replay.specs.Reading.{Reading, events_in}
-use Rattle.trace_replay.specs.Judgement.{ended, refused, too_long, verdict_at}
-use Rattle.trace_replay.specs.Output.{lines_for}
-use Rattle.trace_replay.specs.Passing.{texts_of}
+use Rattle.trace_meaning.specs.Reading.{Reading, events_in}
+use Rattle.line_run.specs.Judgement.{ended, refused, too_long}
+use Rattle.trace_meaning.specs.Judgement.{verdict_at}
+use Rattle.trace_meaning.specs.Output.{lines_for}
+use Rattle.trace_meaning.specs.Passing.{texts_of}
 use Rattle.trace_replay.specs.Playback.{Kept, StandsBehind, GoesOn}
-use Rattle.trace_replay.specs.Compare.{Comparison, agree, differ, refused_at, too_long_at, actions_in, comparison_of}
+use Rattle.trace_compare.specs.Compare.{IsAction, Comparison, agree, differ, refused_at, too_long_at, actions_in, comparison_of}
 use Rattle.trace_replay.specs.Checks.{AreSettled, AgreeSoFar}
 use Rattle.trace_replay.specs.declared.finding.Finding.{Finding}
 use Rattle.trace_replay.specs.declared.finding.Finding.TheVariants.{Agrees, Differs}
-use Rattle.trace_replay.specs.declared.outcome.Outcome.{Outcome}
-use Rattle.trace_replay.specs.declared.outcome.Outcome.TheVariants.{Done, Differ, Refused, ReadFault, WriteFault, OutOfMemory, WorldFault, TooLong}
-
--- the line of an action
-pub record IsAction (line : List ℕ) : Type 0 where
-  pub begins : is_action_line line ≡ true
-  pub one_line : HasNoLineFeed line
+use Rattle.trace_meaning.specs.declared.outcome.Outcome.{Outcome}
+use Rattle.trace_meaning.specs.declared.outcome.Outcome.TheVariants.{Done, Differ, Refused, ReadFault, WriteFault, OutOfMemory, WorldFault, TooLong}
 
 -- Before the line with a number: the lines before it pass, and each is the line of the output at its place. What the
 -- output has besides is due: actions of the last event. Behind the lines some bytes that were read are kept.

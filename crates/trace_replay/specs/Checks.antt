@@ -3,16 +3,9 @@ use Rattle.std.specs.Prelude.{◌≡◌, ℕ, ◌+◌, List, ◌++◌, length, O
 use Rattle.io_edge.specs.Lines.{whole_lines}
 use Rattle.io_edge.specs.Told.{Gives, Takes, TakesProperPrefix}
 use Rattle.net_base.specs.declared.refusal.RefusalKind.TheVariants.{NoEnd}
-use Rattle.trace_replay.specs.Compare.{Comparison, agree, differ, refused_at, too_long_at, comparison_of, report_of}
-use Rattle.trace_replay.specs.declared.outcome.Outcome.{Outcome}
-use Rattle.trace_replay.specs.declared.outcome.Outcome.TheVariants.{Done, Differ, Refused, ReadFault, WriteFault, OutOfMemory, WorldFault, TooLong}
-
--- how a comparison is told
-abbrev pub outcome_told : Comparison → Outcome
-outcome_told (agree events actions) = Done
-outcome_told (differ difference) = Differ difference.line
-outcome_told (refused_at line kind) = Refused line kind
-outcome_told (too_long_at line) = TooLong line
+use Rattle.trace_compare.specs.Compare.{outcome_told, refused_at, comparison_of, report_of}
+use Rattle.trace_meaning.specs.declared.outcome.Outcome.{Outcome}
+use Rattle.trace_meaning.specs.declared.outcome.Outcome.TheVariants.{Done, Differ, Refused, ReadFault, WriteFault, OutOfMemory, WorldFault, TooLong}
 
 -- what stands behind the bytes at the source changes nothing
 abbrev pub AreSettled : List ℕ → Option (List ℕ) → Type 0

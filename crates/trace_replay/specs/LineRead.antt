@@ -6,8 +6,8 @@ use Rattle.io_edge.specs.declared.got.Got.TheVariants.{Line, Over}
 use Rattle.io_edge.specs.declared.line_fault.LineFault.{LineFault}
 use Rattle.io_edge.specs.declared.line_fault.LineFault.TheVariants.{Failed, TooLong as LineTooLong, OutOfMemory as NoMemory}
 use Rattle.net_base.specs.declared.refusal.RefusalKind.TheVariants.{NoEnd}
-use Rattle.trace_replay.specs.declared.outcome.Outcome.{Outcome}
-use Rattle.trace_replay.specs.declared.outcome.Outcome.TheVariants.{Refused, ReadFault, OutOfMemory, TooLong}
+use Rattle.trace_meaning.specs.declared.outcome.Outcome.{Outcome}
+use Rattle.trace_meaning.specs.declared.outcome.Outcome.TheVariants.{Refused, ReadFault, OutOfMemory, TooLong}
 
 -- the line, or the outcome where there is none
 abbrev pub line_told : ℕ → Result Got LineFault → Result (List ℕ) Outcome

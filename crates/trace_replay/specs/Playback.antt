@@ -14,11 +14,12 @@ use Rattle.trace_text.specs.declared.line.Line.TheVariants.{Head, Happen, Acted,
 use Rattle.trace_text.specs.declared.line.LineRefusal.{LineRefusal}
 use Rattle.trace_text.specs.declared.line.LineRefusal.TheVariants.{BadWord, BadNumber, BadTargets, OutOfOrder, OutOfMemory as NoMemory}
 use Rattle.trace_text.specs.declared.stage.Stage.{Stage}
-use Rattle.trace_replay.specs.Reading.{Reading, said_at, stage_behind, heads_in, events_in}
-use Rattle.trace_replay.specs.Settings.{settings_in}
-use Rattle.trace_replay.specs.Judgement.{ended, refused, too_long, most_events, verdict_at}
-use Rattle.trace_replay.specs.Output.{start_in, told_event, lines_for}
-use Rattle.trace_replay.specs.Passing.{ArePassed}
+use Rattle.trace_meaning.specs.Reading.{Reading, said_at, stage_behind, heads_in, events_in}
+use Rattle.trace_meaning.specs.Settings.{settings_in}
+use Rattle.line_run.specs.Judgement.{ended, refused, too_long}
+use Rattle.trace_meaning.specs.Judgement.{most_events, verdict_at}
+use Rattle.trace_meaning.specs.Output.{start_in, told_event, lines_for}
+use Rattle.trace_meaning.specs.Passing.{ArePassed}
 use Rattle.trace_replay.specs.declared.stop.Stop.{Stop}
 use Rattle.trace_replay.specs.declared.stop.Stop.TheVariants.{Ended, Refused, TooLong, OutOfMemory}
 

@@ -1,16 +1,16 @@
 -- A replay that is on its way, and how it goes on.
-use Rattle.std.specs.Prelude.{◌≡◌, ℕ, ◌+◌, ◌≤◌, List, ◌∷◌, ◌++◌, length, All, Option, Some, Result, Ok, Err}
-use Rattle.io_edge.specs.Causes.{Rose}
+use Rattle.std.specs.Prelude.{◌≡◌, ℕ, ◌+◌, List, ◌∷◌, ◌++◌, length, All, Option, Some, Result, Ok, Err}
 use Rattle.io_edge.specs.Lines.{HasNoLineFeed, FitsLine, ended_lines}
 use Rattle.io_edge.specs.Told.{Gives, Takes, TakesProperPrefix}
-use Rattle.trace_replay.specs.Reading.{Reading}
-use Rattle.trace_replay.specs.Judgement.{ended, refused, too_long, verdict_at}
-use Rattle.trace_replay.specs.Output.{lines_for, last_lines}
-use Rattle.trace_replay.specs.Passing.{texts_of}
+use Rattle.trace_meaning.specs.Reading.{Reading}
+use Rattle.line_run.specs.Judgement.{ended, refused, too_long}
+use Rattle.trace_meaning.specs.Judgement.{verdict_at}
+use Rattle.trace_meaning.specs.Output.{lines_for, last_lines}
+use Rattle.trace_meaning.specs.Passing.{texts_of}
 use Rattle.trace_replay.specs.Playback.{Kept, StandsBehind, GoesOn, Says}
-use Rattle.trace_replay.specs.Replays.{Replays}
-use Rattle.trace_replay.specs.declared.outcome.Outcome.{Outcome}
-use Rattle.trace_replay.specs.declared.outcome.Outcome.TheVariants.{Done, Differ, Refused, ReadFault, WriteFault, OutOfMemory, WorldFault, TooLong}
+use Rattle.trace_meaning.specs.Replays.{Replays}
+use Rattle.trace_meaning.specs.declared.outcome.Outcome.{Outcome}
+use Rattle.trace_meaning.specs.declared.outcome.Outcome.TheVariants.{Done, Differ, Refused, ReadFault, WriteFault, OutOfMemory, WorldFault, TooLong}
 
 -- What was said is what the sink took in this call, and behind it what is pending still.
 pub record HasSaid (before now : Option (List ℕ)) (pending said : List ℕ) : Type 0 where
@@ -66,25 +66,3 @@ IsSaidFor readings reading next before after (Err (Differ line)) = ⊥
 IsSaidFor readings reading next before after (Err ReadFault) = ⊥
 IsSaidFor readings reading next before after (Err WriteFault) = ⊥
 IsSaidFor readings reading next before after (Err WorldFault) = ⊥
-
--- The source's count of faults rises with a read fault alone.
-abbrev pub HasReadCount : ℕ → ℕ → Outcome → Type 0
-HasReadCount before now ReadFault = (before ≤ now) × Rose before now
-HasReadCount before now Done = now ≡ before
-HasReadCount before now (Differ line) = now ≡ before
-HasReadCount before now (Refused line kind) = now ≡ before
-HasReadCount before now WriteFault = now ≡ before
-HasReadCount before now OutOfMemory = now ≡ before
-HasReadCount before now WorldFault = now ≡ before
-HasReadCount before now (TooLong line) = now ≡ before
-
--- The sink's count of faults rises with a write fault alone.
-abbrev pub HasWriteCount : ℕ → ℕ → Outcome → Type 0
-HasWriteCount before now WriteFault = (before ≤ now) × Rose before now
-HasWriteCount before now Done = now ≡ before
-HasWriteCount before now (Differ line) = now ≡ before
-HasWriteCount before now (Refused line kind) = now ≡ before
-HasWriteCount before now ReadFault = now ≡ before
-HasWriteCount before now OutOfMemory = now ≡ before
-HasWriteCount before now WorldFault = now ≡ before
-HasWriteCount before now (TooLong line) = now ≡ before

@@ -5,21 +5,21 @@ ghost use Rattle.trace_text.specs.Stages.{first_stage};
 ghost use Rattle.trace_replay.specs.Checking.{AgreesSoFar, IsCheckTurn, IsCompared, IsNext, IsFoundAtEnd, Finds};
 ghost use Rattle.trace_replay.specs.Checks.{Checks};
 ghost use Rattle.trace_replay.specs.Playback.{begun, kept, events_taken, StandsBehind};
-ghost use Rattle.trace_replay.specs.Reading.{Reading, reading_at, stage_behind};
-ghost use Rattle.trace_replay.specs.Replays.{outcome_or};
-ghost use Rattle.trace_replay.specs.Settings.{settings_in};
-ghost use Rattle.trace_replay.specs.UnderWay.{HasReadCount, HasWriteCount};
+ghost use Rattle.trace_meaning.specs.Reading.{Reading, reading_at, stage_behind};
+ghost use Rattle.trace_meaning.specs.Replays.{outcome_or};
+ghost use Rattle.trace_meaning.specs.Settings.{settings_in};
+ghost use Rattle.trace_meaning.specs.FaultCounts.{HasReadCount, HasWriteCount};
 
-use crate::Outcome;
 use crate::finding::Finding;
-use crate::pickers::{Pickers, ranked_score, score};
 use crate::playback::Playback;
 use crate::reading::{LINES_MOST, read_line};
 use crate::stop::Stop;
+use engine_start::{Pickers, ranked_score, score};
 use io_edge::{LineReader, PieceWriter, Sink, Source, put_all};
 use net_base::{Addr, Octets, OutOfMemory};
 use pick_policy::{Picker, RankedPicker};
 use std::alloc::Global;
+use trace_meaning::Outcome;
 
 /// Reads a trace from a source and compares it, line by line, with what `replay` writes for it. Reading stops at the
 /// line that decides and at the first that differs, and nothing is read behind it but what came with it. What was found

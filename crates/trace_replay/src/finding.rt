@@ -1,12 +1,12 @@
 ghost use Rattle.std.specs.Prelude.{◌≡◌, [], ◌∷◌, ◌++◌, codes, decimal, IfOk};
 ghost use Rattle.io_edge.specs.Lines.{ended_lines};
 ghost use Rattle.trace_replay.specs.Checking.{comparison_told};
-ghost use Rattle.trace_replay.specs.Checks.{outcome_told};
-ghost use Rattle.trace_replay.specs.Compare.{agree, want_line, report_lines};
+ghost use Rattle.trace_compare.specs.Compare.{outcome_told};
+ghost use Rattle.trace_compare.specs.Compare.{agree, want_line, report_lines};
 
-use crate::Outcome;
 use net_base::{Octets, OutOfMemory};
 use std::alloc::Global;
+use trace_meaning::Outcome;
 
 /// What a comparison comes to.
 #[derive(Drop)]

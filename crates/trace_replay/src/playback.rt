@@ -4,17 +4,17 @@ ghost use Rattle.net_base.specs.Bounds.{AreSound};
 ghost use Rattle.net_base.specs.Limits.{IsWithinLimits};
 ghost use Rattle.trace_text.specs.Stages.{first_stage};
 ghost use Rattle.trace_replay.specs.Playback.{begun, kept, events_taken, StandsBehind, IsPlayed, IsLineWithin, IsSaid, TakesEvent, IsHappened, refusal_told};
-ghost use Rattle.trace_replay.specs.Reading.{Reading, said_at, reading_at, stage_behind};
-ghost use Rattle.trace_replay.specs.Settings.{settings_in};
+ghost use Rattle.trace_meaning.specs.Reading.{Reading, said_at, reading_at, stage_behind};
+ghost use Rattle.trace_meaning.specs.Settings.{settings_in};
 
-use crate::pickers::Pickers;
 use crate::start::engine_or_first;
 use crate::stop::Stop;
-use crate::told::tell;
+use engine_start::Pickers;
 use io_edge::PieceWriter;
 use net_base::{Event, OutOfMemory, RefusalKind};
 use node_engine::Engine;
 use std::alloc::Global;
+use trace_meaning::tell_event;
 use trace_text::{HeadLine, Line, LineRefusal, Stage, read_line};
 
 // How many events a trace may have.
@@ -97,7 +97,7 @@ impl Playback {
         let (engine, pickers) = (self.engine.take(), self.pickers.take());
         let engine = engine_or_first(self.alloc, engine, pickers, &self.heads)?;
         let (engine, actions) = engine.step(event)?;
-        tell(self.alloc, text, actions.as_slice(), pieces)?;
+        tell_event(self.alloc, text, actions.as_slice(), pieces)?;
         self.stage = stage;
         self.engine = Some(engine);
         Ok(())

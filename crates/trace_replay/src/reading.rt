@@ -1,10 +1,10 @@
 ghost use Rattle.std.specs.Prelude.{◌≡◌, ℕ, ◌≤◌, length, MatchResult, IfOk, IfErr};
 ghost use Rattle.trace_replay.specs.LineRead.{IsLineRead};
-ghost use Rattle.trace_replay.specs.UnderWay.{HasReadCount, HasWriteCount};
+ghost use Rattle.trace_meaning.specs.FaultCounts.{HasReadCount, HasWriteCount};
 
-use crate::Outcome;
 use io_edge::{Got, LineFault, LineReader, Source};
 use net_base::{Octets, RefusalKind};
+use trace_meaning::Outcome;
 
 /// How many lines a trace may have.
 pub(crate) const LINES_MOST: u64 = 4_000_000;

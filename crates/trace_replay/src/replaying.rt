@@ -5,20 +5,21 @@ ghost use Rattle.io_edge.specs.Told.{Takes, TakesProperPrefix, TakesFront};
 ghost use Rattle.net_base.specs.Bounds.{AreSound};
 ghost use Rattle.trace_text.specs.Stages.{first_stage};
 ghost use Rattle.trace_replay.specs.Playback.{Kept, begun, kept, StandsBehind};
-ghost use Rattle.trace_replay.specs.Reading.{Reading, reading_at, stage_behind};
-ghost use Rattle.trace_replay.specs.Replays.{Replays, outcome_or};
-ghost use Rattle.trace_replay.specs.Settings.{settings_in};
-ghost use Rattle.trace_replay.specs.UnderWay.{IsUnderWay, IsTurn, IsLineNext, IsSaidFor, Ends, HasReadCount, HasWriteCount};
+ghost use Rattle.trace_meaning.specs.Reading.{Reading, reading_at, stage_behind};
+ghost use Rattle.trace_meaning.specs.Replays.{Replays, outcome_or};
+ghost use Rattle.trace_meaning.specs.Settings.{settings_in};
+ghost use Rattle.trace_replay.specs.UnderWay.{IsUnderWay, IsTurn, IsLineNext, IsSaidFor, Ends};
+ghost use Rattle.trace_meaning.specs.FaultCounts.{HasReadCount, HasWriteCount};
 
-use crate::Outcome;
-use crate::pickers::{Pickers, ranked_score, score};
 use crate::playback::Playback;
 use crate::reading::{LINES_MOST, read_line};
 use crate::stop::Stop;
+use engine_start::{Pickers, ranked_score, score};
 use io_edge::{LineReader, PieceWriter, Sink, Source};
 use net_base::{Addr, Octets, OutOfMemory};
 use pick_policy::{Picker, RankedPicker};
 use std::alloc::Global;
+use trace_meaning::Outcome;
 
 /// Reads a trace from a source and writes it again with the machine's actions. Reading stops at the line that decides,
 /// and nothing is read behind it but what came with it. What is written is put in pieces: before each reading, and
@@ -187,7 +188,7 @@ fn put_full<K: Sink>(pieces: &mut PieceWriter, out: &mut K) -> Result<(), Outcom
 }
 
 // Puts all that is pending.
-pub(crate) fn put<K: Sink>(pieces: &mut PieceWriter, out: &mut K) -> Result<(), Outcome>
+fn put<K: Sink>(pieces: &mut PieceWriter, out: &mut K) -> Result<(), Outcome>
     ensures front { TakesFront (K.taken out.old) (K.taken out.new) pieces.old pieces.new }
     ensures whole { OnOk result (Takes (K.taken out.old) (K.taken out.new) pieces.old) }
     ensures silent { OnOk result (pieces.new ≡ []) }

@@ -2,13 +2,13 @@ ghost use Rattle.std.specs.Prelude.{◌≡◌, IfOk};
 ghost use Rattle.machine.specs.Machine.{start_of};
 ghost use Rattle.net_base.specs.Bounds.{AreSound};
 ghost use Rattle.trace_replay.specs.Playback.{begun, machine_or, events_taken};
-ghost use Rattle.trace_replay.specs.Settings.{settings_in};
+ghost use Rattle.trace_meaning.specs.Settings.{settings_in};
 
-use crate::head::settings_of;
-use crate::pickers::Pickers;
-use net_base::{OutOfMemory, Settings};
-use node_engine::{Engine, NewRefusal};
+use engine_start::{Pickers, first_engine};
+use net_base::OutOfMemory;
+use node_engine::Engine;
 use std::alloc::Global;
+use trace_meaning::settings_of;
 use trace_text::HeadLine;
 
 /// The engine that was made already, or one with the settings of the head. Where both the engine and the pickers are
@@ -27,22 +27,5 @@ pub(crate) fn engine_or_first(
         (Some(engine), _) => Ok(engine),
         (None, Some(pickers)) => first_engine(alloc, settings_of(heads), pickers),
         (None, None) => Err(OutOfMemory),
-    }
-}
-
-pub(crate) fn first_engine(
-    alloc: Global,
-    settings: Settings,
-    pickers: Pickers,
-) -> Result<Engine, OutOfMemory>
-    requires { AreSound settings }
-    ensures machine { IfOk result (λ e. e.machine ≡ start_of settings) }
-    ensures events { IfOk result (λ e. e.events ≡ 0) }
-{
-    let Pickers { picker, ranked } = pickers;
-    match Engine::new(alloc, settings, picker, ranked) {
-        Ok(engine) => Ok(engine),
-        Err(NewRefusal::OutOfMemory) => Err(OutOfMemory),
-        Err(NewRefusal::BadSetting(_)) => unreachable!(),
     }
 }

@@ -12,7 +12,8 @@ use node_world::{ScriptWorld, World};
 use std::alloc::Global;
 use std::process::Abort;
 use std::test::Fail;
-use trace_replay::{Outcome, drive};
+use trace_meaning::Outcome;
+use world_drive::drive;
 
 // 127.0.0.1 with a port.
 pub(super) fn local(port: u16) -> Addr {

@@ -1,8 +1,9 @@
 use Rattle.std.proofs.Common.{◌≡◌, ℕ, ◌∙◌, List, Some, subst, ap}
 use Rattle.io_edge.specs.Pending.{front_line}
 use Rattle.trace_text.specs.Stages.{first_stage}
-use Rattle.trace_replay.specs.Reading.{reading_at, stage_behind}
-use Rattle.trace_replay.specs.Judgement.{ended, verdict_at}
+use Rattle.trace_meaning.specs.Reading.{reading_at, stage_behind}
+use Rattle.line_run.specs.Judgement.{ended}
+use Rattle.trace_meaning.specs.Judgement.{verdict_at}
 use Rattle.trace_replay.specs.Checking.{end_found}
 use Rattle.trace_replay.specs.Playback.{begun, kept}
 use Rattle.trace_replay.proofs.CheckWays.{end_compared, actions_counted}

@@ -1,6 +1,6 @@
 use Rattle.std.proofs.Common.{◌≡◌, ◌∙◌, ℕ, Err, subst, arith}
 use Rattle.trace_replay.specs.Checking.{Finds}
-use Rattle.trace_replay.specs.declared.outcome.Outcome.TheVariants.{TooLong}
+use Rattle.trace_meaning.specs.declared.outcome.Outcome.TheVariants.{TooLong}
 use Rattle.trace_replay.proofs.CheckWays.{counted, most_compared}
 use Rattle.trace_replay.proofs.Playing.{sound_behind}
 use Rattle.trace_replay.proofs.checking.check_lines.Goals as goal

@@ -1,6 +1,6 @@
 use Rattle.std.proofs.Common.{◌≡◌, ◌∙◌, ℕ, subst, arith}
 use Rattle.trace_replay.specs.UnderWay.{Ends}
-use Rattle.trace_replay.specs.declared.outcome.Outcome.TheVariants.{TooLong}
+use Rattle.trace_meaning.specs.declared.outcome.Outcome.TheVariants.{TooLong}
 use Rattle.trace_replay.proofs.Playing.{sound_behind}
 use Rattle.trace_replay.proofs.Ways.{most_read}
 use Rattle.trace_replay.proofs.replaying.replay_lines.Goals as goal

@@ -3,7 +3,7 @@ use Rattle.io_edge.specs.Lines.{ended_lines}
 use Rattle.machine.specs.Machine.{Machine}
 use Rattle.machine.specs.Step.{step}
 use Rattle.net_base.specs.declared.action.Action.{Action}
-use Rattle.trace_replay.specs.Output.{told_event}
+use Rattle.trace_meaning.specs.Output.{told_event}
 use Rattle.trace_replay.specs.Playback.{Kept, begun, kept, machine_before, events_taken}
 use Rattle.trace_replay.proofs.playback.Playback.event.Goals as goal
 
@@ -24,6 +24,6 @@ returns-clause-taken g c =
       machine = λ start. stepped.ensures.machine ∙ ap (λ (m : Machine). (step m c.args.event).machine) found;
       events = stepped.ensures.taken ∙ ap (λ (n : ℕ). n + 1) count;
       begun = omega (arith, stepped.ensures.taken);
-      lines = c.in_ok-tell.ensures.said ∙ ap (λ (actions : List Action). c.args.pieces.now ++ ended_lines (told_event (c.args.text.now, actions)))
+      lines = c.in_ok-tell_event.ensures.said ∙ ap (λ (actions : List Action). c.args.pieces.now ++ ended_lines (told_event (c.args.text.now, actions)))
           (c.as_slice.ensures ∙ stepped.ensures.actions ∙ ap (λ (m : Machine). (step m c.args.event).actions) found);
     }

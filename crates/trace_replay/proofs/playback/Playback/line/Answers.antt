@@ -1,6 +1,6 @@
 use Rattle.std.proofs.Common.{Err, sym, subst}
 use Rattle.trace_text.specs.Stages.{first_stage}
-use Rattle.trace_replay.specs.Reading.{stage_behind, reading_at}
+use Rattle.trace_meaning.specs.Reading.{stage_behind, reading_at}
 use Rattle.trace_replay.specs.Playback.{Kept, begun, kept, IsPlayed}
 use Rattle.trace_replay.specs.declared.stop.Stop.{Stop}
 use Rattle.trace_replay.proofs.Playing.{refusal_played}

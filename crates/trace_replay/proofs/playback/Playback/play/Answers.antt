@@ -5,7 +5,7 @@ use Rattle.trace_text.specs.Stages.{stage_after}
 use Rattle.trace_text.specs.declared.line.Line.{Line}
 use Rattle.trace_text.specs.declared.line.Line.TheVariants.{Head, Happen, Acted, End}
 use Rattle.trace_text.specs.declared.stage.Stage.{Stage}
-use Rattle.trace_replay.specs.Reading.{Reading, said_at}
+use Rattle.trace_meaning.specs.Reading.{Reading, said_at}
 use Rattle.trace_replay.specs.Playback.{Kept, begun, kept, StandsBehind, IsHappened}
 use Rattle.trace_replay.proofs.Playing.{IsDue, head_played, acted_played, event_played, end_played}
 use Rattle.trace_replay.proofs.playback.Playback.play.Goals as goal

@@ -1,0 +1,8 @@
+//! An engine that picks by this project's own scores, and to which nothing has happened yet.
+#![tactic(auto)]
+
+mod pickers;
+mod start;
+
+pub use pickers::{Pickers, ranked_score, score};
+pub use start::first_engine;

@@ -1,0 +1,6 @@
+pub mod ActionLines
+pub mod Added
+pub mod Again
+pub mod Agreeing
+pub mod Comparing
+pub mod Written

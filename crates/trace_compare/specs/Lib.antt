@@ -1,0 +1,4 @@
+pub mod Again
+pub mod Compare
+pub mod RunText
+pub mod Written

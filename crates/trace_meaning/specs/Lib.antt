@@ -1,0 +1,9 @@
+pub mod FaultCounts
+pub mod Heads
+pub mod Inputs
+pub mod Judgement
+pub mod Output
+pub mod Passing
+pub mod Reading
+pub mod Replays
+pub mod Settings

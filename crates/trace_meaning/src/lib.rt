@@ -1,0 +1,10 @@
+//! What the bytes of a trace come to: which of its lines decides, and what is written for those before it.
+#![tactic(auto)]
+
+mod head;
+mod outcome;
+mod told;
+
+pub use head::settings_of;
+pub use outcome::Outcome;
+pub use told::tell_event;

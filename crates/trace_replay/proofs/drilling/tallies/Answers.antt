@@ -1,5 +1,0 @@
-use Rattle.trace_replay.proofs.Drills.{tallies-at}
-use Rattle.trace_replay.proofs.drilling.tallies.Goals as goal
-
-pub returns : goal.returns
-returns c = tallies-at c.args.seed c.args.count _ _ _ _ c.tallies.result c.in_ok-run.ensures.stands c.in_ok-run.ensures.events c.tallies.ensures

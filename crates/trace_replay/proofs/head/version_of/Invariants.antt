@@ -1,7 +1,0 @@
-use Rattle.std.proofs.Common.{◌≡◌, drop}
-use Rattle.trace_replay.specs.Settings.{version_in}
-use Rattle.trace_replay.proofs.head.version_of.Given as goal
-
--- the lines before say nothing of it
-abbrev pub invariant-loop-head : goal.invariant-loop-head
-invariant-loop-head l = version_in (drop l.head-index l.heads) ≡ version_in l.heads

@@ -1,5 +1,0 @@
-use Rattle.trace_replay.proofs.Agreeing.{agreeing_lines}
-use Rattle.trace_replay.proofs.law.agreeing_traces_are_their_output.Goals as goal
-
-pub returns : goal.returns
-returns c = agreeing_lines

@@ -1,0 +1,4 @@
+pub mod DriveEnds
+pub mod Drills
+pub mod Drives
+pub mod LawfulRuns

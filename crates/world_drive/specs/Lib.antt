@@ -1,0 +1,5 @@
+pub mod Drill
+pub mod DrillCourse
+pub mod Drive
+pub mod DriveCourse
+pub mod Lawful
