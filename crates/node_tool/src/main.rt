@@ -2,23 +2,15 @@
 //! runs a made town, and runs a node on sockets.
 #![tactic(auto)]
 
-mod command;
-mod files;
-mod names;
-mod node_words;
-mod running;
-mod serving;
-mod status;
-mod telling;
 mod words;
 
-pub use command::Command;
+pub use command_run::{Command, run};
 use io_edge::{DirShelf, Sink, StdSink, StdSource};
 use loop_world::LoopWorld;
-pub use running::run;
-pub use serving::run_node;
-pub use status::{Status, What, Which};
+pub use node_run::run_node;
 use std::process::ExitCode;
+use tool_status::tell;
+pub use tool_status::{Status, What, Which};
 
 fn main(rt: HostRuntime) -> ExitCode {
     let mut err = StdSink::err(rt.stderr());
@@ -27,7 +19,7 @@ fn main(rt: HostRuntime) -> ExitCode {
         Ok(words) => on_streams(&rt, &words, &mut err),
         Err(_) => {
             // A text that is not taken changes no status.
-            let _ = telling::tell(&Status::OutOfMemory, &mut err);
+            let _ = tell(&Status::OutOfMemory, &mut err);
             Status::OutOfMemory
         }
     };
@@ -54,6 +46,3 @@ fn on_streams<E: Sink>(rt: &HostRuntime, words: &[String], err: &mut E) -> Statu
 fn is_node(words: &[String]) -> bool {
     words.first().is_some_and(|word| word.as_str() == "node")
 }
-
-#[cfg(test)]
-mod tests;

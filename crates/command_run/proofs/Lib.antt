@@ -1,0 +1,7 @@
+mod CheckLemmas
+mod CommandLemmas
+mod DrillLemmas
+mod DueLemmas
+mod LineLemmas
+mod ReplayLemmas
+mod WordCounts

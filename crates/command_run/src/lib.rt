@@ -1,0 +1,8 @@
+//! The commands that go from a source to a sink: which one the words are, and what comes of it.
+#![tactic(auto)]
+
+mod command;
+mod running;
+
+pub use command::Command;
+pub use running::run;

@@ -1,0 +1,3 @@
+mod Judging
+mod NodeLaws
+mod NodeRuns

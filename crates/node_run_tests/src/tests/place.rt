@@ -1,0 +1,175 @@
+ghost use Rattle.std.specs.Prelude.{◌≡◌, false, is_some, IfOk};
+ghost use Rattle.net_base.specs.Limits.{IsWithinLimits};
+
+use io_edge::{FileList, MemShelf, MemSink, NamedFile};
+use net_base::{Action, Addr, Cid, Event, EventList, Ip, NumberList, Octets, PeerNote, StateName};
+use node_run::run_node;
+use node_world::ScriptWorld;
+use std::alloc::Global;
+use std::process::Abort;
+use std::test::Fail;
+use tool_status::Status;
+
+// What is around a node: its files, the world, and where it writes.
+#[derive(Drop)]
+pub(super) struct Place {
+    shelf: MemShelf,
+    world: ScriptWorld,
+    out: MemSink,
+    err: MemSink,
+}
+
+// What a node is run on: its words, its files, those that there are, and the numbers of the calls that fail.
+#[derive(Clone, Copy)]
+pub(super) struct Given<'a> {
+    pub(super) words: &'a [&'a str],
+    pub(super) settings: Option<&'a str>,
+    pub(super) topology: Option<&'a str>,
+    pub(super) readings: &'a [u64],
+    pub(super) world: &'a [u64],
+    pub(super) writings: &'a [u64],
+    pub(super) tellings: &'a [u64],
+}
+
+fn octets(alloc: Global, text: &str) -> Result<Octets, Fail> {
+    Ok(Octets::from_vec(text.as_bytes().to_vec(alloc)?))
+}
+
+pub(super) fn strings(alloc: Global, words: &[&str]) -> Result<Vec<String>, Fail> {
+    let mut given = Vec::new(alloc);
+    for word in words {
+        given.push(String::from_str(alloc, word)?)?;
+    }
+    Ok(given)
+}
+
+// 127.0.0.1 with a port.
+fn local(port: u16) -> Addr {
+    Addr {
+        ip: Ip::V4(0x7f00_0001),
+        port,
+    }
+}
+
+fn connects() -> Event
+    ensures { IsWithinLimits result }
+{
+    Event::Accepted(local(3005))
+}
+
+// A world in which one peer connects.
+fn world(alloc: Global, failing: &[u64]) -> Result<ScriptWorld, Fail>
+    ensures { IfOk result (λ world. is_some world.opening ≡ false) }
+{
+    let failing = NumberList::from_slice(alloc, failing)?;
+    let mut events = EventList::new(alloc);
+    events.push(connects())?;
+    Ok(ScriptWorld::new(alloc, events, failing))
+}
+
+// Adds a file, where there is one.
+fn add_file(
+    alloc: Global,
+    files: &mut FileList,
+    name: &str,
+    text: Option<&str>,
+) -> Result<(), Fail> {
+    if let Some(text) = text {
+        let name = octets(alloc, name)?;
+        let bytes = octets(alloc, text)?;
+        files.push(NamedFile { name, bytes })?;
+    }
+    Ok(())
+}
+
+// A settings file `c` and a topology file `t`, those that there are.
+pub(super) fn shelf(
+    alloc: Global,
+    settings: Option<&str>,
+    topology: Option<&str>,
+    failing: &[u64],
+) -> Result<MemShelf, Fail> {
+    let failing = NumberList::from_slice(alloc, failing)?;
+    let mut files = FileList::new(alloc);
+    add_file(alloc, &mut files, "c", settings)?;
+    add_file(alloc, &mut files, "t", topology)?;
+    Ok(MemShelf::new(alloc, files, failing))
+}
+
+pub(super) fn failing_sink(alloc: Global, failing: &[u64]) -> Result<MemSink, Fail> {
+    let failing = NumberList::from_slice(alloc, failing)?;
+    Ok(MemSink::new(alloc, 4096, failing)?)
+}
+
+pub(super) fn make_place(alloc: Global, given: Given<'_>) -> Result<Place, Fail>
+    ensures { IfOk result (λ place. is_some place.world.opening ≡ false) }
+{
+    let shelf = shelf(alloc, given.settings, given.topology, given.readings)?;
+    let out = failing_sink(alloc, given.writings)?;
+    let err = failing_sink(alloc, given.tellings)?;
+    let world = world(alloc, given.world)?;
+    Ok(Place {
+        shelf,
+        world,
+        out,
+        err,
+    })
+}
+
+// Runs a node to its end.
+fn run_in(alloc: Global, words: &[String], place: &mut Place) -> Status
+    requires { is_some place.old.world.opening ≡ false }
+{
+    run_node(
+        alloc,
+        words,
+        &mut place.shelf,
+        &mut place.world,
+        &mut place.out,
+        &mut place.err,
+    )
+}
+
+impl Place {
+    // Runs a node with these words to its end.
+    pub(super) fn run(&mut self, alloc: Global, words: &[&str]) -> Result<Status, Fail>
+        requires { is_some self.old.world.opening ≡ false }
+    {
+        let words = strings(alloc, words)?;
+        Ok(run_in(alloc, &words, self))
+    }
+
+    // These parts were written, this was told, and the first so many of the actions of a whole run were done.
+    pub(super) fn expect_left(&self, rt: &impl Abort, parts: &[&str], told: &str, done: usize) {
+        self.expect_written(rt, parts, told);
+        expect_done(rt, self.world.done().as_slice(), done);
+    }
+
+    // These parts were written, and this was told.
+    pub(super) fn expect_written(&self, rt: &impl Abort, parts: &[&str], told: &str) {
+        expect_parts(rt, self.out.bytes(), parts);
+        assert_eq!(rt; self.err.bytes(), told.as_bytes());
+    }
+}
+
+// These parts were written, one behind the other, and nothing else.
+fn expect_parts(rt: &impl Abort, written: &[u8], parts: &[&str]) {
+    let mut rest = written;
+    for part in parts {
+        assert!(rt; rest.starts_with(part.as_bytes()));
+        rest = rest.get(part.len()..).unwrap_or(b"");
+    }
+    assert_eq!(rt; rest, b"".as_slice());
+}
+
+// The first so many of the actions of a whole run were done, in their order.
+fn expect_done(rt: &impl Abort, done: &[Action], count: usize) {
+    let actions = [
+        Action::Peer(local(3002), PeerNote::Known),
+        Action::Peer(local(3003), PeerNote::Known),
+        Action::Peer(local(3004), PeerNote::Known),
+        Action::Admit(Cid(1), local(3005)),
+        Action::State(Cid(1), StateName::UnnegotiatedInbound),
+    ];
+    assert_eq!(rt; Some(done), actions.get(..count));
+}

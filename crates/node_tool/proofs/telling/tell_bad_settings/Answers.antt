@@ -1,4 +1,0 @@
-use Rattle.node_tool.proofs.telling.tell_bad_settings.Goals as goal
-
-pub returns : goal.returns
-returns g c = rw c.name.ensures at c.put_pieces.ensures

@@ -1,4 +1,0 @@
-use Rattle.node_tool.proofs.telling.tell_kind.Goals as goal
-
-pub returns : goal.returns
-returns g c = rw c.format.ensures.text at c.put_pieces.ensures

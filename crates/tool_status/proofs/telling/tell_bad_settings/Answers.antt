@@ -1,0 +1,4 @@
+use Rattle.tool_status.proofs.telling.tell_bad_settings.Goals as goal
+
+pub returns : goal.returns
+returns g c = rw c.name.ensures at c.put_pieces.ensures
