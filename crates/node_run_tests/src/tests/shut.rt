@@ -2,10 +2,13 @@ ghost use Rattle.std.specs.Prelude.{◌≡◌, [], Some, None, false, true};
 
 use super::place::{failing_sink, shelf, strings};
 use super::{SETTINGS, TOPOLOGY};
+use io_edge::{MemShelf, MemSink};
 use net_base::{Action, AddrList};
 use node_run::run_node;
 use node_settings::Config;
 use node_world::{Next, World, WorldRefusal};
+use std::alloc::Global;
+use std::process::Abort;
 use std::test::Fail;
 use tool_status::Status;
 
@@ -44,18 +47,51 @@ impl World for ShutWorld {
     }
 }
 
+// Where a node stands whose world never opens.
+#[derive(Drop)]
+struct ShutPlace {
+    shelf: MemShelf,
+    world: ShutWorld,
+    out: MemSink,
+    err: MemSink,
+}
+
+fn make_shut(alloc: Global) -> Result<ShutPlace, Fail> {
+    let shelf = shelf(alloc, Some(SETTINGS), Some(TOPOLOGY), &[])?;
+    let out = failing_sink(alloc, &[])?;
+    let err = failing_sink(alloc, &[])?;
+    Ok(ShutPlace {
+        shelf,
+        world: ShutWorld { faults: 0 },
+        out,
+        err,
+    })
+}
+
+fn run_shut(alloc: Global, words: &[String], place: &mut ShutPlace) -> Status {
+    run_node(
+        alloc,
+        words,
+        &mut place.shelf,
+        &mut place.world,
+        &mut place.out,
+        &mut place.err,
+    )
+}
+
+// It was asked to open once, and nothing was written.
+fn expect_shut(rt: &impl Abort, place: &ShutPlace) {
+    assert!(rt; place.world.faults == 1);
+    assert!(rt; place.out.bytes().is_empty());
+    assert!(rt; place.err.bytes() == b"unresolved 1\nworld fault\n".as_slice());
+}
+
 #[test]
 fn a_world_that_does_not_open_is_told(rt: HostRuntime) -> Result<(), Fail> {
-    let alloc = rt.alloc();
-    let words = strings(alloc, &["node", "c", "t", "0"])?;
-    let mut shelf = shelf(alloc, Some(SETTINGS), Some(TOPOLOGY), &[])?;
-    let mut world = ShutWorld { faults: 0 };
-    let mut out = failing_sink(alloc, &[])?;
-    let mut err = failing_sink(alloc, &[])?;
-    let status = run_node(alloc, &words, &mut shelf, &mut world, &mut out, &mut err);
-    assert_eq!(rt; status, Status::WorldFault);
-    assert_eq!(rt; world.faults, 1);
-    assert_eq!(rt; out.bytes(), b"".as_slice());
-    assert_eq!(rt; err.bytes(), b"unresolved 1\nworld fault\n".as_slice());
+    let words = strings(rt.alloc(), &["node", "c", "t", "0"])?;
+    let mut place = make_shut(rt.alloc())?;
+    let status = run_shut(rt.alloc(), &words, &mut place);
+    assert!(rt; status == Status::WorldFault);
+    expect_shut(&rt, &place);
     Ok(())
 }
