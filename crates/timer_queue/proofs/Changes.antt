@@ -1,5 +1,5 @@
 -- The rows and the line, after a row is changed where it stands.
-use Rattle.std.proofs.Common.{◌≡◌, ℕ, ◌+◌, true, List, set, slice_get, is_some, Option, Some, None, refl, sym, ap, subst, ◌∙◌, arith}
+use Rattle.std.proofs.Common.{◌≡◌, ℕ, ◌+◌, List, set, slice_get, is_some, Option, Some, None, refl, sym, ap, subst, ◌∙◌, arith}
 use Rattle.std.specs.Bool.{then_some}
 use Rattle.std.specs.List.{sum_by}
 use Rattle.std.proofs.lemmas.List.{set-get_or}

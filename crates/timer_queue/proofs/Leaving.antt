@@ -54,7 +54,7 @@ without_each-is cid line =
     stays kind d = not (is_timer_of cid kind d)
 
 -- one kind is cleared, and the others are told as before
-told-without : (cid : Cid) (kind : Kind) (moments : Moments) (line : List Deadline) → AreMomentsOf cid moments line →
+pub told-without : (cid : Cid) (kind : Kind) (moments : Moments) (line : List Deadline) → AreMomentsOf cid moments line →
     AreMomentsOf cid (with_moment kind None moments) (without_kind cid kind line)
 told-without cid kind moments line told other d of_it =
     has-filter deadline_before same_timer timer_order (λ e. not (is_timer_of cid kind e)) d line

@@ -1,11 +1,12 @@
 -- The line of timers, after an edit at a place.
-use Rattle.std.proofs.Common.{◌≡◌, ℕ, ◌<◌, ◌+◌, Bool, true, false, not, List, length, ap, sym, subst, ◌∙◌, arith}
+use Rattle.std.proofs.Common.{◌≡◌, ℕ, ◌<◌, ◌+◌, Bool, true, false, not, List, length, is_some, slice_get, ap, sym, subst, ◌∙◌, arith}
 use Rattle.std.specs.List.{filter, prefix_len, insert, remove}
 use Rattle.net_base.specs.Timer.{deadline_before}
 use Rattle.net_base.specs.declared.timer.Deadline.{Deadline}
 use Rattle.timer_queue.specs.Timers.{IsInOrder, has_timer, same_timer, put_in}
 use Rattle.timer_queue.proofs.Orders.{timer_order}
-use Rattle.timer_queue.proofs.Rising.{insert-place, put_in-between, remove-place, place-inside, IsRising-put_in, IsRising-filter, length-put_in as more, length-taken_out as fewer}
+use Rattle.timer_queue.specs.Kept.{found_timer}
+use Rattle.timer_queue.proofs.Rising.{any-find, find-place, insert-place, put_in-between, remove-place, place-inside, IsRising-put_in, IsRising-filter, length-put_in as more, length-taken_out as fewer}
 
 -- how many of a line fire before a timer
 abbrev pub place_in : Deadline → List Deadline → ℕ
@@ -45,3 +46,10 @@ pub length-taken_out : (old : Deadline) (line : List Deadline) → IsInOrder lin
     length (filter (λ d. not (same_timer d old)) line) + 1 ≡ length line
 length-taken_out old line rises there =
     omega (arith, fewer deadline_before same_timer timer_order (λ d. d) old line rises there)
+
+-- a timer is in a line where it stands at its place
+pub has-place_in : (d : Deadline) (line : List Deadline) (n : ℕ) → IsInOrder line → n ≡ place_in d line →
+    is_some (found_timer d (slice_get line n)) ≡ has_timer d line
+has-place_in d line n rises e =
+    ap is_some (ap (λ m. found_timer d (slice_get line m)) e ∙ sym (find-place deadline_before same_timer timer_order (λ f. f) d line rises))
+    ∙ any-find deadline_before same_timer timer_order (λ f. f) d line
