@@ -1,18 +1,20 @@
 -- What is set after each change of the rows and the line, and how many timers that are.
-use Rattle.std.proofs.Common.{◌≡◌, ℕ, ◌+◌, ◌||◌, ◌⊎◌, true, false, List, length, Option, Some, None, sym, ap, ◌∙◌, inl, inr, arith}
+use Rattle.std.proofs.Common.{◌≡◌, ℕ, ◌+◌, ◌&&◌, ◌||◌, cond, slice_get, ◌⊎◌, true, false, List, length, Option, Some, None, sym, ap, ◌∙◌, inl, inr, arith}
 use Rattle.std.proofs.lemmas.Bool.{or_right, or_cases}
 use Rattle.net_base.specs.declared.connection.Cid.{Cid}
 use Rattle.net_base.specs.declared.timer.Deadline.{Deadline}
 use Rattle.net_base.specs.declared.timer.Kind.{Kind}
 use Rattle.net_base.specs.declared.timer.Kind.TheVariants.{Handshake, Grace, TimeWait, Reply2, Reply8, Reply10}
-use Rattle.timer_queue.specs.Kept.{set_of, IsLineOf}
-use Rattle.timer_queue.specs.Rows.{row_at, one_if_set, timers_in, empty_row, with_at, with_row, with_new_row, without_row, IsMomentOf, AreMomentsOf}
-use Rattle.timer_queue.specs.Timers.{timer, same_timer, has_timer, IsInOrder, put_in, without_kind, without_cid}
+use Rattle.timer_queue.specs.Kept.{is_set, set_of, begins_set, is_set_or_of, IsLineOf}
+use Rattle.timer_queue.specs.Rows.{row_at, moment_at, is_set_at, one_if_set, timers_in, empty_row, with_at, with_row, with_new_row, without_row, IsMomentOf, AreMomentsOf}
+use Rattle.timer_queue.specs.Timers.{timer, same_cid, same_kind, same_timer, has_timer, IsInOrder, put_in, without_kind, without_cid}
 use Rattle.timer_queue.specs.declared.rows.Row.{Row}
 use Rattle.timer_queue.proofs.Agreement.{Agree, Agree-cleared, Agree-set, Agree-left, Agree-admitted, cleared, there, has-put_in, without_kind-set, without_kind-unset}
 use Rattle.timer_queue.proofs.Leaving.{told-without, without_each-is}
 use Rattle.timer_queue.proofs.Lines.{IsInOrder-put_in, IsInOrder-filter, length-put_in, length-taken_out}
-use Rattle.timer_queue.proofs.SetTimers.{was_there, agreeing, in_order, set_of-is, lined_by}
+use Rattle.timer_queue.proofs.SetTimers.{was_there, agreeing, in_order, set_of-is, lined_by, still_begins}
+use Rattle.timer_queue.proofs.RowEdits.{moment_at-with_row, moment_at-without_other}
+use Rattle.timer_queue.proofs.Orders.{cid_order}
 
 -- a line, and the timers of it that are set
 pub record Has (rows : List Row) (line timers : List Deadline) : Type 0 where
@@ -69,6 +71,27 @@ pub has_admitted : (cid : Cid) (rows : List Row) (line : List Deadline) → row_
 has_admitted cid rows line absent h =
     let timers : List Deadline = set_of rows line in
     has _ line _ h.in_order (in_order rows line h) (Agree-admitted cid rows timers absent (agreeing rows line h)) (λ d left. was_there _ d line left)
+
+-- ---- timers of other ids
+
+pub set-with_row : (row : Row) (kind : Kind) (at : Option ℕ) (rows : List Row) → row_at row.cid rows ≡ Some row → (d : Deadline) →
+    same_cid d.cid row.cid ≡ false → is_set (with_row (with_at kind at row) rows) d ≡ is_set rows d
+set-with_row row kind at rows found d other =
+    ap (is_set_at d.at) (moment_at-with_row d.cid d.kind kind at row rows found
+    ∙ ap (λ b. cond (b && same_kind d.kind kind) at (moment_at d.cid d.kind rows)) other)
+
+pub set-without_row : (cid : Cid) (rows : List Row) (d : Deadline) → same_cid d.cid cid ≡ false → is_set (without_row cid rows) d ≡ is_set rows d
+set-without_row cid rows d other = ap (is_set_at d.at) (moment_at-without_other d.cid cid d.kind rows other)
+
+-- the first of a line in which a timer was put, or which had it
+pub put_in-begins : (row : Row) (kind : Kind) (at : ℕ) (rows : List Row) (line new : List Deadline) → row_at row.cid rows ≡ Some row →
+    begins_set rows line ≡ true → (slice_get new 0 ≡ slice_get line 0) ⊎ (slice_get new 0 ≡ Some (timer row.cid kind at)) →
+    is_set_or_of row.cid (with_row (with_at kind (Some at) row) rows) (slice_get new 0) ≡ true
+put_in-begins row kind at rows line new found begins (inl as_before) =
+    ap (is_set_or_of row.cid _) as_before ∙ still_begins row.cid rows _ line (set-with_row row kind (Some at) rows found) begins
+put_in-begins row kind at rows line new found begins (inr it) =
+    ap (is_set_or_of row.cid _) it
+    ∙ ap (λ b. b || is_set (with_row (with_at kind (Some at) row) rows) (timer row.cid kind at)) (cid_order.same_itself row.cid)
 
 -- ---- how many
 

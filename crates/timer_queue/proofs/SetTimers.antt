@@ -1,11 +1,12 @@
 -- The timers of a line that are set.
-use Rattle.std.proofs.Common.{◌≡◌, ◌<◌, ◌&&◌, Bool, true, false, cond, List, [], ◌∷◌, length, drop, slice_get, refl, sym, ap, subst, ◌∙◌, inl, inr, arith}
+use Rattle.std.proofs.Common.{◌≡◌, ◌<◌, ◌&&◌, ◌||◌, Bool, true, false, cond, List, [], ◌∷◌, length, drop, slice_get, refl, sym, ap, subst, ◌∙◌, inl, inr, arith}
 use Rattle.std.specs.List.{filter}
 use Rattle.std.proofs.lemmas.Bool.{cases_Bool, and_parts, and_right, true≢false}
 use Rattle.net_base.specs.Timer.{deadline_before}
+use Rattle.net_base.specs.declared.connection.Cid.{Cid}
 use Rattle.net_base.specs.declared.timer.Deadline.{Deadline}
-use Rattle.timer_queue.specs.Kept.{is_set, set_of, begins_set, IsLineOf}
-use Rattle.timer_queue.specs.Timers.{same_timer, has_timer, IsInOrder, least}
+use Rattle.timer_queue.specs.Kept.{is_set, set_of, begins_set, begins_of, is_set_or_of, IsLineOf}
+use Rattle.timer_queue.specs.Timers.{same_cid, same_timer, has_timer, IsInOrder, least}
 use Rattle.timer_queue.specs.declared.rows.Row.{Row}
 use Rattle.timer_queue.proofs.Agreement.{Agree}
 use Rattle.timer_queue.proofs.Firsts.{least-first}
@@ -72,6 +73,20 @@ first-is rows (d ∷ ds) rises begins =
 pub begins_set-same : (rows new : List Row) (line : List Deadline) → ((d : Deadline) → is_set new d ≡ is_set rows d) → begins_set new line ≡ begins_set rows line
 begins_set-same rows new [] same = refl
 begins_set-same rows new (d ∷ ds) same = same d
+
+-- the first stays set where the timers of one id have changed, unless it is one of these
+pub still_begins : (cid : Cid) (rows new : List Row) (line : List Deadline) → ((d : Deadline) → same_cid d.cid cid ≡ false → is_set new d ≡ is_set rows d) →
+    begins_set rows line ≡ true → is_set_or_of cid new (slice_get line 0) ≡ true
+still_begins cid rows new [] same begins = refl
+still_begins cid rows new (d ∷ ds) same begins = elim (cases_Bool (same_cid d.cid cid)) [
+  | inl here ↦ ap (λ b. b || is_set new d) here
+  | inr other ↦ ap (λ b. b || is_set new d) other ∙ (same d other ∙ begins)
+]
+
+pub begins_of_another : (cid : Cid) (rows : List Row) (line : List Deadline) → begins_of cid line ≡ false →
+    is_set_or_of cid rows (slice_get line 0) ≡ true → begins_set rows line ≡ true
+begins_of_another cid rows [] other either = refl
+begins_of_another cid rows (d ∷ ds) other either = sym (ap (λ b. b || is_set rows d) other) ∙ either
 
 -- where the first was taken out, and goes
 pub set_of-rest : (rows : List Row) (line : List Deadline) → begins_set rows line ≡ false → set_of rows (drop 1 line) ≡ set_of rows line

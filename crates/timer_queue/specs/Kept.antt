@@ -1,11 +1,12 @@
 -- What stands for a queue, and what is always true of it.
-use Rattle.std.specs.Prelude.{◌≡◌, ◌*◌, ◌≤◌, Bool, true, List, [], ◌∷◌, filter, map, length, sum_by, Option, Some, None, if◌then◌else◌}
+use Rattle.std.specs.Prelude.{◌≡◌, ◌*◌, ◌≤◌, ◌||◌, Bool, true, false, List, [], ◌∷◌, filter, map, length, sum_by, Option, Some, None, if◌then◌else◌}
 use Rattle.std.specs.VecDeque.{deque_capacity}
+use Rattle.net_base.specs.declared.connection.Cid.{Cid}
 use Rattle.net_base.specs.declared.timer.Deadline.{Deadline}
 use Rattle.timer_queue.specs.Order.{IsRising}
 use Rattle.timer_queue.specs.Queue.{Queue}
 use Rattle.timer_queue.specs.Rows.{moment_at, is_set_at, timers_in}
-use Rattle.timer_queue.specs.Timers.{cid_below, same_timer, has_timer, IsInOrder}
+use Rattle.timer_queue.specs.Timers.{same_cid, cid_below, same_timer, has_timer, IsInOrder}
 use Rattle.timer_queue.specs.declared.kept.Kept.{Kept}
 use Rattle.timer_queue.specs.declared.rows.Row.{Row}
 
@@ -20,6 +21,16 @@ set_of rows line = filter (is_set rows) line
 abbrev pub begins_set : List Row → List Deadline → Bool
 begins_set rows [] = true
 begins_set rows (d ∷ ds) = is_set rows d
+
+-- whether the first of a line is a timer of an id
+abbrev pub begins_of : Cid → List Deadline → Bool
+begins_of cid [] = false
+begins_of cid (d ∷ ds) = same_cid d.cid cid
+
+-- the first of a line is set, or a timer of an id
+abbrev pub is_set_or_of : Cid → List Row → Option Deadline → Bool
+is_set_or_of cid rows None = true
+is_set_or_of cid rows (Some d) = same_cid d.cid cid || is_set rows d
 
 -- a timer that stands at a place, where it is a given one
 abbrev pub found_timer : Deadline → Option Deadline → Option Deadline

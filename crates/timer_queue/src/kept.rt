@@ -1,11 +1,11 @@
-ghost use Rattle.std.specs.Prelude.{◌≡◌, ◌+◌, ◌*◌, ◌<◌, ◌≤◌, true, false, None, Some, OnOk, OnErr, length};
+ghost use Rattle.std.specs.Prelude.{◌≡◌, ◌+◌, ◌*◌, ◌<◌, ◌≤◌, true, false, None, Some, OnOk, OnErr, length, slice_get};
 ghost use Rattle.std.specs.VecDeque.{deque_len, deque_capacity};
 ghost use Rattle.net_base.specs.declared.timer.Deadline.{Deadline};
 ghost use Rattle.timer_queue.specs.Rows.{row_at, AreMomentsOf};
 ghost use Rattle.timer_queue.specs.Timers.{timer, least};
 ghost use Rattle.timer_queue.specs.Queue.{is_enrolled, empty_queue, with_enrolled, with_timer, without_timer, without_connection, least_due, without_fired};
 
-use crate::line::{put_in, sweep, trim};
+use crate::line::{begins_with, put_in, sweep, trim};
 use crate::moments::Moments;
 use crate::rows::{Row, change_row, insert_row, one_if_set, place_in, place_of};
 use chunked_list::ChunkedList;
@@ -27,7 +27,7 @@ pub struct Kept {
 }
 
 impl Kept {
-    ghost use Rattle.timer_queue.specs.Kept.{IsLoose, IsKept, queue_of};
+    ghost use Rattle.timer_queue.specs.Kept.{IsLoose, IsKept, queue_of, is_set_or_of};
 
     pub fn new(alloc: Global) -> Kept
         ensures kept { IsKept result }
@@ -117,7 +117,7 @@ impl Kept {
         let old = change_row(&mut self.rows, place, kind, Some(at));
         self.count = self.count - one_if_set(old) + 1;
         put_in(&mut self.line, Deadline { at, cid, kind });
-        self.settle();
+        self.settle(cid);
     }
 
     pub fn clear(&mut self, cid: Cid, kind: Kind)
@@ -130,7 +130,7 @@ impl Kept {
         };
         let old = change_row(&mut self.rows, place, kind, None);
         self.count -= one_if_set(old);
-        self.settle();
+        self.settle(cid);
     }
 
     pub fn leave(&mut self, cid: Cid)
@@ -143,7 +143,7 @@ impl Kept {
         };
         let row = self.rows.remove(place);
         self.count -= row.timers();
-        self.settle();
+        self.settle(cid);
     }
 
     // Sees to it that one more timer has room: drops those that were taken out, where they are half of the line or more.
@@ -159,13 +159,16 @@ impl Kept {
         sweep(&mut self.line, &self.rows);
     }
 
-    // Sees to it that the first of the line is set.
-    fn settle(&mut self)
-        requires { IsLoose self.old }
+    // Sees to it that the first of the line is set, where the timers of one connection have changed.
+    fn settle(&mut self, cid: Cid)
+        requires loose { IsLoose self.old }
+        requires begins { is_set_or_of cid self.old.rows (slice_get self.old.line.items 0) ≡ true }
         ensures kept { IsKept self.new }
         ensures queue { queue_of self.new ≡ queue_of self.old }
     {
-        trim(&mut self.line, &self.rows);
+        if begins_with(&self.line, cid) {
+            trim(&mut self.line, &self.rows);
+        }
     }
 
     pub fn pop_due(&mut self, now: u64) -> Option<Deadline>

@@ -1,15 +1,15 @@
-ghost use Rattle.std.specs.Prelude.{◌≡◌, ◌<◌, ◌≤◌, ◌||◌, true, is_some, slice_get};
+ghost use Rattle.std.specs.Prelude.{◌≡◌, ◌<◌, ◌≤◌, ◌||◌, ◌⊎◌, true, Some, is_some, slice_get};
 ghost use Rattle.std.specs.List.{prefix_len};
 ghost use Rattle.std.specs.VecDeque.{deque_len, deque_capacity};
 ghost use Rattle.net_base.specs.Timer.{deadline_before};
 ghost use Rattle.net_base.specs.declared.timer.Deadline.{Deadline};
-ghost use Rattle.timer_queue.specs.Kept.{set_of, begins_set as begins_set_in, found_timer};
+ghost use Rattle.timer_queue.specs.Kept.{set_of, begins_set as begins_set_in, begins_of, found_timer};
 ghost use Rattle.timer_queue.specs.Order.{IsRising};
 ghost use Rattle.timer_queue.specs.Timers.{cid_below, same_timer, has_timer, IsInOrder};
 
 use crate::rows::{Row, is_set};
 use chunked_list::ChunkedList;
-use net_base::Deadline;
+use net_base::{Cid, Deadline};
 use std::collections::VecDeque;
 
 // Puts a timer in, where it doesn't stand in the line already. There has to be room.
@@ -18,6 +18,7 @@ pub fn put_in(line: &mut VecDeque<Deadline>, deadline: Deadline)
     requires room { deque_len line.old < deque_capacity line.old }
     ensures in_order { IsInOrder line.new.items }
     ensures timers { (d : Deadline) → has_timer d line.new.items ≡ (same_timer deadline d || has_timer d line.old.items) }
+    ensures first { (slice_get line.new.items 0 ≡ slice_get line.old.items 0) ⊎ (slice_get line.new.items 0 ≡ Some deadline) }
     ensures kept { deque_capacity line.old ≤ deque_capacity line.new }
 {
     let place = place_of(line, deadline);
@@ -48,6 +49,16 @@ pub fn trim(line: &mut VecDeque<Deadline>, rows: &ChunkedList<Row>)
 {
     while !begins_set(line, rows) {
         let _ = line.pop_front();
+    }
+}
+
+// Whether the first of a line is a timer of a connection.
+pub fn begins_with(line: &VecDeque<Deadline>, cid: Cid) -> bool
+    ensures { result ≡ begins_of cid line.now.items }
+{
+    match line.front() {
+        Some(first) => first.cid == cid,
+        None => false,
     }
 }
 

@@ -1,16 +1,16 @@
-use Rattle.std.proofs.Common.{◌≡◌, List, None, length, ap, sym, subst, ◌∙◌, arith}
+use Rattle.std.proofs.Common.{◌≡◌, List, true, None, slice_get, length, ap, sym, subst, ◌∙◌, arith}
 use Rattle.std.specs.List.{sum_by}
 use Rattle.std.proofs.lemmas.Option.{slice_get_within}
 use Rattle.net_base.specs.declared.timer.Deadline.{Deadline}
-use Rattle.timer_queue.specs.Kept.{set_of, IsLineOf}
+use Rattle.timer_queue.specs.Kept.{set_of, is_set_or_of, IsLineOf}
 use Rattle.timer_queue.specs.Rows.{moment_of, timers_in, with_row, IsMomentOf}
 use Rattle.timer_queue.specs.Timers.{without_kind}
 use Rattle.timer_queue.specs.declared.rows.Row.{Row}
 use Rattle.timer_queue.proofs.Agreement.{has-of, without_kind-unset}
 use Rattle.timer_queue.proofs.Changes.{stands_as_found, missing, new_row, changed, old_told, count}
-use Rattle.timer_queue.proofs.Edits.{Has, has_cleared, length-without_kind}
+use Rattle.timer_queue.proofs.Edits.{Has, has_cleared, set-with_row, length-without_kind}
 use Rattle.timer_queue.proofs.RowEdits.{AreRising, AreRising-with_row, ids_of, ids_of-with_row, length-with_row}
-use Rattle.timer_queue.proofs.SetTimers.{agreeing, in_order}
+use Rattle.timer_queue.proofs.SetTimers.{agreeing, in_order, still_begins}
 use Rattle.timer_queue.proofs.kept.Kept.clear.Goals as goal
 
 pub returns-in_default-clause-queue : goal.returns-in_default-clause-queue
@@ -38,8 +38,8 @@ overflow_sub-self c =
     let old = c.change_row-old.ensures.old ∙ ap (moment_of c.args.kind) s.here in
     omega (arith, loose.counted, c.one_if_set.ensures.value, count s c.args.kind None c.change_row-old.result loose.rows_rise old)
 
-pub settle-requires : goal.settle-requires
-settle-requires c =
+pub settle-requires-clause-loose : goal.settle-requires-clause-loose
+settle-requires-clause-loose c =
     let rows : List Row = c.args.self.now.rows in
     let line : List Deadline = c.args.self.now.line.items in
     let timers : List Deadline = set_of rows line in
@@ -66,6 +66,17 @@ settle-requires c =
       );
       roomy = omega (arith, loose.roomy, ap length e, length-with_row new rows);
     }
+
+pub settle-requires-clause-begins : goal.settle-requires-clause-begins
+settle-requires-clause-begins c =
+    let rows : List Row = c.args.self.now.rows in
+    let line : List Deadline = c.args.self.now.line.items in
+    let loose = c.requires.loose in
+    let s = stands_as_found c.args.cid rows c.in-Some.place c.place_in.result loose.rows_rise c.place_in.ensures c.in-Some.is in
+    let new : Row = new_row s c.args.kind None in
+    let e : c.change_row-old.new.rows ≡ with_row new rows = changed s c.args.kind None c.change_row-old.new.rows loose.rows_rise c.change_row-old.ensures.rows in
+    let begins = still_begins s.row.cid rows (with_row new rows) line (set-with_row s.row c.args.kind None rows s.found) c.requires.begins in
+    ap (λ rs. is_set_or_of c.args.cid rs (slice_get line 0)) e ∙ subst (λ i. is_set_or_of i (with_row new rows) (slice_get line 0) ≡ true) s.its begins
 
 pub returns-clause-queue : goal.returns-clause-queue
 returns-clause-queue c =

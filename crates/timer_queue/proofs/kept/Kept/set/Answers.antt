@@ -1,14 +1,14 @@
-use Rattle.std.proofs.Common.{◌≡◌, ◌||◌, List, length, None, Some, ap, sym, subst, ◌∙◌, arith}
+use Rattle.std.proofs.Common.{◌≡◌, ◌||◌, ◌⊎◌, true, List, length, slice_get, None, Some, ap, sym, subst, ◌∙◌, arith}
 use Rattle.std.specs.List.{sum_by}
 use Rattle.std.proofs.lemmas.Option.{slice_get_within}
 use Rattle.net_base.specs.declared.timer.Deadline.{Deadline}
-use Rattle.timer_queue.specs.Kept.{set_of, IsLineOf}
+use Rattle.timer_queue.specs.Kept.{set_of, is_set_or_of, IsLineOf}
 use Rattle.timer_queue.specs.Queue.{is_enrolled, with_timer}
 use Rattle.timer_queue.specs.Rows.{moment_of, timers_in, with_row}
 use Rattle.timer_queue.specs.Timers.{timer, same_timer, has_timer, put_in, without_kind}
 use Rattle.timer_queue.specs.declared.rows.Row.{Row}
 use Rattle.timer_queue.proofs.Changes.{new_row, changed, old_told, count}
-use Rattle.timer_queue.proofs.Edits.{Has, has_set, length-set}
+use Rattle.timer_queue.proofs.Edits.{Has, has_set, put_in-begins, length-set}
 use Rattle.timer_queue.proofs.RowEdits.{AreRising, AreRising-with_row, stands_at, enrolled-is, ids_of, ids_of-with_row, length-with_row, sum-most}
 use Rattle.timer_queue.proofs.SetTimers.{agreeing, in_order}
 use Rattle.timer_queue.proofs.kept.Kept.set.Goals as goal
@@ -44,8 +44,8 @@ put_in-requires-clause-room c =
     let s = stands_at c.args.cid rows c.place_of-place.result loose.rows_rise there c.place_of-place.ensures.value in
     c.make_room.ensures.room (omega (arith, slice_get_within rows c.place_of-place.result s.row s.here))
 
-pub settle-requires : goal.settle-requires
-settle-requires c =
+pub settle-requires-clause-loose : goal.settle-requires-clause-loose
+settle-requires-clause-loose c =
     let rows : List Row = c.make_room.new.self.rows in
     let line : List Deadline = c.make_room.new.self.line.items in
     let timers : List Deadline = set_of rows line in
@@ -83,6 +83,20 @@ settle-requires c =
       );
       roomy = omega (arith, loose.roomy, ap length e, length-with_row new rows, c.put_in.ensures.kept);
     }
+
+pub settle-requires-clause-begins : goal.settle-requires-clause-begins
+settle-requires-clause-begins c =
+    let rows : List Row = c.make_room.new.self.rows in
+    let line : List Deadline = c.make_room.new.self.line.items in
+    let new_line : List Deadline = c.put_in.new.line.items in
+    let loose = c.make_room.ensures.kept.loose in
+    let there = sym (enrolled-is c.args.cid rows) ∙ (ap (is_enrolled c.args.cid) c.make_room.ensures.queue ∙ c.requires.enrolled) in
+    let s = stands_at c.args.cid rows c.place_of-place.result loose.rows_rise there c.place_of-place.ensures.value in
+    let new : Row = new_row s c.args.kind (Some c.args.at) in
+    let e : c.change_row-old.new.rows ≡ with_row new rows = changed s c.args.kind (Some c.args.at) c.change_row-old.new.rows loose.rows_rise c.change_row-old.ensures.rows in
+    let first = subst (λ i. (slice_get new_line 0 ≡ slice_get line 0) ⊎ (slice_get new_line 0 ≡ Some (timer i c.args.kind c.args.at))) (sym s.its) c.put_in.ensures.first in
+    let begins = put_in-begins s.row c.args.kind c.args.at rows line new_line s.found c.make_room.ensures.kept.begins first in
+    ap (λ rs. is_set_or_of c.args.cid rs (slice_get new_line 0)) e ∙ subst (λ i. is_set_or_of i (with_row new rows) (slice_get new_line 0) ≡ true) s.its begins
 
 pub returns-clause-queue : goal.returns-clause-queue
 returns-clause-queue c =

@@ -1,16 +1,21 @@
-use Rattle.std.proofs.Common.{List, length, ap, ◌∙◌, arith}
+use Rattle.std.proofs.Common.{List, length, ap, sym, ◌∙◌, arith}
 use Rattle.net_base.specs.declared.timer.Deadline.{Deadline}
 use Rattle.timer_queue.specs.declared.rows.Row.{Row}
-use Rattle.timer_queue.proofs.RowEdits.{ids_of}
-use Rattle.timer_queue.proofs.SetTimers.{lined_as}
+use Rattle.timer_queue.proofs.SetTimers.{lined_as, begins_of_another}
 use Rattle.timer_queue.proofs.kept.Kept.settle.Goals as goal
 
-pub returns-clause-kept : goal.returns-clause-kept
-returns-clause-kept c =
+pub returns-else-begins_with-clause-kept : goal.returns-else-begins_with-clause-kept
+returns-else-begins_with-clause-kept c = record {
+  loose = c.requires.loose;
+  begins = begins_of_another c.args.cid c.args.self.now.rows c.args.self.now.line.items (sym c.if-begins_with.ensures) c.requires.begins;
+}
+
+pub returns-then-begins_with-clause-kept : goal.returns-then-begins_with-clause-kept
+returns-then-begins_with-clause-kept c =
     let rows : List Row = c.args.self.now.rows in
     let old : List Deadline = c.args.self.now.line.items in
     let new : List Deadline = c.trim.new.line.items in
-    let loose = c.requires in
+    let loose = c.requires.loose in
     let trim = c.trim.ensures in
     record {
       loose = record {
@@ -22,8 +27,3 @@ returns-clause-kept c =
       };
       begins = trim.begins;
     }
-
-pub returns-clause-queue : goal.returns-clause-queue
-returns-clause-queue c =
-    let rows : List Row = c.args.self.now.rows in
-    λ i. record { enrolled = ids_of rows; timers = c.trim.ensures.same i }
