@@ -107,6 +107,14 @@ has-put_in new d line rises absent =
     ap (has_timer d) (sym (put_in-between deadline_before same_timer timer_order (λ e. e) new line rises absent))
     ∙ any-put_in deadline_before same_timer timer_order (λ e. e) (λ e. same_timer e d) new line
 
+-- one more of a timer that it has is no other
+pub has-again : (new : Deadline) (line : List Deadline) → has_timer new line ≡ true → (d : Deadline) →
+    has_timer d line ≡ (same_timer new d || has_timer d line)
+has-again new line there d = elim (cases_Bool (same_timer new d)) [
+  | inl same ↦ ap (λ e. has_timer e line) (sym (timer_order.same_is new d same)) ∙ (there ∙ sym (ap (λ b. b || has_timer d line) same))
+  | inr other ↦ sym (ap (λ b. b || has_timer d line) other)
+]
+
 -- what the line has once a timer is set in place of the one of its id and kind
 has-set : (cid : Cid) (kind : Kind) (at : ℕ) (line : List Deadline) (d : Deadline) → IsInOrder line →
     has_timer d (put_in (timer cid kind at) (without_kind cid kind line)) ≡ cond (is_timer_of cid kind d) (at == d.at) (has_timer d line)

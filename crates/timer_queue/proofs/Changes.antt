@@ -1,25 +1,14 @@
 -- The rows and the line, after a row is changed where it stands.
-use Rattle.std.proofs.Common.{◌≡◌, ℕ, ◌+◌, true, List, set, slice_get, is_some, Option, Some, None, refl, sym, ap, subst, ◌∙◌, arith}
+use Rattle.std.proofs.Common.{◌≡◌, ℕ, ◌+◌, List, set, slice_get, is_some, Option, Some, None, sym, ap, subst, ◌∙◌, arith}
 use Rattle.std.specs.Bool.{then_some}
 use Rattle.std.specs.List.{sum_by}
-use Rattle.std.proofs.lemmas.List.{set-get_or}
-use Rattle.std.proofs.lemmas.Option.{get_or_from_slice_get}
 use Rattle.net_base.specs.declared.connection.Cid.{Cid}
 use Rattle.net_base.specs.declared.timer.Deadline.{Deadline}
 use Rattle.net_base.specs.declared.timer.Kind.{Kind}
-use Rattle.net_base.specs.declared.timer.Kind.TheVariants.{Handshake, Grace, TimeWait, Reply2, Reply8, Reply10}
 use Rattle.timer_queue.specs.Rows.{moment, moment_of, one_if_set, timers_in, with_at, with_row, row_at, place_at, IsMomentOf}
 use Rattle.timer_queue.specs.declared.rows.Row.{Row}
 use Rattle.timer_queue.proofs.Agreement.{Agree, has-of}
 use Rattle.timer_queue.proofs.RowEdits.{AreRising, StandsAt, stands_at, place_found, place_missing, set-place_at, sum-with_row, timers_in-with_at}
-
-with_at-same : (kind : Kind) (row : Row) → with_at kind (moment kind row.moments) row ≡ row
-with_at-same Handshake row = refl
-with_at-same Grace row = refl
-with_at-same TimeWait row = refl
-with_at-same Reply2 row = refl
-with_at-same Reply8 row = refl
-with_at-same Reply10 row = refl
 
 module _ {cid : Cid} {rows : List Row} {place : ℕ} (s : StandsAt cid rows place) (kind : Kind) (at : Option ℕ) where
   abbrev pub new_row : Row
@@ -29,14 +18,6 @@ module _ {cid : Cid} {rows : List Row} {place : ℕ} (s : StandsAt cid rows plac
   pub changed : (new : List Row) → AreRising rows → ((row : Row) → slice_get rows place ≡ Some row → new ≡ set rows place (with_at kind at row)) →
       new ≡ with_row new_row rows
   changed new rises told = told s.row s.here ∙ set-place_at new_row rows place rises (ap is_some s.found) s.at
-
-  -- a moment that is set already is no change
-  pub unchanged : (new : List Row) → moment kind s.row.moments ≡ at →
-      ((row : Row) → slice_get rows place ≡ Some row → new ≡ set rows place (with_at kind at row)) → new ≡ rows
-  unchanged new same told =
-      told s.row s.here
-      ∙ (ap (set rows place) (ap (λ o. with_at kind o s.row) (sym same) ∙ with_at-same kind s.row)
-      ∙ (ap (set rows place) (sym (get_or_from_slice_get rows place s.row s.row s.here)) ∙ set-get_or rows place s.row))
 
   pub old_told : (line : List Deadline) (old : Option ℕ) → Agree rows line → old ≡ moment kind s.row.moments → IsMomentOf cid kind old line
   old_told line old agree e = subst (λ o. IsMomentOf cid kind o line) (sym (e ∙ ap (moment_of kind) (sym s.there))) (has-of cid kind rows line agree)

@@ -1,5 +1,5 @@
 -- What is left when the timers of every kind of a connection are cleared.
-use Rattle.std.proofs.Common.{◌≡◌, ◌&&◌, Bool, true, false, not, cond, List, [], ◌∷◌, None, refl, sym, ap, subst, ◌∙◌, inl, inr}
+use Rattle.std.proofs.Common.{◌≡◌, ◌&&◌, Bool, true, false, not, cond, List, [], ◌∷◌, None, refl, sym, ap, ◌∙◌, inl, inr}
 use Rattle.std.specs.List.{filter}
 use Rattle.std.proofs.lemmas.Bool.{cases_Bool, and_parts, and_right, false≢true, false_from_ne_true}
 use Rattle.std.proofs.lemmas.List.Elements.{filter_agree}
@@ -54,7 +54,7 @@ without_each-is cid line =
     stays kind d = not (is_timer_of cid kind d)
 
 -- one kind is cleared, and the others are told as before
-told-without : (cid : Cid) (kind : Kind) (moments : Moments) (line : List Deadline) → AreMomentsOf cid moments line →
+pub told-without : (cid : Cid) (kind : Kind) (moments : Moments) (line : List Deadline) → AreMomentsOf cid moments line →
     AreMomentsOf cid (with_moment kind None moments) (without_kind cid kind line)
 told-without cid kind moments line told other d of_it =
     has-filter deadline_before same_timer timer_order (λ e. not (is_timer_of cid kind e)) d line
@@ -71,10 +71,6 @@ told-without cid kind moments line told other d of_it =
     left : (b : Bool) → (is_set_at d.at (moment other moments) && not b) ≡ is_set_at d.at (cond b None (moment other moments))
     left true = and_right (is_set_at d.at (moment other moments)) false refl
     left false = and_true (is_set_at d.at (moment other moments))
-
-pub still_told : {moments : Moments} {new : List Deadline} (cid : Cid) (kind : Kind) (line : List Deadline) → new ≡ without_kind cid kind line →
-    AreMomentsOf cid moments line → AreMomentsOf cid (with_moment kind None moments) new
-still_told {moments} cid kind line e told = subst (AreMomentsOf cid (with_moment kind None moments)) (sym e) (told-without cid kind moments line told)
 
 -- of an id that has no row the line has nothing
 pub without_cid-absent : (cid : Cid) (rows : List Row) (line : List Deadline) → row_at cid rows ≡ None → Agree rows line → without_cid cid line ≡ line

@@ -1,5 +1,6 @@
 pub mod Agreement
 pub mod Changes
+pub mod Edits
 pub mod Firsts
 pub mod Leaving
 pub mod Lines
@@ -8,3 +9,4 @@ pub mod Orders
 pub mod Outcomes
 pub mod Rising
 pub mod RowEdits
+pub mod SetTimers

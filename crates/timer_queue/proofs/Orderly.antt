@@ -6,7 +6,7 @@ use Rattle.net_base.specs.Timer.{deadline_before}
 use Rattle.net_base.specs.declared.connection.Cid.{Cid}
 use Rattle.net_base.specs.declared.timer.Deadline.{Deadline}
 use Rattle.net_base.specs.declared.timer.Kind.{Kind}
-use Rattle.timer_queue.specs.Kept.{IsKept, queue_of}
+use Rattle.timer_queue.specs.Kept.{IsKept, queue_of, set_of}
 use Rattle.timer_queue.specs.Queue.{Queue, IsOrderly, is_enrolled, with_enrolled, with_timer, without_timer, without_connection}
 use Rattle.timer_queue.specs.Rows.{row_at, moment_of, moment_at, is_set_at}
 use Rattle.timer_queue.specs.Timers.{same_cid, cid_below, same_kind, same_timer, has_timer, is_of, is_timer_of, without_kind}
@@ -17,6 +17,7 @@ use Rattle.timer_queue.proofs.Lines.{IsInOrder-filter}
 use Rattle.timer_queue.proofs.Orders.{timer_order, cid_order, same_cid-is, same_kind-itself}
 use Rattle.timer_queue.proofs.Rising.{IsRising-map, between-there, filter-all, has-filter}
 use Rattle.timer_queue.proofs.RowEdits.{cid_of, enrolled-is}
+use Rattle.timer_queue.proofs.SetTimers.{agreeing, in_order}
 
 -- ---- from what is kept
 
@@ -37,13 +38,15 @@ set_somewhere at kind None h = absurd (false≢true h)
 set_somewhere at kind (Some row) h = refl
 
 pub orderly_when_kept : (kept : Kept) → IsKept kept → IsOrderly (queue_of kept)
-orderly_when_kept kept h = record {
-  ids_rise = IsRising-map cid_below same_cid cid_order cid_of kept.rows h.rows_rise;
-  in_order = h.in_order;
-  one_each = one_each kept.rows kept.line.items h.agreeing;
-  of_enrolled = λ d there.
-      enrolled-is d.cid kept.rows ∙ set_somewhere d.at d.kind (row_at d.cid kept.rows) (sym (h.agreeing d) ∙ there);
-}
+orderly_when_kept kept h =
+    let lined = h.loose.lined in
+    let agree = agreeing kept.rows kept.line.items lined in record {
+      ids_rise = IsRising-map cid_below same_cid cid_order cid_of kept.rows h.loose.rows_rise;
+      in_order = in_order kept.rows kept.line.items lined;
+      one_each = one_each kept.rows (set_of kept.rows kept.line.items) agree;
+      of_enrolled = λ d there.
+          enrolled-is d.cid kept.rows ∙ set_somewhere d.at d.kind (row_at d.cid kept.rows) (sym (agree d) ∙ there);
+    }
 
 -- ---- changes that change nothing
 

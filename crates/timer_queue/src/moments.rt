@@ -30,6 +30,20 @@ impl Moments {
         }
     }
 
+    // The moment of the timer of a kind.
+    pub(crate) fn of(&self, kind: Kind) -> Option<u64>
+        ensures { result ≡ moment kind self.now }
+    {
+        match kind {
+            Kind::Handshake => self.handshake,
+            Kind::Grace => self.grace,
+            Kind::TimeWait => self.time_wait,
+            Kind::Reply2 => self.reply2,
+            Kind::Reply8 => self.reply8,
+            Kind::Reply10 => self.reply10,
+        }
+    }
+
     // Puts a moment in place of the one of a kind, and gives that one.
     pub(crate) fn replace(&mut self, kind: Kind, at: Option<u64>) -> Option<u64>
         ensures moments { self.new ≡ with_moment kind at self.old }

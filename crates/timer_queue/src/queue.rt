@@ -55,7 +55,7 @@ impl TimerQueue {
         self.kept.moments(cid)
     }
 
-    /// Makes room for the six timers of a connection. No other call takes memory.
+    /// Makes room for the six timers of a connection, twice over. No other call takes memory.
     pub fn enroll(&mut self, cid: Cid) -> Result<(), OutOfMemory>
         ensures ok { OnOk result (self.new ≡ with_enrolled cid self.old) }
         ensures err { OnErr result (self.new ≡ self.old) }
@@ -67,7 +67,7 @@ impl TimerQueue {
         Ok(())
     }
 
-    /// Sets a timer, in place of the one of its connection and kind. Where it is set to that moment already, nothing moves.
+    /// Sets a timer, in place of the one of its connection and kind. Where it is set to that moment already, nothing changes.
     pub fn set(&mut self, cid: Cid, kind: Kind, at: u64)
         requires { IsTrue (enrolls cid self.old) }
         ensures timer { self.new ≡ with_timer (timer cid kind at) self.old }

@@ -80,3 +80,54 @@ fn timers_of_a_connection(rt: HostRuntime) -> Result<(), Fail> {
     assert!(rt; queue.is_enrolled(two));
     Ok(())
 }
+
+#[test]
+fn what_was_taken_out_stands_in_the_line_and_does_not_fire(rt: HostRuntime) -> Result<(), Fail> {
+    let mut queue = TimerQueue::new(rt.alloc());
+    for n in 0..20_u64 {
+        queue.enroll(Cid(n))?;
+        set(&rt, &mut queue, (1000 + n, Cid(n), Kind::Grace));
+    }
+    for n in 5..10_u64 {
+        queue.clear(Cid(n), Kind::Grace);
+    }
+    queue.leave(Cid(15));
+    // again to the moment that it had, and one to another moment
+    set(&rt, &mut queue, (1007, Cid(7), Kind::Grace));
+    set(&rt, &mut queue, (1030, Cid(8), Kind::Grace));
+    assert_eq!(rt; queue.least(), Some((1000, Cid(0), Kind::Grace)));
+    // the first, and those behind it that are gone already
+    queue.clear(Cid(1), Kind::Grace);
+    queue.clear(Cid(0), Kind::Grace);
+    assert_eq!(rt; queue.least(), Some((1002, Cid(2), Kind::Grace)));
+
+    // moved more often than a line has room
+    for at in 2000..2300_u64 {
+        for n in 16..20_u64 {
+            set(&rt, &mut queue, (at + n, Cid(n), Kind::Grace));
+            set(&rt, &mut queue, (1100 + n, Cid(n), Kind::Reply8));
+            queue.clear(Cid(n), Kind::Reply8);
+        }
+    }
+    for (at, n) in [
+        (1002, 2),
+        (1003, 3),
+        (1004, 4),
+        (1007, 7),
+        (1010, 10),
+        (1011, 11),
+        (1012, 12),
+        (1013, 13),
+        (1014, 14),
+        (1030, 8),
+        (2315, 16),
+        (2316, 17),
+        (2317, 18),
+        (2318, 19),
+    ] {
+        assert_eq!(rt; queue.pop_due(u64::MAX), Some((at, Cid(n), Kind::Grace)));
+    }
+    assert_eq!(rt; queue.pop_due(u64::MAX), None);
+    assert_eq!(rt; queue.least(), None);
+    Ok(())
+}
