@@ -15,6 +15,7 @@ use Rattle.cbor_items.proofs.Readers.{Reads, bind_some, guard_some, some_is, rea
 use Rattle.cbor_items.proofs.Fronts.{scan_found, scan_again}
 use Rattle.hs_message.specs.Parts.{IsText, flag_byte, IsFlag}
 use Rattle.hs_message.specs.Info.{IsSharing}
+use Rattle.hs_message.specs.declared.tag.Tag.{Tag}
 use Rattle.hs_message.specs.Reading.{definite_array_at, flag_at, bit_at, sharing_at, text_at, front_of, item_at, row_at, row_to_break_at, tag_at, noted_at}
 
 -- ---- tests, and one thing behind another
@@ -273,21 +274,24 @@ module _ {X : Type 0} (Thing : X → List ℕ → Type 0) (thing : Reader X) (re
 -- ---- two parts
 
 -- how many elements an array has, and the number that is the first one
-abbrev pub IsTag : ℕ × ℕ → List ℕ → Type 0
-IsTag tag bytes = IsPair (IsDefinite 4 tag.0) (IsNumber tag.1) bytes
+abbrev pub IsTag : Tag → List ℕ → Type 0
+IsTag tag bytes = IsPair (IsDefinite 4 tag.elements) (IsNumber tag.number) bytes
+
+abbrev pub tag_with : ℕ → ℕ → Tag
+tag_with elements number = record { elements = elements; number = number }
 
 pub reads_tag : Reads IsTag tag_at
 unfolding tag_at
 reads_tag = record {
   found = λ bytes tag rest e.
-      let a = bind_some (definite_at 4 bytes) (λ (count : ℕ × List ℕ). number_at count.1 >>= λ tag. Some ((count.0, tag.0), tag.1)) (tag, rest) e in
-      let b = bind_some (number_at a.0.1) (λ (tag : ℕ × List ℕ). Some ((a.0.0, tag.0), tag.1)) (tag, rest) a.2 in
-      let made : (ℕ × ℕ) × List ℕ = ((a.0.0, b.0.0), b.0.1) in
-      subst (λ (p : (ℕ × ℕ) × List ℕ). HasFront (IsTag p.0) bytes p.1) (some_is made (tag, rest) b.2)
+      let a = bind_some (definite_at 4 bytes) (λ (elements : ℕ × List ℕ). number_at elements.1 >>= λ number. Some (tag_with elements.0 number.0, number.1)) (tag, rest) e in
+      let b = bind_some (number_at a.0.1) (λ (number : ℕ × List ℕ). Some (tag_with a.0.0 number.0, number.1)) (tag, rest) a.2 in
+      let made : Tag × List ℕ = (tag_with a.0.0 b.0.0, b.0.1) in
+      subst (λ (p : Tag × List ℕ). HasFront (IsTag p.0) bytes p.1) (some_is made (tag, rest) b.2)
       (pair_front ((reads_definite 4).found bytes a.0.0 a.0.1 a.1) (reads_number.found a.0.1 b.0.0 b.0.1 b.1));
   again = λ tag front rest p.
       ap tag_at (pair_parts p rest)
-      ∙ rw ((reads_definite 4).again tag.0 p.first (p.second ++ rest) p.is_first, reads_number.again tag.1 p.second rest p.is_second) refl;
+      ∙ rw ((reads_definite 4).again tag.elements p.first (p.second ++ rest) p.is_first, reads_number.again tag.number p.second rest p.is_second) refl;
 }
 
 abbrev pub IsNoted : ℕ × List ℕ → List ℕ → Type 0

@@ -1,5 +1,5 @@
 -- Reading messages: what is read is spelled so, and what is spelled so is read.
-use Rattle.std.proofs.Common.{◌≡◌, ℕ, ◌^◌, Bool, true, false, cond, eqb, ltb, not, ◌&&◌, List, [], ◌++◌, length, Option, Some, None, refl, sym, ap, subst, ◌∙◌, append_assoc, inl, inr}
+use Rattle.std.proofs.Common.{◌≡◌, ℕ, ◌^◌, Bool, true, false, cond, eqb, ltb, not, List, [], ◌∷◌, ◌++◌, length, Option, Some, None, refl, sym, ap, subst, ◌∙◌, append_assoc, inl, inr}
 use Rattle.std.proofs.lemmas.Bool.{ltb-true, lt-ltb, eqb-true, and_parts}
 use Rattle.std.proofs.lemmas.List.{append-nil, nil_from_length}
 use Rattle.cbor_items.specs.declared.head.Head.{Head}
@@ -20,8 +20,14 @@ use Rattle.cbor_items.proofs.Readers.{Reads, bind_some, guard_some, some_is, rea
 use Rattle.hs_message.specs.Parts.{IsIndefinite, IsDefiniteArray}
 use Rattle.hs_message.specs.Info.{IsInfo, IsUnderstoodAs, is_node_version, IsVersionInfo, IsNodeInfo, is_client_version, IsClientVersionInfo, IsClientInfo}
 use Rattle.hs_message.specs.Spelling.{rises, IsOffer, IsTable, IsVersionList, IsReason, IsMessage}
-use Rattle.hs_message.specs.Reading.{definite_array_at, flag_at, sharing_at, version_info_at, whole, known_of, client_version_info_at, client_known_of, Knowing, as_info, info_of, item_at, offer_at, row_at, table_at, row_to_break_at, version_row_at, version_list_at, tag_at, noted_at, no_common_at, not_decoded_at, declined_at, reason_behind, reason_at, propose_at, accept_at, refuse_at, query_reply_at, message_behind, message_at}
-use Rattle.hs_message.proofs.Fronts.{pair_front, front_as, pair_parts, array_found, array_again, reads_flag, reads_sharing, reads_item, row_found, row_again, closed_found, closed_again, IsTag, reads_tag, reads_noted}
+use Rattle.hs_message.specs.declared.tag.Tag.{Tag}
+use Rattle.hs_message.specs.declared.message_code.MessageCode.{MessageCode}
+use Rattle.hs_message.specs.declared.message_code.MessageCode.TheVariants as message_code
+use Rattle.hs_message.specs.declared.reason_code.ReasonCode.{ReasonCode}
+use Rattle.hs_message.specs.declared.reason_code.ReasonCode.TheVariants as reason_code
+use Rattle.hs_message.specs.Codes.{message_tag, message_codes, reason_tag, reason_codes, is_tag, kind_among, message_code_of, reason_code_of}
+use Rattle.hs_message.specs.Reading.{definite_array_at, flag_at, sharing_at, version_info_at, whole, known_of, client_version_info_at, client_known_of, Knowing, as_info, info_of, item_at, offer_at, row_at, table_at, row_to_break_at, version_row_at, version_list_at, tag_at, noted_at, reason_behind, reason_at, message_behind, message_at}
+use Rattle.hs_message.proofs.Fronts.{pair_front, front_as, pair_parts, array_found, array_again, reads_flag, reads_sharing, reads_item, row_found, row_again, closed_found, closed_again, IsTag, tag_with, reads_tag, reads_noted}
 
 -- ---- what stands beside a version
 
@@ -267,9 +273,9 @@ pub reads_version_list : Reads IsVersionList version_list_at
 reads_version_list = record { found = version_list_found; again = version_list_again }
 
 -- An array's head with its first number, and what is behind that.
-tagged_front : {Rest : List ℕ → Type 0} {bytes mid rest : List ℕ} (count tag : ℕ) → HasFront (IsTag (count, tag)) bytes mid → HasFront Rest mid rest
-    → HasFront (IsDefiniteArray count (IsPair (IsNumber tag) Rest)) bytes rest
-tagged_front {Rest} {bytes} {mid} {rest} count tag one two = record {
+tagged_front : {Rest : List ℕ → Type 0} {bytes mid rest : List ℕ} (tag : Tag) → HasFront (IsTag tag) bytes mid → HasFront Rest mid rest
+    → HasFront (IsDefiniteArray tag.elements (IsPair (IsNumber tag.number) Rest)) bytes rest
+tagged_front {Rest} {bytes} {mid} {rest} tag one two = record {
   front = one.is.first ++ (one.is.second ++ two.front);
   joined = one.joined ∙ ap (λ (x : List ℕ). x ++ mid) one.is.joined ∙ append_assoc one.is.first one.is.second mid
       ∙ ap (λ (x : List ℕ). one.is.first ++ x) (ap (λ (x : List ℕ). one.is.second ++ x) two.joined ∙ sym (append_assoc one.is.second two.front rest))
@@ -283,70 +289,65 @@ tagged_front {Rest} {bytes} {mid} {rest} count tag one two = record {
   };
 }
 
-tagged_again : {Rest : List ℕ → Type 0} (count tag : ℕ) (front rest : List ℕ) (p : IsDefiniteArray count (IsPair (IsNumber tag) Rest) front)
-    → tag_at (front ++ rest) ≡ Some ((count, tag), p.is_second.second ++ rest)
-tagged_again {Rest} count tag front rest p =
+tagged_again : {Rest : List ℕ → Type 0} (tag : Tag) (front rest : List ℕ) (p : IsDefiniteArray tag.elements (IsPair (IsNumber tag.number) Rest) front)
+    → tag_at (front ++ rest) ≡ Some (tag, p.is_second.second ++ rest)
+tagged_again {Rest} tag front rest p =
     let inner = p.is_second in
-    let both : IsTag (count, tag) (p.first ++ inner.first) = record { first = p.first; second = inner.first; joined = refl; is_first = p.is_first; is_second = inner.is_first } in
+    let both : IsTag tag (p.first ++ inner.first) = record { first = p.first; second = inner.first; joined = refl; is_first = p.is_first; is_second = inner.is_first } in
     let regrouped : front ++ rest ≡ (p.first ++ inner.first) ++ (inner.second ++ rest) =
     pair_parts p rest ∙ ap (λ (x : List ℕ). p.first ++ x) (pair_parts inner rest) ∙ sym (append_assoc p.first inner.first (inner.second ++ rest)) in
-    ap tag_at regrouped ∙ reads_tag.again (count, tag) (p.first ++ inner.first) (inner.second ++ rest) both
+    ap tag_at regrouped ∙ reads_tag.again tag (p.first ++ inner.first) (inner.second ++ rest) both
 
 -- which tag it is
-tag_is : (tag : ℕ × ℕ) (count number : ℕ) → (eqb tag.0 count && eqb tag.1 number) ≡ true → tag ≡ (count, number)
-tag_is tag count number e =
-    let parts = and_parts (eqb tag.0 count) (eqb tag.1 number) e in
-    let first : tag.0 ≡ count = eqb-true _ _ parts.0 in
-    let second : tag.1 ≡ number = eqb-true _ _ parts.1 in
-    ap (λ (n : ℕ). (n, tag.1)) first ∙ ap (λ (n : ℕ). (count, n)) second
+tag_is : (tag other : Tag) → is_tag tag other ≡ true → tag ≡ other
+tag_is tag other e =
+    let parts = and_parts (eqb tag.elements other.elements) (eqb tag.number other.number) e in
+    let first : tag.elements ≡ other.elements = eqb-true _ _ parts.0 in
+    let second : tag.number ≡ other.number = eqb-true _ _ parts.1 in
+    ap (λ (n : ℕ). tag_with n tag.number) first ∙ ap (λ (n : ℕ). tag_with other.elements n) second
 
-reason_behind_found : (bytes mid : List ℕ) (tag : ℕ × ℕ) (reason : Reason) (rest : List ℕ) → HasFront (IsTag tag) bytes mid → reason_behind tag mid ≡ Some (reason, rest)
-    → HasFront (IsReason reason) bytes rest
-reason_behind_found bytes mid tag reason rest t e =
-    let last : Option (Reason × List ℕ) = cond (eqb tag.0 3 && eqb tag.1 2) (declined_at mid) None in
-    let middle : Option (Reason × List ℕ) = cond (eqb tag.0 3 && eqb tag.1 1) (not_decoded_at mid) last in
-    elim (chosen (eqb tag.0 2 && eqb tag.1 0) (no_common_at mid) middle (Some (reason, rest)) e) [
-      | inl (is, read) ↦
-          let b = bind_some (version_list_at mid) (λ (versions : List ℕ × List ℕ). Some (NoCommon versions.0, versions.1)) (reason, rest) read in
-          let made : Reason × List ℕ = (NoCommon b.0.0, b.0.1) in
-          let t' = subst (λ (p : ℕ × ℕ). HasFront (IsTag p) bytes mid) (tag_is tag 2 0 is) t in
-          subst (λ (p : Reason × List ℕ). HasFront (IsReason p.0) bytes p.1) (some_is made (reason, rest) b.2)
-          (tagged_front 2 0 t' (reads_version_list.found mid b.0.0 b.0.1 b.1))
-      | inr (other, later) ↦ elim (chosen (eqb tag.0 3 && eqb tag.1 1) (not_decoded_at mid) last (Some (reason, rest)) later) [
-        | inl (is, read) ↦
-            let b = bind_some (noted_at mid) (λ (noted : (ℕ × List ℕ) × List ℕ). Some (NotDecoded noted.0.0 noted.0.1, noted.1)) (reason, rest) read in
-            let made : Reason × List ℕ = (NotDecoded b.0.0.0 b.0.0.1, b.0.1) in
-            let t' = subst (λ (p : ℕ × ℕ). HasFront (IsTag p) bytes mid) (tag_is tag 3 1 is) t in
-            subst (λ (p : Reason × List ℕ). HasFront (IsReason p.0) bytes p.1) (some_is made (reason, rest) b.2)
-            (tagged_front 3 1 t' (reads_noted.found mid b.0.0 b.0.1 b.1))
-        | inr (another, latest) ↦
-            let g = chosen (eqb tag.0 3 && eqb tag.1 2) (declined_at mid) None (Some (reason, rest)) latest in
-            elim g [
-              | inl (is, read) ↦
-                  let b = bind_some (noted_at mid) (λ (noted : (ℕ × List ℕ) × List ℕ). Some (Declined noted.0.0 noted.0.1, noted.1)) (reason, rest) read in
-                  let made : Reason × List ℕ = (Declined b.0.0.0 b.0.0.1, b.0.1) in
-                  let t' = subst (λ (p : ℕ × ℕ). HasFront (IsTag p) bytes mid) (tag_is tag 3 2 is) t in
-                  subst (λ (p : Reason × List ℕ). HasFront (IsReason p.0) bytes p.1) (some_is made (reason, rest) b.2)
-                  (tagged_front 3 2 t' (reads_noted.found mid b.0.0 b.0.1 b.1))
-              | inr (none, never) ↦ absurd cc
-            ]
-      ]
+kind_is : {Kind : Type 0} (tag_of : Kind → Tag) (kinds : List Kind) (tag : Tag) (kind : Kind) → kind_among tag_of kinds tag ≡ Some kind → tag ≡ tag_of kind
+kind_is tag_of [] tag kind e = absurd cc
+kind_is tag_of (first ∷ kinds) tag kind e =
+    elim (chosen (is_tag tag (tag_of first)) (Some first) (kind_among tag_of kinds tag) (Some kind) e) [
+      | inl (is, found) ↦ tag_is tag (tag_of first) is ∙ ap tag_of (some_is first kind found)
+      | inr (other, later) ↦ kind_is tag_of kinds tag kind later
     ]
+
+reason_behind_found : (bytes mid : List ℕ) (code : ReasonCode) (reason : Reason) (rest : List ℕ) → HasFront (IsTag (reason_tag code)) bytes mid → reason_behind code mid ≡ Some (reason, rest)
+    → HasFront (IsReason reason) bytes rest
+reason_behind_found bytes mid reason_code.NoCommon reason rest t e =
+    let b = bind_some (version_list_at mid) (λ (versions : List ℕ × List ℕ). Some (NoCommon versions.0, versions.1)) (reason, rest) e in
+    let made : Reason × List ℕ = (NoCommon b.0.0, b.0.1) in
+    subst (λ (p : Reason × List ℕ). HasFront (IsReason p.0) bytes p.1) (some_is made (reason, rest) b.2)
+    (tagged_front (reason_tag reason_code.NoCommon) t (reads_version_list.found mid b.0.0 b.0.1 b.1))
+reason_behind_found bytes mid reason_code.NotDecoded reason rest t e =
+    let b = bind_some (noted_at mid) (λ (noted : (ℕ × List ℕ) × List ℕ). Some (NotDecoded noted.0.0 noted.0.1, noted.1)) (reason, rest) e in
+    let made : Reason × List ℕ = (NotDecoded b.0.0.0 b.0.0.1, b.0.1) in
+    subst (λ (p : Reason × List ℕ). HasFront (IsReason p.0) bytes p.1) (some_is made (reason, rest) b.2)
+    (tagged_front (reason_tag reason_code.NotDecoded) t (reads_noted.found mid b.0.0 b.0.1 b.1))
+reason_behind_found bytes mid reason_code.Declined reason rest t e =
+    let b = bind_some (noted_at mid) (λ (noted : (ℕ × List ℕ) × List ℕ). Some (Declined noted.0.0 noted.0.1, noted.1)) (reason, rest) e in
+    let made : Reason × List ℕ = (Declined b.0.0.0 b.0.0.1, b.0.1) in
+    subst (λ (p : Reason × List ℕ). HasFront (IsReason p.0) bytes p.1) (some_is made (reason, rest) b.2)
+    (tagged_front (reason_tag reason_code.Declined) t (reads_noted.found mid b.0.0 b.0.1 b.1))
 
 reason_found : (bytes : List ℕ) (reason : Reason) (rest : List ℕ) → reason_at bytes ≡ Some (reason, rest) → HasFront (IsReason reason) bytes rest
 unfolding reason_at
 reason_found bytes reason rest e =
-    let a = bind_some (tag_at bytes) (λ (tag : (ℕ × ℕ) × List ℕ). reason_behind tag.0 tag.1) (reason, rest) e in
-    reason_behind_found bytes a.0.1 a.0.0 reason rest (reads_tag.found bytes a.0.0 a.0.1 a.1) a.2
+    let a = bind_some (tag_at bytes) (λ (tag : Tag × List ℕ). reason_code_of tag.0 >>= λ code. reason_behind code tag.1) (reason, rest) e in
+    let c = bind_some (reason_code_of a.0.0) (λ (code : ReasonCode). reason_behind code a.0.1) (reason, rest) a.2 in
+    let tag = subst (λ (t : Tag). HasFront (IsTag t) bytes a.0.1) (kind_is reason_tag reason_codes a.0.0 c.0 c.1) (reads_tag.found bytes a.0.0 a.0.1 a.1) in
+    reason_behind_found bytes a.0.1 c.0 reason rest tag c.2
 
 reason_again : (reason : Reason) (front rest : List ℕ) → IsReason reason front → reason_at (front ++ rest) ≡ Some (reason, rest)
 unfolding reason_at
 reason_again (NoCommon versions) front rest p =
-    rw (tagged_again 2 0 front rest p, reads_version_list.again versions p.is_second.second rest p.is_second.is_second) refl
+    rw (tagged_again (reason_tag reason_code.NoCommon) front rest p, reads_version_list.again versions p.is_second.second rest p.is_second.is_second) refl
 reason_again (NotDecoded version text) front rest p =
-    rw (tagged_again 3 1 front rest p, reads_noted.again (version, text) p.is_second.second rest p.is_second.is_second) refl
+    rw (tagged_again (reason_tag reason_code.NotDecoded) front rest p, reads_noted.again (version, text) p.is_second.second rest p.is_second.is_second) refl
 reason_again (Declined version text) front rest p =
-    rw (tagged_again 3 2 front rest p, reads_noted.again (version, text) p.is_second.second rest p.is_second.is_second) refl
+    rw (tagged_again (reason_tag reason_code.Declined) front rest p, reads_noted.again (version, text) p.is_second.second rest p.is_second.is_second) refl
 
 pub reads_reason : Reads IsReason reason_at
 reads_reason = record { found = reason_found; again = reason_again }
@@ -354,62 +355,47 @@ reads_reason = record { found = reason_found; again = reason_again }
 -- ---- messages
 
 module _ (Understood : ℕ → VersionInfo → List ℕ → Type 0) (known : Knowing) (knows : Knows Understood known) where
-  message_behind_found : (bytes mid : List ℕ) (tag : ℕ × ℕ) (message : Message) (rest : List ℕ) → HasFront (IsTag tag) bytes mid → message_behind known tag mid ≡ Some (message, rest)
-      → HasFront (IsMessage (IsInfo Understood) message) bytes rest
-  message_behind_found bytes mid tag message rest t e =
-      let fourth : Option (Message × List ℕ) = cond (eqb tag.0 2 && eqb tag.1 3) (query_reply_at known mid) None in
-      let third : Option (Message × List ℕ) = cond (eqb tag.0 2 && eqb tag.1 2) (refuse_at mid) fourth in
-      let second : Option (Message × List ℕ) = cond (eqb tag.0 3 && eqb tag.1 1) (accept_at known mid) third in
-      elim (chosen (eqb tag.0 2 && eqb tag.1 0) (propose_at known mid) second (Some (message, rest)) e) [
-        | inl (is, read) ↦
-            let b = bind_some (table_at known mid) (λ (table : List Offer × List ℕ). Some (Propose table.0, table.1)) (message, rest) read in
-            let made : Message × List ℕ = (Propose b.0.0, b.0.1) in
-            let t' = subst (λ (p : ℕ × ℕ). HasFront (IsTag p) bytes mid) (tag_is tag 2 0 is) t in
-            subst (λ (p : Message × List ℕ). HasFront (IsMessage (IsInfo Understood) p.0) bytes p.1) (some_is made (message, rest) b.2)
-            (tagged_front 2 0 t' ((reads_table Understood known knows).found mid b.0.0 b.0.1 b.1))
-        | inr (not_first, e2) ↦ elim (chosen (eqb tag.0 3 && eqb tag.1 1) (accept_at known mid) third (Some (message, rest)) e2) [
-          | inl (is, read) ↦
-              let b = bind_some (offer_at known mid) (λ (offer : Offer × List ℕ). Some (Accept offer.0.version offer.0.info, offer.1)) (message, rest) read in
-              let made : Message × List ℕ = (Accept b.0.0.version b.0.0.info, b.0.1) in
-              let t' = subst (λ (p : ℕ × ℕ). HasFront (IsTag p) bytes mid) (tag_is tag 3 1 is) t in
-              subst (λ (p : Message × List ℕ). HasFront (IsMessage (IsInfo Understood) p.0) bytes p.1) (some_is made (message, rest) b.2)
-              (tagged_front 3 1 t' ((reads_offer Understood known knows).found mid b.0.0 b.0.1 b.1))
-          | inr (not_second, e3) ↦ elim (chosen (eqb tag.0 2 && eqb tag.1 2) (refuse_at mid) fourth (Some (message, rest)) e3) [
-            | inl (is, read) ↦
-                let b = bind_some (reason_at mid) (λ (reason : Reason × List ℕ). Some (Refuse reason.0, reason.1)) (message, rest) read in
-                let made : Message × List ℕ = (Refuse b.0.0, b.0.1) in
-                let t' = subst (λ (p : ℕ × ℕ). HasFront (IsTag p) bytes mid) (tag_is tag 2 2 is) t in
-                subst (λ (p : Message × List ℕ). HasFront (IsMessage (IsInfo Understood) p.0) bytes p.1) (some_is made (message, rest) b.2)
-                (tagged_front 2 2 t' (reads_reason.found mid b.0.0 b.0.1 b.1))
-            | inr (not_third, e4) ↦ elim (chosen (eqb tag.0 2 && eqb tag.1 3) (query_reply_at known mid) None (Some (message, rest)) e4) [
-              | inl (is, read) ↦
-                  let b = bind_some (table_at known mid) (λ (table : List Offer × List ℕ). Some (QueryReply table.0, table.1)) (message, rest) read in
-                  let made : Message × List ℕ = (QueryReply b.0.0, b.0.1) in
-                  let t' = subst (λ (p : ℕ × ℕ). HasFront (IsTag p) bytes mid) (tag_is tag 2 3 is) t in
-                  subst (λ (p : Message × List ℕ). HasFront (IsMessage (IsInfo Understood) p.0) bytes p.1) (some_is made (message, rest) b.2)
-                  (tagged_front 2 3 t' ((reads_table Understood known knows).found mid b.0.0 b.0.1 b.1))
-              | inr (none, never) ↦ absurd cc
-            ]
-          ]
-        ]
-      ]
+  message_behind_found : (bytes mid : List ℕ) (code : MessageCode) (message : Message) (rest : List ℕ) → HasFront (IsTag (message_tag code)) bytes mid
+      → message_behind known code mid ≡ Some (message, rest) → HasFront (IsMessage (IsInfo Understood) message) bytes rest
+  message_behind_found bytes mid message_code.Propose message rest t e =
+      let b = bind_some (table_at known mid) (λ (table : List Offer × List ℕ). Some (Propose table.0, table.1)) (message, rest) e in
+      let made : Message × List ℕ = (Propose b.0.0, b.0.1) in
+      subst (λ (p : Message × List ℕ). HasFront (IsMessage (IsInfo Understood) p.0) bytes p.1) (some_is made (message, rest) b.2)
+      (tagged_front (message_tag message_code.Propose) t ((reads_table Understood known knows).found mid b.0.0 b.0.1 b.1))
+  message_behind_found bytes mid message_code.Accept message rest t e =
+      let b = bind_some (offer_at known mid) (λ (offer : Offer × List ℕ). Some (Accept offer.0.version offer.0.info, offer.1)) (message, rest) e in
+      let made : Message × List ℕ = (Accept b.0.0.version b.0.0.info, b.0.1) in
+      subst (λ (p : Message × List ℕ). HasFront (IsMessage (IsInfo Understood) p.0) bytes p.1) (some_is made (message, rest) b.2)
+      (tagged_front (message_tag message_code.Accept) t ((reads_offer Understood known knows).found mid b.0.0 b.0.1 b.1))
+  message_behind_found bytes mid message_code.Refuse message rest t e =
+      let b = bind_some (reason_at mid) (λ (reason : Reason × List ℕ). Some (Refuse reason.0, reason.1)) (message, rest) e in
+      let made : Message × List ℕ = (Refuse b.0.0, b.0.1) in
+      subst (λ (p : Message × List ℕ). HasFront (IsMessage (IsInfo Understood) p.0) bytes p.1) (some_is made (message, rest) b.2)
+      (tagged_front (message_tag message_code.Refuse) t (reads_reason.found mid b.0.0 b.0.1 b.1))
+  message_behind_found bytes mid message_code.QueryReply message rest t e =
+      let b = bind_some (table_at known mid) (λ (table : List Offer × List ℕ). Some (QueryReply table.0, table.1)) (message, rest) e in
+      let made : Message × List ℕ = (QueryReply b.0.0, b.0.1) in
+      subst (λ (p : Message × List ℕ). HasFront (IsMessage (IsInfo Understood) p.0) bytes p.1) (some_is made (message, rest) b.2)
+      (tagged_front (message_tag message_code.QueryReply) t ((reads_table Understood known knows).found mid b.0.0 b.0.1 b.1))
 
   message_found : (bytes : List ℕ) (message : Message) (rest : List ℕ) → message_at known bytes ≡ Some (message, rest) → HasFront (IsMessage (IsInfo Understood) message) bytes rest
   unfolding message_at
   message_found bytes message rest e =
-      let a = bind_some (tag_at bytes) (λ (tag : (ℕ × ℕ) × List ℕ). message_behind known tag.0 tag.1) (message, rest) e in
-      message_behind_found bytes a.0.1 a.0.0 message rest (reads_tag.found bytes a.0.0 a.0.1 a.1) a.2
+      let a = bind_some (tag_at bytes) (λ (tag : Tag × List ℕ). message_code_of tag.0 >>= λ code. message_behind known code tag.1) (message, rest) e in
+      let c = bind_some (message_code_of a.0.0) (λ (code : MessageCode). message_behind known code a.0.1) (message, rest) a.2 in
+      let tag = subst (λ (t : Tag). HasFront (IsTag t) bytes a.0.1) (kind_is message_tag message_codes a.0.0 c.0 c.1) (reads_tag.found bytes a.0.0 a.0.1 a.1) in
+      message_behind_found bytes a.0.1 c.0 message rest tag c.2
 
   message_again : (message : Message) (front rest : List ℕ) → IsMessage (IsInfo Understood) message front → message_at known (front ++ rest) ≡ Some (message, rest)
   unfolding message_at
   message_again (Propose table) front rest p =
-      rw (tagged_again 2 0 front rest p, (reads_table Understood known knows).again table p.is_second.second rest p.is_second.is_second) refl
+      rw (tagged_again (message_tag message_code.Propose) front rest p, (reads_table Understood known knows).again table p.is_second.second rest p.is_second.is_second) refl
   message_again (Accept version info) front rest p =
-      rw (tagged_again 3 1 front rest p, (reads_offer Understood known knows).again (record { version = version; info = info }) p.is_second.second rest p.is_second.is_second) refl
+      rw (tagged_again (message_tag message_code.Accept) front rest p, (reads_offer Understood known knows).again (record { version = version; info = info }) p.is_second.second rest p.is_second.is_second) refl
   message_again (Refuse reason) front rest p =
-      rw (tagged_again 2 2 front rest p, reads_reason.again reason p.is_second.second rest p.is_second.is_second) refl
+      rw (tagged_again (message_tag message_code.Refuse) front rest p, reads_reason.again reason p.is_second.second rest p.is_second.is_second) refl
   message_again (QueryReply table) front rest p =
-      rw (tagged_again 2 3 front rest p, (reads_table Understood known knows).again table p.is_second.second rest p.is_second.is_second) refl
+      rw (tagged_again (message_tag message_code.QueryReply) front rest p, (reads_table Understood known knows).again table p.is_second.second rest p.is_second.is_second) refl
 
   pub reads_message : Reads (IsMessage (IsInfo Understood)) (message_at known)
   reads_message = record { found = message_found; again = message_again }

@@ -1,6 +1,6 @@
 -- Reading from left to right: what stands at the front of the bytes, and the bytes behind it. None where nothing of
 -- the kind stands there.
-use Rattle.std.specs.Prelude.{◌≡◌, ℕ, zero, suc, ◌^◌, Bool, true, false, ◌&&◌, ◌==◌, nat_lt, List, [], ◌∷◌, length, take, drop, Option, Some, None, Result, Ok, Err, if◌then◌else◌}
+use Rattle.std.specs.Prelude.{◌≡◌, ℕ, zero, suc, ◌^◌, Bool, true, false, ◌==◌, nat_lt, List, [], ◌∷◌, length, take, drop, Option, Some, None, Result, Ok, Err, if◌then◌else◌}
 use Rattle.std.specs.Option.{option_or}
 use Rattle.cbor_items.specs.declared.head.Head.{Head}
 use Rattle.cbor_items.specs.Front.{Reader, ◌>>=◌, any_head_at, definite_at, number_at}
@@ -21,6 +21,12 @@ use Rattle.hs_message.specs.declared.profile.Profile.{Profile}
 use Rattle.hs_message.specs.declared.profile.Profile.TheVariants.{NodeToNode, NodeToClient}
 use Rattle.hs_message.specs.Info.{is_node_version, is_client_version}
 use Rattle.hs_message.specs.Spelling.{rises}
+use Rattle.hs_message.specs.declared.tag.Tag.{Tag}
+use Rattle.hs_message.specs.declared.message_code.MessageCode.{MessageCode}
+use Rattle.hs_message.specs.declared.message_code.MessageCode.TheVariants as message
+use Rattle.hs_message.specs.declared.reason_code.ReasonCode.{ReasonCode}
+use Rattle.hs_message.specs.declared.reason_code.ReasonCode.TheVariants as reason
+use Rattle.hs_message.specs.Codes.{message_code_of, reason_code_of}
 
 -- what a function returned, seen by `view`, is what reading gives, unless memory ran out
 abbrev pub Gives : {X Y : Type 0} → (X → Y) → Result X ReadRefusal → Option Y → Type 0
@@ -156,11 +162,11 @@ text_at bytes = do
   if nat_lt (length read.1) read.0 then None else Some (take read.0 read.1, drop read.0 read.1)
 
 -- how many elements an array has, the number that is the first one, and the bytes behind that
-unfoldable pub tag_at : Reader (ℕ × ℕ)
+unfoldable pub tag_at : Reader Tag
 tag_at bytes = do
-  count ← definite_at 4 bytes
-  tag ← number_at count.1
-  Some ((count.0, tag.0), tag.1)
+  elements ← definite_at 4 bytes
+  number ← number_at elements.1
+  Some (record { elements = elements.0; number = number.0 }, number.1)
 
 -- a version and a text
 unfoldable pub noted_at : Reader (ℕ × List ℕ)
@@ -178,16 +184,17 @@ not_decoded_at bytes = noted_at bytes >>= λ noted. Some (NotDecoded noted.0.0 n
 abbrev pub declined_at : Reader Reason
 declined_at bytes = noted_at bytes >>= λ noted. Some (Declined noted.0.0 noted.0.1, noted.1)
 
--- what stands behind the first number of a reason
-abbrev pub reason_behind : ℕ × ℕ → Reader Reason
-reason_behind tag bytes =
-    if tag.0 == 2 && tag.1 == 0 then no_common_at bytes
-    else (if tag.0 == 3 && tag.1 == 1 then not_decoded_at bytes
-    else (if tag.0 == 3 && tag.1 == 2 then declined_at bytes
-    else None))
+-- what stands behind the tag of a reason
+abbrev pub reason_behind : ReasonCode → Reader Reason
+reason_behind reason.NoCommon bytes = no_common_at bytes
+reason_behind reason.NotDecoded bytes = not_decoded_at bytes
+reason_behind reason.Declined bytes = declined_at bytes
 
 unfoldable pub reason_at : Reader Reason
-reason_at bytes = tag_at bytes >>= λ tag. reason_behind tag.0 tag.1
+reason_at bytes = do
+  tag ← tag_at bytes
+  code ← reason_code_of tag.0
+  reason_behind code tag.1
 
 -- ---- messages
 
@@ -203,17 +210,18 @@ refuse_at bytes = reason_at bytes >>= λ reason. Some (Refuse reason.0, reason.1
 abbrev pub query_reply_at : Knowing → Reader Message
 query_reply_at known bytes = table_at known bytes >>= λ table. Some (QueryReply table.0, table.1)
 
--- what stands behind the first number of a message
-abbrev pub message_behind : Knowing → ℕ × ℕ → Reader Message
-message_behind known tag bytes =
-    if tag.0 == 2 && tag.1 == 0 then propose_at known bytes
-    else (if tag.0 == 3 && tag.1 == 1 then accept_at known bytes
-    else (if tag.0 == 2 && tag.1 == 2 then refuse_at bytes
-    else (if tag.0 == 2 && tag.1 == 3 then query_reply_at known bytes
-    else None)))
+-- what stands behind the tag of a message
+abbrev pub message_behind : Knowing → MessageCode → Reader Message
+message_behind known message.Propose bytes = propose_at known bytes
+message_behind known message.Accept bytes = accept_at known bytes
+message_behind known message.Refuse bytes = refuse_at bytes
+message_behind known message.QueryReply bytes = query_reply_at known bytes
 
 unfoldable pub message_at : Knowing → Reader Message
-message_at known bytes = tag_at bytes >>= λ tag. message_behind known tag.0 tag.1
+message_at known bytes = do
+  tag ← tag_at bytes
+  code ← message_code_of tag.0
+  message_behind known code tag.1
 
 -- the scan says that the bytes are one item, with nothing behind it
 abbrev pub is_all_of : List ℕ → Scan → Bool

@@ -6,11 +6,14 @@
 mod info;
 pub mod law;
 mod message;
+mod message_code;
 mod offer;
 mod part;
 mod profile;
 mod read;
+mod reason_code;
 mod refusal;
+mod tag;
 mod write;
 
 pub use info::{Info, VersionInfo};

@@ -4,6 +4,7 @@ ghost use Rattle.std.specs.Prelude.{◌≡◌};
 ghost use Rattle.cbor_items.specs.Front.{Finds};
 ghost use Rattle.hs_message.specs.Reading.{definite_array_at, flag_at, bit_at, sharing_at, text_at, item_at, tag_at, noted_at};
 
+use crate::tag::Tag;
 use cbor_items::{
     ARRAY, Absent, FALSE, Scan, TEXT, TRUE, first_item, split_definite, split_number,
 };
@@ -78,14 +79,14 @@ pub(crate) fn split_item(bytes: &[u8]) -> Result<(&[u8], &[u8]), Absent>
     }
 }
 
-/// How many elements a definite array has, and the number that is the first one.
+/// How a definite array begins whose first element is a number.
 #[tactic(auto, unfolding(crate::specs::Reading::tag_at))]
-pub(crate) fn split_tag(bytes: &[u8]) -> Result<((u64, u64), &[u8]), Absent>
+pub(crate) fn split_tag(bytes: &[u8]) -> Result<(Tag, &[u8]), Absent>
     ensures { Finds (λ read. (read.0, read.1.now)) result (tag_at bytes.now) }
 {
-    let (count, rest) = split_definite(ARRAY, bytes)?;
-    let (tag, rest) = split_number(rest)?;
-    Ok(((count, tag), rest))
+    let (elements, rest) = split_definite(ARRAY, bytes)?;
+    let (number, rest) = split_number(rest)?;
+    Ok((Tag { elements, number }, rest))
 }
 
 /// A version, and a text.

@@ -5,7 +5,9 @@ ghost use Rattle.hs_message.specs.Info.{is_node_version, is_client_version};
 ghost use Rattle.hs_message.specs.Spelling.{is_below_next, rises, NodeSpells, ClientSpells};
 ghost use Rattle.hs_message.specs.Reading.{Gives, version_info_at, known_of, client_version_info_at, client_known_of, known_in, info_of, offer_at, row_at, row_to_break_at, table_at, version_row_at, version_list_at, reason_behind, reason_at, message_behind, message_at, message_with, message_of, client_message_of};
 
+use crate::message_code::MessageCode;
 use crate::part::{split_array, split_flag, split_item, split_noted, split_sharing, split_tag};
+use crate::reason_code::ReasonCode;
 use crate::{Info, Message, Offer, Profile, ReadRefusal, Reason, Table, VersionInfo};
 use cbor_items::{
     ARRAY, Absent, BREAK, Head, MAP, Scan, first_item, split_definite, split_head, split_number,
@@ -58,36 +60,35 @@ fn read_front(
     ensures { Gives (λ read. (read.0, read.1.now)) result (message_at (known_in profile) bytes.now) }
 {
     let (tag, rest) = split_tag(bytes)?;
-    read_message_behind(alloc, profile, tag, rest)
+    read_message_behind(alloc, profile, MessageCode::of(tag)?, rest)
 }
 
-// What stands behind the first number of a message.
+// What stands behind the tag of a message.
 fn read_message_behind(
     alloc: Global,
     profile: Profile,
-    tag: (u64, u64),
+    code: MessageCode,
     bytes: &[u8],
 ) -> Result<(Message, &[u8]), ReadRefusal>
-    ensures { Gives (λ read. (read.0, read.1.now)) result (message_behind (known_in profile) tag bytes.now) }
+    ensures { Gives (λ read. (read.0, read.1.now)) result (message_behind (known_in profile) code bytes.now) }
 {
-    match tag {
-        (2, 0) => {
+    match code {
+        MessageCode::Propose => {
             let (table, rest) = read_table(alloc, profile, bytes)?;
             Ok((Message::Propose(table), rest))
         }
-        (3, 1) => {
+        MessageCode::Accept => {
             let (offer, rest) = split_offer(profile, bytes)?;
             Ok((Message::Accept(offer.version, offer.info), rest))
         }
-        (2, 2) => {
+        MessageCode::Refuse => {
             let (reason, rest) = read_reason(alloc, bytes)?;
             Ok((Message::Refuse(reason), rest))
         }
-        (2, 3) => {
+        MessageCode::QueryReply => {
             let (table, rest) = read_table(alloc, profile, bytes)?;
             Ok((Message::QueryReply(table), rest))
         }
-        _ => Err(ReadRefusal::NotAMessage),
     }
 }
 
@@ -256,37 +257,36 @@ fn read_reason(alloc: Global, bytes: &[u8]) -> Result<(Reason, &[u8]), ReadRefus
     ensures { Gives (λ read. (read.0, read.1.now)) result (reason_at bytes.now) }
 {
     let (tag, rest) = split_tag(bytes)?;
-    read_reason_behind(alloc, tag, rest)
+    read_reason_behind(alloc, ReasonCode::of(tag)?, rest)
 }
 
-// What stands behind the first number of a reason.
+// What stands behind the tag of a reason.
 fn read_reason_behind(
     alloc: Global,
-    tag: (u64, u64),
+    code: ReasonCode,
     bytes: &[u8],
 ) -> Result<(Reason, &[u8]), ReadRefusal>
-    ensures { Gives (λ read. (read.0, read.1.now)) result (reason_behind tag bytes.now) }
+    ensures { Gives (λ read. (read.0, read.1.now)) result (reason_behind code bytes.now) }
 {
-    match tag {
-        (2, 0) => {
+    match code {
+        ReasonCode::NoCommon => {
             let (versions, rest) = read_version_list(alloc, bytes)?;
             Ok((Reason::NoCommon(versions), rest))
         }
-        (3, 1) => {
+        ReasonCode::NotDecoded => {
             let ((version, text), rest) = split_noted(bytes)?;
             Ok((
                 Reason::NotDecoded(version, Octets::from_slice(alloc, text)?),
                 rest,
             ))
         }
-        (3, 2) => {
+        ReasonCode::Declined => {
             let ((version, text), rest) = split_noted(bytes)?;
             Ok((
                 Reason::Declined(version, Octets::from_slice(alloc, text)?),
                 rest,
             ))
         }
-        _ => Err(ReadRefusal::NotAMessage),
     }
 }
 

@@ -2,6 +2,9 @@ ghost use Rattle.std.specs.Prelude.{◌≡◌, ◌++◌, ◌<◌, ◌≤◌, IsT
 ghost use Rattle.std.specs.List.{flat_map, AllByRecursion};
 ghost use Rattle.hs_message.specs.Canonical.{number_spelling, text_spelling, flag_spelling, array_spelling, map_spelling, info_spelling, offer_spelling, table_spelling, noted_spelling, reason_spelling, message_spelling, version_info_spelling, node_spelling, client_info_spelling, client_spelling, info_spelling_in, CanWrite, CanWriteToClient};
 
+use crate::message_code::MessageCode;
+use crate::reason_code::ReasonCode;
+use crate::tag::Tag;
 use crate::{Info, Message, Offer, Profile, Reason, VersionInfo};
 use cbor_items::{ARRAY, FALSE, MAP, NUMBER, TEXT, TRUE, write_head};
 use net_base::{Octets, OutOfMemory};
@@ -37,20 +40,20 @@ fn put_message(out: &mut Octets, profile: Profile, message: &Message) -> Result<
 {
     match message {
         Message::Propose(table) => {
-            put_tag(out, 2, 0)?;
+            put_tag(out, MessageCode::Propose.tag())?;
             put_table(out, profile, table.as_slice())
         }
         Message::Accept(version, info) => {
-            put_tag(out, 3, 1)?;
+            put_tag(out, MessageCode::Accept.tag())?;
             put_number(out, *version)?;
             put_info(out, profile, info)
         }
         Message::Refuse(reason) => {
-            put_tag(out, 2, 2)?;
+            put_tag(out, MessageCode::Refuse.tag())?;
             put_reason(out, reason)
         }
         Message::QueryReply(table) => {
-            put_tag(out, 2, 3)?;
+            put_tag(out, MessageCode::QueryReply.tag())?;
             put_table(out, profile, table.as_slice())
         }
     }
@@ -109,26 +112,25 @@ fn put_reason(out: &mut Octets, reason: &Reason) -> Result<(), OutOfMemory>
 {
     match reason {
         Reason::NoCommon(versions) => {
-            put_tag(out, 2, 0)?;
+            put_tag(out, ReasonCode::NoCommon.tag())?;
             put_numbers(out, versions.as_slice())
         }
         Reason::NotDecoded(version, text) => {
-            put_tag(out, 3, 1)?;
+            put_tag(out, ReasonCode::NotDecoded.tag())?;
             put_noted(out, *version, text.as_slice())
         }
         Reason::Declined(version, text) => {
-            put_tag(out, 3, 2)?;
+            put_tag(out, ReasonCode::Declined.tag())?;
             put_noted(out, *version, text.as_slice())
         }
     }
 }
 
-// An array of so many elements, of which the number is the first.
-fn put_tag(out: &mut Octets, count: u64, tag: u64) -> Result<(), OutOfMemory>
-    ensures { OnOk result (out.new ≡ out.old ++ array_spelling count (number_spelling tag)) }
+fn put_tag(out: &mut Octets, tag: Tag) -> Result<(), OutOfMemory>
+    ensures { OnOk result (out.new ≡ out.old ++ array_spelling tag.elements (number_spelling tag.number)) }
 {
-    write_head(out, ARRAY, count)?;
-    put_number(out, tag)
+    write_head(out, ARRAY, tag.elements)?;
+    put_number(out, tag.number)
 }
 
 fn put_numbers(out: &mut Octets, numbers: &[u64]) -> Result<(), OutOfMemory>

@@ -40,7 +40,7 @@ use Rattle.net_base.specs.declared.timer.Kind.TheVariants.{Handshake, Grace, Tim
 use Rattle.remote_watch.specs.Watch.{watched}
 use Rattle.remote_watch.specs.declared.seen.Seen.{Seen}
 use Rattle.root_groups.specs.RootAsk.{may_ask, asked}
-use Rattle.warm_messages.specs.First.{first_number_of}
+use Rattle.warm_messages.specs.First.{item_number_of}
 use Rattle.warm_messages.specs.Reading.{alive_of, share_of}
 use Rattle.warm_messages.specs.declared.alive.Alive.{Alive}
 use Rattle.warm_messages.specs.declared.alive.Alive.TheVariants as alive
@@ -238,7 +238,7 @@ brings-others protocol body e m =
 
 -- What pays a reply.
 pays-same : (owed : Owed) (body : List ℕ) → pays owed body ≡ is_answer owed body
-pays-same owed body = λ i. if owed.protocol == 2 then first (first_number_of body) i else if owed.protocol == 8 then alive_is (alive_of body) i else share_is (share_of body) i
+pays-same owed body = λ i. if owed.protocol == 2 then first (item_number_of body) i else if owed.protocol == 8 then alive_is (alive_of body) i else share_is (share_of body) i
   where
     first : (o : Option ℕ) → pays_chain_sync o ≡ is_intersection o
     first None = refl

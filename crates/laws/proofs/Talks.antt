@@ -19,7 +19,7 @@ use Rattle.remote_watch.specs.Watch.{watched, seen_by_number, chain_sync_seen, b
 use Rattle.remote_watch.specs.declared.reply.Reply.{Reply}
 use Rattle.remote_watch.specs.declared.reply.Reply.TheVariants as reply
 use Rattle.remote_watch.specs.declared.seen.Seen.{Seen}
-use Rattle.warm_messages.specs.First.{first_number_of}
+use Rattle.warm_messages.specs.First.{item_number_of}
 use Rattle.warm_messages.specs.Reading.{alive_of, share_of}
 use Rattle.warm_messages.specs.declared.share.Share.{Share}
 use Rattle.warm_messages.specs.declared.share.Share.TheVariants as share
@@ -65,8 +65,8 @@ known_of p u x r2 r3 r4 r8 r10 false false false false false false h = absurd cc
 
 pub seen-known : (id : ℕ) (sharing : Bool) (item : List ℕ) (seen : Seen) → watched id sharing item ≡ Ok seen → has_responder id ≡ true
 seen-known id sharing item seen h =
-    known_of Protocol UnknownId seen (seen_by_number chain_sync_seen (first_number_of item)) (seen_by_number block_fetch_seen (first_number_of item))
-    (seen_by_number tx_submission_seen (first_number_of item)) (keep_alive_seen (alive_of item))
+    known_of Protocol UnknownId seen (seen_by_number chain_sync_seen (item_number_of item)) (seen_by_number block_fetch_seen (item_number_of item))
+    (seen_by_number tx_submission_seen (item_number_of item)) (keep_alive_seen (alive_of item))
     (if sharing then peer_sharing_seen (share_of item) else Err UnknownId) (id == 0) (id == 2) (id == 3) (id == 4) (id == 8) (id == 10) h
 
 -- ---- a responder that starts runs

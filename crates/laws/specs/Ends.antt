@@ -29,7 +29,7 @@ use Rattle.net_base.specs.declared.timer.Kind.{Kind}
 use Rattle.net_base.specs.declared.timer.Kind.TheVariants.{Handshake, Grace, TimeWait, Reply2, Reply8, Reply10}
 use Rattle.remote_watch.specs.Watch.{watched}
 use Rattle.remote_watch.specs.declared.seen.Seen.{Seen}
-use Rattle.warm_messages.specs.First.{first_number_of}
+use Rattle.warm_messages.specs.First.{item_number_of}
 use Rattle.warm_messages.specs.Reading.{alive_of, share_of}
 use Rattle.warm_messages.specs.declared.alive.Alive.{Alive}
 use Rattle.warm_messages.specs.declared.alive.Alive.TheVariants as alive
@@ -122,7 +122,7 @@ are_so_many number (Some share.Done) = false
 
 abbrev pub is_answer : Owed → List ℕ → Bool
 is_answer owed body =
-    if owed.protocol == 2 then is_intersection (first_number_of body)
+    if owed.protocol == 2 then is_intersection (item_number_of body)
     else if owed.protocol == 8 then is_cookie owed.asked (alive_of body)
     else are_so_many owed.asked (share_of body)
 

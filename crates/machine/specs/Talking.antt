@@ -14,7 +14,7 @@ use Rattle.remote_watch.specs.declared.reply.Reply.{Reply}
 use Rattle.remote_watch.specs.declared.reply.Reply.TheVariants as reply
 use Rattle.remote_watch.specs.declared.seen.Seen.{Seen}
 use Rattle.share_rounds.specs.Rounds.{served_to, fresh_of}
-use Rattle.warm_messages.specs.First.{first_number_of}
+use Rattle.warm_messages.specs.First.{item_number_of}
 use Rattle.warm_messages.specs.Reading.{alive_of, share_of}
 use Rattle.warm_messages.specs.declared.alive.Alive.{Alive}
 use Rattle.warm_messages.specs.declared.alive.Alive.TheVariants as alive
@@ -95,7 +95,7 @@ pays_peer_sharing asked other = false
 abbrev pub pays : Owed → List ℕ → Bool
 pays owed body =
     by_reply owed.protocol
-    (pays_chain_sync (first_number_of body))
+    (pays_chain_sync (item_number_of body))
     (pays_keep_alive owed.asked (alive_of body))
     (pays_peer_sharing owed.asked (share_of body))
 

@@ -7,7 +7,7 @@ use Rattle.net_base.specs.declared.action.FaultKind.TheVariants.{Protocol, Unkno
 use Rattle.remote_watch.specs.declared.reply.Reply.{Reply}
 use Rattle.remote_watch.specs.declared.reply.Reply.TheVariants.{Nothing, Alive, Share, NoIntersect, Await, NoBlocks}
 use Rattle.remote_watch.specs.declared.seen.Seen.{Seen}
-use Rattle.warm_messages.specs.First.{first_number_of}
+use Rattle.warm_messages.specs.First.{item_number_of}
 use Rattle.warm_messages.specs.Reading.{alive_of, share_of}
 use Rattle.warm_messages.specs.declared.alive.Alive.{Alive as AliveMessage}
 use Rattle.warm_messages.specs.declared.alive.Alive.TheVariants as alive
@@ -38,7 +38,7 @@ block_fetch_seen n = if n == 0 then goes_on NoBlocks else if n == 1 then is_done
 abbrev pub tx_submission_seen : ℕ → Seen
 tx_submission_seen n = if n == 4 then is_done else goes_on Nothing
 
--- by the first number of the item. One without a first number is a fault.
+-- By the first number of the item, which is whole. One without a first number is a fault.
 abbrev pub seen_by_number : (ℕ → Seen) → Option ℕ → Result Seen FaultKind
 seen_by_number seen (Some n) = Ok (seen n)
 seen_by_number seen None = Err Protocol
@@ -62,9 +62,9 @@ peer_sharing_seen None = Err Protocol
 abbrev pub watched : ℕ → Bool → List ℕ → Result Seen FaultKind
 watched id sharing item =
     if id == handshake then Err Protocol
-    else if id == chain_sync then seen_by_number chain_sync_seen (first_number_of item)
-    else if id == block_fetch then seen_by_number block_fetch_seen (first_number_of item)
-    else if id == tx_submission then seen_by_number tx_submission_seen (first_number_of item)
+    else if id == chain_sync then seen_by_number chain_sync_seen (item_number_of item)
+    else if id == block_fetch then seen_by_number block_fetch_seen (item_number_of item)
+    else if id == tx_submission then seen_by_number tx_submission_seen (item_number_of item)
     else if id == keep_alive then keep_alive_seen (alive_of item)
     else if id == peer_sharing then (if sharing then peer_sharing_seen (share_of item) else Err UnknownId)
     else Err UnknownId

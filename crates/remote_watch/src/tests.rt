@@ -68,14 +68,13 @@ fn what_an_initiator_may_send(rt: HostRuntime) -> Result<(), Fail> {
 
 #[test]
 fn what_is_a_fault(rt: HostRuntime) {
-    let rows: [(u16, bool, &[u8], FaultKind); 18] = [
+    let rows: [(u16, bool, &[u8], FaultKind); 17] = [
         // the handshake is over
         (0, true, b"\x81\x00", FaultKind::Protocol),
         // no first number
         (2, true, b"\x80", FaultKind::Protocol),
         (3, true, b"\x00", FaultKind::Protocol),
         (4, true, b"\xa1\x00\x00", FaultKind::Protocol),
-        (4, true, b"\x81\x04\x00", FaultKind::Protocol),
         // what a responder sends, and what nobody does
         (8, true, b"\x82\x01\x05", FaultKind::Protocol),
         (8, true, b"\x81\x03", FaultKind::Protocol),

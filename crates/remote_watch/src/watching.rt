@@ -2,17 +2,18 @@ ghost use Rattle.std.specs.Prelude.{◌≡◌, Some, None, IfErr, MatchResult};
 ghost use Rattle.net_base.specs.declared.action.FaultKind.{FaultKind};
 ghost use Rattle.remote_watch.specs.Refusal.{Answers};
 ghost use Rattle.remote_watch.specs.Watch.{watched, chain_sync_seen, block_fetch_seen, tx_submission_seen, keep_alive_seen, peer_sharing_seen};
-ghost use Rattle.warm_messages.specs.First.{first_number_of};
+ghost use Rattle.warm_messages.specs.First.{item_number_of};
 ghost use Rattle.warm_messages.specs.Reading.{alive_of, share_of};
 ghost use Rattle.remote_watch.specs.declared.refusal.WatchRefusal.{WatchRefusal};
 
 use crate::{Reply, Seen, WatchRefusal};
 use net_base::FaultKind;
 use std::alloc::Global;
-use warm_messages::{Alive, Share, first_number, read_alive, read_share};
+use warm_messages::{Alive, Share, item_number, read_alive, read_share};
 
 /// What an item of the initiator's side is, by the number of its mini-protocol, where the handshake is over. Peer sharing has
-/// its number only where both ends agreed on it. Memory is taken for peer sharing alone.
+/// its number only where both ends agreed on it. Memory is taken for peer sharing alone. The item is one that a cutter gave:
+/// that it is whole is not tested again.
 pub fn watch(alloc: Global, id: u16, sharing: bool, item: &[u8]) -> Result<Seen, WatchRefusal>
     ensures answer { Answers result (watched id sharing item.now) }
     ensures memory { IfErr result (λ refusal. refusal ≡ WatchRefusal.OutOfMemory → id ≡ 10) }
@@ -30,9 +31,9 @@ pub fn watch(alloc: Global, id: u16, sharing: bool, item: &[u8]) -> Result<Seen,
 
 // The first number of an item, which each one of chain-sync, block-fetch and tx-submission has.
 fn numbered(item: &[u8]) -> Result<u64, WatchRefusal>
-    ensures { MatchResult result (λ n. first_number_of item.now ≡ Some n) (λ refusal. (refusal ≡ WatchRefusal.Fault FaultKind.Protocol) × (first_number_of item.now ≡ None)) }
+    ensures { MatchResult result (λ n. item_number_of item.now ≡ Some n) (λ refusal. (refusal ≡ WatchRefusal.Fault FaultKind.Protocol) × (item_number_of item.now ≡ None)) }
 {
-    first_number(item).ok_or(WatchRefusal::Fault(FaultKind::Protocol))
+    item_number(item).ok_or(WatchRefusal::Fault(FaultKind::Protocol))
 }
 
 fn chain_sync(number: u64) -> Seen

@@ -8,7 +8,7 @@ use Rattle.cbor_items.specs.declared.scan.Scan.{Scan}
 use Rattle.cbor_items.specs.declared.scan.Scan.TheVariants.{Whole, More, Bad, Deep}
 use Rattle.cbor_items.specs.Head.{IsHead, head_at}
 use Rattle.cbor_items.specs.Definite.{IsNumber}
-use Rattle.cbor_items.specs.Front.{◌>>=◌, number_at}
+use Rattle.cbor_items.specs.Front.{number_at}
 use Rattle.cbor_items.specs.Item.{IsPair, AreInTurn, IsRow, IsFlat, IsNested, IsItem, level_limit}
 use Rattle.cbor_items.specs.Item.IsFlat.{alone, string, chunks}
 use Rattle.cbor_items.specs.Item.IsNested.{array, open_array, map, open_map, tag}
@@ -28,7 +28,7 @@ use Rattle.warm_messages.specs.Array.{IsNumbers, EndsArray, IsArray}
 use Rattle.warm_messages.specs.Address.{SpellsAddress}
 use Rattle.warm_messages.specs.Message.{alive_numbers, SpellsAlive, SpellsAddresses, SpellsShare}
 use Rattle.warm_messages.specs.Reading.{length_of, opening_at}
-use Rattle.warm_messages.specs.First.{HasFirstNumber, is_whole, first_number_of}
+use Rattle.warm_messages.specs.First.{HasFirstNumber, is_whole, first_number_of, item_number_of}
 use Rattle.warm_messages.proofs.Arrays.{some_pair, opening_found, opening_again}
 
 -- ---- arrays are items
@@ -206,10 +206,9 @@ whole_is Bad count e = absurd cc
 whole_is Deep count e = absurd cc
 
 pub first_spells : (n : ℕ) (bytes : List ℕ) → first_number_of bytes ≡ Some n → HasFirstNumber n bytes
-unfolding first_number_of
+unfolding first_number_of item_number_of
 first_spells n bytes e =
-    let inner = opening_at bytes >>= λ opened. option_map (λ read. read.0) (number_at opened.1) in
-    elim (chosen (is_whole (scan_of bytes) (length bytes)) inner None (Some n) e) [
+    elim (chosen (is_whole (scan_of bytes) (length bytes)) (item_number_of bytes) None (Some n) e) [
       | inl (is, read) ↦
           let found = scan_found bytes (length bytes) (whole_is (scan_of bytes) (length bytes) is) in
           let item : IsItem 64 bytes = subst (IsItem 64) (take-length bytes) found.1 in
@@ -224,7 +223,7 @@ first_spells n bytes e =
     mapped None m e = absurd cc
 
 pub spelled_first : (n : ℕ) (bytes : List ℕ) → HasFirstNumber n bytes → first_number_of bytes ≡ Some n
-unfolding first_number_of
+unfolding first_number_of item_number_of
 spelled_first n bytes first =
     let is = first.is in
     let pair = is.is_content in
@@ -242,3 +241,12 @@ spelled_first n bytes first =
     let opened : opening_at bytes ≡ Some (length_of is.head, pair.first ++ behind) = ap opening_at joined ∙ opening_again is.head is.spelled (pair.first ++ behind) is.is_head is.array in
     let number = reads_number.again n pair.first behind pair.is_first in
     rw (scanned, eq-eqb _ _ (let same : length bytes ≡ length bytes = refl in same), opened, number) refl
+
+-- ---- the first number of an item, without a scan
+
+item_scanned : (bytes : List ℕ) → IsItem level_limit bytes → scan_of bytes ≡ Whole (length bytes)
+item_scanned bytes item = ap scan_of (sym (append-nil bytes)) ∙ scan_again bytes [] item
+
+pub item_is_first : (bytes : List ℕ) → IsItem level_limit bytes → item_number_of bytes ≡ first_number_of bytes
+unfolding first_number_of
+item_is_first bytes item = rw (item_scanned bytes item, eq-eqb _ _ (let same : length bytes ≡ length bytes = refl in same)) refl

@@ -20,9 +20,11 @@ is_whole More count = false
 is_whole Bad count = false
 is_whole Deep count = false
 
--- the first element of the item that the bytes are, where it is an array and that element an unsigned number
+-- The first element of an item, where it is an array and that element an unsigned number. What stands behind that number
+-- is not looked at: of bytes that are no item it says nothing.
+unfoldable pub item_number_of : List ℕ → Option ℕ
+item_number_of bytes = opening_at bytes >>= λ opened. option_map (λ read. read.0) (number_at opened.1)
+
+-- the first element of the item that the bytes are, where they are one
 unfoldable pub first_number_of : List ℕ → Option ℕ
-first_number_of bytes =
-    if is_whole (scan_of bytes) (length bytes)
-    then (opening_at bytes >>= λ opened. option_map (λ read. read.0) (number_at opened.1))
-    else None
+first_number_of bytes = if is_whole (scan_of bytes) (length bytes) then item_number_of bytes else None

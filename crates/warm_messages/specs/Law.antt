@@ -10,7 +10,7 @@ use Rattle.warm_messages.specs.declared.share.Share.TheVariants as share
 use Rattle.warm_messages.specs.Address.{IsAddress}
 use Rattle.warm_messages.specs.Message.{HasCookie, SpellsAlive, SpellsShare}
 use Rattle.warm_messages.specs.Reading.{alive_of, share_of}
-use Rattle.warm_messages.specs.First.{HasFirstNumber, first_number_of}
+use Rattle.warm_messages.specs.First.{HasFirstNumber, first_number_of, item_number_of}
 use Rattle.warm_messages.specs.Writing.{written_alive, written_request, written_peers}
 
 -- reading finds the message exactly where the bytes spell it
@@ -18,6 +18,11 @@ pub record ReadingIsSpelling : Type 0 where
   pub alive : (message : Alive) (bytes : List ℕ) → (alive_of bytes ≡ Some message) ↔ SpellsAlive message bytes
   pub share : (message : Share) (bytes : List ℕ) → (share_of bytes ≡ Some message) ↔ SpellsShare message bytes
   pub first : (n : ℕ) (bytes : List ℕ) → (first_number_of bytes ≡ Some n) ↔ HasFirstNumber n bytes
+
+-- where the bytes are one item, its first number is found without a scan of the whole
+pub record ItemsNeedNoScan : Type 0 where
+  pub same : (bytes : List ℕ) → IsItem level_limit bytes → item_number_of bytes ≡ first_number_of bytes
+  pub spelled : (n : ℕ) (bytes : List ℕ) → IsItem level_limit bytes → (item_number_of bytes ≡ Some n) ↔ HasFirstNumber n bytes
 
 -- bytes spell at most one message of each protocol
 pub record SpellAtMostOne : Type 0 where

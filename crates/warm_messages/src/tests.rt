@@ -220,7 +220,12 @@ fn first_numbers(rt: HostRuntime) -> Result<(), Fail> {
     ];
     for (bytes, number) in rows {
         assert_eq!(rt; first_number(bytes), number, "at {bytes:?}");
+        if first_item(bytes) == Scan::Whole(bytes.len()) {
+            assert_eq!(rt; item_number(bytes), number, "at {bytes:?}");
+        }
     }
+    // behind the number nothing is looked at
+    assert_eq!(rt; item_number(b"\x82\x04\x1c"), Some(4));
     assert_eq!(rt; first_number(&five_and_levels(rt.alloc(), 63)?), Some(5));
     assert_eq!(rt; first_number(&five_and_levels(rt.alloc(), 64)?), None);
     Ok(())

@@ -6,7 +6,7 @@ ghost use Rattle.machine.specs.Effect.{for_each};
 ghost use Rattle.machine.specs.Talking.{shares_address, taken_of, takes_addresses, pays, pays_chain_sync, pays_keep_alive, pays_peer_sharing, brings, answered_as};
 ghost use Rattle.connections.specs.Owed.{reply_of};
 ghost use Rattle.node_engine.specs.State.{Does, DoesTo, IsKnown};
-ghost use Rattle.warm_messages.specs.First.{first_number_of};
+ghost use Rattle.warm_messages.specs.First.{item_number_of};
 ghost use Rattle.warm_messages.specs.Reading.{alive_of, share_of};
 
 use crate::NodeState;
@@ -16,7 +16,7 @@ use mux_segment::Item;
 use net_base::{ActionList, AddrList, Cid, CloseCause, Facts, FaultKind, OutOfMemory, Temp};
 use share_rounds::fresh;
 use std::alloc::Global;
-use warm_messages::{Alive, PeerItems, Share, first_number, read_alive, read_share};
+use warm_messages::{Alive, PeerItems, Share, item_number, read_alive, read_share};
 
 impl NodeState {
     /// The other side answers.
@@ -133,9 +133,9 @@ fn pays(alloc: Global, reply: Reply, item: &Item) -> Result<bool, OutOfMemory>
 
 // An intersection was found, or none.
 fn pays_chain_sync(body: &[u8]) -> bool
-    ensures { result ≡ pays_chain_sync (first_number_of body.now) }
+    ensures { result ≡ pays_chain_sync (item_number_of body.now) }
 {
-    match first_number(body) {
+    match item_number(body) {
         Some(number) => number == 5 || number == 6,
         None => false,
     }
