@@ -1,16 +1,14 @@
 -- Readings of a shelf in memory.
-use Rattle.std.proofs.Common.{◌≡◌, ℕ, ◌+◌, ◌<◌, ◌≤◌, nat_le, eqb, Bool, true, false, cond, List, [], ◌∷◌, ◌++◌, length, get_or, Option, Some, None, Result, Ok, Err, refl, sym, ap, ◌∙◌, subst, arith, eq-eqb}
-use Rattle.std.specs.List.{count_by, slice_get, position_or_len}
-use Rattle.std.specs.Option.{option_map}
+use Rattle.std.proofs.Common.{◌≡◌, ℕ, ◌+◌, ◌≤◌, nat_le, eqb, Bool, true, false, cond, List, [], ◌∷◌, ◌++◌, length, Option, Some, None, Result, Ok, Err, refl, sym, subst, arith, eq-eqb}
+use Rattle.std.specs.List.{count_by, slice_get}
 use Rattle.std.proofs.lemmas.Bool.{cond-true, leb-true, leb-false}
 use Rattle.std.proofs.lemmas.List.Sums.{sum_by-append, sum_by-cons}
 use Rattle.io_edge.specs.declared.named_file.NamedFile.{NamedFile}
 use Rattle.io_edge.specs.declared.shelf_refusal.ShelfRefusal.{ShelfRefusal}
 use Rattle.io_edge.specs.declared.shelf_refusal.ShelfRefusal.TheVariants.{Failed, TooLarge, OutOfMemory}
-use Rattle.io_edge.specs.Causes.{Rose}
 use Rattle.io_edge.specs.Files.{IsReading, HasFileCause}
 use Rattle.io_edge.specs.Memory.{Calls, next_fails}
-use Rattle.io_edge.specs.Shelves.{MemoryShelf, has_name, place_of, bytes_of, faults_of, reading_of, next_reading, IsAnswerOr, failed_after, after_reading}
+use Rattle.io_edge.specs.Shelves.{MemoryShelf, place_of, bytes_of, faults_of, reading_of, next_reading, IsAnswerOr, after_reading}
 
 -- one more place, counted where it passes
 count_more : (test : ℕ → Bool) (failed : List ℕ) (place : ℕ) → count_by test (failed ++ place ∷ []) ≡ count_by test failed + cond (test place) 1 0

@@ -1,6 +1,6 @@
-ghost use Rattle.std.specs.Prelude.{◌≡◌, ◌<◌, ◌≤◌, ℕ, List, [], ◌∷◌, ◌++◌, length, IfSome, IfOk, OnOk, OnErr};
+ghost use Rattle.std.specs.Prelude.{◌≡◌, ◌<◌, ◌≤◌, ℕ, List, [], ◌++◌, length, IfSome, IfOk, OnErr};
 ghost use Rattle.std.specs.List.{position_or_len};
-ghost use Rattle.io_edge.specs.Lines.{is_line_feed, HasNoLineFeed, FitsLine, IsPastLimit};
+ghost use Rattle.io_edge.specs.Lines.{is_line_feed, FitsLine, IsPastLimit};
 ghost use Rattle.io_edge.specs.Reading.{TakesLine, TakesKept, ReadsLine, AnswersInput, HasReadCause};
 
 use crate::window::Window;

@@ -1,6 +1,5 @@
-ghost use Rattle.std.specs.Prelude.{◌≡◌, ◌<◌, ◌≤◌, ℕ, Option, Some, [], length, take, IfOk, OnErr};
+ghost use Rattle.std.specs.Prelude.{◌≡◌, ◌<◌, ◌≤◌, Some, [], IfOk};
 ghost use Rattle.io_edge.specs.Causes.{HasCause};
-ghost use Rattle.io_edge.specs.Told.{Takes};
 ghost use Rattle.io_edge.specs.Memory.{answer_to, after_put};
 
 use crate::call_log::CallLog;
@@ -19,7 +18,7 @@ pub struct MemSink {
 }
 
 impl Model for MemSink {
-    ghost use Rattle.std.specs.Prelude.{◌≤◌, length};
+    ghost use Rattle.std.specs.Prelude.{◌≤◌};
     ghost use Rattle.std.specs.Vec.{vec_len, vec_capacity};
     ghost use Rattle.io_edge.specs.Memory.{MemorySink};
 

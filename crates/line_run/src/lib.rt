@@ -6,8 +6,10 @@ mod outcome;
 mod reading;
 mod running;
 mod stop;
+mod telling;
 
 pub use interpreter::Interpreter;
 pub use outcome::LineOutcome;
 pub use running::run_lines;
 pub use stop::Stop;
+pub use telling::tell_line;

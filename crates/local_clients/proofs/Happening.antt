@@ -1,8 +1,8 @@
 -- What a line comes to that says an event.
-use Rattle.std.proofs.Common.{◌≡◌, ℕ, ◌+◌, ◌<◌, Bool, false, cond, leb, List, [], ◌∷◌, ◌++◌, map, Result, Ok, refl, sym, ap, ◌∙◌}
+use Rattle.std.proofs.Common.{◌≡◌, ℕ, ◌+◌, ◌<◌, Bool, false, cond, leb, List, ◌∷◌, ◌++◌, map, Ok, sym, ap, ◌∙◌}
 use Rattle.std.proofs.lemmas.Bool.{lt-leb}
 use Rattle.io_edge.specs.Lines.{ended_lines}
-use Rattle.line_run.specs.Meaning.{Meaning, goes_on, is_too_many, IsInterpreted}
+use Rattle.line_run.specs.Meaning.{goes_on, is_too_many, IsInterpreted}
 use Rattle.local_clients.specs.declared.action.ClientAction.{ClientAction}
 use Rattle.local_clients.specs.declared.event.ClientEvent.{ClientEvent}
 use Rattle.local_clients.specs.Clients.{ClientsState, stepped}

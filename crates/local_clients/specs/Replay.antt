@@ -1,5 +1,5 @@
 -- What each line means to the clients: an event is done, and written with its actions below it.
-use Rattle.std.specs.Prelude.{ℕ, ◌+◌, nat_le, List, [], ◌∷◌, map, take, if◌then◌else◌, Option, Result}
+use Rattle.std.specs.Prelude.{ℕ, ◌+◌, nat_le, List, [], ◌∷◌, map, take, if◌then◌else◌, Option}
 use Rattle.io_edge.specs.Lines.{whole_lines}
 use Rattle.line_run.specs.Inputs.{IsRunOver}
 use Rattle.line_run.specs.Judgement.{Verdict, verdict_of}

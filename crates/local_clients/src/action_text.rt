@@ -5,14 +5,15 @@ ghost use Rattle.local_clients.specs.Texts.{cause_words, printed_action};
 use crate::{ClientAction, ClientCause};
 use net_base::{Octets, OutOfMemory};
 use std::alloc::{AllocError, Global};
-use trace_text::fault_words;
+use trace_text::{PrintedLine, bytes_text, fault_words};
 
-/// The line of an action, with its `> ` and without a line feed.
-pub(crate) fn print_action(alloc: Global, action: &ClientAction) -> Result<Octets, OutOfMemory>
-    ensures { IfOk result (λ line. line ≡ printed_action action.now) }
-{
-    let text = action_text(alloc, action)?;
-    Ok(Octets::from_vec(text.into_bytes()))
+impl PrintedLine for ClientAction {
+    ghost text = { printed_action };
+
+    fn print(&self, alloc: Global) -> Result<Octets, OutOfMemory> {
+        let text = action_text(alloc, self)?;
+        Ok(Octets::from_vec(text.into_bytes()))
+    }
 }
 
 fn action_text(alloc: Global, action: &ClientAction) -> Result<String, AllocError>
@@ -21,10 +22,7 @@ fn action_text(alloc: Global, action: &ClientAction) -> Result<String, AllocErro
     match action {
         ClientAction::Admit(id) => format!(in alloc; "> admit {id}"),
         ClientAction::Turnaway => format!(in alloc; "> turnaway"),
-        ClientAction::Send(id, bytes) => {
-            let digits = hex::encode(alloc, bytes.as_slice())?;
-            format!(in alloc; "> send {id} {digits}")
-        }
+        ClientAction::Send(id, bytes) => bytes_text(alloc, "> send", *id, bytes.as_slice()),
         ClientAction::Open(id, version) => format!(in alloc; "> open {id} {version}"),
         ClientAction::Close(id, cause) => {
             format!(in alloc; "> close {id} {}", cause_words(*cause))

@@ -1,5 +1,5 @@
 ghost use Rattle.std.specs.Prelude.{◌≡◌, IfOk};
-ghost use Rattle.local_clients.specs.Agreement.{offer_of, common_in, decides_info, decides_offer, decision_of, own_info, own_table, answer_to, answer_bytes, CanAnswer};
+ghost use Rattle.local_clients.specs.Agreement.{offer_of, common_in, decides_info, decision_of, own_info, own_table, answer_to, answer_bytes, CanAnswer};
 
 use hs_message::{Info, Message, Offer, Reason, Table, VersionInfo, write_client_message};
 use net_base::{NumberList, Octets, OutOfMemory};

@@ -1,11 +1,10 @@
 //! What comes of one segment of a client.
 
 ghost use Rattle.std.specs.Prelude.{◌≡◌, ◌≤◌, [], ◌∷◌, ◌++◌, drop, take, length, IfOk, OnOk, Some};
-ghost use Rattle.cbor_items.specs.Scan.{scan_of};
-ghost use Rattle.mux_segment.specs.Steps.{next_of, segment_with};
+ghost use Rattle.mux_segment.specs.Steps.{segment_with};
 ghost use Rattle.hs_message.specs.Reading.{client_message_of};
-ghost use Rattle.local_clients.specs.Agreement.{decision_of, CanAnswer};
-ghost use Rattle.local_clients.specs.Hearing.{faults, closes, sends, opens, concluded, item_heard, first_heard, part_heard, payload_heard, segment_heard};
+ghost use Rattle.local_clients.specs.Agreement.{CanAnswer};
+ghost use Rattle.local_clients.specs.Hearing.{faults, closes, sends, opens, concluded, item_heard, part_heard, payload_heard, segment_heard};
 
 use crate::context::Context;
 use crate::decision::{Decision, answer, decide};

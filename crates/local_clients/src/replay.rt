@@ -1,17 +1,12 @@
-ghost use Rattle.std.specs.Prelude.{◌≡◌, ◌≤◌, ◌∷◌, ◌++◌, length, take, map, OnOk, OnErr};
-ghost use Rattle.io_edge.specs.Lines.{ended_lines};
+ghost use Rattle.std.specs.Prelude.{◌≡◌};
 ghost use Rattle.line_run.specs.Meaning.{IsInterpreted};
-ghost use Rattle.local_clients.specs.Lines.{CanBeTaken};
 ghost use Rattle.local_clients.specs.Replay.{nobody, event_means, line_means};
 ghost use Rattle.local_clients.specs.Rules.{AreInRange, CanHappen};
-ghost use Rattle.local_clients.specs.Texts.{printed_action};
 
-use crate::action_text::print_action;
 use crate::client_line::{ClientLine, read_line};
-use crate::{ClientAction, ClientEvent, ClientRules, Clients};
+use crate::{ClientEvent, ClientRules, Clients};
 use io_edge::PieceWriter;
-use line_run::{Interpreter, Stop};
-use net_base::OutOfMemory;
+use line_run::{Interpreter, Stop, tell_line};
 use std::alloc::Global;
 use std::marker::Model;
 use std::mem;
@@ -62,7 +57,7 @@ impl ClientsReplay {
         let nobody = Clients::new(self.alloc, self.clients.rules());
         let clients = mem::replace(&mut self.clients, nobody);
         let (clients, actions) = clients.step(event)?;
-        tell_event(self.alloc, line, actions.as_slice(), pieces)?;
+        tell_line(self.alloc, line, actions.as_slice(), pieces)?;
         self.clients = clients;
         Ok(())
     }
@@ -81,41 +76,4 @@ impl Interpreter for ClientsReplay {
             }
         }
     }
-}
-
-// Says an event's line, and below it a line for each action. Where memory is wanting nothing is said.
-fn tell_event(
-    alloc: Global,
-    line: &[u8],
-    actions: &[ClientAction],
-    pieces: &mut PieceWriter,
-) -> Result<(), OutOfMemory>
-    ensures said { OnOk result (pieces.new ≡ pieces.old ++ ended_lines (line.now ∷ map printed_action actions.now)) }
-    ensures unsaid { OnErr result (pieces.new ≡ pieces.old) }
-{
-    let before = pieces.len();
-    let told = tell_on(alloc, line, actions, pieces);
-    if told.is_err() {
-        pieces.truncate(before);
-    }
-    told
-}
-
-// The same, where a want of memory may come in the middle.
-fn tell_on(
-    alloc: Global,
-    line: &[u8],
-    actions: &[ClientAction],
-    pieces: &mut PieceWriter,
-) -> Result<(), OutOfMemory>
-    ensures said { OnOk result (pieces.new ≡ pieces.old ++ ended_lines (line.now ∷ map printed_action actions.now)) }
-    ensures more { length pieces.old ≤ length pieces.new }
-    ensures front { take (length pieces.old) pieces.new ≡ pieces.old }
-{
-    pieces.push_line(line)?;
-    for action in actions {
-        let text = print_action(alloc, action)?;
-        pieces.push_line(text.as_slice())?;
-    }
-    Ok(())
 }

@@ -1,8 +1,8 @@
 -- What lines of a pair come to.
-use Rattle.std.proofs.Common.{◌≡◌, ℕ, ◌+◌, ◌<◌, Bool, false, cond, leb, List, [], ◌∷◌, ◌++◌, map, Result, Ok, Err, refl, sym, ap, ◌∙◌, subst}
+use Rattle.std.proofs.Common.{◌≡◌, ℕ, ◌+◌, ◌<◌, Bool, false, cond, leb, List, [], ◌∷◌, ◌++◌, map, Result, Ok, sym, ap, ◌∙◌, subst}
 use Rattle.std.proofs.lemmas.Bool.{lt-leb}
 use Rattle.io_edge.specs.Lines.{ended_lines}
-use Rattle.line_run.specs.Meaning.{Meaning, goes_on, is_too_many, Says}
+use Rattle.line_run.specs.Meaning.{Meaning, goes_on, is_too_many}
 use Rattle.line_run.specs.Refusals.{if_read}
 use Rattle.line_run.specs.declared.stop.Stop.{Stop}
 use Rattle.line_run.proofs.Meant.{says_line}

@@ -6,14 +6,15 @@ use crate::{End, EndCause, PairNote};
 use hs_decide::Role;
 use net_base::{Octets, OutOfMemory};
 use std::alloc::{AllocError, Global};
-use trace_text::fault_words;
+use trace_text::{PrintedLine, fault_words};
 
-/// The line of a note, with its `> ` and without a line feed.
-pub(crate) fn print_note(alloc: Global, note: &PairNote) -> Result<Octets, OutOfMemory>
-    ensures { IfOk result (λ line. line ≡ printed_note note.now) }
-{
-    let text = note_text(alloc, note)?;
-    Ok(Octets::from_vec(text.into_bytes()))
+impl PrintedLine for PairNote {
+    ghost text = { printed_note };
+
+    fn print(&self, alloc: Global) -> Result<Octets, OutOfMemory> {
+        let text = note_text(alloc, self)?;
+        Ok(Octets::from_vec(text.into_bytes()))
+    }
 }
 
 fn note_text(alloc: Global, note: &PairNote) -> Result<String, AllocError>

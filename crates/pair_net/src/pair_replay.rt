@@ -1,15 +1,11 @@
-ghost use Rattle.std.specs.Prelude.{◌≡◌, ℕ, ◌≤◌, false, List, ◌∷◌, ◌++◌, length, take, map, IfOk, OnOk, OnErr};
-ghost use Rattle.io_edge.specs.Lines.{ended_lines};
+ghost use Rattle.std.specs.Prelude.{◌≡◌, false, IfOk};
 ghost use Rattle.pair_net.specs.Replay.{step_means, line_means, IsOffered, IsMeant};
-ghost use Rattle.pair_net.specs.Texts.{printed_note};
 
-use crate::note_text::print_note;
 use crate::pair_line::{PairLine, read_info, read_later, read_opening};
-use crate::{NoteList, Pair, PairNote, PairStep};
+use crate::{Pair, PairStep};
 use hs_message::VersionInfo;
 use io_edge::PieceWriter;
-use line_run::{Interpreter, Stop};
-use net_base::OutOfMemory;
+use line_run::{Interpreter, Stop, tell_line};
 use std::alloc::Global;
 use std::marker::Model;
 use std::mem;
@@ -169,43 +165,6 @@ fn take_step(
         return Err(Stop::TooMany);
     }
     let (pair, notes) = pair.step(step)?;
-    tell_step(alloc, line, notes.as_slice(), pieces)?;
+    tell_line(alloc, line, notes.as_slice(), pieces)?;
     Ok(Progress::Steps(pair, count + 1))
-}
-
-// Says a step's line, and below it a line for each note. Where memory is wanting nothing is said.
-fn tell_step(
-    alloc: Global,
-    line: &[u8],
-    notes: &[PairNote],
-    pieces: &mut PieceWriter,
-) -> Result<(), OutOfMemory>
-    ensures said { OnOk result (pieces.new ≡ pieces.old ++ ended_lines (line.now ∷ map printed_note notes.now)) }
-    ensures unsaid { OnErr result (pieces.new ≡ pieces.old) }
-{
-    let before = pieces.len();
-    let told = tell_on(alloc, line, notes, pieces);
-    if told.is_err() {
-        pieces.truncate(before);
-    }
-    told
-}
-
-// The same, where a want of memory may come in the middle.
-fn tell_on(
-    alloc: Global,
-    line: &[u8],
-    notes: &[PairNote],
-    pieces: &mut PieceWriter,
-) -> Result<(), OutOfMemory>
-    ensures said { OnOk result (pieces.new ≡ pieces.old ++ ended_lines (line.now ∷ map printed_note notes.now)) }
-    ensures more { length pieces.old ≤ length pieces.new }
-    ensures front { take (length pieces.old) pieces.new ≡ pieces.old }
-{
-    pieces.push_line(line)?;
-    for note in notes {
-        let text = print_note(alloc, note)?;
-        pieces.push_line(text.as_slice())?;
-    }
-    Ok(())
 }

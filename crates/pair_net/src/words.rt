@@ -1,13 +1,10 @@
-ghost use Rattle.std.specs.Prelude.{◌≡◌};
-ghost use Rattle.net_base.specs.Number.{number_up_to};
 ghost use Rattle.trace_text.specs.declared.line.LineRefusal.TheVariants.{BadWord};
 ghost use Rattle.trace_text.specs.Reading.{next_number, next_read};
 ghost use Rattle.trace_text.specs.Views.{Gives};
 ghost use Rattle.pair_net.specs.Lines.{end_named};
 
 use crate::End;
-use net_base::read_number;
-use trace_text::{LineRefusal, Words};
+use trace_text::{LineRefusal, Words, read_magic};
 
 /// A number of 32 bits.
 pub(crate) fn next_magic(words: &mut Words) -> Result<u32, LineRefusal>
@@ -16,12 +13,6 @@ pub(crate) fn next_magic(words: &mut Words) -> Result<u32, LineRefusal>
     let place = words.place();
     let word = words.word()?;
     read_magic(word).ok_or(LineRefusal::BadNumber(place))
-}
-
-fn read_magic(word: &[u8]) -> Option<u32>
-    ensures { result ≡ number_up_to 4294967295 word.now }
-{
-    u32::try_from(read_number(word, u64::from(u32::MAX))?).ok()
 }
 
 /// One of the two ends.

@@ -1,7 +1,6 @@
 -- How actions are printed.
 use Rattle.std.specs.Prelude.{ℕ, List, [], ◌∷◌, ◌++◌, codes, decimal}
 use Rattle.std.specs.List.{join_with_byte}
-use Rattle.hex.specs.Hex.{encode_lower}
 use Rattle.net_base.specs.declared.action.Action.{Action}
 use Rattle.net_base.specs.declared.action.Action.TheVariants as actions
 use Rattle.net_base.specs.declared.action.Away.{Away}
@@ -15,6 +14,7 @@ use Rattle.net_base.specs.declared.action.PeerNote.TheVariants as note
 use Rattle.net_base.specs.declared.action.StateName.{StateName}
 use Rattle.net_base.specs.declared.action.StateName.TheVariants as state
 use Rattle.trace_text.specs.Addresses.{printed_address}
+use Rattle.trace_text.specs.Bytes.{bytes_words}
 
 abbrev pub away_word : Away → List ℕ
 away_word away.Full = codes "full"
@@ -65,7 +65,7 @@ abbrev pub action_words : Action → List (List ℕ)
 action_words (actions.Admit cid address) = codes "admit" ∷ decimal cid.0 ∷ printed_address address ∷ []
 action_words (actions.Turnaway why) = codes "turnaway" ∷ away_word why ∷ []
 action_words (actions.Dial cid address) = codes "dial" ∷ decimal cid.0 ∷ printed_address address ∷ []
-action_words (actions.Send cid bytes) = codes "send" ∷ decimal cid.0 ∷ encode_lower bytes ∷ []
+action_words (actions.Send cid bytes) = bytes_words (codes "send") cid.0 bytes
 action_words (actions.Close cid why) = codes "close" ∷ decimal cid.0 ∷ cause_words why ∷ []
 action_words (actions.Pause time) = codes "pause" ∷ decimal time ∷ []
 action_words (actions.AskRoots job) = codes "askroots" ∷ decimal job.0 ∷ []

@@ -1,7 +1,6 @@
 -- How events are printed, and which there are in a trace of a version.
 use Rattle.std.specs.Prelude.{ℕ, Bool, true, false, ◌≡◌, ◌<◌, ◌^◌, List, [], ◌∷◌, map, codes, decimal, All, IsTrue, Result}
 use Rattle.std.specs.List.{join_with_byte, flat_map}
-use Rattle.hex.specs.Hex.{encode_lower}
 use Rattle.net_base.specs.declared.address.Addr.{Addr}
 use Rattle.net_base.specs.declared.event.Event.{Event}
 use Rattle.net_base.specs.declared.event.Event.TheVariants.{Now, Govern, Accepted, Dialed, Bytes, Closed, Aims, Locals, Roots, BigAims, Bigs}
@@ -11,6 +10,7 @@ use Rattle.net_base.specs.declared.event.RootAnswer.TheVariants.{Found, Failed}
 use Rattle.trace_text.specs.declared.line.Line.{Line}
 use Rattle.trace_text.specs.declared.line.LineRefusal.{LineRefusal}
 use Rattle.trace_text.specs.Addresses.{IsAddress, knows_family, printed_address}
+use Rattle.trace_text.specs.Bytes.{bytes_words}
 use Rattle.trace_text.specs.Events.{event_line}
 use Rattle.trace_text.specs.Reading.{◌>>=◌, next_word}
 use Rattle.trace_text.specs.Words.{words_of}
@@ -42,7 +42,7 @@ event_words (Now t) = codes "now" ∷ decimal t ∷ []
 event_words (Govern word) = codes "govern" ∷ decimal word ∷ []
 event_words (Accepted address) = codes "accepted" ∷ printed_address address ∷ []
 event_words (Dialed cid opened) = codes "dialed" ∷ decimal cid.0 ∷ outcome_word opened ∷ []
-event_words (Bytes cid bytes) = codes "bytes" ∷ decimal cid.0 ∷ encode_lower bytes ∷ []
+event_words (Bytes cid bytes) = bytes_words (codes "bytes") cid.0 bytes
 event_words (Closed cid) = codes "closed" ∷ decimal cid.0 ∷ []
 event_words (Aims t) =
     codes "targets" ∷ decimal t.root ∷ decimal t.known ∷ decimal t.established ∷ decimal t.active ∷ []

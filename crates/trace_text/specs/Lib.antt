@@ -1,5 +1,6 @@
 pub mod Actions
 pub mod Addresses
+pub mod Bytes
 pub mod EventTexts
 pub mod Events
 pub mod HeadTexts

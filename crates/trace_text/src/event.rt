@@ -1,4 +1,4 @@
-ghost use Rattle.std.specs.Prelude.{◌≡◌, ◌≤◌};
+ghost use Rattle.std.specs.Prelude.{◌≡◌};
 ghost use Rattle.trace_text.specs.Events.{now_line, govern_line, accepted_line, dialed_line, bytes_line, closed_line, targets_line, big_targets_line, locals_line, roots_line, roots_found, roots_failed, bigs_line, big_line, provided_line, event_line, in_bounds};
 ghost use Rattle.trace_text.specs.Lines.{IsReading};
 

@@ -6,6 +6,7 @@ ghost use Rattle.trace_text.specs.declared.line.Line.TheVariants.{Happen};
 ghost use Rattle.trace_text.specs.EventTexts.{event_of, printed_event, outcome_word, IsEventIn};
 
 use crate::group_text::GroupTexts;
+use crate::piece::bytes_text;
 use crate::text::{AddressText, AddressTexts};
 use net_base::{Event, Job, Octets, OutOfMemory, RootAnswer};
 use std::alloc::{AllocError, Global};
@@ -30,10 +31,7 @@ fn event_text(alloc: Global, event: &Event) -> Result<String, AllocError>
         Event::Dialed(cid, opened) => {
             format!(in alloc; "dialed {} {}", cid.0, outcome_word(*opened))
         }
-        Event::Bytes(cid, bytes) => {
-            let digits = hex::encode(alloc, bytes.as_slice())?;
-            format!(in alloc; "bytes {} {digits}", cid.0)
-        }
+        Event::Bytes(cid, bytes) => { bytes_text(alloc, "bytes", cid.0, bytes.as_slice()) }
         Event::Closed(cid) => format!(in alloc; "closed {}", cid.0),
         Event::Aims(aims) => {
             format!(in alloc;

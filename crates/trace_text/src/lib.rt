@@ -6,11 +6,13 @@ mod event;
 mod event_text;
 mod group_text;
 mod head_text;
-mod law;
+pub mod law;
 mod line;
+mod magic;
 mod piece;
 mod pieces;
 mod print;
+mod printed_line;
 mod read;
 mod setting;
 mod stage;
@@ -20,12 +22,11 @@ mod words;
 pub use address::read_address;
 pub use event_text::print_event;
 pub use head_text::print_head;
-pub use law::{
-    actions_are_lines, addresses_are_spelled_once, events_are_spelled_once, heads_are_read,
-    lines_are_spelled_once, numbers_are_spelled_once, settings_are_those_of_the_check,
-};
 pub use line::{HeadLine, Line, LineRefusal};
+pub use magic::read_magic;
+pub use piece::bytes_text;
 pub use print::{fault_words, print_action};
+pub use printed_line::PrintedLine;
 pub use read::read_line;
 pub use stage::Stage;
 pub use words::Words;

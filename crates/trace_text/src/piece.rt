@@ -1,10 +1,12 @@
 ghost use Rattle.std.specs.Prelude.{◌≡◌, IfOk};
-ghost use Rattle.std.specs.List.{list_all};
+ghost use Rattle.std.specs.List.{list_all, join_with_byte};
+ghost use Rattle.std.specs.String.{string_bytes};
+ghost use Rattle.trace_text.specs.Bytes.{bytes_words};
 ghost use Rattle.trace_text.specs.Events.{piece_of, is_lower_digit};
 
 use hex::FromHexError;
 use net_base::{Octets, OutOfMemory};
-use std::alloc::Global;
+use std::alloc::{AllocError, Global};
 
 // One read of a socket has so many bytes at most, and each has two digits.
 const DIGITS_MOST: usize = 131_072;
@@ -28,4 +30,12 @@ fn are_lower_digits(word: &[u8]) -> bool
 {
     word.iter()
         .all(|digit| matches!(digit, b'0'..=b'9' | b'a'..=b'f'))
+}
+
+/// Bytes in hexadecimal, behind a name and an id.
+pub fn bytes_text(alloc: Global, name: &str, id: u64, bytes: &[u8]) -> Result<String, AllocError>
+    ensures { IfOk result (λ text. string_bytes text ≡ join_with_byte 32 (bytes_words name.now id bytes.now)) }
+{
+    let digits = hex::encode(alloc, bytes)?;
+    format!(in alloc; "{name} {id} {digits}")
 }

@@ -5,6 +5,8 @@ ghost use Rattle.trace_text.specs.declared.stage.Stage.{Stage};
 ghost use Rattle.trace_text.specs.Lines.{line_of};
 ghost use Rattle.trace_text.specs.Actions.{printed_action, away_word, fault_words, cause_words, note_word, state_word};
 
+use crate::PrintedLine;
+use crate::piece::bytes_text;
 use crate::text::AddressText;
 use net_base::{Action, Away, CloseCause, FaultKind, Octets, OutOfMemory, PeerNote, StateName};
 use std::alloc::{AllocError, Global};
@@ -19,6 +21,14 @@ pub fn print_action(alloc: Global, action: &Action) -> Result<Octets, OutOfMemor
     Ok(Octets::from_vec(text.into_bytes()))
 }
 
+impl PrintedLine for Action {
+    ghost text = { printed_action };
+
+    fn print(&self, alloc: Global) -> Result<Octets, OutOfMemory> {
+        print_action(alloc, self)
+    }
+}
+
 fn action_text(alloc: Global, action: &Action) -> Result<String, AllocError>
     ensures { IfOk result (λ text. string_bytes text ≡ printed_action action.now) }
 {
@@ -30,10 +40,7 @@ fn action_text(alloc: Global, action: &Action) -> Result<String, AllocError>
         Action::Dial(cid, address) => {
             format!(in alloc; "> dial {} {}", cid.0, AddressText(*address))
         }
-        Action::Send(cid, bytes) => {
-            let digits = hex::encode(alloc, bytes.as_slice())?;
-            format!(in alloc; "> send {} {digits}", cid.0)
-        }
+        Action::Send(cid, bytes) => { bytes_text(alloc, "> send", cid.0, bytes.as_slice()) }
         Action::Close(cid, cause) => {
             format!(in alloc; "> close {} {}", cid.0, cause_words(*cause))
         }

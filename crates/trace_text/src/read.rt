@@ -1,5 +1,4 @@
 ghost use Rattle.std.specs.Prelude.{◌≡◌};
-ghost use Rattle.trace_text.specs.Words.{words_of};
 ghost use Rattle.trace_text.specs.Lines.{first_line, second_line, set_line, setting_line, end_line, later_line, line_of, IsReading};
 
 use crate::event::read_event;

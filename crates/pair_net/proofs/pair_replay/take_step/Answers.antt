@@ -4,6 +4,6 @@ use Rattle.pair_net.proofs.pair_replay.take_step.Goals as goal
 
 pub returns-clause-meant : goal.returns-clause-meant
 returns-clause-meant c =
-    step_meant c.args.pair c.in_ok-pair.pair c.args.count c.args.line.now c.args.step c.as_slice.result.now c.args.pieces.now c.tell_step.new.pieces (omega arith)
+    step_meant c.args.pair c.in_ok-pair.pair c.args.count c.args.line.now c.args.step c.as_slice.result.now c.args.pieces.now c.tell_line.new.pieces (omega arith)
     (record { pair-is = c.in_ok-pair.ensures.turn.pair-is; notes-are = search (rules, c.in_ok-pair.ensures.turn.notes-are) })
-    c.in_ok-tell_step.ensures.said
+    c.in_ok-tell_line.ensures.said

@@ -10,6 +10,6 @@ returns c =
     let old = c.replace-clients.result in
     let is : old ≡ c.args.self.now = search (rules, c.replace-clients.ensures.value, c.self.view_is) in
     let few : old.taken < 1000000 = omega (arith, ap (λ (s : ClientsState). s.taken) c.replace-clients.ensures.value, c.taken.ensures.taken, c.if-taken-ge-EVENTS_MOST.false) in
-    subst (λ (s : ClientsState). IsInterpreted (event_means s c.args.line.now c.args.event) c.in_ok-clients.clients c.args.pieces.now c.tell_event.new.pieces (Ok tt)) is
-    (event_done old c.in_ok-clients.clients c.args.line.now c.args.event c.as_slice.result.now c.args.pieces.now c.tell_event.new.pieces few
-    c.in_ok-clients.ensures.clients (search (rules, c.in_ok-clients.ensures.actions)) c.in_ok-tell_event.ensures.said)
+    subst (λ (s : ClientsState). IsInterpreted (event_means s c.args.line.now c.args.event) c.in_ok-clients.clients c.args.pieces.now c.tell_line.new.pieces (Ok tt)) is
+    (event_done old c.in_ok-clients.clients c.args.line.now c.args.event c.as_slice.result.now c.args.pieces.now c.tell_line.new.pieces few
+    c.in_ok-clients.ensures.clients (search (rules, c.in_ok-clients.ensures.actions)) c.in_ok-tell_line.ensures.said)
