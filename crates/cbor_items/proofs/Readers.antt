@@ -1,11 +1,11 @@
 -- Readers: what is read stands at the front of the bytes, and what stands there is read, whatever follows it.
-use Rattle.std.proofs.Common.{◌≡◌, ℕ, Bool, true, false, cond, eqb, not, ◌&&◌, List, ◌∷◌, ◌++◌, take, drop, Option, Some, None, refl, sym, ap, subst, ◌∙◌}
+use Rattle.std.proofs.Common.{◌≡◌, ℕ, Bool, true, false, cond, eqb, not, ◌&&◌, List, [], ◌∷◌, ◌++◌, length, take, drop, Option, Some, None, refl, sym, ap, subst, ◌∙◌}
 use Rattle.std.proofs.lemmas.Bool.{eqb-true, eq-eqb, and_parts, and_from, not-true}
-use Rattle.std.proofs.lemmas.List.{take-append-drop, drop_at}
+use Rattle.std.proofs.lemmas.List.{nil_from_length, take-append-drop, drop_at}
 use Rattle.cbor_items.specs.declared.head.Head.{Head}
 use Rattle.cbor_items.specs.Head.{major_of, IsHead, head_at}
 use Rattle.cbor_items.specs.Definite.{IsDefinite, IsNumber}
-use Rattle.cbor_items.specs.Front.{Reader, ◌>>=◌, any_head_at, definite_at, number_at}
+use Rattle.cbor_items.specs.Front.{Reader, ◌>>=◌, whole, any_head_at, definite_at, number_at}
 use Rattle.cbor_items.proofs.Skips.{HasFront, StartsPlain}
 use Rattle.cbor_items.proofs.Heads.{head_again, head_stands, size_of_head}
 
@@ -30,6 +30,18 @@ some x = Some x
 
 pub some_is : {A : Type 0} (x y : A) → some x ≡ some y → x ≡ y
 some_is x y e = cc
+
+-- ---- readings of all of the bytes
+
+pub whole_found : {A : Type 0} (read : Option (A × List ℕ)) (x : A) → whole read ≡ Some x → read ≡ Some (x, [])
+whole_found None x e = absurd cc
+whole_found {A} (Some read) x e =
+    let g = guard_some (eqb (length read.1) 0) read.0 x e in
+    let none : read.1 ≡ [] = nil_from_length read.1 (eqb-true _ _ g.0) in
+    ap (λ (y : A). Some (y, read.1)) g.1 ∙ ap (λ (y : List ℕ). Some (x, y)) none
+
+pub whole_again : {A : Type 0} (read : Option (A × List ℕ)) (x : A) → read ≡ Some (x, []) → whole read ≡ Some x
+whole_again read x e = rw e refl
 
 -- ---- heads
 

@@ -1,6 +1,6 @@
 -- Reading from left to right: what stands at the front of the bytes, and the bytes behind it. None where nothing of
 -- the kind stands there.
-use Rattle.std.specs.Prelude.{◌≡◌, ℕ, ◌&&◌, not, ◌==◌, List, drop, Option, Some, None, Result, Ok, Err, if◌then◌else◌}
+use Rattle.std.specs.Prelude.{◌≡◌, ℕ, ◌&&◌, not, ◌==◌, List, length, drop, Option, Some, None, Result, Ok, Err, if◌then◌else◌}
 use Rattle.cbor_items.specs.declared.head.Head.{Head}
 use Rattle.cbor_items.specs.Head.{head_at}
 
@@ -13,10 +13,19 @@ abbrev pub ◌>>=◌ : {A B : Type 0} → Option A → (A → Option B) → Opti
 (Some x) >>= f = f x
 None >>= f = None
 
--- what a function returned, seen by `view`, is what reading finds
+-- What a function returned, seen by `view`, is what reading finds. What an error says of the reading is an argument, `Says`.
+abbrev pub FindsBy : {X Y E : Type 0} → (E → Option Y → Type 0) → (X → Y) → Result X E → Option Y → Type 0
+FindsBy Says view (Ok x) read = read ≡ Some (view x)
+FindsBy Says view (Err e) read = Says e read
+
+-- the same where each error says that nothing is found
 abbrev pub Finds : {X Y E : Type 0} → (X → Y) → Result X E → Option Y → Type 0
-Finds view (Ok x) read = read ≡ Some (view x)
-Finds view (Err e) read = read ≡ None
+Finds view result read = FindsBy (λ e found. found ≡ None) view result read
+
+-- what was read where nothing is left behind it
+abbrev pub whole : {X : Type 0} → Option (X × List ℕ) → Option X
+whole None = None
+whole (Some read) = if length read.1 == 0 then Some read.0 else None
 
 abbrev pub any_head_at : Reader Head
 any_head_at bytes = head_at bytes >>= λ head. Some (head, drop head.size bytes)

@@ -1,5 +1,5 @@
 -- The scan of the first item, and what each of its answers means.
-use Rattle.std.specs.Prelude.{ℕ, zero, suc, ◌-◌, Bool, ◌&&◌, ◌==◌, nat_lt, List, [], ◌∷◌, length, drop, Result, Ok, Err, if◌then◌else◌}
+use Rattle.std.specs.Prelude.{ℕ, zero, suc, ◌-◌, Bool, false, ◌&&◌, ◌==◌, nat_lt, List, [], ◌∷◌, length, drop, Result, Ok, Err, if◌then◌else◌}
 use Rattle.cbor_items.specs.declared.head.Head.{Head}
 use Rattle.cbor_items.specs.declared.stop.Stop.{Stop}
 use Rattle.cbor_items.specs.declared.stop.Stop.TheVariants as stop
@@ -82,3 +82,13 @@ scan_result bytes (Err stop.Deep) = scan.Deep
 -- the scan of the first item: what decides first, from the left
 unfoldable pub scan_of : List ℕ → Scan
 scan_of bytes = scan_result bytes (skip_item level_limit bytes)
+
+-- the scan says that the bytes are one item, with nothing behind it
+abbrev pub is_all_of : List ℕ → Scan → Bool
+is_all_of bytes (scan.Whole n) = n == length bytes
+is_all_of bytes scan.More = false
+is_all_of bytes scan.Bad = false
+is_all_of bytes scan.Deep = false
+
+abbrev pub is_one_item : List ℕ → Bool
+is_one_item bytes = is_all_of bytes (scan_of bytes)

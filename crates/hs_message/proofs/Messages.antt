@@ -1,7 +1,7 @@
 -- Reading messages: what is read is spelled so, and what is spelled so is read.
 use Rattle.std.proofs.Common.{◌≡◌, ℕ, ◌^◌, Bool, true, false, cond, eqb, ltb, not, List, [], ◌∷◌, ◌++◌, length, Option, Some, None, refl, sym, ap, subst, ◌∙◌, append_assoc, inl, inr}
 use Rattle.std.proofs.lemmas.Bool.{ltb-true, lt-ltb, eqb-true, and_parts}
-use Rattle.std.proofs.lemmas.List.{append-nil, nil_from_length}
+use Rattle.std.proofs.lemmas.List.{append-nil}
 use Rattle.cbor_items.specs.declared.head.Head.{Head}
 use Rattle.cbor_items.specs.Head.{IsHead}
 use Rattle.cbor_items.specs.Item.{IsPair}
@@ -15,8 +15,8 @@ use Rattle.hs_message.specs.declared.message.Message.TheVariants.{Propose, Accep
 use Rattle.hs_message.specs.declared.message.Reason.{Reason}
 use Rattle.hs_message.specs.declared.message.Reason.TheVariants.{NoCommon, NotDecoded, Declined}
 use Rattle.cbor_items.specs.Definite.{IsDefinite, IsNumber}
-use Rattle.cbor_items.specs.Front.{◌>>=◌, any_head_at, definite_at, number_at}
-use Rattle.cbor_items.proofs.Readers.{Reads, bind_some, guard_some, some_is, reads_any_head, reads_definite, reads_number, number_is_plain}
+use Rattle.cbor_items.specs.Front.{Reader, ◌>>=◌, whole, any_head_at, definite_at, number_at}
+use Rattle.cbor_items.proofs.Readers.{Reads, bind_some, guard_some, some_is, whole_found, reads_any_head, reads_definite, reads_number, number_is_plain}
 use Rattle.hs_message.specs.Parts.{IsIndefinite, IsDefiniteArray}
 use Rattle.hs_message.specs.Info.{IsInfo, IsUnderstoodAs, is_node_version, IsVersionInfo, IsNodeInfo, is_client_version, IsClientVersionInfo, IsClientInfo}
 use Rattle.hs_message.specs.Spelling.{rises, IsOffer, IsTable, IsVersionList, IsReason, IsMessage}
@@ -26,7 +26,7 @@ use Rattle.hs_message.specs.declared.message_code.MessageCode.TheVariants as mes
 use Rattle.hs_message.specs.declared.reason_code.ReasonCode.{ReasonCode}
 use Rattle.hs_message.specs.declared.reason_code.ReasonCode.TheVariants as reason_code
 use Rattle.hs_message.specs.Codes.{message_tag, message_codes, reason_tag, reason_codes, is_tag, kind_among, message_code_of, reason_code_of}
-use Rattle.hs_message.specs.Reading.{definite_array_at, flag_at, sharing_at, version_info_at, whole, known_of, client_version_info_at, client_known_of, Knowing, as_info, info_of, item_at, offer_at, row_at, table_at, row_to_break_at, version_row_at, version_list_at, tag_at, noted_at, reason_behind, reason_at, message_behind, message_at}
+use Rattle.hs_message.specs.Reading.{definite_array_at, flag_at, sharing_at, version_info_at, known_of, client_version_info_at, client_known_of, Knowing, as_info, info_of, item_at, offer_at, row_at, table_at, row_to_break_at, version_row_at, version_list_at, tag_at, noted_at, reason_behind, reason_at, message_behind, message_at}
 use Rattle.hs_message.proofs.Fronts.{pair_front, front_as, pair_parts, array_found, array_again, reads_flag, reads_sharing, reads_item, row_found, row_again, closed_found, closed_again, IsTag, tag_with, reads_tag, reads_noted}
 
 -- ---- what stands beside a version
@@ -124,46 +124,44 @@ client_info_again info front rest is =
       low,
     ) same
 
-whole_is : {X : Type 0} (r : Option (X × List ℕ)) (x : X) → whole r ≡ Some x → r ≡ Some (x, [])
-whole_is None x e = absurd cc
-whole_is {X} (Some read) x e =
-    let g = guard_some (eqb (length read.1) 0) read.0 x e in
-    let none : read.1 ≡ [] = nil_from_length read.1 (eqb-true _ _ g.0) in
-    ap (λ (y : X). Some (y, read.1)) g.1 ∙ ap (λ (y : List ℕ). Some (x, y)) none
+reads_info : Reads IsVersionInfo version_info_at
+reads_info = record { found = info_found; again = info_again }
+
+reads_client_info : Reads IsClientVersionInfo client_version_info_at
+reads_client_info = record { found = client_info_found; again = client_info_again }
+
+-- an info that is the whole item beside a version of its own
+module _ (is_own : ℕ → Bool) (Is : VersionInfo → List ℕ → Type 0) (info_at : Reader VersionInfo) (reads : Reads Is info_at) where
+  own_found : (version : ℕ) (item : List ℕ) (known : VersionInfo) → cond (is_own version) (whole (info_at item)) None ≡ Some known → (is_own version ≡ true) × Is known item
+  own_found version item known e =
+      elim (chosen (is_own version) (whole (info_at item)) None (Some known) e) [
+        | inl (own, is) ↦
+            let f = reads.found item known [] (whole_found (info_at item) known is) in
+            let all : f.front ≡ item = sym (append-nil f.front) ∙ sym f.joined in
+            (own, subst (Is known) all f.is)
+        | inr (other, is) ↦ absurd cc
+      ]
+
+  own_again : (version : ℕ) (item : List ℕ) (known : VersionInfo) → (is_own version ≡ true) × Is known item → cond (is_own version) (whole (info_at item)) None ≡ Some known
+  own_again version item known (own, is) =
+      let read : info_at item ≡ Some (known, []) = ap info_at (sym (append-nil item)) ∙ reads.again known item [] is in
+      rw (own, read) refl
 
 node_found : (version : ℕ) (item : List ℕ) (known : VersionInfo) → known_of version item ≡ Some known → IsNodeInfo version known item
 unfolding known_of
-node_found version item known e =
-    elim (chosen (is_node_version version) (whole (version_info_at item)) None (Some known) e) [
-      | inl (own, is) ↦
-          let f = info_found item known [] (whole_is (version_info_at item) known is) in
-          let all : f.front ≡ item = sym (append-nil f.front) ∙ sym f.joined in
-          (own, subst (IsVersionInfo known) all f.is)
-      | inr (other, is) ↦ absurd cc
-    ]
+node_found version item known e = own_found is_node_version IsVersionInfo version_info_at reads_info version item known e
 
 node_again : (version : ℕ) (item : List ℕ) (known : VersionInfo) → IsNodeInfo version known item → known_of version item ≡ Some known
 unfolding known_of
-node_again version item known (own, is) =
-    let read : version_info_at item ≡ Some (known, []) = ap version_info_at (sym (append-nil item)) ∙ info_again known item [] is in
-    rw (own, read) refl
+node_again version item known is = own_again is_node_version IsVersionInfo version_info_at reads_info version item known is
 
 client_found : (version : ℕ) (item : List ℕ) (known : VersionInfo) → client_known_of version item ≡ Some known → IsClientInfo version known item
 unfolding client_known_of
-client_found version item known e =
-    elim (chosen (is_client_version version) (whole (client_version_info_at item)) None (Some known) e) [
-      | inl (own, is) ↦
-          let f = client_info_found item known [] (whole_is (client_version_info_at item) known is) in
-          let all : f.front ≡ item = sym (append-nil f.front) ∙ sym f.joined in
-          (own, subst (IsClientVersionInfo known) all f.is)
-      | inr (other, is) ↦ absurd cc
-    ]
+client_found version item known e = own_found is_client_version IsClientVersionInfo client_version_info_at reads_client_info version item known e
 
 client_again : (version : ℕ) (item : List ℕ) (known : VersionInfo) → IsClientInfo version known item → client_known_of version item ≡ Some known
 unfolding client_known_of
-client_again version item known (own, is) =
-    let read : client_version_info_at item ≡ Some (known, []) = ap client_version_info_at (sym (append-nil item)) ∙ client_info_again known item [] is in
-    rw (own, read) refl
+client_again version item known is = own_again is_client_version IsClientVersionInfo client_version_info_at reads_client_info version item known is
 
 -- What an item beside a version is known as is what it is understood as.
 pub record Knows (Understood : ℕ → VersionInfo → List ℕ → Type 0) (known : Knowing) : Type 0 where

@@ -1,46 +1,33 @@
 -- The message that is read off bytes is the one that they spell, all of them.
-use Rattle.std.proofs.Common.{◌≡◌, ℕ, true, List, [], ◌++◌, length, Option, Some, None, Result, Ok, Err, refl, sym, ap, subst, ◌∙◌, inl, inr, arith}
+use Rattle.std.proofs.Common.{◌≡◌, ℕ, List, [], ◌++◌, Option, Some, None, Result, Ok, Err, refl, sym, ap, subst, ◌∙◌, inl, inr}
 use Rattle.std.specs.Prelude.{IfOk}
-use Rattle.std.proofs.lemmas.Bool.{eqb-true, eq-eqb}
-use Rattle.std.proofs.lemmas.List.{append-nil, take_all}
-use Rattle.cbor_items.specs.declared.scan.Scan.{Scan}
-use Rattle.cbor_items.specs.declared.scan.Scan.TheVariants.{Whole, More, Bad, Deep}
+use Rattle.std.proofs.lemmas.List.{append-nil}
 use Rattle.cbor_items.specs.Item.{IsItem, level_limit}
-use Rattle.cbor_items.specs.Scan.{scan_of}
+use Rattle.cbor_items.specs.Front.{FindsBy}
+use Rattle.cbor_items.specs.Scan.{is_one_item}
 use Rattle.cbor_items.proofs.Skips.{chosen}
 use Rattle.cbor_items.proofs.Meaning.{prefix_is_whole}
-use Rattle.cbor_items.proofs.Fronts.{scan_found, scan_again}
+use Rattle.cbor_items.proofs.Fronts.{one_is_item, item_is_one}
 use Rattle.hs_message.specs.declared.message.Message.{Message}
 use Rattle.hs_message.specs.declared.refusal.ReadRefusal.{ReadRefusal}
 use Rattle.hs_message.specs.declared.refusal.ReadRefusal.TheVariants.{NotAMessage}
 use Rattle.hs_message.specs.declared.info.VersionInfo.{VersionInfo}
 use Rattle.hs_message.specs.Info.{IsInfo, IsNodeInfo, IsClientInfo}
 use Rattle.hs_message.specs.Spelling.{IsMessage, Spells, NodeSpells, ClientSpells}
-use Rattle.hs_message.specs.Reading.{Gives, Knowing, known_of, client_known_of, message_at, is_all_of, without_rest, message_with, message_of, client_message_of}
+use Rattle.hs_message.specs.Reading.{RefusalSays, Knowing, known_of, client_known_of, message_at, without_rest, message_with, message_of, client_message_of}
 use Rattle.hs_message.specs.Law.{SpellOne, AreReadOff, ClientsSpellOne, ClientsAreReadOff, AreReadOffIn}
 use Rattle.cbor_items.proofs.Readers.{bind_some, some_is}
 use Rattle.hs_message.proofs.Messages.{Knows, knows_node, knows_client, reads_message}
 use Rattle.hs_message.proofs.Items.{message_is_item}
-
-all_is : (bytes : List ℕ) (answer : Scan) → is_all_of bytes answer ≡ true → answer ≡ Whole (length bytes)
-all_is bytes (Whole n) e = ap Whole (eqb-true _ _ e)
-all_is bytes More e = absurd cc
-all_is bytes Bad e = absurd cc
-all_is bytes Deep e = absurd cc
-
-whole_item : (bytes : List ℕ) → is_all_of bytes (scan_of bytes) ≡ true → IsItem level_limit bytes
-whole_item bytes e =
-    let f = scan_found bytes (length bytes) (all_is bytes (scan_of bytes) e) in
-    subst (IsItem level_limit) (take_all (length bytes) bytes (omega arith)) f.1
 
 module _ (Understood : ℕ → VersionInfo → List ℕ → Type 0) (known : Knowing) (knows : Knows Understood known) where
   whole_found : (bytes : List ℕ) (message : Message) → message_with known bytes ≡ Some message → Spells Understood message bytes
   unfolding message_with
   whole_found bytes message e =
       let Infos = IsInfo Understood in
-      elim (chosen (is_all_of bytes (scan_of bytes)) (without_rest (message_at known bytes)) None (Some message) e) [
+      elim (chosen (is_one_item bytes) (without_rest (message_at known bytes)) None (Some message) e) [
         | inl (all, read) ↦
-            let item = whole_item bytes all in
+            let item = one_is_item bytes all in
             let b = bind_some (message_at known bytes) (λ (x : Message × List ℕ). Some x.0) message read in
             let f = (reads_message Understood known knows).found bytes b.0.0 b.0.1 b.1 in
             let short : IsItem 66 f.front = message_is_item Infos 63 (λ version info item is. is.0) b.0.0 f.front f.is in
@@ -53,10 +40,9 @@ module _ (Understood : ℕ → VersionInfo → List ℕ → Type 0) (known : Kno
   whole_again : (bytes : List ℕ) (message : Message) → Spells Understood message bytes → message_with known bytes ≡ Some message
   unfolding message_with
   whole_again bytes message is =
-      let scanned : scan_of bytes ≡ Whole (length bytes) = ap scan_of (sym (append-nil bytes)) ∙ scan_again bytes [] is.is_item in
       let read : message_at known bytes ≡ Some (message, []) =
       ap (message_at known) (sym (append-nil bytes)) ∙ (reads_message Understood known knows).again message bytes [] is.is_message in
-      rw (scanned, eq-eqb (length bytes) (length bytes) refl, read) refl
+      rw (item_is_one bytes is.is_item, read) refl
 
 -- ---- in each handshake
 
@@ -91,13 +77,13 @@ clients_are_read_off bytes message = (client_message_found bytes message, client
 -- ---- what is answered
 
 module _ (Spelled : Message → List ℕ → Type 0) (read : List ℕ → Option Message) (read_off : AreReadOffIn Spelled read) where
-  pub is_found : (bytes : List ℕ) (answer : Result Message ReadRefusal) → Gives (λ message. message) answer (read bytes) → IfOk answer (λ message. Spelled message bytes)
+  pub is_found : (bytes : List ℕ) (answer : Result Message ReadRefusal) → FindsBy RefusalSays (λ message. message) answer (read bytes) → IfOk answer (λ message. Spelled message bytes)
   is_found bytes (Ok message) given = (read_off bytes message).0 given
   is_found bytes (Err refusal) given = tt
 
-  pub is_none : (bytes : List ℕ) (answer : Result Message ReadRefusal) → Gives (λ message. message) answer (read bytes) → answer ≡ Err NotAMessage
+  pub is_none : (bytes : List ℕ) (answer : Result Message ReadRefusal) → FindsBy RefusalSays (λ message. message) answer (read bytes) → answer ≡ Err NotAMessage
       → (message : Message) → Spelled message bytes → ⊥
   is_none bytes answer given is message spelled =
-      let none : read bytes ≡ None = subst (λ (a : Result Message ReadRefusal). Gives (λ message. message) a (read bytes)) is given in
+      let none : read bytes ≡ None = subst (λ (a : Result Message ReadRefusal). FindsBy RefusalSays (λ message. message) a (read bytes)) is given in
       let some = (read_off bytes message).1 spelled in
       absurd cc

@@ -1,12 +1,12 @@
 -- Reading from left to right: what stands at the front of the bytes, and the bytes behind it. None where nothing of
 -- the kind stands there.
-use Rattle.std.specs.Prelude.{◌≡◌, ℕ, zero, suc, ◌^◌, Bool, true, false, ◌==◌, nat_lt, List, [], ◌∷◌, length, take, drop, Option, Some, None, Result, Ok, Err, if◌then◌else◌}
+use Rattle.std.specs.Prelude.{◌≡◌, ℕ, zero, suc, ◌^◌, Bool, true, false, ◌==◌, nat_lt, List, [], ◌∷◌, length, take, drop, Option, Some, None, if◌then◌else◌}
 use Rattle.std.specs.Option.{option_or}
 use Rattle.cbor_items.specs.declared.head.Head.{Head}
-use Rattle.cbor_items.specs.Front.{Reader, ◌>>=◌, any_head_at, definite_at, number_at}
+use Rattle.cbor_items.specs.Front.{Reader, ◌>>=◌, whole, any_head_at, definite_at, number_at}
 use Rattle.cbor_items.specs.declared.scan.Scan.{Scan}
 use Rattle.cbor_items.specs.declared.scan.Scan.TheVariants as scan
-use Rattle.cbor_items.specs.Scan.{scan_of}
+use Rattle.cbor_items.specs.Scan.{scan_of, is_one_item}
 use Rattle.hs_message.specs.declared.info.VersionInfo.{VersionInfo}
 use Rattle.hs_message.specs.declared.info.Info.{Info}
 use Rattle.hs_message.specs.declared.info.Info.TheVariants.{Known, Foreign}
@@ -28,11 +28,10 @@ use Rattle.hs_message.specs.declared.reason_code.ReasonCode.{ReasonCode}
 use Rattle.hs_message.specs.declared.reason_code.ReasonCode.TheVariants as reason
 use Rattle.hs_message.specs.Codes.{message_code_of, reason_code_of}
 
--- what a function returned, seen by `view`, is what reading gives, unless memory ran out
-abbrev pub Gives : {X Y : Type 0} → (X → Y) → Result X ReadRefusal → Option Y → Type 0
-Gives view (Ok x) read = read ≡ Some (view x)
-Gives view (Err NotAMessage) read = read ≡ None
-Gives view (Err OutOfMemory) read = Unit {0}
+-- what a refusal says of a reading: want of memory says nothing
+abbrev pub RefusalSays : {X : Type 0} → ReadRefusal → Option X → Type 0
+RefusalSays NotAMessage read = read ≡ None
+RefusalSays OutOfMemory read = Unit {0}
 
 -- ---- arrays
 
@@ -67,11 +66,6 @@ version_info_at bytes = do
   if nat_lt magic.0 (2 ^ 32)
       then Some (record { magic = magic.0; initiator_only = initiator_only.0; sharing = sharing.0; query = query.0 }, query.1)
       else None
-
--- what was read where nothing is left behind it
-abbrev pub whole : {X : Type 0} → Option (X × List ℕ) → Option X
-whole None = None
-whole (Some read) = if length read.1 == 0 then Some read.0 else None
 
 -- the known info that an item beside a version is, between nodes
 unfoldable pub known_of : ℕ → List ℕ → Option VersionInfo
@@ -223,19 +217,12 @@ message_at known bytes = do
   code ← message_code_of tag.0
   message_behind known code tag.1
 
--- the scan says that the bytes are one item, with nothing behind it
-abbrev pub is_all_of : List ℕ → Scan → Bool
-is_all_of bytes (scan.Whole n) = n == length bytes
-is_all_of bytes scan.More = false
-is_all_of bytes scan.Bad = false
-is_all_of bytes scan.Deep = false
-
 abbrev pub without_rest : {X : Type 0} → Option (X × List ℕ) → Option X
 without_rest read = read >>= λ x. Some x.0
 
 -- the message that the bytes spell
 unfoldable pub message_with : Knowing → List ℕ → Option Message
-message_with known bytes = if is_all_of bytes (scan_of bytes) then without_rest (message_at known bytes) else None
+message_with known bytes = if is_one_item bytes then without_rest (message_at known bytes) else None
 
 -- the message between nodes that the bytes spell
 unfoldable pub message_of : List ℕ → Option Message

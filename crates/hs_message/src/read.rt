@@ -1,9 +1,9 @@
 ghost use Rattle.std.specs.Prelude.{◌≡◌, IfOk, Err, length};
-ghost use Rattle.cbor_items.specs.Front.{Finds, number_at};
+ghost use Rattle.cbor_items.specs.Front.{Finds, FindsBy, number_at};
 ghost use Rattle.hs_message.specs.declared.message.Message.{Message as AnyMessage};
 ghost use Rattle.hs_message.specs.Info.{is_node_version, is_client_version};
 ghost use Rattle.hs_message.specs.Spelling.{is_below_next, rises, NodeSpells, ClientSpells};
-ghost use Rattle.hs_message.specs.Reading.{Gives, version_info_at, known_of, client_version_info_at, client_known_of, known_in, info_of, offer_at, row_at, row_to_break_at, table_at, version_row_at, version_list_at, reason_behind, reason_at, message_behind, message_at, message_with, message_of, client_message_of};
+ghost use Rattle.hs_message.specs.Reading.{RefusalSays, version_info_at, known_of, client_version_info_at, client_known_of, known_in, info_of, offer_at, row_at, row_to_break_at, table_at, version_row_at, version_list_at, reason_behind, reason_at, message_behind, message_at, message_with, message_of, client_message_of};
 
 use crate::message_code::MessageCode;
 use crate::part::{split_array, split_flag, split_item, split_noted, split_sharing, split_tag};
@@ -19,7 +19,7 @@ use std::alloc::Global;
 /// memory is asked for than what was read so far takes, whatever lengths are announced.
 #[tactic(auto, unfolding(crate::specs::Reading::message_of))]
 pub fn read_message(alloc: Global, bytes: &[u8]) -> Result<Message, ReadRefusal>
-    ensures reading { Gives (λ message. message) result (message_of bytes.now) }
+    ensures reading { FindsBy RefusalSays (λ message. message) result (message_of bytes.now) }
     // What is read is spelled by the bytes.
     ensures found { IfOk result (λ message. NodeSpells message bytes.now) }
     ensures none { result ≡ Err ReadRefusal.NotAMessage →
@@ -31,7 +31,7 @@ pub fn read_message(alloc: Global, bytes: &[u8]) -> Result<Message, ReadRefusal>
 /// As `read_message`, between a node and a local client.
 #[tactic(auto, unfolding(crate::specs::Reading::client_message_of))]
 pub fn read_client_message(alloc: Global, bytes: &[u8]) -> Result<Message, ReadRefusal>
-    ensures reading { Gives (λ message. message) result (client_message_of bytes.now) }
+    ensures reading { FindsBy RefusalSays (λ message. message) result (client_message_of bytes.now) }
     // What is read is spelled by the bytes.
     ensures found { IfOk result (λ message. ClientSpells message bytes.now) }
     ensures none { result ≡ Err ReadRefusal.NotAMessage →
@@ -42,7 +42,7 @@ pub fn read_client_message(alloc: Global, bytes: &[u8]) -> Result<Message, ReadR
 
 #[tactic(auto, unfolding(crate::specs::Reading::message_with))]
 fn read_whole(alloc: Global, profile: Profile, bytes: &[u8]) -> Result<Message, ReadRefusal>
-    ensures { Gives (λ message. message) result (message_with (known_in profile) bytes.now) }
+    ensures { FindsBy RefusalSays (λ message. message) result (message_with (known_in profile) bytes.now) }
 {
     if first_item(bytes) != Scan::Whole(bytes.len()) {
         return Err(ReadRefusal::NotAMessage);
@@ -57,7 +57,7 @@ fn read_front(
     profile: Profile,
     bytes: &[u8],
 ) -> Result<(Message, &[u8]), ReadRefusal>
-    ensures { Gives (λ read. (read.0, read.1.now)) result (message_at (known_in profile) bytes.now) }
+    ensures { FindsBy RefusalSays (λ read. (read.0, read.1.now)) result (message_at (known_in profile) bytes.now) }
 {
     let (tag, rest) = split_tag(bytes)?;
     read_message_behind(alloc, profile, MessageCode::of(tag)?, rest)
@@ -70,7 +70,7 @@ fn read_message_behind(
     code: MessageCode,
     bytes: &[u8],
 ) -> Result<(Message, &[u8]), ReadRefusal>
-    ensures { Gives (λ read. (read.0, read.1.now)) result (message_behind (known_in profile) code bytes.now) }
+    ensures { FindsBy RefusalSays (λ read. (read.0, read.1.now)) result (message_behind (known_in profile) code bytes.now) }
 {
     match code {
         MessageCode::Propose => {
@@ -94,7 +94,7 @@ fn read_message_behind(
 
 #[tactic(auto, unfolding(crate::specs::Reading::table_at))]
 fn read_table(alloc: Global, profile: Profile, bytes: &[u8]) -> Result<(Table, &[u8]), ReadRefusal>
-    ensures { Gives (λ read. (read.0, read.1.now)) result (table_at (known_in profile) bytes.now) }
+    ensures { FindsBy RefusalSays (λ read. (read.0, read.1.now)) result (table_at (known_in profile) bytes.now) }
 {
     let (count, rest) = split_definite(MAP, bytes)?;
     let (table, rest) = read_offers(alloc, profile, count, rest)?;
@@ -111,7 +111,7 @@ fn read_offers(
     count: u64,
     bytes: &[u8],
 ) -> Result<(Table, &[u8]), ReadRefusal>
-    ensures { Gives (λ read. (read.0, read.1.now)) result (row_at (offer_at (known_in profile)) count bytes.now) }
+    ensures { FindsBy RefusalSays (λ read. (read.0, read.1.now)) result (row_at (offer_at (known_in profile)) count bytes.now) }
 {
     let mut table = Table::new(alloc);
     let mut rest = bytes;
@@ -254,7 +254,7 @@ fn split_client_version_info(bytes: &[u8]) -> Result<(VersionInfo, &[u8]), Absen
 
 #[tactic(auto, unfolding(crate::specs::Reading::reason_at))]
 fn read_reason(alloc: Global, bytes: &[u8]) -> Result<(Reason, &[u8]), ReadRefusal>
-    ensures { Gives (λ read. (read.0, read.1.now)) result (reason_at bytes.now) }
+    ensures { FindsBy RefusalSays (λ read. (read.0, read.1.now)) result (reason_at bytes.now) }
 {
     let (tag, rest) = split_tag(bytes)?;
     read_reason_behind(alloc, ReasonCode::of(tag)?, rest)
@@ -266,7 +266,7 @@ fn read_reason_behind(
     code: ReasonCode,
     bytes: &[u8],
 ) -> Result<(Reason, &[u8]), ReadRefusal>
-    ensures { Gives (λ read. (read.0, read.1.now)) result (reason_behind code bytes.now) }
+    ensures { FindsBy RefusalSays (λ read. (read.0, read.1.now)) result (reason_behind code bytes.now) }
 {
     match code {
         ReasonCode::NoCommon => {
@@ -292,7 +292,7 @@ fn read_reason_behind(
 
 #[tactic(auto, unfolding(crate::specs::Reading::version_list_at))]
 fn read_version_list(alloc: Global, bytes: &[u8]) -> Result<(NumberList, &[u8]), ReadRefusal>
-    ensures { Gives (λ read. (read.0, read.1.now)) result (version_list_at bytes.now) }
+    ensures { FindsBy RefusalSays (λ read. (read.0, read.1.now)) result (version_list_at bytes.now) }
 {
     let (head, rest) = split_head(bytes)?;
     if head.major != ARRAY {
@@ -306,7 +306,7 @@ fn read_version_row<'a>(
     head: &Head,
     bytes: &'a [u8],
 ) -> Result<(NumberList, &'a [u8]), ReadRefusal>
-    ensures { Gives (λ read. (read.0, read.1.now)) result (version_row_at head.now bytes.now) }
+    ensures { FindsBy RefusalSays (λ read. (read.0, read.1.now)) result (version_row_at head.now bytes.now) }
 {
     if head.indefinite {
         read_numbers_to_break(alloc, bytes)
@@ -316,7 +316,7 @@ fn read_version_row<'a>(
 }
 
 fn read_numbers(alloc: Global, count: u64, bytes: &[u8]) -> Result<(NumberList, &[u8]), ReadRefusal>
-    ensures { Gives (λ read. (read.0, read.1.now)) result (row_at number_at count bytes.now) }
+    ensures { FindsBy RefusalSays (λ read. (read.0, read.1.now)) result (row_at number_at count bytes.now) }
 {
     let mut numbers = NumberList::new(alloc);
     let mut rest = bytes;
@@ -329,7 +329,7 @@ fn read_numbers(alloc: Global, count: u64, bytes: &[u8]) -> Result<(NumberList, 
 }
 
 fn read_numbers_to_break(alloc: Global, bytes: &[u8]) -> Result<(NumberList, &[u8]), ReadRefusal>
-    ensures { Gives (λ read. (read.0, read.1.now)) result (row_to_break_at number_at (length bytes.now) bytes.now) }
+    ensures { FindsBy RefusalSays (λ read. (read.0, read.1.now)) result (row_to_break_at number_at (length bytes.now) bytes.now) }
 {
     let mut numbers = NumberList::new(alloc);
     let mut rest = bytes;

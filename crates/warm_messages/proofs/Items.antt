@@ -1,24 +1,20 @@
 -- What spells a message is an item, and the first number of an item.
 use Rattle.std.proofs.Common.{◌≡◌, ℕ, zero, suc, Bool, true, false, MatchBool, List, [], ◌∷◌, ◌++◌, length, Option, Some, None, option_map, Ok, refl, sym, ap, subst, ◌∙◌, append_assoc, arith, inl, inr}
-use Rattle.std.proofs.lemmas.Bool.{eqb-true, eq-eqb}
 use Rattle.std.proofs.lemmas.List.{append-nil, append_cancel_right}
-use Rattle.std.proofs.Math.Seq.{take-length}
 use Rattle.cbor_items.specs.declared.head.Head.{Head}
-use Rattle.cbor_items.specs.declared.scan.Scan.{Scan}
-use Rattle.cbor_items.specs.declared.scan.Scan.TheVariants.{Whole, More, Bad, Deep}
 use Rattle.cbor_items.specs.Head.{IsHead, head_at}
 use Rattle.cbor_items.specs.Definite.{IsNumber}
 use Rattle.cbor_items.specs.Front.{number_at}
 use Rattle.cbor_items.specs.Item.{IsPair, AreInTurn, IsRow, IsFlat, IsNested, IsItem, level_limit}
 use Rattle.cbor_items.specs.Item.IsFlat.{alone, string, chunks}
 use Rattle.cbor_items.specs.Item.IsNested.{array, open_array, map, open_map, tag}
-use Rattle.cbor_items.specs.Scan.{scan_of, skip_item}
+use Rattle.cbor_items.specs.Scan.{skip_item, is_one_item}
 use Rattle.cbor_items.proofs.Readers.{bind_some, reads_number, number_is_plain}
 use Rattle.cbor_items.proofs.Turns.{number_is_item, in_turn_is_row}
 use Rattle.cbor_items.proofs.Skips.{chosen}
 use Rattle.cbor_items.proofs.Heads.{head_again}
 use Rattle.cbor_items.proofs.Grammar.{skips_item}
-use Rattle.cbor_items.proofs.Fronts.{scan_found, scan_again}
+use Rattle.cbor_items.proofs.Fronts.{one_is_item, item_is_one}
 use Rattle.net_base.specs.declared.address.Addr.{Addr}
 use Rattle.warm_messages.specs.declared.array.Length.{Length}
 use Rattle.warm_messages.specs.declared.alive.Alive.{Alive}
@@ -28,7 +24,7 @@ use Rattle.warm_messages.specs.Array.{IsNumbers, EndsArray, IsArray}
 use Rattle.warm_messages.specs.Address.{SpellsAddress}
 use Rattle.warm_messages.specs.Message.{alive_numbers, SpellsAlive, SpellsAddresses, SpellsShare}
 use Rattle.warm_messages.specs.Reading.{length_of, opening_at}
-use Rattle.warm_messages.specs.First.{HasFirstNumber, is_whole, first_number_of, item_number_of}
+use Rattle.warm_messages.specs.First.{HasFirstNumber, first_number_of, item_number_of}
 use Rattle.warm_messages.proofs.Arrays.{some_pair, opening_found, opening_again}
 
 -- ---- arrays are items
@@ -198,20 +194,12 @@ unfolding IsItem
 array_has_first n bytes size inner rest opened number (inl flat) = absurd (flat_is_no_array bytes size inner opened flat)
 array_has_first n bytes size inner rest opened number (inr nested) = nested_has_first n bytes size inner rest opened number nested
 
--- the bytes are an item
-whole_is : (scan : Scan) (count : ℕ) → is_whole scan count ≡ true → scan ≡ Whole count
-whole_is (Whole n) count e = ap Whole (eqb-true _ _ e)
-whole_is More count e = absurd cc
-whole_is Bad count e = absurd cc
-whole_is Deep count e = absurd cc
-
 pub first_spells : (n : ℕ) (bytes : List ℕ) → first_number_of bytes ≡ Some n → HasFirstNumber n bytes
 unfolding first_number_of item_number_of
 first_spells n bytes e =
-    elim (chosen (is_whole (scan_of bytes) (length bytes)) (item_number_of bytes) None (Some n) e) [
+    elim (chosen (is_one_item bytes) (item_number_of bytes) None (Some n) e) [
       | inl (is, read) ↦
-          let found = scan_found bytes (length bytes) (whole_is (scan_of bytes) (length bytes) is) in
-          let item : IsItem 64 bytes = subst (IsItem 64) (take-length bytes) found.1 in
+          let item : IsItem 64 bytes = one_is_item bytes is in
           let o = bind_some (opening_at bytes) (λ (opened : Length × List ℕ). option_map (λ (one : ℕ × List ℕ). one.0) (number_at opened.1)) n read in
           let m = mapped (number_at o.0.1) n o.2 in
           array_has_first n bytes o.0.0 o.0.1 m.0 o.1 m.1 item
@@ -234,19 +222,15 @@ spelled_first n bytes first =
       is_first = number_is_item 63 n p.first p.is_first;
       is_second = p.is_second;
     }) is in
-    let scanned : scan_of bytes ≡ Whole (length bytes) = ap scan_of (sym (append-nil bytes)) ∙ scan_again bytes [] item in
     let behind = pair.second ++ is.ending in
     let joined : bytes ≡ is.spelled ++ (pair.first ++ behind) =
     is.joined ∙ ap (λ (y : List ℕ). is.spelled ++ (y ++ is.ending)) pair.joined ∙ ap (λ (y : List ℕ). is.spelled ++ y) (append_assoc pair.first pair.second is.ending) in
     let opened : opening_at bytes ≡ Some (length_of is.head, pair.first ++ behind) = ap opening_at joined ∙ opening_again is.head is.spelled (pair.first ++ behind) is.is_head is.array in
     let number = reads_number.again n pair.first behind pair.is_first in
-    rw (scanned, eq-eqb _ _ (let same : length bytes ≡ length bytes = refl in same), opened, number) refl
+    rw (item_is_one bytes item, opened, number) refl
 
 -- ---- the first number of an item, without a scan
 
-item_scanned : (bytes : List ℕ) → IsItem level_limit bytes → scan_of bytes ≡ Whole (length bytes)
-item_scanned bytes item = ap scan_of (sym (append-nil bytes)) ∙ scan_again bytes [] item
-
 pub item_is_first : (bytes : List ℕ) → IsItem level_limit bytes → item_number_of bytes ≡ first_number_of bytes
 unfolding first_number_of
-item_is_first bytes item = rw (item_scanned bytes item, eq-eqb _ _ (let same : length bytes ≡ length bytes = refl in same)) refl
+item_is_first bytes item = rw (item_is_one bytes item) refl

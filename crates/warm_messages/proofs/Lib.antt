@@ -1,5 +1,5 @@
 pub mod Elements
-pub mod Gives
+pub mod Returned
 pub mod Arrays
 pub mod Spelling
 pub mod Messages

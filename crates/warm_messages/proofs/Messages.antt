@@ -4,8 +4,8 @@ use Rattle.std.proofs.lemmas.Bool.{eqb-true, ltb-true, lt-ltb}
 use Rattle.std.proofs.lemmas.List.{append-nil}
 use Rattle.cbor_items.specs.Item.{IsPair}
 use Rattle.cbor_items.specs.Definite.{IsNumber}
-use Rattle.cbor_items.specs.Front.{◌>>=◌, number_at}
-use Rattle.cbor_items.proofs.Readers.{bind_some, guard_some, reads_number, number_is_plain}
+use Rattle.cbor_items.specs.Front.{◌>>=◌, number_at, whole}
+use Rattle.cbor_items.proofs.Readers.{bind_some, guard_some, reads_number, number_is_plain, whole_found, whole_again}
 use Rattle.cbor_items.proofs.Skips.{HasFront, StartsPlain, chosen}
 use Rattle.net_base.specs.declared.address.Addr.{Addr}
 use Rattle.warm_messages.specs.declared.array.Length.{Length}
@@ -15,9 +15,9 @@ use Rattle.warm_messages.specs.declared.share.Share.{Share}
 use Rattle.warm_messages.specs.declared.share.Share.TheVariants as share
 use Rattle.warm_messages.specs.Array.{IsNumbers, IsArray}
 use Rattle.warm_messages.specs.Message.{HasCookie, alive_numbers, SpellsAlive, SpellsAddresses, SpellsShare}
-use Rattle.warm_messages.specs.Reading.{whole, length_of, opening_at, ending_at, elements_at, numbers_at, addresses_at, cookie_message, alive_of_numbers, alive_of, share_of_numbers, peers_in, peers_at, share_by, share_of}
+use Rattle.warm_messages.specs.Reading.{length_of, opening_at, ending_at, elements_at, numbers_at, addresses_at, cookie_message, alive_of_numbers, alive_of, share_of_numbers, peers_in, peers_at, share_by, share_of}
 use Rattle.warm_messages.proofs.Arrays.{some_pair, array_is_no_number, opening_found, opening_again, IsEnding, ending_found, ending_again, ends_array, is_ending, missing_some, goes_on, array_is_plain}
-use Rattle.warm_messages.proofs.Spelling.{whole_found, whole_again, only_numbers_found, only_numbers_again, addresses_read}
+use Rattle.warm_messages.proofs.Spelling.{only_numbers_found, only_numbers_again, addresses_read}
 
 -- ---- keep-alive
 
@@ -60,7 +60,7 @@ alive_is_short alive.Done = omega arith
 pub alive_spells : (message : Alive) (bytes : List ℕ) → alive_of bytes ≡ Some message → SpellsAlive message bytes
 unfolding alive_of
 alive_spells message bytes e =
-    let b = bind_some (whole numbers_at bytes) alive_of_numbers message e in
+    let b = bind_some (whole (numbers_at bytes)) alive_of_numbers message e in
     let is = alive_found b.0 message b.2 in
     (is.0, subst (λ (numbers : List ℕ). IsNumbers numbers bytes) is.1 (only_numbers_found bytes b.0 b.1))
 
@@ -169,11 +169,11 @@ peers_are_no_numbers peers bytes is =
 
 -- ---- peer sharing
 
-share_by_found : (numbers : Option (List ℕ)) (message : Share) (bytes : List ℕ) → whole numbers_at bytes ≡ numbers → share_by numbers bytes ≡ Some message → SpellsShare message bytes
+share_by_found : (numbers : Option (List ℕ)) (message : Share) (bytes : List ℕ) → whole (numbers_at bytes) ≡ numbers → share_by numbers bytes ≡ Some message → SpellsShare message bytes
 share_by_found (Some numbers) message bytes read e = share_numbers_found numbers message bytes e (only_numbers_found bytes numbers read)
 share_by_found None message bytes read e =
-    let p = mapped (whole peers_at bytes) message e in
-    let f = peers_found bytes p.0 [] (whole_found peers_at bytes p.0 p.1) in
+    let p = mapped (whole (peers_at bytes)) message e in
+    let f = peers_found bytes p.0 [] (whole_found (peers_at bytes) p.0 p.1) in
     subst (λ (m : Share). SpellsShare m bytes) p.2 (subst (IsPeers p.0) (sym (f.joined ∙ append-nil f.front)) f.is)
   where
     mapped : (o : Option (List Addr)) (m : Share) → option_map share.Peers o ≡ Some m → (peers : List Addr) × (o ≡ Some peers) × (share.Peers peers ≡ m)
@@ -182,13 +182,13 @@ share_by_found None message bytes read e =
 
 pub share_spells : (message : Share) (bytes : List ℕ) → share_of bytes ≡ Some message → SpellsShare message bytes
 unfolding share_of
-share_spells message bytes e = share_by_found (whole numbers_at bytes) message bytes refl e
+share_spells message bytes e = share_by_found (whole (numbers_at bytes)) message bytes refl e
 
 pub spelled_share : (message : Share) (bytes : List ℕ) → SpellsShare message bytes → share_of bytes ≡ Some message
 unfolding share_of
 spelled_share (share.Request n) bytes is = rw (only_numbers_again bytes (0 ∷ n ∷ []) (omega arith) is) refl
 spelled_share (share.Peers peers) bytes is =
     let read = peers_again peers bytes [] is in
-    let whole-is = whole_again peers_at bytes peers (ap peers_at (sym (append-nil bytes)) ∙ read) in
+    let whole-is = whole_again (peers_at bytes) peers (ap peers_at (sym (append-nil bytes)) ∙ read) in
     rw (peers_are_no_numbers peers bytes is, whole-is) refl
 spelled_share share.Done bytes is = rw (only_numbers_again bytes (2 ∷ []) (omega arith) is) refl

@@ -2,31 +2,18 @@
 use Rattle.std.proofs.Common.{◌≡◌, ℕ, suc, ◌+◌, ◌≤◌, List, [], ◌∷◌, ◌++◌, length, Some, refl, sym, ap, subst, ◌∙◌, arith}
 use Rattle.std.proofs.lemmas.List.{append-nil, length-append}
 use Rattle.cbor_items.specs.Definite.{IsNumber}
-use Rattle.cbor_items.specs.Front.{Reader, ◌>>=◌, number_at}
+use Rattle.cbor_items.specs.Front.{◌>>=◌, whole, number_at}
 use Rattle.cbor_items.specs.Item.{AreInTurn}
-use Rattle.cbor_items.proofs.Readers.{Reads, bind_some, reads_number, number_is_plain}
+use Rattle.cbor_items.proofs.Readers.{Reads, bind_some, whole_found, whole_again, reads_number, number_is_plain}
 use Rattle.cbor_items.proofs.Skips.{HasFront, StartsPlain}
 use Rattle.net_base.specs.declared.address.Addr.{Addr}
 use Rattle.warm_messages.specs.Array.{IsNumbers}
 use Rattle.warm_messages.specs.Address.{address_of, SpellsAddress}
 use Rattle.warm_messages.specs.Message.{SpellsAddresses}
-use Rattle.warm_messages.specs.Reading.{all_read, whole, numbers_at, address_at, addresses_at}
+use Rattle.warm_messages.specs.Reading.{numbers_at, address_at, addresses_at}
 use Rattle.warm_messages.proofs.Arrays.{some_pair, array_found, array_again, array_is_plain}
 
 -- ---- all of the bytes
-
-all_read_is : {A : Type 0} (x : A) (rest : List ℕ) (y : A) → all_read x rest ≡ Some y → (x ≡ y) × (rest ≡ [])
-all_read_is x [] y e = (cc, refl)
-all_read_is x (byte ∷ rest) y e = absurd cc
-
-pub whole_found : {A : Type 0} (read : Reader A) (bytes : List ℕ) (x : A) → whole read bytes ≡ Some x → read bytes ≡ Some (x, [])
-whole_found {A} read bytes x e =
-    let b = bind_some (read bytes) (λ (one : A × List ℕ). all_read one.0 one.1) x e in
-    let a = all_read_is b.0.0 b.0.1 x b.2 in
-    b.1 ∙ ap (λ (y : A). Some (y, b.0.1)) a.0 ∙ ap (λ (r : List ℕ). Some (x, r)) a.1
-
-pub whole_again : {A : Type 0} (read : Reader A) (bytes : List ℕ) (x : A) → read bytes ≡ Some (x, []) → whole read bytes ≡ Some x
-whole_again read bytes x e = rw e refl
 
 -- what stands at the front, with nothing behind it
 all_front : {Thing : List ℕ → Type 0} (bytes : List ℕ) → HasFront Thing bytes [] → Thing bytes
@@ -42,12 +29,12 @@ pub numbers_again : (numbers : List ℕ) (front rest : List ℕ) → length numb
 unfolding numbers_at
 numbers_again numbers front rest fits is = array_again IsNumber number_at reads_number number_is_plain 8 numbers front rest fits is
 
-pub only_numbers_found : (bytes : List ℕ) (numbers : List ℕ) → whole numbers_at bytes ≡ Some numbers → IsNumbers numbers bytes
-only_numbers_found bytes numbers e = all_front bytes (numbers_found bytes numbers [] (whole_found numbers_at bytes numbers e))
+pub only_numbers_found : (bytes : List ℕ) (numbers : List ℕ) → whole (numbers_at bytes) ≡ Some numbers → IsNumbers numbers bytes
+only_numbers_found bytes numbers e = all_front bytes (numbers_found bytes numbers [] (whole_found (numbers_at bytes) numbers e))
 
-pub only_numbers_again : (bytes : List ℕ) (numbers : List ℕ) → length numbers ≤ 8 → IsNumbers numbers bytes → whole numbers_at bytes ≡ Some numbers
+pub only_numbers_again : (bytes : List ℕ) (numbers : List ℕ) → length numbers ≤ 8 → IsNumbers numbers bytes → whole (numbers_at bytes) ≡ Some numbers
 only_numbers_again bytes numbers fits is =
-    whole_again numbers_at bytes numbers (ap numbers_at (sym (append-nil bytes)) ∙ numbers_again numbers bytes [] fits is)
+    whole_again (numbers_at bytes) numbers (ap numbers_at (sym (append-nil bytes)) ∙ numbers_again numbers bytes [] fits is)
 
 -- ---- addresses
 

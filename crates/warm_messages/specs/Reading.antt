@@ -1,7 +1,7 @@
 -- Reading messages from left to right. That this reads what is spelled is a law.
-use Rattle.std.specs.Prelude.{◌≡◌, ℕ, zero, suc, ◌+◌, ◌==◌, nat_lt, List, [], ◌∷◌, length, Option, Some, None, option_map, Result, Ok, Err, if◌then◌else◌}
+use Rattle.std.specs.Prelude.{◌≡◌, ℕ, zero, suc, ◌+◌, ◌==◌, nat_lt, List, [], ◌∷◌, length, Option, Some, None, option_map, if◌then◌else◌}
 use Rattle.cbor_items.specs.declared.head.Head.{Head}
-use Rattle.cbor_items.specs.Front.{Reader, ◌>>=◌, any_head_at, number_at}
+use Rattle.cbor_items.specs.Front.{Reader, ◌>>=◌, whole, any_head_at, number_at}
 use Rattle.net_base.specs.declared.address.Addr.{Addr}
 use Rattle.warm_messages.specs.declared.unread.Unread.{Unread}
 use Rattle.warm_messages.specs.declared.unread.Unread.TheVariants.{NoMessage, OutOfMemory}
@@ -12,19 +12,6 @@ use Rattle.warm_messages.specs.declared.alive.Alive.TheVariants as alive
 use Rattle.warm_messages.specs.declared.share.Share.{Share}
 use Rattle.warm_messages.specs.declared.share.Share.TheVariants as share
 use Rattle.warm_messages.specs.Address.{address_of}
-
--- what a function returned, seen by `view`, is what reading gives
-abbrev pub Gives : {X Y : Type 0} → (X → Y) → Option X → Option Y → Type 0
-Gives view (Some x) read = read ≡ Some (view x)
-Gives view None read = read ≡ None
-
--- a thing that is all of the bytes
-abbrev pub all_read : {A : Type 0} → A → List ℕ → Option A
-all_read x [] = Some x
-all_read x (byte ∷ rest) = None
-
-abbrev pub whole : {A : Type 0} → Reader A → List ℕ → Option A
-whole read bytes = read bytes >>= λ one. all_read one.0 one.1
 
 abbrev pub length_of : Head → Length
 length_of head = if head.indefinite then ToBreak else Of head.value
@@ -82,7 +69,7 @@ alive_of_numbers numbers = None
 
 -- the keep-alive message that the bytes are
 unfoldable pub alive_of : List ℕ → Option Alive
-alive_of bytes = whole numbers_at bytes >>= alive_of_numbers
+alive_of bytes = whole (numbers_at bytes) >>= alive_of_numbers
 
 -- ---- peer sharing
 
@@ -103,16 +90,15 @@ peers_at bytes = opening_at bytes >>= λ opened. peers_in opened.0 opened.1
 
 abbrev pub share_by : Option (List ℕ) → List ℕ → Option Share
 share_by (Some numbers) bytes = share_of_numbers numbers
-share_by None bytes = option_map share.Peers (whole peers_at bytes)
+share_by None bytes = option_map share.Peers (whole (peers_at bytes))
 
 -- the peer-sharing message that the bytes are
 unfoldable pub share_of : List ℕ → Option Share
-share_of bytes = share_by (whole numbers_at bytes) bytes
+share_of bytes = share_by (whole (numbers_at bytes)) bytes
 
 -- ---- what a function returned that may want memory
 
--- Want of memory says nothing.
-abbrev pub GivesOr : {X Y : Type 0} → (X → Y) → Result X Unread → Option Y → Type 0
-GivesOr view (Ok x) read = read ≡ Some (view x)
-GivesOr view (Err NoMessage) read = read ≡ None
-GivesOr view (Err OutOfMemory) read = Unit {0}
+-- what an error says of a reading: want of memory says nothing
+abbrev pub UnreadSays : {X : Type 0} → Unread → Option X → Type 0
+UnreadSays NoMessage read = read ≡ None
+UnreadSays OutOfMemory read = Unit {0}

@@ -1,6 +1,6 @@
-ghost use Rattle.std.specs.Prelude.{◌≡◌, ◌<◌, ◌*◌, ◌+◌, ◌^◌, ◌++◌, OnOk};
+ghost use Rattle.std.specs.Prelude.{◌≡◌, ◌<◌, ◌*◌, ◌+◌, ◌^◌, ◌++◌, OnOk, option_map};
 ghost use Rattle.warm_messages.specs.Address.{address_of, ipv4_of, ipv6_of};
-ghost use Rattle.warm_messages.specs.Reading.{Gives, address_at};
+ghost use Rattle.warm_messages.specs.Reading.{address_at};
 ghost use Rattle.warm_messages.specs.Writing.{written_address};
 
 use crate::array::write_numbers;
@@ -13,7 +13,7 @@ const WORD: u128 = 4_294_967_296;
 /// The address at the front of the bytes, and the bytes behind it.
 #[tactic(auto, unfolding(crate::specs::Reading::address_at))]
 pub(crate) fn split_address(bytes: &[u8]) -> Option<(Addr, &[u8])>
-    ensures { Gives (λ read. (read.0, read.1.now)) result (address_at bytes.now) }
+    ensures { address_at bytes.now ≡ option_map (λ read. (read.0, read.1.now)) result }
 {
     let (numbers, rest) = split_numbers(bytes)?;
     let addr = address_of(numbers.as_slice())?;

@@ -1,5 +1,5 @@
-ghost use Rattle.std.specs.Prelude.{◌≡◌, ◌++◌, length, IfSome, OnOk};
-ghost use Rattle.warm_messages.specs.Reading.{Gives, behind_break, opening_at, ending_at};
+ghost use Rattle.std.specs.Prelude.{◌≡◌, ◌++◌, length, IfSome, OnOk, option_map};
+ghost use Rattle.warm_messages.specs.Reading.{behind_break, opening_at, ending_at};
 ghost use Rattle.warm_messages.specs.Writing.{written_number, written_numbers, written_opening};
 
 use cbor_items::{ARRAY, BREAK, NUMBER, split_head, write_head};
@@ -17,7 +17,7 @@ pub(crate) enum Length {
 impl Length {
     /// The bytes behind the array, where it ends after so many elements.
     pub(crate) fn end(self, count: u64, bytes: &[u8]) -> Option<&[u8]>
-        ensures { Gives (λ rest. rest.now) result (ending_at self count bytes.now) }
+        ensures { ending_at self count bytes.now ≡ option_map (λ rest. rest.now) result }
     {
         match self {
             Length::Of(number) => (number == count).then_some(bytes),
@@ -27,7 +27,7 @@ impl Length {
 }
 
 fn behind_break(bytes: &[u8]) -> Option<&[u8]>
-    ensures { Gives (λ rest. rest.now) result (behind_break bytes.now) }
+    ensures { behind_break bytes.now ≡ option_map (λ rest. rest.now) result }
 {
     match bytes {
         [BREAK, rest @ ..] => Some(rest),
@@ -38,7 +38,7 @@ fn behind_break(bytes: &[u8]) -> Option<&[u8]>
 /// The length of the array at the front of the bytes, and the bytes behind its head.
 #[tactic(auto, unfolding(crate::specs::Reading::opening_at))]
 pub(crate) fn open_array(bytes: &[u8]) -> Option<(Length, &[u8])>
-    ensures { Gives (λ read. (read.0, read.1.now)) result (opening_at bytes.now) }
+    ensures { opening_at bytes.now ≡ option_map (λ read. (read.0, read.1.now)) result }
 {
     let (head, rest) = split_head(bytes).ok()?;
     if head.major != ARRAY {

@@ -1,6 +1,6 @@
-ghost use Rattle.std.specs.Prelude.{◌≡◌, ℕ, MatchOption, Bool};
+ghost use Rattle.std.specs.Prelude.{◌≡◌, ℕ, MatchOption};
 ghost use Rattle.cbor_items.specs.Item.{IsItem, level_limit};
-ghost use Rattle.warm_messages.specs.First.{HasFirstNumber, first_number_of, item_number_of, is_whole};
+ghost use Rattle.warm_messages.specs.First.{HasFirstNumber, first_number_of, item_number_of};
 
 use crate::array::open_array;
 use cbor_items::{Scan, first_item, split_number};

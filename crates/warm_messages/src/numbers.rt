@@ -1,5 +1,6 @@
-ghost use Rattle.std.specs.Prelude.{◌≡◌, ◌<◌, ◌++◌, ◌∷◌, [], length};
-ghost use Rattle.warm_messages.specs.Reading.{Gives, numbers_at, whole};
+ghost use Rattle.std.specs.Prelude.{◌≡◌, ◌<◌, ◌++◌, ◌∷◌, [], length, option_map};
+ghost use Rattle.cbor_items.specs.Front.{whole};
+ghost use Rattle.warm_messages.specs.Reading.{numbers_at};
 
 use crate::array::open_array;
 use cbor_items::split_number;
@@ -53,7 +54,7 @@ impl Numbers {
 /// The numbers of the array at the front of the bytes, where they are eight at most, and the bytes behind it.
 #[tactic(auto, unfolding(crate::specs::Reading::numbers_at))]
 pub(crate) fn split_numbers(bytes: &[u8]) -> Option<(Numbers, &[u8])>
-    ensures { Gives (λ read. (read.0, read.1.now)) result (numbers_at bytes.now) }
+    ensures { numbers_at bytes.now ≡ option_map (λ read. (read.0, read.1.now)) result }
 {
     let (length, mut rest) = open_array(bytes)?;
     let mut numbers = Numbers::new();
@@ -71,7 +72,7 @@ pub(crate) fn split_numbers(bytes: &[u8]) -> Option<(Numbers, &[u8])>
 
 /// The numbers of the array that the bytes are.
 pub(crate) fn only_numbers(bytes: &[u8]) -> Option<Numbers>
-    ensures { Gives (λ numbers. numbers) result (whole numbers_at bytes.now) }
+    ensures { result ≡ whole (numbers_at bytes.now) }
 {
     let (numbers, rest) = split_numbers(bytes)?;
     rest.is_empty().then_some(numbers)

@@ -1,7 +1,8 @@
 ghost use Rattle.std.specs.Prelude.{◌≡◌, ◌++◌, List, ℕ, IfOk, OnOk, MatchOption};
+ghost use Rattle.cbor_items.specs.Front.{FindsBy, whole};
 ghost use Rattle.warm_messages.specs.declared.share.Share.{Share};
 ghost use Rattle.warm_messages.specs.Message.{SpellsShare};
-ghost use Rattle.warm_messages.specs.Reading.{GivesOr, whole, addresses_at, peers_in, peers_at, share_of_numbers, share_of};
+ghost use Rattle.warm_messages.specs.Reading.{UnreadSays, addresses_at, peers_in, peers_at, share_of_numbers, share_of};
 ghost use Rattle.warm_messages.specs.Writing.{written_addresses, written_request, written_peers};
 
 use crate::PeerItems;
@@ -50,7 +51,7 @@ fn share_of_numbers(numbers: &[u64]) -> Option<Share>
 }
 
 fn only_peers(alloc: Global, bytes: &[u8]) -> Result<PeerItems, Unread>
-    ensures { GivesOr (λ peers. peers) result (whole peers_at bytes.now) }
+    ensures { FindsBy UnreadSays (λ peers. peers) result (whole (peers_at bytes.now)) }
 {
     let (peers, rest) = split_peers(alloc, bytes)?;
     if rest.is_empty() {
@@ -63,7 +64,7 @@ fn only_peers(alloc: Global, bytes: &[u8]) -> Result<PeerItems, Unread>
 // The addresses of the peers message at the front of the bytes, and the bytes behind it.
 #[tactic(auto, unfolding(crate::specs::Reading::peers_at))]
 fn split_peers(alloc: Global, bytes: &[u8]) -> Result<(PeerItems, &[u8]), Unread>
-    ensures { GivesOr (λ read. (read.0, read.1.now)) result (peers_at bytes.now) }
+    ensures { FindsBy UnreadSays (λ read. (read.0, read.1.now)) result (peers_at bytes.now) }
 {
     let (length, rest) = open_array(bytes).ok_or(Unread::NoMessage)?;
     let (kind, rest) = split_number(rest)?;
@@ -78,7 +79,7 @@ fn split_peers(alloc: Global, bytes: &[u8]) -> Result<(PeerItems, &[u8]), Unread
 // The addresses of the array at the front of the bytes, and the bytes behind it.
 #[tactic(auto, unfolding(crate::specs::Reading::addresses_at))]
 fn split_addresses(alloc: Global, bytes: &[u8]) -> Result<(PeerItems, &[u8]), Unread>
-    ensures { GivesOr (λ read. (read.0, read.1.now)) result (addresses_at bytes.now) }
+    ensures { FindsBy UnreadSays (λ read. (read.0, read.1.now)) result (addresses_at bytes.now) }
 {
     let (length, mut rest) = open_array(bytes).ok_or(Unread::NoMessage)?;
     let mut peers = PeerItems::new(alloc);

@@ -1,7 +1,7 @@
 use Rattle.std.proofs.Common.{◌≡◌, suc, ◌+◌, ◌-◌, ◌<◌, ℕ, ap, arith, ◌∙◌}
 use Rattle.std.proofs.lemmas.List.{length_push}
 use Rattle.cbor_items.specs.Front.{number_at}
-use Rattle.warm_messages.proofs.Gives.{finds_some, finds_none}
+use Rattle.warm_messages.proofs.Returned.{finds_some, finds_none}
 use Rattle.warm_messages.proofs.Elements.{one_read, end_read, none_read, too_many}
 use Rattle.warm_messages.proofs.numbers.split_numbers.Goals as goal
 

@@ -2,7 +2,7 @@ use Rattle.std.proofs.Common.{◌≡◌, suc, ◌+◌, ◌-◌, length, arith}
 use Rattle.std.proofs.lemmas.Result.{err_from_is_err_and}
 use Rattle.warm_messages.specs.Reading.{address_at}
 use Rattle.warm_messages.proofs.Elements.{one_read, end_read, none_read, too_many}
-use Rattle.warm_messages.proofs.Gives.{gives_some, gives_none, missing_is}
+use Rattle.warm_messages.proofs.Returned.{gives_some, gives_none, missing_is}
 use Rattle.warm_messages.proofs.share.split_addresses.Goals as goal
 
 pub returns-in-Some : goal.returns-in-Some

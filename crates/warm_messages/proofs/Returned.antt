@@ -1,16 +1,15 @@
 -- What was returned, and what reading gives.
-use Rattle.std.proofs.Common.{◌≡◌, Option, Some, None, Result, Ok, Err, ok_or, subst, sym, ap, ◌∙◌}
+use Rattle.std.proofs.Common.{◌≡◌, Option, Some, None, option_map, Result, Ok, Err, ok_or, sym, ap, ◌∙◌}
 use Rattle.std.specs.Result.{result_ok}
 use Rattle.cbor_items.specs.Front.{Finds}
 use Rattle.warm_messages.specs.declared.unread.Unread.{Unread}
 use Rattle.warm_messages.specs.declared.unread.Unread.TheVariants.{NoMessage}
-use Rattle.warm_messages.specs.Reading.{Gives}
 
-pub gives_some : {X Y : Type 0} (view : X → Y) (returned : Option X) (read : Option Y) (x : X) → returned ≡ Some x → Gives view returned read → read ≡ Some (view x)
-gives_some view returned read x e g = subst (λ (o : Option _). Gives view o read) e g
+pub gives_some : {X Y : Type 0} (view : X → Y) (returned : Option X) (read : Option Y) (x : X) → returned ≡ Some x → read ≡ option_map view returned → read ≡ Some (view x)
+gives_some view returned read x e g = g ∙ ap (option_map view) e
 
-pub gives_none : {X Y : Type 0} (view : X → Y) (returned : Option X) (read : Option Y) → returned ≡ None → Gives view returned read → read ≡ None
-gives_none view returned read e g = subst (λ (o : Option _). Gives view o read) e g
+pub gives_none : {X Y : Type 0} (view : X → Y) (returned : Option X) (read : Option Y) → returned ≡ None → read ≡ option_map view returned → read ≡ None
+gives_none view returned read e g = g ∙ ap (option_map view) e
 
 -- what stands for a missing value
 pub missing_is : {X : Type 0} (o : Option X) (unread : Unread) → ◌≡◌ {A = Result X Unread} (Err unread) (ok_or o NoMessage) → unread ≡ NoMessage
