@@ -1,4 +1,5 @@
 use super::*;
+use cbor_items::{Scan, first_item};
 use net_base::{Addr, Ip, OutOfMemory};
 use std::alloc::{AllocError, Global};
 use std::test::Fail;
