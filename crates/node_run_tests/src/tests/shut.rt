@@ -1,4 +1,4 @@
-ghost use Rattle.std.specs.Prelude.{◌≡◌, [], Some, None, false, true};
+ghost use Rattle.std.specs.Prelude.{◌≡◌, [], Some, None, false, true, IfOk};
 
 use super::place::{failing_sink, shelf, strings};
 use super::{SETTINGS, TOPOLOGY};
@@ -15,11 +15,12 @@ use tool_status::Status;
 // A world that never opens, and how often it was asked to.
 #[derive(Drop)]
 struct ShutWorld {
+    is_open: bool,
     faults: u64,
 }
 
 impl World for ShutWorld {
-    ghost is_open = { λ _. false };
+    ghost is_open = { λ w. w.is_open };
 
     ghost has_ended = { λ _. false };
 
@@ -56,19 +57,26 @@ struct ShutPlace {
     err: MemSink,
 }
 
-fn make_shut(alloc: Global) -> Result<ShutPlace, Fail> {
+fn make_shut(alloc: Global) -> Result<ShutPlace, Fail>
+    ensures { IfOk result (λ place. place.world.is_open ≡ false) }
+{
     let shelf = shelf(alloc, Some(SETTINGS), Some(TOPOLOGY), &[])?;
     let out = failing_sink(alloc, &[])?;
     let err = failing_sink(alloc, &[])?;
     Ok(ShutPlace {
         shelf,
-        world: ShutWorld { faults: 0 },
+        world: ShutWorld {
+            is_open: false,
+            faults: 0,
+        },
         out,
         err,
     })
 }
 
-fn run_shut(alloc: Global, words: &[String], place: &mut ShutPlace) -> Status {
+fn run_shut(alloc: Global, words: &[String], place: &mut ShutPlace) -> Status
+    requires { place.old.world.is_open ≡ false }
+{
     run_node(
         alloc,
         words,
