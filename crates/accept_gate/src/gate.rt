@@ -5,7 +5,7 @@ ghost use Rattle.net_base.specs.Bounds.{AreSound};
 use net_base::Settings;
 
 /// What the limits say of one more connection.
-#[derive(Clone, Copy, Debug, PartialEq, Eq)]
+#[derive(Clone, Copy, PartialEq, Eq)]
 pub enum Gate {
     /// It is let in.
     Free,

@@ -6,7 +6,7 @@ use conn_state::responders::{some_hot_runs, some_runs};
 use conn_state::{Cid, Facts};
 
 /// A connection that may go.
-#[derive(Clone, Copy, Debug, PartialEq, Eq)]
+#[derive(Clone, Copy, PartialEq, Eq)]
 pub struct Candidate {
     pub cid: Cid,
     /// 0 to 3: those of least rank go first.

@@ -7,7 +7,7 @@ use crate::initial::NUMBER;
 use crate::{Head, read_head};
 
 /// Nothing of the kind stands at the front of the bytes.
-#[derive(Clone, Copy, Debug, PartialEq, Eq)]
+#[derive(Clone, Copy, PartialEq, Eq)]
 pub struct Absent;
 
 /// The head at the front of the bytes (RFC 8949, section 3), and the bytes behind it.

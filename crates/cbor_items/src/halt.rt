@@ -6,7 +6,7 @@ use net_base::OutOfMemory;
 use std::alloc::AllocFailed;
 
 /// Why a scan does not go on.
-#[derive(Clone, Copy, Debug)]
+#[derive(Clone, Copy)]
 pub(crate) enum Halt {
     Stopped(Stop),
     NoMemory,

@@ -8,7 +8,7 @@ use crate::stop::Stop;
 use net_base::{Octets, OutOfMemory};
 
 /// A head of an item (RFC 8949, section 3): what kind of item it is, and its value or its length.
-#[derive(Clone, Copy, Debug, PartialEq, Eq)]
+#[derive(Clone, Copy, PartialEq, Eq)]
 pub struct Head {
     /// 0 to 7.
     pub major: u8,

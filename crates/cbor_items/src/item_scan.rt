@@ -19,7 +19,7 @@ use std::alloc::Global;
 use std::marker::Model;
 
 /// The scan of an item that comes in pieces. It keeps where it stopped, and goes on from there.
-#[derive(Debug, Drop)]
+#[derive(Drop)]
 pub struct ItemScan {
     passed: usize,
     levels: Levels,

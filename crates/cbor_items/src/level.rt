@@ -2,7 +2,7 @@ ghost use Rattle.std.specs.Prelude.{◌≡◌};
 ghost use Rattle.cbor_items.specs.Steps.{is_done};
 
 /// What stands up to a break.
-#[derive(Clone, Copy, Debug)]
+#[derive(Clone, Copy)]
 pub(crate) enum Thing {
     Item,
     /// A key and its value.
@@ -14,7 +14,7 @@ pub(crate) enum Thing {
 }
 
 /// What is still to come inside an array, a map, a tag or an indefinite string.
-#[derive(Clone, Copy, Debug)]
+#[derive(Clone, Copy)]
 pub(crate) enum Level {
     /// So many items. An entry of a map is two.
     Items(u128),

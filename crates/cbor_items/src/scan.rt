@@ -7,7 +7,7 @@ use crate::item::{LEVEL_LIMIT, skip_item};
 use crate::stop::Stop;
 
 /// What stands at the front of some bytes.
-#[derive(Clone, Copy, Debug, PartialEq, Eq)]
+#[derive(Clone, Copy, PartialEq, Eq)]
 pub enum Scan {
     /// An item of so many bytes.
     Whole(usize),

@@ -11,7 +11,7 @@ use net_base::OutOfMemory;
 use std::alloc::Global;
 
 /// The levels that are open.
-#[derive(Debug, Drop)]
+#[derive(Drop)]
 pub(crate) struct Levels {
     /// The innermost.
     pub here: Level,

@@ -1,5 +1,5 @@
 /// Why an item does not end in the bytes that are there.
-#[derive(Clone, Copy, Debug, PartialEq, Eq)]
+#[derive(Clone, Copy, PartialEq, Eq)]
 pub(crate) enum Stop {
     /// The bytes end before the item does.
     More,

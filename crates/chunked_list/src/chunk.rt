@@ -11,7 +11,7 @@ pub const HALF: usize = 32;
 pub const JOINED: usize = 48;
 
 // Items that stand one after another.
-#[derive(Debug, Drop)]
+#[derive(Drop)]
 pub struct Chunk<T> {
     // how many items of the list stand before them
     pub before: usize,

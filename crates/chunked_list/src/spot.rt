@@ -4,7 +4,7 @@ ghost use Rattle.chunked_list.specs.Chunks.{joined, AreChunks, IsInside, place_o
 use crate::chunk::{Chunk, HALF};
 
 // Where an item stands: in which chunk, and where in it.
-#[derive(Clone, Copy, Debug)]
+#[derive(Clone, Copy)]
 pub struct Spot {
     pub chunk: usize,
     pub at: usize,

@@ -14,7 +14,7 @@ const CLIENTS_MOST: u64 = 10_000;
 const WAIT_MOST: u64 = 86_400_000;
 
 /// What the words of a command line ask for.
-#[derive(Clone, Copy, Debug, PartialEq, Eq)]
+#[derive(Clone, Copy, PartialEq, Eq)]
 pub enum Command {
     Replay,
     Check,

@@ -1,7 +1,7 @@
 use crate::{Duplex, OutboundDup};
 
 /// What a connection that both sides used is after one of its responders has stopped.
-#[derive(Debug, Drop)]
+#[derive(Drop)]
 pub enum AfterDuplex {
     /// Another one runs.
     Still(Duplex),

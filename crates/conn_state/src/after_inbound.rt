@@ -1,7 +1,7 @@
 use crate::{Inbound, InboundIdle};
 
 /// What a connection that the other side alone used is after one of its responders has stopped.
-#[derive(Debug, Drop)]
+#[derive(Drop)]
 pub enum AfterInbound {
     /// Another one runs.
     Still(Inbound),

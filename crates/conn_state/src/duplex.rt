@@ -10,7 +10,7 @@ use net_base::{Facts, Grace};
 use std::marker::Model;
 
 /// In use by both sides.
-#[derive(Debug, Drop)]
+#[derive(Drop)]
 pub struct Duplex {
     pub(crate) facts: Facts,
 }

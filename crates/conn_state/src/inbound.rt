@@ -10,7 +10,7 @@ use net_base::{Facts, Grace};
 use std::marker::Model;
 
 /// In use by the other side alone.
-#[derive(Debug, Drop)]
+#[derive(Drop)]
 pub struct Inbound {
     pub(crate) facts: Facts,
 }

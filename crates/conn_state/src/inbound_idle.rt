@@ -9,7 +9,7 @@ use net_base::{Facts, Grace};
 use std::marker::Model;
 
 /// In no use, and kept for the other side.
-#[derive(Debug, Drop)]
+#[derive(Drop)]
 pub struct InboundIdle {
     pub(crate) facts: Facts,
 }

@@ -10,7 +10,7 @@ use std::marker::Model;
 
 /// In use by this side alone, on a connection that both may use: ticking while the other side has time to begin, and
 /// expired after it.
-#[derive(Debug, Drop)]
+#[derive(Drop)]
 pub struct OutboundDup {
     pub(crate) facts: Facts,
 }

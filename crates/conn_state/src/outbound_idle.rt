@@ -9,7 +9,7 @@ use net_base::{Facts, Grace};
 use std::marker::Model;
 
 /// In no use, and kept for this side.
-#[derive(Debug, Drop)]
+#[derive(Drop)]
 pub struct OutboundIdle {
     pub(crate) facts: Facts,
 }

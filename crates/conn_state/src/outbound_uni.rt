@@ -6,7 +6,7 @@ use net_base::{Facts, Grace};
 use std::marker::Model;
 
 /// In use by this side, which alone may run protocols.
-#[derive(Debug, Drop)]
+#[derive(Drop)]
 pub struct OutboundUni {
     pub(crate) facts: Facts,
 }

@@ -1,7 +1,7 @@
 use crate::{InboundIdle, OutboundIdle};
 
 /// What a connection is after this side has released it and nobody else uses it.
-#[derive(Debug, Drop)]
+#[derive(Drop)]
 pub enum Released {
     /// It was kept for the other side, and is still.
     ToInboundIdle(InboundIdle),

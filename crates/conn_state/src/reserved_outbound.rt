@@ -7,7 +7,7 @@ use net_base::{Addr, Cid, Facts, Grace, Phase, Provenance};
 use std::marker::Model;
 
 /// This node dials, and the socket is not open yet.
-#[derive(Debug, Drop)]
+#[derive(Drop)]
 pub struct ReservedOutbound {
     pub(crate) facts: Facts,
 }

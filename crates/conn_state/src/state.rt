@@ -10,7 +10,7 @@ use crate::{
 use net_base::{Facts, StateName};
 
 /// A connection in one of its states.
-#[derive(Debug, Drop)]
+#[derive(Drop)]
 pub enum ConnState {
     ReservedOutbound(ReservedOutbound),
     Unnegotiated(Unnegotiated),

@@ -6,7 +6,7 @@ use net_base::{Facts, Grace, Phase};
 use std::marker::Model;
 
 /// Closed by this side, and kept for the time-wait. No move leads on.
-#[derive(Debug, Drop)]
+#[derive(Drop)]
 pub struct Terminating {
     pub(crate) facts: Facts,
 }

@@ -8,7 +8,7 @@ use net_base::{Addr, Agreed, Cid, Facts, Grace, Phase, Provenance};
 use std::marker::Model;
 
 /// The socket is open and the handshake is under way.
-#[derive(Debug, Drop)]
+#[derive(Drop)]
 pub struct Unnegotiated {
     pub(crate) facts: Facts,
 }

@@ -2,7 +2,7 @@ use crate::LocalLease;
 use net_base::StateName;
 
 /// What becomes of the wish to use the connection of an address.
-#[derive(Debug, Drop)]
+#[derive(Drop)]
 pub enum Acquire {
     /// It is in local use from now on.
     Leased(LocalLease),

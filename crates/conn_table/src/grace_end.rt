@@ -1,5 +1,5 @@
 /// What becomes of a connection whose grace is over.
-#[derive(Clone, Copy, Debug, PartialEq, Eq)]
+#[derive(Clone, Copy, PartialEq, Eq)]
 pub enum GraceEnd {
     /// It is in local use, and goes on.
     Expired,

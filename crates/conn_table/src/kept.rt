@@ -16,7 +16,7 @@ use net_base::{Addr, Cid, Facts, Ip, OutOfMemory};
 use std::alloc::Global;
 
 // The connections in order of id, and what is kept beside them.
-#[derive(Debug, Drop)]
+#[derive(Drop)]
 pub struct Kept {
     pub states: ChunkedList<ConnState>,
     // by address and then id

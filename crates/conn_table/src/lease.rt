@@ -5,7 +5,7 @@ use std::marker::Model;
 
 /// The right to use a connection from this side, and the duty to give it back. There is no second one of a connection,
 /// and only the table makes one. Where it is dropped, its connection stays in local use.
-#[derive(Debug, Drop)]
+#[derive(Drop)]
 pub struct LocalLease {
     cid: Cid,
 }

@@ -8,14 +8,14 @@ use std::alloc::Global;
 use std::marker::Model;
 
 /// An address and the id of a connection that has it. Ordered by the address and then the id.
-#[derive(Clone, Copy, Debug, PartialEq, Eq, PartialOrd, Ord)]
+#[derive(Clone, Copy, PartialEq, Eq, PartialOrd, Ord)]
 pub struct Placed {
     pub addr: Addr,
     pub cid: Cid,
 }
 
 /// Addresses and ids, one after another.
-#[derive(Debug, Drop)]
+#[derive(Drop)]
 pub struct PlacedList {
     items: ChunkedList<Placed>,
 }

@@ -25,7 +25,7 @@ use std::marker::Model;
 
 /// The connections that stand, in order of id. Contracts see them as a list, with the settings and with the number
 /// of ids that were given.
-#[derive(Debug, Drop)]
+#[derive(Drop)]
 pub struct ConnTable {
     settings: Settings,
     kept: Kept,

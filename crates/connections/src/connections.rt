@@ -17,7 +17,7 @@ use timer_queue::TimerQueue;
 
 /// The connections that stand, with what is read and owed of each, in order of id, their deadlines as timers, and what
 /// the rules see of them.
-#[derive(Debug, Drop)]
+#[derive(Drop)]
 pub struct Connections {
     kept: Kept,
     timers: TimerQueue,

@@ -19,7 +19,7 @@ use std::alloc::Global;
 use std::marker::Model;
 
 // The connections that stand, with what is read and owed of each, in order of id.
-#[derive(Debug, Drop)]
+#[derive(Drop)]
 pub struct Kept {
     alloc: Global,
     table: ConnTable,

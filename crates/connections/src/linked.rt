@@ -12,7 +12,7 @@ use std::alloc::Global;
 use std::marker::Model;
 
 /// What the rules see of each connection, in order of address and then id. Contracts see the list of it.
-#[derive(Debug, Drop)]
+#[derive(Drop)]
 pub struct Links {
     rows: ChunkedList<Link>,
 }

@@ -8,7 +8,7 @@ use std::marker::Model;
 
 /// The replies that are owed on a connection, at most one on each protocol. Contracts see the list of them, in order
 /// of protocol.
-#[derive(Debug, Drop)]
+#[derive(Drop)]
 pub struct Replies {
     chain_sync: Option<Reply>,
     keep_alive: Option<Reply>,

@@ -1,5 +1,5 @@
 /// A reply that the other side owes.
-#[derive(Clone, Copy, Debug, PartialEq, Eq)]
+#[derive(Clone, Copy, PartialEq, Eq)]
 pub struct Reply {
     /// When it has to be there.
     pub until: u64,

@@ -15,7 +15,7 @@ use std::alloc::Global;
 use std::mem;
 
 /// What is kept of a connection beside its facts.
-#[derive(Debug, Drop)]
+#[derive(Drop)]
 pub struct Talk {
     /// What came in and is not decoded yet.
     pub cutter: Cutter,

@@ -1,5 +1,5 @@
 /// The rules for big ledger peers, numbered as the rules for ordinary peers that they go with.
-#[derive(Clone, Copy, Debug, PartialEq, Eq)]
+#[derive(Clone, Copy, PartialEq, Eq)]
 pub enum BigRule {
     /// Forgets where more are known than wanted.
     B3,

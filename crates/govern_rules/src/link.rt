@@ -1,7 +1,7 @@
 use net_base::{Addr, Cid};
 
 /// What the rules need to know of one entry among the connections. An address may have several.
-#[derive(Clone, Copy, Debug, PartialEq, Eq)]
+#[derive(Clone, Copy, PartialEq, Eq)]
 pub struct Link {
     pub addr: Addr,
     pub cid: Cid,

@@ -11,7 +11,7 @@ use net_base::{Addr, OutOfMemory};
 use std::marker::Model;
 
 /// Links in order of address and then id. Contracts see the list of them.
-#[derive(Debug, Drop)]
+#[derive(Drop)]
 pub struct LinkList {
     links: Vec<Link>,
 }

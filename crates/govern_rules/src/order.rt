@@ -1,7 +1,7 @@
 use net_base::{Addr, Sequence};
 
 /// What a rule has the node do with a peer.
-#[derive(Clone, Copy, Debug, PartialEq, Eq)]
+#[derive(Clone, Copy, PartialEq, Eq)]
 pub enum Order {
     /// Ask it for so many addresses.
     Ask(Addr, u64),

@@ -2,7 +2,7 @@ use crate::LinkList;
 use net_base::{BigTargets, Settings, Targets};
 
 /// What the rules look at beside the peers, the groups and the public roots.
-#[derive(Debug, Drop)]
+#[derive(Drop)]
 pub struct View {
     /// Milliseconds.
     pub moment: u64,

@@ -1,5 +1,5 @@
 /// The side of the handshake that a node is on.
-#[derive(Clone, Copy, Debug, PartialEq, Eq)]
+#[derive(Clone, Copy, PartialEq, Eq)]
 pub enum Role {
     /// The node was dialed.
     Acceptor,

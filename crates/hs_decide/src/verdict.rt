@@ -1,7 +1,7 @@
 use net_base::Agreed;
 
 /// What a message of the handshake comes to.
-#[derive(Clone, Copy, Debug, PartialEq, Eq)]
+#[derive(Clone, Copy, PartialEq, Eq)]
 pub enum Verdict {
     /// An acceptor takes the proposal.
     Accept(Agreed),
@@ -18,7 +18,7 @@ pub enum Verdict {
 }
 
 /// Why an acceptor refuses.
-#[derive(Clone, Copy, Debug, PartialEq, Eq)]
+#[derive(Clone, Copy, PartialEq, Eq)]
 pub enum Why {
     /// The proposal has no version that this node takes.
     NoCommon,

@@ -1,6 +1,6 @@
 /// What one end says of itself beside a version. A local client says its magic and query alone: it runs no responder and
 /// shares no peers, so that `initiator_only` stands and `sharing` does not.
-#[derive(Clone, Copy, Debug, PartialEq, Eq)]
+#[derive(Clone, Copy, PartialEq, Eq)]
 pub struct VersionInfo {
     /// The number of the network.
     pub magic: u32,
@@ -13,7 +13,7 @@ pub struct VersionInfo {
 }
 
 /// What stands beside a version.
-#[derive(Clone, Copy, Debug, PartialEq, Eq)]
+#[derive(Clone, Copy, PartialEq, Eq)]
 pub enum Info {
     Known(VersionInfo),
     /// Any other item, or any item of another version.

@@ -2,7 +2,7 @@ use crate::{Info, Table};
 use net_base::{NumberList, Octets};
 
 /// A message of the handshake.
-#[derive(Debug, PartialEq, Drop)]
+#[derive(PartialEq, Drop)]
 pub enum Message {
     /// The versions that the dialer takes.
     Propose(Table),
@@ -14,7 +14,7 @@ pub enum Message {
 }
 
 /// Why a proposal is refused.
-#[derive(Debug, PartialEq, Drop)]
+#[derive(PartialEq, Drop)]
 pub enum Reason {
     /// The acceptor takes these versions, and the proposal has none of them.
     NoCommon(NumberList),

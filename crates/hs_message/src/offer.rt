@@ -2,7 +2,7 @@ use crate::Info;
 use net_base::Sequence;
 
 /// A version with its info.
-#[derive(Clone, Copy, Debug, PartialEq, Eq)]
+#[derive(Clone, Copy, PartialEq, Eq)]
 pub struct Offer {
     pub version: u64,
     pub info: Info,

@@ -1,5 +1,5 @@
 /// Whose handshake it is: which versions there are, and what is said beside them.
-#[derive(Clone, Copy, Debug, PartialEq, Eq)]
+#[derive(Clone, Copy, PartialEq, Eq)]
 pub enum Profile {
     /// Between two nodes: the versions 13 and 14.
     NodeToNode,

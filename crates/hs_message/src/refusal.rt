@@ -4,7 +4,7 @@ ghost use Rattle.hs_message.specs.declared.refusal.ReadRefusal.TheVariants.{NotA
 use cbor_items::Absent;
 
 /// Why no message was read.
-#[derive(Clone, Copy, Debug, PartialEq, Eq)]
+#[derive(Clone, Copy, PartialEq, Eq)]
 pub enum ReadRefusal {
     /// The bytes spell none.
     NotAMessage,

@@ -1,5 +1,5 @@
 /// How the array begins that a message is, or a reason.
-#[derive(Clone, Copy, Debug, PartialEq, Eq)]
+#[derive(Clone, Copy, PartialEq, Eq)]
 pub(crate) struct Tag {
     /// How many elements the array has.
     pub(crate) elements: u64,

@@ -1,3 +1,3 @@
 /// A call on a source or a sink failed, and moved nothing.
-#[derive(Clone, Copy, Debug, PartialEq, Eq)]
+#[derive(Clone, Copy, PartialEq, Eq)]
 pub struct Failed;

@@ -1,7 +1,7 @@
 use net_base::Octets;
 
 /// What a reader of lines found.
-#[derive(Debug, Drop)]
+#[derive(Drop)]
 pub enum Got {
     /// The next line, without its line feed.
     Line(Octets),

@@ -5,7 +5,7 @@ use crate::Failed;
 use std::alloc::AllocError;
 
 /// Why a reader gives no line.
-#[derive(Clone, Copy, Debug, PartialEq, Eq)]
+#[derive(Clone, Copy, PartialEq, Eq)]
 pub enum LineFault {
     /// The source failed.
     Failed,

@@ -16,7 +16,7 @@ const LINE_LIMIT: usize = 140_000;
 
 /// Reads lines, one at a time, and holds no more than one line and one reading of its source. Contracts see the
 /// bytes that were taken from sources and not yet given away as lines.
-#[derive(Debug, Drop)]
+#[derive(Drop)]
 pub struct LineReader {
     alloc: Global,
     // The front of the next line.

@@ -11,7 +11,7 @@ use std::marker::Model;
 
 /// Files in memory, read by calls of which some fail. Of two files of one name the first is read. To read a name that
 /// no file has fails too. Contracts see the files, the calls and the readings that failed.
-#[derive(Debug, Drop)]
+#[derive(Drop)]
 pub struct MemShelf {
     alloc: Global,
     files: FileList,

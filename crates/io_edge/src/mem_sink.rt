@@ -10,7 +10,7 @@ use std::marker::Model;
 
 /// A room in memory that is filled, by calls of which some fail. Where it is full, a call that brings a byte fails
 /// too. Contracts see the bytes taken, the size of the room and the calls.
-#[derive(Debug, Drop)]
+#[derive(Drop)]
 pub struct MemSink {
     bytes: Vec<u8>,
     room: usize,

@@ -11,7 +11,7 @@ use std::marker::Model;
 
 /// Bytes in memory that are given at most a piece at a time, by calls of which some fail. Contracts see the bytes
 /// left with the size of a piece, and the calls.
-#[derive(Debug, Drop)]
+#[derive(Drop)]
 pub struct MemSource {
     bytes: SureSource,
     calls: CallLog,

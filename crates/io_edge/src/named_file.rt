@@ -1,7 +1,7 @@
 use net_base::{Octets, Sequence};
 
 /// The bytes of a file under its name.
-#[derive(Debug, PartialEq, Drop)]
+#[derive(PartialEq, Drop)]
 pub struct NamedFile {
     pub name: Octets,
     pub bytes: Octets,

@@ -14,7 +14,7 @@ const PIECE: usize = 65_536;
 
 /// Collects lines, and puts them to a sink in pieces, so that many lines cost one call. Contracts see the bytes that are
 /// pending: those collected and not yet put.
-#[derive(Debug, Drop)]
+#[derive(Drop)]
 pub struct PieceWriter {
     bytes: Vec<u8>,
     // How many of them were put.

@@ -1,7 +1,7 @@
 use net_base::OutOfMemory;
 
 /// Why a file was not read.
-#[derive(Clone, Copy, Debug, PartialEq, Eq)]
+#[derive(Clone, Copy, PartialEq, Eq)]
 pub enum ShelfRefusal {
     /// The file is not there, or it can't be read.
     Failed,

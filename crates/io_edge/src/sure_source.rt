@@ -10,7 +10,7 @@ use std::marker::Model;
 
 /// Bytes in memory that are given at most a piece at a time, and no call fails. Contracts see the bytes left and
 /// the size of a piece.
-#[derive(Debug, Drop)]
+#[derive(Drop)]
 pub struct SureSource {
     bytes: Octets,
     given: usize,

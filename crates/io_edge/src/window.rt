@@ -12,7 +12,7 @@ use std::marker::Model;
 const SIZE: usize = 65_536;
 
 // Bytes that a source gave, of which the first ones may be taken away.
-#[derive(Debug, Drop)]
+#[derive(Drop)]
 pub(crate) struct Window {
     bytes: Vec<u8>,
     start: usize,

@@ -1,7 +1,7 @@
 use net_base::RefusalKind;
 
 /// How a run over lines ended. Lines are numbered from 1.
-#[derive(Clone, Copy, Debug, PartialEq, Eq)]
+#[derive(Clone, Copy, PartialEq, Eq)]
 pub enum LineOutcome {
     /// The input was read to its last line.
     Done,

@@ -2,7 +2,7 @@ use net_base::{OutOfMemory, RefusalKind};
 use trace_text::LineRefusal;
 
 /// Why an interpreter stops at a line.
-#[derive(Clone, Copy, Debug, PartialEq, Eq)]
+#[derive(Clone, Copy, PartialEq, Eq)]
 pub enum Stop {
     /// The line is the last one.
     Ended,

@@ -1,7 +1,7 @@
 use net_base::{FaultKind, Octets, Sequence};
 
 /// Why a client is closed.
-#[derive(Clone, Copy, Debug, PartialEq, Eq)]
+#[derive(Clone, Copy, PartialEq, Eq)]
 pub enum ClientCause {
     /// Its proposal was refused.
     Refused,
@@ -11,7 +11,7 @@ pub enum ClientCause {
 }
 
 /// What is done with a client, which is named by its id.
-#[derive(Debug, PartialEq, Drop)]
+#[derive(PartialEq, Drop)]
 pub enum ClientAction {
     Admit(u64),
     Turnaway,

@@ -2,7 +2,7 @@ use mux_segment::Waiting;
 use net_base::Octets;
 
 /// A client that may shake hands until a moment.
-#[derive(Debug, Drop)]
+#[derive(Drop)]
 pub(crate) struct GreetingClient {
     pub until: u64,
     /// The bytes that are no whole segment yet.
@@ -12,7 +12,7 @@ pub(crate) struct GreetingClient {
 }
 
 /// A client that agreed on a version.
-#[derive(Debug, Drop)]
+#[derive(Drop)]
 pub(crate) struct OpenClient {
     pub version: u64,
     /// The bytes that are no whole segment yet.

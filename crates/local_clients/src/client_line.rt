@@ -10,7 +10,7 @@ use trace_text::{LineRefusal, Words};
 const ID_MOST: u64 = 281_474_976_710_656;
 
 /// What a line says.
-#[derive(Debug, Drop)]
+#[derive(Drop)]
 pub(crate) enum ClientLine {
     Happen(ClientEvent),
     /// A line that begins with `> `: an action as it was printed. What it says is not read.

@@ -9,7 +9,7 @@ use std::alloc::Global;
 use std::marker::Model;
 
 /// The clients of a node on the same machine.
-#[derive(Debug, Drop)]
+#[derive(Drop)]
 pub struct Clients {
     rules: ClientRules,
     taken: u64,

@@ -1,5 +1,5 @@
 /// Whose bytes are heard, on which network and when.
-#[derive(Clone, Copy, Debug)]
+#[derive(Clone, Copy)]
 pub(crate) struct Context {
     pub client: u64,
     pub magic: u32,

@@ -6,7 +6,7 @@ use net_base::{NumberList, Octets, OutOfMemory};
 use std::alloc::Global;
 
 /// What a proposal comes to.
-#[derive(Clone, Copy, Debug, PartialEq, Eq)]
+#[derive(Clone, Copy, PartialEq, Eq)]
 pub(crate) enum Decision {
     /// The client takes none of the node's versions.
     NoCommon,

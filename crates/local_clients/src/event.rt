@@ -1,7 +1,7 @@
 use net_base::Octets;
 
 /// What happens to the clients.
-#[derive(Debug, PartialEq, Drop)]
+#[derive(PartialEq, Drop)]
 pub enum ClientEvent {
     /// The clock shows this moment, in milliseconds.
     Now(u64),

@@ -1,5 +1,5 @@
 /// What a node keeps to with its clients.
-#[derive(Clone, Copy, Debug, PartialEq, Eq)]
+#[derive(Clone, Copy, PartialEq, Eq)]
 pub struct ClientRules {
     /// The number of the network.
     pub magic: u32,

@@ -15,7 +15,7 @@ use std::marker::Model;
 
 /// The clients by id, and the moment. Those that still greet stand in order of their deadlines too, since all have the
 /// same time.
-#[derive(Debug, Drop)]
+#[derive(Drop)]
 pub(crate) struct Table {
     alloc: Global,
     moment: u64,

@@ -32,7 +32,7 @@ fn ip_announcement(alloc: Global, ip: Ip) -> Result<Octets, OutOfMemory>
 }
 
 /// What was heard of an announcement.
-#[derive(Clone, Copy, Debug, PartialEq, Eq)]
+#[derive(Clone, Copy, PartialEq, Eq)]
 pub(crate) enum Heard {
     /// Its front, or nothing yet.
     Front,

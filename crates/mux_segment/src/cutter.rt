@@ -12,7 +12,7 @@ use std::alloc::Global;
 use std::marker::Model;
 
 /// Cuts a stream that comes in pieces into segments, and gives the items of each protocol as they become whole.
-#[derive(Debug, Drop)]
+#[derive(Drop)]
 pub struct Cutter {
     alloc: Global,
     rest: Octets,

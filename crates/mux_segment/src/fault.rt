@@ -1,5 +1,5 @@
 /// Why no more items can be taken off a stream.
-#[derive(Clone, Copy, Debug, PartialEq, Eq)]
+#[derive(Clone, Copy, PartialEq, Eq)]
 pub enum CutFault {
     /// No item begins like this.
     Bad,

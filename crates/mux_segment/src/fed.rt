@@ -1,7 +1,7 @@
 use crate::{CutFault, ItemList};
 
 /// What new bytes gave.
-#[derive(Debug, Drop)]
+#[derive(Drop)]
 pub struct Fed {
     /// The items that are whole now, up to the fault.
     pub items: ItemList,

@@ -1,7 +1,7 @@
 use net_base::{Octets, Sequence};
 
 /// A whole item that came in.
-#[derive(Debug, Drop)]
+#[derive(Drop)]
 pub struct Item {
     /// 0 from the initiator, 1 from the responder.
     pub side: u8,

@@ -5,7 +5,7 @@ ghost use Rattle.mux_segment.specs.Parts.{comes_before, is_of};
 use crate::waiting::Waiting;
 
 /// The bytes of one side and protocol that are no whole item yet.
-#[derive(Debug, Drop)]
+#[derive(Drop)]
 pub(crate) struct Part {
     pub side: u8,
     pub id: u16,

@@ -6,7 +6,7 @@ use net_base::OutOfMemory;
 use std::alloc::{AllocError, AllocFailed};
 
 /// Why a feed does not go on.
-#[derive(Clone, Copy, Debug, PartialEq, Eq)]
+#[derive(Clone, Copy, PartialEq, Eq)]
 pub(crate) enum Stopped {
     Fault(CutFault),
     NoMemory,

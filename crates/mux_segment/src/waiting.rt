@@ -7,7 +7,7 @@ use std::alloc::Global;
 use std::marker::Model;
 
 /// Bytes that are no whole item yet, and where their scan stopped. Contracts see the bytes.
-#[derive(Debug, Drop)]
+#[derive(Drop)]
 pub struct Waiting {
     bytes: Octets,
     scan: ItemScan,

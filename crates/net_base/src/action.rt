@@ -1,7 +1,7 @@
 use crate::{Addr, Cid, Job, Octets, Sequence};
 
 /// The name of a connection's state, as in the Ouroboros network specification's connection manager.
-#[derive(Clone, Copy, Debug, PartialEq, Eq)]
+#[derive(Clone, Copy, PartialEq, Eq)]
 pub enum StateName {
     ReservedOutbound,
     UnnegotiatedInbound,
@@ -18,7 +18,7 @@ pub enum StateName {
 }
 
 /// What a peer did wrong.
-#[derive(Clone, Copy, Debug, PartialEq, Eq)]
+#[derive(Clone, Copy, PartialEq, Eq)]
 pub enum FaultKind {
     Malformed,
     Deep,
@@ -30,7 +30,7 @@ pub enum FaultKind {
 }
 
 /// Why this node closes a connection.
-#[derive(Clone, Copy, Debug, PartialEq, Eq)]
+#[derive(Clone, Copy, PartialEq, Eq)]
 pub enum CloseCause {
     /// Its grace is over and nobody uses it.
     Unused,
@@ -46,7 +46,7 @@ pub enum CloseCause {
 }
 
 /// Why a connecting peer is turned away.
-#[derive(Clone, Copy, Debug, PartialEq, Eq)]
+#[derive(Clone, Copy, PartialEq, Eq)]
 pub enum Away {
     Full,
     OwnAddr,
@@ -55,7 +55,7 @@ pub enum Away {
 }
 
 /// What is told of a peer.
-#[derive(Clone, Copy, Debug, PartialEq, Eq)]
+#[derive(Clone, Copy, PartialEq, Eq)]
 pub enum PeerNote {
     Known,
     Cold,
@@ -65,7 +65,7 @@ pub enum PeerNote {
 }
 
 /// What a node does, and what it tells.
-#[derive(Debug, PartialEq, Drop)]
+#[derive(PartialEq, Drop)]
 pub enum Action {
     Admit(Cid, Addr),
     Turnaway(Away),

@@ -4,7 +4,7 @@ ghost use Rattle.net_base.specs.Address.{key_of, folded_ip, address_below, same_
 use crate::Sequence;
 
 /// An IP address of either family. Every IPv4 address comes before every IPv6 address.
-#[derive(Clone, Copy, Debug, PartialEq, Eq, PartialOrd, Ord)]
+#[derive(Clone, Copy, PartialEq, Eq, PartialOrd, Ord)]
 pub enum Ip {
     /// The first octet is the greatest byte.
     V4(u32),
@@ -13,7 +13,7 @@ pub enum Ip {
 }
 
 /// Where a peer is reached. Ordered by `ip` and then `port`.
-#[derive(Clone, Copy, Debug, PartialEq, Eq, PartialOrd, Ord)]
+#[derive(Clone, Copy, PartialEq, Eq, PartialOrd, Ord)]
 pub struct Addr {
     pub ip: Ip,
     pub port: u16,

@@ -1,18 +1,18 @@
 use crate::Addr;
 
 /// The id of a connection. Ids are given from 1 on.
-#[derive(Clone, Copy, Debug, PartialEq, Eq, PartialOrd, Ord)]
+#[derive(Clone, Copy, PartialEq, Eq, PartialOrd, Ord)]
 pub struct Cid(pub u64);
 
 /// Who dialed.
-#[derive(Clone, Copy, Debug, PartialEq, Eq)]
+#[derive(Clone, Copy, PartialEq, Eq)]
 pub enum Provenance {
     FromRemote,
     FromLocal,
 }
 
 /// How far a connection has come.
-#[derive(Clone, Copy, Debug, PartialEq, Eq)]
+#[derive(Clone, Copy, PartialEq, Eq)]
 pub enum Phase {
     /// The socket is not open yet.
     Dialing,
@@ -24,7 +24,7 @@ pub enum Phase {
 }
 
 /// What two ends agreed on in the handshake.
-#[derive(Clone, Copy, Debug, PartialEq, Eq)]
+#[derive(Clone, Copy, PartialEq, Eq)]
 pub struct Agreed {
     pub version: u64,
     /// Protocols run from the dialer's side alone. Where this is false the connection is duplex.
@@ -34,7 +34,7 @@ pub struct Agreed {
 }
 
 /// For whom an unused connection is kept, and until which moment.
-#[derive(Clone, Copy, Debug, PartialEq, Eq)]
+#[derive(Clone, Copy, PartialEq, Eq)]
 pub enum Grace {
     Off,
     ForRemote(u64),
@@ -42,7 +42,7 @@ pub enum Grace {
 }
 
 /// The responders that run on a connection, one for each mini-protocol.
-#[derive(Clone, Copy, Debug, PartialEq, Eq)]
+#[derive(Clone, Copy, PartialEq, Eq)]
 pub struct Responders {
     /// Protocol 2.
     pub chain_sync: bool,
@@ -57,7 +57,7 @@ pub struct Responders {
 }
 
 /// What is known of one connection.
-#[derive(Clone, Copy, Debug, PartialEq, Eq)]
+#[derive(Clone, Copy, PartialEq, Eq)]
 pub struct Facts {
     pub cid: Cid,
     pub addr: Addr,

@@ -1,11 +1,11 @@
 use crate::{Addr, AddrList, BigTargets, Cid, Octets, Sequence, Targets};
 
 /// The number of a question to the root peer provider. Given from 1 on.
-#[derive(Clone, Copy, Debug, PartialEq, Eq, PartialOrd, Ord)]
+#[derive(Clone, Copy, PartialEq, Eq, PartialOrd, Ord)]
 pub struct Job(pub u64);
 
 /// Local root peers that are kept at valencies of their own.
-#[derive(Debug, PartialEq, Drop)]
+#[derive(PartialEq, Drop)]
 pub struct Group {
     /// How many members are to be hot.
     pub hot: u64,
@@ -20,7 +20,7 @@ pub struct Group {
 pub type GroupList = Sequence<Group>;
 
 /// What the root peer provider answers.
-#[derive(Debug, PartialEq, Drop)]
+#[derive(PartialEq, Drop)]
 pub enum RootAnswer {
     /// Milliseconds for which the answer serves, and the addresses.
     Found(u64, AddrList),
@@ -28,7 +28,7 @@ pub enum RootAnswer {
 }
 
 /// What happens to a node.
-#[derive(Debug, PartialEq, Drop)]
+#[derive(PartialEq, Drop)]
 pub enum Event {
     /// The clock shows a moment, in milliseconds.
     Now(u64),

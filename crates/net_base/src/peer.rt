@@ -4,7 +4,7 @@ ghost use Rattle.net_base.specs.Peer.{backoff_of};
 use crate::Addr;
 
 /// How close a peer is: known, connected or used.
-#[derive(Clone, Copy, Debug, PartialEq, Eq)]
+#[derive(Clone, Copy, PartialEq, Eq)]
 pub enum Temp {
     Cold,
     Warm,
@@ -12,7 +12,7 @@ pub enum Temp {
 }
 
 /// A peer that the node knows.
-#[derive(Clone, Copy, Debug, PartialEq, Eq)]
+#[derive(Clone, Copy, PartialEq, Eq)]
 pub struct Peer {
     pub addr: Addr,
     /// A big ledger peer. Every other peer is ordinary.

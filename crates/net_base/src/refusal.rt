@@ -1,5 +1,5 @@
 /// Why a line is refused. A place is that of a word in its line, from 1.
-#[derive(Clone, Copy, Debug, PartialEq, Eq)]
+#[derive(Clone, Copy, PartialEq, Eq)]
 pub enum RefusalKind {
     /// A word that is wrong, missing or too many.
     Word(u64),

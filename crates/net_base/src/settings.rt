@@ -42,7 +42,7 @@ pub enum Field {
 }
 
 /// What an operator sets. Times are milliseconds.
-#[derive(Clone, Copy, Debug, PartialEq, Eq)]
+#[derive(Clone, Copy, PartialEq, Eq)]
 pub struct Settings {
     /// The version of the trace format, 1 or 2. Version 1 has no IPv6 and no big ledger peers.
     pub version: u64,

@@ -4,7 +4,7 @@ ghost use Rattle.net_base.specs.Bounds.{targets_fault, big_targets_fault};
 use crate::Field;
 
 /// How many ordinary peers the node is to know, keep connected and use, and how many public roots it asks for.
-#[derive(Clone, Copy, Debug, PartialEq, Eq)]
+#[derive(Clone, Copy, PartialEq, Eq)]
 pub struct Targets {
     pub root: u64,
     pub known: u64,
@@ -13,7 +13,7 @@ pub struct Targets {
 }
 
 /// The same for big ledger peers, which have no root target.
-#[derive(Clone, Copy, Debug, PartialEq, Eq)]
+#[derive(Clone, Copy, PartialEq, Eq)]
 pub struct BigTargets {
     pub known: u64,
     pub established: u64,

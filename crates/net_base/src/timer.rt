@@ -4,7 +4,7 @@ ghost use Rattle.net_base.specs.Timer.{deadline_before};
 use crate::Cid;
 
 /// What a deadline is for, in the order in which deadlines of one moment and connection fire.
-#[derive(Clone, Copy, Debug, PartialEq, Eq, PartialOrd, Ord)]
+#[derive(Clone, Copy, PartialEq, Eq, PartialOrd, Ord)]
 pub enum Kind {
     Handshake,
     Grace,
@@ -18,7 +18,7 @@ pub enum Kind {
 }
 
 /// A moment at which something happens to a connection.
-#[derive(Clone, Copy, Debug, PartialEq, Eq, PartialOrd, Ord)]
+#[derive(Clone, Copy, PartialEq, Eq, PartialOrd, Ord)]
 pub struct Deadline {
     /// Milliseconds.
     pub at: u64,

@@ -1,5 +1,5 @@
 /// The rules for ordinary peers that give orders, by their numbers.
-#[derive(Clone, Copy, Debug, PartialEq, Eq)]
+#[derive(Clone, Copy, PartialEq, Eq)]
 pub enum Rule {
     /// Asks peers for addresses.
     G2,

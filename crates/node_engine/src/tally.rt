@@ -1,5 +1,5 @@
 /// How many peers and connections there are. Established peers are warm or hot, and active peers are hot.
-#[derive(Clone, Copy, Debug, PartialEq, Eq)]
+#[derive(Clone, Copy, PartialEq, Eq)]
 pub struct Tally {
     /// Ordinary peers.
     pub known: u64,

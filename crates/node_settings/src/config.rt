@@ -1,7 +1,7 @@
 use net_base::{Settings, Targets};
 
 /// What the settings file says. Times are milliseconds.
-#[derive(Clone, Copy, Debug, PartialEq, Eq)]
+#[derive(Clone, Copy, PartialEq, Eq)]
 pub struct Config {
     pub settings: Settings,
     pub targets: Targets,

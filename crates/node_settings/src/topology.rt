@@ -1,7 +1,7 @@
 use net_base::{AddrList, GroupList};
 
 /// What the topology file says.
-#[derive(Debug, PartialEq, Drop)]
+#[derive(PartialEq, Drop)]
 pub struct Topology {
     /// The local root peers, in file order.
     pub groups: GroupList,

@@ -5,7 +5,7 @@ use net_base::NumberList;
 use std::marker::Model;
 
 // The calls that were made, those that are to fail, and how many did.
-#[derive(Debug, Drop)]
+#[derive(Drop)]
 pub(crate) struct CallLog {
     made: u64,
     failing: NumberList,

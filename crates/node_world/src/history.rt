@@ -1,7 +1,6 @@
 ghost use Rattle.std.specs.Prelude.{◌≡◌, ◌++◌, ◌∷◌, []};
 
 use http_server::Log;
-use std::fmt;
 use std::marker::Model;
 
 // What was handed over, one after another. Only contracts see it: it takes no memory and nothing is done for it.
@@ -31,11 +30,5 @@ impl<T> History<T> {
         History {
             log: self.log.and(item, &()),
         }
-    }
-}
-
-impl<T> fmt::Debug for History<T> {
-    fn fmt<W: fmt::Write>(&self, f: &mut fmt::Formatter<W>) -> fmt::Result {
-        f.write_str("History")
     }
 }

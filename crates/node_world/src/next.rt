@@ -1,7 +1,7 @@
 use net_base::Event;
 
 /// What comes next.
-#[derive(Debug, PartialEq, Drop)]
+#[derive(PartialEq, Drop)]
 pub enum Next {
     Event(Event),
     /// There are no more events.

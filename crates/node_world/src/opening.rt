@@ -2,7 +2,7 @@ use net_base::AddrList;
 use node_settings::Config;
 
 /// What a world is opened with.
-#[derive(Debug, PartialEq, Drop)]
+#[derive(PartialEq, Drop)]
 pub struct Opening {
     pub config: Config,
     /// The public root peers.

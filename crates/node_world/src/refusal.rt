@@ -1,7 +1,7 @@
 use net_base::OutOfMemory;
 
 /// Why a world did not do what it was asked for.
-#[derive(Clone, Copy, Debug, PartialEq, Eq)]
+#[derive(Clone, Copy, PartialEq, Eq)]
 pub enum WorldRefusal {
     /// The world has a fault. A socket that fails is an event and no fault.
     Failed,

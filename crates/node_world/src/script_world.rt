@@ -15,7 +15,7 @@ use std::alloc::Global;
 use std::marker::Model;
 
 /// A world that gives events from a list and keeps the actions that it is asked for. Some of its calls fail.
-#[derive(Debug, Drop)]
+#[derive(Drop)]
 pub struct ScriptWorld {
     alloc: Global,
     opening: Option<Opening>,

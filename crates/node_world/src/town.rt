@@ -37,7 +37,7 @@ const LAST: u64 = 281_474_976_710_656;
 // As many milliseconds an answer with root peers serves.
 const ROOTS_SERVE: u64 = 3_600_000;
 
-#[derive(Debug, Drop)]
+#[derive(Drop)]
 pub(crate) struct Town {
     alloc: Global,
     generator: Pcg64,

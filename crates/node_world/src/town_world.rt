@@ -13,7 +13,7 @@ use std::marker::Model;
 
 /// A made town of sixty peers. What happens in it depends on its seed and on the actions that it is asked for. It is open
 /// from the start, never ends and never fails.
-#[derive(Debug, Drop)]
+#[derive(Drop)]
 pub struct TownWorld {
     town: Town,
     taken: History<Event>,

@@ -7,7 +7,7 @@ use std::collections::VecDeque;
 use std::marker::Model;
 
 /// Events that wait, the first to come first. Contracts see the list of them, each within the limits of a trace.
-#[derive(Debug, Drop)]
+#[derive(Drop)]
 pub struct Waiting {
     events: VecDeque<Event>,
 }

@@ -17,7 +17,7 @@ use std::alloc::Global;
 use std::marker::Model;
 
 /// Two ends and the pipes between them, however they came to be.
-#[derive(Debug, Drop)]
+#[derive(Drop)]
 pub(crate) struct BothEnds {
     alloc: Global,
     left: EndState,

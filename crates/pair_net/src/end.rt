@@ -6,14 +6,14 @@ use hs_decide::Role;
 use net_base::{Agreed, FaultKind};
 
 /// One of the two ends of a pair.
-#[derive(Clone, Copy, Debug, PartialEq, Eq)]
+#[derive(Clone, Copy, PartialEq, Eq)]
 pub enum End {
     Left,
     Right,
 }
 
 /// How far an end has come.
-#[derive(Clone, Copy, Debug, PartialEq, Eq)]
+#[derive(Clone, Copy, PartialEq, Eq)]
 pub enum EndPhase {
     /// It has neither dialed nor been dialed.
     Fresh,
@@ -24,7 +24,7 @@ pub enum EndPhase {
 }
 
 /// Why an end has ended.
-#[derive(Clone, Copy, Debug, PartialEq, Eq)]
+#[derive(Clone, Copy, PartialEq, Eq)]
 pub enum EndCause {
     /// It refused the other end, or was refused.
     Refused,

@@ -7,7 +7,7 @@ use net_base::{Octets, OutOfMemory};
 use std::alloc::Global;
 
 /// One end, and the pipe towards it.
-#[derive(Debug, Drop)]
+#[derive(Drop)]
 pub(crate) struct EndState {
     /// What it says of itself.
     pub info: VersionInfo,

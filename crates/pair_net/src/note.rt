@@ -6,7 +6,7 @@ use hs_decide::Role;
 use net_base::{Agreed, Octets, OutOfMemory, Sequence};
 
 /// What is told of a step.
-#[derive(Debug, PartialEq, Drop)]
+#[derive(PartialEq, Drop)]
 pub enum PairNote {
     Waits(End, Role),
     /// An end has put these bytes into the pipe towards the other one.

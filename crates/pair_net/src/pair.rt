@@ -12,7 +12,7 @@ use std::marker::Model;
 
 /// Two ends that shake hands, and between them two pipes that lose nothing and keep the order of the bytes. Every pair is
 /// one that some steps lead to.
-#[derive(Debug, Drop)]
+#[derive(Drop)]
 pub struct Pair {
     ends: BothEnds,
 }

@@ -11,7 +11,7 @@ use trace_text::{LineRefusal, Words};
 const COUNT_MOST: u64 = 281_474_976_710_656;
 
 /// What a line behind the head of a pair says.
-#[derive(Clone, Copy, Debug, PartialEq, Eq)]
+#[derive(Clone, Copy, PartialEq, Eq)]
 pub(crate) enum PairLine {
     Step(PairStep),
     /// A line that begins with `> `: a note as it was printed. What it says is not read.

@@ -1,7 +1,7 @@
 use crate::End;
 
 /// What happens to a pair.
-#[derive(Clone, Copy, Debug, PartialEq, Eq)]
+#[derive(Clone, Copy, PartialEq, Eq)]
 pub enum PairStep {
     /// An end dials the other one. Only where both are fresh.
     Meet(End),

@@ -1,5 +1,5 @@
 /// What became of an address that was to come into the book.
-#[derive(Clone, Copy, Debug, PartialEq, Eq)]
+#[derive(Clone, Copy, PartialEq, Eq)]
 pub enum Added {
     /// It came in.
     New,

@@ -16,7 +16,7 @@ use std::marker::Model;
 pub const MOST_PEERS: u64 = 20_000;
 
 /// The peers that a node knows, in address order.
-#[derive(Debug, Drop)]
+#[derive(Drop)]
 pub struct PeerBook {
     kept: Kept,
 }

@@ -11,7 +11,7 @@ use std::alloc::{AllocError, Global};
 use std::collections::BTreeSet;
 
 // The peers in address order, and what is kept beside them.
-#[derive(Debug, Drop)]
+#[derive(Drop)]
 pub struct Kept {
     pub peers: Vec<Peer>,
     pub rows: Rows,

@@ -10,7 +10,7 @@ use net_base::{Addr, Temp};
 use std::alloc::{AllocError, Global};
 
 // The addresses of each temperature, in order.
-#[derive(Debug, Drop)]
+#[derive(Drop)]
 pub struct Rows {
     pub cold: Vec<Addr>,
     pub warm: Vec<Addr>,

@@ -4,7 +4,7 @@ ghost use Rattle.peer_book.specs.Book.{most_peers};
 use net_base::{Peer, Temp};
 
 // How many peers of one class there are.
-#[derive(Clone, Copy, Debug, PartialEq, Eq)]
+#[derive(Clone, Copy, PartialEq, Eq)]
 pub struct Counts {
     pub known: u64,
     // warm and hot ones
@@ -14,7 +14,7 @@ pub struct Counts {
 }
 
 // The counts of both classes.
-#[derive(Clone, Copy, Debug, PartialEq, Eq)]
+#[derive(Clone, Copy, PartialEq, Eq)]
 pub struct Tally {
     pub ordinary: Counts,
     pub big: Counts,

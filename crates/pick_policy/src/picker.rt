@@ -9,7 +9,6 @@ ghost use Rattle.pick_policy.specs.Scores.{score_of};
 use crate::scored::{Scored, least};
 use net_base::{Addr, AddrList, OutOfMemory};
 use std::alloc::{AllocError, Global};
-use std::fmt::{self, Debug, Formatter, Write};
 
 /// A closure that scores an address under a word.
 pub type Score = Box<dyn Fn(Addr, u64) -> u64>;
@@ -67,11 +66,5 @@ impl Picker {
             score: (self.score)(addr, word),
             addr,
         }
-    }
-}
-
-impl Debug for Picker {
-    fn fmt<W: Write>(&self, f: &mut Formatter<W>) -> fmt::Result {
-        f.debug_struct("Picker").finish_non_exhaustive()
     }
 }

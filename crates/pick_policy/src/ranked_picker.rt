@@ -10,7 +10,6 @@ use crate::Rated;
 use crate::scored::{Scored, least};
 use net_base::{Addr, AddrList, OutOfMemory};
 use std::alloc::{AllocError, Global};
-use std::fmt::{self, Debug, Formatter, Write};
 
 /// A closure that rates an address and its failures under a word.
 pub type RankedScore = Box<dyn Fn(Addr, u64, u64) -> u64>;
@@ -70,11 +69,5 @@ impl RankedPicker {
             score: (self.score)(rated.addr, rated.failures, word),
             addr: rated.addr,
         }
-    }
-}
-
-impl Debug for RankedPicker {
-    fn fmt<W: Write>(&self, f: &mut Formatter<W>) -> fmt::Result {
-        f.debug_struct("RankedPicker").finish_non_exhaustive()
     }
 }

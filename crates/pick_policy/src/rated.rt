@@ -1,7 +1,7 @@
 use net_base::Addr;
 
 /// A candidate, and how often it failed.
-#[derive(Clone, Copy, Debug, PartialEq, Eq)]
+#[derive(Clone, Copy, PartialEq, Eq)]
 pub struct Rated {
     pub addr: Addr,
     pub failures: u64,

@@ -8,7 +8,7 @@ use net_base::{Addr, AddrList, OutOfMemory};
 use std::alloc::{AllocError, Global};
 
 // A candidate by its score. Ordered by the score and then the address.
-#[derive(Clone, Copy, Debug, PartialEq, Eq, PartialOrd, Ord)]
+#[derive(Clone, Copy, PartialEq, Eq, PartialOrd, Ord)]
 pub struct Scored {
     pub score: u64,
     pub addr: Addr,

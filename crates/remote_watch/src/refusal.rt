@@ -3,7 +3,7 @@ ghost use Rattle.std.specs.Prelude.{◌≡◌};
 use net_base::{FaultKind, OutOfMemory};
 
 /// Why an item was not seen.
-#[derive(Clone, Copy, Debug, PartialEq, Eq)]
+#[derive(Clone, Copy, PartialEq, Eq)]
 pub enum WatchRefusal {
     /// It breaks a rule, and the connection is to end.
     Fault(FaultKind),

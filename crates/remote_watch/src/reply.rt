@@ -6,7 +6,7 @@ use std::alloc::Global;
 use warm_messages::{Alive, write_alive, write_peers};
 
 /// What a responder answers. It behaves as one of an empty chain.
-#[derive(Clone, Copy, Debug, PartialEq, Eq)]
+#[derive(Clone, Copy, PartialEq, Eq)]
 pub enum Reply {
     Nothing,
     /// Keep-alive: the cookie comes back.

@@ -6,7 +6,7 @@ use conn_state::responders::{some_hot_runs, some_runs};
 use net_base::Facts;
 
 /// How far the other side uses a connection: this project's own rule.
-#[derive(Clone, Copy, Debug, PartialEq, Eq)]
+#[derive(Clone, Copy, PartialEq, Eq)]
 pub enum RemoteTemp {
     /// The handshake is not done, or the connection is closed.
     Cold,

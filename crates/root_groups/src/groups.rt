@@ -10,7 +10,7 @@ use std::alloc::Global;
 use std::marker::Model;
 
 /// Local groups in file order, in which no address stands twice.
-#[derive(Debug, Drop)]
+#[derive(Drop)]
 pub struct Groups {
     list: GroupList,
     places: Places,

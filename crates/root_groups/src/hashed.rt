@@ -2,7 +2,7 @@ use net_base::{Addr, Ip};
 use std::hash::{Hash, Hasher};
 
 // An address as the key of a map.
-#[derive(Clone, Copy, Debug, PartialEq, Eq)]
+#[derive(Clone, Copy, PartialEq, Eq)]
 pub struct Hashed(pub Addr);
 
 impl Hash for Hashed {

@@ -8,7 +8,7 @@ use std::alloc::Global;
 use std::marker::Model;
 
 // Each local address beside the place of its group, in file order.
-#[derive(Debug, Drop)]
+#[derive(Drop)]
 pub struct Places {
     entries: IndexMap<Hashed, usize>,
 }

@@ -9,7 +9,7 @@ use std::collections::BTreeSet;
 use std::marker::Model;
 
 // Public roots in the order in which they were found, and the same in address order.
-#[derive(Debug, Drop)]
+#[derive(Drop)]
 pub struct Publics {
     list: AddrList,
     sorted: BTreeSet<Addr>,

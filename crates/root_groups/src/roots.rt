@@ -9,7 +9,7 @@ use std::alloc::Global;
 use std::marker::Model;
 
 /// The public root peers, and the ask for them.
-#[derive(Debug, Drop)]
+#[derive(Drop)]
 pub struct Roots {
     alloc: Global,
     publics: Publics,

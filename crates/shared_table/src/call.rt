@@ -5,7 +5,7 @@ use crate::Who;
 use net_base::{Addr, Agreed, Cid, Sequence};
 
 /// A call of the outbound governor. Moments are milliseconds.
-#[derive(Clone, Copy, Debug, PartialEq, Eq)]
+#[derive(Clone, Copy, PartialEq, Eq)]
 pub enum OutCall {
     /// This side begins to dial an address.
     Dial(Addr),
@@ -22,7 +22,7 @@ pub enum OutCall {
 }
 
 /// A call of the inbound governor. Moments are milliseconds.
-#[derive(Clone, Copy, Debug, PartialEq, Eq)]
+#[derive(Clone, Copy, PartialEq, Eq)]
 pub enum InCall {
     /// Lets in a peer that connected at a moment.
     Admit(Addr, u64),
@@ -39,7 +39,7 @@ pub enum InCall {
 }
 
 /// A call of either governor.
-#[derive(Clone, Copy, Debug, PartialEq, Eq)]
+#[derive(Clone, Copy, PartialEq, Eq)]
 pub enum TableCall {
     Out(OutCall),
     In(InCall),

@@ -1,7 +1,7 @@
 use crate::{Log, TableCall, TableReply, Who};
 
 /// A call in the history of a table.
-#[derive(Clone, Copy, Debug, PartialEq, Eq)]
+#[derive(Clone, Copy, PartialEq, Eq)]
 pub struct Entry {
     pub who: Who,
     pub call: TableCall,
@@ -9,7 +9,7 @@ pub struct Entry {
 }
 
 /// A call as its caller keeps it.
-#[derive(Clone, Copy, Debug, PartialEq, Eq)]
+#[derive(Clone, Copy, PartialEq, Eq)]
 pub struct Noted {
     pub call: TableCall,
     pub reply: TableReply,

@@ -2,7 +2,7 @@ use crate::History;
 use conn_table::ConnTable;
 
 /// What two governors made of a table.
-#[derive(Debug, Drop)]
+#[derive(Drop)]
 pub struct Gathered {
     pub table: ConnTable,
     /// The calls of both, which lead from no connection to the table.

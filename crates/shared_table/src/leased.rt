@@ -14,7 +14,7 @@ use std::alloc::Global;
 use std::marker::Model;
 
 // A table, and the leases that it gave. Contracts see the table.
-#[derive(Debug, Drop)]
+#[derive(Drop)]
 pub struct LeasedTable {
     table: ConnTable,
     leases: Vec<LocalLease>,

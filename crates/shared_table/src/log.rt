@@ -6,7 +6,7 @@ use std::marker::Model;
 
 /// Items one after another, of which each stays as it was put. Contracts see the list of them, and for how many more
 /// there is room.
-#[derive(Debug, Drop)]
+#[derive(Drop)]
 pub struct Log<T> {
     items: Vec<T>,
 }

@@ -2,7 +2,7 @@ use conn_table::GraceEnd;
 use net_base::{Cid, StateName};
 
 /// What a call is answered.
-#[derive(Clone, Copy, Debug, PartialEq, Eq)]
+#[derive(Clone, Copy, PartialEq, Eq)]
 pub enum TableReply {
     /// A connection was entered under this id.
     Made(Cid),

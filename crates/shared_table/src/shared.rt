@@ -14,7 +14,7 @@ use std::marker::Model;
 
 /// A table of connections with the leases that it gave and the history of its calls. Contracts see the table and the
 /// history, which leads from no connection to this table.
-#[derive(Debug, Drop)]
+#[derive(Drop)]
 pub struct Shared {
     leased: LeasedTable,
     history: History,

@@ -1,7 +1,7 @@
 use crate::{Noted, Who};
 
 /// The first call in a history that is not what its caller kept.
-#[derive(Clone, Copy, Debug, PartialEq, Eq)]
+#[derive(Clone, Copy, PartialEq, Eq)]
 pub struct Torn {
     pub who: Who,
     /// The number of that caller's calls in the history up to and with this one.

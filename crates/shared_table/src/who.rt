@@ -1,5 +1,5 @@
 /// Which of the two governors makes a call.
-#[derive(Clone, Copy, Debug, PartialEq, Eq)]
+#[derive(Clone, Copy, PartialEq, Eq)]
 pub enum Who {
     /// The outbound governor.
     Out,

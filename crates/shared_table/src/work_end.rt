@@ -1,5 +1,5 @@
 /// How a worker ended. Calls are numbered from 1.
-#[derive(Clone, Copy, Debug, PartialEq, Eq)]
+#[derive(Clone, Copy, PartialEq, Eq)]
 pub enum WorkEnd {
     /// All calls were made.
     All,

@@ -18,7 +18,7 @@ const KINDS: usize = 6;
 
 // The moments of each connection, in order of id, and all timers in the order in which they fire. A timer that is taken
 // out stays in the line until it is the first of it, or until half of the line was taken out.
-#[derive(Debug, Drop)]
+#[derive(Drop)]
 pub struct Kept {
     pub rows: ChunkedList<Row>,
     pub line: VecDeque<Deadline>,

@@ -4,7 +4,7 @@ use net_base::Kind;
 use std::mem;
 
 /// The moments of one connection's timers, at most one of each kind, in milliseconds.
-#[derive(Clone, Copy, Debug, PartialEq, Eq)]
+#[derive(Clone, Copy, PartialEq, Eq)]
 pub struct Moments {
     pub handshake: Option<u64>,
     pub grace: Option<u64>,

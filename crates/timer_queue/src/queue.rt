@@ -13,7 +13,7 @@ use std::marker::Model;
 /// can be set without taking memory.
 ///
 /// Moments are in milliseconds. Timers fire in order of their moment, then the id of the connection, then their kind.
-#[derive(Debug, Drop)]
+#[derive(Drop)]
 pub struct TimerQueue {
     kept: Kept,
 }

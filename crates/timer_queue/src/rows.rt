@@ -11,7 +11,7 @@ pub use edit::{change_row, insert_row};
 pub use find::{is_set, place_in, place_of};
 
 // The moments of one connection's timers.
-#[derive(Clone, Copy, Debug, PartialEq, Eq)]
+#[derive(Clone, Copy, PartialEq, Eq)]
 pub struct Row {
     pub cid: Cid,
     pub moments: Moments,

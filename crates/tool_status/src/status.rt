@@ -4,7 +4,7 @@ ghost use Rattle.tool_status.specs.Status.{code_of};
 use net_base::{Field, RefusalKind};
 
 /// How a command ended. Lines are numbered from 1.
-#[derive(Clone, Copy, Debug, PartialEq, Eq)]
+#[derive(Clone, Copy, PartialEq, Eq)]
 pub enum Status {
     /// The work was done to its end.
     Done,
@@ -27,7 +27,7 @@ pub enum Status {
 }
 
 /// A file that a command names.
-#[derive(Clone, Copy, Debug, PartialEq, Eq)]
+#[derive(Clone, Copy, PartialEq, Eq)]
 pub enum Which {
     /// The settings.
     Conf,
@@ -36,7 +36,7 @@ pub enum Which {
 }
 
 /// What of a file is refused.
-#[derive(Clone, Copy, Debug, PartialEq, Eq)]
+#[derive(Clone, Copy, PartialEq, Eq)]
 pub enum What {
     /// The settings are no TOML.
     Toml,

@@ -1,7 +1,7 @@
 use net_base::{OutOfMemory, RefusalKind};
 
 /// How a command over a trace ended. Lines are numbered from 1.
-#[derive(Clone, Copy, Debug, PartialEq, Eq)]
+#[derive(Clone, Copy, PartialEq, Eq)]
 pub enum Outcome {
     /// The input was read to its `end` line.
     Done,

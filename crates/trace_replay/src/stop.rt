@@ -1,7 +1,7 @@
 use net_base::{OutOfMemory, RefusalKind};
 
 /// Why a replay stops at a line.
-#[derive(Clone, Copy, Debug, PartialEq, Eq)]
+#[derive(Clone, Copy, PartialEq, Eq)]
 pub(crate) enum Stop {
     /// The line is `end`.
     Ended,

@@ -4,7 +4,7 @@ ghost use Rattle.trace_text.specs.declared.line.LineRefusal.TheVariants.{OutOfMe
 use net_base::{Addr, Event, OutOfMemory};
 
 /// What a line of a trace says.
-#[derive(Debug, Drop)]
+#[derive(Drop)]
 pub enum Line {
     Head(HeadLine),
     Happen(Event),
@@ -14,7 +14,7 @@ pub enum Line {
 }
 
 /// What a line of the head says.
-#[derive(Clone, Copy, Debug, PartialEq, Eq)]
+#[derive(Clone, Copy, PartialEq, Eq)]
 pub enum HeadLine {
     /// The version of the trace, 1 or 2.
     Trace(u64),
@@ -25,7 +25,7 @@ pub enum HeadLine {
 }
 
 /// Why a line is refused. A place is that of a word in the line, from 1.
-#[derive(Clone, Copy, Debug, PartialEq, Eq)]
+#[derive(Clone, Copy, PartialEq, Eq)]
 pub enum LineRefusal {
     /// A word that is wrong, missing or too many.
     BadWord(u64),

@@ -4,7 +4,7 @@ ghost use Rattle.trace_text.specs.Stages.{first_stage, stage_after, stage_after_
 use crate::{HeadLine, Line};
 
 /// How far a trace was read, as far as the next line depends on it.
-#[derive(Clone, Copy, Debug, PartialEq, Eq)]
+#[derive(Clone, Copy, PartialEq, Eq)]
 pub struct Stage {
     /// The version of the trace, 0 before its first line was read.
     pub version: u64,

@@ -10,7 +10,7 @@ use net_base::{Octets, OutOfMemory};
 use std::alloc::Global;
 
 /// A message of keep-alive. A cookie is chosen by whoever asks, and comes back in the reply.
-#[derive(Clone, Copy, Debug, PartialEq, Eq)]
+#[derive(Clone, Copy, PartialEq, Eq)]
 pub enum Alive {
     Ask(u16),
     Reply(u16),

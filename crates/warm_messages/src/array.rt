@@ -6,7 +6,7 @@ use cbor_items::{ARRAY, BREAK, NUMBER, split_head, write_head};
 use net_base::{Octets, OutOfMemory};
 
 /// How many elements an array has.
-#[derive(Clone, Copy, Debug, PartialEq, Eq)]
+#[derive(Clone, Copy, PartialEq, Eq)]
 pub(crate) enum Length {
     /// As many as its head says.
     Of(u64),

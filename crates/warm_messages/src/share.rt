@@ -15,7 +15,7 @@ use net_base::{Addr, Octets, OutOfMemory};
 use std::alloc::Global;
 
 /// A message of peer sharing.
-#[derive(Debug, PartialEq, Drop)]
+#[derive(PartialEq, Drop)]
 pub enum Share {
     /// At most how many addresses are asked for.
     Request(u64),

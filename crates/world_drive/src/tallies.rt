@@ -9,7 +9,7 @@ use net_base::{Action, OutOfMemory};
 use std::alloc::{AllocError, Global};
 
 /// How many actions there were, and how many of four kinds.
-#[derive(Clone, Copy, Debug, PartialEq, Eq)]
+#[derive(Clone, Copy, PartialEq, Eq)]
 pub(crate) struct Counts {
     pub actions: u64,
     pub admitted: u64,
@@ -70,7 +70,7 @@ fn one_more(count: u64) -> Result<u64, OutOfMemory>
 }
 
 /// What is told of a drill.
-#[derive(Clone, Copy, Debug, PartialEq, Eq)]
+#[derive(Clone, Copy, PartialEq, Eq)]
 pub(crate) struct Tallies {
     pub events: u64,
     pub counts: Counts,

@@ -5,7 +5,7 @@ use super::segments::{CHAIN_SYNC, HANDSHAKE, INITIATOR, KEEP_ALIVE, PEER_SHARING
 use mux_segment::Header;
 
 /// What the node asks a peer as initiator.
-#[derive(Clone, Copy, Debug, PartialEq, Eq)]
+#[derive(Clone, Copy, PartialEq, Eq)]
 pub(crate) enum Question {
     Proposes,
     AsksAlive,

@@ -1,5 +1,5 @@
 /// Which of its first events the town gives next.
-#[derive(Clone, Copy, Debug, PartialEq, Eq)]
+#[derive(Clone, Copy, PartialEq, Eq)]
 pub(crate) enum Start {
     Targets,
     Locals,
