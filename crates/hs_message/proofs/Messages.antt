@@ -1,5 +1,5 @@
 -- Reading messages: what is read is spelled so, and what is spelled so is read.
-use Rattle.std.proofs.Common.{◌≡◌, ℕ, ◌^◌, Bool, true, false, cond, eqb, ltb, not, List, [], ◌∷◌, ◌++◌, length, Option, Some, None, refl, sym, ap, subst, ◌∙◌, append_assoc, inl, inr}
+use Rattle.std.proofs.Common.{◌≡◌, ℕ, ◌<◌, ◌^◌, Bool, true, false, cond, eqb, ltb, not, List, [], ◌∷◌, ◌++◌, length, Option, Some, None, refl, sym, ap, subst, ◌∙◌, append_assoc, inl, inr}
 use Rattle.std.proofs.lemmas.Bool.{ltb-true, lt-ltb, eqb-true, and_parts}
 use Rattle.std.proofs.lemmas.List.{append-nil}
 use Rattle.cbor_items.specs.declared.head.Head.{Head}
@@ -26,7 +26,7 @@ use Rattle.hs_message.specs.declared.message_code.MessageCode.TheVariants as mes
 use Rattle.hs_message.specs.declared.reason_code.ReasonCode.{ReasonCode}
 use Rattle.hs_message.specs.declared.reason_code.ReasonCode.TheVariants as reason_code
 use Rattle.hs_message.specs.Codes.{message_tag, message_codes, reason_tag, reason_codes, is_tag, kind_among, message_code_of, reason_code_of}
-use Rattle.hs_message.specs.Reading.{definite_array_at, flag_at, sharing_at, version_info_at, known_of, client_version_info_at, client_known_of, Knowing, as_info, info_of, item_at, offer_at, row_at, table_at, row_to_break_at, version_row_at, version_list_at, tag_at, noted_at, reason_behind, reason_at, message_behind, message_at}
+use Rattle.hs_message.specs.Reading.{definite_array_at, flag_at, sharing_at, magic_at, version_info_at, known_of, client_version_info_at, client_known_of, Knowing, as_info, info_of, item_at, offer_at, row_at, table_at, row_to_break_at, version_row_at, version_list_at, tag_at, noted_at, reason_behind, reason_at, message_behind, message_at}
 use Rattle.hs_message.proofs.Fronts.{pair_front, front_as, pair_parts, array_found, array_again, reads_flag, reads_sharing, reads_item, row_found, row_again, closed_found, closed_again, IsTag, tag_with, reads_tag, reads_noted}
 
 -- ---- what stands beside a version
@@ -34,36 +34,45 @@ use Rattle.hs_message.proofs.Fronts.{pair_front, front_as, pair_parts, array_fou
 abbrev info_with : ℕ → Bool → Bool → Bool → VersionInfo
 info_with magic initiator_only sharing query = record { magic = magic; initiator_only = initiator_only; sharing = sharing; query = query }
 
+-- a magic is a number that fits
+magic_found : (bytes : List ℕ) (magic : ℕ) (rest : List ℕ) → magic_at bytes ≡ Some (magic, rest) → HasFront (IsNumber magic) bytes rest × (magic < 2 ^ 32)
+unfolding magic_at
+magic_found bytes magic rest e =
+    let a = bind_some (number_at bytes) (λ (read : ℕ × List ℕ). cond (ltb read.0 (2 ^ 32)) (Some read) None) (magic, rest) e in
+    let g = guard_some (ltb a.0.0 (2 ^ 32)) a.0 (magic, rest) a.2 in
+    subst (λ (p : ℕ × List ℕ). HasFront (IsNumber p.0) bytes p.1 × (p.0 < 2 ^ 32)) g.1 (reads_number.found bytes a.0.0 a.0.1 a.1, ltb-true _ _ g.0)
+
+magic_again : (magic : ℕ) (front rest : List ℕ) → IsNumber magic front → magic < 2 ^ 32 → magic_at (front ++ rest) ≡ Some (magic, rest)
+unfolding magic_at
+magic_again magic front rest is fits = rw (reads_number.again magic front rest is, lt-ltb _ _ fits) refl
+
 -- the five parts one behind the other
-info_from : (bytes elements a b c d : List ℕ) (magic : ℕ) (initiator_only sharing query : Bool) → ltb magic (2 ^ 32) ≡ true
-    → definite_array_at 4 bytes ≡ Some elements → number_at elements ≡ Some (magic, a) → flag_at a ≡ Some (initiator_only, b) → sharing_at b ≡ Some (sharing, c) → flag_at c ≡ Some (query, d)
+info_from : (bytes elements a b c d : List ℕ) (magic : ℕ) (initiator_only sharing query : Bool)
+    → definite_array_at 4 bytes ≡ Some elements → magic_at elements ≡ Some (magic, a) → flag_at a ≡ Some (initiator_only, b) → sharing_at b ≡ Some (sharing, c) → flag_at c ≡ Some (query, d)
     → HasFront (IsVersionInfo (info_with magic initiator_only sharing query)) bytes d
-info_from bytes elements a b c d magic initiator_only sharing query low zeroth first second third fourth =
-    let stands = pair_front (array_found 4 bytes elements zeroth) (pair_front (reads_number.found elements magic a first)
+info_from bytes elements a b c d magic initiator_only sharing query zeroth first second third fourth =
+    let found = magic_found elements magic a first in
+    let stands = pair_front (array_found 4 bytes elements zeroth) (pair_front found.0
     (pair_front (reads_flag.found a initiator_only b second) (pair_front (reads_sharing.found b sharing c third) (reads_flag.found c query d fourth)))) in
-    record { front = stands.front; joined = stands.joined; is = record { magic_fits = ltb-true _ _ low; is_array = stands.is } }
+    record { front = stands.front; joined = stands.joined; is = record { magic_fits = found.1; is_array = stands.is } }
 
 info_found : (bytes : List ℕ) (info : VersionInfo) (rest : List ℕ) → version_info_at bytes ≡ Some (info, rest) → HasFront (IsVersionInfo info) bytes rest
 unfolding version_info_at
 info_found bytes info rest e =
     let a = bind_some (definite_array_at 4 bytes) (λ (elements : List ℕ).
-    number_at elements >>= λ magic. flag_at magic.1 >>= λ initiator_only. sharing_at initiator_only.1 >>= λ sharing. flag_at sharing.1 >>= λ query.
-    cond (ltb magic.0 (2 ^ 32)) (Some (info_with magic.0 initiator_only.0 sharing.0 query.0, query.1)) None) (info, rest) e in
-    let b = bind_some (number_at a.0) (λ (magic : ℕ × List ℕ).
+    magic_at elements >>= λ magic. flag_at magic.1 >>= λ initiator_only. sharing_at initiator_only.1 >>= λ sharing. flag_at sharing.1 >>= λ query.
+    Some (info_with magic.0 initiator_only.0 sharing.0 query.0, query.1)) (info, rest) e in
+    let b = bind_some (magic_at a.0) (λ (magic : ℕ × List ℕ).
     flag_at magic.1 >>= λ initiator_only. sharing_at initiator_only.1 >>= λ sharing. flag_at sharing.1 >>= λ query.
-    cond (ltb magic.0 (2 ^ 32)) (Some (info_with magic.0 initiator_only.0 sharing.0 query.0, query.1)) None) (info, rest) a.2 in
+    Some (info_with magic.0 initiator_only.0 sharing.0 query.0, query.1)) (info, rest) a.2 in
     let c = bind_some (flag_at b.0.1) (λ (initiator_only : Bool × List ℕ).
     sharing_at initiator_only.1 >>= λ sharing. flag_at sharing.1 >>= λ query.
-    cond (ltb b.0.0 (2 ^ 32)) (Some (info_with b.0.0 initiator_only.0 sharing.0 query.0, query.1)) None) (info, rest) b.2 in
+    Some (info_with b.0.0 initiator_only.0 sharing.0 query.0, query.1)) (info, rest) b.2 in
     let d = bind_some (sharing_at c.0.1) (λ (sharing : Bool × List ℕ).
-    flag_at sharing.1 >>= λ query.
-    cond (ltb b.0.0 (2 ^ 32)) (Some (info_with b.0.0 c.0.0 sharing.0 query.0, query.1)) None) (info, rest) c.2 in
-    let q = bind_some (flag_at d.0.1) (λ (query : Bool × List ℕ).
-    cond (ltb b.0.0 (2 ^ 32)) (Some (info_with b.0.0 c.0.0 d.0.0 query.0, query.1)) None) (info, rest) d.2 in
-    let is : VersionInfo × List ℕ = (info_with b.0.0 c.0.0 d.0.0 q.0.0, q.0.1) in
-    let g = guard_some (ltb b.0.0 (2 ^ 32)) is (info, rest) q.2 in
-    subst (λ (p : VersionInfo × List ℕ). HasFront (IsVersionInfo p.0) bytes p.1) g.1
-    (info_from bytes a.0 b.0.1 c.0.1 d.0.1 q.0.1 b.0.0 c.0.0 d.0.0 q.0.0 g.0 a.1 b.1 c.1 d.1 q.1)
+    flag_at sharing.1 >>= λ query. Some (info_with b.0.0 c.0.0 sharing.0 query.0, query.1)) (info, rest) c.2 in
+    let q = bind_some (flag_at d.0.1) (λ (query : Bool × List ℕ). Some (info_with b.0.0 c.0.0 d.0.0 query.0, query.1)) (info, rest) d.2 in
+    subst (λ (p : VersionInfo × List ℕ). HasFront (IsVersionInfo p.0) bytes p.1) (some_is _ _ q.2)
+    (info_from bytes a.0 b.0.1 c.0.1 d.0.1 q.0.1 b.0.0 c.0.0 d.0.0 q.0.0 a.1 b.1 c.1 d.1 q.1)
 
 info_again : (info : VersionInfo) (front rest : List ℕ) → IsVersionInfo info front → version_info_at (front ++ rest) ≡ Some (info, rest)
 unfolding version_info_at
@@ -71,7 +80,6 @@ info_again info front rest is =
     let elements = is.is_array.is_second in
     let behind_magic = elements.is_second in
     let behind_initiator = behind_magic.is_second in
-    let low : ltb info.magic (2 ^ 32) ≡ true = lt-ltb _ _ is.magic_fits in
     let one : front ++ rest ≡ is.is_array.first ++ (elements.first ++ (behind_magic.first ++ (behind_initiator.first ++ (behind_initiator.second ++ rest)))) =
     pair_parts is.is_array rest
     ∙ ap (λ (x : List ℕ). is.is_array.first ++ x) (pair_parts elements rest
@@ -80,11 +88,10 @@ info_again info front rest is =
     ap version_info_at one
     ∙ rw (
       array_again 4 is.is_array.first (elements.first ++ (behind_magic.first ++ (behind_initiator.first ++ (behind_initiator.second ++ rest)))) is.is_array.is_first,
-      reads_number.again info.magic elements.first (behind_magic.first ++ (behind_initiator.first ++ (behind_initiator.second ++ rest))) elements.is_first,
+      magic_again info.magic elements.first (behind_magic.first ++ (behind_initiator.first ++ (behind_initiator.second ++ rest))) elements.is_first is.magic_fits,
       reads_flag.again info.initiator_only behind_magic.first (behind_initiator.first ++ (behind_initiator.second ++ rest)) behind_magic.is_first,
       reads_sharing.again info.sharing behind_initiator.first (behind_initiator.second ++ rest) behind_initiator.is_first,
       reads_flag.again info.query behind_initiator.second rest behind_initiator.is_second,
-      low,
     ) refl
 
 client_info_found : (bytes : List ℕ) (info : VersionInfo) (rest : List ℕ) → client_version_info_at bytes ≡ Some (info, rest) → HasFront (IsClientVersionInfo info) bytes rest
@@ -92,25 +99,22 @@ unfolding client_version_info_at
 client_info_found bytes info rest e =
     let made : ℕ → Bool → VersionInfo = λ magic query. info_with magic true false query in
     let a = bind_some (definite_array_at 2 bytes) (λ (elements : List ℕ).
-    number_at elements >>= λ magic. flag_at magic.1 >>= λ query. cond (ltb magic.0 (2 ^ 32)) (Some (made magic.0 query.0, query.1)) None) (info, rest) e in
-    let b = bind_some (number_at a.0) (λ (magic : ℕ × List ℕ).
-    flag_at magic.1 >>= λ query. cond (ltb magic.0 (2 ^ 32)) (Some (made magic.0 query.0, query.1)) None) (info, rest) a.2 in
-    let c = bind_some (flag_at b.0.1) (λ (query : Bool × List ℕ). cond (ltb b.0.0 (2 ^ 32)) (Some (made b.0.0 query.0, query.1)) None) (info, rest) b.2 in
-    let is : VersionInfo × List ℕ = (made b.0.0 c.0.0, c.0.1) in
-    let g = guard_some (ltb b.0.0 (2 ^ 32)) is (info, rest) c.2 in
-    let parts = pair_front (array_found 2 bytes a.0 a.1) (pair_front (reads_number.found a.0 b.0.0 b.0.1 b.1) (reads_flag.found b.0.1 c.0.0 c.0.1 c.1)) in
+    magic_at elements >>= λ magic. flag_at magic.1 >>= λ query. Some (made magic.0 query.0, query.1)) (info, rest) e in
+    let b = bind_some (magic_at a.0) (λ (magic : ℕ × List ℕ). flag_at magic.1 >>= λ query. Some (made magic.0 query.0, query.1)) (info, rest) a.2 in
+    let c = bind_some (flag_at b.0.1) (λ (query : Bool × List ℕ). Some (made b.0.0 query.0, query.1)) (info, rest) b.2 in
+    let magic = magic_found a.0 b.0.0 b.0.1 b.1 in
+    let parts = pair_front (array_found 2 bytes a.0 a.1) (pair_front magic.0 (reads_flag.found b.0.1 c.0.0 c.0.1 c.1)) in
     let stands : HasFront (IsClientVersionInfo (made b.0.0 c.0.0)) bytes c.0.1 = record {
       front = parts.front;
       joined = parts.joined;
-      is = record { magic_fits = ltb-true _ _ g.0; is_array = parts.is; initiates = refl; unshared = refl };
+      is = record { magic_fits = magic.1; is_array = parts.is; initiates = refl; unshared = refl };
     } in
-    subst (λ (p : VersionInfo × List ℕ). HasFront (IsClientVersionInfo p.0) bytes p.1) g.1 stands
+    subst (λ (p : VersionInfo × List ℕ). HasFront (IsClientVersionInfo p.0) bytes p.1) (some_is _ _ c.2) stands
 
 client_info_again : (info : VersionInfo) (front rest : List ℕ) → IsClientVersionInfo info front → client_version_info_at (front ++ rest) ≡ Some (info, rest)
 unfolding client_version_info_at
 client_info_again info front rest is =
     let elements = is.is_array.is_second in
-    let low : ltb info.magic (2 ^ 32) ≡ true = lt-ltb _ _ is.magic_fits in
     let one : front ++ rest ≡ is.is_array.first ++ (elements.first ++ (elements.second ++ rest)) =
     pair_parts is.is_array rest ∙ ap (λ (x : List ℕ). is.is_array.first ++ x) (pair_parts elements rest) in
     let same : Some (info_with info.magic true false info.query, rest) ≡ Some (info, rest) =
@@ -119,9 +123,8 @@ client_info_again info front rest is =
     ap client_version_info_at one
     ∙ rw (
       array_again 2 is.is_array.first (elements.first ++ (elements.second ++ rest)) is.is_array.is_first,
-      reads_number.again info.magic elements.first (elements.second ++ rest) elements.is_first,
+      magic_again info.magic elements.first (elements.second ++ rest) elements.is_first is.magic_fits,
       reads_flag.again info.query elements.second rest elements.is_second,
-      low,
     ) same
 
 reads_info : Reads IsVersionInfo version_info_at

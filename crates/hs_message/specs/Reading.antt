@@ -56,16 +56,20 @@ bit_at bytes = do
 abbrev pub sharing_at : Reader Bool
 sharing_at bytes = option_or (flag_at bytes) (bit_at bytes)
 
+-- a network's magic: a number of 32 bits
+unfoldable pub magic_at : Reader ℕ
+magic_at bytes = do
+  magic ← number_at bytes
+  if nat_lt magic.0 (2 ^ 32) then Some magic else None
+
 unfoldable pub version_info_at : Reader VersionInfo
 version_info_at bytes = do
   elements ← definite_array_at 4 bytes
-  magic ← number_at elements
+  magic ← magic_at elements
   initiator_only ← flag_at magic.1
   sharing ← sharing_at initiator_only.1
   query ← flag_at sharing.1
-  if nat_lt magic.0 (2 ^ 32)
-      then Some (record { magic = magic.0; initiator_only = initiator_only.0; sharing = sharing.0; query = query.0 }, query.1)
-      else None
+  Some (record { magic = magic.0; initiator_only = initiator_only.0; sharing = sharing.0; query = query.0 }, query.1)
 
 -- the known info that an item beside a version is, between nodes
 unfoldable pub known_of : ℕ → List ℕ → Option VersionInfo
@@ -75,11 +79,9 @@ known_of version item = if is_node_version version then whole (version_info_at i
 unfoldable pub client_version_info_at : Reader VersionInfo
 client_version_info_at bytes = do
   elements ← definite_array_at 2 bytes
-  magic ← number_at elements
+  magic ← magic_at elements
   query ← flag_at magic.1
-  if nat_lt magic.0 (2 ^ 32)
-      then Some (record { magic = magic.0; initiator_only = true; sharing = false; query = query.0 }, query.1)
-      else None
+  Some (record { magic = magic.0; initiator_only = true; sharing = false; query = query.0 }, query.1)
 
 -- the same between a node and a local client
 unfoldable pub client_known_of : ℕ → List ℕ → Option VersionInfo

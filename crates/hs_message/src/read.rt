@@ -3,7 +3,7 @@ ghost use Rattle.cbor_items.specs.Front.{Finds, FindsBy, number_at};
 ghost use Rattle.hs_message.specs.declared.message.Message.{Message as AnyMessage};
 ghost use Rattle.hs_message.specs.Info.{is_node_version, is_client_version};
 ghost use Rattle.hs_message.specs.Spelling.{is_below_next, rises, NodeSpells, ClientSpells};
-ghost use Rattle.hs_message.specs.Reading.{RefusalSays, version_info_at, known_of, client_version_info_at, client_known_of, known_in, info_of, offer_at, row_at, row_to_break_at, table_at, version_row_at, version_list_at, reason_behind, reason_at, message_behind, message_at, message_with, message_of, client_message_of};
+ghost use Rattle.hs_message.specs.Reading.{RefusalSays, magic_at, version_info_at, known_of, client_version_info_at, client_known_of, known_in, info_of, offer_at, row_at, row_to_break_at, table_at, version_row_at, version_list_at, reason_behind, reason_at, message_behind, message_at, message_with, message_of, client_message_of};
 
 use crate::message_code::MessageCode;
 use crate::part::{split_array, split_flag, split_item, split_noted, split_sharing, split_tag};
@@ -212,18 +212,26 @@ fn is_client_version(version: u64) -> bool
     matches!(version, 32784 | 32785)
 }
 
+#[tactic(auto, unfolding(crate::specs::Reading::magic_at))]
+fn split_magic(bytes: &[u8]) -> Result<(u32, &[u8]), Absent>
+    ensures { Finds (λ read. (read.0, read.1.now)) result (magic_at bytes.now) }
+{
+    let (magic, rest) = split_number(bytes)?;
+    let Ok(magic) = u32::try_from(magic) else {
+        return Err(Absent);
+    };
+    Ok((magic, rest))
+}
+
 #[tactic(auto, unfolding(crate::specs::Reading::version_info_at))]
 fn split_version_info(bytes: &[u8]) -> Result<(VersionInfo, &[u8]), Absent>
     ensures { Finds (λ read. (read.0, read.1.now)) result (version_info_at bytes.now) }
 {
     let rest = split_array(4, bytes)?;
-    let (magic, rest) = split_number(rest)?;
+    let (magic, rest) = split_magic(rest)?;
     let (initiator_only, rest) = split_flag(rest)?;
     let (sharing, rest) = split_sharing(rest)?;
     let (query, rest) = split_flag(rest)?;
-    let Ok(magic) = u32::try_from(magic) else {
-        return Err(Absent);
-    };
     let info = VersionInfo {
         magic,
         initiator_only,
@@ -238,11 +246,8 @@ fn split_client_version_info(bytes: &[u8]) -> Result<(VersionInfo, &[u8]), Absen
     ensures { Finds (λ read. (read.0, read.1.now)) result (client_version_info_at bytes.now) }
 {
     let rest = split_array(2, bytes)?;
-    let (magic, rest) = split_number(rest)?;
+    let (magic, rest) = split_magic(rest)?;
     let (query, rest) = split_flag(rest)?;
-    let Ok(magic) = u32::try_from(magic) else {
-        return Err(Absent);
-    };
     let info = VersionInfo {
         magic,
         initiator_only: true,
