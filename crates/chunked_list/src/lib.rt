@@ -4,6 +4,7 @@
 mod chunk;
 mod edit;
 mod list;
+mod point;
 mod search;
 mod spot;
 

@@ -4,6 +4,7 @@ ghost use Rattle.std.specs.List.Sorted.{IsPartitionedBy, IsPartitionPoint};
 ghost use Rattle.chunked_list.specs.Chunks.{joined, begins, AreChunks};
 
 use crate::chunk::Chunk;
+use crate::point::point_of;
 
 // How many items pass, where those that do stand before the others.
 pub fn point_in<T, P: Fn(&T) -> bool>(chunks: &[Chunk<T>], pred: P) -> usize
@@ -13,7 +14,8 @@ pub fn point_in<T, P: Fn(&T) -> bool>(chunks: &[Chunk<T>], pred: P) -> usize
     ensures bound { result ≤ length (joined chunks.now) }
     ensures partitioned { (p : T → Bool) → ComputesKey P.FnMut p pred → IsPartitionedBy p (joined chunks.now) → IsPartitionPoint (λ y. p y ≡ true) (λ y. p y ≡ false) (joined chunks.now) result }
 {
-    let begun = chunks.partition_point(
+    let begun = point_of(
+        chunks,
         |chunk: &Chunk<T>| -> bool
             requires { P.IsAlwaysCallable pred }
             ensures { (p : T → Bool) → ComputesKey P.FnMut p pred → result ≡ begins p chunk.now }

@@ -2,6 +2,7 @@ ghost use Rattle.std.specs.Prelude.{◌≡◌, ◌<◌, ◌^◌, length};
 ghost use Rattle.chunked_list.specs.Chunks.{joined, AreChunks, IsInside, place_of, halved};
 
 use crate::chunk::{Chunk, HALF};
+use crate::point::point_of;
 
 // Where an item stands: in which chunk, and where in it.
 #[derive(Clone, Copy)]
@@ -17,7 +18,7 @@ pub fn spot_of<T>(chunks: &[Chunk<T>], place: usize) -> Spot
     ensures inside { IsInside chunks.now result }
     ensures place { place_of chunks.now result ≡ place }
 {
-    let chunk = chunks.partition_point(|chunk| chunk.before <= place) - 1;
+    let chunk = point_of(chunks, |chunk| chunk.before <= place) - 1;
     Spot {
         chunk,
         at: place - chunks[chunk].before,

@@ -89,7 +89,7 @@ fn place_of(items: &ChunkedList<Placed>, placed: Placed) -> usize
     requires { IsRising items.now }
     ensures { result ≡ prefix_len (λ p. placed_below p placed) items.now }
 {
-    items.partition_point(|p| *p < placed)
+    items.partition_point(|p| is_below(p, &placed))
 }
 
 // How many of a rising list have an address up to one.
@@ -97,7 +97,14 @@ fn end_of(items: &ChunkedList<Placed>, addr: Addr) -> usize
     requires { IsRising items.now }
     ensures { result ≡ prefix_len (up_to addr) items.now }
 {
-    items.partition_point(|p| p.addr <= addr)
+    items.partition_point(|p| p.addr.is_up_to(&addr))
+}
+
+// Whether one comes before another.
+fn is_below(placed: &Placed, than: &Placed) -> bool
+    ensures { result ≡ placed_below placed.now than.now }
+{
+    placed.addr.is_before(&than.addr) || (placed.addr == than.addr && placed.cid < than.cid)
 }
 
 // The one before a place, where it has an address.

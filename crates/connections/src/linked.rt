@@ -109,5 +109,12 @@ fn place_in(rows: &ChunkedList<Link>, placed: Placed) -> usize
     ensures value { result ≡ prefix_len (λ l. placed_below (place_of l) placed) rows.now }
     ensures bound { result ≤ length rows.now }
 {
-    rows.partition_point(|link| (link.addr, link.cid) < (placed.addr, placed.cid))
+    rows.partition_point(|link| is_below(link, &placed))
+}
+
+// Whether the address and id of a link are below some.
+fn is_below(link: &Link, placed: &Placed) -> bool
+    ensures { result ≡ placed_below (place_of link.now) placed.now }
+{
+    link.addr.is_before(&placed.addr) || (link.addr == placed.addr && link.cid < placed.cid)
 }

@@ -1,13 +1,14 @@
-ghost use Rattle.std.specs.Prelude.{◌≡◌, ◌≤◌, IfOk, IsTrue, length};
+ghost use Rattle.std.specs.Prelude.{◌≡◌, ◌≤◌, [], IfOk, IsTrue, length};
 ghost use Rattle.std.specs.List.{prefix_len};
 ghost use Rattle.std.specs.List.Sorted.{IsPermutation};
 ghost use Rattle.govern_rules.specs.Links.{some_link};
 ghost use Rattle.govern_rules.specs.Marks.{has_mark};
-ghost use Rattle.govern_rules.specs.SortedLinks.{IsInOrder, is_below, is_up_to, is_above_next, links_of};
+ghost use Rattle.govern_rules.specs.SortedLinks.{IsInOrder, is_below, is_up_to, is_above_next, link_below, links_of};
 
 use crate::Link;
 use crate::mark::{Mark, some};
 use net_base::{Addr, OutOfMemory};
+use std::alloc::Global;
 use std::marker::Model;
 
 /// Links in order of address and then id. Contracts see the list of them.
@@ -29,6 +30,15 @@ impl Model for LinkList {
 }
 
 impl LinkList {
+    /// No links. Takes no memory.
+    pub fn new(alloc: Global) -> LinkList
+        ensures { result ≡ [] }
+    {
+        LinkList {
+            links: Vec::new(alloc),
+        }
+    }
+
     /// The links of a vector. They are sorted only where they don't stand in order yet, and memory is asked for only
     /// then.
     pub fn from_vec(mut links: Vec<Link>) -> Result<LinkList, OutOfMemory>
@@ -73,22 +83,33 @@ pub fn links_of(links: &[Link], addr: Addr) -> &[Link]
     own
 }
 
-// How many links have an address below one.
+// How many links have an address below one. Where all have, no search is wanted.
 fn start_of(links: &[Link], addr: Addr) -> usize
     requires { IsInOrder links.now }
     ensures bound { result ≤ length links.now }
     ensures place { result ≡ prefix_len (is_below addr) links.now }
 {
-    links.partition_point(|link| link.addr < addr)
+    let Some(last) = links.len().checked_sub(1) else {
+        return 0;
+    };
+    if links[last].addr.is_before(&addr) {
+        return links.len();
+    }
+    links.partition_point(|link| link.addr.is_before(&addr))
 }
 
-// How many links have an address up to one.
+// How many links have an address up to one: mostly none, which the first tells.
 fn end_of(links: &[Link], addr: Addr) -> usize
     requires { IsInOrder links.now }
     ensures bound { result ≤ length links.now }
     ensures place { result ≡ prefix_len (is_up_to addr) links.now }
 {
-    links.partition_point(|link| link.addr <= addr)
+    match links {
+        [first, ..] if first.addr.is_up_to(&addr) => {
+            links.partition_point(|link| link.addr.is_up_to(&addr))
+        }
+        _ => 0,
+    }
 }
 
 // Whether no link is below the one before it.
@@ -110,6 +131,13 @@ fn is_above_next(link: &Link, rest: &[Link]) -> bool
 {
     match rest {
         [] => false,
-        [next, ..] => (next.addr, next.cid) < (link.addr, link.cid),
+        [next, ..] => is_below(next, link),
     }
+}
+
+// By the address, and then by the id.
+fn is_below(link: &Link, than: &Link) -> bool
+    ensures { result ≡ link_below link.now than.now }
+{
+    link.addr.is_before(&than.addr) || (link.addr == than.addr && link.cid < than.cid)
 }

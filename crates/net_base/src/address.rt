@@ -1,4 +1,4 @@
-ghost use Rattle.std.specs.Prelude.{◌≡◌, ◌+◌, ◌*◌, ◌^◌, ◌<◌};
+ghost use Rattle.std.specs.Prelude.{◌≡◌, ◌+◌, ◌*◌, ◌^◌, ◌<◌, ◌||◌};
 ghost use Rattle.net_base.specs.Address.{key_of, folded_ip, address_below, same_address};
 
 use crate::Sequence;
@@ -40,7 +40,25 @@ impl Addr {
     pub fn is_before(&self, other: &Addr) -> bool
         ensures { result ≡ address_below self.now other.now }
     {
-        self < other
+        // what the derived order says too, in more instructions: searches ask this at every step
+        match (self.ip, other.ip) {
+            (Ip::V4(ip), Ip::V4(than)) => ip < than || (ip == than && self.port < other.port),
+            (Ip::V4(_), Ip::V6(_)) => true,
+            (Ip::V6(_), Ip::V4(_)) => false,
+            (Ip::V6(ip), Ip::V6(than)) => ip < than || (ip == than && self.port < other.port),
+        }
+    }
+
+    /// It is the other one, or comes before it.
+    pub fn is_up_to(&self, other: &Addr) -> bool
+        ensures { result ≡ (address_below self.now other.now || same_address self.now other.now) }
+    {
+        match (self.ip, other.ip) {
+            (Ip::V4(ip), Ip::V4(than)) => ip < than || (ip == than && self.port <= other.port),
+            (Ip::V4(_), Ip::V6(_)) => true,
+            (Ip::V6(_), Ip::V4(_)) => false,
+            (Ip::V6(ip), Ip::V6(than)) => ip < than || (ip == than && self.port <= other.port),
+        }
     }
 }
 

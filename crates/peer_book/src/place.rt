@@ -11,7 +11,7 @@ pub fn place_of(addrs: &[Addr], addr: Addr) -> usize
     requires { IsRising (λ a. a) addrs.now }
     ensures { result ≡ prefix_len (λ a. address_below a addr) addrs.now }
 {
-    addrs.partition_point(|a| *a < addr)
+    addrs.partition_point(|a| a.is_before(&addr))
 }
 
 // How many peers have an address below one.
@@ -19,7 +19,7 @@ pub fn place_of_peer(peers: &[Peer], addr: Addr) -> usize
     requires { IsRising (λ p. p.addr) peers.now }
     ensures { result ≡ prefix_len (λ p. address_below p.addr addr) peers.now }
 {
-    peers.partition_point(|p| p.addr < addr)
+    peers.partition_point(|p| p.addr.is_before(&addr))
 }
 
 // The peer with an address.

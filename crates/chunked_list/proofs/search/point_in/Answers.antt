@@ -9,9 +9,9 @@ use Rattle.chunked_list.proofs.search.point_in.Goals as goal
 pub returns-in_default-clause-partitioned : goal.returns-in_default-clause-partitioned
 returns-in_default-clause-partitioned g c =
     λ p by parted.
-    let begun = c.partition_point-begun.ensures.partitioned (begins p) (always_returns_same _ _ _ (λ a r f' k. (k.met.1 p by, λ j. record { 0 = k.met.0 j })))
+    let begun = c.point_of-begun.ensures.partitioned (begins p) (always_returns_same _ _ _ (λ a r f' k. (k.met.0 p by, k.met.1)))
     (parted_begins p c.args.chunks.now c.requires.kept.filled parted) in
-    none_begun p c.args.chunks.now c.requires.kept.filled parted c.partition_point-begun.result c.partition_point-begun.ensures.bound begun (omega arith)
+    none_begun p c.args.chunks.now c.requires.kept.filled parted c.point_of-begun.result c.point_of-begun.ensures.bound begun (omega arith)
 
 pub overflow_add-result : goal.overflow_add-result
 overflow_add-result g c =
@@ -38,14 +38,14 @@ returns-clause-partitioned g c =
     let last = c.in-Some.last in
     let d = c.index-chunks-last.result in
     let q = c.partition_point.result in
-    let begun = c.partition_point-begun.ensures.partitioned (begins p) (always_returns_same _ _ _ (λ a r f' k. (k.met.1 p by, λ j. record { 0 = k.met.0 j })))
+    let begun = c.point_of-begun.ensures.partitioned (begins p) (always_returns_same _ _ _ (λ a r f' k. (k.met.0 p by, k.met.1)))
     (parted_begins p cs c.requires.kept.filled parted) in
     let here : last < length cs = omega arith in
-    let last_is : last + 1 ≡ c.partition_point-begun.result = omega arith in
+    let last_is : last + 1 ≡ c.point_of-begun.result = omega arith in
     let items : c.deref.result.now ≡ items_in (get_or cs last d) = c.deref.ensures.value ∙ ap items_in c.index-chunks-last.is in
     let inner : IsPartitionPoint (λ x. p x ≡ true) (λ x. p x ≡ false) (items_in (get_or cs last d)) q = subst (λ l. IsPartitionPoint (λ x. p x ≡ true) (λ x. p x ≡ false) l q) items
     (c.partition_point.ensures.partitioned p by (subst (IsPartitionedBy p) (sym items) (parted_inside p cs c.requires.kept.filled parted last d here))) in
     let within : q ≤ length (items_in (get_or cs last d)) = omega (arith, c.partition_point.ensures.bound, ap length items) in
     let before : d.before ≡ length (joined (take last cs)) = ap (λ x. x.before) c.index-chunks-last.is ∙ number_is cs c.requires.kept.numbers last d here in
     subst (λ n. IsPartitionPoint (λ x. p x ≡ true) (λ x. p x ≡ false) (joined cs) (n + q)) (sym before)
-    (some_begun p cs c.requires.kept.filled parted c.partition_point-begun.result c.partition_point-begun.ensures.bound begun last q d last_is within inner)
+    (some_begun p cs c.requires.kept.filled parted c.point_of-begun.result c.point_of-begun.ensures.bound begun last q d last_is within inner)

@@ -7,31 +7,31 @@ use Rattle.chunked_list.proofs.spot.spot_of.Goals as goal
 pub overflow_sub-chunk : goal.overflow_sub-chunk
 overflow_sub-chunk g c =
     let cs = c.args.chunks.now in
-    let p = c.partition_point-chunk.result in
-    let point : IsPartitionPoint (λ x. nat_le x.before c.args.place ≡ true) (λ x. nat_le x.before c.args.place ≡ false) cs p = IsPartitionPoint-from_clause (λ x. nat_le x.before c.args.place) cs p c.partition_point-chunk.ensures.partitioned
+    let p = c.point_of-chunk.result in
+    let point : IsPartitionPoint (λ x. nat_le x.before c.args.place ≡ true) (λ x. nat_le x.before c.args.place ≡ false) cs p = IsPartitionPoint-from_clause (λ x. nat_le x.before c.args.place) cs p c.point_of-chunk.ensures.partitioned
     (parted cs c.args.place c.requires.kept.numbers) (λ a r f k. search rules) in
     some_before cs c.args.place c.requires.kept.numbers p c.requires.inside point
 
 pub overflow_sub-result : goal.overflow_sub-result
 overflow_sub-result g c =
     let cs = c.args.chunks.now in
-    let p = c.partition_point-chunk.result in
-    let point : IsPartitionPoint (λ x. nat_le x.before c.args.place ≡ true) (λ x. nat_le x.before c.args.place ≡ false) cs p = IsPartitionPoint-from_clause (λ x. nat_le x.before c.args.place) cs p c.partition_point-chunk.ensures.partitioned
+    let p = c.point_of-chunk.result in
+    let point : IsPartitionPoint (λ x. nat_le x.before c.args.place ≡ true) (λ x. nat_le x.before c.args.place ≡ false) cs p = IsPartitionPoint-from_clause (λ x. nat_le x.before c.args.place) cs p c.point_of-chunk.ensures.partitioned
     (parted cs c.args.place c.requires.kept.numbers) (λ a r f k. search rules) in
-    before_place cs c.args.place c.requires.kept.numbers p c.index-chunks-chunk.result c.requires.inside c.partition_point-chunk.ensures.bound point
+    before_place cs c.args.place c.requires.kept.numbers p c.index-chunks-chunk.result c.requires.inside c.point_of-chunk.ensures.bound point
 
 pub returns-clause-inside : goal.returns-clause-inside
 returns-clause-inside g c =
     let cs = c.args.chunks.now in
-    let p = c.partition_point-chunk.result in
-    let point : IsPartitionPoint (λ x. nat_le x.before c.args.place ≡ true) (λ x. nat_le x.before c.args.place ≡ false) cs p = IsPartitionPoint-from_clause (λ x. nat_le x.before c.args.place) cs p c.partition_point-chunk.ensures.partitioned
+    let p = c.point_of-chunk.result in
+    let point : IsPartitionPoint (λ x. nat_le x.before c.args.place ≡ true) (λ x. nat_le x.before c.args.place ≡ false) cs p = IsPartitionPoint-from_clause (λ x. nat_le x.before c.args.place) cs p c.point_of-chunk.ensures.partitioned
     (parted cs c.args.place c.requires.kept.numbers) (λ a r f k. search rules) in
-    in_chunk cs c.args.place c.requires.kept.numbers p c.index-chunks-chunk.result c.requires.inside c.partition_point-chunk.ensures.bound point
+    in_chunk cs c.args.place c.requires.kept.numbers p c.index-chunks-chunk.result c.requires.inside c.point_of-chunk.ensures.bound point
 
 pub returns-clause-place : goal.returns-clause-place
 returns-clause-place g c =
     let cs = c.args.chunks.now in
-    let p = c.partition_point-chunk.result in
-    let point : IsPartitionPoint (λ x. nat_le x.before c.args.place ≡ true) (λ x. nat_le x.before c.args.place ≡ false) cs p = IsPartitionPoint-from_clause (λ x. nat_le x.before c.args.place) cs p c.partition_point-chunk.ensures.partitioned
+    let p = c.point_of-chunk.result in
+    let point : IsPartitionPoint (λ x. nat_le x.before c.args.place ≡ true) (λ x. nat_le x.before c.args.place ≡ false) cs p = IsPartitionPoint-from_clause (λ x. nat_le x.before c.args.place) cs p c.point_of-chunk.ensures.partitioned
     (parted cs c.args.place c.requires.kept.numbers) (λ a r f k. search rules) in
-    at_place cs c.args.place c.requires.kept.numbers p c.index-chunks-chunk.result c.requires.inside c.partition_point-chunk.ensures.bound point
+    at_place cs c.args.place c.requires.kept.numbers p c.index-chunks-chunk.result c.requires.inside c.point_of-chunk.ensures.bound point

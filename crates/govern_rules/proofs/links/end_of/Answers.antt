@@ -5,8 +5,8 @@ use Rattle.govern_rules.specs.SortedLinks.{is_up_to}
 use Rattle.govern_rules.proofs.ByAddress.{partitioned_upto}
 use Rattle.govern_rules.proofs.links.end_of.Goals as goal
 
-pub returns-clause-place : goal.returns-clause-place
-returns-clause-place c =
+pub returns-in-len1-up-clause-place : goal.returns-in-len1-up-clause-place
+returns-in-len1-up-clause-place c =
     place_is (is_up_to c.args.addr) c.args.links.now c.partition_point.result c.partition_point.ensures.bound
     (IsPartitionPoint-from_clause (is_up_to c.args.addr) c.args.links.now c.partition_point.result c.partition_point.ensures.partitioned
     (partitioned_upto c.args.addr c.args.links.now c.requires) (λ a r f k. search rules))

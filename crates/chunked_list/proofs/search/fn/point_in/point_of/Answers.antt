@@ -1,7 +1,7 @@
 use Rattle.std.proofs.Common.{◌≡◌, [], ◌∷◌, Some, slice_get, ap, ◌∙◌}
 use Rattle.chunked_list.specs.Chunks.{items_in}
 use Rattle.chunked_list.proofs.Points.{first_got}
-use Rattle.chunked_list.proofs.search.fn.point_in.partition_point.Goals as goal
+use Rattle.chunked_list.proofs.search.fn.point_in.point_of.Goals as goal
 
 pub returns-in-Some : goal.returns-in-Some
 returns-in-Some g c =
