@@ -8,6 +8,7 @@ mod group_text;
 mod head_text;
 pub mod law;
 mod line;
+mod line_text;
 mod magic;
 mod piece;
 mod pieces;

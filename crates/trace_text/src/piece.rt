@@ -4,6 +4,7 @@ ghost use Rattle.std.specs.String.{string_bytes};
 ghost use Rattle.trace_text.specs.Bytes.{bytes_words};
 ghost use Rattle.trace_text.specs.Events.{piece_of, is_lower_digit};
 
+use crate::line_text::longer_text;
 use hex::FromHexError;
 use net_base::{Octets, OutOfMemory};
 use std::alloc::{AllocError, Global};
@@ -37,5 +38,5 @@ pub fn bytes_text(alloc: Global, name: &str, id: u64, bytes: &[u8]) -> Result<St
     ensures { IfOk result (λ text. string_bytes text ≡ join_with_byte 32 (bytes_words name.now id bytes.now)) }
 {
     let digits = hex::encode(alloc, bytes)?;
-    format!(in alloc; "{name} {id} {digits}")
+    longer_text(alloc, digits.len(), format_args!("{name} {id} {digits}"))
 }

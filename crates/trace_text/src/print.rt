@@ -6,6 +6,7 @@ ghost use Rattle.trace_text.specs.Lines.{line_of};
 ghost use Rattle.trace_text.specs.Actions.{printed_action, away_word, fault_words, cause_words, note_word, state_word};
 
 use crate::PrintedLine;
+use crate::line_text::line_text;
 use crate::piece::bytes_text;
 use crate::text::AddressText;
 use net_base::{Action, Away, CloseCause, FaultKind, Octets, OutOfMemory, PeerNote, StateName};
@@ -34,21 +35,36 @@ fn action_text(alloc: Global, action: &Action) -> Result<String, AllocError>
 {
     match action {
         Action::Admit(cid, address) => {
-            format!(in alloc; "> admit {} {}", cid.0, AddressText(*address))
+            line_text(
+                alloc,
+                format_args!("> admit {} {}", cid.0, AddressText(*address)),
+            )
         }
-        Action::Turnaway(away) => format!(in alloc; "> turnaway {}", away_word(*away)),
+        Action::Turnaway(away) => line_text(alloc, format_args!("> turnaway {}", away_word(*away))),
         Action::Dial(cid, address) => {
-            format!(in alloc; "> dial {} {}", cid.0, AddressText(*address))
+            line_text(
+                alloc,
+                format_args!("> dial {} {}", cid.0, AddressText(*address)),
+            )
         }
         Action::Send(cid, bytes) => { bytes_text(alloc, "> send", cid.0, bytes.as_slice()) }
         Action::Close(cid, cause) => {
-            format!(in alloc; "> close {} {}", cid.0, cause_words(*cause))
+            line_text(
+                alloc,
+                format_args!("> close {} {}", cid.0, cause_words(*cause)),
+            )
         }
-        Action::Pause(time) => format!(in alloc; "> pause {time}"),
-        Action::AskRoots(job) => format!(in alloc; "> askroots {}", job.0),
-        Action::State(cid, name) => format!(in alloc; "> state {} {}", cid.0, state_word(*name)),
+        Action::Pause(time) => line_text(alloc, format_args!("> pause {time}")),
+        Action::AskRoots(job) => line_text(alloc, format_args!("> askroots {}", job.0)),
+        Action::State(cid, name) => line_text(
+            alloc,
+            format_args!("> state {} {}", cid.0, state_word(*name)),
+        ),
         Action::Peer(address, note) => {
-            format!(in alloc; "> peer {} {}", AddressText(*address), note_word(*note))
+            line_text(
+                alloc,
+                format_args!("> peer {} {}", AddressText(*address), note_word(*note)),
+            )
         }
     }
 }

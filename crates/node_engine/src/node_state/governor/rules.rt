@@ -10,7 +10,7 @@ use crate::NodeState;
 use crate::rule::Rule;
 use churn_clock::{effective, effective_big};
 use govern_rules::{
-    BigRule, Order, OrderList, View, rule_big, rule_g2, rule_g3, rule_g4, rule_g5, rule_g6,
+    BigRule, LinkList, Order, OrderList, View, rule_big, rule_g2, rule_g3, rule_g4, rule_g5, rule_g6,
     rule_g7, rule_g8, rule_g9,
 };
 use net_base::{ActionList, OutOfMemory};
@@ -126,6 +126,8 @@ impl NodeState {
             return Ok(());
         }
         self.carry_out_all(orders, actions)?;
+        // the old links go first, so that their memory serves the new ones
+        view.links = LinkList::new(self.alloc);
         *view = self.view(word)?;
         Ok(())
     }
