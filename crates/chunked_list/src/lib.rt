@@ -8,8 +8,3 @@ mod search;
 mod spot;
 
 pub use list::ChunkedList;
-
-#[cfg(test)]
-mod tests;
-#[cfg(test)]
-mod threads;
