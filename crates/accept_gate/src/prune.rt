@@ -83,6 +83,3 @@ fn rank_of_candidate(facts: &Facts) -> u8
         0
     }
 }
-
-#[cfg(test)]
-mod tests;

@@ -19,6 +19,3 @@ pub use head::{Head, read_head, write_head};
 pub use initial::{ARRAY, BREAK, FALSE, MAP, NUMBER, TEXT, TRUE};
 pub use item_scan::ItemScan;
 pub use scan::{Scan, first_item};
-
-#[cfg(test)]
-mod tests;

@@ -9,8 +9,3 @@ mod search;
 mod spot;
 
 pub use list::ChunkedList;
-
-#[cfg(test)]
-mod tests;
-#[cfg(test)]
-mod threads;

@@ -90,8 +90,50 @@ fn run_on(alloc: Global, words: &[&str], input: &str, piece: usize) -> Result<Le
     Ok(Left { status, out, err })
 }
 
+// How a run is to end, and what it is to leave.
+#[derive(Clone, Copy)]
+struct Wanted<'a> {
+    status: Status,
+    out: &'a str,
+    err: &'a str,
+}
+
+// A run whose work was done, with this output.
+fn done(out: &str) -> Wanted<'_> {
+    Wanted {
+        status: Status::Done,
+        out,
+        err: "",
+    }
+}
+
+// A run of these words on an input, of which each reading gives at most so many bytes, ends so.
+fn expect_run(
+    rt: &impl Abort,
+    alloc: Global,
+    words: &[&str],
+    input: &str,
+    piece: usize,
+    wanted: Wanted<'_>,
+) -> Result<(), Fail>
+    requires { 1 ≤ piece }
+{
+    let left = run_on(alloc, words, input, piece)?;
+    assert!(rt; left.status == wanted.status, "status on {input:?}");
+    assert!(rt;
+        left.out.bytes() == wanted.out.as_bytes(),
+        "output on {input:?}"
+    );
+    assert!(rt;
+        left.err.bytes() == wanted.err.as_bytes(),
+        "text on {input:?}"
+    );
+    Ok(())
+}
+
 #[test]
 fn traces_are_replayed(rt: HostRuntime) -> Result<(), Fail> {
+    let alloc = rt.alloc();
     for (input, output) in [
         (
             "trace 1\nown 127.0.0.1:3001\nend\n",
@@ -112,10 +154,8 @@ fn traces_are_replayed(rt: HostRuntime) -> Result<(), Fail> {
         ),
     ] {
         for piece in [1, 7, 65_536] {
-            let left = run_on(rt.alloc(), &["replay"], input, piece)?;
-            assert_eq!(rt; left.status, Status::Done);
-            assert_eq!(rt; left.out.bytes(), output.as_bytes());
-            assert_eq!(rt; left.err.bytes(), b"".as_slice());
+            assert!(rt; piece >= 1);
+            expect_run(&rt, alloc, &["replay"], input, piece, done(output))?;
         }
     }
     Ok(())
@@ -123,13 +163,11 @@ fn traces_are_replayed(rt: HostRuntime) -> Result<(), Fail> {
 
 #[test]
 fn the_whole_machine_is_replayed(rt: HostRuntime) -> Result<(), Fail> {
+    let alloc = rt.alloc();
     for (input, output) in ROWS {
-        let left = run_on(rt.alloc(), &["replay"], input, 64)?;
-        assert_eq!(rt; left.status, Status::Done);
-        assert_eq!(rt; left.out.bytes(), output.as_bytes());
+        expect_run(&rt, alloc, &["replay"], input, 64, done(output))?;
         // the actions of an output are passed over, and come out again
-        let again = run_on(rt.alloc(), &["replay"], output, 64)?;
-        assert_eq!(rt; again.out.bytes(), output.as_bytes());
+        expect_run(&rt, alloc, &["replay"], output, 64, done(output))?;
     }
     Ok(())
 }
@@ -204,16 +242,29 @@ fn lines_are_refused(rt: HostRuntime) -> Result<(), Fail> {
             "line 3 refused: word 1\n",
         ),
     ] {
-        let left = run_on(rt.alloc(), &["replay"], input, 64)?;
-        assert_eq!(rt; left.status, Status::Refused { line, kind });
-        assert_eq!(rt; left.out.bytes(), output.as_bytes());
-        assert_eq!(rt; left.err.bytes(), text.as_bytes());
+        let wanted = Wanted {
+            status: Status::Refused { line, kind },
+            out: output,
+            err: text,
+        };
+        expect_run(&rt, rt.alloc(), &["replay"], input, 64, wanted)?;
     }
     Ok(())
 }
 
+// The words are no command.
+fn expect_usage(rt: &impl Abort, alloc: Global, words: &[&str], input: &str) -> Result<(), Fail> {
+    let wanted = Wanted {
+        status: Status::Usage,
+        out: "",
+        err: USAGE,
+    };
+    expect_run(rt, alloc, words, input, 64, wanted)
+}
+
 #[test]
 fn other_words_are_no_command(rt: HostRuntime) -> Result<(), Fail> {
+    assert!(rt; Status::Usage.code() == 2);
     for words in [
         [].as_slice(),
         &["check", "x"],
@@ -229,11 +280,7 @@ fn other_words_are_no_command(rt: HostRuntime) -> Result<(), Fail> {
         &["replay", "42", "1", "1"],
         &["clients", "42", "1", "1", "1"],
     ] {
-        let left = run_on(rt.alloc(), words, LIMITS, 64)?;
-        assert_eq!(rt; left.status, Status::Usage);
-        assert_eq!(rt; left.status.code(), 2);
-        assert_eq!(rt; left.out.bytes(), b"".as_slice());
-        assert_eq!(rt; left.err.bytes(), USAGE.as_bytes());
+        expect_usage(&rt, rt.alloc(), words, LIMITS)?;
     }
     Ok(())
 }
@@ -263,9 +310,9 @@ const CALLS: [(u64, usize); 4] = [(1, 0), (2, 85), (3, 379), (4, 583)];
 // A run on the life of a connection ended so, with that many bytes of its output.
 fn expect_life(rt: &impl Abort, left: &Left, status: Status, text: &str, written: usize) {
     let (_, output) = ROWS[1];
-    assert_eq!(rt; left.status, status);
-    assert_eq!(rt; Some(left.out.bytes()), output.as_bytes().get(..written));
-    assert_eq!(rt; left.err.bytes(), text.as_bytes());
+    assert!(rt; left.status == status, "at {written} bytes");
+    assert!(rt; Some(left.out.bytes()) == output.as_bytes().get(..written));
+    assert!(rt; left.err.bytes() == text.as_bytes());
 }
 
 #[test]
@@ -274,11 +321,11 @@ fn each_reading_fails_in_turn(rt: HostRuntime) -> Result<(), Fail> {
     for (call, written) in CALLS {
         let (left, calls) = failing_run(rt.alloc(), "replay", input, &[call], &[])?;
         expect_life(&rt, &left, Status::ReadFault, "read fault\n", written);
-        assert_eq!(rt; calls, call);
+        assert!(rt; calls == call);
     }
     let (left, calls) = failing_run(rt.alloc(), "replay", input, &[5], &[])?;
     expect_life(&rt, &left, Status::Done, "", output.len());
-    assert_eq!(rt; calls, 4);
+    assert!(rt; calls == 4);
     Ok(())
 }
 
@@ -288,7 +335,7 @@ fn each_writing_fails_in_turn(rt: HostRuntime) -> Result<(), Fail> {
     for (call, written) in CALLS {
         let (left, calls) = failing_run(rt.alloc(), "replay", input, &[], &[call])?;
         expect_life(&rt, &left, Status::WriteFault, "write fault\n", written);
-        assert_eq!(rt; calls, call);
+        assert!(rt; calls == call);
     }
     let (left, _) = failing_run(rt.alloc(), "replay", input, &[], &[5])?;
     expect_life(&rt, &left, Status::Done, "", output.len());
@@ -297,20 +344,14 @@ fn each_writing_fails_in_turn(rt: HostRuntime) -> Result<(), Fail> {
 
 #[test]
 fn nothing_is_read_behind_the_line_that_decides(rt: HostRuntime) -> Result<(), Fail> {
-    // the second reading would fail
-    let (left, calls) = failing_run(rt.alloc(), "replay", "trace 1\nown x\n", &[2], &[])?;
     let kind = RefusalKind::Word(2);
-    assert_eq!(rt; left.status, Status::Refused { line: 2, kind });
-    assert_eq!(rt; calls, 1);
-    let (left, calls) = failing_run(
-        rt.alloc(),
-        "replay",
-        "trace 1\nown 127.0.0.1:3001\nend\nnow 5\n",
-        &[2],
-        &[],
-    )?;
-    assert_eq!(rt; left.status, Status::Done);
-    assert_eq!(rt; calls, 1);
+    let refused = Status::Refused { line: 2, kind };
+    let over = "trace 1\nown 127.0.0.1:3001\nend\nnow 5\n";
+    for (input, status) in [("trace 1\nown x\n", refused), (over, Status::Done)] {
+        // the second reading would fail
+        let (left, calls) = failing_run(rt.alloc(), "replay", input, &[2], &[])?;
+        assert!(rt; left.status == status && calls == 1, "{input:?}");
+    }
     Ok(())
 }
 
@@ -337,20 +378,20 @@ fn long_run(alloc: Global, input: Octets) -> Result<Left, Fail> {
 fn a_trace_has_at_most_so_many_lines(rt: HostRuntime) -> Result<(), Fail> {
     let left = long_run(rt.alloc(), endless(rt.alloc(), "> \n", 4_000_000)?)?;
     let line = 4_000_001;
-    assert_eq!(rt; left.status, Status::TooLong { line });
-    assert_eq!(rt; left.status.code(), 9);
-    assert_eq!(rt; left.out.bytes(), HEAD.as_bytes());
-    assert_eq!(rt; left.err.bytes(), b"too long: line 4000001\n".as_slice());
+    assert!(rt; left.status == Status::TooLong { line });
+    assert!(rt; left.status.code() == 9);
+    assert!(rt; left.out.bytes() == HEAD.as_bytes());
+    assert!(rt; left.err.bytes() == b"too long: line 4000001\n".as_slice());
     Ok(())
 }
 
 #[test]
 fn a_trace_has_at_most_so_many_events(rt: HostRuntime) -> Result<(), Fail> {
+    let output = endless(rt.alloc(), "now 0\n", 1_000_000)?;
     let left = long_run(rt.alloc(), endless(rt.alloc(), "now 0\n", 1_000_001)?)?;
     let line = 1_000_003;
-    assert_eq!(rt; left.status, Status::TooLong { line });
-    let output = endless(rt.alloc(), "now 0\n", 1_000_000)?;
-    assert_eq!(rt; left.out.bytes(), output.as_slice());
-    assert_eq!(rt; left.err.bytes(), b"too long: line 1000003\n".as_slice());
+    assert!(rt; left.status == Status::TooLong { line });
+    assert!(rt; left.out.bytes() == output.as_slice());
+    assert!(rt; left.err.bytes() == b"too long: line 1000003\n".as_slice());
     Ok(())
 }

@@ -33,8 +33,3 @@ pub use reserved_outbound::ReservedOutbound;
 pub use state::ConnState;
 pub use terminating::Terminating;
 pub use unnegotiated::Unnegotiated;
-
-#[cfg(test)]
-mod tests;
-#[cfg(test)]
-mod threads;

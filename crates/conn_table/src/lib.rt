@@ -15,8 +15,3 @@ pub use grace_end::GraceEnd;
 pub use lease::LocalLease;
 pub use placed::{Placed, PlacedList};
 pub use table::ConnTable;
-
-#[cfg(test)]
-mod tests;
-#[cfg(test)]
-mod threads;

@@ -213,7 +213,9 @@ fn pauses_above_soft_and_turns_away_at_hard(rt: HostRuntime) -> Result<(), Fail>
         failures.min(65_535) * 281_474_976_710_656
             + addr.key().wrapping_add(word) % 281_474_976_710_656
     })?);
-    let engine = Engine::new(alloc, settings(2, 1), picker, ranked)?;
+    let Ok(engine) = Engine::new(alloc, settings(2, 1), picker, ranked) else {
+        return Err("no engine".into());
+    };
     pauses_and_turns_away(&rt, engine)
 }
 
@@ -227,7 +229,9 @@ fn ends_a_handshake_at_its_deadline(rt: HostRuntime) -> Result<(), Fail> {
         failures.min(65_535) * 281_474_976_710_656
             + addr.key().wrapping_add(word) % 281_474_976_710_656
     })?);
-    let engine = Engine::new(alloc, settings(512, 384), picker, ranked)?;
+    let Ok(engine) = Engine::new(alloc, settings(512, 384), picker, ranked) else {
+        return Err("no engine".into());
+    };
     waits_for_the_handshake(&rt, engine)
 }
 
@@ -241,7 +245,9 @@ fn turns_away_itself_and_whom_it_has(rt: HostRuntime) -> Result<(), Fail> {
         failures.min(65_535) * 281_474_976_710_656
             + addr.key().wrapping_add(word) % 281_474_976_710_656
     })?);
-    let engine = Engine::new(alloc, settings(512, 384), picker, ranked)?;
+    let Ok(engine) = Engine::new(alloc, settings(512, 384), picker, ranked) else {
+        return Err("no engine".into());
+    };
     turns_away_whom_it_has(&rt, engine)
 }
 
@@ -255,7 +261,9 @@ fn dials_a_local_peer_and_uses_the_connection(rt: HostRuntime) -> Result<(), Fai
         failures.min(65_535) * 281_474_976_710_656
             + addr.key().wrapping_add(word) % 281_474_976_710_656
     })?);
-    let engine = Engine::new(alloc, settings(512, 384), picker, ranked)?;
+    let Ok(engine) = Engine::new(alloc, settings(512, 384), picker, ranked) else {
+        return Err("no engine".into());
+    };
     let engine = dials(&rt, engine, alloc)?;
     let engine = proposes(&rt, engine, alloc)?;
     agrees(&rt, engine, alloc)

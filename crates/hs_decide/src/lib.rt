@@ -12,6 +12,3 @@ pub use answering::{answer, proposal};
 pub use deciding::decide;
 pub use role::Role;
 pub use verdict::{Verdict, Why};
-
-#[cfg(test)]
-mod tests;

@@ -23,6 +23,3 @@ pub use profile::Profile;
 pub use read::{read_client_message, read_message};
 pub use refusal::ReadRefusal;
 pub use write::{write_client_message, write_message};
-
-#[cfg(test)]
-mod tests;

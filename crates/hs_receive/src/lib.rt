@@ -10,6 +10,3 @@ pub use cut::kind_of;
 pub use received::Received;
 pub use receiving::receive;
 pub use side::{fits_side, is_awaited};
-
-#[cfg(test)]
-mod tests;

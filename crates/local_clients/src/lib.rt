@@ -27,6 +27,3 @@ pub use event::ClientEvent;
 pub use line_run::LineOutcome as ClientOutcome;
 pub use rules::ClientRules;
 pub use running::clients_run;
-
-#[cfg(test)]
-mod tests;

@@ -15,6 +15,3 @@ mod sockets;
 mod world_clock;
 
 pub use loop_world::LoopWorld;
-
-#[cfg(test)]
-mod tests;

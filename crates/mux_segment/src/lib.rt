@@ -26,6 +26,3 @@ pub use header::{Header, read_header, write_header};
 pub use item::{Item, ItemList};
 pub use segments::split_segment;
 pub use waiting::Waiting;
-
-#[cfg(test)]
-mod tests;

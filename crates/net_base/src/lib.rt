@@ -13,8 +13,6 @@ mod peer;
 mod refusal;
 mod settings;
 mod targets;
-#[cfg(test)]
-mod threads;
 mod timer;
 
 pub use action::{Action, ActionList, Away, CloseCause, FaultKind, PeerNote, StateName};

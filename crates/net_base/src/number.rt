@@ -42,29 +42,3 @@ fn next_value(value: u64, digit: u8, most: u64) -> Option<u64>
     }
     Some(next as u64)
 }
-
-#[cfg(test)]
-mod tests {
-    use super::*;
-
-    #[test]
-    fn a_number_has_one_spelling(rt: HostRuntime) {
-        assert_eq!(rt; read_number(b"0", 10), Some(0));
-        assert_eq!(rt; read_number(b"10", 10), Some(10));
-        assert_eq!(rt;
-            read_number(b"18446744073709551615", u64::MAX),
-            Some(u64::MAX)
-        );
-        assert_eq!(rt; read_number(b"", 10), None);
-        assert_eq!(rt; read_number(b"01", 10), None);
-        assert_eq!(rt; read_number(b"00", 10), None);
-        assert_eq!(rt; read_number(b"+1", 10), None);
-        assert_eq!(rt; read_number(b"1 ", 10), None);
-        assert_eq!(rt; read_number(b"11", 10), None);
-        assert_eq!(rt; read_number(b"18446744073709551616", u64::MAX), None);
-        assert_eq!(rt;
-            read_number(b"99999999999999999999999999999999999999999", u64::MAX),
-            None
-        );
-    }
-}

@@ -34,25 +34,3 @@ pub fn backoff_delay(base: u64, failures: u64) -> u64
 {
     base << (failures - 1).min(5)
 }
-
-#[cfg(test)]
-mod tests {
-    use super::*;
-
-    #[test]
-    fn seven_failures(rt: HostRuntime) {
-        let delays = [
-            backoff_delay(5000, 1),
-            backoff_delay(5000, 2),
-            backoff_delay(5000, 3),
-            backoff_delay(5000, 4),
-            backoff_delay(5000, 5),
-            backoff_delay(5000, 6),
-            backoff_delay(5000, 7),
-        ];
-        assert_eq!(rt;
-            delays,
-            [5000, 10_000, 20_000, 40_000, 80_000, 160_000, 160_000]
-        );
-    }
-}

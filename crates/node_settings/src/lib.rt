@@ -18,6 +18,3 @@ pub use config_refusal::ConfigRefusal;
 pub use topology::Topology;
 pub use topology_file::read_topology;
 pub use topology_refusal::TopologyRefusal;
-
-#[cfg(test)]
-mod tests;

@@ -24,6 +24,3 @@ pub use script_world::ScriptWorld;
 pub use town_world::TownWorld;
 pub use waiting::Waiting;
 pub use world::World;
-
-#[cfg(test)]
-mod tests;

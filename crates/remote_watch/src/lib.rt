@@ -13,6 +13,3 @@ pub use reply::{Reply, reply_bytes};
 pub use seen::Seen;
 pub use temperature::{RemoteTemp, remote_temp};
 pub use watching::watch;
-
-#[cfg(test)]
-mod tests;

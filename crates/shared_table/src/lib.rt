@@ -29,10 +29,8 @@ pub use reply::TableReply;
 pub use seat::{InSeat, OutSeat};
 pub use shared::Shared;
 pub use table::SharedTable;
+pub use tear::first_torn;
 pub use torn::Torn;
 pub use who::Who;
 pub use work::{Worked, run_two};
 pub use work_end::WorkEnd;
-
-#[cfg(test)]
-mod tests;

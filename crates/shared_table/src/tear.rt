@@ -13,7 +13,7 @@ struct Seen {
     ins: usize,
 }
 
-// The first entry that is not what its caller's seat kept. None where each caller has just the calls that its seat kept.
+/// The first entry that is not what its caller's seat kept. None where each caller has just the calls that its seat kept.
 pub fn first_torn(history: &[Entry], outs: &[Noted], ins: &[Noted]) -> Option<Torn>
     requires outs { length outs.now ≡ count_of Out history.now }
     requires ins { length ins.now ≡ count_of In history.now }

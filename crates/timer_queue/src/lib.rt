@@ -15,6 +15,3 @@ pub use laws::{
 pub use moments::Moments;
 pub use net_base::{Deadline, Kind};
 pub use queue::TimerQueue;
-
-#[cfg(test)]
-mod tests;

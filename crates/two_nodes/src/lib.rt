@@ -1,4 +1,4 @@
-//! Two nodes that meet on sockets of one machine: a test, and no code beside it.
+//! A world on sockets, and two nodes that meet there: tests, and no code beside them.
 #![tactic(auto)]
 
 #[cfg(test)]

@@ -15,6 +15,3 @@ pub use alive::{Alive, read_alive, write_alive};
 pub use first::{first_number, item_number};
 pub use net_base::AddrList as PeerItems;
 pub use share::{Share, read_share, write_peers, write_request};
-
-#[cfg(test)]
-mod tests;

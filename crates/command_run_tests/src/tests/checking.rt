@@ -1,11 +1,14 @@
 use super::rows::ROWS;
-use super::{LIMITS_REPLAYED, failing_run, run_on};
+use super::{LIMITS_REPLAYED, Wanted, done, expect_run, failing_run, run_on};
 use net_base::RefusalKind;
+use std::alloc::Global;
+use std::process::Abort;
 use std::test::Fail;
 use tool_status::Status;
 
 #[test]
 fn traces_that_agree_are_counted(rt: HostRuntime) -> Result<(), Fail> {
+    let alloc = rt.alloc();
     for (input, output) in [
         ("trace 1\nown 127.0.0.1:3001\nend\n", "agree 0 0\n"),
         (
@@ -15,15 +18,13 @@ fn traces_that_agree_are_counted(rt: HostRuntime) -> Result<(), Fail> {
         (LIMITS_REPLAYED, "agree 5 9\n"),
     ] {
         for piece in [1, 64] {
-            let left = run_on(rt.alloc(), &["check"], input, piece)?;
-            assert_eq!(rt; left.status, Status::Done);
-            assert_eq!(rt; left.out.bytes(), output.as_bytes());
-            assert_eq!(rt; left.err.bytes(), b"".as_slice());
+            assert!(rt; piece >= 1);
+            expect_run(&rt, alloc, &["check"], input, piece, done(output))?;
         }
     }
     for (_, output) in ROWS {
-        let left = run_on(rt.alloc(), &["check"], output, 64)?;
-        assert_eq!(rt; left.status, Status::Done);
+        let left = run_on(alloc, &["check"], output, 64)?;
+        assert!(rt; left.status == Status::Done, "{output:?}");
     }
     Ok(())
 }
@@ -58,11 +59,14 @@ fn the_first_line_that_differs_is_shown(rt: HostRuntime) -> Result<(), Fail> {
             "differ 4\nfound now 5\nwant > admit 1 127.0.0.1:3002\n",
         ),
     ] {
-        let left = run_on(rt.alloc(), &["check"], input, 64)?;
-        assert_eq!(rt; left.status, Status::Differ { line });
-        assert_eq!(rt; left.status.code(), 1);
-        assert_eq!(rt; left.out.bytes(), output.as_bytes());
-        assert_eq!(rt; left.err.bytes(), b"".as_slice());
+        let status = Status::Differ { line };
+        assert!(rt; status.code() == 1);
+        let wanted = Wanted {
+            status,
+            out: output,
+            err: "",
+        };
+        expect_run(&rt, rt.alloc(), &["check"], input, 64, wanted)?;
     }
     Ok(())
 }
@@ -81,28 +85,41 @@ fn a_line_that_is_refused_is_not_compared(rt: HostRuntime) -> Result<(), Fail> {
             "line 4 refused: no end\n",
         ),
     ] {
-        let left = run_on(rt.alloc(), &["check"], input, 64)?;
-        assert_eq!(rt; left.status, Status::Refused { line: 4, kind });
-        assert_eq!(rt; left.out.bytes(), b"".as_slice());
-        assert_eq!(rt; left.err.bytes(), text.as_bytes());
+        let wanted = Wanted {
+            status: Status::Refused { line: 4, kind },
+            out: "",
+            err: text,
+        };
+        expect_run(&rt, rt.alloc(), &["check"], input, 64, wanted)?;
     }
+    Ok(())
+}
+
+// A check of a trace that agrees, of which a call fails: nothing is written.
+fn expect_fault(
+    rt: &impl Abort,
+    alloc: Global,
+    readings: &[u64],
+    writings: &[u64],
+    status: Status,
+) -> Result<(), Fail> {
+    let (left, _) = failing_run(alloc, "check", LIMITS_REPLAYED, readings, writings)?;
+    assert!(rt; left.status == status, "{readings:?} {writings:?}");
+    assert!(rt; left.out.bytes() == b"".as_slice());
     Ok(())
 }
 
 #[test]
 fn each_call_of_a_check_fails_in_turn(rt: HostRuntime) -> Result<(), Fail> {
+    let alloc = rt.alloc();
     for call in 1u64..=6 {
-        let (left, _) = failing_run(rt.alloc(), "check", LIMITS_REPLAYED, &[call], &[])?;
-        assert_eq!(rt; left.status, Status::ReadFault);
-        assert_eq!(rt; left.out.bytes(), b"".as_slice());
+        expect_fault(&rt, alloc, &[call], &[], Status::ReadFault)?;
     }
-    let (left, _) = failing_run(rt.alloc(), "check", LIMITS_REPLAYED, &[], &[1])?;
-    assert_eq!(rt; left.status, Status::WriteFault);
-    assert_eq!(rt; left.out.bytes(), b"".as_slice());
+    expect_fault(&rt, alloc, &[], &[1], Status::WriteFault)?;
     // nothing is read behind the line that differs
     let input = "trace 1\nown 127.0.0.1:3001\n> \n";
-    let (left, calls) = failing_run(rt.alloc(), "check", input, &[2], &[])?;
-    assert_eq!(rt; left.status, Status::Differ { line: 3 });
-    assert_eq!(rt; calls, 1);
+    let (left, calls) = failing_run(alloc, "check", input, &[2], &[])?;
+    assert!(rt; left.status == Status::Differ { line: 3 });
+    assert!(rt; calls == 1);
     Ok(())
 }

@@ -1,4 +1,4 @@
-use super::run_on;
+use super::{done, expect_run, run_on};
 use net_base::RefusalKind;
 use std::test::Fail;
 use tool_status::Status;
@@ -62,12 +62,9 @@ fn clients_are_led(rt: HostRuntime) -> Result<(), Fail> {
             "joined\n> admit 1\nbytes 1 0000000000020000\n> close 1 fault unknownid\nend\n",
         ),
     ] {
-        let left = run_on(rt.alloc(), &WORDS, input, 7)?;
-        assert_eq!(rt; left.status, Status::Done);
-        assert_eq!(rt; left.out.bytes(), output.as_bytes());
+        expect_run(&rt, rt.alloc(), &WORDS, input, 7, done(output))?;
         // the actions of an output are passed over, and come out again
-        let again = run_on(rt.alloc(), &WORDS, output, 64)?;
-        assert_eq!(rt; again.out.bytes(), output.as_bytes());
+        expect_run(&rt, rt.alloc(), &WORDS, output, 64, done(output))?;
     }
     Ok(())
 }
@@ -76,8 +73,8 @@ fn clients_are_led(rt: HostRuntime) -> Result<(), Fail> {
 fn lines_of_clients_are_refused(rt: HostRuntime) -> Result<(), Fail> {
     for (input, line, kind, output) in REFUSED {
         let left = run_on(rt.alloc(), &WORDS, input, 64)?;
-        assert_eq!(rt; left.status, Status::Refused { line, kind });
-        assert_eq!(rt; left.out.bytes(), output.as_bytes());
+        assert!(rt; left.status == Status::Refused { line, kind }, "{input:?}");
+        assert!(rt; left.out.bytes() == output.as_bytes(), "{input:?}");
     }
     Ok(())
 }

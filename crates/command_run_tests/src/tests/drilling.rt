@@ -1,7 +1,8 @@
-use super::{USAGE, octets, run_on, sink, strings};
+use super::{Left, done, expect_run, expect_usage, octets, sink, strings};
 use command_run::run;
 use io_edge::{MemSink, MemSource};
 use net_base::NumberList;
+use std::alloc::Global;
 use std::test::Fail;
 use tool_status::Status;
 
@@ -25,10 +26,14 @@ fn towns_are_run(rt: HostRuntime) -> Result<(), Fail> {
             "events 3000\nactions 2239\nadmitted 227\nturned 89\ndials 42\ncloses 227\nestablished 16\nactive 6\n",
         ),
     ] {
-        let left = run_on(rt.alloc(), &["drill", seed, count], "", 64)?;
-        assert_eq!(rt; left.status, Status::Done);
-        assert_eq!(rt; left.out.bytes(), output.as_bytes());
-        assert_eq!(rt; left.err.bytes(), b"".as_slice());
+        expect_run(
+            &rt,
+            rt.alloc(),
+            &["drill", seed, count],
+            "",
+            64,
+            done(output),
+        )?;
     }
     Ok(())
 }
@@ -48,29 +53,28 @@ fn other_numbers_are_no_drill(rt: HostRuntime) -> Result<(), Fail> {
         &["drill", "7", "1", "1"],
         &["drills", "7", "1"],
     ] {
-        let left = run_on(rt.alloc(), words, "", 64)?;
-        assert_eq!(rt; left.status, Status::Usage);
-        assert_eq!(rt; left.out.bytes(), b"".as_slice());
-        assert_eq!(rt; left.err.bytes(), USAGE.as_bytes());
+        expect_usage(&rt, rt.alloc(), words, "")?;
     }
     Ok(())
 }
 
-#[test]
-fn a_drill_reads_nothing_and_puts_once(rt: HostRuntime) -> Result<(), Fail> {
-    let alloc = rt.alloc();
+// A drill beside an input. The first reading and the first writing would fail.
+fn failing_drill(alloc: Global) -> Result<(Left, u64), Fail> {
     let words = strings(alloc, &["drill", "4", "9"])?;
-    let mut src = MemSource::new(
-        octets(alloc, "now 5\n")?,
-        64,
-        NumberList::from_slice(alloc, &[1])?,
-    );
+    let input = octets(alloc, "now 5\n")?;
+    let mut src = MemSource::new(input, 64, NumberList::from_slice(alloc, &[1])?);
     let mut out = MemSink::new(alloc, 4096, NumberList::from_slice(alloc, &[1])?)?;
     let mut err = sink(alloc)?;
     let status = run(alloc, &words, &mut src, &mut out, &mut err);
-    assert_eq!(rt; status, Status::WriteFault);
-    assert_eq!(rt; src.calls(), 0);
-    assert_eq!(rt; out.bytes(), b"".as_slice());
-    assert_eq!(rt; err.bytes(), b"write fault\n".as_slice());
+    Ok((Left { status, out, err }, src.calls()))
+}
+
+#[test]
+fn a_drill_reads_nothing_and_puts_once(rt: HostRuntime) -> Result<(), Fail> {
+    let (left, calls) = failing_drill(rt.alloc())?;
+    assert!(rt; left.status == Status::WriteFault);
+    assert!(rt; calls == 0);
+    assert!(rt; left.out.bytes() == b"".as_slice());
+    assert!(rt; left.err.bytes() == b"write fault\n".as_slice());
     Ok(())
 }

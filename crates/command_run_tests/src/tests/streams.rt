@@ -1,8 +1,7 @@
-use super::run_on;
+use super::{done, expect_run};
 use std::alloc::Global;
 use std::process::Abort;
 use std::test::Fail;
-use tool_status::Status;
 
 // A trace up to a place, and what is written of it.
 #[derive(Clone, Copy)]
@@ -65,11 +64,8 @@ fn expect_line<'a>(
     answer: &'a str,
 ) -> Result<(), Fail> {
     let input = format!(in alloc; "{}{line}end\n", before.read)?;
-    let left = run_on(alloc, &["replay"], &input, 64)?;
     let output = format!(in alloc; "{}{line}{answer}end\n", before.written)?;
-    assert_eq!(rt; left.status, Status::Done);
-    assert_eq!(rt; left.out.bytes(), output.as_bytes());
-    Ok(())
+    expect_run(rt, alloc, &["replay"], &input, 64, done(&output))
 }
 
 // Bytes come in behind the trace, and this is written of them.

@@ -1,0 +1,6 @@
+mod base;
+mod edge;
+mod hosts;
+mod settings_files;
+mod topology_files;
+mod worlds;

@@ -1,0 +1,183 @@
+use net_base::{Addr, Field, Ip, Settings, Targets};
+use node_settings::{Config, ConfigRefusal, read_config};
+use std::alloc::Global;
+use std::process::Abort;
+use std::test::Fail;
+
+// 127.0.0.1:3001.
+const OWN: Addr = Addr {
+    ip: Ip::V4(0x7f00_0001),
+    port: 3001,
+};
+
+fn defaults() -> Config {
+    Config {
+        settings: Settings {
+            version: 2,
+            own: OWN,
+            magic: 42,
+            initiator_only: 0,
+            sharing: 1,
+            hard: 512,
+            soft: 384,
+            delay: 5_000,
+            idle: 5_000,
+            timewait: 60_000,
+            handshake: 10_000,
+            reply: 10_000,
+            backoff: 5_000,
+            sharegap: 900_000,
+            shares: 2,
+        },
+        targets: Targets {
+            root: 10,
+            known: 20,
+            established: 10,
+            active: 5,
+        },
+        rootttl: 3_600_000,
+        tick: 1_000,
+        seed: 0,
+        announce: true,
+    }
+}
+
+// The answer to a file that has an own address and these lines.
+fn answer_with(alloc: Global, lines: &str) -> Result<Result<Config, ConfigRefusal>, Fail> {
+    let text = format!(in alloc; "own = \"127.0.0.1:3001\"\n{lines}\n")?;
+    Ok(read_config(alloc, text.as_bytes()))
+}
+
+fn expect_with(
+    rt: &impl Abort,
+    alloc: Global,
+    lines: &str,
+    wanted: Result<Config, ConfigRefusal>,
+) -> Result<(), Fail> {
+    let answer = answer_with(alloc, lines)?;
+    assert!(rt; answer == wanted, "{lines}");
+    Ok(())
+}
+
+#[test]
+fn what_a_file_does_not_set_has_a_default(rt: HostRuntime) -> Result<(), Fail> {
+    let alloc = rt.alloc();
+    expect_with(&rt, alloc, "", Ok(defaults()))?;
+    let mut few = defaults();
+    few.settings.hard = 100;
+    few.settings.soft = 100;
+    expect_with(&rt, alloc, "hard = 100", Ok(few))?;
+    let mut other = defaults();
+    other.seed = 9_223_372_036_854_775_807;
+    other.announce = false;
+    other.targets.known = 10_000;
+    let lines = "seed = 9223372036854775807\nannounce = false\nknown = 1_0000 # most\n";
+    expect_with(&rt, alloc, lines, Ok(other))
+}
+
+// Whether a file is read with this own address, or none is read of it.
+fn is_own(answer: Result<Config, ConfigRefusal>, ip: Option<Ip>) -> bool {
+    match (answer, ip) {
+        (Ok(config), Some(ip)) => config.settings.own.ip == ip,
+        (Err(refusal), None) => refusal == ConfigRefusal::BadSetting(Field::Own),
+        _ => false,
+    }
+}
+
+#[test]
+fn an_own_address_is_spelled_as_in_a_trace(rt: HostRuntime) {
+    let alloc = rt.alloc();
+    let texts: [(&[u8], Option<Ip>); 8] = [
+        (b"own = \"127.0.0.1:3001\"", Some(OWN.ip)),
+        (b"\xef\xbb\xbfown = '127.0.0.1:3001'", Some(OWN.ip)),
+        (b"own = \"[0:0:0:0:0:0:0:1]:3001\"", Some(Ip::V6(1))),
+        (b"own = \"[::1]:3001\"", None),
+        (b"own = \"127.0.0.1:03001\"", None),
+        (b"own = \"127.0.0.1\"", None),
+        (b"own = 5", None),
+        (b"", None),
+    ];
+    for (text, ip) in &texts {
+        assert!(rt; is_own(read_config(alloc, *text), *ip), "{text:?}");
+    }
+}
+
+#[test]
+fn the_first_wrong_setting_is_named(rt: HostRuntime) -> Result<(), Fail> {
+    let lines = [
+        ("hard = 0", Field::Hard),
+        ("hard = 0\ncolour = 1", Field::Unknown),
+        ("version = 2", Field::Unknown),
+        ("magic = 4294967296", Field::Magic),
+        ("magic = -1", Field::Magic),
+        ("magic = 42.0", Field::Magic),
+        ("initiatoronly = true", Field::InitiatorOnly),
+        ("sharing = 2", Field::Sharing),
+        ("hard = '512'\nsoft = 600", Field::Hard),
+        ("soft = 513", Field::Soft),
+        ("hard = 100\nsoft = 101", Field::Soft),
+        ("delay = 0", Field::Delay),
+        ("idle = 86400001", Field::Idle),
+        ("timewait = []", Field::Timewait),
+        ("handshake = 0", Field::Handshake),
+        ("reply = 0", Field::Reply),
+        ("backoff = 0", Field::Backoff),
+        ("sharegap = 0", Field::Sharegap),
+        ("shares = 9\nroot = 21", Field::Shares),
+    ];
+    for (line, field) in &lines {
+        expect_with(
+            &rt,
+            rt.alloc(),
+            *line,
+            Err(ConfigRefusal::BadSetting(*field)),
+        )?;
+    }
+    Ok(())
+}
+
+#[test]
+fn the_first_wrong_target_is_named(rt: HostRuntime) -> Result<(), Fail> {
+    let lines = [
+        ("root = 21", Field::Root),
+        ("known = 9", Field::Root),
+        ("root = 'x'\nknown = 'x'", Field::Root),
+        ("root = 30000\nknown = 'x'", Field::Known),
+        ("known = 10001", Field::Known),
+        ("established = 21", Field::Established),
+        ("known = 5000\nestablished = 1001", Field::Established),
+        ("active = 11", Field::Active),
+        ("active = 1e0\nrootttl = 0", Field::Active),
+        ("rootttl = 0\ntick = 0", Field::Rootttl),
+        ("tick = 86400001", Field::Tick),
+        ("seed = -1", Field::Seed),
+        ("seed = 1979-05-27", Field::Seed),
+        ("announce = 1", Field::Announce),
+        ("[announce]", Field::Announce),
+    ];
+    for (line, field) in &lines {
+        expect_with(
+            &rt,
+            rt.alloc(),
+            *line,
+            Err(ConfigRefusal::BadSetting(*field)),
+        )?;
+    }
+    Ok(())
+}
+
+#[test]
+fn what_is_no_toml_is_refused_before_all_else(rt: HostRuntime) {
+    let texts: [&[u8]; 6] = [
+        b"own =",
+        b"colour = 1\nown",
+        b"own = \"127.0.0.1:3001\"\nown = \"127.0.0.1:3001\"",
+        b"own = \"127.0.0.1:3001\" # \xff",
+        b"seed = 9223372036854775808",
+        b"{}",
+    ];
+    for text in &texts {
+        let answer = read_config(rt.alloc(), *text);
+        assert!(rt; answer == Err(ConfigRefusal::BadToml), "{text:?}");
+    }
+}

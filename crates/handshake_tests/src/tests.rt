@@ -1,0 +1,4 @@
+mod clients;
+mod decisions;
+mod messages;
+mod receiving;

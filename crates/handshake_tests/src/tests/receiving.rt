@@ -1,0 +1,80 @@
+use hs_decide::{Role, Verdict};
+use hs_message::VersionInfo;
+use hs_receive::{Received, kind_of, receive};
+use mux_segment::{CutFault, Item};
+use net_base::{Agreed, FaultKind, Octets, OutOfMemory};
+use std::alloc::Global;
+use std::test::Fail;
+
+const OWN: VersionInfo = VersionInfo {
+    magic: 42,
+    initiator_only: false,
+    sharing: true,
+    query: false,
+};
+
+const PROPOSAL: &[u8] = b"\x82\x00\xa2\x0d\x84\x18\x2a\xf4\x01\xf4\x0e\x84\x18\x2a\xf4\x01\xf4";
+
+const ACCEPTANCE: &[u8] = b"\x83\x01\x0e\x84\x18\x2a\xf4\x01\xf4";
+
+const DUPLEX: Agreed = Agreed {
+    version: 14,
+    initiator_only: false,
+    sharing: true,
+};
+
+// What these bytes come to.
+fn on_item(
+    alloc: Global,
+    role: Role,
+    side: u8,
+    id: u16,
+    body: &[u8],
+) -> Result<Received, OutOfMemory> {
+    let body = Octets::from_slice(alloc, body)?;
+    receive(alloc, role, &OWN, &Item { side, id, body })
+}
+
+#[test]
+fn items_are_received(rt: HostRuntime) -> Result<(), Fail> {
+    let agrees = Received::Decided(Verdict::Agree(DUPLEX));
+    let protocol = Received::Fault(FaultKind::Protocol);
+    let malformed = Received::Fault(FaultKind::Malformed);
+    let cases: [(Role, u8, u16, &[u8], Received); 10] = [
+        (
+            Role::Acceptor,
+            0,
+            0,
+            PROPOSAL,
+            Received::Decided(Verdict::Accept(DUPLEX)),
+        ),
+        (
+            Role::Acceptor,
+            0,
+            0,
+            ACCEPTANCE,
+            Received::Decided(Verdict::Wrong),
+        ),
+        (Role::Acceptor, 1, 0, PROPOSAL, protocol),
+        (Role::Acceptor, 0, 8, PROPOSAL, protocol),
+        (Role::Acceptor, 0, 0, b"\x00", malformed),
+        (Role::Dialer, 1, 0, ACCEPTANCE, agrees),
+        (Role::Dialer, 0, 0, ACCEPTANCE, protocol),
+        (Role::Dialer, 0, 0, PROPOSAL, agrees),
+        (Role::Dialer, 1, 0, PROPOSAL, protocol),
+        (Role::Dialer, 1, 0, b"\x81\x09", malformed),
+    ];
+    for (n, (role, side, id, body, want)) in cases.into_iter().enumerate() {
+        let got = on_item(rt.alloc(), role, side, id, body)?;
+        assert!(rt; got == want, "at case {n}");
+    }
+    Ok(())
+}
+
+#[test]
+fn faults_have_their_kinds(rt: HostRuntime) {
+    assert!(rt; kind_of(CutFault::Bad) == FaultKind::Malformed);
+    assert!(rt; kind_of(CutFault::Deep) == FaultKind::Deep);
+    assert!(rt; kind_of(CutFault::TooLong) == FaultKind::TooLong);
+    assert!(rt; kind_of(CutFault::UnknownId) == FaultKind::UnknownId);
+}

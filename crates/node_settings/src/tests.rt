@@ -1,3 +1,0 @@
-mod hosts;
-mod settings_files;
-mod topology_files;
