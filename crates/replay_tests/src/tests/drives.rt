@@ -74,8 +74,10 @@ fn opened(alloc: Global, failing: &[u64]) -> Result<ScriptWorld, Fail>
     let mut events = EventList::new(alloc);
     events.push(accepted())?;
     let mut world = ScriptWorld::new(alloc, events, NumberList::from_slice(alloc, failing)?);
-    world.open(&config(), &AddrList::new(alloc))?;
-    Ok(world)
+    match world.open(&config(), &AddrList::new(alloc)) {
+        Ok(()) => Ok(world),
+        Err(_) => Err("the world does not open".into()),
+    }
 }
 
 // A peer is given, and up to so many events of the world are taken: what comes of it, is written and is done.
@@ -91,9 +93,9 @@ fn expect_drive<R: Abort>(
 {
     let mut out = sink(alloc, 500, &[])?;
     let came = drive(alloc, &settings(), &[accepted()], world, 3, &mut out);
-    assert_eq!(rt; out.bytes(), text.as_bytes());
-    assert_eq!(rt; came, outcome);
-    assert_eq!(rt; world.done().as_slice(), done);
+    assert!(rt; out.bytes() == text.as_bytes());
+    assert!(rt; came == outcome);
+    assert!(rt; world.done().as_slice() == done);
     Ok(())
 }
 
