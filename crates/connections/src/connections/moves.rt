@@ -13,7 +13,7 @@ ghost use Rattle.connections.specs.Standing.{entry_with, live_entry, facts_in, c
 use super::Connections;
 use crate::linked::Links;
 use conn_table::Placed;
-use net_base::{Addr, Agreed, Cid, OutOfMemory};
+use net_base::{Addr, Agreed, Cid, Facts, OutOfMemory};
 use timer_queue::TimerQueue;
 
 impl Connections {
@@ -155,14 +155,8 @@ impl Connections {
         requires { IsSome (entry_with cid.0 self.old) }
         ensures { self.new ≡ gone cid.0 self.old }
     {
-        match self.kept.facts(cid) {
-            Some(facts) => self.links.leave(Placed {
-                addr: facts.addr,
-                cid,
-            }),
-            None => unreachable!(),
-        }
-        self.kept.remove(cid);
+        let Facts { addr, .. } = self.kept.remove(cid);
+        self.links.leave(Placed { addr, cid });
         self.timers.leave(cid);
     }
 }

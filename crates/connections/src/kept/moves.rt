@@ -1,4 +1,5 @@
-ghost use Rattle.std.specs.Prelude.{◌≡◌, ◌≤◌, ◌<◌, ◌+◌, ◌^◌, true, false, None, IsSomeAnd, IsSome, IfOk, OnOk, OnErr};
+ghost use Rattle.std.specs.Prelude.{◌≡◌, ◌≤◌, ◌<◌, ◌+◌, ◌^◌, true, false, None, Some, IsSomeAnd, IsSome, IfOk, OnOk, OnErr};
+ghost use Rattle.std.specs.Option.{option_map};
 ghost use Rattle.conn_state.specs.Counted.{counted};
 ghost use Rattle.conn_state.specs.Moves.{accepted, dialing, connected, acquired, released, awakened, idled, expired};
 ghost use Rattle.conn_table.specs.Choices.{negotiated};
@@ -12,7 +13,7 @@ use super::Kept;
 use crate::talk::{Talk, lend, swap_cutter, take_lease};
 use conn_table::Acquire;
 use mux_segment::Cutter;
-use net_base::{Addr, Agreed, Cid, OutOfMemory};
+use net_base::{Addr, Agreed, Cid, Facts, OutOfMemory};
 
 impl Kept {
     /// Lets in a peer that connected at a moment, under the next id. A refusal changes nothing.
@@ -141,16 +142,24 @@ impl Kept {
         swap_cutter(&mut self.talks, place, self.alloc, Cutter::new(self.alloc));
     }
 
-    /// A connection goes.
-    pub fn remove(&mut self, cid: Cid)
+    /// A connection goes. The answer is what was known of it.
+    pub fn remove(&mut self, cid: Cid) -> Facts
         requires { IsSome (entry_with cid.0 self.old) }
-        ensures { self.new ≡ gone cid.0 self.old }
+        ensures was { option_map (λ e. e.facts) (entry_with cid.0 self.old) ≡ Some result }
+        ensures gone { self.new ≡ gone cid.0 self.old }
     {
         let place = self.table.place_of(cid);
+        let facts = self.table.at(place);
         let Talk { lease, .. } = self.talks.remove(place);
         match lease {
-            Some(lease) => self.table.drop_leased(lease),
-            None => self.table.drop_conn(cid),
+            Some(lease) => {
+                self.table.drop_leased(lease);
+                facts
+            }
+            None => {
+                self.table.drop_conn(cid);
+                facts
+            }
         }
     }
 }

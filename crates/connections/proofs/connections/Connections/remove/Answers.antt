@@ -1,4 +1,4 @@
-use Rattle.std.proofs.Common.{ap, sym, ◌∙◌}
+use Rattle.std.proofs.Common.{ap}
 use Rattle.conn_table.specs.declared.placed.Placed.{Placed}
 use Rattle.net_base.specs.declared.connection.Facts.{Facts}
 use Rattle.connections.proofs.LinkedTurns.{seen_facts, goes_from, gone_linked}
@@ -7,16 +7,16 @@ use Rattle.connections.proofs.connections.Connections.remove.Goals as goal
 
 pub leave-requires : goal.leave-requires
 leave-requires c =
-    let placed : Placed = record { addr = c.in-Some.facts.addr; cid = c.args.cid } in
-    let it = seen_facts _ c.in-Some.facts (sym c.facts.ensures ∙ c.in-Some.is) in
+    let placed : Placed = record { addr = c.remove.result.addr; cid = c.args.cid } in
+    let it = seen_facts _ c.remove.result c.remove.ensures.was in
     goes_from placed c.self.inside.kept c.self.inside.timers c.self.inside.links it.0 c.self.invariant.0 c.self.invariant.1 it.1
     (ap (λ (f : Facts). f.addr) it.2)
 
 pub invariant_of-self : goal.invariant_of-self
 invariant_of-self c =
-    let placed : Placed = record { addr = c.in-Some.facts.addr; cid = c.args.cid } in
-    let it = seen_facts _ c.in-Some.facts (sym c.facts.ensures ∙ c.in-Some.is) in (
-      gone_timed c.args.cid _ _ _ _ c.self.invariant.0 c.remove.ensures c.leave-2.ensures.gone c.leave-2.ensures.orderly,
+    let placed : Placed = record { addr = c.remove.result.addr; cid = c.args.cid } in
+    let it = seen_facts _ c.remove.result c.remove.ensures.was in (
+      gone_timed c.args.cid _ _ _ _ c.self.invariant.0 c.remove.ensures.gone c.leave-2.ensures.gone c.leave-2.ensures.orderly,
       gone_linked placed c.self.inside.kept c.remove.new.self c.self.inside.timers c.self.inside.links c.leave.new.self it.0 c.self.invariant.0
-          c.self.invariant.1 it.1 (ap (λ (f : Facts). f.addr) it.2) c.remove.ensures c.leave.ensures,
+          c.self.invariant.1 it.1 (ap (λ (f : Facts). f.addr) it.2) c.remove.ensures.gone c.leave.ensures,
     )

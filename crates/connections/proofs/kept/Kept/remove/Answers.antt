@@ -1,15 +1,25 @@
-use Rattle.std.proofs.Common.{◌≡◌, ◌<◌, true, false, IsSomeAnd, get_or, length, arith, sym, ap, subst, ◌∙◌}
+use Rattle.std.proofs.Common.{◌≡◌, ◌<◌, true, false, IsSomeAnd, get_or, length, Some, slice_get, arith, sym, ap, subst, ◌∙◌}
 use Rattle.std.specs.List.{remove}
-use Rattle.std.proofs.lemmas.Option.{get_or_from_slice_get}
-use Rattle.conn_state.specs.Use.{facts_at}
+use Rattle.std.specs.Option.{option_map}
+use Rattle.std.proofs.lemmas.Option.{get_or_from_slice_get, same_Some, slice_get_within}
+use Rattle.conn_state.specs.Use.{facts_at, has_id}
 use Rattle.conn_table.specs.Finds.{id_place}
 use Rattle.conn_table.specs.Table.{without}
-use Rattle.conn_table.proofs.IdPlaces.{found_id}
+use Rattle.conn_table.proofs.IdPlaces.{found_id, get-place}
+use Rattle.connections.specs.Standing.{entry_with}
 use Rattle.connections.specs.declared.talk.Talk.{Talk}
 use Rattle.connections.proofs.TalkMoves.{lent_out, not_lent}
+use Rattle.connections.proofs.TalkPairs.{find_paired}
 use Rattle.connections.proofs.TalkTurns.{Any, Found, found, some_one, place_inside, IsGoing, going}
 use Rattle.connections.proofs.kept.Kept.remove.Goals.{After-remove-lease, In-Some, In-None, After-drop_leased, After-drop_conn}
 use Rattle.connections.proofs.kept.Kept.remove.Goals as goal
+
+pub at-facts-requires : goal.at-facts-requires
+at-facts-requires c =
+    let it = found Any c.args.cid.0 _ _ c.args.self.now c.self.invariant c.self.view_is (some_one c.args.cid.0 c.args.self.now c.requires) in
+    subst (λ n. n < length c.self.inside.table.facts) (sym c.place_of-place.ensures)
+    (slice_get_within c.self.inside.table.facts (id_place c.args.cid.0 c.self.inside.table.facts) it.facts
+    (get-place c.args.cid.0 0 c.self.inside.table.given c.self.inside.table.facts it.facts c.self.invariant.ids_rise it.at.facts_there))
 
 pub remove-lease-requires : goal.remove-lease-requires
 remove-lease-requires c =
@@ -33,6 +43,17 @@ used c it same =
 unused : (c : In-None) (it : Found Any c.args.cid.0 c.self.inside.table c.self.inside.talks) → c.remove-lease.result ≡ it.talk →
     it.facts.local ≡ false
 unused c it same = not_lent it.facts it.talk it.at.belongs (sym c.in-None.is ∙ ap (λ (t : Talk). t.lease) same)
+
+-- what the table told of it is what stood in the entry
+was : (c : After-remove-lease) → option_map (λ e. e.facts) (entry_with c.args.cid.0 c.args.self.now) ≡ Some c.at-facts.result
+was c =
+    let it = found Any c.args.cid.0 _ _ c.args.self.now c.self.invariant c.self.view_is (some_one c.args.cid.0 c.args.self.now c.requires) in
+    let fs = c.self.inside.table.facts in
+    let there : slice_get fs (id_place c.args.cid.0 fs) ≡ Some it.facts =
+    get-place c.args.cid.0 0 c.self.inside.table.given fs it.facts c.self.invariant.ids_rise it.at.facts_there in
+    let same : c.at-facts.result ≡ it.facts = same_Some _ _ (sym c.at-facts.ensures ∙ (ap (slice_get fs) c.place_of-place.ensures ∙ there)) in
+    ap (λ s. option_map (λ e. e.facts) (entry_with c.args.cid.0 s)) (sym c.self.view_is)
+    ∙ (find_paired (has_id c.args.cid.0) fs c.self.inside.talks c.self.invariant.talks_are ∙ (it.at.facts_there ∙ ap Some (sym same)))
 
 pub drop_leased-requires : goal.drop_leased-requires
 drop_leased-requires c =
@@ -62,17 +83,23 @@ invariant_of-self c =
     let it = taken_out (goal.at.invariant_of-self c).After-remove-lease in
     (goes_leased (goal.at.invariant_of-self c).After-drop_leased it.0 (used (goal.at.invariant_of-self c).In-Some it.0 it.1).1).stands
 
-pub returns-in-Some : goal.returns-in-Some
-returns-in-Some c =
-    let it = taken_out (goal.at.returns-in-Some c).After-remove-lease in
-    (goes_leased (goal.at.returns-in-Some c).After-drop_leased it.0 (used (goal.at.returns-in-Some c).In-Some it.0 it.1).1).goes
+pub returns-in-Some-clause-gone : goal.returns-in-Some-clause-gone
+returns-in-Some-clause-gone c =
+    let it = taken_out (goal.at.returns-in-Some-clause-gone c).After-remove-lease in
+    (goes_leased (goal.at.returns-in-Some-clause-gone c).After-drop_leased it.0 (used (goal.at.returns-in-Some-clause-gone c).In-Some it.0 it.1).1).goes
 
 pub invariant_of-self-in-None : goal.invariant_of-self-in-None
 invariant_of-self-in-None c =
     let it = taken_out (goal.at.invariant_of-self-in-None c).After-remove-lease in
     (goes_unused (goal.at.invariant_of-self-in-None c).After-drop_conn it.0).stands
 
-pub returns-in-None : goal.returns-in-None
-returns-in-None c =
-    let it = taken_out (goal.at.returns-in-None c).After-remove-lease in
-    (goes_unused (goal.at.returns-in-None c).After-drop_conn it.0).goes
+pub returns-in-None-clause-gone : goal.returns-in-None-clause-gone
+returns-in-None-clause-gone c =
+    let it = taken_out (goal.at.returns-in-None-clause-gone c).After-remove-lease in
+    (goes_unused (goal.at.returns-in-None-clause-gone c).After-drop_conn it.0).goes
+
+pub returns-in-Some-clause-was : goal.returns-in-Some-clause-was
+returns-in-Some-clause-was c = was (goal.at.returns-in-Some-clause-was c).After-remove-lease
+
+pub returns-in-None-clause-was : goal.returns-in-None-clause-was
+returns-in-None-clause-was c = was (goal.at.returns-in-None-clause-was c).After-remove-lease
