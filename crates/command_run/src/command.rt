@@ -4,6 +4,7 @@ ghost use Rattle.command_run.specs.Command.{command_named, command_of, clients_o
 
 use local_clients::ClientRules;
 use net_base::read_number;
+use trace_text::read_magic;
 
 // How many events a drill may have.
 const EVENTS_MOST: u64 = 1_000_000;
@@ -74,7 +75,7 @@ impl Command {
         ensures command { result ≡ clients_of (number_up_to 4_294_967_295 magic.now) (number_up_to 10_000 limit.now) (number_up_to 86_400_000 wait.now) }
         ensures in_range { IfSome result IsInRange }
     {
-        let magic = read_magic(magic)?;
+        let magic = read_magic(magic.as_bytes())?;
         let limit = read_number(limit.as_bytes(), CLIENTS_MOST)?;
         let wait = read_number(wait.as_bytes(), WAIT_MOST)?;
         if 1 <= limit && limit <= CLIENTS_MOST && 1 <= wait && wait <= WAIT_MOST {
@@ -83,10 +84,4 @@ impl Command {
             None
         }
     }
-}
-
-fn read_magic(word: &str) -> Option<u32>
-    ensures { result ≡ number_up_to 4_294_967_295 word.now }
-{
-    u32::try_from(read_number(word.as_bytes(), u64::from(u32::MAX))?).ok()
 }

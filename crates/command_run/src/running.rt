@@ -30,9 +30,10 @@ use pair_net::law::both_ends_agree;
 use pair_net::pair_run;
 use std::alloc::Global;
 use tool_status::{Status, tell};
-use trace_compare::outputs_agree;
+use trace_compare::law::outputs_agree;
 use trace_replay::{check, replay};
-use world_drive::{drill, drills_are_lawful};
+use world_drive::drill;
+use world_drive::law::drills_are_lawful;
 
 /// Does what the words of a command line say, from a source to a sink, and tells on another sink how it ended. The
 /// words stand without the program's name.

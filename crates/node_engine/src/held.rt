@@ -10,7 +10,6 @@ use std::alloc::Global;
 use std::marker::Model;
 
 /// What a node knows, on the heap, since each step moves the engine. Contracts see the machine's record.
-#[derive(Drop)]
 pub struct HeldState {
     state: Box<NodeState>,
 }
@@ -21,6 +20,14 @@ impl Model for HeldState {
     ghost Value = { Machine };
 
     ghost view = { λ h. h.state.value };
+}
+
+// By hand, so that it is a function, proved here. Of a derived one each crate that has an engine states and proves anew
+// what it is to drop every part of the state.
+impl Drop for HeldState {
+    fn drop(self) {
+        let HeldState { state: _ } = self;
+    }
 }
 
 impl HeldState {

@@ -3,7 +3,7 @@
 ghost use Rattle.std.specs.Prelude.{◌≡◌, ℕ, List, All, IfOk, OnOk};
 ghost use Rattle.io_edge.specs.Files.{AreUnchanged};
 ghost use Rattle.net_base.specs.Limits.{HasValencies};
-ghost use Rattle.node_run.specs.Files.{config_judged, topology_judged, what_of_config, what_of_topology, IsFileRead, IsJudged, AreJudged, CanRun, CanBeServed, IsVerdict};
+ghost use Rattle.node_run.specs.Files.{config_judged, topology_judged, IsFileRead, IsJudged, AreJudged, CanRun, CanBeServed, IsVerdict};
 ghost use Rattle.tool_status.specs.declared.status.Which.TheVariants.{Conf, Topo};
 
 use crate::node_words::NodeWords;

@@ -1,7 +1,7 @@
-ghost use Rattle.std.specs.Prelude.{◌≡◌, ◌≤◌, ◌++◌, ◌↔◌, ◌⊎◌, ℕ, List, All, Some, None, false, true, map, string_bytes};
+ghost use Rattle.std.specs.Prelude.{◌≡◌, ◌≤◌, ◌++◌, ◌↔◌, ◌⊎◌, List, All, Some, None, false, true, map, string_bytes};
 ghost use Rattle.io_edge.specs.Causes.{Rose};
-ghost use Rattle.net_base.specs.Bounds.{AreSound, targets_fault};
-ghost use Rattle.net_base.specs.Limits.{HasValencies, IsWithinLimits};
+ghost use Rattle.net_base.specs.Bounds.{AreSound};
+ghost use Rattle.net_base.specs.Limits.{HasValencies};
 ghost use Rattle.net_base.specs.declared.event.Event.{Event as Happening};
 ghost use Rattle.net_base.specs.declared.settings.Settings.{Settings as Given};
 ghost use Rattle.node_run.specs.Asked.{Asked, asked_by, node_of};
@@ -20,7 +20,8 @@ use node_settings::{Config, Topology};
 use node_world::{World, WorldRefusal};
 use std::alloc::Global;
 use tool_status::{Status, tell, tell_behind, tell_unresolved};
-use world_drive::{drive, runs_are_lawful};
+use world_drive::drive;
+use world_drive::law::runs_are_lawful;
 
 /// Runs a node, with its files from a shelf, in a world that is not open. Its words are `node`, the names of the settings
 /// file and of the topology file, and how many events of the world there are to be at most.

@@ -1,24 +1,23 @@
 -- The text of a run is read as the settings, the events and the actions that it was written of, and agrees.
-use Rattle.std.proofs.Common.{◌≡◌, ℕ, suc, ◌+◌, ◌^◌, ◌<◌, ◌≤◌, Bool, true, false, cond, leb, List, [], ◌∷◌, ◌++◌, length, map, All, Some, None, Ok, inl, inr, refl, sym, ap, ◌∙◌, subst, arith, lit<}
+use Rattle.std.proofs.Common.{◌≡◌, ℕ, ◌+◌, ◌^◌, ◌<◌, ◌≤◌, Bool, true, false, cond, leb, List, [], ◌∷◌, ◌++◌, length, map, All, Some, None, Ok, inl, inr, refl, sym, ap, ◌∙◌, subst, arith}
 use Rattle.std.specs.Prelude.{codes}
 use Rattle.std.specs.List.{flat_map, zip}
-use Rattle.std.proofs.lemmas.Bool.{and_parts, leb-true}
+use Rattle.std.proofs.lemmas.Bool.{leb-true}
 use Rattle.std.proofs.lemmas.List.{append_assoc, append-nil, length-append, map-append}
 use Rattle.std.proofs.lemmas.List.Elements.{All-head, All-tail, All-append, All-map, All-weaker}
 use Rattle.std.proofs.lemmas.List.Concat.{flat_map-append}
 use Rattle.io_edge.specs.Lines.{HasNoLineFeed, ended_lines}
 use Rattle.machine.specs.Machine.{Machine, start_of}
 use Rattle.machine.specs.Run.{actions_of}
-use Rattle.net_base.specs.Bounds.{within, settings_tests, AreSound}
+use Rattle.net_base.specs.Bounds.{AreSound}
 use Rattle.net_base.specs.Limits.{IsWithinLimits}
-use Rattle.net_base.specs.declared.action.Action.{Action}
 use Rattle.net_base.specs.declared.address.Ip.{Ip}
 use Rattle.net_base.specs.declared.address.Ip.TheVariants.{V4, V6}
 use Rattle.net_base.specs.declared.event.Event.{Event}
 use Rattle.net_base.specs.declared.settings.Settings.{Settings}
 use Rattle.trace_text.specs.Addresses.{IsAddress, knows_family}
 use Rattle.trace_text.specs.EventTexts.{IsKnownIn, IsEventIn, printed_event}
-use Rattle.trace_text.specs.HeadTexts.{AreRead, head_lines, head_said, printed_head}
+use Rattle.trace_text.specs.HeadTexts.{AreRead, head_lines, head_said}
 use Rattle.trace_text.specs.Lines.{line_of}
 use Rattle.trace_text.specs.Stages.{first_stage, stage_after}
 use Rattle.trace_text.specs.declared.line.HeadLine.{HeadLine}
@@ -44,7 +43,7 @@ use Rattle.trace_compare.proofs.Again.{AreReadAgain, AreReadAgain-none, AreReadA
 use Rattle.trace_compare.proofs.Comparing.{compared_ended}
 use Rattle.trace_meaning.proofs.Grammar.{IsBehindHead}
 use Rattle.trace_meaning.proofs.Outputs.{head_texts-append, event_texts-append}
-use Rattle.trace_meaning.proofs.Readings.{stage_behind-append, stage_behind-push, heads_in-append, events_in-append}
+use Rattle.trace_meaning.proofs.Readings.{stage_behind-push, heads_in-append, events_in-append}
 
 -- ---- the lines of a run without its actions, as they are read
 

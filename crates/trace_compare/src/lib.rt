@@ -2,6 +2,4 @@
 //! definitions are in `specs/`, and the only code is laws.
 #![tactic(auto)]
 
-mod law;
-
-pub use law::{agreeing_traces_are_their_output, outputs_agree, outputs_are_their_own, runs_agree};
+pub mod law;

@@ -1,5 +1,5 @@
 -- What the lines of a head that were read have said.
-use Rattle.std.specs.Prelude.{◌≡◌, ℕ, ◌-◌, ◌<◌, ◌≤◌, List, [], get_or, Option, Some, None}
+use Rattle.std.specs.Prelude.{◌≡◌, ℕ, ◌-◌, ◌<◌, ◌≤◌, List, [], get_or, Some, None}
 use Rattle.trace_text.specs.Settings.{Setting, setting, settings_under}
 use Rattle.trace_text.specs.declared.line.HeadLine.{HeadLine}
 use Rattle.trace_text.specs.declared.stage.Stage.{Stage}

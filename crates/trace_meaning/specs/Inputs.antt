@@ -1,5 +1,5 @@
 -- What a replay comes to, in terms of the whole input.
-use Rattle.std.specs.Prelude.{◌≡◌, ℕ, List, ◌++◌, take, Option, Some}
+use Rattle.std.specs.Prelude.{◌≡◌, ℕ, List, take, Option}
 use Rattle.io_edge.specs.Told.{Takes, TakesProperPrefix}
 use Rattle.machine.specs.Machine.{Machine}
 use Rattle.machine.specs.Run.{after_all}

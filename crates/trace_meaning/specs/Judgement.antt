@@ -1,26 +1,16 @@
 -- Which line decides how a trace ends.
 use Rattle.std.specs.Prelude.{ℕ, ◌+◌, nat_le, List, [], ◌∷◌, ◌++◌, length, if◌then◌else◌, Option, Some, None, Result, Ok, Err}
 use Rattle.io_edge.specs.Lines.{whole_lines, unfinished_line}
-use Rattle.net_base.specs.declared.refusal.RefusalKind.{RefusalKind}
-use Rattle.net_base.specs.declared.refusal.RefusalKind.TheVariants.{Word, Number, Targets, Order, NoEnd}
 use Rattle.trace_text.specs.declared.line.Line.{Line}
 use Rattle.trace_text.specs.declared.line.Line.TheVariants.{Head, Happen, Acted, End}
 use Rattle.trace_text.specs.declared.line.LineRefusal.{LineRefusal}
-use Rattle.trace_text.specs.declared.line.LineRefusal.TheVariants.{BadWord, BadNumber, BadTargets, OutOfOrder, OutOfMemory}
 use Rattle.line_run.specs.Judgement.{Verdict, ended, refused, too_long, is_too_long, verdict_of_rest}
+use Rattle.line_run.specs.Refusals.{kind_of}
 use Rattle.trace_meaning.specs.Reading.{Reading, readings_of, events_in}
 
 -- how many events a trace may have
 abbrev pub most_events : ℕ
 most_events = 1000000
-
--- No line says that memory was wanting; that case is none of a trace's.
-abbrev pub kind_of : LineRefusal → RefusalKind
-kind_of (BadWord place) = Word place
-kind_of (BadNumber place) = Number place
-kind_of BadTargets = Targets
-kind_of OutOfOrder = Order
-kind_of OutOfMemory = NoEnd
 
 -- what a line that is short enough decides, by its number and by how many events stand before it
 abbrev pub verdict_by : ℕ → ℕ → Result Line LineRefusal → Option Verdict

@@ -3,8 +3,8 @@
 
 mod head;
 mod outcome;
-mod told;
+mod putting;
 
 pub use head::settings_of;
 pub use outcome::Outcome;
-pub use told::tell_event;
+pub use putting::put_pending;

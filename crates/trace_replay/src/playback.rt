@@ -1,4 +1,4 @@
-ghost use Rattle.std.specs.Prelude.{◌≡◌, ℕ, ◌+◌, ◌<◌, ◌≤◌, List, [], ◌∷◌, ◌++◌, length, IfOk, OnOk, OnErr, Ok};
+ghost use Rattle.std.specs.Prelude.{◌≡◌, ◌+◌, ◌<◌, ◌≤◌, List, [], ◌∷◌, ◌++◌, length, IfOk, OnOk, OnErr, Ok};
 ghost use Rattle.io_edge.specs.Lines.{ended_lines};
 ghost use Rattle.net_base.specs.Bounds.{AreSound};
 ghost use Rattle.net_base.specs.Limits.{IsWithinLimits};
@@ -11,10 +11,10 @@ use crate::start::engine_or_first;
 use crate::stop::Stop;
 use engine_start::Pickers;
 use io_edge::PieceWriter;
+use line_run::tell_line;
 use net_base::{Event, OutOfMemory, RefusalKind};
 use node_engine::Engine;
 use std::alloc::Global;
-use trace_meaning::tell_event;
 use trace_text::{HeadLine, Line, LineRefusal, Stage, read_line};
 
 // How many events a trace may have.
@@ -97,7 +97,7 @@ impl Playback {
         let (engine, pickers) = (self.engine.take(), self.pickers.take());
         let engine = engine_or_first(self.alloc, engine, pickers, &self.heads)?;
         let (engine, actions) = engine.step(event)?;
-        tell_event(self.alloc, text, actions.as_slice(), pieces)?;
+        tell_line(self.alloc, text, actions.as_slice(), pieces)?;
         self.stage = stage;
         self.engine = Some(engine);
         Ok(())

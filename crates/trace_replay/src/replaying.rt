@@ -1,7 +1,6 @@
-ghost use Rattle.std.specs.Prelude.{◌≡◌, ℕ, ◌+◌, ◌≤◌, List, [], Option, length, MatchResult, OnOk, IfOk, IfErr};
+ghost use Rattle.std.specs.Prelude.{◌≡◌, ℕ, ◌+◌, ◌≤◌, List, [], Option, length, MatchResult, IfOk, IfErr};
 ghost use Rattle.io_edge.specs.Causes.{HasCause};
-ghost use Rattle.io_edge.specs.Lines.{HasNoLineFeed};
-ghost use Rattle.io_edge.specs.Told.{Takes, TakesProperPrefix, TakesFront};
+ghost use Rattle.io_edge.specs.Told.{TakesProperPrefix, TakesFront};
 ghost use Rattle.net_base.specs.Bounds.{AreSound};
 ghost use Rattle.trace_text.specs.Stages.{first_stage};
 ghost use Rattle.trace_replay.specs.Playback.{Kept, begun, kept, StandsBehind};
@@ -19,7 +18,7 @@ use io_edge::{LineReader, PieceWriter, Sink, Source};
 use net_base::{Addr, Octets, OutOfMemory};
 use pick_policy::{Picker, RankedPicker};
 use std::alloc::Global;
-use trace_meaning::Outcome;
+use trace_meaning::{Outcome, put_pending};
 
 /// Reads a trace from a source and writes it again with the machine's actions. Reading stops at the line that decides,
 /// and nothing is read behind it but what came with it. What is written is put in pieces: before each reading, and
@@ -124,7 +123,7 @@ fn next_line<S: Source, K: Sink>(
     match reader.kept_line() {
         Ok(Some(line)) => Ok(line),
         Ok(None) => {
-            put(pieces, out)?;
+            put_pending(pieces, out)?;
             read_line(number, reader, src)
         }
         Err(OutOfMemory) => Err(Outcome::OutOfMemory),
@@ -166,7 +165,7 @@ fn close<K: Sink>(outcome: Outcome, pieces: &mut PieceWriter, out: &mut K) -> Ou
 {
     match outcome {
         Outcome::ReadFault | Outcome::WriteFault => outcome,
-        _ => match put(pieces, out) {
+        _ => match put_pending(pieces, out) {
             Ok(()) => outcome,
             Err(fault) => fault,
         },
@@ -181,23 +180,8 @@ fn put_full<K: Sink>(pieces: &mut PieceWriter, out: &mut K) -> Result<(), Outcom
     ensures cause { HasCause (K.faults out.old) (K.faults out.new) result }
 {
     if pieces.is_full() {
-        put(pieces, out)
+        put_pending(pieces, out)
     } else {
         Ok(())
-    }
-}
-
-// Puts all that is pending.
-fn put<K: Sink>(pieces: &mut PieceWriter, out: &mut K) -> Result<(), Outcome>
-    ensures front { TakesFront (K.taken out.old) (K.taken out.new) pieces.old pieces.new }
-    ensures whole { OnOk result (Takes (K.taken out.old) (K.taken out.new) pieces.old) }
-    ensures silent { OnOk result (pieces.new ≡ []) }
-    ensures part { IfErr result (λ outcome. TakesProperPrefix (K.taken out.old) (K.taken out.new) pieces.old) }
-    ensures fault { IfErr result (λ outcome. outcome ≡ Outcome.WriteFault) }
-    ensures cause { HasCause (K.faults out.old) (K.faults out.new) result }
-{
-    match pieces.put(out) {
-        Ok(()) => Ok(()),
-        Err(_) => Err(Outcome::WriteFault),
     }
 }

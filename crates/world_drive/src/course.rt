@@ -1,4 +1,4 @@
-ghost use Rattle.std.specs.Prelude.{◌≡◌, ◌+◌, ◌<◌, [], IfOk, OnOk};
+ghost use Rattle.std.specs.Prelude.{◌≡◌, ◌+◌, ◌<◌, IfOk, OnOk};
 ghost use Rattle.net_base.specs.Limits.{IsWithinLimits};
 ghost use Rattle.node_world.specs.Town.{next_of, act_of};
 ghost use Rattle.node_engine.specs.Tally.{tally_of};

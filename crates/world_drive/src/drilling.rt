@@ -1,4 +1,4 @@
-ghost use Rattle.std.specs.Prelude.{◌≡◌, ◌≤◌, ◌+◌, IfOk};
+ghost use Rattle.std.specs.Prelude.{◌≡◌, ◌≤◌, IfOk};
 ghost use Rattle.world_drive.specs.Drill.{drilled, tallies, drill_text, IsDrilled};
 ghost use Rattle.world_drive.specs.DrillCourse.{StandsAt};
 ghost use Rattle.world_drive.specs.Lawful.{DrillsLawfully};
@@ -6,14 +6,13 @@ ghost use Rattle.trace_meaning.specs.FaultCounts.{HasWriteCount};
 
 use crate::course::Course;
 use crate::law::drills_are_lawful;
-use crate::putting::put;
 use crate::tallies::Tallies;
 use engine_start::{Pickers, ranked_score, score};
 use io_edge::{PieceWriter, Sink};
 use net_base::{Addr, OutOfMemory};
 use pick_policy::{Picker, RankedPicker};
 use std::alloc::Global;
-use trace_meaning::Outcome;
+use trace_meaning::{Outcome, put_pending};
 
 /// Runs the machine in the made town of a seed for as many events, and writes what was counted: eight lines, in one
 /// piece, at the end.
@@ -25,7 +24,7 @@ pub fn drill<K: Sink>(alloc: Global, seed: u64, count: u64, out: &mut K) -> Outc
 {
     drills_are_lawful();
     match told(alloc, seed, count) {
-        Ok(mut pieces) => match put(&mut pieces, out) {
+        Ok(mut pieces) => match put_pending(&mut pieces, out) {
             Ok(()) => Outcome::Done,
             Err(fault) => fault,
         },

@@ -1,11 +1,8 @@
-ghost use Rattle.std.specs.Prelude.{◌≡◌, ℕ, ◌+◌, ◌<◌, ◌≤◌, true, List, [], ◌∷◌, ◌++◌, codes, length, All, Option, IfOk, IfErr, OnOk, OnErr, MatchResult};
+ghost use Rattle.std.specs.Prelude.{◌≡◌, ◌+◌, ◌<◌, ◌≤◌, true, [], ◌∷◌, codes, length, All, IfOk, IfErr, OnOk, OnErr, MatchResult};
 ghost use Rattle.io_edge.specs.Lines.{ended_lines};
 ghost use Rattle.io_edge.specs.Told.{Takes};
 ghost use Rattle.machine.specs.Machine.{start_of};
 ghost use Rattle.machine.specs.Step.{step};
-ghost use Rattle.net_base.specs.declared.action.Action.{Action as Act};
-ghost use Rattle.net_base.specs.declared.event.Event.{Event as Happening};
-ghost use Rattle.net_base.specs.declared.settings.Settings.{Settings as Given};
 ghost use Rattle.node_world.specs.Meanings.{with_more, taken_after, done_after, says_end, GivesWithinLimits};
 ghost use Rattle.world_drive.specs.DriveCourse.{event_text, Ran, Broke, BrokeAt, Came, Stopped, IsUnsaid, DoesFront, IsOfWorld};
 ghost use Rattle.net_base.specs.Bounds.{AreSound};
@@ -20,15 +17,15 @@ ghost use Rattle.trace_compare.specs.Written.{TakesAgreeing};
 
 use crate::holding::{hold_address, hold_event};
 use crate::law::runs_are_lawful;
-use crate::putting::put;
 use engine_start::{Pickers, first_engine, ranked_score, score};
 use io_edge::{PieceWriter, Sink, put_all};
+use line_run::tell_line;
 use net_base::{Action, ActionList, Addr, Event, OutOfMemory, Settings};
 use node_engine::Engine;
 use node_world::{Next, World, WorldRefusal};
 use pick_policy::{Picker, RankedPicker};
 use std::alloc::Global;
-use trace_meaning::{Outcome, tell_event};
+use trace_meaning::{Outcome, put_pending};
 use trace_text::{print_event, print_head};
 
 /// Has the machine take the first events and then as many of a world, or those up to its end, has the world do each
@@ -143,7 +140,7 @@ fn put_end<K: Sink>(pieces: &mut PieceWriter, out: &mut K) -> Result<(), Outcome
     ensures writes { MatchResult result (λ _. K.faults out.new ≡ K.faults out.old) (HasWriteCount (K.faults out.old) (K.faults out.new)) }
 {
     pieces.push_line(b"end")?;
-    put(pieces, out)
+    put_pending(pieces, out)
 }
 
 // Puts the head.
@@ -272,8 +269,8 @@ fn say<K: Sink>(
     hold_event(event);
     let line = print_event(alloc, event)?;
     let (engine, actions) = engine.step_on(event)?;
-    tell_event(alloc, line.as_slice(), actions.as_slice(), pieces)?;
-    put(pieces, out)?;
+    tell_line(alloc, line.as_slice(), actions.as_slice(), pieces)?;
+    put_pending(pieces, out)?;
     Ok((engine, actions))
 }
 

@@ -5,10 +5,8 @@ mod course;
 mod drilling;
 mod driving;
 mod holding;
-mod law;
-mod putting;
+pub mod law;
 mod tallies;
 
 pub use drilling::drill;
 pub use driving::drive;
-pub use law::{drills_are_lawful, runs_are_lawful};

@@ -24,6 +24,6 @@ returns-clause-taken g c =
       machine = λ start. stepped.ensures.machine ∙ ap (λ (m : Machine). (step m c.args.event).machine) found;
       events = stepped.ensures.taken ∙ ap (λ (n : ℕ). n + 1) count;
       begun = omega (arith, stepped.ensures.taken);
-      lines = c.in_ok-tell_event.ensures.said ∙ ap (λ (actions : List Action). c.args.pieces.now ++ ended_lines (told_event (c.args.text.now, actions)))
+      lines = c.in_ok-tell_line.ensures.said ∙ ap (λ (actions : List Action). c.args.pieces.now ++ ended_lines (told_event (c.args.text.now, actions)))
           (c.as_slice.ensures ∙ stepped.ensures.actions ∙ ap (λ (m : Machine). (step m c.args.event).actions) found);
     }

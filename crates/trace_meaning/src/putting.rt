@@ -2,11 +2,11 @@ ghost use Rattle.std.specs.Prelude.{◌≡◌, [], OnOk, IfErr};
 ghost use Rattle.io_edge.specs.Causes.{HasCause};
 ghost use Rattle.io_edge.specs.Told.{Takes, TakesProperPrefix, TakesFront};
 
+use crate::Outcome;
 use io_edge::{PieceWriter, Sink};
-use trace_meaning::Outcome;
 
 /// Puts all that is pending.
-pub(crate) fn put<K: Sink>(pieces: &mut PieceWriter, out: &mut K) -> Result<(), Outcome>
+pub fn put_pending<K: Sink>(pieces: &mut PieceWriter, out: &mut K) -> Result<(), Outcome>
     ensures front { TakesFront (K.taken out.old) (K.taken out.new) pieces.old pieces.new }
     ensures whole { OnOk result (Takes (K.taken out.old) (K.taken out.new) pieces.old) }
     ensures silent { OnOk result (pieces.new ≡ []) }
