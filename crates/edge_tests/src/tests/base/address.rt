@@ -25,6 +25,7 @@ fn ipv4_comes_before_ipv6(rt: HostRuntime) {
         port: 0,
     };
     assert!(rt; last < first && last.is_before(&first) && !first.is_before(&last));
+    assert!(rt; last.is_up_to(&first) && last.is_up_to(&last) && !first.is_up_to(&last));
     assert!(rt;
         Addr {
             ip: Ip::V4(1),
