@@ -4,6 +4,7 @@ ghost use Rattle.io_edge.specs.Pending.{front_line};
 ghost use Rattle.io_edge.specs.Told.{TakesFront};
 
 use crate::line_reader::line_length;
+use crate::sink::put_from;
 use crate::{Failed, Sink};
 use net_base::OutOfMemory;
 use std::alloc::Global;
@@ -120,20 +121,5 @@ fn push_ended(bytes: &mut Vec<u8>, line: &[u8]) -> Result<(), OutOfMemory>
     bytes.reserve(line.len() + 1)?;
     bytes.extend_from_slice(line).unwrap();
     bytes.push(b'\n').unwrap();
-    Ok(())
-}
-
-// Puts the bytes behind those that were put already.
-fn put_from<K: Sink>(done: &mut usize, bytes: &[u8], sink: &mut K) -> Result<(), Failed>
-    requires { done.old ≤ length bytes.now }
-    ensures within { done.new ≤ length bytes.now }
-    ensures front { TakesFront (K.taken sink.old) (K.taken sink.new) (drop done.old bytes.now) (drop done.new bytes.now) }
-    ensures whole { OnOk result (done.new ≡ length bytes.now) }
-    ensures part { OnErr result (done.new < length bytes.now) }
-    ensures cause { HasCause (K.faults sink.old) (K.faults sink.new) result }
-{
-    'calls: while *done < bytes.len() {
-        *done += sink.put(&bytes[*done..])?;
-    }
     Ok(())
 }

@@ -1,6 +1,6 @@
-ghost use Rattle.std.specs.Prelude.{◌≡◌, ◌<◌, ◌≤◌, ℕ, List, Option, length, take, IfOk, OnOk, OnErr};
+ghost use Rattle.std.specs.Prelude.{◌≡◌, ◌<◌, ◌≤◌, ℕ, List, Option, length, take, drop, IfOk, OnOk, OnErr};
 ghost use Rattle.io_edge.specs.Causes.{HasCause};
-ghost use Rattle.io_edge.specs.Told.{Takes, TakesProperPrefix};
+ghost use Rattle.io_edge.specs.Told.{Takes, TakesFront, TakesProperPrefix};
 
 use crate::Failed;
 
@@ -27,9 +27,20 @@ pub fn put_all<K: Sink>(sink: &mut K, piece: &[u8]) -> Result<(), Failed>
     ensures part { OnErr result (TakesProperPrefix (K.taken sink.old) (K.taken sink.new) piece.now) }
     ensures cause { HasCause (K.faults sink.old) (K.faults sink.new) result }
 {
-    let mut done = 0;
-    'pieces: while done < piece.len() {
-        done += sink.put(&piece[done..])?;
+    put_from(&mut 0, piece, sink)
+}
+
+/// Has the bytes behind those that were put already taken.
+pub(crate) fn put_from<K: Sink>(done: &mut usize, bytes: &[u8], sink: &mut K) -> Result<(), Failed>
+    requires { done.old ≤ length bytes.now }
+    ensures within { done.new ≤ length bytes.now }
+    ensures front { TakesFront (K.taken sink.old) (K.taken sink.new) (drop done.old bytes.now) (drop done.new bytes.now) }
+    ensures whole { OnOk result (done.new ≡ length bytes.now) }
+    ensures part { OnErr result (done.new < length bytes.now) }
+    ensures cause { HasCause (K.faults sink.old) (K.faults sink.new) result }
+{
+    'calls: while *done < bytes.len() {
+        *done += sink.put(&bytes[*done..])?;
     }
     Ok(())
 }

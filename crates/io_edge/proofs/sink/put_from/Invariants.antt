@@ -1,6 +1,6 @@
 use Rattle.std.proofs.Common.{length, drop, ◌-◌, ◌≡◌, ◌≤◌}
 use Rattle.io_edge.specs.Told.{TakesFront}
-use Rattle.io_edge.proofs.piece_writer.put_from.Given as goal
+use Rattle.io_edge.proofs.sink.put_from.Given as goal
 
 abbrev pub invariant-calls : goal.invariant-calls
 invariant-calls g l = record {

@@ -1,7 +1,7 @@
 use Rattle.std.proofs.Common.{◌≡◌, ℕ, ◌+◌, ◌-◌, List, length, take, drop, ◌++◌, sym, ◌∙◌, arith}
 use Rattle.std.proofs.lemmas.List.{take_rest, drop-drop, length-drop, take-append-drop}
 use Rattle.io_edge.proofs.ToldLemmas.{TakesFront-more}
-use Rattle.io_edge.proofs.piece_writer.put_from.Goals as goal
+use Rattle.io_edge.proofs.sink.put_from.Goals as goal
 
 -- what is left is some bytes more, and the rest behind them
 left_of : (bytes : List ℕ) (done n : ℕ) → drop done bytes ≡ take n (take (length bytes - done) (drop done bytes)) ++ drop (done + n) bytes
