@@ -10,8 +10,8 @@ use crate::NodeState;
 use crate::rule::Rule;
 use churn_clock::{effective, effective_big};
 use govern_rules::{
-    BigRule, LinkList, Order, OrderList, View, rule_big, rule_g2, rule_g3, rule_g4, rule_g5, rule_g6,
-    rule_g7, rule_g8, rule_g9,
+    BigRule, LinkList, Order, OrderList, View, rule_big, rule_g2, rule_g3, rule_g4, rule_g5,
+    rule_g6, rule_g7, rule_g8, rule_g9,
 };
 use net_base::{ActionList, OutOfMemory};
 use pick_policy::{Picker, RankedPicker};
