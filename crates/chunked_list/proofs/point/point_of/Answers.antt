@@ -1,4 +1,4 @@
-use Rattle.std.proofs.Common.{◌≡◌, ◌-◌, length, get_or, true, ap, sym, ◌∙◌, [], ◌∷◌, arith}
+use Rattle.std.proofs.Common.{◌≡◌, length, get_or, true, ap, sym, ◌∙◌, [], ◌∷◌, arith}
 use Rattle.std.proofs.lemmas.List.{get_or_default}
 use Rattle.chunked_list.proofs.Points.{point_from_edges}
 use Rattle.chunked_list.proofs.point.point_of.Goals as goal
