@@ -104,7 +104,7 @@ fn end_of(items: &ChunkedList<Placed>, addr: Addr) -> usize
 fn is_below(placed: &Placed, than: &Placed) -> bool
     ensures { result ≡ placed_below placed.now than.now }
 {
-    placed.addr.is_before(&than.addr) || (placed.addr == than.addr && placed.cid < than.cid)
+    placed.addr.is_before_with(placed.cid, &than.addr, than.cid)
 }
 
 // The one before a place, where it has an address.

@@ -116,5 +116,5 @@ fn place_in(rows: &ChunkedList<Link>, placed: Placed) -> usize
 fn is_below(link: &Link, placed: &Placed) -> bool
     ensures { result ≡ placed_below (place_of link.now) placed.now }
 {
-    link.addr.is_before(&placed.addr) || (link.addr == placed.addr && link.cid < placed.cid)
+    link.addr.is_before_with(link.cid, &placed.addr, placed.cid)
 }

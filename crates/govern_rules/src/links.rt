@@ -139,5 +139,5 @@ fn is_above_next(link: &Link, rest: &[Link]) -> bool
 fn is_below(link: &Link, than: &Link) -> bool
     ensures { result ≡ link_below link.now than.now }
 {
-    link.addr.is_before(&than.addr) || (link.addr == than.addr && link.cid < than.cid)
+    link.addr.is_before_with(link.cid, &than.addr, than.cid)
 }

@@ -1,7 +1,7 @@
-ghost use Rattle.std.specs.Prelude.{◌≡◌, ◌+◌, ◌*◌, ◌^◌, ◌<◌, ◌||◌};
+ghost use Rattle.std.specs.Prelude.{◌≡◌, ◌+◌, ◌*◌, ◌^◌, ◌<◌, ◌||◌, ◌&&◌, nat_lt};
 ghost use Rattle.net_base.specs.Address.{key_of, folded_ip, address_below, same_address};
 
-use crate::Sequence;
+use crate::{Cid, Sequence};
 
 /// An IP address of either family. Every IPv4 address comes before every IPv6 address.
 #[derive(Clone, Copy, PartialEq, Eq, PartialOrd, Ord)]
@@ -59,6 +59,13 @@ impl Addr {
             (Ip::V6(_), Ip::V4(_)) => false,
             (Ip::V6(ip), Ip::V6(than)) => ip < than || (ip == than && self.port <= other.port),
         }
+    }
+
+    /// It comes before the other one with their ids: by the addresses, and then by the ids.
+    pub fn is_before_with(&self, cid: Cid, other: &Addr, other_cid: Cid) -> bool
+        ensures { result ≡ (address_below self.now other.now || (same_address self.now other.now && nat_lt cid.0 other_cid.0)) }
+    {
+        self.is_before(other) || (self == other && cid < other_cid)
     }
 }
 

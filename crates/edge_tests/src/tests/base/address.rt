@@ -1,4 +1,4 @@
-use net_base::{Addr, Ip};
+use net_base::{Addr, Cid, Ip};
 
 #[test]
 fn keys_of_both_families(rt: HostRuntime) {
@@ -26,6 +26,12 @@ fn ipv4_comes_before_ipv6(rt: HostRuntime) {
     };
     assert!(rt; last < first && last.is_before(&first) && !first.is_before(&last));
     assert!(rt; last.is_up_to(&first) && last.is_up_to(&last) && !first.is_up_to(&last));
+    assert!(rt;
+        last.is_before_with(Cid(9), &first, Cid(1)) && last.is_before_with(Cid(1), &last, Cid(2))
+    );
+    assert!(rt;
+        !last.is_before_with(Cid(2), &last, Cid(2)) && !first.is_before_with(Cid(1), &last, Cid(9))
+    );
     assert!(rt;
         Addr {
             ip: Ip::V4(1),
