@@ -1,4 +1,5 @@
 pub mod Loops
+pub mod OneByte
 pub mod Skips
 pub mod Heads
 pub mod Items

@@ -4,6 +4,7 @@ pub mod Item
 pub mod Definite
 pub mod Front
 pub mod Scan
+pub mod Break
 pub mod Answer
 pub mod Element
 pub mod Level

@@ -70,6 +70,7 @@ fn split_head(bytes: &[u8]) -> Result<(Head, &[u8]), Stop>
 }
 
 /// The initial byte of a head, and the bytes behind it.
+#[inline(always)]
 pub(crate) fn split_initial(bytes: &[u8]) -> Result<(u8, &[u8]), Stop>
     ensures { Gives (λ read. (read.0, read.1.now)) result (initial_at bytes.now) }
 {
@@ -86,6 +87,7 @@ pub(crate) fn split_initial(bytes: &[u8]) -> Result<(u8, &[u8]), Stop>
 }
 
 /// The head of an initial byte, and the bytes behind it.
+#[inline(always)]
 pub(crate) fn split_argument(initial: u8, bytes: &[u8]) -> Result<(Head, &[u8]), Stop>
     ensures { Gives (λ read. (read.0, read.1.now)) result (argument_at initial bytes.now) }
 {

@@ -2,6 +2,7 @@ ghost use Rattle.std.specs.Prelude.{◌≡◌, ◌<◌, ◌==◌, length};
 ghost use Rattle.cbor_items.specs.Reading.{Gives};
 ghost use Rattle.cbor_items.specs.Head.{argument_at};
 ghost use Rattle.cbor_items.specs.Scan.{skip_bytes, skip_row, skip_to_break, skip_chunk, skip_flat, skip_nested, is_nested, skip_item};
+ghost use Rattle.cbor_items.specs.Break.{IsBreak, is_one_byte};
 ghost use Rattle.cbor_items.specs.Element.{element_of};
 
 use crate::head::{split_argument, split_initial};
@@ -25,6 +26,9 @@ pub(crate) fn skip_item(bytes: &[u8], depth: u8) -> Result<&[u8], Stop>
     ensures { Gives (λ rest. rest.now) result (skip_item depth bytes.now) }
 {
     let (initial, rest) = split_initial(bytes)?;
+    if is_one_byte(initial) {
+        return Ok(rest);
+    }
     if !is_nested(initial) {
         return skip_flat(initial, rest);
     }
@@ -69,13 +73,10 @@ fn skip_elements_to_break(element: Element, bytes: &[u8], inner: u8) -> Result<&
     let mut rest = bytes;
     // each one takes a byte at least
     for _ in 0..bytes.len() {
-        let Some((first, after)) = rest.split_first() else {
-            return Err(Stop::More);
-        };
-        if *first == BREAK {
-            return Ok(after);
+        match split_break(rest)? {
+            Some(after) => return Ok(after),
+            None => rest = skip_element(element, rest, inner)?,
         }
-        rest = skip_element(element, rest, inner)?;
     }
     Err(Stop::More)
 }
@@ -123,13 +124,10 @@ fn skip_chunks(major: u8, bytes: &[u8]) -> Result<&[u8], Stop>
 {
     let mut rest = bytes;
     for _ in 0..bytes.len() {
-        let Some((first, after)) = rest.split_first() else {
-            return Err(Stop::More);
-        };
-        if *first == BREAK {
-            return Ok(after);
+        match split_break(rest)? {
+            Some(after) => return Ok(after),
+            None => rest = skip_chunk(major, rest)?,
         }
-        rest = skip_chunk(major, rest)?;
     }
     Err(Stop::More)
 }
@@ -149,6 +147,25 @@ pub(crate) fn skip_chunk(major: u8, bytes: &[u8]) -> Result<&[u8], Stop>
             skip_bytes(head.value, rest)
         }
     }
+}
+
+/// What stands behind a break at the front of the bytes. None where something else stands there.
+#[inline(always)]
+pub(crate) fn split_break(bytes: &[u8]) -> Result<Option<&[u8]>, Stop>
+    ensures { IsBreak (λ rest. rest.now) bytes.now result }
+{
+    match bytes {
+        [] => Err(Stop::More),
+        [BREAK, rest @ ..] => Ok(Some(rest)),
+        _ => Ok(None),
+    }
+}
+
+// Small numbers and the simple values of one byte.
+fn is_one_byte(initial: u8) -> bool
+    ensures { result ≡ is_one_byte initial }
+{
+    initial % 32 < 24 && matches!(initial / 32, 0 | 1 | 7)
 }
 
 // Arrays, maps and tags.

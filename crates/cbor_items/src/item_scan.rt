@@ -8,8 +8,7 @@ ghost use Rattle.cbor_items.specs.Steps.{levels_of, Goes, StepsTo, HasEnded, Ans
 
 use crate::Scan;
 use crate::halt::Halt;
-use crate::initial::BREAK;
-use crate::item::skip_chunk;
+use crate::item::{skip_chunk, split_break};
 use crate::level::{Level, Thing};
 use crate::opening::begin_item;
 use crate::stack::Levels;
@@ -121,14 +120,13 @@ fn pass_to_break<'a>(levels: &mut Levels, thing: Thing, bytes: &'a [u8]) -> Resu
     ensures less { IfOk result (λ rest. 2 * length rest.now + length levels.new.around.items < 2 * length bytes.now + length levels.old.around.items) }
     ensures err { OnErr result (levels_of levels.new ≡ levels_of levels.old) }
 {
-    let Some((first, rest)) = bytes.split_first() else {
-        return Err(Halt::Stopped(Stop::More));
-    };
-    if *first == BREAK {
-        levels.here = Level::Items(0);
-        return Ok(rest);
+    match split_break(bytes)? {
+        Some(rest) => {
+            levels.here = Level::Items(0);
+            Ok(rest)
+        }
+        None => pass_thing(levels, thing, bytes),
     }
-    pass_thing(levels, thing, bytes)
 }
 
 // Goes on over what begins a thing, behind which others stand up to a break.

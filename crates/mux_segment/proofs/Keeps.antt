@@ -5,7 +5,6 @@ use Rattle.std.proofs.lemmas.Bool.{cases_Bool, eqb-true, eqb-false, and_parts, l
 use Rattle.std.proofs.lemmas.List.{append-nil, length-drop}
 use Rattle.std.proofs.lemmas.List.Elements.{All-nil, All-cons, All-head, All-tail, All-append, All-take, All-drop}
 use Rattle.net_base.specs.Shared.{Part}
-use Rattle.cbor_items.specs.declared.scan.Scan.TheVariants as scan
 use Rattle.cbor_items.specs.Scan.{skip_item, scan_of}
 use Rattle.mux_segment.specs.declared.header.Header.{Header}
 use Rattle.mux_segment.specs.declared.fault.CutFault.{CutFault}

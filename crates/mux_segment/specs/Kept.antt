@@ -1,5 +1,5 @@
 -- What a cutter keeps of a stream: parts that wait.
-use Rattle.std.specs.Prelude.{◌≡◌, ℕ, List, [], All, Option, Some, None}
+use Rattle.std.specs.Prelude.{◌≡◌, ℕ, List, [], All, Some, None}
 use Rattle.net_base.specs.Shared.{Part}
 use Rattle.mux_segment.specs.Protocols.{Limits}
 use Rattle.mux_segment.specs.Items.{taken_of}

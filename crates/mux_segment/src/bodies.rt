@@ -31,7 +31,10 @@ pub(crate) fn take_payload(
     let mut waiting = waiting;
     let first = waiting.extend(payload)?;
     let count = take_items(alloc, side, id, limit, waiting.as_slice(), first, items)?;
-    Ok(waiting.behind(alloc, count)?)
+    match count {
+        0 => Ok(waiting),
+        _ => Ok(Waiting::from_slice(alloc, &waiting.as_slice()[count..])?),
+    }
 }
 
 fn take_alone(

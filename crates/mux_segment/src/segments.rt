@@ -38,6 +38,7 @@ pub(crate) fn take_stream(
 }
 
 // Takes the items of the whole segments at the front of a stream, and says how many bytes these are.
+#[inline(always)]
 fn take_segments(
     alloc: Global,
     stream: &[u8],

@@ -1,4 +1,4 @@
-ghost use Rattle.std.specs.Prelude.{◌≡◌, ◌≤◌, ◌++◌, [], length, drop, IfOk, OnOk};
+ghost use Rattle.std.specs.Prelude.{◌≡◌, ◌++◌, [], IfOk, OnOk};
 ghost use Rattle.cbor_items.specs.Scan.{scan_of};
 
 use cbor_items::{ItemScan, Scan};
@@ -57,16 +57,5 @@ impl Waiting {
     {
         self.bytes.extend_from_slice(bytes)?;
         self.scan.resume(self.bytes.as_slice())
-    }
-
-    /// What stands behind the first bytes.
-    pub fn behind(self, alloc: Global, count: usize) -> Result<Self, OutOfMemory>
-        requires { count ≤ length self }
-        ensures { IfOk result (λ rest. rest ≡ drop count self) }
-    {
-        if count == 0 {
-            return Ok(self);
-        }
-        Waiting::from_slice(alloc, &self.as_slice()[count..])
     }
 }

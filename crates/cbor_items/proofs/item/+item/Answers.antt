@@ -1,8 +1,9 @@
-use Rattle.std.proofs.Common.{◌<◌, length, sym, arith}
+use Rattle.std.proofs.Common.{◌<◌, length, refl, sym, ap, arith}
 use Rattle.std.proofs.lemmas.Result.{err_from_is_err_and}
 use Rattle.cbor_items.specs.Scan.{skip_item}
 use Rattle.cbor_items.specs.Element.{element_of}
 use Rattle.cbor_items.proofs.Loops.{row_goes_on, row_stops, row_is_done, break_is_missing, break_is_found, break_goes_on, break_stops, break_is_out, item_stops, item_is_flat, item_is_nested, item_is_too_deep}
+use Rattle.cbor_items.proofs.OneByte.{one_byte_item}
 use Rattle.cbor_items.proofs.item.+item.Goals as goal
 
 pub skip_elements-returns-in_err-rest : goal.skip_elements-returns-in_err-rest
@@ -20,29 +21,33 @@ pub skip_elements-returns : goal.skip_elements-returns
 skip_elements-returns t c =
     row_is_done (element_of (skip_item c.args.inner) c.args.element) c.args.count c.loop.counter c.loop.rest.now _ c.loop-test.false c.loop.invariant
 
-pub skip_elements_to_break-returns-in_default : goal.skip_elements_to_break-returns-in_default
-skip_elements_to_break-returns-in_default t c =
-    let bytes = c.args.bytes.now in
-    break_is_missing (element_of (skip_item c.args.inner) c.args.element) (length bytes) c.loop.counter c.loop.rest.now _ c.in_default.ensures.cases c.loop.invariant
-
-pub skip_elements_to_break-returns-then-first : goal.skip_elements_to_break-returns-then-first
-skip_elements_to_break-returns-then-first t c =
-    let bytes = c.args.bytes.now in
-    break_is_found (element_of (skip_item c.args.inner) c.args.element) (length bytes) c.loop.counter c.loop.rest.now _ c.in-Some.first.now c.in-Some.after.now
-    c.loop-test.true c.in-Some.ensures.cases.0 c.if-first.true c.loop.invariant
-
-pub skip_elements_to_break-returns-in_err-rest : goal.skip_elements_to_break-returns-in_err-rest
-skip_elements_to_break-returns-in_err-rest t c =
+pub skip_elements_to_break-returns-in_err-after : goal.skip_elements_to_break-returns-in_err-after
+skip_elements_to_break-returns-in_err-after t c =
     let bytes = c.args.bytes.now in
     let p = err_from_is_err_and c.from_residual.result c.from_residual.ensures.1 in
-    rw (p.1, p.2) (break_stops (element_of (skip_item c.args.inner) c.args.element) (length bytes) c.loop.counter c.loop.rest.now _ c.in-Some.first.now c.in-Some.after.now c.in_err-rest.field-0.0
-    c.loop-test.true c.in-Some.ensures.cases.0 c.if-first.false c.in_err-rest.ensures c.loop.invariant)
+    rw (p.1, p.2, c.in_err-after.ensures.1) (break_is_missing (element_of (skip_item c.args.inner) c.args.element) (length bytes) c.loop.counter c.loop.rest.now _
+    (ap length c.in_err-after.ensures.0) c.loop.invariant)
+
+pub skip_elements_to_break-returns-in-Some : goal.skip_elements_to_break-returns-in-Some
+skip_elements_to_break-returns-in-Some t c =
+    let bytes = c.args.bytes.now in
+    break_is_found (element_of (skip_item c.args.inner) c.args.element) (length bytes) c.loop.counter c.loop.rest.now _ 255 c.in-Some.after.now
+    c.loop-test.true (rw c.in-Some.is at c.in_ok-after.ensures) refl c.loop.invariant
+
+pub skip_elements_to_break-returns-in_err-rest-in-None : goal.skip_elements_to_break-returns-in_err-rest-in-None
+skip_elements_to_break-returns-in_err-rest-in-None t c =
+    let bytes = c.args.bytes.now in
+    let p = err_from_is_err_and c.from_residual-in_err-rest-in-None.result c.from_residual-in_err-rest-in-None.ensures.1 in
+    let other = rw c.in-None.is at c.in_ok-after.ensures in
+    rw (p.1, p.2) (break_stops (element_of (skip_item c.args.inner) c.args.element) (length bytes) c.loop.counter c.loop.rest.now _ other.first other.rest
+    c.in_err-rest-in-None.field-0.0 c.loop-test.true other.joined other.no_break c.in_err-rest-in-None.ensures c.loop.invariant)
 
 pub skip_elements_to_break-loop-preserved : goal.skip_elements_to_break-loop-preserved
 skip_elements_to_break-loop-preserved t c =
     let bytes = c.args.bytes.now in
-    break_goes_on (element_of (skip_item c.args.inner) c.args.element) (length bytes) c.loop.counter c.loop.rest.now _ c.in-Some.first.now c.in-Some.after.now c.in_ok-rest.rest.now
-    c.loop-test.true c.in-Some.ensures.cases.0 c.if-first.false c.in_ok-rest.ensures c.loop.invariant
+    let other = rw c.in-None.is at c.in_ok-after.ensures in
+    break_goes_on (element_of (skip_item c.args.inner) c.args.element) (length bytes) c.loop.counter c.loop.rest.now _ other.first other.rest
+    c.in_ok-rest-in-None.rest.now c.loop-test.true other.joined other.no_break c.in_ok-rest-in-None.ensures c.loop.invariant
 
 pub skip_elements_to_break-returns : goal.skip_elements_to_break-returns
 skip_elements_to_break-returns t c =
@@ -53,6 +58,10 @@ pub skip_item-returns-in_err-initial : goal.skip_item-returns-in_err-initial
 skip_item-returns-in_err-initial t c =
     let p = err_from_is_err_and c.from_residual.result c.from_residual.ensures.1 in
     rw (p.1, p.2) (item_stops c.args.depth c.args.bytes.now c.in_err-initial.field-0.0 c.in_err-initial.ensures)
+
+pub skip_item-returns-then-is_one_byte : goal.skip_item-returns-then-is_one_byte
+skip_item-returns-then-is_one_byte t c =
+    one_byte_item c.args.depth c.args.bytes.now c.in_ok-initial.initial c.in_ok-initial.rest.now c.in_ok-initial.ensures (sym c.if-is_one_byte.ensures)
 
 pub skip_item-returns-then-not-is_nested : goal.skip_item-returns-then-not-is_nested
 skip_item-returns-then-not-is_nested t c =
