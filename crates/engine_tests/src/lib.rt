@@ -1,4 +1,4 @@
-//! Tests of the engine: events in, actions out.
+//! Tests of the engine: events in, actions out, and two engines that meet over sockets. No code beside them.
 #![tactic(auto)]
 
 #[cfg(test)]

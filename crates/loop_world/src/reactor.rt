@@ -22,7 +22,6 @@ use std::time::{Clock, Duration};
 const TURN_MOST: usize = 256;
 
 // An open world: what brings its events, and does what it is asked for.
-#[derive(Drop)]
 pub(crate) struct Reactor {
     alloc: Global,
     poll: Poll,
@@ -33,6 +32,24 @@ pub(crate) struct Reactor {
     generator: Pcg64,
     publics: AddrList,
     roots_serve: u64,
+}
+
+// By hand, so that it is a function, proved here. Of a derived one each crate that has a world states and proves anew what
+// it is to drop every part of it.
+impl Drop for Reactor {
+    fn drop(self) {
+        let Reactor {
+            alloc: _,
+            poll: _,
+            ready: _,
+            acceptor: _,
+            sockets: _,
+            clock: _,
+            generator: _,
+            publics: _,
+            roots_serve: _,
+        } = self;
+    }
 }
 
 impl Reactor {

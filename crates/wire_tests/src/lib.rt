@@ -1,4 +1,5 @@
-//! Tests of what goes over the wire: items, segments, keep-alive and peer sharing, and what the other side may ask.
+//! Tests of what goes over the wire: items, segments, keep-alive and peer sharing, what the other side may ask, the
+//! handshake and local clients. No code beside them.
 #![tactic(auto)]
 
 #[cfg(test)]

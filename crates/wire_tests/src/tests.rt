@@ -1,6 +1,10 @@
 use std::alloc::{AllocError, Global};
 
+mod clients;
+mod decisions;
 mod items;
+mod messages;
+mod receiving;
 mod segments;
 mod warm;
 mod watch;

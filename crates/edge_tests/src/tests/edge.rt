@@ -174,19 +174,17 @@ fn a_piece_is_taken_whole_or_up_to_a_fault(rt: HostRuntime) -> Result<(), Fail> 
     Ok(())
 }
 
-// What is kept is a line, or none is.
-fn expect_kept(
-    rt: &impl Abort,
-    reader: &mut LineReader,
-    wanted: Option<&[u8]>,
-) -> Result<(), Fail> {
-    let kept = reader.kept_line()?;
-    let same = match (&kept, wanted) {
-        (Some(line), Some(wanted)) => line.as_slice() == wanted,
-        (None, None) => true,
-        _ => false,
+// A line is kept whole.
+fn expect_kept(rt: &impl Abort, reader: &mut LineReader, wanted: &[u8]) -> Result<(), Fail> {
+    let Some(line) = reader.kept_line()? else {
+        return Err("no line is kept".into());
     };
-    assert!(rt; same);
+    assert!(rt; line.as_slice() == wanted);
+    Ok(())
+}
+
+fn expect_none_kept(rt: &impl Abort, reader: &mut LineReader) -> Result<(), Fail> {
+    assert!(rt; reader.kept_line()?.is_none());
     Ok(())
 }
 
@@ -208,13 +206,13 @@ fn a_line_that_is_kept_whole_is_handed_out_without_a_reading(rt: HostRuntime) ->
     let alloc = rt.alloc();
     let mut src = MemSource::new(octets(alloc, INPUT)?, 18, numbers(alloc, &[])?);
     let mut reader = LineReader::new(alloc)?;
-    expect_kept(&rt, &mut reader, None)?;
+    expect_none_kept(&rt, &mut reader)?;
     expect_read(&rt, &mut reader, &mut src, b"first line")?;
-    expect_kept(&rt, &mut reader, Some(b""))?;
-    expect_kept(&rt, &mut reader, None)?;
+    expect_kept(&rt, &mut reader, b"")?;
+    expect_none_kept(&rt, &mut reader)?;
     assert!(rt; src.calls() == 1);
     expect_read(&rt, &mut reader, &mut src, b"> third")?;
-    expect_kept(&rt, &mut reader, None)
+    expect_none_kept(&rt, &mut reader)
 }
 
 // Two lines, of which one is empty.
@@ -226,26 +224,39 @@ fn two_lines(alloc: Global) -> Result<PieceWriter, OutOfMemory> {
 }
 
 #[test]
-fn lines_are_put_in_pieces(rt: HostRuntime) -> Result<(), Fail> {
-    let alloc = rt.alloc();
-    let mut out = MemSink::new(alloc, 9, numbers(alloc, &[3])?)?;
-    let mut writer = two_lines(alloc)?;
+fn lines_are_put_in_one_piece(rt: HostRuntime) -> Result<(), Fail> {
+    let mut out = MemSink::new(rt.alloc(), 9, numbers(rt.alloc(), &[2])?)?;
+    let mut writer = two_lines(rt.alloc())?;
     assert!(rt; out.bytes() == b"".as_slice());
     assert!(rt; writer.put(&mut out) == Ok(()));
     assert!(rt; out.bytes() == b"ab\n\n".as_slice());
     // nothing is pending, so no call is made
     assert!(rt; writer.put(&mut out) == Ok(()));
+    Ok(())
+}
+
+#[test]
+fn what_found_no_room_is_still_pending(rt: HostRuntime) -> Result<(), Fail> {
+    let mut out = MemSink::new(rt.alloc(), 5, numbers(rt.alloc(), &[2])?)?;
+    let mut writer = PieceWriter::new(rt.alloc())?;
     writer.push_line(b"cdefgh")?;
     writer.push_line(b"ij")?;
     writer.truncate(8);
     // five of eight bytes find room, then a call fails
     assert!(rt; writer.put(&mut out) == Err(Failed));
-    assert!(rt; out.bytes() == b"ab\n\ncdefg".as_slice());
+    assert!(rt; out.bytes() == b"cdefg".as_slice());
     assert!(rt; writer.len() == 3);
-    assert!(rt; !writer.is_full());
-    for _ in 0..65_536 {
+    Ok(())
+}
+
+#[test]
+fn so_many_bytes_are_a_full_piece(rt: HostRuntime) -> Result<(), Fail> {
+    let mut writer = PieceWriter::new(rt.alloc())?;
+    for _ in 0..65_535 {
         writer.push_line(b"")?;
     }
+    assert!(rt; !writer.is_full());
+    writer.push_line(b"")?;
     assert!(rt; writer.is_full());
     Ok(())
 }

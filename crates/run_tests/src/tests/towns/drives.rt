@@ -2,7 +2,7 @@ ghost use Rattle.std.specs.Prelude.{◌≡◌, true, is_some, All, IfOk};
 ghost use Rattle.net_base.specs.Bounds.{AreSound};
 ghost use Rattle.net_base.specs.Limits.{IsWithinLimits};
 
-use crate::tests::sink;
+use super::sink;
 use net_base::{
     Action, Addr, AddrList, Away, Cid, Event, EventList, Ip, NumberList, Settings, StateName,
     Targets,

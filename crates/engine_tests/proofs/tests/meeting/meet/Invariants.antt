@@ -1,5 +1,5 @@
 use Rattle.std.proofs.Common.{◌≡◌, true}
-use Rattle.two_nodes.proofs.tests.meet.Given as goal
+use Rattle.engine_tests.proofs.tests.meeting.meet.Given as goal
 
 abbrev pub invariant-loop : goal.invariant-loop
 invariant-loop g l = record {

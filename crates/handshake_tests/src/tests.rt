@@ -1,4 +1,0 @@
-mod clients;
-mod decisions;
-mod messages;
-mod receiving;
