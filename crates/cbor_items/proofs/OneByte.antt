@@ -24,7 +24,7 @@ one_byte_item depth bytes initial rest begins one =
     let parts = and_parts (ltb (info_of initial) 24) _ one in
     let small = ltb-true (info_of initial) 24 parts.0 in
     let done : (major : ℕ) → major_of initial ≡ major → eqb major 2 ≡ false → eqb major 3 ≡ false → is_nested initial ≡ false → skip_item depth bytes ≡ Ok rest =
-        λ major is no_bytes no_text flat. item_is_flat depth bytes initial rest begins flat ∙ head_alone initial major rest small is no_bytes no_text in
+    λ major is no_bytes no_text flat. item_is_flat depth bytes initial rest begins flat ∙ head_alone initial major rest small is no_bytes no_text in
     elim (or_cases _ (eqb (major_of initial) 7) parts.1) [
       | inl others ↦ elim (or_cases (eqb (major_of initial) 0) (eqb (major_of initial) 1) others) [
         | inl zero ↦ let is = eqb-true (major_of initial) 0 zero in done 0 is refl refl (rw is refl)
