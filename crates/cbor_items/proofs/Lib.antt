@@ -1,5 +1,4 @@
 pub mod Loops
-pub mod OneByte
 pub mod Skips
 pub mod Heads
 pub mod Items

@@ -1,8 +1,7 @@
--- What the first byte shows: a break, or an item that it is alone.
-use Rattle.std.specs.Prelude.{◌≡◌, ◌≢◌, ℕ, Bool, ◌&&◌, ◌||◌, ◌==◌, nat_lt, List, [], ◌∷◌, Option, Some, None, Result, Ok, Err}
+-- Whether a break stands at the front.
+use Rattle.std.specs.Prelude.{◌≡◌, ◌≢◌, ℕ, List, [], ◌∷◌, Option, Some, None, Result, Ok, Err}
 use Rattle.cbor_items.specs.declared.stop.Stop.{Stop}
 use Rattle.cbor_items.specs.declared.stop.Stop.TheVariants.{More}
-use Rattle.cbor_items.specs.Head.{major_of, info_of}
 
 -- the bytes begin with something that is no break
 pub record HasNoBreak (bytes : List ℕ) : Type 0 where
@@ -16,7 +15,3 @@ abbrev pub IsBreak : {X : Type 0} → (X → List ℕ) → List ℕ → Result (
 IsBreak view bytes (Ok (Some x)) = bytes ≡ 0xff ∷ view x
 IsBreak view bytes (Ok None) = HasNoBreak bytes
 IsBreak view bytes (Err stop) = (bytes ≡ []) × (stop ≡ More)
-
--- a number below 24, or a simple value
-abbrev pub is_one_byte : ℕ → Bool
-is_one_byte initial = nat_lt (info_of initial) 24 && (major_of initial == 0 || major_of initial == 1 || major_of initial == 7)

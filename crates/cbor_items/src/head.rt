@@ -1,7 +1,7 @@
-ghost use Rattle.std.specs.Prelude.{◌≡◌, ◌<◌, ◌≤◌, ◌++◌, ℕ, length, take, IfSome, Some, OnOk, OnErr};
+ghost use Rattle.std.specs.Prelude.{◌≡◌, ◌<◌, ◌≤◌, ◌++◌, [], ℕ, length, take, IfSome, Some, OnOk, OnErr};
 ghost use Rattle.cbor_items.specs.declared.head.Head.{Head};
 ghost use Rattle.cbor_items.specs.Reading.{Gives};
-ghost use Rattle.cbor_items.specs.Head.{argument_len, value_of, may_begin, may_follow, initial_at, argument_at, head_and_rest, head_at, IsHead, shortest_head};
+ghost use Rattle.cbor_items.specs.Head.{info_of, argument_len, head_of, value_of, may_begin, may_follow, initial_at, argument_at, head_and_rest, head_at, IsHead, shortest_head};
 
 use crate::initial::NEXT_BYTE;
 use crate::stop::Stop;
@@ -92,6 +92,9 @@ pub(crate) fn split_argument(initial: u8, bytes: &[u8]) -> Result<(Head, &[u8]),
     ensures { Gives (λ read. (read.0, read.1.now)) result (argument_at initial bytes.now) }
 {
     let info = initial % 32;
+    if info < 24 {
+        return Ok((small_head(initial), bytes));
+    }
     let len = argument_len(info);
     if bytes.len() < len {
         return Err(Stop::More);
@@ -107,6 +110,19 @@ pub(crate) fn split_argument(initial: u8, bytes: &[u8]) -> Result<(Head, &[u8]),
         size: 1 + len,
     };
     Ok((head, rest))
+}
+
+// A head whose value is in its initial byte.
+fn small_head(initial: u8) -> Head
+    requires { info_of initial < 24 }
+    ensures { result ≡ head_of initial [] }
+{
+    Head {
+        major: initial / 32,
+        value: u64::from(initial % 32),
+        indefinite: false,
+        size: 1,
+    }
 }
 
 fn may_begin(initial: u8) -> bool

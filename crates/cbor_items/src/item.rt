@@ -2,7 +2,7 @@ ghost use Rattle.std.specs.Prelude.{◌≡◌, ◌<◌, ◌==◌, length};
 ghost use Rattle.cbor_items.specs.Reading.{Gives};
 ghost use Rattle.cbor_items.specs.Head.{argument_at};
 ghost use Rattle.cbor_items.specs.Scan.{skip_bytes, skip_row, skip_to_break, skip_chunk, skip_flat, skip_nested, is_nested, skip_item};
-ghost use Rattle.cbor_items.specs.Break.{IsBreak, is_one_byte};
+ghost use Rattle.cbor_items.specs.Break.{IsBreak};
 ghost use Rattle.cbor_items.specs.Element.{element_of};
 
 use crate::head::{split_argument, split_initial};
@@ -26,9 +26,6 @@ pub(crate) fn skip_item(bytes: &[u8], depth: u8) -> Result<&[u8], Stop>
     ensures { Gives (λ rest. rest.now) result (skip_item depth bytes.now) }
 {
     let (initial, rest) = split_initial(bytes)?;
-    if is_one_byte(initial) {
-        return Ok(rest);
-    }
     if !is_nested(initial) {
         return skip_flat(initial, rest);
     }
@@ -159,13 +156,6 @@ pub(crate) fn split_break(bytes: &[u8]) -> Result<Option<&[u8]>, Stop>
         [BREAK, rest @ ..] => Ok(Some(rest)),
         _ => Ok(None),
     }
-}
-
-// Small numbers and the simple values of one byte.
-fn is_one_byte(initial: u8) -> bool
-    ensures { result ≡ is_one_byte initial }
-{
-    initial % 32 < 24 && matches!(initial / 32, 0 | 1 | 7)
 }
 
 // Arrays, maps and tags.

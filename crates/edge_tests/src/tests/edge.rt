@@ -237,14 +237,15 @@ fn lines_are_put_in_one_piece(rt: HostRuntime) -> Result<(), Fail> {
 
 #[test]
 fn what_found_no_room_is_still_pending(rt: HostRuntime) -> Result<(), Fail> {
-    let mut out = MemSink::new(rt.alloc(), 5, numbers(rt.alloc(), &[2])?)?;
-    let mut writer = PieceWriter::new(rt.alloc())?;
+    let mut out = MemSink::new(rt.alloc(), 9, numbers(rt.alloc(), &[2])?)?;
+    let mut writer = two_lines(rt.alloc())?;
+    assert!(rt; writer.put(&mut out) == Ok(()));
     writer.push_line(b"cdefgh")?;
     writer.push_line(b"ij")?;
     writer.truncate(8);
-    // five of eight bytes find room, then a call fails
+    // behind the first piece five of eight bytes find room, then a call fails
     assert!(rt; writer.put(&mut out) == Err(Failed));
-    assert!(rt; out.bytes() == b"cdefg".as_slice());
+    assert!(rt; out.bytes() == b"ab\n\ncdefg".as_slice());
     assert!(rt; writer.len() == 3);
     Ok(())
 }

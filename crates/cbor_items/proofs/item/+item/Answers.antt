@@ -3,7 +3,6 @@ use Rattle.std.proofs.lemmas.Result.{err_from_is_err_and}
 use Rattle.cbor_items.specs.Scan.{skip_item}
 use Rattle.cbor_items.specs.Element.{element_of}
 use Rattle.cbor_items.proofs.Loops.{row_goes_on, row_stops, row_is_done, break_is_missing, break_is_found, break_goes_on, break_stops, break_is_out, item_stops, item_is_flat, item_is_nested, item_is_too_deep}
-use Rattle.cbor_items.proofs.OneByte.{one_byte_item}
 use Rattle.cbor_items.proofs.item.+item.Goals as goal
 
 pub skip_elements-returns-in_err-rest : goal.skip_elements-returns-in_err-rest
@@ -58,10 +57,6 @@ pub skip_item-returns-in_err-initial : goal.skip_item-returns-in_err-initial
 skip_item-returns-in_err-initial t c =
     let p = err_from_is_err_and c.from_residual.result c.from_residual.ensures.1 in
     rw (p.1, p.2) (item_stops c.args.depth c.args.bytes.now c.in_err-initial.field-0.0 c.in_err-initial.ensures)
-
-pub skip_item-returns-then-is_one_byte : goal.skip_item-returns-then-is_one_byte
-skip_item-returns-then-is_one_byte t c =
-    one_byte_item c.args.depth c.args.bytes.now c.in_ok-initial.initial c.in_ok-initial.rest.now c.in_ok-initial.ensures (sym c.if-is_one_byte.ensures)
 
 pub skip_item-returns-then-not-is_nested : goal.skip_item-returns-then-not-is_nested
 skip_item-returns-then-not-is_nested t c =
