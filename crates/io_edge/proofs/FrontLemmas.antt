@@ -1,6 +1,7 @@
 -- A front of a line that is held, and the bytes ahead of it.
-use Rattle.std.proofs.Common.{◌≡◌, ℕ, ◌+◌, ◌<◌, ◌≤◌, List, ◌∷◌, ◌++◌, length, take, drop, refl, sym, ap, ◌∙◌, arith}
+use Rattle.std.proofs.Common.{◌≡◌, ℕ, ◌+◌, ◌<◌, ◌≤◌, List, ◌∷◌, ◌++◌, length, take, drop, refl, sym, ap, subst, ◌∙◌, ◌⊎◌, inl, inr, ⊎_elim, arith}
 use Rattle.std.specs.List.{before_first, position_or_len}
+use Rattle.std.proofs.lemmas.Bool.{cases_lt}
 use Rattle.std.proofs.lemmas.List.{append_assoc, length-append, length-take, drop-drop, take_all}
 use Rattle.std.proofs.lemmas.List.Sums.{prefix_len-le-length}
 use Rattle.io_edge.specs.Lines.{is_line_feed, HasNoLineFeed, line_limit, FitsLine, IsPastLimit}
@@ -40,3 +41,12 @@ line_found held ahead joined n at found join =
     ap (λ (xs : List ℕ). held ++ xs) (first_cut ahead within)
     ∙ sym (append_assoc held (before_first is_line_feed ahead) _)
     ∙ ap (λ (xs : List ℕ). (held ++ before_first is_line_feed ahead) ++ 10 ∷ xs) (sym (drop-drop 1 (position_or_len is_line_feed ahead) ahead)))
+
+-- where none is, the bytes are the front of a line, or of one that is too long
+pub unended : (held ahead : List ℕ) → FitsLine held → length ahead ≡ position_or_len is_line_feed ahead → FitsLine (held ++ ahead) ⊎ IsPastLimit (held ++ ahead)
+unended held ahead fits end =
+    let far : length ahead ≤ position_or_len is_line_feed ahead = omega arith in
+    ⊎_elim
+    (λ more. inr (too_long held ahead fits more))
+    (λ less. inl (subst FitsLine (all_joined held ahead _ _ far refl) (still_fits held ahead _ _ fits refl less refl)))
+    (cases_lt line_limit (length held + position_or_len is_line_feed ahead))

@@ -1,5 +1,5 @@
 -- What reading the next line answers, and what it keeps.
-use Rattle.std.specs.Prelude.{◌≡◌, ℕ, ◌≤◌, List, [], ◌∷◌, ◌++◌, Option, Some, None, Result, Ok, Err, ⊤, ◌⊎◌}
+use Rattle.std.specs.Prelude.{◌≡◌, ℕ, ◌≤◌, Bool, true, false, List, [], ◌∷◌, ◌++◌, Option, Some, None, Result, Ok, Err, ⊤, ◌⊎◌}
 use Rattle.std.specs.Io.KnownBytes.{IsAtEnd}
 use Rattle.io_edge.specs.declared.got.Got.{Got}
 use Rattle.io_edge.specs.declared.got.Got.TheVariants.{Line, Over}
@@ -56,9 +56,9 @@ TakesLine seen held ahead (Err TooLong) = IsPastLimit seen
 TakesLine seen held ahead (Err OutOfMemory) = ¬ IsPastLimit seen
 TakesLine seen held ahead (Err Failed) = ⊥
 
--- The line that stands whole in the bytes kept is taken out of them. None is where they are the front of a line, or of
--- one that is too long.
-abbrev pub TakesKept : {E : Type 0} → List ℕ → List ℕ → Result (Option (List ℕ)) E → Type 0
-TakesKept before after (Ok (Some line)) = FitsLine line × (before ≡ line ++ 10 ∷ after)
-TakesKept before after (Ok None) = (FitsLine before ⊎ IsPastLimit before) × (after ≡ before)
-TakesKept before after (Err wanting) = after ≡ before
+-- The line that stands whole in the bytes kept is taken out of them, and is what the buffer holds. None is where they are
+-- the front of a line, or of one that is too long.
+abbrev pub TakesKept : {E : Type 0} → List ℕ → List ℕ → List ℕ → Result Bool E → Type 0
+TakesKept before after line (Ok true) = FitsLine line × (before ≡ line ++ 10 ∷ after)
+TakesKept before after line (Ok false) = (FitsLine before ⊎ IsPastLimit before) × (after ≡ before)
+TakesKept before after line (Err wanting) = after ≡ before

@@ -49,15 +49,12 @@ impl LineReader {
         })
     }
 
-    /// The next line, where all of it is kept already. None is where a source has to be asked, or the line is too long.
-    pub fn kept_line(&mut self) -> Result<Option<Octets>, OutOfMemory>
-        ensures answer { TakesKept self.old self.new result }
+    /// Puts the next line into a buffer, in place of what it held, where all of the line is kept already. False is where a
+    /// source has to be asked, or the line is too long.
+    pub fn kept_line(&mut self, line: &mut Vec<u8>) -> Result<bool, OutOfMemory>
+        ensures answer { TakesKept self.old self.new line.new.items result }
     {
-        match take_line(self.alloc, &mut self.line, &mut self.window) {
-            Ok(found) => Ok(found),
-            Err(LineFault::OutOfMemory) => Err(OutOfMemory),
-            Err(_) => Ok(None),
-        }
+        take_kept(&mut self.line, &mut self.window, line)
     }
 
     /// The next line. A source that fails, or memory that is refused, costs no byte: the bytes taken so far are kept
@@ -131,6 +128,30 @@ fn take_line(
     window.consume(1);
     let line = mem::replace(held, Vec::new(alloc));
     Ok(Some(Octets::from_vec(line)))
+}
+
+// Takes the next line out of a window, with the front of it that is held, where it ends there.
+fn take_kept(
+    held: &mut Vec<u8>,
+    window: &mut Window,
+    line: &mut Vec<u8>,
+) -> Result<bool, OutOfMemory>
+    requires { FitsLine held.old.items }
+    ensures answer { TakesKept (held.old.items ++ window.old) (held.new.items ++ window.new) line.new.items result }
+    ensures front { FitsLine held.new.items }
+    ensures fits { length window.new ≤ length window.old }
+{
+    let ahead = window.bytes();
+    let count = line_length(ahead);
+    if count == ahead.len() || held.len() + count > LINE_LIMIT {
+        return Ok(false);
+    }
+    line.clear();
+    line.extend_from_slice(held)?;
+    line.extend_from_slice(&ahead[..count])?;
+    held.clear();
+    window.consume(count + 1);
+    Ok(true)
 }
 
 // How many bytes stand before the first line feed, or before the end where there is none.

@@ -17,6 +17,11 @@ line_told number (Err Failed) = Err ReadFault
 line_told number (Err LineTooLong) = Err (TooLong number)
 line_told number (Err NoMemory) = Err OutOfMemory
 
+-- the line that a buffer holds, or the outcome where none was put into it
+abbrev pub line_put : List ℕ → Result (Unit {0}) LineOutcome → Result (List ℕ) LineOutcome
+line_put line (Ok done) = Ok line
+line_put line (Err outcome) = Err outcome
+
 -- The line was read behind the bytes that were kept, or it is told why not.
 pub record IsLineRead (number : ℕ) (kept_before kept_after : List ℕ) (left_before left_after : Option (List ℕ)) (result : Result (List ℕ) LineOutcome) : Type 0 where
   pub got : Result Got LineFault

@@ -1,24 +1,28 @@
-ghost use Rattle.std.specs.Prelude.{◌≡◌, ℕ, ◌≤◌, length, MatchResult, IfOk, IfErr};
-ghost use Rattle.line_run.specs.LineRead.{IsLineRead};
+ghost use Rattle.std.specs.Prelude.{◌≡◌, ℕ, ◌≤◌, length, MatchResult, OnOk, IfErr};
+ghost use Rattle.line_run.specs.LineRead.{line_put, IsLineRead};
 ghost use Rattle.line_run.specs.Runs.{HasReadCount, HasWriteCount};
 
 use crate::LineOutcome;
 use io_edge::{Got, LineFault, LineReader, Source};
-use net_base::{Octets, RefusalKind};
+use net_base::RefusalKind;
 
-/// Reads the line with a number.
+/// Reads the line with a number into a buffer, in place of what it held.
 pub(crate) fn read_line<S: Source>(
     number: u64,
     reader: &mut LineReader,
+    line: &mut Vec<u8>,
     src: &mut S,
-) -> Result<Octets, LineOutcome>
-    ensures read { IsLineRead number reader.old reader.new (S.left src.old) (S.left src.new) result }
-    ensures short { IfOk result (λ line. length line ≤ 140_000) }
+) -> Result<(), LineOutcome>
+    ensures read { IsLineRead number reader.old reader.new (S.left src.old) (S.left src.new) (line_put line.new.items result) }
+    ensures short { OnOk result (length line.new.items ≤ 140_000) }
     ensures reads { MatchResult result (λ _. S.faults src.new ≡ S.faults src.old) (HasReadCount (S.faults src.old) (S.faults src.new)) }
     ensures writes { (count : ℕ) → IfErr result (HasWriteCount count count) }
 {
     match reader.next_line(src) {
-        Ok(Got::Line(line)) => Ok(line),
+        Ok(Got::Line(got)) => {
+            *line = got.into_vec();
+            Ok(())
+        }
         Ok(Got::Over) => Err(LineOutcome::Refused {
             line: number,
             kind: RefusalKind::NoEnd,

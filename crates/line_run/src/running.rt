@@ -1,14 +1,15 @@
-ghost use Rattle.std.specs.Prelude.{◌≡◌, ℕ, ◌+◌, ◌≤◌, List, [], Option, Some, length, MatchResult, OnOk, IfOk, IfErr};
+ghost use Rattle.std.specs.Prelude.{◌≡◌, ℕ, ◌+◌, ◌≤◌, List, [], Option, Some, length, MatchResult, OnOk, IfErr};
 ghost use Rattle.io_edge.specs.Causes.{HasCause};
 ghost use Rattle.io_edge.specs.Told.{Takes, TakesProperPrefix, TakesFront};
 ghost use Rattle.line_run.specs.Inputs.{IsRunOver};
+ghost use Rattle.line_run.specs.LineRead.{line_put};
 ghost use Rattle.line_run.specs.Runs.{Runs, outcome_or, HasReadCount, HasWriteCount};
 ghost use Rattle.line_run.specs.UnderWay.{IsUnderWay, IsTurn, IsLineNext, IsInterpretedAt, Ends};
 
 use crate::reading::read_line;
 use crate::{Interpreter, LineOutcome, Stop};
 use io_edge::{LineReader, PieceWriter, Sink, Source};
-use net_base::{Octets, OutOfMemory};
+use net_base::OutOfMemory;
 use std::alloc::Global;
 
 // How many lines an input may have.
@@ -53,12 +54,13 @@ fn run_anew<I: Interpreter, S: Source, K: Sink>(
 {
     let mut reader = LineReader::new(alloc)?;
     let mut pieces = PieceWriter::new(alloc)?;
-    let outcome = run_from(interpreter, &mut reader, &mut pieces, src, out);
+    let outcome = run_from(alloc, interpreter, &mut reader, &mut pieces, src, out);
     Ok(close::<I, K>(outcome, &mut pieces, out))
 }
 
 // Runs over an input of which nothing was read yet. What is said at the end is pending still.
 fn run_from<I: Interpreter, S: Source, K: Sink>(
+    alloc: Global,
     interpreter: &mut I,
     reader: &mut LineReader,
     pieces: &mut PieceWriter,
@@ -71,8 +73,10 @@ fn run_from<I: Interpreter, S: Source, K: Sink>(
     ensures reads { HasReadCount (S.faults src.old) (S.faults src.new) result }
     ensures writes { HasWriteCount (K.faults out.old) (K.faults out.new) result }
 {
+    // Each line in turn, in memory that is used again.
+    let mut line = Vec::new(alloc);
     for number in 1..=LINES_MOST {
-        match turn(number, interpreter, reader, pieces, src, out) {
+        match turn(number, interpreter, reader, &mut line, pieces, src, out) {
             Ok(()) => {}
             Err(outcome) => return outcome,
         }
@@ -82,11 +86,12 @@ fn run_from<I: Interpreter, S: Source, K: Sink>(
     }
 }
 
-// Reads the line with a number, has it interpreted, and says what it gives.
+// Reads the line with a number into a buffer, has it interpreted, and says what it gives.
 fn turn<I: Interpreter, S: Source, K: Sink>(
     number: u64,
     interpreter: &mut I,
     reader: &mut LineReader,
+    line: &mut Vec<u8>,
     pieces: &mut PieceWriter,
     src: &mut S,
     out: &mut K,
@@ -98,32 +103,33 @@ fn turn<I: Interpreter, S: Source, K: Sink>(
     ensures reads { MatchResult result (λ _. S.faults src.new ≡ S.faults src.old) (HasReadCount (S.faults src.old) (S.faults src.new)) }
     ensures writes { MatchResult result (λ _. K.faults out.new ≡ K.faults out.old) (HasWriteCount (K.faults out.old) (K.faults out.new)) }
 {
-    let line = next_line::<I, S, K>(number, reader, pieces, src, out)?;
-    interpret_at(number, interpreter, line.as_slice(), pieces)?;
+    next_line::<I, S, K>(number, reader, line, pieces, src, out)?;
+    interpret_at(number, interpreter, line, pieces)?;
     put_full(pieces, out)
 }
 
-// The line with a number. Before the source is asked for more, which may wait, all that was said is put.
+// Puts the line with a number into a buffer. Before the source is asked for more, which may wait, all that was said is put.
 fn next_line<I: Interpreter, S: Source, K: Sink>(
     number: u64,
     reader: &mut LineReader,
+    line: &mut Vec<u8>,
     pieces: &mut PieceWriter,
     src: &mut S,
     out: &mut K,
-) -> Result<Octets, LineOutcome>
+) -> Result<(), LineOutcome>
     requires few { number ≤ 4_000_000 }
     ensures next { (start state : I) (left taken : Option (List ℕ)) →
         IsUnderWay I.means start number state reader.old pieces.old left (S.left src.old) taken (K.taken out.old) →
-        IsLineNext I.means start number state reader.new pieces.new left (S.left src.new) taken (K.taken out.new) result }
-    ensures short { IfOk result (λ line. length line ≤ 140_000) }
+        IsLineNext I.means start number state reader.new pieces.new left (S.left src.new) taken (K.taken out.new) (line_put line.new.items result) }
+    ensures short { OnOk result (length line.new.items ≤ 140_000) }
     ensures reads { MatchResult result (λ _. S.faults src.new ≡ S.faults src.old) (HasReadCount (S.faults src.old) (S.faults src.new)) }
     ensures writes { MatchResult result (λ _. K.faults out.new ≡ K.faults out.old) (HasWriteCount (K.faults out.old) (K.faults out.new)) }
 {
-    match reader.kept_line() {
-        Ok(Some(line)) => Ok(line),
-        Ok(None) => {
+    match reader.kept_line(line) {
+        Ok(true) => Ok(()),
+        Ok(false) => {
             put(pieces, out)?;
-            read_line(number, reader, src)
+            read_line(number, reader, line, src)
         }
         Err(OutOfMemory) => Err(LineOutcome::OutOfMemory),
     }

@@ -1,5 +1,5 @@
-ghost use Rattle.std.specs.Prelude.{◌≡◌, ℕ, ◌≤◌, length, MatchResult, IfOk, IfErr};
-ghost use Rattle.trace_replay.specs.LineRead.{IsLineRead};
+ghost use Rattle.std.specs.Prelude.{◌≡◌, ℕ, ◌≤◌, length, MatchResult, IfOk, OnOk, IfErr};
+ghost use Rattle.trace_replay.specs.LineRead.{line_put, IsLineRead};
 ghost use Rattle.trace_meaning.specs.FaultCounts.{HasReadCount, HasWriteCount};
 
 use io_edge::{Got, LineFault, LineReader, Source};
@@ -29,5 +29,26 @@ pub(crate) fn read_line<S: Source>(
         Err(LineFault::Failed) => Err(Outcome::ReadFault),
         Err(LineFault::TooLong) => Err(Outcome::TooLong { line: number }),
         Err(LineFault::OutOfMemory) => Err(Outcome::OutOfMemory),
+    }
+}
+
+/// Reads the line with a number into a buffer, in place of what it held.
+pub(crate) fn read_into<S: Source>(
+    number: u64,
+    reader: &mut LineReader,
+    line: &mut Vec<u8>,
+    src: &mut S,
+) -> Result<(), Outcome>
+    ensures read { IsLineRead number reader.old reader.new (S.left src.old) (S.left src.new) (line_put line.new.items result) }
+    ensures short { OnOk result (length line.new.items ≤ 140_000) }
+    ensures reads { MatchResult result (λ _. S.faults src.new ≡ S.faults src.old) (HasReadCount (S.faults src.old) (S.faults src.new)) }
+    ensures writes { (count : ℕ) → IfErr result (HasWriteCount count count) }
+{
+    match read_line(number, reader, src) {
+        Ok(got) => {
+            *line = got.into_vec();
+            Ok(())
+        }
+        Err(outcome) => Err(outcome),
     }
 }

@@ -1,8 +1,9 @@
-ghost use Rattle.std.specs.Prelude.{◌≡◌, ℕ, ◌+◌, ◌≤◌, List, [], Option, length, MatchResult, IfOk, IfErr};
+ghost use Rattle.std.specs.Prelude.{◌≡◌, ℕ, ◌+◌, ◌≤◌, List, [], Option, length, MatchResult, OnOk, IfErr};
 ghost use Rattle.io_edge.specs.Causes.{HasCause};
 ghost use Rattle.io_edge.specs.Told.{TakesProperPrefix, TakesFront};
 ghost use Rattle.net_base.specs.Bounds.{AreSound};
 ghost use Rattle.trace_text.specs.Stages.{first_stage};
+ghost use Rattle.trace_replay.specs.LineRead.{line_put};
 ghost use Rattle.trace_replay.specs.Playback.{Kept, begun, kept, StandsBehind};
 ghost use Rattle.trace_meaning.specs.Reading.{Reading, reading_at, stage_behind};
 ghost use Rattle.trace_meaning.specs.Replays.{Replays, outcome_or};
@@ -11,11 +12,11 @@ ghost use Rattle.trace_replay.specs.UnderWay.{IsUnderWay, IsTurn, IsLineNext, Is
 ghost use Rattle.trace_meaning.specs.FaultCounts.{HasReadCount, HasWriteCount};
 
 use crate::playback::Playback;
-use crate::reading::{LINES_MOST, read_line};
+use crate::reading::{LINES_MOST, read_into};
 use crate::stop::Stop;
 use engine_start::{Pickers, ranked_score, score};
 use io_edge::{LineReader, PieceWriter, Sink, Source};
-use net_base::{Addr, Octets, OutOfMemory};
+use net_base::{Addr, OutOfMemory};
 use pick_policy::{Picker, RankedPicker};
 use std::alloc::Global;
 use trace_meaning::{Outcome, put_pending};
@@ -71,8 +72,10 @@ fn replay_lines<S: Source, K: Sink>(
     ensures writes { HasWriteCount (K.faults out.old) (K.faults out.new) result }
 {
     let mut playback = Playback::new(alloc, pickers);
+    // Each line in turn, in memory that is used again.
+    let mut line = Vec::new(alloc);
     for number in 1..=LINES_MOST {
-        match turn(number, &mut playback, reader, pieces, src, out) {
+        match turn(number, &mut playback, reader, &mut line, pieces, src, out) {
             Ok(()) => {}
             Err(outcome) => return outcome,
         }
@@ -82,11 +85,12 @@ fn replay_lines<S: Source, K: Sink>(
     }
 }
 
-// Reads the line with a number, plays it, and says what it gives.
+// Reads the line with a number into a buffer, plays it, and says what it gives.
 fn turn<S: Source, K: Sink>(
     number: u64,
     playback: &mut Playback,
     reader: &mut LineReader,
+    line: &mut Vec<u8>,
     pieces: &mut PieceWriter,
     src: &mut S,
     out: &mut K,
@@ -99,32 +103,33 @@ fn turn<S: Source, K: Sink>(
     ensures reads { MatchResult result (λ _. S.faults src.new ≡ S.faults src.old) (HasReadCount (S.faults src.old) (S.faults src.new)) }
     ensures writes { MatchResult result (λ _. K.faults out.new ≡ K.faults out.old) (HasWriteCount (K.faults out.old) (K.faults out.new)) }
 {
-    let line = next_line(number, reader, pieces, src, out)?;
-    play_line(number, playback, line.as_slice(), pieces)?;
+    next_line(number, reader, line, pieces, src, out)?;
+    play_line(number, playback, line, pieces)?;
     put_full(pieces, out)
 }
 
-// The line with a number. Before the source is asked for more, which may wait, all that was said is put.
+// Puts the line with a number into a buffer. Before the source is asked for more, which may wait, all that was said is put.
 fn next_line<S: Source, K: Sink>(
     number: u64,
     reader: &mut LineReader,
+    line: &mut Vec<u8>,
     pieces: &mut PieceWriter,
     src: &mut S,
     out: &mut K,
-) -> Result<Octets, Outcome>
+) -> Result<(), Outcome>
     requires few { number ≤ 4_000_000 }
     ensures next { (playback : Kept) (left taken : Option (List ℕ)) →
         IsUnderWay number playback reader.old pieces.old left (S.left src.old) taken (K.taken out.old) →
-        IsLineNext number playback reader.new pieces.new left (S.left src.new) taken (K.taken out.new) result }
-    ensures short { IfOk result (λ line. length line ≤ 140_000) }
+        IsLineNext number playback reader.new pieces.new left (S.left src.new) taken (K.taken out.new) (line_put line.new.items result) }
+    ensures short { OnOk result (length line.new.items ≤ 140_000) }
     ensures reads { MatchResult result (λ _. S.faults src.new ≡ S.faults src.old) (HasReadCount (S.faults src.old) (S.faults src.new)) }
     ensures writes { MatchResult result (λ _. K.faults out.new ≡ K.faults out.old) (HasWriteCount (K.faults out.old) (K.faults out.new)) }
 {
-    match reader.kept_line() {
-        Ok(Some(line)) => Ok(line),
-        Ok(None) => {
+    match reader.kept_line(line) {
+        Ok(true) => Ok(()),
+        Ok(false) => {
             put_pending(pieces, out)?;
-            read_line(number, reader, src)
+            read_into(number, reader, line, src)
         }
         Err(OutOfMemory) => Err(Outcome::OutOfMemory),
     }

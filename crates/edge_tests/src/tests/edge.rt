@@ -174,17 +174,24 @@ fn a_piece_is_taken_whole_or_up_to_a_fault(rt: HostRuntime) -> Result<(), Fail> 
     Ok(())
 }
 
-// A line is kept whole.
-fn expect_kept(rt: &impl Abort, reader: &mut LineReader, wanted: &[u8]) -> Result<(), Fail> {
-    let Some(line) = reader.kept_line()? else {
-        return Err("no line is kept".into());
-    };
+// A line is kept whole, and takes the place of what the buffer held.
+fn expect_kept(
+    rt: &impl Abort,
+    reader: &mut LineReader,
+    line: &mut Vec<u8>,
+    wanted: &[u8],
+) -> Result<(), Fail> {
+    assert!(rt; reader.kept_line(line)?, "no line is kept");
     assert!(rt; line.as_slice() == wanted);
     Ok(())
 }
 
-fn expect_none_kept(rt: &impl Abort, reader: &mut LineReader) -> Result<(), Fail> {
-    assert!(rt; reader.kept_line()?.is_none());
+fn expect_none_kept(
+    rt: &impl Abort,
+    reader: &mut LineReader,
+    line: &mut Vec<u8>,
+) -> Result<(), Fail> {
+    assert!(rt; !reader.kept_line(line)?);
     Ok(())
 }
 
@@ -206,13 +213,27 @@ fn a_line_that_is_kept_whole_is_handed_out_without_a_reading(rt: HostRuntime) ->
     let alloc = rt.alloc();
     let mut src = MemSource::new(octets(alloc, INPUT)?, 18, numbers(alloc, &[])?);
     let mut reader = LineReader::new(alloc)?;
-    expect_none_kept(&rt, &mut reader)?;
+    let mut line = b"older".to_vec(alloc)?;
+    expect_none_kept(&rt, &mut reader, &mut line)?;
     expect_read(&rt, &mut reader, &mut src, b"first line")?;
-    expect_kept(&rt, &mut reader, b"")?;
-    expect_none_kept(&rt, &mut reader)?;
+    expect_kept(&rt, &mut reader, &mut line, b"")?;
+    expect_none_kept(&rt, &mut reader, &mut line)?;
     assert!(rt; src.calls() == 1);
     expect_read(&rt, &mut reader, &mut src, b"> third")?;
-    expect_none_kept(&rt, &mut reader)
+    expect_none_kept(&rt, &mut reader, &mut line)
+}
+
+#[test]
+fn lines_that_are_kept_are_put_into_one_buffer(rt: HostRuntime) -> Result<(), Fail> {
+    let alloc = rt.alloc();
+    let text = b"first\na longer second\nlast\n";
+    let mut src = MemSource::new(octets(alloc, text)?, 65_536, numbers(alloc, &[])?);
+    let mut reader = LineReader::new(alloc)?;
+    let mut line = Vec::new(alloc);
+    expect_read(&rt, &mut reader, &mut src, b"first")?;
+    expect_kept(&rt, &mut reader, &mut line, b"a longer second")?;
+    expect_kept(&rt, &mut reader, &mut line, b"last")?;
+    expect_none_kept(&rt, &mut reader, &mut line)
 }
 
 // Two lines, of which one is empty.

@@ -1,4 +1,4 @@
-use Rattle.std.proofs.Common.{◌≡◌, ℕ, Result, Ok, Err, sym, ap, ◌∙◌}
+use Rattle.std.proofs.Common.{◌≡◌, ℕ, List, Result, Ok, Err, sym, ap, ◌∙◌}
 use Rattle.io_edge.specs.declared.got.Got.{Got}
 use Rattle.io_edge.specs.declared.got.Got.TheVariants.{Line, Over}
 use Rattle.io_edge.specs.declared.line_fault.LineFault.{LineFault}
@@ -17,7 +17,7 @@ pub returns-in-Ok-Line-clause-read : goal.returns-in-Ok-Line-clause-read
 returns-in-Ok-Line-clause-read g c = record {
   got = c.next_line.result;
   reads = c.next_line.ensures.answer;
-  told = got_told c.args.number c.next_line.result c.in-Ok-Line.field-0 (Line c.in-Ok-Line.line) c.in-Ok-Line.is c.in-Ok-Line.field-0-is;
+  told = got_told c.args.number c.next_line.result c.in-Ok-Line.field-0 (Line c.into_vec.result.items) c.in-Ok-Line.is (c.in-Ok-Line.field-0-is ∙ ap (λ (line : List ℕ). Line line) (sym c.into_vec.ensures));
 }
 
 pub returns-in-Ok-Over-clause-read : goal.returns-in-Ok-Over-clause-read

@@ -4,37 +4,37 @@ use Rattle.trace_replay.specs.Playback.{begun, kept}
 use Rattle.trace_replay.proofs.Ways.{line_there, line_played, turn_put, reads_same, writes_same}
 use Rattle.trace_replay.proofs.replaying.turn.Goals as goal
 
-pub returns-in_err-line-clause-turn : goal.returns-in_err-line-clause-turn
-returns-in_err-line-clause-turn g c = λ left taken way.
+pub returns-in_err-next_line-clause-turn : goal.returns-in_err-next_line-clause-turn
+returns-in_err-next_line-clause-turn g c = λ left taken way.
     let p = err_from_is_err_and c.from_residual.result c.from_residual.ensures.1 in
-    rw (p.1, p.2) (c.in_err-line.ensures.next _ left taken way)
+    rw (p.1, p.2) (c.in_err-next_line.ensures.next _ left taken way)
 
 pub returns-in_err-play_line-clause-turn : goal.returns-in_err-play_line-clause-turn
 returns-in_err-play_line-clause-turn g c = λ left taken way.
     let p = err_from_is_err_and c.from_residual-in_err-play_line.result c.from_residual-in_err-play_line.ensures.1 in
-    let there = line_there c.args.number _ _ c.as_slice.result.now c.next_line.new.reader c.next_line.new.pieces left (g.S.Source.left c.next_line.new.src) taken
-    (g.K.Sink.taken c.next_line.new.out) c.as_slice.ensures (c.in_ok-line.ensures.next _ left taken way) in
+    let there = line_there c.args.number _ _ c.deref.result.now c.next_line.new.reader c.next_line.new.pieces left (g.S.Source.left c.next_line.new.src) taken
+    (g.K.Sink.taken c.next_line.new.out) c.deref.ensures.value (c.in_ok-next_line.ensures.next _ left taken way) in
     rw (p.1, p.2)
     (line_played c.args.number _ (kept c.play_line.new.playback.stage c.play_line.new.playback.heads.items (begun c.play_line.new.playback.engine (λ e. e.machine) (λ e. e.events)))
-    c.as_slice.result.now c.next_line.new.reader c.next_line.new.pieces c.play_line.new.pieces left (g.S.Source.left c.next_line.new.src) taken
+    c.deref.result.now c.next_line.new.reader c.next_line.new.pieces c.play_line.new.pieces left (g.S.Source.left c.next_line.new.src) taken
     (g.K.Sink.taken c.next_line.new.out) (Err c.in_err-play_line.field-0.0) there c.in_err-play_line.ensures.said)
 
 pub returns-in_err-play_line-clause-reads : goal.returns-in_err-play_line-clause-reads
 returns-in_err-play_line-clause-reads g c =
     let p = err_from_is_err_and c.from_residual-in_err-play_line.result c.from_residual-in_err-play_line.ensures.1 in
-    rw (p.1, p.2) (reads_same _ _ _ c.in_ok-line.ensures.reads (c.in_err-play_line.ensures.reads _))
+    rw (p.1, p.2) (reads_same _ _ _ c.in_ok-next_line.ensures.reads (c.in_err-play_line.ensures.reads _))
 
 pub returns-in_err-play_line-clause-writes : goal.returns-in_err-play_line-clause-writes
 returns-in_err-play_line-clause-writes g c =
     let p = err_from_is_err_and c.from_residual-in_err-play_line.result c.from_residual-in_err-play_line.ensures.1 in
-    rw (p.1, p.2) (writes_same _ _ _ c.in_ok-line.ensures.writes (c.in_err-play_line.ensures.writes _))
+    rw (p.1, p.2) (writes_same _ _ _ c.in_ok-next_line.ensures.writes (c.in_err-play_line.ensures.writes _))
 
 pub returns-clause-turn : goal.returns-clause-turn
 returns-clause-turn g c = λ left taken way.
-    let there = line_there c.args.number _ _ c.as_slice.result.now c.next_line.new.reader c.next_line.new.pieces left (g.S.Source.left c.next_line.new.src) taken
-    (g.K.Sink.taken c.next_line.new.out) c.as_slice.ensures (c.in_ok-line.ensures.next _ left taken way) in
+    let there = line_there c.args.number _ _ c.deref.result.now c.next_line.new.reader c.next_line.new.pieces left (g.S.Source.left c.next_line.new.src) taken
+    (g.K.Sink.taken c.next_line.new.out) c.deref.ensures.value (c.in_ok-next_line.ensures.next _ left taken way) in
     let played = line_played c.args.number _ (kept c.play_line.new.playback.stage c.play_line.new.playback.heads.items (begun c.play_line.new.playback.engine (λ e. e.machine) (λ e. e.events)))
-    c.as_slice.result.now c.next_line.new.reader c.next_line.new.pieces c.play_line.new.pieces left (g.S.Source.left c.next_line.new.src) taken
+    c.deref.result.now c.next_line.new.reader c.next_line.new.pieces c.play_line.new.pieces left (g.S.Source.left c.next_line.new.src) taken
     (g.K.Sink.taken c.next_line.new.out) (Ok c.in_ok-play_line.field-0) there c.in_ok-play_line.ensures.said in
     turn_put c.args.number _ c.next_line.new.reader c.play_line.new.pieces c.put_full.new.pieces left (g.S.Source.left c.next_line.new.src) taken
     (g.K.Sink.taken c.next_line.new.out) (g.K.Sink.taken c.put_full.new.out) c.put_full.result played c.put_full.ensures.front c.put_full.ensures.part c.put_full.ensures.fault
