@@ -258,7 +258,7 @@ fn lines_are_put_in_one_piece(rt: HostRuntime) -> Result<(), Fail> {
 
 #[test]
 fn what_found_no_room_is_still_pending(rt: HostRuntime) -> Result<(), Fail> {
-    let mut out = MemSink::new(rt.alloc(), 9, numbers(rt.alloc(), &[2])?)?;
+    let mut out = MemSink::new(rt.alloc(), 9, numbers(rt.alloc(), &[3])?)?;
     let mut writer = two_lines(rt.alloc())?;
     assert!(rt; writer.put(&mut out) == Ok(()));
     writer.push_line(b"cdefgh")?;
