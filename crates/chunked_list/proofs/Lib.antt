@@ -1,4 +1,5 @@
 pub mod Edits
+pub mod Firsts
 pub mod Numbers
 pub mod Spots
 pub mod Splits

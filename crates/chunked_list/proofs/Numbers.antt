@@ -1,40 +1,29 @@
 -- The numbers of items before the chunks.
-use Rattle.std.proofs.Common.{◌≡◌, ℕ, zero, suc, ◌+◌, ◌<◌, ◌≤◌, List, [], ◌∷◌, ◌++◌, length, take, drop, get_or, set, refl, ap, sym, subst, ◌∙◌, append-nil, append_assoc, length-append, length-take, arith}
-use Rattle.std.specs.List.{insert}
-use Rattle.std.proofs.lemmas.List.{take_all, take-take, take-append-drop, get_or-take}
+use Rattle.std.proofs.Common.{◌≡◌, ℕ, zero, suc, ◌+◌, ◌-◌, ◌<◌, ◌≤◌, List, [], ◌∷◌, ◌++◌, length, take, get_or, set, refl, ap, sym, ◌∙◌, append-nil, append_assoc, length-append, arith}
+use Rattle.std.specs.List.{insert, remove}
+use Rattle.std.proofs.lemmas.List.{take_all}
 use Rattle.std.proofs.lemmas.List.Edits.{insert_end}
 use Rattle.chunked_list.proofs.Edits.{put_in_chunk}
-use Rattle.chunked_list.specs.Chunks.{items_in, joined, numbered, AreNumbered, AreFilled, AreChunks, AreSameBefore}
+use Rattle.chunked_list.specs.Chunks.{items_in, joined, starts, IsFilled, AreFilled}
+use Rattle.chunked_list.specs.Firsts.{raised, lowered}
 use Rattle.chunked_list.specs.declared.chunk.Chunk.{Chunk}
 
 next_is : (i : ℕ) → suc i ≡ i + 1
 next_is i = omega arith
 
 module _ {T : Type 0} where
-  pub joined-numbered : (n : ℕ) (cs : List (Chunk T)) → joined (numbered n cs) ≡ joined cs
-  joined-numbered n [] = refl
-  joined-numbered n (c ∷ cs) = ap (λ l. items_in c ++ l) (joined-numbered (n + length (items_in c)) cs)
+  pub length-starts : (n : ℕ) (cs : List (Chunk T)) → length (starts n cs) ≡ length cs
+  length-starts n [] = refl
+  length-starts n (c ∷ cs) = ap suc (length-starts (n + length (items_in c)) cs)
 
-  pub numbered_right : (n : ℕ) (cs : List (Chunk T)) → AreNumbered n (numbered n cs)
-  numbered_right n [] = tt
-  numbered_right n (c ∷ cs) = (refl, numbered_right (n + length (items_in c)) cs)
+  start_at : (n : ℕ) (cs : List (Chunk T)) (i d : ℕ) → i < length cs → get_or (starts n cs) i d ≡ n + length (joined (take i cs))
+  start_at n [] i d inside = absurd (omega (arith, inside))
+  start_at n (c ∷ cs) zero d inside = omega arith
+  start_at n (c ∷ cs) (suc i) d inside =
+      omega (arith, start_at (n + length (items_in c)) cs i d (omega arith), length-append (items_in c) (joined (take i cs)))
 
-  pub filled-numbered : (n : ℕ) (cs : List (Chunk T)) → AreFilled cs → AreFilled (numbered n cs)
-  filled-numbered n [] h = tt
-  filled-numbered n (c ∷ cs) h = (record { some = h.0.some; few = h.0.few }, filled-numbered (n + length (items_in c)) cs h.1)
-
-  pub numbered-chunks : (cs : List (Chunk T)) → AreFilled cs → AreChunks (numbered 0 cs)
-  numbered-chunks cs h = record { filled = filled-numbered 0 cs h; numbers = numbered_right 0 cs }
-
-  pub number_at : (n : ℕ) (cs : List (Chunk T)) → AreNumbered n cs → (i : ℕ) (d : Chunk T) → i < length cs →
-      (get_or cs i d).before ≡ n + length (joined (take i cs))
-  number_at n [] h i d inside = absurd (omega (arith, inside))
-  number_at n (c ∷ cs) h zero d inside = omega (arith, h.0)
-  number_at n (c ∷ cs) h (suc i) d inside =
-      omega (arith, number_at (n + length (items_in c)) cs h.1 i d (omega arith), length-append (items_in c) (joined (take i cs)))
-
-  pub number_is : (cs : List (Chunk T)) → AreNumbered 0 cs → (i : ℕ) (d : Chunk T) → i < length cs → (get_or cs i d).before ≡ length (joined (take i cs))
-  number_is cs h i d inside = omega (arith, number_at 0 cs h i d inside)
+  pub start_is : (cs : List (Chunk T)) (i d : ℕ) → i < length cs → get_or (starts 0 cs) i d ≡ length (joined (take i cs))
+  start_is cs i d inside = omega (arith, start_at 0 cs i d inside)
 
   -- what stands before a chunk and in it stands before the next
   pub front-suc : (cs : List (Chunk T)) (i : ℕ) (d : Chunk T) → i < length cs →
@@ -80,37 +69,13 @@ module _ {T : Type 0} where
   front-rises (c ∷ cs) (suc i) (suc j) le =
       omega (arith, front-rises cs i j (omega arith), length-append (items_in c) (joined (take i cs)), length-append (items_in c) (joined (take j cs)))
 
-  -- one chunk more is told its number
-  pub number_more : (n : ℕ) (cs : List (Chunk T)) (i : ℕ) (d new : Chunk T) → i < length cs →
-      new ≡ record { before = n + length (joined (take i cs)); items = (get_or cs i d).items } →
-      set (numbered n (take i cs) ++ drop i cs) i new ≡ numbered n (take (suc i) cs) ++ drop (suc i) cs
-  number_more n [] i d new inside told = absurd (omega (arith, inside))
-  number_more n (c ∷ cs) zero d new inside told = ap (λ x. x ∷ cs) (told ∙ ap (λ m. record { before = m; items = c.items }) (omega arith))
-  number_more n (c ∷ cs) (suc i) d new inside told =
-      ap (λ l. record { before = n; items = c.items } ∷ l)
-      (number_more (n + length (items_in c)) cs i d new (omega arith)
-      (told ∙ ap (λ m. record { before = m; items = (get_or cs i d).items }) (omega (arith, length-append (items_in c) (joined (take i cs))))))
-
-  pub number_next : (cs : List (Chunk T)) (i : ℕ) (d new : Chunk T) → i < length cs →
-      new ≡ record { before = length (joined (take i cs)); items = (get_or cs i d).items } →
-      set (numbered 0 (take i cs) ++ drop i cs) i new ≡ numbered 0 (take (i + 1) cs) ++ drop (i + 1) cs
-  number_next cs i d new inside told =
-      number_more 0 cs i d new inside (told ∙ ap (λ m. record { before = m; items = (get_or cs i d).items }) (omega arith))
-      ∙ ap (λ m. numbered 0 (take m cs) ++ drop m cs) (next_is i)
-
-  -- the next chunk is still as it was
-  pub number_rest : (n : ℕ) (cs : List (Chunk T)) (i : ℕ) (d : Chunk T) → i < length cs → get_or (numbered n (take i cs) ++ drop i cs) i d ≡ get_or cs i d
-  number_rest n [] i d inside = absurd (omega (arith, inside))
-  number_rest n (c ∷ cs) zero d inside = refl
-  number_rest n (c ∷ cs) (suc i) d inside = number_rest (n + length (items_in c)) cs i d (omega arith)
-
   -- ---- a chunk of as many items in the place of another
 
-  pub numbers-set : (n : ℕ) (cs : List (Chunk T)) (i : ℕ) (new d : Chunk T) → i < length cs → AreNumbered n cs →
-      new.before ≡ (get_or cs i d).before → length (items_in new) ≡ length (items_in (get_or cs i d)) → AreNumbered n (set cs i new)
-  numbers-set n [] i new d inside h told same = tt
-  numbers-set n (c ∷ cs) zero new d inside h told same = (told ∙ h.0, subst (λ m. AreNumbered (n + m) cs) (sym same) h.1)
-  numbers-set n (c ∷ cs) (suc i) new d inside h told same = (h.0, numbers-set (n + length (items_in c)) cs i new d (omega arith) h.1 told same)
+  pub starts-same : (n : ℕ) (cs : List (Chunk T)) (i : ℕ) (new d : Chunk T) → i < length cs →
+      length (items_in new) ≡ length (items_in (get_or cs i d)) → starts n (set cs i new) ≡ starts n cs
+  starts-same n [] i new d inside same = refl
+  starts-same n (c ∷ cs) zero new d inside same = ap (λ m. n ∷ starts (n + m) cs) same
+  starts-same n (c ∷ cs) (suc i) new d inside same = ap (λ l. n ∷ l) (starts-same (n + length (items_in c)) cs i new d (omega arith) same)
 
   pub filled-set : (cs : List (Chunk T)) (i : ℕ) (new d : Chunk T) → i < length cs → AreFilled cs →
       length (items_in new) ≡ length (items_in (get_or cs i d)) → AreFilled (set cs i new)
@@ -133,36 +98,106 @@ module _ {T : Type 0} where
         ap (λ l. length (joined l)) (take_all (suc last) cs (omega (arith, is))),
       )
 
-  -- ---- chunks that are numbered already
+  pub starts-last : (n : ℕ) (cs : List (Chunk T)) (last : ℕ) (new : Chunk T) → last + 1 ≡ length cs → starts n (set cs last new) ≡ starts n cs
+  starts-last n [] last new is = refl
+  starts-last n (c ∷ []) zero new is = refl
+  starts-last n (c ∷ e ∷ cs) zero new is = absurd (omega (arith, is))
+  starts-last n (c ∷ cs) (suc last) new is = ap (λ l. n ∷ l) (starts-last (n + length (items_in c)) cs last new (omega (arith, is)))
 
-  pub numbered-same : (n : ℕ) (cs : List (Chunk T)) → AreNumbered n cs → numbered n cs ≡ cs
-  numbered-same n [] h = refl
-  numbered-same n (c ∷ cs) h =
-      ap (λ m. record { before = m; items = c.items } ∷ numbered (n + length (items_in c)) cs) (sym h.0)
-      ∙ ap (λ l. c ∷ l) (numbered-same (n + length (items_in c)) cs h.1)
+  pub starts-append : (n : ℕ) (cs ds : List (Chunk T)) → starts n (cs ++ ds) ≡ starts n cs ++ starts (n + length (joined cs)) ds
+  starts-append n [] ds = ap (λ m. starts m ds) (omega arith)
+  starts-append n (c ∷ cs) ds =
+      ap (λ l. n ∷ l)
+      (starts-append (n + length (items_in c)) cs ds
+      ∙ ap (λ m. starts (n + length (items_in c)) cs ++ starts m ds) (omega (arith, length-append (items_in c) (joined cs))))
 
-  pub numbers-take : (n : ℕ) (cs : List (Chunk T)) (i : ℕ) → AreNumbered n cs → AreNumbered n (take i cs)
-  numbers-take n cs zero h = tt
-  numbers-take n [] (suc i) h = tt
-  numbers-take n (c ∷ cs) (suc i) h = (h.0, numbers-take (n + length (items_in c)) cs i h.1)
+  -- a chunk behind the others
+  pub starts-pushed : (cs : List (Chunk T)) (c : Chunk T) (n : ℕ) → n ≡ length (joined cs) → starts 0 (cs ++ c ∷ []) ≡ starts 0 cs ++ n ∷ []
+  starts-pushed cs c n is = starts-append 0 cs (c ∷ []) ∙ ap (λ m. starts 0 cs ++ m ∷ []) (omega (arith, is))
 
-  pub front-known : (old new : List (Chunk T)) (i : ℕ) → AreNumbered 0 old → AreSameBefore i old new → AreNumbered 0 (take i new)
-  front-known old new i h same = subst (AreNumbered 0) (sym same) (numbers-take 0 old i h)
+  -- ---- a chunk of one item more, or one less
 
-  pub front-less : (old new : List (Chunk T)) (i j : ℕ) → i ≤ j → AreSameBefore j old new → AreSameBefore i old new
-  front-less old new i j less same = sym (take-take i j new less) ∙ (ap (take i) same ∙ take-take i j old less)
+  starts-raised_from : (n : ℕ) (cs : List (Chunk T)) → starts (n + 1) cs ≡ raised 0 (starts n cs)
+  starts-raised_from n [] = refl
+  starts-raised_from n (c ∷ cs) =
+      ap (λ l. (n + 1) ∷ l)
+      (ap (λ m. starts m cs) (more n (length (items_in c))) ∙ starts-raised_from (n + length (items_in c)) cs)
+    where
+      more : (a b : ℕ) → a + 1 + b ≡ a + b + 1
+      more a b = omega arith
 
-  pub front-inside : (old new : List (Chunk T)) (i : ℕ) → i ≤ length old → AreSameBefore i old new → i ≤ length new
-  front-inside old new i inside same = omega (arith, inside, ap length same, length-take i old, length-take i new)
+  pub starts-grown : (n : ℕ) (cs : List (Chunk T)) (i : ℕ) (new d : Chunk T) → i < length cs →
+      length (items_in new) ≡ length (items_in (get_or cs i d)) + 1 → starts n (set cs i new) ≡ raised (i + 1) (starts n cs)
+  starts-grown n cs i new d inside more = go n cs i inside more ∙ ap (λ k. raised k (starts n cs)) (next_is i)
+    where
+      go : (n : ℕ) (cs : List (Chunk T)) (i : ℕ) → i < length cs →
+          length (items_in new) ≡ length (items_in (get_or cs i d)) + 1 → starts n (set cs i new) ≡ raised (suc i) (starts n cs)
+      go n [] i inside more = absurd (omega (arith, inside))
+      go n (c ∷ cs) zero inside more =
+          ap (λ l. n ∷ l)
+          (ap (λ m. starts m cs) (omega (arith, more)) ∙ starts-raised_from (n + length (items_in c)) cs)
+      go n (c ∷ cs) (suc i) inside more = ap (λ l. n ∷ l) (go (n + length (items_in c)) cs i (omega arith) more)
 
-  -- what a loop that numbers begins with
-  pub number_from : (cs : List (Chunk T)) (i : ℕ) → AreNumbered 0 (take i cs) → cs ≡ numbered 0 (take i cs) ++ drop i cs
-  number_from cs i h = sym (ap (λ l. l ++ drop i cs) (numbered-same 0 (take i cs) h) ∙ take-append-drop i cs)
+  starts-lowered_from : (n m : ℕ) (cs : List (Chunk T)) → n ≡ m + 1 → starts m cs ≡ lowered 0 (starts n cs)
+  starts-lowered_from n m [] is = refl
+  starts-lowered_from n m (c ∷ cs) is =
+      ap (λ k. k ∷ starts (m + length (items_in c)) cs) less
+      ∙ ap (λ l. (n - 1) ∷ l) (starts-lowered_from (n + length (items_in c)) (m + length (items_in c)) cs (omega (arith, is)))
+    where
+      less : m ≡ n - 1
+      less = omega (arith, is)
 
-  -- the chunk before a place
-  pub front-last : (cs : List (Chunk T)) (last : ℕ) (d : Chunk T) → last < length cs → AreNumbered 0 (take (last + 1) cs) →
-      (get_or cs last d).before ≡ length (joined (take last cs))
-  front-last cs last d inside h =
-      ap (λ x. x.before) (sym (get_or-take (last + 1) cs last d (omega arith)))
-      ∙ (number_is (take (last + 1) cs) h last d (omega (arith, inside, length-take (last + 1) cs))
-      ∙ ap (λ l. length (joined l)) (take-take last (last + 1) cs (omega arith)))
+  pub starts-shrunk : (n : ℕ) (cs : List (Chunk T)) (i : ℕ) (new d : Chunk T) → i < length cs →
+      length (items_in new) + 1 ≡ length (items_in (get_or cs i d)) → starts n (set cs i new) ≡ lowered (i + 1) (starts n cs)
+  starts-shrunk n cs i new d inside less = go n cs i inside less ∙ ap (λ k. lowered k (starts n cs)) (next_is i)
+    where
+      go : (n : ℕ) (cs : List (Chunk T)) (i : ℕ) → i < length cs →
+          length (items_in new) + 1 ≡ length (items_in (get_or cs i d)) → starts n (set cs i new) ≡ lowered (suc i) (starts n cs)
+      go n [] i inside less = absurd (omega (arith, inside))
+      go n (c ∷ cs) zero inside less =
+          ap (λ l. n ∷ l) (starts-lowered_from (n + length (items_in c)) (n + length (items_in new)) cs (omega (arith, less)))
+      go n (c ∷ cs) (suc i) inside less = ap (λ l. n ∷ l) (go (n + length (items_in c)) cs i (omega arith) less)
+
+  -- ---- a chunk that goes
+
+  -- an empty one
+  pub starts-without_empty : (n : ℕ) (cs : List (Chunk T)) (i : ℕ) (d : Chunk T) → i < length cs → items_in (get_or cs i d) ≡ [] →
+      starts n (remove cs i) ≡ remove (starts n cs) i
+  starts-without_empty n [] i d inside empty = absurd (omega (arith, inside))
+  starts-without_empty n (c ∷ cs) zero d inside empty = ap (λ m. starts m cs) (omega (arith, ap length empty))
+  starts-without_empty n (c ∷ cs) (suc i) d inside empty =
+      ap (λ l. n ∷ l) (starts-without_empty (n + length (items_in c)) cs i d (omega arith) empty)
+
+  -- one that is joined with the one before it
+  pub starts-joined : (cs : List (Chunk T)) (i : ℕ) (both d : Chunk T) → i + 1 < length cs →
+      items_in both ≡ items_in (get_or cs i d) ++ items_in (get_or cs (i + 1) d) →
+      starts 0 (set (remove cs (i + 1)) i both) ≡ remove (starts 0 cs) (i + 1)
+  starts-joined cs i both d there is =
+      ap (λ k. starts 0 (set (remove cs k) i both)) (sym (next_is i))
+      ∙ (go 0 cs i (omega (arith, there)) (is ∙ ap (λ k. items_in (get_or cs i d) ++ items_in (get_or cs k d)) (sym (next_is i)))
+      ∙ ap (λ k. remove (starts 0 cs) k) (next_is i))
+    where
+      go : (n : ℕ) (cs : List (Chunk T)) (i : ℕ) → suc i < length cs →
+          items_in both ≡ items_in (get_or cs i d) ++ items_in (get_or cs (suc i) d) →
+          starts n (set (remove cs (suc i)) i both) ≡ remove (starts n cs) (suc i)
+      go n [] i there is = absurd (omega (arith, there))
+      go n (c ∷ []) zero there is = absurd (omega (arith, there))
+      go n (c ∷ e ∷ cs) zero there is =
+          ap (λ m. n ∷ starts m cs) (omega (arith, ap length is, length-append (items_in c) (items_in e)))
+      go n (c ∷ cs) (suc i) there is = ap (λ l. n ∷ l) (go (n + length (items_in c)) cs i (omega arith) is)
+
+  -- ---- what the chunks still are
+
+  filled-put : (cs : List (Chunk T)) (i : ℕ) (new : Chunk T) → AreFilled cs → IsFilled new → AreFilled (set cs i new)
+  filled-put [] i new h is = tt
+  filled-put (c ∷ cs) zero new h is = (is, h.1)
+  filled-put (c ∷ cs) (suc i) new h is = (h.0, filled-put cs i new h.1 is)
+
+  filled-without : (cs : List (Chunk T)) (i : ℕ) → AreFilled cs → AreFilled (remove cs i)
+  filled-without [] zero h = tt
+  filled-without [] (suc i) h = tt
+  filled-without (c ∷ cs) zero h = h.1
+  filled-without (c ∷ cs) (suc i) h = (h.0, filled-without cs i h.1)
+
+  pub filled-join : (cs : List (Chunk T)) (i : ℕ) (both : Chunk T) → AreFilled cs → IsFilled both → AreFilled (set (remove cs (i + 1)) i both)
+  filled-join cs i both h is = filled-put (remove cs (i + 1)) i both (filled-without cs (i + 1) h) is

@@ -5,7 +5,7 @@ use Rattle.std.proofs.lemmas.Bool.{cases_Bool}
 use Rattle.std.proofs.lemmas.Bool.Decides.{nat_tests}
 use Rattle.std.proofs.Math.Seq.{take-append_seam, take-append-add, get_or-append_seam}
 use Rattle.std.proofs.lemmas.List.{take-append-drop, get_or-append-add}
-use Rattle.chunked_list.specs.Chunks.{items_in, joined, AreFilled, IsFilled, IsInside, HasRoom, IsSplit, place_of, halved}
+use Rattle.chunked_list.specs.Chunks.{items_in, joined, starts, AreFilled, IsFilled, IsInside, HasRoom, IsSplit, place_of, halved}
 use Rattle.chunked_list.specs.declared.chunk.Chunk.{Chunk}
 use Rattle.chunked_list.proofs.Edits.{joined-append, joined-parts}
 
@@ -24,6 +24,15 @@ module _ {T : Type 0} where
       go [] i low high inside = absurd (omega (arith, inside))
       go (c ∷ cs) zero low high inside = refl
       go (c ∷ cs) (suc i) low high inside = ap (λ l. c ∷ l) (go cs i low high (omega arith))
+
+  starts-around : (n : ℕ) (cs : List (Chunk T)) (i : ℕ) (low high d : Chunk T) (m : ℕ) → i < length cs →
+      length (items_in low) + length (items_in high) ≡ length (items_in (get_or cs i d)) →
+      starts n (take i cs ++ low ∷ high ∷ drop (suc i) cs) ≡ insert (starts n cs) (suc i) (get_or (starts n cs) i m + length (items_in low))
+  starts-around n [] i low high d m inside both = absurd (omega (arith, inside))
+  starts-around n (c ∷ cs) zero low high d m inside both =
+      ap (λ k. n ∷ (n + length (items_in low)) ∷ starts k cs) (omega (arith, both))
+  starts-around n (c ∷ cs) (suc i) low high d m inside both =
+      ap (λ l. n ∷ l) (starts-around (n + length (items_in c)) cs i low high d m (omega arith) both)
 
   filled-around : (cs : List (Chunk T)) (i : ℕ) (low high : Chunk T) → i < length cs → AreFilled cs → IsFilled low → IsFilled high →
       AreFilled (take i cs ++ low ∷ high ∷ drop (suc i) cs)
@@ -57,6 +66,13 @@ module _ {T : Type 0} where
     filled-split =
         subst AreFilled (sym shape)
         (filled-around old i split.low split.high inside filled (record { some = omega (arith, low_long); few = omega (arith, low_long) }) (record { some = omega (arith, high_long); few = omega (arith, high_long) }))
+
+    pub starts-split : (first m : ℕ) → first ≡ get_or (starts 0 old) i m → starts 0 new ≡ insert (starts 0 old) (i + 1) (first + 32)
+    starts-split first m is =
+        ap (starts 0) shape
+        ∙ (starts-around 0 old i split.low split.high d m inside (omega (arith, low_long, high_long, long))
+        ∙ (ap (λ k. insert (starts 0 old) k (get_or (starts 0 old) i m + length (items_in split.low))) (sym next_is)
+        ∙ ap (λ k. insert (starts 0 old) (i + 1) k) (omega (arith, is, low_long))))
 
     pub joined-split : joined new ≡ joined old
     joined-split =

@@ -1,4 +1,4 @@
--- A list in chunks, each with the number of items before it.
+-- A list in chunks.
 use Rattle.std.specs.Prelude.{◌≡◌, ℕ, Bool, false, ◌+◌, ◌-◌, ◌<◌, ◌≤◌, List, [], ◌∷◌, ◌++◌, length, take, drop, slice_index_or, nat_lt, if◌then◌else◌}
 use Rattle.std.specs.List.{AllByRecursion, flat_map}
 use Rattle.std.specs.Vec.{vec_capacity}
@@ -21,23 +21,15 @@ module _ {T : Type 0} where
   abbrev pub AreFilled : List (Chunk T) → Type 0
   AreFilled cs = AllByRecursion IsFilled cs
 
-  -- each knows how many items stand before it, and so many before the first
-  abbrev pub AreNumbered : ℕ → List (Chunk T) → Type 0
-  AreNumbered before [] = Unit {0}
-  AreNumbered before (c ∷ cs) = (c.before ≡ before) × AreNumbered (before + length (items_in c)) cs
+  -- how many items stand before each, and so many before the first
+  abbrev pub starts : ℕ → List (Chunk T) → List ℕ
+  starts before [] = []
+  starts before (c ∷ cs) = before ∷ starts (before + length (items_in c)) cs
 
-  pub record AreChunks (cs : List (Chunk T)) : Type 0 where
+  -- chunks, and how many items stand before each
+  pub record AreChunks (cs : List (Chunk T)) (firsts : List ℕ) : Type 0 where
     pub filled : AreFilled cs
-    pub numbers : AreNumbered 0 cs
-
-  -- the chunks, told how many items stand before them
-  abbrev pub numbered : ℕ → List (Chunk T) → List (Chunk T)
-  numbered before [] = []
-  numbered before (c ∷ cs) = record { before = before; items = c.items } ∷ numbered (before + length (items_in c)) cs
-
-  -- the chunks before a place stand as they stood
-  abbrev pub AreSameBefore : ℕ → List (Chunk T) → List (Chunk T) → Type 0
-  AreSameBefore place old new = take place new ≡ take place old
+    pub numbers : firsts ≡ starts 0 cs
 
   -- ---- a spot
 

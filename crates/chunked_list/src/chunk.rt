@@ -13,8 +13,6 @@ pub const JOINED: usize = 48;
 // Items that stand one after another.
 #[derive(Drop)]
 pub struct Chunk<T> {
-    // how many items of the list stand before them
-    pub before: usize,
     pub items: Vec<T>,
 }
 

@@ -1,63 +1,49 @@
-ghost use Rattle.std.specs.Prelude.{◌≡◌, ◌+◌, ◌-◌, ◌<◌, ◌≤◌, ◌^◌, ◌∷◌, [], ◌++◌, true, length, take, slice_index_or, slice_set, OnOk, OnErr, IfOk, IfSome};
+ghost use Rattle.std.specs.Prelude.{◌≡◌, ◌+◌, ◌-◌, ◌<◌, ◌≤◌, ◌^◌, ◌∷◌, [], ◌++◌, true, length, slice_index_or, slice_set, OnOk, OnErr, IfOk, IfSome};
 ghost use Rattle.std.specs.List.{insert, remove};
-ghost use Rattle.chunked_list.specs.Chunks.{items_in, joined, numbered, AreNumbered, AreChunks, AreFilled, AreSameBefore, CanJoin, IsInside, HasRoom, IsSplit, place_of};
+ghost use Rattle.chunked_list.specs.Chunks.{items_in, joined, starts, AreChunks, AreFilled, CanJoin, IsInside, HasRoom, IsSplit, place_of};
 
 use crate::chunk::{Chunk, HALF, JOINED, LIMIT};
+use crate::first::{lower, raise};
 use crate::spot::{Spot, halved, spot_of};
 use net_base::OutOfMemory;
 use std::alloc::AllocError;
 use std::mem;
 
-// Tells each chunk from a place on how many items stand before it. Those before that place know it already.
-fn number<T>(chunks: &mut Vec<Chunk<T>>, from: usize)
-    requires few { length (joined chunks.old.items) < 2 ^ 64 }
-    requires upto { from ≤ length chunks.old.items }
-    requires known { AreNumbered 0 (take from chunks.old.items) }
-    ensures { chunks.new.items ≡ numbered 0 chunks.old.items }
-{
-    let mut before = items_before(chunks, from);
-    for place in from..chunks.len() {
-        let chunk = &mut chunks[place];
-        chunk.before = before;
-        before += chunk.items.len();
-    }
-}
-
-// How many items stand before the chunk at a place, where the chunks before it know their numbers.
-fn items_before<T>(chunks: &[Chunk<T>], place: usize) -> usize
-    requires few { length (joined chunks.now) < 2 ^ 64 }
-    requires upto { place ≤ length chunks.now }
-    requires known { AreNumbered 0 (take place chunks.now) }
-    ensures { result ≡ length (joined (take place chunks.now)) }
-{
-    let Some(last) = place.checked_sub(1) else {
-        return 0;
-    };
-    let chunk = &chunks[last];
-    chunk.before + chunk.items.len()
-}
-
 // Puts an item in before the one at a spot, where its chunk has room.
-fn put<T: Drop>(chunks: &mut Vec<Chunk<T>>, spot: Spot, item: T) -> Result<(), OutOfMemory>
+fn put<T: Drop>(
+    chunks: &mut Vec<Chunk<T>>,
+    firsts: &mut Vec<usize>,
+    spot: Spot,
+    item: T,
+) -> Result<(), OutOfMemory>
     requires filled { AreFilled chunks.old.items }
+    requires numbers { firsts.old.items ≡ starts 0 chunks.old.items }
+    requires few { length (joined chunks.old.items) + 1 < 2 ^ 64 }
     requires inside { IsInside chunks.old.items spot }
     requires room { HasRoom chunks.old.items spot.chunk }
     ensures filled { AreFilled chunks.new.items }
-    ensures front { AreSameBefore spot.chunk chunks.old.items chunks.new.items }
+    ensures numbers { firsts.new.items ≡ starts 0 chunks.new.items }
     ensures ok { OnOk result (joined chunks.new.items ≡ insert (joined chunks.old.items) (place_of chunks.old.items spot) item) }
     ensures err { OnErr result (joined chunks.new.items ≡ joined chunks.old.items) }
 {
-    chunks[spot.chunk].insert(spot.at, item)
+    chunks[spot.chunk].insert(spot.at, item)?;
+    raise(firsts, spot.chunk + 1);
+    Ok(())
 }
 
 // Makes room in the chunk of a spot: a full one is cut in two. The answer is the spot after that.
-fn make_room<T: Drop>(chunks: &mut Vec<Chunk<T>>, spot: Spot) -> Result<Spot, AllocError>
+fn make_room<T: Drop>(
+    chunks: &mut Vec<Chunk<T>>,
+    firsts: &mut Vec<usize>,
+    spot: Spot,
+) -> Result<Spot, AllocError>
     requires filled { AreFilled chunks.old.items }
+    requires numbers { firsts.old.items ≡ starts 0 chunks.old.items }
+    requires few { length (joined chunks.old.items) < 2 ^ 64 }
     requires inside { IsInside chunks.old.items spot }
     ensures filled { AreFilled chunks.new.items }
-    ensures front { AreSameBefore spot.chunk chunks.old.items chunks.new.items }
+    ensures numbers { firsts.new.items ≡ starts 0 chunks.new.items }
     ensures same { joined chunks.new.items ≡ joined chunks.old.items }
-    ensures behind { IfOk result (λ s. spot.chunk ≤ s.chunk) }
     ensures inside { IfOk result (λ s. IsInside chunks.new.items s) }
     ensures room { IfOk result (λ s. HasRoom chunks.new.items s.chunk) }
     ensures place { IfOk result (λ s. place_of chunks.new.items s ≡ place_of chunks.old.items spot) }
@@ -65,7 +51,10 @@ fn make_room<T: Drop>(chunks: &mut Vec<Chunk<T>>, spot: Spot) -> Result<Spot, Al
     if chunks[spot.chunk].items.len() < LIMIT {
         return Ok(spot);
     }
+    firsts.try_reserve(1)?;
     split(chunks, spot.chunk)?;
+    // there is room
+    let _ = firsts.insert(spot.chunk + 1, firsts[spot.chunk] + HALF);
     Ok(halved(spot))
 }
 
@@ -79,28 +68,8 @@ fn split<T: Drop>(chunks: &mut Vec<Chunk<T>>, chunk: usize) -> Result<(), AllocE
     chunks.try_reserve(1)?;
     let high = chunks[chunk].items.split_off(HALF)?;
     // there is room
-    let _ = chunks.insert(
-        chunk + 1,
-        Chunk {
-            before: 0,
-            items: high,
-        },
-    );
+    let _ = chunks.insert(chunk + 1, Chunk { items: high });
     Ok(())
-}
-
-// Puts an item behind the last one.
-fn push<T: Drop>(chunks: &mut Vec<Chunk<T>>, item: T) -> Result<(), OutOfMemory>
-    requires { AreFilled chunks.old.items }
-    ensures filled { AreFilled chunks.new.items }
-    ensures front { AreSameBefore (length chunks.old.items - 1) chunks.old.items chunks.new.items }
-    ensures ok { OnOk result (joined chunks.new.items ≡ joined chunks.old.items ++ item ∷ []) }
-    ensures err { OnErr result (joined chunks.new.items ≡ joined chunks.old.items) }
-{
-    match last_with_room(chunks) {
-        Some(last) => push_within(chunks, last, item),
-        None => push_chunk(chunks, item),
-    }
 }
 
 // The last chunk, where it has room for one more.
@@ -118,54 +87,69 @@ fn push_within<T: Drop>(chunks: &mut Vec<Chunk<T>>, last: usize, item: T) -> Res
     requires last { last + 1 ≡ length chunks.old.items }
     requires room { HasRoom chunks.old.items last }
     ensures filled { AreFilled chunks.new.items }
-    ensures front { AreSameBefore last chunks.old.items chunks.new.items }
+    ensures numbers { starts 0 chunks.new.items ≡ starts 0 chunks.old.items }
     ensures ok { OnOk result (joined chunks.new.items ≡ joined chunks.old.items ++ item ∷ []) }
     ensures err { OnErr result (joined chunks.new.items ≡ joined chunks.old.items) }
 {
     chunks[last].push(item)
 }
 
-// Puts a chunk of one item behind the others.
-fn push_chunk<T: Drop>(chunks: &mut Vec<Chunk<T>>, item: T) -> Result<(), OutOfMemory>
-    requires { AreFilled chunks.old.items }
+// Puts a chunk of one item behind the others, which have as many items as `len` says.
+fn push_chunk<T: Drop>(
+    chunks: &mut Vec<Chunk<T>>,
+    firsts: &mut Vec<usize>,
+    len: usize,
+    item: T,
+) -> Result<(), OutOfMemory>
+    requires filled { AreFilled chunks.old.items }
+    requires numbers { firsts.old.items ≡ starts 0 chunks.old.items }
+    requires len { len ≡ length (joined chunks.old.items) }
     ensures filled { AreFilled chunks.new.items }
-    ensures front { AreSameBefore (length chunks.old.items) chunks.old.items chunks.new.items }
+    ensures numbers { firsts.new.items ≡ starts 0 chunks.new.items }
     ensures ok { OnOk result (joined chunks.new.items ≡ joined chunks.old.items ++ item ∷ []) }
     ensures err { OnErr result (joined chunks.new.items ≡ joined chunks.old.items) }
 {
+    firsts.try_reserve(1)?;
     let mut items = Vec::new(*chunks.allocator());
     items.push(item)?;
-    chunks.push(Chunk { before: 0, items })?;
+    chunks.push(Chunk { items })?;
+    // there is room
+    let _ = firsts.push(len);
     Ok(())
 }
 
 // Takes out the item at a spot. A chunk that gets empty goes.
-fn take_out<T: Drop>(chunks: &mut Vec<Chunk<T>>, spot: Spot) -> T
+fn take_out<T: Drop>(chunks: &mut Vec<Chunk<T>>, firsts: &mut Vec<usize>, spot: Spot) -> T
     requires filled { AreFilled chunks.old.items }
+    requires numbers { firsts.old.items ≡ starts 0 chunks.old.items }
     requires inside { IsInside chunks.old.items spot }
     ensures filled { AreFilled chunks.new.items }
-    ensures front { AreSameBefore spot.chunk chunks.old.items chunks.new.items }
+    ensures numbers { firsts.new.items ≡ starts 0 chunks.new.items }
     ensures value { result ≡ slice_index_or (joined chunks.old.items) (place_of chunks.old.items spot) result }
     ensures items { joined chunks.new.items ≡ remove (joined chunks.old.items) (place_of chunks.old.items spot) }
 {
     let item = chunks[spot.chunk].items.remove(spot.at);
+    lower(firsts, spot.chunk + 1);
     if chunks[spot.chunk].items.is_empty() {
         chunks.remove(spot.chunk);
+        firsts.remove(spot.chunk);
     }
     item
 }
 
 // Joins the chunk at a place with the one behind it, where the two can be one.
-fn join_next<T: Drop>(chunks: &mut Vec<Chunk<T>>, place: usize)
-    requires { AreFilled chunks.old.items }
+fn join_next<T: Drop>(chunks: &mut Vec<Chunk<T>>, firsts: &mut Vec<usize>, place: usize)
+    requires filled { AreFilled chunks.old.items }
+    requires numbers { firsts.old.items ≡ starts 0 chunks.old.items }
     ensures filled { AreFilled chunks.new.items }
-    ensures front { AreSameBefore place chunks.old.items chunks.new.items }
+    ensures numbers { firsts.new.items ≡ starts 0 chunks.new.items }
     ensures same { joined chunks.new.items ≡ joined chunks.old.items }
 {
     if !can_join(chunks, place) {
         return;
     }
     let mut next = chunks.remove(place + 1);
+    firsts.remove(place + 1);
     // there is room
     let _ = chunks[place].items.append(&mut next.items);
 }
@@ -184,9 +168,10 @@ fn can_join<T>(chunks: &[Chunk<T>], place: usize) -> bool
 
 // Puts an item in the place of the one at a spot.
 pub fn exchange<T: Drop>(chunks: &mut Vec<Chunk<T>>, spot: Spot, item: T) -> T
-    requires kept { AreChunks chunks.old.items }
+    requires filled { AreFilled chunks.old.items }
     requires inside { IsInside chunks.old.items spot }
-    ensures kept { AreChunks chunks.new.items }
+    ensures filled { AreFilled chunks.new.items }
+    ensures numbers { starts 0 chunks.new.items ≡ starts 0 chunks.old.items }
     ensures value { result ≡ slice_index_or (joined chunks.old.items) (place_of chunks.old.items spot) result }
     ensures items { joined chunks.new.items ≡ slice_set (joined chunks.old.items) (place_of chunks.old.items spot) item }
 {
@@ -196,68 +181,76 @@ pub fn exchange<T: Drop>(chunks: &mut Vec<Chunk<T>>, spot: Spot, item: T) -> T
 // Puts an item in at a place of the list.
 pub fn insert_at<T: Drop>(
     chunks: &mut Vec<Chunk<T>>,
+    firsts: &mut Vec<usize>,
     place: usize,
     len: usize,
     item: T,
 ) -> Result<(), OutOfMemory>
-    requires kept { AreChunks chunks.old.items }
+    requires kept { AreChunks chunks.old.items firsts.old.items }
     requires len { len ≡ length (joined chunks.old.items) }
     requires few { len + 1 < 2 ^ 64 }
     requires upto { place ≤ len }
-    ensures kept { AreChunks chunks.new.items }
+    ensures kept { AreChunks chunks.new.items firsts.new.items }
     ensures ok { OnOk result (joined chunks.new.items ≡ insert (joined chunks.old.items) place item) }
     ensures err { OnErr result (joined chunks.new.items ≡ joined chunks.old.items) }
 {
     if place == len {
-        return append(chunks, item);
+        return append(chunks, firsts, len, item);
     }
-    let spot = spot_of(chunks, place);
-    let done = put_in(chunks, spot, item);
-    number(chunks, spot.chunk);
-    done
+    let spot = spot_of(chunks, firsts, place);
+    put_in(chunks, firsts, spot, item)
 }
 
-// Puts an item in at the end of the list.
-fn append<T: Drop>(chunks: &mut Vec<Chunk<T>>, item: T) -> Result<(), OutOfMemory>
-    requires kept { AreChunks chunks.old.items }
-    requires few { length (joined chunks.old.items) + 1 < 2 ^ 64 }
-    ensures kept { AreChunks chunks.new.items }
+// Puts an item in at the end of the list, which has as many items as `len` says.
+fn append<T: Drop>(
+    chunks: &mut Vec<Chunk<T>>,
+    firsts: &mut Vec<usize>,
+    len: usize,
+    item: T,
+) -> Result<(), OutOfMemory>
+    requires kept { AreChunks chunks.old.items firsts.old.items }
+    requires len { len ≡ length (joined chunks.old.items) }
+    ensures kept { AreChunks chunks.new.items firsts.new.items }
     ensures ok { OnOk result (joined chunks.new.items ≡ joined chunks.old.items ++ item ∷ []) }
     ensures err { OnErr result (joined chunks.new.items ≡ joined chunks.old.items) }
 {
-    let last = chunks.len().saturating_sub(1);
-    let done = push(chunks, item);
-    number(chunks, last);
-    done
+    match last_with_room(chunks) {
+        Some(last) => push_within(chunks, last, item),
+        None => push_chunk(chunks, firsts, len, item),
+    }
 }
 
-// Puts an item in before the one at a spot, and leaves the numbers of the chunks as they were.
-fn put_in<T: Drop>(chunks: &mut Vec<Chunk<T>>, spot: Spot, item: T) -> Result<(), OutOfMemory>
+// Puts an item in before the one at a spot.
+fn put_in<T: Drop>(
+    chunks: &mut Vec<Chunk<T>>,
+    firsts: &mut Vec<usize>,
+    spot: Spot,
+    item: T,
+) -> Result<(), OutOfMemory>
     requires filled { AreFilled chunks.old.items }
+    requires numbers { firsts.old.items ≡ starts 0 chunks.old.items }
+    requires few { length (joined chunks.old.items) + 1 < 2 ^ 64 }
     requires inside { IsInside chunks.old.items spot }
     ensures filled { AreFilled chunks.new.items }
-    ensures front { AreSameBefore spot.chunk chunks.old.items chunks.new.items }
+    ensures numbers { firsts.new.items ≡ starts 0 chunks.new.items }
     ensures ok { OnOk result (joined chunks.new.items ≡ insert (joined chunks.old.items) (place_of chunks.old.items spot) item) }
     ensures err { OnErr result (joined chunks.new.items ≡ joined chunks.old.items) }
 {
-    let spot = make_room(chunks, spot)?;
-    put(chunks, spot, item)
+    let spot = make_room(chunks, firsts, spot)?;
+    put(chunks, firsts, spot, item)
 }
 
 // Takes out the item at a place of the list.
-pub fn remove_at<T: Drop>(chunks: &mut Vec<Chunk<T>>, place: usize) -> T
-    requires kept { AreChunks chunks.old.items }
-    requires few { length (joined chunks.old.items) < 2 ^ 64 }
+pub fn remove_at<T: Drop>(chunks: &mut Vec<Chunk<T>>, firsts: &mut Vec<usize>, place: usize) -> T
+    requires kept { AreChunks chunks.old.items firsts.old.items }
     requires inside { place < length (joined chunks.old.items) }
-    ensures kept { AreChunks chunks.new.items }
+    ensures kept { AreChunks chunks.new.items firsts.new.items }
     ensures value { result ≡ slice_index_or (joined chunks.old.items) place result }
     ensures items { joined chunks.new.items ≡ remove (joined chunks.old.items) place }
 {
-    let spot = spot_of(chunks, place);
-    let item = take_out(chunks, spot);
-    join_next(chunks, spot.chunk);
-    let first = spot.chunk.saturating_sub(1);
-    join_next(chunks, first);
-    number(chunks, first);
+    let spot = spot_of(chunks, firsts, place);
+    let item = take_out(chunks, firsts, spot);
+    join_next(chunks, firsts, spot.chunk);
+    join_next(chunks, firsts, spot.chunk.saturating_sub(1));
     item
 }

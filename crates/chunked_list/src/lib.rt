@@ -3,6 +3,7 @@
 
 mod chunk;
 mod edit;
+mod first;
 mod list;
 mod point;
 mod search;

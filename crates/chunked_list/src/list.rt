@@ -16,6 +16,8 @@ use std::marker::Model;
 #[derive(Drop)]
 pub struct ChunkedList<T> {
     chunks: Vec<Chunk<T>>,
+    // how many items stand before each chunk
+    firsts: Vec<usize>,
     len: usize,
 }
 
@@ -27,7 +29,7 @@ impl<T> Model for ChunkedList<T> {
 
     ghost view = { λ l. joined l.chunks.items };
 
-    ghost invariant = { λ l. AreChunks l.chunks.items × (l.len ≡ length (joined l.chunks.items)) };
+    ghost invariant = { λ l. AreChunks l.chunks.items l.firsts.items × (l.len ≡ length (joined l.chunks.items)) };
 }
 
 impl<T> ChunkedList<T> {
@@ -37,6 +39,7 @@ impl<T> ChunkedList<T> {
     {
         ChunkedList {
             chunks: Vec::new(alloc),
+            firsts: Vec::new(alloc),
             len: 0,
         }
     }
@@ -58,7 +61,7 @@ impl<T> ChunkedList<T> {
         requires { place < length self.now }
         ensures { result.now ≡ slice_index_or self.now place result.now }
     {
-        let spot = spot_of(&self.chunks, place);
+        let spot = spot_of(&self.chunks, &self.firsts, place);
         &self.chunks[spot.chunk].items[spot.at]
     }
 
@@ -82,7 +85,7 @@ impl<T> ChunkedList<T> {
         if self.len == 0 {
             return 0;
         }
-        point_in(&self.chunks, pred)
+        point_in(&self.chunks, &self.firsts, pred)
     }
 }
 
@@ -107,7 +110,7 @@ impl<T: Drop> ChunkedList<T> {
         ensures err { OnErr result (self.new ≡ self.old) }
     {
         let len = self.len.checked_add(1).ok_or(OutOfMemory)?;
-        insert_at(&mut self.chunks, place, self.len, item)?;
+        insert_at(&mut self.chunks, &mut self.firsts, place, self.len, item)?;
         self.len = len;
         Ok(())
     }
@@ -126,7 +129,7 @@ impl<T: Drop> ChunkedList<T> {
         ensures value { result ≡ slice_index_or self.old place result }
         ensures items { self.new ≡ remove self.old place }
     {
-        let item = remove_at(&mut self.chunks, place);
+        let item = remove_at(&mut self.chunks, &mut self.firsts, place);
         self.len -= 1;
         item
     }
@@ -137,7 +140,7 @@ impl<T: Drop> ChunkedList<T> {
         ensures value { result ≡ slice_index_or self.old place result }
         ensures items { self.new ≡ slice_set self.old place item }
     {
-        let spot = spot_of(&self.chunks, place);
+        let spot = spot_of(&self.chunks, &self.firsts, place);
         exchange(&mut self.chunks, spot, item)
     }
 }

@@ -7,8 +7,8 @@ use crate::chunk::Chunk;
 use crate::point::point_of;
 
 // How many items pass, where those that do stand before the others.
-pub fn point_in<T, P: Fn(&T) -> bool>(chunks: &[Chunk<T>], pred: P) -> usize
-    requires kept { AreChunks chunks.now }
+pub fn point_in<T, P: Fn(&T) -> bool>(chunks: &[Chunk<T>], firsts: &[usize], pred: P) -> usize
+    requires kept { AreChunks chunks.now firsts.now }
     requires few { length (joined chunks.now) < 2 ^ 64 }
     requires callable { P.IsAlwaysCallable pred }
     ensures bound { result ≤ length (joined chunks.now) }
@@ -29,6 +29,5 @@ pub fn point_in<T, P: Fn(&T) -> bool>(chunks: &[Chunk<T>], pred: P) -> usize
     let Some(last) = begun.checked_sub(1) else {
         return 0;
     };
-    let chunk = &chunks[last];
-    chunk.before + chunk.items.partition_point(pred)
+    firsts[last] + chunks[last].items.partition_point(pred)
 }

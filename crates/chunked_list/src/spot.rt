@@ -12,16 +12,16 @@ pub struct Spot {
 }
 
 // Where the item at a place of the list stands.
-pub fn spot_of<T>(chunks: &[Chunk<T>], place: usize) -> Spot
-    requires kept { AreChunks chunks.now }
+pub fn spot_of<T>(chunks: &[Chunk<T>], firsts: &[usize], place: usize) -> Spot
+    requires kept { AreChunks chunks.now firsts.now }
     requires inside { place < length (joined chunks.now) }
     ensures inside { IsInside chunks.now result }
     ensures place { place_of chunks.now result ≡ place }
 {
-    let chunk = point_of(chunks, |chunk| chunk.before <= place) - 1;
+    let chunk = point_of(firsts, |first| *first <= place) - 1;
     Spot {
         chunk,
-        at: place - chunks[chunk].before,
+        at: place - firsts[chunk],
     }
 }
 

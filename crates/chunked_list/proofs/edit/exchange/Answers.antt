@@ -2,7 +2,7 @@ use Rattle.std.proofs.Common.{◌≡◌, sym, subst, ap, ◌∙◌, length, get_
 use Rattle.std.specs.Vec.{with_item}
 use Rattle.chunked_list.specs.Chunks.{items_in, joined, place_of}
 use Rattle.chunked_list.proofs.Edits.{get_in_chunk, set_in_chunk}
-use Rattle.chunked_list.proofs.Numbers.{numbers-set, filled-set}
+use Rattle.chunked_list.proofs.Numbers.{starts-same}
 use Rattle.chunked_list.proofs.edit.exchange.Goals as goal
 
 pub returns-clause-value : goal.returns-clause-value
@@ -22,17 +22,14 @@ returns-clause-items g c =
     let i = c.args.spot.chunk in
     let at = c.args.spot.at in
     let d = c.index_mut.result.now in
-    set_in_chunk cs i at (record { before = d.before; items = with_item d.items at c.replace.new.dest }) d c.requires.inside.chunk c.args.item (c.requires.inside.at d)
+    set_in_chunk cs i at (record { items = with_item d.items at c.replace.new.dest }) d c.requires.inside.chunk c.args.item (c.requires.inside.at d)
     (ap (λ x. set (items_in d) at x) c.replace.ensures.after ∙ ap (λ x. set (items_in x) at c.args.item) c.index_mut.ensures.value)
 
-pub returns-clause-kept : goal.returns-clause-kept
-returns-clause-kept g c =
+pub returns-clause-numbers : goal.returns-clause-numbers
+returns-clause-numbers g c =
     let cs = c.args.chunks.now.items in
     let i = c.args.spot.chunk in
     let at = c.args.spot.at in
     let d = c.index_mut.result.now in
-    let same : length (set (items_in d) at c.replace.new.dest) ≡ length (items_in (get_or cs i d)) = length-set (items_in d) at c.replace.new.dest ∙ ap (λ x. length (items_in x)) c.index_mut.ensures.value in
-    record {
-      filled = filled-set cs i (record { before = d.before; items = with_item d.items at c.replace.new.dest }) d c.requires.inside.chunk c.requires.kept.filled same;
-      numbers = numbers-set 0 cs i (record { before = d.before; items = with_item d.items at c.replace.new.dest }) d c.requires.inside.chunk c.requires.kept.numbers (ap (λ x. x.before) c.index_mut.ensures.value) same;
-    }
+    starts-same 0 cs i (record { items = with_item d.items at c.replace.new.dest }) d c.requires.inside.chunk
+    (length-set (items_in d) at c.replace.new.dest ∙ ap (λ x. length (items_in x)) c.index_mut.ensures.value)

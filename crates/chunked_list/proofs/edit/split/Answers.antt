@@ -12,8 +12,8 @@ returns-clause-ok g c =
     let cs = c.args.chunks.now.items in
     let i = c.args.chunk in
     let old = c.index_mut.result.now in
-    let low : Chunk g.row.T.Denot = record { before = old.before; items = c.split_off.new.self } in
-    let high : Chunk g.row.T.Denot = record { before = 0; items = c.in_ok-high.high } in
+    let low : Chunk g.row.T.Denot = record { items = c.split_off.new.self } in
+    let high : Chunk g.row.T.Denot = record { items = c.in_ok-high.high } in
     let went : is_ok c.insert.result ≡ true = c.insert.ensures.succeeds (omega (arith, c.in_ok-try_reserve.ensures.ok)) in
     let is : (d : Chunk g.row.T.Denot) → old ≡ get_or cs i d = λ d.
     c.index_mut.ensures.value ∙ (ap (λ l. get_or l i old) c.try_reserve.ensures.items ∙ get_or_default cs i old d c.requires.there) in

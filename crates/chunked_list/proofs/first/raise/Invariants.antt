@@ -1,0 +1,6 @@
+use Rattle.std.proofs.Common.{◌≡◌, ◌++◌, take, drop}
+use Rattle.chunked_list.specs.Firsts.{raised}
+use Rattle.chunked_list.proofs.first.raise.Given as goal
+
+abbrev pub invariant-loop-place : goal.invariant-loop-place
+invariant-loop-place l = l.firsts.items ≡ take l.place (raised l.from l.fn.firsts.items) ++ drop l.place l.fn.firsts.items
