@@ -1,5 +1,5 @@
 -- The members of groups, and the places that are noted for them.
-use Rattle.std.proofs.Common.{◌≡◌, ℕ, suc, ◌<◌, ◌≤◌, ◌+◌, Bool, true, false, ◌||◌, cond, List, [], ◌∷◌, ◌++◌, length, drop, get_or, Option, Some, None, is_some, refl, sym, ap, ◌∙◌, inl, inr, arith, append_assoc, add-one, add-zero, drop-cons}
+use Rattle.std.proofs.Common.{◌≡◌, ℕ, suc, ◌<◌, ◌≤◌, ◌+◌, Bool, true, false, ◌||◌, cond, List, [], ◌∷◌, ◌++◌, length, drop, get_or, Option, Some, None, is_some, refl, sym, ap, subst, ◌∙◌, inl, inr, arith, append_assoc, add-one, add-zero, drop-cons}
 use Rattle.std.specs.List.{position_from}
 use Rattle.std.proofs.Math.ListN.{drop_of_length-le}
 use Rattle.std.proofs.lemmas.Bool.{cases_Bool, false≢true}
@@ -9,7 +9,8 @@ use Rattle.net_base.specs.Address.{same_address}
 use Rattle.net_base.specs.declared.address.Addr.{Addr}
 use Rattle.net_base.specs.declared.event.Group.{Group}
 use Rattle.root_groups.specs.Cleaned.{is_listed, first_places, cleaned_after, cleaned, members_of, group_of}
-use Rattle.root_groups.specs.Places.{placed_at, placed_from, place_of, addresses_in}
+use Rattle.net_base.proofs.AddressOrder.{same_address-is, same_address-itself, other_address-turn}
+use Rattle.root_groups.specs.Places.{placed_at, placed_from, place_of, addresses_in, Tells, place_behind, is_taken}
 
 -- ---- look-ups
 
@@ -32,7 +33,7 @@ pub place_of-groups : (addr : Addr) (groups : List Group) → place_of addr (pla
 place_of-groups addr groups =
     place_of-placed_from addr 0 groups ∙ sym (position_from-zero (λ g. is_listed addr g.members) groups)
 
-pub place_of-listed : (addr : Addr) (entries : List (Addr × ℕ)) → is_some (place_of addr entries) ≡ is_listed addr (addresses_in entries)
+place_of-listed : (addr : Addr) (entries : List (Addr × ℕ)) → is_some (place_of addr entries) ≡ is_listed addr (addresses_in entries)
 place_of-listed addr [] = refl
 place_of-listed addr (e ∷ entries) = elim (cases_Bool (same_address addr e.0)) [
   | inl same ↦ rw same refl
@@ -43,13 +44,50 @@ no_place : (o : Option ℕ) → is_some o ≡ false → o ≡ None
 no_place None h = refl
 no_place (Some n) h = absurd (false≢true (sym h))
 
-pub place_of-new : (own addr : Addr) (entries : List (Addr × ℕ)) → is_listed addr (own ∷ addresses_in entries) ≡ false → place_of addr entries ≡ None
-place_of-new own addr entries h =
-    no_place (place_of addr entries) (place_of-listed addr entries ∙ later (same_address addr own) (is_listed addr (addresses_in entries)) h)
+pub has_no_place : (own addr : Addr) (places : List (Addr × ℕ)) → is_taken own places addr ≡ false → place_of addr places ≡ None
+has_no_place own addr places h = no_place (place_of addr places) (later (same_address addr own) (is_some (place_of addr places)) h)
   where
     later : (b c : Bool) → (b || c) ≡ false → c ≡ false
     later true c h = absurd (false≢true (sym h))
     later false c h = h
+
+pub taken_is_listed : (own addr : Addr) (places : List (Addr × ℕ)) (entries : List (Addr × ℕ)) → Tells places entries →
+    is_taken own places addr ≡ is_listed addr (own ∷ addresses_in entries)
+taken_is_listed own addr places entries told =
+    ap (λ o. same_address addr own || is_some o) (told addr) ∙ ap (λ b. same_address addr own || b) (place_of-listed addr entries)
+
+place_of-behind : (addr : Addr) (entries more : List (Addr × ℕ)) → place_of addr entries ≡ None → place_of addr (entries ++ more) ≡ place_of addr more
+place_of-behind addr [] more h = refl
+place_of-behind addr (e ∷ entries) more h = elim (cases_Bool (same_address addr e.0)) [
+  | inl same ↦ absurd (some_is_none (rw same at h))
+  | inr other ↦ rw other (place_of-behind addr entries more (rw other at h))
+]
+  where
+    some_is_none : {n : ℕ} → Some n ≡ None → ⊥
+    some_is_none h = absurd cc
+
+place_of-before : (addr other : Addr) (place : ℕ) (entries : List (Addr × ℕ)) → same_address other addr ≡ false →
+    place_of other (entries ++ (addr, place) ∷ []) ≡ place_of other entries
+place_of-before addr other place [] h = rw h refl
+place_of-before addr other place (e ∷ entries) h = ap (cond (same_address other e.0) (Some e.1)) (place_of-before addr other place entries h)
+
+-- the look-up and the list, after one more
+told_more : (addr : Addr) (place : ℕ) (places : List (Addr × ℕ)) (entries : List (Addr × ℕ)) → Tells places entries → place_of addr places ≡ None →
+    (other : Addr) → place_behind addr place places other ≡ place_of other (entries ++ (addr, place) ∷ [])
+told_more addr place places entries told new other = elim (cases_Bool (same_address addr other)) [
+  | inl same ↦ let itself = same_address-is addr other same in
+      rw same (sym (ap (λ a. place_of a (entries ++ (addr, place) ∷ [])) (sym itself)
+      ∙ place_of-behind addr entries ((addr, place) ∷ []) (sym (told addr) ∙ new)
+      ∙ rw (same_address-itself addr) refl))
+  | inr differs ↦ rw differs (told other ∙ sym (place_of-before addr other place entries (other_address-turn addr other differs)))
+]
+
+told_next : (own addr : Addr) (place : ℕ) (places next_places : List (Addr × ℕ)) (entries : List (Addr × ℕ)) (known : Bool) →
+    is_taken own places addr ≡ known → Tells places entries → ((other : Addr) → place_of other next_places ≡ cond known (place_of other places) (place_behind addr place places other)) →
+    Tells next_places (cond known entries (entries ++ (addr, place) ∷ []))
+told_next own addr place places next_places entries true is told next other = next other ∙ told other
+told_next own addr place places next_places entries false is told next other =
+    next other ∙ told_more addr place places entries told (has_no_place own addr places is) other
 
 -- ---- one member more
 
@@ -68,7 +106,7 @@ pub record HasKept (own : Addr) (place : ℕ) (before : List (Addr × ℕ)) (mem
   pub so_far : first_places (own ∷ addresses_in before) members ≡ kept ++ first_places (own ∷ addresses_in entries) (drop i members)
   pub noted : entries ≡ before ++ placed_at place kept
 
-pub HasKept-none : (own : Addr) (place : ℕ) (before : List (Addr × ℕ)) (members : List Addr) → HasKept own place before members [] before 0
+HasKept-none : (own : Addr) (place : ℕ) (before : List (Addr × ℕ)) (members : List Addr) → HasKept own place before members [] before 0
 HasKept-none own place before members = record { so_far = refl; noted = sym (append-nil before) }
 
 turn : (own addr : Addr) (place : ℕ) (members kept : List Addr) (entries : List (Addr × ℕ)) →
@@ -90,7 +128,7 @@ turn_noted false addr place before kept entries h =
     ap (λ l. l ++ (addr, place) ∷ []) h
     ∙ (append_assoc before (placed_at place kept) ((addr, place) ∷ []) ∙ ap (λ l. before ++ l) (sym (placed_at-push place kept addr)))
 
-pub HasKept-more : (own : Addr) (place : ℕ) (before : List (Addr × ℕ)) (members kept next_kept : List Addr) (entries next : List (Addr × ℕ)) (i : ℕ) (d : Addr) →
+HasKept-more : (own : Addr) (place : ℕ) (before : List (Addr × ℕ)) (members kept next_kept : List Addr) (entries next : List (Addr × ℕ)) (i : ℕ) (d : Addr) →
     HasKept own place before members kept entries i → i < length members →
     next_kept ≡ cond (is_listed (get_or members i d) (own ∷ addresses_in entries)) kept (kept ++ get_or members i d ∷ []) →
     next ≡ cond (is_listed (get_or members i d) (own ∷ addresses_in entries)) entries (entries ++ (get_or members i d, place) ∷ []) →
@@ -107,12 +145,47 @@ HasKept-more own place before members kept next_kept entries next i d held insid
       ∙ ap (λ l. before ++ placed_at place l) (sym more_kept));
 }
 
-pub HasKept-all : (own : Addr) (place : ℕ) (before : List (Addr × ℕ)) (members kept : List Addr) (entries : List (Addr × ℕ)) (i : ℕ) →
+HasKept-all : (own : Addr) (place : ℕ) (before : List (Addr × ℕ)) (members kept : List Addr) (entries : List (Addr × ℕ)) (i : ℕ) →
     HasKept own place before members kept entries i → length members ≤ i → kept ≡ first_places (own ∷ addresses_in before) members
 unfolding first_places
 HasKept-all own place before members kept entries i held past =
     sym (held.so_far
     ∙ (ap (λ l. kept ++ first_places (own ∷ addresses_in entries) l) (drop_of_length-le members {i = i} past) ∙ append-nil kept))
+
+-- the same, with a look-up that tells the entries
+pub record HasNoted (own : Addr) (place : ℕ) (before : List (Addr × ℕ)) (members kept : List Addr) (places : List (Addr × ℕ)) (i : ℕ) : Type 0 where
+  pub has_kept : HasKept own place before members kept (before ++ placed_at place kept) i
+  pub told : Tells places (before ++ placed_at place kept)
+
+pub HasNoted-none : (own : Addr) (place : ℕ) (before : List (Addr × ℕ)) (members : List Addr) (places : List (Addr × ℕ)) → Tells places before →
+    HasNoted own place before members [] places 0
+HasNoted-none own place before members places told = record {
+  has_kept = subst (λ entries. HasKept own place before members [] entries 0) (sym (append-nil before)) (HasKept-none own place before members);
+  told = subst (Tells places) (sym (append-nil before)) told;
+}
+
+pub HasNoted-more : (own : Addr) (place : ℕ) (before : List (Addr × ℕ)) (members kept next_kept : List Addr) (places next_places : List (Addr × ℕ)) (i : ℕ) (d : Addr) →
+    HasNoted own place before members kept places i → i < length members →
+    next_kept ≡ cond (is_taken own places (get_or members i d)) kept (kept ++ get_or members i d ∷ []) →
+    ((other : Addr) → place_of other next_places ≡ cond (is_taken own places (get_or members i d)) (place_of other places) (place_behind (get_or members i d) place places other)) →
+    HasNoted own place before members next_kept next_places (i + 1)
+HasNoted-more own place before members kept next_kept places next_places i d held inside more_kept more =
+    let addr : Addr = get_or members i d in
+    let entries : List (Addr × ℕ) = before ++ placed_at place kept in
+    let known : is_taken own places addr ≡ is_listed addr (own ∷ addresses_in entries) = taken_is_listed own addr places entries held.told in
+    let next : List (Addr × ℕ) = cond (is_listed addr (own ∷ addresses_in entries)) entries (entries ++ (addr, place) ∷ []) in
+    let is = HasKept-more own place before members kept next_kept entries next i d held.has_kept inside
+    (more_kept ∙ ap (λ b. cond b kept (kept ++ addr ∷ [])) known) refl in
+    record {
+      has_kept = subst (λ e. HasKept own place before members next_kept e (i + 1)) is.noted is;
+      told = subst (Tells next_places) is.noted (told_next own addr place places next_places entries _ known held.told
+          (λ other. more other ∙ ap (λ b. cond b (place_of other places) (place_behind addr place places other)) known));
+    }
+
+pub HasNoted-all : (own : Addr) (place : ℕ) (before : List (Addr × ℕ)) (members kept : List Addr) (places : List (Addr × ℕ)) (i : ℕ) →
+    HasNoted own place before members kept places i → length members ≤ i → kept ≡ first_places (own ∷ addresses_in before) members
+HasNoted-all own place before members kept places i held past =
+    HasKept-all own place before members kept (before ++ placed_at place kept) i held.has_kept past
 
 -- ---- one group more
 
@@ -144,10 +217,10 @@ pub record HasCleaned (own : Addr) (groups list : List Group) (places : List (Ad
   pub so_far : cleaned own groups ≡ list ++ cleaned_after (own ∷ addresses_in places) (drop i groups)
   pub noted : places ≡ placed_from 0 list
 
-pub HasCleaned-none : (own : Addr) (groups : List Group) → HasCleaned own groups [] [] 0
+HasCleaned-none : (own : Addr) (groups : List Group) → HasCleaned own groups [] [] 0
 HasCleaned-none own groups = record { so_far = refl; noted = refl }
 
-pub HasCleaned-more : (own : Addr) (groups list next_list : List Group) (places next : List (Addr × ℕ)) (i : ℕ) (d new : Group) (members : List Addr) (place : ℕ) →
+HasCleaned-more : (own : Addr) (groups list next_list : List Group) (places next : List (Addr × ℕ)) (i : ℕ) (d new : Group) (members : List Addr) (place : ℕ) →
     HasCleaned own groups list places i → i < length groups → place ≡ length list →
     members ≡ first_places (own ∷ addresses_in places) (get_or groups i d).members →
     next ≡ places ++ placed_at place members →
@@ -177,9 +250,39 @@ HasCleaned-more own groups list next_list places next i d new members place held
     addresses : addresses_in next ≡ addresses_in places ++ members
     addresses = ap addresses_in more ∙ (addresses_in-append places (placed_at place members) ∙ ap (λ l. addresses_in places ++ l) (addresses_in-placed_at place members))
 
-pub HasCleaned-all : (own : Addr) (groups list : List Group) (places : List (Addr × ℕ)) (i : ℕ) →
+HasCleaned-all : (own : Addr) (groups list : List Group) (places : List (Addr × ℕ)) (i : ℕ) →
     HasCleaned own groups list places i → length groups ≤ i → list ≡ cleaned own groups
 unfolding cleaned_after
 HasCleaned-all own groups list places i held past =
     sym (held.so_far
     ∙ (ap (λ l. list ++ cleaned_after (own ∷ addresses_in places) l) (drop_of_length-le groups {i = i} past) ∙ append-nil list))
+
+-- the same, with a look-up that tells the places
+pub record HasPlaced (own : Addr) (groups list : List Group) (places : List (Addr × ℕ)) (i : ℕ) : Type 0 where
+  pub has_cleaned : HasCleaned own groups list (placed_from 0 list) i
+  pub told : Tells places (placed_from 0 list)
+
+pub HasPlaced-none : (own : Addr) (groups : List Group) → HasPlaced own groups [] [] 0
+HasPlaced-none own groups = record { has_cleaned = HasCleaned-none own groups; told = λ addr. refl }
+
+pub HasPlaced-more : (own : Addr) (groups list next_list : List Group) (places next_places : List (Addr × ℕ)) (i : ℕ) (d new : Group) (members : List Addr) (place : ℕ) →
+    HasPlaced own groups list places i → i < length groups → place ≡ length list →
+    members ≡ first_places (own ∷ addresses_in (placed_from 0 list)) (get_or groups i d).members →
+    Tells next_places (placed_from 0 list ++ placed_at place members) →
+    new ≡ record (get_or groups i d) { members = members } →
+    next_list ≡ list ++ new ∷ [] →
+    HasPlaced own groups next_list next_places (i + 1)
+HasPlaced-more own groups list next_list places next_places i d new members place held inside counted kept told made longer =
+    let is = HasCleaned-more own groups list next_list (placed_from 0 list) (placed_from 0 list ++ placed_at place members) i d new members place
+    held.has_cleaned inside counted kept refl made longer in
+    record {
+      has_cleaned = subst (λ e. HasCleaned own groups next_list e (i + 1)) is.noted is;
+      told = subst (Tells next_places) is.noted told;
+    }
+
+pub HasPlaced-all : (own : Addr) (groups list : List Group) (places : List (Addr × ℕ)) (i : ℕ) →
+    HasPlaced own groups list places i → length groups ≤ i → list ≡ cleaned own groups
+HasPlaced-all own groups list places i held past = HasCleaned-all own groups list (placed_from 0 list) i held.has_cleaned past
+
+pub noted_by_groups : (places : List (Addr × ℕ)) (list : List Group) → Tells places (placed_from 0 list) → (addr : Addr) → place_of addr places ≡ group_of addr list
+noted_by_groups places list told addr = told addr ∙ place_of-groups addr list

@@ -1,5 +1,4 @@
 pub mod Cleaned
-pub mod Hashing
 pub mod Placed
 pub mod Places
 pub mod RootAsk

@@ -1,8 +1,9 @@
-ghost use Rattle.std.specs.Prelude.{◌≡◌, ◌++◌, ◌∷◌, [], IfOk, OnOk, if◌then◌else◌};
+ghost use Rattle.std.specs.Prelude.{ℕ, List, ◌≡◌, ◌++◌, ◌∷◌, [], IfOk, OnOk, if◌then◌else◌};
 ghost use Rattle.std.specs.List.{IsDistinct};
 ghost use Rattle.net_base.specs.Address.{same_address};
-ghost use Rattle.root_groups.specs.Cleaned.{is_listed, first_places, cleaned, members_of, group_of};
-ghost use Rattle.root_groups.specs.Places.{addresses_in, placed_at};
+ghost use Rattle.net_base.specs.declared.address.Addr.{Addr};
+ghost use Rattle.root_groups.specs.Cleaned.{first_places, cleaned, members_of, group_of};
+ghost use Rattle.root_groups.specs.Places.{addresses_in, placed_at, Tells, is_taken, place_of, place_behind};
 
 use crate::places::Places;
 use net_base::{Addr, AddrList, Group, GroupList, OutOfMemory};
@@ -83,8 +84,8 @@ fn keep_first(
     own: Addr,
     place: usize,
 ) -> Result<AddrList, OutOfMemory>
-    ensures kept { IfOk result (λ kept. kept ≡ first_places (own ∷ addresses_in places.old) members.now) }
-    ensures placed { IfOk result (λ kept. places.new ≡ places.old ++ placed_at place kept) }
+    ensures kept { (noted : List (Addr × ℕ)) → Tells places.old noted → IfOk result (λ kept. kept ≡ first_places (own ∷ addresses_in noted) members.now) }
+    ensures placed { (noted : List (Addr × ℕ)) → Tells places.old noted → IfOk result (λ kept. Tells places.new (noted ++ placed_at place kept)) }
 {
     let mut kept = AddrList::new(alloc);
     for addr in members {
@@ -101,8 +102,8 @@ fn keep(
     addr: Addr,
     place: usize,
 ) -> Result<(), OutOfMemory>
-    ensures kept { OnOk result (kept.new ≡ (if is_listed addr (own ∷ addresses_in places.old) then kept.old else kept.old ++ addr ∷ [])) }
-    ensures placed { OnOk result (places.new ≡ (if is_listed addr (own ∷ addresses_in places.old) then places.old else places.old ++ (addr, place) ∷ [])) }
+    ensures kept { OnOk result (kept.new ≡ (if is_taken own places.old addr then kept.old else kept.old ++ addr ∷ [])) }
+    ensures placed { OnOk result ((other : Addr) → place_of other places.new ≡ (if is_taken own places.old addr then place_of other places.old else place_behind addr place places.old other)) }
 {
     if is_taken(places, own, addr) {
         return Ok(());
@@ -114,7 +115,7 @@ fn keep(
 
 // An address is the own one or noted already.
 fn is_taken(places: &Places, own: Addr, addr: Addr) -> bool
-    ensures { result ≡ is_listed addr (own ∷ addresses_in places.now) }
+    ensures { result ≡ is_taken own places.now addr }
 {
     addr.is_same(&own) || places.has(addr)
 }

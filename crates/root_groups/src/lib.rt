@@ -2,7 +2,6 @@
 #![tactic(auto)]
 
 mod groups;
-mod hashed;
 mod laws;
 mod places;
 mod publics;

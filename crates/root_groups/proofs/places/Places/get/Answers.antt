@@ -1,9 +1,9 @@
 use Rattle.std.proofs.Common.{sym, ap, ◌∙◌}
 use Rattle.root_groups.specs.Places.{place_of}
-use Rattle.root_groups.proofs.Entries.{place_of-placed}
+use Rattle.root_groups.proofs.Entries.{place_of-looked_up}
 use Rattle.root_groups.proofs.places.Places.get.Goals as goal
 
 pub returns : goal.returns
 returns c =
     c.copied.ensures ∙ (c.get.ensures.value
-    ∙ (sym (place_of-placed c.args.addr c.self.inside.entries.entries) ∙ ap (place_of c.args.addr) c.self.view_is))
+    ∙ (sym (place_of-looked_up c.args.addr c.self.inside.entries.entries) ∙ ap (place_of c.args.addr) c.self.view_is))

@@ -1,13 +1,11 @@
-use Rattle.std.proofs.Common.{◌∷◌, [], ◌++◌, sym, ap, ◌∙◌}
-use Rattle.indexmap.proofs.CallerLemmas.{insert_entry-new}
-use Rattle.root_groups.specs.Places.{place_of}
-use Rattle.root_groups.specs.contracts.hashed.HashedPartialEq.TheImpl.{ghosts}
-use Rattle.root_groups.proofs.Entries.{placed, key_of, place_of-placed, placed-append}
+use Rattle.std.proofs.Common.{cond, Some, sym, ap, ◌∙◌}
+use Rattle.net_base.proofs.AddressOrder.{same_is}
+use Rattle.root_groups.specs.Places.{place_behind}
+use Rattle.root_groups.proofs.Entries.{place_of-looked_up}
 use Rattle.root_groups.proofs.places.Places.put.Goals as goal
 
 pub returns-clause-ok : goal.returns-clause-ok
-returns-clause-ok c =
-    let absent = sym (place_of-placed c.args.addr c.self.inside.entries.entries) ∙ (ap (place_of c.args.addr) c.self.view_is ∙ c.requires) in
-    ap placed (c.in_ok-insert.ensures.entries ∙ insert_entry-new ghosts.eq c.self.inside.entries (key_of c.args.addr) c.args.place absent)
-    ∙ (placed-append c.self.inside.entries.entries (key_of c.args.addr, c.args.place)
-    ∙ ap (λ l. l ++ (c.args.addr, c.args.place) ∷ []) c.self.view_is)
+returns-clause-ok c = λ other. place_of-looked_up other c.insert.new.self.entries
+    ∙ (c.in_ok-insert.ensures.updates.0 other
+    ∙ (rw (same_is c.args.addr other) (ap (cond _ (Some c.args.place)) (sym (place_of-looked_up other c.self.inside.entries.entries)))
+    ∙ ap (λ l. place_behind c.args.addr c.args.place l other) c.self.view_is))
