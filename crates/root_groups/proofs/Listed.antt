@@ -1,5 +1,5 @@
 -- Which addresses are listed.
-use Rattle.std.proofs.Common.{◌≡◌, Bool, true, false, ◌||◌, cond, List, [], ◌∷◌, ◌++◌, refl, sym, ap, ◌∙◌, subst, rules}
+use Rattle.std.proofs.Common.{◌≡◌, Bool, true, false, ◌||◌, cond, List, [], ◌∷◌, ◌++◌, refl, sym, ap, ◌∙◌, subst}
 use Rattle.std.specs.Cmp.{IsEquivalence}
 use Rattle.std.specs.List.{list_any}
 use Rattle.std.specs.Ordering.{is_eq, ordering_reverse}
@@ -10,10 +10,8 @@ use Rattle.net_base.specs.Address.{same_address}
 use Rattle.net_base.specs.contracts.address.AddrOrd.TheImpl.{ghosts}
 use Rattle.net_base.specs.contracts.address.AddrOrd.TheImpl.Laws.{total-law}
 use Rattle.net_base.specs.declared.address.Addr.{Addr}
+use Rattle.net_base.proofs.AddressOrder.{same_is}
 use Rattle.root_groups.specs.Cleaned.{is_listed}
-
-same_is : (a b : Addr) → is_eq (ghosts.cmp a b) ≡ same_address a b
-same_is a b = search rules
 
 turned : (r : Ordering) → is_eq (ordering_reverse r) ≡ is_eq r
 turned Less = refl
