@@ -1,5 +1,6 @@
 -- Numbers that change by one, one after another.
-use Rattle.std.proofs.Common.{◌≡◌, ℕ, zero, suc, ◌+◌, ◌-◌, ◌<◌, ◌≤◌, List, [], ◌∷◌, ◌++◌, length, take, drop, get_or, set, refl, ap, sym, ◌∙◌, arith}
+use Rattle.std.proofs.Common.{◌≡◌, ℕ, zero, suc, ◌+◌, ◌-◌, ◌<◌, ◌≤◌, List, [], ◌∷◌, ◌++◌, length, take, drop, get_or, set, refl, ap, sym, ◌∙◌, append-nil, take_all, arith}
+use Rattle.std.proofs.lemmas.List.{drop_all}
 use Rattle.chunked_list.specs.Firsts.{raised, lowered}
 
 next_is : (i : ℕ) → suc i ≡ i + 1
@@ -74,3 +75,9 @@ module _ (from : ℕ) (fs : List ℕ) (i d : ℕ) (le : from ≤ i) (inside : i 
 
   pub rest_is : (fs' : List ℕ) → length fs' ≡ length fs → get_or (take i fs' ++ drop i fs) i d ≡ get_or fs i d
   rest_is fs' same = next_was fs' fs i d same inside
+
+-- what a vector holds whose numbers were lent as a slice, and came back as many
+pub refilled : (n : ℕ) (new old : List ℕ) → length new ≡ length old → n ≡ length old → take n (new ++ drop (length new) old) ≡ new
+refilled n new old same long =
+    ap (λ l. take n (new ++ l)) (drop_all (length new) old (omega (arith, same)))
+    ∙ (ap (take n) (append-nil new) ∙ take_all n new (omega (arith, same, long)))

@@ -4,6 +4,7 @@ use Rattle.std.proofs.lemmas.List.Edits.{length-insert}
 use Rattle.chunked_list.specs.Chunks.{items_in}
 use Rattle.chunked_list.specs.Firsts.{raised}
 use Rattle.chunked_list.proofs.Edits.{put_in_chunk, same_in_chunk}
+use Rattle.chunked_list.proofs.Firsts.{length-raised, refilled}
 use Rattle.chunked_list.proofs.Numbers.{length-starts, start_is, front-upto, starts-same, starts-grown}
 use Rattle.chunked_list.proofs.edit.put.Goals as goal
 
@@ -17,8 +18,8 @@ raise-requires g c =
     let fs = c.args.firsts.now.items in
     record {
       few = λ i d lt.
-          let inside : i < length cs = omega (arith, lt, ap length c.requires.numbers, length-starts 0 cs) in
-          omega (arith, ap (λ l. get_or l i d) c.requires.numbers, start_is cs i d inside, front-upto cs i, c.requires.few);
+          let inside : i < length cs = omega (arith, lt, ap length (c.deref_mut.ensures.value ∙ c.requires.numbers), length-starts 0 cs) in
+          omega (arith, ap (λ l. get_or l i d) (c.deref_mut.ensures.value ∙ c.requires.numbers), start_is cs i d inside, front-upto cs i, c.requires.few);
     }
 
 pub returns-clause-ok : goal.returns-clause-ok
@@ -40,7 +41,10 @@ returns-clause-numbers g c =
       c.requires.inside.at old,
       length-insert (items_in (get_or cs i old)) c.args.spot.at c.args.item,
     ) in
-    c.raise.ensures ∙ (ap (raised (i + 1)) c.requires.numbers ∙ sym (starts-grown 0 cs i c.insert.new.self old c.requires.inside.chunk more))
+    let fs = c.args.firsts.now in
+    let same : length c.raise.new.firsts ≡ length fs.items = ap length (c.raise.ensures ∙ ap (raised (i + 1)) c.deref_mut.ensures.value) ∙ length-raised (i + 1) fs.items in
+    refilled fs.len c.raise.new.firsts fs.items same (omega (arith, fs.ok))
+    ∙ (c.raise.ensures ∙ (ap (raised (i + 1)) (c.deref_mut.ensures.value ∙ c.requires.numbers) ∙ sym (starts-grown 0 cs i c.insert.new.self old c.requires.inside.chunk more)))
 
 pub returns-in_err-insert-clause-err : goal.returns-in_err-insert-clause-err
 returns-in_err-insert-clause-err g c =

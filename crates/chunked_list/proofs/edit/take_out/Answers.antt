@@ -6,7 +6,7 @@ use Rattle.chunked_list.specs.Chunks.{items_in, joined, starts}
 use Rattle.chunked_list.specs.Firsts.{lowered}
 use Rattle.chunked_list.specs.declared.chunk.Chunk.{Chunk}
 use Rattle.chunked_list.proofs.Edits.{get_in_chunk, taken_from_chunk, joined-without_empty}
-use Rattle.chunked_list.proofs.Firsts.{length-lowered}
+use Rattle.chunked_list.proofs.Firsts.{length-lowered, refilled}
 use Rattle.chunked_list.proofs.Numbers.{length-starts, start_is, front-rises, front-next, starts-shrunk, starts-without_empty}
 use Rattle.chunked_list.proofs.edit.take_out.Goals as goal
 
@@ -72,10 +72,10 @@ lower-requires g c =
     let e = c.index_mut.result.now in
     record {
       some = λ k d from lt.
-          let inside : k < length cs = omega (arith, lt, ap length c.requires.numbers, length-starts 0 cs) in
+          let inside : k < length cs = omega (arith, lt, ap length (c.deref_mut.ensures.value ∙ c.requires.numbers), length-starts 0 cs) in
           omega (
             arith,
-            ap (λ l. get_or l k d) c.requires.numbers,
+            ap (λ l. get_or l k d) (c.deref_mut.ensures.value ∙ c.requires.numbers),
             start_is cs k d inside,
             front-rises cs (i + 1) k from,
             front-next cs i e c.requires.inside.chunk,
@@ -102,7 +102,10 @@ returns-else-is_empty-clause-numbers g c =
     let d = c.index_mut.result.now in
     let new : Chunk g.row.T.Denot = record { items = c.remove-item.new.self } in
     let less : length (items_in new) + 1 ≡ length (items_in (get_or cs i d)) = omega (arith, c.remove-item.ensures.len, ap (λ x. length (items_in x)) c.index_mut.ensures.value) in
-    c.lower.ensures ∙ (ap (lowered (i + 1)) c.requires.numbers ∙ sym (starts-shrunk 0 cs i new d c.requires.inside.chunk less))
+    let fs = c.args.firsts.now in
+    let same : length c.lower.new.firsts ≡ length fs.items = ap length (c.lower.ensures ∙ ap (lowered (i + 1)) c.deref_mut.ensures.value) ∙ length-lowered (i + 1) fs.items in
+    let back = refilled fs.len c.lower.new.firsts fs.items same (omega (arith, fs.ok)) in
+    back ∙ (c.lower.ensures ∙ (ap (lowered (i + 1)) (c.deref_mut.ensures.value ∙ c.requires.numbers) ∙ sym (starts-shrunk 0 cs i new d c.requires.inside.chunk less)))
 
 pub returns-then-is_empty-clause-numbers : goal.returns-then-is_empty-clause-numbers
 returns-then-is_empty-clause-numbers g c =
@@ -118,6 +121,9 @@ returns-then-is_empty-clause-numbers g c =
       zero_is (length (items_in now)) (ap (λ n. nat_eq n 0) (omega arith) ∙ (sym c.is_empty.ensures ∙ c.if-is_empty.true)),
       ap (λ x. length (items_in x)) (c.index.ensures ∙ get_or_default (set cs i new) i now d inside),
     )) in
+    let fs = c.args.firsts.now in
+    let same : length c.lower.new.firsts ≡ length fs.items = ap length (c.lower.ensures ∙ ap (lowered (i + 1)) c.deref_mut.ensures.value) ∙ length-lowered (i + 1) fs.items in
+    let back = refilled fs.len c.lower.new.firsts fs.items same (omega (arith, fs.ok)) in
     c.remove-then-is_empty.ensures.items
-    ∙ (ap (λ l. remove l i) (c.lower.ensures ∙ (ap (lowered (i + 1)) c.requires.numbers ∙ sym (starts-shrunk 0 cs i new d c.requires.inside.chunk less)))
+    ∙ (ap (λ l. remove l i) (back ∙ (c.lower.ensures ∙ (ap (lowered (i + 1)) (c.deref_mut.ensures.value ∙ c.requires.numbers) ∙ sym (starts-shrunk 0 cs i new d c.requires.inside.chunk less))))
     ∙ (sym (starts-without_empty 0 (set cs i new) i d inside empty) ∙ ap (starts 0) (sym c.remove.ensures.items)))

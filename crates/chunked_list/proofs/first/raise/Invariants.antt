@@ -3,4 +3,4 @@ use Rattle.chunked_list.specs.Firsts.{raised}
 use Rattle.chunked_list.proofs.first.raise.Given as goal
 
 abbrev pub invariant-loop-place : goal.invariant-loop-place
-invariant-loop-place l = l.firsts.items ≡ take l.place (raised l.from l.fn.firsts.items) ++ drop l.place l.fn.firsts.items
+invariant-loop-place l = l.firsts ≡ take l.place (raised l.from l.fn.firsts) ++ drop l.place l.fn.firsts
