@@ -93,7 +93,7 @@ fn skip_element(element: Element, bytes: &[u8], inner: u8) -> Result<&[u8], Stop
 
 // Passes over what stands behind the initial byte of an item that holds no other.
 #[tactic(auto, unfolding(crate::specs::Scan::skip_flat_content))]
-pub(crate) fn skip_flat(initial: u8, bytes: &[u8]) -> Result<&[u8], Stop>
+fn skip_flat(initial: u8, bytes: &[u8]) -> Result<&[u8], Stop>
     ensures { Gives (λ rest. rest.now) result (skip_flat initial bytes.now) }
 {
     let (head, rest) = split_argument(initial, bytes)?;

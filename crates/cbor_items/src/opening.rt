@@ -1,11 +1,12 @@
-ghost use Rattle.std.specs.Prelude.{◌≡◌, ◌-◌, ◌<◌, List, ℕ, length, IfOk};
-ghost use Rattle.cbor_items.specs.Scan.{Skip, skip_flat, skip_nested, skip_nested_content, skip_item};
+ghost use Rattle.std.specs.Prelude.{◌≡◌, ◌-◌, ◌<◌, false, List, ℕ, length, Ok, IfOk};
+ghost use Rattle.cbor_items.specs.Head.{initial_at};
+ghost use Rattle.cbor_items.specs.Scan.{Skip, is_nested, skip_flat, skip_nested, skip_nested_content, skip_item};
 ghost use Rattle.cbor_items.specs.Level.{skip_level};
 ghost use Rattle.cbor_items.specs.Steps.{BeginsAs};
 
 use crate::head::{Head, split_argument, split_initial};
 use crate::initial::{ARRAY, BYTE_CHUNKS, MAP, TEXT_CHUNKS};
-use crate::item::{is_nested, skip_flat};
+use crate::item::{is_nested, skip_item};
 use crate::level::{Level, Thing};
 use crate::stop::Stop;
 
@@ -16,7 +17,7 @@ pub(crate) fn begin_item(bytes: &[u8], depth: u8) -> Result<(Level, &[u8]), Stop
 {
     let (initial, rest) = split_initial(bytes)?;
     if !is_nested(initial) {
-        return begin_flat(initial, rest);
+        return begin_flat(bytes, initial, rest);
     }
     match depth.checked_sub(1) {
         None => Err(Stop::Deep),
@@ -45,15 +46,17 @@ fn level_of(head: Head) -> Level
     }
 }
 
-// Behind the initial byte of an item that holds no other.
-fn begin_flat(initial: u8, bytes: &[u8]) -> Result<(Level, &[u8]), Stop>
-    ensures { (item : Skip) → BeginsAs (λ read. (read.0, read.1.now)) (skip_flat initial) item bytes.now result }
+// An item that holds no other, with its initial byte and what stands behind it.
+fn begin_flat<'a>(item: &'a [u8], initial: u8, bytes: &'a [u8]) -> Result<(Level, &'a [u8]), Stop>
+    requires initial { initial_at item.now ≡ Ok (initial, bytes.now) }
+    requires flat { is_nested initial ≡ false }
+    ensures { (inner : Skip) → BeginsAs (λ read. (read.0, read.1.now)) (skip_flat initial) inner bytes.now result }
 {
     match initial {
         BYTE_CHUNKS => Ok((Level::ToBreak(Thing::ByteChunk), bytes)),
         TEXT_CHUNKS => Ok((Level::ToBreak(Thing::TextChunk), bytes)),
         _ => {
-            let rest = skip_flat(initial, bytes)?;
+            let rest = skip_item(item, 0)?;
             Ok((Level::Items(0), rest))
         }
     }
