@@ -1,0 +1,5 @@
+pub mod Announcement
+pub mod Moments
+pub mod Turns
+pub mod Dues
+pub mod Asks
