@@ -1,4 +1,4 @@
-ghost use Rattle.std.specs.Prelude.{◌≤◌, ◌^◌, IfOk, IfSome};
+ghost use Rattle.std.specs.Prelude.{◌≤◌, length, IfOk, IfSome};
 ghost use Rattle.net_base.specs.Limits.{IsWithinLimits};
 ghost use Rattle.socket_flow.specs.Asks.{GivesWithinLimits};
 
@@ -129,19 +129,8 @@ impl Reactor {
         let Some(stream) = self.streams.get_mut(&key) else {
             return Ok(None);
         };
-        let room = most.min(self.buffer.len());
-        match read(stream, &mut self.buffer[..room]) {
-            Moved::Bytes(count) => self.flow.came(key, &self.buffer[..count]),
-            Moved::Nothing => Ok(None),
-            Moved::Again => {
-                self.flow.is_ready(key, false)?;
-                Ok(None)
-            }
-            Moved::Ended => {
-                self.flow.ended(key)?;
-                Ok(None)
-            }
-        }
+        let room = most.min(READ_MOST).min(self.buffer.len());
+        read_on(&mut self.flow, key, stream, &mut self.buffer[..room])
     }
 
     fn write(&mut self, key: usize) -> Result<(), OutOfMemory> {
@@ -242,6 +231,25 @@ impl Reactor {
         let passed = told(self.start.elapsed(rt))?;
         Ok(u64::try_from(passed.as_millis()).unwrap_or(NUMBER_MOST))
     }
+}
+
+// Reads what comes on a socket, at most as much as there is room for.
+fn read_on(
+    flow: &mut SocketFlow,
+    key: usize,
+    stream: &mut TcpStream,
+    room: &mut [u8],
+) -> Result<Option<Event>, OutOfMemory>
+    requires { length room.old ≤ 65536 }
+    ensures { IfOk result (λ event. IfSome event IsWithinLimits) }
+{
+    match read(stream, room) {
+        Moved::Bytes(count) => return flow.came(key, &room[..count]),
+        Moved::Nothing => {}
+        Moved::Again => flow.is_ready(key, false)?,
+        Moved::Ended => flow.ended(key)?,
+    }
+    Ok(None)
 }
 
 fn terms_of(config: &Config) -> Terms {

@@ -1,4 +1,7 @@
 //! What a node has done with its sockets.
+ghost use Rattle.std.specs.Prelude.{◌≡◌, ◌++◌, is_some, IfSome, OnOk};
+ghost use Rattle.socket_flow.specs.Table.{key_at, KeepsTalk, NamesSame};
+ghost use Rattle.socket_flow.specs.Acting.{is_free, Admits, Leaves, Dials, Sends, Closes, answers, Does};
 
 use crate::flow::SocketFlow;
 use crate::id::Id;
@@ -9,7 +12,9 @@ use node_world::OutQueue;
 
 impl SocketFlow {
     /// Has an action done. What the node only tells is passed over.
-    pub fn act(&mut self, action: &Action) -> Result<(), OutOfMemory> {
+    pub fn act(&mut self, action: &Action) -> Result<(), OutOfMemory>
+        ensures { OnOk result (Does action.now self.old self.new) }
+    {
         match action {
             Action::Admit(cid, _) => self.admit(*cid),
             Action::Turnaway(_) => self.turn_away(),
@@ -26,14 +31,19 @@ impl SocketFlow {
     }
 
     // An id that a trace may name, of which there is no socket.
-    fn free_id(&self, cid: Cid) -> Option<Id> {
+    fn free_id(&self, cid: Cid) -> Option<Id>
+        ensures free { is_some result ≡ is_free self.now cid.0 }
+        ensures id { IfSome result (λ id. id.cid ≡ cid) }
+    {
         if self.table.key_of(cid).is_some() {
             return None;
         }
         Id::new(cid)
     }
 
-    fn admit(&mut self, cid: Cid) -> Result<(), OutOfMemory> {
+    fn admit(&mut self, cid: Cid) -> Result<(), OutOfMemory>
+        ensures { OnOk result (Admits self.old self.new cid) }
+    {
         let Some(id) = self.free_id(cid) else {
             return Ok(());
         };
@@ -41,21 +51,25 @@ impl SocketFlow {
             return Ok(());
         };
         self.table.name(id, key)?;
-        if let Some(socket) = self.table.get_mut(key) {
+        if let Some(socket) = self.table.sockets.get_mut(&key) {
             socket.stage = Stage::Open(id);
         }
         self.turns.push(key)
     }
 
     /// Closes the socket of the peer that the node was told of, where it is not admitted.
-    pub(crate) fn turn_away(&mut self) -> Result<(), OutOfMemory> {
+    pub(crate) fn turn_away(&mut self) -> Result<(), OutOfMemory>
+        ensures { OnOk result (Leaves self.old self.new) }
+    {
         match self.caller.take() {
             Some(key) => self.lose(key),
             None => Ok(()),
         }
     }
 
-    fn dial(&mut self, cid: Cid, addr: Addr) -> Result<(), OutOfMemory> {
+    fn dial(&mut self, cid: Cid, addr: Addr) -> Result<(), OutOfMemory>
+        ensures { OnOk result (Dials self.old self.new cid addr) }
+    {
         let Some(id) = self.free_id(cid) else {
             return Ok(());
         };
@@ -68,7 +82,9 @@ impl SocketFlow {
         Ok(self.connecting.push_back((key, addr))?)
     }
 
-    fn send(&mut self, cid: Cid, bytes: &[u8]) -> Result<(), OutOfMemory> {
+    fn send(&mut self, cid: Cid, bytes: &[u8]) -> Result<(), OutOfMemory>
+        ensures { OnOk result (Sends self.old self.new cid bytes.now) }
+    {
         let Some(key) = self.table.key_of(cid) else {
             return Ok(());
         };
@@ -76,7 +92,7 @@ impl SocketFlow {
         if unsent > UNSENT_MOST {
             return self.lose(key);
         }
-        if let Some(socket) = self.table.get_mut(key) {
+        if let Some(socket) = self.table.sockets.get_mut(&key) {
             socket.out.put(bytes)?;
             self.unsent = unsent;
         }
@@ -84,8 +100,11 @@ impl SocketFlow {
     }
 
     // Has what waits on a socket written, and looked after that it goes.
-    pub(crate) fn has_to_write(&mut self, key: usize) -> Result<(), OutOfMemory> {
-        let Some(socket) = self.table.get_mut(key) else {
+    pub(crate) fn has_to_write(&mut self, key: usize) -> Result<(), OutOfMemory>
+        ensures talk { KeepsTalk self.old.table self.new.table }
+        ensures events { self.new.events ≡ self.old.events }
+    {
+        let Some(socket) = self.table.sockets.get_mut(&key) else {
             return Ok(());
         };
         if socket.unsent() == 0 || matches!(socket.stage, Stage::Dialing(_)) {
@@ -103,12 +122,14 @@ impl SocketFlow {
     }
 
     // Closes a connection, once as much of what waits is written as its socket takes at once.
-    fn close(&mut self, cid: Cid) -> Result<(), OutOfMemory> {
+    fn close(&mut self, cid: Cid) -> Result<(), OutOfMemory>
+        ensures { OnOk result (Closes self.old self.new cid) }
+    {
         let Some(key) = self.table.key_of(cid) else {
             return Ok(());
         };
-        self.table.forget(cid);
-        let Some(socket) = self.table.get_mut(key) else {
+        self.table.forget(cid.0);
+        let Some(socket) = self.table.sockets.get_mut(&key) else {
             return Ok(());
         };
         let writes = matches!(socket.stage, Stage::Open(_))
@@ -122,7 +143,9 @@ impl SocketFlow {
         }
     }
 
-    fn answer_roots(&mut self, job: Job) -> Result<(), OutOfMemory> {
+    fn answer_roots(&mut self, job: Job) -> Result<(), OutOfMemory>
+        ensures { OnOk result (self.new ≡ record self.old { events = self.old.events ++ answers self.old.roots job }) }
+    {
         if job.0 > NUMBER_MOST {
             return Ok(());
         }

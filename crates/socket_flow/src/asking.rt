@@ -1,7 +1,7 @@
 //! What is to be done next.
-ghost use Rattle.std.specs.Prelude.{IfOk, IfSome};
+ghost use Rattle.std.specs.Prelude.{◌≡◌, ◌∷◌, ◌⊎◌, IfOk, IfSome};
 ghost use Rattle.net_base.specs.Limits.{IsWithinLimits};
-ghost use Rattle.socket_flow.specs.Asks.{GivesWithinLimits};
+ghost use Rattle.socket_flow.specs.Asks.{GivesWithinLimits, IsNextCaller, AsksForRoom, Gives, IsOfSockets};
 
 use crate::ask::Ask;
 use crate::flow::SocketFlow;
@@ -12,7 +12,8 @@ use net_base::{Event, OutOfMemory};
 impl SocketFlow {
     /// What is to be done next. It is to be told what came of it before it is asked again.
     pub fn ask(&mut self) -> Result<Ask, OutOfMemory>
-        ensures { IfOk result GivesWithinLimits }
+        ensures limits { IfOk result GivesWithinLimits }
+        ensures gives { IfOk result (Gives self.old self.new) }
     {
         if let Some(ask) = self.ask_of_sockets() {
             return Ok(ask);
@@ -21,6 +22,9 @@ impl SocketFlow {
         self.turn_away()?;
         if let Some(event) = self.next_event() {
             return Ok(Ask::Give(event));
+        }
+        if let Some(ask) = self.next_fresh() {
+            return Ok(ask);
         }
         if let Some(ask) = self.ask_to_accept()? {
             return Ok(ask);
@@ -36,7 +40,9 @@ impl SocketFlow {
 
     // To close, to connect and to write, in this order.
     fn ask_of_sockets(&mut self) -> Option<Ask>
-        ensures { IfSome result GivesWithinLimits }
+        ensures sockets { IfSome result IsOfSockets }
+        ensures table { self.new.table ≡ self.old.table }
+        ensures caller { self.new.caller ≡ self.old.caller }
     {
         if let Some(key) = self.closing.pop_front() {
             return Some(Ask::Close(key));
@@ -50,13 +56,14 @@ impl SocketFlow {
 
     // An event that waits, or else the next peer that has connected.
     fn next_event(&mut self) -> Option<Event>
-        ensures { IfSome result IsWithinLimits }
+        ensures limits { IfSome result IsWithinLimits }
+        ensures told { IfSome result (λ event. (self.old.events ≡ event ∷ self.new.events) ⊎ IsNextCaller self.old self.new event) }
     {
         if let Some(event) = self.events.pop() {
             return Some(event);
         }
         let key = self.callers.pop_front()?;
-        let socket = self.table.get_mut(key)?;
+        let socket = self.table.sockets.get_mut(&key)?;
         let Stage::Waiting(addr) = socket.stage else {
             return None;
         };
@@ -67,7 +74,8 @@ impl SocketFlow {
 
     // Where there is no room for one more, the oldest that has not announced itself goes first.
     fn ask_to_accept(&mut self) -> Result<Option<Ask>, OutOfMemory>
-        ensures { IfOk result (λ ask. IfSome ask GivesWithinLimits) }
+        ensures limits { IfOk result (λ ask. IfSome ask IsOfSockets) }
+        ensures room { IfOk result (λ ask. IfSome ask (AsksForRoom self.old)) }
     {
         let moment = self.moments.moment();
         if !self.door.is_open(moment) {
@@ -83,19 +91,24 @@ impl SocketFlow {
         Ok(self.closing.pop_front().map(Ask::Close))
     }
 
-    // Those that connect or announce themselves come first, since little is read of them.
-    fn next_turn(&mut self) -> Option<Ask>
-        ensures { IfSome result GivesWithinLimits }
+    // Those that connect or announce themselves come before others are accepted: little is read of them.
+    fn next_fresh(&mut self) -> Option<Ask>
+        ensures { IfSome result IsOfSockets }
     {
         for _ in 0..u64::MAX {
-            let Some(key) = self.fresh.pop() else {
-                break;
-            };
+            let key = self.fresh.pop()?;
             let ask = self.fresh_turn(key);
             if ask.is_some() {
                 return ask;
             }
         }
+        None
+    }
+
+    // Connections, each as often as it stood in line when the round began.
+    fn next_turn(&mut self) -> Option<Ask>
+        ensures { IfSome result IsOfSockets }
+    {
         for _ in 0..self.left {
             self.left = self.left.saturating_sub(1);
             let key = self.turns.pop()?;
@@ -108,7 +121,7 @@ impl SocketFlow {
     }
 
     fn fresh_turn(&mut self, key: usize) -> Option<Ask>
-        ensures { IfSome result GivesWithinLimits }
+        ensures { IfSome result IsOfSockets }
     {
         let socket = self.table.get(key)?;
         match socket.stage {
@@ -119,9 +132,9 @@ impl SocketFlow {
     }
 
     fn turn(&mut self, key: usize) -> Option<Ask>
-        ensures { IfSome result GivesWithinLimits }
+        ensures { IfSome result IsOfSockets }
     {
-        let socket = self.table.get_mut(key)?;
+        let socket = self.table.sockets.get_mut(&key)?;
         if !matches!(socket.stage, Stage::Open(_)) {
             return None;
         }

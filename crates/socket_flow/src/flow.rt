@@ -1,3 +1,7 @@
+ghost use Rattle.std.specs.Prelude.{◌≡◌, ℕ, [], ◌∷◌, ◌++◌, None, is_some, if◌then◌else◌, OnOk};
+ghost use Rattle.socket_flow.specs.Table.{socket_at, key_at, out_at, is_of, Puts};
+ghost use Rattle.socket_flow.specs.Flow.{endings};
+
 use crate::announcement::announcement;
 use crate::door::Door;
 use crate::due_queue::DueQueue;
@@ -77,7 +81,9 @@ impl SocketFlow {
     }
 
     /// What waits to be sent on a socket, the first byte to go first.
-    pub fn outgoing(&self, key: usize) -> &[u8] {
+    pub fn outgoing(&self, key: usize) -> &[u8]
+        ensures { result.now ≡ out_at self.now.table key }
+    {
         match self.table.get(key) {
             Some(socket) => socket.out.front(),
             None => &[],
@@ -85,7 +91,13 @@ impl SocketFlow {
     }
 
     // The socket is gone, which is an event of its connection.
-    pub(crate) fn lose(&mut self, key: usize) -> Result<(), OutOfMemory> {
+    pub(crate) fn lose(&mut self, key: usize) -> Result<(), OutOfMemory>
+        ensures events { OnOk result (self.new.events ≡ self.old.events ++ endings (socket_at self.old.table key)) }
+        ensures gone { Puts self.old.table self.new.table key None }
+        ensures names { (cid : ℕ) → key_at self.new.table cid ≡ (if is_of (socket_at self.old.table key) cid then None else key_at self.old.table cid) }
+        ensures caller { self.new.caller ≡ self.old.caller }
+        ensures closing { OnOk result (self.new.closing.items ≡ self.old.closing.items ++ (if is_some (socket_at self.old.table key) then key ∷ [] else [])) }
+    {
         let Some(socket) = self.table.remove(key) else {
             return Ok(());
         };

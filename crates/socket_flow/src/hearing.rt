@@ -1,6 +1,10 @@
 //! What happens on the sockets.
-ghost use Rattle.std.specs.Prelude.{IfOk, IfSome};
+ghost use Rattle.std.specs.Prelude.{◌≡◌, ◌++◌, [], ◌∷◌, ℕ, true, false, eqb, Some, None, IsSome, IfOk, OnOk, IfSome};
 ghost use Rattle.net_base.specs.Limits.{IsPiece, IsWithinLimits};
+ghost use Rattle.net_base.specs.declared.event.Event.TheVariants.{Dialed as Told};
+ghost use Rattle.socket_flow.specs.declared.socket.Stage.TheVariants.{Open};
+ghost use Rattle.socket_flow.specs.Table.{socket_at, stage_at, KeepsTalk, Puts};
+ghost use Rattle.socket_flow.specs.Flow.{endings, told_of, after_bytes, waits_with, after_going, after_full, dial_events, after_dial, newcomer};
 
 use crate::announcement::Heard;
 use crate::ask::Dialed;
@@ -17,8 +21,11 @@ impl SocketFlow {
     }
 
     /// A socket may be ready for something, for bytes to be written if that is told.
-    pub fn is_ready(&mut self, key: usize, writable: bool) -> Result<(), OutOfMemory> {
-        let Some(socket) = self.table.get_mut(key) else {
+    pub fn is_ready(&mut self, key: usize, writable: bool) -> Result<(), OutOfMemory>
+        ensures talk { KeepsTalk self.old.table self.new.table }
+        ensures events { self.new.events ≡ self.old.events }
+    {
+        let Some(socket) = self.table.sockets.get_mut(&key) else {
             return Ok(());
         };
         match socket.stage {
@@ -91,7 +98,7 @@ impl SocketFlow {
     }
 
     fn look_after(&mut self, key: usize) -> Result<(), OutOfMemory> {
-        let Some(socket) = self.table.get_mut(key) else {
+        let Some(socket) = self.table.sockets.get_mut(&key) else {
             return Ok(());
         };
         socket.is_watched = false;
@@ -105,7 +112,11 @@ impl SocketFlow {
     }
 
     /// A peer was accepted, whose socket has this address. Answers the key of the socket.
-    pub fn accepted(&mut self, addr: Addr) -> Result<usize, OutOfMemory> {
+    pub fn accepted(&mut self, addr: Addr) -> Result<usize, OutOfMemory>
+        ensures socket { IfOk result (λ key. Puts self.old.table self.new.table key (Some (newcomer self.old.greeting addr))) }
+        ensures key { IfOk result (λ key. key ≡ self.old.table.next_key) }
+        ensures events { self.new.events ≡ self.old.events }
+    {
         self.door.count();
         if self.greeting.as_slice().is_empty() {
             let waiting = Socket::new(Stage::Waiting(addr), OutQueue::new(self.alloc));
@@ -147,8 +158,12 @@ impl SocketFlow {
     }
 
     /// What has become of a socket that connects.
-    pub fn dialed(&mut self, key: usize, dialed: Dialed) -> Result<(), OutOfMemory> {
-        let Some(socket) = self.table.get_mut(key) else {
+    pub fn dialed(&mut self, key: usize, dialed: Dialed) -> Result<(), OutOfMemory>
+        ensures events { OnOk result (self.new.events ≡ self.old.events ++ dial_events (socket_at self.old.table key) dialed) }
+        ensures stage { OnOk result (stage_at self.new.table key ≡ after_dial (socket_at self.old.table key) dialed) }
+        ensures others { (k : ℕ) → eqb key k ≡ false → stage_at self.new.table k ≡ stage_at self.old.table k }
+    {
+        let Some(socket) = self.table.sockets.get_mut(&key) else {
             return Ok(());
         };
         let Stage::Dialing(id) = socket.stage else {
@@ -161,8 +176,13 @@ impl SocketFlow {
         }
     }
 
-    fn connected(&mut self, key: usize, id: Id) -> Result<(), OutOfMemory> {
-        if let Some(socket) = self.table.get_mut(key) {
+    fn connected(&mut self, key: usize, id: Id) -> Result<(), OutOfMemory>
+        requires { IsSome (socket_at self.old.table key) }
+        ensures events { OnOk result (self.new.events ≡ self.old.events ++ Told id.cid true ∷ []) }
+        ensures stage { OnOk result (stage_at self.new.table key ≡ Some (Open id)) }
+        ensures others { (k : ℕ) → eqb key k ≡ false → stage_at self.new.table k ≡ stage_at self.old.table k }
+    {
+        if let Some(socket) = self.table.sockets.get_mut(&key) {
             socket.stage = Stage::Open(id);
         }
         self.events.push(Event::Dialed(id.cid, true))?;
@@ -173,7 +193,9 @@ impl SocketFlow {
     /// Bytes came on a socket. Answers the event that they are, if they are one.
     pub fn came(&mut self, key: usize, bytes: &[u8]) -> Result<Option<Event>, OutOfMemory>
         requires { IsPiece bytes.now }
-        ensures { IfOk result (λ event. IfSome event IsWithinLimits) }
+        ensures limits { IfOk result (λ event. IfSome event IsWithinLimits) }
+        ensures told { IfOk result (λ event. event ≡ told_of (socket_at self.old.table key) bytes.now) }
+        ensures after { OnOk result (Puts self.old.table self.new.table key (after_bytes (socket_at self.old.table key) bytes.now)) }
     {
         let Some(socket) = self.table.get(key) else {
             return Ok(None);
@@ -192,11 +214,16 @@ impl SocketFlow {
         }
     }
 
-    fn hear(&mut self, key: usize, bytes: &[u8]) -> Result<(), OutOfMemory> {
-        let Some(socket) = self.table.get_mut(key) else {
+    fn hear(&mut self, key: usize, bytes: &[u8]) -> Result<(), OutOfMemory>
+        ensures { OnOk result (Puts self.old.table self.new.table key (after_bytes (socket_at self.old.table key) bytes.now)) }
+    {
+        let Some(socket) = self.table.sockets.get_mut(&key) else {
             return Ok(());
         };
-        match socket.hear(bytes)? {
+        let Some(heard) = socket.hear(bytes)? else {
+            return Ok(());
+        };
+        match heard {
             Heard::Front => self.fresh.push(key),
             Heard::Whole(addr) => self.introduce(addr, key),
             Heard::Else => self.lose(key),
@@ -204,8 +231,10 @@ impl SocketFlow {
     }
 
     // A peer has connected, and its address is known.
-    fn introduce(&mut self, addr: Addr, key: usize) -> Result<(), OutOfMemory> {
-        if let Some(socket) = self.table.get_mut(key) {
+    fn introduce(&mut self, addr: Addr, key: usize) -> Result<(), OutOfMemory>
+        ensures { Puts self.old.table self.new.table key (waits_with addr (socket_at self.old.table key)) }
+    {
+        if let Some(socket) = self.table.sockets.get_mut(&key) {
             socket.stage = Stage::Waiting(addr);
             self.strangers = self.strangers.saturating_sub(1);
         }
@@ -213,13 +242,19 @@ impl SocketFlow {
     }
 
     /// The peer sends no more, or the socket has failed.
-    pub fn ended(&mut self, key: usize) -> Result<(), OutOfMemory> {
+    pub fn ended(&mut self, key: usize) -> Result<(), OutOfMemory>
+        ensures gone { Puts self.old.table self.new.table key None }
+        ensures events { OnOk result (self.new.events ≡ self.old.events ++ endings (socket_at self.old.table key)) }
+    {
         self.lose(key)
     }
 
     /// So many of the bytes that wait were written.
-    pub fn went(&mut self, key: usize, count: usize) -> Result<(), OutOfMemory> {
-        let Some(socket) = self.table.get_mut(key) else {
+    pub fn went(&mut self, key: usize, count: usize) -> Result<(), OutOfMemory>
+        ensures after { OnOk result (Puts self.old.table self.new.table key (after_going (socket_at self.old.table key) count)) }
+        ensures events { OnOk result (self.new.events ≡ self.old.events) }
+    {
+        let Some(socket) = self.table.sockets.get_mut(&key) else {
             return Ok(());
         };
         self.unsent = self.unsent.saturating_sub(socket.went(count));
@@ -237,8 +272,11 @@ impl SocketFlow {
     }
 
     /// The socket takes no more bytes for now.
-    pub fn is_full(&mut self, key: usize) -> Result<(), OutOfMemory> {
-        let Some(socket) = self.table.get_mut(key) else {
+    pub fn is_full(&mut self, key: usize) -> Result<(), OutOfMemory>
+        ensures after { OnOk result (Puts self.old.table self.new.table key (after_full (socket_at self.old.table key))) }
+        ensures events { OnOk result (self.new.events ≡ self.old.events) }
+    {
+        let Some(socket) = self.table.sockets.get_mut(&key) else {
             return Ok(());
         };
         socket.is_blocked = true;

@@ -1,4 +1,4 @@
-ghost use Rattle.std.specs.Prelude.{◌≤◌, ◌^◌, ◌≡◌, IfSome};
+ghost use Rattle.std.specs.Prelude.{◌≡◌, ◌≤◌, ◌^◌, nat_le, is_some, IfSome};
 
 use net_base::{Cid, NUMBER_MOST};
 
@@ -12,7 +12,8 @@ pub(crate) struct Id {
 impl Id {
     /// None is where the id is beyond what a trace may name.
     pub(crate) fn new(cid: Cid) -> Option<Id>
-        ensures { IfSome result (λ id. id.cid ≡ cid) }
+        ensures id { IfSome result (λ id. id.cid ≡ cid) }
+        ensures bounded { is_some result ≡ nat_le cid.0 (2 ^ 48) }
     {
         if cid.0 <= NUMBER_MOST {
             Some(Id { cid })

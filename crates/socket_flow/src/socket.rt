@@ -1,4 +1,6 @@
 ghost use Rattle.std.specs.Prelude.{◌≡◌, ◌+◌, ◌-◌, min, true, false, nat_lt, ◌&&◌, length, [], ◌++◌, drop, IfOk, OnOk, OnErr};
+ghost use Rattle.socket_flow.specs.declared.socket.Stage.TheVariants.{Announcing};
+ghost use Rattle.socket_flow.specs.Stages.{heard_by, more_said, unheard};
 
 use crate::announcement::{Heard, announced_size, read_announcement};
 use crate::id::Id;
@@ -77,7 +79,9 @@ impl Socket {
     }
 
     /// How many bytes of the announcement are still to come, as far as is known.
-    pub(crate) fn unheard(&self) -> usize {
+    pub(crate) fn unheard(&self) -> usize
+        ensures { result ≡ unheard self.now.stage }
+    {
         let Stage::Announcing(said) = &self.stage else {
             return 0;
         };
@@ -87,17 +91,22 @@ impl Socket {
         }
     }
 
-    /// Reads on in the announcement.
-    pub(crate) fn hear(&mut self, bytes: &[u8]) -> Result<Heard, OutOfMemory> {
+    /// Hears on in the announcement. None is where it announces none.
+    pub(crate) fn hear(&mut self, bytes: &[u8]) -> Result<Option<Heard>, OutOfMemory>
+        ensures heard { IfOk result (λ heard. heard ≡ heard_by self.old.stage bytes.now) }
+        ensures after { OnOk result (self.new ≡ record self.old { stage = more_said self.old.stage bytes.now }) }
+    {
         let Stage::Announcing(said) = &mut self.stage else {
-            return Ok(Heard::Else);
+            return Ok(None);
         };
         said.extend_from_slice(bytes)?;
-        Ok(read_announcement(said.as_slice()))
+        Ok(Some(read_announcement(said.as_slice())))
     }
 }
 
 /// A peer that has connected, and has said nothing.
-pub(crate) fn stranger(alloc: Global) -> Socket {
+pub(crate) fn stranger(alloc: Global) -> Socket
+    ensures { result ≡ record { stage = Announcing []; out = []; is_blocked = false; is_held = false; is_watched = false; has_taken = false } }
+{
     Socket::new(Stage::Announcing(Octets::new(alloc)), OutQueue::new(alloc))
 }
