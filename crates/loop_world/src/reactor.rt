@@ -62,15 +62,11 @@ impl Reactor {
         publics: &AddrList,
     ) -> Result<Reactor, WorldRefusal> {
         let poll = told(Poll::new(rt))?;
-        let mut listener = told(TcpListener::bind(
-            rt,
-            socket_addr(config.settings.own),
-        ))?;
-        told(poll.registry().register(
-            &mut listener,
-            LISTENER,
-            Interest::READABLE,
-        ))?;
+        let mut listener = told(TcpListener::bind(rt, socket_addr(config.settings.own)))?;
+        told(
+            poll.registry()
+                .register(&mut listener, LISTENER, Interest::READABLE),
+        )?;
         Ok(Reactor {
             poll,
             ready: events(alloc)?,

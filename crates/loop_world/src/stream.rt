@@ -83,12 +83,10 @@ pub(crate) fn dialed(stream: &TcpStream) -> Dialed {
 
 // The numbers of Linux for a process, or a system, that has as many descriptors as it may have.
 const NO_MORE_HERE: i32 = 24;
+
 const NO_MORE_ANYWHERE: i32 = 23;
 
 /// Whether a socket could not be opened for want of room.
 pub(crate) fn is_for_want_of_room(error: &io::Error) -> bool {
-    matches!(
-        error.raw_os_error(),
-        Some(NO_MORE_HERE | NO_MORE_ANYWHERE)
-    )
+    matches!(error.raw_os_error(), Some(NO_MORE_HERE | NO_MORE_ANYWHERE))
 }

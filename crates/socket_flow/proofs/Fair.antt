@@ -1,6 +1,6 @@
 -- Turns are fair.
-use Rattle.std.proofs.Common.{◌≡◌, ◌≢◌, ℕ, true, false, List, [], ◌∷◌, ◌++◌, if◌then◌else◌, inl, inr}
-use Rattle.socket_flow.specs.Turns.{has_turn, queued, Happening, Ready, Turn, turns, Precedes, WaitsFor, AreFair, AreRound}
+use Rattle.std.proofs.Common.{ℕ, true, false, List, [], ◌∷◌, ◌++◌, if◌then◌else◌, inl, inr}
+use Rattle.socket_flow.specs.Turns.{has_turn, queued, Ready, Turn, Precedes, AreFair, AreRound}
 
 precedes-append : (one other : ℕ) (queue more : List ℕ) → Precedes one other queue → Precedes one other (queue ++ more)
 precedes-append one other [] more p = absurd p

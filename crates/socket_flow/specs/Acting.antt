@@ -6,7 +6,7 @@ use Rattle.net_base.specs.declared.action.Action.TheVariants.{Admit, Turnaway, D
 use Rattle.net_base.specs.declared.address.Addr.{Addr}
 use Rattle.net_base.specs.declared.connection.Cid.{Cid}
 use Rattle.net_base.specs.declared.event.Event.{Event}
-use Rattle.net_base.specs.declared.event.Event.TheVariants.{Dialed, Roots as Answered}
+use Rattle.net_base.specs.declared.event.Event.TheVariants.{Roots as Answered}
 use Rattle.net_base.specs.declared.event.Job.{Job}
 use Rattle.net_base.specs.declared.event.RootAnswer.TheVariants.{Found}
 use Rattle.socket_flow.specs.Flow.{endings}
@@ -16,7 +16,7 @@ use Rattle.socket_flow.specs.declared.roots.Roots.{Roots}
 use Rattle.socket_flow.specs.declared.socket.Socket.{Socket}
 use Rattle.socket_flow.specs.declared.socket.Stage.{Stage}
 use Rattle.socket_flow.specs.declared.socket_table.SocketTable.{SocketTable}
-use Rattle.socket_flow.specs.declared.socket.Stage.TheVariants.{Dialing, Announcing, Waiting, Told, Open, Closing}
+use Rattle.socket_flow.specs.declared.socket.Stage.TheVariants.{Dialing, Open}
 
 -- an id that a trace may name, and that is no connection yet
 abbrev pub is_free : SocketFlow → ℕ → Bool

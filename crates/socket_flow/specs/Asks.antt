@@ -9,7 +9,7 @@ use Rattle.socket_flow.specs.Table.{stage_at}
 use Rattle.socket_flow.specs.declared.ask.Ask.{Ask}
 use Rattle.socket_flow.specs.declared.flow.SocketFlow.{SocketFlow}
 use Rattle.socket_flow.specs.declared.socket.Stage.TheVariants.{Waiting}
-use Rattle.socket_flow.specs.declared.ask.Ask.TheVariants.{Close, Connect, Check, Write, Accept, Read, Give, Govern, Wait}
+use Rattle.socket_flow.specs.declared.ask.Ask.TheVariants.{Accept, Give}
 
 -- Where no event waits the node is told of the peer that has waited for longest, by its own address. The next word of the
 -- node's on a peer is on this one.

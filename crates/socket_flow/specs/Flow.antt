@@ -6,12 +6,12 @@ use Rattle.net_base.specs.declared.event.Event.TheVariants.{Dialed, Bytes, Close
 use Rattle.socket_flow.specs.Announcement.{hearing}
 use Rattle.socket_flow.specs.Writing.{gone_by}
 use Rattle.socket_flow.specs.declared.ask.Dialed.{Dialed as Outcome}
-use Rattle.socket_flow.specs.declared.ask.Dialed.TheVariants.{NotYet, Connected, Failed}
+use Rattle.socket_flow.specs.declared.ask.Dialed.TheVariants.{Connected, Failed}
 use Rattle.socket_flow.specs.declared.announcement.Heard.{Heard}
 use Rattle.socket_flow.specs.declared.announcement.Heard.TheVariants.{Front, Whole, Else}
 use Rattle.socket_flow.specs.declared.socket.Socket.{Socket}
 use Rattle.socket_flow.specs.declared.socket.Stage.{Stage}
-use Rattle.socket_flow.specs.declared.socket.Stage.TheVariants.{Dialing, Announcing, Waiting, Told, Open, Closing}
+use Rattle.socket_flow.specs.declared.socket.Stage.TheVariants.{Dialing, Announcing, Waiting, Open, Closing}
 
 -- ---- what the node is told
 

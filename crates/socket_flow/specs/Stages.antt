@@ -3,7 +3,7 @@ use Rattle.std.specs.Prelude.{ℕ, ◌-◌, List, ◌++◌, length, Option, Some
 use Rattle.socket_flow.specs.Announcement.{announced_size, hearing}
 use Rattle.socket_flow.specs.declared.announcement.Heard.{Heard}
 use Rattle.socket_flow.specs.declared.socket.Stage.{Stage}
-use Rattle.socket_flow.specs.declared.socket.Stage.TheVariants.{Dialing, Announcing, Waiting, Told, Open, Closing}
+use Rattle.socket_flow.specs.declared.socket.Stage.TheVariants.{Announcing}
 
 -- bytes of an announcement come behind what was said of it
 abbrev pub heard_by : Stage → List ℕ → Option Heard

@@ -3,7 +3,7 @@ use Rattle.std.specs.Prelude.{◌≡◌, ℕ, Bool, false, eqb, List, [], if◌t
 use Rattle.std.specs.HashMap.{get}
 use Rattle.socket_flow.specs.declared.socket.Socket.{Socket}
 use Rattle.socket_flow.specs.declared.socket.Stage.{Stage}
-use Rattle.socket_flow.specs.declared.socket.Stage.TheVariants.{Dialing, Announcing, Waiting, Told, Open, Closing}
+use Rattle.socket_flow.specs.declared.socket.Stage.TheVariants.{Dialing, Open}
 use Rattle.socket_flow.specs.declared.socket_table.SocketTable.{SocketTable}
 
 -- the socket of a key
