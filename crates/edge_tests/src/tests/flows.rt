@@ -164,7 +164,7 @@ fn said(world: &mut FlowWorld, key: usize, most: usize) -> Result<Vec<u8>, OutOf
 }
 
 // The socket fails: its peer says no more.
-fn fail(world: &mut FlowWorld, key: usize) {
+fn is_lost(world: &mut FlowWorld, key: usize) {
     if let Some(peer) = world.peers.get_mut(&key) {
         peer.left = 0;
     }
@@ -175,7 +175,7 @@ fn read(world: &mut FlowWorld, key: usize, most: usize) -> Result<(), OutOfMemor
         return Ok(());
     }
     if below(world, 500) == 0 {
-        fail(world, key);
+        is_lost(world, key);
         return world.flow.ended(key);
     }
     let bytes = said(world, key, most)?;
