@@ -1,5 +1,5 @@
 -- The sockets under their keys, and the keys of connections.
-use Rattle.std.specs.Prelude.{◌≡◌, ℕ, Bool, false, eqb, List, [], if◌then◌else◌, Option, Some, None}
+use Rattle.std.specs.Prelude.{◌≡◌, ℕ, Bool, true, false, eqb, List, [], if◌then◌else◌, Option, Some, None}
 use Rattle.std.specs.HashMap.{get}
 use Rattle.socket_flow.specs.declared.socket.Socket.{Socket}
 use Rattle.socket_flow.specs.declared.socket.Stage.{Stage}
@@ -53,3 +53,8 @@ is_connection _ cid = false
 abbrev pub is_of : Option Socket → ℕ → Bool
 is_of (Some socket) cid = is_connection socket.stage cid
 is_of None cid = false
+
+-- whether a socket is to connect
+abbrev pub is_dialing : Option Stage → Bool
+is_dialing (Some (Dialing id)) = true
+is_dialing _ = false

@@ -1,13 +1,14 @@
 //! What is to be done next.
-ghost use Rattle.std.specs.Prelude.{◌≡◌, ◌∷◌, ◌⊎◌, IfOk, IfSome};
+ghost use Rattle.std.specs.Prelude.{◌≡◌, true, ◌∷◌, ◌⊎◌, IfOk, IfSome};
 ghost use Rattle.net_base.specs.Limits.{IsWithinLimits};
+ghost use Rattle.socket_flow.specs.Table.{stage_at, is_dialing};
 ghost use Rattle.socket_flow.specs.Asks.{GivesWithinLimits, IsNextCaller, AsksForRoom, Gives, IsOfSockets};
 
 use crate::ask::Ask;
 use crate::flow::SocketFlow;
 use crate::limits::{READ_LEAST, READ_MOST, ROUND_MOST};
 use crate::socket::Stage;
-use net_base::{Event, OutOfMemory};
+use net_base::{Addr, Event, OutOfMemory};
 
 impl SocketFlow {
     /// What is to be done next. It is to be told what came of it before it is asked again.
@@ -47,11 +48,25 @@ impl SocketFlow {
         if let Some(key) = self.closing.pop_front() {
             return Some(Ask::Close(key));
         }
-        if let Some((key, addr)) = self.connecting.pop_front() {
+        if let Some((key, addr)) = self.next_to_connect() {
             return Some(Ask::Connect(key, addr));
         }
         let key = self.writes.pop()?;
         Some(Ask::Write(key))
+    }
+
+    // A dial may be given up before it was begun.
+    fn next_to_connect(&mut self) -> Option<(usize, Addr)>
+        ensures table { self.new.table ≡ self.old.table }
+        ensures caller { self.new.caller ≡ self.old.caller }
+        ensures dials { IfSome result (λ next. is_dialing (stage_at self.old.table next.0) ≡ true) }
+    {
+        let (key, addr) = self.connecting.pop_front()?;
+        if self.is_dialing(key) {
+            Some((key, addr))
+        } else {
+            None
+        }
     }
 
     // An event that waits, or else the next peer that has connected.

@@ -3,7 +3,7 @@ ghost use Rattle.std.specs.Prelude.{◌≡◌, ◌++◌, [], ◌∷◌, ℕ, tru
 ghost use Rattle.net_base.specs.Limits.{IsPiece, IsWithinLimits};
 ghost use Rattle.net_base.specs.declared.event.Event.TheVariants.{Dialed as Told};
 ghost use Rattle.socket_flow.specs.declared.socket.Stage.TheVariants.{Open};
-ghost use Rattle.socket_flow.specs.Table.{socket_at, stage_at, KeepsTalk, Puts};
+ghost use Rattle.socket_flow.specs.Table.{socket_at, stage_at, is_dialing, KeepsTalk, Puts};
 ghost use Rattle.socket_flow.specs.Flow.{endings, told_of, after_bytes, waits_with, after_going, after_full, dial_events, after_dial, newcomer};
 
 use crate::announcement::Heard;
@@ -79,7 +79,9 @@ impl SocketFlow {
         Ok(())
     }
 
-    fn is_dialing(&self, key: usize) -> bool {
+    pub(crate) fn is_dialing(&self, key: usize) -> bool
+        ensures { result ≡ is_dialing (stage_at self.now.table key) }
+    {
         match self.table.get(key) {
             Some(socket) => matches!(socket.stage, Stage::Dialing(_)),
             None => false,
