@@ -2,7 +2,6 @@
 //! faults, and a fault is answered only where the count rose.
 #![tactic(auto)]
 
-mod call_log;
 mod dir_shelf;
 mod failed;
 mod got;

@@ -5,15 +5,6 @@ use mux_segment::{Header, read_header, write_header};
 use net_base::{Octets, OutOfMemory};
 use std::alloc::Global;
 
-// The numbers of protocols.
-pub(crate) const HANDSHAKE: u16 = 0;
-
-pub(crate) const CHAIN_SYNC: u16 = 2;
-
-pub(crate) const KEEP_ALIVE: u16 = 8;
-
-pub(crate) const PEER_SHARING: u16 = 10;
-
 // Who speaks.
 pub(crate) const INITIATOR: u8 = 0;
 

@@ -9,25 +9,25 @@ use Rattle.conn_state.specs.Use.{is_live}
 use Rattle.conn_table.specs.Answers.{any_at}
 use Rattle.conn_table.specs.Index.{index_of}
 use Rattle.conn_table.specs.Table.{IdsRise}
-use Rattle.conn_table.specs.declared.kept.Kept.{Kept}
+use Rattle.conn_table.specs.declared.roster.Roster.{Roster}
 
 -- what is known of the connections
-abbrev pub facts_kept : Kept → List Facts
-facts_kept kept = map facts_of kept.states
+abbrev pub facts_kept : Roster → List Facts
+facts_kept roster = map facts_of roster.states
 
 -- where a later connection has its address, a connection is closed
 abbrev pub OnlyLastLives : List Facts → Type 0
 OnlyLastLives [] = Unit {0}
 OnlyLastLives (f ∷ fs) = (is_live f ≡ true → any_at f.addr fs ≡ false) × OnlyLastLives fs
 
-pub record IsKept (kept : Kept) : Type 0 where
-  pub few : kept.given ≤ 2 ^ 48
-  pub ids_rise : IdsRise 0 kept.given (facts_kept kept)
-  pub last_lives : OnlyLastLives (facts_kept kept)
-  pub indexed : kept.index ≡ index_of (facts_kept kept)
-  pub counted : kept.counted ≡ counted (facts_kept kept)
+pub record IsKept (roster : Roster) : Type 0 where
+  pub few : roster.given ≤ 2 ^ 48
+  pub ids_rise : IdsRise 0 roster.given (facts_kept roster)
+  pub last_lives : OnlyLastLives (facts_kept roster)
+  pub indexed : roster.index ≡ index_of (facts_kept roster)
+  pub counted : roster.counted ≡ counted (facts_kept roster)
 
 -- what every table keeps
-pub record IsSettled (settings : Settings) (kept : Kept) : Type 0 where
+pub record IsSettled (settings : Settings) (roster : Roster) : Type 0 where
   pub settings_sound : AreSound settings
-  pub is_kept : IsKept kept
+  pub is_kept : IsKept roster

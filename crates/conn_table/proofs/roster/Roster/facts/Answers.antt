@@ -1,8 +1,8 @@
 use Rattle.std.proofs.Common.{ap, sym, ◌∙◌, slice_get}
 use Rattle.conn_table.specs.Finds.{found_with}
-use Rattle.conn_table.specs.Kept.{facts_kept}
+use Rattle.conn_table.specs.Rosters.{facts_kept}
 use Rattle.conn_table.proofs.IdPlaces.{find-place}
-use Rattle.conn_table.proofs.kept.Kept.facts.Goals as goal
+use Rattle.conn_table.proofs.roster.Roster.facts.Goals as goal
 
 pub returns : goal.returns
 returns c =

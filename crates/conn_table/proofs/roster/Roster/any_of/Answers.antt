@@ -3,10 +3,10 @@ use Rattle.std.specs.Option.{option_map}
 use Rattle.net_base.specs.declared.connection.Facts.{Facts}
 use Rattle.conn_table.specs.Index.{IsRising, placed_of, last_at}
 use Rattle.conn_table.specs.Finds.{newest}
-use Rattle.conn_table.specs.Kept.{facts_kept}
+use Rattle.conn_table.specs.Rosters.{facts_kept}
 use Rattle.conn_table.proofs.IndexFacts.{index_rises, last_at-index}
 use Rattle.conn_table.proofs.Lives.{any_at-newest}
-use Rattle.conn_table.proofs.kept.Kept.any_of.Goals as goal
+use Rattle.conn_table.proofs.roster.Roster.any_of.Goals as goal
 
 some_placed : (found : Option Facts) → is_some (option_map placed_of found) ≡ is_some found
 some_placed None = refl

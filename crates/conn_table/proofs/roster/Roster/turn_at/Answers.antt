@@ -5,7 +5,7 @@ use Rattle.conn_state.specs.State.{facts_of}
 use Rattle.conn_state.specs.Use.{facts_at, is_live}
 use Rattle.conn_table.specs.Conditions.{CanStep, after_step}
 use Rattle.conn_table.specs.Index.{index_of}
-use Rattle.conn_table.specs.Kept.{facts_kept, OnlyLastLives}
+use Rattle.conn_table.specs.Rosters.{facts_kept, OnlyLastLives}
 use Rattle.conn_table.specs.Finds.{id_place}
 use Rattle.conn_table.specs.Table.{IdsRise, without_at}
 use Rattle.conn_table.proofs.IdPlaces.{place-get, found-get, set-place, IdsRise-moved, count-moved, count-without}
@@ -13,7 +13,7 @@ use Rattle.conn_table.proofs.IndexFacts.{index_of-moved}
 use Rattle.conn_table.proofs.Lives.{OnlyLastLives-moved}
 use Rattle.conn_table.proofs.StateFacts.{place_inside, was_there, step_keeps, steps_live}
 use Rattle.conn_table.proofs.Turns.{one_if, map-set_twice, count_within}
-use Rattle.conn_table.proofs.kept.Kept.turn_at.Goals as goal
+use Rattle.conn_table.proofs.roster.Roster.turn_at.Goals as goal
 
 pub recounted-self-requires : goal.recounted-self-requires
 recounted-self-requires c =

@@ -3,10 +3,10 @@ use Rattle.std.specs.Option.{option_map}
 use Rattle.net_base.specs.declared.connection.Facts.{Facts}
 use Rattle.conn_table.specs.Index.{IsRising, placed_of, last_at}
 use Rattle.conn_table.specs.Finds.{newest, StandsAt}
-use Rattle.conn_table.specs.Kept.{facts_kept}
+use Rattle.conn_table.specs.Rosters.{facts_kept}
 use Rattle.conn_table.proofs.IndexFacts.{index_rises, last_at-index}
 use Rattle.conn_table.proofs.Lives.{none_newest, newest_stands}
-use Rattle.conn_table.proofs.kept.Kept.newest.Goals as goal
+use Rattle.conn_table.proofs.roster.Roster.newest.Goals as goal
 
 pub last_at-requires : goal.last_at-requires
 last_at-requires c =

@@ -1,19 +1,19 @@
 ghost use Rattle.std.specs.Prelude.{◌≡◌, ◌≤◌};
-ghost use Rattle.io_edge.specs.Memory.{next_fails, after_call, after_fault};
+ghost use Rattle.net_base.specs.Calls.{next_fails, after_call, after_fault};
 
-use net_base::NumberList;
+use crate::NumberList;
 use std::marker::Model;
 
-// The calls that were made, those that are to fail, and how many did.
+/// The calls of a device in memory: how many were made, which are to fail, and how many did.
 #[derive(Drop)]
-pub(crate) struct CallLog {
+pub struct CallLog {
     made: u64,
     failing: NumberList,
     faults: u64,
 }
 
 impl Model for CallLog {
-    ghost use Rattle.io_edge.specs.Memory.{Calls};
+    ghost use Rattle.net_base.specs.Calls.{Calls};
 
     ghost Value = { Calls };
 
@@ -21,8 +21,8 @@ impl Model for CallLog {
 }
 
 impl CallLog {
-    // No call is made yet. Of the calls, counted from 1, those fail whose numbers are given.
-    pub(crate) fn new(failing: NumberList) -> CallLog
+    /// No call is made yet. Of the calls, counted from 1, those fail whose numbers are given.
+    pub fn new(failing: NumberList) -> CallLog
         ensures { result ≡ record { made = 0; failing = failing; faults = 0 } }
     {
         CallLog {
@@ -32,8 +32,8 @@ impl CallLog {
         }
     }
 
-    // Counts a call, and its fault where it is one of those that fail. Answers whether it is.
-    pub(crate) fn count_call(&mut self) -> bool
+    /// Counts a call, and its fault where it is one of those that fail. Answers whether it is.
+    pub fn count_call(&mut self) -> bool
         ensures answer { result ≡ next_fails self.old }
         ensures after { self.new ≡ after_call self.old }
         ensures later { self.old.faults ≤ self.new.faults }
@@ -46,15 +46,16 @@ impl CallLog {
         fails
     }
 
-    // Counts a fault.
-    pub(crate) fn count_fault(&mut self)
+    /// Counts a fault that comes of something else than the number of a call.
+    pub fn count_fault(&mut self)
         ensures after { self.new ≡ after_fault self.old }
         ensures later { self.old.faults ≤ self.new.faults }
     {
         self.faults = self.faults.saturating_add(1);
     }
 
-    pub(crate) fn made(&self) -> u64
+    /// How many calls were made. The count stands still at the end of its type.
+    pub fn made(&self) -> u64
         ensures { result ≡ self.now.made }
     {
         self.made

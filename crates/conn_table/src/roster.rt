@@ -1,7 +1,7 @@
 ghost use Rattle.std.specs.Prelude.{◌≡◌, ◌+◌, ◌++◌, ◌∷◌, ◌<◌, ◌^◌, [], length, Some, None, OnOk, OnErr, IsSome, IsSomeAnd, slice_get, ℕ, if◌then◌else◌};
 ghost use Rattle.conn_state.specs.State.{facts_of};
 ghost use Rattle.conn_state.specs.Use.{facts_at, live_at};
-ghost use Rattle.conn_table.specs.Answers.{any_at};
+ghost use Rattle.conn_table.specs.Answers.{any_at, any_acquirable, may_acquire};
 ghost use Rattle.conn_table.specs.Conditions.{CanStep, after_step};
 ghost use Rattle.conn_table.specs.Index.{placed_of};
 ghost use Rattle.conn_table.specs.Finds.{id_place, newest, found_with, StandsAt};
@@ -10,32 +10,34 @@ ghost use Rattle.conn_table.specs.Table.{moved_at, without_at};
 use crate::step::{Step, stepped};
 use crate::{Placed, PlacedList};
 use chunked_list::ChunkedList;
-use conn_state::facts::is_counted;
+use conn_state::facts::{is_counted, is_live};
 use conn_state::{ConnState, ReservedOutbound};
 use net_base::{Addr, Cid, Facts, Ip, OutOfMemory};
 use std::alloc::Global;
 
-// The connections in order of id, and what is kept beside them.
+/// The connections in order of id, and what is kept beside them. Whoever has one keeps it as its calls leave it. Places
+/// are counted from 0.
 #[derive(Drop)]
-pub struct Kept {
+pub struct Roster {
     pub states: ChunkedList<ConnState>,
-    // by address and then id
+    /// By address and then id.
     pub index: PlacedList,
-    // how many the limits count
+    /// How many the limits count.
     pub counted: u64,
-    // how many ids were given
+    /// How many ids were given.
     pub given: u64,
 }
 
-impl Kept {
-    ghost use Rattle.conn_table.specs.Kept.{IsKept, facts_kept};
+impl Roster {
+    ghost use Rattle.conn_table.specs.Rosters.{IsKept, facts_kept};
 
-    pub fn new(alloc: Global) -> Kept
+    /// No connection yet, and no id given. Takes no memory.
+    pub fn new(alloc: Global) -> Roster
         ensures kept { IsKept result }
         ensures facts { facts_kept result ≡ [] }
         ensures given { result.given ≡ 0 }
     {
-        Kept {
+        Roster {
             states: ChunkedList::new(alloc),
             index: PlacedList::new(alloc),
             counted: 0,
@@ -43,6 +45,7 @@ impl Kept {
         }
     }
 
+    /// What is known of the connection with an id. None where there is none.
     pub fn facts(&self, cid: Cid) -> Option<Facts>
         requires { IsKept self.now }
         ensures { result ≡ facts_at cid.0 (facts_kept self.now) }
@@ -51,7 +54,7 @@ impl Kept {
     }
 
     // Where the last connection of an address stands: only that one may be live.
-    pub fn newest(&self, addr: Addr) -> Option<usize>
+    fn newest(&self, addr: Addr) -> Option<usize>
         requires { IsKept self.now }
         ensures { StandsAt (facts_kept self.now) (newest addr (facts_kept self.now)) result }
     {
@@ -59,7 +62,21 @@ impl Kept {
         Some(self.place_of(placed.cid))
     }
 
-    // Whether some connection has an address, closed or not.
+    /// Where the live connection of an address stands. There is no other one that may be taken into use.
+    pub fn live(&self, addr: Addr) -> Option<usize>
+        requires { IsKept self.now }
+        ensures value { StandsAt (facts_kept self.now) (live_at addr (facts_kept self.now)) result }
+        ensures only { may_acquire (live_at addr (facts_kept self.now)) ≡ any_acquirable addr (facts_kept self.now) }
+    {
+        let place = self.newest(addr)?;
+        if is_live(self.at(place)) {
+            Some(place)
+        } else {
+            None
+        }
+    }
+
+    /// Whether some connection has an address, closed or not.
     pub fn any_of(&self, addr: Addr) -> bool
         requires { IsKept self.now }
         ensures { result ≡ any_at addr (facts_kept self.now) }
@@ -67,7 +84,7 @@ impl Kept {
         self.index.last_at(addr).is_some()
     }
 
-    // What is known of the connection at a place.
+    /// What is known of the connection at a place.
     pub fn at(&self, place: usize) -> &Facts
         requires { place < length (facts_kept self.now) }
         ensures { slice_get (facts_kept self.now) place ≡ Some result.now }
@@ -75,7 +92,7 @@ impl Kept {
         self.states.at(place).as_facts()
     }
 
-    // Takes in a connection under the next id. A refusal changes nothing.
+    /// Takes in a connection under the next id. A refusal changes nothing.
     pub fn enter(&mut self, state: ConnState) -> Result<(), OutOfMemory>
         requires kept { IsKept self.old }
         requires next { (facts_of state).cid.0 ≡ self.old.given + 1 }
@@ -99,7 +116,7 @@ impl Kept {
         Ok(())
     }
 
-    // A connection makes a move that it has. The answer is what was known of it before.
+    /// A connection makes a move that it has. The answer is what was known of it before.
     pub fn turn(&mut self, cid: Cid, step: Step) -> Facts
         requires kept { IsKept self.old }
         requires can { IsSomeAnd (facts_at cid.0 (facts_kept self.old)) (CanStep step) }
@@ -112,7 +129,7 @@ impl Kept {
         self.turn_at(place, step)
     }
 
-    // The connection at a place makes a move that it has. The answer is what was known of it before.
+    /// The connection at a place makes a move that it has. The answer is what was known of it before.
     pub fn turn_at(&mut self, place: usize, step: Step) -> Facts
         requires kept { IsKept self.old }
         requires can { IsSomeAnd (slice_get (facts_kept self.old) place) (CanStep step) }
@@ -129,22 +146,35 @@ impl Kept {
         was
     }
 
-    // A connection that stands goes.
-    pub fn remove(&mut self, cid: Cid)
+    /// A connection that stands goes. The answer is what was known of it.
+    pub fn remove(&mut self, cid: Cid) -> Facts
         requires kept { IsKept self.old }
         requires there { IsSome (facts_at cid.0 (facts_kept self.old)) }
+        ensures was { facts_at cid.0 (facts_kept self.old) ≡ Some result }
         ensures kept { IsKept self.new }
         ensures facts { facts_kept self.new ≡ without_at cid.0 (facts_kept self.old) }
         ensures given { self.new.given ≡ self.old.given }
     {
         let place = self.place_of(cid);
-        let facts = self.states.at(place).facts();
-        self.index.remove(placed(&facts));
-        self.counted = recounted(self.counted, is_counted(&facts), false);
-        self.states.remove(place);
+        self.remove_at(place)
     }
 
-    // How many connections have a lower id.
+    /// The connection at a place goes. The answer is what was known of it.
+    pub fn remove_at(&mut self, place: usize) -> Facts
+        requires kept { IsKept self.old }
+        requires there { place < length (facts_kept self.old) }
+        ensures was { slice_get (facts_kept self.old) place ≡ Some result }
+        ensures kept { IsKept self.new }
+        ensures facts { facts_kept self.new ≡ without_at result.cid.0 (facts_kept self.old) }
+        ensures given { self.new.given ≡ self.old.given }
+    {
+        let facts = self.states.remove(place).facts();
+        self.index.remove(placed(&facts));
+        self.counted = recounted(self.counted, is_counted(&facts), false);
+        facts
+    }
+
+    /// How many connections have a lower id. The one with the id stands at that place, where there is one.
     pub fn place_of(&self, cid: Cid) -> usize
         requires { IsKept self.now }
         ensures { result ≡ id_place cid.0 (facts_kept self.now) }

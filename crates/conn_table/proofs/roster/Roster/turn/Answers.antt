@@ -2,11 +2,11 @@ use Rattle.std.proofs.Common.{List, IsSomeAnd, slice_get, sym, subst, ap, ◌∙
 use Rattle.net_base.specs.declared.connection.Facts.{Facts}
 use Rattle.conn_state.specs.Use.{facts_at}
 use Rattle.conn_table.specs.Conditions.{CanStep, after_step}
-use Rattle.conn_table.specs.Kept.{facts_kept}
+use Rattle.conn_table.specs.Rosters.{facts_kept}
 use Rattle.conn_table.specs.Table.{moved_at}
 use Rattle.conn_table.proofs.IdPlaces.{get-place, found_id}
 use Rattle.conn_table.proofs.StateFacts.{some_with}
-use Rattle.conn_table.proofs.kept.Kept.turn.Goals as goal
+use Rattle.conn_table.proofs.roster.Roster.turn.Goals as goal
 
 pub turn_at-requires-clause-can : goal.turn_at-requires-clause-can
 turn_at-requires-clause-can c =

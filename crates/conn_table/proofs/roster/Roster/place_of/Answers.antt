@@ -2,7 +2,7 @@ use Rattle.std.proofs.Common.{◌∙◌, rules}
 use Rattle.std.proofs.lemmas.List.Sorted.{IsPartitionPoint-from_clause}
 use Rattle.conn_table.proofs.IdPlaces.{state_under, parted, id_place-map}
 use Rattle.conn_table.proofs.PlacedPlaces.{place_is}
-use Rattle.conn_table.proofs.kept.Kept.place_of.Goals as goal
+use Rattle.conn_table.proofs.roster.Roster.place_of.Goals as goal
 
 pub returns : goal.returns
 returns c =

@@ -4,13 +4,13 @@ use Rattle.net_base.specs.declared.connection.Facts.{Facts}
 use Rattle.conn_state.specs.Counted.{is_counted, counted}
 use Rattle.conn_state.specs.State.{facts_of}
 use Rattle.conn_table.specs.Index.{IsRising, index_of, put_in, placed_of}
-use Rattle.conn_table.specs.Kept.{facts_kept, OnlyLastLives}
+use Rattle.conn_table.specs.Rosters.{facts_kept, OnlyLastLives}
 use Rattle.conn_table.specs.Table.{IdsRise}
 use Rattle.conn_table.proofs.IdPlaces.{IdsRise-push}
 use Rattle.conn_table.proofs.IndexFacts.{index_rises, index_of-push}
 use Rattle.conn_table.proofs.Lives.{OnlyLastLives-push}
 use Rattle.conn_table.proofs.Turns.{one_if, count_within, count-push}
-use Rattle.conn_table.proofs.kept.Kept.enter.Goals as goal
+use Rattle.conn_table.proofs.roster.Roster.enter.Goals as goal
 
 pub insert-requires : goal.insert-requires
 insert-requires c =
