@@ -1,0 +1,6 @@
+pub mod CheckedInputs
+pub mod Checking
+pub mod Checks
+pub mod LineRead
+pub mod Playback
+pub mod Played
