@@ -12,8 +12,8 @@ use io_edge::{LineReader, PieceWriter, Sink, Source};
 use net_base::OutOfMemory;
 use std::alloc::Global;
 
-// How many lines an input may have.
-const LINES_MOST: u64 = 4_000_000;
+/// How many lines an input may have.
+pub const LINES_MOST: u64 = 4_000_000;
 
 /// Reads lines from a source, has each interpreted, and writes what they give. Reading stops at the line that decides, and
 /// nothing is read behind it but what came with it. What is written is put in pieces: before each reading, and where much

@@ -28,7 +28,10 @@ use Rattle.trace_meaning.specs.Output.{lines_for}
 use Rattle.trace_meaning.specs.Passing.{texts_of, ArePassed}
 use Rattle.trace_play.specs.Playback.{Kept, nothing_kept, events_taken, StandsBehind, GoesOn}
 use Rattle.trace_play.proofs.Playing.{StandsBehind-none}
-use Rattle.trace_play.specs.LineRead.{line_told, IsLineRead}
+use Rattle.line_run.specs.LineRead.{line_told, IsLineRead}
+use Rattle.line_run.specs.declared.outcome.LineOutcome.{LineOutcome}
+use Rattle.line_run.specs.declared.outcome.LineOutcome.TheVariants as run
+use Rattle.trace_meaning.specs.Told.{outcome_run}
 use Rattle.trace_compare.specs.Compare.{Comparison, differ, refused_at, too_long_at, agreement, actions_in, comparison_for, comparison_of, report_lines}
 use Rattle.trace_compare.specs.Compare.{outcome_told}
 use Rattle.trace_play.specs.Checks.{Checks}
@@ -159,8 +162,8 @@ line_there number playback kept next due line l0 l1 l2 so read = by_got read.got
     by_got (Err NoMemory) reads told = absurd cc
 
 -- or there is none
-pub none_there : (number : ℕ) (playback : Kept) (kept next due : List ℕ) (outcome : Outcome) (l0 l1 l2 : Option (List ℕ)) → number ≤ most_lines → AgreesSoFar number playback kept due l0 l1 →
-    IsLineRead number kept next l1 l2 (Err outcome) → Finds l0 l2 (Err outcome)
+pub none_there : (number : ℕ) (playback : Kept) (kept next due : List ℕ) (outcome : LineOutcome) (l0 l1 l2 : Option (List ℕ)) → number ≤ most_lines → AgreesSoFar number playback kept due l0 l1 →
+    IsLineRead number kept next l1 l2 (Err outcome) → Finds l0 l2 (Err (outcome_run outcome))
 none_there number playback kept next due outcome l0 l1 l2 few so read = by_got read.got read.reads read.told
   where
     agreed : HasAgreed so.readings so.lines_due
@@ -169,25 +172,27 @@ none_there number playback kept next due outcome l0 l1 l2 few so read = by_got r
     early : length so.readings < most_lines
     early = omega (arith, few, so.number_is)
 
-    by_got : (got : Result Got LineFault) → ReadsLine l1 l2 kept next got → Err outcome ≡ line_told number got → Finds l0 l2 (Err outcome)
+    by_got : (got : Result Got LineFault) → ReadsLine l1 l2 kept next got → Err outcome ≡ line_told number got → Finds l0 l2 (Err (outcome_run outcome))
     by_got (Ok (Line line)) reads told = absurd cc
     by_got (Ok Over) reads told =
-        let at : Refused number NoEnd ≡ outcome = cc in
-        let same : Refused (length so.readings + 1) NoEnd ≡ outcome = ap (λ (n : ℕ). Refused n NoEnd) (sym so.number_is) ∙ at in
+        let at : run.Refused number NoEnd ≡ outcome = cc in
+        let same : Refused (length so.readings + 1) NoEnd ≡ outcome_run outcome = ap (λ (n : ℕ). Refused n NoEnd) (sym so.number_is) ∙ ap outcome_run at in
         subst (λ (o : Outcome). Finds l0 l2 (Err o)) same
         (finds_over so.readings so.lines_due (kept ++ reads.taken) l0 l2 agreed (gives_further so.readings kept reads.taken l0 l1 l2 so.gives reads.gives) reads.answer.0 reads.answer.2 early)
     by_got (Err Failed) reads told =
-        let same : ReadFault ≡ outcome = cc in
+        let at : run.ReadFault ≡ outcome = cc in
+        let same : ReadFault ≡ outcome_run outcome = ap outcome_run at in
         subst (λ (o : Outcome). Finds l0 l2 (Err o)) same
         (finds_failed so.readings so.lines_due (kept ++ reads.taken) l0 l2 agreed (gives_further so.readings kept reads.taken l0 l1 l2 so.gives reads.gives) reads.answer.0 early)
     by_got (Err LineTooLong) reads told =
-        let at : TooLong number ≡ outcome = cc in
-        let same : TooLong (number_behind so.readings) ≡ outcome = ap (λ (n : ℕ). TooLong n) (sym so.number_is) ∙ at in
+        let at : run.TooLong number ≡ outcome = cc in
+        let same : TooLong (number_behind so.readings) ≡ outcome_run outcome = ap (λ (n : ℕ). TooLong n) (sym so.number_is) ∙ ap outcome_run at in
         subst (λ (o : Outcome). Finds l0 l2 (Err o)) same
         (finds_too_long so.readings so.lines_due (kept ++ reads.taken) (number_behind so.readings) l0 l2 agreed (gives_further so.readings kept reads.taken l0 l1 l2 so.gives reads.gives)
         (past_decides so.readings (kept ++ reads.taken) agreed.passed agreed.whole reads.answer.0))
     by_got (Err NoMemory) reads told =
-        let same : OutOfMemory ≡ outcome = cc in
+        let at : run.OutOfMemory ≡ outcome = cc in
+        let same : OutOfMemory ≡ outcome_run outcome = ap outcome_run at in
         subst (λ (o : Outcome). Finds l0 l2 (Err o)) same
         (finds_no_memory _ l0 l2 (gives_further so.readings kept reads.taken l0 l1 l2 so.gives reads.gives))
 

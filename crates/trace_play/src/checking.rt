@@ -11,9 +11,8 @@ ghost use Rattle.trace_meaning.specs.FaultCounts.{HasReadCount, HasWriteCount};
 
 use crate::finding::Finding;
 use crate::playback::Playback;
-use crate::reading::{LINES_MOST, read_line};
 use io_edge::{LineReader, PieceWriter, Sink, Source, put_all};
-use line_run::Stop;
+use line_run::{LINES_MOST, Stop, read_line};
 use net_base::{Octets, OutOfMemory};
 use std::alloc::Global;
 use stepper::Stepper;
@@ -85,8 +84,10 @@ fn check_lines<E: Stepper, S: Source>(
     ensures writes { (count : ℕ) → IfErr result (HasWriteCount count count) }
 {
     let mut playback: Playback<E> = Playback::new(alloc, means);
+    // Each line in turn, in memory that is used again.
+    let mut line = Vec::new(alloc);
     for number in 1..=LINES_MOST {
-        match turn(alloc, number, &mut playback, reader, due, src) {
+        match turn(alloc, number, &mut playback, reader, &mut line, due, src) {
             Ok(None) => {}
             Ok(Some(finding)) => return Ok(finding),
             Err(outcome) => return Err(outcome),
@@ -103,6 +104,7 @@ fn turn<E: Stepper, S: Source>(
     number: u64,
     playback: &mut Playback<E>,
     reader: &mut LineReader,
+    line: &mut Vec<u8>,
     due: &mut PieceWriter,
     src: &mut S,
 ) -> Result<Option<Finding>, Outcome>
@@ -115,8 +117,10 @@ fn turn<E: Stepper, S: Source>(
     ensures reads { MatchResult result (λ _. S.faults src.new ≡ S.faults src.old) (HasReadCount (S.faults src.old) (S.faults src.new)) }
     ensures writes { (count : ℕ) → IfErr result (HasWriteCount count count) }
 {
-    let line = read_line(number, reader, src)?;
-    check_line(alloc, number, playback, line, due)
+    match read_line(number, reader, line, src) {
+        Ok(()) => check_line(alloc, number, playback, line, due),
+        Err(outcome) => Err(Outcome::from(outcome)),
+    }
 }
 
 // Plays a line, and compares it with the first one that is due then.
@@ -124,20 +128,20 @@ fn check_line<E: Stepper>(
     alloc: Global,
     number: u64,
     playback: &mut Playback<E>,
-    line: Octets,
+    line: &[u8],
     due: &mut PieceWriter,
 ) -> Result<Option<Finding>, Outcome>
     requires heads { AreHeads playback.old.stage playback.old.heads.items }
     requires counted { length playback.old.heads.items + events_taken (begun playback.old.engine E.machine E.events) < number }
     requires few { number ≤ 4_000_000 }
-    requires short { length line ≤ 140_000 }
+    requires short { length line.now ≤ 140_000 }
     ensures compared { (readings : List Reading) → StandsBehind (kept playback.old.stage playback.old.heads.items (begun playback.old.engine E.machine E.events)) readings → number ≡ length readings + 1
-        → IsCompared readings (reading_at (stage_behind readings first_stage) line) (kept playback.new.stage playback.new.heads.items (begun playback.new.engine E.machine E.events)) number due.old due.new result }
+        → IsCompared readings (reading_at (stage_behind readings first_stage) line.now) (kept playback.new.stage playback.new.heads.items (begun playback.new.engine E.machine E.events)) number due.old due.new result }
     ensures reads { (count : ℕ) → IfErr result (HasReadCount count count) }
     ensures writes { (count : ℕ) → IfErr result (HasWriteCount count count) }
 {
     let agreement = agreement(number, playback);
-    match play(number, playback, line.as_slice(), due) {
+    match play(number, playback, line, due) {
         Ok(()) => Ok(find(alloc, number, line, due)?),
         Err(Stop::Ended) => Ok(Some(at_end(alloc, number, agreement, due)?)),
         Err(Stop::Refused(kind)) => Err(Outcome::Refused { line: number, kind }),
@@ -181,19 +185,19 @@ fn agreement<E: Stepper>(number: u64, playback: &Playback<E>) -> Finding
 fn find(
     alloc: Global,
     number: u64,
-    line: Octets,
+    line: &[u8],
     due: &mut PieceWriter,
 ) -> Result<Option<Finding>, OutOfMemory>
-    ensures { IsNext number line due.old due.new result }
+    ensures { IsNext number line.now due.old due.new result }
 {
-    if is_first(due, line.as_slice()) {
-        due.skip(line.as_slice().len() + 1);
+    if is_first(due, line) {
+        due.skip(line.len() + 1);
         return Ok(None);
     }
     let want = first_due(alloc, due)?;
     Ok(Some(Finding::Differs {
         line: number,
-        found: line,
+        found: Octets::from_slice(alloc, line)?,
         want,
     }))
 }

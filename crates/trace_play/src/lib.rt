@@ -6,7 +6,6 @@ mod beginning;
 mod checking;
 mod finding;
 mod playback;
-mod reading;
 mod replaying;
 
 pub use checking::check_by;
