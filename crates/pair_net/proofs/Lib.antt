@@ -11,3 +11,4 @@ mod Refusals
 pub mod Reached
 pub mod InTurn
 mod Playing
+mod Led

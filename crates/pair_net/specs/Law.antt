@@ -156,7 +156,18 @@ pub record IsToldWhy (own : VersionInfo) (end : End) (notes : List PairNote) : T
   pub told : notes ≡ Sent end (frame_of 1 0 0 (node_spelling (Refuse why))) ∷ Ends end Refused ∷ []
 
 -- Where an end that was dialed refuses the other one, it says why.
-abbrev pub RefusalsAreTold : Type 0
-RefusalsAreTold = (p : PairState) (end : End) (count : ℕ) → (end_of end p).phase ≡ Waiting Acceptor
+abbrev pub TellsWhy : PairState → Type 0
+TellsWhy p = (end : End) (count : ℕ) → (end_of end p).phase ≡ Waiting Acceptor
     → let turn = stepped (Deliver end count) p in
     (end_of end turn.pair).phase ≡ Ended Refused → IsToldWhy (end_of end p).info end turn.notes
+
+abbrev pub RefusalsAreTold : Type 0
+RefusalsAreTold = (p : PairState) → TellsWhy p
+
+-- ---- all of it, of this pair
+
+pub record IsLawful (p : PairState) : Type 0 where
+  pub reached : IsReached p
+  pub alike : AgreesAlike p
+  pub rightly : AgreesRightly reached.left reached.right p
+  pub told : TellsWhy p
