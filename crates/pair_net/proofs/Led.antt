@@ -23,7 +23,7 @@ use Rattle.pair_net.specs.declared.pair_line.PairLine.TheVariants.{Step, Skipped
 use Rattle.pair_net.specs.declared.pair_replay.Progress.{Progress}
 use Rattle.pair_net.specs.declared.pair_replay.Progress.TheVariants.{Opening, Left, Right, Steps}
 use Rattle.pair_net.proofs.Reached.{reached_step, reached_alike}
-use Rattle.pair_net.proofs.Refusals.{refusals_are_told}
+use Rattle.pair_net.proofs.Refusals.{agreements_are_heard, refusals_are_told}
 use Rattle.pair_net.proofs.Rightly.{agree_rightly}
 use Rattle.pair_net.specs.Law.{AgreesRightly}
 
@@ -96,7 +96,7 @@ lawful_so_far : (progress : Progress) → IsLed progress → IsLawfulSoFar progr
 lawful_so_far Opening led = tt
 lawful_so_far Left led = tt
 lawful_so_far (Right left) led = tt
-lawful_so_far (Steps pair count) led = record { reached = led; alike = reached_alike pair led; rightly = rightly pair led; told = refusals_are_told pair }
+lawful_so_far (Steps pair count) led = record { reached = led; alike = reached_alike pair led; rightly = rightly pair led; told = refusals_are_told pair; by_word = agreements_are_heard pair }
 
 pub lawful_after : (input : List ℕ) (count : ℕ) → IsLawfulSoFar (progress_after count input)
 lawful_after input count = lawful_so_far (progress_after count input) (led_on (take count (whole_lines input)) Opening tt)

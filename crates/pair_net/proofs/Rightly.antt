@@ -32,20 +32,20 @@ at_most info version proposes = elim (cases_Bool (eqb 13 version)) [
         false_true : false ≡ true → ⊥
         false_true e = cc
 
-neither : (a b : Bool) → (a || b) ≡ false → (a ≡ false) × (b ≡ false)
+pub neither : (a b : Bool) → (a || b) ≡ false → (a ≡ false) × (b ≡ false)
 neither false false e = (refl, refl)
 neither false true e = absurd cc
 neither true b e = absurd cc
 
-either_no : (a b : Bool) → a ≡ false → b ≡ false → (a || b) ≡ false
+pub either_no : (a b : Bool) → a ≡ false → b ≡ false → (a || b) ≡ false
 either_no a b e f = rw (e, f) refl
 
-both : (a b : Bool) → (a && b) ≡ true → (a ≡ true) × (b ≡ true)
+pub both : (a b : Bool) → (a && b) ≡ true → (a ≡ true) × (b ≡ true)
 both true true e = (refl, refl)
 both true false e = absurd cc
 both false b e = absurd cc
 
-both_yes : (a b : Bool) → a ≡ true → b ≡ true → (a && b) ≡ true
+pub both_yes : (a b : Bool) → a ≡ true → b ≡ true → (a && b) ≡ true
 both_yes a b e f = rw (e, f) refl
 
 rightly_common : (own theirs : VersionInfo) → eqb own.magic theirs.magic ≡ true → IsRightly own theirs (common own theirs)

@@ -3,17 +3,24 @@ use Rattle.std.specs.Prelude.{◌≡◌, ◌≢◌, ℕ, ◌<◌, ◌^◌, ◌�
 use Rattle.std.specs.List.{AllByRecursion, list_any}
 use Rattle.hs_decide.specs.Agreement.{offer_of}
 use Rattle.hs_decide.specs.Answers.{own_table}
+use Rattle.hs_decide.specs.declared.role.Role.{Role}
 use Rattle.hs_decide.specs.declared.role.Role.TheVariants.{Acceptor}
 use Rattle.hs_message.specs.Canonical.{node_spelling}
 use Rattle.hs_message.specs.declared.info.VersionInfo.{VersionInfo}
 use Rattle.hs_message.specs.declared.info.Info.{Info}
 use Rattle.hs_message.specs.declared.info.Info.TheVariants.{Known, Foreign}
-use Rattle.hs_message.specs.declared.message.Message.TheVariants.{Refuse}
+use Rattle.hs_message.specs.Reading.{message_of}
+use Rattle.hs_message.specs.declared.message.Message.{Message}
+use Rattle.hs_message.specs.declared.message.Message.TheVariants.{Propose, Accept, Refuse, QueryReply}
 use Rattle.hs_message.specs.declared.message.Reason.{Reason}
 use Rattle.hs_message.specs.declared.message.Reason.TheVariants as reason
 use Rattle.hs_message.specs.declared.offer.Offer.{Offer}
 use Rattle.mux_segment.specs.Frame.{frame_of}
+use Rattle.mux_segment.specs.Protocols.{node_limits}
+use Rattle.mux_segment.specs.Stream.{nothing_fed, fed_by}
+use Rattle.mux_segment.specs.declared.item.Item.{Item}
 use Rattle.net_base.specs.declared.connection.Agreed.{Agreed as AgreedOn}
+use Rattle.pair_net.specs.Ends.{given}
 use Rattle.pair_net.specs.Pair.{PairState, fresh_pair, end_of, other}
 use Rattle.pair_net.specs.Steps.{stepped, pair_after}
 use Rattle.pair_net.specs.declared.end.End.{End}
@@ -148,10 +155,18 @@ IsReason own table (reason.NoCommon versions) =
 IsReason own table (reason.NotDecoded version text) = IsGreatestOffer own table version Foreign
 IsReason own table (reason.Declined version text) = (theirs : VersionInfo) × IsGreatestOffer own table version (Known theirs) × (own.magic ≢ theirs.magic)
 
+-- the first item of these bytes spells this message
+pub record HasHeard (received : List ℕ) (said : Message) : Type 0 where
+  pub first : Item
+  pub others : List Item
+  pub items : (fed_by node_limits nothing_fed received).items ≡ first ∷ others
+  pub message : message_of first.body ≡ Some said
+
 -- what an end that refused has said, by what had been offered to it
-pub record IsToldWhy (own : VersionInfo) (end : End) (notes : List PairNote) : Type 0 where
+pub record IsToldWhy (own : VersionInfo) (received : List ℕ) (end : End) (notes : List PairNote) : Type 0 where
   pub table : List Offer
   pub why : Reason
+  pub offered : HasHeard received (Propose table)
   pub right : IsReason own table why
   pub told : notes ≡ Sent end (frame_of 1 0 0 (node_spelling (Refuse why))) ∷ Ends end Refused ∷ []
 
@@ -159,10 +174,44 @@ pub record IsToldWhy (own : VersionInfo) (end : End) (notes : List PairNote) : T
 abbrev pub TellsWhy : PairState → Type 0
 TellsWhy p = (end : End) (count : ℕ) → (end_of end p).phase ≡ Waiting Acceptor
     → let turn = stepped (Deliver end count) p in
-    (end_of end turn.pair).phase ≡ Ended Refused → IsToldWhy (end_of end p).info end turn.notes
+    (end_of end turn.pair).phase ≡ Ended Refused → IsToldWhy (end_of end p).info (given count (end_of end p)).received end turn.notes
 
 abbrev pub RefusalsAreTold : Type 0
 RefusalsAreTold = (p : PairState) → TellsWhy p
+
+-- ---- why an end agrees
+
+-- They are of one network. Protocols run both ways exactly where neither is initiator only, and peers are shared exactly where
+-- both do.
+pub record IsAgreedWith (own theirs : VersionInfo) (agreed : AgreedOn) : Type 0 where
+  pub network : own.magic ≡ theirs.magic
+  pub duplex : own.initiator_only ≡ false → theirs.initiator_only ≡ false → agreed.initiator_only ≡ false
+  pub duplex_only : agreed.initiator_only ≡ false → (own.initiator_only ≡ false) × (theirs.initiator_only ≡ false)
+  pub shares : own.sharing ≡ true → theirs.sharing ≡ true → agreed.sharing ≡ true
+  pub shares_only : agreed.sharing ≡ true → (own.sharing ≡ true) × (theirs.sharing ≡ true)
+
+-- Of a proposal it is the greatest version that is offered and that the end proposes too, and of an acceptance the one that was
+-- accepted, which the end proposes.
+abbrev pub IsAgreement : VersionInfo → AgreedOn → Message → Type 0
+IsAgreement own agreed (Propose table) = (theirs : VersionInfo) × IsGreatestOffer own table agreed.version (Known theirs) × IsAgreedWith own theirs agreed
+IsAgreement own agreed (Accept version (Known theirs)) = Proposes own version × (agreed.version ≡ version) × IsAgreedWith own theirs agreed
+IsAgreement own agreed (Accept version Foreign) = ⊥
+IsAgreement own agreed (Refuse why) = ⊥
+IsAgreement own agreed (QueryReply table) = ⊥
+
+pub record AgreesOnHeard (own : VersionInfo) (received : List ℕ) (agreed : AgreedOn) : Type 0 where
+  pub said : Message
+  pub heard : HasHeard received said
+  pub right : IsAgreement own agreed said
+
+abbrev pub AgreesByWord : PairState → Type 0
+AgreesByWord p = (end : End) (role : Role) (count : ℕ) (agreed : AgreedOn) → (end_of end p).phase ≡ Waiting role
+    → (end_of end (stepped (Deliver end count) p).pair).phase ≡ Agreed agreed
+    → AgreesOnHeard (end_of end p).info (given count (end_of end p)).received agreed
+
+-- An end agrees only with one that says it is of the same network, and on what both say, whatever becomes of that one.
+abbrev pub AgreementsAreHeard : Type 0
+AgreementsAreHeard = (p : PairState) → AgreesByWord p
 
 -- ---- all of it, of this pair
 
@@ -171,3 +220,4 @@ pub record IsLawful (p : PairState) : Type 0 where
   pub alike : AgreesAlike p
   pub rightly : AgreesRightly reached.left reached.right p
   pub told : TellsWhy p
+  pub by_word : AgreesByWord p
