@@ -1,6 +1,6 @@
 //! How a dialer tells the address at which it listens, before its first segment.
 ghost use Rattle.std.specs.Prelude.{◌≡◌, IfOk};
-ghost use Rattle.loop_world.specs.Announcement.{announced, announced_ip, announced_size as size_of, ip_of as ip_told, address_of as told, whole_of, hearing};
+ghost use Rattle.socket_flow.specs.Announcement.{announced, announced_ip, announced_size as size_of, ip_of as ip_told, address_of as told, whole_of, hearing};
 
 use net_base::{Addr, Ip, Octets, OutOfMemory};
 use std::alloc::Global;

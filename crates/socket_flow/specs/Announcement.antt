@@ -1,12 +1,12 @@
 -- How a dialer tells the address at which it listens, before its first segment: this project's own.
-use Rattle.std.specs.Prelude.{ℕ, ◌-◌, Bool, ◌&&◌, ◌==◌, nat_lt, List, [], ◌∷◌, ◌++◌, length, take, drop, if◌then◌else◌, Option, Some, None}
+use Rattle.std.specs.Prelude.{ℕ, ◌-◌, ◌&&◌, ◌==◌, nat_lt, List, [], ◌∷◌, ◌++◌, length, take, drop, if◌then◌else◌, Option, Some, None}
 use Rattle.std.specs.Option.{option_map}
 use Rattle.std.specs.Int.{w16, w32, w128, to_be_bytes, from_be_bytes}
 use Rattle.net_base.specs.declared.address.Addr.{Addr}
 use Rattle.net_base.specs.declared.address.Ip.{Ip}
 use Rattle.net_base.specs.declared.address.Ip.TheVariants.{V4, V6}
-use Rattle.loop_world.specs.declared.announcement.Heard.{Heard}
-use Rattle.loop_world.specs.declared.announcement.Heard.TheVariants.{Front, Whole, Else}
+use Rattle.socket_flow.specs.declared.announcement.Heard.{Heard}
+use Rattle.socket_flow.specs.declared.announcement.Heard.TheVariants.{Front, Whole, Else}
 
 -- ---- what is written
 
