@@ -49,7 +49,7 @@ def draw_limits(axes: Axes, history: History, scale: Scale) -> None:
             handles.append(Line2D([], [], label=f"{name}: {value}, above the picture", **look))
     spans = pauses_over(history, scale)
     if spans:
-        handles.append(draw_spans(axes, spans, "nobody is accepted", facecolor=GREY, hatch="...."))
+        handles.append(draw_spans(axes, spans, "nobody is accepted", facecolor=GREY, hatch="xx"))
     in_sight = [value for value in (soft, hard) if value <= 4 * most]
     count_axis(axes, "connections", max([most, *in_sight]))
     headed(axes, "Counted connections against the limits")

@@ -45,7 +45,7 @@ def draw_temperature(axes: Axes, history: History, scale: Scale) -> None:
             axes.fill_between([scale.places[event], scale.places[next_event]], 0.35, 1, **look)
             handles[temperature] = Patch(label=temperature, **look)
     for event, until in history.back_offs:
-        look = {"facecolor": GREY, "hatch": "....", "edgecolor": BLACK, "linewidth": 0.3}
+        look = {"facecolor": GREY, "hatch": "//", "edgecolor": BLACK, "linewidth": 0.3}
         axes.fill_between([scale.places[event], scale.place_of(until)], 0, 0.25, **look)
         handles["left alone"] = Patch(label="left alone (back-off)", **look)
     axes.set_ylim(0, 1.05)
