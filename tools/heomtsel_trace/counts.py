@@ -31,7 +31,12 @@ def by(name: str, told: str, label: str, values: dict[str, float], rises: bool =
 
 
 def families(run: Run) -> Iterator[Family]:
-    yield Family("info", "the node and the version of its trace", False, (({"own": run.own or "", "version": str(run.version or "")}, 1),))
+    yield Family(
+        "info",
+        "the node and the version of its trace",
+        False,
+        (({"own": run.own or "", "version": str(run.version or "")}, 1),),
+    )
     yield one("moment_seconds", "the moment that the trace has reached", run.moment / 1000)
     yield one("events", "events of the trace", run.events, True)
     yield one("actions", "actions of the node", run.actions, True)
@@ -42,18 +47,49 @@ def families(run: Run) -> Iterator[Family]:
 
 def of_connections(run: Run) -> Iterator[Family]:
     yield one("counted_connections", "the connections that the limits speak of", run.counted)
-    yield by("connection_limit", "the limits on counted connections", "limit", {"hard": run.settings.hard, "soft": run.settings.soft})
+    yield by(
+        "connection_limit",
+        "the limits on counted connections",
+        "limit",
+        {"hard": run.settings.hard, "soft": run.settings.soft},
+    )
     states = {name: run.by_state[name] for name in STATE_NAMES if name != "Terminated"}
     yield by("connections", "connections, by the name of their state", "state", states)
     yield one("accepted", "connections that others dialed and that were let in", run.admitted, True)
     yield one("dialed", "connections that this node dialed", run.dialed, True)
     yield one("failed_dials", "dials that failed", run.failed_dials, True)
-    yield by("turned_away", "those who were turned away, by cause", "cause", {cause: run.turn_aways[cause] for cause in TURN_AWAYS}, True)
-    yield by("closed", "connections that this node closed, by cause", "cause", {cause: run.closes[cause] for cause in (*CLOSE_CAUSES, "fault")}, True)
-    yield by("faults", "connections that were closed for a fault, by kind", "kind", {kind: run.faults[kind] for kind in FAULT_KINDS}, True)
-    yield by("lost", "connections that the other side closed, by their use", "use", {use: run.lost[use] for use in LOSSES}, True)
+    yield by(
+        "turned_away",
+        "those who were turned away, by cause",
+        "cause",
+        {cause: run.turn_aways[cause] for cause in TURN_AWAYS},
+        True,
+    )
+    yield by(
+        "closed",
+        "connections that this node closed, by cause",
+        "cause",
+        {cause: run.closes[cause] for cause in (*CLOSE_CAUSES, "fault")},
+        True,
+    )
+    yield by(
+        "faults",
+        "connections that were closed for a fault, by kind",
+        "kind",
+        {kind: run.faults[kind] for kind in FAULT_KINDS},
+        True,
+    )
+    yield by(
+        "lost",
+        "connections that the other side closed, by their use",
+        "use",
+        {use: run.lost[use] for use in LOSSES},
+        True,
+    )
     yield one("pauses", "pauses in accepting", run.pauses, True)
-    yield one("paused_seconds", "for how long nobody is accepted from now on", max(0, run.paused_until - run.moment) / 1000)
+    yield one(
+        "paused_seconds", "for how long nobody is accepted from now on", max(0, run.paused_until - run.moment) / 1000
+    )
     yield by("bytes", "bytes of all connections", "way", {"in": run.bytes_in, "out": run.bytes_out}, True)
 
 
@@ -63,7 +99,11 @@ def of_peers(run: Run) -> Iterator[Family]:
         name = {"class": each.value}
         peers += [({**name, "temperature": temp}, run.by_temperature[each, temp]) for temp in TEMPERATURES]
         for into, told in ((targets, run.effective(each)), (usual, run.targets[each])):
-            into += [({**name, "of": "known"}, told.known), ({**name, "of": "established"}, told.established), ({**name, "of": "active"}, told.active)]
+            into += [
+                ({**name, "of": "known"}, told.known),
+                ({**name, "of": "established"}, told.established),
+                ({**name, "of": "active"}, told.active),
+            ]
     yield Family("peers", "peers in the book, by class and temperature", False, tuple(peers))
     yield Family("target", "the targets of this moment, after churn", False, tuple(targets))
     yield Family("usual_target", "the targets as they were set", False, tuple(usual))

@@ -116,7 +116,9 @@ def title_of(history: History) -> list[str]:
 
 def title_of_one(history: History) -> list[str]:
     follower = history.follower
-    what = f"Connection {follower.whom}, of {follower.address}" if follower.whom.isdigit() else f"The peer {follower.whom}"
+    what = (
+        f"Connection {follower.whom}, of {follower.address}" if follower.whom.isdigit() else f"The peer {follower.whom}"
+    )
     lives = sum(follower.whom in (life.address, str(life.id)) for life in history.lives)
     told = f"{lives} connection{'' if lives == 1 else 's'}, {len(follower.entries)} things that happened"
     return [f"{what}, in the run of {history.run.own or 'a node that was not told'}", told]

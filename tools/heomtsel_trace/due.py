@@ -126,7 +126,9 @@ def of_trace_line(before: list[str], words: list[str], kind: str, place: int | N
 
 
 def of_targets(words: list[str]) -> Due:
-    names = ["known", "established", "active"] if words[0] == "bigtargets" else ["root", "known", "established", "active"]
+    names = (
+        ["known", "established", "active"] if words[0] == "bigtargets" else ["root", "known", "established", "active"]
+    )
     value = {name: int(word) for name, word in zip(names, words[1:])}
     known, established, active = value["known"], value["established"], value["active"]
     for name, breaks in (
@@ -151,7 +153,9 @@ def of_order(stage: Stage, words: list[str]) -> Due:
 def trace_word(stage: Stage, words: list[str], place: int) -> str:
     first = words[0]
     if stage.line_number == 1:
-        return ["`trace`: the first line is `trace 1` or `trace 2`", "1 or 2, the version of the trace", NOTHING][min(place, 3) - 1]
+        return ["`trace`: the first line is `trace 1` or `trace 2`", "1 or 2, the version of the trace", NOTHING][
+            min(place, 3) - 1
+        ]
     if stage.line_number == 2:
         return ["`own` and the node's own address: the second line", address(stage.version), NOTHING][min(place, 3) - 1]
     if place == 1:
@@ -244,7 +248,11 @@ def of_pair_line(line_number: int, words: list[str], kind: str, place: int) -> D
 
 
 def pair_word(line_number: int, words: list[str], place: int) -> str:
-    end_slots = [number("the magic", 0, (1 << 32) - 1), "1 where the end is initiator only, else 0", "1 where it shares peers, else 0"]
+    end_slots = [
+        number("the magic", 0, (1 << 32) - 1),
+        "1 where the end is initiator only, else 0",
+        "1 where it shares peers, else 0",
+    ]
     heads = {1: ("pair", ["1, the version"]), 2: ("left", end_slots), 3: ("right", end_slots)}
     if line_number in heads:
         word, slots = heads[line_number]

@@ -98,7 +98,13 @@ class Follower:
         if segment.wrong:
             self._add(run, connection, way, f"{heading} {segment.wrong}", True, protocol)
         elif not segment.messages:
-            self._add(run, connection, way, f"{heading} {len(segment.payload)} bytes of an item that isn't whole", protocol=protocol)
+            self._add(
+                run,
+                connection,
+                way,
+                f"{heading} {len(segment.payload)} bytes of an item that isn't whole",
+                protocol=protocol,
+            )
 
     def _add_failure(self, run: Run) -> None:
         """What the run noticed since the last line, of how long the peer is left alone."""
@@ -107,7 +113,13 @@ class Follower:
         for notice in list(run.notices)[-new:] if new else ():
             if notice.connection in self._ids and notice.back_off is not None:
                 alone = in_words(notice.back_off.duration)
-                self._add(run, notice.connection, HERE, f"the peer failed, {notice.back_off.failures} in a row: left alone for {alone}", True)
+                self._add(
+                    run,
+                    notice.connection,
+                    HERE,
+                    f"the peer failed, {notice.back_off.failures} in a row: left alone for {alone}",
+                    True,
+                )
 
 
 def entry_cells(entry: Entry) -> tuple[str, ...]:

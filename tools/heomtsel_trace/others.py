@@ -43,7 +43,9 @@ class PairText:
     def rows(self) -> list[str]:
         rows = [f"What `pair` writes: two ends that shake hands, {self.steps} steps, {ending(self.has_ended)}"]
         for end, state in self.ends.items():
-            rows.append(f"{end:<7}{state}; {self.sent[end]} bytes sent; {self.heads.get(end, 'not told what it says of itself')}")
+            rows.append(
+                f"{end:<7}{state}; {self.sent[end]} bytes sent; {self.heads.get(end, 'not told what it says of itself')}"
+            )
         return rows
 
 

@@ -348,7 +348,9 @@ def connection_cells(run: Run, connection: Connection) -> tuple[str, ...]:
 
 
 def peer_list(run: Run, view: View, rows: int) -> Section:
-    every = sorted(run.peers.values(), key=lambda peer: (HEAT[peer.temperature], -peer.failures, peer.since, peer.address))
+    every = sorted(
+        run.peers.values(), key=lambda peer: (HEAT[peer.temperature], -peer.failures, peer.since, peer.address)
+    )
     first, shown = window(every, view, rows)
     cells: Cells = [("temp", "address", "class", "since", "for", "failures", "last failure", "left alone for")]
     cells += [peer_cells(run, peer) for peer in shown]
@@ -429,7 +431,9 @@ def notices(run: Run, view: View, rows: int) -> Section:
 def notice_cells(notice: Notice) -> tuple[str, ...]:
     back_off = notice.back_off
     alone = (
-        ("", "", "") if back_off is None else (in_words(back_off.duration), clock(back_off.until), str(back_off.failures))
+        ("", "", "")
+        if back_off is None
+        else (in_words(back_off.duration), clock(back_off.until), str(back_off.failures))
     )
     number = "" if notice.connection is None else str(notice.connection)
     return (clock(notice.moment), notice.address or "", notice.what, number, *alone)

@@ -70,7 +70,13 @@ def draw_messages(axes: Axes, rows: dict[str, list[Entry]], scale: Scale) -> Non
             marker, color, told = WAYS[entry.way]
             if entry.is_wrong:
                 marker, color, told = "X", VERMILLION, "wrong"
-            look = {"marker": marker, "markerfacecolor": color, "markeredgecolor": BLACK, "markeredgewidth": 0.5, "markersize": 6}
+            look = {
+                "marker": marker,
+                "markerfacecolor": color,
+                "markeredgecolor": BLACK,
+                "markeredgewidth": 0.5,
+                "markersize": 6,
+            }
             # what was received stands a little higher than what was sent
             height = place + (-0.17 if entry.way == IN else 0.17)
             axes.plot([float(scale.places[entry.event])], [height], linestyle="", clip_on=False, zorder=5, **look)

@@ -41,7 +41,14 @@ NAMED = {
         6: "our chains meet nowhere",
         7: "done",
     },
-    BLOCK_FETCH: {0: "request blocks", 1: "done", 2: "a batch begins", 3: "there are no blocks", 4: "a block", 5: "the batch is done"},
+    BLOCK_FETCH: {
+        0: "request blocks",
+        1: "done",
+        2: "a batch begins",
+        3: "there are no blocks",
+        4: "a block",
+        5: "the batch is done",
+    },
     TX_SUBMISSION: {0: "request ids", 1: "ids", 2: "request transactions", 3: "transactions", 4: "done", 6: "begin"},
 }
 
