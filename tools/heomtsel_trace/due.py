@@ -14,6 +14,7 @@ from .line_reader import (
     GREATEST_WORD,
     SETTING_NAMES,
     SETTING_RANGES,
+    printable,
 )
 
 NOTHING = "nothing more: the line ends before this word"
@@ -122,6 +123,8 @@ def of_trace_line(before: list[str], words: list[str], kind: str, place: int | N
     if kind == "order":
         return of_order(stage, words)
     what = trace_word(stage, words, place)
+    if words[0] == "bytes" and place == 3 and len(words) >= 3:
+        what += wrong_digit(words[2])
     return Due(place, what, notes_on(words, kind, place))
 
 
@@ -237,6 +240,16 @@ def roots_word(stage: Stage, words: list[str], place: int) -> str:
     return address(stage.version)
 
 
+def wrong_digit(word: str) -> str:
+    """Which digit of bytes is wrong, or that one is missing."""
+    at = next((at for at, digit in enumerate(word, 1) if digit not in "0123456789abcdef"), None)
+    if at is not None:
+        return f"; `{printable(word[at - 1])}` in place {at:,} is none"
+    if len(word) % 2:
+        return "; a digit is missing, since there is an odd number of them"
+    return "; there are more bytes" if len(word) > 2 * GREATEST_BYTES else ""
+
+
 # A pair
 
 
@@ -274,7 +287,10 @@ def pair_word(line_number: int, words: list[str], place: int) -> str:
 
 
 def of_client_line(words: list[str], kind: str, place: int) -> Due:
-    return Due(place, client_word(words, place), notes_on(words, kind, place))
+    what = client_word(words, place)
+    if words[0] == "bytes" and place == 3 and len(words) >= 3:
+        what += wrong_digit(words[2])
+    return Due(place, what, notes_on(words, kind, place))
 
 
 def client_word(words: list[str], place: int) -> str:
