@@ -3,16 +3,14 @@ ghost use Rattle.net_base.specs.Number.{number_up_to};
 ghost use Rattle.command_run.specs.Command.{command_named, command_of, clients_of, drill_of, IsInRange};
 
 use local_clients::ClientRules;
-use net_base::read_number;
+use net_base::{INTERVAL_MOST, read_number};
 use trace_text::read_magic;
 
 // How many events a drill may have.
 const EVENTS_MOST: u64 = 1_000_000;
 
-// How many local clients there may be, and how many milliseconds they may greet.
+// How many local clients there may be.
 const CLIENTS_MOST: u64 = 10_000;
-
-const WAIT_MOST: u64 = 86_400_000;
 
 /// What the words of a command line ask for.
 #[derive(Clone, Copy, PartialEq, Eq)]
@@ -77,8 +75,8 @@ impl Command {
     {
         let magic = read_magic(magic.as_bytes())?;
         let limit = read_number(limit.as_bytes(), CLIENTS_MOST)?;
-        let wait = read_number(wait.as_bytes(), WAIT_MOST)?;
-        if 1 <= limit && limit <= CLIENTS_MOST && 1 <= wait && wait <= WAIT_MOST {
+        let wait = read_number(wait.as_bytes(), INTERVAL_MOST)?;
+        if 1 <= limit && limit <= CLIENTS_MOST && 1 <= wait && wait <= INTERVAL_MOST {
             Some(Command::Clients(ClientRules { magic, limit, wait }))
         } else {
             None

@@ -3,7 +3,7 @@
 ghost use Rattle.std.specs.Prelude.{◌≡◌, Bool};
 ghost use Rattle.conn_state.specs.Use.{none_running, runs, some_hot_runs, some_runs, with_responder};
 
-use net_base::Responders;
+use net_base::{Responders, protocol};
 
 /// Whether some responder runs.
 pub fn some_runs(running: Responders) -> bool
@@ -24,11 +24,11 @@ pub fn runs(protocol: u16, running: Responders) -> bool
     ensures { result ≡ runs protocol running }
 {
     match protocol {
-        2 => running.chain_sync,
-        3 => running.block_fetch,
-        4 => running.tx_submission,
-        8 => running.keep_alive,
-        10 => running.peer_sharing,
+        protocol::CHAIN_SYNC => running.chain_sync,
+        protocol::BLOCK_FETCH => running.block_fetch,
+        protocol::TX_SUBMISSION => running.tx_submission,
+        protocol::KEEP_ALIVE => running.keep_alive,
+        protocol::PEER_SHARING => running.peer_sharing,
         _ => false,
     }
 }
@@ -51,23 +51,23 @@ pub(crate) fn with_responder(protocol: u16, runs_now: bool, running: Responders)
     ensures { result ≡ with_responder protocol runs_now running }
 {
     match protocol {
-        2 => Responders {
+        protocol::CHAIN_SYNC => Responders {
             chain_sync: runs_now,
             ..running
         },
-        3 => Responders {
+        protocol::BLOCK_FETCH => Responders {
             block_fetch: runs_now,
             ..running
         },
-        4 => Responders {
+        protocol::TX_SUBMISSION => Responders {
             tx_submission: runs_now,
             ..running
         },
-        8 => Responders {
+        protocol::KEEP_ALIVE => Responders {
             keep_alive: runs_now,
             ..running
         },
-        10 => Responders {
+        protocol::PEER_SHARING => Responders {
             peer_sharing: runs_now,
             ..running
         },

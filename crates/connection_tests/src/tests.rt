@@ -18,23 +18,7 @@ fn settings() -> Settings
     ensures sound { AreSound result }
     ensures hard { result.hard ≡ 512 }
 {
-    Settings {
-        version: 1,
-        own: local(3001),
-        magic: 42,
-        initiator_only: 0,
-        sharing: 1,
-        hard: 512,
-        soft: 384,
-        delay: 5000,
-        idle: 5000,
-        timewait: 60_000,
-        handshake: 10_000,
-        reply: 10_000,
-        backoff: 5000,
-        sharegap: 900_000,
-        shares: 2,
-    }
+    Settings::usual(local(3001))
 }
 
 // 127.0.0.1 with a port.

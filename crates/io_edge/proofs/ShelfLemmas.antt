@@ -7,7 +7,7 @@ use Rattle.io_edge.specs.declared.named_file.NamedFile.{NamedFile}
 use Rattle.io_edge.specs.declared.shelf_refusal.ShelfRefusal.{ShelfRefusal}
 use Rattle.io_edge.specs.declared.shelf_refusal.ShelfRefusal.TheVariants.{Failed, TooLarge, OutOfMemory}
 use Rattle.io_edge.specs.Files.{IsReading, HasFileCause}
-use Rattle.io_edge.specs.Memory.{Calls, next_fails}
+use Rattle.net_base.specs.Calls.{Calls, next_fails}
 use Rattle.io_edge.specs.Shelves.{MemoryShelf, place_of, bytes_of, faults_of, reading_of, next_reading, IsAnswerOr, after_reading}
 
 -- one more place, counted where it passes

@@ -3,7 +3,7 @@ use Rattle.std.specs.Prelude.{◌≡◌, ℕ, ◌<◌, ◌≤◌, List, length, 
 use Rattle.io_edge.specs.declared.shelf_refusal.ShelfRefusal.{ShelfRefusal}
 use Rattle.io_edge.specs.declared.shelf_refusal.ShelfRefusal.TheVariants.{Failed, TooLarge, OutOfMemory}
 use Rattle.io_edge.specs.Causes.{Rose}
-use Rattle.io_edge.specs.Memory.{one_more}
+use Rattle.net_base.specs.Calls.{one_more}
 
 -- The answer to a reading of at most `limit` bytes of a file, which has these bytes where they are told: all of them,
 -- or how many there are where they are more.

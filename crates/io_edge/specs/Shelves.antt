@@ -5,7 +5,7 @@ use Rattle.std.specs.Option.{option_map}
 use Rattle.io_edge.specs.declared.named_file.NamedFile.{NamedFile}
 use Rattle.io_edge.specs.declared.shelf_refusal.ShelfRefusal.{ShelfRefusal}
 use Rattle.io_edge.specs.declared.shelf_refusal.ShelfRefusal.TheVariants.{Failed, TooLarge, OutOfMemory}
-use Rattle.io_edge.specs.Memory.{Calls, next_fails, after_call}
+use Rattle.net_base.specs.Calls.{Calls, next_fails, after_call}
 
 -- The files, the calls, and for each reading that failed the place of its file, or the number of files where no file
 -- has the name.

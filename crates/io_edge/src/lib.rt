@@ -2,7 +2,6 @@
 //! faults, and a fault is answered only where the count rose.
 #![tactic(auto)]
 
-mod call_log;
 mod dir_shelf;
 mod failed;
 mod got;
@@ -14,6 +13,7 @@ mod mem_sink;
 mod mem_source;
 mod named_file;
 mod piece_writer;
+mod printed;
 mod shelf;
 mod shelf_refusal;
 mod sink;
@@ -33,6 +33,7 @@ pub use mem_sink::MemSink;
 pub use mem_source::MemSource;
 pub use named_file::{FileList, NamedFile};
 pub use piece_writer::PieceWriter;
+pub use printed::Printed;
 pub use shelf::Shelf;
 pub use shelf_refusal::ShelfRefusal;
 pub use sink::{Sink, put_all};

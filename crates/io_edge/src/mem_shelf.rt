@@ -3,9 +3,8 @@ ghost use Rattle.io_edge.specs.declared.shelf_refusal.ShelfRefusal.TheVariants.{
 ghost use Rattle.io_edge.specs.Files.{IsReading, HasFileCause};
 ghost use Rattle.io_edge.specs.Shelves.{has_name, place_of, bytes_of, faults_of, reading_of, next_reading, IsAnswerOr, failed_after, after_reading};
 
-use crate::call_log::CallLog;
 use crate::{FileList, NamedFile, Shelf, ShelfRefusal};
-use net_base::{NumberList, Octets};
+use net_base::{CallLog, NumberList, Octets};
 use std::alloc::Global;
 use std::marker::Model;
 

@@ -2,9 +2,8 @@ ghost use Rattle.std.specs.Prelude.{◌≡◌, ◌<◌, ◌≤◌, Some, [], IfO
 ghost use Rattle.io_edge.specs.Causes.{HasCause};
 ghost use Rattle.io_edge.specs.Memory.{answer_to, after_put};
 
-use crate::call_log::CallLog;
 use crate::{Failed, Sink};
-use net_base::{NumberList, OutOfMemory};
+use net_base::{CallLog, NumberList, OutOfMemory};
 use std::alloc::Global;
 use std::marker::Model;
 

@@ -2,11 +2,11 @@ ghost use Rattle.std.specs.Prelude.{◌≡◌, ◌<◌, ◌≤◌, Some, Ok, Err
 ghost use Rattle.std.specs.Io.KnownBytes.{IsAtEnd};
 ghost use Rattle.io_edge.specs.Causes.{HasCause};
 ghost use Rattle.io_edge.specs.Told.{Gives};
-ghost use Rattle.io_edge.specs.Memory.{piece_size, after_piece, next_fails, after_call};
+ghost use Rattle.io_edge.specs.Memory.{piece_size, after_piece};
+ghost use Rattle.net_base.specs.Calls.{next_fails, after_call};
 
-use crate::call_log::CallLog;
 use crate::{Failed, Source, SureSource};
-use net_base::{NumberList, Octets};
+use net_base::{CallLog, NumberList, Octets};
 use std::marker::Model;
 
 /// Bytes in memory that are given at most a piece at a time, by calls of which some fail. Contracts see the bytes

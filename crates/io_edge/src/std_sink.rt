@@ -1,6 +1,6 @@
 ghost use Rattle.std.specs.Prelude.{◌≡◌, ◌<◌, ◌≤◌, ℕ, None, length, is_ok, if◌then◌else◌, IfOk};
 ghost use Rattle.io_edge.specs.Causes.{HasCause};
-ghost use Rattle.io_edge.specs.Memory.{one_more};
+ghost use Rattle.net_base.specs.Calls.{one_more};
 
 use crate::{Failed, Sink};
 use std::io;

@@ -3,11 +3,9 @@ ghost use Rattle.trace_text.specs.Lines.{IsReading};
 ghost use Rattle.local_clients.specs.Lines.{now_line, bytes_line, gone_line, alone, line_named, word_line, client_line, CanBeTaken};
 
 use crate::ClientEvent;
+use net_base::NUMBER_MOST;
 use std::alloc::Global;
 use trace_text::{LineRefusal, Words};
-
-// Moments and ids of clients are at most so great.
-const ID_MOST: u64 = 281_474_976_710_656;
 
 /// What a line says.
 #[derive(Drop)]
@@ -59,7 +57,7 @@ fn read_named(alloc: Global, name: &[u8], words: Words) -> Result<ClientLine, Li
 fn read_now(mut words: Words) -> Result<ClientLine, LineRefusal>
     ensures { result ≡ now_line words.entry }
 {
-    let moment = words.number(0, ID_MOST)?;
+    let moment = words.number(0, NUMBER_MOST)?;
     words.end()?;
     Ok(ClientLine::Happen(ClientEvent::Now(moment)))
 }
@@ -67,7 +65,7 @@ fn read_now(mut words: Words) -> Result<ClientLine, LineRefusal>
 fn read_bytes(alloc: Global, mut words: Words) -> Result<ClientLine, LineRefusal>
     ensures { IsReading result (bytes_line words.entry) }
 {
-    let id = words.number(0, ID_MOST)?;
+    let id = words.number(0, NUMBER_MOST)?;
     let bytes = words.piece(alloc)?;
     words.end()?;
     Ok(ClientLine::Happen(ClientEvent::Bytes(id, bytes)))
@@ -76,7 +74,7 @@ fn read_bytes(alloc: Global, mut words: Words) -> Result<ClientLine, LineRefusal
 fn read_gone(mut words: Words) -> Result<ClientLine, LineRefusal>
     ensures { result ≡ gone_line words.entry }
 {
-    let id = words.number(0, ID_MOST)?;
+    let id = words.number(0, NUMBER_MOST)?;
     words.end()?;
     Ok(ClientLine::Happen(ClientEvent::Gone(id)))
 }

@@ -9,12 +9,13 @@ ghost use Rattle.local_clients.specs.Hearing.{faults, closes, sends, opens, conc
 use crate::context::Context;
 use crate::decision::{Decision, answer, decide};
 use crate::phase::Phase;
-use crate::protocol::{HANDSHAKE, header_fault};
+use crate::protocol::header_fault;
 use crate::{ClientAction, ClientActions, ClientCause};
 use cbor_items::Scan;
 use hs_message::{Message, ReadRefusal, read_client_message};
 use hs_receive::kind_of;
 use mux_segment::{Header, Waiting, frame, next_item};
+use net_base::protocol::HANDSHAKE;
 use net_base::{FaultKind, OutOfMemory};
 use std::alloc::Global;
 

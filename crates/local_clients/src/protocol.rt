@@ -3,9 +3,7 @@ ghost use Rattle.local_clients.specs.Hearing.{is_client_protocol, header_fault};
 
 use mux_segment::Header;
 use net_base::FaultKind;
-
-/// The handshake's protocol.
-pub(crate) const HANDSHAKE: u16 = 0;
+use net_base::protocol::HANDSHAKE;
 
 /// What is wrong with a segment by its header alone.
 pub(crate) fn header_fault(header: &Header) -> Option<FaultKind>

@@ -10,7 +10,7 @@ use crate::bytes::behind;
 use crate::parts::Parts;
 use crate::stopped::Stopped;
 use crate::{CutFault, Header, ItemList, read_header};
-use net_base::Octets;
+use net_base::{Octets, protocol};
 use std::alloc::Global;
 
 /// Takes the items of the whole segments of a stream, which is a rest and new bytes: the rest that it leaves.
@@ -111,8 +111,12 @@ fn limit_of(id: u16) -> Option<usize>
     ensures some { IfSome result (λ limit. 0 < limit) }
 {
     match id {
-        0 => Some(5760),
-        2 | 3 | 4 | 8 | 10 => Some(65_535),
+        protocol::HANDSHAKE => Some(5760),
+        protocol::CHAIN_SYNC
+        | protocol::BLOCK_FETCH
+        | protocol::TX_SUBMISSION
+        | protocol::KEEP_ALIVE
+        | protocol::PEER_SHARING => Some(65_535),
         _ => None,
     }
 }

@@ -1,5 +1,6 @@
 -- The ranges of settings and targets.
 use Rattle.std.specs.Prelude.{ℕ, ◌≡◌, Bool, ◌&&◌, nat_le, List, [], ◌∷◌, if◌then◌else◌, Option, Some, None}
+use Rattle.net_base.specs.declared.address.Addr.{Addr}
 use Rattle.net_base.specs.declared.settings.Settings.{Settings}
 use Rattle.net_base.specs.declared.targets.Targets.{Targets}
 use Rattle.net_base.specs.declared.targets.BigTargets.{BigTargets}
@@ -48,3 +49,23 @@ targets_fault t = first_failing (
 -- settings that the check passes
 abbrev pub AreSound : Settings → Type 0
 AreSound s = settings_fault s ≡ None
+
+-- where nothing is set
+abbrev pub usual : Addr → Settings
+usual address = record {
+  version = 2;
+  own = address;
+  magic = 42;
+  initiator_only = 0;
+  sharing = 1;
+  hard = 512;
+  soft = 384;
+  delay = 5000;
+  idle = 5000;
+  timewait = 60000;
+  handshake = 10000;
+  reply = 10000;
+  backoff = 5000;
+  sharegap = 900000;
+  shares = 2;
+}

@@ -1,5 +1,6 @@
 pub mod Address
 pub mod Bounds
+pub mod Calls
 pub mod Limits
 pub mod Number
 pub mod Peer

@@ -4,12 +4,15 @@
 
 mod action;
 mod address;
+mod call_log;
 mod connection;
 mod event;
+mod limits;
 mod list;
 mod memory;
 mod number;
 mod peer;
+pub mod protocol;
 mod refusal;
 mod settings;
 mod targets;
@@ -17,8 +20,10 @@ mod timer;
 
 pub use action::{Action, ActionList, Away, CloseCause, FaultKind, PeerNote, StateName};
 pub use address::{Addr, AddrList, Ip};
+pub use call_log::CallLog;
 pub use connection::{Agreed, Cid, Facts, Grace, Phase, Provenance, Responders};
 pub use event::{Event, EventList, Group, GroupList, Job, RootAnswer};
+pub use limits::{INTERVAL_MOST, NUMBER_MOST};
 pub use list::{NumberList, Octets, Sequence};
 pub use memory::OutOfMemory;
 pub use number::read_number;

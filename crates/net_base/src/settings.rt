@@ -1,7 +1,7 @@
 ghost use Rattle.std.specs.Prelude.{◌≡◌};
-ghost use Rattle.net_base.specs.Bounds.{settings_fault, first_failing, within};
+ghost use Rattle.net_base.specs.Bounds.{settings_fault, first_failing, within, usual};
 
-use crate::Addr;
+use crate::{Addr, INTERVAL_MOST};
 
 /// A member of `Settings`, or a name of the settings file or the topology file.
 #[derive(Clone, Copy, Debug, PartialEq, Eq)]
@@ -77,6 +77,30 @@ pub struct Settings {
 }
 
 impl Settings {
+    /// What a node with an address of its own has where its operator sets nothing: the newest version of the trace
+    /// format, and this project's own limits and times.
+    pub const fn usual(own: Addr) -> Settings
+        ensures { result ≡ usual own }
+    {
+        Settings {
+            version: 2,
+            own,
+            magic: 42,
+            initiator_only: 0,
+            sharing: 1,
+            hard: 512,
+            soft: 384,
+            delay: 5_000,
+            idle: 5_000,
+            timewait: 60_000,
+            handshake: 10_000,
+            reply: 10_000,
+            backoff: 5_000,
+            sharegap: 900_000,
+            shares: 2,
+        }
+    }
+
     /// The first field out of its range, in the order of the fields. `own` has no range.
     pub fn check(&self) -> Option<Field>
         ensures { result ≡ settings_fault self.now }
@@ -110,7 +134,7 @@ fn is_within(least: u64, most: u64, number: u64) -> bool
 fn is_interval(number: u64) -> bool
     ensures { result ≡ within 1 86_400_000 number }
 {
-    is_within(1, 86_400_000, number)
+    is_within(1, INTERVAL_MOST, number)
 }
 
 // The first field whose test failed.

@@ -9,16 +9,13 @@ ghost use Rattle.node_settings.specs.Reading.{optional};
 ghost use Rattle.node_settings.specs.Config.{is_setting, has_known_names, whole_number, number_at, known_names, own_in, settings_in, checked_settings_in, targets_in, checked_targets_in, interval_in, config_in, refused, config_of, IsConfigOr};
 
 use crate::{Config, ConfigRefusal};
-use net_base::{Addr, Field, Settings, Targets};
+use net_base::{Addr, Field, INTERVAL_MOST, Settings, Targets};
 use std::alloc::Global;
 use toml::{Table, Value};
 use trace_text::read_address;
 
 // What a value counts as that is no whole number, or is below 0: no range has it.
 const OUT_OF_RANGE: u64 = u64::MAX;
-
-// A day of milliseconds.
-const INTERVAL_MOST: u64 = 86_400_000;
 
 /// Reads a settings file: a TOML table, whose format is this project's own. A name that is no setting is refused before
 /// all else, then the first field that is missing, of another type or out of its range. A byte-order mark is passed over.
@@ -145,23 +142,24 @@ fn read_settings(table: &Table, own: Addr) -> Result<Settings, Field>
 fn settings_in(table: &Table, own: Addr) -> Settings
     ensures { result ≡ settings_in (table_view table.now) own }
 {
-    let hard = number_or(table, "hard", 512);
+    let usual = Settings::usual(own);
+    let hard = number_or(table, "hard", usual.hard);
     Settings {
-        version: 2,
+        version: usual.version,
         own,
-        magic: number_or(table, "magic", 42),
-        initiator_only: number_or(table, "initiatoronly", 0),
-        sharing: number_or(table, "sharing", 1),
+        magic: number_or(table, "magic", usual.magic),
+        initiator_only: number_or(table, "initiatoronly", usual.initiator_only),
+        sharing: number_or(table, "sharing", usual.sharing),
         hard,
-        soft: number_or(table, "soft", hard.min(384)),
-        delay: number_or(table, "delay", 5_000),
-        idle: number_or(table, "idle", 5_000),
-        timewait: number_or(table, "timewait", 60_000),
-        handshake: number_or(table, "handshake", 10_000),
-        reply: number_or(table, "reply", 10_000),
-        backoff: number_or(table, "backoff", 5_000),
-        sharegap: number_or(table, "sharegap", 900_000),
-        shares: number_or(table, "shares", 2),
+        soft: number_or(table, "soft", hard.min(usual.soft)),
+        delay: number_or(table, "delay", usual.delay),
+        idle: number_or(table, "idle", usual.idle),
+        timewait: number_or(table, "timewait", usual.timewait),
+        handshake: number_or(table, "handshake", usual.handshake),
+        reply: number_or(table, "reply", usual.reply),
+        backoff: number_or(table, "backoff", usual.backoff),
+        sharegap: number_or(table, "sharegap", usual.sharegap),
+        shares: number_or(table, "shares", usual.shares),
     }
 }
 

@@ -8,27 +8,7 @@ use Rattle.node_world.specs.declared.next.Next.TheVariants.{Event as Happens, En
 use Rattle.node_world.specs.declared.opening.Opening.{Opening}
 use Rattle.node_world.specs.declared.refusal.WorldRefusal.{WorldRefusal}
 use Rattle.node_world.specs.declared.refusal.WorldRefusal.TheVariants.{Failed, OutOfMemory}
-
--- one more, where the last value of 64 bits stays
-abbrev pub one_more : ℕ → ℕ
-one_more count = min (count + 1) (2 ^ 64 - 1)
-
--- How many calls were made, the numbers of those that fail, counted from 1, and how many faults there were.
-pub record Calls : Type 0 where
-  pub made : ℕ
-  pub failing : List ℕ
-  pub faults : ℕ
-
--- the next call is one of those that fail
-abbrev pub next_fails : Calls → Bool
-next_fails calls = list_any (λ number. number == one_more calls.made) calls.failing
-
--- after the next call
-abbrev pub after_call : Calls → Calls
-after_call calls = record calls {
-  made = one_more calls.made;
-  faults = if next_fails calls then one_more calls.faults else calls.faults;
-}
+use Rattle.net_base.specs.Calls.{Calls, next_fails, after_call}
 
 pub record Script : Type 0 where
   -- what it was opened with, none where it is not open

@@ -2,7 +2,6 @@
 //! also the queues that worlds have: of events, and of bytes to send.
 #![tactic(auto)]
 
-mod calls;
 mod copy;
 mod history;
 pub mod law;

@@ -4,12 +4,11 @@ ghost use Rattle.node_world.specs.declared.refusal.WorldRefusal.TheVariants.{Out
 ghost use Rattle.node_world.specs.Meanings.{opening_after, taken_after, done_after, says_end, IsNextWithinLimits, GivesWithinLimits, HasCause};
 ghost use Rattle.node_world.specs.Script.{new_script, first_of, after_taking, next_answer, after_next, IsAnswerOf, after_act};
 
-use crate::calls::CallLog;
 use crate::copy::copy_of;
 use crate::history::History;
 use crate::waiting::Waiting;
 use crate::{Next, Opening, World, WorldRefusal};
-use net_base::{Action, ActionList, AddrList, Event, EventList, NumberList};
+use net_base::{Action, ActionList, AddrList, CallLog, Event, EventList, NumberList};
 use node_settings::Config;
 use std::alloc::Global;
 use std::marker::Model;

@@ -17,22 +17,20 @@ use crate::waiting::Waiting;
 use beginning::{first_locals, first_targets};
 use draws::draw;
 use mux_segment::Header;
-use net_base::{Action, Cid, Event, Job, OutOfMemory, RootAnswer};
+use net_base::protocol::{CHAIN_SYNC, HANDSHAKE, KEEP_ALIVE, PEER_SHARING};
+use net_base::{Action, Cid, Event, Job, NUMBER_MOST, OutOfMemory, RootAnswer};
 use peers::{root_peers, some_peer};
 use question::{Question, question_of};
 use rand_core::SeedableRng;
 use rand_pcg::Pcg64;
 use segments::{
-    ACCEPTANCE, ALIVE_DONE, ALIVE_WITH_FIVE, CHAIN_SYNC, HANDSHAKE, INITIATOR, KEEP_ALIVE,
-    NO_INTERSECTION, PEER_SHARING, PROPOSAL, RESPONDER, heard, reply_alive, spoken,
+    ACCEPTANCE, ALIVE_WITH_FIVE, INITIATOR, NO_INTERSECTION, PROPOSAL, RESPONDER, heard,
+    reply_alive, spoken,
 };
 use start::Start;
 use std::alloc::Global;
 use std::marker::Model;
-use warm_messages::write_peers;
-
-// No moment, id of a connection or number of a question is greater.
-const LAST: u64 = 281_474_976_710_656;
+use warm_messages::{ALIVE_DONE, write_peers};
 
 // As many milliseconds an answer with root peers serves.
 const ROOTS_SERVE: u64 = 3_600_000;
@@ -136,7 +134,7 @@ impl Town {
         ensures value { result ≡ clock_rises rest self.now.clock }
         ensures bound { result ≤ 2 ^ 48 }
     {
-        (self.clock + (500 + rest % 4000)).min(LAST)
+        (self.clock + (500 + rest % 4000)).min(NUMBER_MOST)
     }
 
     fn event(&self, word: u64) -> Result<Event, OutOfMemory>
@@ -297,9 +295,9 @@ fn is_heeded(action: &Action) -> bool
     ensures { result ≡ heeded action.now }
 {
     match action {
-        Action::Dial(cid, _) | Action::Admit(cid, _) => cid.0 <= LAST,
-        Action::Send(cid, bytes) => cid.0 <= LAST && bytes.as_slice().len() <= 65_536,
-        Action::AskRoots(job) => job.0 <= LAST,
+        Action::Dial(cid, _) | Action::Admit(cid, _) => cid.0 <= NUMBER_MOST,
+        Action::Send(cid, bytes) => cid.0 <= NUMBER_MOST && bytes.as_slice().len() <= 65_536,
+        Action::AskRoots(job) => job.0 <= NUMBER_MOST,
         _ => false,
     }
 }

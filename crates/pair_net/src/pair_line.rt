@@ -5,10 +5,8 @@ ghost use Rattle.pair_net.specs.Lines.{opening_line, info_line, last_end, end_st
 use crate::words::{next_end, next_magic};
 use crate::{End, PairStep};
 use hs_message::VersionInfo;
+use net_base::NUMBER_MOST;
 use trace_text::{LineRefusal, Words};
-
-// How many bytes a step may deliver.
-const COUNT_MOST: u64 = 281_474_976_710_656;
 
 /// What a line behind the head of a pair says.
 #[derive(Clone, Copy, PartialEq, Eq)]
@@ -121,7 +119,7 @@ fn read_delivery(mut words: Words) -> Result<PairLine, LineRefusal>
     ensures { result ≡ deliver_step words.entry }
 {
     let end = next_end(&mut words)?;
-    let count = words.number(1, COUNT_MOST)?;
+    let count = words.number(1, NUMBER_MOST)?;
     words.end()?;
     Ok(PairLine::Step(PairStep::Deliver(end, count)))
 }

@@ -7,7 +7,7 @@ ghost use Rattle.warm_messages.specs.Reading.{alive_of, share_of};
 ghost use Rattle.remote_watch.specs.declared.refusal.WatchRefusal.{WatchRefusal};
 
 use crate::{Reply, Seen, WatchRefusal};
-use net_base::FaultKind;
+use net_base::{FaultKind, protocol};
 use std::alloc::Global;
 use warm_messages::{Alive, Share, item_number, read_alive, read_share};
 
@@ -19,12 +19,12 @@ pub fn watch(alloc: Global, id: u16, sharing: bool, item: &[u8]) -> Result<Seen,
     ensures memory { IfErr result (λ refusal. refusal ≡ WatchRefusal.OutOfMemory → id ≡ 10) }
 {
     match id {
-        0 => Err(WatchRefusal::Fault(FaultKind::Protocol)),
-        2 => Ok(chain_sync(numbered(item)?)),
-        3 => Ok(block_fetch(numbered(item)?)),
-        4 => Ok(tx_submission(numbered(item)?)),
-        8 => keep_alive(item),
-        10 if sharing => peer_sharing(alloc, item),
+        protocol::HANDSHAKE => Err(WatchRefusal::Fault(FaultKind::Protocol)),
+        protocol::CHAIN_SYNC => Ok(chain_sync(numbered(item)?)),
+        protocol::BLOCK_FETCH => Ok(block_fetch(numbered(item)?)),
+        protocol::TX_SUBMISSION => Ok(tx_submission(numbered(item)?)),
+        protocol::KEEP_ALIVE => keep_alive(item),
+        protocol::PEER_SHARING if sharing => peer_sharing(alloc, item),
         _ => Err(WatchRefusal::Fault(FaultKind::UnknownId)),
     }
 }

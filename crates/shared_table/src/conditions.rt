@@ -9,10 +9,8 @@ use crate::{InCall, OutCall, TableCall};
 use conn_state::facts::{is_dialing, is_greeting, is_negotiated, is_outbound, serves_remote};
 use conn_state::responders::runs;
 use conn_table::ConnTable;
-use net_base::{Addr, Facts, Grace};
-
-// The last moment, and how many ids are given at most.
-const MOST: u64 = 1 << 48;
+use net_base::protocol::{BLOCK_FETCH, CHAIN_SYNC, KEEP_ALIVE, PEER_SHARING, TX_SUBMISSION};
+use net_base::{Addr, Facts, Grace, NUMBER_MOST};
 
 pub fn is_met(call: TableCall, table: &ConnTable) -> bool
     ensures { result ≡ is_met call table.now }
@@ -77,19 +75,21 @@ fn in_is_met(call: InCall, table: &ConnTable) -> bool
 fn is_moment(now: u64) -> bool
     ensures { result ≡ is_moment now }
 {
-    now <= MOST
+    now <= NUMBER_MOST
 }
 
 fn may_dial(addr: Addr, table: &ConnTable) -> bool
     ensures { result ≡ may_dial addr table.now }
 {
-    table.given() < MOST && !table.any_of(addr)
+    table.given() < NUMBER_MOST && !table.any_of(addr)
 }
 
 fn may_let_in(addr: Addr, table: &ConnTable) -> bool
     ensures { result ≡ may_let_in addr table.now }
 {
-    table.given() < MOST && table.counted() < table.settings().hard && table.live_of(addr).is_none()
+    table.given() < NUMBER_MOST
+        && table.counted() < table.settings().hard
+        && table.live_of(addr).is_none()
 }
 
 fn is_greeting_out(facts: &Facts) -> bool
@@ -117,7 +117,10 @@ fn may_awake(protocol: u16, facts: &Facts) -> bool
 fn has_responder(protocol: u16) -> bool
     ensures { result ≡ has_responder protocol }
 {
-    matches!(protocol, 2 | 3 | 4 | 8 | 10)
+    matches!(
+        protocol,
+        CHAIN_SYNC | BLOCK_FETCH | TX_SUBMISSION | KEEP_ALIVE | PEER_SHARING
+    )
 }
 
 fn is_due(now: u64, grace: Grace) -> bool

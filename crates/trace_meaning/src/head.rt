@@ -8,23 +8,25 @@ use trace_text::HeadLine;
 pub fn settings_of(heads: &[HeadLine]) -> Settings
     ensures { result ≡ settings_in heads.now }
 {
-    let hard = set_or(4, 512, heads);
+    let own = own_of(heads);
+    let usual = Settings::usual(own);
+    let hard = set_or(4, usual.hard, heads);
     Settings {
         version: version_of(heads),
-        own: own_of(heads),
-        magic: set_or(1, 42, heads),
-        initiator_only: set_or(2, 0, heads),
-        sharing: set_or(3, 1, heads),
+        own,
+        magic: set_or(1, usual.magic, heads),
+        initiator_only: set_or(2, usual.initiator_only, heads),
+        sharing: set_or(3, usual.sharing, heads),
         hard,
-        soft: set_or(5, hard.min(384), heads),
-        delay: set_or(6, 5_000, heads),
-        idle: set_or(7, 5_000, heads),
-        timewait: set_or(8, 60_000, heads),
-        handshake: set_or(9, 10_000, heads),
-        reply: set_or(10, 10_000, heads),
-        backoff: set_or(11, 5_000, heads),
-        sharegap: set_or(12, 900_000, heads),
-        shares: set_or(13, 2, heads),
+        soft: set_or(5, hard.min(usual.soft), heads),
+        delay: set_or(6, usual.delay, heads),
+        idle: set_or(7, usual.idle, heads),
+        timewait: set_or(8, usual.timewait, heads),
+        handshake: set_or(9, usual.handshake, heads),
+        reply: set_or(10, usual.reply, heads),
+        backoff: set_or(11, usual.backoff, heads),
+        sharegap: set_or(12, usual.sharegap, heads),
+        shares: set_or(13, usual.shares, heads),
     }
 }
 

@@ -4,14 +4,10 @@ ghost use Rattle.trace_text.specs.Lines.{IsReading};
 
 use crate::words::Words;
 use crate::{Line, LineRefusal};
-use net_base::{BigTargets, Cid, Event, Field, Job, RootAnswer, Targets};
+use net_base::{
+    BigTargets, Cid, Event, Field, INTERVAL_MOST, Job, NUMBER_MOST, RootAnswer, Targets,
+};
 use std::alloc::Global;
-
-// Moments, connection ids and numbers of questions are at most so great.
-const ID_MOST: u64 = 281_474_976_710_656;
-
-// A day of milliseconds.
-const INTERVAL_MOST: u64 = 86_400_000;
 
 /// What an event line says behind its first word, which names the event.
 pub fn read_event(
@@ -73,7 +69,7 @@ fn read_big(alloc: Global, version: u64, name: &[u8], words: Words) -> Result<Li
 fn read_now(mut words: Words) -> Result<Line, LineRefusal>
     ensures { result ≡ now_line words.entry }
 {
-    let moment = words.number(0, ID_MOST)?;
+    let moment = words.number(0, NUMBER_MOST)?;
     words.end()?;
     Ok(Line::Happen(Event::Now(moment)))
 }
@@ -97,7 +93,7 @@ fn read_accepted(version: u64, mut words: Words) -> Result<Line, LineRefusal>
 fn read_dialed(mut words: Words) -> Result<Line, LineRefusal>
     ensures { result ≡ dialed_line words.entry }
 {
-    let cid = Cid(words.number(0, ID_MOST)?);
+    let cid = Cid(words.number(0, NUMBER_MOST)?);
     let opened = words.outcome()?;
     words.end()?;
     Ok(Line::Happen(Event::Dialed(cid, opened)))
@@ -106,7 +102,7 @@ fn read_dialed(mut words: Words) -> Result<Line, LineRefusal>
 fn read_bytes(alloc: Global, mut words: Words) -> Result<Line, LineRefusal>
     ensures { IsReading result (bytes_line words.entry) }
 {
-    let cid = Cid(words.number(0, ID_MOST)?);
+    let cid = Cid(words.number(0, NUMBER_MOST)?);
     let bytes = words.piece(alloc)?;
     words.end()?;
     Ok(Line::Happen(Event::Bytes(cid, bytes)))
@@ -115,7 +111,7 @@ fn read_bytes(alloc: Global, mut words: Words) -> Result<Line, LineRefusal>
 fn read_closed(mut words: Words) -> Result<Line, LineRefusal>
     ensures { result ≡ closed_line words.entry }
 {
-    let cid = Cid(words.number(0, ID_MOST)?);
+    let cid = Cid(words.number(0, NUMBER_MOST)?);
     words.end()?;
     Ok(Line::Happen(Event::Closed(cid)))
 }
@@ -124,10 +120,10 @@ fn read_targets(mut words: Words) -> Result<Line, LineRefusal>
     ensures { result ≡ targets_line words.entry }
 {
     let targets = Targets {
-        root: words.number(0, ID_MOST)?,
-        known: words.number(0, ID_MOST)?,
-        established: words.number(0, ID_MOST)?,
-        active: words.number(0, ID_MOST)?,
+        root: words.number(0, NUMBER_MOST)?,
+        known: words.number(0, NUMBER_MOST)?,
+        established: words.number(0, NUMBER_MOST)?,
+        active: words.number(0, NUMBER_MOST)?,
     };
     in_bounds(targets.check())?;
     words.end()?;
@@ -138,9 +134,9 @@ fn read_big_targets(mut words: Words) -> Result<Line, LineRefusal>
     ensures { result ≡ big_targets_line words.entry }
 {
     let big_targets = BigTargets {
-        known: words.number(0, ID_MOST)?,
-        established: words.number(0, ID_MOST)?,
-        active: words.number(0, ID_MOST)?,
+        known: words.number(0, NUMBER_MOST)?,
+        established: words.number(0, NUMBER_MOST)?,
+        active: words.number(0, NUMBER_MOST)?,
     };
     in_bounds(big_targets.check())?;
     words.end()?;
@@ -167,7 +163,7 @@ fn read_locals(alloc: Global, version: u64, mut words: Words) -> Result<Line, Li
 fn read_roots(alloc: Global, version: u64, mut words: Words) -> Result<Line, LineRefusal>
     ensures { IsReading result (roots_line version words.entry) }
 {
-    let job = Job(words.number(0, ID_MOST)?);
+    let job = Job(words.number(0, NUMBER_MOST)?);
     if words.outcome()? {
         read_found(alloc, version, job, words)
     } else {

@@ -3,6 +3,8 @@ ghost use Rattle.std.specs.Option.{option_map};
 ghost use Rattle.trace_text.specs.Settings.{setting as setting_row, interval, setting_of, setting_from};
 ghost use Rattle.trace_text.specs.Views.{row_view, found_view};
 
+use net_base::INTERVAL_MOST;
+
 /// A setting's name, its least and its greatest value.
 #[derive(Clone, Copy)]
 pub struct Row {
@@ -50,7 +52,7 @@ fn setting(name: &'static str, least: u64, most: u64) -> Row
 fn time(name: &'static str) -> Row
     ensures { row_view result ≡ interval name.now }
 {
-    setting(name, 1, 86_400_000)
+    setting(name, 1, INTERVAL_MOST)
 }
 
 fn find(rows: &[Row], name: &[u8]) -> Option<Found>

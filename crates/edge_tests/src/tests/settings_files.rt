@@ -12,23 +12,7 @@ const OWN: Addr = Addr {
 
 fn defaults() -> Config {
     Config {
-        settings: Settings {
-            version: 2,
-            own: OWN,
-            magic: 42,
-            initiator_only: 0,
-            sharing: 1,
-            hard: 512,
-            soft: 384,
-            delay: 5_000,
-            idle: 5_000,
-            timewait: 60_000,
-            handshake: 10_000,
-            reply: 10_000,
-            backoff: 5_000,
-            sharegap: 900_000,
-            shares: 2,
-        },
+        settings: Settings::usual(OWN),
         targets: Targets {
             root: 10,
             known: 20,

@@ -70,23 +70,7 @@ fn expect_act<W: World>(
 
 fn config() -> Config {
     Config {
-        settings: Settings {
-            version: 1,
-            own: peer(1),
-            magic: 42,
-            initiator_only: 0,
-            sharing: 1,
-            hard: 512,
-            soft: 384,
-            delay: 5000,
-            idle: 5000,
-            timewait: 60_000,
-            handshake: 10_000,
-            reply: 10_000,
-            backoff: 5000,
-            sharegap: 900_000,
-            shares: 2,
-        },
+        settings: Settings::usual(peer(1)),
         targets: Targets {
             root: 10,
             known: 20,

@@ -26,21 +26,9 @@ const ALIVE: [u8; 11] = [0, 0, 0, 0, 0, 8, 0, 3, 0x82, 0, 1];
 // The usual settings, but for the limits.
 fn settings(hard: u64, soft: u64) -> Settings {
     Settings {
-        version: 1,
-        own: local(3001),
-        magic: 42,
-        initiator_only: 0,
-        sharing: 1,
         hard,
         soft,
-        delay: 5000,
-        idle: 5000,
-        timewait: 60_000,
-        handshake: 10_000,
-        reply: 10_000,
-        backoff: 5000,
-        sharegap: 900_000,
-        shares: 2,
+        ..Settings::usual(local(3001))
     }
 }
 

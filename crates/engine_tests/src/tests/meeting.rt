@@ -45,21 +45,8 @@ fn free_addresses(rt: &HostRuntime) -> Result<(Addr, Addr), Fail> {
 
 fn settings_of(own: Addr) -> Settings {
     Settings {
-        version: 2,
-        own,
-        magic: 42,
-        initiator_only: 0,
-        sharing: 1,
-        hard: 512,
-        soft: 384,
-        delay: 5000,
-        idle: 5000,
-        timewait: 60_000,
-        handshake: 10_000,
-        reply: 10_000,
         backoff: 500,
-        sharegap: 900_000,
-        shares: 2,
+        ..Settings::usual(own)
     }
 }
 

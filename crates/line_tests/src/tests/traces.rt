@@ -393,21 +393,8 @@ fn bytes_are_printed(rt: HostRuntime) -> Result<(), Fail> {
 #[test]
 fn a_head_is_printed(rt: HostRuntime) {
     let settings = Settings {
-        version: 2,
-        own: LOOPBACK,
         magic: 4_294_967_295,
-        initiator_only: 0,
-        sharing: 1,
-        hard: 512,
-        soft: 384,
-        delay: 5000,
-        idle: 5000,
-        timewait: 60_000,
-        handshake: 10_000,
-        reply: 10_000,
-        backoff: 5000,
-        sharegap: 900_000,
-        shares: 2,
+        ..Settings::usual(LOOPBACK)
     };
     let lines = [
         "trace 2\nown [0:0:0:0:0:0:0:1]:3001\nset magic 4294967295\nset initiatoronly 0\n",

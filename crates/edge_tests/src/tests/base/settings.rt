@@ -2,7 +2,7 @@ use net_base::{Addr, Field, Ip, Settings};
 use std::process::Abort;
 
 const USUAL: Settings = Settings {
-    version: 1,
+    version: 2,
     own: Addr {
         ip: Ip::V4(0x7f00_0001),
         port: 3001,
@@ -33,6 +33,7 @@ fn expect_judged(rt: &impl Abort, rows: &[(Settings, Field)]) {
 
 #[test]
 fn each_range_is_named_by_its_field(rt: HostRuntime) {
+    assert!(rt; Settings::usual(USUAL.own) == USUAL);
     assert!(rt; USUAL.check().is_none());
     let rows = [
         (

@@ -3,7 +3,7 @@ use Rattle.std.specs.List.{slice_get}
 use Rattle.std.proofs.lemmas.Grind.{common_steps}
 use Rattle.std.proofs.lemmas.Option.{gets}
 use Rattle.io_edge.specs.Files.{IsReading, HasFileCause}
-use Rattle.io_edge.specs.Memory.{next_fails}
+use Rattle.net_base.specs.Calls.{next_fails}
 use Rattle.io_edge.specs.Shelves.{MemoryShelf, place_of, bytes_of, faults_of, after_reading}
 use Rattle.io_edge.proofs.ShelfLemmas.{fault_cause, failing_answer, missing_answer, told, found_answer, reading_is}
 use Rattle.io_edge.proofs.mem_shelf.MemShelfShelf.read.Goals as goal
