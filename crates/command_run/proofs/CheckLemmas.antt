@@ -2,9 +2,9 @@
 use Rattle.std.proofs.Common.{◌≡◌, ℕ, ◌⊎◌, List, Option, Some, inl, inr, ⊎_elim, sym, ap, ◌∙◌, subst}
 use Rattle.io_edge.specs.Causes.{Rose}
 use Rattle.trace_compare.specs.Again.{FitsTrace}
-use Rattle.trace_replay.specs.CheckedInputs.{IsCheckOf}
+use Rattle.trace_play.specs.CheckedInputs.{IsCheckOf}
 use Rattle.trace_compare.specs.Compare.{outcome_told}
-use Rattle.trace_replay.specs.Checks.{Checks}
+use Rattle.trace_play.specs.Checks.{Checks}
 use Rattle.trace_compare.specs.Compare.{comparison_of}
 use Rattle.line_run.specs.Judgement.{ended}
 use Rattle.trace_meaning.specs.Output.{output_of}
@@ -13,7 +13,7 @@ use Rattle.trace_meaning.specs.FaultCounts.{HasReadCount, HasWriteCount}
 use Rattle.trace_meaning.specs.declared.outcome.Outcome.{Outcome}
 use Rattle.trace_meaning.specs.declared.outcome.Outcome.TheVariants as outcome
 use Rattle.trace_compare.proofs.Agreeing.{agreeing_lines}
-use Rattle.trace_replay.proofs.CheckInputs.{Checks-input}
+use Rattle.trace_play.proofs.CheckInputs.{Checks-input}
 use Rattle.command_run.specs.Command.{IsCheckStatus, IsAnswered}
 use Rattle.command_run.specs.Checked.{status_compared, IsChecked, ComesOfCheck}
 use Rattle.command_run.proofs.DueLemmas.{answered-due}

@@ -2,9 +2,9 @@
 use Rattle.std.specs.Prelude.{◌≡◌, ℕ, ◌⊎◌, List, Option, Some}
 use Rattle.io_edge.specs.Causes.{Rose}
 use Rattle.trace_compare.specs.Again.{FitsTrace}
-use Rattle.trace_replay.specs.CheckedInputs.{IsCheckOf}
+use Rattle.trace_play.specs.CheckedInputs.{IsCheckOf}
 use Rattle.trace_compare.specs.Compare.{outcome_told}
-use Rattle.trace_replay.specs.Checks.{Checks}
+use Rattle.trace_play.specs.Checks.{Checks}
 use Rattle.trace_compare.specs.Compare.{comparison_of, lines_found, lines_written}
 use Rattle.line_run.specs.Judgement.{ended}
 use Rattle.trace_meaning.specs.Judgement.{judged}

@@ -15,7 +15,7 @@ use Rattle.conn_table.specs.Answers.{has_address, any_at, any_acquirable, may_ac
 use Rattle.conn_table.specs.Index.{placed_of}
 use Rattle.conn_table.specs.declared.placed.Placed.{Placed}
 use Rattle.conn_table.specs.Finds.{newest, if_live, id_place, StandsAt}
-use Rattle.conn_table.specs.Kept.{OnlyLastLives}
+use Rattle.conn_table.specs.Rosters.{OnlyLastLives}
 use Rattle.conn_table.specs.Table.{IdsRise, moved_at}
 use Rattle.net_base.proofs.AddressOrder.{same_address-itself, same_address-is}
 use Rattle.conn_table.proofs.IdPlaces.{found_here, found_later, get-place, moved_at-above, none_above}

@@ -69,6 +69,13 @@ was_there P xs place x d f some is_x is_f =
     let found = some_with P (slice_get (map facts_of xs) place) some in
     found.1 ∙ ap Some (sym (is_f ∙ (ap facts_of is_x ∙ state_there xs place found.0 d found.1)))
 
+-- the same of a place that is inside
+pub stands_there : (xs : List ConnState) (place : ℕ) (x : ConnState) → place < length (map facts_of xs) → x ≡ get_or xs place x →
+    slice_get (map facts_of xs) place ≡ Some (facts_of x)
+stands_there xs place x inside is =
+    slice_get-map facts_of xs place
+    ∙ ap (option_map facts_of) (slice_get-get_or xs place x (omega (arith, inside, length-map xs facts_of)) ∙ ap Some (sym is))
+
 -- ---- a step keeps the address and the id
 
 pub step_keeps : (s : Step) (f : Facts) → placed_of (after_step s f) ≡ placed_of f

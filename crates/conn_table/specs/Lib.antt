@@ -3,5 +3,5 @@ pub mod Choices
 pub mod Conditions
 pub mod Finds
 pub mod Index
-pub mod Kept
+pub mod Rosters
 pub mod Table

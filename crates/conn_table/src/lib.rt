@@ -1,12 +1,12 @@
-//! The connections of a node: each is found by its id or its address, the limits count them, and the outbound side uses
-//! one through a lease alone.
+//! The connections of a node: each is found by its id or its address, and the limits count them. A roster has them move
+//! by steps; through a table the outbound side uses one by a lease alone.
 #![tactic(auto)]
 
 mod acquire;
 mod grace_end;
-mod kept;
 mod lease;
 mod placed;
+mod roster;
 mod step;
 mod table;
 
@@ -14,4 +14,6 @@ pub use acquire::Acquire;
 pub use grace_end::GraceEnd;
 pub use lease::LocalLease;
 pub use placed::{Placed, PlacedList};
+pub use roster::Roster;
+pub use step::Step;
 pub use table::ConnTable;

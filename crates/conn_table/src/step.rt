@@ -12,19 +12,27 @@ use conn_state::facts::is_outbound;
 use conn_state::{AfterDuplex, AfterInbound, ConnState, Released, Unnegotiated};
 use net_base::Agreed;
 
-// A move of a connection. The last number of each is the moment until which it may last.
+/// A move of a connection that stands. The moment of each is the one until which what it begins may last.
+#[derive(Clone, Copy, PartialEq, Eq)]
 pub enum Step {
+    /// The dialed socket is open, and the handshake may last until a moment.
     Connected(u64),
+    /// The handshake is over. A grace that it gives lasts until a moment.
     Negotiated(Agreed, u64),
+    /// This side takes the connection into use.
     Acquire,
+    /// This side uses the connection no more. A grace that this gives lasts until a moment.
     Release(u64),
+    /// The other side starts the responder of a protocol.
     Awake(u16),
+    /// The responder of a protocol stops. A grace that this gives lasts until a moment.
     Idle(u16, u64),
+    /// The grace is over. Where nobody uses the connection, this side closes it, for a time-wait until a moment.
     GraceOver(u64),
 }
 
 // The state after a move that it has.
-pub fn stepped(state: ConnState, step: Step) -> ConnState
+pub(crate) fn stepped(state: ConnState, step: Step) -> ConnState
     requires shape { HasShape state }
     requires can { CanStep step (facts_of state) }
     ensures { facts_of result ≡ after_step step (facts_of state) }

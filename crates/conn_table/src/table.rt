@@ -9,11 +9,11 @@ ghost use Rattle.conn_table.specs.Answers.{any_at, any_acquirable, acquire_of, a
 ghost use Rattle.conn_table.specs.Conditions.{CanAwake};
 ghost use Rattle.conn_table.specs.Index.{index_of, IsRising};
 ghost use Rattle.conn_table.specs.Finds.{id_place, StandsAt};
-ghost use Rattle.conn_table.specs.Kept.{OnlyLastLives};
+ghost use Rattle.conn_table.specs.Rosters.{OnlyLastLives};
 ghost use Rattle.conn_table.specs.Table.{empty_table, with_accepted, with_dialing, with_moved, without, IdsRise};
 ghost use Rattle.net_base.specs.Bounds.{AreSound};
 
-use crate::kept::Kept;
+use crate::roster::Roster;
 use crate::step::Step;
 use crate::{Acquire, GraceEnd, LocalLease, PlacedList};
 use conn_state::facts::{is_acquirable, is_live, is_outbound};
@@ -28,19 +28,19 @@ use std::marker::Model;
 #[derive(Drop)]
 pub struct ConnTable {
     settings: Settings,
-    kept: Kept,
+    roster: Roster,
 }
 
 impl Model for ConnTable {
-    ghost use Rattle.conn_table.specs.Kept.{IsSettled, facts_kept};
+    ghost use Rattle.conn_table.specs.Rosters.{IsSettled, facts_kept};
     ghost use Rattle.conn_table.specs.Finds.{if_live};
     ghost use Rattle.conn_table.specs.Table.{Table};
 
     ghost Value = { Table };
 
-    ghost view = { λ t. record { settings = t.settings; facts = facts_kept t.kept; given = t.kept.given } };
+    ghost view = { λ t. record { settings = t.settings; facts = facts_kept t.roster; given = t.roster.given } };
 
-    ghost invariant = { λ t. IsSettled t.settings t.kept };
+    ghost invariant = { λ t. IsSettled t.settings t.roster };
 }
 
 impl ConnTable {
@@ -51,7 +51,7 @@ impl ConnTable {
     {
         ConnTable {
             settings: *settings,
-            kept: Kept::new(alloc),
+            roster: Roster::new(alloc),
         }
     }
 
@@ -66,10 +66,10 @@ impl ConnTable {
         ensures ok { OnOk result (self.new ≡ with_accepted addr now self.old) }
         ensures err { OnErr result (self.new ≡ self.old) }
     {
-        let cid = Cid(self.kept.given + 1);
+        let cid = Cid(self.roster.given + 1);
         let until = now + self.settings.handshake;
         let state = Unnegotiated::accepted(cid, addr, until);
-        self.kept.enter(ConnState::Unnegotiated(state))?;
+        self.roster.enter(ConnState::Unnegotiated(state))?;
         Ok(cid)
     }
 
@@ -82,9 +82,9 @@ impl ConnTable {
         ensures ok { OnOk result (self.new ≡ with_dialing addr self.old) }
         ensures err { OnErr result (self.new ≡ self.old) }
     {
-        let cid = Cid(self.kept.given + 1);
+        let cid = Cid(self.roster.given + 1);
         let state = ReservedOutbound::new(cid, addr);
-        self.kept.enter(ConnState::ReservedOutbound(state))?;
+        self.roster.enter(ConnState::ReservedOutbound(state))?;
         Ok(cid)
     }
 
@@ -95,7 +95,7 @@ impl ConnTable {
         ensures { self.new ≡ with_moved cid.0 (connected (now + self.old.settings.handshake)) self.old }
     {
         let until = now + self.settings.handshake;
-        self.kept.turn(cid, Step::Connected(until));
+        self.roster.turn(cid, Step::Connected(until));
     }
 
     /// The handshake is over. A lease comes with a connection that this side dialed.
@@ -106,7 +106,7 @@ impl ConnTable {
         ensures table { self.new ≡ with_moved cid.0 (negotiated agreed (now + self.old.settings.idle)) self.old }
     {
         let until = now + self.settings.idle;
-        let facts = self.kept.turn(cid, Step::Negotiated(agreed, until));
+        let facts = self.roster.turn(cid, Step::Negotiated(agreed, until));
         lease_by(&facts)
     }
 
@@ -117,7 +117,7 @@ impl ConnTable {
         ensures leased { is_leased result ≡ any_acquirable addr self.old.facts }
         ensures last_lives { OnlyLastLives self.old.facts }
     {
-        match self.newest_live(addr) {
+        match self.roster.live(addr) {
             None => Acquire::NoSuch,
             Some(place) => self.acquire_at(addr, place),
         }
@@ -130,7 +130,7 @@ impl ConnTable {
         ensures { self.new ≡ with_moved lease.0 (released (now + self.old.settings.idle)) self.old }
     {
         let until = now + self.settings.idle;
-        self.kept.turn(lease.cid(), Step::Release(until));
+        self.roster.turn(lease.cid(), Step::Release(until));
     }
 
     /// The other side starts the responder of a protocol.
@@ -139,7 +139,7 @@ impl ConnTable {
         requires able { IsSomeAnd (facts_at cid.0 self.old.facts) (CanAwake protocol) }
         ensures { self.new ≡ with_moved cid.0 (awakened protocol) self.old }
     {
-        self.kept.turn(cid, Step::Awake(protocol));
+        self.roster.turn(cid, Step::Awake(protocol));
     }
 
     /// The responder of a protocol stops.
@@ -149,7 +149,7 @@ impl ConnTable {
         ensures { self.new ≡ with_moved cid.0 (idled protocol (now + self.old.settings.idle)) self.old }
     {
         let until = now + self.settings.idle;
-        self.kept.turn(cid, Step::Idle(protocol, until));
+        self.roster.turn(cid, Step::Idle(protocol, until));
     }
 
     /// The grace of a connection is over. Where it is in no use, this side closes it.
@@ -160,7 +160,7 @@ impl ConnTable {
         ensures table { self.new ≡ with_moved cid.0 (grace_ended (now + self.old.settings.timewait)) self.old }
     {
         let until = now + self.settings.timewait;
-        let facts = self.kept.turn(cid, Step::GraceOver(until));
+        let facts = self.roster.turn(cid, Step::GraceOver(until));
         if facts.local {
             GraceEnd::Expired
         } else {
@@ -173,7 +173,7 @@ impl ConnTable {
         requires { IsSomeAnd (facts_at cid.0 self.old.facts) (λ f. f.local ≡ false) }
         ensures { self.new ≡ without cid.0 self.old }
     {
-        self.kept.remove(cid);
+        self.roster.remove(cid);
     }
 
     /// A connection in local use goes.
@@ -181,14 +181,14 @@ impl ConnTable {
         requires { IsSomeAnd (facts_at lease.0 self.old.facts) (λ f. f.local ≡ true) }
         ensures { self.new ≡ without lease.0 self.old }
     {
-        self.kept.remove(lease.cid());
+        self.roster.remove(lease.cid());
     }
 
     /// What is known of the connection with an id. None where there is none.
     pub fn facts(&self, cid: Cid) -> Option<Facts>
         ensures { result ≡ facts_at cid.0 self.now.facts }
     {
-        self.kept.facts(cid)
+        self.roster.facts(cid)
     }
 
     /// The id of the live connection with an address. None where there is none.
@@ -196,22 +196,22 @@ impl ConnTable {
         ensures value { result ≡ option_map (λ f. f.cid) (live_at addr self.now.facts) }
         ensures last_lives { OnlyLastLives self.now.facts }
     {
-        let place = self.newest_live(addr)?;
-        Some(self.kept.at(place).cid)
+        let place = self.roster.live(addr)?;
+        Some(self.roster.at(place).cid)
     }
 
     /// Whether some connection has an address, closed or not.
     pub fn any_of(&self, addr: Addr) -> bool
         ensures { result ≡ any_at addr self.now.facts }
     {
-        self.kept.any_of(addr)
+        self.roster.any_of(addr)
     }
 
     /// How many connections the limits count.
     pub fn counted(&self) -> u64
         ensures { result ≡ counted self.now.facts }
     {
-        self.kept.counted
+        self.roster.counted
     }
 
     /// How many ids were given. They are given from 1 on.
@@ -219,7 +219,7 @@ impl ConnTable {
         ensures value { result ≡ self.now.given }
         ensures ids { IdsRise 0 self.now.given self.now.facts }
     {
-        self.kept.given
+        self.roster.given
     }
 
     /// The address and id of every connection, in order of address and then id.
@@ -227,7 +227,7 @@ impl ConnTable {
         ensures value { result.now ≡ index_of self.now.facts }
         ensures rising { IsRising result.now }
     {
-        &self.kept.index
+        &self.roster.index
     }
 
     /// The settings that the table was made with.
@@ -242,7 +242,7 @@ impl ConnTable {
     pub fn len(&self) -> usize
         ensures { result ≡ length self.now.facts }
     {
-        self.kept.states.len()
+        self.roster.states.len()
     }
 
     /// What is known of the connection at a place, from 0, in order of id.
@@ -250,28 +250,14 @@ impl ConnTable {
         requires { place < length self.now.facts }
         ensures { slice_get self.now.facts place ≡ Some result }
     {
-        *self.kept.at(place)
+        *self.roster.at(place)
     }
 
     /// How many connections have a lower id. The one with the id stands at that place, where there is one.
     pub fn place_of(&self, cid: Cid) -> usize
         ensures { result ≡ id_place cid.0 self.now.facts }
     {
-        self.kept.place_of(cid)
-    }
-
-    // Where the live connection of an address stands. There is no other one that may be taken into use.
-    fn newest_live(&self, addr: Addr) -> Option<usize>
-        ensures value { StandsAt self.now.facts (live_at addr self.now.facts) result }
-        ensures only { may_acquire (live_at addr self.now.facts) ≡ any_acquirable addr self.now.facts }
-        ensures last_lives { OnlyLastLives self.now.facts }
-    {
-        let place = self.kept.newest(addr)?;
-        if is_live(self.kept.at(place)) {
-            Some(place)
-        } else {
-            None
-        }
+        self.roster.place_of(cid)
     }
 
     // Takes the live connection of an address, which stands at a place, into use.
@@ -280,11 +266,11 @@ impl ConnTable {
         ensures answer { result ≡ acquire_of addr self.old.facts }
         ensures table { self.new ≡ after_acquire result self.old }
     {
-        let facts = self.kept.at(place);
+        let facts = self.roster.at(place);
         if !is_acquirable(facts) {
             return Acquire::NotReusable(name_of(facts));
         }
-        let facts = self.kept.turn_at(place, Step::Acquire);
+        let facts = self.roster.turn_at(place, Step::Acquire);
         Acquire::Leased(LocalLease::new(facts.cid))
     }
 }

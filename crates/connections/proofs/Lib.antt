@@ -4,7 +4,7 @@ pub mod Retimed
 pub mod TalkFeeds
 pub mod TalkFinds
 pub mod TalkLooks
-pub mod TalkMoves
+pub mod Stepping
 pub mod TalkPairs
 pub mod TalkTurns
 pub mod TimedTurns

@@ -8,7 +8,7 @@ use Rattle.mux_segment.specs.declared.fault.CutFault.{CutFault}
 use Rattle.net_base.specs.Shared.{Part, nothing_undecoded}
 use Rattle.net_base.specs.declared.connection.Facts.{Facts}
 use Rattle.connections.specs.Standing.{fed_of, fed_entry}
-use Rattle.connections.specs.Talks.{entry_of, IsTalkOf, with_cutter, going_on, fed_talk, fresh_talk, TurnsAt}
+use Rattle.connections.specs.Talks.{entry_of, GoesOn, with_cutter, going_on, fed_talk, fresh_talk, TurnsAt}
 use Rattle.connections.specs.declared.talk.Talk.{Talk}
 
 -- after a fault nothing is left
@@ -28,14 +28,14 @@ nothing_left limits state bytes e =
 whole : (state : CutterState) → state.fault ≡ None → state ≡ record { undecoded = state.undecoded; fault = None }
 whole state e = ap (λ (o : Option CutFault). let s : CutterState = record { undecoded = state.undecoded; fault = o } in s) e
 
-pub fed_entry-talk : (bytes : List ℕ) (f : Facts) (talk : Talk) → IsTalkOf f talk →
+pub fed_entry-talk : (bytes : List ℕ) (f : Facts) (talk : Talk) → GoesOn talk →
     fed_entry bytes (entry_of f talk) ≡ entry_of f (fed_talk bytes talk)
 fed_entry-talk bytes f talk belongs =
-    ap (λ (s : CutterState). entry_of f (with_cutter (going_on (fed_by node_limits s bytes).state) talk)) (sym (whole talk.cutter belongs.no_fault))
+    ap (λ (s : CutterState). entry_of f (with_cutter (going_on (fed_by node_limits s bytes).state) talk)) (sym (whole talk.cutter belongs))
 
-pub fed_of-talk : (bytes : List ℕ) (f : Facts) (talk : Talk) → IsTalkOf f talk →
+pub fed_of-talk : (bytes : List ℕ) (f : Facts) (talk : Talk) → GoesOn talk →
     fed_by node_limits talk.cutter bytes ≡ fed_of bytes (entry_of f talk)
-fed_of-talk bytes f talk belongs = ap (λ (s : CutterState). fed_by node_limits s bytes) (whole talk.cutter belongs.no_fault)
+fed_of-talk bytes f talk belongs = ap (λ (s : CutterState). fed_by node_limits s bytes) (whole talk.cutter belongs)
 
 pub in_either : {T E : Type 0} (A B C : Type 0) (r : Result T E) → OnOk r A → OnErr r B → (A → C) → (B → C) → C
 in_either A B C (Ok x) ok err f g = f ok

@@ -6,7 +6,7 @@ use Rattle.std.proofs.lemmas.Bool.Decides.{nat_tests}
 use Rattle.std.proofs.lemmas.Option.{none-some, same_Some}
 use Rattle.conn_state.specs.Use.{has_id, facts_at, is_live, live_phase, is_negotiated_phase, is_live_at, live_at, is_acquirable}
 use Rattle.conn_table.specs.Answers.{any_at, has_address}
-use Rattle.conn_table.specs.Kept.{OnlyLastLives}
+use Rattle.conn_table.specs.Rosters.{OnlyLastLives}
 use Rattle.conn_table.specs.Table.{IdsRise}
 use Rattle.net_base.proofs.AddressOrder.{same_address-itself, same_address-is}
 use Rattle.conn_table.proofs.IdPlaces.{found_here, found_later}

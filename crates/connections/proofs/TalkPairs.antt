@@ -11,7 +11,7 @@ use Rattle.conn_table.specs.Table.{IdsRise, moved_at, without_at}
 use Rattle.conn_table.proofs.IdPlaces.{found_here, found_later, none_above, moved_at-above, without_at-above}
 use Rattle.machine.specs.Machine.{Entry}
 use Rattle.net_base.specs.declared.connection.Facts.{Facts}
-use Rattle.connections.specs.Talks.{entry_of, entries_of, IsTalkOf, AreTalksOf}
+use Rattle.connections.specs.Talks.{entry_of, entries_of, GoesOn, AreTalksOf}
 use Rattle.connections.specs.declared.talk.Talk.{Talk}
 
 -- ---- what is seen of the facts
@@ -69,7 +69,7 @@ pub record StandsAt (cid : ℕ) (fs : List Facts) (ts : List Talk) (f : Facts) (
   pub facts_there : facts_at cid fs ≡ Some f
   pub talk_there : slice_get ts (id_place cid fs) ≡ Some talk
   pub entry_there : find (λ e. has_id cid e.facts) (entries_of fs ts) ≡ Some (entry_of f talk)
-  pub belongs : IsTalkOf f talk
+  pub belongs : GoesOn talk
 
 pub stands_at : (cid above most : ℕ) (fs : List Facts) (ts : List Talk) (f : Facts) → IdsRise above most fs → AreTalksOf fs ts →
     facts_at cid fs ≡ Some f → (talk : Talk) × StandsAt cid fs ts f talk
@@ -83,7 +83,7 @@ stands_at cid above most (g ∷ gs) (t ∷ ts) f rises are found = elim (cases_B
           facts_there = found;
           talk_there = rw (place_here cid g gs here) refl;
           entry_there = rw here (ap (λ h. Some (entry_of h t)) same);
-          belongs = subst (λ h. IsTalkOf h t) same are.0;
+          belongs = are.0;
         },
       )
   | inr other ↦
@@ -132,7 +132,7 @@ pub record ArePaired (es : List Entry) (fs : List Facts) (ts : List Talk) : Type
   pub talks_are : AreTalksOf fs ts
 
 pub paired_turned : (cid above most : ℕ) (move : Facts → Facts) (fs : List Facts) (ts : List Talk) (f : Facts) (new : Talk) →
-    IdsRise above most fs → AreTalksOf fs ts → facts_at cid fs ≡ Some f → IsTalkOf (move f) new →
+    IdsRise above most fs → AreTalksOf fs ts → facts_at cid fs ≡ Some f → GoesOn new →
     ArePaired (map (λ e. if has_id cid e.facts then entry_of (move f) new else e) (entries_of fs ts))
     (moved_at cid move fs) (set ts (id_place cid fs) new)
 paired_turned cid above most move [] ts f new rises are found belongs = absurd (none-some f found)
@@ -146,14 +146,14 @@ paired_turned cid above most move (g ∷ gs) (t ∷ ts) f new rises are found be
       record {
         entries_are = subst Turned same (rw (place_here cid g gs here, here, rest)
             (ap (λ es. entry_of (move g) new ∷ es) (sym (entries_above cid g.cid.0 most (entry_of (move g) new) gs ts rises.1 (at_most cid g here)))));
-        talks_are = rw (place_here cid g gs here, here, rest) (subst (λ h. IsTalkOf (move h) new) (sym same) belongs, are.1);
+        talks_are = rw (place_here cid g gs here, rest) (belongs, are.1);
       }
   | inr other ↦
       let later = found_later cid g f gs found other in
       let rest = paired_turned cid g.cid.0 most move gs ts f new rises.1 are.1 later belongs in
       record {
         entries_are = rw (place_later cid above most g f gs rises later, other) (ap (λ es. entry_of g t ∷ es) rest.entries_are);
-        talks_are = rw (place_later cid above most g f gs rises later, other) (are.0, rest.talks_are);
+        talks_are = rw (place_later cid above most g f gs rises later) (are.0, rest.talks_are);
       }
 ]
 
@@ -182,7 +182,7 @@ paired_without cid above most (g ∷ gs) (t ∷ ts) f rises are found = elim (ca
 
 -- ---- a connection comes
 
-pub paired_push : (fs : List Facts) (ts : List Talk) (f : Facts) (t : Talk) → AreTalksOf fs ts → IsTalkOf f t →
+pub paired_push : (fs : List Facts) (ts : List Talk) (f : Facts) (t : Talk) → AreTalksOf fs ts → GoesOn t →
     ArePaired (entries_of fs ts ++ entry_of f t ∷ []) (fs ++ f ∷ []) (ts ++ t ∷ [])
 paired_push [] [] f t are belongs = record { entries_are = refl; talks_are = (belongs, tt) }
 paired_push [] (u ∷ us) f t are belongs = absurd are

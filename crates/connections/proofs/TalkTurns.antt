@@ -6,12 +6,12 @@ use Rattle.std.proofs.lemmas.Option.{get_or_from_slice_get, slice_get_within}
 use Rattle.conn_state.specs.Use.{has_id, facts_at}
 use Rattle.conn_table.specs.Finds.{id_place}
 use Rattle.conn_table.specs.Table.{Table, IdsRise, moved_at, with_moved, without}
-use Rattle.conn_table.proofs.IdPlaces.{found_id, IdsRise-push, IdsRise-filter, IdsRise-moved}
+use Rattle.conn_table.proofs.IdPlaces.{get-place, found_id, IdsRise-push, IdsRise-filter, IdsRise-moved}
 use Rattle.conn_table.proofs.StateFacts.{some_with}
 use Rattle.machine.specs.Machine.{Entry}
 use Rattle.net_base.specs.declared.connection.Facts.{Facts}
 use Rattle.connections.specs.Standing.{Standing, entry_with, turned, come, gone, Turns}
-use Rattle.connections.specs.Talks.{entry_of, entries_of, standing_of, IsTalkOf, IsStanding, TurnsAt, fresh_talk}
+use Rattle.connections.specs.Talks.{entry_of, entries_of, standing_of, GoesOn, IsStanding, TurnsAt, fresh_talk}
 use Rattle.connections.specs.declared.talk.Talk.{Talk}
 use Rattle.connections.proofs.TalkPairs.{find_paired, on_facts, StandsAt, stands_at, paired_turned, paired_without, paired_push}
 
@@ -53,6 +53,12 @@ asked_of P cid t ts f = subst (λ o. IsSomeAnd o P) (sym f.at.facts_there) f.hol
 pub said_of : (Q : Facts → Type 0) (o : Option Facts) (f : Facts) → o ≡ Some f → IfSome o Q → Q f
 said_of Q o f e h = subst (λ p. IfSome p Q) e h
 
+-- where its facts stand
+pub facts_placed : {P : Facts → Type 0} (cid place : ℕ) (t : Table) (ts : List Talk) → IsStanding t ts → (it : Found P cid t ts) →
+    place ≡ id_place cid t.facts → slice_get t.facts place ≡ Some it.facts
+facts_placed cid place t ts stands it e =
+    ap (slice_get t.facts) e ∙ get-place cid 0 t.given t.facts it.facts stands.ids_rise it.at.facts_there
+
 pub place_inside : (cid place : ℕ) (fs : List Facts) (ts : List Talk) (f : Facts) (talk : Talk) → place ≡ id_place cid fs →
     StandsAt cid fs ts f talk → place < length ts
 place_inside cid place fs ts f talk e at = subst (λ n. n < length ts) (sym e) (slice_get_within ts (id_place cid fs) talk at.talk_there)
@@ -90,7 +96,7 @@ pub record IsTurn (cid : ℕ) (change : Entry → Entry) (s : Standing) (t : Tab
 pub turn : (cid : ℕ) (move : Facts → Facts) (change : Entry → Entry) (t new : Table) (ts news : List Talk) (f : Facts) (talk talk_then : Talk) (s : Standing) →
     IsStanding t ts → standing_of t ts ≡ s → StandsAt cid t.facts ts f talk → new ≡ with_moved cid move t →
     news ≡ set ts (id_place cid t.facts) talk_then → ((g : Facts) → (move g).cid ≡ g.cid) →
-    change (entry_of f talk) ≡ entry_of (move f) talk_then → IsTalkOf (move f) talk_then → IsTurn cid change s new news
+    change (entry_of f talk) ≡ entry_of (move f) talk_then → GoesOn talk_then → IsTurn cid change s new news
 turn cid move change t new ts news f talk talk_then s stands is at new_is news_is keeps change_is belongs =
     let paired = paired_turned cid 0 t.given move t.facts ts f talk_then stands.ids_rise stands.talks_are at.facts_there belongs in
     let own : (entry_of (move f) talk_then).facts.cid.0 ≡ cid = ap (λ c. c.0) (keeps f) ∙ found_id cid t.facts f at.facts_there in
@@ -120,10 +126,9 @@ abbrev pub with_facts : Facts → Table → Table
 with_facts f t = record t { facts = t.facts ++ f ∷ []; given = t.given + 1 }
 
 pub coming : (f : Facts) (t new : Table) (ts news : List Talk) → IsStanding t ts → new ≡ with_facts f t →
-    news ≡ ts ++ fresh_talk ∷ [] → f.cid.0 ≡ t.given + 1 → f.local ≡ false → IsComing f (standing_of t ts) new news
-coming f t new ts news stands new_is news_is next unused =
-    let belongs : IsTalkOf f fresh_talk = record { lease = rw unused refl; no_fault = refl } in
-    let paired = paired_push t.facts ts f fresh_talk stands.talks_are belongs in
+    news ≡ ts ++ fresh_talk ∷ [] → f.cid.0 ≡ t.given + 1 → IsComing f (standing_of t ts) new news
+coming f t new ts news stands new_is news_is next =
+    let paired = paired_push t.facts ts f fresh_talk stands.talks_are refl in
     let after : standing_of (with_facts f t) (ts ++ fresh_talk ∷ []) ≡ come f (standing_of t ts) =
     ap (λ (es : List Entry). let r : Standing = record (come f (standing_of t ts)) { entries = es } in r) paired.entries_are in
     let rises = IdsRise-push 0 t.given t.facts f stands.ids_rise next in

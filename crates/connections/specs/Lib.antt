@@ -1,6 +1,8 @@
+pub mod Kept
 pub mod Linked
 pub mod Overview
 pub mod Owed
 pub mod Standing
+pub mod Steps
 pub mod Talks
 pub mod Timed

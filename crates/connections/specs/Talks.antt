@@ -1,11 +1,10 @@
 -- What is kept of each connection beside its facts.
-use Rattle.std.specs.Prelude.{◌≡◌, ℕ, ◌+◌, List, [], ◌∷◌, set, slice_get, Option, Some, None, IfSome, if◌then◌else◌}
+use Rattle.std.specs.Prelude.{◌≡◌, ℕ, ◌+◌, List, [], ◌∷◌, set, slice_get, None, IfSome}
 use Rattle.conn_table.specs.Table.{Table, IdsRise}
 use Rattle.machine.specs.Machine.{Entry, Owed}
 use Rattle.mux_segment.specs.Protocols.{node_limits}
 use Rattle.mux_segment.specs.Stream.{CutterState, FedBy, nothing_fed, fed_by}
 use Rattle.mux_segment.specs.declared.fed.Fed.{Fed}
-use Rattle.net_base.specs.declared.connection.Cid.{Cid}
 use Rattle.net_base.specs.declared.connection.Facts.{Facts}
 use Rattle.connections.specs.Standing.{Standing}
 use Rattle.connections.specs.declared.talk.Talk.{Talk}
@@ -22,18 +21,16 @@ entries_of (f ∷ fs) (t ∷ ts) = entry_of f t ∷ entries_of fs ts
 abbrev pub standing_of : Table → List Talk → Standing
 standing_of t talks = record { settings = t.settings; entries = entries_of t.facts talks; next_id = t.given + 1 }
 
-pub record IsTalkOf (facts : Facts) (talk : Talk) : Type 0 where
-  -- a lease is there exactly where the connection is in local use
-  pub lease : talk.lease ≡ (if facts.local then Some facts.cid else None)
-  -- its stream goes on
-  pub no_fault : talk.cutter.fault ≡ None
+-- its stream goes on
+abbrev pub GoesOn : Talk → Type 0
+GoesOn talk = talk.cutter.fault ≡ None
 
 -- one for each connection
 abbrev pub AreTalksOf : List Facts → List Talk → Type 0
 AreTalksOf [] [] = Unit {0}
 AreTalksOf [] (t ∷ ts) = ⊥
 AreTalksOf (f ∷ fs) [] = ⊥
-AreTalksOf (f ∷ fs) (t ∷ ts) = IsTalkOf f t × AreTalksOf fs ts
+AreTalksOf (f ∷ fs) (t ∷ ts) = GoesOn t × AreTalksOf fs ts
 
 -- what always holds of the table and of what is kept beside it
 pub record IsStanding (t : Table) (talks : List Talk) : Type 0 where
@@ -46,18 +43,15 @@ pub record IsStanding (t : Table) (talks : List Talk) : Type 0 where
 abbrev pub TurnsAt : ℕ → (Talk → Talk) → List Talk → List Talk → Type 0
 TurnsAt place change old new = IfSome (slice_get old place) (λ t. new ≡ set old place (change t))
 
-abbrev pub with_lease : Option Cid → Talk → Talk
-with_lease lease talk = record talk { lease = lease }
-
 abbrev pub with_cutter : CutterState → Talk → Talk
 with_cutter cutter talk = record talk { cutter = cutter }
 
 abbrev pub with_owed : (List Owed → List Owed) → Talk → Talk
 with_owed change talk = record talk { replies = change talk.replies }
 
--- nothing came in, nothing is owed, and this node does not use the connection
+-- nothing came in, and nothing is owed
 abbrev pub fresh_talk : Talk
-fresh_talk = record { cutter = nothing_fed; replies = []; lease = None }
+fresh_talk = record { cutter = nothing_fed; replies = [] }
 
 -- ---- what comes in
 

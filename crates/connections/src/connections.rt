@@ -2,7 +2,9 @@ ghost use Rattle.std.specs.Prelude.{◌≡◌, Some, IfSome};
 ghost use Rattle.std.specs.Option.{option_map};
 ghost use Rattle.conn_state.specs.Counted.{counted};
 ghost use Rattle.net_base.specs.Bounds.{AreSound};
-ghost use Rattle.connections.specs.Standing.{none_standing, facts_in, entry_with, live_entry, used_entry};
+ghost use Rattle.conn_state.specs.Use.{live_at};
+ghost use Rattle.conn_table.specs.Rosters.{IsKept, facts_kept};
+ghost use Rattle.connections.specs.Standing.{none_standing, facts_in, entry_with, live_entry, used_entry, if_used};
 
 mod moves;
 mod overview;
@@ -10,6 +12,8 @@ mod talking;
 
 use crate::kept::Kept;
 use crate::linked::Links;
+use chunked_list::ChunkedList;
+use conn_table::Roster;
 use net_base::{Addr, Cid, Facts, Settings};
 use std::alloc::Global;
 use std::marker::Model;
@@ -19,21 +23,23 @@ use timer_queue::TimerQueue;
 /// the rules see of them.
 #[derive(Drop)]
 pub struct Connections {
+    alloc: Global,
     kept: Kept,
     timers: TimerQueue,
     links: Links,
 }
 
 impl Model for Connections {
+    ghost use Rattle.connections.specs.Kept.{IsWhole, standing};
     ghost use Rattle.connections.specs.Standing.{Standing};
     ghost use Rattle.connections.specs.Linked.{IsLinked};
     ghost use Rattle.connections.specs.Timed.{IsTimed};
 
     ghost Value = { Standing };
 
-    ghost view = { λ c. c.kept };
+    ghost view = { λ c. standing c.kept };
 
-    ghost invariant = { λ c. IsTimed c.kept c.timers × IsLinked c.kept c.links };
+    ghost invariant = { λ c. IsWhole c.kept × (IsTimed (standing c.kept) c.timers × IsLinked (standing c.kept) c.links) };
 }
 
 impl Connections {
@@ -43,7 +49,12 @@ impl Connections {
         ensures { result ≡ none_standing settings.now }
     {
         Connections {
-            kept: Kept::new(alloc, settings),
+            alloc,
+            kept: Kept {
+                settings: *settings,
+                roster: Roster::new(alloc),
+                talks: ChunkedList::new(alloc),
+            },
             timers: TimerQueue::new(alloc),
             links: Links::new(alloc),
         }
@@ -54,21 +65,21 @@ impl Connections {
         ensures value { result.now ≡ self.now.settings }
         ensures sound { AreSound result.now }
     {
-        self.kept.settings()
+        &self.kept.settings
     }
 
     /// How many connections the limits count.
     pub fn counted(&self) -> u64
         ensures { result ≡ counted (facts_in self.now) }
     {
-        self.kept.counted()
+        self.kept.roster.counted
     }
 
     /// What is known of the connection with an id. None where there is none.
     pub fn facts(&self, cid: Cid) -> Option<Facts>
         ensures { result ≡ option_map (λ e. e.facts) (entry_with cid.0 self.now) }
     {
-        self.kept.facts(cid)
+        self.kept.roster.facts(cid)
     }
 
     /// The live connection of an address. None where there is none.
@@ -76,7 +87,7 @@ impl Connections {
         ensures value { result ≡ option_map (λ e. e.facts) (live_entry addr self.now) }
         ensures by_id { IfSome (live_entry addr self.now) (λ e. entry_with e.facts.cid.0 self.now ≡ Some e) }
     {
-        self.kept.live(addr)
+        live_in(&self.kept.roster, addr)
     }
 
     /// The live connection of an address, where this node uses it.
@@ -84,6 +95,23 @@ impl Connections {
         ensures value { result ≡ option_map (λ e. e.facts) (used_entry addr self.now) }
         ensures by_id { IfSome (used_entry addr self.now) (λ e. entry_with e.facts.cid.0 self.now ≡ Some e) }
     {
-        self.kept.used(addr)
+        if_used(live_in(&self.kept.roster, addr))
     }
+}
+
+// The live connection of an address.
+fn live_in(roster: &Roster, addr: Addr) -> Option<Facts>
+    requires { IsKept roster.now }
+    ensures { result ≡ live_at addr (facts_kept roster.now) }
+{
+    let place = roster.live(addr)?;
+    Some(*roster.at(place))
+}
+
+// A connection that was found, where it is in local use.
+fn if_used(found: Option<Facts>) -> Option<Facts>
+    ensures { result ≡ if_used found }
+{
+    let facts = found?;
+    facts.local.then_some(facts)
 }

@@ -1,117 +1,93 @@
-ghost use Rattle.std.specs.Prelude.{◌≡◌, ◌+◌, Some, IfSome};
+ghost use Rattle.std.specs.Prelude.{◌≡◌, ◌+◌, ◌++◌, ◌∷◌, ◌≤◌, ◌^◌, [], None, OnOk, OnErr};
+ghost use Rattle.std.specs.List.{filter_map};
 ghost use Rattle.std.specs.Option.{option_map};
-ghost use Rattle.conn_state.specs.Counted.{counted};
+ghost use Rattle.accept_gate.specs.Prune.{choice_of};
+ghost use Rattle.conn_state.specs.State.{facts_of};
 ghost use Rattle.conn_state.specs.Use.{live_at};
-ghost use Rattle.conn_table.specs.Kept.{OnlyLastLives};
-ghost use Rattle.conn_table.specs.Table.{IdsRise};
-ghost use Rattle.net_base.specs.Bounds.{AreSound};
-ghost use Rattle.connections.specs.Standing.{none_standing, facts_in, entry_with, live_entry, used_entry, if_used};
+ghost use Rattle.conn_table.specs.Finds.{id_place};
+ghost use Rattle.conn_table.specs.Rosters.{facts_kept};
+ghost use Rattle.machine.specs.Connections.{candidate_of};
+ghost use Rattle.connections.specs.Linked.{IsLinked, IsLinkedBut};
+ghost use Rattle.connections.specs.Standing.{come};
+ghost use Rattle.connections.specs.Timed.{IsTimed, IsTimedBut};
 
-mod moves;
-mod overview;
-mod talking;
-
+use crate::link::{first_with, link_of};
+use crate::linked::Links;
 use crate::talk::Talk;
+use crate::timed::retime;
+use accept_gate::Candidate;
 use chunked_list::ChunkedList;
-use conn_table::ConnTable;
-use net_base::{Addr, Cid, Facts, Settings};
+use conn_state::ConnState;
+use conn_table::Roster;
+use net_base::{Cid, OutOfMemory, Settings};
 use std::alloc::Global;
-use std::marker::Model;
+use timer_queue::TimerQueue;
 
-// The connections that stand, with what is read and owed of each, in order of id.
+// What is kept of the connections that stand. Their timers and links follow it.
 #[derive(Drop)]
 pub struct Kept {
-    alloc: Global,
-    table: ConnTable,
-    // one for each connection of the table, in the same order
-    talks: ChunkedList<Talk>,
-}
-
-impl Model for Kept {
-    ghost use Rattle.connections.specs.Standing.{Standing};
-    ghost use Rattle.connections.specs.Talks.{standing_of, IsStanding};
-
-    ghost Value = { Standing };
-
-    ghost view = { λ c. standing_of c.table c.talks };
-
-    ghost invariant = { λ c. IsStanding c.table c.talks };
+    pub settings: Settings,
+    pub roster: Roster,
+    // one for each connection of the roster, in the same order
+    pub talks: ChunkedList<Talk>,
 }
 
 impl Kept {
-    /// No connection yet, and no id given. Takes no memory.
-    pub fn new(alloc: Global, settings: &Settings) -> Kept
-        requires { AreSound settings.now }
-        ensures { result ≡ none_standing settings.now }
+    ghost use Rattle.connections.specs.Kept.{IsWhole, standing};
+
+    // One more connection, of which nothing is read or owed yet. A refusal changes nothing.
+    pub fn enter(&mut self, alloc: Global, state: ConnState) -> Result<(), OutOfMemory>
+        requires whole { IsWhole self.old }
+        requires next { (facts_of state).cid.0 ≡ self.old.roster.given + 1 }
+        requires few { self.old.roster.given + 1 ≤ 2 ^ 48 }
+        requires alone { live_at (facts_of state).addr (facts_kept self.old.roster) ≡ None }
+        ensures whole { IsWhole self.new }
+        ensures ok { OnOk result (standing self.new ≡ come (facts_of state) (standing self.old)) }
+        ensures err { OnErr result (standing self.new ≡ standing self.old) }
     {
-        Kept {
-            alloc,
-            table: ConnTable::new(alloc, settings),
-            talks: ChunkedList::new(alloc),
+        let place = self.talks.len();
+        self.talks.push(Talk::new(alloc))?;
+        let entered = self.roster.enter(state);
+        if entered.is_err() {
+            self.talks.remove(place);
         }
+        entered
     }
 
-    /// The settings that they were made with.
-    pub fn settings(&self) -> &Settings
-        ensures value { result.now ≡ self.now.settings }
-        ensures sound { AreSound result.now }
+    // The deadlines of a connection are its timers, and what the rules see of it is its link.
+    pub fn follow(&self, cid: Cid, place: usize, timers: &mut TimerQueue, links: &mut Links)
+        requires whole { IsWhole self.now }
+        requires place { place ≡ id_place cid.0 (facts_kept self.now.roster) }
+        requires timed { IsTimedBut cid (standing self.now) timers.old }
+        requires linked { IsLinkedBut cid (standing self.now) links.old }
+        ensures timed { IsTimed (standing self.now) timers.new }
+        ensures linked { IsLinked (standing self.now) links.new }
     {
-        self.table.settings()
+        let facts = self.roster.at(place);
+        let talk = self.talks.at(place);
+        retime(timers, facts, &talk.replies);
+        links.set(link_of(facts, &talk.replies));
     }
 
-    /// How many ids were given. They are given from 1 on.
-    pub fn given(&self) -> u64
-        ensures value { result + 1 ≡ self.now.next_id }
-        ensures ids { IdsRise 0 result (facts_in self.now) }
+    // Which connection goes where there are too many.
+    pub fn prune_choice(&self) -> Option<Cid>
+        ensures { result ≡ choice_of (filter_map candidate_of (facts_kept self.now.roster)) }
     {
-        self.table.given()
-    }
-
-    /// How many connections the limits count.
-    pub fn counted(&self) -> u64
-        ensures { result ≡ counted (facts_in self.now) }
-    {
-        self.table.counted()
-    }
-
-    /// What is known of the connection with an id. None where there is none.
-    pub fn facts(&self, cid: Cid) -> Option<Facts>
-        ensures { result ≡ option_map (λ e. e.facts) (entry_with cid.0 self.now) }
-    {
-        self.table.facts(cid)
-    }
-
-    /// The live connection of an address. None where there is none.
-    pub fn live(&self, addr: Addr) -> Option<Facts>
-        ensures value { result ≡ option_map (λ e. e.facts) (live_entry addr self.now) }
-        ensures by_id { IfSome (live_entry addr self.now) (λ e. entry_with e.facts.cid.0 self.now ≡ Some e) }
-    {
-        live_in(&self.table, addr)
-    }
-
-    /// The live connection of an address, where this node uses it.
-    pub fn used(&self, addr: Addr) -> Option<Facts>
-        ensures value { result ≡ option_map (λ e. e.facts) (used_entry addr self.now) }
-        ensures by_id { IfSome (used_entry addr self.now) (λ e. entry_with e.facts.cid.0 self.now ≡ Some e) }
-    {
-        if_used(live_in(&self.table, addr))
+        // The first of a list is the first of its head and of the first of the rest.
+        let mut first = None;
+        for place in (0..self.roster.states.len()).rev() {
+            first = first_with(self.roster.at(place), first);
+        }
+        id_of(first)
     }
 }
 
-// The live connection of an address.
-fn live_in(table: &ConnTable, addr: Addr) -> Option<Facts>
-    requires { IdsRise 0 table.now.given table.now.facts }
-    ensures value { result ≡ live_at addr table.now.facts }
-    ensures last_lives { OnlyLastLives table.now.facts }
+// The id of a connection that goes first.
+fn id_of(first: Option<Candidate>) -> Option<Cid>
+    ensures { result ≡ option_map (λ c. c.cid) first }
 {
-    let cid = table.live_of(addr)?;
-    table.facts(cid)
-}
-
-// A connection that was found, where it is in local use.
-fn if_used(found: Option<Facts>) -> Option<Facts>
-    ensures { result ≡ if_used found }
-{
-    let facts = found?;
-    facts.local.then_some(facts)
+    match first {
+        Some(candidate) => Some(candidate.cid),
+        None => None,
+    }
 }

@@ -3,12 +3,12 @@ ghost use Rattle.machine.specs.Replies.{with_reply, without_reply, is_owed_on};
 ghost use Rattle.mux_segment.specs.Protocols.{node_limits};
 ghost use Rattle.mux_segment.specs.Stream.{nothing_fed, fed_by};
 ghost use Rattle.net_base.specs.Shared.{nothing_undecoded};
-ghost use Rattle.connections.specs.Talks.{TurnsAt, with_lease, with_cutter, with_owed, fresh_talk, fed_talk, going_on, IsFed};
+ghost use Rattle.connections.specs.Steps.{unread_if};
+ghost use Rattle.connections.specs.Talks.{TurnsAt, with_cutter, with_owed, fresh_talk, fed_talk, going_on, IsFed};
 
 use crate::Reply;
 use crate::replies::Replies;
 use chunked_list::ChunkedList;
-use conn_table::LocalLease;
 use mux_segment::{CutFault, Cutter, Fed};
 use net_base::OutOfMemory;
 use std::alloc::Global;
@@ -20,43 +20,28 @@ pub struct Talk {
     /// What came in and is not decoded yet.
     pub cutter: Cutter,
     pub replies: Replies,
-    /// There where the connection is in local use.
-    pub lease: Option<LocalLease>,
 }
 
 impl Talk {
-    /// Nothing came in, nothing is owed, and this node does not use the connection. Takes no memory.
+    /// Nothing came in, and nothing is owed. Takes no memory.
     pub fn new(alloc: Global) -> Talk
         ensures { result ≡ fresh_talk }
     {
         Talk {
             cutter: Cutter::new(alloc),
             replies: Replies::new(),
-            lease: None,
         }
     }
 }
 
-// This node uses a connection from now on.
-pub fn lend(talks: &mut ChunkedList<Talk>, place: usize, alloc: Global, lease: LocalLease)
+// What came in and is not decoded is dropped, where the connection is closed.
+pub fn unread_at(talks: &mut ChunkedList<Talk>, place: usize, alloc: Global, closed: bool)
     requires { place < length talks.old }
-    ensures { TurnsAt place (with_lease (Some lease)) talks.old talks.new }
+    ensures { TurnsAt place (unread_if closed) talks.old talks.new }
 {
-    let mut talk = take_out(talks, place, alloc);
-    talk.lease = Some(lease);
-    put_back(talks, place, talk);
-}
-
-// This node gives a connection out of its use.
-pub fn take_lease(talks: &mut ChunkedList<Talk>, place: usize, alloc: Global) -> Option<LocalLease>
-    requires { place < length talks.old }
-    ensures lease { IfSome (slice_get talks.old place) (λ t. result ≡ t.lease) }
-    ensures talks { TurnsAt place (with_lease None) talks.old talks.new }
-{
-    let mut talk = take_out(talks, place, alloc);
-    let lease = mem::replace(&mut talk.lease, None);
-    put_back(talks, place, talk);
-    lease
+    if closed {
+        swap_cutter(talks, place, alloc, Cutter::new(alloc));
+    }
 }
 
 // Another cutter goes on with a stream.

@@ -5,7 +5,7 @@ ghost use Rattle.io_edge.specs.Told.{TakesFront};
 
 use crate::line_reader::line_length;
 use crate::sink::put_from;
-use crate::{Failed, Sink};
+use crate::{Failed, Printed, Sink};
 use net_base::OutOfMemory;
 use std::alloc::Global;
 use std::marker::Model;
@@ -61,6 +61,19 @@ impl PieceWriter {
         ensures err { OnErr result (self.new ≡ self.old) }
     {
         push_ended(&mut self.bytes, line)
+    }
+
+    /// Collects the line that is printed of an item.
+    pub fn push_printed<T: Printed>(&mut self, alloc: Global, item: &T) -> Result<(), OutOfMemory>
+        ensures ok { OnOk result (self.new ≡ self.old ++ (T.text item.now ++ 10 ∷ [])) }
+        ensures err { OnErr result (self.new ≡ self.old) }
+    {
+        let before = self.bytes.len();
+        let pushed = print_ended(alloc, item, &mut self.bytes);
+        if pushed.is_err() {
+            self.bytes.truncate(before);
+        }
+        pushed
     }
 
     /// Gives up all that is pending but the first bytes.
@@ -121,5 +134,16 @@ fn push_ended(bytes: &mut Vec<u8>, line: &[u8]) -> Result<(), OutOfMemory>
     bytes.reserve(line.len() + 1)?;
     bytes.extend_from_slice(line).unwrap();
     bytes.push(b'\n').unwrap();
+    Ok(())
+}
+
+// The line that is printed of an item, with its line feed. A part of it may come where memory is wanting.
+fn print_ended<T: Printed>(alloc: Global, item: &T, bytes: &mut Vec<u8>) -> Result<(), OutOfMemory>
+    ensures ok { OnOk result (bytes.new.items ≡ bytes.old.items ++ (T.text item.now ++ 10 ∷ [])) }
+    ensures more { length bytes.old.items ≤ length bytes.new.items }
+    ensures front { take (length bytes.old.items) bytes.new.items ≡ bytes.old.items }
+{
+    item.print(alloc, bytes)?;
+    bytes.push(b'\n')?;
     Ok(())
 }

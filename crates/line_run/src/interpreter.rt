@@ -1,4 +1,4 @@
-ghost use Rattle.std.specs.Prelude.{ℕ, ◌≤◌, List, length};
+ghost use Rattle.std.specs.Prelude.{ℕ, ◌≤◌, List, length, OnOk};
 ghost use Rattle.line_run.specs.Meaning.{Meaning, IsInterpreted};
 
 use crate::Stop;
@@ -6,12 +6,22 @@ use io_edge::PieceWriter;
 
 /// What gives lines a meaning, one after another.
 pub trait Interpreter {
+    /// What contracts see of it. An interpreter that holds closures has no value of its own that they could see.
+    ghost State: { Type 0 };
+
+    ghost state: { Self → State };
+
     /// What a line means behind those that were interpreted.
-    ghost means: { Self → List ℕ → Meaning Self };
+    ghost means: { State → List ℕ → Meaning State };
+
+    /// What each line finds.
+    ghost holds: { State → Type 0 };
 
     /// One line more, given without its line feed. Says the lines that are to be written for it. Once a line ends the
     /// input, is refused or is one too many, or memory is wanting, nothing more may be asked.
     fn interpret(&mut self, line: &[u8], pieces: &mut PieceWriter) -> Result<(), Stop>
         requires short { length line.now ≤ 140_000 }
-        ensures { IsInterpreted (means self.old line.now) self.new pieces.old pieces.new result };
+        requires holds { holds (state self.old) }
+        ensures meant { IsInterpreted (means (state self.old) line.now) (state self.new) pieces.old pieces.new result }
+        ensures holds { OnOk result (holds (state self.new)) };
 }

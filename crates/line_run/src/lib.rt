@@ -10,6 +10,7 @@ mod telling;
 
 pub use interpreter::Interpreter;
 pub use outcome::LineOutcome;
-pub use running::run_lines;
+pub use reading::read_line;
+pub use running::{LINES_MOST, run_lines};
 pub use stop::Stop;
 pub use telling::tell_line;

@@ -7,7 +7,7 @@ use io_edge::{Got, LineFault, LineReader, Source};
 use net_base::RefusalKind;
 
 /// Reads the line with a number into a buffer, in place of what it held.
-pub(crate) fn read_line<S: Source>(
+pub fn read_line<S: Source>(
     number: u64,
     reader: &mut LineReader,
     line: &mut Vec<u8>,

@@ -12,8 +12,8 @@ use io_edge::{LineReader, PieceWriter, Sink, Source};
 use net_base::OutOfMemory;
 use std::alloc::Global;
 
-// How many lines an input may have.
-const LINES_MOST: u64 = 4_000_000;
+/// How many lines an input may have.
+pub const LINES_MOST: u64 = 4_000_000;
 
 /// Reads lines from a source, has each interpreted, and writes what they give. Reading stops at the line that decides, and
 /// nothing is read behind it but what came with it. What is written is put in pieces: before each reading, and where much
@@ -24,8 +24,9 @@ pub fn run_lines<I: Interpreter, S: Source, K: Sink>(
     src: &mut S,
     out: &mut K,
 ) -> LineOutcome
-    ensures runs { Runs I.means interpreter.old (S.left src.old) (S.left src.new) (K.taken out.old) (K.taken out.new) result }
-    ensures over { (input : List ℕ) → S.left src.old ≡ Some input → IsRunOver I.means interpreter.old input result (S.left src.new) (K.taken out.old) (K.taken out.new) }
+    requires holds { I.holds (I.state interpreter.old) }
+    ensures runs { Runs I.means (I.state interpreter.old) (S.left src.old) (S.left src.new) (K.taken out.old) (K.taken out.new) result }
+    ensures over { (input : List ℕ) → S.left src.old ≡ Some input → IsRunOver I.means (I.state interpreter.old) input result (S.left src.new) (K.taken out.old) (K.taken out.new) }
     ensures reads { HasReadCount (S.faults src.old) (S.faults src.new) result }
     ensures writes { HasWriteCount (K.faults out.old) (K.faults out.new) result }
 {
@@ -48,7 +49,8 @@ fn run_anew<I: Interpreter, S: Source, K: Sink>(
     src: &mut S,
     out: &mut K,
 ) -> Result<LineOutcome, OutOfMemory>
-    ensures runs { Runs I.means interpreter.old (S.left src.old) (S.left src.new) (K.taken out.old) (K.taken out.new) (outcome_or result) }
+    requires holds { I.holds (I.state interpreter.old) }
+    ensures runs { Runs I.means (I.state interpreter.old) (S.left src.old) (S.left src.new) (K.taken out.old) (K.taken out.new) (outcome_or result) }
     ensures reads { HasReadCount (S.faults src.old) (S.faults src.new) (outcome_or result) }
     ensures writes { HasWriteCount (K.faults out.old) (K.faults out.new) (outcome_or result) }
 {
@@ -69,7 +71,8 @@ fn run_from<I: Interpreter, S: Source, K: Sink>(
 ) -> LineOutcome
     requires fresh { reader.old ≡ [] }
     requires silent { pieces.old ≡ [] }
-    ensures ends { Ends I.means interpreter.old (S.left src.old) (S.left src.new) (K.taken out.old) (K.taken out.new) pieces.new result }
+    requires holds { I.holds (I.state interpreter.old) }
+    ensures ends { Ends I.means (I.state interpreter.old) (S.left src.old) (S.left src.new) (K.taken out.old) (K.taken out.new) pieces.new result }
     ensures reads { HasReadCount (S.faults src.old) (S.faults src.new) result }
     ensures writes { HasWriteCount (K.faults out.old) (K.faults out.new) result }
 {
@@ -97,9 +100,11 @@ fn turn<I: Interpreter, S: Source, K: Sink>(
     out: &mut K,
 ) -> Result<(), LineOutcome>
     requires few { number ≤ 4_000_000 }
-    ensures turn { (start : I) (left taken : Option (List ℕ)) →
-        IsUnderWay I.means start number interpreter.old reader.old pieces.old left (S.left src.old) taken (K.taken out.old) →
-        IsTurn I.means start number interpreter.new reader.new pieces.new left (S.left src.new) taken (K.taken out.new) result }
+    requires holds { I.holds (I.state interpreter.old) }
+    ensures holds { OnOk result (I.holds (I.state interpreter.new)) }
+    ensures turn { (start : I.State) (left taken : Option (List ℕ)) →
+        IsUnderWay I.means start number (I.state interpreter.old) reader.old pieces.old left (S.left src.old) taken (K.taken out.old) →
+        IsTurn I.means start number (I.state interpreter.new) reader.new pieces.new left (S.left src.new) taken (K.taken out.new) result }
     ensures reads { MatchResult result (λ _. S.faults src.new ≡ S.faults src.old) (HasReadCount (S.faults src.old) (S.faults src.new)) }
     ensures writes { MatchResult result (λ _. K.faults out.new ≡ K.faults out.old) (HasWriteCount (K.faults out.old) (K.faults out.new)) }
 {
@@ -118,7 +123,7 @@ fn next_line<I: Interpreter, S: Source, K: Sink>(
     out: &mut K,
 ) -> Result<(), LineOutcome>
     requires few { number ≤ 4_000_000 }
-    ensures next { (start state : I) (left taken : Option (List ℕ)) →
+    ensures next { (start state : I.State) (left taken : Option (List ℕ)) →
         IsUnderWay I.means start number state reader.old pieces.old left (S.left src.old) taken (K.taken out.old) →
         IsLineNext I.means start number state reader.new pieces.new left (S.left src.new) taken (K.taken out.new) (line_put line.new.items result) }
     ensures short { OnOk result (length line.new.items ≤ 140_000) }
@@ -143,7 +148,9 @@ fn interpret_at<I: Interpreter>(
     pieces: &mut PieceWriter,
 ) -> Result<(), LineOutcome>
     requires short { length line.now ≤ 140_000 }
-    ensures said { IsInterpretedAt number (I.means interpreter.old line.now) interpreter.new pieces.old pieces.new result }
+    requires holds { I.holds (I.state interpreter.old) }
+    ensures holds { OnOk result (I.holds (I.state interpreter.new)) }
+    ensures said { IsInterpretedAt number (I.means (I.state interpreter.old) line.now) (I.state interpreter.new) pieces.old pieces.new result }
     ensures reads { (count : ℕ) → IfErr result (HasReadCount count count) }
     ensures writes { (count : ℕ) → IfErr result (HasWriteCount count count) }
 {
@@ -162,7 +169,7 @@ fn close<I: Interpreter, K: Sink>(
     pieces: &mut PieceWriter,
     out: &mut K,
 ) -> LineOutcome
-    ensures closed { (start : I) (l0 l1 t0 : Option (List ℕ)) →
+    ensures closed { (start : I.State) (l0 l1 t0 : Option (List ℕ)) →
         Ends I.means start l0 l1 t0 (K.taken out.old) pieces.old outcome → Runs I.means start l0 l1 t0 (K.taken out.new) result }
     ensures reads { (before now : ℕ) → HasReadCount before now outcome → HasReadCount before now result }
     ensures writes { (before : ℕ) → HasWriteCount before (K.faults out.old) outcome → HasWriteCount before (K.faults out.new) result }

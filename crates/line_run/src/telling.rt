@@ -1,7 +1,7 @@
 ghost use Rattle.std.specs.Prelude.{◌≡◌, ◌≤◌, ◌∷◌, ◌++◌, length, take, map, OnOk, OnErr};
 ghost use Rattle.io_edge.specs.Lines.{ended_lines};
 
-use io_edge::PieceWriter;
+use io_edge::{PieceWriter, Printed};
 use net_base::OutOfMemory;
 use std::alloc::Global;
 use trace_text::PrintedLine;
@@ -37,8 +37,19 @@ fn tell_on<T: PrintedLine>(
 {
     pieces.push_line(line)?;
     for item in below {
-        let text = item.print(alloc)?;
-        pieces.push_line(text.as_slice())?;
+        pieces.push_printed(alloc, &Below(item))?;
     }
     Ok(())
+}
+
+// An item, as a writer takes it.
+#[derive(Drop)]
+struct Below<'a, T>(&'a T);
+
+impl<T: PrintedLine> Printed for Below<'_, T> {
+    ghost text = { λ below. T.text below.0.now };
+
+    fn print(&self, alloc: Global, bytes: &mut Vec<u8>) -> Result<(), OutOfMemory> {
+        self.0.print(alloc, bytes)
+    }
 }

@@ -3,16 +3,17 @@ ghost use Rattle.std.specs.String.{string_bytes};
 ghost use Rattle.local_clients.specs.Texts.{cause_words, printed_action};
 
 use crate::{ClientAction, ClientCause};
-use net_base::{Octets, OutOfMemory};
+use net_base::OutOfMemory;
 use std::alloc::{AllocError, Global};
 use trace_text::{PrintedLine, bytes_text, fault_words};
 
 impl PrintedLine for ClientAction {
     ghost text = { printed_action };
 
-    fn print(&self, alloc: Global) -> Result<Octets, OutOfMemory> {
+    fn print(&self, alloc: Global, bytes: &mut Vec<u8>) -> Result<(), OutOfMemory> {
         let text = action_text(alloc, self)?;
-        Ok(Octets::from_vec(text.into_bytes()))
+        bytes.extend_from_slice(text.as_bytes())?;
+        Ok(())
     }
 }
 

@@ -1,4 +1,4 @@
-ghost use Rattle.std.specs.Prelude.{◌≡◌};
+ghost use Rattle.std.specs.Prelude.{◌≡◌, ⊤};
 ghost use Rattle.line_run.specs.Meaning.{IsInterpreted};
 ghost use Rattle.local_clients.specs.Replay.{nobody, event_means, line_means};
 ghost use Rattle.local_clients.specs.Rules.{AreInRange, CanHappen};
@@ -64,7 +64,15 @@ impl ClientsReplay {
 }
 
 impl Interpreter for ClientsReplay {
+    ghost use Rattle.local_clients.specs.Clients.{ClientsState};
+
+    ghost State = { ClientsState };
+
+    ghost state = { λ r. r };
+
     ghost means = { line_means };
+
+    ghost holds = { λ _. ⊤ };
 
     fn interpret(&mut self, line: &[u8], pieces: &mut PieceWriter) -> Result<(), Stop> {
         match read_line(self.alloc, line)? {

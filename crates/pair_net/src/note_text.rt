@@ -4,16 +4,17 @@ ghost use Rattle.pair_net.specs.Texts.{end_word, role_word, flow_word, sharing_w
 
 use crate::{End, EndCause, PairNote};
 use hs_decide::Role;
-use net_base::{Octets, OutOfMemory};
+use net_base::OutOfMemory;
 use std::alloc::{AllocError, Global};
 use trace_text::{PrintedLine, fault_words};
 
 impl PrintedLine for PairNote {
     ghost text = { printed_note };
 
-    fn print(&self, alloc: Global) -> Result<Octets, OutOfMemory> {
+    fn print(&self, alloc: Global, bytes: &mut Vec<u8>) -> Result<(), OutOfMemory> {
         let text = note_text(alloc, self)?;
-        Ok(Octets::from_vec(text.into_bytes()))
+        bytes.extend_from_slice(text.as_bytes())?;
+        Ok(())
     }
 }
 

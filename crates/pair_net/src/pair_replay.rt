@@ -1,4 +1,4 @@
-ghost use Rattle.std.specs.Prelude.{◌≡◌, false, IfOk};
+ghost use Rattle.std.specs.Prelude.{◌≡◌, ⊤, false, IfOk};
 ghost use Rattle.pair_net.specs.Replay.{step_means, line_means, IsOffered, IsMeant};
 
 use crate::pair_line::{PairLine, read_info, read_later, read_opening};
@@ -55,7 +55,15 @@ impl PairReplay {
 }
 
 impl Interpreter for PairReplay {
+    ghost use Rattle.pair_net.specs.declared.pair_replay.Progress.{Progress};
+
+    ghost State = { Progress };
+
+    ghost state = { λ r. r };
+
     ghost means = { line_means };
+
+    ghost holds = { λ _. ⊤ };
 
     fn interpret(&mut self, line: &[u8], pieces: &mut PieceWriter) -> Result<(), Stop> {
         let progress = mem::replace(&mut self.progress, Progress::Opening);

@@ -6,3 +6,4 @@ pub mod Judging
 pub mod Outputs
 pub mod Prefixes
 pub mod Readings
+pub mod Settled

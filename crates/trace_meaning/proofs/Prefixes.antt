@@ -133,11 +133,11 @@ output_behind readings tail passed clean =
 -- ---- further bytes
 
 -- one of these lines decides, whatever follows them, or they all pass
-abbrev DecideAlone : List Reading → List Reading → Type 0
+abbrev pub DecideAlone : List Reading → List Reading → Type 0
 DecideAlone before readings = (more other : List Reading) (rest last : List ℕ) →
     judged_from before (readings ++ more) rest ≡ judged_from before (readings ++ other) last
 
-decided_or_passed : (before readings : List Reading) → DecideAlone before readings ⊎ PassBehind before readings
+pub decided_or_passed : (before readings : List Reading) → DecideAlone before readings ⊎ PassBehind before readings
 unfolding judged_from PassBehind
 decided_or_passed before [] = inr tt
 decided_or_passed before (reading ∷ readings) = by_verdict (verdict_at before reading) refl (decided_or_passed (before ++ reading ∷ []) readings)
@@ -148,7 +148,7 @@ decided_or_passed before (reading ∷ readings) = by_verdict (verdict_at before 
     by_verdict None is (inr pass) = inr (is, pass)
     by_verdict (Some verdict) is on = inl (λ more other rest last. rw is refl)
 
-read_further : (xs more : List ℕ) → readings_of (whole_lines (xs ++ more))
+pub read_further : (xs more : List ℕ) → readings_of (whole_lines (xs ++ more))
     ≡ readings_of (whole_lines xs) ++ readings_from (stage_behind (readings_of (whole_lines xs)) first_stage) (whole_lines (unfinished_line xs ++ more))
 read_further xs more =
     ap readings_of (whole_lines-append xs more) ∙ readings_from-append first_stage (whole_lines xs) (whole_lines (unfinished_line xs ++ more))
@@ -169,13 +169,13 @@ pub ArePassed-lines : (lines : List (List ℕ)) → PassBehind [] (readings_of l
 ArePassed-lines lines pass = record { read = ap readings_of (sym (texts-readings_from first_stage lines)); pass = pass }
 
 -- a decision stays, whatever follows
-alone_further : (xs more : List ℕ) → DecideAlone [] (readings_of (whole_lines xs)) → judged (xs ++ more) ≡ judged xs
+pub alone_further : (xs more : List ℕ) → DecideAlone [] (readings_of (whole_lines xs)) → judged (xs ++ more) ≡ judged xs
 alone_further xs more alone =
     ap (λ (rs : List Reading). judged_from [] rs (unfinished_line (xs ++ more))) (read_further xs more)
     ∙ alone _ [] (unfinished_line (xs ++ more)) (unfinished_line xs)
     ∙ ap (λ (rs : List Reading). judged_from [] rs (unfinished_line xs)) (append-nil (readings_of (whole_lines xs)))
 
-passed_alone : (xs : List ℕ) → PassBehind [] (readings_of (whole_lines xs)) → judged xs ≡ judged_from (readings_of (whole_lines xs)) [] (unfinished_line xs)
+pub passed_alone : (xs : List ℕ) → PassBehind [] (readings_of (whole_lines xs)) → judged xs ≡ judged_from (readings_of (whole_lines xs)) [] (unfinished_line xs)
 passed_alone xs pass =
     ap (λ (rs : List Reading). judged_from [] rs (unfinished_line xs)) (sym (append-nil (readings_of (whole_lines xs))))
     ∙ judged_from-passes [] (readings_of (whole_lines xs)) [] (unfinished_line xs) pass

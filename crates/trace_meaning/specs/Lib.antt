@@ -7,3 +7,4 @@ pub mod Passing
 pub mod Reading
 pub mod Replays
 pub mod Settings
+pub mod Told

@@ -1,3 +1,4 @@
+use line_run::LineOutcome;
 use net_base::{OutOfMemory, RefusalKind};
 
 /// How a command over a trace ended. Lines are numbered from 1.
@@ -25,5 +26,23 @@ impl From<OutOfMemory> for Outcome {
 
     fn from(_: OutOfMemory) -> Self {
         Outcome::OutOfMemory
+    }
+}
+
+impl From<LineOutcome> for Outcome {
+    ghost use Rattle.std.specs.Prelude.{◌≡◌};
+    ghost use Rattle.trace_meaning.specs.Told.{outcome_run};
+
+    ghost from_gives = { λ outcome told. told ≡ outcome_run outcome };
+
+    fn from(outcome: LineOutcome) -> Self {
+        match outcome {
+            LineOutcome::Done => Outcome::Done,
+            LineOutcome::Refused { line, kind } => Outcome::Refused { line, kind },
+            LineOutcome::ReadFault => Outcome::ReadFault,
+            LineOutcome::WriteFault => Outcome::WriteFault,
+            LineOutcome::OutOfMemory => Outcome::OutOfMemory,
+            LineOutcome::TooLong { line } => Outcome::TooLong { line },
+        }
     }
 }

@@ -1,13 +1,9 @@
-//! Traces, replayed: the bytes of a trace in, the same trace with the machine's actions out; and compared with that.
+//! Traces, replayed by the engine: the bytes of a trace in, the same trace with the machine's actions out; and compared
+//! with that.
 #![tactic(auto)]
 
 mod checking;
-mod finding;
-mod playback;
-mod reading;
 mod replaying;
-mod start;
-mod stop;
 
 pub use checking::check;
 pub use replaying::replay;

@@ -16,6 +16,7 @@ pub mod Lists
 pub mod Numerals
 pub mod Octets
 pub mod PrintedEvents
+mod Pushed
 pub mod Printed
 pub mod ReadEvents
 pub mod Reading

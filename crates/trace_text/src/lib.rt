@@ -14,6 +14,7 @@ mod piece;
 mod pieces;
 mod print;
 mod printed_line;
+mod pushing;
 mod read;
 mod setting;
 mod stage;

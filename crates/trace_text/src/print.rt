@@ -1,16 +1,13 @@
-ghost use Rattle.std.specs.Prelude.{◌≡◌, ◌≤◌, Contains, IfOk};
-ghost use Rattle.std.specs.String.{string_bytes};
+ghost use Rattle.std.specs.Prelude.{◌≡◌, ◌≤◌, ◌++◌, length, take, Contains, IfOk, OnOk};
 ghost use Rattle.trace_text.specs.declared.line.Line.TheVariants.{Acted};
 ghost use Rattle.trace_text.specs.declared.stage.Stage.{Stage};
 ghost use Rattle.trace_text.specs.Lines.{line_of};
 ghost use Rattle.trace_text.specs.Actions.{printed_action, away_word, fault_words, cause_words, note_word, state_word};
 
 use crate::PrintedLine;
-use crate::line_text::line_text;
-use crate::piece::bytes_text;
-use crate::text::AddressText;
+use crate::pushing::{push_address, push_hex, push_number, push_text};
 use net_base::{Action, Away, CloseCause, FaultKind, Octets, OutOfMemory, PeerNote, StateName};
-use std::alloc::{AllocError, Global};
+use std::alloc::Global;
 
 /// The line of an action, with its `> ` and without a line feed.
 pub fn print_action(alloc: Global, action: &Action) -> Result<Octets, OutOfMemory>
@@ -18,53 +15,73 @@ pub fn print_action(alloc: Global, action: &Action) -> Result<Octets, OutOfMemor
     ensures one_line { IfOk result (λ line. ¬ (Contains line 10)) }
     ensures acted { IfOk result (λ line. (stage : Stage) → 2 ≤ stage.seen → line_of stage line ≡ Ok Acted) }
 {
-    let text = action_text(alloc, action)?;
-    Ok(Octets::from_vec(text.into_bytes()))
+    let mut bytes = Vec::new(alloc);
+    push_action(alloc, action, &mut bytes)?;
+    Ok(Octets::from_vec(bytes))
 }
 
 impl PrintedLine for Action {
     ghost text = { printed_action };
 
-    fn print(&self, alloc: Global) -> Result<Octets, OutOfMemory> {
-        print_action(alloc, self)
+    fn print(&self, alloc: Global, bytes: &mut Vec<u8>) -> Result<(), OutOfMemory> {
+        push_action(alloc, self, bytes)
     }
 }
 
-fn action_text(alloc: Global, action: &Action) -> Result<String, AllocError>
-    ensures { IfOk result (λ text. string_bytes text ≡ printed_action action.now) }
+// The line of an action, behind some bytes. A part of it may come where memory is wanting.
+fn push_action(alloc: Global, action: &Action, bytes: &mut Vec<u8>) -> Result<(), OutOfMemory>
+    ensures ok { OnOk result (bytes.new.items ≡ bytes.old.items ++ printed_action action.now) }
+    ensures more { length bytes.old.items ≤ length bytes.new.items }
+    ensures front { take (length bytes.old.items) bytes.new.items ≡ bytes.old.items }
 {
     match action {
         Action::Admit(cid, address) => {
-            line_text(
-                alloc,
-                format_args!("> admit {} {}", cid.0, AddressText(*address)),
-            )
+            bytes.extend_from_slice(b"> admit ")?;
+            push_number(cid.0, bytes)?;
+            bytes.push(b' ')?;
+            push_address(alloc, *address, bytes)
         }
-        Action::Turnaway(away) => line_text(alloc, format_args!("> turnaway {}", away_word(*away))),
+        Action::Turnaway(away) => {
+            bytes.extend_from_slice(b"> turnaway ")?;
+            push_text(away_word(*away), bytes)
+        }
         Action::Dial(cid, address) => {
-            line_text(
-                alloc,
-                format_args!("> dial {} {}", cid.0, AddressText(*address)),
-            )
+            bytes.extend_from_slice(b"> dial ")?;
+            push_number(cid.0, bytes)?;
+            bytes.push(b' ')?;
+            push_address(alloc, *address, bytes)
         }
-        Action::Send(cid, bytes) => { bytes_text(alloc, "> send", cid.0, bytes.as_slice()) }
+        Action::Send(cid, piece) => {
+            bytes.extend_from_slice(b"> send ")?;
+            push_number(cid.0, bytes)?;
+            bytes.push(b' ')?;
+            push_hex(piece.as_slice(), bytes)
+        }
         Action::Close(cid, cause) => {
-            line_text(
-                alloc,
-                format_args!("> close {} {}", cid.0, cause_words(*cause)),
-            )
+            bytes.extend_from_slice(b"> close ")?;
+            push_number(cid.0, bytes)?;
+            bytes.push(b' ')?;
+            push_text(cause_words(*cause), bytes)
         }
-        Action::Pause(time) => line_text(alloc, format_args!("> pause {time}")),
-        Action::AskRoots(job) => line_text(alloc, format_args!("> askroots {}", job.0)),
-        Action::State(cid, name) => line_text(
-            alloc,
-            format_args!("> state {} {}", cid.0, state_word(*name)),
-        ),
+        Action::Pause(time) => {
+            bytes.extend_from_slice(b"> pause ")?;
+            push_number(*time, bytes)
+        }
+        Action::AskRoots(job) => {
+            bytes.extend_from_slice(b"> askroots ")?;
+            push_number(job.0, bytes)
+        }
+        Action::State(cid, name) => {
+            bytes.extend_from_slice(b"> state ")?;
+            push_number(cid.0, bytes)?;
+            bytes.push(b' ')?;
+            push_text(state_word(*name), bytes)
+        }
         Action::Peer(address, note) => {
-            line_text(
-                alloc,
-                format_args!("> peer {} {}", AddressText(*address), note_word(*note)),
-            )
+            bytes.extend_from_slice(b"> peer ")?;
+            push_address(alloc, *address, bytes)?;
+            bytes.push(b' ')?;
+            push_text(note_word(*note), bytes)
         }
     }
 }

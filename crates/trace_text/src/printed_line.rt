@@ -1,6 +1,6 @@
-ghost use Rattle.std.specs.Prelude.{◌≡◌, ℕ, List, IfOk};
+ghost use Rattle.std.specs.Prelude.{◌≡◌, ◌≤◌, ◌++◌, ℕ, List, length, take, OnOk};
 
-use net_base::{Octets, OutOfMemory};
+use net_base::OutOfMemory;
 use std::alloc::Global;
 
 /// What is printed as a line.
@@ -8,6 +8,9 @@ pub trait PrintedLine {
     /// The line, without its line feed.
     ghost text: { Self → List ℕ };
 
-    fn print(&self, alloc: Global) -> Result<Octets, OutOfMemory>
-        ensures { IfOk result (λ line. line ≡ text self.now) };
+    /// Prints it behind these bytes. A part of it may come where memory is wanting.
+    fn print(&self, alloc: Global, bytes: &mut Vec<u8>) -> Result<(), OutOfMemory>
+        ensures ok { OnOk result (bytes.new.items ≡ bytes.old.items ++ text self.now) }
+        ensures more { length bytes.old.items ≤ length bytes.new.items }
+        ensures front { take (length bytes.old.items) bytes.new.items ≡ bytes.old.items };
 }

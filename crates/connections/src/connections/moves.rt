@@ -1,26 +1,27 @@
-ghost use Rattle.std.specs.Prelude.{◌≡◌, ◌≤◌, ◌<◌, ◌+◌, ◌^◌, true, false, None, IsSomeAnd, IsSome, IfOk, OnOk, OnErr};
-ghost use Rattle.conn_state.specs.Counted.{counted};
-ghost use Rattle.conn_state.specs.Moves.{accepted, dialing, connected, acquired, released, awakened, idled, expired};
-ghost use Rattle.conn_table.specs.Choices.{negotiated};
-ghost use Rattle.conn_state.specs.Protocols.{has_responder};
-ghost use Rattle.conn_state.specs.Use.{is_dialing, is_greeting, is_acquirable, runs};
-ghost use Rattle.conn_table.specs.Answers.{any_at, is_due};
-ghost use Rattle.conn_table.specs.Conditions.{CanAwake};
+ghost use Rattle.std.specs.Prelude.{◌≡◌, ◌≤◌, ◌+◌, ◌^◌, false, true, None, IsSomeAnd, IsSome, IfOk, OnOk, OnErr};
+ghost use Rattle.conn_state.specs.Moves.{accepted, dialing};
+ghost use Rattle.conn_state.specs.State.{facts_of};
+ghost use Rattle.conn_state.specs.Use.{live_at};
+ghost use Rattle.conn_table.specs.Answers.{any_at};
+ghost use Rattle.conn_table.specs.Conditions.{CanStep};
 ghost use Rattle.timer_queue.specs.Queue.{IsOrderly, with_enrolled};
 ghost use Rattle.connections.specs.Linked.{stands_at, blank, with_new};
-ghost use Rattle.connections.specs.Standing.{entry_with, live_entry, facts_in, come, gone, Turns, moved, closed};
+ghost use Rattle.connections.specs.Standing.{entry_with, live_entry, facts_in, come, gone, Turns};
+ghost use Rattle.connections.specs.Steps.{closes, stepped};
 
 use super::Connections;
 use crate::linked::Links;
-use conn_table::Placed;
-use net_base::{Addr, Agreed, Cid, Facts, OutOfMemory};
+use crate::talk::unread_at;
+use conn_state::{ConnState, ReservedOutbound, Unnegotiated};
+use conn_table::{Placed, Step};
+use net_base::{Addr, Cid, Facts, OutOfMemory};
 use timer_queue::TimerQueue;
 
 impl Connections {
-    /// Lets in a peer that connected at a moment, under the next id. A refusal changes nothing.
+    /// Lets in a peer that connected at a moment, under the next id. Its handshake may take as long as the settings say. A
+    /// refusal changes nothing.
     pub fn admit(&mut self, addr: Addr, now: u64) -> Result<Cid, OutOfMemory>
         requires no_live { live_entry addr self.old ≡ None }
-        requires below_hard { counted (facts_in self.old) < self.old.settings.hard }
         requires few_ids { self.old.next_id ≤ 2 ^ 48 }
         requires moment { now ≤ 2 ^ 48 }
         ensures id { IfOk result (λ cid. cid.0 ≡ self.old.next_id) }
@@ -28,20 +29,11 @@ impl Connections {
             (self.new ≡ come (accepted self.old.next_id addr (now + self.old.settings.handshake)) self.old) }
         ensures err { OnErr result (self.new ≡ self.old) }
     {
-        let cid = Cid(self.kept.given() + 1);
-        let placed = Placed { addr, cid };
-        enroll(&mut self.timers, &mut self.links, placed)?;
-        match self.kept.admit(addr, now) {
-            Ok(cid) => {
-                self.kept.follow(cid, &mut self.timers, &mut self.links);
-                Ok(cid)
-            }
-            Err(refusal) => {
-                self.timers.leave(placed.cid);
-                self.links.leave(placed);
-                Err(refusal)
-            }
-        }
+        let cid = self.next_id();
+        let until = now + self.kept.settings.handshake;
+        let state = Unnegotiated::accepted(cid, addr, until);
+        self.enter(ConnState::Unnegotiated(state))?;
+        Ok(cid)
     }
 
     /// This node begins to dial an address, under the next id. A refusal changes nothing.
@@ -52,13 +44,61 @@ impl Connections {
         ensures ok { OnOk result (self.new ≡ come (dialing self.old.next_id addr) self.old) }
         ensures err { OnErr result (self.new ≡ self.old) }
     {
-        let cid = Cid(self.kept.given() + 1);
+        let cid = self.next_id();
+        let state = ReservedOutbound::new(cid, addr);
+        self.enter(ConnState::ReservedOutbound(state))?;
+        Ok(cid)
+    }
+
+    /// A connection makes a move that it has. Where this side closes it by that, what came in and is not decoded is dropped.
+    pub fn turn(&mut self, cid: Cid, step: Step)
+        requires { IsSomeAnd (entry_with cid.0 self.old) (λ e. CanStep step e.facts) }
+        ensures { Turns cid.0 (stepped step) self.old self.new }
+    {
+        let place = self.kept.roster.place_of(cid);
+        let was = self.kept.roster.turn_at(place, step);
+        unread_at(&mut self.kept.talks, place, self.alloc, closes(step, &was));
+        self.kept
+            .follow(cid, place, &mut self.timers, &mut self.links);
+    }
+
+    /// A connection goes.
+    pub fn remove(&mut self, cid: Cid)
+        requires { IsSome (entry_with cid.0 self.old) }
+        ensures { self.new ≡ gone cid.0 self.old }
+    {
+        let place = self.kept.roster.place_of(cid);
+        let Facts { addr, .. } = self.kept.roster.remove_at(place);
+        self.kept.talks.remove(place);
+        self.links.leave(Placed { addr, cid });
+        self.timers.leave(cid);
+    }
+
+    // The id that the next connection is given.
+    fn next_id(&self) -> Cid
+        requires { self.now.next_id ≤ 2 ^ 48 }
+        ensures { result.0 ≡ self.now.next_id }
+    {
+        Cid(self.kept.roster.given + 1)
+    }
+
+    // One more connection, under the next id, of which nothing is read or owed yet. A refusal changes nothing.
+    fn enter(&mut self, state: ConnState) -> Result<(), OutOfMemory>
+        requires next { (facts_of state).cid.0 ≡ self.old.next_id }
+        requires few { self.old.next_id ≤ 2 ^ 48 }
+        requires alone { live_at (facts_of state).addr (facts_in self.old) ≡ None }
+        ensures ok { OnOk result (self.new ≡ come (facts_of state) self.old) }
+        ensures err { OnErr result (self.new ≡ self.old) }
+    {
+        let Facts { addr, cid, .. } = state.facts();
         let placed = Placed { addr, cid };
         enroll(&mut self.timers, &mut self.links, placed)?;
-        match self.kept.dial(addr) {
-            Ok(cid) => {
-                self.kept.follow(cid, &mut self.timers, &mut self.links);
-                Ok(cid)
+        match self.kept.enter(self.alloc, state) {
+            Ok(()) => {
+                let place = self.kept.roster.place_of(cid);
+                self.kept
+                    .follow(cid, place, &mut self.timers, &mut self.links);
+                Ok(())
             }
             Err(refusal) => {
                 self.timers.leave(placed.cid);
@@ -67,97 +107,20 @@ impl Connections {
             }
         }
     }
+}
 
-    /// The dialed socket is open, and the handshake begins.
-    pub fn connected(&mut self, cid: Cid, now: u64)
-        requires dialing { IsSomeAnd (entry_with cid.0 self.old) (λ e. is_dialing e.facts ≡ true) }
-        requires moment { now ≤ 2 ^ 48 }
-        ensures { Turns cid.0 (moved (connected (now + self.old.settings.handshake))) self.old self.new }
-    {
-        self.kept.connected(cid, now);
-        self.kept.follow(cid, &mut self.timers, &mut self.links);
-    }
-
-    /// The handshake is over.
-    pub fn negotiated(&mut self, cid: Cid, agreed: Agreed, now: u64)
-        requires greeting { IsSomeAnd (entry_with cid.0 self.old) (λ e. is_greeting e.facts ≡ true) }
-        requires moment { now ≤ 2 ^ 48 }
-        ensures { Turns cid.0 (moved (negotiated agreed (now + self.old.settings.idle))) self.old self.new }
-    {
-        self.kept.negotiated(cid, agreed, now);
-        self.kept.follow(cid, &mut self.timers, &mut self.links);
-    }
-
-    /// This node takes a connection into its use.
-    pub fn acquire(&mut self, cid: Cid)
-        requires { IsSomeAnd (entry_with cid.0 self.old) (λ e. is_acquirable e.facts ≡ true) }
-        ensures { Turns cid.0 (moved acquired) self.old self.new }
-    {
-        self.kept.acquire(cid);
-        self.kept.follow(cid, &mut self.timers, &mut self.links);
-    }
-
-    /// This node gives a connection out of its use.
-    pub fn release(&mut self, cid: Cid, now: u64)
-        requires used { IsSomeAnd (entry_with cid.0 self.old) (λ e. e.facts.local ≡ true) }
-        requires moment { now ≤ 2 ^ 48 }
-        ensures { Turns cid.0 (moved (released (now + self.old.settings.idle))) self.old self.new }
-    {
-        self.kept.release(cid, now);
-        self.kept.follow(cid, &mut self.timers, &mut self.links);
-    }
-
-    /// The other side begins a protocol.
-    pub fn awake(&mut self, cid: Cid, protocol: u16)
-        requires known { has_responder protocol ≡ true }
-        requires able { IsSomeAnd (entry_with cid.0 self.old) (λ e. CanAwake protocol e.facts) }
-        ensures { Turns cid.0 (moved (awakened protocol)) self.old self.new }
-    {
-        self.kept.awake(cid, protocol);
-        self.kept.follow(cid, &mut self.timers, &mut self.links);
-    }
-
-    /// The other side ends a protocol.
-    pub fn idle(&mut self, cid: Cid, protocol: u16, now: u64)
-        requires running { IsSomeAnd (entry_with cid.0 self.old) (λ e. runs protocol e.facts.running ≡ true) }
-        requires moment { now ≤ 2 ^ 48 }
-        ensures { Turns cid.0 (moved (idled protocol (now + self.old.settings.idle))) self.old self.new }
-    {
-        self.kept.idle(cid, protocol, now);
-        self.kept.follow(cid, &mut self.timers, &mut self.links);
-    }
-
-    /// The grace of a connection in local use is over: it goes on without one.
-    pub fn expire(&mut self, cid: Cid, now: u64)
-        requires over { IsSomeAnd (entry_with cid.0 self.old)
-            (λ e. (is_due now e.facts.grace ≡ true) × (e.facts.local ≡ true)) }
-        requires moment { now ≤ 2 ^ 48 }
-        ensures { Turns cid.0 (moved expired) self.old self.new }
-    {
-        self.kept.expire(cid, now);
-        self.kept.follow(cid, &mut self.timers, &mut self.links);
-    }
-
-    /// The grace of a connection that this node does not use is over: this side closes it, and keeps it for the
-    /// time-wait.
-    pub fn close(&mut self, cid: Cid, now: u64)
-        requires over { IsSomeAnd (entry_with cid.0 self.old)
-            (λ e. (is_due now e.facts.grace ≡ true) × (e.facts.local ≡ false)) }
-        requires moment { now ≤ 2 ^ 48 }
-        ensures { Turns cid.0 (closed (now + self.old.settings.timewait)) self.old self.new }
-    {
-        self.kept.close(cid, now);
-        self.kept.follow(cid, &mut self.timers, &mut self.links);
-    }
-
-    /// A connection goes.
-    pub fn remove(&mut self, cid: Cid)
-        requires { IsSome (entry_with cid.0 self.old) }
-        ensures { self.new ≡ gone cid.0 self.old }
-    {
-        let Facts { addr, .. } = self.kept.remove(cid);
-        self.links.leave(Placed { addr, cid });
-        self.timers.leave(cid);
+// Whether this side closes a connection by a step.
+fn closes(step: Step, facts: &Facts) -> bool
+    ensures { result ≡ closes step facts.now }
+{
+    match step {
+        Step::GraceOver(_) => !facts.local,
+        Step::Connected(_)
+        | Step::Negotiated(..)
+        | Step::Acquire
+        | Step::Release(_)
+        | Step::Awake(_)
+        | Step::Idle(..) => false,
     }
 }
 

@@ -7,6 +7,7 @@ ghost use Rattle.connections.specs.Talks.{IsFed};
 
 use super::Connections;
 use crate::Reply;
+use crate::talk::{feed_at, owe_at, pay_at};
 use mux_segment::Fed;
 use net_base::{Cid, OutOfMemory};
 
@@ -16,7 +17,8 @@ impl Connections {
         requires { IsSome (entry_with cid.0 self.now) }
         ensures { IfSome (entry_with cid.0 self.now) (λ e. result ≡ option_map reply_of (reply_on protocol e)) }
     {
-        self.kept.reply(cid, protocol)
+        let place = self.kept.roster.place_of(cid);
+        self.kept.talks.at(place).replies.on(protocol)
     }
 
     /// A reply on a protocol comes to be owed from a moment on, for what was asked.
@@ -26,8 +28,12 @@ impl Connections {
         requires moment { now ≤ 2 ^ 48 }
         ensures { Turns cid.0 (owes protocol asked (now + self.old.settings.reply)) self.old self.new }
     {
-        self.kept.owe(cid, protocol, asked, now);
-        self.kept.follow(cid, &mut self.timers, &mut self.links);
+        let place = self.kept.roster.place_of(cid);
+        let until = now + self.kept.settings.reply;
+        let reply = Reply { until, asked };
+        owe_at(&mut self.kept.talks, place, self.alloc, protocol, reply);
+        self.kept
+            .follow(cid, place, &mut self.timers, &mut self.links);
     }
 
     /// The reply on a protocol is there.
@@ -35,8 +41,10 @@ impl Connections {
         requires { IsSome (entry_with cid.0 self.old) }
         ensures { Turns cid.0 (paid protocol) self.old self.new }
     {
-        self.kept.pay(cid, protocol);
-        self.kept.follow(cid, &mut self.timers, &mut self.links);
+        let place = self.kept.roster.place_of(cid);
+        pay_at(&mut self.kept.talks, place, self.alloc, protocol);
+        self.kept
+            .follow(cid, place, &mut self.timers, &mut self.links);
     }
 
     /// Bytes come in on a connection: the items that they make whole, up to the first fault. Where memory is refused,
@@ -48,6 +56,7 @@ impl Connections {
         ensures gives { IfOk result (λ fed. IfSome (entry_with cid.0 self.old) (λ e. IsFed (fed_of bytes.now e) fed)) }
     {
         // no deadline comes or goes, and no link changes
-        self.kept.feed(cid, bytes)
+        let place = self.kept.roster.place_of(cid);
+        feed_at(&mut self.kept.talks, place, self.alloc, bytes)
     }
 }

@@ -1,5 +1,4 @@
-use Rattle.std.proofs.Common.{◌≡◌, sym, ap, subst, ◌∙◌}
-use Rattle.connections.specs.Timed.{timed_at}
+use Rattle.std.proofs.Common.{◌≡◌, sym, subst, ◌∙◌}
 use Rattle.timer_queue.specs.Rows.{IsMomentOf}
 use Rattle.connections.proofs.Retimed.{same_moment, timed_already}
 use Rattle.connections.proofs.timed.turn.Goals as goal

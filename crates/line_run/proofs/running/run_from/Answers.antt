@@ -6,7 +6,8 @@ use Rattle.line_run.proofs.running.run_from.Goals as goal
 
 pub loop-number-init : goal.loop-number-init
 loop-number-init g c = record {
-  way = rw (c.requires.fresh, c.requires.silent) (way_none g.I.Interpreter.means c.args.interpreter.now (g.S.Source.left c.args.src.now) (g.K.Sink.taken c.args.out.now));
+  way = rw (c.requires.fresh, c.requires.silent) (way_none g.I.Interpreter.means (g.I.Interpreter.state c.args.interpreter.now) (g.S.Source.left c.args.src.now) (g.K.Sink.taken c.args.out.now));
+  holds = c.requires.holds;
   reads = refl;
   writes = refl;
 }
@@ -17,6 +18,7 @@ returns-in-Err-clause-ends g c = c.in-Err.ensures.turn _ _ _ c.loop-number.invar
 pub loop-number-preserved : goal.loop-number-preserved
 loop-number-preserved g c = record {
   way = c.in-Ok.ensures.turn _ _ _ c.loop-number.invariant.way;
+  holds = c.in-Ok.ensures.holds;
   reads = c.in-Ok.ensures.reads ∙ c.loop-number.invariant.reads;
   writes = c.in-Ok.ensures.writes ∙ c.loop-number.invariant.writes;
 }
@@ -24,5 +26,5 @@ loop-number-preserved g c = record {
 pub returns-clause-ends : goal.returns-clause-ends
 returns-clause-ends g c =
     let number : c.loop-number.number ≡ 4000001 = omega arith in
-    subst (λ (n : ℕ). Ends g.I.Interpreter.means c.args.interpreter.now (g.S.Source.left c.args.src.now) (g.S.Source.left c.loop-number.src) (g.K.Sink.taken c.args.out.now) (g.K.Sink.taken c.loop-number.out) c.loop-number.pieces (TooLong n)) number
-    (most_read g.I.Interpreter.means c.args.interpreter.now c.loop-number.number _ c.loop-number.reader c.loop-number.pieces _ _ _ _ (omega arith) c.loop-number.invariant.way)
+    subst (λ (n : ℕ). Ends g.I.Interpreter.means (g.I.Interpreter.state c.args.interpreter.now) (g.S.Source.left c.args.src.now) (g.S.Source.left c.loop-number.src) (g.K.Sink.taken c.args.out.now) (g.K.Sink.taken c.loop-number.out) c.loop-number.pieces (TooLong n)) number
+    (most_read g.I.Interpreter.means (g.I.Interpreter.state c.args.interpreter.now) c.loop-number.number _ c.loop-number.reader c.loop-number.pieces _ _ _ _ (omega arith) c.loop-number.invariant.way)

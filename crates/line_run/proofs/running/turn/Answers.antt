@@ -14,7 +14,7 @@ returns-in_err-interpret_at-clause-turn g c = λ start left taken way.
     let there = line_there g.I.Interpreter.means start c.args.number _ _ c.deref.result.now c.next_line.new.reader c.next_line.new.pieces left (g.S.Source.left c.next_line.new.src) taken
     (g.K.Sink.taken c.next_line.new.out) c.deref.ensures.value (c.in_ok-next_line.ensures.next start _ left taken way) in
     rw (p.1, p.2)
-    (line_played g.I.Interpreter.means start c.args.number _ c.interpret_at.new.interpreter
+    (line_played g.I.Interpreter.means start c.args.number _ (g.I.Interpreter.state c.interpret_at.new.interpreter)
     c.deref.result.now c.next_line.new.reader c.next_line.new.pieces c.interpret_at.new.pieces left (g.S.Source.left c.next_line.new.src) taken
     (g.K.Sink.taken c.next_line.new.out) (Err c.in_err-interpret_at.field-0.0) c.requires.few there c.in_err-interpret_at.ensures.said)
 
@@ -32,7 +32,7 @@ pub returns-clause-turn : goal.returns-clause-turn
 returns-clause-turn g c = λ start left taken way.
     let there = line_there g.I.Interpreter.means start c.args.number _ _ c.deref.result.now c.next_line.new.reader c.next_line.new.pieces left (g.S.Source.left c.next_line.new.src) taken
     (g.K.Sink.taken c.next_line.new.out) c.deref.ensures.value (c.in_ok-next_line.ensures.next start _ left taken way) in
-    let played = line_played g.I.Interpreter.means start c.args.number _ c.interpret_at.new.interpreter
+    let played = line_played g.I.Interpreter.means start c.args.number _ (g.I.Interpreter.state c.interpret_at.new.interpreter)
     c.deref.result.now c.next_line.new.reader c.next_line.new.pieces c.interpret_at.new.pieces left (g.S.Source.left c.next_line.new.src) taken
     (g.K.Sink.taken c.next_line.new.out) (Ok c.in_ok-interpret_at.field-0) c.requires.few there c.in_ok-interpret_at.ensures.said in
     turn_put g.I.Interpreter.means start c.args.number _ c.next_line.new.reader c.interpret_at.new.pieces c.put_full.new.pieces left (g.S.Source.left c.next_line.new.src) taken

@@ -1,10 +1,10 @@
 use Rattle.std.proofs.Common.{sym, subst}
 use Rattle.conn_table.specs.Index.{IsRising}
-use Rattle.conn_table.specs.Kept.{facts_kept}
+use Rattle.conn_table.specs.Rosters.{facts_kept}
 use Rattle.conn_table.proofs.IndexFacts.{index_rises}
 use Rattle.conn_table.proofs.table.ConnTable.index.Goals as goal
 
 pub returns-clause-rising : goal.returns-clause-rising
 returns-clause-rising c =
     let kept = c.self.invariant.is_kept in
-    subst IsRising (sym kept.indexed) (index_rises 0 c.self.inside.kept.given (facts_kept c.self.inside.kept) kept.ids_rise)
+    subst IsRising (sym kept.indexed) (index_rises 0 c.self.inside.roster.given (facts_kept c.self.inside.roster) kept.ids_rise)

@@ -1,13 +1,54 @@
-use Rattle.std.proofs.Common.{◌+◌, refl}
-use Rattle.connections.specs.Standing.{owes}
+use Rattle.std.proofs.Common.{◌+◌, refl, subst}
+use Rattle.machine.specs.Replies.{with_reply}
+use Rattle.connections.specs.Standing.{Standing, Turns, owes}
+use Rattle.connections.specs.Kept.{table_of, standing}
+use Rattle.connections.specs.Talks.{standing_of, with_owed}
 use Rattle.connections.proofs.LinkedTurns.{linked_but}
+use Rattle.connections.proofs.Stepping.{any_in, talk_inside, talk_turns}
+use Rattle.connections.proofs.TalkTurns.{Any, IsTurn}
 use Rattle.connections.proofs.TimedTurns.{stands_in, turned_but}
+use Rattle.connections.proofs.connections.Connections.owe.Goals.{After-owe_at}
 use Rattle.connections.proofs.connections.Connections.owe.Goals as goal
 
+turns : (c : After-owe_at) → IsTurn c.args.cid.0 (owes c.args.protocol c.args.asked (c.args.now + c.self.inside.kept.settings.reply)) (standing c.self.inside.kept)
+    (table_of c.self.inside.kept.settings c.self.inside.kept.roster) c.owe_at.new.talks
+turns c =
+    let it = any_in c.args.cid.0 c.self.inside.kept c.self.invariant.0 (stands_in c.args.cid _ _ c.self.view_is c.requires.stands) in
+    talk_turns c.args.cid.0 c.place_of-place.result (owes c.args.protocol c.args.asked (c.args.now + c.self.inside.kept.settings.reply)) (with_owed (with_reply (record { protocol = c.args.protocol; until = c.args.now + c.self.inside.kept.settings.reply; asked = c.args.asked }))) c.self.inside.kept c.owe_at.new.talks c.self.invariant.0 it
+    c.place_of-place.ensures c.owe_at.ensures refl it.at.belongs
+
+pub owe_at-requires-clause-inside : goal.owe_at-requires-clause-inside
+owe_at-requires-clause-inside c =
+    talk_inside Any c.args.cid.0 c.place_of-place.result c.self.inside.kept
+    (any_in c.args.cid.0 c.self.inside.kept c.self.invariant.0 (stands_in c.args.cid _ _ c.self.view_is c.requires.stands)) c.place_of-place.ensures
+
+pub follow-requires-clause-whole : goal.follow-requires-clause-whole
+follow-requires-clause-whole c = record {
+  settings_sound = c.self.invariant.0.settings_sound;
+  roster_kept = c.self.invariant.0.roster_kept;
+  talks_are = (turns (goal.at.follow-requires-clause-whole c).After-owe_at).stands.talks_are;
+}
+
 pub follow-requires-clause-timed : goal.follow-requires-clause-timed
-follow-requires-clause-timed c = turned_but c.args.cid (owes c.args.protocol c.args.asked (c.args.now + c.self.inside.kept.settings.reply)) _ _ _ c.self.invariant.0
-    (stands_in c.args.cid _ _ c.self.view_is c.requires.stands) (λ e. refl) c.owe.ensures
+follow-requires-clause-timed c = turned_but c.args.cid (owes c.args.protocol c.args.asked (c.args.now + c.self.inside.kept.settings.reply)) _ _ _ c.self.invariant.1.0
+    (stands_in c.args.cid _ _ c.self.view_is c.requires.stands) (λ e. refl) (turns (goal.at.follow-requires-clause-timed c).After-owe_at).turns
 
 pub follow-requires-clause-linked : goal.follow-requires-clause-linked
-follow-requires-clause-linked c = linked_but c.args.cid (owes c.args.protocol c.args.asked (c.args.now + c.self.inside.kept.settings.reply)) _ _ _ _ c.self.invariant.0 c.self.invariant.1
-    (stands_in c.args.cid _ _ c.self.view_is c.requires.stands) (λ e. refl) c.owe.ensures
+follow-requires-clause-linked c = linked_but c.args.cid (owes c.args.protocol c.args.asked (c.args.now + c.self.inside.kept.settings.reply)) _ _ _ _ c.self.invariant.1.0 c.self.invariant.1.1
+    (stands_in c.args.cid _ _ c.self.view_is c.requires.stands) (λ e. refl) (turns (goal.at.follow-requires-clause-linked c).After-owe_at).turns
+
+pub returns : goal.returns
+returns c =
+    let new : Standing = standing_of (table_of c.self.inside.kept.settings c.self.inside.kept.roster) c.owe_at.new.talks in
+    subst (λ (s : Standing). Turns c.args.cid.0 (owes c.args.protocol c.args.asked (c.args.now + s.settings.reply)) s new) c.self.view_is
+    (turns (goal.at.returns c).After-owe_at).turns
+
+pub invariant_of-self : goal.invariant_of-self
+invariant_of-self c = (
+  record {
+    settings_sound = c.self.invariant.0.settings_sound;
+    roster_kept = c.self.invariant.0.roster_kept;
+    talks_are = (turns (goal.at.invariant_of-self c).After-owe_at).stands.talks_are;
+  },
+  (c.follow.ensures.timed, c.follow.ensures.linked),
+)

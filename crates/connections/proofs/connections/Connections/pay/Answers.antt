@@ -1,13 +1,50 @@
 use Rattle.std.proofs.Common.{refl}
-use Rattle.machine.specs.Replies.{paid}
+use Rattle.machine.specs.Replies.{paid, without_reply}
+use Rattle.connections.specs.Kept.{table_of, standing}
+use Rattle.connections.specs.Talks.{with_owed}
 use Rattle.connections.proofs.LinkedTurns.{linked_but}
+use Rattle.connections.proofs.Stepping.{said, any_in, talk_inside, talk_turns}
+use Rattle.connections.proofs.TalkTurns.{Any, IsTurn}
 use Rattle.connections.proofs.TimedTurns.{stands_in, turned_but}
+use Rattle.connections.proofs.connections.Connections.pay.Goals.{After-pay_at}
 use Rattle.connections.proofs.connections.Connections.pay.Goals as goal
 
+turns : (c : After-pay_at) → IsTurn c.args.cid.0 (paid c.args.protocol) (standing c.self.inside.kept)
+    (table_of c.self.inside.kept.settings c.self.inside.kept.roster) c.pay_at.new.talks
+turns c =
+    let it = any_in c.args.cid.0 c.self.inside.kept c.self.invariant.0 (stands_in c.args.cid _ _ c.self.view_is c.requires) in
+    talk_turns c.args.cid.0 c.place_of-place.result (paid c.args.protocol) (with_owed (without_reply c.args.protocol)) c.self.inside.kept c.pay_at.new.talks c.self.invariant.0 it
+    c.place_of-place.ensures c.pay_at.ensures refl it.at.belongs
+
+pub pay_at-requires : goal.pay_at-requires
+pay_at-requires c =
+    talk_inside Any c.args.cid.0 c.place_of-place.result c.self.inside.kept
+    (any_in c.args.cid.0 c.self.inside.kept c.self.invariant.0 (stands_in c.args.cid _ _ c.self.view_is c.requires)) c.place_of-place.ensures
+
+pub follow-requires-clause-whole : goal.follow-requires-clause-whole
+follow-requires-clause-whole c = record {
+  settings_sound = c.self.invariant.0.settings_sound;
+  roster_kept = c.self.invariant.0.roster_kept;
+  talks_are = (turns (goal.at.follow-requires-clause-whole c).After-pay_at).stands.talks_are;
+}
+
 pub follow-requires-clause-timed : goal.follow-requires-clause-timed
-follow-requires-clause-timed c = turned_but c.args.cid (paid c.args.protocol) _ _ _ c.self.invariant.0
-    (stands_in c.args.cid _ _ c.self.view_is c.requires) (λ e. refl) c.pay.ensures
+follow-requires-clause-timed c = turned_but c.args.cid (paid c.args.protocol) _ _ _ c.self.invariant.1.0
+    (stands_in c.args.cid _ _ c.self.view_is c.requires) (λ e. refl) (turns (goal.at.follow-requires-clause-timed c).After-pay_at).turns
 
 pub follow-requires-clause-linked : goal.follow-requires-clause-linked
-follow-requires-clause-linked c = linked_but c.args.cid (paid c.args.protocol) _ _ _ _ c.self.invariant.0 c.self.invariant.1
-    (stands_in c.args.cid _ _ c.self.view_is c.requires) (λ e. refl) c.pay.ensures
+follow-requires-clause-linked c = linked_but c.args.cid (paid c.args.protocol) _ _ _ _ c.self.invariant.1.0 c.self.invariant.1.1
+    (stands_in c.args.cid _ _ c.self.view_is c.requires) (λ e. refl) (turns (goal.at.follow-requires-clause-linked c).After-pay_at).turns
+
+pub returns : goal.returns
+returns c = said c.args.cid.0 (paid c.args.protocol) _ _ _ c.self.view_is (turns (goal.at.returns c).After-pay_at).turns
+
+pub invariant_of-self : goal.invariant_of-self
+invariant_of-self c = (
+  record {
+    settings_sound = c.self.invariant.0.settings_sound;
+    roster_kept = c.self.invariant.0.roster_kept;
+    talks_are = (turns (goal.at.invariant_of-self c).After-pay_at).stands.talks_are;
+  },
+  (c.follow.ensures.timed, c.follow.ensures.linked),
+)

@@ -1,0 +1,223 @@
+ghost use Rattle.std.specs.Prelude.{◌≡◌, ◌+◌, ◌++◌, ◌∷◌, ◌<◌, ◌^◌, [], length, Some, None, OnOk, OnErr, IsSome, IsSomeAnd, slice_get, ℕ, if◌then◌else◌};
+ghost use Rattle.conn_state.specs.State.{facts_of};
+ghost use Rattle.conn_state.specs.Use.{facts_at, live_at};
+ghost use Rattle.conn_table.specs.Answers.{any_at, any_acquirable, may_acquire};
+ghost use Rattle.conn_table.specs.Conditions.{CanStep, after_step};
+ghost use Rattle.conn_table.specs.Index.{placed_of};
+ghost use Rattle.conn_table.specs.Finds.{id_place, newest, found_with, StandsAt};
+ghost use Rattle.conn_table.specs.Table.{moved_at, without_at};
+
+use crate::step::{Step, stepped};
+use crate::{Placed, PlacedList};
+use chunked_list::ChunkedList;
+use conn_state::facts::{is_counted, is_live};
+use conn_state::{ConnState, ReservedOutbound};
+use net_base::{Addr, Cid, Facts, Ip, OutOfMemory};
+use std::alloc::Global;
+
+/// The connections in order of id, and what is kept beside them. Whoever has one keeps it as its calls leave it. Places
+/// are counted from 0.
+#[derive(Drop)]
+pub struct Roster {
+    pub states: ChunkedList<ConnState>,
+    /// By address and then id.
+    pub index: PlacedList,
+    /// How many the limits count.
+    pub counted: u64,
+    /// How many ids were given.
+    pub given: u64,
+}
+
+impl Roster {
+    ghost use Rattle.conn_table.specs.Rosters.{IsKept, facts_kept};
+
+    /// No connection yet, and no id given. Takes no memory.
+    pub fn new(alloc: Global) -> Roster
+        ensures kept { IsKept result }
+        ensures facts { facts_kept result ≡ [] }
+        ensures given { result.given ≡ 0 }
+    {
+        Roster {
+            states: ChunkedList::new(alloc),
+            index: PlacedList::new(alloc),
+            counted: 0,
+            given: 0,
+        }
+    }
+
+    /// What is known of the connection with an id. None where there is none.
+    pub fn facts(&self, cid: Cid) -> Option<Facts>
+        requires { IsKept self.now }
+        ensures { result ≡ facts_at cid.0 (facts_kept self.now) }
+    {
+        self.facts_there(self.place_of(cid), cid)
+    }
+
+    // Where the last connection of an address stands: only that one may be live.
+    fn newest(&self, addr: Addr) -> Option<usize>
+        requires { IsKept self.now }
+        ensures { StandsAt (facts_kept self.now) (newest addr (facts_kept self.now)) result }
+    {
+        let placed = self.index.last_at(addr)?;
+        Some(self.place_of(placed.cid))
+    }
+
+    /// Where the live connection of an address stands. There is no other one that may be taken into use.
+    pub fn live(&self, addr: Addr) -> Option<usize>
+        requires { IsKept self.now }
+        ensures value { StandsAt (facts_kept self.now) (live_at addr (facts_kept self.now)) result }
+        ensures only { may_acquire (live_at addr (facts_kept self.now)) ≡ any_acquirable addr (facts_kept self.now) }
+    {
+        let place = self.newest(addr)?;
+        if is_live(self.at(place)) {
+            Some(place)
+        } else {
+            None
+        }
+    }
+
+    /// Whether some connection has an address, closed or not.
+    pub fn any_of(&self, addr: Addr) -> bool
+        requires { IsKept self.now }
+        ensures { result ≡ any_at addr (facts_kept self.now) }
+    {
+        self.index.last_at(addr).is_some()
+    }
+
+    /// What is known of the connection at a place.
+    pub fn at(&self, place: usize) -> &Facts
+        requires { place < length (facts_kept self.now) }
+        ensures { slice_get (facts_kept self.now) place ≡ Some result.now }
+    {
+        self.states.at(place).as_facts()
+    }
+
+    /// Takes in a connection under the next id. A refusal changes nothing.
+    pub fn enter(&mut self, state: ConnState) -> Result<(), OutOfMemory>
+        requires kept { IsKept self.old }
+        requires next { (facts_of state).cid.0 ≡ self.old.given + 1 }
+        requires few { self.old.given < 2 ^ 48 }
+        requires alone { live_at (facts_of state).addr (facts_kept self.old) ≡ None }
+        ensures kept { IsKept self.new }
+        ensures ok { OnOk result (facts_kept self.new ≡ facts_kept self.old ++ facts_of state ∷ []) }
+        ensures given { OnOk result (self.new.given ≡ self.old.given + 1) }
+        ensures err { OnErr result (facts_kept self.new ≡ facts_kept self.old) }
+        ensures none_given { OnErr result (self.new.given ≡ self.old.given) }
+    {
+        let facts = state.facts();
+        let place = self.states.len();
+        self.states.push(state)?;
+        if let Err(refused) = self.index.insert(placed(&facts)) {
+            self.states.remove(place);
+            return Err(refused);
+        }
+        self.counted = recounted(self.counted, false, is_counted(&facts));
+        self.given += 1;
+        Ok(())
+    }
+
+    /// A connection makes a move that it has. The answer is what was known of it before.
+    pub fn turn(&mut self, cid: Cid, step: Step) -> Facts
+        requires kept { IsKept self.old }
+        requires can { IsSomeAnd (facts_at cid.0 (facts_kept self.old)) (CanStep step) }
+        ensures was { facts_at cid.0 (facts_kept self.old) ≡ Some result }
+        ensures kept { IsKept self.new }
+        ensures facts { facts_kept self.new ≡ moved_at cid.0 (after_step step) (facts_kept self.old) }
+        ensures given { self.new.given ≡ self.old.given }
+    {
+        let place = self.place_of(cid);
+        self.turn_at(place, step)
+    }
+
+    /// The connection at a place makes a move that it has. The answer is what was known of it before.
+    pub fn turn_at(&mut self, place: usize, step: Step) -> Facts
+        requires kept { IsKept self.old }
+        requires can { IsSomeAnd (slice_get (facts_kept self.old) place) (CanStep step) }
+        ensures was { slice_get (facts_kept self.old) place ≡ Some result }
+        ensures kept { IsKept self.new }
+        ensures facts { facts_kept self.new ≡ moved_at result.cid.0 (after_step step) (facts_kept self.old) }
+        ensures given { self.new.given ≡ self.old.given }
+    {
+        let old = self.states.replace(place, spare());
+        let was = old.facts();
+        let new = stepped(old, step);
+        self.counted = recounted(self.counted, is_counted(&was), is_counted(new.as_facts()));
+        self.states.replace(place, new);
+        was
+    }
+
+    /// A connection that stands goes. The answer is what was known of it.
+    pub fn remove(&mut self, cid: Cid) -> Facts
+        requires kept { IsKept self.old }
+        requires there { IsSome (facts_at cid.0 (facts_kept self.old)) }
+        ensures was { facts_at cid.0 (facts_kept self.old) ≡ Some result }
+        ensures kept { IsKept self.new }
+        ensures facts { facts_kept self.new ≡ without_at cid.0 (facts_kept self.old) }
+        ensures given { self.new.given ≡ self.old.given }
+    {
+        let place = self.place_of(cid);
+        self.remove_at(place)
+    }
+
+    /// The connection at a place goes. The answer is what was known of it.
+    pub fn remove_at(&mut self, place: usize) -> Facts
+        requires kept { IsKept self.old }
+        requires there { place < length (facts_kept self.old) }
+        ensures was { slice_get (facts_kept self.old) place ≡ Some result }
+        ensures kept { IsKept self.new }
+        ensures facts { facts_kept self.new ≡ without_at result.cid.0 (facts_kept self.old) }
+        ensures given { self.new.given ≡ self.old.given }
+    {
+        let facts = self.states.remove(place).facts();
+        self.index.remove(placed(&facts));
+        self.counted = recounted(self.counted, is_counted(&facts), false);
+        facts
+    }
+
+    /// How many connections have a lower id. The one with the id stands at that place, where there is one.
+    pub fn place_of(&self, cid: Cid) -> usize
+        requires { IsKept self.now }
+        ensures { result ≡ id_place cid.0 (facts_kept self.now) }
+    {
+        self.states
+            .partition_point(|state| state.as_facts().cid < cid)
+    }
+
+    // What is known of the connection at a place, where it has an id.
+    fn facts_there(&self, place: usize, cid: Cid) -> Option<Facts>
+        ensures { result ≡ found_with cid.0 (slice_get (facts_kept self.now) place) }
+    {
+        let facts = self.states.get(place)?.as_facts();
+        if facts.cid == cid { Some(*facts) } else { None }
+    }
+}
+
+fn placed(facts: &Facts) -> Placed
+    ensures { result ≡ placed_of facts.now }
+{
+    Placed {
+        addr: facts.addr,
+        cid: facts.cid,
+    }
+}
+
+// What stands at a place while its state makes a move.
+fn spare() -> ConnState {
+    let addr = Addr {
+        ip: Ip::V4(0),
+        port: 0,
+    };
+    ConnState::ReservedOutbound(ReservedOutbound::new(Cid(0), addr))
+}
+
+// A count after one that was counted or not is counted or not.
+fn recounted(count: u64, was: bool, is: bool) -> u64
+    requires { (rest : ℕ) × (count ≡ rest + (if was then 1 else 0)) × (rest < 2 ^ 63) }
+    ensures { result + (if was then 1 else 0) ≡ count + (if is then 1 else 0) }
+{
+    match (was, is) {
+        (true, false) => count - 1,
+        (false, true) => count + 1,
+        (true, true) | (false, false) => count,
+    }
+}

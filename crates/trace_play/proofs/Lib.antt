@@ -1,0 +1,4 @@
+pub mod CheckInputs
+pub mod CheckWays
+pub mod Playing
+pub mod Runs

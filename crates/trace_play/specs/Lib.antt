@@ -1,0 +1,5 @@
+pub mod CheckedInputs
+pub mod Checking
+pub mod Checks
+pub mod Playback
+pub mod Played

@@ -1,0 +1,12 @@
+//! Traces, played on whatever steps as the machine does: the bytes of a trace in, the same trace with the machine's actions
+//! out; and compared with that.
+#![tactic(auto)]
+
+mod beginning;
+mod checking;
+mod finding;
+mod playback;
+mod replaying;
+
+pub use checking::check_by;
+pub use replaying::replay_by;

@@ -1,4 +1,0 @@
-pub mod CheckInputs
-pub mod CheckWays
-pub mod Playing
-pub mod Ways

@@ -1,6 +1,0 @@
-pub mod CheckedInputs
-pub mod Checking
-pub mod Checks
-pub mod LineRead
-pub mod Playback
-pub mod UnderWay

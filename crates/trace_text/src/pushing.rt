@@ -1,0 +1,89 @@
+//! What lines are made of, printed behind some bytes. Where memory is wanting the bytes are as they were.
+
+ghost use Rattle.std.specs.Prelude.{◌≡◌, ◌≤◌, ◌∷◌, ◌++◌, length, take, decimal, OnOk, OnErr};
+ghost use Rattle.hex.specs.Hex.{encode_lower};
+ghost use Rattle.trace_text.specs.Addresses.{printed_address, printed_octets};
+
+use crate::line_text::line_text;
+use crate::text::AddressText;
+use itoa::Buffer;
+use net_base::{Addr, Ip, OutOfMemory};
+use std::alloc::Global;
+
+/// A number in decimal. Most have one digit.
+pub(crate) fn push_number(number: u64, bytes: &mut Vec<u8>) -> Result<(), OutOfMemory>
+    ensures ok { OnOk result (bytes.new.items ≡ bytes.old.items ++ decimal number) }
+    ensures err { OnErr result (bytes.new.items ≡ bytes.old.items) }
+{
+    if number < 10 {
+        bytes.push(b'0' + number as u8)?;
+        return Ok(());
+    }
+    let mut digits = Buffer::new();
+    bytes.extend_from_slice(digits.format(number).as_bytes())?;
+    Ok(())
+}
+
+/// A word.
+pub(crate) fn push_text(word: &str, bytes: &mut Vec<u8>) -> Result<(), OutOfMemory>
+    ensures ok { OnOk result (bytes.new.items ≡ bytes.old.items ++ word.now) }
+    ensures err { OnErr result (bytes.new.items ≡ bytes.old.items) }
+{
+    bytes.extend_from_slice(word.as_bytes())?;
+    Ok(())
+}
+
+/// An address.
+pub(crate) fn push_address(
+    alloc: Global,
+    address: Addr,
+    bytes: &mut Vec<u8>,
+) -> Result<(), OutOfMemory>
+    ensures ok { OnOk result (bytes.new.items ≡ bytes.old.items ++ printed_address address) }
+    ensures err { OnErr result (bytes.new.items ≡ bytes.old.items) }
+{
+    match address.ip {
+        Ip::V4(ip) => {
+            let before = bytes.len();
+            let pushed = push_ipv4(ip, address.port, bytes);
+            if pushed.is_err() {
+                bytes.truncate(before);
+            }
+            pushed
+        }
+        Ip::V6(_) => {
+            let text = line_text(alloc, AddressText(address))?;
+            bytes.extend_from_slice(text.as_bytes())?;
+            Ok(())
+        }
+    }
+}
+
+// An IPv4 address with its port. A part of it may come where memory is wanting.
+fn push_ipv4(ip: u32, port: u16, bytes: &mut Vec<u8>) -> Result<(), OutOfMemory>
+    ensures ok { OnOk result (bytes.new.items ≡ bytes.old.items ++ (printed_octets ip ++ (58 ∷ decimal port))) }
+    ensures front { take (length bytes.old.items) bytes.new.items ≡ bytes.old.items }
+    ensures more { length bytes.old.items ≤ length bytes.new.items }
+{
+    push_number(u64::from(ip / 16_777_216 % 256), bytes)?;
+    bytes.push(b'.')?;
+    push_number(u64::from(ip / 65_536 % 256), bytes)?;
+    bytes.push(b'.')?;
+    push_number(u64::from(ip / 256 % 256), bytes)?;
+    bytes.push(b'.')?;
+    push_number(u64::from(ip % 256), bytes)?;
+    bytes.push(b':')?;
+    push_number(u64::from(port), bytes)
+}
+
+/// Bytes in hexadecimal.
+pub(crate) fn push_hex(piece: &[u8], bytes: &mut Vec<u8>) -> Result<(), OutOfMemory>
+    ensures ok { OnOk result (bytes.new.items ≡ bytes.old.items ++ encode_lower piece.now) }
+    ensures err { OnErr result (bytes.new.items ≡ bytes.old.items) }
+{
+    let before = bytes.len();
+    let after = before.checked_add(piece.len() * 2).ok_or(OutOfMemory)?;
+    bytes.resize(after, 0)?;
+    let _ = hex::encode_to_slice(piece, &mut bytes[before..]);
+    Ok(())
+}
