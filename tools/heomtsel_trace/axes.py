@@ -8,6 +8,7 @@ from dataclasses import dataclass
 import numpy as np
 from matplotlib.axes import Axes
 from matplotlib.lines import Line2D
+from matplotlib.patches import Patch
 from matplotlib.ticker import MaxNLocator
 
 from .scale import thinned, turns
@@ -24,6 +25,14 @@ def draw_step(axes: Axes, across: np.ndarray, up: np.ndarray, **look: object) ->
     places = turns(up)
     (line,) = axes.plot(across[places], up[places], drawstyle="steps-post", **look)
     return line
+
+
+def draw_spans(axes: Axes, spans: list[tuple[float, float]], label: str, **look: object) -> Patch:
+    """Parts of the way from left to right, behind everything else."""
+    look = {"edgecolor": "white", "linewidth": 0.0, "alpha": 0.6, **look}
+    for start, end in spans:
+        axes.axvspan(start, end, zorder=0, **look)
+    return Patch(label=label, **look)
 
 
 def beside(axes: Axes, handles: list, columns: int = 1) -> None:

@@ -92,8 +92,28 @@ def draw_ends(axes: Axes, lives: list[Life], scale: Scale) -> list[Line2D]:
             look = {"marker": marker, "markerfacecolor": color, "markeredgecolor": BLACK, "markeredgewidth": 0.6}
             across = [end_of(lives[row], scale) for row in rows]
             axes.plot(across, rows, linestyle="", markersize=6, zorder=5, clip_on=False, **look)
-            handles.append(Line2D([], [], linestyle="", markersize=6, label=f"closed: {cause}", **look))
+            label = cause if cause in ("lost", "dial failed") else f"closed: {cause}"
+            handles.append(Line2D([], [], linestyle="", markersize=6, label=label, **look))
+    for row, life in enumerate(lives):
+        if life.kind is not None:
+            draw_kind(axes, end_of(life, scale), row, life.kind, scale)
     return handles
+
+
+def draw_kind(axes: Axes, across: float, row: int, kind: str, scale: Scale) -> None:
+    """The kind of a fault beside its mark, on the side that has more room."""
+    is_late = across > scale.first + 0.85 * scale.span
+    axes.annotate(
+        kind,
+        (across, row),
+        xytext=(-5 if is_late else 5, 0),
+        textcoords="offset points",
+        fontsize=6,
+        va="center",
+        ha="right" if is_late else "left",
+        zorder=6,
+        bbox={"boxstyle": "square,pad=0.1", "facecolor": "white", "linewidth": 0, "alpha": 0.85},
+    )
 
 
 def label_of(life: Life) -> str:
@@ -152,7 +172,7 @@ def draw_marks(axes: Axes, rows: list[MarkRow], scale: Scale) -> None:
     for place, row in enumerate(rows):
         across = scale.places[row.events]
         cells = np.clip(np.searchsorted(edges, across, side="right") - 1, 0, MARK_CELLS - 1)
-        look = MARK_LOOKS.get(row.name.split(",")[0], ("o", PURPLE))
+        look = MARK_LOOKS.get(what_of(row.name), ("o", PURPLE))
         for cell in np.unique(cells):
             within = across[cells == cell]
             if len(within) == 1:
@@ -161,6 +181,10 @@ def draw_marks(axes: Axes, rows: list[MarkRow], scale: Scale) -> None:
                 draw_count(axes, float(edges[cell] + edges[cell + 1]) / 2, place, len(within))
     name_axis(axes, [f"{row.name}: {len(row.events):,}" for row in rows], 6.5)
     headed(axes, f"Marks; a number tells how many stand within one of {MARK_CELLS} equal parts")
+
+
+def what_of(name: str) -> str:
+    return next((cause for cause in MARKED_CAUSES if name.startswith(cause)), name)
 
 
 def draw_mark(axes: Axes, across: float, row: int, look: tuple[str, str]) -> None:

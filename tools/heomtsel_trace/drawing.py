@@ -32,7 +32,7 @@ STYLE = {
 def picture(history: History, over: str | None) -> Figure:
     matplotlib.rcParams.update(STYLE)
     scale = scale_of(history, over)
-    panels = panels_of(history, scale)
+    panels = panels_of(history, scale) if history.follower is None else panels_of_one(history, scale)
     heights = [panel.height for panel in panels]
     figure = Figure(figsize=(WIDTH, sum(heights) + 0.9 + 0.15 * len(panels)), layout="constrained")
     figure.suptitle("\n".join(title_of(history)), x=0.01, ha="left", fontsize=9)
@@ -41,13 +41,27 @@ def picture(history: History, over: str | None) -> Figure:
         panel.draw(axes)
         axes.grid(axis="x", color=GREY, linewidth=0.4)
         axes.set_axisbelow(True)
-    label_bottom(every[-1], scale)
+    bounds = (scale.first, scale.last) if history.follower is None else bounds_of_one(history, scale)
+    label_bottom(every[-1], scale, bounds)
     return figure
 
 
-def label_bottom(axes: Axes, scale: Scale) -> None:
-    margin = 0.015 * scale.span
-    axes.set_xlim(scale.first - margin, scale.last + margin)
+def panels_of_one(history: History, scale: Scale) -> list[Panel]:
+    from .single_panel import single_panels
+
+    return single_panels(history, scale)
+
+
+def bounds_of_one(history: History, scale: Scale) -> tuple[float, float]:
+    from .single_panel import bounds_of
+
+    return bounds_of(history, scale)
+
+
+def label_bottom(axes: Axes, scale: Scale, bounds: tuple[float, float]) -> None:
+    first, last = bounds
+    margin = 0.015 * (last - first)
+    axes.set_xlim(first - margin, last + margin)
     axes.set_xlabel(scale.label)
     if scale.unit is None:
         axes.xaxis.set_major_locator(MaxNLocator(integer=True))
@@ -74,6 +88,8 @@ def panels_of(history: History, scale: Scale) -> list[Panel]:
 
 
 def title_of(history: History) -> list[str]:
+    if history.follower is not None:
+        return title_of_one(history)
     run = history.run
     own = run.own or "a node that was not told"
     length = in_words(history.moments[-1] - history.moments[0])
@@ -96,3 +112,13 @@ def title_of(history: History) -> list[str]:
     if run.actions and all(counts.is_empty() for counts in history.peers.values()):
         notes.append("no peers are known, and none are wanted")
     return told + (["; ".join(notes)] if notes else [])
+
+
+def title_of_one(history: History) -> list[str]:
+    follower = history.follower
+    what = (
+        f"Connection {follower.whom}, of {follower.address}" if follower.whom.isdigit() else f"The peer {follower.whom}"
+    )
+    lives = sum(follower.whom in (life.address, str(life.id)) for life in history.lives)
+    told = f"{lives} connection{'' if lives == 1 else 's'}, {len(follower.entries)} things that happened"
+    return [f"{what}, in the run of {history.run.own or 'a node that was not told'}", told]

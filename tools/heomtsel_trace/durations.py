@@ -23,6 +23,16 @@ def in_words(milliseconds: int) -> str:
     return f"{milliseconds // DAY} d {milliseconds % DAY // HOUR:02d} h"
 
 
+def clock(milliseconds: int) -> str:
+    """A moment as hours, minutes and seconds since the node began, behind the days where there are any."""
+    days, rest = divmod(milliseconds, DAY)
+    seconds, part = divmod(rest, SECOND)
+    said = f"{seconds // 3600}:{seconds // 60 % 60:02d}:{seconds % 60:02d}"
+    if part:
+        said += f".{part:03d}"
+    return f"{days} d {said}" if days else said
+
+
 def unit_for(milliseconds: int) -> tuple[str, int]:
     """The unit in which a span of time is best drawn, and how many milliseconds it has."""
     if milliseconds < 2 * SECOND:

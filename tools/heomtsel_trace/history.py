@@ -3,12 +3,16 @@
 from __future__ import annotations
 
 from dataclasses import dataclass, field
+from typing import TYPE_CHECKING
 
 from . import lines
-from .run import Dialer, PeerClass, Run
+from .run import Dialer, Notice, PeerClass, Run
 from .targets import Targets
 
-MARKED_CAUSES = ("fault", "pruned", "overwritten")
+if TYPE_CHECKING:
+    from .follow import Follower
+
+MARKED_CAUSES = ("fault", "pruned", "overwritten", "dial failed", "lost")
 
 
 @dataclass(slots=True)
@@ -20,12 +24,14 @@ class Life:
     dialer: Dialer
     spans: list[tuple[int, str]] = field(default_factory=list)
     gone: int | None = None
+    # one of MARKED_CAUSES, and of a fault its kind
     cause: str | None = None
+    kind: str | None = None
 
 
 @dataclass(frozen=True, slots=True)
 class Mark:
-    """A connection that was turned away or closed in an event. Who is turned away has no connection."""
+    """A connection that was turned away or ended in an event. Who is turned away has no connection."""
 
     event: int
     what: str
@@ -62,7 +68,14 @@ class History:
     peers: dict[PeerClass, PeerCounts] = field(default_factory=lambda: {each: PeerCounts() for each in PeerClass})
     lives: list[Life] = field(default_factory=list)
     marks: list[Mark] = field(default_factory=list)
+    # the event of each pause, and the moment until which it lasts
+    pauses: list[tuple[int, int]] = field(default_factory=list)
+    # where one connection or one peer is asked for: what it says and hears, its temperatures, and when it is left alone
+    follower: Follower | None = None
+    temperatures: list[tuple[int, str]] = field(default_factory=list)
+    back_offs: list[tuple[int, int]] = field(default_factory=list)
     _living: dict[int, Life] = field(default_factory=dict)
+    _noticed: int = 0
 
     @property
     def event(self) -> int:
@@ -72,8 +85,24 @@ class History:
         if isinstance(line, lines.Event):
             self._sample()
         self.run.take(line, line_number)
+        if self.run.noticed > self._noticed:
+            self._noticed = self.run.noticed
+            self._mark_loss(self.run.notices[-1])
+            self._keep_back_off(self.run.notices[-1])
+        if self.follower is not None:
+            self.follower.take(line, self.run)
+            self._keep_temperature(line)
         if isinstance(line, lines.Action):
             self._follow(line)
+
+    def _keep_temperature(self, line: lines.Line) -> None:
+        if isinstance(line, lines.PeerIs) and line.address == self.follower.address:
+            change = "cold" if line.change == "known" else line.change
+            self.temperatures.append((self.event, change))
+
+    def _keep_back_off(self, notice: Notice) -> None:
+        if self.follower is not None and notice.back_off is not None and notice.address == self.follower.address:
+            self.back_offs.append((self.event, notice.back_off.until))
 
     def end(self) -> None:
         self._sample()
@@ -93,8 +122,10 @@ class History:
                 self._begin(Life(connection, address, Dialer.US))
             case lines.TurnAway(cause):
                 self.marks.append(Mark(self.event, f"turned away, {cause}", None))
-            case lines.Close(connection, cause):
-                self._close(connection, cause)
+            case lines.Close(connection, cause, kind):
+                self._close(connection, cause, kind)
+            case lines.Pause(duration):
+                self.pauses.append((self.event, self.run.moment + duration))
             case lines.StateIs(connection, name):
                 self._change(connection, name)
 
@@ -102,12 +133,20 @@ class History:
         self.lives.append(life)
         self._living[life.id] = life
 
-    def _close(self, connection: int, cause: str) -> None:
+    def _close(self, connection: int, cause: str, kind: str | None) -> None:
         if cause in MARKED_CAUSES:
-            self.marks.append(Mark(self.event, cause, connection))
-            life = self._living.get(connection)
-            if life is not None:
-                life.cause = cause
+            self._mark(connection, cause, kind)
+
+    def _mark_loss(self, notice: Notice) -> None:
+        """A dial that failed, and a connection that was lost while this node used it or was on its way to it."""
+        if notice.connection is not None and notice.what in ("dial failed", "lost in use", "lost on the way"):
+            self._mark(notice.connection, notice.what.split(" in ")[0].split(" on ")[0], None)
+
+    def _mark(self, connection: int, cause: str, kind: str | None) -> None:
+        self.marks.append(Mark(self.event, cause if kind is None else f"{cause} {kind}", connection))
+        life = self._living.get(connection)
+        if life is not None:
+            life.cause, life.kind = cause, kind
 
     def _change(self, connection: int, name: str) -> None:
         life = self._living.get(connection)

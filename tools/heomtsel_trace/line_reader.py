@@ -34,12 +34,14 @@ from .lines import (
     RootsFailed,
     RootsFound,
     STATE_NAMES,
+    Said,
     Send,
     Setting,
     StateIs,
     TURN_AWAYS,
     TargetsSet,
     TurnAway,
+    Unresolved,
     Version,
 )
 
@@ -72,6 +74,11 @@ SETTING_NAMES = tuple(SETTING_RANGES)
 
 DECIMAL = re.compile(r"0|[1-9][0-9]{0,19}")
 HEXADECIMAL = re.compile(r"[0-9a-f]+")
+UNRESOLVED = re.compile(r"unresolved (\d{1,20})")
+STATUS_TEXT = re.compile(
+    r"line \d+ refused: .*|too long: line \d+|(read|write|world) fault|out of memory|file fault (settings|topology)"
+    r"|settings refused: \w+|file too large (settings|topology) \d+|usage: replay .*"
+)
 IPV6_GROUP = re.compile(r"0|[1-9a-f][0-9a-f]{0,3}")
 
 
@@ -98,10 +105,10 @@ def one_of(word: str, choices: tuple[str, ...]) -> str:
     return word
 
 
-def byte_count(word: str) -> int:
+def octets_of(word: str) -> str:
     if len(word) % 2 or not HEXADECIMAL.fullmatch(word):
         raise Misspelled(word[:20])
-    return len(word) // 2
+    return word
 
 
 def is_decimal_to(word: str, greatest: int) -> bool:
@@ -172,7 +179,7 @@ class LineReader:
                 return self._action_readers[words[1]](words[1:])
             line = self._readers[words[0]](words)
         except (Misspelled, KeyError, IndexError):
-            return NoTrace(printable(text[:LONGEST_SHOWN]))
+            return beside_a_trace(text[:LONGEST_SHOWN])
         if isinstance(line, Event):
             self._has_begun = True
         return line
@@ -234,10 +241,9 @@ class LineReader:
 
     def _bytes(self, words: list[str]) -> BytesIn:
         _, connection, octets = exactly(words, 3)
-        size = byte_count(octets)
-        if size > GREATEST_BYTES:
+        if len(octets_of(octets)) > 2 * GREATEST_BYTES:
             raise Misspelled("bytes")
-        return BytesIn(identifier(connection), size)
+        return BytesIn(identifier(connection), octets)
 
     def _closed(self, words: list[str]) -> Closed:
         _, connection = exactly(words, 2)
@@ -303,7 +309,7 @@ class LineReader:
 
     def _send(self, words: list[str]) -> Send:
         _, connection, octets = exactly(words, 3)
-        return Send(identifier(connection), byte_count(octets))
+        return Send(identifier(connection), octets_of(octets))
 
     def _close(self, words: list[str]) -> Close:
         connection = identifier(words[1])
@@ -326,6 +332,15 @@ class LineReader:
     def _peer(self, words: list[str]) -> PeerIs:
         _, address, change = exactly(words, 3)
         return PeerIs(self._address(address), one_of(change, PEER_CHANGES))
+
+
+def beside_a_trace(text: str) -> Line:
+    """What stands beside the trace where standard error comes in too, or a line of something else."""
+    if found := UNRESOLVED.fullmatch(text):
+        return Unresolved(int(found[1]))
+    if STATUS_TEXT.fullmatch(text):
+        return Said(text)
+    return NoTrace(printable(text))
 
 
 def exactly(words: list[str], count: int) -> list[str]:

@@ -79,7 +79,11 @@ class Dialed(Event):
 @dataclass(frozen=True, slots=True)
 class BytesIn(Event):
     connection: int
-    size: int
+    octets: str
+
+    @property
+    def size(self) -> int:
+        return len(self.octets) // 2
 
 
 @dataclass(frozen=True, slots=True)
@@ -162,7 +166,11 @@ class Dial(Action):
 @dataclass(frozen=True, slots=True)
 class Send(Action):
     connection: int
-    size: int
+    octets: str
+
+    @property
+    def size(self) -> int:
+        return len(self.octets) // 2
 
 
 @dataclass(frozen=True, slots=True)
@@ -197,10 +205,24 @@ class PeerIs(Action):
 
 
 @dataclass(frozen=True, slots=True)
+class Unresolved:
+    """What a node says on standard error when it has read its files: so many names were not looked up."""
+
+    count: int
+
+
+@dataclass(frozen=True, slots=True)
+class Said:
+    """What the program says on standard error where it ends by a fault."""
+
+    text: str
+
+
+@dataclass(frozen=True, slots=True)
 class NoTrace:
     """A line of something else, as it may be shown."""
 
     text: str
 
 
-Line = Version | Own | Setting | End | Event | Action | NoTrace
+Line = Version | Own | Setting | End | Event | Action | Unresolved | Said | NoTrace

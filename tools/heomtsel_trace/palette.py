@@ -23,4 +23,10 @@ STATE_LOOKS = {
     "Terminating": (GREY, "xxx"),
 }
 TEMPERATURE_LOOKS = {"hot": (VERMILLION, "////"), "warm": (ORANGE, "\\\\\\\\"), "cold": (SKY, "")}
-MARK_LOOKS = {"fault": ("X", VERMILLION), "pruned": ("v", BLACK), "overwritten": ("s", "white")}
+MARK_LOOKS = {
+    "fault": ("X", VERMILLION),
+    "pruned": ("v", BLACK),
+    "overwritten": ("s", "white"),
+    "dial failed": ("o", "white"),
+    "lost": ("D", ORANGE),
+}

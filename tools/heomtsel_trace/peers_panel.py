@@ -8,9 +8,9 @@ from matplotlib.lines import Line2D
 from matplotlib.patches import Patch
 from matplotlib.patheffects import withStroke
 
-from .axes import Panel, beside, count_axis, draw_step, headed
+from .axes import Panel, beside, count_axis, draw_spans, draw_step, headed
 from .history import PeerCounts
-from .palette import BLACK, TEMPERATURE_LOOKS
+from .palette import BLACK, TEMPERATURE_LOOKS, YELLOW
 from .run import PeerClass
 from .scale import Scale, last_of_each, turns
 from .targets import EDGES, PERIOD, Targets, effective
@@ -25,6 +25,7 @@ def peers_panel(scale: Scale, peer_class: PeerClass, counts: PeerCounts) -> Pane
 def draw_peers(axes: Axes, scale: Scale, peer_class: PeerClass, counts: PeerCounts) -> None:
     areas, most = draw_temperatures(axes, scale, counts)
     lines, greatest = draw_targets(axes, scale, counts)
+    lines += draw_churn(axes, scale)
     most = max(most, greatest)
     least = max(max(counts.hot), max(target.active for target in counts.targets), 1)
     unit = "peers"
@@ -82,6 +83,19 @@ def targets_over(scale: Scale, counts: PeerCounts) -> tuple[np.ndarray, list[Tar
     moments = np.unique(np.concatenate([scale.moments, churn_edges(scale)]))
     last_events = np.searchsorted(scale.moments, moments, side="right") - 1
     return moments / scale.unit, [effective(counts.targets[event], int(at)) for event, at in zip(last_events, moments)]
+
+
+def draw_churn(axes: Axes, scale: Scale) -> list[Patch]:
+    """The windows in which churn lowers a target, where they are within sight."""
+    if scale.unit is None or not shows_churn(scale):
+        return []
+    spans = []
+    first, last = int(scale.moments[0]), int(scale.moments[-1])
+    for period in range(first // PERIOD, last // PERIOD + 1):
+        start, end = period * PERIOD + EDGES[1], (period + 1) * PERIOD
+        if start <= last and end >= first:
+            spans.append((max(start, first) / scale.unit, min(end, last) / scale.unit))
+    return [draw_spans(axes, spans, "churn lowers targets", facecolor=YELLOW)] if spans else []
 
 
 def shows_churn(scale: Scale) -> bool:

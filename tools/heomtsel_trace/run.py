@@ -32,6 +32,7 @@ class Connection:
     address: str
     dialer: Dialer
     since: int
+    begun: int = 0
     state: str | None = None
     bytes_in: int = 0
     bytes_out: int = 0
@@ -42,8 +43,12 @@ class Connection:
 class Peer:
     address: str
     peer_class: PeerClass
+    since: int = 0
     temperature: str = "cold"
     failures: int = 0
+    left_alone_until: int = 0
+    # what it failed by, last
+    trouble: str | None = None
 
 
 @dataclass(frozen=True, slots=True)
@@ -116,11 +121,19 @@ class Run:
     last_turned_away: str | None = None
     closes: Counter[str] = field(default_factory=Counter)
     faults: Counter[str] = field(default_factory=Counter)
+    lost: Counter[str] = field(default_factory=Counter)
+    # by address: faults, failed dials and losses
+    troubles: Counter[str] = field(default_factory=Counter)
+    bytes_in: int = 0
+    bytes_out: int = 0
+    unresolved: int | None = None
+    said: str | None = None
     pauses: int = 0
     last_pause: int = 0
     paused_until: int = 0
     notices: deque[Notice] = field(default_factory=lambda: deque(maxlen=NOTICES_KEPT))
     lines_without_trace: int = 0
+    noticed: int = 0
     last_without_trace: deque[tuple[int, str]] = field(default_factory=lambda: deque(maxlen=3))
     _event: lines.Event | None = None
 
@@ -130,6 +143,8 @@ class Run:
             lines.Own: self._take_own,
             lines.Setting: self._take_setting,
             lines.End: self._take_end,
+            lines.Unresolved: self._take_unresolved,
+            lines.Said: self._take_said,
             lines.Now: self._take_now,
             lines.BytesIn: self._take_bytes,
             lines.TargetsSet: self._take_targets,
@@ -200,10 +215,17 @@ class Run:
     def _take_end(self, _: lines.End) -> None:
         self.has_ended = True
 
+    def _take_unresolved(self, line: lines.Unresolved) -> None:
+        self.unresolved = line.count
+
+    def _take_said(self, line: lines.Said) -> None:
+        self.said = line.text
+
     def _take_now(self, line: lines.Now) -> None:
         self.moment = max(self.moment, line.moment)
 
     def _take_bytes(self, line: lines.BytesIn) -> None:
+        self.bytes_in += line.size
         connection = self.connections.get(line.connection)
         if connection is not None:
             connection.bytes_in += line.size
@@ -239,7 +261,7 @@ class Run:
         self.roots.failures += 1
         back_off = self._back_off(self.roots.failures)
         self.roots.due = back_off.until
-        self.notices.append(Notice(self.moment, "roots failed", back_off=back_off))
+        self._notice(Notice(self.moment, "roots failed", back_off=back_off))
 
     def _take_admit(self, line: lines.Admit) -> None:
         self.admitted += 1
@@ -255,6 +277,7 @@ class Run:
         self._begin(line.connection, line.address, Dialer.US)
 
     def _take_send(self, line: lines.Send) -> None:
+        self.bytes_out += line.size
         connection = self.connections.get(line.connection)
         if connection is not None:
             connection.bytes_out += line.size
@@ -269,11 +292,13 @@ class Run:
         back_off = None
         if connection is not None and line.cause != "unused":
             connection.is_ending = True
+            if line.cause == "fault":
+                self.troubles[connection.address] += 1
             if line.cause != "overwritten":
-                back_off = self._fail_peer_of(connection)
+                back_off = self._fail_peer_of(connection, what)
         if line.cause not in ("unused", "query"):
             address = None if connection is None else connection.address
-            self.notices.append(Notice(self.moment, what, line.connection, address, back_off))
+            self._notice(Notice(self.moment, what, line.connection, address, back_off))
 
     def _take_pause(self, line: lines.Pause) -> None:
         self.pauses += 1
@@ -307,21 +332,29 @@ class Run:
             return
         if peer is None:
             is_big = isinstance(self._event, lines.BigsSet)
-            peer = Peer(line.address, PeerClass.BIG if is_big else PeerClass.ORDINARY)
+            peer = Peer(line.address, PeerClass.BIG if is_big else PeerClass.ORDINARY, self.moment)
             self.peers[line.address] = peer
             self.by_temperature[peer.peer_class, peer.temperature] += 1
         temperature = "cold" if line.change == "known" else line.change
+        if temperature != peer.temperature:
+            peer.since = self.moment
         self._replace(peer, peer.peer_class, temperature)
         if temperature == "warm":
             peer.failures = 0
+            peer.left_alone_until = 0
+            peer.trouble = None
 
     # what these share
+
+    def _notice(self, notice: Notice) -> None:
+        self.notices.append(notice)
+        self.noticed += 1
 
     def _begin(self, identifier: int, address: str, dialer: Dialer) -> Connection:
         before = self.connections.get(identifier)
         if before is not None:
             self._drop(before)
-        connection = Connection(identifier, address, dialer, self.moment)
+        connection = Connection(identifier, address, dialer, self.moment, self.moment)
         self.connections[identifier] = connection
         return connection
 
@@ -338,23 +371,34 @@ class Run:
 
     def _notice_loss(self, connection: Connection) -> None:
         """A connection is gone without a close: its dial failed, or the other side closed it."""
-        if connection.is_ending or connection.state not in FAILS_ITS_PEER:
+        if connection.is_ending or connection.state == "Terminating":
             return
-        what = "lost on the way"
         if isinstance(self._event, lines.Dialed):
             what = "dial failed"
             self.failed_dials += 1
         elif connection.state in USED:
             what = "lost in use"
-        back_off = self._fail_peer_of(connection)
-        self.notices.append(Notice(self.moment, what, connection.id, connection.address, back_off))
+            self.lost["in use"] += 1
+        elif connection.state in FAILS_ITS_PEER:
+            what = "lost on the way"
+            self.lost["on the way"] += 1
+        else:
+            # the other side closed what this one doesn't use, which troubles nobody
+            self.lost["not in use"] += 1
+            return
+        self.troubles[connection.address] += 1
+        back_off = self._fail_peer_of(connection, what)
+        self._notice(Notice(self.moment, what, connection.id, connection.address, back_off))
 
-    def _fail_peer_of(self, connection: Connection) -> BackOff | None:
+    def _fail_peer_of(self, connection: Connection, what: str) -> BackOff | None:
         peer = self.peers.get(connection.address)
         if peer is None or connection.state not in FAILS_ITS_PEER:
             return None
         peer.failures = min(peer.failures + 1, MOST_FAILURES)
-        return self._back_off(peer.failures)
+        back_off = self._back_off(peer.failures)
+        peer.left_alone_until = back_off.until
+        peer.trouble = what
+        return back_off
 
     def _back_off(self, failures: int) -> BackOff:
         duration = self.settings.back_off << min(failures - 1, 5)

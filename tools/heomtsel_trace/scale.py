@@ -21,6 +21,13 @@ class Scale:
     moments: np.ndarray
     unit: int | None
 
+    def place_of(self, moment: int) -> float:
+        """Where a moment stands, at most at the end; over events the first one that is not before it."""
+        if self.unit is not None:
+            return min(moment / self.unit, self.last)
+        at = int(np.searchsorted(self.moments, moment, side="left"))
+        return float(self.places[min(at, len(self.places) - 1)])
+
     @property
     def first(self) -> float:
         return float(self.places[0])

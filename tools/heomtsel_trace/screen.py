@@ -2,13 +2,15 @@
 
 from __future__ import annotations
 
-from dataclasses import dataclass
+from collections.abc import Callable
+from dataclasses import dataclass, replace
 
 from rich.text import Text
 
-from .durations import in_words
+from .durations import clock, in_words
+from .follow import Entry, entry_cells
 from .lines import Group
-from .run import Connection, Notice, PeerClass, Run
+from .run import Connection, Notice, Peer, PeerClass, Run
 from .targets import next_edge
 
 # Okabe and Ito's colours, which colour-blind readers tell apart; no meaning hangs on them alone
@@ -26,6 +28,7 @@ SHORT_BELOW = 34
 NARROWEST_ADDRESS = 9
 ROWS_AT_LEAST = 2
 GROUPS_SHOWN = 8
+PLAIN_ROWS = 10
 
 
 Cells = list[tuple[str, ...]]
@@ -47,13 +50,16 @@ DRAWN = Glyphs("\u2588", "\u2591", "\u2502", "\u2500")
 
 @dataclass(frozen=True)
 class View:
-    """How a run is to be shown."""
+    """How a run is to be shown. With a height the tables have the rows that the screen leaves, else `rows` of them each."""
 
     width: int
     glyphs: Glyphs = PLAIN
     height: int | None = None
-    busiest: bool = False
-    rows: int = 10
+    order: str = "newest"
+    shows_peers: bool = False
+    offset: int = 0
+    rows: int = PLAIN_ROWS
+    keys: bool = False
 
     @property
     def has_two_columns(self) -> bool:
@@ -75,6 +81,10 @@ def styled(*parts: str | tuple[str, str]) -> Text:
     return Text.assemble(*parts, no_wrap=True, overflow="ellipsis")
 
 
+def counted(count: int, what: str) -> str:
+    return f"{count} {what}" if count == 1 else f"{count} {what}s"
+
+
 def bar(value: int, whole: int, length: int, glyphs: Glyphs, mark: int | None = None) -> str:
     """A bar that is full where the value reaches the whole, with a mark at a value in between."""
     filled = length if value >= whole else value * length // whole
@@ -90,8 +100,9 @@ def header(run: Run) -> list[Text]:
     own = run.own or "an address that was not told"
     version = "its version not told" if run.version is None else f"trace version {run.version}"
     return [
-        styled(("Heomtsel", "bold"), f" at {own}, {version}, now {run.moment} ms ({in_words(run.moment)})"),
-        styled(f"{run.events} events, {run.actions} actions, {ending(run)}"),
+        styled(("Heomtsel", "bold"), f" at {own}, {version}, now {clock(run.moment)}"),
+        styled(f"{counted(run.events, 'event')}, {counted(run.actions, 'action')}, {ending(run)}"),
+        *beside(run),
     ]
 
 
@@ -105,6 +116,17 @@ def ending(run: Run) -> str:
     if run.events and not run.actions:
         said += "; no action lines (./heomtsel replay writes them)"
     return said
+
+
+def beside(run: Run) -> list[Text]:
+    """What the program said on standard error, where that came in too."""
+    rows = []
+    if run.unresolved:
+        names = counted(run.unresolved, "name")
+        rows.append(styled((f"{names} of the topology not looked up (tools/resolve does it)", CAREFUL)))
+    if run.said is not None:
+        rows.append(styled((f"the program said: {run.said}", BAD)))
+    return rows
 
 
 # Connections against the limits
@@ -124,6 +146,7 @@ def limits(run: Run, view: View) -> Section:
         styled("accepting    ", accepting(run)),
         *listed("turned away  ", turned_away(run), view.width),
         *listed("closed       ", in_parts(run.closes, "none"), view.width),
+        *listed("lost         ", in_parts(run.lost, "none"), view.width),
     ]
     if view.is_short:
         return Section("", rows)
@@ -141,7 +164,7 @@ def accepting(run: Run) -> tuple[str, str]:
         times += f", the last for {in_words(run.last_pause)}"
     left = run.paused_until - run.moment
     if left > 0:
-        return f"paused till {run.paused_until} ms ({in_words(left)} more); {times}", CAREFUL
+        return f"paused till {clock(run.paused_until)} ({in_words(left)} more); {times}", CAREFUL
     return f"open; {times}", ""
 
 
@@ -217,7 +240,7 @@ def public_roots(run: Run, view: View) -> Text:
     if roots.job is not None:
         said.append(f"  asked, question {roots.job}")
     elif roots.due > run.moment:
-        said.append(f"  next question from {roots.due} ms on")
+        said.append(f"  next question from {clock(roots.due)} on")
     return said
 
 
@@ -252,7 +275,7 @@ def group_row(run: Run, place: int) -> Text:
             f"warm or hot {established} of {group.warm}, hot {hot} of {group.hot}",
             GOOD if is_satisfied(run, group) else CAREFUL,
         ),
-        f"; {len(group.members)} members, {told}",
+        f"; {counted(len(group.members), 'member')}, {told}",
     )
 
 
@@ -267,17 +290,42 @@ def states(run: Run, view: View) -> Section:
     return Section(f"Connections by state: {len(run.connections)}", rows)
 
 
-def table(run: Run, view: View, rows: int) -> Section:
-    if view.busiest:
-        order, title = (lambda connection: connection.bytes_in + connection.bytes_out), "The busiest connections"
-    else:
-        order, title = (lambda connection: connection.id), "The newest connections"
-    # of as many bytes the newest goes first
-    newest_first = sorted(run.connections.values(), key=lambda connection: -connection.id)
-    shown = sorted(newest_first, key=order, reverse=True)[:rows]
-    cells: Cells = [("id", "address", "dialed by", "state", "since ms", "for", "peer", "bytes in", "out")]
+HEAT = {"hot": 0, "warm": 1, "cold": 2}
+
+
+def heat_of(run: Run, connection: Connection) -> int:
+    peer = run.peers.get(connection.address)
+    return len(HEAT) if peer is None else HEAT[peer.temperature]
+
+
+# by which connections can be sorted; of equal ones the newest goes first
+ORDERS: dict[str, tuple[str, Callable[[Run, Connection], int]]] = {
+    "newest": ("the newest first", lambda run, connection: 0),
+    "longest": ("the longest first", lambda run, connection: connection.begun),
+    "hot": ("hot peers first", heat_of),
+    "faulty": ("the most troubled first", lambda run, connection: -run.troubles[connection.address]),
+    "busiest": ("the busiest first", lambda run, connection: -connection.bytes_in - connection.bytes_out),
+}
+
+
+def connections(run: Run, view: View, rows: int) -> Section:
+    said, order = ORDERS[view.order]
+    every = sorted(run.connections.values(), key=lambda connection: (order(run, connection), -connection.id))
+    first, shown = window(every, view, rows)
+    cells: Cells = [("id", "address", "dialed by", "state", "since", "for", "peer", "troubles", "bytes in", "out")]
     cells += [connection_cells(run, connection) for connection in shown]
+    title = f"Connections, {said}{which(first, len(shown), len(every))}"
     return Section(title, aligned(cells, view.width, needed=7))
+
+
+def window(every: list, view: View, rows: int) -> tuple[int, list]:
+    """The part of a list that is shown, and where it begins. No scrolling goes behind its last row."""
+    first = max(0, min(view.offset, len(every) - rows))
+    return first, every[first : first + rows]
+
+
+def which(first: int, shown: int, every: int) -> str:
+    return "" if shown == every else f": {first + 1} to {first + shown} of {every}"
 
 
 def connection_cells(run: Run, connection: Connection) -> tuple[str, ...]:
@@ -287,20 +335,74 @@ def connection_cells(run: Run, connection: Connection) -> tuple[str, ...]:
         connection.address,
         connection.dialer.value,
         connection.state or "?",
-        str(connection.since),
+        clock(connection.since),
         in_words(run.moment - connection.since),
         "-" if peer is None else peer.temperature,
+        str(run.troubles[connection.address] or ""),
         str(connection.bytes_in),
         str(connection.bytes_out),
     )
 
 
-def aligned(cells: Cells, width: int, needed: int) -> list[Text]:
-    """The cells in columns: where the width does not do, as many as are needed, with the addresses in the second one cut."""
+# The list of peers
+
+
+def peer_list(run: Run, view: View, rows: int) -> Section:
+    every = sorted(
+        run.peers.values(), key=lambda peer: (HEAT[peer.temperature], -peer.failures, peer.since, peer.address)
+    )
+    first, shown = window(every, view, rows)
+    cells: Cells = [("temp", "address", "class", "since", "for", "failures", "last failure", "left alone for")]
+    cells += [peer_cells(run, peer) for peer in shown]
+    title = f"Peers, hot ones first{which(first, len(shown), len(every))}"
+    return Section(title, aligned(cells, view.width, needed=6) if every else [styled(("none", QUIET))])
+
+
+def peer_cells(run: Run, peer: Peer) -> tuple[str, ...]:
+    left = peer.left_alone_until - run.moment
+    return (
+        peer.temperature,
+        peer.address,
+        peer.peer_class.value,
+        clock(peer.since),
+        in_words(run.moment - peer.since),
+        str(peer.failures or ""),
+        peer.trouble or "",
+        in_words(left) + " more" if left > 0 else "",
+    )
+
+
+# One connection or one peer, followed
+
+
+def followed(run: Run, view: View, whom: str, entries: list[Entry]) -> list[Text]:
+    """What one address has to do with: the last rows that the screen takes, or all of them."""
+    rows = header(run)[:2]
+    peer = run.peers.get(whom)
+    told = "not in the book" if peer is None else f"{peer.temperature}, {counted(peer.failures, 'failure')} in a row"
+    cells: Cells = [("at", "id", "", f"{whom} ({told})")]
+    cells += [entry_cells(entry) for entry in entries]
+    body = aligned(cells, view.width, needed=4, cut_place=3)
+    for row, entry in zip(body[1:], entries):
+        if entry.is_wrong:
+            row.stylize(BAD)
+    heading = drawn(Section(f"The life of {whom}", body[:1]), view)
+    lines = body[1:]
+    if view.height is not None:
+        room = max(1, view.height - len(rows) - len(heading) - view.keys)
+        last = len(lines) - max(0, min(view.offset, len(lines) - room))
+        lines = lines[max(0, last - room) : last]
+    if not entries:
+        lines = [styled(("nothing of it so far", QUIET))]
+    return rows + heading + lines
+
+
+def aligned(cells: Cells, width: int, needed: int, cut_place: int = 1) -> list[Text]:
+    """The cells in columns: where the width does not do, as many as are needed, with those of one column cut."""
     widths = [max(len(row[place]) for row in cells) for place in range(len(cells[0]))]
     while len(widths) > needed and excess_of(widths, width) > 0:
         widths.pop()
-    widths[1] -= min(max(0, excess_of(widths, width)), max(0, widths[1] - NARROWEST_ADDRESS))
+    widths[cut_place] -= min(max(0, excess_of(widths, width)), max(0, widths[cut_place] - NARROWEST_ADDRESS))
     rows = ["  ".join(cut(cell, size) for cell, size in zip(row, widths)).rstrip() for row in cells]
     return [styled((row, QUIET if place == 0 else "")) for place, row in enumerate(rows)]
 
@@ -321,7 +423,7 @@ def notices(run: Run, view: View, rows: int) -> Section:
     last = list(run.notices)[-rows:] if rows else []
     if not last:
         return Section(title, [styled(("none", QUIET))])
-    cells: Cells = [("at ms", "address", "what", "id", "left alone for", "till ms", "failures")]
+    cells: Cells = [("at", "address", "what", "id", "left alone for", "till", "failures")]
     cells += [notice_cells(notice) for notice in reversed(last)]
     return Section(title, aligned(cells, view.width, needed=5))
 
@@ -329,10 +431,12 @@ def notices(run: Run, view: View, rows: int) -> Section:
 def notice_cells(notice: Notice) -> tuple[str, ...]:
     back_off = notice.back_off
     alone = (
-        ("", "", "") if back_off is None else (in_words(back_off.duration), str(back_off.until), str(back_off.failures))
+        ("", "", "")
+        if back_off is None
+        else (in_words(back_off.duration), clock(back_off.until), str(back_off.failures))
     )
     number = "" if notice.connection is None else str(notice.connection)
-    return (str(notice.moment), notice.address or "", notice.what, number, *alone)
+    return (clock(notice.moment), notice.address or "", notice.what, number, *alone)
 
 
 def without_trace(run: Run, view: View) -> Section | None:
@@ -361,34 +465,40 @@ def fixed_sections(run: Run, view: View) -> list[Section]:
 
 def whole(run: Run, view: View) -> list[Text]:
     """The lines of one screen: as long as it is, or as high as the view says."""
+    if view.height is not None and view.keys:
+        view = replace(view, height=view.height - 1)
     if view.has_two_columns:
         return in_two_columns(run, view)
     rows = header(run)
     for section in fixed_sections(run, view):
         rows += drawn(section, view)
-    count, last = shares_of(view, len(rows))
-    rows += drawn(table(run, view, count), view)
-    rows += drawn(notices(run, view, last), view)
+    rows += tables(run, view, len(rows))
     return rows[: view.height]
 
 
-def shares_of(view: View, taken: int) -> tuple[int, int]:
-    """How many rows the table of connections has, and how many the last things."""
+def tables(run: Run, view: View, taken: int) -> list[Text]:
+    count, last = shares_of(run, view, taken)
+    listing = peer_list if view.shows_peers else connections
+    return drawn(listing(run, view, count), view) + drawn(notices(run, view, last), view)
+
+
+def shares_of(run: Run, view: View, taken: int) -> tuple[int, int]:
+    """How many rows the table has, and how many the last things: what the one leaves the other may have."""
     if view.height is None:
         return view.rows, view.rows
     # two headings, each with the names of the columns
     left = max(2 * ROWS_AT_LEAST, view.height - taken - 4)
-    last = min(view.rows, left // 2)
-    return min(view.rows, left - last), last
+    wanted = len(run.peers if view.shows_peers else run.connections)
+    last = min(len(run.notices), max(left // 3, left - wanted))
+    return max(ROWS_AT_LEAST, left - max(last, ROWS_AT_LEAST)), max(last, ROWS_AT_LEAST)
 
 
 def in_two_columns(run: Run, view: View) -> list[Text]:
     gap = 2
-    left_view = View((view.width - gap) // 2, view.glyphs, view.height, view.busiest, view.rows)
+    left_view = replace(view, width=(view.width - gap) // 2)
     left = [row for section in fixed_sections(run, left_view) for row in drawn(section, left_view)]
     top = header(run)
-    count, last = shares_of(view, len(top))
-    right = drawn(table(run, left_view, count), left_view) + drawn(notices(run, left_view, last), left_view)
+    right = tables(run, left_view, len(top))
     rows = []
     for place in range(max(len(left), len(right))):
         row = left[place].copy() if place < len(left) else styled("")

@@ -1,5 +1,6 @@
 mod base;
 mod edge;
+mod flows;
 mod hosts;
 mod settings_files;
 mod topology_files;

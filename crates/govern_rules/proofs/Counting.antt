@@ -1,8 +1,9 @@
 -- Peers that have a link with a mark are counted by a look through the links.
-use Rattle.std.proofs.Common.{◌≡◌, ℕ, ◌+◌, Bool, true, false, cond, ◌&&◌, ◌||◌, List, [], ◌∷◌, length, Option, Some, None, refl, sym, ap, ◌∙◌, inl, inr, arith}
+use Rattle.std.proofs.Common.{◌≡◌, ℕ, ◌+◌, nat_lt, Bool, true, false, cond, ◌&&◌, ◌||◌, List, [], ◌∷◌, length, Option, Some, None, refl, sym, ap, ◌∙◌, inl, inr, arith}
 use Rattle.std.specs.List.{IsDistinct, filter, count_by, list_any}
 use Rattle.std.specs.Option.{option_to_list}
 use Rattle.std.proofs.lemmas.Bool.{cases_Bool}
+use Rattle.std.proofs.lemmas.Bool.Decides.{nat_tests}
 use Rattle.std.proofs.lemmas.List.Sums.{sum_by-cons, length-filter}
 use Rattle.net_base.specs.Address.{same_address}
 use Rattle.net_base.specs.declared.address.Addr.{Addr}
@@ -50,6 +51,30 @@ count-nobody big (p ∷ peers) =
     nothing : (b : Bool) → cond {A = ℕ} (b && false) 1 0 ≡ 0
     nothing true = refl
     nothing false = refl
+
+-- ---- no link has a mark
+
+pub none_of : (n : ℕ) → nat_lt 0 n ≡ false → n ≡ 0
+none_of n h = grind (arith, nat_tests)
+
+pub unmarked : (test : Link → Bool) (links : List Link) (addr : Addr) → count_by test links ≡ 0 → some_link test links addr ≡ false
+unmarked test [] addr none = refl
+unmarked test (l ∷ links) addr none =
+    let parts = sum_by-cons (λ x. cond {A = ℕ} (test x) 1 0) l links in
+    elim (cases_Bool (test l)) [
+      | inl marked ↦ let one : cond {A = ℕ} (test l) 1 0 ≡ 1 = rw marked refl in absurd (omega (arith, parts, none, one))
+      | inr other ↦ let first : (same_address l.addr addr && test l) ≡ false = rw other (and_false (same_address l.addr addr)) in
+          rw first (unmarked test links addr (omega (arith, parts, none)))
+    ]
+  where
+    and_false : (b : Bool) → (b && false) ≡ false
+    and_false true = refl
+    and_false false = refl
+
+pub count-unmarked : (big : Bool) (test : Addr → Bool) (peers : List Peer) → ((addr : Addr) → test addr ≡ false) → count_of big test peers ≡ 0
+count-unmarked big test peers none =
+    count-same (λ p. is_of big p && test p.addr) (λ p. is_of big p && false) (λ p. ap (λ b. is_of big p && b) (none p.addr)) peers
+    ∙ count-nobody big peers
 
 -- ---- the peer of an address
 

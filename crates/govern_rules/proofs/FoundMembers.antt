@@ -1,9 +1,11 @@
 -- The peers of a group, looked up one after the other, are those that a look through the book finds.
-use Rattle.std.proofs.Common.{◌≡◌, Bool, true, false, ◌&&◌, not, cond, List, [], ◌∷◌, ◌++◌, Option, Some, None, refl, sym, ap, ◌∙◌, subst, inl, inr}
+use Rattle.std.proofs.Common.{◌≡◌, ℕ, ◌+◌, ◌<◌, length, take, get_or, Bool, true, false, ◌&&◌, not, cond, List, [], ◌∷◌, ◌++◌, Option, Some, None, refl, sym, ap, ◌∙◌, subst, inl, inr}
 use Rattle.std.specs.List.{AllByRecursion, IsDistinct, filter, filter_map, cons_option}
 use Rattle.std.specs.List.Sorted.{IsPermutation}
 use Rattle.std.specs.Option.{option_to_list}
 use Rattle.std.proofs.lemmas.Bool.{cases_Bool}
+use Rattle.std.proofs.lemmas.List.{take_more}
+use Rattle.std.proofs.lemmas.List.Elements.{filter_map-append}
 use Rattle.std.proofs.lemmas.List.Sorted.{IsPermutation-refl, IsPermutation-trans, IsPermutation-append, IsPermutation-filter_both}
 use Rattle.net_base.specs.Address.{same_address}
 use Rattle.net_base.specs.declared.address.Addr.{Addr}
@@ -100,3 +102,16 @@ found_members (a ∷ addrs) peers apart distinct =
     subst (IsPermutation (filter listed peers)) (sym (one_more a addrs peers))
     (IsPermutation-trans _ _ _ (subst (λ l. IsPermutation (filter listed peers) (l ++ peers_with addrs peers)) front
     (subst (λ l. IsPermutation (filter listed peers) (filter (has_address a) (filter listed peers) ++ l)) back split)) rest)
+
+-- ---- one look-up more
+
+pub lookups-more : (peers : List Peer) (addrs : List Addr) (i : ℕ) (d : Addr) (found : Option Peer) → i < length addrs →
+    peer_at (get_or addrs i d) peers ≡ found → lookups peers (take (i + 1) addrs) ≡ lookups peers (take i addrs) ++ option_to_list found
+lookups-more peers addrs i d found inside is =
+    ap (lookups peers) (take_more addrs i d inside)
+    ∙ (filter_map-append (λ b. peer_at b peers) (take i addrs) (get_or addrs i d ∷ [])
+    ∙ ap (λ o. lookups peers (take i addrs) ++ o) (alone (peer_at (get_or addrs i d) peers) ∙ ap option_to_list is))
+  where
+    alone : (o : Option Peer) → cons_option o [] ≡ option_to_list o
+    alone None = refl
+    alone (Some p) = refl

@@ -1,6 +1,7 @@
 -- What is done with the members of a group, by those that were looked up.
-use Rattle.std.proofs.Common.{◌≡◌, ℕ, ◌-◌, Bool, false, ◌&&◌, ◌||◌, List, [], ◌∷◌, length, map, refl, sym, ap, ◌∙◌}
+use Rattle.std.proofs.Common.{◌≡◌, ℕ, ◌-◌, Bool, true, false, ◌&&◌, ◌||◌, List, [], ◌∷◌, length, map, refl, sym, ap, ◌∙◌, inl, inr}
 use Rattle.std.specs.List.{IsDistinct, filter, count_by, flat_map}
+use Rattle.std.proofs.lemmas.Bool.{cases_Bool, and_parts, true≢false, false_from_ne_true}
 use Rattle.std.proofs.lemmas.List.Sorted.{sum_by-IsPermutation}
 use Rattle.std.proofs.lemmas.List.Sums.{length-filter}
 use Rattle.net_base.specs.Address.{same_address}
@@ -8,15 +9,16 @@ use Rattle.net_base.specs.declared.address.Addr.{Addr}
 use Rattle.net_base.specs.declared.event.Group.{Group}
 use Rattle.net_base.specs.declared.peer.Peer.{Peer}
 use Rattle.net_base.specs.declared.peer.Temp.TheVariants.{Hot as IsHot}
-use Rattle.peer_book.specs.Book.{is_of, addresses_of, is_established, same_temp}
+use Rattle.peer_book.specs.Book.{is_of, addresses_of, is_established, same_temp, listed_at}
 use Rattle.root_groups.specs.Cleaned.{is_listed}
 use Rattle.govern_rules.specs.Candidates.{may_be_deactivated}
 use Rattle.govern_rules.specs.Links.{is_pending, owes_on_2}
-use Rattle.govern_rules.specs.Members.{peers_with, valency_task, valency_number, valency_orders}
+use Rattle.govern_rules.specs.Members.{peers_with, valency_task, valency_temp, valency_number, valency_orders}
 use Rattle.govern_rules.specs.Orders.{orders_for, picks_of}
 use Rattle.govern_rules.specs.Rules.{is_member_and, members_count}
 use Rattle.govern_rules.specs.Search.{lookups}
 use Rattle.govern_rules.specs.Tasks.{order_of, may_be_given}
+use Rattle.govern_rules.specs.declared.link.Link.{Link}
 use Rattle.govern_rules.specs.declared.order.Order.{Order}
 use Rattle.govern_rules.specs.declared.valency.Valency.{Valency}
 use Rattle.govern_rules.specs.declared.valency.Valency.TheVariants.{WarmUp, HotUp, HotDown}
@@ -107,14 +109,43 @@ orders-none valency view group peers number apart missing none =
     (is_member_and group (may_be_given (valency_task valency) view.moment view.links)) peers
     (sym (missing ∙ missed-found valency view group peers apart) ∙ none)
 
--- ---- nobody is known
+-- ---- nobody has the temperature
 
-no-members : (valency : Valency) (view : View) (group : Group) → valency_orders valency view [] group ≡ []
-no-members valency view group =
-    sym (by_missed valency view [] group)
-    ∙ no-peers false view.word (order_of (valency_task valency)) (missed valency view [] group)
-    (is_member_and group (may_be_given (valency_task valency) view.moment view.links))
+nil-map : {X Y : Type 0} (f : X → Y) (xs : List X) → map f xs ≡ [] → xs ≡ []
+nil-map f [] h = refl
+nil-map f (x ∷ xs) h = cc
 
-pub no-groups : (valency : Valency) (view : View) (groups : List Group) → flat_map (valency_orders valency view []) groups ≡ []
-no-groups valency view [] = refl
-no-groups valency view (g ∷ groups) = rw (no-members valency view g) (no-groups valency view groups)
+-- where none passes a test, none passes a stricter one
+stricter : {X : Type 0} (p q : X → Bool) → ((x : X) → p x ≡ true → q x ≡ true) → (xs : List X) → filter q xs ≡ [] → filter p xs ≡ []
+stricter p q more [] none = refl
+stricter {X} p q more (x ∷ xs) none = elim (cases_Bool (q x)) [
+  | inl passes ↦ let some : x ∷ filter q xs ≡ [] = rw passes at none in cc
+  | inr fails ↦
+      let out : p x ≡ false = false_from_ne_true (p x) (λ h. true≢false (sym (more x h) ∙ fails)) in
+      rw out (stricter p q more xs (rw fails at none))
+]
+
+has_temp : (valency : Valency) (moment : ℕ) (links : List Link) (p : Peer) → may_be_given (valency_task valency) moment links p ≡ true →
+    same_temp p.temp (valency_temp valency) ≡ true
+has_temp WarmUp moment links p h = (and_parts _ _ (and_parts _ _ (and_parts _ _ h).0).0).0
+has_temp HotUp moment links p h = (and_parts _ _ h).0
+has_temp HotDown moment links p h = h
+
+nobody-to-pick : (valency : Valency) (view : View) (peers : List Peer) (group : Group) → listed_at (valency_temp valency) peers ≡ [] →
+    valency_orders valency view peers group ≡ []
+nobody-to-pick valency view peers group none =
+    let test : Peer → Bool = is_member_and group (may_be_given (valency_task valency) view.moment view.links) in
+    let number : ℕ = missed valency view peers group in
+    let order : Addr → Order = order_of (valency_task valency) in
+    let nobody : filter (λ p. is_of false p && test p) peers ≡ [] =
+    stricter (λ p. is_of false p && test p) (λ p. same_temp p.temp (valency_temp valency))
+    (λ p h. has_temp valency view.moment view.links p (and_parts _ _ (and_parts _ _ h).1).1) peers
+    (nil-map (λ (p : Peer). p.addr) (filter (λ p. same_temp p.temp (valency_temp valency)) peers) none) in
+    sym (by_missed valency view peers group)
+    ∙ (ap (λ l. map order (picks_of false view.word number l)) nobody ∙ no-peers false view.word order number test)
+
+pub nobody-in-groups : (valency : Valency) (view : View) (peers : List Peer) (groups : List Group) → listed_at (valency_temp valency) peers ≡ [] →
+    flat_map (valency_orders valency view peers) groups ≡ []
+nobody-in-groups valency view peers [] none = refl
+nobody-in-groups valency view peers (g ∷ groups) none =
+    rw (nobody-to-pick valency view peers g none) (nobody-in-groups valency view peers groups none)

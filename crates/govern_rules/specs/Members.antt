@@ -3,6 +3,8 @@ use Rattle.std.specs.Prelude.{ℕ, ◌-◌, false, List, filter}
 use Rattle.net_base.specs.declared.address.Addr.{Addr}
 use Rattle.net_base.specs.declared.event.Group.{Group}
 use Rattle.net_base.specs.declared.peer.Peer.{Peer}
+use Rattle.net_base.specs.declared.peer.Temp.{Temp}
+use Rattle.net_base.specs.declared.peer.Temp.TheVariants.{Cold, Warm, Hot as IsHot}
 use Rattle.root_groups.specs.Cleaned.{is_listed}
 use Rattle.govern_rules.specs.Rules.{promotes_members, activates_members, deactivates_members}
 use Rattle.govern_rules.specs.Statuses.{count_with}
@@ -23,6 +25,12 @@ abbrev pub valency_task : Valency → Task
 valency_task WarmUp = Promoting
 valency_task HotUp = Activating
 valency_task HotDown = Deactivating
+
+-- of what temperature those are that may be given the task
+abbrev pub valency_temp : Valency → Temp
+valency_temp WarmUp = Cold
+valency_temp HotUp = Warm
+valency_temp HotDown = IsHot
 
 -- by how many members the valency is missed
 abbrev pub valency_number : Valency → Group → List Link → List Peer → ℕ

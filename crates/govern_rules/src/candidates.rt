@@ -43,7 +43,8 @@ fn established(alloc: Global, search: &Search, book: &PeerBook) -> Result<Vec<Pe
     Ok(cands)
 }
 
-fn among(alloc: Global, search: &Search, peers: &[Peer]) -> Result<Vec<Peer>, AllocError>
+// Those of some peers that suit.
+pub fn among(alloc: Global, search: &Search, peers: &[Peer]) -> Result<Vec<Peer>, AllocError>
     ensures { IfOk result (λ cands. cands.items ≡ filter (suits search.now) peers.now) }
 {
     peers
@@ -54,7 +55,7 @@ fn among(alloc: Global, search: &Search, peers: &[Peer]) -> Result<Vec<Peer>, Al
 }
 
 // Those with some addresses that suit.
-pub fn found(
+fn found(
     alloc: Global,
     search: &Search,
     addrs: &[Addr],

@@ -1,12 +1,13 @@
-ghost use Rattle.std.specs.Prelude.{◌≡◌, ◌≤◌, [], IfOk, IsTrue, length};
+ghost use Rattle.std.specs.Prelude.{◌≡◌, ◌≤◌, [], false, IfOk, IsTrue, length};
 ghost use Rattle.std.specs.List.{prefix_len};
 ghost use Rattle.std.specs.List.Sorted.{IsPermutation};
-ghost use Rattle.govern_rules.specs.Links.{some_link};
+ghost use Rattle.net_base.specs.declared.address.Addr.{Addr};
+ghost use Rattle.govern_rules.specs.Links.{some_link, marks_counted};
 ghost use Rattle.govern_rules.specs.Marks.{has_mark};
 ghost use Rattle.govern_rules.specs.SortedLinks.{IsInOrder, is_below, is_up_to, is_above_next, link_below, links_of};
 
-use crate::Link;
 use crate::mark::{Mark, some};
+use crate::{Link, MarkCounts};
 use net_base::{Addr, OutOfMemory};
 use std::alloc::Global;
 use std::marker::Model;
@@ -15,18 +16,20 @@ use std::marker::Model;
 #[derive(Drop)]
 pub struct LinkList {
     links: Vec<Link>,
+    counts: MarkCounts,
 }
 
 impl Model for LinkList {
-    ghost use Rattle.std.specs.Prelude.{List};
+    ghost use Rattle.std.specs.Prelude.{List, ◌≡◌};
     ghost use Rattle.govern_rules.specs.declared.link.Link.{Link};
+    ghost use Rattle.govern_rules.specs.Links.{marks_counted};
     ghost use Rattle.govern_rules.specs.SortedLinks.{IsInOrder};
 
     ghost Value = { List Link };
 
     ghost view = { λ l. l.links.items };
 
-    ghost invariant = { λ l. IsInOrder l.links.items };
+    ghost invariant = { λ l. IsInOrder l.links.items × (l.counts ≡ marks_counted l.links.items) };
 }
 
 impl LinkList {
@@ -34,9 +37,16 @@ impl LinkList {
     pub fn new(alloc: Global) -> LinkList
         ensures { result ≡ [] }
     {
-        LinkList {
-            links: Vec::new(alloc),
-        }
+        LinkList::counted(Vec::new(alloc), MarkCounts::of(&[]))
+    }
+
+    /// Links that stand in order, with what is counted of them. Nothing is looked at.
+    pub fn counted(links: Vec<Link>, counts: MarkCounts) -> LinkList
+        requires ordered { IsInOrder links.items }
+        requires counted { counts ≡ marks_counted links.items }
+        ensures { result ≡ links.items }
+    {
+        LinkList { links, counts }
     }
 
     /// The links of a vector. They are sorted only where they don't stand in order yet, and memory is asked for only
@@ -44,11 +54,13 @@ impl LinkList {
     pub fn from_vec(mut links: Vec<Link>) -> Result<LinkList, OutOfMemory>
         ensures { IfOk result (λ sorted. IsPermutation links.items sorted) }
     {
+        let counts = MarkCounts::of(&links);
         if is_in_order(&links) {
-            return Ok(LinkList { links });
+            return Ok(LinkList::counted(links, counts));
         }
         links.sort_by_key(|link| (link.addr, link.cid))?;
-        Ok(LinkList { links })
+        let counts = MarkCounts::of(&links);
+        Ok(LinkList::counted(links, counts))
     }
 
     pub fn as_slice(&self) -> &[Link]
@@ -63,6 +75,18 @@ impl LinkList {
         ensures { result.now ≡ links_of addr self.now }
     {
         links_of(&self.links, addr)
+    }
+
+    // Whether some link may have a mark.
+    pub(crate) fn is_marked(&self, mark: Mark) -> bool
+        ensures { result ≡ false → (addr : Addr) → some_link (has_mark mark) self.now addr ≡ false }
+    {
+        match mark {
+            Mark::Pending => self.counts.pending > 0,
+            Mark::Owes2 => self.counts.owes2 > 0,
+            Mark::Owes10 => self.counts.owes10 > 0,
+            _ => true,
+        }
     }
 
     // Some link of an address has a mark.

@@ -31,6 +31,9 @@ fn count_marked(mark: Mark, big: bool, links: &LinkList, book: &PeerBook) -> u64
     requires { IsDistinct same_address (addresses_of book.now) }
     ensures { result ≡ count_of big (some_link (has_mark mark) links.now) book.now }
 {
+    if !links.is_marked(mark) {
+        return 0;
+    }
     let mut count = 0;
     let mut rest = links.as_slice();
     while let Some((link, after)) = rest.split_first() {

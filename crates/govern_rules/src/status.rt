@@ -1,12 +1,10 @@
 ghost use Rattle.std.specs.Prelude.{◌≡◌, false};
-ghost use Rattle.govern_rules.specs.Search.{lookups};
 ghost use Rattle.govern_rules.specs.Statuses.{has_status, count_with};
 ghost use Rattle.peer_book.specs.Book.{is_of};
 
 use crate::LinkList;
 use crate::mark::Mark;
-use net_base::{Addr, Peer, Temp};
-use peer_book::PeerBook;
+use net_base::{Peer, Temp};
 
 // What the members of a group are counted by.
 #[derive(Clone, Copy)]
@@ -16,13 +14,12 @@ pub enum Status {
     Hot,
 }
 
-// How many of the ordinary peers with some addresses have a status.
-pub fn count_with(status: Status, addrs: &[Addr], links: &LinkList, book: &PeerBook) -> u64
-    ensures { result ≡ count_with status false links.now (lookups book.now addrs.now) }
+// How many ordinary ones of some peers have a status.
+pub fn count_with(status: Status, peers: &[Peer], links: &LinkList) -> u64
+    ensures { result ≡ count_with status false links.now peers.now }
 {
-    let count = addrs
+    let count = peers
         .iter()
-        .filter_map(|addr| book.get(*addr))
         .filter(|peer| is_of(false, peer) && has_status(status, links, peer))
         .count();
     count as u64

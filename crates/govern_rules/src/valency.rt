@@ -1,18 +1,18 @@
-ghost use Rattle.std.specs.Prelude.{◌≡◌, ◌++◌, IfOk};
+ghost use Rattle.std.specs.Prelude.{◌≡◌, ◌++◌, IfOk, OnOk};
 ghost use Rattle.std.specs.List.{IsDistinct, flat_map};
 ghost use Rattle.net_base.specs.Address.{same_address};
 ghost use Rattle.peer_book.specs.Book.{addresses_of};
-ghost use Rattle.govern_rules.specs.Members.{valency_task, valency_number, valency_orders};
+ghost use Rattle.govern_rules.specs.Members.{valency_task, valency_temp, valency_number, valency_orders};
 ghost use Rattle.govern_rules.specs.Search.{lookups};
 
-use crate::candidates::found;
+use crate::candidates::among;
 use crate::orders::ordinary_orders;
 use crate::search::Search;
 use crate::status::{Status, count_with};
 use crate::task::Task;
 use crate::whom::Whom;
-use crate::{Order, View};
-use net_base::{Group, OutOfMemory};
+use crate::{LinkList, Order, View};
+use net_base::{Addr, Group, OutOfMemory, Peer, Temp};
 use peer_book::PeerBook;
 use pick_policy::Picker;
 use root_groups::Groups;
@@ -29,7 +29,8 @@ pub enum Valency {
     HotDown,
 }
 
-// The orders for all groups, one group after the other, behind other orders.
+// The orders for all groups, one group after the other, behind other orders. Where nobody is known, or nobody has the
+// temperature that is asked for, no group is looked at.
 pub fn groups_orders(
     alloc: Global,
     valency: Valency,
@@ -45,28 +46,48 @@ pub fn groups_orders(
     if book.as_slice().is_empty() {
         return Ok(orders);
     }
+    if book.listed(temp_of(valency)).is_empty() {
+        return Ok(orders);
+    }
+    let mut known = Vec::new(alloc);
     for group in groups.list().as_slice() {
-        let more = group_orders(alloc, valency, view, book, group, picker)?;
+        look_up(&mut known, group.members.as_slice(), book)?;
+        let more = group_orders(alloc, valency, view, group, &known, book, picker)?;
         orders.extend_from_slice(&more)?;
     }
     Ok(orders)
 }
 
-// Where a group has its valency, its members are counted and nothing more.
+// The peers with some addresses, in place of others.
+fn look_up(known: &mut Vec<Peer>, addrs: &[Addr], book: &PeerBook) -> Result<(), OutOfMemory>
+    ensures { OnOk result (known.new.items ≡ lookups book.now addrs.now) }
+{
+    known.clear();
+    for addr in addrs {
+        if let Some(peer) = book.get(*addr) {
+            known.push(peer)?;
+        }
+    }
+    Ok(())
+}
+
+// Each member was looked up once, and where a group has its valency they are counted and nothing more.
 fn group_orders(
     alloc: Global,
     valency: Valency,
     view: &View,
-    book: &PeerBook,
     group: &Group,
+    known: &[Peer],
+    book: &PeerBook,
     picker: &Picker,
 ) -> Result<Vec<Order>, OutOfMemory>
     requires members { IsDistinct same_address group.now.members }
     requires peers { IsDistinct same_address (addresses_of book.now) }
+    requires known { known.now ≡ lookups book.now group.now.members }
     ensures { IfOk result (λ orders. orders.items
         ≡ valency_orders valency view.now book.now group.now) }
 {
-    let number = number_of(valency, group, view, book);
+    let number = number_of(valency, group, &view.links, known);
     if number == 0 {
         return Ok(Vec::new(alloc));
     }
@@ -77,8 +98,19 @@ fn group_orders(
         whom: Whom::Everybody,
         view,
     };
-    let cands = found(alloc, &search, group.members.as_slice(), book)?;
+    let cands = among(alloc, &search, known)?;
     ordinary_orders(alloc, task, number, view.word, &cands, picker)
+}
+
+// Of what temperature those are that a rule picks from.
+fn temp_of(valency: Valency) -> Temp
+    ensures { result ≡ valency_temp valency }
+{
+    match valency {
+        Valency::WarmUp => Temp::Cold,
+        Valency::HotUp => Temp::Warm,
+        Valency::HotDown => Temp::Hot,
+    }
 }
 
 fn task_of(valency: Valency) -> Task
@@ -92,21 +124,20 @@ fn task_of(valency: Valency) -> Task
 }
 
 // By how many members the valency is missed.
-fn number_of(valency: Valency, group: &Group, view: &View, book: &PeerBook) -> u64
-    ensures { result ≡ valency_number valency group.now view.now.links (lookups book.now group.now.members) }
+fn number_of(valency: Valency, group: &Group, links: &LinkList, known: &[Peer]) -> u64
+    ensures { result ≡ valency_number valency group.now links.now known.now }
 {
-    let (members, links) = (group.members.as_slice(), &view.links);
     match valency {
         Valency::WarmUp => {
-            let warm = count_with(Status::EstablishedOrPending, members, links, book);
+            let warm = count_with(Status::EstablishedOrPending, known, links);
             group.warm.saturating_sub(warm)
         }
         Valency::HotUp => {
-            let hot = count_with(Status::HotOrOwesOn2, members, links, book);
+            let hot = count_with(Status::HotOrOwesOn2, known, links);
             group.hot.saturating_sub(hot)
         }
         Valency::HotDown => {
-            let hot = count_with(Status::Hot, members, links, book);
+            let hot = count_with(Status::Hot, known, links);
             hot.saturating_sub(group.hot)
         }
     }

@@ -1,9 +1,9 @@
 -- The laws on the clients.
-use Rattle.std.proofs.Common.{◌≡◌, ◌≢◌, ℕ, ◌+◌, ◌≤◌, eqb, leb, ◌⊎◌, List, [], ◌∷◌, ◌++◌, length, take, drop, Option, Some, None, Result, Ok, Err, refl, sym, ap, subst, ◌∙◌, append_assoc, arith, inl, inr}
+use Rattle.std.proofs.Common.{◌≡◌, ◌≢◌, ℕ, ◌+◌, ◌≤◌, ◌<◌, eqb, leb, ◌⊎◌, List, [], ◌∷◌, ◌++◌, length, take, drop, Option, Some, None, Result, Ok, Err, refl, sym, ap, subst, ◌∙◌, append_assoc, arith, inl, inr}
 use Rattle.std.specs.Prelude.{map, filter}
 use Rattle.std.specs.List.{AllByRecursion}
 use Rattle.std.specs.Option.{option_map}
-use Rattle.std.proofs.lemmas.Bool.{cases_Bool, eqb-true, eqb-false, le-leb, leb-true}
+use Rattle.std.proofs.lemmas.Bool.{cases_Bool, eqb-true, eqb-false, le-leb, lt-leb, leb-true}
 use Rattle.std.proofs.lemmas.List.{append-nil}
 use Rattle.cbor_items.specs.Scan.{scan_of}
 use Rattle.hs_message.specs.Reading.{client_message_of}
@@ -16,7 +16,7 @@ use Rattle.mux_segment.proofs.Cuts.{cut_append, cut_then}
 use Rattle.net_base.specs.declared.action.FaultKind.{FaultKind}
 use Rattle.net_base.specs.declared.action.FaultKind.TheVariants.{UnknownId, Protocol}
 use Rattle.local_clients.specs.declared.action.ClientAction.{ClientAction}
-use Rattle.local_clients.specs.declared.action.ClientAction.TheVariants.{Turnaway}
+use Rattle.local_clients.specs.declared.action.ClientAction.TheVariants.{Admit, Turnaway}
 use Rattle.local_clients.specs.declared.client.GreetingClient.{GreetingClient}
 use Rattle.local_clients.specs.declared.client.OpenClient.{OpenClient}
 use Rattle.local_clients.specs.declared.context.Context.{Context}
@@ -31,10 +31,12 @@ use Rattle.local_clients.specs.Rules.{AreInRange, CanHappen}
 use Rattle.local_clients.specs.Agreement.{decision_of}
 use Rattle.local_clients.specs.Hearing.{Heard, goes_on, faults, decided, item_heard, handshake_limit, first_heard, is_client_protocol, header_fault, payload_heard, heard_unless, segment_heard, then_heard, heard}
 use Rattle.local_clients.specs.Clients.{ClientTable, ClientsState, no_clients, live, client_at, without, version_of, open_version, Stepped, nothing_done, is_due, waited_too_long, leaves, put_back, hears, hears_client, bytes_come, stepped}
-use Rattle.local_clients.specs.Kept.{IdsRise, AreKept}
-use Rattle.local_clients.specs.Law.{run, AreReached, AreFew, RiseInTheirTime, IsTurnaway, AreTurnedAway, PiecesDoNotMatter, IsOpenFault, StaysOrGoes, OpenClientsStay, AreLawful}
+use Rattle.local_clients.specs.Kept.{IdsRise, IsGiven, AreApart, AreKept}
+use Rattle.local_clients.specs.Law.{run, AreReached, AreFew, RiseInTheirTime, IsTurnaway, TurnsAway, AreTurnedAway, PiecesDoNotMatter, IsOpenFault, StaysOrGoes, OpenClientsStay, GoneAreGone, KeepTheirTime, AreLawful}
 use Rattle.local_clients.proofs.Ids.{gone_without, other_without, here_with, other_with, without_absent, without_with}
+use Rattle.local_clients.proofs.Behaviour.{goes_alone, stays_away, keeps_time, fitting_proposals_open, faults_are_of_bytes}
 use Rattle.local_clients.proofs.Keeps.{ids_of_time, kept_after}
+use Rattle.local_clients.proofs.Lists.{all_found}
 
 -- ---- clients that are reached
 
@@ -175,8 +177,11 @@ turned_away_only rules t Joined not_full =
 turned_away_only rules t (Bytes id bytes) not_full = bytes_no_turnaway rules t id bytes (client_at id t.greeting) (client_at id t.opened)
 turned_away_only rules t (Gone id) not_full = tt
 
+let_in : (rules : ClientRules) (t : ClientTable) → live t < rules.limit → (stepped rules Joined t).actions ≡ Admit t.next_id ∷ []
+let_in rules t room = rw (lt-leb rules.limit (live t) room) refl
+
 pub are_turned_away : AreTurnedAway
-are_turned_away rules t = record { full = turned_away_full rules t; only = turned_away_only rules t }
+are_turned_away rules t = record { full = turned_away_full rules t; room = let_in rules t; only = turned_away_only rules t }
 
 -- ---- in whatever pieces bytes come
 
@@ -375,32 +380,58 @@ opener_of : (o : Option OpenClient) (version : ℕ) → version_of o ≡ Some ve
 opener_of None version e = absurd cc
 opener_of (Some client) version e = (client, refl, cc)
 
-pub open_clients_stay : OpenClientsStay
-open_clients_stay rules t (Now moment) id version r open_now =
+pub stays_open : (rules : ClientRules) (t : ClientTable) → AreApart t → (event : ClientEvent) (id version : ℕ) → open_version id t ≡ Some version → StaysOrGoes rules event id version t
+stays_open rules t apart (Now moment) id version open_now =
     elim (cases_Bool (leb moment t.moment)) [
       | inl early ↦ rw early (inl open_now)
       | inr late ↦ rw late (inl open_now)
     ]
-open_clients_stay rules t Joined id version r open_now =
+stays_open rules t apart Joined id version open_now =
     elim (cases_Bool (leb rules.limit (live t))) [
       | inl full ↦ rw full (inl open_now)
       | inr room ↦ rw room (inl open_now)
     ]
-open_clients_stay rules t (Gone q) id version r open_now =
+stays_open rules t apart (Gone q) id version open_now =
     elim (cases_Bool (eqb id q)) [
       | inl same ↦ inr (inl (ap (λ (n : ℕ). Gone n) (sym (eqb-true id q same))))
       | inr other ↦ inl (ap version_of (other_without id q t.opened (eqb-false id q other)) ∙ open_now)
     ]
-open_clients_stay rules t (Bytes q bytes) id version r open_now =
+stays_open rules t apart (Bytes q bytes) id version open_now =
     elim (cases_Bool (eqb id q)) [
       | inl same ↦
           let opener = opener_of (client_at id t.opened) version open_now in
-          let kept = reached rules t r in
           subst (λ (n : ℕ). StaysOrGoes rules (Bytes n bytes) id version t) (eqb-true id q same)
-          (own_bytes rules t id version bytes opener.0 opener.2 (kept.apart id opener.0 opener.1) opener.1)
+          (own_bytes rules t id version bytes opener.0 opener.2 (apart id opener.0 opener.1) opener.1)
       | inr other ↦
           inl (ap version_of (other_heard rules id q bytes t (client_at q t.greeting) (client_at q t.opened) (eqb-false id q other)) ∙ open_now)
     ]
+
+pub open_clients_stay : OpenClientsStay
+open_clients_stay rules t event id version r open_now = stays_open rules t (reached rules t r).apart event id version open_now
+
+-- ---- one event
+
+pub turns_away : (rules : ClientRules) (event : ClientEvent) (t : ClientTable) → TurnsAway rules event t (stepped rules event t).actions
+turns_away rules event t = record {
+  full = λ joined full. ap (λ (e : ClientEvent). (stepped rules e t).actions) joined ∙ ap (λ (s : Stepped). s.actions) (turned_away_full rules t full);
+  only = turned_away_only rules t event;
+}
+
+-- ---- who goes, and when
+
+given_to : (rules : ClientRules) (t : ClientTable) (r : AreReached rules t) (q : ℕ) (client : GreetingClient) → client_at q t.greeting ≡ Some client → q < t.next_id
+given_to rules t r q client found = (all_found (IsGiven rules.wait t) q client t.greeting (reached rules t r).given found).0
+
+pub gone_are_gone : GoneAreGone
+gone_are_gone rules t r =
+    let kept = reached rules t r in
+    let greeters = ids_of_time t.greeting kept.rise in
+    (goes_alone rules t greeters kept.opened_rise, stays_away rules t greeters kept.opened_rise)
+
+pub keep_their_time : KeepTheirTime
+keep_their_time rules t r =
+    let kept = reached rules t r in
+    keeps_time rules t (ids_of_time t.greeting kept.rise) kept.opened_rise (given_to rules t r)
 
 -- ---- all of it
 
@@ -411,4 +442,9 @@ are_lawful rules t r = record {
   turned_away = are_turned_away rules t;
   one_piece = λ id one two. pieces_do_not_matter rules id t one two r;
   stay = λ event id version open_now. open_clients_stay rules t event id version r open_now;
+  gone = (gone_are_gone rules t r).0;
+  away = (gone_are_gone rules t r).1;
+  time = keep_their_time rules t r;
+  fitting = fitting_proposals_open rules t;
+  faults = faults_are_of_bytes rules t;
 }

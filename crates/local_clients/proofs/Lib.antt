@@ -4,6 +4,7 @@ pub mod Lists
 pub mod Ids
 pub mod Keeps
 pub mod Laws
+mod Behaviour
 pub mod Readings
 pub mod Led
 pub mod Happening

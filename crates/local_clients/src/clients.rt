@@ -1,4 +1,5 @@
-ghost use Rattle.std.specs.Prelude.{◌≡◌, ◌+◌, ◌≤◌, ◌<◌, IfOk};
+ghost use Rattle.std.specs.Prelude.{◌≡◌, ℕ, ◌+◌, ◌≤◌, ◌<◌, IfOk, Some};
+ghost use Rattle.local_clients.specs.Law.{LeavesOpen, TurnsAway};
 ghost use Rattle.local_clients.specs.Rules.{AreInRange, CanHappen};
 ghost use Rattle.local_clients.specs.Clients.{no_clients, live, open_version, stepped};
 
@@ -71,7 +72,8 @@ impl Clients {
         self.table.open_version(id)
     }
 
-    /// The clients after an event, and what is done. Where memory is refused the clients are gone.
+    /// The clients after an event, and what is done. There are never more than the limit, somebody is turned away exactly there,
+    /// and an open client goes only where it says so, or by a fault of its own bytes. Where memory is refused the clients are gone.
     pub fn step(self, event: ClientEvent) -> Result<(Clients, ClientActions), OutOfMemory>
         requires few { self.taken < 1000000 }
         requires event { CanHappen event }
@@ -82,6 +84,8 @@ impl Clients {
         }) }
         ensures actions { IfOk result (λ done. done.1 ≡ (stepped self.rules event self.table).actions) }
         ensures few { IfOk result (λ done. live done.0.table ≤ done.0.rules.limit) }
+        ensures turned_away { IfOk result (λ done. TurnsAway self.rules event self.table done.1) }
+        ensures stays { IfOk result (λ done. (id version : ℕ) → open_version id self.table ≡ Some version → LeavesOpen event id version done.0.table done.1) }
     {
         let Clients {
             rules,

@@ -1,6 +1,6 @@
 //! Laws on the clients over whole runs, whatever function carries them out. The functions do nothing.
 
-ghost use Rattle.local_clients.specs.Law.{AreFew, RiseInTheirTime, AreTurnedAway, PiecesDoNotMatter, OpenClientsStay};
+ghost use Rattle.local_clients.specs.Law.{AreFew, AreTurnedAway, FaultsAreOfBytes, FittingProposalsOpen, GoneAreGone, KeepTheirTime, OpenClientsStay, PiecesDoNotMatter, RiseInTheirTime};
 ghost use Rattle.local_clients.specs.Replay.{LedAreLawful};
 
 /// There are never more clients than the limit.
@@ -13,7 +13,7 @@ pub fn greeting_clients_rise_in_time()
     ensures { RiseInTheirTime }
 {}
 
-/// A client is turned away exactly where it joins while there are as many as the limit.
+/// A client is turned away exactly where it joins while there are as many as the limit. Below the limit it is let in.
 pub fn clients_are_turned_away()
     ensures { AreTurnedAway }
 {}
@@ -26,6 +26,26 @@ pub fn pieces_do_not_matter()
 /// An open client goes only where it says so, or by a fault of its own bytes.
 pub fn open_clients_stay()
     ensures { OpenClientsStay }
+{}
+
+/// Whoever is said to be gone is there no more, and no event brings it back.
+pub fn gone_clients_are_gone()
+    ensures { GoneAreGone }
+{}
+
+/// A client that says nothing is closed at its deadline, not before and not after.
+pub fn silent_clients_have_their_time()
+    ensures { KeepTheirTime }
+{}
+
+/// A proposal that fits opens with the greatest version that both know, and the answer is sent.
+pub fn fitting_proposals_open()
+    ensures { FittingProposalsOpen }
+{}
+
+/// A client whose fault is told has sent bytes that are that fault.
+pub fn faults_are_of_bytes()
+    ensures { FaultsAreOfBytes }
 {}
 
 /// All of that is so of the clients behind any number of lines of an input.

@@ -1,2 +1,1 @@
-pub mod Announcement
 pub mod Sockets

@@ -101,7 +101,7 @@ impl<R: Net + Clock> World for LoopWorld<R> {
         let Some(reactor) = &mut self.reactor else {
             unreachable!()
         };
-        let done = reactor.act(&self.rt, action);
+        let done = reactor.act(action);
         self.counted(done)
     }
 }

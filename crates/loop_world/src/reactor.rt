@@ -1,37 +1,39 @@
-ghost use Rattle.std.specs.Prelude.{IfOk, IfSome};
+ghost use Rattle.std.specs.Prelude.{◌≤◌, length, IfOk, IfSome};
 ghost use Rattle.net_base.specs.Limits.{IsWithinLimits};
+ghost use Rattle.socket_flow.specs.Asks.{GivesWithinLimits};
 
-use crate::acceptor::Acceptor;
-use crate::announcement::announcement;
-use crate::limits::{INTERVAL_MOST, LAST};
-use crate::sockets::Sockets;
-use crate::world_clock::WorldClock;
-use mio::{Events, Poll};
-use net_base::{Action, AddrList, Event, Job, Octets, OutOfMemory, RootAnswer};
+use crate::addresses::{addr_of, socket_addr};
+use crate::stream::{Accepted, Moved, accept, dialed, is_for_want_of_room, read, write};
+use mio::net::{TcpListener, TcpStream};
+use mio::{Events, Interest, Poll, Token};
+use net_base::{Action, Addr, AddrList, Event, NUMBER_MOST, OutOfMemory};
 use node_settings::Config;
 use node_world::WorldRefusal;
 use rand_core::SeedableRng;
 use rand_core::utils::NextWord;
 use rand_pcg::Pcg64;
+use socket_flow::{Ask, READ_MOST, SocketFlow, Terms};
 use std::alloc::Global;
+use std::collections::HashMap;
 use std::io;
-use std::net::Net;
-use std::time::{Clock, Duration};
+use std::net::{Net, SocketAddr};
+use std::time::{Clock, Duration, Instant};
 
-// As many sockets are looked after in one turn.
-const TURN_MOST: usize = 256;
+// As many sockets tell in one wait what they are ready for.
+const TOLD_MOST: usize = 1024;
 
-// An open world: what brings its events, and does what it is asked for.
+const LISTENER: Token = Token(usize::MAX);
+
+// An open world: the sockets of a node, and what is done on them next.
 pub(crate) struct Reactor {
-    alloc: Global,
     poll: Poll,
     ready: Events,
-    acceptor: Acceptor,
-    sockets: Sockets,
-    clock: WorldClock,
+    listener: TcpListener,
+    streams: HashMap<usize, TcpStream>,
+    flow: SocketFlow,
+    start: Instant,
     generator: Pcg64,
-    publics: AddrList,
-    roots_serve: u64,
+    buffer: Vec<u8>,
 }
 
 // By hand, so that it is a function, proved here. Of a derived one each crate that has a world states and proves anew what
@@ -39,15 +41,14 @@ pub(crate) struct Reactor {
 impl Drop for Reactor {
     fn drop(self) {
         let Reactor {
-            alloc: _,
             poll: _,
             ready: _,
-            acceptor: _,
-            sockets: _,
-            clock: _,
+            listener: _,
+            streams: _,
+            flow: _,
+            start: _,
             generator: _,
-            publics: _,
-            roots_serve: _,
+            buffer: _,
         } = self;
     }
 }
@@ -60,140 +61,211 @@ impl Reactor {
         config: &Config,
         publics: &AddrList,
     ) -> Result<Reactor, WorldRefusal> {
-        let greeting = greeting_of(alloc, config)?;
         let poll = told(Poll::new(rt))?;
-        let own = config.settings.own;
-        let acceptor = told(Acceptor::listen(rt, own, poll.registry()))?;
+        let mut listener = told(TcpListener::bind(rt, socket_addr(config.settings.own)))?;
+        told(
+            poll.registry()
+                .register(&mut listener, LISTENER, Interest::READABLE),
+        )?;
         Ok(Reactor {
-            alloc,
             poll,
             ready: events(alloc)?,
-            acceptor,
-            sockets: Sockets::new(alloc, greeting, config.settings.handshake)?,
-            clock: WorldClock::start(rt, config.tick)?,
+            listener,
+            streams: HashMap::new(alloc),
+            flow: SocketFlow::new(alloc, terms_of(config), publics)?,
+            start: told(Instant::now(rt))?,
             generator: Pcg64::seed_from_u64(config.seed),
-            publics: AddrList::from_slice(alloc, publics.as_slice())?,
-            roots_serve: config.rootttl.clamp(1, INTERVAL_MOST),
+            buffer: buffer(alloc)?,
         })
     }
 
     /// What happens next. It waits until something does.
-    pub(crate) fn next(&mut self, rt: &impl Clock) -> Result<Event, WorldRefusal>
+    pub(crate) fn next<R: Net + Clock>(&mut self, rt: &R) -> Result<Event, WorldRefusal>
         ensures { IfOk result IsWithinLimits }
     {
         for _ in 0..u64::MAX {
-            if let Some(event) = self.given() {
+            let ask = self.flow.ask()?;
+            if let Some(event) = self.answer(rt, ask)? {
                 return Ok(event);
             }
-            self.turn(rt)?;
         }
-        // So many turns never come.
+        // So many asks never come.
         Ok(Event::Now(0))
     }
 
-    // The next event that waits. A peer that connected and is not heeded is turned away.
-    fn given(&mut self) -> Option<Event>
-        ensures { IfSome result IsWithinLimits }
+    /// Does what the node asks for. What it only tells is passed over.
+    pub(crate) fn act(&mut self, action: &Action) -> Result<(), WorldRefusal> {
+        Ok(self.flow.act(action)?)
+    }
+
+    // Does what is asked for. It may come to an event.
+    fn answer<R: Net + Clock>(&mut self, rt: &R, ask: Ask) -> Result<Option<Event>, WorldRefusal>
+        requires { GivesWithinLimits ask }
+        ensures { IfOk result (λ event. IfSome event IsWithinLimits) }
     {
-        let given = self.sockets.queue.pop()?;
-        if given.caller.is_some() {
-            self.sockets.turn_away();
-            self.sockets.caller = given.caller;
-        }
-        Some(given.event)
-    }
-
-    // Waits for the sockets, at most to the next tick, and takes in what they bring.
-    fn turn(&mut self, rt: &impl Clock) -> Result<(), WorldRefusal> {
-        let before = self.clock.moment(rt)?;
-        let time = Duration::from_millis(self.time_to_wait(before));
-        told(self.poll.poll(&mut self.ready, Some(time)))?;
-        let moment = self.clock.moment(rt)?;
-        if self.clock.tells(moment) {
-            self.sockets.queue.push(Event::Now(moment))?;
-        }
-        self.attend()?;
-        self.accept(moment)?;
-        self.sockets.drop_silent(moment);
-        self.govern(moment)
-    }
-
-    fn time_to_wait(&self, moment: u64) -> u64 {
-        let tick = self.clock.until_tick(moment);
-        match self.acceptor.until_next(moment) {
-            Some(time) => tick.min(time),
-            None => tick,
-        }
-    }
-
-    fn attend(&mut self) -> Result<(), OutOfMemory> {
-        for event in self.ready.iter() {
-            let token = event.token();
-            if token == Acceptor::TOKEN {
-                self.acceptor.is_called();
-            } else {
-                self.sockets.attend(self.poll.registry(), token.0)?;
+        match ask {
+            Ask::Give(event) => return Ok(Some(event)),
+            Ask::Govern => return Ok(Some(Event::Govern(self.generator.next_word()))),
+            Ask::Read(key, most) => return Ok(self.read(key, most)?),
+            Ask::Write(key) => self.write(key)?,
+            Ask::Check(key) => self.check(key)?,
+            Ask::Accept => self.accept()?,
+            Ask::Connect(key, addr) => self.connect(rt, key, addr)?,
+            Ask::Close(key) => {
+                self.streams.remove(&key);
             }
+            Ask::Wait(time) => self.wait(rt, time)?,
         }
-        Ok(())
+        Ok(None)
     }
 
-    // One peer a turn, so that what the node says of it comes before the next.
-    fn accept(&mut self, moment: u64) -> Result<(), OutOfMemory> {
-        match self.acceptor.accept(moment) {
-            Some((stream, addr)) => {
-                self.sockets
-                    .welcome(self.poll.registry(), stream, addr, moment)
-            }
+    fn read(&mut self, key: usize, most: usize) -> Result<Option<Event>, OutOfMemory>
+        ensures { IfOk result (λ event. IfSome event IsWithinLimits) }
+    {
+        let Some(stream) = self.streams.get_mut(&key) else {
+            return Ok(None);
+        };
+        let room = most.min(READ_MOST).min(self.buffer.len());
+        read_on(&mut self.flow, key, stream, &mut self.buffer[..room])
+    }
+
+    fn write(&mut self, key: usize) -> Result<(), OutOfMemory> {
+        let Some(stream) = self.streams.get_mut(&key) else {
+            return Ok(());
+        };
+        let bytes = self.flow.outgoing(key);
+        if bytes.is_empty() {
+            return Ok(());
+        }
+        match write(stream, bytes) {
+            Moved::Bytes(count) => self.flow.went(key, count),
+            Moved::Nothing => self.flow.is_full(key),
+            Moved::Again => self.flow.is_ready(key, true),
+            Moved::Ended => self.flow.ended(key),
+        }
+    }
+
+    fn check(&mut self, key: usize) -> Result<(), OutOfMemory> {
+        match self.streams.get_mut(&key) {
+            Some(stream) => self.flow.dialed(key, dialed(stream)),
             None => Ok(()),
         }
     }
 
-    fn govern(&mut self, moment: u64) -> Result<(), WorldRefusal> {
-        if self.clock.ticks(moment) {
-            let word = self.generator.next_word();
-            self.sockets.queue.push(Event::Govern(word))?;
-        }
-        Ok(())
-    }
-
-    /// Does what the node asks for. What it only tells is passed over.
-    pub(crate) fn act(&mut self, rt: &impl Net, action: &Action) -> Result<(), WorldRefusal> {
-        let registry = self.poll.registry();
-        match action {
-            Action::Admit(cid, _) if cid.0 <= LAST => self.sockets.admit(registry, *cid)?,
-            Action::Turnaway(_) => self.sockets.turn_away(),
-            Action::Dial(cid, addr) if cid.0 <= LAST => {
-                self.sockets.dial(rt, registry, *cid, *addr)?
+    fn accept(&mut self) -> Result<(), OutOfMemory> {
+        match accept(&self.listener) {
+            Accepted::Peer(stream, addr) => self.welcome(stream, addr),
+            Accepted::Nobody => {
+                self.flow.nobody_waits();
+                Ok(())
             }
-            Action::Send(cid, bytes) => self.sockets.send(registry, *cid, bytes.as_slice())?,
-            Action::Close(cid, _) => self.sockets.close(*cid),
-            Action::Pause(time) => self.acceptor.pause(self.clock.told(), *time),
-            Action::AskRoots(job) => self.answer_roots(*job)?,
-            _ => {}
+            Accepted::Gone => {
+                self.flow.caller_is_gone();
+                Ok(())
+            }
+            Accepted::NoRoom => {
+                self.flow.has_no_room();
+                Ok(())
+            }
+        }
+    }
+
+    fn welcome(&mut self, stream: TcpStream, addr: SocketAddr) -> Result<(), OutOfMemory> {
+        let key = self.flow.accepted(addr_of(addr))?;
+        self.watch(key, stream)
+    }
+
+    fn connect(&mut self, rt: &impl Net, key: usize, addr: Addr) -> Result<(), OutOfMemory> {
+        match TcpStream::connect(rt, socket_addr(addr)) {
+            Ok(stream) => self.watch(key, stream),
+            Err(error) if is_for_want_of_room(&error) => self.flow.has_no_room_to_dial(key, addr),
+            Err(_) => self.flow.ended(key),
+        }
+    }
+
+    // Has the system tell of a socket. Where it does not, it is closed.
+    fn watch(&mut self, key: usize, stream: TcpStream) -> Result<(), OutOfMemory> {
+        let mut stream = stream;
+        // What is sent is small and waited for. Where the system refuses, it is only slower.
+        let _ = stream.set_nodelay(true);
+        let interest = Interest::READABLE | Interest::WRITABLE;
+        match self
+            .poll
+            .registry()
+            .register(&mut stream, Token(key), interest)
+        {
+            Ok(()) => {
+                self.streams.insert(key, stream)?;
+                Ok(())
+            }
+            Err(_) => self.flow.ended(key),
+        }
+    }
+
+    // Waits for the sockets, and begins a round of those that are ready.
+    fn wait(&mut self, rt: &impl Clock, time: u64) -> Result<(), WorldRefusal> {
+        let time = Duration::from_millis(time);
+        told(self.poll.poll(&mut self.ready, Some(time)))?;
+        self.hear()?;
+        let moment = self.moment(rt)?;
+        Ok(self.flow.begin_round(moment)?)
+    }
+
+    fn hear(&mut self) -> Result<(), OutOfMemory> {
+        for event in self.ready.iter() {
+            let token = event.token();
+            if token == LISTENER {
+                self.flow.is_called();
+            } else {
+                self.flow.is_ready(token.0, event.is_writable())?;
+            }
         }
         Ok(())
     }
 
-    // With the public root peers of the topology.
-    fn answer_roots(&mut self, job: Job) -> Result<(), OutOfMemory> {
-        let publics = AddrList::from_slice(self.alloc, self.publics.as_slice())?;
-        let answer = RootAnswer::Found(self.roots_serve, publics);
-        self.sockets.queue.push(Event::Roots(job, answer))
+    fn moment(&self, rt: &impl Clock) -> Result<u64, WorldRefusal> {
+        let passed = told(self.start.elapsed(rt))?;
+        Ok(u64::try_from(passed.as_millis()).unwrap_or(NUMBER_MOST))
     }
 }
 
-// What a dialer says first: its address, or nothing.
-fn greeting_of(alloc: Global, config: &Config) -> Result<Octets, OutOfMemory> {
-    if config.announce {
-        announcement(alloc, config.settings.own)
-    } else {
-        Ok(Octets::new(alloc))
+// Reads what comes on a socket, at most as much as there is room for.
+fn read_on(
+    flow: &mut SocketFlow,
+    key: usize,
+    stream: &mut TcpStream,
+    room: &mut [u8],
+) -> Result<Option<Event>, OutOfMemory>
+    requires { length room.old ≤ 65536 }
+    ensures { IfOk result (λ event. IfSome event IsWithinLimits) }
+{
+    match read(stream, room) {
+        Moved::Bytes(count) => return flow.came(key, &room[..count]),
+        Moved::Nothing => {}
+        Moved::Again => flow.is_ready(key, false)?,
+        Moved::Ended => flow.ended(key)?,
+    }
+    Ok(None)
+}
+
+fn terms_of(config: &Config) -> Terms {
+    Terms {
+        own: config.settings.own,
+        announce: config.announce,
+        soft: config.settings.soft,
+        handshake: config.settings.handshake,
+        reply: config.settings.reply,
+        tick: config.tick,
+        rootttl: config.rootttl,
     }
 }
 
 fn events(alloc: Global) -> Result<Events, OutOfMemory> {
-    Ok(Events::with_capacity(alloc, TURN_MOST)?)
+    Ok(Events::with_capacity(alloc, TOLD_MOST)?)
+}
+
+fn buffer(alloc: Global) -> Result<Vec<u8>, OutOfMemory> {
+    Ok(Vec::from_elem(alloc, 0, READ_MOST)?)
 }
 
 // What fails here is a fault of the world.

@@ -1,10 +1,12 @@
 -- Parts of a step that were done.
-use Rattle.std.proofs.Common.{◌≡◌, ℕ, ◌+◌, ◌%◌, Bool, true, false, if◌then◌else◌, List, [], ◌∷◌, ◌++◌, map, find, append_assoc, append-nil, Option, Some, None, IfSome, IsSome, IsSomeAnd, refl, sym, ap, subst, ◌∙◌, inl, inr, arith, rules, tests}
+use Rattle.std.proofs.Common.{◌≡◌, ℕ, ◌+◌, ◌%◌, true, false, if◌then◌else◌, List, [], ◌∷◌, ◌++◌, map, find, append_assoc, append-nil, Option, Some, None, IfSome, IsSome, IsSomeAnd, refl, sym, ap, subst, ◌∙◌, inl, inr, arith, rules, tests}
 use Rattle.std.specs.Option.{option_map}
 use Rattle.std.proofs.lemmas.Bool.{cases_Bool}
 use Rattle.std.proofs.lemmas.Bool.Decides.{nat_tests}
-use Rattle.conn_state.specs.Moves.{released, agreed_inbound, agreed_outbound}
-use Rattle.conn_table.specs.Choices.{negotiated}
+use Rattle.conn_state.specs.Moves.{released}
+use Rattle.conn_table.specs.Conditions.{after_step}
+use Rattle.conn_table.specs.declared.step.Step.{Step}
+use Rattle.conn_table.specs.declared.step.Step.TheVariants.{Negotiated}
 use Rattle.conn_state.specs.Use.{has_id, is_outbound}
 use Rattle.net_base.specs.Shared.{RootState}
 use Rattle.net_base.specs.declared.action.Action.{Action}
@@ -16,13 +18,14 @@ use Rattle.net_base.specs.declared.peer.Peer.{Peer}
 use Rattle.net_base.specs.declared.peer.Temp.TheVariants.{Cold}
 use Rattle.net_base.specs.declared.targets.BigTargets.{BigTargets}
 use Rattle.net_base.specs.declared.targets.Targets.{Targets}
-use Rattle.machine.specs.Connections.{entry_turns, with_entry, is_used, says_done, release, trim}
+use Rattle.machine.specs.Connections.{entry_turns, with_entry, is_used, is_agreed_inbound, is_agreed_outbound, says_done, release, trim}
 use Rattle.machine.specs.Effect.{Effect, then_do, nothing_more}
 use Rattle.machine.specs.Machine.{Machine, Entry, entry_at}
 use Rattle.machine.specs.Peers.{peer_becomes}
 use Rattle.machine.specs.Replies.{owing}
 use Rattle.node_engine.proofs.FindLemmas.{IfSome-find}
 use Rattle.connections.specs.Standing.{Standing, entry_with, turned, Turns, moved}
+use Rattle.connections.specs.Steps.{closes, stepped}
 use Rattle.node_engine.specs.State.{Does, DoesTo, IsKnown, machine_of, name_notice, is_used_from}
 
 -- ---- parts one after another
@@ -140,25 +143,25 @@ turned_as facts change other s t h same = record {
   next_there = h.next_there ∙ ap (λ e. let o : Option Entry = Some e in o) (same h.entry h.is);
 }
 
--- the handshake is over
-pub negotiated_keeps : (agreed : Agreed) (until : ℕ) → KeepsId (moved (negotiated agreed until))
-negotiated_keeps agreed until e = kept (is_outbound e.facts)
-  where
-    kept : (b : Bool) → (if b then agreed_outbound agreed until e.facts else agreed_inbound agreed until e.facts).cid ≡ e.facts.cid
-    kept true = refl
-    kept false = refl
+-- ---- what a step comes to
 
-pub negotiated_inbound : (agreed : Agreed) (until : ℕ) (facts : Facts) (e : Entry) → is_outbound facts ≡ false → e.facts ≡ facts →
-    moved (negotiated agreed until) e ≡ moved (agreed_inbound agreed until) e
-negotiated_inbound agreed until facts e inbound is =
+-- one by which this side does not close
+pub not_closed : (step : Step) (facts : Facts) (e : Entry) → closes step facts ≡ false → e.facts ≡ facts → stepped step e ≡ moved (after_step step) e
+not_closed step facts e stays is =
+    let own : closes step e.facts ≡ false = ap (closes step) is ∙ stays in
+    rw own refl
+
+pub agreed_in : (agreed : Agreed) (until : ℕ) (facts : Facts) (e : Entry) (m : Machine) → is_outbound facts ≡ false → e.facts ≡ facts →
+    until ≡ m.now + m.settings.idle → entry_turns e (stepped (Negotiated agreed until) e) m ≡ is_agreed_inbound agreed e m
+agreed_in agreed until facts e m inbound is ends =
     let own : is_outbound e.facts ≡ false = ap is_outbound is ∙ inbound in
-    rw own refl
+    rw (own, ends) refl
 
-pub negotiated_outbound : (agreed : Agreed) (until : ℕ) (facts : Facts) (e : Entry) → is_outbound facts ≡ true → e.facts ≡ facts →
-    moved (negotiated agreed until) e ≡ moved (agreed_outbound agreed until) e
-negotiated_outbound agreed until facts e outbound is =
+pub agreed_out : (agreed : Agreed) (until : ℕ) (facts : Facts) (e : Entry) (m : Machine) → is_outbound facts ≡ true → e.facts ≡ facts →
+    until ≡ m.now + m.settings.idle → is_used (after_step (Negotiated agreed until) e.facts) e m ≡ is_agreed_outbound agreed e m
+agreed_out agreed until facts e m outbound is ends =
     let own : is_outbound e.facts ≡ true = ap is_outbound is ∙ outbound in
-    rw own refl
+    rw (own, ends) refl
 
 twice : (g : Facts) (x : Entry) (asked : ℕ) (m : Machine) →
     with_entry (owing 8 asked m (record x { facts = g })) (with_entry (record x { facts = g }) m) ≡ with_entry (owing 8 asked m (record x { facts = g })) m

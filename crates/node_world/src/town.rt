@@ -24,13 +24,13 @@ use question::{Question, question_of};
 use rand_core::SeedableRng;
 use rand_pcg::Pcg64;
 use segments::{
-    ACCEPTANCE, ALIVE_DONE, ALIVE_WITH_FIVE, INITIATOR, NO_INTERSECTION, PROPOSAL, RESPONDER,
-    heard, reply_alive, spoken,
+    ACCEPTANCE, ALIVE_WITH_FIVE, INITIATOR, NO_INTERSECTION, PROPOSAL, RESPONDER, heard,
+    reply_alive, spoken,
 };
 use start::Start;
 use std::alloc::Global;
 use std::marker::Model;
-use warm_messages::write_peers;
+use warm_messages::{ALIVE_DONE, write_peers};
 
 // As many milliseconds an answer with root peers serves.
 const ROOTS_SERVE: u64 = 3_600_000;

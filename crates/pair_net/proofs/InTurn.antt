@@ -9,7 +9,7 @@ use Rattle.hs_decide.specs.declared.role.Role.TheVariants as role
 use Rattle.hs_receive.specs.declared.received.Received.{Received}
 use Rattle.pair_net.specs.Ends.{given, taken_out, answered}
 use Rattle.pair_net.specs.Hearing.{heard, phase_after}
-use Rattle.pair_net.specs.Law.{CanOffer, HasAgreed, IsDelivery, deliveries_to, PipesEmpty, MeetingsAgreeInTurn}
+use Rattle.pair_net.specs.Law.{CanOffer, HasAgreed, IsDelivery, deliveries_to, PipesEmpty, MeetingsAgreeInTurn, CrossingsAgreeInTurn}
 use Rattle.pair_net.specs.Pair.{PairState, fresh_pair, other, end_of}
 use Rattle.pair_net.specs.Speaking.{answer_after}
 use Rattle.pair_net.specs.Steps.{concludes, delivers_in, stepped, pair_after}
@@ -18,12 +18,12 @@ use Rattle.pair_net.specs.declared.end.End.TheVariants.{Left, Right}
 use Rattle.pair_net.specs.declared.end.EndPhase.{EndPhase}
 use Rattle.pair_net.specs.declared.end.EndPhase.TheVariants.{Fresh, Waiting, Agreed, Ended}
 use Rattle.pair_net.specs.declared.end_state.EndState.{EndState}
-use Rattle.pair_net.specs.declared.pair_step.PairStep.TheVariants.{Meet, Deliver}
+use Rattle.pair_net.specs.declared.pair_step.PairStep.TheVariants.{Meet, Cross, Deliver}
 use Rattle.pair_net.proofs.Spoken.{proposal_spoken, acceptance_spoken}
 use Rattle.pair_net.proofs.Verdicts.{common}
 use Rattle.pair_net.proofs.Listening.{never_silent}
 use Rattle.pair_net.proofs.Meetings.{Meets, the_proposal, the_acceptance}
-use Rattle.pair_net.proofs.Runs.{pair-near, delivers-far, Meeting, meets_first, meeting_after}
+use Rattle.pair_net.proofs.Runs.{pair-near, delivers-far, Meeting, meets_first, meeting_after, Crossing, crosses_first, crossing_after, crossed}
 
 -- ---- what stands in a pipe after a delivery
 
@@ -99,3 +99,30 @@ meetings_agree_in_turn left right Right first second left_offers right_offers sa
     let accepted = accepted_once right left answered_pair.right answered_pair.left right_offers one (pipes_empty met Left first enough_first) in
     let both = agreed_once right left last.right last.left left_offers two (far_stays Right second answered_pair ∙ accepted) (pipes_empty answered_pair Right second enough_second) in
     (both.1, both.0)
+
+-- ---- a crossing
+
+each_has_agreed : (d : End) (counts : List ℕ) (p : PairState) → HasAgreed (end_of (other d) p) → HasAgreed (end_of (other d) (pair_after (deliveries_to d counts) p))
+each_has_agreed d counts p h = (h.0, far_stays d counts p ∙ h.1)
+
+pub crossings_agree_in_turn : CrossingsAgreeInTurn
+crossings_agree_in_turn left right Left first second left_offers right_offers same left_duplex right_duplex enough_first enough_second =
+    let crossed_pair : PairState = (stepped Cross (fresh_pair left right)).pair in
+    let heard_pair : PairState = pair_after (deliveries_to Left first) crossed_pair in
+    let one : Crossing left right heard_pair =
+    crossing_after left right left_offers right_offers same left_duplex right_duplex (deliveries_to Left first) crossed_pair (each_delivers Left first) (crosses_first left right left_offers right_offers) in
+    let two : Crossing left right (pair_after (deliveries_to Right second) heard_pair) =
+    crossing_after left right left_offers right_offers same left_duplex right_duplex (deliveries_to Right second) heard_pair (each_delivers Right second) one in (
+      each_has_agreed Right second heard_pair (crossed left right left_offers right_offers same left_duplex right_duplex left right heard_pair.left right_offers one.one (pipes_empty crossed_pair Left first enough_first)),
+      crossed left right left_offers right_offers same left_duplex right_duplex right left (pair_after (deliveries_to Right second) heard_pair).right left_offers two.two (pipes_empty heard_pair Right second enough_second),
+    )
+crossings_agree_in_turn left right Right first second left_offers right_offers same left_duplex right_duplex enough_first enough_second =
+    let crossed_pair : PairState = (stepped Cross (fresh_pair left right)).pair in
+    let heard_pair : PairState = pair_after (deliveries_to Right first) crossed_pair in
+    let one : Crossing left right heard_pair =
+    crossing_after left right left_offers right_offers same left_duplex right_duplex (deliveries_to Right first) crossed_pair (each_delivers Right first) (crosses_first left right left_offers right_offers) in
+    let two : Crossing left right (pair_after (deliveries_to Left second) heard_pair) =
+    crossing_after left right left_offers right_offers same left_duplex right_duplex (deliveries_to Left second) heard_pair (each_delivers Left second) one in (
+      crossed left right left_offers right_offers same left_duplex right_duplex left right (pair_after (deliveries_to Left second) heard_pair).left right_offers two.one (pipes_empty heard_pair Left second enough_second),
+      each_has_agreed Left second heard_pair (crossed left right left_offers right_offers same left_duplex right_duplex right left heard_pair.right left_offers one.two (pipes_empty crossed_pair Right first enough_first)),
+    )

@@ -6,6 +6,9 @@ pub mod Listening
 pub mod Meetings
 pub mod Crossings
 pub mod Runs
+mod Rightly
+mod Refusals
 pub mod Reached
 pub mod InTurn
 mod Playing
+mod Led

@@ -72,6 +72,7 @@ module _ (dialer acceptor : VersionInfo) where
     pub silent : far.incoming ≡ []
 
   pub record IsDone (near far : EndState) : Type 0 where
+    pub same : eqb acceptor.magic dialer.magic ≡ true
     pub agreed : near.phase ≡ Agreed (common acceptor dialer)
     pub accepted : far.phase ≡ Agreed (common acceptor dialer)
     pub silent : far.incoming ≡ []
@@ -119,13 +120,13 @@ module _ (dialer acceptor : VersionInfo) where
               let is : to_near ≡ concludes (Some (Decided (verdict.Agree (common acceptor dialer)))) d (given count near) far =
               by_heard Dialer dialer the_acceptance near h.listens count d far (Some (Decided (verdict.Agree (common acceptor dialer)))) heard_it in
               at_near Meets d to_near agreed_now far (ap (λ (t : Turn). t.pair) is)
-              (done (record { agreed = refl; accepted = h.accepted; silent = h.silent }))
+              (done (record { same = h.same; agreed = refl; accepted = h.accepted; silent = h.silent }))
         ]
 
     near_of_done : IsDone near far → NearStill
     near_of_done h =
         at_near Meets d to_near (taken_out count near) far (dropped (common acceptor dialer) count d near far h.agreed)
-        (done (record { agreed = h.agreed; accepted = h.accepted; silent = h.silent }))
+        (done (record { same = h.same; agreed = h.agreed; accepted = h.accepted; silent = h.silent }))
 
     pub dialer_is_given : Meets near far → NearStill
     dialer_is_given (proposed h) = near_of_proposed h
@@ -196,7 +197,7 @@ module _ (dialer acceptor : VersionInfo) where
     far_of_done : IsDone near far → FarGoes
     far_of_done h =
         at_far Goes d to_far near (taken_out count far) (dropped (common acceptor dialer) count (other d) far near h.accepted)
-        (on (done (record { agreed = h.agreed; accepted = h.accepted; silent = still_silent h.silent })))
+        (on (done (record { same = h.same; agreed = h.agreed; accepted = h.accepted; silent = still_silent h.silent })))
 
     pub acceptor_is_given : Meets near far → FarGoes
     acceptor_is_given (proposed h) = far_of_proposed h

@@ -34,7 +34,7 @@ use Rattle.pair_net.proofs.Crossings.{on_crossing, Crosses, one_is_given}
 
 -- ---- an end that has ended stays so
 
-abbrev Over : PairState → Type 0
+abbrev pub Over : PairState → Type 0
 Over p = HasEnded p.left ⊎ HasEnded p.right
 
 -- an end of a pair has ended
@@ -136,11 +136,11 @@ info_of Right left right = right
 abbrev pub Meeting : VersionInfo → VersionInfo → End → PairState → Type 0
 Meeting left right d p = Meets (info_of d left right) (info_of (other d) left right) (end_of d p) (end_of (other d) p)
 
-record Crossing (left right : VersionInfo) (p : PairState) : Type 0 where
-  one : Crosses left right p.left
-  two : Crosses right left p.right
+pub record Crossing (left right : VersionInfo) (p : PairState) : Type 0 where
+  pub one : Crosses left right p.left
+  pub two : Crosses right left p.right
 
-data Stands (left right : VersionInfo) : PairState → Type 0 where
+pub data Stands (left right : VersionInfo) : PairState → Type 0 where
   fresh : {p : PairState} → p ≡ fresh_pair left right → Stands left right p
   meeting : {p : PairState} (d : End) → Meeting left right d p → Stands left right p
   crossing : {p : PairState} → Crossing left right p → Stands left right p
@@ -159,7 +159,7 @@ module _ (left right : VersionInfo) (left_offers : CanOffer left) (right_offers 
     listens = record { phase-is = refl; info-is = refl; joined = refl; unheard = nothing_heard role.Acceptor left };
   })
 
-  crosses_first : Crossing left right (stepped Cross (fresh_pair left right)).pair
+  pub crosses_first : Crossing left right (stepped Cross (fresh_pair left right)).pair
   crosses_first = record {
     one = Crosses.listens (record { phase-is = refl; info-is = refl; joined = refl; unheard = nothing_heard role.Dialer left });
     two = Crosses.listens (record { phase-is = refl; info-is = refl; joined = refl; unheard = nothing_heard role.Dialer right });
@@ -303,10 +303,13 @@ module _ (left right : VersionInfo) (left_offers : CanOffer left) (right_offers 
   alike_if p one two (Stands.over (inl h)) e f = let w = h.1 in absurd cc
   alike_if p one two (Stands.over (inr h)) e f = let w = h.1 in absurd cc
 
+  pub stands_at : (steps : List PairStep) → Stands left right (pair_after steps (fresh_pair left right))
+  stands_at steps = stands_after steps (fresh_pair left right) (Stands.fresh refl)
+
   pub alike_after : (steps : List PairStep) (one two : AgreedOn) → (pair_after steps (fresh_pair left right)).left.phase ≡ Agreed one
       → (pair_after steps (fresh_pair left right)).right.phase ≡ Agreed two → one ≡ two
   alike_after steps one two e f =
-      alike_if (pair_after steps (fresh_pair left right)) one two (stands_after steps (fresh_pair left right) (Stands.fresh refl)) e f
+      alike_if (pair_after steps (fresh_pair left right)) one two (stands_at steps) e f
 
   -- ---- once everything is delivered
 
@@ -361,7 +364,7 @@ module _ (left right : VersionInfo) (left_offers : CanOffer left) (right_offers 
     crossing_goes_on p (inr (inl refused, h)) = let is = left_meets in absurd cc
     crossing_goes_on p (inr (inr refused, h)) = let is = right_meets in absurd cc
 
-    crossing_after : (steps : List PairStep) (p : PairState) → AllByRecursion IsDelivery steps → Crossing left right p → Crossing left right (pair_after steps p)
+    pub crossing_after : (steps : List PairStep) (p : PairState) → AllByRecursion IsDelivery steps → Crossing left right p → Crossing left right (pair_after steps p)
     crossing_after [] p each h = h
     crossing_after (Deliver e count ∷ steps) p each h =
         crossing_after steps (stepped (Deliver e count) p).pair each.1
@@ -371,7 +374,7 @@ module _ (left right : VersionInfo) (left_offers : CanOffer left) (right_offers 
     crossing_after (Timeout e ∷ steps) p each h = absurd each.0
     crossing_after (Close e ∷ steps) p each h = absurd each.0
 
-    crossed : (own theirs : VersionInfo) (e : EndState) → CanOffer theirs → Crosses own theirs e → e.incoming ≡ [] → HasAgreed e
+    pub crossed : (own theirs : VersionInfo) (e : EndState) → CanOffer theirs → Crosses own theirs e → e.incoming ≡ [] → HasAgreed e
     crossed own theirs e offers (Crosses.listens h) none =
         absurd (never_silent role.Dialer own (proposal_frame theirs) e h _ (proposal_spoken role.Dialer own theirs offers.magic) none)
     crossed own theirs e offers (Crosses.agrees h) none = (h.agreed, h.phase-is)

@@ -31,12 +31,12 @@ agrees dialer acceptor offers same = are_agreed dialer acceptor (common acceptor
 
 -- ---- both have dialed
 
-meets_by : (own theirs : VersionInfo) (same : Bool) → theirs.query ≡ false → eqb own.magic theirs.magic ≡ same
+pub meets_by : (own theirs : VersionInfo) (same : Bool) → theirs.query ≡ false → eqb own.magic theirs.magic ≡ same
     → verdict_of Dialer own (message.Propose (own_table theirs)) ≡ (if same then meets_joined (common own theirs) else Refused)
 meets_by own theirs true offers is = rw (is, offers) refl
 meets_by own theirs false offers is = rw is refl
 
-joined_by : (agreed : Agreed) (b : Bool) → agreed.initiator_only ≡ b → meets_joined agreed ≡ (if b then Refused else Agree agreed)
+pub joined_by : (agreed : Agreed) (b : Bool) → agreed.initiator_only ≡ b → meets_joined agreed ≡ (if b then Refused else Agree agreed)
 joined_by agreed b is = ap (λ (x : Bool). if x then Refused else Agree agreed) is
 
 pub meets : (own theirs : VersionInfo) → theirs.query ≡ false → eqb own.magic theirs.magic ≡ true → (own.initiator_only || theirs.initiator_only) ≡ false

@@ -1,13 +1,34 @@
 -- What holds whatever the pipes deliver, in whatever order and cuts.
-use Rattle.std.specs.Prelude.{◌≡◌, ℕ, ◌<◌, ◌^◌, ◌≤◌, false, List, [], ◌∷◌, length, map, sum}
-use Rattle.std.specs.List.{AllByRecursion}
+use Rattle.std.specs.Prelude.{◌≡◌, ◌≢◌, ℕ, ◌<◌, ◌^◌, ◌≤◌, ◌==◌, true, false, List, [], ◌∷◌, length, map, sum, Some, None}
+use Rattle.std.specs.List.{AllByRecursion, list_any}
+use Rattle.hs_decide.specs.Agreement.{offer_of}
+use Rattle.hs_decide.specs.Answers.{own_table}
+use Rattle.hs_decide.specs.declared.role.Role.{Role}
+use Rattle.hs_decide.specs.declared.role.Role.TheVariants.{Acceptor}
+use Rattle.hs_message.specs.Canonical.{node_spelling}
 use Rattle.hs_message.specs.declared.info.VersionInfo.{VersionInfo}
+use Rattle.hs_message.specs.declared.info.Info.{Info}
+use Rattle.hs_message.specs.declared.info.Info.TheVariants.{Known, Foreign}
+use Rattle.hs_message.specs.Reading.{message_of}
+use Rattle.hs_message.specs.declared.message.Message.{Message}
+use Rattle.hs_message.specs.declared.message.Message.TheVariants.{Propose, Accept, Refuse, QueryReply}
+use Rattle.hs_message.specs.declared.message.Reason.{Reason}
+use Rattle.hs_message.specs.declared.message.Reason.TheVariants as reason
+use Rattle.hs_message.specs.declared.offer.Offer.{Offer}
+use Rattle.mux_segment.specs.Frame.{frame_of}
+use Rattle.mux_segment.specs.Protocols.{node_limits}
+use Rattle.mux_segment.specs.Stream.{nothing_fed, fed_by}
+use Rattle.mux_segment.specs.declared.item.Item.{Item}
 use Rattle.net_base.specs.declared.connection.Agreed.{Agreed as AgreedOn}
+use Rattle.pair_net.specs.Ends.{given}
 use Rattle.pair_net.specs.Pair.{PairState, fresh_pair, end_of, other}
-use Rattle.pair_net.specs.Steps.{pair_after}
+use Rattle.pair_net.specs.Steps.{stepped, pair_after}
 use Rattle.pair_net.specs.declared.end.End.{End}
-use Rattle.pair_net.specs.declared.end.EndPhase.TheVariants.{Agreed}
+use Rattle.pair_net.specs.declared.end.EndCause.TheVariants.{Refused}
+use Rattle.pair_net.specs.declared.end.EndPhase.TheVariants.{Waiting, Agreed, Ended}
 use Rattle.pair_net.specs.declared.end_state.EndState.{EndState}
+use Rattle.pair_net.specs.declared.note.PairNote.{PairNote}
+use Rattle.pair_net.specs.declared.note.PairNote.TheVariants.{Sent, Ends}
 use Rattle.pair_net.specs.declared.pair_step.PairStep.{PairStep}
 use Rattle.pair_net.specs.declared.pair_step.PairStep.TheVariants.{Meet, Cross, Deliver, Timeout, Close}
 
@@ -81,3 +102,122 @@ abbrev pub CrossingsAgree : Type 0
 CrossingsAgree = (left right : VersionInfo) (deliveries : List PairStep) → CanOffer left → CanOffer right
     → left.magic ≡ right.magic → left.initiator_only ≡ false → right.initiator_only ≡ false → AllByRecursion IsDelivery deliveries
     → let p = pair_after (Cross ∷ deliveries) (fresh_pair left right) in AllIsDelivered p → HaveAgreed p
+
+-- The same where everything is delivered to one end first, and then to the other, in any cuts.
+abbrev pub CrossingsAgreeInTurn : Type 0
+CrossingsAgreeInTurn = (left right : VersionInfo) (end : End) (first second : List ℕ) → CanOffer left → CanOffer right
+    → left.magic ≡ right.magic → left.initiator_only ≡ false → right.initiator_only ≡ false
+    → let crossed = pair_after (Cross ∷ []) (fresh_pair left right) in
+    let heard = pair_after (deliveries_to end first) crossed in
+    length (end_of end crossed).incoming ≤ sum first → length (end_of (other end) heard).incoming ≤ sum second
+    → HaveAgreed (pair_after (deliveries_to (other end) second) heard)
+
+-- ---- what two ends agree on
+
+-- the versions that an end proposes
+abbrev pub Proposes : VersionInfo → ℕ → Type 0
+Proposes info version = list_any (λ offer. offer.version == version) (own_table info) ≡ true
+
+-- They are of one network. The version is the greatest that both propose. Protocols run both ways exactly where neither end
+-- is initiator only, and peers are shared exactly where both ends do.
+pub record IsRightly (left right : VersionInfo) (agreed : AgreedOn) : Type 0 where
+  pub one_network : left.magic ≡ right.magic
+  pub left_proposes : Proposes left agreed.version
+  pub right_proposes : Proposes right agreed.version
+  pub greatest : (version : ℕ) → Proposes left version → Proposes right version → version ≤ agreed.version
+  pub duplex : left.initiator_only ≡ false → right.initiator_only ≡ false → agreed.initiator_only ≡ false
+  pub duplex_only : agreed.initiator_only ≡ false → (left.initiator_only ≡ false) × (right.initiator_only ≡ false)
+  pub shares : left.sharing ≡ true → right.sharing ≡ true → agreed.sharing ≡ true
+  pub shares_only : agreed.sharing ≡ true → (left.sharing ≡ true) × (right.sharing ≡ true)
+
+-- both ends of a pair have agreed, so they have agreed rightly
+abbrev pub AgreesRightly : VersionInfo → VersionInfo → PairState → Type 0
+AgreesRightly left right p = (one two : AgreedOn) → p.left.phase ≡ Agreed one → p.right.phase ≡ Agreed two → IsRightly left right one
+
+-- Two ends that both agreed have agreed rightly, whatever steps led there. So ends of different networks never do.
+abbrev pub AgreeRightly : Type 0
+AgreeRightly = (left right : VersionInfo) (steps : List PairStep) → CanOffer left → CanOffer right
+    → AgreesRightly left right (pair_after steps (fresh_pair left right))
+
+-- ---- why an end is refused
+
+-- an offer of a version that an end proposes too, and none of a greater one that it proposes
+pub record IsGreatestOffer (own : VersionInfo) (table : List Offer) (version : ℕ) (info : Info) : Type 0 where
+  pub proposes : Proposes own version
+  pub offered : offer_of version table ≡ Some (record { version = version; info = info })
+  pub greatest : (greater : ℕ) → version < greater → Proposes own greater → offer_of greater table ≡ None
+
+-- The reason names every version that the end proposes, where the other one offers none of them. Else it names the greatest
+-- that is offered, whose info is not understood, or is of another network.
+abbrev pub IsReason : VersionInfo → List Offer → Reason → Type 0
+IsReason own table (reason.NoCommon versions) =
+    (versions ≡ map (λ offer. offer.version) (own_table own)) × AllByRecursion (λ version. offer_of version table ≡ None) versions
+IsReason own table (reason.NotDecoded version text) = IsGreatestOffer own table version Foreign
+IsReason own table (reason.Declined version text) = (theirs : VersionInfo) × IsGreatestOffer own table version (Known theirs) × (own.magic ≢ theirs.magic)
+
+-- the first item of these bytes spells this message
+pub record HasHeard (received : List ℕ) (said : Message) : Type 0 where
+  pub first : Item
+  pub others : List Item
+  pub items : (fed_by node_limits nothing_fed received).items ≡ first ∷ others
+  pub message : message_of first.body ≡ Some said
+
+-- what an end that refused has said, by what had been offered to it
+pub record IsToldWhy (own : VersionInfo) (received : List ℕ) (end : End) (notes : List PairNote) : Type 0 where
+  pub table : List Offer
+  pub why : Reason
+  pub offered : HasHeard received (Propose table)
+  pub right : IsReason own table why
+  pub told : notes ≡ Sent end (frame_of 1 0 0 (node_spelling (Refuse why))) ∷ Ends end Refused ∷ []
+
+-- Where an end that was dialed refuses the other one, it says why.
+abbrev pub TellsWhy : PairState → Type 0
+TellsWhy p = (end : End) (count : ℕ) → (end_of end p).phase ≡ Waiting Acceptor
+    → let turn = stepped (Deliver end count) p in
+    (end_of end turn.pair).phase ≡ Ended Refused → IsToldWhy (end_of end p).info (given count (end_of end p)).received end turn.notes
+
+abbrev pub RefusalsAreTold : Type 0
+RefusalsAreTold = (p : PairState) → TellsWhy p
+
+-- ---- why an end agrees
+
+-- They are of one network. Protocols run both ways exactly where neither is initiator only, and peers are shared exactly where
+-- both do.
+pub record IsAgreedWith (own theirs : VersionInfo) (agreed : AgreedOn) : Type 0 where
+  pub network : own.magic ≡ theirs.magic
+  pub duplex : own.initiator_only ≡ false → theirs.initiator_only ≡ false → agreed.initiator_only ≡ false
+  pub duplex_only : agreed.initiator_only ≡ false → (own.initiator_only ≡ false) × (theirs.initiator_only ≡ false)
+  pub shares : own.sharing ≡ true → theirs.sharing ≡ true → agreed.sharing ≡ true
+  pub shares_only : agreed.sharing ≡ true → (own.sharing ≡ true) × (theirs.sharing ≡ true)
+
+-- Of a proposal it is the greatest version that is offered and that the end proposes too, and of an acceptance the one that was
+-- accepted, which the end proposes.
+abbrev pub IsAgreement : VersionInfo → AgreedOn → Message → Type 0
+IsAgreement own agreed (Propose table) = (theirs : VersionInfo) × IsGreatestOffer own table agreed.version (Known theirs) × IsAgreedWith own theirs agreed
+IsAgreement own agreed (Accept version (Known theirs)) = Proposes own version × (agreed.version ≡ version) × IsAgreedWith own theirs agreed
+IsAgreement own agreed (Accept version Foreign) = ⊥
+IsAgreement own agreed (Refuse why) = ⊥
+IsAgreement own agreed (QueryReply table) = ⊥
+
+pub record AgreesOnHeard (own : VersionInfo) (received : List ℕ) (agreed : AgreedOn) : Type 0 where
+  pub said : Message
+  pub heard : HasHeard received said
+  pub right : IsAgreement own agreed said
+
+abbrev pub AgreesByWord : PairState → Type 0
+AgreesByWord p = (end : End) (role : Role) (count : ℕ) (agreed : AgreedOn) → (end_of end p).phase ≡ Waiting role
+    → (end_of end (stepped (Deliver end count) p).pair).phase ≡ Agreed agreed
+    → AgreesOnHeard (end_of end p).info (given count (end_of end p)).received agreed
+
+-- An end agrees only with one that says it is of the same network, and on what both say, whatever becomes of that one.
+abbrev pub AgreementsAreHeard : Type 0
+AgreementsAreHeard = (p : PairState) → AgreesByWord p
+
+-- ---- all of it, of this pair
+
+pub record IsLawful (p : PairState) : Type 0 where
+  pub reached : IsReached p
+  pub alike : AgreesAlike p
+  pub rightly : AgreesRightly reached.left reached.right p
+  pub told : TellsWhy p
+  pub by_word : AgreesByWord p

@@ -1,5 +1,6 @@
 -- What each line of a pair means: the head says what the ends say of themselves, and each line behind it is a step.
-use Rattle.std.specs.Prelude.{◌≡◌, ℕ, ◌+◌, nat_le, false, List, [], ◌∷◌, codes, map, if◌then◌else◌, Option, Result, Ok, Err}
+use Rattle.std.specs.Prelude.{◌≡◌, ℕ, ◌+◌, nat_le, false, List, [], ◌∷◌, codes, map, take, if◌then◌else◌, Option, Result, Ok, Err}
+use Rattle.io_edge.specs.Lines.{whole_lines}
 use Rattle.line_run.specs.Inputs.{IsRunOver}
 use Rattle.line_run.specs.Judgement.{Verdict, verdict_of}
 use Rattle.line_run.specs.Runs.{Runs}
@@ -9,6 +10,7 @@ use Rattle.line_run.specs.Refusals.{if_read}
 use Rattle.line_run.specs.declared.stop.Stop.{Stop}
 use Rattle.line_run.specs.declared.stop.Stop.TheVariants as stop
 use Rattle.trace_text.specs.Words.{words_of}
+use Rattle.pair_net.specs.Law.{IsLawful}
 use Rattle.pair_net.specs.Lines.{opening_line, info_line, later_line}
 use Rattle.pair_net.specs.Pair.{PairState, fresh_pair}
 use Rattle.pair_net.specs.Steps.{stepped}
@@ -69,3 +71,27 @@ IsPairOver = IsRunOver line_means pair_start
 -- how an input ends, and at which line
 abbrev pub pair_verdict : List ℕ → Verdict
 pair_verdict = verdict_of line_means pair_start
+
+-- ---- the pair on the way
+
+-- where a line goes on, and else it stays
+abbrev pub led_by : Meaning Progress → Progress → Progress
+led_by (goes_on next lines) progress = next
+led_by (ends lines) progress = progress
+led_by (is_refused kind) progress = progress
+led_by is_too_many progress = progress
+
+abbrev pub led_through : List (List ℕ) → Progress → Progress
+led_through [] progress = progress
+led_through (text ∷ texts) progress = led_through texts (led_by (line_means progress text) progress)
+
+-- how far so many lines of an input lead
+abbrev pub progress_after : ℕ → List ℕ → Progress
+progress_after count input = led_through (take count (whole_lines input)) pair_start
+
+-- every law holds of the pair, once there is one
+abbrev pub IsLawfulSoFar : Progress → Type 0
+IsLawfulSoFar Opening = Unit {0}
+IsLawfulSoFar Left = Unit {0}
+IsLawfulSoFar (Right left) = Unit {0}
+IsLawfulSoFar (Steps pair count) = IsLawful pair

@@ -1,6 +1,6 @@
 //! What two ends come to, over every interleaving. The function does nothing.
 
-ghost use Rattle.pair_net.specs.Law.{AgreeAlike, PipesEmpty, MeetingsAgreeInTurn, MeetingsAgree, CrossingsAgree};
+ghost use Rattle.pair_net.specs.Law.{AgreeAlike, AgreementsAreHeard, AgreeRightly, CrossingsAgree, CrossingsAgreeInTurn, MeetingsAgree, MeetingsAgreeInTurn, PipesEmpty, RefusalsAreTold};
 
 /// Two ends that both agreed have agreed on the same version, flow and sharing, whatever steps led there. Where they are of
 /// the same network, everything that is delivered leads both to agree: after a meeting, and after a crossing of two ends
@@ -10,5 +10,22 @@ pub fn both_ends_agree()
     ensures pipes { PipesEmpty }
     ensures meetings_in_turn { MeetingsAgreeInTurn }
     ensures meetings { MeetingsAgree }
+    ensures crossings_in_turn { CrossingsAgreeInTurn }
     ensures crossings { CrossingsAgree }
+{}
+
+/// What two ends agree on is right for both: they are of one network, the version is the greatest that both propose, and flow
+/// and sharing are what both want.
+pub fn both_ends_agree_rightly()
+    ensures { AgreeRightly }
+{}
+
+/// An end agrees only with one that says it is of the same network, and on what both say.
+pub fn agreements_are_heard()
+    ensures { AgreementsAreHeard }
+{}
+
+/// Who is refused by the end that it dialed is told why, and which versions that end proposes where none was common.
+pub fn refusals_are_told()
+    ensures { RefusalsAreTold }
 {}

@@ -1,6 +1,6 @@
 ghost use Rattle.std.specs.Prelude.{◌≡◌, ℕ, List, Some};
 ghost use Rattle.line_run.specs.Runs.{HasReadCount, HasWriteCount};
-ghost use Rattle.pair_net.specs.Replay.{PairRuns, IsPairOver};
+ghost use Rattle.pair_net.specs.Replay.{IsLawfulSoFar, IsPairOver, PairRuns, progress_after};
 
 use crate::PairOutcome;
 use crate::pair_replay::PairReplay;
@@ -15,6 +15,7 @@ pub fn pair_run<S: Source, K: Sink>(alloc: Global, src: &mut S, out: &mut K) -> 
     ensures over { (input : List ℕ) → S.left src.old ≡ Some input → IsPairOver input result (S.left src.new) (K.taken out.old) (K.taken out.new) }
     ensures reads { HasReadCount (S.faults src.old) (S.faults src.new) result }
     ensures writes { HasWriteCount (K.faults out.old) (K.faults out.new) result }
+    ensures lawful { (input : List ℕ) (count : ℕ) → IsLawfulSoFar (progress_after count input) }
 {
     let mut replay = PairReplay::new(alloc);
     run_lines(alloc, &mut replay, src, out)

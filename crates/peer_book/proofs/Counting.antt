@@ -1,6 +1,8 @@
 -- The counts, after a change of the peers.
-use Rattle.std.proofs.Common.{◌≡◌, ℕ, ◌+◌, ◌&&◌, Bool, true, false, cond, List, Some, refl, sym, ap, ◌∙◌, inl, inr, arith}
+use Rattle.std.proofs.Common.{◌≡◌, ℕ, ◌+◌, ◌&&◌, Bool, true, false, cond, List, [], ◌∷◌, ◌++◌, Some, refl, sym, ap, ◌∙◌, inl, inr, arith}
+use Rattle.std.specs.List.{count_by}
 use Rattle.std.proofs.lemmas.Bool.{cases_Bool}
+use Rattle.std.proofs.lemmas.List.Sums.{sum_by-append, sum_by-cons}
 use Rattle.net_base.specs.declared.address.Addr.{Addr}
 use Rattle.net_base.specs.declared.peer.Peer.{Peer}
 use Rattle.net_base.specs.declared.peer.Temp.{Temp}
@@ -29,35 +31,48 @@ none b n h = rw h (omega arith)
 
 -- ---- one more peer
 
-counts-with_new : (big : Bool) (new : Peer) (peers : List Peer) → is_of big new ≡ true →
-    counts_of big (with_new new peers) ≡ one_more new.temp (counts_of big peers)
-counts-with_new big new peers class = λ i. record {
-  known = (count_by-put_in address_of (is_of big) new peers ∙ more (is_of big new) _ class) i;
-  established = (count_by-put_in address_of (of_class big is_established) new peers ∙ class_more (is_of big new) _ _ class) i;
-  active = (count_by-put_in address_of (of_class big is_active) new peers ∙ class_more (is_of big new) _ _ class) i;
+-- one list has a peer more than another, whatever is counted
+abbrev pub HasOneMore : Peer → List Peer → List Peer → Type 0
+HasOneMore new peers after = (p : Peer → Bool) → count_by p after ≡ count_by p peers + cond (p new) 1 0
+
+counts-more : (big : Bool) (new : Peer) (peers after : List Peer) → HasOneMore new peers after → is_of big new ≡ true →
+    counts_of big after ≡ one_more new.temp (counts_of big peers)
+counts-more big new peers after one class = λ i. record {
+  known = (one (is_of big) ∙ more (is_of big new) _ class) i;
+  established = (one (of_class big is_established) ∙ class_more (is_of big new) _ _ class) i;
+  active = (one (of_class big is_active) ∙ class_more (is_of big new) _ _ class) i;
 }
 
-counts-with_other : (big : Bool) (new : Peer) (peers : List Peer) → is_of big new ≡ false →
-    counts_of big (with_new new peers) ≡ counts_of big peers
-counts-with_other big new peers class = λ i. record {
-  known = (count_by-put_in address_of (is_of big) new peers ∙ none (is_of big new) _ class) i;
-  established = (count_by-put_in address_of (of_class big is_established) new peers ∙ class_none (is_of big new) _ _ class) i;
-  active = (count_by-put_in address_of (of_class big is_active) new peers ∙ class_none (is_of big new) _ _ class) i;
+counts-other : (big : Bool) (new : Peer) (peers after : List Peer) → HasOneMore new peers after → is_of big new ≡ false →
+    counts_of big after ≡ counts_of big peers
+counts-other big new peers after one class = λ i. record {
+  known = (one (is_of big) ∙ none (is_of big new) _ class) i;
+  established = (one (of_class big is_established) ∙ class_none (is_of big new) _ _ class) i;
+  active = (one (of_class big is_active) ∙ class_none (is_of big new) _ _ class) i;
 }
 
-pub tally-with_new : (new : Peer) (peers : List Peer) → tally_of (with_new new peers) ≡ tallied new (tally_of peers)
-tally-with_new new peers = elim (cases_Bool new.big) [
+tally-more : (new : Peer) (peers after : List Peer) → HasOneMore new peers after → tally_of after ≡ tallied new (tally_of peers)
+tally-more new peers after one = elim (cases_Bool new.big) [
   | inl big ↦
       (λ i. record {
-        ordinary = counts-with_other false new peers (rw big refl) i;
-        big = counts-with_new true new peers big i;
+        ordinary = counts-other false new peers after one (rw big refl) i;
+        big = counts-more true new peers after one big i;
       }) ∙ sym (ap (λ b. tallied_by b new.temp (tally_of peers)) big)
   | inr ordinary ↦
       (λ i. record {
-        ordinary = counts-with_new false new peers (rw ordinary refl) i;
-        big = counts-with_other true new peers ordinary i;
+        ordinary = counts-more false new peers after one (rw ordinary refl) i;
+        big = counts-other true new peers after one ordinary i;
       }) ∙ sym (ap (λ b. tallied_by b new.temp (tally_of peers)) ordinary)
 ]
+
+pub tally-with_new : (new : Peer) (peers : List Peer) → tally_of (with_new new peers) ≡ tallied new (tally_of peers)
+tally-with_new new peers = tally-more new peers (with_new new peers) (λ p. count_by-put_in address_of p new peers)
+
+pub tally-push : (peers : List Peer) (new : Peer) → tally_of (peers ++ new ∷ []) ≡ tallied new (tally_of peers)
+tally-push peers new = tally-more new peers (peers ++ new ∷ []) (λ p. at_end p)
+  where
+    at_end : (p : Peer → Bool) → count_by p (peers ++ new ∷ []) ≡ count_by p peers + cond (p new) 1 0
+    at_end p = let f : Peer → ℕ = λ x. cond (p x) 1 0 in sum_by-append f peers (new ∷ []) ∙ omega (arith, sum_by-cons f new [])
 
 -- ---- one peer less
 

@@ -3,6 +3,7 @@ pub mod Changing
 pub mod ComingIn
 pub mod Counting
 pub mod Edits
+pub mod Gathered
 pub mod Joined
 pub mod Listing
 pub mod Merging

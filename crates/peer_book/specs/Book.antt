@@ -34,6 +34,11 @@ with_new = put_in (λ p. p.addr)
 abbrev pub without_peer : Addr → List Peer → List Peer
 without_peer = taken_out (λ p. p.addr)
 
+-- without the peers at some addresses, one after another
+abbrev pub without_all : List Addr → List Peer → List Peer
+without_all [] peers = peers
+without_all (addr ∷ addrs) peers = without_all addrs (without_peer addr peers)
+
 -- a peer of which nothing is known yet
 abbrev pub new_peer : Bool → Addr → Peer
 new_peer big addr = record { addr = addr; big = big; temp = Cold; failures = 0; not_before = 0; share_next = 0 }

@@ -1,10 +1,11 @@
 ghost use Rattle.std.specs.Prelude.{◌≡◌, ◌≤◌, ◌^◌, [], length, IsSome, IfSome, IsSomeAnd, IfOk, OnOk, OnErr, false, true};
 ghost use Rattle.net_base.specs.Peer.{failed_peer};
-ghost use Rattle.peer_book.specs.Book.{peer_at, with_peer, without_peer, new_peer, newcomers, all_entered, entered, entry_of, known_of, established_of, active_of, listed_at, most_peers};
+ghost use Rattle.peer_book.specs.Book.{peer_at, with_peer, without_peer, without_all, new_peer, newcomers, all_entered, entered, entry_of, known_of, established_of, active_of, listed_at, most_peers};
 ghost use Rattle.peer_book.specs.Order.{IsRising};
 
 use crate::Added;
 use crate::kept::Kept;
+use crate::leaving::gathered;
 use crate::merge::fresh;
 use crate::newcomers::Newcomers;
 use crate::place::{peer_with, place_and_peer};
@@ -159,6 +160,18 @@ impl PeerBook {
     {
         let (place, peer) = place_and_peer(&self.kept.peers, addr);
         self.kept.take_out(place, peer);
+    }
+
+    /// The peers with some addresses go, all by one look at each peer. Addresses of nobody are passed over. A refusal
+    /// changes nothing.
+    pub fn forget_all(&mut self, addrs: &[Addr]) -> Result<(), OutOfMemory>
+        ensures gone { OnOk result (self.new ≡ without_all addrs.now self.old) }
+        ensures unchanged { OnErr result (self.new ≡ self.old) }
+    {
+        let alloc = *self.kept.peers.allocator();
+        let addrs = gathered(alloc, addrs)?;
+        self.kept.take_all_out(&addrs)?;
+        Ok(())
     }
 
     /// Sets the temperature of a peer.

@@ -1,12 +1,15 @@
 ghost use Rattle.std.specs.Prelude.{◌≡◌, ◌<◌, [], length, None, OnOk, OnErr};
 ghost use Rattle.peer_book.specs.Book.{peer_at, Stands, with_peer, without_peer, with_new, most_peers};
+ghost use Rattle.peer_book.specs.Leaving.{others_than};
 ghost use Rattle.peer_book.specs.Newcomers.{with_all_new, AreNew};
+ghost use Rattle.peer_book.specs.Order.{IsRising};
 
-use crate::merge::{cold_row, in_order, merged};
+use crate::leaving::others_than;
+use crate::merge::{in_order, merged, row_at};
 use crate::place::place_of_peer;
 use crate::rows::Rows;
 use crate::tally::Tally;
-use net_base::{Addr, Peer};
+use net_base::{Addr, Peer, Temp};
 use std::alloc::{AllocError, Global};
 use std::collections::BTreeSet;
 
@@ -82,7 +85,7 @@ impl Kept {
         ensures unchanged { OnErr result (self.new.peers.items ≡ self.old.peers.items) }
     {
         let peers = merged(alloc, &self.peers, addrs, big)?;
-        let cold = cold_row(alloc, &peers)?;
+        let cold = row_at(alloc, &peers, Temp::Cold)?;
         self.rows.renew_cold(cold, peers.len())?;
         self.tally.enter_cold(big, addrs.len() as u64);
         self.peers = peers;
@@ -98,6 +101,24 @@ impl Kept {
         self.rows.remove(peer.temp, peer.addr);
         self.tally.leave(&peer);
         self.peers.remove(place);
+    }
+
+    // Takes out all peers at some addresses, which stand in order. A refusal changes nothing.
+    pub fn take_all_out(&mut self, addrs: &[Addr]) -> Result<(), AllocError>
+        requires kept { IsKept self.old }
+        requires rising { IsRising (λ a. a) addrs.now }
+        ensures kept { IsKept self.new }
+        ensures left { OnOk result (self.new.peers.items ≡ others_than addrs.now self.old.peers.items) }
+        ensures unchanged { OnErr result (self.new.peers.items ≡ self.old.peers.items) }
+    {
+        let alloc = *self.peers.allocator();
+        let peers = others_than(alloc, &self.peers, addrs)?;
+        let rows = Rows::of(alloc, &peers)?;
+        let tally = Tally::of(&peers);
+        self.peers = peers;
+        self.rows = rows;
+        self.tally = tally;
+        Ok(())
     }
 
     // Puts a peer back that is of another class or temperature.

@@ -4,6 +4,7 @@
 mod added;
 mod book;
 mod kept;
+mod leaving;
 mod merge;
 mod newcomers;
 mod place;

@@ -1,5 +1,4 @@
 ghost use Rattle.std.specs.Prelude.{◌≡◌, IfOk};
-ghost use Rattle.net_base.specs.declared.peer.Temp.TheVariants.{Cold};
 ghost use Rattle.peer_book.specs.Book.{listed_at, new_peer};
 ghost use Rattle.peer_book.specs.Newcomers.{with_all_new, AreNew};
 ghost use Rattle.peer_book.specs.Order.{IsRising};
@@ -46,13 +45,13 @@ pub fn merged(
     Ok(all)
 }
 
-// The addresses of the cold ones.
-pub fn cold_row(alloc: Global, peers: &[Peer]) -> Result<Vec<Addr>, AllocError>
-    ensures { IfOk result (λ row. row.items ≡ listed_at Cold peers.now) }
+// The addresses of those of a temperature.
+pub fn row_at(alloc: Global, peers: &[Peer], temp: Temp) -> Result<Vec<Addr>, AllocError>
+    ensures { IfOk result (λ row. row.items ≡ listed_at temp peers.now) }
 {
     peers
         .iter()
-        .filter(|p| p.temp == Temp::Cold)
+        .filter(|p| p.temp == temp)
         .map(|p| p.addr)
         .collect(alloc)
 }

@@ -79,7 +79,7 @@ fn take_in(
 }
 
 // Whether an address is noted that wasn't yet.
-fn note(sorted: &mut BTreeSet<Addr>, addr: Addr) -> Result<bool, OutOfMemory>
+pub fn note(sorted: &mut BTreeSet<Addr>, addr: Addr) -> Result<bool, OutOfMemory>
     ensures new { IfOk result (λ new. new ≡ not (has_address addr sorted.old.keys)) }
     ensures keys { OnOk result (sorted.new.keys ≡ (if has_address addr sorted.old.keys then sorted.old.keys else with_address addr sorted.old.keys)) }
 {

@@ -1,12 +1,13 @@
-ghost use Rattle.std.specs.Prelude.{◌≡◌, ◌<◌, ◌≤◌, [], false, length, IsTrue, OnOk, OnErr, vec_len, vec_capacity, if◌then◌else◌};
+ghost use Rattle.std.specs.Prelude.{◌≡◌, ◌<◌, ◌≤◌, [], false, length, IsTrue, IfOk, OnOk, OnErr, vec_len, vec_capacity, if◌then◌else◌};
 ghost use Rattle.net_base.specs.declared.peer.Temp.{Temp};
 ghost use Rattle.net_base.specs.declared.peer.Temp.TheVariants.{Cold};
-ghost use Rattle.peer_book.specs.Book.{same_temp};
+ghost use Rattle.peer_book.specs.Book.{listed_at, same_temp};
 ghost use Rattle.peer_book.specs.Order.{IsRising};
 ghost use Rattle.peer_book.specs.Addresses.{has_address, with_address, without_address};
 
+use crate::merge::row_at;
 use crate::place::place_of;
-use net_base::{Addr, Temp};
+use net_base::{Addr, Peer, Temp};
 use std::alloc::{AllocError, Global};
 
 // The addresses of each temperature, in order.
@@ -28,6 +29,20 @@ impl Rows {
             warm: Vec::new(alloc),
             hot: Vec::new(alloc),
         }
+    }
+
+    // The rows of some peers, with room for each of them at each temperature.
+    pub fn of(alloc: Global, peers: &[Peer]) -> Result<Rows, AllocError>
+        ensures lists { IfOk result (λ rows. (temp : Temp) → row_of temp rows ≡ listed_at temp peers.now) }
+        ensures made { IfOk result (λ rows. (temp : Temp) → length peers.now ≤ room_of temp rows) }
+    {
+        let mut rows = Rows {
+            cold: row_at(alloc, peers, Temp::Cold)?,
+            warm: row_at(alloc, peers, Temp::Warm)?,
+            hot: row_at(alloc, peers, Temp::Hot)?,
+        };
+        rows.reserve(peers.len())?;
+        Ok(rows)
     }
 
     pub fn list(&self, temp: Temp) -> &[Addr]
@@ -129,11 +144,17 @@ fn remove_from(row: &mut Vec<Addr>, addr: Addr)
     row.remove(place);
 }
 
+// Makes room for so many addresses. Where there is none, as much memory again is asked for as there is: a row may be short
+// and have room for many, and is to grow a few times at most.
 fn reserve_in(row: &mut Vec<Addr>, room: usize) -> Result<(), AllocError>
     ensures items { row.new.items ≡ row.old.items }
     ensures kept { vec_capacity row.old ≤ vec_capacity row.new }
     ensures made { OnOk result (room ≤ vec_capacity row.new) }
 {
-    let more = room.saturating_sub(row.len());
+    let there = row.capacity();
+    if room <= there {
+        return Ok(());
+    }
+    let more = room.max(2 * there).saturating_sub(row.len());
     row.try_reserve(more)
 }

@@ -1,4 +1,4 @@
-ghost use Rattle.std.specs.Prelude.{◌≡◌, ◌+◌, ◌≤◌};
+ghost use Rattle.std.specs.Prelude.{◌≡◌, ◌+◌, ◌≤◌, length};
 ghost use Rattle.peer_book.specs.Book.{most_peers};
 
 use net_base::{Peer, Temp};
@@ -60,6 +60,18 @@ impl Tally {
             ordinary: none,
             big: none,
         }
+    }
+
+    // The counts of some peers.
+    pub fn of(peers: &[Peer]) -> Tally
+        requires { length peers.now ≤ most_peers }
+        ensures { result ≡ tally_of peers.now }
+    {
+        let mut tally = Tally::new();
+        for peer in peers {
+            tally.enter(peer);
+        }
+        tally
     }
 
     pub fn enter(&mut self, peer: &Peer)

@@ -1,288 +1,61 @@
--- The members of groups, and the places that are noted for them.
-use Rattle.std.proofs.Common.{◌≡◌, ℕ, suc, ◌<◌, ◌≤◌, ◌+◌, Bool, true, false, ◌||◌, cond, List, [], ◌∷◌, ◌++◌, length, drop, get_or, Option, Some, None, is_some, refl, sym, ap, subst, ◌∙◌, inl, inr, arith, append_assoc, add-one, add-zero, drop-cons}
+-- The places that are noted for the members of groups.
+use Rattle.std.proofs.Common.{◌≡◌, ℕ, ◌<◌, ◌≤◌, ◌+◌, Bool, true, false, cond, List, [], length, take, drop, get_or, Option, Some, refl, sym, ap, ◌∙◌, add-one, drop-cons}
 use Rattle.std.specs.List.{position_from}
 use Rattle.std.proofs.Math.ListN.{drop_of_length-le}
-use Rattle.std.proofs.lemmas.Bool.{cases_Bool, false≢true}
 use Rattle.std.proofs.lemmas.Iterator.Adapters.{position_from-zero}
-use Rattle.std.proofs.lemmas.List.{append-nil}
+use Rattle.std.proofs.lemmas.List.{take_more}
 use Rattle.net_base.specs.Address.{same_address}
 use Rattle.net_base.specs.declared.address.Addr.{Addr}
 use Rattle.net_base.specs.declared.event.Group.{Group}
-use Rattle.root_groups.specs.Cleaned.{is_listed, first_places, cleaned_after, cleaned, members_of, group_of}
-use Rattle.net_base.proofs.AddressOrder.{same_address-is, same_address-itself, other_address-turn}
-use Rattle.root_groups.specs.Places.{placed_at, placed_from, place_of, addresses_in, Tells, place_behind, is_taken}
+use Rattle.root_groups.specs.Cleaned.{is_listed, group_of}
+use Rattle.root_groups.specs.Places.{place_of}
+use Rattle.root_groups.proofs.Listed.{same_address-turn, listed-push}
 
--- ---- look-ups
+-- ---- the members of one group
 
-place_of-placed_at : (addr : Addr) (place : ℕ) (members : List Addr) (rest : List (Addr × ℕ)) →
-    place_of addr (placed_at place members ++ rest) ≡ cond (is_listed addr members) (Some place) (place_of addr rest)
-place_of-placed_at addr place [] rest = refl
-place_of-placed_at addr place (m ∷ members) rest = elim (cases_Bool (same_address addr m)) [
-  | inl same ↦ rw same refl
-  | inr other ↦ rw other (place_of-placed_at addr place members rest)
-]
+-- those of a front of the members have a place, the others the one that they had
+abbrev pub HasNoted : List Addr → ℕ → List (Addr × ℕ) → List (Addr × ℕ) → ℕ → Type 0
+HasNoted members place before places i =
+    (addr : Addr) → place_of addr places ≡ cond (is_listed addr (take i members)) (Some place) (place_of addr before)
 
-place_of-placed_from : (addr : Addr) (first : ℕ) (groups : List Group) →
-    place_of addr (placed_from first groups) ≡ position_from (λ g. is_listed addr g.members) first groups
-place_of-placed_from addr first [] = refl
-place_of-placed_from addr first (g ∷ groups) =
-    place_of-placed_at addr first g.members (placed_from (first + 1) groups)
-    ∙ ap (cond (is_listed addr g.members) (Some first)) (place_of-placed_from addr (first + 1) groups)
+either : (b c : Bool) (place : ℕ) (o : Option ℕ) → cond b (Some place) (cond c (Some place) o) ≡ cond (cond b true c) (Some place) o
+either true c place o = refl
+either false c place o = refl
 
-pub place_of-groups : (addr : Addr) (groups : List Group) → place_of addr (placed_from 0 groups) ≡ group_of addr groups
-place_of-groups addr groups =
-    place_of-placed_from addr 0 groups ∙ sym (position_from-zero (λ g. is_listed addr g.members) groups)
+pub noted-more : (members : List Addr) (place : ℕ) (before places next : List (Addr × ℕ)) (i : ℕ) (d : Addr) → HasNoted members place before places i →
+    i < length members →
+    ((addr : Addr) → place_of addr next ≡ cond (same_address (get_or members i d) addr) (Some place) (place_of addr places)) →
+    HasNoted members place before next (i + 1)
+noted-more members place before places next i d held inside more addr =
+    let m : Addr = get_or members i d in
+    more addr
+    ∙ (ap (λ b. cond b (Some place) (place_of addr places)) (same_address-turn m addr)
+    ∙ (ap (cond (same_address addr m) (Some place)) (held addr)
+    ∙ (either (same_address addr m) (is_listed addr (take i members)) place (place_of addr before)
+    ∙ ap (λ b. cond b (Some place) (place_of addr before))
+    (sym (ap (is_listed addr) (take_more members i d inside) ∙ listed-push addr m (take i members))))))
 
-place_of-listed : (addr : Addr) (entries : List (Addr × ℕ)) → is_some (place_of addr entries) ≡ is_listed addr (addresses_in entries)
-place_of-listed addr [] = refl
-place_of-listed addr (e ∷ entries) = elim (cases_Bool (same_address addr e.0)) [
-  | inl same ↦ rw same refl
-  | inr other ↦ rw other (place_of-listed addr entries)
-]
+-- ---- one group before the others
 
-no_place : (o : Option ℕ) → is_some o ≡ false → o ≡ None
-no_place None h = refl
-no_place (Some n) h = absurd (false≢true (sym h))
+-- the first groups of those behind a place are noted
+abbrev pub AreNoted : List Group → List (Addr × ℕ) → ℕ → Type 0
+AreNoted groups places place = (addr : Addr) → place_of addr places ≡ position_from (λ g. is_listed addr g.members) place (drop place groups)
 
-pub has_no_place : (own addr : Addr) (places : List (Addr × ℕ)) → is_taken own places addr ≡ false → place_of addr places ≡ None
-has_no_place own addr places h = no_place (place_of addr places) (later (same_address addr own) (is_some (place_of addr places)) h)
-  where
-    later : (b c : Bool) → (b || c) ≡ false → c ≡ false
-    later true c h = absurd (false≢true (sym h))
-    later false c h = h
+pub AreNoted-none : (groups : List Group) (places : List (Addr × ℕ)) (place : ℕ) → length groups ≤ place → places ≡ [] → AreNoted groups places place
+AreNoted-none groups places place past none addr =
+    ap (place_of addr) none ∙ sym (ap (position_from (λ g. is_listed addr g.members) place) (drop_of_length-le groups {i = place} past))
 
-pub taken_is_listed : (own addr : Addr) (places : List (Addr × ℕ)) (entries : List (Addr × ℕ)) → Tells places entries →
-    is_taken own places addr ≡ is_listed addr (own ∷ addresses_in entries)
-taken_is_listed own addr places entries told =
-    ap (λ o. same_address addr own || is_some o) (told addr) ∙ ap (λ b. same_address addr own || b) (place_of-listed addr entries)
+pub AreNoted-more : (groups : List Group) (places next : List (Addr × ℕ)) (place : ℕ) (d : Group) → AreNoted groups places (place + 1) →
+    place < length groups →
+    ((addr : Addr) → place_of addr next ≡ cond (is_listed addr (get_or groups place d).members) (Some place) (place_of addr places)) →
+    AreNoted groups next place
+AreNoted-more groups places next place d held inside more addr =
+    let g : Group = get_or groups place d in
+    let p : Group → Bool = λ x. is_listed addr x.members in
+    more addr
+    ∙ (ap (cond (p g) (Some place)) (held addr ∙ ap (λ n. position_from p (place + 1) (drop n groups)) (add-one place))
+    ∙ sym (ap (position_from p place) (drop-cons groups place d inside)))
 
-place_of-behind : (addr : Addr) (entries more : List (Addr × ℕ)) → place_of addr entries ≡ None → place_of addr (entries ++ more) ≡ place_of addr more
-place_of-behind addr [] more h = refl
-place_of-behind addr (e ∷ entries) more h = elim (cases_Bool (same_address addr e.0)) [
-  | inl same ↦ absurd (some_is_none (rw same at h))
-  | inr other ↦ rw other (place_of-behind addr entries more (rw other at h))
-]
-  where
-    some_is_none : {n : ℕ} → Some n ≡ None → ⊥
-    some_is_none h = absurd cc
-
-place_of-before : (addr other : Addr) (place : ℕ) (entries : List (Addr × ℕ)) → same_address other addr ≡ false →
-    place_of other (entries ++ (addr, place) ∷ []) ≡ place_of other entries
-place_of-before addr other place [] h = rw h refl
-place_of-before addr other place (e ∷ entries) h = ap (cond (same_address other e.0) (Some e.1)) (place_of-before addr other place entries h)
-
--- the look-up and the list, after one more
-told_more : (addr : Addr) (place : ℕ) (places : List (Addr × ℕ)) (entries : List (Addr × ℕ)) → Tells places entries → place_of addr places ≡ None →
-    (other : Addr) → place_behind addr place places other ≡ place_of other (entries ++ (addr, place) ∷ [])
-told_more addr place places entries told new other = elim (cases_Bool (same_address addr other)) [
-  | inl same ↦ let itself = same_address-is addr other same in
-      rw same (sym (ap (λ a. place_of a (entries ++ (addr, place) ∷ [])) (sym itself)
-      ∙ place_of-behind addr entries ((addr, place) ∷ []) (sym (told addr) ∙ new)
-      ∙ rw (same_address-itself addr) refl))
-  | inr differs ↦ rw differs (told other ∙ sym (place_of-before addr other place entries (other_address-turn addr other differs)))
-]
-
-told_next : (own addr : Addr) (place : ℕ) (places next_places : List (Addr × ℕ)) (entries : List (Addr × ℕ)) (known : Bool) →
-    is_taken own places addr ≡ known → Tells places entries → ((other : Addr) → place_of other next_places ≡ cond known (place_of other places) (place_behind addr place places other)) →
-    Tells next_places (cond known entries (entries ++ (addr, place) ∷ []))
-told_next own addr place places next_places entries true is told next other = next other ∙ told other
-told_next own addr place places next_places entries false is told next other =
-    next other ∙ told_more addr place places entries told (has_no_place own addr places is) other
-
--- ---- one member more
-
-addresses_in-push : (entries : List (Addr × ℕ)) (addr : Addr) (place : ℕ) →
-    addresses_in (entries ++ (addr, place) ∷ []) ≡ addresses_in entries ++ addr ∷ []
-addresses_in-push [] addr place = refl
-addresses_in-push (e ∷ entries) addr place = ap (λ l. e.0 ∷ l) (addresses_in-push entries addr place)
-
-placed_at-push : (place : ℕ) (members : List Addr) (addr : Addr) →
-    placed_at place (members ++ addr ∷ []) ≡ placed_at place members ++ (addr, place) ∷ []
-placed_at-push place [] addr = refl
-placed_at-push place (m ∷ members) addr = ap (λ l. (m, place) ∷ l) (placed_at-push place members addr)
-
--- how far a run over members has come
-pub record HasKept (own : Addr) (place : ℕ) (before : List (Addr × ℕ)) (members kept : List Addr) (entries : List (Addr × ℕ)) (i : ℕ) : Type 0 where
-  pub so_far : first_places (own ∷ addresses_in before) members ≡ kept ++ first_places (own ∷ addresses_in entries) (drop i members)
-  pub noted : entries ≡ before ++ placed_at place kept
-
-HasKept-none : (own : Addr) (place : ℕ) (before : List (Addr × ℕ)) (members : List Addr) → HasKept own place before members [] before 0
-HasKept-none own place before members = record { so_far = refl; noted = sym (append-nil before) }
-
-turn : (own addr : Addr) (place : ℕ) (members kept : List Addr) (entries : List (Addr × ℕ)) →
-    let known : Bool = is_listed addr (own ∷ addresses_in entries) in
-    kept ++ first_places (own ∷ addresses_in entries) (addr ∷ members)
-    ≡ cond known kept (kept ++ addr ∷ []) ++ first_places (own ∷ addresses_in (cond known entries (entries ++ (addr, place) ∷ []))) members
-unfolding first_places
-turn own addr place members kept entries = elim (cases_Bool (is_listed addr (own ∷ addresses_in entries))) [
-  | inl known ↦ rw known refl
-  | inr new ↦ rw new (sym (append_assoc kept (addr ∷ []) (first_places (own ∷ (addresses_in entries ++ addr ∷ [])) members))
-      ∙ ap (λ l. (kept ++ addr ∷ []) ++ first_places (own ∷ l) members) (sym (addresses_in-push entries addr place)))
-]
-
-turn_noted : (b : Bool) (addr : Addr) (place : ℕ) (before : List (Addr × ℕ)) (kept : List Addr) (entries : List (Addr × ℕ)) →
-    entries ≡ before ++ placed_at place kept →
-    cond b entries (entries ++ (addr, place) ∷ []) ≡ before ++ placed_at place (cond b kept (kept ++ addr ∷ []))
-turn_noted true addr place before kept entries h = h
-turn_noted false addr place before kept entries h =
-    ap (λ l. l ++ (addr, place) ∷ []) h
-    ∙ (append_assoc before (placed_at place kept) ((addr, place) ∷ []) ∙ ap (λ l. before ++ l) (sym (placed_at-push place kept addr)))
-
-HasKept-more : (own : Addr) (place : ℕ) (before : List (Addr × ℕ)) (members kept next_kept : List Addr) (entries next : List (Addr × ℕ)) (i : ℕ) (d : Addr) →
-    HasKept own place before members kept entries i → i < length members →
-    next_kept ≡ cond (is_listed (get_or members i d) (own ∷ addresses_in entries)) kept (kept ++ get_or members i d ∷ []) →
-    next ≡ cond (is_listed (get_or members i d) (own ∷ addresses_in entries)) entries (entries ++ (get_or members i d, place) ∷ []) →
-    HasKept own place before members next_kept next (i + 1)
-HasKept-more own place before members kept next_kept entries next i d held inside more_kept more = record {
-  so_far = held.so_far
-      ∙ (ap (λ l. kept ++ first_places (own ∷ addresses_in entries) l) (drop-cons members i d inside)
-      ∙ (turn own (get_or members i d) place (drop (suc i) members) kept entries
-      ∙ (ap (λ l. l ++ first_places (own ∷ addresses_in (cond (is_listed (get_or members i d) (own ∷ addresses_in entries)) entries (entries ++ (get_or members i d, place) ∷ []))) (drop (suc i) members)) (sym more_kept)
-      ∙ (ap (λ l. next_kept ++ first_places (own ∷ addresses_in l) (drop (suc i) members)) (sym more)
-      ∙ ap (λ n. next_kept ++ first_places (own ∷ addresses_in next) (drop n members)) (sym (add-one i))))));
-  noted = more
-      ∙ (turn_noted (is_listed (get_or members i d) (own ∷ addresses_in entries)) (get_or members i d) place before kept entries held.noted
-      ∙ ap (λ l. before ++ placed_at place l) (sym more_kept));
-}
-
-HasKept-all : (own : Addr) (place : ℕ) (before : List (Addr × ℕ)) (members kept : List Addr) (entries : List (Addr × ℕ)) (i : ℕ) →
-    HasKept own place before members kept entries i → length members ≤ i → kept ≡ first_places (own ∷ addresses_in before) members
-unfolding first_places
-HasKept-all own place before members kept entries i held past =
-    sym (held.so_far
-    ∙ (ap (λ l. kept ++ first_places (own ∷ addresses_in entries) l) (drop_of_length-le members {i = i} past) ∙ append-nil kept))
-
--- the same, with a look-up that tells the entries
-pub record HasNoted (own : Addr) (place : ℕ) (before : List (Addr × ℕ)) (members kept : List Addr) (places : List (Addr × ℕ)) (i : ℕ) : Type 0 where
-  pub has_kept : HasKept own place before members kept (before ++ placed_at place kept) i
-  pub told : Tells places (before ++ placed_at place kept)
-
-pub HasNoted-none : (own : Addr) (place : ℕ) (before : List (Addr × ℕ)) (members : List Addr) (places : List (Addr × ℕ)) → Tells places before →
-    HasNoted own place before members [] places 0
-HasNoted-none own place before members places told = record {
-  has_kept = subst (λ entries. HasKept own place before members [] entries 0) (sym (append-nil before)) (HasKept-none own place before members);
-  told = subst (Tells places) (sym (append-nil before)) told;
-}
-
-pub HasNoted-more : (own : Addr) (place : ℕ) (before : List (Addr × ℕ)) (members kept next_kept : List Addr) (places next_places : List (Addr × ℕ)) (i : ℕ) (d : Addr) →
-    HasNoted own place before members kept places i → i < length members →
-    next_kept ≡ cond (is_taken own places (get_or members i d)) kept (kept ++ get_or members i d ∷ []) →
-    ((other : Addr) → place_of other next_places ≡ cond (is_taken own places (get_or members i d)) (place_of other places) (place_behind (get_or members i d) place places other)) →
-    HasNoted own place before members next_kept next_places (i + 1)
-HasNoted-more own place before members kept next_kept places next_places i d held inside more_kept more =
-    let addr : Addr = get_or members i d in
-    let entries : List (Addr × ℕ) = before ++ placed_at place kept in
-    let known : is_taken own places addr ≡ is_listed addr (own ∷ addresses_in entries) = taken_is_listed own addr places entries held.told in
-    let next : List (Addr × ℕ) = cond (is_listed addr (own ∷ addresses_in entries)) entries (entries ++ (addr, place) ∷ []) in
-    let is = HasKept-more own place before members kept next_kept entries next i d held.has_kept inside
-    (more_kept ∙ ap (λ b. cond b kept (kept ++ addr ∷ [])) known) refl in
-    record {
-      has_kept = subst (λ e. HasKept own place before members next_kept e (i + 1)) is.noted is;
-      told = subst (Tells next_places) is.noted (told_next own addr place places next_places entries _ known held.told
-          (λ other. more other ∙ ap (λ b. cond b (place_of other places) (place_behind addr place places other)) known));
-    }
-
-pub HasNoted-all : (own : Addr) (place : ℕ) (before : List (Addr × ℕ)) (members kept : List Addr) (places : List (Addr × ℕ)) (i : ℕ) →
-    HasNoted own place before members kept places i → length members ≤ i → kept ≡ first_places (own ∷ addresses_in before) members
-HasNoted-all own place before members kept places i held past =
-    HasKept-all own place before members kept (before ++ placed_at place kept) i held.has_kept past
-
--- ---- one group more
-
-members_of-push : (list : List Group) (group : Group) → members_of (list ++ group ∷ []) ≡ members_of list ++ group.members
-members_of-push [] group = append-nil group.members
-members_of-push (g ∷ list) group =
-    ap (λ l. g.members ++ l) (members_of-push list group) ∙ sym (append_assoc g.members (members_of list) group.members)
-
-placed_from-push : (first : ℕ) (list : List Group) (group : Group) →
-    placed_from first (list ++ group ∷ []) ≡ placed_from first list ++ placed_at (first + length list) group.members
-placed_from-push first [] group =
-    append-nil (placed_at first group.members) ∙ ap (λ n. placed_at n group.members) (sym (add-zero first))
-placed_from-push first (g ∷ list) group =
-    let counted : first + 1 + length list ≡ first + length (g ∷ list) = omega arith in
-    ap (λ l. placed_at first g.members ++ l) (placed_from-push (first + 1) list group
-    ∙ ap (λ n. placed_from (first + 1) list ++ placed_at n group.members) counted)
-    ∙ sym (append_assoc (placed_at first g.members) (placed_from (first + 1) list) (placed_at (first + length (g ∷ list)) group.members))
-
-addresses_in-placed_at : (place : ℕ) (members : List Addr) → addresses_in (placed_at place members) ≡ members
-addresses_in-placed_at place [] = refl
-addresses_in-placed_at place (m ∷ members) = ap (λ l. m ∷ l) (addresses_in-placed_at place members)
-
-addresses_in-append : (entries more : List (Addr × ℕ)) → addresses_in (entries ++ more) ≡ addresses_in entries ++ addresses_in more
-addresses_in-append [] more = refl
-addresses_in-append (e ∷ entries) more = ap (λ l. e.0 ∷ l) (addresses_in-append entries more)
-
--- how far a run over groups has come
-pub record HasCleaned (own : Addr) (groups list : List Group) (places : List (Addr × ℕ)) (i : ℕ) : Type 0 where
-  pub so_far : cleaned own groups ≡ list ++ cleaned_after (own ∷ addresses_in places) (drop i groups)
-  pub noted : places ≡ placed_from 0 list
-
-HasCleaned-none : (own : Addr) (groups : List Group) → HasCleaned own groups [] [] 0
-HasCleaned-none own groups = record { so_far = refl; noted = refl }
-
-HasCleaned-more : (own : Addr) (groups list next_list : List Group) (places next : List (Addr × ℕ)) (i : ℕ) (d new : Group) (members : List Addr) (place : ℕ) →
-    HasCleaned own groups list places i → i < length groups → place ≡ length list →
-    members ≡ first_places (own ∷ addresses_in places) (get_or groups i d).members →
-    next ≡ places ++ placed_at place members →
-    new ≡ record (get_or groups i d) { members = members } →
-    next_list ≡ list ++ new ∷ [] →
-    HasCleaned own groups next_list next (i + 1)
-unfolding cleaned_after
-HasCleaned-more own groups list next_list places next i d new members place held inside counted kept more made longer = record {
-  so_far = held.so_far
-      ∙ (ap (λ l. list ++ cleaned_after (own ∷ addresses_in places) l) (drop-cons groups i d inside)
-      ∙ (ap (λ m. list ++ record (get_or groups i d) { members = m } ∷ cleaned_after ((own ∷ addresses_in places) ++ m) (drop (suc i) groups)) (sym kept)
-      ∙ (ap (λ g. list ++ g ∷ cleaned_after ((own ∷ addresses_in places) ++ members) (drop (suc i) groups)) (sym made)
-      ∙ (sym (append_assoc list (new ∷ []) (cleaned_after ((own ∷ addresses_in places) ++ members) (drop (suc i) groups)))
-      ∙ (ap (λ l. l ++ cleaned_after ((own ∷ addresses_in places) ++ members) (drop (suc i) groups)) (sym longer)
-      ∙ (ap (λ l. next_list ++ cleaned_after (own ∷ l) (drop (suc i) groups)) (sym addresses)
-      ∙ ap (λ n. next_list ++ cleaned_after (own ∷ addresses_in next) (drop n groups)) (sym (add-one i))))))));
-  noted = more
-      ∙ (ap (λ l. l ++ placed_at place members) held.noted
-      ∙ (ap (λ n. placed_from 0 list ++ placed_at n members) (counted ∙ from_zero (length list))
-      ∙ (ap (λ m. placed_from 0 list ++ placed_at (0 + length list) m) (sym (ap (λ g. g.members) made))
-      ∙ (sym (placed_from-push 0 list new) ∙ ap (placed_from 0) (sym longer)))));
-}
-  where
-    from_zero : (n : ℕ) → n ≡ 0 + n
-    from_zero n = omega arith
-
-    addresses : addresses_in next ≡ addresses_in places ++ members
-    addresses = ap addresses_in more ∙ (addresses_in-append places (placed_at place members) ∙ ap (λ l. addresses_in places ++ l) (addresses_in-placed_at place members))
-
-HasCleaned-all : (own : Addr) (groups list : List Group) (places : List (Addr × ℕ)) (i : ℕ) →
-    HasCleaned own groups list places i → length groups ≤ i → list ≡ cleaned own groups
-unfolding cleaned_after
-HasCleaned-all own groups list places i held past =
-    sym (held.so_far
-    ∙ (ap (λ l. list ++ cleaned_after (own ∷ addresses_in places) l) (drop_of_length-le groups {i = i} past) ∙ append-nil list))
-
--- the same, with a look-up that tells the places
-pub record HasPlaced (own : Addr) (groups list : List Group) (places : List (Addr × ℕ)) (i : ℕ) : Type 0 where
-  pub has_cleaned : HasCleaned own groups list (placed_from 0 list) i
-  pub told : Tells places (placed_from 0 list)
-
-pub HasPlaced-none : (own : Addr) (groups : List Group) → HasPlaced own groups [] [] 0
-HasPlaced-none own groups = record { has_cleaned = HasCleaned-none own groups; told = λ addr. refl }
-
-pub HasPlaced-more : (own : Addr) (groups list next_list : List Group) (places next_places : List (Addr × ℕ)) (i : ℕ) (d new : Group) (members : List Addr) (place : ℕ) →
-    HasPlaced own groups list places i → i < length groups → place ≡ length list →
-    members ≡ first_places (own ∷ addresses_in (placed_from 0 list)) (get_or groups i d).members →
-    Tells next_places (placed_from 0 list ++ placed_at place members) →
-    new ≡ record (get_or groups i d) { members = members } →
-    next_list ≡ list ++ new ∷ [] →
-    HasPlaced own groups next_list next_places (i + 1)
-HasPlaced-more own groups list next_list places next_places i d new members place held inside counted kept told made longer =
-    let is = HasCleaned-more own groups list next_list (placed_from 0 list) (placed_from 0 list ++ placed_at place members) i d new members place
-    held.has_cleaned inside counted kept refl made longer in
-    record {
-      has_cleaned = subst (λ e. HasCleaned own groups next_list e (i + 1)) is.noted is;
-      told = subst (Tells next_places) is.noted told;
-    }
-
-pub HasPlaced-all : (own : Addr) (groups list : List Group) (places : List (Addr × ℕ)) (i : ℕ) →
-    HasPlaced own groups list places i → length groups ≤ i → list ≡ cleaned own groups
-HasPlaced-all own groups list places i held past = HasCleaned-all own groups list (placed_from 0 list) i held.has_cleaned past
-
-pub noted_by_groups : (places : List (Addr × ℕ)) (list : List Group) → Tells places (placed_from 0 list) → (addr : Addr) → place_of addr places ≡ group_of addr list
-noted_by_groups places list told addr = told addr ∙ place_of-groups addr list
+pub noted_by_groups : (groups : List Group) (places : List (Addr × ℕ)) → AreNoted groups places 0 → (addr : Addr) →
+    place_of addr places ≡ group_of addr groups
+noted_by_groups groups places held addr = held addr ∙ sym (position_from-zero (λ g. is_listed addr g.members) groups)

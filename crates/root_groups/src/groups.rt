@@ -1,12 +1,11 @@
-ghost use Rattle.std.specs.Prelude.{ℕ, List, ◌≡◌, ◌++◌, ◌∷◌, [], IfOk, OnOk, if◌then◌else◌};
+ghost use Rattle.std.specs.Prelude.{◌≡◌, [], IfOk};
 ghost use Rattle.std.specs.List.{IsDistinct};
 ghost use Rattle.net_base.specs.Address.{same_address};
-ghost use Rattle.net_base.specs.declared.address.Addr.{Addr};
-ghost use Rattle.root_groups.specs.Cleaned.{first_places, cleaned, members_of, group_of};
-ghost use Rattle.root_groups.specs.Places.{addresses_in, placed_at, Tells, is_taken, place_of, place_behind};
+ghost use Rattle.root_groups.specs.Cleaned.{cleaned, members_of, group_of};
 
 use crate::places::Places;
-use net_base::{Addr, AddrList, Group, GroupList, OutOfMemory};
+use clean_groups::clean;
+use net_base::{Addr, GroupList, OutOfMemory};
 use std::alloc::Global;
 use std::marker::Model;
 
@@ -45,18 +44,8 @@ impl Groups {
     pub fn replace(alloc: Global, groups: &GroupList, own: Addr) -> Result<Groups, OutOfMemory>
         ensures { IfOk result (λ kept. kept ≡ cleaned own groups.now) }
     {
-        let mut list = GroupList::new(alloc);
-        let mut places = Places::new(alloc);
-        for group in groups.as_slice() {
-            let place = list.as_slice().len();
-            let members = keep_first(alloc, &mut places, group.members.as_slice(), own, place)?;
-            list.push(Group {
-                hot: group.hot,
-                warm: group.warm,
-                advertise: group.advertise,
-                members,
-            })?;
-        }
+        let list = clean(alloc, groups, own)?;
+        let places = Places::of(alloc, list.as_slice())?;
         Ok(Groups { list, places })
     }
 
@@ -74,48 +63,4 @@ impl Groups {
     {
         &self.list
     }
-}
-
-// The members at their first places, which are noted.
-fn keep_first(
-    alloc: Global,
-    places: &mut Places,
-    members: &[Addr],
-    own: Addr,
-    place: usize,
-) -> Result<AddrList, OutOfMemory>
-    ensures kept { (noted : List (Addr × ℕ)) → Tells places.old noted → IfOk result (λ kept. kept ≡ first_places (own ∷ addresses_in noted) members.now) }
-    ensures placed { (noted : List (Addr × ℕ)) → Tells places.old noted → IfOk result (λ kept. Tells places.new (noted ++ placed_at place kept)) }
-{
-    let mut kept = AddrList::new(alloc);
-    for addr in members {
-        keep(&mut kept, places, own, *addr, place)?;
-    }
-    Ok(kept)
-}
-
-// Keeps an address and notes its place, where it is neither the own one nor noted yet.
-fn keep(
-    kept: &mut AddrList,
-    places: &mut Places,
-    own: Addr,
-    addr: Addr,
-    place: usize,
-) -> Result<(), OutOfMemory>
-    ensures kept { OnOk result (kept.new ≡ (if is_taken own places.old addr then kept.old else kept.old ++ addr ∷ [])) }
-    ensures placed { OnOk result ((other : Addr) → place_of other places.new ≡ (if is_taken own places.old addr then place_of other places.old else place_behind addr place places.old other)) }
-{
-    if is_taken(places, own, addr) {
-        return Ok(());
-    }
-    places.put(addr, place)?;
-    kept.push(addr)?;
-    Ok(())
-}
-
-// An address is the own one or noted already.
-fn is_taken(places: &Places, own: Addr, addr: Addr) -> bool
-    ensures { result ≡ is_taken own places.now addr }
-{
-    addr.is_same(&own) || places.has(addr)
 }

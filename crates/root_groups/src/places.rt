@@ -1,8 +1,10 @@
-ghost use Rattle.std.specs.Prelude.{◌≡◌, [], None, OnOk, OnErr, is_some};
+ghost use Rattle.std.specs.Prelude.{◌≡◌, [], Some, IfOk, OnOk, if◌then◌else◌};
+ghost use Rattle.net_base.specs.Address.{same_address};
 ghost use Rattle.net_base.specs.declared.address.Addr.{Addr};
-ghost use Rattle.root_groups.specs.Places.{place_of, place_behind};
+ghost use Rattle.root_groups.specs.Cleaned.{is_listed, group_of};
+ghost use Rattle.root_groups.specs.Places.{place_of};
 
-use net_base::{Addr, OutOfMemory};
+use net_base::{Addr, Group, OutOfMemory};
 use std::alloc::Global;
 use std::collections::BTreeMap;
 use std::marker::Model;
@@ -31,10 +33,17 @@ impl Places {
         }
     }
 
-    pub fn has(&self, addr: Addr) -> bool
-        ensures { result ≡ is_some (place_of addr self.now) }
+    // The first group of each member. The last group is noted first, so that an earlier one takes its place.
+    pub fn of(alloc: Global, groups: &[Group]) -> Result<Places, OutOfMemory>
+        ensures { IfOk result (λ places. (addr : Addr) → place_of addr places ≡ group_of addr groups.now) }
     {
-        self.entries.contains_key(&addr)
+        let mut places = Places::new(alloc);
+        let mut place = groups.len();
+        while place > 0 {
+            place -= 1;
+            places.note(groups[place].members.as_slice(), place)?;
+        }
+        Ok(places)
     }
 
     pub fn get(&self, addr: Addr) -> Option<usize>
@@ -43,11 +52,18 @@ impl Places {
         self.entries.get(&addr).copied()
     }
 
-    // The address isn't there yet.
-    pub fn put(&mut self, addr: Addr, place: usize) -> Result<(), OutOfMemory>
-        requires { place_of addr self.old ≡ None }
-        ensures ok { OnOk result ((other : Addr) → place_of other self.new ≡ place_behind addr place self.old other) }
-        ensures err { OnErr result (self.new ≡ self.old) }
+    // Notes the group of some addresses, whatever was noted of them.
+    fn note(&mut self, members: &[Addr], place: usize) -> Result<(), OutOfMemory>
+        ensures { OnOk result ((addr : Addr) → place_of addr self.new ≡ (if is_listed addr members.now then Some place else place_of addr self.old)) }
+    {
+        for addr in members {
+            self.put(*addr, place)?;
+        }
+        Ok(())
+    }
+
+    fn put(&mut self, addr: Addr, place: usize) -> Result<(), OutOfMemory>
+        ensures { OnOk result ((other : Addr) → place_of other self.new ≡ (if same_address addr other then Some place else place_of other self.old)) }
     {
         self.entries.insert(addr, place)?;
         Ok(())

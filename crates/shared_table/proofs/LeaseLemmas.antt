@@ -1,6 +1,6 @@
 -- The leases of the connections in local use are kept through every move.
-use Rattle.std.proofs.Common.{◌≡◌, ℕ, ◌==◌, Bool, true, false, if◌then◌else◌, List, [], ◌∷◌, ◌++◌, Option, Some, None, refl, sym, subst, ap, ◌∙◌, inl, inr, ◌⊎◌, ◌||◌, ◌&&◌, not, ◌+◌, ◌<◌, get_or, length, nat_lt, IfSome, arith}
-use Rattle.std.specs.List.{list_any, position, position_or_len, swap_remove}
+use Rattle.std.proofs.Common.{◌≡◌, ℕ, ◌==◌, Bool, true, false, if◌then◌else◌, List, [], ◌∷◌, ◌++◌, Option, Some, None, refl, sym, subst, ap, ◌∙◌, inl, inr, ◌⊎◌, ◌||◌, ◌&&◌, not, ◌<◌, get_or, length, nat_lt, IfSome, arith}
+use Rattle.std.specs.List.{position, position_or_len, swap_remove}
 use Rattle.std.proofs.lemmas.List.Quantifiers.{position-Some}
 use Rattle.std.proofs.lemmas.List.Sorted.{list_any-IsPermutation, IsPermutation-swap_remove}
 use Rattle.std.specs.Option.{option_map}

@@ -1,4 +1,6 @@
 mod LeaseLemmas
+mod PlaceLemmas
 mod ReplayLemmas
+mod SeenLemmas
 mod TearLemmas
 mod WorkLemmas

@@ -1,7 +1,6 @@
 -- A history with one call more.
-use Rattle.std.proofs.Common.{◌≡◌, ◌+◌, Bool, true, false, if◌then◌else◌, List, [], ◌∷◌, ◌++◌, length, refl, sym, subst, ap, ◌∙◌, inl, inr, ◌⊎◌}
+use Rattle.std.proofs.Common.{◌≡◌, ◌+◌, List, [], ◌∷◌, ◌++◌, length, refl, sym, subst, ap, ◌∙◌, inl, inr}
 use Rattle.std.proofs.lemmas.Bool.{cases_Bool}
-use Rattle.net_base.specs.declared.settings.Settings.{Settings}
 use Rattle.conn_table.specs.Answers.{acquire_of, after_acquire}
 use Rattle.conn_table.specs.Table.{Table, empty_table}
 use Rattle.conn_table.specs.declared.acquire.Acquire.{Acquire}

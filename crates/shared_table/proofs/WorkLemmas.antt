@@ -1,5 +1,5 @@
 -- How the list of a seat grows while a worker makes its calls.
-use Rattle.std.proofs.Common.{◌≡◌, ℕ, ◌+◌, ◌-◌, ◌<◌, ◌≤◌, ◌^◌, min, List, [], ◌∷◌, ◌++◌, length, take, map, get_or, refl, sym, subst, ap, ◌∙◌, append_assoc, arith}
+use Rattle.std.proofs.Common.{◌≡◌, ℕ, ◌+◌, ◌-◌, ◌<◌, ◌≤◌, ◌^◌, min, List, [], ◌∷◌, ◌++◌, length, take, map, get_or, sym, subst, ap, ◌∙◌, append_assoc, arith}
 use Rattle.std.proofs.lemmas.List.{take_more, map-append, append-nil, length-take, length-append, length-map}
 use Rattle.std.proofs.Math.ListN.{get_or-map}
 use Rattle.std.proofs.Math.Seq.{take-length}
@@ -7,7 +7,6 @@ use Rattle.shared_table.specs.Ends.{GrewBy, StoppedAt, Ended, StopsAt, MadeOne, 
 use Rattle.shared_table.specs.Entries.{noted}
 use Rattle.shared_table.specs.declared.call.TableCall.{TableCall}
 use Rattle.shared_table.specs.declared.entry.Noted.{Noted}
-use Rattle.shared_table.specs.declared.reply.TableReply.{TableReply}
 use Rattle.shared_table.specs.declared.work_end.WorkEnd.{WorkEnd}
 use Rattle.shared_table.specs.declared.work_end.WorkEnd.TheVariants.{All, Held, OutOfMemory}
 

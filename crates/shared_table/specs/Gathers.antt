@@ -1,6 +1,5 @@
 -- What is known of a table and its history when both seats come back to it.
-use Rattle.std.specs.Prelude.{ℕ, ◌≡◌, List}
-use Rattle.conn_table.specs.Table.{Table}
+use Rattle.std.specs.Prelude.{◌≡◌, List}
 use Rattle.shared_table.specs.Entries.{count_of}
 use Rattle.shared_table.specs.Replay.{Recorded, IsReplayed}
 use Rattle.shared_table.specs.Tears.{AreNoted}

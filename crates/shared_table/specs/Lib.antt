@@ -7,3 +7,5 @@ pub mod Logs
 pub mod Replay
 pub mod Seats
 pub mod Tears
+pub mod Turns
+pub mod Views

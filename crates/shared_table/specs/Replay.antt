@@ -1,6 +1,5 @@
 -- What a history says of a table.
 use Rattle.std.specs.Prelude.{◌≡◌, List, [], ◌∷◌}
-use Rattle.net_base.specs.declared.settings.Settings.{Settings}
 use Rattle.conn_table.specs.Table.{Table, empty_table}
 use Rattle.shared_table.specs.Calls.{reply_to, table_after}
 use Rattle.shared_table.specs.Entries.{entry_of}

@@ -48,6 +48,7 @@ impl Shared {
         ensures reply { IfOk result (λ reply. reply ≡ reply_to call self.old.table) }
         ensures table { OnOk result (self.new.table ≡ table_after call self.old.table) }
         ensures history { IfOk result (λ reply. self.new.history ≡ self.old.history ++ entry_of call reply ∷ []) }
+        ensures replayed { IsReplayed self.old }
         ensures err { OnErr result (self.new ≡ self.old) }
     {
         self.history.make_room()?;

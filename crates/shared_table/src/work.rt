@@ -1,5 +1,6 @@
 ghost use Rattle.std.specs.Prelude.{◌≡◌, ◌+◌, ◌<◌, ◌≤◌, ◌^◌, ℕ, false, length, map, IfSome, IfNone};
 ghost use Rattle.shared_table.specs.Ends.{Ended, KeptShut, MadeOne, OnHeld, StopsAt};
+ghost use Rattle.shared_table.specs.Seats.{IsAt};
 ghost use Rattle.shared_table.specs.declared.call.TableCall.TheVariants as made;
 
 use crate::{
@@ -49,20 +50,20 @@ pub fn run_two<
     out_gate: G,
     in_gate: H,
 ) -> Worked<L, M, G, H>
-    requires out { (out.parts ≡ L.parts) × (length out.noted + length outs.now ≤ 2 ^ 32) }
-    requires inn { (inn.parts ≡ M.parts) × (length inn.noted + length ins.now ≤ 2 ^ 32) }
-    ensures out_here { result.out.parts ≡ L.parts }
-    ensures in_here { result.inn.parts ≡ M.parts }
+    requires out { IsAt L.parts table.now out × (length out.noted + length outs.now ≤ 2 ^ 32) }
+    requires inn { IsAt M.parts table.now inn × (length inn.noted + length ins.now ≤ 2 ^ 32) }
+    ensures out_here { IsAt L.parts table.now result.out }
+    ensures in_here { IsAt M.parts table.now result.inn }
     ensures out_end { Ended result.out_end (map (λ call. made.Out call) outs.now) out.noted result.out.noted }
     ensures in_end { Ended result.in_end (map (λ call. made.In call) ins.now) inn.noted result.inn.noted }
     ensures out_held { OnHeld result.out_end (G.noes out_gate) (G.noes result.out_gate) }
     ensures in_held { OnHeld result.in_end (H.noes in_gate) (H.noes result.in_gate) }
 {
     let outbound = move || -> Ran<OutSeat<L>, G>
-        requires { (out.parts ≡ L.parts) × (length out.noted + length outs.now ≤ 2 ^ 32) }
+        requires { IsAt L.parts table.now out × (length out.noted + length outs.now ≤ 2 ^ 32) }
     { work_out(rt, table, out, outs, out_gate) };
     let inbound = move || -> Ran<InSeat<M>, H>
-        requires { (inn.parts ≡ M.parts) × (length inn.noted + length ins.now ≤ 2 ^ 32) }
+        requires { IsAt M.parts table.now inn × (length inn.noted + length ins.now ≤ 2 ^ 32) }
     { work_in(rt, table, inn, ins, in_gate) };
     let (outbound, inbound) = join(rt, outbound, inbound);
     Worked {
@@ -83,9 +84,9 @@ fn work_out<L: Ledger, M: Ledger, G: Gate, R: Wait>(
     calls: &OutCallList,
     gate: G,
 ) -> Ran<OutSeat<L>, G>
-    requires here { seat.parts ≡ L.parts }
+    requires here { IsAt L.parts table.now seat }
     requires few { length seat.noted + length calls.now ≤ 2 ^ 32 }
-    ensures here { result.seat.parts ≡ L.parts }
+    ensures here { IsAt L.parts table.now result.seat }
     ensures end { Ended result.end (map (λ call. made.Out call) calls.now) seat.noted result.seat.noted }
     ensures held { OnHeld result.end (G.noes gate) (G.noes result.gate) }
 {
@@ -113,9 +114,9 @@ fn step_out<L: Ledger, M: Ledger, G: Gate, R: Wait>(
     gate: &mut G,
     index: u64,
 ) -> Option<WorkEnd>
-    requires here { seat.old.parts ≡ L.parts }
+    requires here { IsAt L.parts table.now seat.old }
     requires few { length seat.old.noted < 2 ^ 32 }
-    ensures here { seat.new.parts ≡ L.parts }
+    ensures here { IsAt L.parts table.now seat.new }
     ensures made { IfNone result (MadeOne (made.Out call) seat.old.noted seat.new.noted) }
     ensures stopped { IfSome result (λ end. StopsAt index end × (seat.new.noted ≡ seat.old.noted)) }
     ensures held { IfSome result (λ end. OnHeld end (G.noes gate.old) (G.noes gate.new)) }
@@ -138,9 +139,9 @@ fn work_in<L: Ledger, M: Ledger, H: Gate, R: Wait>(
     calls: &InCallList,
     gate: H,
 ) -> Ran<InSeat<M>, H>
-    requires here { seat.parts ≡ M.parts }
+    requires here { IsAt M.parts table.now seat }
     requires few { length seat.noted + length calls.now ≤ 2 ^ 32 }
-    ensures here { result.seat.parts ≡ M.parts }
+    ensures here { IsAt M.parts table.now result.seat }
     ensures end { Ended result.end (map (λ call. made.In call) calls.now) seat.noted result.seat.noted }
     ensures held { OnHeld result.end (H.noes gate) (H.noes result.gate) }
 {
@@ -168,9 +169,9 @@ fn step_in<L: Ledger, M: Ledger, H: Gate, R: Wait>(
     gate: &mut H,
     index: u64,
 ) -> Option<WorkEnd>
-    requires here { seat.old.parts ≡ M.parts }
+    requires here { IsAt M.parts table.now seat.old }
     requires few { length seat.old.noted < 2 ^ 32 }
-    ensures here { seat.new.parts ≡ M.parts }
+    ensures here { IsAt M.parts table.now seat.new }
     ensures made { IfNone result (MadeOne (made.In call) seat.old.noted seat.new.noted) }
     ensures stopped { IfSome result (λ end. StopsAt index end × (seat.new.noted ≡ seat.old.noted)) }
     ensures held { IfSome result (λ end. OnHeld end (H.noes gate.old) (H.noes gate.new)) }

@@ -80,7 +80,8 @@ impl Kept {
         self.admit(cid)
     }
 
-    // Makes room for the timers of one more connection, twice over.
+    // Makes room for the timers of one more connection, twice over. Where there is none, as much memory again is asked for
+    // as there is, so that n connections that come one after another move each timer a few times at most.
     fn reserve(&mut self) -> Result<(), AllocError>
         requires { IsKept self.old }
         ensures kept { IsKept self.new }
@@ -89,7 +90,11 @@ impl Kept {
         ensures room { OnOk result (12 * (length self.new.rows + 1) ≤ deque_capacity self.new.line) }
     {
         let wanted = 2 * KINDS * (self.rows.len() + 1);
-        let more = wanted.saturating_sub(self.line.len());
+        let there = self.line.capacity();
+        if wanted <= there {
+            return Ok(());
+        }
+        let more = wanted.max(2 * there).saturating_sub(self.line.len());
         self.line.try_reserve(more)
     }
 

@@ -9,6 +9,9 @@ use crate::numbers::only_numbers;
 use net_base::{Octets, OutOfMemory};
 use std::alloc::Global;
 
+/// The canonical spelling of `Alive::Done`.
+pub const ALIVE_DONE: [u8; 2] = [0x81, 0x02];
+
 /// A message of keep-alive. A cookie is chosen by whoever asks, and comes back in the reply.
 #[derive(Clone, Copy, PartialEq, Eq)]
 pub enum Alive {

@@ -11,7 +11,7 @@ mod numbers;
 mod share;
 mod unread;
 
-pub use alive::{Alive, read_alive, write_alive};
+pub use alive::{ALIVE_DONE, Alive, read_alive, write_alive};
 pub use first::{first_number, item_number};
 pub use net_base::AddrList as PeerItems;
-pub use share::{Share, read_share, write_peers, write_request};
+pub use share::{SHARE_DONE, Share, read_share, write_peers, write_request};

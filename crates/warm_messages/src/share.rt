@@ -14,6 +14,9 @@ use cbor_items::split_number;
 use net_base::{Addr, Octets, OutOfMemory};
 use std::alloc::Global;
 
+/// The canonical spelling of `Share::Done`.
+pub const SHARE_DONE: [u8; 2] = [0x81, 0x02];
+
 /// A message of peer sharing.
 #[derive(PartialEq, Drop)]
 pub enum Share {

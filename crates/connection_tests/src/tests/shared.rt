@@ -1,14 +1,16 @@
 ghost use Rattle.std.specs.Prelude.{◌≡◌, ◌+◌, ◌<◌, ◌≤◌, ◌^◌, length, OnOk};
+ghost use Rattle.net_base.specs.Bounds.{AreSound};
 ghost use Rattle.shared_table.specs.Entries.{entry_of};
+ghost use Rattle.shared_table.specs.Seats.{IsAt};
 ghost use Rattle.shared_table.specs.declared.call.TableCall.TheVariants as calls;
 
 use super::{BOTH_WAYS, local, settings};
 use conn_state::names::name_of;
 use conn_table::GraceEnd;
-use net_base::{Cid, StateName};
+use net_base::{Cid, Settings, StateName};
 use shared_table::{
-    Entry, Gate, InCall, InCallList, InSeat, Noted, OutCall, OutCallList, OutSeat, Shared,
-    SharedTable, TableCall, TableReply, Torn, Who, WorkEnd, first_torn, run_two,
+    Entry, Gate, Gathered, InCall, InCallList, InSeat, Noted, OutCall, OutCallList, OutSeat,
+    Shared, SharedTable, TableCall, TableReply, Torn, Who, WorkEnd, first_torn, run_two,
 };
 use std::alloc::Global;
 use std::marker::Brand;
@@ -19,6 +21,8 @@ use std::sync::ledger::{Blank, Ledger};
 use std::test::Fail;
 use std::thread;
 use std::thread::Threads;
+
+mod every_call;
 
 const FIRST: Cid = Cid(1);
 
@@ -77,38 +81,48 @@ fn calls_of_both_are_answered_in_turn(rt: HostRuntime) -> Result<(), Fail> {
 
 #[test]
 fn calls_of_both_seats_are_gathered(rt: HostRuntime) -> Result<(), Fail> {
-    talked::<Brand, Brand, _>(&rt, rt.alloc(), Blank::new(1), Blank::new(1))
+    let gathered = gathered_after::<Brand, Brand, _>(
+        &rt,
+        rt.alloc(),
+        &settings(),
+        talk().as_slice(),
+        Blank::new(1),
+        Blank::new(1),
+    )?;
+    assert!(rt; gathered.history.as_slice() == talk().as_slice());
+    assert!(rt; gathered.made_out == 3 && gathered.made_in == 4);
+    assert!(rt; gathered.table.given() == 1);
+    Ok(())
 }
 
-fn talked<L: Ledger, M: Ledger, R: Wait + Abort>(
+// Makes calls through their governors' seats, compares each reply with the one that stands beside it, and gathers.
+fn gathered_after<L: Ledger, M: Ledger, R: Wait + Abort>(
     rt: &R,
     alloc: Global,
+    settings: &Settings,
+    entries: &[Entry],
     outs: Blank,
     ins: Blank,
-) -> Result<(), Fail>
+) -> Result<Gathered, Fail>
+    requires settings { AreSound settings.now }
+    requires few { length entries.now < 2 ^ 32 }
     requires outs { (outs.name ≡ L.name) × (outs.parts ≡ L.parts) × (0 < L.parts) }
     requires ins { (ins.name ≡ M.name) × (ins.parts ≡ M.parts) × (0 < M.parts) }
 {
     let (out_book, out_share) = outs.open::<L>();
     let (in_book, in_share) = ins.open::<M>();
     let (table, mut out, mut inn) = SharedTable::new(
-        alloc,
-        &settings(),
-        out_book,
-        out_share,
-        in_book,
-        in_share,
+        alloc, settings, out_book, out_share, in_book, in_share,
     )?;
-    for entry in &talk() {
+    for entry in entries {
         ask(rt, &table, &mut out, &mut inn, entry)?;
     }
-    assert!(rt; out.made() == 3 && inn.made() == 4);
-    assert!(rt; inn.noted().as_slice().len() == 4);
+    let (outs, ins) = (out.made(), inn.made());
+    assert!(rt; out.noted().as_slice().len() as u64 == outs);
+    assert!(rt; inn.noted().as_slice().len() as u64 == ins);
     let gathered = table.gather(out, inn).ok().ok_or("nothing is torn")?;
-    assert!(rt; gathered.history.as_slice() == talk().as_slice());
-    assert!(rt; gathered.made_out == 3 && gathered.made_in == 4);
-    assert!(rt; gathered.table.given() == 1);
-    Ok(())
+    assert!(rt; gathered.made_out == outs && gathered.made_in == ins);
+    Ok(gathered)
 }
 
 // Makes a call through its governor's seat, and compares the reply.
@@ -119,9 +133,9 @@ fn ask<L: Ledger, M: Ledger, R: Wait + Abort>(
     inn: &mut InSeat<M>,
     entry: &Entry,
 ) -> Result<(), Fail>
-    requires here { (out.old.parts ≡ L.parts) × (inn.old.parts ≡ M.parts) }
+    requires here { IsAt L.parts table.now out.old × IsAt M.parts table.now inn.old }
     requires few { (length out.old.noted < 2 ^ 32) × (length inn.old.noted < 2 ^ 32) }
-    ensures here { (out.new.parts ≡ L.parts) × (inn.new.parts ≡ M.parts) }
+    ensures here { IsAt L.parts table.now out.new × IsAt M.parts table.now inn.new }
     ensures few { OnOk result ((length out.new.noted ≤ length out.old.noted + 1) × (length inn.new.noted ≤ length inn.old.noted + 1)) }
 {
     let reply = match entry.call {

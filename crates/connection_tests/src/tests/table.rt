@@ -10,7 +10,7 @@ use net_base::{Addr, Agreed, Cid, Facts, Grace, Phase, Provenance, StateName};
 use plain::PlainTable;
 use std::test::Fail;
 
-mod plain;
+pub(super) mod plain;
 
 fn greeting(cid: u64, port: u16, until: u64) -> Facts {
     Facts {

@@ -22,8 +22,6 @@ pub(crate) const ACCEPTANCE: [u8; 9] = [0x83, 0x01, 0x0e, 0x84, 0x18, 0x2a, 0xf4
 // A keep-alive with the cookie 5.
 pub(crate) const ALIVE_WITH_FIVE: [u8; 3] = [0x82, 0x00, 0x05];
 
-pub(crate) const ALIVE_DONE: [u8; 2] = [0x81, 0x02];
-
 // No block is in common, and the chain is empty.
 pub(crate) const NO_INTERSECTION: [u8; 5] = [0x82, 0x06, 0x82, 0x80, 0x00];
 

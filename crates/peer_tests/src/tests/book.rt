@@ -152,6 +152,18 @@ fn a_forgotten_peer_is_gone(rt: HostRuntime) -> Result<(), Fail> {
 }
 
 #[test]
+fn several_are_forgotten_at_once(rt: HostRuntime) -> Result<(), Fail> {
+    let mut book = PeerBook::new(rt.alloc());
+    book.add_all(false, &[A5, A1, A3], MOST_PEERS)?;
+    book.add_all(true, &[A4, A2], MOST_PEERS)?;
+    // one of nobody, and one twice
+    book.forget_all(&[A3, A8, A4, A3])?;
+    assert!(rt; book.listed(Temp::Cold) == [A1, A2, A5].as_slice());
+    assert!(rt; [book.known(), book.big_known()] == [2, 1]);
+    Ok(())
+}
+
+#[test]
 fn addresses_come_in_one_after_another(rt: HostRuntime) -> Result<(), Fail> {
     let mut book = PeerBook::new(rt.alloc());
     book.add(A3)?;

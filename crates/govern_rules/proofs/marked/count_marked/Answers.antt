@@ -4,7 +4,7 @@ use Rattle.govern_rules.specs.Links.{some_link}
 use Rattle.govern_rules.specs.Marks.{has_mark}
 use Rattle.govern_rules.specs.SortedLinks.{IsInOrder}
 use Rattle.govern_rules.proofs.Apart.{nothing}
-use Rattle.govern_rules.proofs.Counting.{one-link, no-link}
+use Rattle.govern_rules.proofs.Counting.{one-link, no-link, count-unmarked}
 use Rattle.govern_rules.proofs.marked.count_marked.Goals as goal
 
 pub counts-requires : goal.counts-requires
@@ -40,3 +40,8 @@ returns c =
     let none = no-link c.args.big c.args.mark c.args.book.now in
     let before = subst (λ l. c.loop-link.count + count_of c.args.big (some_link (has_mark c.args.mark) l) c.args.book.now ≡ count_of c.args.big (some_link (has_mark c.args.mark) c.args.links.now) c.args.book.now) end c.loop-link.invariant.so_far in
     omega (arith, none, before)
+
+pub returns-then-not-is_marked : goal.returns-then-not-is_marked
+returns-then-not-is_marked c =
+    let none : c.is_marked.result ≡ false = search rules in
+    sym (count-unmarked c.args.big (some_link (has_mark c.args.mark) c.args.links.now) c.args.book.now (c.is_marked.ensures none))

@@ -3,7 +3,7 @@ use Rattle.std.specs.List.{IsDistinct, filter}
 use Rattle.net_base.specs.Address.{same_address}
 use Rattle.net_base.specs.declared.peer.Peer.{Peer}
 use Rattle.peer_book.specs.Book.{addresses_of}
-use Rattle.govern_rules.specs.Members.{valency_task}
+use Rattle.govern_rules.specs.Members.{valency_task, valency_number}
 use Rattle.govern_rules.specs.Orders.{picks_of}
 use Rattle.govern_rules.specs.Search.{suits, lookups}
 use Rattle.govern_rules.specs.Tasks.{order_of}
@@ -18,7 +18,8 @@ pub returns-then-number-eq0 : goal.returns-then-number-eq0
 returns-then-number-eq0 g c =
     c.new.ensures.items
     ∙ sym (orders-none c.args.valency c.args.view.now c.args.group.now c.args.book.now c.number_of-number.result
-    (c.requires.members, c.requires.peers) c.number_of-number.ensures c.if-number-eq0.true)
+    (c.requires.members, c.requires.peers)
+    (c.number_of-number.ensures ∙ ap (valency_number c.args.valency c.args.group.now c.args.view.now.links) c.requires.known) c.if-number-eq0.true)
 
 pub ordinary_orders-requires : goal.ordinary_orders-requires
 ordinary_orders-requires g c =
@@ -26,7 +27,7 @@ ordinary_orders-requires g c =
     let members = c.args.group.now.members in
     let test = suits (record { big = false; task = c.task_of-task.result; whom = Everybody; view = c.args.view }) in
     subst (λ l. IsDistinct same_address (addresses_of l))
-    (sym (c.deref.ensures.value ∙ (c.in_ok-cands.ensures ∙ ap (λ l. filter test (lookups book l)) c.as_slice.ensures)))
+    (sym (c.deref.ensures.value ∙ (c.in_ok-cands.ensures ∙ ap (filter test) c.requires.known)))
     (IsDistinct-filter (λ (p : Peer). p.addr) test (lookups book members) (lookups_apart members book c.requires.members c.requires.peers))
 
 pub returns : goal.returns
@@ -40,10 +41,11 @@ returns g c =
     let found : c.deref.result.now ≡ filter (suits search) (lookups book group.members) =
     c.deref.ensures.value
     ∙ (c.in_ok-cands.ensures
-    ∙ (ap (λ l. filter (suits (record search { task = c.task_of-task.result })) (lookups book l)) c.as_slice.ensures
+    ∙ (ap (filter (suits (record search { task = c.task_of-task.result }))) c.requires.known
     ∙ ap (λ t. filter (suits (record search { task = t })) (lookups book group.members)) c.task_of-task.ensures)) in
     subst (λ l. IfOk c.ordinary_orders.result (λ orders. orders.items ≡ l))
     (ap (λ t. map (order_of t) (picks_of false view.word number c.deref.result.now)) c.task_of-task.ensures
     ∙ (ap (λ l. map (order_of (valency_task valency)) (picks_of false view.word number l)) found
-    ∙ orders-found valency view group book number (suits search) (c.requires.members, c.requires.peers) c.number_of-number.ensures (suits_is search)))
+    ∙ orders-found valency view group book number (suits search) (c.requires.members, c.requires.peers)
+    (c.number_of-number.ensures ∙ ap (valency_number valency group view.links) c.requires.known) (suits_is search)))
     c.ordinary_orders.ensures

@@ -13,6 +13,7 @@ use crate::NodeState;
 use churn_clock::effective;
 use connections::Reply;
 use mux_segment::Item;
+use net_base::protocol::{CHAIN_SYNC, KEEP_ALIVE};
 use net_base::{ActionList, AddrList, Cid, CloseCause, Facts, FaultKind, OutOfMemory, Temp};
 use share_rounds::fresh;
 use std::alloc::Global;
@@ -73,8 +74,8 @@ impl NodeState {
         ensures { OnOk result (Does (brings item.now.id item.now.body (fresh_entry facts) self.old) actions.old self.new actions.new) }
     {
         match item.id {
-            2 => self.peer_becomes(Temp::Hot, facts.addr, actions),
-            8 => Ok(()),
+            CHAIN_SYNC => self.peer_becomes(Temp::Hot, facts.addr, actions),
+            KEEP_ALIVE => Ok(()),
             _ => self.take_addresses(item.body.as_slice(), actions),
         }
     }
@@ -125,8 +126,8 @@ fn pays(alloc: Global, reply: Reply, item: &Item) -> Result<bool, OutOfMemory>
 {
     let body = item.body.as_slice();
     match item.id {
-        2 => Ok(pays_chain_sync(body)),
-        8 => Ok(pays_keep_alive(reply.asked, body)),
+        CHAIN_SYNC => Ok(pays_chain_sync(body)),
+        KEEP_ALIVE => Ok(pays_keep_alive(reply.asked, body)),
         _ => pays_peer_sharing(alloc, reply.asked, body),
     }
 }

@@ -12,6 +12,7 @@ ghost use Rattle.share_rounds.specs.Rounds.{served_to};
 use crate::NodeState;
 use conn_state::facts::{is_sharing, serves_remote};
 use conn_state::responders::runs;
+use conn_table::Step;
 use mux_segment::Item;
 use net_base::{ActionList, Addr, AddrList, Cid, CloseCause, Facts, FaultKind, OutOfMemory};
 use remote_watch::{Reply, Seen, WatchRefusal, reply_bytes, watch};
@@ -135,7 +136,8 @@ impl NodeState {
     {
         self.reply(facts, protocol, seen.reply, actions)?;
         if seen.done {
-            self.idle(facts, protocol, actions)
+            let until = self.idle_end();
+            self.turn(facts, Step::Idle(protocol, until), actions)
         } else {
             Ok(())
         }

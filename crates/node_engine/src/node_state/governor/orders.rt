@@ -7,7 +7,9 @@ ghost use Rattle.machine.specs.Peers.{peer_goes};
 ghost use Rattle.node_engine.specs.State.{Does, DoesTo, IsKnown};
 
 use crate::NodeState;
+use conn_table::Step;
 use govern_rules::Order;
+use net_base::protocol::PEER_SHARING;
 use net_base::{ActionList, Addr, Facts, OutOfMemory, Temp};
 use warm_messages::write_request;
 
@@ -53,7 +55,7 @@ impl NodeState {
         ensures { OnOk result (Does (promote addr self.old) actions.old self.new actions.new) }
     {
         match self.live(addr) {
-            Some(facts) => self.acquire(facts, actions),
+            Some(facts) => self.come_into_use(facts, Step::Acquire, actions),
             None => self.dial(addr, actions),
         }
     }
@@ -85,8 +87,8 @@ impl NodeState {
         ensures { OnOk result (DoesTo facts.cid.0 (asks_peer number) actions.old self.old self.new actions.new) }
     {
         let request = write_request(self.alloc, number)?;
-        self.ask(facts.cid, 10, request.as_slice(), actions)?;
-        self.owe(facts.cid, 10, number);
+        self.ask(facts.cid, PEER_SHARING, request.as_slice(), actions)?;
+        self.owe(facts.cid, PEER_SHARING, number);
         let next = self.moment + self.connections.settings().sharegap;
         self.peer_was_asked(next, facts.addr);
         Ok(())

@@ -1,18 +1,18 @@
-ghost use Rattle.std.specs.Prelude.{◌≡◌, ◌≤◌, ◌+◌, ◌^◌, true, false, OnOk};
-ghost use Rattle.conn_state.specs.Moves.{connected};
+ghost use Rattle.std.specs.Prelude.{◌≡◌, ◌≤◌, ◌^◌, true, false, OnOk};
 ghost use Rattle.conn_state.specs.Use.{is_dialing};
 ghost use Rattle.conn_table.specs.Answers.{any_at};
 ghost use Rattle.hs_decide.specs.Answers.{proposal_of};
-ghost use Rattle.machine.specs.Connections.{entry_turns, dial, dial_opens, dial_fails};
+ghost use Rattle.machine.specs.Connections.{dial, dial_opens, dial_fails};
 ghost use Rattle.machine.specs.Machine.{facts_of};
 ghost use Rattle.machine.specs.Own.{own_info};
 ghost use Rattle.machine.specs.Replies.{sends_as_initiator};
-ghost use Rattle.connections.specs.Standing.{moved};
 ghost use Rattle.node_engine.specs.State.{Does, DoesTo, IsKnown};
 
 use crate::NodeState;
 use crate::own::own_info;
+use conn_table::Step;
 use hs_decide::proposal;
+use net_base::protocol::HANDSHAKE;
 use net_base::{Action, ActionList, Addr, Cid, Facts, OutOfMemory, StateName};
 
 impl NodeState {
@@ -37,7 +37,8 @@ impl NodeState {
         requires dialing { is_dialing facts ≡ true }
         ensures { OnOk result (DoesTo facts.cid.0 dial_opens actions.old self.old self.new actions.new) }
     {
-        self.connect(facts, actions)?;
+        let until = self.handshake_end();
+        self.turn(facts, Step::Connected(until), actions)?;
         self.propose(facts.cid, actions)
     }
 
@@ -53,24 +54,12 @@ impl NodeState {
         self.vanish(facts, actions)
     }
 
-    // The handshake begins.
-    fn connect(&mut self, facts: Facts, actions: &mut ActionList) -> Result<(), OutOfMemory>
-        requires known { IsKnown facts self.old }
-        requires dialing { is_dialing facts ≡ true }
-        ensures { OnOk result (DoesTo facts.cid.0
-            (λ e m. entry_turns e (moved (connected (m.now + m.settings.handshake)) e) m)
-            actions.old self.old self.new actions.new) }
-    {
-        self.connections.connected(facts.cid, self.moment);
-        self.tell_turn(facts, actions)
-    }
-
     // This node's proposal.
     fn propose(&self, cid: Cid, actions: &mut ActionList) -> Result<(), OutOfMemory>
         ensures { OnOk result (Does (sends_as_initiator cid 0 (proposal_of (own_info self.now.settings)) self.now)
             actions.old self.now actions.new) }
     {
         let payload = proposal(self.alloc, &own_info(self.connections.settings()))?;
-        self.ask(cid, 0, payload.as_slice(), actions)
+        self.ask(cid, HANDSHAKE, payload.as_slice(), actions)
     }
 }

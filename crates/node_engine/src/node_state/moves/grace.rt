@@ -1,11 +1,10 @@
-ghost use Rattle.std.specs.Prelude.{◌≡◌, true, false, OnOk};
-ghost use Rattle.conn_state.specs.Moves.{expired};
+ghost use Rattle.std.specs.Prelude.{◌≡◌, true, OnOk};
 ghost use Rattle.conn_table.specs.Answers.{is_due};
-ghost use Rattle.machine.specs.Connections.{closing_entry, entry_turns, grace_over, wait_over};
-ghost use Rattle.connections.specs.Standing.{moved};
+ghost use Rattle.machine.specs.Connections.{grace_over, wait_over};
 ghost use Rattle.node_engine.specs.State.{DoesTo, IsKnown};
 
 use crate::NodeState;
+use conn_table::Step;
 use net_base::{Action, ActionList, CloseCause, Facts, OutOfMemory};
 
 impl NodeState {
@@ -19,35 +18,13 @@ impl NodeState {
         requires over { is_due self.old.now facts.grace ≡ true }
         ensures { OnOk result (DoesTo facts.cid.0 grace_over actions.old self.old self.new actions.new) }
     {
+        let until = self.time_wait_end();
+        let step = Step::GraceOver(until);
         if facts.local {
-            return self.expire(facts, actions);
+            return self.turn(facts, step, actions);
         }
         actions.push(Action::Close(facts.cid, CloseCause::Unused))?;
-        self.close_unused(facts, actions)
-    }
-
-    // The other side has had its time on a connection that this node uses.
-    fn expire(&mut self, facts: Facts, actions: &mut ActionList) -> Result<(), OutOfMemory>
-        requires known { IsKnown facts self.old }
-        requires over { is_due self.old.now facts.grace ≡ true }
-        requires used { facts.local ≡ true }
-        ensures { OnOk result (DoesTo facts.cid.0 (λ e. entry_turns e (moved expired e))
-            actions.old self.old self.new actions.new) }
-    {
-        self.connections.expire(facts.cid, self.moment);
-        self.tell_turn(facts, actions)
-    }
-
-    // A connection that nobody uses is closed, and kept for the time-wait.
-    fn close_unused(&mut self, facts: Facts, actions: &mut ActionList) -> Result<(), OutOfMemory>
-        requires known { IsKnown facts self.old }
-        requires over { is_due self.old.now facts.grace ≡ true }
-        requires unused { facts.local ≡ false }
-        ensures { OnOk result (DoesTo facts.cid.0 (λ e m. entry_turns e (closing_entry m e) m)
-            actions.old self.old self.new actions.new) }
-    {
-        self.connections.close(facts.cid, self.moment);
-        self.tell_turn(facts, actions)
+        self.turn(facts, step, actions)
     }
 
     /// The time-wait of a connection is over.

@@ -1,14 +1,53 @@
-ghost use Rattle.std.specs.Prelude.{◌≡◌, ◌++◌, true, IsSome, IfSome, OnOk};
+ghost use Rattle.std.specs.Prelude.{◌≡◌, ◌+◌, ◌++◌, true, IsSome, IfSome, OnOk};
+ghost use Rattle.conn_table.specs.Conditions.{CanStep};
+ghost use Rattle.connections.specs.Steps.{stepped};
 ghost use Rattle.machine.specs.Connections.{entry_turns};
 ghost use Rattle.machine.specs.Machine.{entry_at};
 ghost use Rattle.machine.specs.Replies.{owing, paid, is_owed_on};
-ghost use Rattle.node_engine.specs.State.{DoesSilently, name_notice};
+ghost use Rattle.node_engine.specs.State.{DoesSilently, DoesTo, IsKnown, name_notice};
 
 use crate::NodeState;
 use conn_state::names::name_of;
+use conn_table::Step;
 use net_base::{Action, ActionList, Cid, Facts, OutOfMemory};
 
 impl NodeState {
+    /// A connection makes a move that it has, and its name is told where it is another one then.
+    pub(crate) fn turn(
+        &mut self,
+        facts: Facts,
+        step: Step,
+        actions: &mut ActionList,
+    ) -> Result<(), OutOfMemory>
+        requires known { IsKnown facts self.old }
+        requires can { CanStep step facts }
+        ensures { OnOk result (DoesTo facts.cid.0 (λ e. entry_turns e (stepped step e)) actions.old self.old self.new actions.new) }
+    {
+        self.connections.turn(facts.cid, step);
+        self.tell_turn(facts, actions)
+    }
+
+    /// Until when a handshake that begins now may last.
+    pub(crate) fn handshake_end(&self) -> u64
+        ensures { result ≡ self.now.now + self.now.settings.handshake }
+    {
+        self.moment + self.connections.settings().handshake
+    }
+
+    /// Until when a connection that nobody uses from now on is kept.
+    pub(crate) fn idle_end(&self) -> u64
+        ensures { result ≡ self.now.now + self.now.settings.idle }
+    {
+        self.moment + self.connections.settings().idle
+    }
+
+    /// Until when a connection that is closed now is kept.
+    pub(crate) fn time_wait_end(&self) -> u64
+        ensures { result ≡ self.now.now + self.now.settings.timewait }
+    {
+        self.moment + self.connections.settings().timewait
+    }
+
     /// A reply on a protocol comes to be owed from now on, for what was asked. Nothing is told of that.
     pub(crate) fn owe(&mut self, cid: Cid, protocol: u16, asked: u64)
         requires stands { IsSome (entry_at cid.0 self.old) }

@@ -1,19 +1,20 @@
-ghost use Rattle.std.specs.Prelude.{◌≡◌, ◌+◌, true, false, IsSome, OnOk};
-ghost use Rattle.conn_state.specs.Moves.{awakened, released};
+ghost use Rattle.std.specs.Prelude.{◌≡◌, true, false, IsSome, OnOk};
 ghost use Rattle.conn_state.specs.Protocols.{has_responder};
-ghost use Rattle.conn_state.specs.Use.{is_acquirable, is_greeting, is_outbound, runs};
-ghost use Rattle.conn_table.specs.Conditions.{CanAwake};
-ghost use Rattle.machine.specs.Connections.{entry_turns, is_agreed_inbound, is_agreed_outbound, acquire, says_done, release, awake, idle};
+ghost use Rattle.conn_state.specs.Use.{is_greeting, is_outbound};
+ghost use Rattle.conn_table.specs.Conditions.{CanAwake, CanStep, after_step};
+ghost use Rattle.machine.specs.Connections.{is_agreed_inbound, is_agreed_outbound, is_used, says_done, release, awake};
 ghost use Rattle.machine.specs.Machine.{entry_at};
 ghost use Rattle.machine.specs.Replies.{sends_as_initiator};
-ghost use Rattle.connections.specs.Standing.{moved};
+ghost use Rattle.connections.specs.Steps.{closes};
 ghost use Rattle.node_engine.specs.State.{Does, DoesTo, IsKnown, is_used_from};
 ghost use Rattle.warm_messages.specs.Writing.{written_alive};
 
 use crate::NodeState;
 use conn_state::facts::is_sharing;
+use conn_table::Step;
+use net_base::protocol::{KEEP_ALIVE, PEER_SHARING};
 use net_base::{ActionList, Agreed, Cid, Facts, OutOfMemory, Temp};
-use warm_messages::{Alive, write_alive};
+use warm_messages::{Alive, SHARE_DONE, write_alive};
 
 impl NodeState {
     /// The handshake of a peer that connected is done: the connection is kept for the other side.
@@ -28,8 +29,8 @@ impl NodeState {
         requires inbound { is_outbound facts ≡ false }
         ensures { OnOk result (DoesTo facts.cid.0 (is_agreed_inbound agreed) actions.old self.old self.new actions.new) }
     {
-        self.connections.negotiated(facts.cid, agreed, self.moment);
-        self.tell_turn(facts, actions)
+        let until = self.idle_end();
+        self.turn(facts, Step::Negotiated(agreed, until), actions)
     }
 
     /// The handshake of a peer that was dialed is done: the connection is in use at once.
@@ -44,22 +45,24 @@ impl NodeState {
         requires outbound { is_outbound facts ≡ true }
         ensures { OnOk result (DoesTo facts.cid.0 (is_agreed_outbound agreed) actions.old self.old self.new actions.new) }
     {
-        self.connections.negotiated(facts.cid, agreed, self.moment);
-        self.comes_into_use(facts, actions)
+        let until = self.idle_end();
+        self.come_into_use(facts, Step::Negotiated(agreed, until), actions)
     }
 
-    /// This node takes a connection that stands into its use.
-    pub(crate) fn acquire(
+    /// A connection comes into this node's use by a move that it has.
+    pub(crate) fn come_into_use(
         &mut self,
         facts: Facts,
+        step: Step,
         actions: &mut ActionList,
     ) -> Result<(), OutOfMemory>
         requires known { IsKnown facts self.old }
-        requires may { is_acquirable facts ≡ true }
-        ensures { OnOk result (DoesTo facts.cid.0 acquire actions.old self.old self.new actions.new) }
+        requires can { CanStep step facts }
+        requires stays { closes step facts ≡ false }
+        ensures { OnOk result (DoesTo facts.cid.0 (λ e. is_used (after_step step e.facts) e) actions.old self.old self.new actions.new) }
     {
-        self.connections.acquire(facts.cid);
-        self.comes_into_use(facts, actions)
+        self.connections.turn(facts.cid, step);
+        self.greet_use(facts, actions)
     }
 
     /// This node gives a connection out of its use.
@@ -73,7 +76,8 @@ impl NodeState {
         ensures { OnOk result (DoesTo facts.cid.0 release actions.old self.old self.new actions.new) }
     {
         self.say_done(facts, actions)?;
-        self.let_use_go(facts, actions)?;
+        let until = self.idle_end();
+        self.turn(facts, Step::Release(until), actions)?;
         self.peer_becomes(Temp::Cold, facts.addr, actions)?;
         self.trim(facts.cid, actions)
     }
@@ -90,34 +94,19 @@ impl NodeState {
         requires may { CanAwake protocol facts }
         ensures { OnOk result (DoesTo facts.cid.0 (awake protocol) actions.old self.old self.new actions.new) }
     {
-        self.awaken(facts, protocol, actions)?;
+        self.turn(facts, Step::Awake(protocol), actions)?;
         self.trim(facts.cid, actions)
-    }
-
-    /// The other side ends a protocol.
-    pub(crate) fn idle(
-        &mut self,
-        facts: Facts,
-        protocol: u16,
-        actions: &mut ActionList,
-    ) -> Result<(), OutOfMemory>
-        requires known { IsKnown facts self.old }
-        requires runs { runs protocol facts.running ≡ true }
-        ensures { OnOk result (DoesTo facts.cid.0 (idle protocol) actions.old self.old self.new actions.new) }
-    {
-        self.connections.idle(facts.cid, protocol, self.moment);
-        self.tell_turn(facts, actions)
     }
 
     // A connection has come into this node's use: its name is told, its peer is warm, and a keep-alive is sent, to
     // which a reply is owed.
-    fn comes_into_use(&mut self, before: Facts, actions: &mut ActionList) -> Result<(), OutOfMemory>
+    fn greet_use(&mut self, before: Facts, actions: &mut ActionList) -> Result<(), OutOfMemory>
         requires { IsSome (entry_at before.cid.0 self.old) }
         ensures { OnOk result (DoesTo before.cid.0 (is_used_from before) actions.old self.old self.new actions.new) }
     {
         let cookie = (before.cid.0 % 65_536) as u16;
         self.tell_turn(before, actions)?;
-        self.owe(before.cid, 8, u64::from(cookie));
+        self.owe(before.cid, KEEP_ALIVE, u64::from(cookie));
         self.peer_succeeds(before.addr, actions)?;
         self.keep_alive(before.cid, Alive::Ask(cookie), actions)
     }
@@ -132,7 +121,7 @@ impl NodeState {
         ensures { OnOk result (Does (sends_as_initiator cid 8 (written_alive message) self.now) actions.old self.now actions.new) }
     {
         let payload = write_alive(self.alloc, &message)?;
-        self.ask(cid, 8, payload.as_slice(), actions)
+        self.ask(cid, KEEP_ALIVE, payload.as_slice(), actions)
     }
 
     // The protocols that this node began are done: peer sharing, where it was agreed, and keep-alive.
@@ -140,37 +129,8 @@ impl NodeState {
         ensures { OnOk result (Does (says_done facts self.now) actions.old self.now actions.new) }
     {
         if is_sharing(&facts) {
-            self.ask(facts.cid, 10, &[0x81, 0x02], actions)?;
+            self.ask(facts.cid, PEER_SHARING, &SHARE_DONE, actions)?;
         }
         self.keep_alive(facts.cid, Alive::Done, actions)
-    }
-
-    // A connection is given out of use.
-    fn let_use_go(&mut self, facts: Facts, actions: &mut ActionList) -> Result<(), OutOfMemory>
-        requires known { IsKnown facts self.old }
-        requires used { facts.local ≡ true }
-        ensures { OnOk result (DoesTo facts.cid.0
-            (λ e m. entry_turns e (moved (released (m.now + m.settings.idle)) e) m)
-            actions.old self.old self.new actions.new) }
-    {
-        self.connections.release(facts.cid, self.moment);
-        self.tell_turn(facts, actions)
-    }
-
-    // The other side's protocol runs.
-    fn awaken(
-        &mut self,
-        facts: Facts,
-        protocol: u16,
-        actions: &mut ActionList,
-    ) -> Result<(), OutOfMemory>
-        requires known { IsKnown facts self.old }
-        requires responder { has_responder protocol ≡ true }
-        requires may { CanAwake protocol facts }
-        ensures { OnOk result (DoesTo facts.cid.0 (λ e. entry_turns e (moved (awakened protocol) e))
-            actions.old self.old self.new actions.new) }
-    {
-        self.connections.awake(facts.cid, protocol);
-        self.tell_turn(facts, actions)
     }
 }

@@ -1,4 +1,4 @@
-use Rattle.std.proofs.Common.{◌≡◌, ◌==◌, Some, sym, ap, ◌∙◌}
+use Rattle.std.proofs.Common.{◌==◌, sym, ap, ◌∙◌}
 use Rattle.std.specs.List.{position}
 use Rattle.shared_table.proofs.LeaseLemmas.{found_place, lease_found, stay-swap_remove}
 use Rattle.shared_table.proofs.leased.taken.Goals as goal

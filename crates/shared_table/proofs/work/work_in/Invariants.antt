@@ -1,11 +1,12 @@
-use Rattle.std.proofs.Common.{◌≡◌, ℕ, ◌≤◌, take, map}
+use Rattle.std.proofs.Common.{ℕ, ◌≤◌, take, map}
 use Rattle.shared_table.specs.Ends.{GrewBy}
+use Rattle.shared_table.specs.Seats.{IsAt}
 use Rattle.shared_table.specs.declared.call.TableCall.TheVariants as made
 use Rattle.shared_table.proofs.work.work_in.Given as goal
 
 abbrev pub invariant-loop-place : goal.invariant-loop-place
 invariant-loop-place g l = record {
-  here : l.seat.parts ≡ g.M.Ledger.parts;
+  here : IsAt g.M.Ledger.parts l.fn.table l.seat;
   grew : GrewBy (take l.place (map (λ call. made.In call) l.call-items)) l.fn.seat.noted l.seat.noted;
   later : (n : ℕ) → g.H.Gate.noes l.fn.gate n ≤ g.H.Gate.noes l.gate n;
 }

@@ -4,7 +4,7 @@ use Rattle.govern_rules.specs.declared.link.Link.{Link}
 use Rattle.govern_rules.proofs.ByAddress.{in_order_from_sort}
 use Rattle.govern_rules.proofs.links.LinkList.from_vec.Goals as goal
 
-pub invariant_of-result-2 : goal.invariant_of-result-2
-invariant_of-result-2 c =
+pub counted-requires-2-clause-ordered : goal.counted-requires-2-clause-ordered
+counted-requires-2-clause-ordered c =
     in_order_from_sort _ (c.in_ok-sort_by_key.ensures.sorted (λ (l : Link). (l.addr, l.cid))
     (answers_always _ (λ a r. r ≡ (a.0.now.addr, a.0.now.cid)) _ (λ f a r f' k. search rules)))

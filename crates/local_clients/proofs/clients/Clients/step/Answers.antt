@@ -1,7 +1,9 @@
-use Rattle.std.proofs.Common.{◌+◌, ◌<◌, sym, ap, subst, arith}
-use Rattle.local_clients.specs.Clients.{ClientTable, ClientsState}
+use Rattle.std.proofs.Common.{◌+◌, ◌<◌, sym, ap, subst, ◌∙◌, arith}
+use Rattle.local_clients.specs.Clients.{ClientTable, ClientsState, open_version, stepped}
 use Rattle.local_clients.specs.Kept.{AreKept}
+use Rattle.local_clients.specs.Law.{TurnsAway, LeavesOpen}
 use Rattle.local_clients.proofs.Keeps.{kept_after}
+use Rattle.local_clients.proofs.Laws.{stays_open, turns_away}
 use Rattle.local_clients.proofs.clients.Clients.step.Goals as goal
 
 pub invariant_of-clients : goal.invariant_of-clients
@@ -18,3 +20,18 @@ returns-clause-few c =
     let kept = subst (λ (t : ClientTable). AreKept (record { rules = before.rules; taken = before.taken + 1; table = t })) (sym c.in_ok-actions.ensures.table)
     (kept_after (record { rules = before.rules; taken = before.taken; table = before.table }) few c.self.invariant c.args.event c.requires.event) in
     kept.limit
+
+pub returns-clause-turned_away : goal.returns-clause-turned_away
+returns-clause-turned_away c =
+    let before = c.self.inside in
+    subst (λ (s : ClientsState). TurnsAway s.rules c.args.event s.table c.in_ok-actions.actions) c.self.view_is
+    (subst (TurnsAway before.rules c.args.event before.table) (sym c.in_ok-actions.ensures.actions) (turns_away before.rules c.args.event before.table))
+
+pub returns-clause-stays : goal.returns-clause-stays
+returns-clause-stays c = λ id version open_now.
+    let before = c.self.inside in
+    let event = c.args.event in
+    let open_before = ap (λ (s : ClientsState). open_version id s.table) c.self.view_is ∙ open_now in
+    subst (LeavesOpen event id version c.take.new.self) (sym c.in_ok-actions.ensures.actions)
+    (subst (λ (t : ClientTable). LeavesOpen event id version t (stepped before.rules event before.table).actions) (sym c.in_ok-actions.ensures.table)
+    (stays_open before.rules before.table c.self.invariant.apart event id version open_before))

@@ -1,20 +1,15 @@
-use Rattle.std.proofs.Common.{◌+◌, refl, ap}
-use Rattle.std.proofs.lemmas.Result.{on_ok_weaker}
-use Rattle.conn_state.specs.Moves.{agreed_outbound}
-use Rattle.machine.specs.Connections.{is_agreed_outbound}
-use Rattle.connections.specs.Standing.{moved}
-use Rattle.node_engine.proofs.Doings.{HasTurned, has_turned, turned_as, on_some, used_does, negotiated_keeps, negotiated_outbound}
-use Rattle.node_engine.proofs.node_state.NodeState.agree_outbound.Goals.{After-negotiated}
+use Rattle.std.proofs.Common.{subst}
+use Rattle.conn_table.specs.Conditions.{after_step}
+use Rattle.conn_table.specs.declared.step.Step.TheVariants.{Negotiated}
+use Rattle.machine.specs.Connections.{is_used, is_agreed_outbound}
+use Rattle.node_engine.specs.State.{Does}
+use Rattle.node_engine.proofs.DoesLemmas.{does_other}
+use Rattle.node_engine.proofs.Doings.{agreed_out}
 use Rattle.node_engine.proofs.node_state.NodeState.agree_outbound.Goals as goal
 
-turned : (c : After-negotiated) → HasTurned c.args.facts (moved (agreed_outbound c.args.agreed (c.self.inside.moment + c.self.inside.connections.settings.idle))) c.self.inside.connections c.negotiated.new.self
-turned c = turned_as _ _ _ _ _
-    (has_turned _ _ c.args.self.now _ _ c.requires.known (ap (λ m. m.connections) c.self.view_is) (negotiated_keeps _ _) c.negotiated.ensures)
-    (λ e is. negotiated_outbound _ _ c.args.facts e c.requires.outbound is)
-
-pub comes_into_use-requires : goal.comes_into_use-requires
-comes_into_use-requires c = on_some _ _ (turned (goal.at.comes_into_use-requires c).After-negotiated).next_there
-
 pub returns : goal.returns
-returns c = on_ok_weaker c.comes_into_use.result (used_does _ _ _ _ _ _ _ _ _ _ (is_agreed_outbound c.args.agreed) _ _ _ _ (λ e. refl) c.self.view_is
-    (turned (goal.at.returns c).After-negotiated) refl refl) c.comes_into_use.ensures
+returns c = does_other c.come_into_use.result c.args.facts (λ e. is_used (after_step (Negotiated c.args.agreed c.idle_end-until.result) e.facts) e) (is_agreed_outbound c.args.agreed) c.args.self.now c.come_into_use.new.self c.args.actions.now
+    c.args.actions.now c.come_into_use.new.actions c.requires.known
+    (λ e there is done. subst (λ effect. Does effect c.args.actions.now c.come_into_use.new.self c.come_into_use.new.actions)
+    (agreed_out c.args.agreed c.idle_end-until.result c.args.facts e c.args.self.now c.requires.outbound is c.idle_end-until.ensures) done)
+    c.come_into_use.ensures

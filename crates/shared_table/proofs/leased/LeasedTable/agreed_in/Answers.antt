@@ -1,4 +1,4 @@
-use Rattle.std.proofs.Common.{◌+◌, sym, subst}
+use Rattle.std.proofs.Common.{◌+◌, sym}
 use Rattle.conn_table.specs.Choices.{negotiated}
 use Rattle.shared_table.proofs.LeaseLemmas.{negotiated_in, negotiated_id, inbound_there, kept-moved, all_stay}
 use Rattle.shared_table.proofs.leased.LeasedTable.agreed_in.Goals as goal

@@ -1,7 +1,5 @@
-use Rattle.std.proofs.Common.{◌≡◌, ◌+◌, [], ◌∷◌, ◌++◌, Some, true, refl, sym, subst}
-use Rattle.conn_state.specs.Use.{facts_at}
+use Rattle.std.proofs.Common.{◌≡◌, ◌+◌, [], ◌∷◌, ◌++◌, true, sym, subst}
 use Rattle.conn_table.specs.Choices.{negotiated}
-use Rattle.conn_table.proofs.IdPlaces.{found_id}
 use Rattle.shared_table.specs.Leases.{is_kept}
 use Rattle.shared_table.proofs.LeaseLemmas.{kept-moved, is_kept-last, stay-push, negotiated_id, lease_there}
 use Rattle.shared_table.proofs.leased.LeasedTable.agreed_out.Goals as goal

@@ -1,4 +1,4 @@
-use Rattle.std.proofs.Common.{◌+◌, refl}
+use Rattle.std.proofs.Common.{refl}
 use Rattle.conn_state.specs.Moves.{awakened}
 use Rattle.shared_table.proofs.LeaseLemmas.{kept-moved, all_stay}
 use Rattle.shared_table.proofs.leased.LeasedTable.awake.Goals as goal

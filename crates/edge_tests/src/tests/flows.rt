@@ -1,0 +1,307 @@
+//! Sockets in memory, whose peers do what random words say, and a node that answers them. What a peer says and hears, and
+//! what the node is told and sends, are bytes that count up from a number of the connection's own.
+
+use net_base::{Action, Addr, AddrList, Away, Cid, Event, Ip, Octets, OutOfMemory};
+use rand_core::SeedableRng;
+use rand_core::utils::NextWord;
+use rand_pcg::Pcg64;
+use socket_flow::{Ask, SocketFlow, Terms};
+use std::alloc::Global;
+use std::collections::HashMap;
+use std::test::Fail;
+
+// As many asks are answered.
+const ASKS: u64 = 15_000;
+
+const PEERS: u64 = 50;
+
+fn local(port: u16) -> Addr {
+    Addr {
+        ip: Ip::V4(0x7f00_0001),
+        port,
+    }
+}
+
+// The other end of a socket.
+#[derive(Drop)]
+struct Peer {
+    port: u16,
+    // How many bytes of its address it has said, and how many it says behind it.
+    announced: usize,
+    left: u64,
+    says: u8,
+    hears: u8,
+    told: u8,
+    sends: u8,
+    is_over: bool,
+}
+
+// A peer that says so much behind its address, or nothing of that.
+fn new_peer(port: u16, left: u64, announces: bool) -> Peer {
+    let [_, number] = port.to_be_bytes();
+    Peer {
+        port,
+        announced: if announces { 0 } else { 7 },
+        left,
+        says: number,
+        hears: number.wrapping_mul(7),
+        told: number,
+        sends: number.wrapping_mul(7),
+        is_over: false,
+    }
+}
+
+// What a peer says next.
+fn next_byte(peer: &mut Peer) -> Option<u8> {
+    let [high, low] = peer.port.to_be_bytes();
+    if let Some(byte) = [4, 127, 0, 0, 1, high, low].get(peer.announced).copied() {
+        peer.announced = peer.announced.saturating_add(1);
+        return Some(byte);
+    }
+    if peer.left == 0 {
+        return None;
+    }
+    peer.left -= 1;
+    let byte = peer.says;
+    peer.says = byte.wrapping_add(1);
+    Some(byte)
+}
+
+// Whether bytes count up from a number, and what comes behind them.
+fn counts_up(bytes: &[u8], from: u8) -> (bool, u8) {
+    let mut next = from;
+    let mut holds = true;
+    for byte in bytes {
+        holds = holds && *byte == next;
+        next = next.wrapping_add(1);
+    }
+    (holds, next)
+}
+
+#[derive(Drop)]
+struct FlowWorld {
+    alloc: Global,
+    flow: SocketFlow,
+    words: Pcg64,
+    peers: HashMap<usize, Peer>,
+    announces: bool,
+    coming: u64,
+    moment: u64,
+    // How often something was not as it is to be.
+    wrong: u64,
+    // How many bytes the node was told, how many went out, and how many connections ended.
+    told: u64,
+    went: u64,
+    ended: u64,
+}
+
+fn opened(alloc: Global, seed: u64, announce: bool) -> Result<FlowWorld, OutOfMemory> {
+    let terms = Terms {
+        own: local(3001),
+        announce,
+        soft: 64,
+        handshake: 1_000_000,
+        reply: 1_000_000,
+        tick: 1000,
+        rootttl: 1000,
+    };
+    Ok(FlowWorld {
+        alloc,
+        flow: SocketFlow::new(alloc, terms, &AddrList::new(alloc))?,
+        words: Pcg64::seed_from_u64(seed),
+        peers: HashMap::new(alloc),
+        announces: announce,
+        coming: PEERS,
+        moment: 0,
+        wrong: 0,
+        told: 0,
+        went: 0,
+        ended: 0,
+    })
+}
+
+// At most so much: a random number.
+fn below(world: &mut FlowWorld, most: u64) -> u64 {
+    world.words.next_word() % most.max(1)
+}
+
+fn expect(world: &mut FlowWorld, holds: bool) {
+    if !holds {
+        world.wrong = world.wrong.saturating_add(1);
+    }
+}
+
+fn accept(world: &mut FlowWorld) -> Result<(), OutOfMemory> {
+    if world.coming == 0 || below(world, 4) == 0 {
+        world.flow.nobody_waits();
+        return Ok(());
+    }
+    let port = u16::try_from(PEERS.saturating_sub(world.coming)).unwrap_or(0);
+    world.coming = world.coming.saturating_sub(1);
+    let left = below(world, 2000);
+    let announces = world.announces;
+    let key = world.flow.accepted(local(port))?;
+    // Keys count up, so the port of each is its key.
+    expect(world, key == usize::from(port));
+    world.peers.insert(key, new_peer(port, left, announces))?;
+    Ok(())
+}
+
+// What a peer says at once, at most so much.
+fn said(world: &mut FlowWorld, key: usize, most: usize) -> Result<Vec<u8>, OutOfMemory> {
+    let count = most.min(1 + (below(world, 200) % 200) as usize);
+    let mut bytes = Vec::new(world.alloc);
+    let Some(peer) = world.peers.get_mut(&key) else {
+        return Ok(bytes);
+    };
+    for _ in 0..count {
+        let Some(byte) = next_byte(peer) else {
+            break;
+        };
+        bytes.push(byte)?;
+    }
+    Ok(bytes)
+}
+
+// The socket fails: its peer says no more.
+fn is_lost(world: &mut FlowWorld, key: usize) {
+    if let Some(peer) = world.peers.get_mut(&key) {
+        peer.left = 0;
+    }
+}
+
+fn read(world: &mut FlowWorld, key: usize, most: usize) -> Result<(), OutOfMemory> {
+    if below(world, 4) == 0 {
+        return Ok(());
+    }
+    if below(world, 500) == 0 {
+        is_lost(world, key);
+        return world.flow.ended(key);
+    }
+    let bytes = said(world, key, most)?;
+    if bytes.is_empty() || bytes.len() > 65_536 {
+        return world.flow.ended(key);
+    }
+    match world.flow.came(key, bytes.as_slice())? {
+        Some(event) => tell(world, &event),
+        None => Ok(()),
+    }
+}
+
+fn write(world: &mut FlowWorld, key: usize) -> Result<(), OutOfMemory> {
+    if below(world, 5) == 0 {
+        return world.flow.is_full(key);
+    }
+    let count = (below(world, 60) % 60) as usize;
+    let bytes = world.flow.outgoing(key);
+    let count = bytes.len().min(1 + count);
+    let Some(peer) = world.peers.get_mut(&key) else {
+        return world.flow.ended(key);
+    };
+    let (holds, next) = counts_up(&bytes[..count], peer.hears);
+    peer.hears = next;
+    world.went = world.went.saturating_add(count as u64);
+    expect(world, holds);
+    world.flow.went(key, count)
+}
+
+fn tell(world: &mut FlowWorld, event: &Event) -> Result<(), OutOfMemory> {
+    match event {
+        Event::Accepted(addr) if below(world, 8) == 0 => {
+            world.flow.act(&Action::Turnaway(Away::Full))?;
+            expect(world, addr.ip == local(0).ip);
+            Ok(())
+        }
+        Event::Accepted(addr) => {
+            let cid = Cid(1 + u64::from(addr.port));
+            world.flow.act(&Action::Admit(cid, *addr))
+        }
+        Event::Bytes(cid, bytes) => heard(world, *cid, bytes.as_slice()),
+        Event::Closed(cid) => over(world, *cid),
+        _ => Ok(()),
+    }
+}
+
+// The key of the socket that is a connection.
+fn key_of(cid: Cid) -> usize {
+    usize::try_from(cid.0.saturating_sub(1)).unwrap_or(0)
+}
+
+// Bytes that the node is told go on where the last ended, and it answers with bytes that do.
+fn heard(world: &mut FlowWorld, cid: Cid, bytes: &[u8]) -> Result<(), OutOfMemory> {
+    let count = (below(world, 300) % 300) as usize;
+    let Some(peer) = world.peers.get_mut(&key_of(cid)) else {
+        expect(world, false);
+        return Ok(());
+    };
+    let (holds, next) = counts_up(bytes, peer.told);
+    let holds = holds && !peer.is_over;
+    peer.told = next;
+    let mut answer = Octets::new(world.alloc);
+    for _ in 0..count {
+        answer.push(peer.sends)?;
+        peer.sends = peer.sends.wrapping_add(1);
+    }
+    world.told = world.told.saturating_add(bytes.len() as u64);
+    expect(world, holds);
+    world.flow.act(&Action::Send(cid, answer))
+}
+
+// A connection ends once, when all was told that its peer said.
+fn over(world: &mut FlowWorld, cid: Cid) -> Result<(), OutOfMemory> {
+    let Some(peer) = world.peers.get_mut(&key_of(cid)) else {
+        expect(world, false);
+        return Ok(());
+    };
+    let holds = !peer.is_over && peer.left == 0 && peer.told == peer.says;
+    peer.is_over = true;
+    world.ended = world.ended.saturating_add(1);
+    expect(world, holds);
+    Ok(())
+}
+
+fn wait(world: &mut FlowWorld) -> Result<(), OutOfMemory> {
+    for key in 0..PEERS as usize {
+        let word = below(world, 4);
+        if word < 2 {
+            world.flow.is_ready(key, word == 0)?;
+        }
+    }
+    world.flow.is_called();
+    let passed = below(world, 50);
+    world.moment = world.moment.saturating_add(passed);
+    world.flow.begin_round(world.moment)
+}
+
+fn answer(world: &mut FlowWorld, ask: Ask) -> Result<(), OutOfMemory> {
+    match ask {
+        Ask::Accept => accept(world),
+        Ask::Read(key, most) => read(world, key, most),
+        Ask::Write(key) => write(world, key),
+        Ask::Give(event) => tell(world, &event),
+        Ask::Wait(_) => wait(world),
+        Ask::Connect(key, _) | Ask::Check(key) => world.flow.ended(key),
+        Ask::Close(_) | Ask::Govern => Ok(()),
+    }
+}
+
+fn run(alloc: Global, seed: u64, announce: bool) -> Result<FlowWorld, OutOfMemory> {
+    let mut world = opened(alloc, seed, announce)?;
+    for _ in 0..ASKS {
+        let ask = world.flow.ask()?;
+        answer(&mut world, ask)?;
+    }
+    Ok(world)
+}
+
+#[test]
+fn bytes_come_and_go_in_their_order(rt: HostRuntime) -> Result<(), Fail> {
+    for seed in 0..2 {
+        let world = run(rt.alloc(), seed, seed % 2 == 0)?;
+        assert!(rt; world.wrong == 0);
+        assert!(rt; world.ended > 30);
+        assert!(rt; world.told > 10_000);
+        assert!(rt; world.went > 10_000);
+    }
+    Ok(())
+}

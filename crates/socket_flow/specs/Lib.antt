@@ -1,0 +1,10 @@
+pub mod Announcement
+pub mod Moments
+pub mod Turns
+pub mod Dues
+pub mod Asks
+pub mod Table
+pub mod Flow
+pub mod Stages
+pub mod Writing
+pub mod Acting

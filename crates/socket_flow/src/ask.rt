@@ -1,0 +1,32 @@
+use net_base::{Addr, Event};
+
+/// What is to be done next.
+#[derive(Drop)]
+pub enum Ask {
+    /// Close the socket of this key, if there is one.
+    Close(usize),
+    /// Begin to connect a socket to this address. Its key is this.
+    Connect(usize, Addr),
+    /// See what has become of the socket that connects.
+    Check(usize),
+    /// Write what waits on this socket.
+    Write(usize),
+    /// Accept a peer.
+    Accept,
+    /// Read at most so many bytes.
+    Read(usize, usize),
+    /// Give this event to the node.
+    Give(Event),
+    /// Give the node a round of its governor.
+    Govern,
+    /// Wait for the sockets, at most so many milliseconds.
+    Wait(u64),
+}
+
+/// What has become of a socket that connects.
+#[derive(Clone, Copy, PartialEq, Eq)]
+pub enum Dialed {
+    NotYet,
+    Connected,
+    Failed,
+}

@@ -1,0 +1,15 @@
+//! Laws on turns and on what is written, whatever function gives them. The functions do nothing.
+
+ghost use Rattle.socket_flow.specs.Turns.{AreFair, AreRound};
+ghost use Rattle.socket_flow.specs.Writing.{KeepsOrder};
+
+/// Whoever stands ahead has its turn first, and between two turns of one key each other that was ready has its turn.
+pub fn turns_are_fair()
+    ensures fair { AreFair }
+    ensures round { AreRound }
+{}
+
+/// What is written on a socket is a front of what was put on it, in its order.
+pub fn writing_keeps_order()
+    ensures { KeepsOrder }
+{}
