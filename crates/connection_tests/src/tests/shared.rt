@@ -1,4 +1,4 @@
-ghost use Rattle.std.specs.Prelude.{◌≡◌, ◌+◌, ◌<◌, ◌≤◌, ◌^◌, length, OnOk};
+ghost use Rattle.std.specs.Prelude.{◌≡◌, ◌+◌, ◌<◌, ◌≤◌, ◌^◌, [], length, OnOk};
 ghost use Rattle.net_base.specs.Bounds.{AreSound};
 ghost use Rattle.shared_table.specs.Entries.{entry_of};
 ghost use Rattle.shared_table.specs.Seats.{IsAt};
@@ -114,15 +114,32 @@ fn gathered_after<L: Ledger, M: Ledger, R: Wait + Abort>(
     let (table, mut out, mut inn) = SharedTable::new(
         alloc, settings, out_book, out_share, in_book, in_share,
     )?;
-    for entry in entries {
-        ask(rt, &table, &mut out, &mut inn, entry)?;
-    }
+    ask_all(rt, &table, &mut out, &mut inn, entries)?;
     let (outs, ins) = (out.made(), inn.made());
     assert!(rt; out.noted().as_slice().len() as u64 == outs);
     assert!(rt; inn.noted().as_slice().len() as u64 == ins);
     let gathered = table.gather(out, inn).ok().ok_or("nothing is torn")?;
     assert!(rt; gathered.made_out == outs && gathered.made_in == ins);
     Ok(gathered)
+}
+
+// Makes calls through seats at which none was made yet, one after another, and compares each reply.
+fn ask_all<L: Ledger, M: Ledger, R: Wait + Abort>(
+    rt: &R,
+    table: &SharedTable<L, M>,
+    out: &mut OutSeat<L>,
+    inn: &mut InSeat<M>,
+    entries: &[Entry],
+) -> Result<(), Fail>
+    requires here { IsAt L.parts table.now out.old × IsAt M.parts table.now inn.old }
+    requires none { (out.old.noted ≡ []) × (inn.old.noted ≡ []) }
+    requires few { length entries.now < 2 ^ 32 }
+    ensures here { IsAt L.parts table.now out.new × IsAt M.parts table.now inn.new }
+{
+    for entry in entries {
+        ask(rt, table, out, inn, entry)?;
+    }
+    Ok(())
 }
 
 // Makes a call through its governor's seat, and compares the reply.

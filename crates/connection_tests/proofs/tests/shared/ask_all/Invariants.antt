@@ -1,11 +1,11 @@
 use Rattle.std.proofs.Common.{◌≡◌, ◌≤◌, length}
 use Rattle.shared_table.specs.Seats.{IsAt}
-use Rattle.connection_tests.proofs.tests.shared.gathered_after.Given as goal
+use Rattle.connection_tests.proofs.tests.shared.ask_all.Given as goal
 
 abbrev pub invariant-loop-entry : goal.invariant-loop-entry
 invariant-loop-entry g l = record {
-  out_here : IsAt g.L.Ledger.parts l.table l.out;
-  in_here : IsAt g.M.Ledger.parts l.table l.inn;
+  out_here : IsAt g.L.Ledger.parts l.fn.table l.out;
+  in_here : IsAt g.M.Ledger.parts l.fn.table l.inn;
   few_out : length l.out.noted ≤ l.entry-index;
   few_in : length l.inn.noted ≤ l.entry-index;
 }
