@@ -1,4 +1,5 @@
 pub mod Answers
+pub mod Calls
 pub mod Choices
 pub mod Conditions
 pub mod Finds

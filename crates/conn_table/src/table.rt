@@ -1,16 +1,15 @@
-ghost use Rattle.std.specs.Prelude.{◌≡◌, ◌+◌, ◌<◌, ◌≤◌, ◌^◌, Some, None, length, slice_get, IsSomeAnd, IfSome, IfOk, OnOk, OnErr, false, true, if◌then◌else◌};
+ghost use Rattle.std.specs.Prelude.{◌≡◌, ◌<◌, Some, length, slice_get, IfOk, OnOk, OnErr};
 ghost use Rattle.std.specs.Option.{option_map};
 ghost use Rattle.conn_state.specs.Counted.{counted};
-ghost use Rattle.conn_state.specs.Moves.{connected, released, awakened, idled};
-ghost use Rattle.conn_table.specs.Choices.{negotiated, grace_ended};
-ghost use Rattle.conn_state.specs.Protocols.{has_responder};
-ghost use Rattle.conn_state.specs.Use.{facts_at, live_at, is_dialing, is_greeting, runs};
-ghost use Rattle.conn_table.specs.Answers.{any_at, any_acquirable, acquire_of, after_acquire, is_leased, may_acquire, lease_of, is_due, grace_end_of};
-ghost use Rattle.conn_table.specs.Conditions.{CanAwake};
+ghost use Rattle.conn_state.specs.Use.{facts_at, live_at};
+ghost use Rattle.conn_table.specs.Answers.{any_at, any_acquirable, is_leased, lease_of};
+ghost use Rattle.conn_table.specs.Calls.{CanAdmit, CanDial, CanConnect, CanNegotiate, CanRelease, CanStart, CanStop, CanEndGrace, CanDrop, CanDropLeased};
+ghost use Rattle.conn_table.specs.Calls.{after_admit, after_dial, after_connect, after_negotiate, after_acquire_at, after_release, after_awake, after_idle, after_grace, after_drop};
+ghost use Rattle.conn_table.specs.Calls.{next_id, negotiated_lease, acquire_at, grace_end_at};
 ghost use Rattle.conn_table.specs.Index.{index_of, IsRising};
 ghost use Rattle.conn_table.specs.Finds.{id_place, StandsAt};
 ghost use Rattle.conn_table.specs.Rosters.{OnlyLastLives};
-ghost use Rattle.conn_table.specs.Table.{empty_table, with_accepted, with_dialing, with_moved, without, IdsRise};
+ghost use Rattle.conn_table.specs.Table.{empty_table, IdsRise};
 ghost use Rattle.net_base.specs.Bounds.{AreSound};
 
 use crate::roster::Roster;
@@ -58,12 +57,9 @@ impl ConnTable {
     /// Lets in a peer that connected at a moment, under the next id. Its handshake may take as long as the settings
     /// say. A refusal changes nothing. Later moves of the connection take no memory.
     pub fn admit(&mut self, addr: Addr, now: u64) -> Result<Cid, OutOfMemory>
-        requires no_live { live_at addr self.old.facts ≡ None }
-        requires below_hard { counted self.old.facts < self.old.settings.hard }
-        requires few_given { self.old.given < 2 ^ 48 }
-        requires moment { now ≤ 2 ^ 48 }
-        ensures id { IfOk result (λ cid. cid.0 ≡ self.old.given + 1) }
-        ensures ok { OnOk result (self.new ≡ with_accepted addr now self.old) }
+        requires { CanAdmit addr now self.old }
+        ensures id { IfOk result (λ cid. cid ≡ next_id self.old) }
+        ensures ok { OnOk result (self.new ≡ after_admit addr now self.old) }
         ensures err { OnErr result (self.new ≡ self.old) }
     {
         let cid = Cid(self.roster.given + 1);
@@ -76,10 +72,9 @@ impl ConnTable {
     /// This side begins to dial an address, under the next id. A refusal changes nothing. Later moves of the connection
     /// take no memory.
     pub fn dial(&mut self, addr: Addr) -> Result<Cid, OutOfMemory>
-        requires none { any_at addr self.old.facts ≡ false }
-        requires few_given { self.old.given < 2 ^ 48 }
-        ensures id { IfOk result (λ cid. cid.0 ≡ self.old.given + 1) }
-        ensures ok { OnOk result (self.new ≡ with_dialing addr self.old) }
+        requires { CanDial addr self.old }
+        ensures id { IfOk result (λ cid. cid ≡ next_id self.old) }
+        ensures ok { OnOk result (self.new ≡ after_dial addr self.old) }
         ensures err { OnErr result (self.new ≡ self.old) }
     {
         let cid = Cid(self.roster.given + 1);
@@ -90,9 +85,8 @@ impl ConnTable {
 
     /// The dialed socket is open, and the handshake begins.
     pub fn connected(&mut self, cid: Cid, now: u64)
-        requires dialing { IsSomeAnd (facts_at cid.0 self.old.facts) (λ f. is_dialing f ≡ true) }
-        requires moment { now ≤ 2 ^ 48 }
-        ensures { self.new ≡ with_moved cid.0 (connected (now + self.old.settings.handshake)) self.old }
+        requires { CanConnect cid.0 now self.old }
+        ensures { self.new ≡ after_connect cid.0 now self.old }
     {
         let until = now + self.settings.handshake;
         self.roster.turn(cid, Step::Connected(until));
@@ -100,10 +94,9 @@ impl ConnTable {
 
     /// The handshake is over. A lease comes with a connection that this side dialed.
     pub fn negotiated(&mut self, cid: Cid, agreed: Agreed, now: u64) -> Option<LocalLease>
-        requires greeting { IsSomeAnd (facts_at cid.0 self.old.facts) (λ f. is_greeting f ≡ true) }
-        requires moment { now ≤ 2 ^ 48 }
-        ensures lease { IfSome (facts_at cid.0 self.old.facts) (λ f. result ≡ lease_of f) }
-        ensures table { self.new ≡ with_moved cid.0 (negotiated agreed (now + self.old.settings.idle)) self.old }
+        requires { CanNegotiate cid.0 now self.old }
+        ensures lease { result ≡ negotiated_lease cid.0 self.old }
+        ensures table { self.new ≡ after_negotiate cid.0 agreed now self.old }
     {
         let until = now + self.settings.idle;
         let facts = self.roster.turn(cid, Step::Negotiated(agreed, until));
@@ -112,8 +105,8 @@ impl ConnTable {
 
     /// Takes the connection of an address into local use, where it may be.
     pub fn acquire(&mut self, addr: Addr) -> Acquire
-        ensures answer { result ≡ acquire_of addr self.old.facts }
-        ensures table { self.new ≡ after_acquire result self.old }
+        ensures answer { result ≡ acquire_at addr self.old }
+        ensures table { self.new ≡ after_acquire_at addr self.old }
         ensures leased { is_leased result ≡ any_acquirable addr self.old.facts }
         ensures last_lives { OnlyLastLives self.old.facts }
     {
@@ -125,9 +118,8 @@ impl ConnTable {
 
     /// This side uses a connection no more.
     pub fn release(&mut self, lease: LocalLease, now: u64)
-        requires used { IsSomeAnd (facts_at lease.0 self.old.facts) (λ f. f.local ≡ true) }
-        requires moment { now ≤ 2 ^ 48 }
-        ensures { self.new ≡ with_moved lease.0 (released (now + self.old.settings.idle)) self.old }
+        requires { CanRelease lease.0 now self.old }
+        ensures { self.new ≡ after_release lease.0 now self.old }
     {
         let until = now + self.settings.idle;
         self.roster.turn(lease.cid(), Step::Release(until));
@@ -135,18 +127,16 @@ impl ConnTable {
 
     /// The other side starts the responder of a protocol.
     pub fn awake(&mut self, cid: Cid, protocol: u16)
-        requires known { has_responder protocol ≡ true }
-        requires able { IsSomeAnd (facts_at cid.0 self.old.facts) (CanAwake protocol) }
-        ensures { self.new ≡ with_moved cid.0 (awakened protocol) self.old }
+        requires { CanStart cid.0 protocol self.old }
+        ensures { self.new ≡ after_awake cid.0 protocol self.old }
     {
         self.roster.turn(cid, Step::Awake(protocol));
     }
 
     /// The responder of a protocol stops.
     pub fn idle(&mut self, cid: Cid, protocol: u16, now: u64)
-        requires running { IsSomeAnd (facts_at cid.0 self.old.facts) (λ f. runs protocol f.running ≡ true) }
-        requires moment { now ≤ 2 ^ 48 }
-        ensures { self.new ≡ with_moved cid.0 (idled protocol (now + self.old.settings.idle)) self.old }
+        requires { CanStop cid.0 protocol now self.old }
+        ensures { self.new ≡ after_idle cid.0 protocol now self.old }
     {
         let until = now + self.settings.idle;
         self.roster.turn(cid, Step::Idle(protocol, until));
@@ -154,10 +144,9 @@ impl ConnTable {
 
     /// The grace of a connection is over. Where it is in no use, this side closes it.
     pub fn grace_over(&mut self, cid: Cid, now: u64) -> GraceEnd
-        requires due { IsSomeAnd (facts_at cid.0 self.old.facts) (λ f. is_due now f.grace ≡ true) }
-        requires moment { now ≤ 2 ^ 48 }
-        ensures answer { IfSome (facts_at cid.0 self.old.facts) (λ f. result ≡ grace_end_of f) }
-        ensures table { self.new ≡ with_moved cid.0 (grace_ended (now + self.old.settings.timewait)) self.old }
+        requires { CanEndGrace cid.0 now self.old }
+        ensures answer { Some result ≡ grace_end_at cid.0 self.old }
+        ensures table { self.new ≡ after_grace cid.0 now self.old }
     {
         let until = now + self.settings.timewait;
         let facts = self.roster.turn(cid, Step::GraceOver(until));
@@ -170,16 +159,16 @@ impl ConnTable {
 
     /// A connection goes.
     pub fn drop_conn(&mut self, cid: Cid)
-        requires { IsSomeAnd (facts_at cid.0 self.old.facts) (λ f. f.local ≡ false) }
-        ensures { self.new ≡ without cid.0 self.old }
+        requires { CanDrop cid.0 self.old }
+        ensures { self.new ≡ after_drop cid.0 self.old }
     {
         self.roster.remove(cid);
     }
 
     /// A connection in local use goes.
     pub fn drop_leased(&mut self, lease: LocalLease)
-        requires { IsSomeAnd (facts_at lease.0 self.old.facts) (λ f. f.local ≡ true) }
-        ensures { self.new ≡ without lease.0 self.old }
+        requires { CanDropLeased lease.0 self.old }
+        ensures { self.new ≡ after_drop lease.0 self.old }
     {
         self.roster.remove(lease.cid());
     }
@@ -263,8 +252,8 @@ impl ConnTable {
     // Takes the live connection of an address, which stands at a place, into use.
     fn acquire_at(&mut self, addr: Addr, place: usize) -> Acquire
         requires { StandsAt self.old.facts (live_at addr self.old.facts) (Some place) }
-        ensures answer { result ≡ acquire_of addr self.old.facts }
-        ensures table { self.new ≡ after_acquire result self.old }
+        ensures answer { result ≡ acquire_at addr self.old }
+        ensures table { self.new ≡ after_acquire_at addr self.old }
     {
         let facts = self.roster.at(place);
         if !is_acquirable(facts) {

@@ -1,4 +1,4 @@
-use Rattle.std.proofs.Common.{◌≡◌, List, Some, None, sym, subst, ◌∙◌}
+use Rattle.std.proofs.Common.{List, Some, None, sym, subst, ◌∙◌}
 use Rattle.net_base.specs.declared.connection.Facts.{Facts}
 use Rattle.conn_state.specs.Use.{live_at}
 use Rattle.conn_table.specs.Finds.{newest, StandsAt}

@@ -1,4 +1,4 @@
-use Rattle.std.proofs.Common.{List, slice_get, sym, ap, ◌∙◌, arith}
+use Rattle.std.proofs.Common.{List, slice_get, sym, ap, ◌∙◌}
 use Rattle.net_base.specs.declared.connection.Facts.{Facts}
 use Rattle.conn_state.specs.Use.{facts_at}
 use Rattle.conn_table.specs.Rosters.{facts_kept}

@@ -9,4 +9,4 @@ pub enter-requires-clause-alone : goal.enter-requires-clause-alone
 enter-requires-clause-alone c =
     let fs = facts_kept c.self.inside.roster in
     ap (λ f. live_at f.addr fs) c.new-state.ensures
-    ∙ none_live c.args.addr fs (ap (λ t. any_at c.args.addr t.facts) c.self.view_is ∙ c.requires.none)
+    ∙ none_live c.args.addr fs (ap (λ t. any_at c.args.addr t.facts) c.self.view_is ∙ c.requires.unknown)
