@@ -14,14 +14,19 @@ use Rattle.conn_state.specs.Moves.{accepted, dialing, acquired}
 use Rattle.conn_table.specs.Choices.{negotiated}
 use Rattle.conn_state.specs.Use.{has_id, facts_at, live_at, is_acquirable, is_outbound, is_negotiated, is_negotiated_phase, is_dialing_phase, is_greeting_phase, is_dialing, is_greeting}
 use Rattle.conn_table.specs.Answers.{acquire_of, acquire_answer, after_acquire, lease_of}
+use Rattle.conn_table.specs.Calls.{lease_at}
 use Rattle.conn_table.specs.Conditions.{after_step}
 use Rattle.conn_table.specs.Table.{IdsRise, moved_at, without_at, with_moved, without}
 use Rattle.conn_table.specs.declared.step.Step.{Step}
 use Rattle.conn_table.specs.declared.step.Step.TheVariants as step
 use Rattle.conn_table.proofs.IdPlaces.{IdsRise-push, IdsRise-moved, IdsRise-filter, found_id}
 use Rattle.conn_table.proofs.StateFacts.{some_with, step_keeps}
-use Rattle.lease_law.specs.Leases.{Held, Call, at_first, Admit, Dial, Connect, Negotiate, AcquireAt, Release, Awake, Idle, GraceOver, DropConn, DropLeased, Forget, CanCall, CanRun, after_call, after_run, with_lease, lease_given, lease_at, given_back, AreDistinct, AreApart, IsUsed}
+use Rattle.lease_law.specs.Leases.{Held, Call, at_first, Admit, Dial, Connect, Negotiate, AcquireAt, Release, Awake, Idle, GraceOver, DropConn, DropLeased, Forget, CanCall, CanRun, after_call, after_run, TableAsks, GivesHeld, with_lease, lease_given, given_back, AreDistinct, AreApart}
 use Rattle.lease_law.proofs.Found.{turned, found-moved, found-without, found-gone, found-push, found_in_push, live_by_id}
+
+-- in words of the list alone
+abbrev IsUsed : List Facts → ℕ → Type 0
+IsUsed fs lease = IsSomeAnd (facts_at lease fs) (λ f. f.local ≡ true)
 
 -- local use begins when the handshake is over
 abbrev LocalWhenOpen : List Facts → Type 0
@@ -360,3 +365,18 @@ Inv-first settings = record {
   opened = λ cid f found used. cc;
   apart = record { distinct = tt; used = tt };
 }
+
+-- what the table asks for, and that only what is held is given, is enough
+pub asks-enough : (call : Call) (h : Held) → TableAsks call h.table → GivesHeld call h.leases → CanCall call h
+asks-enough (Admit addr now) h asks gives = asks.not_live
+asks-enough (Dial addr) h asks gives = asks.unknown
+asks-enough (Connect cid now) h asks gives = asks.dialed
+asks-enough (Negotiate cid agreed now) h asks gives = asks.greeted
+asks-enough (AcquireAt addr) h asks gives = tt
+asks-enough (Release lease now) h asks gives = gives
+asks-enough (Awake cid protocol) h asks gives = tt
+asks-enough (Idle cid protocol now) h asks gives = tt
+asks-enough (GraceOver cid now) h asks gives = tt
+asks-enough (DropConn cid) h asks gives = asks
+asks-enough (DropLeased lease) h asks gives = gives
+asks-enough (Forget lease) h asks gives = gives

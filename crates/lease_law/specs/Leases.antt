@@ -1,16 +1,14 @@
 -- Calls on one table one after another, and the leases that it gave and has not got back.
-use Rattle.std.specs.Prelude.{ℕ, ◌≡◌, ◌+◌, ◌==◌, Bool, true, false, List, [], ◌∷◌, Option, Some, None, IsSomeAnd, if◌then◌else◌}
+use Rattle.std.specs.Prelude.{ℕ, ◌≡◌, ◌==◌, Bool, true, false, List, [], ◌∷◌, Option, Some, None, if◌then◌else◌}
 use Rattle.std.specs.List.{AllByRecursion, list_any}
 use Rattle.net_base.specs.declared.address.Addr.{Addr}
 use Rattle.net_base.specs.declared.connection.Agreed.{Agreed}
 use Rattle.net_base.specs.declared.connection.Cid.{Cid}
-use Rattle.net_base.specs.declared.connection.Facts.{Facts}
 use Rattle.net_base.specs.declared.settings.Settings.{Settings}
-use Rattle.conn_state.specs.Moves.{connected, released, awakened, idled}
-use Rattle.conn_table.specs.Choices.{negotiated, grace_ended}
-use Rattle.conn_state.specs.Use.{facts_at, live_at, is_dialing, is_greeting}
-use Rattle.conn_table.specs.Answers.{any_at, acquire_of, after_acquire, lease_of}
-use Rattle.conn_table.specs.Table.{Table, empty_table, with_accepted, with_dialing, with_moved, without}
+use Rattle.conn_table.specs.Calls.{IsNotLive, IsUnknown, IsDialed, IsGreeted, CanAdmit, CanDial, CanConnect, CanNegotiate, CanRelease, CanStart, CanStop, CanEndGrace, CanDrop, CanDropLeased}
+use Rattle.conn_table.specs.Calls.{after_admit, after_dial, after_connect, after_negotiate, after_acquire_at, after_release, after_awake, after_idle, after_grace, after_drop}
+use Rattle.conn_table.specs.Calls.{negotiated_lease, acquire_at}
+use Rattle.conn_table.specs.Table.{Table, empty_table}
 use Rattle.conn_table.specs.declared.acquire.Acquire.{Acquire}
 use Rattle.conn_table.specs.declared.acquire.Acquire.TheVariants.{Leased, NoSuch, NotReusable}
 
@@ -53,10 +51,6 @@ lease_given (Leased cid) = Some cid
 lease_given NoSuch = None
 lease_given (NotReusable name) = None
 
-abbrev pub lease_at : Option Facts → Option Cid
-lease_at None = None
-lease_at (Some f) = lease_of f
-
 -- one that is given back, or dropped
 abbrev pub given_back : ℕ → List ℕ → List ℕ
 given_back lease [] = []
@@ -64,43 +58,71 @@ given_back lease (other ∷ leases) = if lease == other then leases else other �
 
 -- ---- the calls
 
--- what the calls ask for, and that only what is held is given. That a lease's connection is in local use is not asked.
+-- Of what the calls ask for that on which leases hang, and that only what is held is given. That a lease's connection is in local use
+-- is not asked.
 abbrev pub CanCall : Call → Held → Type 0
-CanCall (Admit addr now) h = live_at addr h.table.facts ≡ None
-CanCall (Dial addr) h = any_at addr h.table.facts ≡ false
-CanCall (Connect cid now) h = IsSomeAnd (facts_at cid h.table.facts) (λ f. is_dialing f ≡ true)
-CanCall (Negotiate cid agreed now) h = IsSomeAnd (facts_at cid h.table.facts) (λ f. is_greeting f ≡ true)
+CanCall (Admit addr now) h = IsNotLive addr h.table
+CanCall (Dial addr) h = IsUnknown addr h.table
+CanCall (Connect cid now) h = IsDialed cid h.table
+CanCall (Negotiate cid agreed now) h = IsGreeted cid h.table
 CanCall (AcquireAt addr) h = Unit {0}
 CanCall (Release lease now) h = is_out lease h.leases ≡ true
 CanCall (Awake cid protocol) h = Unit {0}
 CanCall (Idle cid protocol now) h = Unit {0}
 CanCall (GraceOver cid now) h = Unit {0}
-CanCall (DropConn cid) h = IsSomeAnd (facts_at cid h.table.facts) (λ f. f.local ≡ false)
+CanCall (DropConn cid) h = CanDrop cid h.table
 CanCall (DropLeased lease) h = is_out lease h.leases ≡ true
 CanCall (Forget lease) h = is_out lease h.leases ≡ true
 
--- as the contracts of the table's calls say
+-- all that the table's contracts ask for
+abbrev pub TableAsks : Call → Table → Type 0
+TableAsks (Admit addr now) t = CanAdmit addr now t
+TableAsks (Dial addr) t = CanDial addr t
+TableAsks (Connect cid now) t = CanConnect cid now t
+TableAsks (Negotiate cid agreed now) t = CanNegotiate cid now t
+TableAsks (AcquireAt addr) t = Unit {0}
+TableAsks (Release lease now) t = CanRelease lease now t
+TableAsks (Awake cid protocol) t = CanStart cid protocol t
+TableAsks (Idle cid protocol now) t = CanStop cid protocol now t
+TableAsks (GraceOver cid now) t = CanEndGrace cid now t
+TableAsks (DropConn cid) t = CanDrop cid t
+TableAsks (DropLeased lease) t = CanDropLeased lease t
+TableAsks (Forget lease) t = Unit {0}
+
+-- a lease that is given back, or dropped, is one that is out
+abbrev pub GivesHeld : Call → List ℕ → Type 0
+GivesHeld (Admit addr now) leases = Unit {0}
+GivesHeld (Dial addr) leases = Unit {0}
+GivesHeld (Connect cid now) leases = Unit {0}
+GivesHeld (Negotiate cid agreed now) leases = Unit {0}
+GivesHeld (AcquireAt addr) leases = Unit {0}
+GivesHeld (Release lease now) leases = is_out lease leases ≡ true
+GivesHeld (Awake cid protocol) leases = Unit {0}
+GivesHeld (Idle cid protocol now) leases = Unit {0}
+GivesHeld (GraceOver cid now) leases = Unit {0}
+GivesHeld (DropConn cid) leases = Unit {0}
+GivesHeld (DropLeased lease) leases = is_out lease leases ≡ true
+GivesHeld (Forget lease) leases = is_out lease leases ≡ true
+
+-- the table by what its contracts say of the call, and the leases by what they say that it answers
 abbrev pub after_call : Call → Held → Held
-after_call (Admit addr now) h = record h { table = with_accepted addr now h.table }
-after_call (Dial addr) h = record h { table = with_dialing addr h.table }
-after_call (Connect cid now) h = record h { table = with_moved cid (connected (now + h.table.settings.handshake)) h.table }
+after_call (Admit addr now) h = record h { table = after_admit addr now h.table }
+after_call (Dial addr) h = record h { table = after_dial addr h.table }
+after_call (Connect cid now) h = record h { table = after_connect cid now h.table }
 after_call (Negotiate cid agreed now) h = record {
-  table = with_moved cid (negotiated agreed (now + h.table.settings.idle)) h.table;
-  leases = with_lease (lease_at (facts_at cid h.table.facts)) h.leases;
+  table = after_negotiate cid agreed now h.table;
+  leases = with_lease (negotiated_lease cid h.table) h.leases;
 }
 after_call (AcquireAt addr) h = record {
-  table = after_acquire (acquire_of addr h.table.facts) h.table;
-  leases = with_lease (lease_given (acquire_of addr h.table.facts)) h.leases;
+  table = after_acquire_at addr h.table;
+  leases = with_lease (lease_given (acquire_at addr h.table)) h.leases;
 }
-after_call (Release lease now) h = record {
-  table = with_moved lease (released (now + h.table.settings.idle)) h.table;
-  leases = given_back lease h.leases;
-}
-after_call (Awake cid protocol) h = record h { table = with_moved cid (awakened protocol) h.table }
-after_call (Idle cid protocol now) h = record h { table = with_moved cid (idled protocol (now + h.table.settings.idle)) h.table }
-after_call (GraceOver cid now) h = record h { table = with_moved cid (grace_ended (now + h.table.settings.timewait)) h.table }
-after_call (DropConn cid) h = record h { table = without cid h.table }
-after_call (DropLeased lease) h = record { table = without lease h.table; leases = given_back lease h.leases }
+after_call (Release lease now) h = record { table = after_release lease now h.table; leases = given_back lease h.leases }
+after_call (Awake cid protocol) h = record h { table = after_awake cid protocol h.table }
+after_call (Idle cid protocol now) h = record h { table = after_idle cid protocol now h.table }
+after_call (GraceOver cid now) h = record h { table = after_grace cid now h.table }
+after_call (DropConn cid) h = record h { table = after_drop cid h.table }
+after_call (DropLeased lease) h = record { table = after_drop lease h.table; leases = given_back lease h.leases }
 after_call (Forget lease) h = record h { leases = given_back lease h.leases }
 
 abbrev pub after_run : List Call → Held → Held
@@ -118,10 +140,7 @@ abbrev pub AreDistinct : List ℕ → Type 0
 AreDistinct [] = Unit {0}
 AreDistinct (lease ∷ leases) = AllByRecursion (λ other. (lease == other) ≡ false) leases × AreDistinct leases
 
--- its connection stands, and is in local use
-abbrev pub IsUsed : List Facts → ℕ → Type 0
-IsUsed fs lease = IsSomeAnd (facts_at lease fs) (λ f. f.local ≡ true)
-
 pub record AreApart (h : Held) : Type 0 where
   pub distinct : AreDistinct h.leases
-  pub used : AllByRecursion (IsUsed h.table.facts) h.leases
+  -- the connection of each stands, and is in local use
+  pub used : AllByRecursion (λ lease. CanDropLeased lease h.table) h.leases

@@ -1,5 +1,5 @@
 -- The leases of the connections in local use are kept through every move.
-use Rattle.std.proofs.Common.{◌≡◌, ℕ, ◌==◌, Bool, true, false, if◌then◌else◌, List, [], ◌∷◌, ◌++◌, Option, Some, None, refl, sym, subst, ap, ◌∙◌, inl, inr, ◌⊎◌, ◌||◌, ◌&&◌, not, ◌<◌, get_or, length, nat_lt, IfSome, arith}
+use Rattle.std.proofs.Common.{◌≡◌, ℕ, ◌==◌, Bool, true, false, if◌then◌else◌, List, [], ◌∷◌, ◌++◌, Option, Some, None, refl, sym, subst, ap, ◌∙◌, inl, inr, ◌⊎◌, ◌||◌, ◌&&◌, not, ◌<◌, get_or, length, nat_lt, arith}
 use Rattle.std.specs.List.{position, position_or_len, swap_remove}
 use Rattle.std.proofs.lemmas.List.Quantifiers.{position-Some}
 use Rattle.std.proofs.lemmas.List.Sorted.{list_any-IsPermutation, IsPermutation-swap_remove}
@@ -14,8 +14,13 @@ use Rattle.conn_table.specs.Choices.{negotiated, grace_ended}
 use Rattle.conn_table.specs.Table.{Table, moved_at, without_at}
 use Rattle.conn_table.proofs.IdPlaces.{found_id}
 use Rattle.lease_law.proofs.Found.{turned, found-moved, found-without, found-gone, found_in_push}
-use Rattle.conn_table.specs.Answers.{lease_of}
-use Rattle.shared_table.specs.Calls.{is_moment, passes, stands_with, is_greeting_in, is_greeting_out}
+use Rattle.conn_table.specs.Answers.{after_acquire, lease_of}
+use Rattle.conn_table.specs.Calls.{after_acquire_at, acquire_at, lease_at, negotiated_lease}
+use Rattle.conn_table.specs.declared.acquire.Acquire.TheVariants as acquire
+use Rattle.conn_state.specs.Moves.{acquired}
+use Rattle.net_base.specs.declared.address.Addr.{Addr}
+use Rattle.shared_table.specs.Calls.{is_moment, passes, stands_with, is_greeting_in, is_greeting_out, lease_reply}
+use Rattle.shared_table.specs.declared.reply.TableReply.TheVariants as reply
 use Rattle.shared_table.specs.Leases.{is_kept, AreKept, OthersStay}
 
 -- a connection that comes in is in no local use
@@ -165,6 +170,11 @@ grace_ended_id until f = elim (cases_Bool f.local) [ inl used ↦ rw used refl |
 pub unused : {P : Type 0} → false ≡ true → P
 unused h = absurd (false≢true h)
 
+-- a lease that is given brings its connection into local use
+pub kept-acquired : (new : List Cid) (lease : Cid) (addr : Addr) (t : Table) → acquire.Leased lease ≡ acquire_at addr t →
+    AreKept new (moved_at lease.0 acquired t.facts) → AreKept new (after_acquire_at addr t).facts
+kept-acquired new lease addr t answer kept = subst (λ a. AreKept new (after_acquire a t).facts) answer kept
+
 -- what the calls at the end of a handshake ask for
 pub inbound_there : (now cid : ℕ) (t : Table) (f : Facts) → facts_at cid t.facts ≡ Some f → (is_moment now && stands_with is_greeting_in cid t) ≡ true →
     is_outbound f ≡ false
@@ -180,7 +190,7 @@ outbound_there now cid t f found met = (and_parts _ _ (subst (λ o. passes is_gr
 
 -- the lease that comes with a handshake is that of the connection
 pub lease_there : (now cid : ℕ) (t : Table) (lease : Cid) → (is_moment now && stands_with is_greeting_out cid t) ≡ true →
-    IfSome (facts_at cid t.facts) (λ f. Some lease ≡ lease_of f) → lease.0 ≡ cid
+    Some lease ≡ negotiated_lease cid t → lease.0 ≡ cid
 lease_there now cid t lease met comes = at (facts_at cid t.facts) refl comes
   where
     by_id : (f : Facts) → facts_at cid t.facts ≡ Some f → Some lease ≡ lease_of f → lease.0 ≡ cid
@@ -189,9 +199,13 @@ lease_there now cid t lease met comes = at (facts_at cid t.facts) refl comes
         same : Some lease ≡ Some f.cid → lease ≡ f.cid
         same e = cc
 
-    at : (o : Option Facts) → facts_at cid t.facts ≡ o → IfSome o (λ f. Some lease ≡ lease_of f) → lease.0 ≡ cid
+    at : (o : Option Facts) → facts_at cid t.facts ≡ o → Some lease ≡ lease_at o → lease.0 ≡ cid
     at None e h = absurd (missing (subst (λ o. passes is_greeting_out o ≡ true) e (and_parts _ _ met).1))
       where
         missing : false ≡ true → ⊥
         missing h = false≢true h
     at (Some f) e h = by_id f e h
+
+pub agreed_reply : (now : ℕ) (cid : Cid) (t : Table) (lease : Cid) → (is_moment now && stands_with is_greeting_out cid.0 t) ≡ true →
+    Some lease ≡ negotiated_lease cid.0 t → reply.Leased cid ≡ lease_reply (negotiated_lease cid.0 t)
+agreed_reply now cid t lease met comes = ap (λ n. reply.Leased (id_of n)) (sym (lease_there now cid.0 t lease met comes)) ∙ ap lease_reply comes

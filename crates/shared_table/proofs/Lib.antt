@@ -1,3 +1,4 @@
+mod CallLemmas
 mod LeaseLemmas
 mod PlaceLemmas
 mod ReplayLemmas

@@ -1,18 +1,19 @@
 -- What each call asks of a table, what it makes of it, and what it is answered. The words are those of the table's own calls.
-use Rattle.std.specs.Prelude.{ℕ, ◌+◌, ◌^◌, Bool, true, false, ◌&&◌, not, nat_le, nat_lt, Option, Some, None, is_some, is_none, if◌then◌else◌}
+use Rattle.std.specs.Prelude.{ℕ, ◌^◌, Bool, true, false, ◌&&◌, not, nat_le, nat_lt, Option, Some, None, is_some, is_none, if◌then◌else◌}
 use Rattle.net_base.specs.declared.address.Addr.{Addr}
 use Rattle.net_base.specs.declared.connection.Cid.{Cid}
 use Rattle.net_base.specs.declared.connection.Facts.{Facts}
 use Rattle.conn_state.specs.Counted.{counted}
-use Rattle.conn_state.specs.Moves.{connected, released, awakened, idled}
 use Rattle.conn_state.specs.Protocols.{has_responder}
 use Rattle.conn_state.specs.Shapes.{serves_remote}
 use Rattle.conn_state.specs.Use.{facts_at, live_at, is_dialing, is_greeting, is_negotiated, is_outbound, runs}
-use Rattle.conn_table.specs.Answers.{any_at, acquire_of, after_acquire, grace_end_of, is_due}
-use Rattle.conn_table.specs.Choices.{negotiated, grace_ended}
-use Rattle.conn_table.specs.Table.{Table, with_accepted, with_dialing, with_moved, without}
+use Rattle.conn_table.specs.Answers.{any_at, is_due}
+use Rattle.conn_table.specs.Calls.{after_admit, after_dial, after_connect, after_negotiate, after_acquire_at, after_release, after_awake, after_idle, after_grace, after_drop}
+use Rattle.conn_table.specs.Calls.{next_id, negotiated_lease, acquire_at, grace_end_at}
+use Rattle.conn_table.specs.Table.{Table}
 use Rattle.conn_table.specs.declared.acquire.Acquire.{Acquire}
 use Rattle.conn_table.specs.declared.acquire.Acquire.TheVariants as acquire
+use Rattle.conn_table.specs.declared.grace_end.GraceEnd.{GraceEnd}
 use Rattle.shared_table.specs.declared.call.InCall.{InCall}
 use Rattle.shared_table.specs.declared.call.InCall.TheVariants as ins
 use Rattle.shared_table.specs.declared.call.OutCall.{OutCall}
@@ -22,7 +23,7 @@ use Rattle.shared_table.specs.declared.call.TableCall.TheVariants.{Out, In}
 use Rattle.shared_table.specs.declared.reply.TableReply.{TableReply}
 use Rattle.shared_table.specs.declared.reply.TableReply.TheVariants.{Made, Done, Leased, NoSuch, NotReusable, Grace, Unmet}
 
--- ---- what a call asks for
+-- ---- what a call asks for, as tests; `Asks` has it in the words of the table's contracts
 
 -- moments go up to this one
 abbrev pub is_moment : ℕ → Bool
@@ -82,20 +83,20 @@ is_met (In call) t = in_is_met call t
 -- ---- what it makes of the table
 
 abbrev pub after_out : OutCall → Table → Table
-after_out (outs.Dial addr) t = with_dialing addr t
-after_out (outs.Connected cid now) t = with_moved cid.0 (connected (now + t.settings.handshake)) t
-after_out (outs.Agreed cid agreed now) t = with_moved cid.0 (negotiated agreed (now + t.settings.idle)) t
-after_out (outs.Acquire addr) t = after_acquire (acquire_of addr t.facts) t
-after_out (outs.Release cid now) t = with_moved cid.0 (released (now + t.settings.idle)) t
-after_out (outs.DropOut cid) t = without cid.0 t
+after_out (outs.Dial addr) t = after_dial addr t
+after_out (outs.Connected cid now) t = after_connect cid.0 now t
+after_out (outs.Agreed cid agreed now) t = after_negotiate cid.0 agreed now t
+after_out (outs.Acquire addr) t = after_acquire_at addr t
+after_out (outs.Release cid now) t = after_release cid.0 now t
+after_out (outs.DropOut cid) t = after_drop cid.0 t
 
 abbrev pub after_in : InCall → Table → Table
-after_in (ins.Admit addr now) t = with_accepted addr now t
-after_in (ins.Agreed cid agreed now) t = with_moved cid.0 (negotiated agreed (now + t.settings.idle)) t
-after_in (ins.Awake cid protocol) t = with_moved cid.0 (awakened protocol) t
-after_in (ins.Idle cid protocol now) t = with_moved cid.0 (idled protocol (now + t.settings.idle)) t
-after_in (ins.GraceOver cid now) t = with_moved cid.0 (grace_ended (now + t.settings.timewait)) t
-after_in (ins.DropIn cid) t = without cid.0 t
+after_in (ins.Admit addr now) t = after_admit addr now t
+after_in (ins.Agreed cid agreed now) t = after_negotiate cid.0 agreed now t
+after_in (ins.Awake cid protocol) t = after_awake cid.0 protocol t
+after_in (ins.Idle cid protocol now) t = after_idle cid.0 protocol now t
+after_in (ins.GraceOver cid now) t = after_grace cid.0 now t
+after_in (ins.DropIn cid) t = after_drop cid.0 t
 
 abbrev pub after_met : TableCall → Table → Table
 after_met (Out call) t = after_out call t
@@ -103,32 +104,34 @@ after_met (In call) t = after_in call t
 
 -- ---- what it is answered
 
-abbrev pub next_id : Table → Cid
-next_id t = record { 0 = t.given + 1 }
+-- the lease that came stays beside the table
+abbrev pub lease_reply : Option Cid → TableReply
+lease_reply None = Done
+lease_reply (Some cid) = Leased cid
 
 abbrev pub acquire_reply : Acquire → TableReply
 acquire_reply (acquire.Leased cid) = Leased cid
 acquire_reply acquire.NoSuch = NoSuch
 acquire_reply (acquire.NotReusable name) = NotReusable name
 
-abbrev pub grace_reply : Option Facts → TableReply
+abbrev pub grace_reply : Option GraceEnd → TableReply
 grace_reply None = Unmet
-grace_reply (Some f) = Grace (grace_end_of f)
+grace_reply (Some end) = Grace end
 
 abbrev pub out_reply : OutCall → Table → TableReply
 out_reply (outs.Dial addr) t = Made (next_id t)
 out_reply (outs.Connected cid now) t = Done
-out_reply (outs.Agreed cid agreed now) t = Leased cid
-out_reply (outs.Acquire addr) t = acquire_reply (acquire_of addr t.facts)
+out_reply (outs.Agreed cid agreed now) t = lease_reply (negotiated_lease cid.0 t)
+out_reply (outs.Acquire addr) t = acquire_reply (acquire_at addr t)
 out_reply (outs.Release cid now) t = Done
 out_reply (outs.DropOut cid) t = Done
 
 abbrev pub in_reply : InCall → Table → TableReply
 in_reply (ins.Admit addr now) t = Made (next_id t)
-in_reply (ins.Agreed cid agreed now) t = Done
+in_reply (ins.Agreed cid agreed now) t = lease_reply (negotiated_lease cid.0 t)
 in_reply (ins.Awake cid protocol) t = Done
 in_reply (ins.Idle cid protocol now) t = Done
-in_reply (ins.GraceOver cid now) t = grace_reply (facts_at cid.0 t.facts)
+in_reply (ins.GraceOver cid now) t = grace_reply (grace_end_at cid.0 t)
 in_reply (ins.DropIn cid) t = Done
 
 abbrev pub met_reply : TableCall → Table → TableReply

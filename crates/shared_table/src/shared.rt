@@ -1,7 +1,8 @@
 ghost use Rattle.std.specs.Prelude.{◌≡◌, [], ◌∷◌, ◌++◌, IfOk, OnOk, OnErr};
 ghost use Rattle.conn_table.specs.Table.{empty_table};
 ghost use Rattle.net_base.specs.Bounds.{AreSound};
-ghost use Rattle.shared_table.specs.Calls.{reply_to, table_after};
+ghost use Rattle.shared_table.specs.Asks.{Asks, Tells};
+ghost use Rattle.shared_table.specs.Calls.{is_met, reply_to, table_after};
 ghost use Rattle.shared_table.specs.Entries.{entry_of};
 ghost use Rattle.shared_table.specs.Replay.{IsReplayed};
 
@@ -47,6 +48,7 @@ impl Shared {
     pub fn apply(&mut self, call: TableCall) -> Result<TableReply, OutOfMemory>
         ensures reply { IfOk result (λ reply. reply ≡ reply_to call self.old.table) }
         ensures table { OnOk result (self.new.table ≡ table_after call self.old.table) }
+        ensures asked { Tells (is_met call self.old.table) (Asks call self.old.table) }
         ensures history { IfOk result (λ reply. self.new.history ≡ self.old.history ++ entry_of call reply ∷ []) }
         ensures replayed { IsReplayed self.old }
         ensures err { OnErr result (self.new ≡ self.old) }
