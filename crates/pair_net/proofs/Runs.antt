@@ -388,7 +388,7 @@ module _ (left right : VersionInfo) (left_offers : CanOffer left) (right_offers 
 
 -- ---- the laws
 
-pub ends_agree_alike : AgreeAlike stepped
+pub ends_agree_alike : AgreeAlike
 ends_agree_alike left right steps left_offers right_offers one two e f = alike_after left right left_offers right_offers steps one two e f
 
 pub meetings_agree : MeetingsAgree

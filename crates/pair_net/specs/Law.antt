@@ -68,9 +68,9 @@ IsDelivery (Timeout end) = ⊥
 IsDelivery (Close end) = ⊥
 
 -- Two ends agree alike, whatever steps led there.
-abbrev pub AgreeAlike : Machine → Type 0
-AgreeAlike machine = (left right : VersionInfo) (steps : List PairStep) → CanOffer left → CanOffer right
-    → AgreesAlike (led_by machine steps (fresh_pair left right))
+abbrev pub AgreeAlike : Type 0
+AgreeAlike = (left right : VersionInfo) (steps : List PairStep) → CanOffer left → CanOffer right
+    → AgreesAlike (pair_after steps (fresh_pair left right))
 
 -- so many bytes come out of the pipe towards an end, and then so many, and so on
 abbrev pub deliveries_to : End → List ℕ → List PairStep

@@ -8,7 +8,7 @@ ghost use Rattle.pair_net.specs.WrongPairs.{AgreesWrongly};
 /// the same network, everything that is delivered leads both to agree: after a meeting, and after a crossing of two ends
 /// of which neither is initiator only.
 pub fn both_ends_agree()
-    ensures alike { AgreeAlike stepped }
+    ensures alike { AgreeAlike }
     ensures pipes { PipesEmpty }
     ensures meetings_in_turn { MeetingsAgreeInTurn }
     ensures meetings { MeetingsAgree }
