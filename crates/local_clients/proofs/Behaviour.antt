@@ -47,7 +47,7 @@ nothing_is x e = cc
 -- ---- who is gone
 
 module _ (rules : ClientRules) (t : ClientTable) (greeters : IdsRise t.greeting) (openers : IdsRise t.opened) where
-  pub goes_alone : (id : ℕ) → GoesAlone rules id t
+  pub goes_alone : (id : ℕ) → GoesAlone stepped rules id t
   goes_alone id = record {
     gone = record { greets = gone_without id t.greeting greeters; opens = gone_without id t.opened openers };
     greeting = λ other ne. other_without other id t.greeting ne;
@@ -86,7 +86,7 @@ module _ (rules : ClientRules) (t : ClientTable) (greeters : IdsRise t.greeting)
       put_back_absent id q _ apart absent
   heard_absent id q bytes None None none at absent = absent
 
-  pub stays_away : StaysAway rules t
+  pub stays_away : StaysAway stepped rules t
   stays_away (Now moment) id given absent = elim (cases_Bool (leb moment t.moment)) [
     | inl early ↦ rw early absent
     | inr late ↦ rw late (record { greets = absent_filter (λ entry. not (is_due moment entry)) id t.greeting absent.greets; opens = absent.opens })
@@ -193,7 +193,7 @@ module _ (rules : ClientRules) (t : ClientTable) (greeters : IdsRise t.greeting)
       others_heard rules t greeters openers id other bytes (client_at other t.greeting) (client_at other t.opened) (λ is. silent (sym is)) ∙ found
   waits_on (Gone other) id client found silent = other_without id other t.greeting (λ is. silent (sym is)) ∙ found
 
-  closes_in_time : (moment id : ℕ) (client : GreetingClient) → client_at id t.greeting ≡ Some client → t.moment < moment → client.until ≤ moment → ClosesInTime rules id moment t
+  closes_in_time : (moment id : ℕ) (client : GreetingClient) → client_at id t.greeting ≡ Some client → t.moment < moment → client.until ≤ moment → ClosesInTime stepped rules id moment t
   closes_in_time moment id client found after late =
       let now : leb moment t.moment ≡ false = lt-leb moment t.moment after in
       let due : leb client.until moment ≡ true = le-leb client.until moment late in
@@ -202,7 +202,7 @@ module _ (rules : ClientRules) (t : ClientTable) (greeters : IdsRise t.greeting)
         told = subst (Has (action.Close id (Fault HandshakeWait))) (rw now refl) (has_closed moment id client t.greeting found late);
       }
 
-  pub keeps_time : KeepsTime rules t
+  pub keeps_time : KeepsTime stepped rules t
   keeps_time = record { begins = begins_time; waits = waits_on; closes = closes_in_time }
 
 -- ---- a proposal that fits
@@ -277,13 +277,13 @@ module _ (rules : ClientRules) (t : ClientTable) (id : ℕ) (client : GreetingCl
       ∙ ap (λ c. let h = heard the_context (Greeting client.until client.part) c.segments in record { table = put_back id (option_map (λ next. (next, c.rest)) h.phase) (leaves id t); actions = h.actions }) p.cut
       ∙ ap (λ (h : Heard). record { table = put_back id (option_map (λ next. (next, p.rest)) h.phase) (leaves id t); actions = h.actions }) the_stream
 
-  opens_with : OpensWith rules id bytes version t
+  opens_with : OpensWith stepped rules id bytes version t
   opens_with = record {
     actions = ap (λ s. s.actions) the_turn;
     opens = ap (λ s. open_version id s.table) the_turn ∙ ap version_of (here_with id (record { version = version; rest = p.rest }) (without id t.opened));
   }
 
-pub fitting_proposals_open : FittingProposalsOpen
+pub fitting_proposals_open : FittingProposalsOpen stepped
 fitting_proposals_open rules t id client bytes table version found p fits = opens_with rules t id client bytes table version found p fits
 
 -- ---- bytes that are a fault
@@ -447,7 +447,7 @@ by_client rules t id bytes other kind None (Some client) told =
     of_stream (record { client = id; magic = rules.magic; moment = t.moment }) other kind (cut_of (client.rest ++ bytes)).segments (Open client.version) told
 by_client rules t id bytes other kind None None told = absurd (none_has _ told)
 
-pub faults_are_of_bytes : FaultsAreOfBytes
+pub faults_are_of_bytes : FaultsAreOfBytes stepped
 faults_are_of_bytes rules t id bytes other kind told =
     let fault = by_client rules t id bytes other kind (client_at id t.greeting) (client_at id t.opened) told in
     record { own = fault.0; fault = fault.1 }

@@ -42,14 +42,14 @@ use Rattle.local_clients.proofs.Lists.{all_found}
 
 reached_on : (rules : ClientRules) (events : List ClientEvent) (taken : ℕ) (t : ClientTable) → taken + length events ≤ 1000000
     → AllByRecursion CanHappen events → AreKept (record { rules = rules; taken = taken; table = t })
-    → AreKept (record { rules = rules; taken = taken + length events; table = (run rules events t).table })
+    → AreKept (record { rules = rules; taken = taken + length events; table = (run stepped rules events t).table })
 reached_on rules [] taken t few happen kept = let same : taken + 0 ≡ taken = omega arith in rw same kept
 reached_on rules (event ∷ events) taken t few happen kept =
     let before : ClientsState = record { rules = rules; taken = taken; table = t } in
     let after = kept_after before (omega (arith, few)) kept event happen.0 in
     let on = reached_on rules events (taken + 1) (stepped rules event t).table (omega (arith, few)) happen.1 after in
     let same : taken + 1 + length events ≡ taken + length (event ∷ events) = omega arith in
-    subst (λ (n : ℕ). AreKept (record { rules = rules; taken = n; table = (run rules (event ∷ events) t).table })) same on
+    subst (λ (n : ℕ). AreKept (record { rules = rules; taken = n; table = (run stepped rules (event ∷ events) t).table })) same on
 
 nobody_kept : (rules : ClientRules) → AreInRange rules → AreKept (record { rules = rules; taken = 0; table = no_clients })
 nobody_kept rules ranges = record {
@@ -65,17 +65,17 @@ nobody_kept rules ranges = record {
   apart = λ q client found. absurd cc;
 }
 
-reached : (rules : ClientRules) (t : ClientTable) (r : AreReached rules t) → AreKept (record { rules = rules; taken = length r.events; table = t })
+reached : (rules : ClientRules) (t : ClientTable) (r : AreReached stepped rules t) → AreKept (record { rules = rules; taken = length r.events; table = t })
 reached rules t r =
     subst (λ (x : ClientTable). AreKept (record { rules = rules; taken = length r.events; table = x })) (sym r.leads)
     (let same : 0 + length r.events ≡ length r.events = omega arith in
-    subst (λ (n : ℕ). AreKept (record { rules = rules; taken = n; table = (run rules r.events no_clients).table })) same
+    subst (λ (n : ℕ). AreKept (record { rules = rules; taken = n; table = (run stepped rules r.events no_clients).table })) same
     (reached_on rules r.events 0 no_clients (omega (arith, r.few)) r.happen (nobody_kept rules r.ranges)))
 
-pub are_few : AreFew
+pub are_few : AreFew stepped
 are_few rules t r = (reached rules t r).limit
 
-pub rise_in_their_time : RiseInTheirTime
+pub rise_in_their_time : RiseInTheirTime stepped
 rise_in_their_time rules t r = (reached rules t r).rise
 
 -- ---- who is turned away
@@ -180,7 +180,7 @@ turned_away_only rules t (Gone id) not_full = tt
 let_in : (rules : ClientRules) (t : ClientTable) → live t < rules.limit → (stepped rules Joined t).actions ≡ Admit t.next_id ∷ []
 let_in rules t room = rw (lt-leb rules.limit (live t) room) refl
 
-pub are_turned_away : AreTurnedAway
+pub are_turned_away : AreTurnedAway stepped
 are_turned_away rules t = record { full = turned_away_full rules t; room = let_in rules t; only = turned_away_only rules t }
 
 -- ---- in whatever pieces bytes come
@@ -302,7 +302,7 @@ module _ (rules : ClientRules) (id : ℕ) (t : ClientTable) (greeters : IdsRise 
       ap (λ (g : Option GreetingClient). hears_client rules id two t g (client_at id t.opened)) none ∙ ap (λ (o : Option OpenClient). hears_client rules id two t None o) absent in
       rw again (refl, refl)
 
-pub pieces_do_not_matter : PiecesDoNotMatter
+pub pieces_do_not_matter : PiecesDoNotMatter stepped
 pieces_do_not_matter rules id t one two r =
     let kept = reached rules t r in
     let p = by_client rules id t (ids_of_time t.greeting kept.rise) kept.opened_rise (client_at id t.greeting) (client_at id t.opened) one two refl refl in
@@ -360,7 +360,7 @@ other_heard rules q id bytes t None (Some client) ne =
 other_heard rules q id bytes t None None ne = refl
 
 own_bytes : (rules : ClientRules) (t : ClientTable) (id version : ℕ) (bytes : List ℕ) (client : OpenClient) → client.version ≡ version
-    → client_at id t.greeting ≡ None → client_at id t.opened ≡ Some client → StaysOrGoes rules (Bytes id bytes) id version t
+    → client_at id t.greeting ≡ None → client_at id t.opened ≡ Some client → StaysOrGoes stepped rules (Bytes id bytes) id version t
 own_bytes rules t id version bytes client same none found =
     let c = cut_of (client.rest ++ bytes) in
     let context : Context = record { client = id; magic = rules.magic; moment = t.moment } in
@@ -380,7 +380,7 @@ opener_of : (o : Option OpenClient) (version : ℕ) → version_of o ≡ Some ve
 opener_of None version e = absurd cc
 opener_of (Some client) version e = (client, refl, cc)
 
-pub stays_open : (rules : ClientRules) (t : ClientTable) → AreApart t → (event : ClientEvent) (id version : ℕ) → open_version id t ≡ Some version → StaysOrGoes rules event id version t
+pub stays_open : (rules : ClientRules) (t : ClientTable) → AreApart t → (event : ClientEvent) (id version : ℕ) → open_version id t ≡ Some version → StaysOrGoes stepped rules event id version t
 stays_open rules t apart (Now moment) id version open_now =
     elim (cases_Bool (leb moment t.moment)) [
       | inl early ↦ rw early (inl open_now)
@@ -400,13 +400,13 @@ stays_open rules t apart (Bytes q bytes) id version open_now =
     elim (cases_Bool (eqb id q)) [
       | inl same ↦
           let opener = opener_of (client_at id t.opened) version open_now in
-          subst (λ (n : ℕ). StaysOrGoes rules (Bytes n bytes) id version t) (eqb-true id q same)
+          subst (λ (n : ℕ). StaysOrGoes stepped rules (Bytes n bytes) id version t) (eqb-true id q same)
           (own_bytes rules t id version bytes opener.0 opener.2 (apart id opener.0 opener.1) opener.1)
       | inr other ↦
           inl (ap version_of (other_heard rules id q bytes t (client_at q t.greeting) (client_at q t.opened) (eqb-false id q other)) ∙ open_now)
     ]
 
-pub open_clients_stay : OpenClientsStay
+pub open_clients_stay : OpenClientsStay stepped
 open_clients_stay rules t event id version r open_now = stays_open rules t (reached rules t r).apart event id version open_now
 
 -- ---- one event
@@ -419,23 +419,23 @@ turns_away rules event t = record {
 
 -- ---- who goes, and when
 
-given_to : (rules : ClientRules) (t : ClientTable) (r : AreReached rules t) (q : ℕ) (client : GreetingClient) → client_at q t.greeting ≡ Some client → q < t.next_id
+given_to : (rules : ClientRules) (t : ClientTable) (r : AreReached stepped rules t) (q : ℕ) (client : GreetingClient) → client_at q t.greeting ≡ Some client → q < t.next_id
 given_to rules t r q client found = (all_found (IsGiven rules.wait t) q client t.greeting (reached rules t r).given found).0
 
-pub gone_are_gone : GoneAreGone
+pub gone_are_gone : GoneAreGone stepped
 gone_are_gone rules t r =
     let kept = reached rules t r in
     let greeters = ids_of_time t.greeting kept.rise in
     (goes_alone rules t greeters kept.opened_rise, stays_away rules t greeters kept.opened_rise)
 
-pub keep_their_time : KeepTheirTime
+pub keep_their_time : KeepTheirTime stepped
 keep_their_time rules t r =
     let kept = reached rules t r in
     keeps_time rules t (ids_of_time t.greeting kept.rise) kept.opened_rise (given_to rules t r)
 
 -- ---- all of it
 
-pub are_lawful : (rules : ClientRules) (t : ClientTable) → AreReached rules t → AreLawful rules t
+pub are_lawful : (rules : ClientRules) (t : ClientTable) → AreReached stepped rules t → AreLawful rules t
 are_lawful rules t r = record {
   few = are_few rules t r;
   in_time = rise_in_their_time rules t r;

@@ -19,7 +19,7 @@ use Rattle.local_clients.proofs.Laws.{are_lawful}
 use Rattle.local_clients.proofs.Readings.{line_can}
 
 run_push : (rules : ClientRules) (events : List ClientEvent) (event : ClientEvent) (t : ClientTable) →
-    (run rules (events ++ event ∷ []) t).table ≡ (stepped rules event (run rules events t).table).table
+    (run stepped rules (events ++ event ∷ []) t).table ≡ (stepped rules event (run stepped rules events t).table).table
 run_push rules [] event t = refl
 run_push rules (first ∷ events) event t = run_push rules events event (stepped rules first t).table
 
@@ -29,7 +29,7 @@ happen_push (first ∷ events) event all can = (all.0, happen_push events event 
 
 -- so many events lead to these clients
 record IsLed (rules : ClientRules) (c : ClientsState) : Type 0 where
-  reached : AreReached rules c.table
+  reached : AreReached stepped rules c.table
   same : c.rules ≡ rules
   count : c.taken ≡ length reached.events
 
@@ -39,7 +39,7 @@ module _ (rules : ClientRules) where
   one_more c event led can few =
       let r = led.reached in
       let more : length (r.events ++ event ∷ []) ≡ length r.events + 1 = length-append r.events (event ∷ []) in
-      let leads : (stepped c.rules event c.table).table ≡ (run rules (r.events ++ event ∷ []) no_clients).table =
+      let leads : (stepped c.rules event c.table).table ≡ (run stepped rules (r.events ++ event ∷ []) no_clients).table =
       ap (λ (given : ClientRules). (stepped given event c.table).table) led.same
       ∙ ap (λ (t : ClientTable). (stepped rules event t).table) r.leads ∙ sym (run_push rules r.events event no_clients) in
       record {

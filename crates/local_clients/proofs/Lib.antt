@@ -7,4 +7,5 @@ pub mod Laws
 mod Behaviour
 pub mod Readings
 pub mod Led
+mod Refuted
 pub mod Happening

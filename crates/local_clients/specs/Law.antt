@@ -31,32 +31,36 @@ use Rattle.local_clients.specs.declared.event.ClientEvent.TheVariants.{Now, Join
 use Rattle.local_clients.specs.declared.rules.ClientRules.{ClientRules}
 use Rattle.local_clients.specs.Rules.{AreInRange, CanHappen}
 use Rattle.local_clients.specs.Kept.{RiseInTime}
-use Rattle.local_clients.specs.Clients.{ClientTable, no_clients, live, client_at, open_version, Stepped, nothing_done, bytes_come, stepped}
+use Rattle.local_clients.specs.Clients.{ClientTable, no_clients, live, client_at, open_version, Stepped, nothing_done, stepped}
+
+-- what each event makes of the clients, whoever says so
+abbrev pub Machine : Type 0
+Machine = ClientRules → ClientEvent → ClientTable → Stepped
 
 -- one event after the other
-abbrev pub run : ClientRules → List ClientEvent → ClientTable → Stepped
-run rules [] t = nothing_done t
-run rules (event ∷ events) t =
-    let first = stepped rules event t in
-    let others = run rules events first.table in
+abbrev pub run : Machine → ClientRules → List ClientEvent → ClientTable → Stepped
+run machine rules [] t = nothing_done t
+run machine rules (event ∷ events) t =
+    let first = machine rules event t in
+    let others = run machine rules events first.table in
     record { table = others.table; actions = first.actions ++ others.actions }
 
 -- some events lead to these clients
-pub record AreReached (rules : ClientRules) (t : ClientTable) : Type 0 where
+pub record AreReached (machine : Machine) (rules : ClientRules) (t : ClientTable) : Type 0 where
   pub events : List ClientEvent
   pub ranges : AreInRange rules
   pub few : length events ≤ 1000000
   pub happen : AllByRecursion CanHappen events
-  pub leads : t ≡ (run rules events no_clients).table
+  pub leads : t ≡ (run machine rules events no_clients).table
 
 -- There are never more clients than the limit.
-abbrev pub AreFew : Type 0
-AreFew = (rules : ClientRules) (t : ClientTable) → AreReached rules t → live t ≤ rules.limit
+abbrev pub AreFew : Machine → Type 0
+AreFew machine = (rules : ClientRules) (t : ClientTable) → AreReached machine rules t → live t ≤ rules.limit
 
 -- The clients that greet stand in order of their deadlines, and of their ids where these are the same. So late ones are closed
 -- in that order.
-abbrev pub RiseInTheirTime : Type 0
-RiseInTheirTime = (rules : ClientRules) (t : ClientTable) → AreReached rules t → RiseInTime t.greeting
+abbrev pub RiseInTheirTime : Machine → Type 0
+RiseInTheirTime machine = (rules : ClientRules) (t : ClientTable) → AreReached machine rules t → RiseInTime t.greeting
 
 -- ---- who is turned away
 
@@ -64,30 +68,30 @@ abbrev pub IsTurnaway : ClientAction → Type 0
 IsTurnaway action = action ≡ Turnaway
 
 -- A client is turned away exactly where it joins while there are as many as the limit. Below the limit it is let in.
-pub record TurnsAwayAtLimit (rules : ClientRules) (t : ClientTable) : Type 0 where
-  pub full : rules.limit ≤ live t → stepped rules Joined t ≡ record { table = t; actions = Turnaway ∷ [] }
-  pub room : live t < rules.limit → (stepped rules Joined t).actions ≡ Admit t.next_id ∷ []
+pub record TurnsAwayAtLimit (machine : Machine) (rules : ClientRules) (t : ClientTable) : Type 0 where
+  pub full : rules.limit ≤ live t → machine rules Joined t ≡ record { table = t; actions = Turnaway ∷ [] }
+  pub room : live t < rules.limit → (machine rules Joined t).actions ≡ Admit t.next_id ∷ []
   pub only : (event : ClientEvent) → ((event ≡ Joined) × (rules.limit ≤ live t) → ⊥)
-      → AllByRecursion (λ action. IsTurnaway action → ⊥) (stepped rules event t).actions
+      → AllByRecursion (λ action. IsTurnaway action → ⊥) (machine rules event t).actions
 
 -- the same of one event, and what is done at it
 pub record TurnsAway (rules : ClientRules) (event : ClientEvent) (t : ClientTable) (actions : List ClientAction) : Type 0 where
   pub full : event ≡ Joined → rules.limit ≤ live t → actions ≡ Turnaway ∷ []
   pub only : ((event ≡ Joined) × (rules.limit ≤ live t) → ⊥) → AllByRecursion (λ action. IsTurnaway action → ⊥) actions
 
-abbrev pub AreTurnedAway : Type 0
-AreTurnedAway = (rules : ClientRules) (t : ClientTable) → TurnsAwayAtLimit rules t
+abbrev pub AreTurnedAway : Machine → Type 0
+AreTurnedAway machine = (rules : ClientRules) (t : ClientTable) → TurnsAwayAtLimit machine rules t
 
 -- ---- in whatever pieces bytes come
 
 -- Two pieces of what a client says, one after the other, do what both do at once.
-pub record AreOnePiece (rules : ClientRules) (id : ℕ) (t : ClientTable) (one two : List ℕ) : Type 0 where
-  pub table : (bytes_come rules id two (bytes_come rules id one t).table).table ≡ (bytes_come rules id (one ++ two) t).table
-  pub actions : (bytes_come rules id one t).actions ++ (bytes_come rules id two (bytes_come rules id one t).table).actions
-      ≡ (bytes_come rules id (one ++ two) t).actions
+pub record AreOnePiece (machine : Machine) (rules : ClientRules) (id : ℕ) (t : ClientTable) (one two : List ℕ) : Type 0 where
+  pub table : (machine rules (Bytes id two) (machine rules (Bytes id one) t).table).table ≡ (machine rules (Bytes id (one ++ two)) t).table
+  pub actions : (machine rules (Bytes id one) t).actions ++ (machine rules (Bytes id two) (machine rules (Bytes id one) t).table).actions
+      ≡ (machine rules (Bytes id (one ++ two)) t).actions
 
-abbrev pub PiecesDoNotMatter : Type 0
-PiecesDoNotMatter = (rules : ClientRules) (id : ℕ) (t : ClientTable) (one two : List ℕ) → AreReached rules t → AreOnePiece rules id t one two
+abbrev pub PiecesDoNotMatter : Machine → Type 0
+PiecesDoNotMatter machine = (rules : ClientRules) (id : ℕ) (t : ClientTable) (one two : List ℕ) → AreReached machine rules t → AreOnePiece machine rules id t one two
 
 -- ---- how an open client goes
 
@@ -106,14 +110,14 @@ pub record ClosesForBytes (id : ℕ) (event : ClientEvent) (actions : List Clien
 abbrev pub LeavesOpen : ClientEvent → ℕ → ℕ → ClientTable → List ClientAction → Type 0
 LeavesOpen event id version next actions = (open_version id next ≡ Some version) ⊎ ((event ≡ Gone id) ⊎ ClosesForBytes id event actions)
 
-abbrev pub StaysOrGoes : ClientRules → ClientEvent → ℕ → ℕ → ClientTable → Type 0
-StaysOrGoes rules event id version t = LeavesOpen event id version (stepped rules event t).table (stepped rules event t).actions
+abbrev pub StaysOrGoes : Machine → ClientRules → ClientEvent → ℕ → ℕ → ClientTable → Type 0
+StaysOrGoes machine rules event id version t = LeavesOpen event id version (machine rules event t).table (machine rules event t).actions
 
 -- An open client stays open with its version at each event, but for one that says that it is gone, and for bytes of its own
 -- that are a fault.
-abbrev pub OpenClientsStay : Type 0
-OpenClientsStay = (rules : ClientRules) (t : ClientTable) (event : ClientEvent) (id version : ℕ) → AreReached rules t
-    → open_version id t ≡ Some version → StaysOrGoes rules event id version t
+abbrev pub OpenClientsStay : Machine → Type 0
+OpenClientsStay machine = (rules : ClientRules) (t : ClientTable) (event : ClientEvent) (id version : ℕ) → AreReached machine rules t
+    → open_version id t ≡ Some version → StaysOrGoes machine rules event id version t
 
 -- ---- who is gone
 
@@ -122,18 +126,18 @@ pub record IsAbsent (id : ℕ) (t : ClientTable) : Type 0 where
   pub opens : client_at id t.opened ≡ None
 
 -- The client that an event says is gone is there no more, and each other one is as it was.
-pub record GoesAlone (rules : ClientRules) (id : ℕ) (t : ClientTable) : Type 0 where
-  pub gone : IsAbsent id (stepped rules (Gone id) t).table
-  pub greeting : (other : ℕ) → other ≢ id → client_at other (stepped rules (Gone id) t).table.greeting ≡ client_at other t.greeting
-  pub opened : (other : ℕ) → other ≢ id → client_at other (stepped rules (Gone id) t).table.opened ≡ client_at other t.opened
-  pub actions : (stepped rules (Gone id) t).actions ≡ []
+pub record GoesAlone (machine : Machine) (rules : ClientRules) (id : ℕ) (t : ClientTable) : Type 0 where
+  pub gone : IsAbsent id (machine rules (Gone id) t).table
+  pub greeting : (other : ℕ) → other ≢ id → client_at other (machine rules (Gone id) t).table.greeting ≡ client_at other t.greeting
+  pub opened : (other : ℕ) → other ≢ id → client_at other (machine rules (Gone id) t).table.opened ≡ client_at other t.opened
+  pub actions : (machine rules (Gone id) t).actions ≡ []
 
 -- Whoever is gone stays so: its id was given, and no event brings it back.
-abbrev pub StaysAway : ClientRules → ClientTable → Type 0
-StaysAway rules t = (event : ClientEvent) (id : ℕ) → id < t.next_id → IsAbsent id t → IsAbsent id (stepped rules event t).table
+abbrev pub StaysAway : Machine → ClientRules → ClientTable → Type 0
+StaysAway machine rules t = (event : ClientEvent) (id : ℕ) → id < t.next_id → IsAbsent id t → IsAbsent id (machine rules event t).table
 
-abbrev pub GoneAreGone : Type 0
-GoneAreGone = (rules : ClientRules) (t : ClientTable) → AreReached rules t → ((id : ℕ) → GoesAlone rules id t) × StaysAway rules t
+abbrev pub GoneAreGone : Machine → Type 0
+GoneAreGone machine = (rules : ClientRules) (t : ClientTable) → AreReached machine rules t → ((id : ℕ) → GoesAlone machine rules id t) × StaysAway machine rules t
 
 -- ---- the time of a client that says nothing
 
@@ -150,21 +154,21 @@ pub record Has (action : ClientAction) (actions : List ClientAction) : Type 0 wh
   pub are : actions ≡ before ++ action ∷ after
 
 -- its time is over at a moment
-pub record ClosesInTime (rules : ClientRules) (id moment : ℕ) (t : ClientTable) : Type 0 where
-  pub gone : client_at id (stepped rules (Now moment) t).table.greeting ≡ None
-  pub told : Has (Close id (Fault HandshakeWait)) (stepped rules (Now moment) t).actions
+pub record ClosesInTime (machine : Machine) (rules : ClientRules) (id moment : ℕ) (t : ClientTable) : Type 0 where
+  pub gone : client_at id (machine rules (Now moment) t).table.greeting ≡ None
+  pub told : Has (Close id (Fault HandshakeWait)) (machine rules (Now moment) t).actions
 
 -- A client that is let in has its whole time. While it says nothing it waits on until its time is over, and not longer.
-pub record KeepsTime (rules : ClientRules) (t : ClientTable) : Type 0 where
+pub record KeepsTime (machine : Machine) (rules : ClientRules) (t : ClientTable) : Type 0 where
   pub begins : live t < rules.limit
-      → client_at t.next_id (stepped rules Joined t).table.greeting ≡ Some (record { until = t.moment + rules.wait; rest = []; part = [] })
+      → client_at t.next_id (machine rules Joined t).table.greeting ≡ Some (record { until = t.moment + rules.wait; rest = []; part = [] })
   pub waits : (event : ClientEvent) (id : ℕ) (client : GreetingClient) → client_at id t.greeting ≡ Some client → IsSilent id client event
-      → client_at id (stepped rules event t).table.greeting ≡ Some client
+      → client_at id (machine rules event t).table.greeting ≡ Some client
   pub closes : (moment id : ℕ) (client : GreetingClient) → client_at id t.greeting ≡ Some client → t.moment < moment → client.until ≤ moment
-      → ClosesInTime rules id moment t
+      → ClosesInTime machine rules id moment t
 
-abbrev pub KeepTheirTime : Type 0
-KeepTheirTime = (rules : ClientRules) (t : ClientTable) → AreReached rules t → KeepsTime rules t
+abbrev pub KeepTheirTime : Machine → Type 0
+KeepTheirTime machine = (rules : ClientRules) (t : ClientTable) → AreReached machine rules t → KeepsTime machine rules t
 
 -- ---- a proposal that fits
 
@@ -190,18 +194,18 @@ pub record HasProposed (client : GreetingClient) (bytes : List ℕ) (table : Lis
   pub message : client_message_of (client.part ++ segment.payload) ≡ Some (message.Propose table)
 
 -- it is accepted with that version, and is open
-pub record OpensWith (rules : ClientRules) (id : ℕ) (bytes : List ℕ) (version : ℕ) (t : ClientTable) : Type 0 where
-  pub actions : (stepped rules (Bytes id bytes) t).actions
+pub record OpensWith (machine : Machine) (rules : ClientRules) (id : ℕ) (bytes : List ℕ) (version : ℕ) (t : ClientTable) : Type 0 where
+  pub actions : (machine rules (Bytes id bytes) t).actions
       ≡ Send id (frame_of 1 0 t.moment (client_spelling (message.Accept version (Known (own_info rules.magic))))) ∷ Open id version ∷ []
-  pub opens : open_version id (stepped rules (Bytes id bytes) t).table ≡ Some version
+  pub opens : open_version id (machine rules (Bytes id bytes) t).table ≡ Some version
 
 -- A proposal that fits opens with the greatest version that both know, and the answer is sent.
-abbrev pub FittingOpen : ClientRules → ClientTable → Type 0
-FittingOpen rules t = (id : ℕ) (client : GreetingClient) (bytes : List ℕ) (table : List Offer) (version : ℕ) → client_at id t.greeting ≡ Some client
-    → HasProposed client bytes table → Fits rules.magic table version → OpensWith rules id bytes version t
+abbrev pub FittingOpen : Machine → ClientRules → ClientTable → Type 0
+FittingOpen machine rules t = (id : ℕ) (client : GreetingClient) (bytes : List ℕ) (table : List Offer) (version : ℕ) → client_at id t.greeting ≡ Some client
+    → HasProposed client bytes table → Fits rules.magic table version → OpensWith machine rules id bytes version t
 
-abbrev pub FittingProposalsOpen : Type 0
-FittingProposalsOpen = (rules : ClientRules) (t : ClientTable) → FittingOpen rules t
+abbrev pub FittingProposalsOpen : Machine → Type 0
+FittingProposalsOpen machine = (rules : ClientRules) (t : ClientTable) → FittingOpen machine rules t
 
 -- ---- bytes that are a fault
 
@@ -256,23 +260,23 @@ pub record IsOwnFault (rules : ClientRules) (t : ClientTable) (id : ℕ) (bytes 
   pub own : other ≡ id
   pub fault : AreFaultOf (record { client = id; magic = rules.magic; moment = t.moment }) bytes kind (client_at id t.greeting) (client_at id t.opened)
 
-abbrev pub FaultsAreOwn : ClientRules → ClientTable → Type 0
-FaultsAreOwn rules t = (id : ℕ) (bytes : List ℕ) (other : ℕ) (kind : FaultKind) → Has (Close other (Fault kind)) (stepped rules (Bytes id bytes) t).actions
+abbrev pub FaultsAreOwn : Machine → ClientRules → ClientTable → Type 0
+FaultsAreOwn machine rules t = (id : ℕ) (bytes : List ℕ) (other : ℕ) (kind : FaultKind) → Has (Close other (Fault kind)) (machine rules (Bytes id bytes) t).actions
     → IsOwnFault rules t id bytes other kind
 
-abbrev pub FaultsAreOfBytes : Type 0
-FaultsAreOfBytes = (rules : ClientRules) (t : ClientTable) → FaultsAreOwn rules t
+abbrev pub FaultsAreOfBytes : Machine → Type 0
+FaultsAreOfBytes machine = (rules : ClientRules) (t : ClientTable) → FaultsAreOwn machine rules t
 
 -- ---- all of it, of these clients
 
 pub record AreLawful (rules : ClientRules) (t : ClientTable) : Type 0 where
   pub few : live t ≤ rules.limit
   pub in_time : RiseInTime t.greeting
-  pub turned_away : TurnsAwayAtLimit rules t
-  pub one_piece : (id : ℕ) (one two : List ℕ) → AreOnePiece rules id t one two
-  pub stay : (event : ClientEvent) (id version : ℕ) → open_version id t ≡ Some version → StaysOrGoes rules event id version t
-  pub gone : (id : ℕ) → GoesAlone rules id t
-  pub away : StaysAway rules t
-  pub time : KeepsTime rules t
-  pub fitting : FittingOpen rules t
-  pub faults : FaultsAreOwn rules t
+  pub turned_away : TurnsAwayAtLimit stepped rules t
+  pub one_piece : (id : ℕ) (one two : List ℕ) → AreOnePiece stepped rules id t one two
+  pub stay : (event : ClientEvent) (id version : ℕ) → open_version id t ≡ Some version → StaysOrGoes stepped rules event id version t
+  pub gone : (id : ℕ) → GoesAlone stepped rules id t
+  pub away : StaysAway stepped rules t
+  pub time : KeepsTime stepped rules t
+  pub fitting : FittingOpen stepped rules t
+  pub faults : FaultsAreOwn stepped rules t

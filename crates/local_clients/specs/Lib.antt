@@ -4,6 +4,7 @@ pub mod Hearing
 pub mod Clients
 pub mod Kept
 pub mod Law
+pub mod WrongClients
 pub mod Lines
 pub mod Texts
 pub mod Replay

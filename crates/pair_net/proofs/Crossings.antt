@@ -1,5 +1,5 @@
 -- A crossing: both ends have dialed at once.
-use Rattle.std.proofs.Common.{◌≡◌, ℕ, ◌⊎◌, Some, None, refl, ap, ◌∙◌, inl, inr}
+use Rattle.std.proofs.Common.{◌≡◌, ℕ, ◌⊎◌, take, Some, None, refl, ap, ◌∙◌, inl, inr}
 use Rattle.hs_message.specs.declared.info.VersionInfo.{VersionInfo}
 use Rattle.hs_message.specs.declared.message.Message.TheVariants as message
 use Rattle.hs_decide.specs.Agreement.{verdict_of}
@@ -9,7 +9,7 @@ use Rattle.hs_decide.specs.declared.verdict.Verdict.{Verdict}
 use Rattle.hs_decide.specs.declared.verdict.Verdict.TheVariants as verdict
 use Rattle.hs_receive.specs.declared.received.Received.TheVariants.{Decided}
 use Rattle.net_base.specs.declared.connection.Agreed.{Agreed as AgreedOn}
-use Rattle.pair_net.specs.Ends.{given, taken_out}
+use Rattle.pair_net.specs.Ends.{given, taken_out, come_to}
 use Rattle.pair_net.specs.Hearing.{heard}
 use Rattle.pair_net.specs.Law.{CanOffer}
 use Rattle.pair_net.specs.Pair.{pair_of}
@@ -55,16 +55,16 @@ module _ (own theirs : VersionInfo) where
     the_turn = delivers count end near far
 
     on_hearing : IsListening Dialer own (proposal_frame theirs) near → (v : Verdict) → on_crossing own theirs ≡ v
-        → heard Dialer own (given count near).received ≡ Some (Decided (on_crossing own theirs))
+        → heard Dialer own near.stream (take count near.incoming) ≡ Some (Decided (on_crossing own theirs))
         → the_turn ≡ concludes (Some (Decided v)) end (given count near) far
     on_hearing h v is hears =
         by_heard Dialer own (proposal_frame theirs) near h count end far (Some (Decided v)) (hears ∙ ap (λ (x : Verdict). Some (Decided x)) is)
 
     abbrev refused_now : EndState
-    refused_now = record (given count near) { phase = Ended cause.Refused }
+    refused_now = come_to (Ended cause.Refused) (given count near)
 
     abbrev agreed_now : EndState
-    agreed_now = record (given count near) { phase = Agreed (common own theirs) }
+    agreed_now = come_to (Agreed (common own theirs)) (given count near)
 
     pub listener_is_given : IsListening Dialer own (proposal_frame theirs) near → GoesOn the_turn end far ⊎ Stops the_turn end far
     listener_is_given h =

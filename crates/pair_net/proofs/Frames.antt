@@ -17,7 +17,9 @@ use Rattle.hs_decide.specs.declared.role.Role.{Role}
 use Rattle.hs_message.specs.declared.info.VersionInfo.{VersionInfo}
 use Rattle.hs_receive.specs.Receiving.{receives}
 use Rattle.hs_receive.specs.declared.received.Received.TheVariants.{Decided, Fault}
+use Rattle.pair_net.specs.Ends.{unread}
 use Rattle.pair_net.specs.Hearing.{heard, heard_first}
+use Rattle.pair_net.proofs.Hears.{unheard_of}
 use Rattle.mux_segment.proofs.Cuts.{segment_again, segment_stays, cut_none, cut_some, with_segment}
 
 -- how many bytes a message of the handshake may have
@@ -129,23 +131,21 @@ module _ (side : ℕ) (side_fits : side ≤ 1) (payload : List ℕ) (small : len
       fed_is the_frame ∙ ap of_cut whole_cut
       ∙ ap (λ (d : Decoded). record { state = state_after d.fault [] d.parts; items = d.items }) one_decoded
 
-  front_fed : (front behind : List ℕ) → front ++ behind ≡ the_frame → 0 < length behind
-      → fed_by node_limits nothing_fed front ≡ record { state = state_after None front []; items = [] }
+  pub front_fed : (front behind : List ℕ) → front ++ behind ≡ the_frame → 0 < length behind
+      → fed_by node_limits nothing_fed front ≡ record { state = unread front; items = [] }
   unfolding decoded
   front_fed front behind joined some = fed_is front ∙ ap of_cut (front_cut front behind joined some)
 
   -- ---- what an end hears of it
 
-  pub front_heard : (role : Role) (own : VersionInfo) (front behind : List ℕ) → front ++ behind ≡ the_frame → 0 < length behind → heard role own front ≡ None
-  unfolding heard
-  front_heard role own front behind joined some =
-      ap (λ (fed : FedBy). heard_first role own fed.items fed.state.fault) (front_fed front behind joined some)
-
-  pub whole_heard : (role : Role) (own : VersionInfo) → heard role own the_frame ≡ Some (receives Fault Decided role own the_item)
+  pub whole_heard : (role : Role) (own : VersionInfo) → heard role own nothing_fed the_frame ≡ Some (receives Fault Decided role own the_item)
   unfolding heard
   whole_heard role own = ap (λ (fed : FedBy). heard_first role own fed.items fed.state.fault) whole_fed
 
--- nothing is heard of nothing
-pub nothing_heard : (role : Role) (own : VersionInfo) → heard role own [] ≡ None
-unfolding heard decoded
-nothing_heard role own = ap (λ (fed : FedBy). heard_first role own fed.items fed.state.fault) (fed_is [] ∙ ap of_cut empty_cut)
+-- nothing comes of nothing
+pub nothing_comes : fed_by node_limits nothing_fed [] ≡ record { state = unread []; items = [] }
+unfolding decoded
+nothing_comes = fed_is [] ∙ ap of_cut empty_cut
+
+pub nothing_heard : (role : Role) (own : VersionInfo) → heard role own nothing_fed [] ≡ None
+nothing_heard role own = unheard_of role own [] nothing_comes

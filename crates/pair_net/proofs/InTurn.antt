@@ -1,5 +1,5 @@
 -- Everything is delivered to one end, and then everything to the other.
-use Rattle.std.proofs.Common.{◌≡◌, ℕ, ◌≤◌, List, [], ◌∷◌, length, drop, Option, Some, None, refl, ap, ◌∙◌, arith}
+use Rattle.std.proofs.Common.{◌≡◌, ℕ, ◌≤◌, List, [], ◌∷◌, length, take, drop, Option, Some, None, refl, ap, ◌∙◌, arith}
 use Rattle.std.specs.List.{AllByRecursion}
 use Rattle.std.proofs.lemmas.List.{length-drop}
 use Rattle.std.proofs.lemmas.List.Sums.{sum_by-cons}
@@ -7,7 +7,7 @@ use Rattle.hs_message.specs.declared.info.VersionInfo.{VersionInfo}
 use Rattle.hs_decide.specs.Answers.{agreed_info}
 use Rattle.hs_decide.specs.declared.role.Role.TheVariants as role
 use Rattle.hs_receive.specs.declared.received.Received.{Received}
-use Rattle.pair_net.specs.Ends.{given, taken_out, answered}
+use Rattle.pair_net.specs.Ends.{given, taken_out, answered, come_to}
 use Rattle.pair_net.specs.Hearing.{heard, phase_after}
 use Rattle.pair_net.specs.Law.{CanOffer, HasAgreed, IsDelivery, deliveries_to, PipesEmpty, MeetingsAgreeInTurn, CrossingsAgreeInTurn}
 use Rattle.pair_net.specs.Pair.{PairState, fresh_pair, other, end_of}
@@ -30,11 +30,11 @@ use Rattle.pair_net.proofs.Runs.{pair-near, delivers-far, Meeting, meets_first, 
 concludes-near : (h : Option Received) (end : End) (near far : EndState) → (end_of end (concludes h end near far).pair).incoming ≡ near.incoming
 concludes-near None end near far = ap (λ (e : EndState). e.incoming) (pair-near end near far)
 concludes-near (Some received) end near far =
-    ap (λ (e : EndState). e.incoming) (pair-near end (record near { phase = phase_after received }) (answered (answer_after received near.info) far))
+    ap (λ (e : EndState). e.incoming) (pair-near end (come_to (phase_after received) near) (answered (answer_after received near.info) far))
 
 delivers-near : (phase : EndPhase) (count : ℕ) (end : End) (near far : EndState) → (end_of end (delivers_in phase count end near far).pair).incoming ≡ drop count near.incoming
 delivers-near Fresh count end near far = ap (λ (e : EndState). e.incoming) (pair-near end (taken_out count near) far)
-delivers-near (Waiting role) count end near far = concludes-near (heard role near.info (given count near).received) end (given count near) far
+delivers-near (Waiting role) count end near far = concludes-near (heard role near.info near.stream (take count near.incoming)) end (given count near) far
 delivers-near (Agreed agreed) count end near far = ap (λ (e : EndState). e.incoming) (pair-near end (taken_out count near) far)
 delivers-near (Ended why) count end near far = ap (λ (e : EndState). e.incoming) (pair-near end (taken_out count near) far)
 

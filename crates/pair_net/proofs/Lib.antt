@@ -8,6 +8,7 @@ pub mod Crossings
 pub mod Runs
 mod Rightly
 mod Refusals
+mod Across
 pub mod Reached
 pub mod InTurn
 mod Playing

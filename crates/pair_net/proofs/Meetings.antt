@@ -1,5 +1,5 @@
 -- A meeting: one end has dialed the other.
-use Rattle.std.proofs.Common.{◌≡◌, ℕ, true, false, eqb, List, [], drop, Some, None, refl, sym, ap, subst, ◌∙◌, arith, inl, inr}
+use Rattle.std.proofs.Common.{◌≡◌, ℕ, true, false, eqb, List, [], take, drop, Some, None, refl, sym, ap, subst, ◌∙◌, arith, inl, inr}
 use Rattle.std.proofs.lemmas.List.{drop_all}
 use Rattle.std.proofs.lemmas.Bool.{cases_Bool}
 use Rattle.hs_message.specs.declared.info.VersionInfo.{VersionInfo}
@@ -16,7 +16,7 @@ use Rattle.hs_receive.specs.declared.received.Received.{Received}
 use Rattle.hs_receive.specs.declared.received.Received.TheVariants.{Decided}
 use Rattle.mux_segment.specs.Frame.{frame_of}
 use Rattle.net_base.specs.declared.connection.Agreed.{Agreed as AgreedOn}
-use Rattle.pair_net.specs.Ends.{given, taken_out, answered}
+use Rattle.pair_net.specs.Ends.{given, taken_out, answered, come_to}
 use Rattle.pair_net.specs.Hearing.{heard}
 use Rattle.pair_net.specs.Law.{CanOffer}
 use Rattle.pair_net.specs.Pair.{PairState, other, end_of, pair_of}
@@ -32,7 +32,7 @@ use Rattle.pair_net.specs.declared.end_state.EndState.{EndState}
 use Rattle.pair_net.proofs.Spoken.{IsSpoken, proposal_spoken, acceptance_spoken}
 use Rattle.pair_net.proofs.Verdicts.{common, accepts, refuses, agrees}
 use Rattle.pair_net.proofs.Listening.{IsListening, by_heard, hears_or_waits, silent_waits, reached_listens}
-use Rattle.pair_net.proofs.Frames.{nothing_heard}
+use Rattle.pair_net.proofs.Frames.{nothing_comes}
 
 -- ---- the two ends of a pair, seen from one of them
 
@@ -97,12 +97,12 @@ module _ (dialer acceptor : VersionInfo) where
 
     near_of_proposed : HasProposed near far → NearStill
     near_of_proposed h =
-        let w = silent_waits Dialer dialer near (nothing_heard Dialer dialer) h.dials count in
+        let w = silent_waits Dialer dialer near nothing_comes h.dials count in
         let is : to_near ≡ concludes None d (given count near) far = by_heard Dialer dialer [] near h.dials count d far None w.0 in
         at_near Meets d to_near (given count near) far (ap (λ (t : Turn). t.pair) is) (proposed (record { dials = w.1; listens = h.listens }))
 
     abbrev agreed_now : EndState
-    agreed_now = record (given count near) { phase = Agreed (common acceptor dialer) }
+    agreed_now = come_to (Agreed (common acceptor dialer)) (given count near)
 
     near_of_accepted : HasAccepted near far → NearStill
     near_of_accepted h =
@@ -115,7 +115,7 @@ module _ (dialer acceptor : VersionInfo) where
               at_near Meets d to_near (given count near) far (ap (λ (t : Turn). t.pair) is)
               (accepted (record { same = h.same; listens = waits.listening; accepted = h.accepted; silent = h.silent }))
           | inr hears ↦
-              let heard_it : heard Dialer dialer (given count near).received ≡ Some (Decided (verdict.Agree (common acceptor dialer))) =
+              let heard_it : heard Dialer dialer near.stream (take count near.incoming) ≡ Some (Decided (verdict.Agree (common acceptor dialer))) =
               hears.hears ∙ ap (λ (x : Verdict). Some (Decided x)) agree in
               let is : to_near ≡ concludes (Some (Decided (verdict.Agree (common acceptor dialer)))) d (given count near) far =
               by_heard Dialer dialer the_acceptance near h.listens count d far (Some (Decided (verdict.Agree (common acceptor dialer)))) heard_it in
@@ -142,13 +142,13 @@ module _ (dialer acceptor : VersionInfo) where
     FarGoes = Goes (end_of d to_far.pair) (end_of (other d) to_far.pair)
 
     abbrev accepted_now : EndState
-    accepted_now = record (given count far) { phase = Agreed (common acceptor dialer) }
+    accepted_now = come_to (Agreed (common acceptor dialer)) (given count far)
 
-    far_accepts : HasProposed near far → eqb acceptor.magic dialer.magic ≡ true → heard Acceptor acceptor (given count far).received ≡
+    far_accepts : HasProposed near far → eqb acceptor.magic dialer.magic ≡ true → heard Acceptor acceptor far.stream (take count far.incoming) ≡
         Some (Decided (verdict_of Acceptor acceptor (message.Propose (own_table dialer)))) → (given count far).incoming ≡ [] → FarGoes
     far_accepts h same hears silent =
         let r : Received = Decided (verdict.Accept (common acceptor dialer)) in
-        let heard_it : heard Acceptor acceptor (given count far).received ≡ Some r = hears ∙ ap (λ (x : Verdict). Some (Decided x)) (accepts acceptor dialer offers.offers same) in
+        let heard_it : heard Acceptor acceptor far.stream (take count far.incoming) ≡ Some r = hears ∙ ap (λ (x : Verdict). Some (Decided x)) (accepts acceptor dialer offers.offers same) in
         let is : to_far ≡ concludes (Some r) (other d) (given count far) near = by_heard Acceptor acceptor the_proposal far h.listens count (other d) near (Some r) heard_it in
         let info : far.info ≡ acceptor = h.listens.info-is in
         let told : to_far.pair ≡ pair_of (other d) accepted_now (answered (Some the_acceptance) near) =
@@ -159,13 +159,13 @@ module _ (dialer acceptor : VersionInfo) where
         (on (accepted (record { same = same; listens = reached_listens Dialer dialer the_acceptance near h.dials; accepted = refl; silent = silent })))
 
     abbrev refused_now : EndState
-    refused_now = record (given count far) { phase = Ended cause.Refused }
+    refused_now = come_to (Ended cause.Refused) (given count far)
 
-    far_refuses : HasProposed near far → eqb acceptor.magic dialer.magic ≡ false → heard Acceptor acceptor (given count far).received ≡
+    far_refuses : HasProposed near far → eqb acceptor.magic dialer.magic ≡ false → heard Acceptor acceptor far.stream (take count far.incoming) ≡
         Some (Decided (verdict_of Acceptor acceptor (message.Propose (own_table dialer)))) → FarGoes
     far_refuses h differ hears =
         let r : Received = Decided (verdict.Refuse (Magic 14)) in
-        let heard_it : heard Acceptor acceptor (given count far).received ≡ Some r = hears ∙ ap (λ (x : Verdict). Some (Decided x)) (refuses acceptor dialer differ) in
+        let heard_it : heard Acceptor acceptor far.stream (take count far.incoming) ≡ Some r = hears ∙ ap (λ (x : Verdict). Some (Decided x)) (refuses acceptor dialer differ) in
         let is : to_far ≡ concludes (Some r) (other d) (given count far) near = by_heard Acceptor acceptor the_proposal far h.listens count (other d) near (Some r) heard_it in
         at_far Goes d to_far (answered (answer_after r far.info) near) refused_now (ap (λ (t : Turn). t.pair) is)
         (refused differ (cause.Refused, refl))

@@ -1,5 +1,5 @@
 -- An end that was dialed and refuses the other one says why, and an end that agrees has heard what it agrees on.
-use Rattle.std.proofs.Common.{◌⊎◌, ◌≡◌, ℕ, ◌<◌, eqb, ◌&&◌, List, [], ◌∷◌, Option, Some, None, refl, sym, ap, subst, ◌∙◌, arith, inl, inr, true, false}
+use Rattle.std.proofs.Common.{◌⊎◌, ◌≡◌, ℕ, ◌<◌, eqb, ◌&&◌, List, [], ◌∷◌, take, Option, Some, None, refl, sym, ap, subst, ◌∙◌, arith, inl, inr, true, false}
 use Rattle.std.proofs.lemmas.Bool.{cases_Bool, eqb-true, eqb-false}
 use Rattle.hs_decide.specs.Agreement.{offer_of, common_in, joined, accepts_info, accepts_offer, agrees_info, agrees_on, meets_joined, meets_info, meets_offer, verdict_of}
 use Rattle.hs_decide.specs.Answers.{refusal_of}
@@ -26,18 +26,18 @@ use Rattle.hs_receive.specs.declared.received.Received.{Received}
 use Rattle.hs_receive.specs.declared.received.Received.TheVariants.{Decided, Fault}
 use Rattle.mux_segment.specs.Frame.{frame_of}
 use Rattle.mux_segment.specs.Protocols.{node_limits}
-use Rattle.mux_segment.specs.Stream.{nothing_fed, fed_by}
+use Rattle.mux_segment.specs.Stream.{CutterState, fed_by}
 use Rattle.mux_segment.specs.declared.fault.CutFault.{CutFault}
 use Rattle.mux_segment.specs.declared.item.Item.{Item}
 use Rattle.net_base.specs.declared.action.FaultKind.{FaultKind}
 use Rattle.net_base.specs.declared.action.FaultKind.TheVariants.{Protocol}
 use Rattle.net_base.specs.declared.connection.Agreed.{Agreed as AgreedOn}
-use Rattle.pair_net.specs.Ends.{given, answered}
+use Rattle.pair_net.specs.Ends.{given, answered, come_to}
 use Rattle.pair_net.specs.Hearing.{heard, heard_first, phase_after}
 use Rattle.pair_net.specs.Law.{AgreementsAreHeard, AgreesOnHeard, HasHeard, IsAgreedWith, IsAgreement, IsGreatestOffer, IsReason, IsToldWhy, Proposes, RefusalsAreTold}
 use Rattle.pair_net.specs.Pair.{other, end_of}
 use Rattle.pair_net.specs.Speaking.{answer_after}
-use Rattle.pair_net.specs.Steps.{Turn, concludes, delivers_in, delivers}
+use Rattle.pair_net.specs.Steps.{Turn, concludes, delivers_in, delivers, stepped}
 use Rattle.pair_net.specs.declared.end.End.{End}
 use Rattle.pair_net.specs.declared.end.EndCause.TheVariants as cause
 use Rattle.pair_net.specs.declared.end.EndPhase.{EndPhase}
@@ -147,14 +147,14 @@ never_refused own (Some offer) e = by offer.version offer.info e
 
 -- ---- what an end has heard
 
-pub record ByMessage (role : Role) (own : VersionInfo) (bytes : List ℕ) (v : Verdict) : Type 0 where
+pub record ByMessage (role : Role) (own : VersionInfo) (stream : CutterState) (bytes : List ℕ) (v : Verdict) : Type 0 where
   pub said : Message
-  pub heard_as : HasHeard bytes said
+  pub heard_as : HasHeard stream bytes said
   pub decides : verdict_of role own said ≡ v
 
-module _ (role : Role) (own : VersionInfo) (bytes : List ℕ) (v : Verdict) where
-  of_message : (first : Item) (others : List Item) (said : Option Message) → (fed_by node_limits nothing_fed bytes).items ≡ first ∷ others → message_of first.body ≡ said
-      → receives_message Fault Decided role own first.side said ≡ Decided v → ByMessage role own bytes v
+module _ (role : Role) (own : VersionInfo) (stream : CutterState) (bytes : List ℕ) (v : Verdict) where
+  of_message : (first : Item) (others : List Item) (said : Option Message) → (fed_by node_limits stream bytes).items ≡ first ∷ others → message_of first.body ≡ said
+      → receives_message Fault Decided role own first.side said ≡ Decided v → ByMessage role own stream bytes v
   of_message first others None items body is = absurd cc
   of_message first others (Some m) items body is = elim (cases_Bool (fits_side role first.side m)) [
     | inl fits ↦ let one : verdict_of role own m ≡ v = by_it (rw fits at is) in
@@ -168,7 +168,7 @@ module _ (role : Role) (own : VersionInfo) (bytes : List ℕ) (v : Verdict) wher
       by_it : Decided (verdict_of role own m) ≡ Decided v → verdict_of role own m ≡ v
       by_it e = cc
 
-  of_items : (items : List Item) (fault : Option CutFault) → (fed_by node_limits nothing_fed bytes).items ≡ items → heard_first role own items fault ≡ Some (Decided v) → ByMessage role own bytes v
+  of_items : (items : List Item) (fault : Option CutFault) → (fed_by node_limits stream bytes).items ≡ items → heard_first role own items fault ≡ Some (Decided v) → ByMessage role own stream bytes v
   of_items [] None are is = absurd cc
   of_items [] (Some fault) are is = absurd cc
   of_items (first ∷ others) fault are is = elim (cases_Bool (eqb first.id 0 && is_awaited role first.side)) [
@@ -179,14 +179,14 @@ module _ (role : Role) (own : VersionInfo) (bytes : List ℕ) (v : Verdict) wher
       none : (kind : FaultKind) → Some (Fault kind) ≡ Some (Decided v) → ⊥
       none kind e = cc
 
-      by_it : Some (receives_message Fault Decided role own first.side (message_of first.body)) ≡ Some (Decided v) → ByMessage role own bytes v
+      by_it : Some (receives_message Fault Decided role own first.side (message_of first.body)) ≡ Some (Decided v) → ByMessage role own stream bytes v
       by_it e =
           let one : receives_message Fault Decided role own first.side (message_of first.body) ≡ Decided v = cc in
           of_message first others (message_of first.body) are refl one
 
-pub by_heard : (role : Role) (own : VersionInfo) (bytes : List ℕ) (v : Verdict) → heard role own bytes ≡ Some (Decided v) → ByMessage role own bytes v
+pub by_heard : (role : Role) (own : VersionInfo) (stream : CutterState) (bytes : List ℕ) (v : Verdict) → heard role own stream bytes ≡ Some (Decided v) → ByMessage role own stream bytes v
 unfolding heard
-by_heard role own bytes v is = let fed = fed_by node_limits nothing_fed bytes in of_items role own bytes v fed.items fed.state.fault refl is
+by_heard role own stream bytes v is = let fed = fed_by node_limits stream bytes in of_items role own stream bytes v fed.items fed.state.fault refl is
 
 -- ---- what it says then
 
@@ -207,41 +207,42 @@ not_said own (message.Accept version info) is = cc
 not_said own (message.Refuse r) is = cc
 not_said own (message.QueryReply table) is = cc
 
-module _ (end : End) (near far : EndState) where
+module _ (end : End) (near far : EndState) (stream : CutterState) (bytes : List ℕ) where
   pub comes_to : (received : Received) (phase : EndPhase) → (end_of end (concludes (Some received) end near far).pair).phase ≡ phase → phase_after received ≡ phase
-  comes_to received phase is = sym (ap (λ (e : EndState). e.phase) (pair-near end (record near { phase = phase_after received }) (answered (answer_after received near.info) far))) ∙ is
+  comes_to received phase is = sym (ap (λ (e : EndState). e.phase) (pair-near end (come_to (phase_after received) near) (answered (answer_after received near.info) far))) ∙ is
 
-  told_by : (v : Verdict) → heard Acceptor near.info near.received ≡ Some (Decided v) → phase_after (Decided v) ≡ Ended cause.Refused
-      → IsToldWhy near.info near.received end (concludes (Some (Decided v)) end near far).notes
+  told_by : (v : Verdict) → heard Acceptor near.info stream bytes ≡ Some (Decided v) → phase_after (Decided v) ≡ Ended cause.Refused
+      → IsToldWhy near.info stream bytes end (concludes (Some (Decided v)) end near far).notes
   told_by (verdict.Accept agreed) hears ended = absurd cc
   told_by (verdict.Refuse w) hears ended =
-      let by = by_heard Acceptor near.info near.received (verdict.Refuse w) hears in
+      let by = by_heard Acceptor near.info stream bytes (verdict.Refuse w) hears in
       let refused = by_said near.info by.said w by.decides in record {
         table = refused.table;
         why = reason_of w;
-        offered = subst (HasHeard near.received) refused.offered by.heard_as;
+        offered = subst (HasHeard stream bytes) refused.offered by.heard_as;
         right = refused.why_is;
         told = ap (λ (m : Message). Sent end (frame_of 1 0 0 (node_spelling m)) ∷ Ends end cause.Refused ∷ []) (refusal_is w);
       }
   told_by verdict.Query hears ended = absurd cc
   told_by (verdict.Agree agreed) hears ended = absurd cc
-  told_by verdict.Refused hears ended = let by = by_heard Acceptor near.info near.received verdict.Refused hears in absurd (not_said near.info by.said by.decides)
+  told_by verdict.Refused hears ended = let by = by_heard Acceptor near.info stream bytes verdict.Refused hears in absurd (not_said near.info by.said by.decides)
   told_by verdict.Wrong hears ended = absurd cc
 
-  told : (h : Option Received) → heard Acceptor near.info near.received ≡ h → near.phase ≡ Waiting Acceptor → (end_of end (concludes h end near far).pair).phase ≡ Ended cause.Refused
-      → IsToldWhy near.info near.received end (concludes h end near far).notes
+  told : (h : Option Received) → heard Acceptor near.info stream bytes ≡ h → near.phase ≡ Waiting Acceptor → (end_of end (concludes h end near far).pair).phase ≡ Ended cause.Refused
+      → IsToldWhy near.info stream bytes end (concludes h end near far).notes
   told None hears waits ended = let is = sym (ap (λ (e : EndState). e.phase) (pair-near end near far)) ∙ ended in absurd cc
   told (Some (Decided v)) hears waits ended = told_by v hears (comes_to (Decided v) (Ended cause.Refused) ended)
   told (Some (Fault kind)) hears waits ended = let is = comes_to (Fault kind) (Ended cause.Refused) ended in absurd cc
 
-pub refusals_are_told : RefusalsAreTold
+pub refusals_are_told : RefusalsAreTold stepped
 refusals_are_told p end count waits ended =
     let near = end_of end p in
     let far = end_of (other end) p in
-    let h = heard Acceptor near.info (given count near).received in
+    let bytes = take count near.incoming in
+    let h = heard Acceptor near.info near.stream bytes in
     let is : delivers count end near far ≡ concludes h end (given count near) far = ap (λ (phase : EndPhase). delivers_in phase count end near far) waits in
-    subst (λ (t : Turn). IsToldWhy near.info (given count near).received end t.notes) (sym is)
-    (told end (given count near) far h refl waits (subst (λ (t : Turn). (end_of end t.pair).phase ≡ Ended cause.Refused) is ended))
+    subst (λ (t : Turn). IsToldWhy near.info near.stream bytes end t.notes) (sym is)
+    (told end (given count near) far near.stream bytes h refl waits (subst (λ (t : Turn). (end_of end t.pair).phase ≡ Ended cause.Refused) is ended))
 
 -- ---- what an end agrees on
 
@@ -489,34 +490,35 @@ not_accepts own agreed (message.Accept version info) is = elim (cases_Bool (is_n
 not_accepts own agreed (message.Refuse r) is = cc
 not_accepts own agreed (message.QueryReply table) is = cc
 
-module _ (end : End) (near far : EndState) (agreed : AgreedOn) where
+module _ (end : End) (near far : EndState) (stream : CutterState) (bytes : List ℕ) (agreed : AgreedOn) where
   same_agreed : (one : AgreedOn) → Agreed one ≡ Agreed agreed → one ≡ agreed
   same_agreed one e = cc
 
-  agrees_by : (role : Role) (v : Verdict) → heard role near.info near.received ≡ Some (Decided v) → phase_after (Decided v) ≡ Agreed agreed → AgreesOnHeard near.info near.received agreed
+  agrees_by : (role : Role) (v : Verdict) → heard role near.info stream bytes ≡ Some (Decided v) → phase_after (Decided v) ≡ Agreed agreed → AgreesOnHeard near.info stream bytes agreed
   agrees_by Acceptor (verdict.Accept one) hears is =
-      let by = by_heard Acceptor near.info near.received (verdict.Accept one) hears in
+      let by = by_heard Acceptor near.info stream bytes (verdict.Accept one) hears in
       record { said = by.said; heard = by.heard_as; right = subst (λ (a : AgreedOn). IsAgreement near.info a by.said) (same_agreed one is) (accepted_by near.info one by.said by.decides) }
-  agrees_by Acceptor (verdict.Agree one) hears is = let by = by_heard Acceptor near.info near.received (verdict.Agree one) hears in absurd (not_agrees near.info one by.said by.decides)
-  agrees_by Dialer (verdict.Accept one) hears is = let by = by_heard Dialer near.info near.received (verdict.Accept one) hears in absurd (not_accepts near.info one by.said by.decides)
+  agrees_by Acceptor (verdict.Agree one) hears is = let by = by_heard Acceptor near.info stream bytes (verdict.Agree one) hears in absurd (not_agrees near.info one by.said by.decides)
+  agrees_by Dialer (verdict.Accept one) hears is = let by = by_heard Dialer near.info stream bytes (verdict.Accept one) hears in absurd (not_accepts near.info one by.said by.decides)
   agrees_by Dialer (verdict.Agree one) hears is =
-      let by = by_heard Dialer near.info near.received (verdict.Agree one) hears in
+      let by = by_heard Dialer near.info stream bytes (verdict.Agree one) hears in
       record { said = by.said; heard = by.heard_as; right = subst (λ (a : AgreedOn). IsAgreement near.info a by.said) (same_agreed one is) (agreed_by near.info one by.said by.decides) }
   agrees_by role (verdict.Refuse w) hears is = absurd cc
   agrees_by role verdict.Query hears is = absurd cc
   agrees_by role verdict.Refused hears is = absurd cc
   agrees_by role verdict.Wrong hears is = absurd cc
 
-  agrees_so : (role : Role) (h : Option Received) → heard role near.info near.received ≡ h → near.phase ≡ Waiting role → (end_of end (concludes h end near far).pair).phase ≡ Agreed agreed
-      → AgreesOnHeard near.info near.received agreed
+  agrees_so : (role : Role) (h : Option Received) → heard role near.info stream bytes ≡ h → near.phase ≡ Waiting role → (end_of end (concludes h end near far).pair).phase ≡ Agreed agreed
+      → AgreesOnHeard near.info stream bytes agreed
   agrees_so role None hears waits is = let same = sym (ap (λ (e : EndState). e.phase) (pair-near end near far)) ∙ is in absurd cc
-  agrees_so role (Some (Decided v)) hears waits is = agrees_by role v hears (comes_to end near far (Decided v) (Agreed agreed) is)
-  agrees_so role (Some (Fault kind)) hears waits is = let same = comes_to end near far (Fault kind) (Agreed agreed) is in absurd cc
+  agrees_so role (Some (Decided v)) hears waits is = agrees_by role v hears (comes_to end near far stream bytes (Decided v) (Agreed agreed) is)
+  agrees_so role (Some (Fault kind)) hears waits is = let same = comes_to end near far stream bytes (Fault kind) (Agreed agreed) is in absurd cc
 
-pub agreements_are_heard : AgreementsAreHeard
+pub agreements_are_heard : AgreementsAreHeard stepped
 agreements_are_heard p end role count agreed waits now =
     let near = end_of end p in
     let far = end_of (other end) p in
-    let h = heard role near.info (given count near).received in
+    let bytes = take count near.incoming in
+    let h = heard role near.info near.stream bytes in
     let is : delivers count end near far ≡ concludes h end (given count near) far = ap (λ (phase : EndPhase). delivers_in phase count end near far) waits in
-    agrees_so end (given count near) far agreed role h refl waits (subst (λ (t : Turn). (end_of end t.pair).phase ≡ Agreed agreed) is now)
+    agrees_so end (given count near) far near.stream bytes agreed role h refl waits (subst (λ (t : Turn). (end_of end t.pair).phase ≡ Agreed agreed) is now)

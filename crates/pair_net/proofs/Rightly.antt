@@ -6,7 +6,7 @@ use Rattle.hs_decide.specs.declared.verdict.Verdict.TheVariants as verdict
 use Rattle.net_base.specs.declared.connection.Agreed.{Agreed as AgreedOn}
 use Rattle.pair_net.specs.Law.{CanOffer, Proposes, IsRightly, AgreesRightly, AgreeRightly}
 use Rattle.pair_net.specs.Pair.{PairState, fresh_pair}
-use Rattle.pair_net.specs.Steps.{pair_after}
+use Rattle.pair_net.specs.Steps.{stepped, pair_after}
 use Rattle.pair_net.specs.declared.end.End.TheVariants.{Left, Right}
 use Rattle.pair_net.specs.declared.end.EndPhase.TheVariants.{Fresh, Agreed}
 use Rattle.pair_net.specs.declared.end_state.EndState.{EndState}
@@ -123,5 +123,5 @@ module _ (left right : VersionInfo) (left_offers : CanOffer left) (right_offers 
   rightly_if p (Stands.over (inl h)) one two e f = let w = h.1 in absurd cc
   rightly_if p (Stands.over (inr h)) one two e f = let w = h.1 in absurd cc
 
-pub agree_rightly : AgreeRightly
+pub agree_rightly : AgreeRightly stepped
 agree_rightly left right steps left_offers right_offers = rightly_if left right left_offers right_offers (pair_after steps (fresh_pair left right)) (stands_at left right left_offers right_offers steps)

@@ -1,5 +1,5 @@
 -- What holds after every list of steps.
-use Rattle.std.proofs.Common.{◌≡◌, ℕ, ◌⊎◌, Bool, true, false, eqb, if◌then◌else◌, ◌&&◌, List, [], ◌∷◌, Option, Some, None, refl, sym, ap, subst, ◌∙◌, arith, inl, inr}
+use Rattle.std.proofs.Common.{◌≡◌, ℕ, ◌⊎◌, Bool, true, false, eqb, if◌then◌else◌, ◌&&◌, List, [], ◌∷◌, take, Option, Some, None, refl, sym, ap, subst, ◌∙◌, arith, inl, inr}
 use Rattle.std.specs.List.{AllByRecursion}
 use Rattle.std.proofs.lemmas.List.{drop_all}
 use Rattle.std.proofs.lemmas.Bool.{cond_both, eq-eqb}
@@ -79,7 +79,7 @@ concludes-far (Some received) end near far =
 pub delivers-far : (phase : EndPhase) (count : ℕ) (end : End) (near far : EndState) → (end_of (other end) (delivers_in phase count end near far).pair).phase ≡ far.phase
 delivers-far Fresh count end near far = ap (λ (e : EndState). e.phase) (pair-far end (taken_out count near) far)
 delivers-far (Waiting role) count end near far =
-    concludes-far (heard role near.info (given count near).received) end (given count near) far
+    concludes-far (heard role near.info near.stream (take count near.incoming)) end (given count near) far
 delivers-far (Agreed agreed) count end near far = ap (λ (e : EndState). e.phase) (pair-far end (taken_out count near) far)
 delivers-far (Ended why) count end near far = ap (λ (e : EndState). e.phase) (pair-far end (taken_out count near) far)
 
@@ -151,18 +151,18 @@ module _ (left right : VersionInfo) (left_offers : CanOffer left) (right_offers 
 
   pub meets_first : (d : End) → Meeting left right d (stepped (Meet d) (fresh_pair left right)).pair
   meets_first Left = Meets.proposed (record {
-    dials = record { phase-is = refl; info-is = refl; joined = refl; unheard = nothing_heard role.Dialer left };
-    listens = record { phase-is = refl; info-is = refl; joined = refl; unheard = nothing_heard role.Acceptor right };
+    dials = record { phase-is = refl; info-is = refl; before = []; stream-is = refl; joined = refl; unheard = nothing_heard role.Dialer left };
+    listens = record { phase-is = refl; info-is = refl; before = []; stream-is = refl; joined = refl; unheard = nothing_heard role.Acceptor right };
   })
   meets_first Right = Meets.proposed (record {
-    dials = record { phase-is = refl; info-is = refl; joined = refl; unheard = nothing_heard role.Dialer right };
-    listens = record { phase-is = refl; info-is = refl; joined = refl; unheard = nothing_heard role.Acceptor left };
+    dials = record { phase-is = refl; info-is = refl; before = []; stream-is = refl; joined = refl; unheard = nothing_heard role.Dialer right };
+    listens = record { phase-is = refl; info-is = refl; before = []; stream-is = refl; joined = refl; unheard = nothing_heard role.Acceptor left };
   })
 
   pub crosses_first : Crossing left right (stepped Cross (fresh_pair left right)).pair
   crosses_first = record {
-    one = Crosses.listens (record { phase-is = refl; info-is = refl; joined = refl; unheard = nothing_heard role.Dialer left });
-    two = Crosses.listens (record { phase-is = refl; info-is = refl; joined = refl; unheard = nothing_heard role.Dialer right });
+    one = Crosses.listens (record { phase-is = refl; info-is = refl; before = []; stream-is = refl; joined = refl; unheard = nothing_heard role.Dialer left });
+    two = Crosses.listens (record { phase-is = refl; info-is = refl; before = []; stream-is = refl; joined = refl; unheard = nothing_heard role.Dialer right });
   }
 
   nothing_comes : (d : End) (count : ℕ) → (stepped (Deliver d count) (fresh_pair left right)).pair ≡ fresh_pair left right

@@ -1,5 +1,5 @@
 -- What an end says, as the other one hears it.
-use Rattle.std.proofs.Common.{◌≡◌, ℕ, ◌+◌, ◌*◌, ◌≤◌, ◌<◌, ◌^◌, Bool, true, cond, List, [], ◌∷◌, ◌++◌, length, if◌then◌else◌, Option, Some, None, refl, sym, ap, ◌∙◌, arith, lit<, lit≤, ltb}
+use Rattle.std.proofs.Common.{◌≡◌, ℕ, ◌+◌, ◌*◌, ◌≤◌, ◌<◌, ◌^◌, Bool, true, cond, List, [], ◌∷◌, ◌++◌, length, if◌then◌else◌, Option, Some, refl, sym, ap, ◌∙◌, arith, lit<, lit≤, ltb}
 use Rattle.std.specs.Int.{w16, w32, w64, to_be_bytes}
 use Rattle.std.proofs.lemmas.List.{append-nil, length-append}
 use Rattle.std.proofs.lemmas.Bool.{cond_both}
@@ -21,11 +21,14 @@ use Rattle.hs_decide.specs.declared.verdict.Verdict.{Verdict}
 use Rattle.hs_decide.specs.Agreement.{verdict_of}
 use Rattle.hs_decide.specs.Answers.{own_table, proposal_of}
 use Rattle.mux_segment.specs.Frame.{frame_of}
+use Rattle.mux_segment.specs.Protocols.{node_limits}
+use Rattle.mux_segment.specs.Stream.{nothing_fed, fed_by}
 use Rattle.hs_receive.specs.Receiving.{is_awaited, fits_side, receives_message}
 use Rattle.hs_receive.specs.declared.received.Received.TheVariants.{Decided, Fault}
 use Rattle.net_base.specs.declared.action.FaultKind.TheVariants.{Protocol}
+use Rattle.pair_net.specs.Ends.{unread}
 use Rattle.pair_net.specs.Hearing.{heard}
-use Rattle.pair_net.proofs.Frames.{limit, front_heard, whole_heard}
+use Rattle.pair_net.proofs.Frames.{limit, front_fed, whole_heard}
 
 -- ---- how long a message is
 
@@ -78,11 +81,11 @@ acceptance_small version info =
       head_small 0 (if info.sharing then 1 else 0),
     ))
 
--- ---- what an end that waits for these bytes hears of them: nothing of a front, and of all a verdict
+-- ---- what comes of these bytes to an end that waits for them: nothing of a front, and of all a verdict
 
 pub record IsSpoken (role : Role) (own : VersionInfo) (sent : List ℕ) (v : Verdict) : Type 0 where
-  pub front : (front behind : List ℕ) → front ++ behind ≡ sent → 0 < length behind → heard role own front ≡ None
-  pub whole : heard role own sent ≡ Some (Decided v)
+  pub front : (front behind : List ℕ) → front ++ behind ≡ sent → 0 < length behind → fed_by node_limits nothing_fed front ≡ record { state = unread front; items = [] }
+  pub whole : heard role own nothing_fed sent ≡ Some (Decided v)
 
 spoken : (role : Role) (own : VersionInfo) (side : ℕ) (said : Message) → side ≤ 1 → length (node_spelling said) ≤ limit → Fits said → CanWrite said
     → is_awaited role side ≡ true → fits_side role side said ≡ true
@@ -93,7 +96,7 @@ spoken role own side said side_fits small fits can awaited on_side =
     let is_item : scan_of payload ≡ Whole (length payload) = ap scan_of (sym (append-nil payload)) ∙ written.1 in
     let read : message_of payload ≡ Some said = message_again payload said written.0 in
     record {
-      front = λ front behind joined some. front_heard side side_fits payload small is_item role own front behind joined some;
+      front = λ front behind joined some. front_fed side side_fits payload small is_item front behind joined some;
       whole =
           whole_heard side side_fits payload small is_item role own
           ∙ ap (λ (b : Bool). Some (if b then receives_message Fault Decided role own side (message_of payload) else Fault Protocol)) awaited

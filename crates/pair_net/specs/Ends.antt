@@ -2,11 +2,14 @@
 use Rattle.std.specs.Prelude.{ℕ, List, [], ◌++◌, take, drop, Option, Some, None}
 use Rattle.hs_decide.specs.declared.role.Role.{Role}
 use Rattle.hs_message.specs.declared.info.VersionInfo.{VersionInfo}
+use Rattle.mux_segment.specs.Protocols.{node_limits}
+use Rattle.mux_segment.specs.Stream.{CutterState, nothing_fed, fed_by}
+use Rattle.pair_net.specs.declared.end.EndPhase.{EndPhase}
 use Rattle.pair_net.specs.declared.end.EndPhase.TheVariants.{Fresh, Waiting}
 use Rattle.pair_net.specs.declared.end_state.EndState.{EndState}
 
 abbrev pub fresh_end : VersionInfo → EndState
-fresh_end info = record { info = info; phase = Fresh; received = []; incoming = [] }
+fresh_end info = record { info = info; phase = Fresh; stream = nothing_fed; incoming = [] }
 
 abbrev pub waiting_as : Role → EndState → EndState
 waiting_as role e = record e { phase = Waiting role }
@@ -23,6 +26,18 @@ answered (Some bytes) e = reached_by bytes e
 abbrev pub taken_out : ℕ → EndState → EndState
 taken_out count e = record e { incoming = drop count e.incoming }
 
--- the same, and the end has received them
+-- these bytes were received, and nothing of them is decoded
+abbrev pub unread : List ℕ → CutterState
+unread bytes = record { undecoded = record { rest = bytes; parts = [] }; fault = None }
+
+-- these bytes follow what the end has received
+abbrev pub hearing : List ℕ → EndState → EndState
+hearing bytes e = record e { stream = (fed_by node_limits e.stream bytes).state }
+
+-- the next bytes have come out of the pipe, and the end has received them
 abbrev pub given : ℕ → EndState → EndState
-given count e = record (taken_out count e) { received = e.received ++ take count e.incoming }
+given count e = hearing (take count e.incoming) (taken_out count e)
+
+-- It waits no more, and keeps nothing of what it has received.
+abbrev pub come_to : EndPhase → EndState → EndState
+come_to phase e = record e { phase = phase; stream = nothing_fed }

@@ -1,4 +1,4 @@
--- What an end that waits makes of all that it has received.
+-- What an end that waits makes of what it receives.
 use Rattle.std.specs.Prelude.{ℕ, List, [], ◌∷◌, Option, Some, None}
 use Rattle.hs_decide.specs.declared.role.Role.{Role}
 use Rattle.hs_decide.specs.declared.verdict.Verdict.{Verdict}
@@ -8,7 +8,7 @@ use Rattle.hs_receive.specs.Receiving.{receives, kind_of}
 use Rattle.hs_receive.specs.declared.received.Received.{Received}
 use Rattle.hs_receive.specs.declared.received.Received.TheVariants.{Decided, Fault}
 use Rattle.mux_segment.specs.Protocols.{node_limits}
-use Rattle.mux_segment.specs.Stream.{nothing_fed, fed_by}
+use Rattle.mux_segment.specs.Stream.{CutterState, fed_by}
 use Rattle.mux_segment.specs.declared.fault.CutFault.{CutFault}
 use Rattle.mux_segment.specs.declared.item.Item.{Item}
 use Rattle.net_base.specs.declared.action.FaultKind.TheVariants.{Protocol}
@@ -22,10 +22,10 @@ heard_first role own (item ∷ items) fault = Some (receives Fault Decided role 
 heard_first role own [] (Some fault) = Some (Fault (kind_of fault))
 heard_first role own [] None = None
 
--- The items and the fault are those of the whole stream that was received so far, however it was cut.
-unfoldable pub heard : Role → VersionInfo → List ℕ → Option Received
-heard role own received =
-    let fed = fed_by node_limits nothing_fed received in heard_first role own fed.items fed.state.fault
+-- The items and the fault are those that new bytes bring, behind what is not decoded of the stream.
+unfoldable pub heard : Role → VersionInfo → CutterState → List ℕ → Option Received
+heard role own stream bytes =
+    let fed = fed_by node_limits stream bytes in heard_first role own fed.items fed.state.fault
 
 abbrev pub IfHeard : (Received → Type 0) → Option Received → Type 0
 IfHeard P None = Unit {0}

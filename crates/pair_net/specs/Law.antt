@@ -1,5 +1,5 @@
 -- What holds whatever the pipes deliver, in whatever order and cuts.
-use Rattle.std.specs.Prelude.{◌≡◌, ◌≢◌, ℕ, ◌<◌, ◌^◌, ◌≤◌, ◌==◌, true, false, List, [], ◌∷◌, length, map, sum, Some, None}
+use Rattle.std.specs.Prelude.{◌≡◌, ◌≢◌, ℕ, ◌<◌, ◌^◌, ◌≤◌, ◌==◌, true, false, List, [], ◌∷◌, length, map, sum, take, Some, None}
 use Rattle.std.specs.List.{AllByRecursion, list_any}
 use Rattle.hs_decide.specs.Agreement.{offer_of}
 use Rattle.hs_decide.specs.Answers.{own_table}
@@ -17,12 +17,11 @@ use Rattle.hs_message.specs.declared.message.Reason.TheVariants as reason
 use Rattle.hs_message.specs.declared.offer.Offer.{Offer}
 use Rattle.mux_segment.specs.Frame.{frame_of}
 use Rattle.mux_segment.specs.Protocols.{node_limits}
-use Rattle.mux_segment.specs.Stream.{nothing_fed, fed_by}
+use Rattle.mux_segment.specs.Stream.{CutterState, fed_by}
 use Rattle.mux_segment.specs.declared.item.Item.{Item}
 use Rattle.net_base.specs.declared.connection.Agreed.{Agreed as AgreedOn}
-use Rattle.pair_net.specs.Ends.{given}
 use Rattle.pair_net.specs.Pair.{PairState, fresh_pair, end_of, other}
-use Rattle.pair_net.specs.Steps.{stepped, pair_after}
+use Rattle.pair_net.specs.Steps.{Machine, led_by, stepped, pair_after}
 use Rattle.pair_net.specs.declared.end.End.{End}
 use Rattle.pair_net.specs.declared.end.EndCause.TheVariants.{Refused}
 use Rattle.pair_net.specs.declared.end.EndPhase.TheVariants.{Waiting, Agreed, Ended}
@@ -135,9 +134,9 @@ abbrev pub AgreesRightly : VersionInfo → VersionInfo → PairState → Type 0
 AgreesRightly left right p = (one two : AgreedOn) → p.left.phase ≡ Agreed one → p.right.phase ≡ Agreed two → IsRightly left right one
 
 -- Two ends that both agreed have agreed rightly, whatever steps led there. So ends of different networks never do.
-abbrev pub AgreeRightly : Type 0
-AgreeRightly = (left right : VersionInfo) (steps : List PairStep) → CanOffer left → CanOffer right
-    → AgreesRightly left right (pair_after steps (fresh_pair left right))
+abbrev pub AgreeRightly : Machine → Type 0
+AgreeRightly machine = (left right : VersionInfo) (steps : List PairStep) → CanOffer left → CanOffer right
+    → AgreesRightly left right (led_by machine steps (fresh_pair left right))
 
 -- ---- why an end is refused
 
@@ -155,29 +154,29 @@ IsReason own table (reason.NoCommon versions) =
 IsReason own table (reason.NotDecoded version text) = IsGreatestOffer own table version Foreign
 IsReason own table (reason.Declined version text) = (theirs : VersionInfo) × IsGreatestOffer own table version (Known theirs) × (own.magic ≢ theirs.magic)
 
--- the first item of these bytes spells this message
-pub record HasHeard (received : List ℕ) (said : Message) : Type 0 where
+-- the first item that new bytes bring, behind what is not decoded of a stream, spells this message
+pub record HasHeard (stream : CutterState) (bytes : List ℕ) (said : Message) : Type 0 where
   pub first : Item
   pub others : List Item
-  pub items : (fed_by node_limits nothing_fed received).items ≡ first ∷ others
+  pub items : (fed_by node_limits stream bytes).items ≡ first ∷ others
   pub message : message_of first.body ≡ Some said
 
 -- what an end that refused has said, by what had been offered to it
-pub record IsToldWhy (own : VersionInfo) (received : List ℕ) (end : End) (notes : List PairNote) : Type 0 where
+pub record IsToldWhy (own : VersionInfo) (stream : CutterState) (bytes : List ℕ) (end : End) (notes : List PairNote) : Type 0 where
   pub table : List Offer
   pub why : Reason
-  pub offered : HasHeard received (Propose table)
+  pub offered : HasHeard stream bytes (Propose table)
   pub right : IsReason own table why
   pub told : notes ≡ Sent end (frame_of 1 0 0 (node_spelling (Refuse why))) ∷ Ends end Refused ∷ []
 
 -- Where an end that was dialed refuses the other one, it says why.
-abbrev pub TellsWhy : PairState → Type 0
-TellsWhy p = (end : End) (count : ℕ) → (end_of end p).phase ≡ Waiting Acceptor
-    → let turn = stepped (Deliver end count) p in
-    (end_of end turn.pair).phase ≡ Ended Refused → IsToldWhy (end_of end p).info (given count (end_of end p)).received end turn.notes
+abbrev pub TellsWhy : Machine → PairState → Type 0
+TellsWhy machine p = (end : End) (count : ℕ) → let near = end_of end p in let turn = machine (Deliver end count) p in
+    near.phase ≡ Waiting Acceptor → (end_of end turn.pair).phase ≡ Ended Refused
+    → IsToldWhy near.info near.stream (take count near.incoming) end turn.notes
 
-abbrev pub RefusalsAreTold : Type 0
-RefusalsAreTold = (p : PairState) → TellsWhy p
+abbrev pub RefusalsAreTold : Machine → Type 0
+RefusalsAreTold machine = (p : PairState) → TellsWhy machine p
 
 -- ---- why an end agrees
 
@@ -199,19 +198,19 @@ IsAgreement own agreed (Accept version Foreign) = ⊥
 IsAgreement own agreed (Refuse why) = ⊥
 IsAgreement own agreed (QueryReply table) = ⊥
 
-pub record AgreesOnHeard (own : VersionInfo) (received : List ℕ) (agreed : AgreedOn) : Type 0 where
+pub record AgreesOnHeard (own : VersionInfo) (stream : CutterState) (bytes : List ℕ) (agreed : AgreedOn) : Type 0 where
   pub said : Message
-  pub heard : HasHeard received said
+  pub heard : HasHeard stream bytes said
   pub right : IsAgreement own agreed said
 
-abbrev pub AgreesByWord : PairState → Type 0
-AgreesByWord p = (end : End) (role : Role) (count : ℕ) (agreed : AgreedOn) → (end_of end p).phase ≡ Waiting role
-    → (end_of end (stepped (Deliver end count) p).pair).phase ≡ Agreed agreed
-    → AgreesOnHeard (end_of end p).info (given count (end_of end p)).received agreed
+abbrev pub AgreesByWord : Machine → PairState → Type 0
+AgreesByWord machine p = (end : End) (role : Role) (count : ℕ) (agreed : AgreedOn) → let near = end_of end p in
+    near.phase ≡ Waiting role → (end_of end (machine (Deliver end count) p).pair).phase ≡ Agreed agreed
+    → AgreesOnHeard near.info near.stream (take count near.incoming) agreed
 
 -- An end agrees only with one that says it is of the same network, and on what both say, whatever becomes of that one.
-abbrev pub AgreementsAreHeard : Type 0
-AgreementsAreHeard = (p : PairState) → AgreesByWord p
+abbrev pub AgreementsAreHeard : Machine → Type 0
+AgreementsAreHeard machine = (p : PairState) → AgreesByWord machine p
 
 -- ---- all of it, of this pair
 
@@ -219,5 +218,5 @@ pub record IsLawful (p : PairState) : Type 0 where
   pub reached : IsReached p
   pub alike : AgreesAlike p
   pub rightly : AgreesRightly reached.left reached.right p
-  pub told : TellsWhy p
-  pub by_word : AgreesByWord p
+  pub told : TellsWhy stepped p
+  pub by_word : AgreesByWord stepped p

@@ -5,6 +5,7 @@ pub mod Speaking
 pub mod Pair
 pub mod Steps
 pub mod Law
+pub mod WrongPairs
 pub mod Lines
 pub mod Texts
 pub mod Replay

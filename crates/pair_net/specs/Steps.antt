@@ -1,8 +1,8 @@
 -- What a step makes of a pair.
-use Rattle.std.specs.Prelude.{◌≡◌, ℕ, Bool, true, false, ◌&&◌, List, [], ◌∷◌, ◌++◌, Option, Some, None, if◌then◌else◌}
+use Rattle.std.specs.Prelude.{◌≡◌, ℕ, Bool, true, false, ◌&&◌, List, [], ◌∷◌, ◌++◌, take, Option, Some, None, if◌then◌else◌}
 use Rattle.hs_decide.specs.declared.role.Role.TheVariants.{Acceptor, Dialer}
 use Rattle.hs_receive.specs.declared.received.Received.{Received}
-use Rattle.pair_net.specs.Ends.{waiting_as, reached_by, answered, taken_out, given}
+use Rattle.pair_net.specs.Ends.{waiting_as, reached_by, answered, taken_out, given, come_to}
 use Rattle.pair_net.specs.Notes.{told, sent_notes}
 use Rattle.pair_net.specs.Hearing.{heard, phase_after}
 use Rattle.pair_net.specs.Speaking.{proposal_frame, answer_after}
@@ -67,14 +67,14 @@ concludes None end near far = record { pair = pair_of end near far; notes = [] }
 concludes (Some received) end near far =
     let said = answer_after received near.info in
     let phase = phase_after received in record {
-      pair = pair_of end (record near { phase = phase }) (answered said far);
+      pair = pair_of end (come_to phase near) (answered said far);
       notes = sent_notes end said ++ told end phase;
     }
 
 -- An end that waits receives the bytes. Any other one drops them.
 abbrev pub delivers_in : EndPhase → ℕ → End → EndState → EndState → Turn
 delivers_in (Waiting role) count end near far =
-    let near = given count near in concludes (heard role near.info near.received) end near far
+    concludes (heard role near.info near.stream (take count near.incoming)) end (given count near) far
 delivers_in phase count end near far = record { pair = pair_of end (taken_out count near) far; notes = [] }
 
 abbrev pub delivers : ℕ → End → EndState → EndState → Turn
@@ -107,7 +107,14 @@ stepped (Deliver end count) p = delivers count end (end_of end p) (end_of (other
 stepped (Timeout end) p = times_out_in (end_of end p).phase end p
 stepped (Close end) p = closes_in (end_of end p).phase end p
 
+-- what each step makes of a pair, whoever says so
+abbrev pub Machine : Type 0
+Machine = PairStep → PairState → Turn
+
 -- the pair after a list of steps
+abbrev pub led_by : Machine → List PairStep → PairState → PairState
+led_by machine [] p = p
+led_by machine (step ∷ steps) p = led_by machine steps (machine step p).pair
+
 abbrev pub pair_after : List PairStep → PairState → PairState
-pair_after [] p = p
-pair_after (step ∷ steps) p = pair_after steps (stepped step p).pair
+pair_after = led_by stepped

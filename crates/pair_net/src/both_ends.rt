@@ -1,8 +1,9 @@
 ghost use Rattle.std.specs.Prelude.{◌≡◌, IfOk, Some};
 ghost use Rattle.hs_receive.specs.Receiving.{CanBeAnswered};
+ghost use Rattle.pair_net.specs.Ends.{hearing};
 ghost use Rattle.pair_net.specs.Hearing.{heard};
-ghost use Rattle.pair_net.specs.Pair.{fresh_pair, other, end_of, pair_of};
-ghost use Rattle.pair_net.specs.Steps.{IsTurn, nothing_changes, are_fresh, concludes, ends_by, stepped};
+ghost use Rattle.pair_net.specs.Pair.{fresh_pair, end_of, pair_of};
+ghost use Rattle.pair_net.specs.Steps.{IsTurn, are_fresh, meets, concludes, delivers, ends_by, stepped};
 
 use crate::end_state::EndState;
 use crate::hearing::{hear, phase_after};
@@ -12,11 +13,12 @@ use crate::{End, EndCause, EndPhase, NoteList, PairStep};
 use hs_decide::Role;
 use hs_message::VersionInfo;
 use hs_receive::Received;
+use mux_segment::Cutter;
 use net_base::OutOfMemory;
 use std::alloc::Global;
 use std::marker::Model;
 
-/// Two ends and the pipes between them, however they came to be.
+/// Two ends and the pipes between them, however they came to be. A step changes them where they stand.
 #[derive(Drop)]
 pub(crate) struct BothEnds {
     alloc: Global,
@@ -25,7 +27,6 @@ pub(crate) struct BothEnds {
 }
 
 impl Model for BothEnds {
-    ghost use Rattle.pair_net.specs.Hearing.{heard};
     ghost use Rattle.pair_net.specs.Pair.{PairState};
 
     ghost Value = { PairState };
@@ -53,8 +54,8 @@ impl BothEnds {
         }
     }
 
-    pub fn step(self, step: PairStep) -> Result<(BothEnds, NoteList), OutOfMemory>
-        ensures { IfOk result (λ turned. IsTurn (stepped step self) turned.0 turned.1) }
+    pub fn step(&mut self, step: PairStep) -> Result<NoteList, OutOfMemory>
+        ensures { IfOk result (IsTurn (stepped step self.old) self.new) }
     {
         match step {
             PairStep::Meet(end) => self.meet(end),
@@ -65,89 +66,85 @@ impl BothEnds {
         }
     }
 
-    fn meet(self, end: End) -> Result<(BothEnds, NoteList), OutOfMemory>
-        ensures { IfOk result (λ turned. IsTurn (stepped (PairStep.Meet end) self) turned.0 turned.1) }
+    fn meet(&mut self, end: End) -> Result<NoteList, OutOfMemory>
+        ensures { IfOk result (IsTurn (stepped (PairStep.Meet end) self.old) self.new) }
     {
         if !self.is_fresh() {
-            return self.stay();
+            return Ok(NoteList::new(self.alloc));
         }
-        let alloc = self.alloc;
-        let mut notes = NoteList::new(alloc);
-        let (mut near, mut far) = self.split(end);
-        dial(alloc, end, &mut near, &mut far, &mut notes)?;
-        far.phase = EndPhase::Waiting(Role::Acceptor);
-        tell(&mut notes, end.other(), far.phase)?;
-        Ok((joined(alloc, end, near, far), notes))
+        match end {
+            End::Left => meet(self.alloc, End::Left, &mut self.left, &mut self.right),
+            End::Right => meet(self.alloc, End::Right, &mut self.right, &mut self.left),
+        }
     }
 
-    fn cross(self) -> Result<(BothEnds, NoteList), OutOfMemory>
-        ensures { IfOk result (λ turned. IsTurn (stepped PairStep.Cross self) turned.0 turned.1) }
+    fn cross(&mut self) -> Result<NoteList, OutOfMemory>
+        ensures { IfOk result (IsTurn (stepped PairStep.Cross self.old) self.new) }
     {
+        let mut notes = NoteList::new(self.alloc);
         if !self.is_fresh() {
-            return self.stay();
+            return Ok(notes);
         }
-        let alloc = self.alloc;
-        let mut notes = NoteList::new(alloc);
-        let (mut left, mut right) = self.split(End::Left);
-        dial(alloc, End::Left, &mut left, &mut right, &mut notes)?;
-        dial(alloc, End::Right, &mut right, &mut left, &mut notes)?;
-        Ok((joined(alloc, End::Left, left, right), notes))
+        let (left, right) = (&mut self.left, &mut self.right);
+        dial(self.alloc, End::Left, left, right, &mut notes)?;
+        dial(self.alloc, End::Right, right, left, &mut notes)?;
+        Ok(notes)
     }
 
-    fn deliver(self, end: End, count: u64) -> Result<(BothEnds, NoteList), OutOfMemory>
-        ensures { IfOk result (λ turned. IsTurn (stepped (PairStep.Deliver end count) self) turned.0 turned.1) }
+    fn deliver(&mut self, end: End, count: u64) -> Result<NoteList, OutOfMemory>
+        ensures { IfOk result (IsTurn (stepped (PairStep.Deliver end count) self.old) self.new) }
     {
-        let alloc = self.alloc;
-        let (mut near, far) = self.split(end);
-        let bytes = near.take(alloc, count)?;
-        match near.phase {
-            EndPhase::Waiting(role) => {
-                near.received.extend_from_slice(bytes.as_slice())?;
-                listen(alloc, role, end, near, far)
-            }
-            EndPhase::Fresh | EndPhase::Agreed(_) | EndPhase::Ended(_) => {
-                Ok((joined(alloc, end, near, far), NoteList::new(alloc)))
-            }
+        match end {
+            End::Left => deliver(
+                self.alloc,
+                End::Left,
+                count,
+                &mut self.left,
+                &mut self.right,
+            ),
+            End::Right => deliver(
+                self.alloc,
+                End::Right,
+                count,
+                &mut self.right,
+                &mut self.left,
+            ),
         }
     }
 
-    fn time_out(self, end: End) -> Result<(BothEnds, NoteList), OutOfMemory>
-        ensures { IfOk result (λ turned. IsTurn (stepped (PairStep.Timeout end) self) turned.0 turned.1) }
+    fn time_out(&mut self, end: End) -> Result<NoteList, OutOfMemory>
+        ensures { IfOk result (IsTurn (stepped (PairStep.Timeout end) self.old) self.new) }
     {
         match self.phase(end) {
             EndPhase::Waiting(_) => self.end_by(end, EndCause::Timeout),
-            EndPhase::Fresh | EndPhase::Agreed(_) | EndPhase::Ended(_) => self.stay(),
+            EndPhase::Fresh | EndPhase::Agreed(_) | EndPhase::Ended(_) => {
+                Ok(NoteList::new(self.alloc))
+            }
         }
     }
 
-    fn close(self, end: End) -> Result<(BothEnds, NoteList), OutOfMemory>
-        ensures { IfOk result (λ turned. IsTurn (stepped (PairStep.Close end) self) turned.0 turned.1) }
+    fn close(&mut self, end: End) -> Result<NoteList, OutOfMemory>
+        ensures { IfOk result (IsTurn (stepped (PairStep.Close end) self.old) self.new) }
     {
         match self.phase(end) {
-            EndPhase::Ended(_) => self.stay(),
+            EndPhase::Ended(_) => Ok(NoteList::new(self.alloc)),
             EndPhase::Fresh | EndPhase::Waiting(_) | EndPhase::Agreed(_) => {
                 self.end_by(end, EndCause::Closed)
             }
         }
     }
 
-    fn end_by(self, end: End, cause: EndCause) -> Result<(BothEnds, NoteList), OutOfMemory>
-        ensures { IfOk result (λ turned. IsTurn (ends_by cause end self) turned.0 turned.1) }
+    fn end_by(&mut self, end: End, cause: EndCause) -> Result<NoteList, OutOfMemory>
+        ensures { IfOk result (IsTurn (ends_by cause end self.old) self.new) }
     {
-        let alloc = self.alloc;
-        let (mut near, far) = self.split(end);
-        near.phase = EndPhase::Ended(cause);
-        let mut notes = NoteList::new(alloc);
-        tell(&mut notes, end, near.phase)?;
-        Ok((joined(alloc, end, near, far), notes))
-    }
-
-    // The step changes nothing.
-    fn stay(self) -> Result<(BothEnds, NoteList), OutOfMemory>
-        ensures { IfOk result (λ turned. IsTurn (nothing_changes self) turned.0 turned.1) }
-    {
-        let notes = NoteList::new(self.alloc);
-        Ok((self, notes))
+        let phase = EndPhase::Ended(cause);
+        match end {
+            End::Left => self.left.phase = phase,
+            End::Right => self.right.phase = phase,
+        }
+        let mut notes = NoteList::new(self.alloc);
+        tell(&mut notes, end, phase)?;
+        Ok(notes)
     }
 
     fn is_fresh(&self) -> bool
@@ -155,56 +152,56 @@ impl BothEnds {
     {
         self.left.phase.is_fresh() && self.right.phase.is_fresh()
     }
-
-    // An end, and the other one.
-    fn split(self, end: End) -> (EndState, EndState)
-        ensures near { result.0 ≡ end_of end self }
-        ensures far { result.1 ≡ end_of (other end) self }
-    {
-        let BothEnds {
-            alloc: _,
-            left,
-            right,
-        } = self;
-        match end {
-            End::Left => (left, right),
-            End::Right => (right, left),
-        }
-    }
 }
 
-// The pair in which an end is this one, `near`, and the other end is that one, `far`.
-fn joined(alloc: Global, end: End, near: EndState, far: EndState) -> BothEnds
-    ensures { result ≡ pair_of end near far }
+// An end dials the other one. Both are fresh.
+fn meet(
+    alloc: Global,
+    end: End,
+    near: &mut EndState,
+    far: &mut EndState,
+) -> Result<NoteList, OutOfMemory>
+    ensures { IfOk result (IsTurn (meets end near.old far.old) (pair_of end near.new far.new)) }
 {
-    match end {
-        End::Left => BothEnds {
-            alloc,
-            left: near,
-            right: far,
-        },
-        End::Right => BothEnds {
-            alloc,
-            left: far,
-            right: near,
-        },
+    let mut notes = NoteList::new(alloc);
+    dial(alloc, end, near, far, &mut notes)?;
+    far.phase = EndPhase::Waiting(Role::Acceptor);
+    tell(&mut notes, end.other(), far.phase)?;
+    Ok(notes)
+}
+
+// So many bytes come out of the pipe towards an end.
+fn deliver(
+    alloc: Global,
+    end: End,
+    count: u64,
+    near: &mut EndState,
+    far: &mut EndState,
+) -> Result<NoteList, OutOfMemory>
+    ensures { IfOk result (IsTurn (delivers count end near.old far.old) (pair_of end near.new far.new)) }
+{
+    let bytes = near.take(alloc, count)?;
+    match near.phase {
+        EndPhase::Waiting(role) => listen(alloc, role, end, bytes.as_slice(), near, far),
+        EndPhase::Fresh | EndPhase::Agreed(_) | EndPhase::Ended(_) => Ok(NoteList::new(alloc)),
     }
 }
 
-// An end that waits has received more.
+// An end that waits receives bytes.
 fn listen(
     alloc: Global,
     role: Role,
     end: End,
-    near: EndState,
-    far: EndState,
-) -> Result<(BothEnds, NoteList), OutOfMemory>
-    ensures { IfOk result (λ turned.
-        IsTurn (concludes (heard role near.info near.received) end near far) turned.0 turned.1) }
+    bytes: &[u8],
+    near: &mut EndState,
+    far: &mut EndState,
+) -> Result<NoteList, OutOfMemory>
+    ensures { let h = heard role near.old.info near.old.stream bytes.now in
+        IfOk result (IsTurn (concludes h end (hearing bytes.now near.old) far.old) (pair_of end near.new far.new)) }
 {
-    match hear(alloc, role, &near.info, near.received.as_slice())? {
+    match hear(alloc, role, bytes, near)? {
         Some(received) => conclude(alloc, received, end, near, far),
-        None => Ok((joined(alloc, end, near, far), NoteList::new(alloc))),
+        None => Ok(NoteList::new(alloc)),
     }
 }
 
@@ -213,16 +210,17 @@ fn conclude(
     alloc: Global,
     received: Received,
     end: End,
-    mut near: EndState,
-    mut far: EndState,
-) -> Result<(BothEnds, NoteList), OutOfMemory>
+    near: &mut EndState,
+    far: &mut EndState,
+) -> Result<NoteList, OutOfMemory>
     requires { CanBeAnswered received }
-    ensures { IfOk result (λ turned. IsTurn (concludes (Some received) end near far) turned.0 turned.1) }
+    ensures { IfOk result (IsTurn (concludes (Some received) end near.old far.old) (pair_of end near.new far.new)) }
 {
     let mut notes = NoteList::new(alloc);
     let said = answer_after(alloc, &received, &near.info)?;
-    say(end, said, &mut far, &mut notes)?;
+    say(end, said, far, &mut notes)?;
     near.phase = phase_after(received);
+    near.stream = Cutter::new(alloc);
     tell(&mut notes, end, near.phase)?;
-    Ok((joined(alloc, end, near, far), notes))
+    Ok(notes)
 }

@@ -3,6 +3,7 @@ ghost use Rattle.pair_net.specs.Ends.{fresh_end, reached_by, taken_out};
 
 use crate::EndPhase;
 use hs_message::VersionInfo;
+use mux_segment::Cutter;
 use net_base::{Octets, OutOfMemory};
 use std::alloc::Global;
 
@@ -12,8 +13,8 @@ pub(crate) struct EndState {
     /// What it says of itself.
     pub info: VersionInfo,
     pub phase: EndPhase,
-    /// All bytes that it has received while it waited.
-    pub received: Octets,
+    /// What it has received while it waited and is not decoded yet.
+    pub stream: Cutter,
     /// The bytes in the pipe towards it.
     pub incoming: Octets,
 }
@@ -26,7 +27,7 @@ impl EndState {
         EndState {
             info,
             phase: EndPhase::Fresh,
-            received: Octets::new(alloc),
+            stream: Cutter::new(alloc),
             incoming: Octets::new(alloc),
         }
     }

@@ -1,7 +1,9 @@
-ghost use Rattle.std.specs.Prelude.{◌≡◌, IfOk};
+ghost use Rattle.std.specs.Prelude.{◌≡◌, IfOk, OnOk};
 ghost use Rattle.hs_receive.specs.Receiving.{CanBeAnswered};
+ghost use Rattle.pair_net.specs.Ends.{hearing};
 ghost use Rattle.pair_net.specs.Hearing.{heard, heard_first, phase_by, phase_after, IfHeard};
 
+use crate::end_state::EndState;
 use crate::{EndCause, EndPhase};
 use hs_decide::{Role, Verdict};
 use hs_message::VersionInfo;
@@ -9,20 +11,23 @@ use hs_receive::{Received, kind_of, receive};
 use mux_segment::{CutFault, Cutter, Item};
 use net_base::{FaultKind, OutOfMemory};
 use std::alloc::Global;
+use std::mem;
 
-/// What an end that waits makes of all that it has received, or None where it waits on. What stands behind the first
-/// item is dropped.
+/// What an end that waits makes of new bytes, or None where it waits on. What stands behind the first item is dropped.
 pub(crate) fn hear(
     alloc: Global,
     role: Role,
-    own: &VersionInfo,
-    received: &[u8],
+    bytes: &[u8],
+    near: &mut EndState,
 ) -> Result<Option<Received>, OutOfMemory>
-    ensures heard { IfOk result (λ received_as. received_as ≡ heard role own.now received.now) }
+    ensures heard { IfOk result (λ received. received ≡ heard role near.old.info near.old.stream bytes.now) }
+    ensures end { OnOk result (near.new ≡ hearing bytes.now near.old) }
     ensures answerable { IfOk result (IfHeard CanBeAnswered) }
 {
-    let (_, fed) = Cutter::new(alloc).feed(received)?;
-    hear_first(alloc, role, own, fed.items.as_slice(), fed.fault)
+    let stream = mem::replace(&mut near.stream, Cutter::new(alloc));
+    let (stream, fed) = stream.feed(bytes)?;
+    near.stream = stream;
+    hear_first(alloc, role, &near.info, fed.items.as_slice(), fed.fault)
 }
 
 fn hear_first(

@@ -53,8 +53,8 @@ impl Pair {
         ensures turn { IfOk result (λ turned. IsTurn (stepped step self) turned.0 turned.1) }
         ensures alike { IfOk result (λ turned. AgreesAlike turned.0) }
     {
-        let Pair { ends } = self;
-        let (ends, notes) = ends.step(step)?;
+        let Pair { mut ends } = self;
+        let notes = ends.step(step)?;
         Ok((Pair { ends }, notes))
     }
 }
