@@ -357,7 +357,7 @@ fn closed_at(slow: &mut Slow, moment: u64) -> Result<u64, OutOfMemory> {
 }
 
 // Its peer takes a byte at moment 1, or none.
-fn slow(alloc: Global, takes: usize) -> Result<Slow, OutOfMemory> {
+fn that_takes(alloc: Global, takes: usize) -> Result<Slow, OutOfMemory> {
     let mut slow = Slow {
         alloc,
         flow: SocketFlow::new(alloc, terms(false, 500), &AddrList::new(alloc))?,
@@ -370,13 +370,13 @@ fn slow(alloc: Global, takes: usize) -> Result<Slow, OutOfMemory> {
 
 #[test]
 fn peers_that_take_nothing_are_ended(rt: HostRuntime) -> Result<(), Fail> {
-    let mut none = slow(rt.alloc(), 0)?;
+    let mut none = that_takes(rt.alloc(), 0)?;
     assert!(rt; closed_at(&mut none, 1)? == 0);
     assert!(rt; closed_at(&mut none, 500)? == 0);
     assert!(rt; closed_at(&mut none, 501)? == 1);
     assert!(rt; closed_at(&mut none, 2000)? == 1);
     // One that took a byte since it was looked at last is looked at once more.
-    let mut one = slow(rt.alloc(), 1)?;
+    let mut one = that_takes(rt.alloc(), 1)?;
     assert!(rt; closed_at(&mut one, 1)? == 0);
     assert!(rt; closed_at(&mut one, 501)? == 0);
     assert!(rt; closed_at(&mut one, 1000)? == 0);
