@@ -9,14 +9,14 @@ use Rattle.net_base.specs.declared.event.Event.{Event}
 use Rattle.net_base.specs.declared.event.Event.TheVariants.{Roots as Answered}
 use Rattle.net_base.specs.declared.event.Job.{Job}
 use Rattle.net_base.specs.declared.event.RootAnswer.TheVariants.{Found}
-use Rattle.socket_flow.specs.Flow.{endings}
-use Rattle.socket_flow.specs.Table.{socket_at, key_at, stage_at, out_at, Puts, HasSame}
+use Rattle.socket_flow.specs.Table.{socket_at, key_at, stage_at, out_at, is_linked, Puts, HasSame}
+use Rattle.socket_flow.specs.Talk.{KeepsAll, KeepsKeys, KeepsRest, Loses, MayLose, TakesIn}
 use Rattle.socket_flow.specs.declared.flow.SocketFlow.{SocketFlow}
 use Rattle.socket_flow.specs.declared.roots.Roots.{Roots}
 use Rattle.socket_flow.specs.declared.socket.Socket.{Socket}
 use Rattle.socket_flow.specs.declared.socket.Stage.{Stage}
 use Rattle.socket_flow.specs.declared.socket_table.SocketTable.{SocketTable}
-use Rattle.socket_flow.specs.declared.socket.Stage.TheVariants.{Dialing, Open}
+use Rattle.socket_flow.specs.declared.socket.Stage.TheVariants.{Dialing, Open, Closing}
 
 -- an id that a trace may name, and that is no connection yet
 abbrev pub is_free : SocketFlow → ℕ → Bool
@@ -29,14 +29,28 @@ IsOpenAs cid (Some socket) (Some (Open id)) = id.cid ≡ cid
 IsOpenAs cid (Some socket) _ = ⊥
 IsOpenAs cid None stage = stage ≡ None
 
--- the socket of the peer that the node was told of is the connection from now on, and no other socket is another
+-- from now on an id is the connection of the socket of this key
+abbrev pub Names : SocketFlow → SocketFlow → Cid → ℕ → Type 0
+Names old new cid key = (c : ℕ) → key_at new.table c ≡ (if eqb cid.0 c then Some key else key_at old.table c)
+
+-- The socket of the peer that the node was told of is the connection from now on, with what waited on it, and no other socket
+-- is another.
+pub record IsOpened (old new : SocketFlow) (key : ℕ) (cid : Cid) : Type 0 where
+  pub stage : IsOpenAs cid (socket_at old.table key) (stage_at new.table key)
+  pub out : out_at new.table key ≡ out_at old.table key
+  pub others : (k : ℕ) → eqb key k ≡ false → socket_at new.table k ≡ socket_at old.table k
+  pub caller : new.caller ≡ None
+  pub names : Names old new cid key
+  pub events : new.events ≡ old.events
+  pub next : new.table.next_key ≡ old.table.next_key
+  pub greeting : new.greeting ≡ old.greeting
+
 abbrev pub OpensOn : SocketFlow → SocketFlow → Option ℕ → Cid → Type 0
-OpensOn old new None cid = HasSame old.table new.table
-OpensOn old new (Some key) cid =
-    IsOpenAs cid (socket_at old.table key) (stage_at new.table key) × ((k : ℕ) → eqb key k ≡ false → socket_at new.table k ≡ socket_at old.table k) × (new.caller ≡ None)
+OpensOn old new None cid = KeepsAll old new
+OpensOn old new (Some key) cid = IsOpened old new key cid
 
 abbrev pub Admits : SocketFlow → SocketFlow → Cid → Type 0
-Admits old new cid = MatchBool (is_free old cid.0) (OpensOn old new old.caller cid) (HasSame old.table new.table)
+Admits old new cid = MatchBool (is_free old cid.0) (OpensOn old new old.caller cid) (KeepsAll old new)
 
 -- the socket of the peer that the node was told of is closed
 abbrev pub LeavesAt : SocketTable → SocketTable → Option ℕ → Type 0
@@ -53,13 +67,17 @@ IsDialingAs cid (Some (Dialing id)) = id.cid ≡ cid
 IsDialingAs cid _ = ⊥
 
 -- a new socket is to connect, on which the announcement waits
-abbrev pub DialsAt : SocketFlow → SocketFlow → ℕ → Cid → Addr → Type 0
-DialsAt old new key cid addr =
-    IsDialingAs cid (stage_at new.table key) × (out_at new.table key ≡ old.greeting)
-    × ((k : ℕ) → eqb key k ≡ false → socket_at new.table k ≡ socket_at old.table k) × (new.connecting.items ≡ old.connecting.items ++ (key, addr) ∷ [])
+pub record DialsAt (old new : SocketFlow) (key : ℕ) (cid : Cid) (addr : Addr) : Type 0 where
+  pub stage : IsDialingAs cid (stage_at new.table key)
+  pub out : out_at new.table key ≡ old.greeting
+  pub others : (k : ℕ) → eqb key k ≡ false → socket_at new.table k ≡ socket_at old.table k
+  pub connects : new.connecting.items ≡ old.connecting.items ++ (key, addr) ∷ []
+  pub names : Names old new cid key
+  pub events : new.events ≡ old.events
+  pub taken : TakesIn key old new
 
 abbrev pub Dials : SocketFlow → SocketFlow → Cid → Addr → Type 0
-Dials old new cid addr = MatchBool (is_free old cid.0) (DialsAt old new old.table.next_key cid addr) (HasSame old.table new.table)
+Dials old new cid addr = MatchBool (is_free old cid.0) (DialsAt old new old.table.next_key cid addr) (KeepsAll old new)
 
 -- ---- what is sent
 
@@ -68,26 +86,42 @@ put_on (Some socket) bytes = socket.out ++ bytes
 put_on None bytes = []
 
 -- the bytes are put behind those that wait on the socket, and no other socket has more
-abbrev pub PutsOn : SocketFlow → SocketFlow → ℕ → List ℕ → Type 0
-PutsOn old new key bytes =
-    (k : ℕ) → (out_at new.table k ≡ (if eqb key k then put_on (socket_at old.table key) bytes else out_at old.table k)) × (stage_at new.table k ≡ stage_at old.table k)
+pub record PutsOn (old new : SocketFlow) (key : ℕ) (bytes : List ℕ) : Type 0 where
+  pub outs : (k : ℕ) → out_at new.table k ≡ (if eqb key k then put_on (socket_at old.table key) bytes else out_at old.table k)
+  pub stages : (k : ℕ) → stage_at new.table k ≡ stage_at old.table k
+  pub rest : KeepsRest old new
 
 -- where more than the most would wait on all sockets, the connection ends in its place
 abbrev pub SendsOn : SocketFlow → SocketFlow → Option ℕ → List ℕ → Type 0
-SendsOn old new None bytes = HasSame old.table new.table
+SendsOn old new None bytes = KeepsAll old new
 SendsOn old new (Some key) bytes =
-    MatchBool (nat_lt 67108864 (min (old.unsent + length bytes) (2 ^ 64 - 1)))
-    (Puts old.table new.table key None × (new.events ≡ old.events ++ endings (socket_at old.table key)))
-    (PutsOn old new key bytes)
+    MatchBool (nat_lt 67108864 (min (old.unsent + length bytes) (2 ^ 64 - 1))) (Loses key old new) (PutsOn old new key bytes)
 
 abbrev pub Sends : SocketFlow → SocketFlow → Cid → List ℕ → Type 0
 Sends old new cid bytes = SendsOn old new (key_at old.table cid.0) bytes
 
 -- ---- the rest
 
+abbrev pub IsClosing : Option Stage → Type 0
+IsClosing (Some Closing) = Unit {0}
+IsClosing (Some stage) = ⊥
+IsClosing None = Unit {0}
+
+-- The id has no socket from then on, nothing is told of it, and no other socket is another.
+pub record ClosesAt (old new : SocketFlow) (key : ℕ) (cid : Cid) : Type 0 where
+  pub stage : MatchBool (is_linked (stage_at old.table key)) (IsClosing (stage_at new.table key)) (stage_at new.table key ≡ stage_at old.table key)
+  pub others : (k : ℕ) → eqb key k ≡ false → socket_at new.table k ≡ socket_at old.table k
+  pub names : (c : ℕ) → key_at new.table c ≡ (if eqb cid.0 c then None else key_at old.table c)
+  pub events : new.events ≡ old.events
+  pub keys : KeepsKeys old new
+
+abbrev pub ClosesOn : SocketFlow → SocketFlow → Option ℕ → Cid → Type 0
+ClosesOn old new None cid = KeepsAll old new
+ClosesOn old new (Some key) cid = ClosesAt old new key cid
+
 -- nothing is told of a connection that the node closes, and its id has no socket from then on
 abbrev pub Closes : SocketFlow → SocketFlow → Cid → Type 0
-Closes old new cid = (key_at new.table cid.0 ≡ None) × (new.events ≡ old.events)
+Closes old new cid = (key_at new.table cid.0 ≡ None) × (new.events ≡ old.events) × ClosesOn old new (key_at old.table cid.0) cid
 
 -- the public root peers, for this question
 abbrev pub answers : Roots → Job → List Event
@@ -95,7 +129,7 @@ answers roots job = if nat_le job.0 (2 ^ 48) then Answered job (Found roots.serv
 
 abbrev pub Does : Action → SocketFlow → SocketFlow → Type 0
 Does (Admit cid addr) old new = Admits old new cid
-Does (Turnaway away) old new = Leaves old new
+Does (Turnaway away) old new = Leaves old new × MayLose old new
 Does (Dial cid addr) old new = Dials old new cid addr
 Does (Send cid bytes) old new = Sends old new cid bytes
 Does (Close cid cause) old new = Closes old new cid

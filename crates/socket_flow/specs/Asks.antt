@@ -1,15 +1,19 @@
 -- What is asked for.
-use Rattle.std.specs.Prelude.{◌≡◌, ◌⊎◌, ℕ, ◌<◌, true, [], ◌∷◌, Some}
+use Rattle.std.specs.Prelude.{◌≡◌, ◌⊎◌, ℕ, ◌<◌, true, false, eqb, [], ◌∷◌, Option, Some}
 use Rattle.net_base.specs.Limits.{IsWithinLimits}
 use Rattle.net_base.specs.declared.address.Addr.{Addr}
 use Rattle.net_base.specs.declared.event.Event.{Event}
 use Rattle.net_base.specs.declared.event.Event.TheVariants.{Accepted}
 use Rattle.socket_flow.specs.Acting.{LeavesAt}
-use Rattle.socket_flow.specs.Table.{stage_at}
+use Rattle.socket_flow.specs.Stages.{unheard}
+use Rattle.socket_flow.specs.Table.{stage_at, out_at, NamesSame}
+use Rattle.socket_flow.specs.Talk.{KeepsAll, KeepsSockets, MayLose}
 use Rattle.socket_flow.specs.declared.ask.Ask.{Ask}
 use Rattle.socket_flow.specs.declared.flow.SocketFlow.{SocketFlow}
-use Rattle.socket_flow.specs.declared.socket.Stage.TheVariants.{Waiting}
-use Rattle.socket_flow.specs.declared.ask.Ask.TheVariants.{Accept, Give}
+use Rattle.socket_flow.specs.declared.socket.Stage.{Stage}
+use Rattle.socket_flow.specs.declared.socket.Stage.TheVariants.{Announcing, Waiting, Told, Open}
+use Rattle.socket_flow.specs.declared.socket_table.SocketTable.{SocketTable}
+use Rattle.socket_flow.specs.declared.ask.Ask.TheVariants.{Accept, Read, Give}
 
 -- Where no event waits the node is told of the peer that has waited for longest, by its own address. The next word of the
 -- node's on a peer is on this one.
@@ -21,6 +25,13 @@ pub record IsNextCaller (old new : SocketFlow) (event : Event) : Type 0 where
   pub waits : stage_at old.table key ≡ Some (Waiting addr)
   pub told : event ≡ Accepted addr
   pub caller : new.caller ≡ Some key
+  pub now_told : stage_at new.table key ≡ Some Told
+  pub others : (k : ℕ) → eqb key k ≡ false → stage_at new.table k ≡ stage_at old.table k
+  pub outs : (k : ℕ) → out_at new.table k ≡ out_at old.table k
+  pub names : NamesSame old.table new.table
+  pub left : new.events ≡ []
+  pub next : new.table.next_key ≡ old.table.next_key
+  pub greeting : new.greeting ≡ old.greeting
 
 -- An event that is given is the first that waits, or tells of the next peer. Before that the socket of a peer that the node
 -- was told of, and has neither admitted nor turned away, is closed.
@@ -42,3 +53,31 @@ GivesWithinLimits _ = Unit {0}
 abbrev pub IsOfSockets : Ask → Type 0
 IsOfSockets (Give event) = ⊥
 IsOfSockets _ = Unit {0}
+
+-- so many bytes may be read of a socket: as many as its announcement still has, or of a connection any
+abbrev pub MayRead : Option Stage → ℕ → Type 0
+MayRead (Some (Announcing said)) most = most ≡ unheard (Announcing said)
+MayRead (Some (Open id)) most = Unit {0}
+MayRead _ most = ⊥
+
+-- nothing is given, and what is read may be
+abbrev pub IsReadable : SocketTable → Ask → Type 0
+IsReadable table (Give event) = ⊥
+IsReadable table (Read key most) = MayRead (stage_at table key) most
+IsReadable table _ = Unit {0}
+
+-- the first event that waits, without which the others wait
+pub record IsFirst (old new : SocketFlow) (event : Event) : Type 0 where
+  pub first : old.events ≡ event ∷ new.events
+  pub sockets : KeepsSockets old new
+
+abbrev pub Asks : SocketFlow → SocketFlow → Ask → Type 0
+Asks old new (Give event) = IsFirst old new event ⊎ IsNextCaller old new event
+Asks old new ask = KeepsAll old new × IsReadable new.table ask
+
+-- Sockets may go, each with its end told. Then the first event is given, or the next peer is told of, or something is to be
+-- done on a socket, which is read only where it may be.
+pub record IsAsked (old new : SocketFlow) (ask : Ask) : Type 0 where
+  pub left : SocketFlow
+  pub loses : MayLose old left
+  pub asks : Asks left new ask

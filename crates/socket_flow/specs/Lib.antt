@@ -8,3 +8,5 @@ pub mod Flow
 pub mod Stages
 pub mod Writing
 pub mod Acting
+pub mod Talk
+pub mod Histories

@@ -1,5 +1,7 @@
 -- The moment of a node, and its ticks. All in milliseconds since it was opened.
-use Rattle.std.specs.Prelude.{ℕ, ◌+◌, ◌-◌, ◌%◌, ◌^◌, min, max, Bool, nat_le, nat_lt}
+use Rattle.std.specs.Prelude.{ℕ, ◌+◌, ◌-◌, ◌%◌, ◌^◌, min, max, Bool, nat_le, nat_lt, List, [], ◌∷◌, if◌then◌else◌}
+use Rattle.net_base.specs.declared.event.Event.{Event}
+use Rattle.net_base.specs.declared.event.Event.TheVariants.{Now}
 
 pub record Times : Type 0 where
   pub moment : ℕ
@@ -19,6 +21,10 @@ reached times moment = record times { moment = max times.moment (min moment (2 ^
 -- the node is to be told the moment
 abbrev pub is_news : Times → Bool
 is_news times = nat_lt times.told times.moment
+
+-- what is told of the moment, once it is this one
+abbrev pub moments_told : Times → ℕ → List Event
+moments_told times moment = if is_news (reached times moment) then Now (reached times moment).moment ∷ [] else []
 
 abbrev pub after_telling : Times → Times
 after_telling times = record times { told = times.moment }

@@ -58,3 +58,9 @@ is_of None cid = false
 abbrev pub is_dialing : Option Stage → Bool
 is_dialing (Some (Dialing id)) = true
 is_dialing _ = false
+
+-- whether a socket is a connection, or is to be one
+abbrev pub is_linked : Option Stage → Bool
+is_linked (Some (Dialing id)) = true
+is_linked (Some (Open id)) = true
+is_linked _ = false

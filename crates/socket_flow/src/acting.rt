@@ -1,7 +1,9 @@
 //! What a node has done with its sockets.
 ghost use Rattle.std.specs.Prelude.{◌≡◌, ◌++◌, is_some, IfSome, OnOk};
-ghost use Rattle.socket_flow.specs.Table.{key_at, KeepsTalk, NamesSame};
-ghost use Rattle.socket_flow.specs.Acting.{is_free, Admits, Leaves, Dials, Sends, Closes, answers, Does};
+ghost use Rattle.socket_flow.specs.Table.{key_at, KeepsTalk};
+ghost use Rattle.socket_flow.specs.Talk.{KeepsAll, MayLose};
+ghost use Rattle.socket_flow.specs.Acting.{is_free, Admits, Leaves, Dials, Sends, Closes, answers};
+ghost use Rattle.socket_flow.specs.Histories.{Makes, NodeDoes};
 
 use crate::flow::SocketFlow;
 use crate::id::Id;
@@ -13,7 +15,7 @@ use node_world::OutQueue;
 impl SocketFlow {
     /// Has an action done. What the node only tells is passed over.
     pub fn act(&mut self, action: &Action) -> Result<(), OutOfMemory>
-        ensures { OnOk result (Does action.now self.old self.new) }
+        ensures { OnOk result (Makes (NodeDoes action.now) self.old self.new) }
     {
         match action {
             Action::Admit(cid, _) => self.admit(*cid),
@@ -59,12 +61,15 @@ impl SocketFlow {
 
     /// Closes the socket of the peer that the node was told of, where it is not admitted.
     pub(crate) fn turn_away(&mut self) -> Result<(), OutOfMemory>
-        ensures { OnOk result (Leaves self.old self.new) }
+        ensures leaves { OnOk result (Leaves self.old self.new) }
+        ensures loses { OnOk result (MayLose self.old self.new) }
     {
-        match self.caller.take() {
-            Some(key) => self.lose(key),
-            None => Ok(()),
-        }
+        let Some(key) = self.caller else {
+            return Ok(());
+        };
+        self.caller = None;
+        self.lose(key)?;
+        Ok(())
     }
 
     fn dial(&mut self, cid: Cid, addr: Addr) -> Result<(), OutOfMemory>
@@ -103,6 +108,7 @@ impl SocketFlow {
     pub(crate) fn has_to_write(&mut self, key: usize) -> Result<(), OutOfMemory>
         ensures talk { KeepsTalk self.old.table self.new.table }
         ensures events { self.new.events ≡ self.old.events }
+        ensures keeps { KeepsAll self.old self.new }
     {
         let Some(socket) = self.table.sockets.get_mut(&key) else {
             return Ok(());
@@ -132,6 +138,9 @@ impl SocketFlow {
         let Some(socket) = self.table.sockets.get_mut(&key) else {
             return Ok(());
         };
+        if !socket.is_linked() {
+            return Ok(());
+        }
         let writes = matches!(socket.stage, Stage::Open(_))
             && !socket.is_blocked
             && 0 < socket.unsent();

@@ -1,13 +1,17 @@
 //! What is to be done next.
-ghost use Rattle.std.specs.Prelude.{◌≡◌, true, ◌∷◌, ◌⊎◌, IfOk, IfSome};
+ghost use Rattle.std.specs.Prelude.{◌≡◌, true, ◌⊎◌, IfOk, OnOk, IfSome, IfNone};
 ghost use Rattle.net_base.specs.Limits.{IsWithinLimits};
 ghost use Rattle.socket_flow.specs.Table.{stage_at, is_dialing};
-ghost use Rattle.socket_flow.specs.Asks.{GivesWithinLimits, IsNextCaller, AsksForRoom, Gives, IsOfSockets};
+ghost use Rattle.socket_flow.specs.Asks.{GivesWithinLimits, IsFirst, IsNextCaller, AsksForRoom, Gives, IsOfSockets, IsReadable};
+ghost use Rattle.socket_flow.specs.Histories.{Makes, NodeAsks};
+ghost use Rattle.socket_flow.specs.Talk.{KeepsAll, MayLose};
 
 use crate::ask::Ask;
 use crate::flow::SocketFlow;
 use crate::limits::{READ_LEAST, READ_MOST, ROUND_MOST};
 use crate::socket::Stage;
+use crate::socket_table::SocketTable;
+use crate::turn_queue::TurnQueue;
 use net_base::{Addr, Event, OutOfMemory};
 
 impl SocketFlow {
@@ -15,6 +19,7 @@ impl SocketFlow {
     pub fn ask(&mut self) -> Result<Ask, OutOfMemory>
         ensures limits { IfOk result GivesWithinLimits }
         ensures gives { IfOk result (Gives self.old self.new) }
+        ensures made { IfOk result (λ ask. Makes (NodeAsks ask) self.old self.new) }
     {
         if let Some(ask) = self.ask_of_sockets() {
             return Ok(ask);
@@ -24,19 +29,36 @@ impl SocketFlow {
         if let Some(event) = self.next_event() {
             return Ok(Ask::Give(event));
         }
-        if let Some(ask) = self.next_fresh() {
+        Ok(self.ask_of_peers()?)
+    }
+
+    // No event waits: what those who connect or announce themselves, those who wait to be accepted, and connections come to.
+    fn ask_of_peers(&mut self) -> Result<Ask, OutOfMemory>
+        ensures sockets { IfOk result IsOfSockets }
+        ensures loses { OnOk result (MayLose self.old self.new) }
+        ensures readable { IfOk result (IsReadable self.new.table) }
+    {
+        if let Some(ask) = next_fresh(&mut self.fresh, &self.table) {
             return Ok(ask);
         }
         if let Some(ask) = self.ask_to_accept()? {
             return Ok(ask);
         }
+        Ok(self.ask_of_turns())
+    }
+
+    fn ask_of_turns(&mut self) -> Ask
+        ensures sockets { IsOfSockets result }
+        ensures keeps { KeepsAll self.old self.new }
+        ensures readable { IsReadable self.new.table result }
+    {
         if let Some(ask) = self.next_turn() {
-            return Ok(ask);
+            return ask;
         }
         if self.moments.is_due() {
-            return Ok(Ask::Govern);
+            return Ask::Govern;
         }
-        Ok(Ask::Wait(self.time_to_wait()))
+        Ask::Wait(self.time_to_wait())
     }
 
     // To close, to connect and to write, in this order.
@@ -44,6 +66,8 @@ impl SocketFlow {
         ensures sockets { IfSome result IsOfSockets }
         ensures table { self.new.table ≡ self.old.table }
         ensures caller { self.new.caller ≡ self.old.caller }
+        ensures keeps { KeepsAll self.old self.new }
+        ensures readable { IfSome result (IsReadable self.new.table) }
     {
         if let Some(key) = self.closing.pop_front() {
             return Some(Ask::Close(key));
@@ -59,6 +83,7 @@ impl SocketFlow {
     fn next_to_connect(&mut self) -> Option<(usize, Addr)>
         ensures table { self.new.table ≡ self.old.table }
         ensures caller { self.new.caller ≡ self.old.caller }
+        ensures keeps { KeepsAll self.old self.new }
         ensures dials { IfSome result (λ next. is_dialing (stage_at self.old.table next.0) ≡ true) }
     {
         let (key, addr) = self.connecting.pop_front()?;
@@ -72,7 +97,8 @@ impl SocketFlow {
     // An event that waits, or else the next peer that has connected.
     fn next_event(&mut self) -> Option<Event>
         ensures limits { IfSome result IsWithinLimits }
-        ensures told { IfSome result (λ event. (self.old.events ≡ event ∷ self.new.events) ⊎ IsNextCaller self.old self.new event) }
+        ensures told { IfSome result (λ event. IsFirst self.old self.new event ⊎ IsNextCaller self.old self.new event) }
+        ensures none { IfNone result (KeepsAll self.old self.new) }
     {
         if let Some(event) = self.events.pop() {
             return Some(event);
@@ -90,6 +116,8 @@ impl SocketFlow {
     // Where there is no room for one more, the oldest that has not announced itself goes first.
     fn ask_to_accept(&mut self) -> Result<Option<Ask>, OutOfMemory>
         ensures limits { IfOk result (λ ask. IfSome ask IsOfSockets) }
+        ensures loses { OnOk result (MayLose self.old self.new) }
+        ensures readable { IfOk result (λ ask. IfSome ask (IsReadable self.new.table)) }
         ensures room { IfOk result (λ ask. IfSome ask (AsksForRoom self.old)) }
     {
         let moment = self.moments.moment();
@@ -106,23 +134,11 @@ impl SocketFlow {
         Ok(self.closing.pop_front().map(Ask::Close))
     }
 
-    // Those that connect or announce themselves come before others are accepted: little is read of them.
-    fn next_fresh(&mut self) -> Option<Ask>
-        ensures { IfSome result IsOfSockets }
-    {
-        for _ in 0..u64::MAX {
-            let key = self.fresh.pop()?;
-            let ask = self.fresh_turn(key);
-            if ask.is_some() {
-                return ask;
-            }
-        }
-        None
-    }
-
     // Connections, each as often as it stood in line when the round began.
     fn next_turn(&mut self) -> Option<Ask>
-        ensures { IfSome result IsOfSockets }
+        ensures sockets { IfSome result IsOfSockets }
+        ensures keeps { KeepsAll self.old self.new }
+        ensures readable { IfSome result (IsReadable self.new.table) }
     {
         for _ in 0..self.left {
             self.left = self.left.saturating_sub(1);
@@ -135,19 +151,10 @@ impl SocketFlow {
         None
     }
 
-    fn fresh_turn(&mut self, key: usize) -> Option<Ask>
-        ensures { IfSome result IsOfSockets }
-    {
-        let socket = self.table.get(key)?;
-        match socket.stage {
-            Stage::Dialing(_) => Some(Ask::Check(key)),
-            Stage::Announcing(_) => Some(Ask::Read(key, socket.unheard())),
-            _ => None,
-        }
-    }
-
     fn turn(&mut self, key: usize) -> Option<Ask>
-        ensures { IfSome result IsOfSockets }
+        ensures sockets { IfSome result IsOfSockets }
+        ensures keeps { KeepsAll self.old self.new }
+        ensures readable { IfSome result (IsReadable self.new.table) }
     {
         let socket = self.table.sockets.get_mut(&key)?;
         if !matches!(socket.stage, Stage::Open(_)) {
@@ -184,5 +191,32 @@ impl SocketFlow {
             Some(until) => time.min(until),
             None => time,
         }
+    }
+}
+
+// Those that connect or announce themselves come before others are accepted: little is read of them.
+fn next_fresh(fresh: &mut TurnQueue, table: &SocketTable) -> Option<Ask>
+    ensures sockets { IfSome result IsOfSockets }
+    ensures readable { IfSome result (IsReadable table.now) }
+{
+    for _ in 0..u64::MAX {
+        let key = fresh.pop()?;
+        let ask = fresh_turn(table, key);
+        if ask.is_some() {
+            return ask;
+        }
+    }
+    None
+}
+
+fn fresh_turn(table: &SocketTable, key: usize) -> Option<Ask>
+    ensures sockets { IfSome result IsOfSockets }
+    ensures readable { IfSome result (IsReadable table.now) }
+{
+    let socket = table.get(key)?;
+    match socket.stage {
+        Stage::Dialing(_) => Some(Ask::Check(key)),
+        Stage::Announcing(_) => Some(Ask::Read(key, socket.unheard())),
+        _ => None,
     }
 }

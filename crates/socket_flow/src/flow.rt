@@ -1,6 +1,7 @@
-ghost use Rattle.std.specs.Prelude.{◌≡◌, ℕ, [], ◌∷◌, ◌++◌, None, is_some, if◌then◌else◌, OnOk};
+ghost use Rattle.std.specs.Prelude.{◌≡◌, ℕ, [], ◌∷◌, ◌++◌, None, is_some, if◌then◌else◌, IfOk, OnOk};
 ghost use Rattle.socket_flow.specs.Table.{socket_at, key_at, out_at, is_of, Puts};
 ghost use Rattle.socket_flow.specs.Flow.{endings};
+ghost use Rattle.socket_flow.specs.Talk.{greeting_by, Begins, Loses, MayLose};
 
 use crate::announcement::announcement;
 use crate::door::Door;
@@ -54,7 +55,9 @@ pub struct SocketFlow {
 
 impl SocketFlow {
     /// Nobody has connected yet, and it is moment 0.
-    pub fn new(alloc: Global, terms: Terms, publics: &AddrList) -> Result<SocketFlow, OutOfMemory> {
+    pub fn new(alloc: Global, terms: Terms, publics: &AddrList) -> Result<SocketFlow, OutOfMemory>
+        ensures { IfOk result (Begins terms) }
+    {
         Ok(SocketFlow {
             alloc,
             table: SocketTable::new(alloc),
@@ -97,6 +100,7 @@ impl SocketFlow {
         ensures names { (cid : ℕ) → key_at self.new.table cid ≡ (if is_of (socket_at self.old.table key) cid then None else key_at self.old.table cid) }
         ensures caller { self.new.caller ≡ self.old.caller }
         ensures closing { OnOk result (self.new.closing.items ≡ self.old.closing.items ++ (if is_some (socket_at self.old.table key) then key ∷ [] else [])) }
+        ensures loses { OnOk result (Loses key self.old self.new) }
     {
         let Some(socket) = self.table.remove(key) else {
             return Ok(());
@@ -115,29 +119,45 @@ impl SocketFlow {
     }
 
     // Closes the socket that has announced its address for longest and not wholly. Answers whether there is one.
-    pub(crate) fn lose_oldest_stranger(&mut self) -> Result<bool, OutOfMemory> {
-        for _ in 0..u64::MAX {
-            let Some(key) = self.announcing.pop() else {
-                return Ok(false);
-            };
-            if self.is_stranger(key) {
+    pub(crate) fn lose_oldest_stranger(&mut self) -> Result<bool, OutOfMemory>
+        ensures { OnOk result (MayLose self.old self.new) }
+    {
+        match oldest_stranger(&mut self.announcing, &self.table) {
+            Some(key) => {
                 self.lose(key)?;
-                return Ok(true);
+                Ok(true)
             }
+            None => Ok(false),
         }
-        Ok(false)
     }
 
     pub(crate) fn is_stranger(&self, key: usize) -> bool {
-        match self.table.get(key) {
-            Some(socket) => matches!(socket.stage, Stage::Announcing(_)),
-            None => false,
-        }
+        is_stranger(&self.table, key)
     }
 }
 
+fn is_stranger(table: &SocketTable, key: usize) -> bool {
+    match table.get(key) {
+        Some(socket) => matches!(socket.stage, Stage::Announcing(_)),
+        None => false,
+    }
+}
+
+// Takes out the keys up to the first whose socket has not announced its address wholly.
+fn oldest_stranger(announcing: &mut DueQueue, table: &SocketTable) -> Option<usize> {
+    for _ in 0..u64::MAX {
+        let key = announcing.pop()?;
+        if is_stranger(table, key) {
+            return Some(key);
+        }
+    }
+    None
+}
+
 // What a dialer says first: its address, or nothing.
-fn greeting_of(alloc: Global, terms: Terms) -> Result<Octets, OutOfMemory> {
+fn greeting_of(alloc: Global, terms: Terms) -> Result<Octets, OutOfMemory>
+    ensures { IfOk result (λ bytes. bytes ≡ greeting_by terms) }
+{
     if terms.announce {
         announcement(alloc, terms.own)
     } else {

@@ -3,7 +3,10 @@ ghost use Rattle.std.specs.Prelude.{◌≡◌, ◌++◌, [], ◌∷◌, ℕ, tru
 ghost use Rattle.net_base.specs.Limits.{IsPiece, IsWithinLimits};
 ghost use Rattle.net_base.specs.declared.event.Event.TheVariants.{Dialed as Told};
 ghost use Rattle.socket_flow.specs.declared.socket.Stage.TheVariants.{Open};
-ghost use Rattle.socket_flow.specs.Table.{socket_at, stage_at, is_dialing, KeepsTalk, Puts};
+ghost use Rattle.socket_flow.specs.Moments.{moments_told};
+ghost use Rattle.socket_flow.specs.Table.{socket_at, stage_at, is_dialing, KeepsTalk, NamesSame, Puts};
+ghost use Rattle.socket_flow.specs.Histories.{Makes, PeerWaits, NobodyWaits, PeerIsGone, HasNoRoom, HasNoRoomToDial, MayBeReady, RoundBegins, PeerCame, DialCameTo, BytesCame, BytesWent, TakesNoMore, HasEnded};
+ghost use Rattle.socket_flow.specs.Talk.{KeepsAll, KeepsSockets, KeepsRest, MayLose, TakesIn, Connects};
 ghost use Rattle.socket_flow.specs.Flow.{endings, told_of, after_bytes, waits_with, after_going, after_full, dial_events, after_dial, newcomer};
 
 use crate::announcement::Heard;
@@ -14,9 +17,19 @@ use crate::socket::{Socket, Stage, stranger};
 use net_base::{Addr, Event, Octets, OutOfMemory};
 use node_world::OutQueue;
 
+// A key whose time is over.
+#[derive(Clone, Copy)]
+enum Late {
+    Announcing(usize),
+    Dialing(usize),
+    Watched(usize),
+}
+
 impl SocketFlow {
     /// Somebody may wait to be accepted.
-    pub fn is_called(&mut self) {
+    pub fn is_called(&mut self)
+        ensures { Makes PeerWaits self.old self.new }
+    {
         self.door.is_called();
     }
 
@@ -24,6 +37,7 @@ impl SocketFlow {
     pub fn is_ready(&mut self, key: usize, writable: bool) -> Result<(), OutOfMemory>
         ensures talk { KeepsTalk self.old.table self.new.table }
         ensures events { self.new.events ≡ self.old.events }
+        ensures made { Makes (MayBeReady key writable) self.old self.new }
     {
         let Some(socket) = self.table.sockets.get_mut(&key) else {
             return Ok(());
@@ -41,42 +55,76 @@ impl SocketFlow {
     }
 
     /// The sockets have told what they are ready for, and it is this moment: a round begins.
-    pub fn begin_round(&mut self, moment: u64) -> Result<(), OutOfMemory> {
+    pub fn begin_round(&mut self, moment: u64) -> Result<(), OutOfMemory>
+        ensures { OnOk result (Makes (RoundBegins moment) self.old self.new) }
+    {
+        self.reach(moment)?;
+        self.door.begin_round();
+        self.left = self.turns.len();
+        self.lose_late()?;
+        Ok(())
+    }
+
+    // It is this moment, which is told where it is later than the last.
+    fn reach(&mut self, moment: u64) -> Result<(), OutOfMemory>
+        ensures sockets { KeepsSockets self.old self.new }
+        ensures events { OnOk result (self.new.events ≡ self.old.events ++ moments_told self.old.moments moment) }
+    {
         self.moments.reach(moment);
         if self.moments.is_told() {
             self.events.push(Event::Now(self.moments.moment()))?;
         }
-        self.door.begin_round();
-        self.left = self.turns.len();
-        self.lose_silent()?;
-        self.lose_unanswered()?;
-        self.look_after_watched()
+        Ok(())
     }
 
-    // Closes the sockets of those that had time to announce their address, and did not.
-    fn lose_silent(&mut self) -> Result<(), OutOfMemory> {
+    // Ends the sockets whose time is over.
+    fn lose_late(&mut self) -> Result<(), OutOfMemory>
+        ensures { OnOk result (MayLose self.old self.new) }
+    {
         for _ in 0..u64::MAX {
-            let Some(key) = self.announcing.pop_due(self.moments.moment()) else {
+            let Some(late) = self.next_late() else {
                 break;
             };
-            if self.is_stranger(key) {
-                self.lose(key)?;
-            }
+            self.end_late(late)?;
         }
         Ok(())
     }
 
-    // A dial that is not open in time has failed.
-    fn lose_unanswered(&mut self) -> Result<(), OutOfMemory> {
-        for _ in 0..u64::MAX {
-            let Some(key) = self.dialing.pop_due(self.moments.moment()) else {
-                break;
-            };
-            if self.is_dialing(key) {
-                self.lose(key)?;
-            }
+    // The next whose time is over, those that announce their address first and those that are looked at last.
+    fn next_late(&mut self) -> Option<Late>
+        ensures { KeepsAll self.old self.new }
+    {
+        let moment = self.moments.moment();
+        if let Some(key) = self.announcing.pop_due(moment) {
+            return Some(Late::Announcing(key));
         }
+        if let Some(key) = self.dialing.pop_due(moment) {
+            return Some(Late::Dialing(key));
+        }
+        let key = self.watched.pop_due(moment)?;
+        Some(Late::Watched(key))
+    }
+
+    fn end_late(&mut self, late: Late) -> Result<(), OutOfMemory>
+        ensures { OnOk result (MayLose self.old self.new) }
+    {
+        if let Late::Watched(key) = late {
+            return self.look_after(key);
+        }
+        let Some(key) = self.key_over(late) else {
+            return Ok(());
+        };
+        self.lose(key)?;
         Ok(())
+    }
+
+    // Who had time to announce an address, and did not, is closed; a dial that is not open in time has failed.
+    fn key_over(&self, late: Late) -> Option<usize> {
+        match late {
+            Late::Announcing(key) if self.is_stranger(key) => Some(key),
+            Late::Dialing(key) if self.is_dialing(key) => Some(key),
+            _ => None,
+        }
     }
 
     pub(crate) fn is_dialing(&self, key: usize) -> bool
@@ -88,29 +136,27 @@ impl SocketFlow {
         }
     }
 
-    // Ends the sockets whose peers took nothing of what waits since they were looked at.
-    fn look_after_watched(&mut self) -> Result<(), OutOfMemory> {
-        for _ in 0..u64::MAX {
-            let Some(key) = self.watched.pop_due(self.moments.moment()) else {
-                break;
-            };
-            self.look_after(key)?;
+    // Ends a socket whose peer took nothing of what waits since it was looked at.
+    fn look_after(&mut self, key: usize) -> Result<(), OutOfMemory>
+        ensures { OnOk result (MayLose self.old self.new) }
+    {
+        if self.is_taken_from(key) {
+            self.has_to_write(key)?;
+            return Ok(());
         }
+        self.lose(key)?;
         Ok(())
     }
 
-    fn look_after(&mut self, key: usize) -> Result<(), OutOfMemory> {
+    // Whether nothing waits on a socket, or its peer took something. It is looked at no more.
+    fn is_taken_from(&mut self, key: usize) -> bool
+        ensures { KeepsAll self.old self.new }
+    {
         let Some(socket) = self.table.sockets.get_mut(&key) else {
-            return Ok(());
+            return true;
         };
         socket.is_watched = false;
-        if socket.unsent() == 0 {
-            return Ok(());
-        }
-        if !socket.has_taken {
-            return self.lose(key);
-        }
-        self.has_to_write(key)
+        socket.unsent() == 0 || socket.has_taken
     }
 
     /// A peer was accepted, whose socket has this address. Answers the key of the socket.
@@ -118,6 +164,9 @@ impl SocketFlow {
         ensures socket { IfOk result (λ key. Puts self.old.table self.new.table key (Some (newcomer self.old.greeting addr))) }
         ensures key { IfOk result (λ key. key ≡ self.old.table.next_key) }
         ensures events { self.new.events ≡ self.old.events }
+        ensures names { OnOk result (NamesSame self.old.table self.new.table) }
+        ensures taken { IfOk result (λ key. TakesIn key self.old self.new) }
+        ensures made { IfOk result (λ key. Makes (PeerCame addr key) self.old self.new) }
     {
         self.door.count();
         if self.greeting.as_slice().is_empty() {
@@ -134,29 +183,38 @@ impl SocketFlow {
     }
 
     /// Nobody waited to be accepted.
-    pub fn nobody_waits(&mut self) {
+    pub fn nobody_waits(&mut self)
+        ensures { Makes NobodyWaits self.old self.new }
+    {
         self.door.is_left();
     }
 
     /// Whoever waited to be accepted is gone again.
-    pub fn caller_is_gone(&mut self) {
+    pub fn caller_is_gone(&mut self)
+        ensures { Makes PeerIsGone self.old self.new }
+    {
         self.door.count();
     }
 
     /// The system has no room for the socket of the peer that waits to be accepted.
-    pub fn has_no_room(&mut self) {
+    pub fn has_no_room(&mut self)
+        ensures { Makes HasNoRoom self.old self.new }
+    {
         self.door
             .is_crowded(self.moments.moment(), self.table.len());
     }
 
     /// The system has no room for a socket that is to connect to this address.
-    pub fn has_no_room_to_dial(&mut self, key: usize, addr: Addr) -> Result<(), OutOfMemory> {
+    pub fn has_no_room_to_dial(&mut self, key: usize, addr: Addr) -> Result<(), OutOfMemory>
+        ensures { OnOk result (Makes (HasNoRoomToDial key addr) self.old self.new) }
+    {
         self.has_no_room();
         if self.lose_oldest_stranger()? {
-            Ok(self.connecting.push_back((key, addr))?)
-        } else {
-            self.lose(key)
+            self.connecting.push_back((key, addr))?;
+            return Ok(());
         }
+        self.lose(key)?;
+        Ok(())
     }
 
     /// What has become of a socket that connects.
@@ -164,6 +222,7 @@ impl SocketFlow {
         ensures events { OnOk result (self.new.events ≡ self.old.events ++ dial_events (socket_at self.old.table key) dialed) }
         ensures stage { OnOk result (stage_at self.new.table key ≡ after_dial (socket_at self.old.table key) dialed) }
         ensures others { (k : ℕ) → eqb key k ≡ false → stage_at self.new.table k ≡ stage_at self.old.table k }
+        ensures made { OnOk result (Makes (DialCameTo key dialed) self.old self.new) }
     {
         let Some(socket) = self.table.sockets.get_mut(&key) else {
             return Ok(());
@@ -183,6 +242,7 @@ impl SocketFlow {
         ensures events { OnOk result (self.new.events ≡ self.old.events ++ Told id.cid true ∷ []) }
         ensures stage { OnOk result (stage_at self.new.table key ≡ Some (Open id)) }
         ensures others { (k : ℕ) → eqb key k ≡ false → stage_at self.new.table k ≡ stage_at self.old.table k }
+        ensures connects { OnOk result (Connects key id self.old self.new) }
     {
         if let Some(socket) = self.table.sockets.get_mut(&key) {
             socket.stage = Stage::Open(id);
@@ -198,6 +258,8 @@ impl SocketFlow {
         ensures limits { IfOk result (λ event. IfSome event IsWithinLimits) }
         ensures told { IfOk result (λ event. event ≡ told_of (socket_at self.old.table key) bytes.now) }
         ensures after { OnOk result (Puts self.old.table self.new.table key (after_bytes (socket_at self.old.table key) bytes.now)) }
+        ensures rest { OnOk result (KeepsRest self.old self.new) }
+        ensures made { IfOk result (λ event. Makes (BytesCame key bytes.now event) self.old self.new) }
     {
         let Some(socket) = self.table.get(key) else {
             return Ok(None);
@@ -217,7 +279,8 @@ impl SocketFlow {
     }
 
     fn hear(&mut self, key: usize, bytes: &[u8]) -> Result<(), OutOfMemory>
-        ensures { OnOk result (Puts self.old.table self.new.table key (after_bytes (socket_at self.old.table key) bytes.now)) }
+        ensures after { OnOk result (Puts self.old.table self.new.table key (after_bytes (socket_at self.old.table key) bytes.now)) }
+        ensures rest { OnOk result (KeepsRest self.old self.new) }
     {
         let Some(socket) = self.table.sockets.get_mut(&key) else {
             return Ok(());
@@ -234,7 +297,8 @@ impl SocketFlow {
 
     // A peer has connected, and its address is known.
     fn introduce(&mut self, addr: Addr, key: usize) -> Result<(), OutOfMemory>
-        ensures { Puts self.old.table self.new.table key (waits_with addr (socket_at self.old.table key)) }
+        ensures after { Puts self.old.table self.new.table key (waits_with addr (socket_at self.old.table key)) }
+        ensures rest { KeepsRest self.old self.new }
     {
         if let Some(socket) = self.table.sockets.get_mut(&key) {
             socket.stage = Stage::Waiting(addr);
@@ -247,6 +311,7 @@ impl SocketFlow {
     pub fn ended(&mut self, key: usize) -> Result<(), OutOfMemory>
         ensures gone { Puts self.old.table self.new.table key None }
         ensures events { OnOk result (self.new.events ≡ self.old.events ++ endings (socket_at self.old.table key)) }
+        ensures made { OnOk result (Makes (HasEnded key) self.old self.new) }
     {
         self.lose(key)
     }
@@ -255,6 +320,8 @@ impl SocketFlow {
     pub fn went(&mut self, key: usize, count: usize) -> Result<(), OutOfMemory>
         ensures after { OnOk result (Puts self.old.table self.new.table key (after_going (socket_at self.old.table key) count)) }
         ensures events { OnOk result (self.new.events ≡ self.old.events) }
+        ensures rest { OnOk result (KeepsRest self.old self.new) }
+        ensures made { OnOk result (Makes (BytesWent key count) self.old self.new) }
     {
         let Some(socket) = self.table.sockets.get_mut(&key) else {
             return Ok(());
@@ -277,6 +344,8 @@ impl SocketFlow {
     pub fn is_full(&mut self, key: usize) -> Result<(), OutOfMemory>
         ensures after { OnOk result (Puts self.old.table self.new.table key (after_full (socket_at self.old.table key))) }
         ensures events { OnOk result (self.new.events ≡ self.old.events) }
+        ensures rest { OnOk result (KeepsRest self.old self.new) }
+        ensures made { OnOk result (Makes (TakesNoMore key) self.old self.new) }
     {
         let Some(socket) = self.table.sockets.get_mut(&key) else {
             return Ok(());

@@ -1,5 +1,6 @@
-//! Laws on turns and on what is written, whatever function gives them. The functions do nothing.
+//! Laws on histories of the flow, and on turns and on what is written, whatever function gives them. The functions do nothing.
 
+ghost use Rattle.socket_flow.specs.Histories.{WhatCameIsTold};
 ghost use Rattle.socket_flow.specs.Turns.{AreFair, AreRound};
 ghost use Rattle.socket_flow.specs.Writing.{KeepsOrder};
 
@@ -12,4 +13,10 @@ pub fn turns_are_fair()
 /// What is written on a socket is a front of what was put on it, in its order.
 pub fn writing_keeps_order()
     ensures { KeepsOrder }
+{}
+
+/// Of every history, on every socket: what came is what was announced, and behind it the bytes of the events, one after another,
+/// each told of one and the same connection.
+pub fn what_came_is_told()
+    ensures { WhatCameIsTold }
 {}

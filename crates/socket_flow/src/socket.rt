@@ -1,6 +1,7 @@
-ghost use Rattle.std.specs.Prelude.{◌≡◌, ◌+◌, ◌-◌, min, true, false, nat_lt, ◌&&◌, length, [], ◌++◌, drop, IfOk, OnOk, OnErr};
+ghost use Rattle.std.specs.Prelude.{◌≡◌, ◌+◌, ◌-◌, min, true, false, nat_lt, ◌&&◌, length, [], ◌++◌, drop, Some, IfOk, OnOk, OnErr};
 ghost use Rattle.socket_flow.specs.declared.socket.Stage.TheVariants.{Announcing};
 ghost use Rattle.socket_flow.specs.Stages.{heard_by, more_said, unheard};
+ghost use Rattle.socket_flow.specs.Table.{is_linked};
 
 use crate::announcement::{Heard, announced_size, read_announcement};
 use crate::id::Id;
@@ -59,6 +60,13 @@ impl Socket {
         ensures { result ≡ length self.now.out }
     {
         self.out.front().len()
+    }
+
+    /// It is a connection, or is to be one.
+    pub(crate) fn is_linked(&self) -> bool
+        ensures { result ≡ is_linked (Some self.now.stage) }
+    {
+        matches!(self.stage, Stage::Dialing(_) | Stage::Open(_))
     }
 
     /// So much waits to be sent that nothing is to be read, where so much waits on all sockets.

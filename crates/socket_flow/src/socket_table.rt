@@ -53,6 +53,7 @@ impl SocketTable {
     pub(crate) fn name(&mut self, id: Id, key: usize) -> Result<(), OutOfMemory>
         ensures names { OnOk result ((cid : ℕ) → key_at self.new cid ≡ (if eqb id.cid.0 cid then Some key else key_at self.old cid)) }
         ensures sockets { HasSame self.old self.new }
+        ensures next { self.new.next_key ≡ self.old.next_key }
         ensures err { OnErr result (NamesSame self.old self.new) }
     {
         self.keys.insert(id.cid.0, key)?;
@@ -75,6 +76,7 @@ impl SocketTable {
     pub(crate) fn forget(&mut self, id: u64)
         ensures names { (cid : ℕ) → key_at self.new cid ≡ (if eqb id cid then None else key_at self.old cid) }
         ensures sockets { HasSame self.old self.new }
+        ensures next { self.new.next_key ≡ self.old.next_key }
     {
         self.keys.remove(&id);
     }
@@ -84,6 +86,7 @@ impl SocketTable {
         ensures value { result ≡ socket_at self.old key }
         ensures sockets { Puts self.old self.new key None }
         ensures names { (cid : ℕ) → key_at self.new cid ≡ (if is_of result cid then None else key_at self.old cid) }
+        ensures next { self.new.next_key ≡ self.old.next_key }
     {
         let socket = self.sockets.remove(&key)?;
         if let Stage::Dialing(id) | Stage::Open(id) = socket.stage {

@@ -1,0 +1,5 @@
+use Rattle.socket_flow.proofs.Losing.{kept, lost, and_then}
+use Rattle.socket_flow.proofs.flow.SocketFlow.look_after.Goals as goal
+
+pub returns : goal.returns
+returns c = and_then _ _ _ (kept _ _ c.is_taken_from.ensures) (lost _ _ _ c.in_ok-lose.ensures.loses)
