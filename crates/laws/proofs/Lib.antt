@@ -57,6 +57,7 @@ mod Chain
 mod Due
 mod CarriedOut
 mod Least
+mod Moments
 mod PartMoves
 pub mod PartEvents
 mod Waits

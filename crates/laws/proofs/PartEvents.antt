@@ -62,7 +62,7 @@ fired-parts event (suc n) m h = by_due (due m) refl (fired-parts event n)
     by_due None is later = no_part event m
     by_due (Some d) is later =
         let keeps : Keeps 0 m (fires d m).machine = fires-keeps d m h is in
-        first_part event (fires_one d) (map fires_one (fired n (fires d m).machine)) m (least-due m d is) tt tt
+        first_part event (fires_one d) (map fires_one (fired n (fires d m).machine)) m (least-due m d h is) tt tt
         (accounted-part event m (fires d m) (fires-obeys d m h is).accounted) (later (fires d m).machine keeps.ordered)
 
 -- what is neither a connection nor a peer is set

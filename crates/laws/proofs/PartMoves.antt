@@ -22,6 +22,7 @@ use Rattle.laws.proofs.Due.{ends-due}
 use Rattle.laws.proofs.Forgiven.{forgives}
 use Rattle.laws.proofs.Lawful.{Accounts, IsProviding, ends_same}
 use Rattle.laws.proofs.Lists.{all-placed}
+use Rattle.laws.proofs.Moments.{over-after}
 use Rattle.laws.proofs.Telling.{ended-over}
 use Rattle.laws.proofs.Pruning.{pruned-rightly}
 use Rattle.laws.proofs.WaitsOfParts.{Finds, waits-right, is-set}
@@ -131,6 +132,7 @@ lawful-part event act m next order found h = record {
   pruned = pruned-rightly act m found;
   waits = waits-right act m found;
   sets = is-set act m found;
+  over = over-after act m;
 }
 
 -- ---- one part after the other

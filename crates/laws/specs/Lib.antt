@@ -4,6 +4,7 @@ pub mod CarriedOut
 pub mod Carrying
 pub mod Ends
 pub mod Laws
+pub mod Moments
 pub mod Parts
 pub mod Props
 pub mod Records

@@ -1,5 +1,5 @@
 -- What an operator counts on in each part of an event, between the records that it really reaches.
-use Rattle.std.specs.Prelude.{ℕ, ◌≡◌, ◌≤◌, Bool, true, false, ◌||◌, List, [], ◌∷◌, All, Contains}
+use Rattle.std.specs.Prelude.{ℕ, ◌≡◌, ◌≤◌, Bool, true, false, ◌||◌, List, [], ◌∷◌, All, Contains, Some}
 use Rattle.std.specs.List.{AllByRecursion, list_any}
 use Rattle.net_base.specs.declared.action.CloseCause.{CloseCause}
 use Rattle.net_base.specs.declared.address.Addr.{Addr}
@@ -16,7 +16,8 @@ use Rattle.laws.specs.CarriedOut.{IsDoneByOrder, TreatsBook, Forgives, PausesRig
 use Rattle.laws.specs.Ends.{ends_due, but_pruned, pruned_in, IsPrunedIn}
 use Rattle.laws.specs.Stages.{causes_in, IsLateCause}
 use Rattle.laws.specs.Telling.{IsTold}
-use Rattle.laws.specs.Waits.{WaitsRight}
+use Rattle.laws.specs.Moments.{IsOverAfter}
+use Rattle.laws.specs.Waits.{until_at, WaitsRight}
 use Rattle.laws.specs.Told.{ends_in}
 
 -- ---- what a part does
@@ -25,6 +26,8 @@ use Rattle.laws.specs.Told.{ends_in}
 pub record IsLeastDue (m : Machine) (d : Deadline) : Type 0 where
   pub among : Contains (deadlines m) d
   pub due : d.at ≤ m.now
+  -- its connection waits until that moment, for what the deadline is of
+  pub waited : until_at d.kind d.cid.0 m ≡ Some d.at
   pub first : All (λ other. deadline_before other d ≡ false) (deadlines m)
 
 abbrev pub IsNext : Act → Machine → Type 0
@@ -86,6 +89,8 @@ pub record IsLawfulPart (event : Event) (part : Part) : Type 0 where
   pub waits : WaitsRight part.before (effect_of part).machine
   -- the clock, the targets and the groups are what was set last
   pub sets : IsSet part.act part.before (effect_of part).machine
+  -- what has fired is over
+  pub over : IsOverAfter part.act (effect_of part).machine
 
 pub record IsLawfulEvent (m : Machine) (event : Event) : Type 0 where
   -- it is its parts, one after the other
