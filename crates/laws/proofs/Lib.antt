@@ -58,6 +58,10 @@ mod Due
 mod CarriedOut
 mod Least
 mod Moments
+mod Goes
+mod RootsAsked
+mod Agreed
+mod Responders
 mod PartMoves
 pub mod PartEvents
 mod Waits

@@ -174,7 +174,7 @@ due-waited m d h is =
 -- ---- what has fired is over
 
 -- one that went is found no more
-gone-none : (cid : ℕ) (m : Machine) → entry_at cid (without_entry cid m) ≡ None
+pub gone-none : (cid : ℕ) (m : Machine) → entry_at cid (without_entry cid m) ≡ None
 gone-none cid m =
     gone-found cid cid m.connections ∙ ap (λ b. if b then None else find (λ x. has_id cid x.facts) m.connections) (eq-eqb cid cid refl)
 
@@ -182,15 +182,18 @@ pub ending-none : (cause : CloseCause) (e : Entry) (m : Machine) → entry_at e.
 ending-none cause e m =
     ap (find (λ x. has_id e.facts.cid.0 x.facts)) (lost_by-quiet cause e.facts (without_entry e.facts.cid.0 m)).connections ∙ gone-none e.facts.cid.0 m
 
+-- where one is found, what it turned into is
+pub turned-found : (e new : Entry) (m : Machine) → new.facts.cid ≡ e.facts.cid → entry_at e.facts.cid.0 (with_entry new m) ≡ option_map (λ x. new) (entry_at e.facts.cid.0 m)
+turned-found e new m same =
+    replaced e.facts.cid.0 new m.connections
+    ∙ ap (λ b. if b then option_map (λ x. new) (entry_at e.facts.cid.0 m) else entry_at e.facts.cid.0 m) (eq-eqb new.facts.cid.0 e.facts.cid.0 (ap (λ c. c.0) same))
+
 fired-over : (sort : Kind) (e : Entry) (m : Machine) → until_at sort e.facts.cid.0 (fires_as sort e m).machine ≡ None
 fired-over kind.Handshake e m = ap (until_in kind.Handshake) (ending-none (Fault HandshakeWait) e m)
 fired-over kind.Grace e m = by_local e.facts.local
   where
     turned : (new : Entry) → new.facts.cid ≡ e.facts.cid → until_of kind.Grace new ≡ None → until_at kind.Grace e.facts.cid.0 (with_entry new m) ≡ None
-    turned new same off =
-        ap (until_in kind.Grace) (replaced e.facts.cid.0 new m.connections
-        ∙ ap (λ b. if b then option_map (λ x. new) (entry_at e.facts.cid.0 m) else entry_at e.facts.cid.0 m) (eq-eqb new.facts.cid.0 e.facts.cid.0 (ap (λ c. c.0) same)))
-        ∙ by_found (entry_at e.facts.cid.0 m)
+    turned new same off = ap (until_in kind.Grace) (turned-found e new m same) ∙ by_found (entry_at e.facts.cid.0 m)
       where
         by_found : (o : Option Entry) → until_in kind.Grace (option_map (λ x. new) o) ≡ None
         by_found None = refl

@@ -22,7 +22,11 @@ use Rattle.laws.proofs.Due.{ends-due}
 use Rattle.laws.proofs.Forgiven.{forgives}
 use Rattle.laws.proofs.Lawful.{Accounts, IsProviding, ends_same}
 use Rattle.laws.proofs.Lists.{all-placed}
+use Rattle.laws.proofs.Agreed.{agrees-right}
+use Rattle.laws.proofs.Goes.{goes-where}
 use Rattle.laws.proofs.Moments.{over-after}
+use Rattle.laws.proofs.Responders.{responds-right}
+use Rattle.laws.proofs.RootsAsked.{asks-right}
 use Rattle.laws.proofs.Telling.{ended-over}
 use Rattle.laws.proofs.Pruning.{pruned-rightly}
 use Rattle.laws.proofs.WaitsOfParts.{Finds, waits-right, is-set}
@@ -133,6 +137,10 @@ lawful-part event act m next order found h = record {
   waits = waits-right act m found;
   sets = is-set act m found;
   over = over-after act m;
+  goes = goes-where act m;
+  asks = asks-right act m;
+  agrees = agrees-right act m;
+  responds = responds-right act m;
 }
 
 -- ---- one part after the other

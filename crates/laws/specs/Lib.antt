@@ -1,13 +1,17 @@
 pub mod Acts
+pub mod Agreed
 pub mod AtMoves
 pub mod CarriedOut
 pub mod Carrying
 pub mod Ends
+pub mod Goes
 pub mod Laws
 pub mod Moments
 pub mod Parts
 pub mod Props
 pub mod Records
+pub mod Responders
+pub mod RootsAsked
 pub mod Sound
 pub mod Stages
 pub mod Told

@@ -10,6 +10,10 @@ use Rattle.machine.specs.Deadlines.{deadlines}
 use Rattle.machine.specs.Effect.{Effect, Happened, for_each}
 use Rattle.machine.specs.Machine.{Machine}
 use Rattle.machine.specs.Step.{step}
+use Rattle.laws.specs.Agreed.{AgreesRight}
+use Rattle.laws.specs.Goes.{GoesWhere}
+use Rattle.laws.specs.Responders.{RespondsRight}
+use Rattle.laws.specs.RootsAsked.{AsksRight}
 use Rattle.laws.specs.Acts.{Act, fires_one, does, acts, Part, effect_of, parts_of}
 use Rattle.laws.specs.AtMoves.{is_closed_by, is_negotiated_at, is_up, is_hot_or_asked, is_known, promotes, activates, is_shared_in, is_provided_by, MovesAreLawful}
 use Rattle.laws.specs.CarriedOut.{IsDoneByOrder, TreatsBook, Forgives, PausesRight, IsSet}
@@ -91,6 +95,14 @@ pub record IsLawfulPart (event : Event) (part : Part) : Type 0 where
   pub sets : IsSet part.act part.before (effect_of part).machine
   -- what has fired is over
   pub over : IsOverAfter part.act (effect_of part).machine
+  -- whom the other side closes is gone, and whose dial fails
+  pub goes : GoesWhere part.act part.before (effect_of part)
+  -- public roots are asked for exactly where they are wanted
+  pub asks : AsksRight part.act part.before (effect_of part)
+  -- what a handshake ends in is what both sides said
+  pub agrees : AgreesRight part.act part.before (effect_of part).machine
+  -- a protocol runs from its first item to its last
+  pub responds : RespondsRight part.act part.before (effect_of part).machine
 
 pub record IsLawfulEvent (m : Machine) (event : Event) : Type 0 where
   -- it is its parts, one after the other
