@@ -58,6 +58,7 @@ mod Due
 mod CarriedOut
 mod Least
 mod Moments
+mod BackOff
 mod Goes
 mod RootsAsked
 mod Agreed

@@ -58,6 +58,7 @@ use Rattle.machine.specs.Talking.{stops_if, serves, begins, takes_requests, aske
 use Rattle.laws.specs.Acts.{Act, shows, fires_one, asks_for_roots, carries, connects, ends_dial, stores, handles_item, ends_stream, is_closed, sets_targets, sets_big_targets, sets_groups, sets_roots, makes_ordinary, provides, provides_big, does}
 use Rattle.laws.specs.CarriedOut.{IsUnset, IsSet}
 use Rattle.laws.specs.Sound.{IsOrderly}
+use Rattle.laws.specs.Whole.{IsOrdered}
 use Rattle.laws.specs.Waits.{until_of, until_in, until_at, until_unused, length_of, IsWait, WaitsRight}
 use Rattle.laws.proofs.Handshakes.{answer-machine}
 use Rattle.laws.proofs.Keeping.{note-machine}
@@ -465,7 +466,7 @@ big-waits addr m = cond_both (is_wanted_big addr m) (as_move (shared addr) m (pe
 -- what is stored is of a connection that stands, and where ids are distinct an order and an item find the one that they mean
 abbrev pub Finds : Act → Machine → Type 0
 Finds (stores entry undecoded) m = entry_at entry.facts.cid.0 m ≡ Some entry
-Finds (carries order) m = IsOrderly m
+Finds (carries order) m = IsOrdered m
 Finds (handles_item cid item) m = IsOrderly m
 Finds other m = Unit {0}
 
@@ -489,7 +490,7 @@ unfolding Stands
 waits-of (shows t) m found = tt
 waits-of (fires_one d) m found = on_found d.cid.0 (fires_as d.kind) m (λ e stands. fires_as-waits d.kind e m stands)
 waits-of asks_for_roots m found = tt
-waits-of (carries order) m found = carries-waits order m (orderly-finds m found)
+waits-of (carries order) m found = carries-waits order m (orderly-finds m found.orderly)
 waits-of (connects addr) m found = connects-waits addr m
 waits-of (ends_dial cid opened) m found = on_found cid.0 (dialed opened) m (λ e stands. dialed-waits opened e m stands)
 waits-of (stores e undecoded) m found = turned-waits m e (record e { undecoded = undecoded }) found refl (decodes-right m e undecoded)

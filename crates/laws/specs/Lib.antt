@@ -1,6 +1,7 @@
 pub mod Acts
 pub mod Agreed
 pub mod AtMoves
+pub mod BackOff
 pub mod CarriedOut
 pub mod Carrying
 pub mod Ends

@@ -11,6 +11,7 @@ use Rattle.machine.specs.Effect.{Effect, Happened, for_each}
 use Rattle.machine.specs.Machine.{Machine}
 use Rattle.machine.specs.Step.{step}
 use Rattle.laws.specs.Agreed.{AgreesRight}
+use Rattle.laws.specs.BackOff.{Remembers}
 use Rattle.laws.specs.Goes.{GoesWhere}
 use Rattle.laws.specs.Responders.{RespondsRight}
 use Rattle.laws.specs.RootsAsked.{AsksRight}
@@ -103,6 +104,8 @@ pub record IsLawfulPart (event : Event) (part : Part) : Type 0 where
   pub agrees : AgreesRight part.act part.before (effect_of part).machine
   -- a protocol runs from its first item to its last
   pub responds : RespondsRight part.act part.before (effect_of part).machine
+  -- what is remembered of a peer changes only by what happens with it
+  pub remembers : Remembers part.act part.before (effect_of part).machine
 
 pub record IsLawfulEvent (m : Machine) (event : Event) : Type 0 where
   -- it is its parts, one after the other
