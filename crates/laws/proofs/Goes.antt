@@ -1,8 +1,10 @@
 -- Who goes without this node's doing.
-use Rattle.std.proofs.Common.{ℕ, ◌≡◌, Bool, false, if◌then◌else◌, [], ◌∷◌, ◌++◌, find, Option, Some, None, refl, ap, ◌∙◌, subst, eq-eqb, eqb-true}
+use Rattle.std.proofs.Common.{ℕ, ◌≡◌, Bool, false, if◌then◌else◌, List, [], ◌∷◌, ◌++◌, find, flat_map, Option, Some, None, refl, ap, ◌∙◌, subst, eq-eqb, eqb-true}
 use Rattle.std.proofs.lemmas.Bool.{cond_both}
 use Rattle.conn_state.specs.Use.{has_id}
 use Rattle.net_base.specs.Peer.{failed_peer}
+use Rattle.net_base.specs.declared.action.Action.{Action}
+use Rattle.net_base.specs.declared.address.Addr.{Addr}
 use Rattle.net_base.specs.declared.action.Action.TheVariants.{Peer as TellPeer}
 use Rattle.net_base.specs.declared.action.PeerNote.TheVariants as note
 use Rattle.net_base.specs.declared.action.StateName.TheVariants.{Terminated}
@@ -19,18 +21,20 @@ use Rattle.machine.specs.Peers.{peer_at, turns_at, peer_fails}
 use Rattle.laws.specs.Acts.{Act, shows, fires_one, asks_for_roots, carries, connects, ends_dial, stores, handles_item, ends_stream, is_closed, sets_targets, sets_big_targets, sets_groups, sets_roots, makes_ordinary, provides, provides_big, does}
 use Rattle.laws.specs.CarriedOut.{WhereLive}
 use Rattle.laws.specs.Goes.{IsGone, WhereDialing, GoesWhere}
-use Rattle.laws.specs.Told.{names_in}
+use Rattle.laws.specs.Told.{names_by, names_in}
 use Rattle.laws.proofs.Lawful.{lost-quiet}
 use Rattle.laws.proofs.Lists.{find_some}
 use Rattle.laws.proofs.Moments.{gone-none}
 
-lost-names : (cid : ℕ) (f : Facts) (m : Machine) → names_in cid (lost f m).actions ≡ []
-lost-names cid f m = cond_both (is_missed f) (peer_fails f.addr m) (nothing_more m) (λ effect. names_in cid effect.actions ≡ [])
+-- what comes of a loss is a note on a peer
+pub lost-silent : {X : Type 0} (by : Action → List X) → ((addr : Addr) → by (TellPeer addr note.Cold) ≡ []) → (f : Facts) (m : Machine) → flat_map by (lost f m).actions ≡ []
+lost-silent by silent f m = cond_both (is_missed f) (peer_fails f.addr m) (nothing_more m) (λ effect. flat_map by effect.actions ≡ [])
     (λ missed. by_peer (peer_at f.addr m)) (λ other. refl)
   where
-    by_peer : (o : Option Peer) → names_in cid (turns_at o (failed_peer m.now m.settings.backoff) m).actions ≡ []
+    by_peer : (o : Option Peer) → flat_map by (turns_at o (failed_peer m.now m.settings.backoff) m).actions ≡ []
     by_peer None = refl
-    by_peer (Some p) = cond_both (same_temp p.temp Cold) [] (TellPeer p.addr note.Cold ∷ []) (λ actions. names_in cid actions ≡ []) (λ same. refl) (λ other. refl)
+    by_peer (Some p) = cond_both (same_temp p.temp Cold) [] (TellPeer p.addr note.Cold ∷ []) (λ actions. flat_map by actions ≡ []) (λ same. refl)
+        (λ other. ap (λ xs. xs ++ []) (silent p.addr))
 
 vanishes-gone : (e : Entry) (m : Machine) → IsGone e.facts.cid.0 (vanishes e m)
 vanishes-gone e m =
@@ -39,7 +43,7 @@ vanishes-gone e m =
     record {
       gone = ap (find (λ x. has_id cid x.facts)) (lost-quiet e.facts n).connections ∙ gone-none cid m;
       told = ap (λ b. (if b then Terminated ∷ [] else []) ++ names_in cid (lost e.facts n).actions) (eq-eqb cid cid refl)
-          ∙ ap (λ names. Terminated ∷ names) (lost-names cid e.facts n);
+          ∙ ap (λ names. Terminated ∷ names) (lost-silent (names_by cid) (λ addr. refl) e.facts n);
     }
 
 own-id : (cid : ℕ) (m : Machine) (e : Entry) → entry_at cid m ≡ Some e → e.facts.cid.0 ≡ cid

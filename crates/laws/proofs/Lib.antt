@@ -59,6 +59,7 @@ mod CarriedOut
 mod Least
 mod Moments
 mod BackOff
+mod Served
 mod Goes
 mod RootsAsked
 mod Agreed

@@ -28,6 +28,7 @@ use Rattle.laws.proofs.Goes.{goes-where}
 use Rattle.laws.proofs.Moments.{over-after}
 use Rattle.laws.proofs.Responders.{responds-right}
 use Rattle.laws.proofs.RootsAsked.{asks-right}
+use Rattle.laws.proofs.Served.{answers-right}
 use Rattle.laws.proofs.Telling.{ended-over}
 use Rattle.laws.proofs.Pruning.{pruned-rightly}
 use Rattle.laws.proofs.WaitsOfParts.{Finds, waits-right, is-set}
@@ -161,6 +162,7 @@ lawful-part event act m next order found h = record {
   asks = asks-right act m;
   agrees = agrees-right act m;
   responds = responds-right act m;
+  answers = answers-right act m;
   remembers = remembers act m (known-of act m found);
 }
 

@@ -94,16 +94,27 @@ turned-runs e new m same = subst (Running new.facts.running) (sym (turned-found 
     by_found None = tt
     by_found (Some f) = refl
 
--- what has begun: it stands with its protocol running, or was pruned
-begins-runs : (protocol : ℕ) (e : Entry) (m : Machine) → entry_at e.facts.cid.0 m ≡ Some e → Running (with_responder protocol true e.facts.running) (entry_at e.facts.cid.0 (begins protocol e m).machine)
-begins-runs protocol e m stands = cond_both (runs protocol e.facts.running) (nothing_more m) (awake protocol e m)
-    (λ effect. Running (with_responder protocol true e.facts.running) (entry_at e.facts.cid.0 effect.machine))
-    (λ running. subst (Running (with_responder protocol true e.facts.running)) (sym stands) (runs-begun protocol e.facts.running running))
-    (λ silent. let new : Entry = record e { facts = awakened protocol e.facts } in
-    elim (trim-found e.facts.cid.0 e.facts.cid (with_entry new m)) [
-      | inl none ↦ subst (Running (with_responder protocol true e.facts.running)) (sym none) tt
-      | inr same ↦ subst (Running (with_responder protocol true e.facts.running)) (sym same) (turned-runs e new m refl)
+-- what has begun stands as it did but for that, or was pruned
+pub begins-there : (law : Entry → Type 0) (protocol : ℕ) (e : Entry) (m : Machine) → entry_at e.facts.cid.0 m ≡ Some e →
+    (runs protocol e.facts.running ≡ true → law e) → law (record e { facts = awakened protocol e.facts }) → WhereThere (entry_at e.facts.cid.0 (begins protocol e m).machine) law
+begins-there law protocol e m stands was turns = cond_both (runs protocol e.facts.running) (nothing_more m) (awake protocol e m)
+    (λ effect. WhereThere (entry_at e.facts.cid.0 effect.machine) law) (λ running. subst (λ o. WhereThere o law) (sym stands) (was running))
+    (λ silent. elim (trim-found e.facts.cid.0 e.facts.cid (with_entry new m)) [
+      | inl none ↦ subst (λ o. WhereThere o law) (sym none) tt
+      | inr same ↦ subst (λ o. WhereThere o law) (sym same) (subst (λ o. WhereThere o law) (sym (turned-found e new m refl)) (by_found (entry_at e.facts.cid.0 m)))
     ])
+  where
+    new : Entry
+    new = record e { facts = awakened protocol e.facts }
+
+    by_found : (o : Option Entry) → WhereThere (option_map (λ x. new) o) law
+    by_found None = tt
+    by_found (Some f) = turns
+
+-- its protocol runs then
+begins-runs : (protocol : ℕ) (e : Entry) (m : Machine) → entry_at e.facts.cid.0 m ≡ Some e → Running (with_responder protocol true e.facts.running) (entry_at e.facts.cid.0 (begins protocol e m).machine)
+begins-runs protocol e m stands =
+    begins-there (λ f. f.facts.running ≡ with_responder protocol true e.facts.running) protocol e m stands (runs-begun protocol e.facts.running) refl
 
 serves-runs : (seen : Seen) (protocol : ℕ) (r : Responders) (f : Entry) (m : Machine) → entry_at f.facts.cid.0 m ≡ Some f → f.facts.running ≡ with_responder protocol true r →
     Running (with_responder protocol (not seen.done) r) (entry_at f.facts.cid.0 (serves seen protocol f m).machine)

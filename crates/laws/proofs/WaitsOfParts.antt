@@ -83,10 +83,10 @@ comes-waits big addr m =
 -- ---- a connection that is found
 
 -- it has the id by which it was found
-Stands : Entry → Machine → Type 0
+pub Stands : Entry → Machine → Type 0
 Stands e m = entry_at e.facts.cid.0 m ≡ Some e
 
-found-stands : (cid : ℕ) (m : Machine) (e : Entry) → entry_at cid m ≡ Some e → Stands e m
+pub found-stands : (cid : ℕ) (m : Machine) (e : Entry) → entry_at cid m ≡ Some e → Stands e m
 unfolding Stands
 found-stands cid m e is =
     let own : (e.facts.cid.0 == cid) ≡ true = (find_some (λ x. has_id cid x.facts) m.connections e is).passes in
@@ -390,7 +390,7 @@ serves-waits seen protocol e m stands =
     by_done true = idle-waits protocol e m stands
     by_done false = waits_nothing m
 
-begins-waits : (protocol : ℕ) (e : Entry) (m : Machine) → Stands e m → Waits m (begins protocol e m).machine
+pub begins-waits : (protocol : ℕ) (e : Entry) (m : Machine) → Stands e m → Waits m (begins protocol e m).machine
 begins-waits protocol e m stands = cond_both (runs protocol e.facts.running) (nothing_more m) (awake protocol e m) (λ effect. Waits m effect.machine)
     (λ running. waits_nothing m)
     (λ silent. let n : Machine = with_entry (record e { facts = awakened protocol e.facts }) m in

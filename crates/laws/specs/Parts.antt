@@ -15,6 +15,7 @@ use Rattle.laws.specs.BackOff.{Remembers}
 use Rattle.laws.specs.Goes.{GoesWhere}
 use Rattle.laws.specs.Responders.{RespondsRight}
 use Rattle.laws.specs.RootsAsked.{AsksRight}
+use Rattle.laws.specs.Served.{AnswersRight}
 use Rattle.laws.specs.Acts.{Act, fires_one, does, acts, Part, effect_of, parts_of}
 use Rattle.laws.specs.AtMoves.{is_closed_by, is_negotiated_at, is_up, is_hot_or_asked, is_known, promotes, activates, is_shared_in, is_provided_by, MovesAreLawful}
 use Rattle.laws.specs.CarriedOut.{IsDoneByOrder, TreatsBook, Forgives, PausesRight, IsSet}
@@ -104,6 +105,8 @@ pub record IsLawfulPart (event : Event) (part : Part) : Type 0 where
   pub agrees : AgreesRight part.act part.before (effect_of part).machine
   -- a protocol runs from its first item to its last
   pub responds : RespondsRight part.act part.before (effect_of part).machine
+  -- whoever asks is answered, and told of nobody but who may be told
+  pub answers : AnswersRight part.act part.before (effect_of part)
   -- what is remembered of a peer changes only by what happens with it
   pub remembers : Remembers part.act part.before (effect_of part).machine
 
