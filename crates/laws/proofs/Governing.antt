@@ -163,7 +163,7 @@ always-trimmed Law order each [] m h within = nothing-followed Law m h within
 always-trimmed Law order each (a ∷ addrs) m h within =
     let effect : Effect = carries_out (order a) m in
     let first : Trimmed Law m effect = (each a m h within tt).trimmed in
-    first-followed Law (order a) (map order addrs) m h.orderly first
+    first-followed Law (order a) (map order addrs) m h first
     (always-trimmed Law order each addrs effect.machine first.ordered (trimmed-within Law m effect first))
 
 map-append : (order : Addr → Order) (xs ys : List Addr) → map order (xs ++ ys) ≡ map order xs ++ map order ys

@@ -9,7 +9,9 @@ use Rattle.timer_queue.specs.Timers.{earlier, least}
 use Rattle.machine.specs.Machine.{Machine}
 use Rattle.laws.specs.Parts.{IsLeastDue}
 use Rattle.laws.proofs.Firing.{least-none, due-contains}
+use Rattle.laws.specs.Whole.{IsOrdered}
 use Rattle.laws.proofs.Lists.{all-placed}
+use Rattle.laws.proofs.Moments.{due-waited}
 
 -- of three, where neither the first is before the second nor the second before the third: by one number, and then the rest
 none_before : (a b c : ℕ) (p q r : Bool) → (nat_lt a b || (a == b && p)) ≡ false → (nat_lt b c || (b == c && q)) ≡ false → (p ≡ false → q ≡ false → r ≡ false) →
@@ -104,13 +106,14 @@ not_due now d due_by (x ∷ ds) h = by_due (nat_le x.at now) refl h (not_due now
     by_due true is h rest = (h.0, rest h.1)
     by_due false is h rest = (later now x d due_by is, rest h)
 
-pub least-due : (m : Machine) (d : Deadline) → due m ≡ Some d → IsLeastDue m d
-least-due m d is =
+pub least-due : (m : Machine) (d : Deadline) → IsOrdered m → due m ≡ Some d → IsLeastDue m d
+least-due m d h is =
     let known = due-contains m d is in
     let late : d.at ≤ m.now = leb-true d.at m.now known.1 in
     record {
       among = known.0;
       due = late;
+      waited = due-waited m d h is;
       first = all-placed (λ x. deadline_before x d ≡ false) (deadlines m)
           (not_due m.now d late (deadlines m) (least-first (filter (λ x. nat_le x.at m.now) (deadlines m)) d is));
     }

@@ -57,6 +57,13 @@ mod Chain
 mod Due
 mod CarriedOut
 mod Least
+mod Moments
+mod BackOff
+mod Served
+mod Goes
+mod RootsAsked
+mod Agreed
+mod Responders
 mod PartMoves
 pub mod PartEvents
 mod Waits

@@ -22,7 +22,6 @@ use Rattle.machine.specs.Govern.{is_used_at, on_used, asks_peer, activates, deac
 use Rattle.warm_messages.specs.Writing.{written_alive, written_request}
 use Rattle.warm_messages.specs.declared.alive.Alive.TheVariants.{Done}
 use Rattle.laws.specs.AtMoves.{IsReady, IsLawful, is_up_connection, is_up, is_hot_peer, is_asked_connection, is_hot_or_asked, is_known, promotes, activates as activation, shares}
-use Rattle.laws.specs.Sound.{IsOrderly}
 use Rattle.laws.specs.Whole.{AreApart, AreTied, IsAlone, TiedBy, IsTied, IsOrdered}
 use Rattle.laws.proofs.Addresses.{same_address-true}
 use Rattle.laws.proofs.Books.{book_of, filter-book}
@@ -62,7 +61,7 @@ still_may May m n a (b ∷ addrs) same others h = (same b others.0 h.0, still_ma
 
 -- each order accounts for what it does, on a machine that is in order
 pub record IsAccountedFor (order : Order) (m : Machine) : Type 0 where
-  pub orderly : IsOrderly m
+  pub ordered : IsOrdered m
   pub accounts : Accounts m (carries_out order m)
 
 abbrev pub EachAccounted : List Order → Machine → Type 0
@@ -78,12 +77,12 @@ pub nothing-followed : (Law : Move → Type 0) (m : Machine) → IsOrdered m →
 unfolding for_each
 nothing-followed Law m h within = record { trimmed = nothing-trimmed Law m within h; each = tt }
 
-pub first-followed : (Law : Move → Type 0) (order : Order) (orders : List Order) (m : Machine) → IsOrderly m → Trimmed Law m (carries_out order m) →
+pub first-followed : (Law : Move → Type 0) (order : Order) (orders : List Order) (m : Machine) → IsOrdered m → Trimmed Law m (carries_out order m) →
     Followed Law orders (carries_out order m).machine → Followed Law (order ∷ orders) m
 unfolding for_each
-first-followed Law order orders m orderly first rest = record {
+first-followed Law order orders m ordered first rest = record {
   trimmed = trimmed_then Law m (carries_out order m) (for_each carries_out orders) first rest.trimmed;
-  each = (record { orderly = orderly; accounts = first.accounted }, rest.each);
+  each = (record { ordered = ordered; accounts = first.accounted }, rest.each);
 }
 
 pub orders-followed : (Law : Move → Type 0) (May : Machine → Addr → Type 0) (order : Addr → Order) → Carries Law May order → (addrs : List Addr) (m : Machine) →
@@ -93,7 +92,7 @@ orders-followed Law May order each [] m h within apart may = nothing-followed La
 orders-followed Law May order each (a ∷ addrs) m h within apart may =
     let effect : Effect = carries_out (order a) m in
     let first : Carried Law May a m effect = each a m h within may.0 in
-    first-followed Law (order a) (map order addrs) m h.orderly first.trimmed
+    first-followed Law (order a) (map order addrs) m h first.trimmed
     (orders-followed Law May order each addrs effect.machine first.trimmed.ordered (trimmed-within Law m effect first.trimmed) apart.1
     (still_may May m effect.machine a addrs first.elsewhere apart.0 may.1))
 

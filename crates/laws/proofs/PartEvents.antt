@@ -62,7 +62,7 @@ fired-parts event (suc n) m h = by_due (due m) refl (fired-parts event n)
     by_due None is later = no_part event m
     by_due (Some d) is later =
         let keeps : Keeps 0 m (fires d m).machine = fires-keeps d m h is in
-        first_part event (fires_one d) (map fires_one (fired n (fires d m).machine)) m (least-due m d is) tt tt
+        first_part event (fires_one d) (map fires_one (fired n (fires d m).machine)) m (least-due m d h is) tt tt
         (accounted-part event m (fires d m) (fires-obeys d m h is).accounted) (later (fires d m).machine keeps.ordered)
 
 -- what is neither a connection nor a peer is set
@@ -92,7 +92,7 @@ clock-parts t m h = by_test (nat_le t m.now)
 orders-parts : (event : Event) (orders : List Order) (m : Machine) → EachAccounted orders m → AreLawful event (map carries orders) m
 orders-parts event [] m h = no_part event m
 orders-parts event (o ∷ orders) m h =
-    first_part event (carries o) (map carries orders) m tt (carried-out o m h.0.orderly) h.0.orderly (accounted-part event m (carries_out o m) h.0.accounts) (orders-parts event orders (carries_out o m).machine h.1)
+    first_part event (carries o) (map carries orders) m tt (carried-out o m h.0.ordered.orderly) h.0.ordered (accounted-part event m (carries_out o m) h.0.accounts) (orders-parts event orders (carries_out o m).machine h.1)
 
 govern-parts : (word : ℕ) (m : Machine) → IsOrdered m → counted_in m ≤ m.settings.hard → AreLawful (Govern word) (acts m (Govern word)) m
 govern-parts word m h within =

@@ -14,6 +14,7 @@ use Rattle.laws.specs.AtMoves.{is_hot_peer}
 use Rattle.laws.specs.Records.{LocalsAreEstablished, HotAreUsed, IsLawfulRecord}
 use Rattle.laws.specs.Whole.{IsShaped, IsFormed, IsSteady, TiedBy}
 use Rattle.laws.proofs.Lists.{FoundIn, find_some, All-stands, all-standing}
+use Rattle.laws.proofs.Moments.{waits-ahead}
 use Rattle.laws.proofs.Shapes.{local-negotiated}
 use Rattle.laws.proofs.Ties.{live_here}
 use Rattle.laws.proofs.WholeMoves.{pending-unnegotiated, negotiated-live}
@@ -110,4 +111,5 @@ steady-lawful m h = record {
   limit = h.sound.counted;
   deadlines = h.sound.deadlines;
   ordinary = h.locals;
+  waits = waits-ahead m h.sound.deadlines;
 }

@@ -107,7 +107,7 @@ trim-each P moved m chosen = cond_both (nat_le (counted_in m) m.settings.hard) (
     by_entry (Some e) is = subst (AllByRecursion P) (sym (ending-moves cause.Pruned e m)) (chosen e is, tt)
 
 -- whoever is chosen may go, or has moved
-chosen-goes : (moved : Cid) (m : Machine) → IsOrderly m → (e : Entry) → entry_at (unwrap_or (choice_of (candidates_in m)) moved).0 m ≡ Some e →
+pub chosen-goes : (moved : Cid) (m : Machine) → IsOrderly m → (e : Entry) → entry_at (unwrap_or (choice_of (candidates_in m)) moved).0 m ≡ Some e →
     (e.facts.cid.0 == moved.0 || is_candidate e.facts) ≡ true
 chosen-goes moved m h e is = by_choice (first_to_go (candidates_in m)) refl
   where
@@ -386,7 +386,7 @@ pub pruned-rightly : (act : Act) (m : Machine) → Finds act m → AllByRecursio
 pruned-rightly (shows t) m found = tt
 pruned-rightly (fires_one d) m found = fires-each (IsPrunedIn (fires_one d) m) (entry_at d.cid.0 m) d.kind m
 pruned-rightly asks_for_roots m found = roots-each (IsPrunedIn asks_for_roots m) m
-pruned-rightly (carries order) m found = carries-each order m found
+pruned-rightly (carries order) m found = carries-each order m found.orderly
 pruned-rightly (connects addr) m found = connects-each (IsPrunedIn (connects addr) m) addr m
 pruned-rightly (ends_dial cid opened) m found = dialed-each (IsPrunedIn (ends_dial cid opened) m) (entry_at cid.0 m) opened m
 pruned-rightly (stores entry undecoded) m found = tt

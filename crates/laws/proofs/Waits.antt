@@ -31,6 +31,7 @@ pub record Waits (before after : Machine) : Type 0 where
   pub targets : after.targets ≡ before.targets
   pub big_targets : after.big_targets ≡ before.big_targets
   pub groups : after.groups ≡ before.groups
+  pub roots : after.roots ≡ before.roots
   pub each : (kind : Kind) (cid : ℕ) → IsWait (before.now + length_of kind before.settings) (until_at kind cid before) (until_at kind cid after)
 
 pub waits_then : (m n o : Machine) → Waits m n → Waits n o → Waits m o
@@ -40,6 +41,7 @@ waits_then m n o one two = record {
   targets = two.targets ∙ one.targets;
   big_targets = two.big_targets ∙ one.big_targets;
   groups = two.groups ∙ one.groups;
+  roots = two.roots ∙ one.roots;
   each = λ kind cid. wait_then (m.now + length_of kind m.settings) (until_at kind cid m) (until_at kind cid n) (until_at kind cid o) (one.each kind cid)
       (subst (λ s. IsWait (m.now + length_of kind s) (until_at kind cid n) (until_at kind cid o)) one.settings
       (subst (λ t. IsWait (t + length_of kind n.settings) (until_at kind cid n) (until_at kind cid o)) one.now (two.each kind cid)));
@@ -49,20 +51,21 @@ pub waits_both : (m : Machine) (first : Effect) (next : Machine → Effect) → 
 waits_both m first next one two = waits_then m first.machine (next first.machine).machine one two
 
 -- no connection changes
-pub waits_same : (m n : Machine) → n.now ≡ m.now → n.settings ≡ m.settings → n.targets ≡ m.targets → n.big_targets ≡ m.big_targets → n.groups ≡ m.groups →
+pub waits_same : (m n : Machine) → n.now ≡ m.now → n.settings ≡ m.settings → n.targets ≡ m.targets → n.big_targets ≡ m.big_targets → n.groups ≡ m.groups → n.roots ≡ m.roots →
     n.connections ≡ m.connections → Waits m n
-waits_same m n now settings targets big_targets groups same = record {
+waits_same m n now settings targets big_targets groups roots same = record {
   now = now;
   settings = settings;
   targets = targets;
   big_targets = big_targets;
   groups = groups;
+  roots = roots;
   each = λ kind cid. subst (λ es. IsWait (m.now + length_of kind m.settings) (until_at kind cid m) (until_in kind (find (λ e. has_id cid e.facts) es))) (sym same)
       (kept (m.now + length_of kind m.settings) (until_at kind cid m));
 }
 
 pub waits_nothing : (m : Machine) → Waits m m
-waits_nothing m = waits_same m m refl refl refl refl refl refl
+waits_nothing m = waits_same m m refl refl refl refl refl refl refl
 
 -- ---- a connection that comes, goes or turns
 
@@ -125,6 +128,7 @@ waits_turned m e new found same right = record {
   targets = refl;
   big_targets = refl;
   groups = refl;
+  roots = refl;
   each = λ kind cid. subst (λ o. IsWait (whole kind) (until_at kind cid m) (until_in kind o)) (sym (replaced cid new m.connections)) (by_id kind cid (has_id cid new.facts) refl);
 }
   where
@@ -169,6 +173,7 @@ waits_gone m cid = record {
   targets = refl;
   big_targets = refl;
   groups = refl;
+  roots = refl;
   each = λ kind c. subst (λ o. IsWait (m.now + length_of kind m.settings) (until_at kind c m) (until_in kind o)) (sym (gone-found c cid m.connections))
       (by_id kind c (cid == c));
 }
@@ -201,6 +206,7 @@ waits_come m new next right = record {
   targets = refl;
   big_targets = refl;
   groups = refl;
+  roots = refl;
   each = λ kind c. subst (λ o. IsWait (whole kind) (until_at kind c m) (until_in kind o)) (sym (pushed-found c new m.connections)) (by_found kind (entry_at c m) (has_id c new.facts));
 }
   where

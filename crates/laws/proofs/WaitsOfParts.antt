@@ -1,5 +1,5 @@
 -- How long is waited, and what is set, in each part of an event.
-use Rattle.std.proofs.Common.{ℕ, ◌+◌, ◌%◌, ◌≡◌, Bool, true, false, ◌&&◌, ◌||◌, ◌==◌, nat_le, if◌then◌else◌, List, [], ◌∷◌, find, Option, Some, None, Result, Ok, Err, refl, sym, subst, inr, eqb-true}
+use Rattle.std.proofs.Common.{ℕ, ◌+◌, ◌%◌, ◌≡◌, Bool, true, false, ◌&&◌, ◌||◌, ◌==◌, nat_le, if◌then◌else◌, List, [], ◌∷◌, find, Option, Some, None, Result, Ok, Err, refl, sym, ap, subst, inr, eqb-true}
 use Rattle.std.specs.Option.{unwrap_or}
 use Rattle.std.proofs.lemmas.Bool.{cond_both}
 use Rattle.accept_gate.specs.Prune.{choice_of}
@@ -18,7 +18,7 @@ use Rattle.mux_segment.specs.declared.item.Item.{Item}
 use Rattle.net_base.specs.Address.{same_address, address_below}
 use Rattle.net_base.specs.Peer.{failed_peer}
 use Rattle.net_base.specs.Shared.{Undecoded}
-use Rattle.net_base.specs.declared.action.Action.TheVariants.{AskRoots, Close}
+use Rattle.net_base.specs.declared.action.Action.TheVariants.{Close}
 use Rattle.net_base.specs.declared.action.Away.TheVariants.{Full, OwnAddr, Crossed, Present}
 use Rattle.net_base.specs.declared.action.CloseCause.{CloseCause}
 use Rattle.net_base.specs.declared.action.CloseCause.TheVariants.{Unused, Pruned, Overwritten, Refused, Query, Fault}
@@ -37,7 +37,7 @@ use Rattle.net_base.specs.declared.timer.Kind.TheVariants as kind
 use Rattle.peer_book.specs.Book.{entry_of, entered, new_peer}
 use Rattle.remote_watch.specs.Watch.{watched}
 use Rattle.remote_watch.specs.declared.seen.Seen.{Seen}
-use Rattle.root_groups.specs.RootAsk.{may_ask, asked}
+use Rattle.root_groups.specs.RootAsk.{asked}
 use Rattle.warm_messages.specs.Reading.{share_of}
 use Rattle.warm_messages.specs.declared.share.Share.{Share}
 use Rattle.warm_messages.specs.declared.share.Share.TheVariants as share
@@ -46,7 +46,7 @@ use Rattle.machine.specs.Connections.{with_entry, without_entry, entry_turns, is
 use Rattle.machine.specs.Deadlines.{fires_as}
 use Rattle.machine.specs.Effect.{Effect, unused, nothing_more, tells, then_do, as_move, on_entry, on_connection, for_each, shared}
 use Rattle.machine.specs.Events.{turned_away, admitted, crossed, accepted_beside, peer_connects, closes, dialed}
-use Rattle.machine.specs.Govern.{promoted_at, is_used_at, on_used, asks_peer, activates, deactivates, carries_out, asks_roots}
+use Rattle.machine.specs.Govern.{promoted_at, is_used_at, on_used, asks_peer, activates, deactivates, carries_out}
 use Rattle.machine.specs.Greeting.{role_of, judged, decided, greeted_by, greets}
 use Rattle.machine.specs.Machine.{Machine, Entry, Owed, fresh_entry, counted_in, entry_at, live_entry_at}
 use Rattle.machine.specs.Own.{own_info}
@@ -58,12 +58,14 @@ use Rattle.machine.specs.Talking.{stops_if, serves, begins, takes_requests, aske
 use Rattle.laws.specs.Acts.{Act, shows, fires_one, asks_for_roots, carries, connects, ends_dial, stores, handles_item, ends_stream, is_closed, sets_targets, sets_big_targets, sets_groups, sets_roots, makes_ordinary, provides, provides_big, does}
 use Rattle.laws.specs.CarriedOut.{IsUnset, IsSet}
 use Rattle.laws.specs.Sound.{IsOrderly}
+use Rattle.laws.specs.Whole.{IsOrdered}
 use Rattle.laws.specs.Waits.{until_of, until_in, until_at, until_unused, length_of, IsWait, WaitsRight}
 use Rattle.laws.proofs.Handshakes.{answer-machine}
 use Rattle.laws.proofs.Keeping.{note-machine}
 use Rattle.laws.proofs.Lawful.{stands-found}
 use Rattle.laws.proofs.Lists.{find_some}
 use Rattle.laws.proofs.Orders.{says_done-machine}
+use Rattle.laws.proofs.RootsAsked.{roots-set}
 use Rattle.laws.proofs.Talks.{replies-machine}
 use Rattle.laws.proofs.Waits.{Waits, TurnsRight, kept, waits_both, waits_then, waits_same, waits_nothing, waits_turned, waits_gone, waits_come, owing-right, paid-right}
 
@@ -71,20 +73,20 @@ use Rattle.laws.proofs.Waits.{Waits, TurnsRight, kept, waits_both, waits_then, w
 
 changed-waits : (o : Option Peer) (change : Peer → Peer) (m : Machine) → Waits m (turns_at o change m).machine
 changed-waits None change m = waits_nothing m
-changed-waits (Some p) change m = waits_same m (turns_at (Some p) change m).machine refl refl refl refl refl refl
+changed-waits (Some p) change m = waits_same m (turns_at (Some p) change m).machine refl refl refl refl refl refl refl
 
 comes-waits : (big : Bool) (addr : Addr) (m : Machine) → Waits m (peer_comes big addr m).machine
 comes-waits big addr m =
     let n : Machine = record m { peers = entered (new_peer big addr) m.peers } in
-    subst (Waits m) (sym (note-machine (entry_of addr m.peers) addr n)) (waits_same m n refl refl refl refl refl refl)
+    subst (Waits m) (sym (note-machine (entry_of addr m.peers) addr n)) (waits_same m n refl refl refl refl refl refl refl)
 
 -- ---- a connection that is found
 
 -- it has the id by which it was found
-Stands : Entry → Machine → Type 0
+pub Stands : Entry → Machine → Type 0
 Stands e m = entry_at e.facts.cid.0 m ≡ Some e
 
-found-stands : (cid : ℕ) (m : Machine) (e : Entry) → entry_at cid m ≡ Some e → Stands e m
+pub found-stands : (cid : ℕ) (m : Machine) (e : Entry) → entry_at cid m ≡ Some e → Stands e m
 unfolding Stands
 found-stands cid m e is =
     let own : (e.facts.cid.0 == cid) ≡ true = (find_some (λ x. has_id cid x.facts) m.connections e is).passes in
@@ -282,16 +284,11 @@ promoted_at-waits addr m own = by_live (live_entry_at addr m) refl
 
 carries-waits : (order : Order) (m : Machine) → FindsOwn m → Waits m (carries_out order m).machine
 carries-waits (Ask addr number) m own = on_used-waits addr (asks_peer number) m own (λ e stands. asks_peer-waits number e m stands)
-carries-waits (Forget addr) m own = waits_same m (carries_out (Forget addr) m).machine refl refl refl refl refl refl
+carries-waits (Forget addr) m own = waits_same m (carries_out (Forget addr) m).machine refl refl refl refl refl refl refl
 carries-waits (Promote addr) m own = promoted_at-waits addr m own
 carries-waits (Release addr) m own = on_used-waits addr release m own (λ e stands. release-waits e m stands)
 carries-waits (Activate addr) m own = on_used-waits addr activates m own (λ e stands. owes-waits 2 0 m e stands)
 carries-waits (Deactivate addr) m own = on_used-waits addr deactivates m own (λ e stands. changed-waits (peer_at e.facts.addr m) (λ p. record p { temp = Warm }) m)
-
-roots-waits : (m : Machine) → Waits m (asks_roots m).machine
-roots-waits m = cond_both (may_ask m.now m.targets.root m.roots)
-    (tells (AskRoots (record { 0 = m.roots.next_job }) ∷ []) (record m { roots = asked m.roots })) (nothing_more m) (λ effect. Waits m effect.machine)
-    (λ too_few. waits_same m (record m { roots = asked m.roots }) refl refl refl refl refl refl) (λ enough. waits_nothing m)
 
 -- ---- a peer connects, or a dial ends
 
@@ -393,7 +390,7 @@ serves-waits seen protocol e m stands =
     by_done true = idle-waits protocol e m stands
     by_done false = waits_nothing m
 
-begins-waits : (protocol : ℕ) (e : Entry) (m : Machine) → Stands e m → Waits m (begins protocol e m).machine
+pub begins-waits : (protocol : ℕ) (e : Entry) (m : Machine) → Stands e m → Waits m (begins protocol e m).machine
 begins-waits protocol e m stands = cond_both (runs protocol e.facts.running) (nothing_more m) (awake protocol e m) (λ effect. Waits m effect.machine)
     (λ running. waits_nothing m)
     (λ silent. let n : Machine = with_entry (record e { facts = awakened protocol e.facts }) m in
@@ -469,7 +466,7 @@ big-waits addr m = cond_both (is_wanted_big addr m) (as_move (shared addr) m (pe
 -- what is stored is of a connection that stands, and where ids are distinct an order and an item find the one that they mean
 abbrev pub Finds : Act → Machine → Type 0
 Finds (stores entry undecoded) m = entry_at entry.facts.cid.0 m ≡ Some entry
-Finds (carries order) m = IsOrderly m
+Finds (carries order) m = IsOrdered m
 Finds (handles_item cid item) m = IsOrderly m
 Finds other m = Unit {0}
 
@@ -481,6 +478,7 @@ orderly-finds m h q e is =
 -- whether a part sets something, or changes connections and peers
 abbrev Changes : Act → Machine → Machine → Type 0
 Changes (shows t) m n = Unit {0}
+Changes asks_for_roots m n = Unit {0}
 Changes (sets_targets targets) m n = Unit {0}
 Changes (sets_big_targets targets) m n = Unit {0}
 Changes (sets_groups groups) m n = Unit {0}
@@ -491,8 +489,8 @@ waits-of : (act : Act) (m : Machine) → Finds act m → Changes act m (does act
 unfolding Stands
 waits-of (shows t) m found = tt
 waits-of (fires_one d) m found = on_found d.cid.0 (fires_as d.kind) m (λ e stands. fires_as-waits d.kind e m stands)
-waits-of asks_for_roots m found = roots-waits m
-waits-of (carries order) m found = carries-waits order m (orderly-finds m found)
+waits-of asks_for_roots m found = tt
+waits-of (carries order) m found = carries-waits order m (orderly-finds m found.orderly)
 waits-of (connects addr) m found = connects-waits addr m
 waits-of (ends_dial cid opened) m found = on_found cid.0 (dialed opened) m (λ e stands. dialed-waits opened e m stands)
 waits-of (stores e undecoded) m found = turned-waits m e (record e { undecoded = undecoded }) found refl (decodes-right m e undecoded)
@@ -515,7 +513,7 @@ right m n h kind cid =
     (subst (λ t. IsWait (t + length_of kind m.settings) (until_at kind cid m) (until_at kind cid n)) (sym h.now) (h.each kind cid))
 
 unset : (m n : Machine) → Waits m n → IsUnset m n
-unset m n h = record { now = h.now; settings = h.settings; targets = h.targets; big_targets = h.big_targets; groups = h.groups }
+unset m n h = record { now = h.now; settings = h.settings; targets = h.targets; big_targets = h.big_targets; groups = h.groups; roots = h.roots }
 
 -- no connection changes where something is set
 set-right : (m n : Machine) → n.connections ≡ m.connections → WaitsRight m n
@@ -526,7 +524,7 @@ set-right m n same kind cid =
 pub waits-right : (act : Act) (m : Machine) → Finds act m → WaitsRight m (does act m).machine
 waits-right (shows t) m found = set-right m (does (shows t) m).machine refl
 waits-right (fires_one d) m found = right m (does (fires_one d) m).machine (waits-of (fires_one d) m found)
-waits-right asks_for_roots m found = right m (does asks_for_roots m).machine (waits-of asks_for_roots m found)
+waits-right asks_for_roots m found = set-right m (does asks_for_roots m).machine (ap (λ n. n.connections) (roots-set m))
 waits-right (carries order) m found = right m (does (carries order) m).machine (waits-of (carries order) m found)
 waits-right (connects addr) m found = right m (does (connects addr) m).machine (waits-of (connects addr) m found)
 waits-right (ends_dial cid opened) m found = right m (does (ends_dial cid opened) m).machine (waits-of (ends_dial cid opened) m found)
@@ -545,7 +543,7 @@ waits-right (provides_big addr) m found = right m (does (provides_big addr) m).m
 pub is-set : (act : Act) (m : Machine) → Finds act m → IsSet act m (does act m).machine
 is-set (shows t) m found = refl
 is-set (fires_one d) m found = unset m (does (fires_one d) m).machine (waits-of (fires_one d) m found)
-is-set asks_for_roots m found = unset m (does asks_for_roots m).machine (waits-of asks_for_roots m found)
+is-set asks_for_roots m found = roots-set m
 is-set (carries order) m found = unset m (does (carries order) m).machine (waits-of (carries order) m found)
 is-set (connects addr) m found = unset m (does (connects addr) m).machine (waits-of (connects addr) m found)
 is-set (ends_dial cid opened) m found = unset m (does (ends_dial cid opened) m).machine (waits-of (ends_dial cid opened) m found)

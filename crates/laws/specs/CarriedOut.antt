@@ -13,6 +13,7 @@ use Rattle.machine.specs.Effect.{Effect, Happened, promoted, activated}
 use Rattle.machine.specs.Machine.{Machine, Entry, counted_in, entry_at, live_entry_at}
 use Rattle.machine.specs.Peers.{peer_at}
 use Rattle.laws.specs.Acts.{Act, shows, asks_for_roots, carries, connects, stores, handles_item, is_closed, sets_targets, sets_big_targets, sets_groups, sets_roots}
+use Rattle.laws.specs.RootsAsked.{are_roots_wanted, roots_asked}
 use Rattle.laws.specs.AtMoves.{is_missed, FailsWhere, OnEntry, is_known}
 
 -- An order that promotes or activates is that one move, between the record before it and the one after it.
@@ -98,6 +99,7 @@ pub record IsUnset (before after : Machine) : Type 0 where
   pub targets : after.targets ≡ before.targets
   pub big_targets : after.big_targets ≡ before.big_targets
   pub groups : after.groups ≡ before.groups
+  pub roots : after.roots ≡ before.roots
 
 -- What is set stands, and nothing else changes with it; and nothing else sets it.
 abbrev pub IsSet : Act → Machine → Machine → Type 0
@@ -106,6 +108,7 @@ IsSet (sets_targets targets) before after = after ≡ record before { targets = 
 IsSet (sets_big_targets targets) before after = after ≡ record before { big_targets = targets }
 IsSet (sets_groups groups) before after = after ≡ record before { groups = groups }
 IsSet (sets_roots roots) before after = after ≡ record before { roots = roots }
+IsSet asks_for_roots before after = after ≡ record before { roots = roots_asked (are_roots_wanted before) before.roots }
 IsSet other before after = IsUnset before after
 
 -- ---- a handshake that ends in use

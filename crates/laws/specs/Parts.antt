@@ -1,5 +1,5 @@
 -- What an operator counts on in each part of an event, between the records that it really reaches.
-use Rattle.std.specs.Prelude.{ℕ, ◌≡◌, ◌≤◌, Bool, true, false, ◌||◌, List, [], ◌∷◌, All, Contains}
+use Rattle.std.specs.Prelude.{ℕ, ◌≡◌, ◌≤◌, Bool, true, false, ◌||◌, List, [], ◌∷◌, All, Contains, Some}
 use Rattle.std.specs.List.{AllByRecursion, list_any}
 use Rattle.net_base.specs.declared.action.CloseCause.{CloseCause}
 use Rattle.net_base.specs.declared.address.Addr.{Addr}
@@ -10,13 +10,20 @@ use Rattle.machine.specs.Deadlines.{deadlines}
 use Rattle.machine.specs.Effect.{Effect, Happened, for_each}
 use Rattle.machine.specs.Machine.{Machine}
 use Rattle.machine.specs.Step.{step}
+use Rattle.laws.specs.Agreed.{AgreesRight}
+use Rattle.laws.specs.BackOff.{Remembers}
+use Rattle.laws.specs.Goes.{GoesWhere}
+use Rattle.laws.specs.Responders.{RespondsRight}
+use Rattle.laws.specs.RootsAsked.{AsksRight}
+use Rattle.laws.specs.Served.{AnswersRight}
 use Rattle.laws.specs.Acts.{Act, fires_one, does, acts, Part, effect_of, parts_of}
 use Rattle.laws.specs.AtMoves.{is_closed_by, is_negotiated_at, is_up, is_hot_or_asked, is_known, promotes, activates, is_shared_in, is_provided_by, MovesAreLawful}
 use Rattle.laws.specs.CarriedOut.{IsDoneByOrder, TreatsBook, Forgives, PausesRight, IsSet}
 use Rattle.laws.specs.Ends.{ends_due, but_pruned, pruned_in, IsPrunedIn}
 use Rattle.laws.specs.Stages.{causes_in, IsLateCause}
 use Rattle.laws.specs.Telling.{IsTold}
-use Rattle.laws.specs.Waits.{WaitsRight}
+use Rattle.laws.specs.Moments.{IsOverAfter}
+use Rattle.laws.specs.Waits.{until_at, WaitsRight}
 use Rattle.laws.specs.Told.{ends_in}
 
 -- ---- what a part does
@@ -25,6 +32,8 @@ use Rattle.laws.specs.Told.{ends_in}
 pub record IsLeastDue (m : Machine) (d : Deadline) : Type 0 where
   pub among : Contains (deadlines m) d
   pub due : d.at ≤ m.now
+  -- its connection waits until that moment, for what the deadline is of
+  pub waited : until_at d.kind d.cid.0 m ≡ Some d.at
   pub first : All (λ other. deadline_before other d ≡ false) (deadlines m)
 
 abbrev pub IsNext : Act → Machine → Type 0
@@ -86,6 +95,20 @@ pub record IsLawfulPart (event : Event) (part : Part) : Type 0 where
   pub waits : WaitsRight part.before (effect_of part).machine
   -- the clock, the targets and the groups are what was set last
   pub sets : IsSet part.act part.before (effect_of part).machine
+  -- what has fired is over
+  pub over : IsOverAfter part.act (effect_of part).machine
+  -- whom the other side closes is gone, and whose dial fails
+  pub goes : GoesWhere part.act part.before (effect_of part)
+  -- public roots are asked for exactly where they are wanted
+  pub asks : AsksRight part.act part.before (effect_of part)
+  -- what a handshake ends in is what both sides said
+  pub agrees : AgreesRight part.act part.before (effect_of part).machine
+  -- a protocol runs from its first item to its last
+  pub responds : RespondsRight part.act part.before (effect_of part).machine
+  -- whoever asks is answered, and told of nobody but who may be told
+  pub answers : AnswersRight part.act part.before (effect_of part)
+  -- what is remembered of a peer changes only by what happens with it
+  pub remembers : Remembers part.act part.before (effect_of part).machine
 
 pub record IsLawfulEvent (m : Machine) (event : Event) : Type 0 where
   -- it is its parts, one after the other

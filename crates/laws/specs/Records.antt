@@ -5,6 +5,7 @@ use Rattle.machine.specs.Machine.{Machine, live_entry_at}
 use Rattle.machine.specs.Peers.{peer_at}
 use Rattle.laws.specs.AtMoves.{is_hot_peer}
 use Rattle.laws.specs.Laws.{LiveAddressesDistinct, WithinHardLimit, DeadlinesAhead, EstablishedAreUsed, PendingAreCold, UsedAreOutOfBackOff, LocalsAreOrdinary, is_established_peer, is_used_connection}
+use Rattle.laws.specs.Moments.{WaitsAhead}
 use Rattle.laws.specs.Whole.{IsSteady}
 
 -- Each connection in local use, whatever its phase, has a peer that is warm or hot.
@@ -26,3 +27,4 @@ pub record IsLawfulRecord (m : Machine) : Type 0 where
   pub limit : WithinHardLimit m
   pub deadlines : DeadlinesAhead m
   pub ordinary : LocalsAreOrdinary m
+  pub waits : WaitsAhead m

@@ -1,0 +1,79 @@
+-- Who goes without this node's doing.
+use Rattle.std.proofs.Common.{ℕ, ◌≡◌, Bool, false, if◌then◌else◌, List, [], ◌∷◌, ◌++◌, find, flat_map, Option, Some, None, refl, ap, ◌∙◌, subst, eq-eqb, eqb-true}
+use Rattle.std.proofs.lemmas.Bool.{cond_both}
+use Rattle.conn_state.specs.Use.{has_id}
+use Rattle.net_base.specs.Peer.{failed_peer}
+use Rattle.net_base.specs.declared.action.Action.{Action}
+use Rattle.net_base.specs.declared.address.Addr.{Addr}
+use Rattle.net_base.specs.declared.action.Action.TheVariants.{Peer as TellPeer}
+use Rattle.net_base.specs.declared.action.PeerNote.TheVariants as note
+use Rattle.net_base.specs.declared.action.StateName.TheVariants.{Terminated}
+use Rattle.net_base.specs.declared.connection.Cid.{Cid}
+use Rattle.net_base.specs.declared.connection.Facts.{Facts}
+use Rattle.net_base.specs.declared.peer.Peer.{Peer}
+use Rattle.net_base.specs.declared.peer.Temp.TheVariants.{Cold}
+use Rattle.peer_book.specs.Book.{same_temp}
+use Rattle.machine.specs.Connections.{is_missed, lost, vanishes, without_entry}
+use Rattle.machine.specs.Effect.{nothing_more, on_entry}
+use Rattle.machine.specs.Events.{closes, dialed}
+use Rattle.machine.specs.Machine.{Machine, Entry, entry_at}
+use Rattle.machine.specs.Peers.{peer_at, turns_at, peer_fails}
+use Rattle.laws.specs.Acts.{Act, shows, fires_one, asks_for_roots, carries, connects, ends_dial, stores, handles_item, ends_stream, is_closed, sets_targets, sets_big_targets, sets_groups, sets_roots, makes_ordinary, provides, provides_big, does}
+use Rattle.laws.specs.CarriedOut.{WhereLive}
+use Rattle.laws.specs.Goes.{IsGone, WhereDialing, GoesWhere}
+use Rattle.laws.specs.Told.{names_by, names_in}
+use Rattle.laws.proofs.Lawful.{lost-quiet}
+use Rattle.laws.proofs.Lists.{find_some}
+use Rattle.laws.proofs.Moments.{gone-none}
+
+-- what comes of a loss is a note on a peer
+pub lost-silent : {X : Type 0} (by : Action → List X) → ((addr : Addr) → by (TellPeer addr note.Cold) ≡ []) → (f : Facts) (m : Machine) → flat_map by (lost f m).actions ≡ []
+lost-silent by silent f m = cond_both (is_missed f) (peer_fails f.addr m) (nothing_more m) (λ effect. flat_map by effect.actions ≡ [])
+    (λ missed. by_peer (peer_at f.addr m)) (λ other. refl)
+  where
+    by_peer : (o : Option Peer) → flat_map by (turns_at o (failed_peer m.now m.settings.backoff) m).actions ≡ []
+    by_peer None = refl
+    by_peer (Some p) = cond_both (same_temp p.temp Cold) [] (TellPeer p.addr note.Cold ∷ []) (λ actions. flat_map by actions ≡ []) (λ same. refl)
+        (λ other. ap (λ xs. xs ++ []) (silent p.addr))
+
+vanishes-gone : (e : Entry) (m : Machine) → IsGone e.facts.cid.0 (vanishes e m)
+vanishes-gone e m =
+    let cid : ℕ = e.facts.cid.0 in
+    let n : Machine = without_entry cid m in
+    record {
+      gone = ap (find (λ x. has_id cid x.facts)) (lost-quiet e.facts n).connections ∙ gone-none cid m;
+      told = ap (λ b. (if b then Terminated ∷ [] else []) ++ names_in cid (lost e.facts n).actions) (eq-eqb cid cid refl)
+          ∙ ap (λ names. Terminated ∷ names) (lost-silent (names_by cid) (λ addr. refl) e.facts n);
+    }
+
+own-id : (cid : ℕ) (m : Machine) (e : Entry) → entry_at cid m ≡ Some e → e.facts.cid.0 ≡ cid
+own-id cid m e is = eqb-true e.facts.cid.0 cid (find_some (λ x. has_id cid x.facts) m.connections e is).passes
+
+closed-goes : (cid : Cid) (m : Machine) (o : Option Entry) → entry_at cid.0 m ≡ o → WhereLive o (λ e. IsGone cid.0 (on_entry o closes m))
+closed-goes cid m None is = tt
+closed-goes cid m (Some e) is = λ live. rw live (subst (λ c. IsGone c (vanishes e m)) (own-id cid.0 m e is) (vanishes-gone e m))
+
+failed-goes : (cid : Cid) (opened : Bool) (m : Machine) (o : Option Entry) → entry_at cid.0 m ≡ o → opened ≡ false → WhereDialing o (IsGone cid.0 (on_entry o (dialed opened) m))
+failed-goes cid opened m None is failed = tt
+failed-goes cid opened m (Some e) is failed = λ dialing. rw (dialing, failed)
+    (let gone : IsGone cid.0 (vanishes e m) = subst (λ c. IsGone c (vanishes e m)) (own-id cid.0 m e is) (vanishes-gone e m) in
+    record { gone = gone.gone; told = gone.told })
+
+pub goes-where : (act : Act) (m : Machine) → GoesWhere act m (does act m)
+goes-where (shows t) m = tt
+goes-where (fires_one d) m = tt
+goes-where asks_for_roots m = tt
+goes-where (carries order) m = tt
+goes-where (connects addr) m = tt
+goes-where (ends_dial cid opened) m = failed-goes cid opened m (entry_at cid.0 m) refl
+goes-where (stores entry undecoded) m = tt
+goes-where (handles_item cid item) m = tt
+goes-where (ends_stream cid fault) m = tt
+goes-where (is_closed cid) m = closed-goes cid m (entry_at cid.0 m) refl
+goes-where (sets_targets targets) m = tt
+goes-where (sets_big_targets targets) m = tt
+goes-where (sets_groups groups) m = tt
+goes-where (sets_roots roots) m = tt
+goes-where (makes_ordinary addr) m = tt
+goes-where (provides addr) m = tt
+goes-where (provides_big addr) m = tt

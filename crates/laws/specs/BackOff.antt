@@ -1,0 +1,61 @@
+-- What is remembered of a peer: how often it failed, until when it is left alone, and when it may be asked for addresses again.
+use Rattle.std.specs.Prelude.{◌≡◌, false, Option, Some, None}
+use Rattle.govern_rules.specs.declared.order.Order.{Order}
+use Rattle.govern_rules.specs.declared.order.Order.TheVariants.{Ask, Forget, Promote, Release, Activate, Deactivate}
+use Rattle.net_base.specs.Address.{same_address}
+use Rattle.net_base.specs.declared.address.Addr.{Addr}
+use Rattle.net_base.specs.declared.peer.Peer.{Peer}
+use Rattle.machine.specs.Machine.{Machine, Entry, entry_at}
+use Rattle.machine.specs.Peers.{peer_at}
+use Rattle.laws.specs.Acts.{Act, fires_one, carries, ends_dial, handles_item, ends_stream, is_closed}
+
+pub record IsRemembered (p q : Peer) : Type 0 where
+  pub failures : q.failures ≡ p.failures
+  pub not_before : q.not_before ≡ p.not_before
+  pub share_next : q.share_next ≡ p.share_next
+
+-- of a peer that is in the book before and after
+abbrev pub WhereBoth : (Peer → Peer → Type 0) → Option Peer → Option Peer → Type 0
+WhereBoth law None after = Unit {0}
+WhereBoth law (Some p) None = Unit {0}
+WhereBoth law (Some p) (Some q) = law p q
+
+-- Whoever stays in the book is remembered as before.
+abbrev pub AllRemembered : Machine → Machine → Type 0
+AllRemembered before after = (addr : Addr) → WhereBoth IsRemembered (peer_at addr before) (peer_at addr after)
+
+abbrev pub OthersRemembered : Addr → Machine → Machine → Type 0
+OthersRemembered own before after = (addr : Addr) → same_address addr own ≡ false → WhereBoth IsRemembered (peer_at addr before) (peer_at addr after)
+
+-- a peer that is asked for addresses
+pub record IsAsked (p q : Peer) : Type 0 where
+  pub failures : q.failures ≡ p.failures
+  pub not_before : q.not_before ≡ p.not_before
+
+-- a peer that comes into use
+pub record IsTaken (p q : Peer) : Type 0 where
+  pub not_before : q.not_before ≡ p.not_before
+  pub share_next : q.share_next ≡ p.share_next
+
+abbrev pub RemembersByOrder : Order → Machine → Machine → Type 0
+RemembersByOrder (Ask addr n) before after = OthersRemembered addr before after × WhereBoth IsAsked (peer_at addr before) (peer_at addr after)
+RemembersByOrder (Forget addr) before after = AllRemembered before after
+RemembersByOrder (Promote addr) before after = OthersRemembered addr before after × WhereBoth IsTaken (peer_at addr before) (peer_at addr after)
+RemembersByOrder (Release addr) before after = AllRemembered before after
+RemembersByOrder (Activate addr) before after = AllRemembered before after
+RemembersByOrder (Deactivate addr) before after = AllRemembered before after
+
+-- what happens on a connection is a matter of its own peer
+abbrev pub RemembersBeside : Option Entry → Machine → Machine → Type 0
+RemembersBeside None before after = AllRemembered before after
+RemembersBeside (Some e) before after = OthersRemembered e.facts.addr before after
+
+-- Only what happens on a connection with a peer, and an order that asks or promotes it, changes what is remembered of it.
+abbrev pub Remembers : Act → Machine → Machine → Type 0
+Remembers (fires_one d) before after = RemembersBeside (entry_at d.cid.0 before) before after
+Remembers (carries order) before after = RemembersByOrder order before after
+Remembers (ends_dial cid opened) before after = RemembersBeside (entry_at cid.0 before) before after
+Remembers (handles_item cid item) before after = RemembersBeside (entry_at cid.0 before) before after
+Remembers (ends_stream cid fault) before after = RemembersBeside (entry_at cid.0 before) before after
+Remembers (is_closed cid) before after = RemembersBeside (entry_at cid.0 before) before after
+Remembers other before after = AllRemembered before after

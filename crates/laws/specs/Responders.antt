@@ -1,0 +1,28 @@
+-- Which protocols the other side runs.
+use Rattle.std.specs.Prelude.{◌≡◌, ◌==◌, true, not, Option, Some, None, Result, Ok, Err}
+use Rattle.conn_state.specs.Use.{is_negotiated, agreed_sharing, with_responder}
+use Rattle.mux_segment.specs.declared.item.Item.{Item}
+use Rattle.net_base.specs.declared.action.FaultKind.{FaultKind}
+use Rattle.machine.specs.Machine.{Machine, Entry, entry_at}
+use Rattle.remote_watch.specs.Watch.{watched}
+use Rattle.remote_watch.specs.declared.seen.Seen.{Seen}
+use Rattle.laws.specs.Acts.{Act, handles_item}
+
+abbrev pub WhereSeen : Result Seen FaultKind → (Seen → Type 0) → Type 0
+WhereSeen (Err kind) law = Unit {0}
+WhereSeen (Ok seen) law = law seen
+
+-- The handshake is done, the item is of the other side's half, and it is what may come there.
+abbrev pub WhereAsked : Item → Option Entry → (Entry → Seen → Type 0) → Type 0
+WhereAsked item None law = Unit {0}
+WhereAsked item (Some e) law = is_negotiated e.facts ≡ true → (item.side == 0) ≡ true → WhereSeen (watched item.id (agreed_sharing e.facts.agreed) item.body) (law e)
+
+abbrev pub WhereThere : Option Entry → (Entry → Type 0) → Type 0
+WhereThere None law = Unit {0}
+WhereThere (Some e) law = law e
+
+-- Where the connection stands after it, the item's protocol runs, unless the item ends it, and every other one is as it was.
+abbrev pub RespondsRight : Act → Machine → Machine → Type 0
+RespondsRight (handles_item own item) before after = WhereAsked item (entry_at own.0 before)
+    (λ e seen. WhereThere (entry_at own.0 after) (λ f. f.facts.running ≡ with_responder item.id (not seen.done) e.facts.running))
+RespondsRight other before after = Unit {0}
