@@ -5,3 +5,4 @@ pub mod Spots
 pub mod Splits
 pub mod Points
 pub mod Joins
+pub mod Runs

@@ -1,4 +1,4 @@
-ghost use Rattle.std.specs.Prelude.{◌≡◌, ◌<◌, ◌≤◌, ◌∷◌, ◌++◌, [], Bool, true, false, length, slice_get, slice_index_or, slice_set, nat_eq, IfOk, OnOk, OnErr};
+ghost use Rattle.std.specs.Prelude.{◌≡◌, ◌<◌, ◌≤◌, ◌∷◌, ◌++◌, [], Bool, true, false, length, take, drop, slice_get, slice_index_or, slice_set, nat_eq, IfOk, OnOk, OnErr};
 ghost use Rattle.std.specs.Fn.{ComputesKey};
 ghost use Rattle.std.specs.List.{insert, remove};
 ghost use Rattle.std.specs.List.Sorted.{IsPartitionedBy, IsPartitionPoint};
@@ -7,7 +7,7 @@ ghost use Rattle.std.specs.Option.{option_copied};
 use crate::chunk::Chunk;
 use crate::edit::{exchange, insert_at, remove_at};
 use crate::search::point_in;
-use crate::spot::spot_of;
+use crate::spot::{run_at, spot_of};
 use net_base::OutOfMemory;
 use std::alloc::{AllocError, Global};
 use std::marker::Model;
@@ -76,6 +76,18 @@ impl<T> ChunkedList<T> {
         }
     }
 
+    /// The items from a place to the end of the chunk that it stands in, so that a walk takes a chunk at a time. None
+    /// where the list is shorter.
+    pub fn run_from(&self, place: usize) -> &[T]
+        ensures front { result.now ≡ take (length result.now) (drop place self.now) }
+        ensures some { place < length self.now → 0 < length result.now }
+    {
+        if place >= self.len {
+            return &[];
+        }
+        run_at(&self.chunks, spot_of(&self.chunks, &self.firsts, place))
+    }
+
     /// How many items pass, where those that do stand before the others.
     pub fn partition_point<P: Fn(&T) -> bool>(&self, pred: P) -> usize
         requires { P.IsAlwaysCallable pred }
@@ -99,6 +111,19 @@ impl<T: Copy> ChunkedList<T> {
             items.extend_from_slice(&self.chunks[place].items)?;
         }
         Ok(items)
+    }
+}
+
+impl<T: Copy + Drop> ChunkedList<T> {
+    /// A list of some items.
+    pub fn from_slice(alloc: Global, items: &[T]) -> Result<ChunkedList<T>, OutOfMemory>
+        ensures { IfOk result (λ list. list ≡ items.now) }
+    {
+        let mut list = ChunkedList::new(alloc);
+        for item in items {
+            list.push(*item)?;
+        }
+        Ok(list)
     }
 }
 

@@ -1,4 +1,4 @@
-ghost use Rattle.std.specs.Prelude.{◌≡◌, ◌<◌, ◌^◌, length};
+ghost use Rattle.std.specs.Prelude.{◌≡◌, ◌<◌, ◌^◌, length, take, drop};
 ghost use Rattle.chunked_list.specs.Chunks.{joined, AreChunks, IsInside, place_of, halved};
 
 use crate::chunk::{Chunk, HALF};
@@ -23,6 +23,16 @@ pub fn spot_of<T>(chunks: &[Chunk<T>], firsts: &[usize], place: usize) -> Spot
         chunk,
         at: place - firsts[chunk],
     }
+}
+
+// The items of a chunk from a spot on.
+pub fn run_at<T>(chunks: &[Chunk<T>], spot: Spot) -> &[T]
+    requires { IsInside chunks.now spot }
+    ensures front { result.now ≡ take (length result.now) (drop (place_of chunks.now spot) (joined chunks.now)) }
+    ensures some { 0 < length result.now }
+{
+    let (_, run) = chunks[spot.chunk].items.split_at(spot.at);
+    run
 }
 
 // Where an item stands after its chunk was cut in two.

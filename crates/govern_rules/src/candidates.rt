@@ -17,19 +17,42 @@ pub fn candidates(alloc: Global, search: &Search, book: &PeerBook) -> Result<Vec
     ensures value { IfOk result (λ cands. IsPermutation (filter (suits search.now) book.now) cands.items) }
     ensures apart { IfOk result (λ cands. IsDistinct same_address (addresses_of cands.items)) }
 {
-    let peers = book.as_slice();
+    if book.is_empty() {
+        return Ok(Vec::new(alloc));
+    }
     match search.task {
         Task::Asking(_) => established(alloc, search, book),
-        Task::Forgetting | Task::Promoting => among(alloc, search, peers),
-        Task::Releasing | Task::Activating => found(alloc, search, row(book, Temp::Warm), book),
-        Task::Deactivating => found(alloc, search, row(book, Temp::Hot), book),
+        Task::Forgetting | Task::Promoting => known(alloc, search, book),
+        Task::Releasing | Task::Activating => listed(alloc, search, Temp::Warm, book),
+        Task::Deactivating => listed(alloc, search, Temp::Hot, book),
     }
 }
 
-fn row(book: &PeerBook, temp: Temp) -> &[Addr]
-    ensures { result.now ≡ listed_at temp book.now }
+// Those of all peers that suit, of those that stand together at a time.
+fn known(alloc: Global, search: &Search, book: &PeerBook) -> Result<Vec<Peer>, AllocError>
+    ensures { IfOk result (λ cands. cands.items ≡ filter (suits search.now) book.now) }
 {
-    book.listed(temp)
+    let mut cands = Vec::new(alloc);
+    let mut place = 0;
+    while place < book.len() {
+        let run = book.run_from(place);
+        cands.extend_from_slice(&among(alloc, search, run)?)?;
+        place += run.len();
+    }
+    Ok(cands)
+}
+
+// Those of a temperature that suit.
+fn listed(
+    alloc: Global,
+    search: &Search,
+    temp: Temp,
+    book: &PeerBook,
+) -> Result<Vec<Peer>, AllocError>
+    ensures { IfOk result (λ cands. cands.items ≡ filter (suits search.now) (lookups book.now (listed_at temp book.now))) }
+{
+    let addrs = book.listed(temp).to_vec(alloc)?;
+    found(alloc, search, &addrs, book)
 }
 
 // The warm ones, and then the hot ones.
@@ -37,8 +60,8 @@ fn established(alloc: Global, search: &Search, book: &PeerBook) -> Result<Vec<Pe
     ensures { IfOk result (λ cands. cands.items
         ≡ filter (suits search.now) (lookups book.now (listed_at Temp.Warm book.now)) ++ filter (suits search.now) (lookups book.now (listed_at Temp.Hot book.now))) }
 {
-    let mut cands = found(alloc, search, row(book, Temp::Warm), book)?;
-    let hot = found(alloc, search, row(book, Temp::Hot), book)?;
+    let mut cands = listed(alloc, search, Temp::Warm, book)?;
+    let hot = listed(alloc, search, Temp::Hot, book)?;
     cands.extend_from_slice(&hot)?;
     Ok(cands)
 }

@@ -19,8 +19,8 @@ use peer_book::PeerBook;
 pub fn without_marked(number: u64, mark: Mark, big: bool, view: &View, book: &PeerBook) -> u64
     ensures { result ≡ number - count_of big (some_link (has_mark mark) view.now.links) book.now }
 {
-    let peers = book.as_slice();
-    if number == 0 || peers.is_empty() {
+    let nobody = book.is_empty();
+    if number == 0 || nobody {
         return number;
     }
     number.saturating_sub(count_marked(mark, big, &view.links, book))

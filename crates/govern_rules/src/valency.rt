@@ -43,7 +43,7 @@ pub fn groups_orders(
     ensures { IfOk result (λ all. all.items
         ≡ orders.items ++ flat_map (valency_orders valency view.now book.now) groups.now) }
 {
-    if book.as_slice().is_empty() {
+    if book.is_empty() {
         return Ok(orders);
     }
     if book.listed(temp_of(valency)).is_empty() {

@@ -10,3 +10,4 @@ pub mod Merging
 pub mod Noted
 pub mod Places
 pub mod Rising
+pub mod Parts

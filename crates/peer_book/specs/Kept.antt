@@ -1,5 +1,5 @@
 -- What is kept beside the list of peers, and always true of it.
-use Rattle.std.specs.Prelude.{◌≡◌, ◌<◌, ◌≤◌, length, vec_capacity}
+use Rattle.std.specs.Prelude.{◌≡◌, ◌≤◌, length}
 use Rattle.net_base.specs.declared.peer.Temp.{Temp}
 use Rattle.peer_book.specs.Book.{listed_at, most_peers}
 use Rattle.peer_book.specs.Order.{IsRising}
@@ -8,14 +8,9 @@ use Rattle.peer_book.specs.Tallies.{tally_of}
 use Rattle.peer_book.specs.declared.kept.Kept.{Kept}
 
 pub record IsKept (kept : Kept) : Type 0 where
-  pub ordered : IsRising (λ p. p.addr) kept.peers.items
-  pub limited : length kept.peers.items ≤ most_peers
-  pub listed : (temp : Temp) → row_of temp kept.rows ≡ listed_at temp kept.peers.items
+  pub ordered : IsRising (λ p. p.addr) kept.peers
+  pub limited : length kept.peers ≤ most_peers
+  pub listed : (temp : Temp) → row_of temp kept.rows ≡ listed_at temp kept.peers
   -- every peer has room at every temperature
-  pub roomy : (temp : Temp) → length kept.peers.items ≤ room_of temp kept.rows
-  pub counted : kept.tally ≡ tally_of kept.peers.items
-
--- there is memory for one more peer, whatever becomes of it
-pub record HasRoom (kept : Kept) : Type 0 where
-  pub in_peers : length kept.peers.items < vec_capacity kept.peers
-  pub in_rows : (temp : Temp) → length kept.peers.items < room_of temp kept.rows
+  pub roomy : (temp : Temp) → length kept.peers ≤ room_of temp kept.rows
+  pub counted : kept.tally ≡ tally_of kept.peers

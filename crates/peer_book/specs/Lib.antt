@@ -4,5 +4,6 @@ pub mod Kept
 pub mod Leaving
 pub mod Newcomers
 pub mod Order
+pub mod Row
 pub mod Rows
 pub mod Tallies

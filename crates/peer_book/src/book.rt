@@ -1,14 +1,14 @@
-ghost use Rattle.std.specs.Prelude.{◌≡◌, ◌≤◌, ◌^◌, [], length, IsSome, IfSome, IsSomeAnd, IfOk, OnOk, OnErr, false, true};
+ghost use Rattle.std.specs.Prelude.{◌≡◌, ◌<◌, ◌≤◌, ◌^◌, [], nat_eq, take, drop, length, IsSome, IfSome, IsSomeAnd, IfOk, OnOk, OnErr, false, true};
 ghost use Rattle.net_base.specs.Peer.{failed_peer};
 ghost use Rattle.peer_book.specs.Book.{peer_at, with_peer, without_peer, without_all, new_peer, newcomers, all_entered, entered, entry_of, known_of, established_of, active_of, listed_at, most_peers};
 ghost use Rattle.peer_book.specs.Order.{IsRising};
 
-use crate::Added;
 use crate::kept::Kept;
 use crate::leaving::gathered;
 use crate::merge::fresh;
 use crate::newcomers::Newcomers;
 use crate::place::{peer_with, place_and_peer};
+use crate::{Added, Listed};
 use net_base::{Addr, AddrList, OutOfMemory, Peer, Temp, backoff_delay};
 use std::alloc::Global;
 use std::marker::Model;
@@ -29,7 +29,7 @@ impl Model for PeerBook {
 
     ghost Value = { List Peer };
 
-    ghost view = { λ b. b.kept.peers.items };
+    ghost view = { λ b. b.kept.peers };
 
     ghost invariant = { λ b. IsKept b.kept };
 }
@@ -44,13 +44,29 @@ impl PeerBook {
         }
     }
 
-    /// All peers in address order.
-    pub fn as_slice(&self) -> &[Peer]
-        ensures value { result.now ≡ self.now }
+    /// How many peers there are.
+    pub fn len(&self) -> usize
+        ensures value { result ≡ length self.now }
         ensures ordered { IsRising (λ p. p.addr) self.now }
         ensures limited { length self.now ≤ most_peers }
     {
-        &self.kept.peers
+        self.kept.peers.len()
+    }
+
+    pub fn is_empty(&self) -> bool
+        ensures value { result ≡ nat_eq (length self.now) 0 }
+        ensures ordered { IsRising (λ p. p.addr) self.now }
+    {
+        self.kept.peers.is_empty()
+    }
+
+    /// The peers in address order, from a place on, that stand together in memory: so a walk takes many at a time. None
+    /// where there are fewer.
+    pub fn run_from(&self, place: usize) -> &[Peer]
+        ensures front { result.now ≡ take (length result.now) (drop place self.now) }
+        ensures some { place < length self.now → 0 < length result.now }
+    {
+        self.kept.peers.run_from(place)
     }
 
     /// The peer with an address.
@@ -103,18 +119,18 @@ impl PeerBook {
     }
 
     /// The addresses of the peers of a temperature, of both classes, in address order.
-    pub fn listed(&self, temp: Temp) -> &[Addr]
-        ensures value { result.now ≡ listed_at temp self.now }
-        ensures rising { IsRising (λ a. a) result.now }
+    pub fn listed(&self, temp: Temp) -> Listed<'_>
+        ensures value { result ≡ listed_at temp self.now }
+        ensures rising { IsRising (λ a. a) result }
     {
-        self.kept.rows.list(temp)
+        Listed::of(self.kept.rows.list(temp))
     }
 
     /// A copy of that list.
     pub fn of_temp(&self, temp: Temp) -> Result<AddrList, OutOfMemory>
         ensures { IfOk result (λ addrs. addrs ≡ listed_at temp self.now) }
     {
-        let alloc = *self.kept.peers.allocator();
+        let alloc = self.kept.alloc();
         Ok(AddrList::from_vec(self.listed(temp).to_vec(alloc)?))
     }
 
@@ -147,7 +163,7 @@ impl PeerBook {
         ensures entered { OnOk result (self.new ≡ all_entered most big addrs.now self.old) }
         ensures unchanged { OnErr result (self.new ≡ self.old) }
     {
-        let alloc = *self.kept.peers.allocator();
+        let alloc = self.kept.alloc();
         let Newcomers { given, sorted } = Newcomers::find(alloc, &self.kept, big, addrs, most)?;
         self.kept.put_all(big, &sorted)?;
         Ok(given)
@@ -168,7 +184,7 @@ impl PeerBook {
         ensures gone { OnOk result (self.new ≡ without_all addrs.now self.old) }
         ensures unchanged { OnErr result (self.new ≡ self.old) }
     {
-        let alloc = *self.kept.peers.allocator();
+        let alloc = self.kept.alloc();
         let addrs = gathered(alloc, addrs)?;
         self.kept.take_all_out(&addrs)?;
         Ok(())
@@ -248,8 +264,7 @@ impl PeerBook {
         if self.kept.peers.len() as u64 >= MOST_PEERS {
             return Ok(Added::Full);
         }
-        self.kept.reserve()?;
-        self.kept.put(peer);
+        self.kept.put(peer)?;
         Ok(Added::New)
     }
 }

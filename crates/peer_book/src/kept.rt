@@ -5,88 +5,100 @@ ghost use Rattle.peer_book.specs.Newcomers.{with_all_new, AreNew};
 ghost use Rattle.peer_book.specs.Order.{IsRising};
 
 use crate::leaving::others_than;
-use crate::merge::{in_order, merged, row_at};
+use crate::merge::{fresh, in_order, merged, row_at};
 use crate::place::place_of_peer;
+use crate::row::Row;
 use crate::rows::Rows;
 use crate::tally::Tally;
-use net_base::{Addr, Peer, Temp};
-use std::alloc::{AllocError, Global};
+use chunked_list::ChunkedList;
+use net_base::{Addr, OutOfMemory, Peer, Temp};
+use std::alloc::Global;
 use std::collections::BTreeSet;
 
 // The peers in address order, and what is kept beside them.
 #[derive(Drop)]
 pub struct Kept {
-    pub peers: Vec<Peer>,
+    pub peers: ChunkedList<Peer>,
     pub rows: Rows,
     pub tally: Tally,
 }
 
 impl Kept {
-    ghost use Rattle.peer_book.specs.Kept.{IsKept, HasRoom};
+    ghost use Rattle.peer_book.specs.Kept.{IsKept};
 
     pub fn new(alloc: Global) -> Kept
         ensures kept { IsKept result }
-        ensures peers { result.peers.items ≡ [] }
+        ensures peers { result.peers ≡ [] }
     {
         Kept {
-            peers: Vec::new(alloc),
+            peers: ChunkedList::new(alloc),
             rows: Rows::new(alloc),
             tally: Tally::new(),
         }
     }
 
-    // Makes room for one more peer.
-    pub fn reserve(&mut self) -> Result<(), AllocError>
-        requires { IsKept self.old }
-        ensures kept { IsKept self.new }
-        ensures peers { self.new.peers.items ≡ self.old.peers.items }
-        ensures room { OnOk result (HasRoom self.new) }
-    {
-        self.peers.try_reserve(1)?;
-        self.rows.reserve(self.peers.len() + 1)
+    pub fn alloc(&self) -> Global {
+        *self.rows.cold.rest.allocator()
     }
 
-    pub fn put(&mut self, peer: Peer)
+    // Puts a peer in, and sets memory aside for what may become of it. A refusal changes nothing.
+    pub fn put(&mut self, peer: Peer) -> Result<(), OutOfMemory>
         requires kept { IsKept self.old }
-        requires room { HasRoom self.old }
-        requires limited { length self.old.peers.items < most_peers }
-        requires absent { peer_at peer.addr self.old.peers.items ≡ None }
+        requires limited { length self.old.peers < most_peers }
+        requires absent { peer_at peer.addr self.old.peers ≡ None }
         ensures kept { IsKept self.new }
-        ensures peers { self.new.peers.items ≡ with_new peer self.old.peers.items }
+        ensures put { OnOk result (self.new.peers ≡ with_new peer self.old.peers) }
+        ensures unchanged { OnErr result (self.new.peers ≡ self.old.peers) }
     {
+        self.rows.reserve(self.peers.len() + 1)?;
         let place = place_of_peer(&self.peers, peer.addr);
+        self.peers.insert(place, peer)?;
         self.rows.insert(peer.temp, peer.addr);
         self.tally.enter(&peer);
-        // there is room
-        let _ = self.peers.insert(place, peer);
+        Ok(())
     }
 
     // Puts new peers of a class in, all at once. A refusal changes nothing, and where there are none no memory is asked for.
-    pub fn put_all(&mut self, big: bool, addrs: &BTreeSet<Addr>) -> Result<(), AllocError>
+    pub fn put_all(&mut self, big: bool, addrs: &BTreeSet<Addr>) -> Result<(), OutOfMemory>
         requires kept { IsKept self.old }
-        requires new { AreNew addrs.now.keys self.old.peers.items }
+        requires new { AreNew addrs.now.keys self.old.peers }
         ensures kept { IsKept self.new }
-        ensures put { OnOk result (self.new.peers.items ≡ with_all_new big addrs.now.keys self.old.peers.items) }
-        ensures unchanged { OnErr result (self.new.peers.items ≡ self.old.peers.items) }
+        ensures put { OnOk result (self.new.peers ≡ with_all_new big addrs.now.keys self.old.peers) }
+        ensures unchanged { OnErr result (self.new.peers ≡ self.old.peers) }
     {
         if addrs.is_empty() {
             return Ok(());
         }
-        let alloc = *self.peers.allocator();
+        let alloc = self.alloc();
         let addrs = in_order(alloc, addrs)?;
-        self.merge(alloc, big, &addrs)
+        self.put_some(alloc, big, &addrs)
     }
 
-    fn merge(&mut self, alloc: Global, big: bool, addrs: &[Addr]) -> Result<(), AllocError>
+    // One alone is put in as it is.
+    fn put_some(&mut self, alloc: Global, big: bool, addrs: &[Addr]) -> Result<(), OutOfMemory>
         requires kept { IsKept self.old }
-        requires new { AreNew addrs.now self.old.peers.items }
+        requires new { AreNew addrs.now self.old.peers }
         ensures kept { IsKept self.new }
-        ensures put { OnOk result (self.new.peers.items ≡ with_all_new big addrs.now self.old.peers.items) }
-        ensures unchanged { OnErr result (self.new.peers.items ≡ self.old.peers.items) }
+        ensures put { OnOk result (self.new.peers ≡ with_all_new big addrs.now self.old.peers) }
+        ensures unchanged { OnErr result (self.new.peers ≡ self.old.peers) }
     {
-        let peers = merged(alloc, &self.peers, addrs, big)?;
-        let cold = row_at(alloc, &peers, Temp::Cold)?;
-        self.rows.renew_cold(cold, peers.len())?;
+        match addrs {
+            [only] => self.put(fresh(*only, big)),
+            _ => self.merge(alloc, big, addrs),
+        }
+    }
+
+    fn merge(&mut self, alloc: Global, big: bool, addrs: &[Addr]) -> Result<(), OutOfMemory>
+        requires kept { IsKept self.old }
+        requires new { AreNew addrs.now self.old.peers }
+        ensures kept { IsKept self.new }
+        ensures put { OnOk result (self.new.peers ≡ with_all_new big addrs.now self.old.peers) }
+        ensures unchanged { OnErr result (self.new.peers ≡ self.old.peers) }
+    {
+        let all = merged(alloc, &self.peers.to_vec(alloc)?, addrs, big)?;
+        let peers = ChunkedList::from_slice(alloc, &all)?;
+        let cold = Row::of(alloc, &row_at(alloc, &all, Temp::Cold)?)?;
+        self.rows.renew_cold(cold, all.len())?;
         self.tally.enter_cold(big, addrs.len() as u64);
         self.peers = peers;
         Ok(())
@@ -94,9 +106,9 @@ impl Kept {
 
     pub fn take_out(&mut self, place: usize, peer: Peer)
         requires kept { IsKept self.old }
-        requires stands { Stands place peer self.old.peers.items }
+        requires stands { Stands place peer self.old.peers }
         ensures kept { IsKept self.new }
-        ensures peers { self.new.peers.items ≡ without_peer peer.addr self.old.peers.items }
+        ensures peers { self.new.peers ≡ without_peer peer.addr self.old.peers }
     {
         self.rows.remove(peer.temp, peer.addr);
         self.tally.leave(&peer);
@@ -104,17 +116,18 @@ impl Kept {
     }
 
     // Takes out all peers at some addresses, which stand in order. A refusal changes nothing.
-    pub fn take_all_out(&mut self, addrs: &[Addr]) -> Result<(), AllocError>
+    pub fn take_all_out(&mut self, addrs: &[Addr]) -> Result<(), OutOfMemory>
         requires kept { IsKept self.old }
         requires rising { IsRising (λ a. a) addrs.now }
         ensures kept { IsKept self.new }
-        ensures left { OnOk result (self.new.peers.items ≡ others_than addrs.now self.old.peers.items) }
-        ensures unchanged { OnErr result (self.new.peers.items ≡ self.old.peers.items) }
+        ensures left { OnOk result (self.new.peers ≡ others_than addrs.now self.old.peers) }
+        ensures unchanged { OnErr result (self.new.peers ≡ self.old.peers) }
     {
-        let alloc = *self.peers.allocator();
-        let peers = others_than(alloc, &self.peers, addrs)?;
-        let rows = Rows::of(alloc, &peers)?;
-        let tally = Tally::of(&peers);
+        let alloc = self.alloc();
+        let left = others_than(alloc, &self.peers.to_vec(alloc)?, addrs)?;
+        let peers = ChunkedList::from_slice(alloc, &left)?;
+        let rows = Rows::of(alloc, &left)?;
+        let tally = Tally::of(&left);
         self.peers = peers;
         self.rows = rows;
         self.tally = tally;
@@ -124,41 +137,41 @@ impl Kept {
     // Puts a peer back that is of another class or temperature.
     pub fn replace(&mut self, place: usize, old: Peer, new: Peer)
         requires kept { IsKept self.old }
-        requires stands { Stands place old self.old.peers.items }
+        requires stands { Stands place old self.old.peers }
         requires same { new.addr ≡ old.addr }
         ensures kept { IsKept self.new }
-        ensures peers { self.new.peers.items ≡ with_peer new self.old.peers.items }
+        ensures peers { self.new.peers ≡ with_peer new self.old.peers }
     {
         self.rows.turn(old.addr, old.temp, new.temp);
         self.tally.leave(&old);
         self.tally.enter(&new);
-        self.peers[place] = new;
+        self.peers.replace(place, new);
     }
 
     // Puts a peer back that is still listed and counted as it was.
     pub fn amend(&mut self, place: usize, old: Peer, new: Peer)
         requires kept { IsKept self.old }
-        requires stands { Stands place old self.old.peers.items }
+        requires stands { Stands place old self.old.peers }
         requires same { new.addr ≡ old.addr }
         requires listed { new.temp ≡ old.temp }
         requires counted { new.big ≡ old.big }
         ensures kept { IsKept self.new }
-        ensures peers { self.new.peers.items ≡ with_peer new self.old.peers.items }
+        ensures peers { self.new.peers ≡ with_peer new self.old.peers }
     {
-        self.peers[place] = new;
+        self.peers.replace(place, new);
     }
 
     // Puts a peer back that is of another class and still listed as it was.
     pub fn reclass(&mut self, place: usize, old: Peer, new: Peer)
         requires kept { IsKept self.old }
-        requires stands { Stands place old self.old.peers.items }
+        requires stands { Stands place old self.old.peers }
         requires same { new.addr ≡ old.addr }
         requires listed { new.temp ≡ old.temp }
         ensures kept { IsKept self.new }
-        ensures peers { self.new.peers.items ≡ with_peer new self.old.peers.items }
+        ensures peers { self.new.peers ≡ with_peer new self.old.peers }
     {
         self.tally.leave(&old);
         self.tally.enter(&new);
-        self.peers[place] = new;
+        self.peers.replace(place, new);
     }
 }

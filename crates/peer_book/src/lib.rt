@@ -5,11 +5,14 @@ mod added;
 mod book;
 mod kept;
 mod leaving;
+mod listed;
 mod merge;
 mod newcomers;
 mod place;
+mod row;
 mod rows;
 mod tally;
 
 pub use added::Added;
 pub use book::{MOST_PEERS, PeerBook};
+pub use listed::Listed;

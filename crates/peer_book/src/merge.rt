@@ -3,7 +3,7 @@ ghost use Rattle.peer_book.specs.Book.{listed_at, new_peer};
 ghost use Rattle.peer_book.specs.Newcomers.{with_all_new, AreNew};
 ghost use Rattle.peer_book.specs.Order.{IsRising};
 
-use crate::place::place_of_peer;
+use crate::place::place_among;
 use net_base::{Addr, Peer, Temp};
 use std::alloc::{AllocError, Global};
 use std::collections::BTreeSet;
@@ -36,7 +36,7 @@ pub fn merged(
     let mut all = Vec::with_capacity(alloc, peers.len() + addrs.len())?;
     let mut rest = peers;
     for addr in addrs {
-        let (below, above) = rest.split_at(place_of_peer(rest, *addr));
+        let (below, above) = rest.split_at(place_among(rest, *addr));
         all.extend_from_slice(below)?;
         all.push(fresh(*addr, big))?;
         rest = above;

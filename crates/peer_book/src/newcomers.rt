@@ -8,6 +8,7 @@ ghost use Rattle.peer_book.specs.Order.{IsRising};
 use crate::book::MOST_PEERS;
 use crate::kept::Kept;
 use crate::place::peer_with;
+use chunked_list::ChunkedList;
 use net_base::{Addr, AddrList, OutOfMemory, Peer};
 use std::alloc::Global;
 use std::collections::BTreeSet;
@@ -29,9 +30,9 @@ impl Newcomers {
         most: u64,
     ) -> Result<Newcomers, OutOfMemory>
         requires { IsKept kept.now }
-        ensures given { IfOk result (λ new. new.given ≡ newcomers most big addrs.now kept.now.peers.items) }
-        ensures entered { IfOk result (λ new. with_all_new big new.sorted.keys kept.now.peers.items ≡ all_entered most big addrs.now kept.now.peers.items) }
-        ensures new { IfOk result (λ new. AreNew new.sorted.keys kept.now.peers.items) }
+        ensures given { IfOk result (λ new. new.given ≡ newcomers most big addrs.now kept.now.peers) }
+        ensures entered { IfOk result (λ new. with_all_new big new.sorted.keys kept.now.peers ≡ all_entered most big addrs.now kept.now.peers) }
+        ensures new { IfOk result (λ new. AreNew new.sorted.keys kept.now.peers) }
     {
         let room = room_for(kept, big, most);
         let mut given = AddrList::new(alloc);
@@ -49,7 +50,7 @@ impl Newcomers {
 // How many more may come in.
 fn room_for(kept: &Kept, big: bool, most: u64) -> u64
     requires { IsKept kept.now }
-    ensures { result ≡ room_for most big kept.now.peers.items }
+    ensures { result ≡ room_for most big kept.now.peers }
 {
     let known = if big {
         kept.tally.big.known
@@ -64,7 +65,7 @@ fn room_for(kept: &Kept, big: bool, most: u64) -> u64
 fn take_in(
     given: &mut AddrList,
     sorted: &mut BTreeSet<Addr>,
-    peers: &[Peer],
+    peers: &ChunkedList<Peer>,
     addr: Addr,
 ) -> Result<(), OutOfMemory>
     requires { IsRising (λ p. p.addr) peers.now }

@@ -4,6 +4,7 @@ ghost use Rattle.net_base.specs.Address.{address_below};
 ghost use Rattle.peer_book.specs.Book.{peer_at, Stands};
 ghost use Rattle.peer_book.specs.Order.{IsRising, found_at};
 
+use chunked_list::ChunkedList;
 use net_base::{Addr, Peer};
 
 // How many addresses of a rising list are below one.
@@ -14,8 +15,24 @@ pub fn place_of(addrs: &[Addr], addr: Addr) -> usize
     addrs.partition_point(|a| a.is_before(&addr))
 }
 
+// The same of a list in chunks.
+pub fn place_in(addrs: &ChunkedList<Addr>, addr: Addr) -> usize
+    requires { IsRising (λ a. a) addrs.now }
+    ensures { result ≡ prefix_len (λ a. address_below a addr) addrs.now }
+{
+    addrs.partition_point(|a| a.is_before(&addr))
+}
+
+// How many peers of a slice have an address below one.
+pub fn place_among(peers: &[Peer], addr: Addr) -> usize
+    requires { IsRising (λ p. p.addr) peers.now }
+    ensures { result ≡ prefix_len (λ p. address_below p.addr addr) peers.now }
+{
+    peers.partition_point(|p| p.addr.is_before(&addr))
+}
+
 // How many peers have an address below one.
-pub fn place_of_peer(peers: &[Peer], addr: Addr) -> usize
+pub fn place_of_peer(peers: &ChunkedList<Peer>, addr: Addr) -> usize
     requires { IsRising (λ p. p.addr) peers.now }
     ensures { result ≡ prefix_len (λ p. address_below p.addr addr) peers.now }
 {
@@ -23,7 +40,7 @@ pub fn place_of_peer(peers: &[Peer], addr: Addr) -> usize
 }
 
 // The peer with an address.
-pub fn peer_with(peers: &[Peer], addr: Addr) -> Option<Peer>
+pub fn peer_with(peers: &ChunkedList<Peer>, addr: Addr) -> Option<Peer>
     requires { IsRising (λ p. p.addr) peers.now }
     ensures { result ≡ peer_at addr peers.now }
 {
@@ -31,7 +48,7 @@ pub fn peer_with(peers: &[Peer], addr: Addr) -> Option<Peer>
 }
 
 // The place of an address that is there, and its peer.
-pub fn place_and_peer(peers: &[Peer], addr: Addr) -> (usize, Peer)
+pub fn place_and_peer(peers: &ChunkedList<Peer>, addr: Addr) -> (usize, Peer)
     requires rising { IsRising (λ p. p.addr) peers.now }
     requires there { IsSome (peer_at addr peers.now) }
     ensures peer { peer_at addr peers.now ≡ Some result.1 }
@@ -44,7 +61,7 @@ pub fn place_and_peer(peers: &[Peer], addr: Addr) -> (usize, Peer)
 }
 
 // The peer at a place, where it has an address.
-fn peer_there(peers: &[Peer], place: usize, addr: Addr) -> Option<Peer>
+fn peer_there(peers: &ChunkedList<Peer>, place: usize, addr: Addr) -> Option<Peer>
     ensures { result ≡ found_at (λ p. p.addr) addr (slice_get peers.now place) }
 {
     let peer = peers.get(place).copied()?;

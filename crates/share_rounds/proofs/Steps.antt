@@ -1,8 +1,9 @@
 -- The turns of loops that keep some addresses of a list, at most so many.
-use Rattle.std.proofs.Common.{◌≡◌, ℕ, suc, ◌+◌, ◌-◌, ◌<◌, ◌≤◌, Bool, cond, ◌&&◌, not, List, [], ◌∷◌, ◌++◌, length, get_or, take, drop, sym, ap, ◌∙◌, append_assoc, add-one, drop-cons, arith, inl, inr}
+use Rattle.std.proofs.Common.{◌≡◌, ℕ, zero, suc, min, ◌+◌, ◌-◌, ◌<◌, ◌≤◌, Bool, cond, ◌&&◌, not, List, [], ◌∷◌, ◌++◌, length, get_or, take, drop, sym, ap, ◌∙◌, append_assoc, add-one, drop-cons, arith, inl, inr}
 use Rattle.std.specs.List.{filter}
 use Rattle.std.proofs.lemmas.Bool.{cases_Bool}
-use Rattle.std.proofs.lemmas.List.{length_push, append-nil}
+use Rattle.std.proofs.lemmas.List.{length_push, append-nil, drop-drop, length-append, length-take, map-append, take-append-drop}
+use Rattle.std.proofs.lemmas.List.Elements.{filter-append}
 use Rattle.std.proofs.Math.ListN.{drop_of_length-le}
 use Rattle.std.proofs.Math.Seq.{take-nil}
 use Rattle.net_base.specs.declared.address.Addr.{Addr}
@@ -50,6 +51,47 @@ peer_looked_at test most book i d kept new all within room is whole =
     let before : all ≡ kept ++ take (most - length kept) (filter test ((get_or book i d).addr ∷ addresses_of (drop (suc i) book))) =
     whole ∙ ap (λ (peers : List Peer). kept ++ take (most - length kept) (filter test (addresses_of peers))) next in
     rw add-one (kept_of_filter test most (get_or book i d).addr (addresses_of (drop (suc i) book)) kept new all room is before)
+
+-- the first of two lists, and then of the other
+take_both : {X : Type 0} (k : ℕ) (xs ys : List X) → take k (xs ++ ys) ≡ take k xs ++ take (k - length xs) ys
+take_both k [] ys = ap (λ (n : ℕ). take n ys) (whole k) ∙ ap (λ (l : List _). l ++ take (k - 0) ys) (sym (take-nil k))
+  where
+    whole : (n : ℕ) → n ≡ n - 0
+    whole n = omega arith
+take_both zero (x ∷ xs) ys = ap (λ (n : ℕ). take n ys) (none (suc (length xs)))
+  where
+    none : (n : ℕ) → 0 ≡ 0 - n
+    none n = omega arith
+take_both (suc k) (x ∷ xs) ys = ap (λ (l : List _). x ∷ l) (take_both k xs ys ∙ ap (λ (n : ℕ). take k xs ++ take n ys) (less k (length xs)))
+  where
+    less : (n m : ℕ) → n - m ≡ suc n - suc m
+    less n m = omega arith
+
+-- the peers that stand together are looked at
+pub run_looked_at : (test : Addr → Bool) (most : ℕ) (book run : List Peer) (place : ℕ) (kept new all : List Addr) → length kept ≤ most
+    → run ≡ take (length run) (drop place book) → new ≡ kept ++ take (most - length kept) (filter test (addresses_of run))
+    → all ≡ kept ++ take (most - length kept) (filter test (addresses_of (drop place book))) → IsKept most new (filter test (addresses_of (drop (place + length run) book))) all
+run_looked_at test most book run place kept new all fits front is whole =
+    let k = most - length kept in
+    let seen : List Addr = filter test (addresses_of run) in
+    let later : List Peer = drop (place + length run) book in
+    let behind : drop (length run) (drop place book) ≡ later = drop-drop (length run) place book in
+    let both : drop place book ≡ run ++ later =
+    sym (ap (λ (peers : List Peer). peers ++ later) front ∙ (ap (λ (peers : List Peer). take (length run) (drop place book) ++ peers) (sym behind) ∙ take-append-drop (length run) (drop place book))) in
+    let told : filter test (addresses_of (drop place book)) ≡ seen ++ filter test (addresses_of later) =
+    ap (λ (peers : List Peer). filter test (addresses_of peers)) both
+    ∙ (ap (filter test) (map-append (λ (p : Peer). p.addr) run later) ∙ filter-append test (addresses_of run) (addresses_of later)) in
+    let long : length new ≡ length kept + min k (length seen) = ap length is ∙ (length-append kept (take k seen) ∙ ap (λ (n : ℕ). length kept + n) (length-take k seen)) in
+    let left : k - length seen ≡ most - length new = omega (arith, long, fits) in
+    record {
+      fits = omega (arith, long, fits);
+      whole = whole
+          ∙ (ap (λ (l : List Addr). kept ++ take k l) told
+          ∙ (ap (λ (l : List Addr). kept ++ l) (take_both k seen (filter test (addresses_of later)))
+          ∙ (sym (append_assoc kept (take k seen) (take (k - length seen) (filter test (addresses_of later))))
+          ∙ (ap (λ (l : List Addr). l ++ take (k - length seen) (filter test (addresses_of later))) (sym is)
+          ∙ ap (λ (n : ℕ). new ++ take n (filter test (addresses_of later))) left))));
+    }
 
 -- one more address is looked at
 pub address_looked_at : (test : Addr → Bool) (most : ℕ) (addrs : List Addr) (i : ℕ) (d : Addr) (kept new all : List Addr) → i < length addrs → length kept < most

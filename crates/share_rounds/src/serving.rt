@@ -1,8 +1,9 @@
-ghost use Rattle.std.specs.Prelude.{◌≡◌, IfOk};
-ghost use Rattle.share_rounds.specs.Rounds.{AreTellable, IsServedFor, is_advertised, served_to, told_among};
+ghost use Rattle.std.specs.Prelude.{◌≡◌, ◌++◌, ◌-◌, ◌≤◌, filter, length, take, IfOk, OnOk};
+ghost use Rattle.peer_book.specs.Book.{addresses_of};
+ghost use Rattle.share_rounds.specs.Rounds.{AreTellable, IsServedFor, is_advertised, most_tellable, served_to, told_among};
 
 use crate::keep::keep_where;
-use net_base::{Addr, AddrList, OutOfMemory};
+use net_base::{Addr, AddrList, OutOfMemory, Peer};
 use peer_book::PeerBook;
 use root_groups::{Groups, Roots};
 use std::alloc::Global;
@@ -41,14 +42,33 @@ pub fn tellable(
     ensures { IfOk result (λ addrs. AreTellable addrs book.now groups.now roots.now.publics) }
 {
     let mut kept = AddrList::new(alloc);
-    for peer in book.as_slice() {
-        if kept.as_slice().len() >= MOST_TELLABLE {
-            return Ok(kept);
-        }
-        let may = is_advertised(groups, roots, peer.addr);
-        keep_where(&mut kept, may, peer.addr)?;
+    let mut place = 0;
+    while place < book.len() && kept.as_slice().len() < MOST_TELLABLE {
+        let run = book.run_from(place);
+        keep_tellable(&mut kept, run, groups, roots)?;
+        place += run.len();
     }
     Ok(kept)
+}
+
+// Keeps those of some peers that may be told to anyone, as long as fewer are kept than there may be.
+fn keep_tellable(
+    kept: &mut AddrList,
+    peers: &[Peer],
+    groups: &Groups,
+    roots: &Roots,
+) -> Result<(), OutOfMemory>
+    requires { length kept.old ≤ most_tellable }
+    ensures { OnOk result (kept.new ≡ kept.old ++ take (most_tellable - length kept.old) (filter (is_advertised groups.now roots.now.publics) (addresses_of peers.now))) }
+{
+    for peer in peers {
+        if kept.as_slice().len() >= MOST_TELLABLE {
+            return Ok(());
+        }
+        let may = is_advertised(groups, roots, peer.addr);
+        keep_where(kept, may, peer.addr)?;
+    }
+    Ok(())
 }
 
 /// The peers that are told to one that asks for so many, out of the `tellable` ones of the book: at most ten, and itself

@@ -37,7 +37,7 @@ pub fn fresh(
 fn room_for(book: &PeerBook, target: u64) -> u64
     ensures { result ≡ room_for target book.now }
 {
-    let room = MOST_PEERS - book.as_slice().len() as u64;
+    let room = MOST_PEERS - book.len() as u64;
     target.saturating_sub(book.known()).min(room)
 }
 

@@ -154,3 +154,20 @@ fn a_copy_has_the_items_in_their_order(rt: HostRuntime) -> Result<(), Fail> {
     }
     Ok(())
 }
+
+#[test]
+fn a_list_is_walked_by_runs(rt: HostRuntime) -> Result<(), Fail> {
+    let mut numbers = Vec::new(rt.alloc());
+    for number in 0..200_u64 {
+        numbers.push(3 * number)?;
+    }
+    let list = ChunkedList::from_slice(rt.alloc(), &numbers)?;
+    let mut walked = Vec::new(rt.alloc());
+    for _ in 0..list.len() {
+        walked.extend_from_slice(list.run_from(walked.len()))?;
+    }
+    assert!(rt; walked == numbers);
+    assert!(rt; list.run_from(70).first() == Some(&210));
+    assert!(rt; list.run_from(200).is_empty());
+    Ok(())
+}

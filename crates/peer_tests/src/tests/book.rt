@@ -62,8 +62,8 @@ fn a_peer_that_succeeds_is_listed_as_warm(rt: HostRuntime) -> Result<(), Fail> {
     assert!(rt; book.add(A2)? == Added::New);
     assert!(rt; book.add(A2)? == Added::Present);
     succeeds(&rt, &mut book);
-    assert!(rt; book.listed(Temp::Warm) == [A2].as_slice());
-    assert!(rt; book.listed(Temp::Cold).len() == 0);
+    assert!(rt; book.listed(Temp::Warm).run_from(0) == [A2].as_slice());
+    assert!(rt; book.listed(Temp::Cold).is_empty());
     assert!(rt; book.of_temp(Temp::Warm)?.as_slice() == [A2].as_slice());
     Ok(())
 }
@@ -128,7 +128,7 @@ fn a_big_peer_becomes_hot_and_then_ordinary(rt: HostRuntime) -> Result<(), Fail>
     becomes_hot(&rt, &mut book);
     becomes_ordinary(&rt, &mut book);
     assert!(rt; book.get(A3) == Some(HOT));
-    assert!(rt; book.as_slice().first() == Some(&HOT));
+    assert!(rt; book.run_from(0).first() == Some(&HOT));
     Ok(())
 }
 
@@ -137,7 +137,7 @@ fn is_forgotten(rt: &impl Abort, book: &mut PeerBook) -> Result<(), Fail> {
     assert!(rt; peer.temp == Temp::Cold);
     book.forget(A2);
     assert!(rt; book.get(A2) == None);
-    assert!(rt; book.listed(Temp::Cold) == [A3].as_slice());
+    assert!(rt; book.listed(Temp::Cold).run_from(0) == [A3].as_slice());
     assert!(rt; book.known() == 1);
     Ok(())
 }
@@ -147,7 +147,7 @@ fn a_forgotten_peer_is_gone(rt: HostRuntime) -> Result<(), Fail> {
     let mut book = PeerBook::new(rt.alloc());
     book.add(A3)?;
     book.add(A2)?;
-    assert!(rt; book.listed(Temp::Cold) == [A2, A3].as_slice());
+    assert!(rt; book.listed(Temp::Cold).run_from(0) == [A2, A3].as_slice());
     is_forgotten(&rt, &mut book)
 }
 
@@ -158,7 +158,7 @@ fn several_are_forgotten_at_once(rt: HostRuntime) -> Result<(), Fail> {
     book.add_all(true, &[A4, A2], MOST_PEERS)?;
     // one of nobody, and one twice
     book.forget_all(&[A3, A8, A4, A3])?;
-    assert!(rt; book.listed(Temp::Cold) == [A1, A2, A5].as_slice());
+    assert!(rt; book.listed(Temp::Cold).run_from(0) == [A1, A2, A5].as_slice());
     assert!(rt; [book.known(), book.big_known()] == [2, 1]);
     Ok(())
 }
@@ -172,7 +172,7 @@ fn addresses_come_in_one_after_another(rt: HostRuntime) -> Result<(), Fail> {
     // two big ledger peers are enough
     let new = book.add_all(true, &[A7, A2, A1, A8], 2)?;
     assert!(rt; new.as_slice() == [A7, A1].as_slice());
-    assert!(rt; book.listed(Temp::Cold) == [A1, A2, A3, A4, A5, A7].as_slice());
+    assert!(rt; book.listed(Temp::Cold).run_from(0) == [A1, A2, A3, A4, A5, A7].as_slice());
     assert!(rt; [book.known(), book.big_known()] == [4, 2]);
     let peer = book.get(A1).ok_or("absent")?;
     assert!(rt; peer.big);
@@ -182,8 +182,8 @@ fn addresses_come_in_one_after_another(rt: HostRuntime) -> Result<(), Fail> {
 fn becomes_warm(rt: &impl Abort, book: &mut PeerBook) {
     assert!(rt; book.get(A2).is_some());
     book.set_temp(A2, Temp::Warm);
-    assert!(rt; book.listed(Temp::Warm) == [A2].as_slice());
-    assert!(rt; book.listed(Temp::Cold) == [A1].as_slice());
+    assert!(rt; book.listed(Temp::Warm).run_from(0) == [A2].as_slice());
+    assert!(rt; book.listed(Temp::Cold).run_from(0) == [A1].as_slice());
 }
 
 #[test]
@@ -220,7 +220,7 @@ fn a_full_book_takes_no_more(rt: HostRuntime) -> Result<(), Fail> {
     assert!(rt; new.as_slice() == [A4].as_slice());
     assert!(rt; book.add(A2)? == Added::Full);
     assert!(rt; book.add_big(A2)? == Added::Full);
-    assert!(rt; book.as_slice().len() == 20_000);
+    assert!(rt; book.len() == 20_000);
     assert!(rt; [book.known(), book.big_known()] == [19_999, 1]);
     assert!(rt; book.get(A2) == None);
     Ok(())

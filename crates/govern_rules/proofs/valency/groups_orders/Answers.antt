@@ -21,8 +21,7 @@ returns-then-is_empty g c =
 pub returns-then-is_empty-2 : goal.returns-then-is_empty-2
 returns-then-is_empty-2 g c =
     let book = c.args.book.now in
-    let none : length c.listed.result.now ≡ 0 = search rules in
-    let nobody = sym (ap (λ t. listed_at t book) c.temp_of.ensures) ∙ (sym c.listed.ensures.value ∙ nothing c.listed.result.now none) in
+    let nobody = sym (ap (λ t. listed_at t book) c.temp_of.ensures) ∙ (sym c.listed.ensures.value ∙ c.is_empty-2.ensures.0 c.if-is_empty-2.true) in
     sym (ap (λ l. c.args.orders.items ++ l) (nobody-in-groups c.args.valency c.args.view.now book c.args.groups.now nobody)
     ∙ append-nil c.args.orders.items)
 
@@ -35,6 +34,6 @@ group_orders-requires g c =
     record {
       members = subst (λ (x : Group). IsDistinct same_address x.members) (sym there)
           (distinct_members c.args.groups.now i group (omega (arith, ap length all)) c.list.ensures.distinct);
-      peers = distinct_book c.args.book.now c.as_slice.ensures.ordered;
-      known = c.deref.ensures.value ∙ (c.in_ok-look_up.ensures ∙ ap (lookups c.args.book.now) c.as_slice-in-loop-group.ensures);
+      peers = distinct_book c.args.book.now c.is_empty.ensures.ordered;
+      known = c.deref.ensures.value ∙ (c.in_ok-look_up.ensures ∙ ap (lookups c.args.book.now) c.as_slice.ensures);
     }

@@ -4,7 +4,10 @@ use Rattle.peer_book.specs.Book.{addresses_of}
 use Rattle.share_rounds.specs.Rounds.{is_advertised, most_tellable, tellable_of}
 use Rattle.share_rounds.proofs.serving.tellable.Given as goal
 
-abbrev pub invariant-loop-peer : goal.invariant-loop-peer
-invariant-loop-peer l = (length l.kept ≤ most_tellable)
+abbrev pub invariant-loop-place : goal.invariant-loop-place
+invariant-loop-place l = (length l.kept ≤ most_tellable)
     × (tellable_of l.book l.groups l.roots.publics
-    ≡ l.kept ++ take (most_tellable - length l.kept) (filter (is_advertised l.groups l.roots.publics) (addresses_of (drop l.peer-index l.book))))
+    ≡ l.kept ++ take (most_tellable - length l.kept) (filter (is_advertised l.groups l.roots.publics) (addresses_of (drop l.place l.book))))
+
+abbrev pub decreases-loop-place : goal.decreases-loop-place
+decreases-loop-place l = length l.book - l.place

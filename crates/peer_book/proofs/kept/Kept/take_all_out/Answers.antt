@@ -14,18 +14,21 @@ is_left addrs p = not (has_address p.addr addrs)
 
 pub of-tally-requires : goal.of-tally-requires
 of-tally-requires c =
-    let peers : List Peer = c.args.self.now.peers.items in
-    let left = c.deref-3.ensures.value ∙ (c.in_ok-peers.ensures ∙ ap (others_than c.args.addrs.now) c.deref.ensures.value) in
+    let peers : List Peer = c.args.self.now.peers in
+    let left = c.deref-4.ensures.value ∙ (c.in_ok-left.ensures ∙ ap (others_than c.args.addrs.now) (c.deref.ensures.value ∙ c.in_ok-to_vec.ensures)) in
     omega (arith, ap length left, filter-within (is_left c.args.addrs.now) peers, c.requires.kept.limited)
 
 pub returns-clause-kept : goal.returns-clause-kept
 returns-clause-kept c =
-    let peers : List Peer = c.args.self.now.peers.items in
-    let left : c.in_ok-peers.peers.items ≡ others_than c.args.addrs.now peers = c.in_ok-peers.ensures ∙ ap (others_than c.args.addrs.now) c.deref.ensures.value in
+    let peers : List Peer = c.args.self.now.peers in
+    let now : List Peer = c.in_ok-peers.peers in
+    let made : now ≡ c.in_ok-left.left.items = c.in_ok-peers.ensures ∙ c.deref-2.ensures.value in
+    let left : now ≡ others_than c.args.addrs.now peers = made
+    ∙ (c.in_ok-left.ensures ∙ ap (others_than c.args.addrs.now) (c.deref.ensures.value ∙ c.in_ok-to_vec.ensures)) in
     record {
       ordered = subst InOrder (sym left) (IsRising-filter address_of (is_left c.args.addrs.now) peers c.requires.kept.ordered);
       limited = omega (arith, ap length left, filter-within (is_left c.args.addrs.now) peers, c.requires.kept.limited);
-      listed = λ t. c.in_ok-rows.ensures.lists t ∙ ap (listed_at t) c.deref-2.ensures.value;
-      roomy = λ t. omega (arith, ap length c.deref-2.ensures.value, c.in_ok-rows.ensures.made t);
-      counted = c.of-tally.ensures ∙ ap tally_of c.deref-3.ensures.value;
+      listed = λ t. c.in_ok-rows.ensures.lists t ∙ ap (listed_at t) (c.deref-3.ensures.value ∙ sym made);
+      roomy = λ t. omega (arith, ap length c.deref-3.ensures.value, ap length made, c.in_ok-rows.ensures.made t);
+      counted = c.of-tally.ensures ∙ ap tally_of (c.deref-4.ensures.value ∙ sym made);
     }

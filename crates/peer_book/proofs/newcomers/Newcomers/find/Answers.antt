@@ -12,19 +12,18 @@ any = record { ip = V4 0; port = 0 }
 
 pub loop-addr-preserved : goal.loop-addr-preserved
 loop-addr-preserved c =
-    let peers = c.args.kept.now.peers.items in
+    let peers = c.args.kept.now.peers in
     let addrs = c.args.addrs.now in
     let i = c.loop-addr.addr-index in
-    let book = c.deref.ensures.value in
     let next = drop-cons addrs i any c.loop-addr-test.true in
     let so_far = subst (λ rest. Coming c.args.most c.args.big addrs rest peers c.loop-addr.given c.loop-addr.sorted.keys) next c.loop-addr.invariant in
     let room : length c.loop-addr.given < room_for c.args.most c.args.big peers = omega (arith, ap length c.as_slice.ensures, c.if-as_slice-room.false, c.room_for-room.ensures) in
     rw add-one (coming-next c.args.most c.args.big addrs (get_or addrs i any) (drop (suc i) addrs) peers c.loop-addr.given c.loop-addr.sorted.keys _ _
-    so_far room (rw book at c.in_ok-take_in.ensures.given) (rw book at c.in_ok-take_in.ensures.sorted))
+    so_far room c.in_ok-take_in.ensures.given c.in_ok-take_in.ensures.sorted)
 
-came_in : (c : Left-loop-addr) → CameIn c.args.most c.args.big c.args.addrs.now c.args.kept.now.peers.items c.loop-addr.given c.loop-addr.sorted.keys
+came_in : (c : Left-loop-addr) → CameIn c.args.most c.args.big c.args.addrs.now c.args.kept.now.peers c.loop-addr.given c.loop-addr.sorted.keys
 came_in c =
-    let peers = c.args.kept.now.peers.items in
+    let peers = c.args.kept.now.peers in
     let addrs = c.args.addrs.now in
     let limited = c.requires.limited in
     elim c.loop-addr-test.branch [

@@ -1,0 +1,11 @@
+use Rattle.std.proofs.Common.{rules}
+use Rattle.std.proofs.lemmas.List.Sorted.{IsPartitionPoint-from_clause}
+use Rattle.peer_book.proofs.Rising.{is_under, partitioned, place_is}
+use Rattle.peer_book.proofs.place.place_in.Goals as goal
+
+pub returns : goal.returns
+returns c =
+    let p = is_under (λ a. a) c.args.addr in
+    place_is p c.args.addrs.now c.partition_point.result c.partition_point.ensures.bound
+    (IsPartitionPoint-from_clause p c.args.addrs.now c.partition_point.result c.partition_point.ensures.partitioned
+    (partitioned (λ a. a) c.args.addr c.args.addrs.now c.requires) (λ a r f k. search rules))
