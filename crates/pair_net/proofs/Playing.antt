@@ -1,10 +1,9 @@
 -- What lines of a pair come to.
-use Rattle.std.proofs.Common.{◌≡◌, ℕ, ◌+◌, ◌<◌, Bool, false, cond, leb, List, [], ◌∷◌, ◌++◌, map, Result, Ok, sym, ap, ◌∙◌, subst}
+use Rattle.std.proofs.Common.{◌≡◌, ℕ, ◌+◌, ◌<◌, Bool, false, cond, leb, List, [], ◌∷◌, ◌++◌, map, Result, Ok, sym, ap, ◌∙◌}
 use Rattle.std.proofs.lemmas.Bool.{lt-leb}
 use Rattle.io_edge.specs.Lines.{ended_lines}
 use Rattle.line_run.specs.Meaning.{Meaning, goes_on, is_too_many}
 use Rattle.line_run.specs.Refusals.{if_read}
-use Rattle.line_run.specs.declared.stop.Stop.{Stop}
 use Rattle.line_run.proofs.Meant.{says_line}
 use Rattle.trace_text.specs.declared.line.LineRefusal.{LineRefusal}
 use Rattle.pair_net.specs.Pair.{PairState}
@@ -22,12 +21,6 @@ pub line_meant : {A : Type 0} (read : Result A LineRefusal) (value : A) (meaning
     meaning value ≡ goes_on next (text ∷ []) → after ≡ before ++ (text ++ 10 ∷ []) → IsMeant (if_read read meaning) before after (Ok next)
 line_meant {A} read value meaning next text before after is leads said =
     (text ∷ [], ap (λ (r : Result A LineRefusal). if_read r meaning) is ∙ leads, says_line before after text said)
-
--- a line that is read as this means what that does
-pub read_meant : {A : Type 0} (read : Result A LineRefusal) (value : A) (meaning : A → Meaning Progress) (before after : List ℕ) (result : Result Progress Stop) → read ≡ Ok value →
-    IsMeant (meaning value) before after result → IsMeant (if_read read meaning) before after result
-read_meant {A} read value meaning before after result is meant =
-    subst (λ (m : Meaning Progress). IsMeant m before after result) (sym (ap (λ (r : Result A LineRefusal). if_read r meaning) is)) meant
 
 -- a step is taken
 pub step_meant : (pair next : PairState) (count : ℕ) (text : List ℕ) (step : PairStep) (notes : List PairNote) (before after : List ℕ) → count < most_steps →

@@ -14,8 +14,17 @@ use std::marker::Model;
 /// one that some steps lead to.
 #[derive(Drop)]
 pub struct Pair {
+    alloc: Global,
     ends: BothEnds,
 }
+
+// What an end says of itself of which nothing is known.
+const NOBODY: VersionInfo = VersionInfo {
+    magic: 0,
+    initiator_only: false,
+    sharing: false,
+    query: false,
+};
 
 impl Model for Pair {
     ghost use Rattle.pair_net.specs.Law.{IsReached};
@@ -36,6 +45,7 @@ impl Pair {
         ensures { result ≡ fresh_pair left right }
     {
         Pair {
+            alloc,
             ends: BothEnds::new(alloc, left, right),
         }
     }
@@ -53,8 +63,22 @@ impl Pair {
         ensures turn { IfOk result (λ turned. IsTurn (stepped step self) turned.0 turned.1) }
         ensures alike { IfOk result (λ turned. AgreesAlike turned.0) }
     {
-        let Pair { mut ends } = self;
-        let notes = ends.step(step)?;
-        Ok((Pair { ends }, notes))
+        let mut pair = self;
+        let notes = pair.advance(step)?;
+        Ok((pair, notes))
+    }
+
+    /// The same where the pair stands. Where memory is refused another pair stands there, of two fresh ends.
+    pub(crate) fn advance(&mut self, step: PairStep) -> Result<NoteList, OutOfMemory>
+        ensures turn { IfOk result (IsTurn (stepped step self.old) self.new) }
+        ensures alike { AgreesAlike self.new }
+    {
+        match self.ends.step(step) {
+            Ok(notes) => Ok(notes),
+            Err(refused) => {
+                self.ends = BothEnds::new(self.alloc, NOBODY, NOBODY);
+                Err(refused)
+            }
+        }
     }
 }

@@ -1,4 +1,5 @@
 ghost use Rattle.std.specs.Prelude.{◌≡◌, ⊤, false, IfOk};
+ghost use Rattle.line_run.specs.Meaning.{IsInterpreted};
 ghost use Rattle.pair_net.specs.Replay.{step_means, line_means, IsOffered, IsMeant};
 
 use crate::pair_line::{PairLine, read_info, read_later, read_opening};
@@ -8,7 +9,6 @@ use io_edge::PieceWriter;
 use line_run::{Interpreter, Stop, tell_line};
 use std::alloc::Global;
 use std::marker::Model;
-use std::mem;
 
 // How many steps a pair may have.
 const STEPS_MOST: u64 = 1_000_000;
@@ -66,27 +66,35 @@ impl Interpreter for PairReplay {
     ghost holds = { λ _. ⊤ };
 
     fn interpret(&mut self, line: &[u8], pieces: &mut PieceWriter) -> Result<(), Stop> {
-        let progress = mem::replace(&mut self.progress, Progress::Opening);
-        self.progress = go_on(self.alloc, progress, line, pieces)?;
-        Ok(())
+        go_on(self.alloc, &mut self.progress, line, pieces)
     }
 }
 
-// How far a line leads. Says the lines that are written for it.
+// A line leads on. Says the lines that are written for it. The pair is led where it stands.
 fn go_on(
     alloc: Global,
-    progress: Progress,
+    progress: &mut Progress,
     line: &[u8],
     pieces: &mut PieceWriter,
-) -> Result<Progress, Stop>
-    requires { IsOffered progress }
-    ensures meant { IsMeant (line_means progress line.now) pieces.old pieces.new result }
-    ensures offered { IfOk result IsOffered }
+) -> Result<(), Stop>
+    requires { IsOffered progress.old }
+    ensures meant { IsInterpreted (line_means progress.old line.now) progress.new pieces.old pieces.new result }
+    ensures offered { IsOffered progress.new }
 {
     match progress {
-        Progress::Opening => open(line, pieces),
-        Progress::Left => name_left(line, pieces),
-        Progress::Right(left) => name_right(alloc, left, line, pieces),
+        Progress::Opening => {
+            *progress = open(line, pieces)?;
+            Ok(())
+        }
+        Progress::Left => {
+            *progress = name_left(line, pieces)?;
+            Ok(())
+        }
+        Progress::Right(left) => {
+            let left = *left;
+            *progress = name_right(alloc, left, line, pieces)?;
+            Ok(())
+        }
         Progress::Steps(pair, count) => lead(alloc, pair, count, line, pieces),
     }
 }
@@ -139,17 +147,16 @@ fn name_right(
 // A pair that has made so many steps is led on by a line.
 fn lead(
     alloc: Global,
-    pair: Pair,
-    count: u64,
+    pair: &mut Pair,
+    count: &mut u64,
     line: &[u8],
     pieces: &mut PieceWriter,
-) -> Result<Progress, Stop>
-    ensures meant { IsMeant (line_means (Progress.Steps pair count) line.now) pieces.old pieces.new result }
-    ensures offered { IfOk result IsOffered }
+) -> Result<(), Stop>
+    ensures { IsInterpreted (line_means (Progress.Steps pair.old count.old) line.now) (Progress.Steps pair.new count.new) pieces.old pieces.new result }
 {
     match read_later(line) {
         Ok(PairLine::Step(step)) => take_step(alloc, pair, count, step, line, pieces),
-        Ok(PairLine::Skipped) => Ok(Progress::Steps(pair, count)),
+        Ok(PairLine::Skipped) => Ok(()),
         Ok(PairLine::End) => {
             pieces.push_line(line)?;
             Err(Stop::Ended)
@@ -160,19 +167,19 @@ fn lead(
 
 fn take_step(
     alloc: Global,
-    pair: Pair,
-    count: u64,
+    pair: &mut Pair,
+    count: &mut u64,
     step: PairStep,
     line: &[u8],
     pieces: &mut PieceWriter,
-) -> Result<Progress, Stop>
-    ensures meant { IsMeant (step_means pair count line.now (PairLine.Step step)) pieces.old pieces.new result }
-    ensures offered { IfOk result IsOffered }
+) -> Result<(), Stop>
+    ensures { IsInterpreted (step_means pair.old count.old line.now (PairLine.Step step)) (Progress.Steps pair.new count.new) pieces.old pieces.new result }
 {
-    if count >= STEPS_MOST {
+    if *count >= STEPS_MOST {
         return Err(Stop::TooMany);
     }
-    let (pair, notes) = pair.step(step)?;
+    let notes = pair.advance(step)?;
     tell_line(alloc, line, notes.as_slice(), pieces)?;
-    Ok(Progress::Steps(pair, count + 1))
+    *count += 1;
+    Ok(())
 }
