@@ -3,6 +3,6 @@ pub mod FrontLemmas
 pub mod InputLemmas
 pub mod LineLemmas
 pub mod LinesRead
+mod LogWalks
 pub mod ReadingLemmas
-mod ShelfLemmas
 pub mod ToldLemmas

@@ -1,18 +1,19 @@
 -- Files in memory.
-use Rattle.std.specs.Prelude.{◌≡◌, ℕ, ◌==◌, nat_le, Bool, List, [], ◌∷◌, ◌++◌, length, count_by, slice_get, bytes_eq, if◌then◌else◌, Option, Some, None, Result, Ok, Err, ⊤}
+use Rattle.std.specs.Prelude.{◌≡◌, ℕ, nat_le, Bool, List, length, slice_get, bytes_eq, if◌then◌else◌, Option, Some, None, Result, Ok, Err, ⊤}
 use Rattle.std.specs.List.{position_or_len}
 use Rattle.std.specs.Option.{option_map}
 use Rattle.io_edge.specs.declared.named_file.NamedFile.{NamedFile}
+use Rattle.io_edge.specs.declared.reading.Reading.{Reading}
+use Rattle.io_edge.specs.Files.{with_reading}
 use Rattle.io_edge.specs.declared.shelf_refusal.ShelfRefusal.{ShelfRefusal}
 use Rattle.io_edge.specs.declared.shelf_refusal.ShelfRefusal.TheVariants.{Failed, TooLarge, OutOfMemory}
 use Rattle.net_base.specs.Calls.{Calls, next_fails, after_call}
 
--- The files, the calls, and for each reading that failed the place of its file, or the number of files where no file
--- has the name.
+-- The files, the calls and the readings.
 pub record MemoryShelf : Type 0 where
   pub files : List NamedFile
   pub calls : Calls
-  pub failed : List ℕ
+  pub readings : List Reading
 
 abbrev pub has_name : List ℕ → NamedFile → Bool
 has_name name file = bytes_eq file.name name
@@ -24,10 +25,6 @@ place_of files name = position_or_len (has_name name) files
 -- the bytes of the first file of a name
 abbrev pub bytes_of : List NamedFile → List ℕ → Option (List ℕ)
 bytes_of files name = option_map (λ file. file.bytes) (slice_get files (place_of files name))
-
--- how many readings of a name failed: those of all names that no file has are counted together
-abbrev pub faults_of : MemoryShelf → List ℕ → ℕ
-faults_of shelf name = count_by (λ place. place == place_of shelf.files name) shelf.failed
 
 -- what a reading of some bytes answers
 abbrev pub reading_of : List ℕ → ℕ → Result (List ℕ) ShelfRefusal
@@ -45,16 +42,9 @@ IsAnswerOr wanted (Err Failed) = wanted ≡ Err Failed
 IsAnswerOr wanted (Err (TooLarge size)) = wanted ≡ Err (TooLarge size)
 IsAnswerOr wanted (Err OutOfMemory) = ⊤
 
--- the readings that failed, with one that was answered so
-abbrev pub failed_after : List ℕ → ℕ → Result (List ℕ) ShelfRefusal → List ℕ
-failed_after failed place (Ok bytes) = failed
-failed_after failed place (Err Failed) = failed ++ place ∷ []
-failed_after failed place (Err (TooLarge size)) = failed
-failed_after failed place (Err OutOfMemory) = failed
-
 -- the shelf after a reading of a name that was answered so
-abbrev pub after_reading : MemoryShelf → List ℕ → Result (List ℕ) ShelfRefusal → MemoryShelf
-after_reading shelf name answer = record shelf {
+abbrev pub after_reading : MemoryShelf → List ℕ → ℕ → Result (List ℕ) ShelfRefusal → MemoryShelf
+after_reading shelf name limit answer = record shelf {
   calls = after_call shelf.calls;
-  failed = failed_after shelf.failed (place_of shelf.files name) answer;
+  readings = with_reading shelf.readings name limit answer;
 }

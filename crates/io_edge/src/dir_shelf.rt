@@ -1,6 +1,8 @@
-ghost use Rattle.std.specs.Prelude.{◌≡◌, ◌<◌, ◌≤◌, ℕ, List, length, None, Err, IfOk, MatchResult};
-ghost use Rattle.io_edge.specs.Files.{IsReading, HasFileCause, count_after};
+ghost use Rattle.std.specs.Prelude.{◌≡◌, ℕ, ◌<◌, ◌≤◌, [], length, None, Err, IfOk, MatchResult};
+ghost use Rattle.io_edge.specs.Files.{IsReading, with_reading};
 
+use crate::reading::LentReading;
+use crate::reading_log::ReadingLog;
 use crate::{Shelf, ShelfRefusal};
 use net_base::Octets;
 use std::alloc::Global;
@@ -10,47 +12,32 @@ use std::marker::Model;
 use std::rt::Files;
 use std::{fs, io};
 
-/// The files of a runtime, each by its path. Their bytes are not told. Contracts see the count of faults, which is one
-/// for all names.
+/// The files of a runtime, each by its path. Their bytes are not told. Contracts see the readings.
 #[derive(Drop)]
 pub struct DirShelf<R: Files> {
     alloc: Global,
     rt: R,
-    faults: u64,
+    log: ReadingLog,
 }
 
 impl<R: Files> Model for DirShelf<R> {
-    ghost use Rattle.std.specs.Prelude.{ℕ};
+    ghost use Rattle.std.specs.Prelude.{List};
+    ghost use Rattle.io_edge.specs.declared.reading.Reading.{Reading};
 
-    ghost Value = { ℕ };
+    ghost Value = { List Reading };
 
-    ghost view = { λ s. s.faults };
+    ghost view = { λ s. s.log.items };
 }
 
 impl<R: Files> DirShelf<R> {
-    /// No reading failed yet.
+    /// No reading was made yet.
     pub fn new(alloc: Global, rt: R) -> DirShelf<R>
-        ensures { result ≡ 0 }
+        ensures { result ≡ [] }
     {
         DirShelf {
             alloc,
             rt,
-            faults: 0,
-        }
-    }
-
-    // Why a file was not read. Want of memory is no fault of the file.
-    fn refusal_of(&mut self, error: io::Error) -> ShelfRefusal
-        ensures reading { (limit : ℕ) → IsReading None limit (Err result) }
-        ensures cause { (name : List ℕ) → HasFileCause (λ _. self.old) (λ _. self.new) name (Err result) }
-        ensures count { self.new ≡ count_after self.old (Err result) }
-    {
-        match error.kind() {
-            ErrorKind::OutOfMemory => ShelfRefusal::OutOfMemory,
-            _ => {
-                self.faults = self.faults.saturating_add(1);
-                ShelfRefusal::Failed
-            }
+            log: ReadingLog::new(),
         }
     }
 }
@@ -58,17 +45,44 @@ impl<R: Files> DirShelf<R> {
 impl<R: Files> Shelf for DirShelf<R> {
     ghost file = { λ _ _. None };
 
-    ghost faults = { λ count _. count };
+    ghost readings = { λ readings. readings };
 
     fn read(&mut self, name: &str, limit: usize) -> Result<Octets, ShelfRefusal>
         ensures reading { IsReading None limit result }
-        ensures cause { HasFileCause (λ _. self.old) (λ _. self.new) name.now result }
-        ensures count { self.new ≡ count_after self.old result }
+        ensures made { self.new ≡ with_reading self.old name.now limit result }
     {
-        match read_file(self.alloc, &self.rt, name, limit) {
-            Ok(found) => found.map_err(ShelfRefusal::TooLarge),
-            Err(error) => Err(self.refusal_of(error)),
-        }
+        let answer = answer_of(self.alloc, &self.rt, name, limit);
+        self.log = self.log.with(&LentReading {
+            name,
+            limit,
+            answer: &answer,
+        });
+        answer
+    }
+}
+
+// What a reading answers.
+fn answer_of<R: Files>(
+    alloc: Global,
+    rt: &R,
+    name: &str,
+    limit: usize,
+) -> Result<Octets, ShelfRefusal>
+    ensures { IsReading None limit result }
+{
+    match read_file(alloc, rt, name, limit) {
+        Ok(found) => found.map_err(ShelfRefusal::TooLarge),
+        Err(error) => Err(refusal_of(error)),
+    }
+}
+
+// Why a file was not read. Want of memory is no fault of the file.
+fn refusal_of(error: io::Error) -> ShelfRefusal
+    ensures { (limit : ℕ) → IsReading None limit (Err result) }
+{
+    match error.kind() {
+        ErrorKind::OutOfMemory => ShelfRefusal::OutOfMemory,
+        _ => ShelfRefusal::Failed,
     }
 }
 

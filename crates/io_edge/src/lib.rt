@@ -1,5 +1,5 @@
-//! Where bytes come from and where they go: sources, sinks, a reader of lines, and shelves of files. Each counts its
-//! faults, and a fault is answered only where the count rose.
+//! Where bytes come from and where they go: sources, sinks, a reader of lines, and shelves of files. Sources and sinks
+//! count their faults, and a fault is answered only where the count rose; a shelf tells its readings.
 #![tactic(auto)]
 
 mod dir_shelf;
@@ -14,6 +14,8 @@ mod mem_source;
 mod named_file;
 mod piece_writer;
 mod printed;
+mod reading;
+mod reading_log;
 mod shelf;
 mod shelf_refusal;
 mod sink;
@@ -34,6 +36,7 @@ pub use mem_source::MemSource;
 pub use named_file::{FileList, NamedFile};
 pub use piece_writer::PieceWriter;
 pub use printed::Printed;
+pub use reading::Reading;
 pub use shelf::Shelf;
 pub use shelf_refusal::ShelfRefusal;
 pub use sink::{Sink, put_all};

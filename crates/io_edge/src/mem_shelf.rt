@@ -1,21 +1,23 @@
-ghost use Rattle.std.specs.Prelude.{◌≡◌, ℕ, [], List, Err};
-ghost use Rattle.io_edge.specs.declared.shelf_refusal.ShelfRefusal.TheVariants.{Failed as ReadingFailed};
-ghost use Rattle.io_edge.specs.Files.{IsReading, HasFileCause};
-ghost use Rattle.io_edge.specs.Shelves.{has_name, place_of, bytes_of, faults_of, reading_of, next_reading, IsAnswerOr, failed_after, after_reading};
+ghost use Rattle.std.specs.Prelude.{◌≡◌, ℕ, [], List};
+ghost use Rattle.io_edge.specs.Files.{IsReading, with_reading};
+ghost use Rattle.net_base.specs.Calls.{after_call};
+ghost use Rattle.io_edge.specs.Shelves.{has_name, place_of, bytes_of, reading_of, next_reading, IsAnswerOr, after_reading};
 
+use crate::reading::LentReading;
+use crate::reading_log::ReadingLog;
 use crate::{FileList, NamedFile, Shelf, ShelfRefusal};
 use net_base::{CallLog, NumberList, Octets};
 use std::alloc::Global;
 use std::marker::Model;
 
 /// Files in memory, read by calls of which some fail. Of two files of one name the first is read. To read a name that
-/// no file has fails too. Contracts see the files, the calls and the readings that failed.
+/// no file has fails too. Contracts see the files, the calls and the readings.
 #[derive(Drop)]
 pub struct MemShelf {
     alloc: Global,
     files: FileList,
     calls: CallLog,
-    failed: Vec<usize>,
+    log: ReadingLog,
 }
 
 impl Model for MemShelf {
@@ -23,7 +25,7 @@ impl Model for MemShelf {
 
     ghost Value = { MemoryShelf };
 
-    ghost view = { λ s. record { files = s.files; calls = s.calls; failed = s.failed.items } };
+    ghost view = { λ s. record { files = s.files; calls = s.calls; readings = s.log.items } };
 }
 
 impl MemShelf {
@@ -31,24 +33,30 @@ impl MemShelf {
     pub fn new(alloc: Global, files: FileList, failing: NumberList) -> MemShelf
         ensures files { result.files ≡ files }
         ensures calls { result.calls ≡ record { made = 0; failing = failing; faults = 0 } }
-        ensures failed { result.failed ≡ [] }
+        ensures readings { result.readings ≡ [] }
     {
         MemShelf {
             alloc,
             files,
             calls: CallLog::new(failing),
-            failed: Vec::new(alloc),
+            log: ReadingLog::new(),
         }
     }
 
-    // Notes that a reading of the file at a place failed, and answers so, unless there is no memory for the note.
-    fn fault_at(&mut self, place: usize) -> ShelfRefusal
-        ensures answer { IsAnswerOr (Err ReadingFailed) (Err result) }
-        ensures after { self.new ≡ record self.old { failed = failed_after self.old.failed place (Err result) } }
+    // What the next reading answers.
+    fn next(&mut self, name: &str, limit: usize) -> Result<Octets, ShelfRefusal>
+        ensures files { self.new.files ≡ self.old.files }
+        ensures calls { self.new.calls ≡ after_call self.old.calls }
+        ensures readings { self.new.readings ≡ self.old.readings }
+        ensures answer { IsAnswerOr (next_reading self.old.calls (bytes_of self.old.files name.now) limit) result }
     {
-        match self.failed.push(place) {
-            Ok(()) => ShelfRefusal::Failed,
-            Err(_) => ShelfRefusal::OutOfMemory,
+        if self.calls.count_call() {
+            return Err(ShelfRefusal::Failed);
+        }
+        let place = place_of(self.files.as_slice(), name);
+        match self.files.as_slice().get(place) {
+            Some(file) => copy_of(self.alloc, file, limit),
+            None => Err(ShelfRefusal::Failed),
         }
     }
 }
@@ -56,24 +64,22 @@ impl MemShelf {
 impl Shelf for MemShelf {
     ghost file = { λ s. bytes_of s.files };
 
-    ghost faults = { faults_of };
+    ghost readings = { λ s. s.readings };
 
     fn read(&mut self, name: &str, limit: usize) -> Result<Octets, ShelfRefusal>
         ensures kept { (other : List ℕ) → bytes_of self.new.files other ≡ bytes_of self.old.files other }
         ensures reading { IsReading (bytes_of self.old.files name.now) limit result }
-        ensures cause { HasFileCause (faults_of self.old) (faults_of self.new) name.now result }
+        ensures made { self.new.readings ≡ with_reading self.old.readings name.now limit result }
         ensures answer { IsAnswerOr (next_reading self.old.calls (bytes_of self.old.files name.now) limit) result }
-        ensures after { self.new ≡ after_reading self.old name.now result }
+        ensures after { self.new ≡ after_reading self.old name.now limit result }
     {
-        let fails = self.calls.count_call();
-        let place = place_of(self.files.as_slice(), name);
-        if fails {
-            return Err(self.fault_at(place));
-        }
-        match self.files.as_slice().get(place) {
-            Some(file) => copy_of(self.alloc, file, limit),
-            None => Err(self.fault_at(place)),
-        }
+        let answer = self.next(name, limit);
+        self.log = self.log.with(&LentReading {
+            name,
+            limit,
+            answer: &answer,
+        });
+        answer
     }
 }
 

@@ -1,5 +1,6 @@
 ghost use Rattle.std.specs.Prelude.{◌≡◌, ℕ, List, Option};
-ghost use Rattle.io_edge.specs.Files.{IsReading, HasFileCause};
+ghost use Rattle.io_edge.specs.declared.reading.Reading.{Reading as Made};
+ghost use Rattle.io_edge.specs.Files.{IsReading, with_reading};
 
 use crate::ShelfRefusal;
 use net_base::Octets;
@@ -9,12 +10,12 @@ pub trait Shelf {
     /// The bytes of the file of each name, where the shelf tells them.
     ghost file: { Self → List ℕ → Option (List ℕ) };
 
-    /// How many readings of each name failed.
-    ghost faults: { Self → List ℕ → ℕ };
+    /// The readings that were made, in order.
+    ghost readings: { Self → List Made };
 
     /// The bytes of the file of a name, where they are at most `limit`. No file changes.
     fn read(&mut self, name: &str, limit: usize) -> Result<Octets, ShelfRefusal>
         ensures kept { (other : List ℕ) → file self.new other ≡ file self.old other }
         ensures reading { IsReading (file self.old name.now) limit result }
-        ensures cause { HasFileCause (faults self.old) (faults self.new) name.now result };
+        ensures made { readings self.new ≡ with_reading (readings self.old) name.now limit result };
 }

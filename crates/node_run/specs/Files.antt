@@ -1,8 +1,9 @@
 -- What the two files of a node come to, read and judged.
 use Rattle.std.specs.Prelude.{◌≡◌, ℕ, ◌<◌, ◌≤◌, ◌⊎◌, List, length, All, Option, Some, None, Result, Ok, Err, IsOk}
-use Rattle.io_edge.specs.Causes.{Rose}
-use Rattle.io_edge.specs.Files.{Counts, IsReading}
-use Rattle.io_edge.specs.declared.shelf_refusal.ShelfRefusal.TheVariants.{TooLarge}
+use Rattle.io_edge.specs.Files.{IsReading, with_reading}
+use Rattle.io_edge.specs.declared.reading.Reading.{Reading}
+use Rattle.io_edge.specs.declared.shelf_refusal.ShelfRefusal.{ShelfRefusal}
+use Rattle.io_edge.specs.declared.shelf_refusal.ShelfRefusal.TheVariants.{Failed, TooLarge, OutOfMemory as NoMemory}
 use Rattle.net_base.specs.Bounds.{AreSound, targets_fault}
 use Rattle.net_base.specs.Limits.{HasValencies}
 use Rattle.node_settings.specs.declared.config.Config.{Config}
@@ -15,7 +16,7 @@ use Rattle.node_settings.specs.Config.{config_of}
 use Rattle.node_settings.specs.Topology.{topology_of}
 use Rattle.node_run.specs.Asked.{Asked}
 use Rattle.tool_status.specs.declared.status.Status.{Status}
-use Rattle.tool_status.specs.declared.status.Status.TheVariants.{Done, OutOfMemory, FileFault, BadSettings, FileTooLarge}
+use Rattle.tool_status.specs.declared.status.Status.TheVariants.{Done, Usage, OutOfMemory, FileFault, BadSettings, FileTooLarge}
 use Rattle.tool_status.specs.declared.status.What.{What}
 use Rattle.tool_status.specs.declared.status.What.TheVariants.{Toml, Json, Named}
 use Rattle.tool_status.specs.declared.status.Which.{Which}
@@ -24,11 +25,6 @@ use Rattle.tool_status.specs.declared.status.Which.TheVariants.{Conf, Topo}
 -- how many bytes a file may have
 abbrev pub file_limit : ℕ
 file_limit = 1048576
-
--- what a shelf tells of the file of a name, and how many readings of it failed
-pub record FileTold : Type 0 where
-  pub bytes : Option (List ℕ)
-  pub faults : ℕ
 
 -- ---- what is refused of the bytes of a file
 
@@ -54,19 +50,13 @@ config_judged bytes = judged_by what_of_config (config_of bytes)
 abbrev pub topology_judged : List ℕ → Result Topology What
 topology_judged bytes = judged_by what_of_topology (topology_of bytes)
 
--- ---- what is answered
+-- ---- what is read
 
--- why the bytes of a file are not there
-abbrev pub IsUnread : Which → FileTold → ℕ → Status → Type 0
-IsUnread which file faults_after (FileTooLarge other size) = (other ≡ which) × IsReading file.bytes file_limit (Err (TooLarge size))
-IsUnread which file faults_after (FileFault other) = (other ≡ which) × Rose file.faults faults_after
-IsUnread which file faults_after OutOfMemory = Unit {0}
-IsUnread which file faults_after status = ⊥
-
--- the bytes of a file, or why they are not there
-abbrev pub IsFileRead : Which → FileTold → ℕ → Result (List ℕ) Status → Type 0
-IsFileRead which file faults_after (Ok bytes) = IsReading file.bytes file_limit (Ok bytes)
-IsFileRead which file faults_after (Err status) = IsUnread which file faults_after status
+-- what is told of a file that was not read
+abbrev pub status_unread : Which → ShelfRefusal → Status
+status_unread which Failed = FileFault which
+status_unread which (TooLarge size) = FileTooLarge which size
+status_unread which NoMemory = OutOfMemory
 
 -- what judging bytes answers, unless memory was wanting
 abbrev pub IsVerdict : {T : Type 0} → Result T What → Result T Status → Type 0
@@ -75,40 +65,47 @@ IsVerdict judged (Err (BadSettings what)) = judged ≡ Err what
 IsVerdict judged (Err OutOfMemory) = Unit {0}
 IsVerdict judged (Err status) = ⊥
 
--- What reading and judging a file comes to. A fault comes only where the count of its name rose; the bytes that are
--- judged are those of the file, where they are told, and keep the limit.
-abbrev pub IsJudged : {T : Type 0} → Which → (List ℕ → Result T What) → FileTold → ℕ → Result T Status → Type 0
-IsJudged which judge file faults_after (Ok value) = (bytes : List ℕ) × IsReading file.bytes file_limit (Ok bytes) × (judge bytes ≡ Ok value)
-IsJudged which judge file faults_after (Err (BadSettings what)) = (bytes : List ℕ) × IsReading file.bytes file_limit (Ok bytes) × (judge bytes ≡ Err what)
-IsJudged which judge file faults_after (Err status) = IsUnread which file faults_after status
+-- what a file comes to, by the answer to its reading
+abbrev pub IsJudged : {T : Type 0} → Which → (List ℕ → Result T What) → Result (List ℕ) ShelfRefusal → Result T Status → Type 0
+IsJudged which judge (Ok bytes) result = IsVerdict (judge bytes) result
+IsJudged which judge (Err refusal) result = result ≡ Err (status_unread which refusal)
 
--- the two files, and the counts of their names after the call
-pub record FilesTold : Type 0 where
-  pub conf : FileTold
-  pub topo : FileTold
-  pub conf_faults_after : ℕ
-  pub topo_faults_after : ℕ
+-- One reading was made, of the file of this name, and it was judged. Its bytes are those of the file, where they are told.
+pub record IsFileRead {T : Type 0} (which : Which) (judge : List ℕ → Result T What) (told : Option (List ℕ)) (name : List ℕ) (before after : List Reading)
+    (result : Result T Status) : Type 0 where
+  pub answer : Result (List ℕ) ShelfRefusal
+  pub made : after ≡ with_reading before name file_limit answer
+  pub read : IsReading told file_limit answer
+  pub judged : IsJudged which judge answer result
 
-abbrev pub files_told : (List ℕ → Option (List ℕ)) → Counts → Counts → Asked → FilesTold
-files_told file before after asked = record {
-  conf = record { bytes = file asked.conf; faults = before asked.conf };
-  topo = record { bytes = file asked.topo; faults = before asked.topo };
-  conf_faults_after = after asked.conf;
-  topo_faults_after = after asked.topo;
-}
+-- what a shelf tells of its files by their names, and the readings that were made
+pub record ShelfTold : Type 0 where
+  pub file : List ℕ → Option (List ℕ)
+  pub readings : List Reading
 
-abbrev pub IsConfJudged : FilesTold → Result Config Status → Type 0
-IsConfJudged files result = IsJudged Conf config_judged files.conf files.conf_faults_after result
+abbrev pub shelf_told : (List ℕ → Option (List ℕ)) → List Reading → ShelfTold
+shelf_told file readings = record { file = file; readings = readings }
 
-abbrev pub IsTopoJudged : FilesTold → Result Topology Status → Type 0
-IsTopoJudged files result = IsJudged Topo topology_judged files.topo files.topo_faults_after result
+abbrev pub IsConfRead : Asked → ShelfTold → List Reading → List Reading → Result Config Status → Type 0
+IsConfRead asked shelf before after result = IsFileRead Conf config_judged (shelf.file asked.conf) asked.conf before after result
 
--- Both files are accepted; or the settings are not, and the topology is not read; or the settings are, and the topology
--- is not.
-abbrev pub AreJudged : FilesTold → Result (Config × Topology) Status → Type 0
-AreJudged files (Ok both) = IsConfJudged files (Ok both.0) × IsTopoJudged files (Ok both.1)
-AreJudged files (Err status) =
-    IsConfJudged files (Err status) ⊎ ((accepted : Config) × IsConfJudged files (Ok accepted) × IsTopoJudged files (Err status))
+abbrev pub IsTopoRead : Asked → ShelfTold → List Reading → List Reading → Result Topology Status → Type 0
+IsTopoRead asked shelf before after result = IsFileRead Topo topology_judged (shelf.file asked.topo) asked.topo before after result
+
+-- The settings were read and are not accepted, and nothing else was read; or they are accepted, and then the topology was
+-- read, once.
+abbrev pub AreJudged : Asked → ShelfTold → List Reading → Result (Config × Topology) Status → Type 0
+AreJudged asked shelf after (Ok both) =
+    (between : List Reading) × IsConfRead asked shelf shelf.readings between (Ok both.0) × IsTopoRead asked shelf between after (Ok both.1)
+AreJudged asked shelf after (Err status) =
+    IsConfRead asked shelf shelf.readings after (Err status)
+    ⊎ ((accepted : Config) × (between : List Reading) × IsConfRead asked shelf shelf.readings between (Ok accepted) × IsTopoRead asked shelf between after (Err status))
+
+-- The last reading was of this file, and it failed. That of the topology was made behind one of the settings that gave
+-- bytes.
+abbrev pub HasFailed : Asked → List Reading → List Reading → Which → Type 0
+HasFailed asked before after Conf = after ≡ with_reading before asked.conf file_limit (Err Failed)
+HasFailed asked before after Topo = (bytes : List ℕ) × (after ≡ with_reading (with_reading before asked.conf file_limit (Ok bytes)) asked.topo file_limit (Err Failed))
 
 -- ---- what is accepted
 
@@ -119,12 +116,13 @@ CanRun config = AreSound config.settings × (config.settings.version ≡ 2) × (
 abbrev pub CanBeServed : (Config × Topology) → Type 0
 CanBeServed both = CanRun both.0 × All HasValencies both.1.groups
 
--- the statuses of a file that is refused, or not read
-abbrev pub IsOfFiles : Status → Type 0
-IsOfFiles (FileFault which) = Unit {0}
-IsOfFiles (FileTooLarge which size) = Unit {0}
-IsOfFiles (BadSettings what) = Unit {0}
-IsOfFiles status = ⊥
+-- the statuses of words that are none of a node, and of a file that is refused or not read
+abbrev pub IsOfWordsOrFiles : Status → Type 0
+IsOfWordsOrFiles Usage = Unit {0}
+IsOfWordsOrFiles (FileFault which) = Unit {0}
+IsOfWordsOrFiles (FileTooLarge which size) = Unit {0}
+IsOfWordsOrFiles (BadSettings what) = Unit {0}
+IsOfWordsOrFiles status = ⊥
 
 -- ---- what is due
 
@@ -142,12 +140,8 @@ IsRefusedFile which judge (Some bytes) status = ⊥
 
 -- The status that is due where the files are told: that of the settings where they are refused, else that of the
 -- topology, and Done where both are accepted.
-abbrev pub IsDue : FilesTold → Status → Type 0
-IsDue files Done = IsAcceptedFile config_judged files.conf.bytes × IsAcceptedFile topology_judged files.topo.bytes
-IsDue files status =
-    IsRefusedFile Conf config_judged files.conf.bytes status
-    ⊎ (IsAcceptedFile config_judged files.conf.bytes × IsRefusedFile Topo topology_judged files.topo.bytes status)
-
-abbrev pub HasRisen : FilesTold → Which → Type 0
-HasRisen files Conf = Rose files.conf.faults files.conf_faults_after
-HasRisen files Topo = Rose files.topo.faults files.topo_faults_after
+abbrev pub IsDue : Option (List ℕ) → Option (List ℕ) → Status → Type 0
+IsDue conf topo Done = IsAcceptedFile config_judged conf × IsAcceptedFile topology_judged topo
+IsDue conf topo status =
+    IsRefusedFile Conf config_judged conf status
+    ⊎ (IsAcceptedFile config_judged conf × IsRefusedFile Topo topology_judged topo status)

@@ -1,3 +1,4 @@
 pub mod Asked
 pub mod Files
+pub mod Laws
 pub mod Node

@@ -10,10 +10,12 @@ use Rattle.node_world.specs.declared.opening.Opening.{Opening}
 use Rattle.node_world.specs.Meanings.{Rose}
 use Rattle.trace_compare.specs.RunText.{text_up_to}
 use Rattle.world_drive.specs.Drive.{Drives, HasWorldCount}
+use Rattle.world_drive.specs.Lawful.{IsLawfulRun}
 use Rattle.trace_meaning.specs.FaultCounts.{HasWriteCount}
 use Rattle.trace_meaning.specs.declared.outcome.Outcome.{Outcome}
 use Rattle.trace_meaning.specs.declared.outcome.Outcome.TheVariants as outcomes
-use Rattle.node_run.specs.Files.{FilesTold, AreJudged, HasRisen}
+use Rattle.node_run.specs.Asked.{Asked}
+use Rattle.node_run.specs.Files.{ShelfTold, AreJudged, IsDue, HasFailed}
 use Rattle.tool_status.specs.Status.{status_text, unresolved_text}
 use Rattle.tool_status.specs.Telling.{IsTold}
 use Rattle.tool_status.specs.Told.{status_told}
@@ -42,6 +44,16 @@ pub record SinkTold : Type 0 where
 abbrev pub sink_told : Option (List ℕ) → ℕ → SinkTold
 sink_told taken faults = record { taken = taken; faults = faults }
 
+-- what all around a node tells
+pub record NodeTold : Type 0 where
+  pub shelf : ShelfTold
+  pub world : WorldTold
+  pub out : SinkTold
+  pub err : SinkTold
+
+abbrev pub node_told : ShelfTold → WorldTold → SinkTold → SinkTold → NodeTold
+node_told shelf world out err = record { shelf = shelf; world = world; out = out; err = err }
+
 -- ---- what is served
 
 -- what the world is opened with
@@ -57,7 +69,8 @@ abbrev pub first_events : Config → Topology → List Event
 first_events config topology = Aims config.targets ∷ Locals topology.groups ∷ []
 
 -- The machine was driven in a world: what was taken, done and written, and whose count of faults rose. Where the world
--- failed, only `end` is missing.
+-- failed, only `end` is missing. Every law holds in the run that was made: that of the settings of the file, of its
+-- events and of those that the world gave.
 pub record IsDriving (config : Config) (topology : Topology) (count : ℕ) (before after : WorldTold) (out_before out_after : SinkTold) (status : Status) : Type 0 where
   pub outcome : Outcome
   pub told : status ≡ status_told outcome
@@ -66,6 +79,7 @@ pub record IsDriving (config : Config) (topology : Topology) (count : ℕ) (befo
   pub drives : Drives config.settings (first_events config topology) count before.taken after.taken before.done after.done after.has_ended
       out_before.taken out_after.taken outcome
   pub but_end : outcome ≡ outcomes.WorldFault → drives.written ≡ text_up_to config.settings (first_events config topology ++ drives.events)
+  pub lawful : IsLawfulRun config.settings (first_events config topology ++ drives.events)
   pub worlds : HasWorldCount before.faults after.faults outcome
   pub writes : HasWriteCount out_before.faults out_after.faults outcome
 
@@ -102,31 +116,46 @@ IsSaid before after text = IsTold before.taken after.taken before.faults after.f
 
 -- Where both files are accepted the node is served, or its world not opened. Else nothing is done, and the status is that
 -- of the file.
-abbrev pub ComesTo : Result (Config × Topology) Status → ℕ → WorldTold → WorldTold → SinkTold → SinkTold → SinkTold → SinkTold → Status → Type 0
-ComesTo (Ok both) count before after out_before out_after err_before err_after status =
-    IsServing both.0 both.1 count before after out_before out_after status × IsSaid err_before err_after (unresolved_text both.1.unresolved ++ status_text status)
-ComesTo (Err refusal) count before after out_before out_after err_before err_after status =
-    (status ≡ refusal) × (after ≡ before) × (out_after ≡ out_before) × IsSaid err_before err_after (status_text status)
+abbrev pub ComesTo : Result (Config × Topology) Status → ℕ → NodeTold → NodeTold → Status → Type 0
+ComesTo (Ok both) count before after status =
+    IsServing both.0 both.1 count before.world after.world before.out after.out status × IsSaid before.err after.err (unresolved_text both.1.unresolved ++ status_text status)
+ComesTo (Err refusal) count before after status =
+    (status ≡ refusal) × (after.world ≡ before.world) × (after.out ≡ before.out) × IsSaid before.err after.err (status_text status)
 
-pub record IsNodeRun (count : ℕ) (told : FilesTold) (before after : WorldTold) (out_before out_after err_before err_after : SinkTold) (status : Status) : Type 0 where
+pub record IsNodeRun (asked : Asked) (before after : NodeTold) (status : Status) : Type 0 where
   pub files : Result (Config × Topology) Status
-  pub judged : AreJudged told files
-  pub comes : ComesTo files count before after out_before out_after err_before err_after status
+  pub judged : AreJudged asked before.shelf after.shelf.readings files
+  pub comes : ComesTo files asked.count before after status
+
+-- ---- what follows
+
+abbrev pub RoseOut : NodeTold → NodeTold → Type 0
+RoseOut before after = Rose before.out.faults after.out.faults
+
+abbrev pub RoseWorld : NodeTold → NodeTold → Type 0
+RoseWorld before after = Rose before.world.faults after.world.faults
+
+abbrev pub HasFailedFile : Asked → NodeTold → NodeTold → Which → Type 0
+HasFailedFile asked before after which = HasFailed asked before.shelf.readings after.shelf.readings which
+
+-- what is due of the files of a shelf, where it tells them
+abbrev pub IsDueOf : Asked → NodeTold → Status → Type 0
+IsDueOf asked before due = IsDue (before.shelf.file asked.conf) (before.shelf.file asked.topo) due
 
 -- The status is the one that is due. Only want of memory may come in its place, and a fault whose cause is there.
-abbrev pub IsNodeAnswered : Status → FilesTold → Type 0 → Type 0 → Status → Type 0
-IsNodeAnswered due files write_cause world_cause status =
-    (status ≡ due) ⊎ ((status ≡ OutOfMemory) ⊎ (((which : Which) × (status ≡ FileFault which) × HasRisen files which)
-    ⊎ (((status ≡ WriteFault) × write_cause) ⊎ ((status ≡ WorldFault) × world_cause))))
+abbrev pub IsNodeAnswered : Asked → NodeTold → NodeTold → Status → Status → Type 0
+IsNodeAnswered asked before after due status =
+    (status ≡ due) ⊎ ((status ≡ OutOfMemory) ⊎ (((which : Which) × (status ≡ FileFault which) × HasFailedFile asked before after which)
+    ⊎ (((status ≡ WriteFault) × RoseOut before after) ⊎ ((status ≡ WorldFault) × RoseWorld before after))))
 
 -- The statuses that a node may have: a fault only where its cause is there, and what is said of a file only as the file
 -- is.
-abbrev pub HasNodeCause : FilesTold → Type 0 → Type 0 → Status → Type 0
-HasNodeCause files write_cause world_cause Done = Unit {0}
-HasNodeCause files write_cause world_cause OutOfMemory = Unit {0}
-HasNodeCause files write_cause world_cause WriteFault = write_cause
-HasNodeCause files write_cause world_cause WorldFault = world_cause
-HasNodeCause files write_cause world_cause (FileFault which) = HasRisen files which
-HasNodeCause files write_cause world_cause (BadSettings what) = AreJudged files (Err (BadSettings what))
-HasNodeCause files write_cause world_cause (FileTooLarge which size) = AreJudged files (Err (FileTooLarge which size))
-HasNodeCause files write_cause world_cause status = ⊥
+abbrev pub HasNodeCause : Asked → NodeTold → NodeTold → Status → Type 0
+HasNodeCause asked before after Done = Unit {0}
+HasNodeCause asked before after OutOfMemory = Unit {0}
+HasNodeCause asked before after WriteFault = RoseOut before after
+HasNodeCause asked before after WorldFault = RoseWorld before after
+HasNodeCause asked before after (FileFault which) = HasFailedFile asked before after which
+HasNodeCause asked before after (BadSettings what) = AreJudged asked before.shelf after.shelf.readings (Err (BadSettings what))
+HasNodeCause asked before after (FileTooLarge which size) = AreJudged asked before.shelf after.shelf.readings (Err (FileTooLarge which size))
+HasNodeCause asked before after status = ⊥

@@ -1,14 +1,13 @@
 //! The two files of a node, read from a shelf and judged.
 
-ghost use Rattle.std.specs.Prelude.{◌≡◌, ℕ, List, All, IfOk, OnOk};
-ghost use Rattle.io_edge.specs.Files.{AreUnchanged};
+ghost use Rattle.std.specs.Prelude.{◌≡◌, ℕ, List, All, IfOk};
 ghost use Rattle.net_base.specs.Limits.{HasValencies};
-ghost use Rattle.node_run.specs.Files.{config_judged, topology_judged, IsFileRead, IsJudged, AreJudged, CanRun, CanBeServed, IsVerdict};
+ghost use Rattle.node_run.specs.Asked.{asked_by};
+ghost use Rattle.node_run.specs.Files.{config_judged, topology_judged, status_unread, shelf_told, IsFileRead, AreJudged, CanRun, CanBeServed, IsVerdict};
 ghost use Rattle.tool_status.specs.declared.status.Which.TheVariants.{Conf, Topo};
 
 use crate::node_words::NodeWords;
 use io_edge::{Shelf, ShelfRefusal};
-use net_base::Octets;
 use node_settings::{Config, ConfigRefusal, Topology, TopologyRefusal, read_config, read_topology};
 use std::alloc::Global;
 use tool_status::{Status, What, Which};
@@ -22,12 +21,7 @@ pub(crate) fn read_files<H: Shelf>(
     asked: NodeWords,
     shelf: &mut H,
 ) -> Result<(Config, Topology), Status>
-    ensures judged { AreJudged (record {
-      conf = record { bytes = H.file shelf.old asked.entry.conf.now; faults = H.faults shelf.old asked.entry.conf.now };
-      topo = record { bytes = H.file shelf.old asked.entry.topo.now; faults = H.faults shelf.old asked.entry.topo.now };
-      conf_faults_after = H.faults shelf.new asked.entry.conf.now;
-      topo_faults_after = H.faults shelf.new asked.entry.topo.now;
-    }) result }
+    ensures judged { AreJudged (asked_by asked.entry) (shelf_told (H.file shelf.old) (H.readings shelf.old)) (H.readings shelf.new) result }
     ensures served { IfOk result CanBeServed }
 {
     let config = read_conf(alloc, asked.conf, shelf)?;
@@ -36,40 +30,37 @@ pub(crate) fn read_files<H: Shelf>(
 }
 
 fn read_conf<H: Shelf>(alloc: Global, name: &str, shelf: &mut H) -> Result<Config, Status>
-    ensures judged { IsJudged Conf config_judged (record { bytes = H.file shelf.old name.now; faults = H.faults shelf.old name.now })
-        (H.faults shelf.new name.now) result }
+    ensures read { IsFileRead Conf config_judged (H.file shelf.old name.now) name.now (H.readings shelf.old) (H.readings shelf.new) result }
     ensures kept { (other : List ℕ) → H.file shelf.new other ≡ H.file shelf.old other }
-    ensures counts { OnOk result (AreUnchanged (H.faults shelf.old) (H.faults shelf.new)) }
     ensures can_run { IfOk result CanRun }
 {
-    let bytes = read_file(Which::Conf, name, shelf)?;
-    judge_config(alloc, bytes.as_slice())
+    match shelf.read(name, BYTES_MOST) {
+        Ok(bytes) => judge_config(alloc, bytes.as_slice()),
+        Err(refusal) => Err(unread(Which::Conf, refusal)),
+    }
 }
 
 fn read_topo<H: Shelf>(alloc: Global, name: &str, shelf: &mut H) -> Result<Topology, Status>
-    ensures judged { IsJudged Topo topology_judged (record { bytes = H.file shelf.old name.now; faults = H.faults shelf.old name.now })
-        (H.faults shelf.new name.now) result }
+    ensures read { IsFileRead Topo topology_judged (H.file shelf.old name.now) name.now (H.readings shelf.old) (H.readings shelf.new) result }
     ensures valencies { IfOk result (λ topology. All HasValencies topology.groups) }
 {
-    let bytes = read_file(Which::Topo, name, shelf)?;
-    judge_topology(alloc, bytes.as_slice())
+    match shelf.read(name, BYTES_MOST) {
+        Ok(bytes) => judge_topology(alloc, bytes.as_slice()),
+        Err(refusal) => Err(unread(Which::Topo, refusal)),
+    }
 }
 
-// The bytes of a file.
-fn read_file<H: Shelf>(which: Which, name: &str, shelf: &mut H) -> Result<Octets, Status>
-    ensures read { IsFileRead which (record { bytes = H.file shelf.old name.now; faults = H.faults shelf.old name.now })
-        (H.faults shelf.new name.now) result }
-    ensures kept { (other : List ℕ) → H.file shelf.new other ≡ H.file shelf.old other }
-    ensures counts { OnOk result (AreUnchanged (H.faults shelf.old) (H.faults shelf.new)) }
+// What is told of a file that was not read.
+fn unread(which: Which, refusal: ShelfRefusal) -> Status
+    ensures { result ≡ status_unread which refusal }
 {
-    match shelf.read(name, BYTES_MOST) {
-        Ok(bytes) => Ok(bytes),
-        Err(ShelfRefusal::Failed) => Err(Status::FileFault { which }),
-        Err(ShelfRefusal::TooLarge(size)) => Err(Status::FileTooLarge {
+    match refusal {
+        ShelfRefusal::Failed => Status::FileFault { which },
+        ShelfRefusal::TooLarge(size) => Status::FileTooLarge {
             which,
             size: size as u64,
-        }),
-        Err(ShelfRefusal::OutOfMemory) => Err(Status::OutOfMemory),
+        },
+        ShelfRefusal::OutOfMemory => Status::OutOfMemory,
     }
 }
 

@@ -2,6 +2,7 @@
 #![tactic(auto)]
 
 mod files;
+pub mod law;
 mod node_words;
 mod serving;
 

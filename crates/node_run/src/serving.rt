@@ -1,15 +1,10 @@
-ghost use Rattle.std.specs.Prelude.{◌≡◌, ◌≤◌, ◌++◌, ◌↔◌, ◌⊎◌, List, All, Some, None, false, true, map, string_bytes};
-ghost use Rattle.io_edge.specs.Causes.{Rose};
-ghost use Rattle.net_base.specs.Bounds.{AreSound};
+ghost use Rattle.std.specs.Prelude.{◌≡◌, ◌≤◌, ◌++◌, ◌↔◌, All, Some, None, false, true, map, string_bytes};
 ghost use Rattle.net_base.specs.Limits.{HasValencies};
-ghost use Rattle.net_base.specs.declared.event.Event.{Event as Happening};
-ghost use Rattle.net_base.specs.declared.settings.Settings.{Settings as Given};
 ghost use Rattle.node_run.specs.Asked.{Asked, asked_by, node_of};
-ghost use Rattle.node_run.specs.Files.{files_told, CanRun, IsDue, IsOfFiles};
-ghost use Rattle.node_run.specs.Node.{world_told, sink_told, IsNodeRun, IsDriving, IsServing, IsNodeAnswered, HasNodeCause};
+ghost use Rattle.node_run.specs.Files.{shelf_told, CanRun, IsOfWordsOrFiles};
+ghost use Rattle.node_run.specs.Node.{world_told, sink_told, node_told, IsNodeRun, IsDriving, IsServing};
 ghost use Rattle.tool_status.specs.Status.{status_text, unresolved_text};
 ghost use Rattle.tool_status.specs.Telling.{IsTold};
-ghost use Rattle.world_drive.specs.Lawful.{IsLawfulRun};
 ghost use Rattle.trace_compare.specs.Written.{TakesAgreeing};
 
 use crate::files::read_files;
@@ -34,45 +29,27 @@ pub fn run_node<H: Shelf, W: World, K: Sink, E: Sink>(
     err: &mut E,
 ) -> Status
     requires { W.is_open world.old ≡ false }
+
+    // Words that are none of a node are answered so, and nothing is done of them.
     ensures usage { (result ≡ Status.Usage) ↔ (node_of (map string_bytes words.now) ≡ None) }
     ensures usage_shelf { result ≡ Status.Usage → shelf.new ≡ shelf.old }
-    ensures usage_world { result ≡ Status.Usage → world.new ≡ world.old }
-    ensures usage_out { result ≡ Status.Usage → out.new ≡ out.old }
     ensures usage_told { result ≡ Status.Usage → IsTold (E.taken err.old) (E.taken err.new) (E.faults err.old) (E.faults err.new) (status_text result) }
 
-    // What the files come to, what is taken from the world, done there, written and told.
-    ensures runs { (asked : Asked) → node_of (map string_bytes words.now) ≡ Some asked →
-        IsNodeRun asked.count (files_told (H.file shelf.old) (H.faults shelf.old) (H.faults shelf.new) asked)
+    // What was read and what the files came to, what was taken from the world, done there, written and told, and that
+    // every law holds in that run.
+    ensures runs { (asked : Asked) → node_of (map string_bytes words.now) ≡ Some asked → IsNodeRun asked
+        (node_told (shelf_told (H.file shelf.old) (H.readings shelf.old))
         (world_told (W.is_open world.old) (W.has_ended world.old) (W.faults world.old) (W.opening world.old) (W.taken world.old) (W.done world.old))
+        (sink_told (K.taken out.old) (K.faults out.old)) (sink_told (E.taken err.old) (E.faults err.old)))
+        (node_told (shelf_told (H.file shelf.new) (H.readings shelf.new))
         (world_told (W.is_open world.new) (W.has_ended world.new) (W.faults world.new) (W.opening world.new) (W.taken world.new) (W.done world.new))
-        (sink_told (K.taken out.old) (K.faults out.old)) (sink_told (K.taken out.new) (K.faults out.new))
-        (sink_told (E.taken err.old) (E.faults err.old)) (sink_told (E.taken err.new) (E.faults err.new)) result }
+        (sink_told (K.taken out.new) (K.faults out.new)) (sink_told (E.taken err.new) (E.faults err.new))) result }
 
-    // Where the files are told, the status is the one that is due, but for want of memory and for faults.
-    ensures answered { (asked : Asked) (due : Status) → node_of (map string_bytes words.now) ≡ Some asked →
-        IsDue (files_told (H.file shelf.old) (H.faults shelf.old) (H.faults shelf.new) asked) due →
-        IsNodeAnswered due (files_told (H.file shelf.old) (H.faults shelf.old) (H.faults shelf.new) asked)
-        (Rose (K.faults out.old) (K.faults out.new)) (Rose (W.faults world.old) (W.faults world.new)) result }
-    ensures complete { (asked : Asked) (due : Status) → node_of (map string_bytes words.now) ≡ Some asked →
-        IsDue (files_told (H.file shelf.old) (H.faults shelf.old) (H.faults shelf.new) asked) due →
-        ¬ Rose (H.faults shelf.old asked.conf) (H.faults shelf.new asked.conf) → ¬ Rose (H.faults shelf.old asked.topo) (H.faults shelf.new asked.topo) →
-        ¬ Rose (K.faults out.old) (K.faults out.new) → ¬ Rose (W.faults world.old) (W.faults world.new) →
-        (result ≡ due) ⊎ (result ≡ Status.OutOfMemory) }
-
-    // No fault comes without its cause, and no other status.
-    ensures causes { (asked : Asked) → node_of (map string_bytes words.now) ≡ Some asked →
-        HasNodeCause (files_told (H.file shelf.old) (H.faults shelf.old) (H.faults shelf.new) asked)
-        (Rose (K.faults out.old) (K.faults out.new)) (Rose (W.faults world.old) (W.faults world.new)) result }
-
-    // A file that is refused leaves the world and the output alone.
-    ensures files_world { IsOfFiles result → world.new ≡ world.old }
-    ensures files_out { IsOfFiles result → out.new ≡ out.old }
+    // Neither words nor files that are refused touch the world and the output.
+    ensures untouched_world { IsOfWordsOrFiles result → world.new ≡ world.old }
+    ensures untouched_out { IsOfWordsOrFiles result → out.new ≡ out.old }
     ensures agrees { result ≡ Status.Done → TakesAgreeing (K.taken out.old) (K.taken out.new) }
-
-    // Every law holds in each record of a run like that, and at each event there.
-    ensures lawful { (settings : Given) (events : List Happening) → AreSound settings → IsLawfulRun settings events }
 {
-    runs_are_lawful();
     match NodeWords::of_words(words) {
         Some(asked) => serve(alloc, asked, shelf, world, out, err),
         None => {
@@ -94,13 +71,15 @@ fn serve<H: Shelf, W: World, K: Sink, E: Sink>(
 ) -> Status
     requires shut { W.is_open world.old ≡ false }
     requires few { asked.count ≤ 900_000 }
-    ensures runs { IsNodeRun asked.entry.count (files_told (H.file shelf.old) (H.faults shelf.old) (H.faults shelf.new) (asked_by asked.entry))
+    ensures runs { IsNodeRun (asked_by asked.entry)
+        (node_told (shelf_told (H.file shelf.old) (H.readings shelf.old))
         (world_told (W.is_open world.old) (W.has_ended world.old) (W.faults world.old) (W.opening world.old) (W.taken world.old) (W.done world.old))
+        (sink_told (K.taken out.old) (K.faults out.old)) (sink_told (E.taken err.old) (E.faults err.old)))
+        (node_told (shelf_told (H.file shelf.new) (H.readings shelf.new))
         (world_told (W.is_open world.new) (W.has_ended world.new) (W.faults world.new) (W.opening world.new) (W.taken world.new) (W.done world.new))
-        (sink_told (K.taken out.old) (K.faults out.old)) (sink_told (K.taken out.new) (K.faults out.new))
-        (sink_told (E.taken err.old) (E.faults err.old)) (sink_told (E.taken err.new) (E.faults err.new)) result }
-    ensures files_world { IsOfFiles result → world.new ≡ world.old }
-    ensures files_out { IsOfFiles result → out.new ≡ out.old }
+        (sink_told (K.taken out.new) (K.faults out.new)) (sink_told (E.taken err.new) (E.faults err.new))) result }
+    ensures untouched_world { IsOfWordsOrFiles result → world.new ≡ world.old }
+    ensures untouched_out { IsOfWordsOrFiles result → out.new ≡ out.old }
     ensures agrees { result ≡ Status.Done → TakesAgreeing (K.taken out.old) (K.taken out.new) }
 {
     match read_files(alloc, asked, shelf) {
@@ -186,6 +165,7 @@ fn drive_files<W: World, K: Sink>(
         (sink_told (K.taken out.old) (K.faults out.old)) (sink_told (K.taken out.new) (K.faults out.new)) result }
     ensures agrees { result ≡ Status.Done → TakesAgreeing (K.taken out.old) (K.taken out.new) }
 {
+    runs_are_lawful();
     let first = [Event::Aims(config.targets), Event::Locals(topology.groups)];
     Status::of_outcome(drive(alloc, &config.settings, &first, world, count, out))
 }

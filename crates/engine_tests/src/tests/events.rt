@@ -3,7 +3,7 @@ ghost use Rattle.net_base.specs.Limits.{IsWithinLimits};
 
 use net_base::{
     Action, Addr, AddrList, Away, Cid, CloseCause, Event, FaultKind, Field, Group, GroupList, Ip,
-    Octets, OutOfMemory, PeerNote, Settings, StateName, Temp,
+    Kind, Octets, OutOfMemory, PeerNote, Settings, StateName, Temp,
 };
 use node_engine::{Engine, NewRefusal};
 use pick_policy::{Picker, RankedPicker};
@@ -188,6 +188,9 @@ fn agrees(rt: &impl Abort, engine: Engine, alloc: Global) -> Result<(), Fail>
     let temp = engine.peer(local(3002)).map(|peer| peer.temp);
     assert!(rt; temp == Some(Temp::Warm));
     assert!(rt; engine.tally().established == 1);
+    // The grace ends before the reply is late.
+    let least = engine.timers().least();
+    assert!(rt; matches!(least, Some((5000, Cid(1), Kind::Grace))));
     Ok(())
 }
 

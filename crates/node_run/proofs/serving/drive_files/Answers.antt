@@ -16,6 +16,7 @@ returns-clause-drives g c = record {
   drives = c.drive.ensures.drives;
   but_end = λ world.
       but_end c.args.config.now.settings c.args.config.now.targets c.args.topology.groups c.args.count _ _ _ _ _ _ _ c.drive.result c.drive.ensures.drives world;
+  lawful = c.runs_are_lawful.ensures c.args.config.now.settings _ c.requires.can_run.0;
   worlds = c.drive.ensures.worlds;
   writes = c.drive.ensures.writes;
 }
