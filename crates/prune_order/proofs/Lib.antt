@@ -1,0 +1,4 @@
+pub mod Joins
+pub mod Raising
+pub mod Roots
+pub mod Rows

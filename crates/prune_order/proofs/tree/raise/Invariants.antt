@@ -1,0 +1,14 @@
+use Rattle.std.proofs.Common.{◌≡◌, ◌<◌, length}
+use Rattle.prune_order.specs.Leaves.{nodes_of}
+use Rattle.prune_order.specs.Trees.{AreOthers}
+use Rattle.prune_order.proofs.tree.raise.Given as goal
+
+abbrev pub invariant-loop-place : goal.invariant-loop-place
+invariant-loop-place l = record {
+  as_long : length l.inner.items ≡ length l.fn.inner.items;
+  within : l.place < length l.inner.items;
+  others : AreOthers l.place l.inner.items (nodes_of l.leaves);
+}
+
+abbrev pub decreases-loop-place : goal.decreases-loop-place
+decreases-loop-place l = l.place

@@ -1,0 +1,4 @@
+pub mod Kept
+pub mod Leaves
+pub mod Order
+pub mod Trees

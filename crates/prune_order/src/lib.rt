@@ -1,0 +1,11 @@
+//! Which of the connections goes first where there are too many: kept as they come, turn and go, so that it is a look.
+#![tactic(auto)]
+
+mod grow;
+mod leaf;
+mod order;
+mod ranked;
+mod tree;
+
+pub use order::PruneOrder;
+pub use ranked::Ranked;
