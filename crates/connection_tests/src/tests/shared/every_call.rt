@@ -21,7 +21,7 @@ fn unusual() -> Settings
     ensures { AreSound result }
 {
     Settings {
-        version: 2,
+        version: 1,
         own: local(3000),
         magic: 7,
         initiator_only: 1,
