@@ -1,7 +1,6 @@
 -- The public root peers are asked for where they are wanted.
-use Rattle.std.proofs.Common.{◌≡◌, [], ◌∷◌, if◌then◌else◌, refl}
+use Rattle.std.proofs.Common.{◌≡◌, Bool, true, false, [], ◌∷◌, if◌then◌else◌, refl}
 use Rattle.laws.specs.Acts.{Act, shows, fires_one, asks_for_roots, carries, connects, ends_dial, stores, handles_item, ends_stream, is_closed, sets_targets, sets_big_targets, sets_groups, sets_roots, makes_ordinary, provides, provides_big, does}
-use Rattle.std.proofs.Common.{Bool, true, false}
 use Rattle.net_base.specs.declared.action.Action.TheVariants.{AskRoots}
 use Rattle.root_groups.specs.RootAsk.{may_ask, asked}
 use Rattle.machine.specs.Effect.{nothing_more, tells}
