@@ -49,8 +49,8 @@ leave-requires c =
     goes_from placed (standing c.self.inside.kept) c.self.inside.timers c.self.inside.links (entry_of it.0.facts it.0.talk) c.self.invariant.1.0
     c.self.invariant.1.1 it.0.at.entry_there (ap (λ (f : Facts). f.addr) (sym it.1))
 
-pub leave-3-requires : goal.leave-3-requires
-leave-3-requires c =
+pub leave-requires-3 : goal.leave-requires-3
+leave-requires-3 c =
     stands_still c.args.cid c.self.inside.kept c.self.invariant.0
     (any_in c.args.cid.0 c.self.inside.kept c.self.invariant.0 (stands_in c.args.cid _ _ c.self.view_is c.requires))
 
