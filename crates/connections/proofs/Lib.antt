@@ -3,7 +3,7 @@ pub mod LinkedTurns
 pub mod Retimed
 pub mod TalkFeeds
 pub mod TalkFinds
-pub mod TalkLooks
+pub mod OrderTurns
 pub mod Stepping
 pub mod TalkPairs
 pub mod TalkTurns

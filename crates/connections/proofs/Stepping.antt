@@ -83,7 +83,7 @@ pub was_there : (P : Facts → Type 0) (cid place : ℕ) (kept : Kept) (was : Fa
     place ≡ id_place cid (facts_kept kept.roster) → slice_get (facts_kept kept.roster) place ≡ Some was → was ≡ it.facts
 was_there P cid place kept was whole it e told = same_Some _ _ (sym told ∙ placed_in P cid place kept whole it e)
 
-own_in : (P : Facts → Type 0) (cid : ℕ) (kept : Kept) (was : Facts) → (it : FoundIn P cid kept) → was ≡ it.facts → was.cid.0 ≡ cid
+pub own_in : (P : Facts → Type 0) (cid : ℕ) (kept : Kept) (was : Facts) → (it : FoundIn P cid kept) → was ≡ it.facts → was.cid.0 ≡ cid
 own_in P cid kept was it same = ap (λ (f : Facts). f.cid.0) same ∙ found_id cid _ it.facts it.at.facts_there
 
 pub step_turns : (step : Step) (cid place : ℕ) (kept : Kept) (roster : Roster) (talks : List Talk) (was : Facts) (over : Bool) → IsWhole kept →

@@ -4,6 +4,7 @@ use Rattle.conn_table.specs.Table.{Table}
 use Rattle.conn_table.specs.declared.roster.Roster.{Roster}
 use Rattle.net_base.specs.Bounds.{AreSound}
 use Rattle.net_base.specs.declared.settings.Settings.{Settings}
+use Rattle.connections.specs.Ordered.{IsOrdered}
 use Rattle.connections.specs.Standing.{Standing}
 use Rattle.connections.specs.Talks.{AreTalksOf, standing_of}
 use Rattle.connections.specs.declared.kept.Kept.{Kept}
@@ -19,3 +20,4 @@ pub record IsWhole (kept : Kept) : Type 0 where
   pub settings_sound : AreSound kept.settings
   pub roster_kept : IsKept kept.roster
   pub talks_are : AreTalksOf (facts_kept kept.roster) kept.talks
+  pub ordered : IsOrdered (facts_kept kept.roster) kept.roster.given kept.order

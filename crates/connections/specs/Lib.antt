@@ -1,6 +1,6 @@
 pub mod Kept
 pub mod Linked
-pub mod Overview
+pub mod Ordered
 pub mod Owed
 pub mod Standing
 pub mod Steps

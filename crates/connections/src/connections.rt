@@ -15,6 +15,7 @@ use crate::linked::Links;
 use chunked_list::ChunkedList;
 use conn_table::Roster;
 use net_base::{Addr, Cid, Facts, Settings};
+use prune_order::PruneOrder;
 use std::alloc::Global;
 use std::marker::Model;
 use timer_queue::TimerQueue;
@@ -54,6 +55,7 @@ impl Connections {
                 settings: *settings,
                 roster: Roster::new(alloc),
                 talks: ChunkedList::new(alloc),
+                order: PruneOrder::new(alloc),
             },
             timers: TimerQueue::new(alloc),
             links: Links::new(alloc),

@@ -1,25 +1,25 @@
-ghost use Rattle.std.specs.Prelude.{◌≡◌, ◌+◌, ◌++◌, ◌∷◌, ◌≤◌, ◌^◌, [], None, OnOk, OnErr};
-ghost use Rattle.std.specs.List.{filter_map};
-ghost use Rattle.std.specs.Option.{option_map};
-ghost use Rattle.accept_gate.specs.Prune.{choice_of};
+ghost use Rattle.std.specs.Prelude.{◌≡◌, ◌+◌, ◌++◌, ◌∷◌, ◌≤◌, ◌^◌, [], true, None, OnOk, OnErr};
+ghost use Rattle.accept_gate.specs.Prune.{rank_of};
 ghost use Rattle.conn_state.specs.State.{facts_of};
 ghost use Rattle.conn_state.specs.Use.{live_at};
 ghost use Rattle.conn_table.specs.Finds.{id_place};
 ghost use Rattle.conn_table.specs.Rosters.{facts_kept};
-ghost use Rattle.machine.specs.Connections.{candidate_of};
 ghost use Rattle.connections.specs.Linked.{IsLinked, IsLinkedBut};
+ghost use Rattle.connections.specs.Ordered.{reranked};
 ghost use Rattle.connections.specs.Standing.{come};
 ghost use Rattle.connections.specs.Timed.{IsTimed, IsTimedBut};
+ghost use Rattle.prune_order.specs.Order.{stands};
 
-use crate::link::{first_with, link_of};
+use crate::link::link_of;
 use crate::linked::Links;
 use crate::talk::Talk;
 use crate::timed::retime;
-use accept_gate::Candidate;
+use accept_gate::rank;
 use chunked_list::ChunkedList;
 use conn_state::ConnState;
 use conn_table::Roster;
-use net_base::{Cid, OutOfMemory, Settings};
+use net_base::{Cid, Facts, OutOfMemory, Settings};
+use prune_order::PruneOrder;
 use std::alloc::Global;
 use timer_queue::TimerQueue;
 
@@ -30,6 +30,8 @@ pub struct Kept {
     pub roster: Roster,
     // one for each connection of the roster, in the same order
     pub talks: ChunkedList<Talk>,
+    // which of them goes first where there are too many
+    pub order: PruneOrder,
 }
 
 impl Kept {
@@ -45,11 +47,16 @@ impl Kept {
         ensures ok { OnOk result (standing self.new ≡ come (facts_of state) (standing self.old)) }
         ensures err { OnErr result (standing self.new ≡ standing self.old) }
     {
+        let cid = state.as_facts().cid;
+        let rank = rank(state.as_facts());
+        self.order.make_room()?;
         let place = self.talks.len();
         self.talks.push(Talk::new(alloc))?;
         let entered = self.roster.enter(state);
         if entered.is_err() {
             self.talks.remove(place);
+        } else {
+            self.order.come(cid, rank);
         }
         entered
     }
@@ -68,26 +75,18 @@ impl Kept {
         retime(timers, facts, &talk.replies);
         links.set(link_of(facts, &talk.replies));
     }
-
-    // Which connection goes where there are too many.
-    pub fn prune_choice(&self) -> Option<Cid>
-        ensures { result ≡ choice_of (filter_map candidate_of (facts_kept self.now.roster)) }
-    {
-        // The first of a list is the first of its head and of the first of the rest.
-        let mut first = None;
-        for place in (0..self.roster.states.len()).rev() {
-            first = first_with(self.roster.at(place), first);
-        }
-        id_of(first)
-    }
 }
 
-// The id of a connection that goes first.
-fn id_of(first: Option<Candidate>) -> Option<Cid>
-    ensures { result ≡ option_map (λ c. c.cid) first }
+// Where a connection that moved has another rank than before, it is told in which order it goes now. Most moves leave its
+// rank, and then nothing is looked for.
+pub fn rerank(order: &mut PruneOrder, was: &Facts, is: &Facts)
+    requires { stands was.now.cid order.old.rows ≡ true }
+    ensures rows { order.new.rows ≡ reranked was.now.cid (rank_of was.now) (rank_of is.now) order.old.rows }
+    ensures last { order.new.last ≡ order.old.last }
 {
-    match first {
-        Some(candidate) => Some(candidate.cid),
-        None => None,
+    let old = rank(was);
+    let new = rank(is);
+    if old != new {
+        order.turn(was.cid, new);
     }
 }

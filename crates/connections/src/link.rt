@@ -1,12 +1,8 @@
-ghost use Rattle.std.specs.Prelude.{◌≡◌, Some, None};
-ghost use Rattle.accept_gate.specs.Prune.{first_of};
-ghost use Rattle.machine.specs.Connections.{candidate_of};
+ghost use Rattle.std.specs.Prelude.{◌≡◌};
 ghost use Rattle.machine.specs.Govern.{link_of};
 ghost use Rattle.net_base.specs.Shared.{nothing_undecoded};
-ghost use Rattle.connections.specs.Overview.{first_with};
 
 use crate::replies::Replies;
-use accept_gate::{Candidate, first_of, rank};
 use conn_state::facts::{is_acquirable, is_live, is_pending, is_sharing};
 use govern_rules::Link;
 use net_base::Facts;
@@ -26,18 +22,5 @@ pub fn link_of(facts: &Facts, replies: &Replies) -> Link
         owes2: replies.on(2).is_some(),
         owes8: replies.on(8).is_some(),
         owes10: replies.on(10).is_some(),
-    }
-}
-
-/// Which goes first where there are too many: a connection, where it may go, or one that was found behind it.
-pub fn first_with(facts: &Facts, found: Option<Candidate>) -> Option<Candidate>
-    ensures { result ≡ first_with (candidate_of facts.now) found }
-{
-    match rank(facts) {
-        Some(rank) => {
-            let cid = facts.cid;
-            Some(first_of(Candidate { cid, rank }, found))
-        }
-        None => found,
     }
 }

@@ -10,6 +10,7 @@ ghost use Rattle.connections.specs.Standing.{entry_with, live_entry, facts_in, c
 ghost use Rattle.connections.specs.Steps.{closes, stepped};
 
 use super::Connections;
+use crate::kept::rerank;
 use crate::linked::Links;
 use crate::talk::unread_at;
 use conn_state::{ConnState, ReservedOutbound, Unnegotiated};
@@ -58,6 +59,7 @@ impl Connections {
         let place = self.kept.roster.place_of(cid);
         let was = self.kept.roster.turn_at(place, step);
         unread_at(&mut self.kept.talks, place, self.alloc, closes(step, &was));
+        rerank(&mut self.kept.order, &was, self.kept.roster.at(place));
         self.kept
             .follow(cid, place, &mut self.timers, &mut self.links);
     }
@@ -72,6 +74,7 @@ impl Connections {
         self.kept.talks.remove(place);
         self.links.leave(Placed { addr, cid });
         self.timers.leave(cid);
+        self.kept.order.leave(cid);
     }
 
     // The id that the next connection is given.

@@ -41,7 +41,7 @@ impl Connections {
     pub fn prune_choice(&self) -> Option<Cid>
         ensures { result ≡ choice_of (filter_map candidate_of (facts_in self.now)) }
     {
-        self.kept.prune_choice()
+        self.kept.order.choice()
     }
 
     /// What the rules see of the connections, in address order.

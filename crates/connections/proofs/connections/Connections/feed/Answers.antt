@@ -50,6 +50,7 @@ invariant_of-self c =
         settings_sound = c.self.invariant.0.settings_sound;
         roster_kept = c.self.invariant.0.roster_kept;
         talks_are = (fed d h).stands.talks_are;
+        ordered = c.self.invariant.0.ordered;
       },
       (
         turned_same c.args.cid (fed_entry c.args.bytes.now) _ _ _ c.self.invariant.1.0 there (λ e. refl) (λ e. refl) (fed d h).turns,
@@ -61,6 +62,7 @@ invariant_of-self c =
         settings_sound = c.self.invariant.0.settings_sound;
         roster_kept = c.self.invariant.0.roster_kept;
         talks_are = (emptied d h).stands.talks_are;
+        ordered = c.self.invariant.0.ordered;
       },
       (
         turned_same c.args.cid unread _ _ _ c.self.invariant.1.0 there (λ e. refl) (λ e. refl) (emptied d h).turns,

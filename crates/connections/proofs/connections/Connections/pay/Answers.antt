@@ -26,6 +26,7 @@ follow-requires-clause-whole c = record {
   settings_sound = c.self.invariant.0.settings_sound;
   roster_kept = c.self.invariant.0.roster_kept;
   talks_are = (turns (goal.at.follow-requires-clause-whole c).After-pay_at).stands.talks_are;
+  ordered = c.self.invariant.0.ordered;
 }
 
 pub follow-requires-clause-timed : goal.follow-requires-clause-timed
@@ -45,6 +46,7 @@ invariant_of-self c = (
     settings_sound = c.self.invariant.0.settings_sound;
     roster_kept = c.self.invariant.0.roster_kept;
     talks_are = (turns (goal.at.invariant_of-self c).After-pay_at).stands.talks_are;
+    ordered = c.self.invariant.0.ordered;
   },
   (c.follow.ensures.timed, c.follow.ensures.linked),
 )

@@ -3,11 +3,13 @@ use Rattle.std.proofs.lemmas.Option.{slice_get_within}
 use Rattle.conn_table.specs.Rosters.{facts_kept}
 use Rattle.conn_table.specs.declared.placed.Placed.{Placed}
 use Rattle.net_base.specs.declared.connection.Facts.{Facts}
+use Rattle.prune_order.specs.Order.{Order}
 use Rattle.connections.specs.Kept.{table_of, standing}
 use Rattle.connections.specs.Standing.{gone}
 use Rattle.connections.specs.Talks.{entry_of}
 use Rattle.connections.proofs.LinkedTurns.{goes_from, gone_linked}
-use Rattle.connections.proofs.Stepping.{FoundIn, any_in, placed_in, talk_inside, was_there, goes}
+use Rattle.connections.proofs.OrderTurns.{stands_still, ordered_gone}
+use Rattle.connections.proofs.Stepping.{FoundIn, any_in, placed_in, talk_inside, was_there, own_in, goes}
 use Rattle.connections.proofs.TalkTurns.{Any, IsGoing}
 use Rattle.connections.proofs.TimedTurns.{stands_in, gone_timed}
 use Rattle.connections.proofs.connections.Connections.remove.Goals.{After-place_of-place, After-remove}
@@ -47,6 +49,11 @@ leave-requires c =
     goes_from placed (standing c.self.inside.kept) c.self.inside.timers c.self.inside.links (entry_of it.0.facts it.0.talk) c.self.invariant.1.0
     c.self.invariant.1.1 it.0.at.entry_there (ap (λ (f : Facts). f.addr) (sym it.1))
 
+pub leave-requires-3 : goal.leave-requires-3
+leave-requires-3 c =
+    stands_still c.args.cid c.self.inside.kept c.self.invariant.0
+    (any_in c.args.cid.0 c.self.inside.kept c.self.invariant.0 (stands_in c.args.cid _ _ c.self.view_is c.requires))
+
 pub invariant_of-self : goal.invariant_of-self
 invariant_of-self c =
     let it = told (goal.at.invariant_of-self c).After-remove in
@@ -56,6 +63,9 @@ invariant_of-self c =
         settings_sound = c.self.invariant.0.settings_sound;
         roster_kept = c.remove_at.ensures.kept;
         talks_are = gone_so.stands.talks_are;
+        ordered = ordered_gone c.args.cid c.remove_at.result.cid.0 c.self.inside.kept c.remove_at.new.self c.leave-3.new.self c.self.invariant.0
+            (own_in Any c.args.cid.0 c.self.inside.kept c.remove_at.result it.0 it.1) c.remove_at.ensures.facts c.remove_at.ensures.given
+            (ap (λ (o : Order). o.rows) c.leave-3.ensures) (ap (λ (o : Order). o.last) c.leave-3.ensures);
       },
       (
         gone_timed c.args.cid _ _ _ _ c.self.invariant.1.0 gone_so.goes c.leave-2.ensures.gone c.leave-2.ensures.orderly,

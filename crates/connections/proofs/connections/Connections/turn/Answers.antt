@@ -1,13 +1,16 @@
 use Rattle.std.proofs.Common.{IsSomeAnd, sym, subst}
 use Rattle.conn_table.specs.Conditions.{CanStep}
+use Rattle.conn_table.specs.Rosters.{facts_kept}
 use Rattle.conn_table.proofs.StateFacts.{step_keeps}
 use Rattle.connections.specs.Kept.{table_of, standing}
+use Rattle.connections.specs.Ordered.{IsOrdered}
 use Rattle.connections.specs.Steps.{stepped}
 use Rattle.connections.proofs.LinkedTurns.{moved_linked}
+use Rattle.connections.proofs.OrderTurns.{still_inside, stands_in_order, ordered_turn}
 use Rattle.connections.proofs.Stepping.{asked, said, FoundIn, found_in, placed_in, talk_inside, was_there, step_turns, still_placed, keeps_id}
 use Rattle.connections.proofs.TalkTurns.{IsTurn}
 use Rattle.connections.proofs.TimedTurns.{moved_but}
-use Rattle.connections.proofs.connections.Connections.turn.Goals.{After-place_of-place, After-unread_at}
+use Rattle.connections.proofs.connections.Connections.turn.Goals.{After-place_of-place, After-unread_at, After-rerank}
 use Rattle.connections.proofs.connections.Connections.turn.Goals as goal
 
 one : (c : After-place_of-place) → FoundIn (CanStep c.args.step) c.args.cid.0 c.self.inside.kept
@@ -25,6 +28,28 @@ turns c =
     c.turn_at-was.ensures.was)
     c.turn_at-was.ensures.facts c.turn_at-was.ensures.given c.closes.ensures c.unread_at.ensures
 
+ordered : (c : After-rerank) → IsOrdered (facts_kept c.turn_at-was.new.self) c.turn_at-was.new.self.given c.rerank.new.order
+ordered c =
+    let it = found_in (CanStep c.args.step) c.args.cid.0 c.self.inside.kept c.self.invariant.0
+    (asked (λ e. CanStep c.args.step e.facts) c.args.cid.0 _ _ c.self.view_is c.requires) in
+    ordered_turn c.args.step c.args.cid.0 c.place_of-place.result c.self.inside.kept c.turn_at-was.new.self c.rerank.new.order c.turn_at-was.result
+    c.at.result.now c.self.invariant.0 it
+    (was_there (CanStep c.args.step) c.args.cid.0 c.place_of-place.result c.self.inside.kept c.turn_at-was.result c.self.invariant.0 it c.place_of-place.ensures
+    c.turn_at-was.ensures.was)
+    c.turn_at-was.ensures.was c.turn_at-was.ensures.facts c.turn_at-was.ensures.given c.at.ensures c.rerank.ensures.rows c.rerank.ensures.last
+
+pub at-requires : goal.at-requires
+at-requires c =
+    still_inside c.args.step c.place_of-place.result c.turn_at-was.result c.self.inside.kept.roster c.turn_at-was.new.self c.turn_at-was.ensures.was
+    c.turn_at-was.ensures.facts
+
+pub rerank-requires : goal.rerank-requires
+rerank-requires c =
+    let it = one (goal.at.rerank-requires c).After-place_of-place in
+    stands_in_order (CanStep c.args.step) c.args.cid.0 c.self.inside.kept c.turn_at-was.result c.self.invariant.0 it
+    (was_there (CanStep c.args.step) c.args.cid.0 c.place_of-place.result c.self.inside.kept c.turn_at-was.result c.self.invariant.0 it c.place_of-place.ensures
+    c.turn_at-was.ensures.was)
+
 pub turn_at-was-requires-clause-can : goal.turn_at-was-requires-clause-can
 turn_at-was-requires-clause-can c =
     let it = one (goal.at.turn_at-was-requires-clause-can c).After-place_of-place in
@@ -41,6 +66,7 @@ follow-requires-clause-whole c = record {
   settings_sound = c.self.invariant.0.settings_sound;
   roster_kept = c.turn_at-was.ensures.kept;
   talks_are = (turns (goal.at.follow-requires-clause-whole c).After-unread_at).stands.talks_are;
+  ordered = ordered (goal.at.follow-requires-clause-whole c).After-rerank;
 }
 
 pub follow-requires-clause-place : goal.follow-requires-clause-place
@@ -65,6 +91,7 @@ invariant_of-self c = (
     settings_sound = c.self.invariant.0.settings_sound;
     roster_kept = c.turn_at-was.ensures.kept;
     talks_are = (turns (goal.at.invariant_of-self c).After-unread_at).stands.talks_are;
+    ordered = ordered (goal.at.invariant_of-self c).After-rerank;
   },
   (c.follow.ensures.timed, c.follow.ensures.linked),
 )
