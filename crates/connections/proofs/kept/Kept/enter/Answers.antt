@@ -40,12 +40,12 @@ returns-else-is_err-clause-whole c = record {
       let went = sym c.is_err.ensures.value ∙ c.if-is_err.false in
       let row : row_at c.as_facts.result.now.cid c.rank-rank.result ≡ row_of f =
       ap (λ (g : Facts). row_at g.cid c.rank-rank.result) c.as_facts.ensures.value
-          ∙ ap (row_at f.cid) (c.rank-rank.ensures ∙ ap rank_of c.as_facts-2.ensures.value) in
+      ∙ ap (row_at f.cid) (c.rank-rank.ensures ∙ ap rank_of c.as_facts-2.ensures.value) in
       ordered_come f (facts_kept was.roster) _ was.roster.given _ was.order c.come.new.self c.requires.whole.ordered
-          (ok_said _ c.enter-entered.result went c.enter-entered.ensures.ok) (ok_said _ c.enter-entered.result went c.enter-entered.ensures.given) c.requires.next
-          (ap (λ (o : Order). o.rows) c.come.ensures ∙ (ap (λ rs. rs ++ row_at c.as_facts.result.now.cid c.rank-rank.result ∷ []) c.make_room.ensures.rows
-          ∙ ap (λ r. was.order.rows ++ r ∷ []) row))
-          (ap (λ (o : Order). o.last) c.come.ensures ∙ ap (λ (g : Facts). g.cid) c.as_facts.ensures.value);
+      (ok_said _ c.enter-entered.result went c.enter-entered.ensures.ok) (ok_said _ c.enter-entered.result went c.enter-entered.ensures.given) c.requires.next
+      (ap (λ (o : Order). o.rows) c.come.ensures ∙ (ap (λ rs. rs ++ row_at c.as_facts.result.now.cid c.rank-rank.result ∷ []) c.make_room.ensures.rows
+      ∙ ap (λ r. was.order.rows ++ r ∷ []) row))
+      (ap (λ (o : Order). o.last) c.come.ensures ∙ ap (λ (g : Facts). g.cid) c.as_facts.ensures.value);
 }
 
 pub returns-else-is_err-clause-ok : goal.returns-else-is_err-clause-ok
@@ -71,8 +71,8 @@ returns-then-is_err-clause-whole c = record {
       let was = c.args.self.now in
       let refused = sym c.is_err.ensures.value ∙ c.if-is_err.true in
       ordered_same (facts_kept was.roster) _ was.roster.given _ was.order c.make_room.new.self c.requires.whole.ordered
-          (same_facts (goal.at.returns-then-is_err-clause-whole c).Then-is_err) (err_said _ c.enter-entered.result refused c.enter-entered.ensures.none_given)
-          c.make_room.ensures.rows c.make_room.ensures.last;
+      (same_facts (goal.at.returns-then-is_err-clause-whole c).Then-is_err) (err_said _ c.enter-entered.result refused c.enter-entered.ensures.none_given)
+      c.make_room.ensures.rows c.make_room.ensures.last;
 }
 
 pub returns-then-is_err-clause-err : goal.returns-then-is_err-clause-err
