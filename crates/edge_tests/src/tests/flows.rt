@@ -95,22 +95,19 @@ struct FlowWorld {
     ended: u64,
 }
 
-fn terms(announce: bool, reply: u64) -> Terms {
-    Terms {
+fn opened(alloc: Global, seed: u64, announce: bool) -> Result<FlowWorld, OutOfMemory> {
+    let terms = Terms {
         own: local(3001),
         announce,
         soft: 64,
         handshake: 1_000_000,
-        reply,
+        reply: 1_000_000,
         tick: 1000,
         rootttl: 1000,
-    }
-}
-
-fn opened(alloc: Global, seed: u64, announce: bool) -> Result<FlowWorld, OutOfMemory> {
+    };
     Ok(FlowWorld {
         alloc,
-        flow: SocketFlow::new(alloc, terms(announce, 1_000_000), &AddrList::new(alloc))?,
+        flow: SocketFlow::new(alloc, terms, &AddrList::new(alloc))?,
         words: Pcg64::seed_from_u64(seed),
         peers: HashMap::new(alloc),
         announces: announce,
@@ -306,80 +303,5 @@ fn bytes_come_and_go_in_their_order(rt: HostRuntime) -> Result<(), Fail> {
         assert!(rt; world.told > 10_000);
         assert!(rt; world.went > 10_000);
     }
-    Ok(())
-}
-
-// A socket of a script: its peer takes so many bytes in all, and says nothing.
-#[derive(Drop)]
-struct Slow {
-    alloc: Global,
-    flow: SocketFlow,
-    takes: usize,
-    closed: u64,
-}
-
-fn write_slowly(slow: &mut Slow, key: usize) -> Result<(), OutOfMemory> {
-    let count = slow.takes.min(1);
-    if count == 0 {
-        return slow.flow.is_full(key);
-    }
-    slow.takes = 0;
-    slow.flow.went(key, count)
-}
-
-fn tell_slowly(slow: &mut Slow, event: &Event) -> Result<(), OutOfMemory> {
-    match event {
-        Event::Accepted(addr) => {
-            slow.flow.act(&Action::Admit(Cid(1), *addr))?;
-            let mut bytes = Octets::new(slow.alloc);
-            bytes.extend_from_slice(&[1, 2, 3])?;
-            slow.flow.act(&Action::Send(Cid(1), bytes))
-        }
-        Event::Closed(_) => {
-            slow.closed = slow.closed.saturating_add(1);
-            Ok(())
-        }
-        _ => Ok(()),
-    }
-}
-
-// It is this moment, and all that is asked for then is done. Answers how many connections have ended.
-fn closed_at(slow: &mut Slow, moment: u64) -> Result<u64, OutOfMemory> {
-    slow.flow.begin_round(moment)?;
-    for _ in 0..100 {
-        match slow.flow.ask()? {
-            Ask::Write(key) => write_slowly(slow, key)?,
-            Ask::Give(event) => tell_slowly(slow, &event)?,
-            _ => {}
-        }
-    }
-    Ok(slow.closed)
-}
-
-// Its peer takes a byte at moment 1, or none.
-fn that_takes(alloc: Global, takes: usize) -> Result<Slow, OutOfMemory> {
-    let mut slow = Slow {
-        alloc,
-        flow: SocketFlow::new(alloc, terms(false, 500), &AddrList::new(alloc))?,
-        takes,
-        closed: 0,
-    };
-    slow.flow.accepted(local(1))?;
-    Ok(slow)
-}
-
-#[test]
-fn peers_that_take_nothing_are_ended(rt: HostRuntime) -> Result<(), Fail> {
-    let mut none = that_takes(rt.alloc(), 0)?;
-    assert!(rt; closed_at(&mut none, 1)? == 0);
-    assert!(rt; closed_at(&mut none, 500)? == 0);
-    assert!(rt; closed_at(&mut none, 501)? == 1);
-    assert!(rt; closed_at(&mut none, 2000)? == 1);
-    // One that took a byte since it was looked at last is looked at once more.
-    let mut one = that_takes(rt.alloc(), 1)?;
-    assert!(rt; closed_at(&mut one, 1)? == 0);
-    assert!(rt; closed_at(&mut one, 501)? == 0);
-    assert!(rt; closed_at(&mut one, 1000)? == 0);
-    assert!(rt; closed_at(&mut one, 1001)? == 1);
     Ok(())
 }
