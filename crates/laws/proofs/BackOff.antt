@@ -193,7 +193,7 @@ unmissed-still e m unmissed b =
     (sym (ap (λ c. (if c then peer_fails e.facts.addr (without_entry e.facts.cid.0 m) else nothing_more (without_entry e.facts.cid.0 m)).machine) unmissed))
     (still_itself (peer_at b m))
 
-candidate-unmissed : (f : Facts) → is_candidate f ≡ true → is_missed f ≡ false
+pub candidate-unmissed : (f : Facts) → is_candidate f ≡ true → is_missed f ≡ false
 candidate-unmissed f may = by_pending (is_pending f) refl
   where
     parts : (is_counted f ≡ true) × (not f.local ≡ true)
@@ -260,7 +260,7 @@ trim-still moved m h unmissed = cond_both (nat_le (counted_in m) m.settings.hard
         by_own false own may = unmissed-still e m (candidate-unmissed e.facts may)
 
 -- what a connection turned into is found in its place
-turned-is : (e new : Entry) (m : Machine) → new.facts.cid ≡ e.facts.cid → (law : Entry → Type 0) → law new → (f : Entry) → entry_at e.facts.cid.0 (with_entry new m) ≡ Some f → law f
+pub turned-is : (e new : Entry) (m : Machine) → new.facts.cid ≡ e.facts.cid → (law : Entry → Type 0) → law new → (f : Entry) → entry_at e.facts.cid.0 (with_entry new m) ≡ Some f → law f
 turned-is e new m same law holds f is = by_found (entry_at e.facts.cid.0 m) (sym (turned-found e new m same) ∙ is)
   where
     by_found : (o : Option Entry) → option_map (λ x. new) o ≡ Some f → law f

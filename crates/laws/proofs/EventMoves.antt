@@ -40,6 +40,7 @@ use Rattle.laws.specs.Stages.{stage_of_phase}
 use Rattle.laws.specs.Telling.{IsTold}
 use Rattle.laws.specs.Told.{promoted_by_dial}
 use Rattle.laws.specs.Whole.{IsSteady, IsOrdered}
+use Rattle.laws.proofs.Admitted.{pending-live}
 use Rattle.laws.proofs.Arrivals.{locals-known, roots-known}
 use Rattle.laws.proofs.Clock.{fire_due-obeys}
 use Rattle.laws.proofs.Entries.{gone-connections}
@@ -215,15 +216,6 @@ admitted-obeys Law addr m h = record {
   lawful = tt;
   accounted = accounts_come m (admitted_entry addr m) (admitted addr m) refl refl refl (admitted-told addr m h);
 }
-
-pending-live : (f : Facts) → is_pending f ≡ true → is_live f ≡ true
-pending-live f pending = by_phase f.phase (and_parts (is_outbound f) (opening_phase f.phase) pending).1
-  where
-    by_phase : (p : Phase) → opening_phase p ≡ true → live_phase p ≡ true
-    by_phase Dialing opening = refl
-    by_phase (Greeting until) opening = refl
-    by_phase Negotiated opening = refl
-    by_phase (Closing until) opening = opening
 
 crossed-obeys : (addr : Addr) (m : Machine) (e : Entry) (k : ℕ) → IsOrdered m → StandsAt m.connections k e → is_pending e.facts ≡ true →
     Obeys IsLawful m (crossed addr e m)

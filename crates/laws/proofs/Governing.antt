@@ -36,6 +36,7 @@ use Rattle.laws.proofs.Keeping.{Keeps, keeps_nothing, elsewhere-keeps}
 use Rattle.laws.proofs.ToldMoves.{is_temp}
 use Rattle.laws.proofs.Lawful.{Accounts, IsQuiet, quiet-obeys, elsewhere-quiet, tells-quiet, IsAllowed, Within, allowed_within}
 use Rattle.laws.proofs.Orders.{Carries, EachAccounted, Followed, nothing-followed, first-followed, orders-followed, Always, ask-carried, IsCold, IsIdle, MayForget, forget-carried, MayRelease, release-carried, MayActivate, activate-carried, deactivate-carried, MayAsk}
+use Rattle.laws.proofs.Ordering.{EachDue, OrdersDue, ordinary-due, big-due, due_more, none_due, map-append}
 use Rattle.laws.proofs.Promotions.{MayPromote, promotes-carried, eligible-may}
 use Rattle.laws.proofs.Trims.{Trimmed, keeps-trimmed, nothing-trimmed, trimmed_then, trimmed_both, trimmed-within}
 use Rattle.laws.proofs.Wanted.{promotes-within, activates-within, groups_promotes-within, groups_activates-within}
@@ -166,10 +167,6 @@ always-trimmed Law order each (a ∷ addrs) m h within =
     first-followed Law (order a) (map order addrs) m h first
     (always-trimmed Law order each addrs effect.machine first.ordered (trimmed-within Law m effect first))
 
-map-append : (order : Addr → Order) (xs ys : List Addr) → map order (xs ++ ys) ≡ map order xs ++ map order ys
-map-append order [] ys = refl
-map-append order (x ∷ xs) ys = ap (λ orders. order x ∷ orders) (map-append order xs ys)
-
 -- ---- each rule
 
 -- what a rule does with a machine that is in order and within the limit
@@ -252,24 +249,26 @@ b8-trimmed word m h within =
 pub record Governed (Law : Move → Type 0) (each : List (Machine → List Order)) (m : Machine) : Type 0 where
   pub trimmed : Trimmed Law m (for_each rules each m)
   pub orders : EachAccounted (orders_of each m) m
+  pub due : EachDue (orders_of each m) m
 
 each_more : (xs ys : List Order) (m : Machine) → EachAccounted xs m → EachAccounted ys (for_each carries_out xs m).machine → EachAccounted (xs ++ ys) m
 unfolding for_each
 each_more [] ys m one two = two
 each_more (x ∷ xs) ys m one two = (one.0, each_more xs ys (carries_out x m).machine one.1 two)
 
-all-rules : (each : List (Machine → List Order)) → AllByRecursion (DoesLawful) each → (m : Machine) → IsOrdered m →
+all-rules : (each : List (Machine → List Order)) → AllByRecursion (DoesLawful) each → AllByRecursion (λ orders. OrdersDue orders) each → (m : Machine) → IsOrdered m →
     counted_in m ≤ m.settings.hard → Governed IsLawful each m
-unfolding for_each orders_of DoesLawful
-all-rules [] h m o within = record { trimmed = nothing-trimmed IsLawful m within o; orders = tt }
-all-rules (r ∷ rs) h m o within =
+unfolding for_each orders_of DoesLawful OrdersDue
+all-rules [] h due m o within = record { trimmed = nothing-trimmed IsLawful m within o; orders = tt; due = none_due m }
+all-rules (r ∷ rs) h due m o within =
     let effect : Effect = rules r m in
     let first : Followed IsLawful (r m) m = h.0 m o within in
     let rest : Governed IsLawful rs effect.machine =
-    all-rules rs h.1 effect.machine first.trimmed.ordered (trimmed-within IsLawful m effect first.trimmed) in
+    all-rules rs h.1 due.1 effect.machine first.trimmed.ordered (trimmed-within IsLawful m effect first.trimmed) in
     record {
       trimmed = trimmed_then IsLawful m effect (for_each rules rs) first.trimmed rest.trimmed;
       orders = each_more (r m) (orders_of rs effect.machine) m first.each rest.orders;
+      due = due_more (r m) (orders_of rs effect.machine) m (due.0 m o first.each) rest.due;
     }
 
 pub big-rules : (word : ℕ) → AllByRecursion (λ orders. DoesLawful orders) (big_rules word)
@@ -330,6 +329,9 @@ pub record Governs (word : ℕ) (m : Machine) : Type 0 where
   pub ordinary : EachAccounted (orders_of (ordinary_rules word) (asks_roots m).machine) (asks_roots m).machine
   pub big : EachAccounted (orders_of (big_rules word) (for_each rules (ordinary_rules word) (asks_roots m).machine).machine)
       (for_each rules (ordinary_rules word) (asks_roots m).machine).machine
+  pub ordinary_due : EachDue (orders_of (ordinary_rules word) (asks_roots m).machine) (asks_roots m).machine
+  pub big_due : EachDue (orders_of (big_rules word) (for_each rules (ordinary_rules word) (asks_roots m).machine).machine)
+      (for_each rules (ordinary_rules word) (asks_roots m).machine).machine
 
 pub governs : (word : ℕ) (m : Machine) → IsOrdered m → counted_in m ≤ m.settings.hard → Governs word m
 governs word m h within =
@@ -338,15 +340,17 @@ governs word m h within =
     keeps-trimmed IsLawful m first within (asks_roots-keeps m h) (quiet-obeys IsLawful m first (asks_roots-quiet m)) in
     let second : Effect = for_each rules (ordinary_rules word) first.machine in
     let two : Governed IsLawful (ordinary_rules word) first.machine =
-    all-rules (ordinary_rules word) (ordinary-rules word) first.machine one.ordered (trimmed-within IsLawful m first one) in
+    all-rules (ordinary_rules word) (ordinary-rules word) (ordinary-due word) first.machine one.ordered (trimmed-within IsLawful m first one) in
     let three : Governed IsLawful (big_rules word) second.machine =
-    all-rules (big_rules word) (big-rules word) second.machine two.trimmed.ordered (trimmed-within IsLawful first.machine second two.trimmed) in
+    all-rules (big_rules word) (big-rules word) (big-due word) second.machine two.trimmed.ordered (trimmed-within IsLawful first.machine second two.trimmed) in
     record {
       trimmed = trimmed_then IsLawful m first (λ m. then_do (for_each rules (ordinary_rules word) m) (for_each rules (big_rules word))) one
           (trimmed_then IsLawful first.machine second (for_each rules (big_rules word)) two.trimmed three.trimmed);
       asked = one.accounted;
       ordinary = two.orders;
       big = three.orders;
+      ordinary_due = two.due;
+      big_due = three.due;
     }
 
 pub govern-trimmed : (word : ℕ) (m : Machine) → IsOrdered m → counted_in m ≤ m.settings.hard → Trimmed IsLawful m (govern word m)

@@ -19,6 +19,11 @@ mod Shapes
 mod Effects
 pub mod Carrying
 mod Chosen
+mod Admitted
+mod Sends
+mod Falls
+mod OpenEnds
+mod Ordering
 mod Governing
 mod GroupsApart
 mod Locals

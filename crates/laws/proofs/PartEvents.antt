@@ -42,6 +42,7 @@ use Rattle.laws.proofs.Keeping.{Keeps}
 use Rattle.laws.proofs.Lawful.{Accounts, quiet-obeys, elsewhere-quiet, changes-quiet, comes-providing, stands-found, turns-obeys}
 use Rattle.laws.proofs.Lists.{StandsAt, find_some}
 use Rattle.laws.proofs.Open.{IsOpen, turned-open, handles-open}
+use Rattle.laws.proofs.Ordering.{EachDue, first_due, rest_due}
 use Rattle.laws.proofs.Orders.{EachAccounted}
 use Rattle.laws.proofs.PartMoves.{accounted-part, providing-part, AreLawful, no_part, first_part, one_part, more_parts, all_parts}
 use Rattle.laws.proofs.Streams.{handles-trimmed, faulted-trimmed, open-live}
@@ -89,10 +90,11 @@ clock-parts t m h = by_test (nat_le t m.now)
 
 -- ---- the governor
 
-orders-parts : (event : Event) (orders : List Order) (m : Machine) → EachAccounted orders m → AreLawful event (map carries orders) m
-orders-parts event [] m h = no_part event m
-orders-parts event (o ∷ orders) m h =
-    first_part event (carries o) (map carries orders) m tt (carried-out o m h.0.ordered.orderly) h.0.ordered (accounted-part event m (carries_out o m) h.0.accounts) (orders-parts event orders (carries_out o m).machine h.1)
+orders-parts : (event : Event) (orders : List Order) (m : Machine) → EachAccounted orders m → EachDue orders m → AreLawful event (map carries orders) m
+orders-parts event [] m h due = no_part event m
+orders-parts event (o ∷ orders) m h due =
+    first_part event (carries o) (map carries orders) m (first_due o orders m due) (carried-out o m h.0.ordered.orderly) h.0.ordered
+    (accounted-part event m (carries_out o m) h.0.accounts) (orders-parts event orders (carries_out o m).machine h.1 (rest_due o orders m due))
 
 govern-parts : (word : ℕ) (m : Machine) → IsOrdered m → counted_in m ≤ m.settings.hard → AreLawful (Govern word) (acts m (Govern word)) m
 govern-parts word m h within =
@@ -102,9 +104,9 @@ govern-parts word m h within =
     let ordinary : List Act = map carries (orders_of (ordinary_rules word) n) in
     let big : List Act = map carries (orders_of (big_rules word) o) in
     first_part (Govern word) asks_for_roots (ordinary ++ big) m tt tt tt (accounted-part (Govern word) m (asks_roots m) g.asked)
-    (more_parts (Govern word) ordinary big n (orders-parts (Govern word) (orders_of (ordinary_rules word) n) n g.ordinary)
+    (more_parts (Govern word) ordinary big n (orders-parts (Govern word) (orders_of (ordinary_rules word) n) n g.ordinary g.ordinary_due)
     (subst (λ effect. AreLawful (Govern word) big effect.machine) (orders-chain (ordinary_rules word) n)
-    (orders-parts (Govern word) (orders_of (big_rules word) o) o g.big)))
+    (orders-parts (Govern word) (orders_of (big_rules word) o) o g.big g.big_due)))
 
 -- ---- bytes
 
@@ -229,7 +231,7 @@ parts-lawful : (m : Machine) (event : Event) → IsSteady m → AreLawful event 
 parts-lawful m (Now t) h = clock-parts t m (ordered_of m h)
 parts-lawful m (Govern word) h = govern-parts word m (ordered_of m h) h.sound.counted
 parts-lawful m (Accepted addr) h =
-    one_part (Accepted addr) (connects addr) m tt tt tt (accounted-part (Accepted addr) m (does (connects addr) m) (connects-obeys addr m (ordered_of m h)).accounted)
+    one_part (Accepted addr) (connects addr) m tt tt (ordered_of m h).orderly (accounted-part (Accepted addr) m (does (connects addr) m) (connects-obeys addr m (ordered_of m h)).accounted)
 parts-lawful m (Dialed cid opened) h =
     one_part (Dialed cid opened) (ends_dial cid opened) m tt tt tt
     (accounted-part (Dialed cid opened) m (does (ends_dial cid opened) m) (dial_ends-obeys cid opened m (ordered_of m h)).accounted)

@@ -22,38 +22,22 @@ use Rattle.laws.proofs.Due.{ends-due}
 use Rattle.laws.proofs.Forgiven.{forgives}
 use Rattle.laws.proofs.Lawful.{Accounts, IsProviding, ends_same}
 use Rattle.laws.proofs.Lists.{all-placed}
+use Rattle.laws.proofs.Admitted.{admits-right}
 use Rattle.laws.proofs.Agreed.{agrees-right}
 use Rattle.laws.proofs.BackOff.{Knows, remembers}
 use Rattle.laws.proofs.Goes.{goes-where}
 use Rattle.laws.proofs.Moments.{over-after}
 use Rattle.laws.proofs.Responders.{responds-right}
+use Rattle.laws.proofs.OpenEnds.{uncaused, opens-once}
 use Rattle.laws.proofs.RootsAsked.{asks-right}
+use Rattle.laws.proofs.Sends.{sends-right}
 use Rattle.laws.proofs.Served.{answers-right}
 use Rattle.laws.proofs.Telling.{ended-over}
 use Rattle.laws.proofs.Pruning.{pruned-rightly}
-use Rattle.laws.proofs.WaitsOfParts.{Finds, waits-right, is-set}
+use Rattle.laws.proofs.WaitsOfParts.{Finds, waits-right, leaves-rest, is-set}
 use Rattle.laws.proofs.Rises.{NoneConnected, or_each, hot_or_asked-down, rises_nowhere, same-connected}
 
 -- ---- who was negotiated before it
-
--- without a cause no move has ended it
-uncaused : (cid : ℕ) (moves : List Move) → causes_in cid moves ≡ [] → is_ended_in cid moves ≡ false
-uncaused cid [] h = refl
-uncaused cid (move ∷ moves) h = by_happened move.happened h (uncaused cid moves)
-  where
-    by_id : (own : Bool) (cause : CloseCause) → ((if own then cause ∷ [] else []) ++ causes_in cid moves) ≡ [] → (causes_in cid moves ≡ [] → is_ended_in cid moves ≡ false) →
-        (own || is_ended_in cid moves) ≡ false
-    by_id true cause some later = absurd cc
-    by_id false cause none later = later none
-
-    by_happened : (happened : Happened) → flat_map (causes_by cid) (ended_by happened ++ ends_in moves) ≡ [] → (causes_in cid moves ≡ [] → is_ended_in cid moves ≡ false) →
-        (ends cid happened || is_ended_in cid moves) ≡ false
-    by_happened (promoted addr) h later = later h
-    by_happened (activated addr) h later = later h
-    by_happened (shared addr) h later = later h
-    by_happened (ended old cause) h later = by_id (old == cid) cause h later
-    by_happened (unused old) h later = by_id (old == cid) _ h later
-    by_happened (gone old) h later = later h
 
 negotiated-stage : (o : Option Entry) (given : Bool) → is_negotiated_entry o ≡ true → stage_of o given ≡ 3
 negotiated-stage None given h = absurd (false≢true h)
@@ -154,15 +138,19 @@ lawful-part event act m next order found h = record {
   forgiven = forgives act m;
   pauses = pauses-right act m;
   ends = ends-due act m;
+  opens = opens-once act m next found h.told;
   pruned = pruned-rightly act m found;
   waits = waits-right act m found;
+  rest = leaves-rest act m found;
   sets = is-set act m found;
   over = over-after act m;
   goes = goes-where act m;
   asks = asks-right act m;
+  admits = admits-right act m found;
   agrees = agrees-right act m;
   responds = responds-right act m;
   answers = answers-right act m;
+  sends = sends-right act m;
   remembers = remembers act m (known-of act m found);
 }
 

@@ -48,6 +48,7 @@ use Rattle.laws.proofs.Locals.{not_local-no_member}
 use Rattle.laws.proofs.Moments.{ending-none}
 use Rattle.laws.proofs.Responders.{begins-there}
 use Rattle.laws.proofs.Talks.{replies-machine}
+use Rattle.laws.proofs.Waits.{Scope}
 use Rattle.laws.proofs.WaitsOfParts.{found-stands, begins-waits}
 
 -- ---- who is told of
@@ -115,11 +116,11 @@ served-few asker n m = let few = told_are_few asker n m.peers m.groups m.roots.p
 
 -- ---- what sends nothing
 
-turns-silent : (old new : Entry) (m : Machine) → sent_in (entry_turns old new m).actions ≡ []
+pub turns-silent : (old new : Entry) (m : Machine) → sent_in (entry_turns old new m).actions ≡ []
 turns-silent old new m = cond_both (same_name (name_of old.facts) (name_of new.facts)) [] (State old.facts.cid (name_of new.facts) ∷ []) (λ actions. sent_in actions ≡ [])
     (λ same. refl) (λ other. refl)
 
-trim-silent : (moved : Cid) (m : Machine) → sent_in (trim moved m).actions ≡ []
+pub trim-silent : (moved : Cid) (m : Machine) → sent_in (trim moved m).actions ≡ []
 trim-silent moved m = cond_both (nat_le (counted_in m) m.settings.hard) (nothing_more m)
     (on_connection (unwrap_or (choice_of (candidates_in m)) moved) (ending Pruned) m) (λ effect. sent_in effect.actions ≡ []) (λ within. refl)
     (λ above. by_entry (entry_at (unwrap_or (choice_of (candidates_in m)) moved).0 m))
@@ -128,7 +129,7 @@ trim-silent moved m = cond_both (nat_le (counted_in m) m.settings.hard) (nothing
     by_entry None = refl
     by_entry (Some e) = lost-silent sent_by (λ addr. refl) e.facts (without_entry e.facts.cid.0 m)
 
-begins-silent : (protocol : ℕ) (e : Entry) (m : Machine) → sent_in (begins protocol e m).actions ≡ []
+pub begins-silent : (protocol : ℕ) (e : Entry) (m : Machine) → sent_in (begins protocol e m).actions ≡ []
 begins-silent protocol e m = cond_both (runs protocol e.facts.running) (nothing_more m) (awake protocol e m) (λ effect. sent_in effect.actions ≡ []) (λ running. refl)
     (λ silent. let new : Entry = record e { facts = awakened protocol e.facts } in
     flat_map-append sent_by (entry_turns e new m).actions (trim e.facts.cid (with_entry new m)).actions
@@ -201,7 +202,10 @@ asked-answer seen item e m stands =
     first = begins item.id e m
 
     now : first.machine.now ≡ m.now
-    now = (begins-waits item.id e m (found-stands e.facts.cid.0 m e stands)).now
+    now = (begins-waits everything item.id e m (found-stands everything e.facts.cid.0 m e stands refl)).now
+      where
+        everything : Scope
+        everything = record { own = λ cid. true; comes = λ cid. true; drops = true }
 
     each-there : (o : Option Entry) (law : Type 0) → law → WhereThere o (λ f. law)
     each-there None law holds = tt

@@ -237,7 +237,7 @@ set-same test b new e (x ∷ es) zero s old_other new_other =
 set-same test b new e (x ∷ es) (suc k) s old_other new_other =
     ap (λ c. passes_at test b x || c) (set-same test b new e es k (stands_before x e es k s) old_other new_other)
 
-turned-same : (m : Machine) (e new : Entry) (k : ℕ) → IsOrdered m → StandsAt m.connections k e → TurnsInto e new → (test : Entry → Bool) (b : Addr) →
+pub turned-same : (m : Machine) (e new : Entry) (k : ℕ) → IsOrdered m → StandsAt m.connections k e → TurnsInto e new → (test : Entry → Bool) (b : Addr) →
     same_address b e.facts.addr ≡ false → some_connection test b (with_entry new m) ≡ some_connection test b m
 turned-same m e new k h s t test b other =
     let here : same_address e.facts.addr b ≡ false = same_turned b e.facts.addr other in

@@ -299,7 +299,7 @@ pub find-push_other : {X : Type 0} (p : X → Bool) (new : X) (xs : List X) → 
 find-push_other p new [] h = rw h refl
 find-push_other p new (x ∷ xs) h = ap (λ o. cond (p x) (Some x) o) (find-push_other p new xs h)
 
-find-push_here : {X : Type 0} (p : X → Bool) (new : X) (xs : List X) → find p xs ≡ None → p new ≡ true → find p (xs ++ new ∷ []) ≡ Some new
+pub find-push_here : {X : Type 0} (p : X → Bool) (new : X) (xs : List X) → find p xs ≡ None → p new ≡ true → find p (xs ++ new ∷ []) ≡ Some new
 find-push_here p new [] none h = rw h refl
 find-push_here {X} p new (x ∷ xs) none h = by_test (p x) none (find-push_here p new xs)
   where

@@ -1,12 +1,14 @@
--- How long is waited, through each change of a connection.
-use Rattle.std.proofs.Common.{ℕ, ◌+◌, ◌≡◌, Bool, true, false, cond, not, ◌==◌, nat_lt, if◌then◌else◌, List, [], ◌∷◌, ◌++◌, map, filter, find, Option, Some, None, refl, sym, ap, ◌∙◌, subst, inl, inr, eqb-true}
+-- How long is waited, and what is left as it was, through each change of a connection.
+use Rattle.std.proofs.Common.{ℕ, ◌+◌, ◌<◌, ◌≤◌, ◌≡◌, ◌⊎◌, Bool, true, false, cond, not, ◌==◌, nat_lt, if◌then◌else◌, List, [], ◌∷◌, ◌++◌, map, filter, find, Option, Some, None, refl, sym, ap, ◌∙◌, subst, inl, inr, arith, eqb-true}
 use Rattle.std.specs.Option.{option_map}
 use Rattle.conn_state.specs.Use.{has_id}
+use Rattle.net_base.specs.Shared.{nothing_undecoded}
 use Rattle.net_base.specs.declared.timer.Kind.{Kind}
 use Rattle.machine.specs.Connections.{with_entry, without_entry}
 use Rattle.machine.specs.Effect.{Effect, then_do}
 use Rattle.machine.specs.Machine.{Machine, Entry, Owed, entry_at}
 use Rattle.machine.specs.Replies.{reply_on, owing, paid}
+use Rattle.laws.specs.Untouched.{IsAsItWas, KeepsBytes}
 use Rattle.laws.specs.Waits.{until_paid, until_of, until_in, until_at, length_of, IsWait}
 
 -- ---- one wait
@@ -22,10 +24,42 @@ wait_then whole a b (Some until) one two = elim two [
   | inr new ↦ inr new
 ]
 
+-- ---- what is left as it was
+
+-- which connections a part may change, on which bytes may have come in, and whether it may drop what is not decoded
+pub record Scope : Type 0 where
+  pub own : ℕ → Bool
+  pub comes : ℕ → Bool
+  pub drops : Bool
+
+pub was_same : (o : Option Entry) → IsAsItWas o o
+was_same None = tt
+was_same (Some e) = refl
+
+was_then : (a b c : Option Entry) → IsAsItWas a b → IsAsItWas b c → IsAsItWas a c
+was_then a b None one two = tt
+was_then a b (Some f) one two = subst (IsAsItWas a) two one
+
+pub bytes_same : (drops : Bool) (o : Option Entry) → KeepsBytes drops o o
+bytes_same drops None = tt
+bytes_same drops (Some e) = inl refl
+
+bytes_then : (drops : Bool) (a b c : Option Entry) → KeepsBytes drops a b → KeepsBytes drops b c → KeepsBytes drops a c
+bytes_then drops a b None one two = tt
+bytes_then drops a None (Some f) one two = elim two [ ]
+bytes_then drops None (Some g) (Some f) one two = elim one [ ]
+bytes_then drops (Some e) (Some g) (Some f) one two = elim two [
+  | inl same ↦ elim one [
+    | inl before ↦ inl (same ∙ before)
+    | inr dropped ↦ inr (dropped.0, same ∙ dropped.1)
+  ]
+  | inr dropped ↦ inr dropped
+]
+
 -- ---- a part of a step
 
 -- where nothing is set
-pub record Waits (before after : Machine) : Type 0 where
+pub record Waits (scope : Scope) (before after : Machine) : Type 0 where
   pub now : after.now ≡ before.now
   pub settings : after.settings ≡ before.settings
   pub targets : after.targets ≡ before.targets
@@ -33,9 +67,12 @@ pub record Waits (before after : Machine) : Type 0 where
   pub groups : after.groups ≡ before.groups
   pub roots : after.roots ≡ before.roots
   pub each : (kind : Kind) (cid : ℕ) → IsWait (before.now + length_of kind before.settings) (until_at kind cid before) (until_at kind cid after)
+  pub next : before.next_id ≤ after.next_id
+  pub others : (cid : ℕ) → scope.own cid ≡ false → cid < before.next_id → IsAsItWas (entry_at cid before) (entry_at cid after)
+  pub bytes : (cid : ℕ) → scope.comes cid ≡ false → cid < before.next_id → KeepsBytes scope.drops (entry_at cid before) (entry_at cid after)
 
-pub waits_then : (m n o : Machine) → Waits m n → Waits n o → Waits m o
-waits_then m n o one two = record {
+pub waits_then : (scope : Scope) (m n o : Machine) → Waits scope m n → Waits scope n o → Waits scope m o
+waits_then scope m n o one two = record {
   now = two.now ∙ one.now;
   settings = two.settings ∙ one.settings;
   targets = two.targets ∙ one.targets;
@@ -45,15 +82,21 @@ waits_then m n o one two = record {
   each = λ kind cid. wait_then (m.now + length_of kind m.settings) (until_at kind cid m) (until_at kind cid n) (until_at kind cid o) (one.each kind cid)
       (subst (λ s. IsWait (m.now + length_of kind s) (until_at kind cid n) (until_at kind cid o)) one.settings
       (subst (λ t. IsWait (t + length_of kind n.settings) (until_at kind cid n) (until_at kind cid o)) one.now (two.each kind cid)));
+  next = omega (arith, one.next, two.next);
+  others = λ cid own given. was_then (entry_at cid m) (entry_at cid n) (entry_at cid o) (one.others cid own given)
+      (two.others cid own (omega (arith, given, one.next)));
+  bytes = λ cid none given. bytes_then scope.drops (entry_at cid m) (entry_at cid n) (entry_at cid o) (one.bytes cid none given)
+      (two.bytes cid none (omega (arith, given, one.next)));
 }
 
-pub waits_both : (m : Machine) (first : Effect) (next : Machine → Effect) → Waits m first.machine → Waits first.machine (next first.machine).machine → Waits m (then_do first next).machine
-waits_both m first next one two = waits_then m first.machine (next first.machine).machine one two
+pub waits_both : (scope : Scope) (m : Machine) (first : Effect) (next : Machine → Effect) → Waits scope m first.machine →
+    Waits scope first.machine (next first.machine).machine → Waits scope m (then_do first next).machine
+waits_both scope m first next one two = waits_then scope m first.machine (next first.machine).machine one two
 
 -- no connection changes
-pub waits_same : (m n : Machine) → n.now ≡ m.now → n.settings ≡ m.settings → n.targets ≡ m.targets → n.big_targets ≡ m.big_targets → n.groups ≡ m.groups → n.roots ≡ m.roots →
-    n.connections ≡ m.connections → Waits m n
-waits_same m n now settings targets big_targets groups roots same = record {
+pub waits_same : (scope : Scope) (m n : Machine) → n.now ≡ m.now → n.settings ≡ m.settings → n.targets ≡ m.targets → n.big_targets ≡ m.big_targets →
+    n.groups ≡ m.groups → n.roots ≡ m.roots → n.connections ≡ m.connections → n.next_id ≡ m.next_id → Waits scope m n
+waits_same scope m n now settings targets big_targets groups roots same next_id = record {
   now = now;
   settings = settings;
   targets = targets;
@@ -62,10 +105,13 @@ waits_same m n now settings targets big_targets groups roots same = record {
   roots = roots;
   each = λ kind cid. subst (λ es. IsWait (m.now + length_of kind m.settings) (until_at kind cid m) (until_in kind (find (λ e. has_id cid e.facts) es))) (sym same)
       (kept (m.now + length_of kind m.settings) (until_at kind cid m));
+  next = omega (arith, next_id);
+  others = λ cid own given. subst (λ es. IsAsItWas (entry_at cid m) (find (λ e. has_id cid e.facts) es)) (sym same) (was_same (entry_at cid m));
+  bytes = λ cid none given. subst (λ es. KeepsBytes scope.drops (entry_at cid m) (find (λ e. has_id cid e.facts) es)) (sym same) (bytes_same scope.drops (entry_at cid m));
 }
 
-pub waits_nothing : (m : Machine) → Waits m m
-waits_nothing m = waits_same m m refl refl refl refl refl refl refl
+pub waits_nothing : (scope : Scope) (m : Machine) → Waits scope m m
+waits_nothing scope m = waits_same scope m m refl refl refl refl refl refl refl refl
 
 -- ---- a connection that comes, goes or turns
 
@@ -121,8 +167,13 @@ replaced c new (e ∷ es) = by_own (has_id new.facts.cid.0 e.facts) refl (has_id
 abbrev pub TurnsRight : Machine → Entry → Entry → Type 0
 TurnsRight m e new = (kind : Kind) → IsWait (m.now + length_of kind m.settings) (until_of kind e) (until_of kind new)
 
-pub waits_turned : (m : Machine) (e new : Entry) → entry_at e.facts.cid.0 m ≡ Some e → new.facts.cid ≡ e.facts.cid → TurnsRight m e new → Waits m (with_entry new m)
-waits_turned m e new found same right = record {
+-- what is not decoded stays so, or is dropped where it may be
+abbrev pub BytesStay : Bool → Entry → Entry → Type 0
+BytesStay drops e new = (new.undecoded ≡ e.undecoded) ⊎ ((drops ≡ true) × (new.undecoded ≡ nothing_undecoded))
+
+pub waits_turned : (scope : Scope) (m : Machine) (e new : Entry) → entry_at e.facts.cid.0 m ≡ Some e → scope.own e.facts.cid.0 ≡ true → new.facts.cid ≡ e.facts.cid →
+    TurnsRight m e new → (scope.comes e.facts.cid.0 ≡ false → BytesStay scope.drops e new) → Waits scope m (with_entry new m)
+waits_turned scope m e new found mine same right stay = record {
   now = refl;
   settings = refl;
   targets = refl;
@@ -130,17 +181,35 @@ waits_turned m e new found same right = record {
   groups = refl;
   roots = refl;
   each = λ kind cid. subst (λ o. IsWait (whole kind) (until_at kind cid m) (until_in kind o)) (sym (replaced cid new m.connections)) (by_id kind cid (has_id cid new.facts) refl);
+  next = omega arith;
+  others = λ cid own given. subst (IsAsItWas (entry_at cid m)) (sym (replaced cid new m.connections)) (other_by_id cid own (has_id cid new.facts) refl);
+  bytes = λ cid none given. subst (KeepsBytes scope.drops (entry_at cid m)) (sym (replaced cid new m.connections)) (bytes_by_id cid none (has_id cid new.facts) refl);
 }
   where
     whole : Kind → ℕ
     whole kind = m.now + length_of kind m.settings
 
+    id_is : (cid : ℕ) → has_id cid new.facts ≡ true → e.facts.cid.0 ≡ cid
+    id_is cid is = ap (λ c. c.0) (sym same) ∙ eqb-true new.facts.cid.0 cid is
+
     by_id : (kind : Kind) (cid : ℕ) (b : Bool) → has_id cid new.facts ≡ b →
         IsWait (whole kind) (until_at kind cid m) (until_in kind (if b then option_map (λ x. new) (entry_at cid m) else entry_at cid m))
     by_id kind cid true is =
-        let at : entry_at cid m ≡ Some e = subst (λ c. entry_at c m ≡ Some e) (ap (λ c. c.0) (sym same) ∙ eqb-true new.facts.cid.0 cid is) found in
+        let at : entry_at cid m ≡ Some e = subst (λ c. entry_at c m ≡ Some e) (id_is cid is) found in
         subst (λ o. IsWait (whole kind) (until_in kind o) (until_in kind (option_map (λ x. new) o))) (sym at) (right kind)
     by_id kind cid false is = kept (whole kind) (until_at kind cid m)
+
+    other_by_id : (cid : ℕ) → scope.own cid ≡ false → (b : Bool) → has_id cid new.facts ≡ b →
+        IsAsItWas (entry_at cid m) (if b then option_map (λ x. new) (entry_at cid m) else entry_at cid m)
+    other_by_id cid own true is = let never : true ≡ false = sym mine ∙ (ap scope.own (id_is cid is) ∙ own) in absurd cc
+    other_by_id cid own false is = was_same (entry_at cid m)
+
+    bytes_by_id : (cid : ℕ) → scope.comes cid ≡ false → (b : Bool) → has_id cid new.facts ≡ b →
+        KeepsBytes scope.drops (entry_at cid m) (if b then option_map (λ x. new) (entry_at cid m) else entry_at cid m)
+    bytes_by_id cid none true is =
+        let at : entry_at cid m ≡ Some e = subst (λ c. entry_at c m ≡ Some e) (id_is cid is) found in
+        subst (λ o. KeepsBytes scope.drops o (option_map (λ x. new) o)) (sym at) (stay (ap scope.comes (id_is cid is) ∙ none))
+    bytes_by_id cid none false is = bytes_same scope.drops (entry_at cid m)
 
 -- one goes
 pub gone-found : (c cid : ℕ) (es : List Entry) → find (λ e. has_id c e.facts) (filter (λ e. not (has_id cid e.facts)) es)
@@ -166,8 +235,8 @@ gone-found c cid (e ∷ es) = by_own (has_id cid e.facts) refl (has_id c e.facts
     by_own false own true has false is rest = ap (λ b. cond b (Some e) later) has
     by_own false own false has b is rest = ap (λ x. cond x (Some e) later) has ∙ rest
 
-pub waits_gone : (m : Machine) (cid : ℕ) → Waits m (without_entry cid m)
-waits_gone m cid = record {
+pub waits_gone : (scope : Scope) (m : Machine) (cid : ℕ) → Waits scope m (without_entry cid m)
+waits_gone scope m cid = record {
   now = refl;
   settings = refl;
   targets = refl;
@@ -176,18 +245,29 @@ waits_gone m cid = record {
   roots = refl;
   each = λ kind c. subst (λ o. IsWait (m.now + length_of kind m.settings) (until_at kind c m) (until_in kind o)) (sym (gone-found c cid m.connections))
       (by_id kind c (cid == c));
+  next = omega arith;
+  others = λ c own given. subst (IsAsItWas (entry_at c m)) (sym (gone-found c cid m.connections)) (other_by_id c (cid == c));
+  bytes = λ c none given. subst (KeepsBytes scope.drops (entry_at c m)) (sym (gone-found c cid m.connections)) (bytes_by_id c (cid == c));
 }
   where
     by_id : (kind : Kind) (c : ℕ) (b : Bool) → IsWait (m.now + length_of kind m.settings) (until_at kind c m) (until_in kind (if b then None else entry_at c m))
     by_id kind c true = tt
     by_id kind c false = kept (m.now + length_of kind m.settings) (until_at kind c m)
 
+    other_by_id : (c : ℕ) (b : Bool) → IsAsItWas (entry_at c m) (if b then None else entry_at c m)
+    other_by_id c true = tt
+    other_by_id c false = was_same (entry_at c m)
+
+    bytes_by_id : (c : ℕ) (b : Bool) → KeepsBytes scope.drops (entry_at c m) (if b then None else entry_at c m)
+    bytes_by_id c true = tt
+    bytes_by_id c false = bytes_same scope.drops (entry_at c m)
+
 -- one comes
-abbrev first_of_two : Option Entry → Option Entry → Option Entry
+abbrev pub first_of_two : Option Entry → Option Entry → Option Entry
 first_of_two None o = o
 first_of_two (Some e) o = Some e
 
-pushed-found : (c : ℕ) (new : Entry) (es : List Entry) →
+pub pushed-found : (c : ℕ) (new : Entry) (es : List Entry) →
     find (λ e. has_id c e.facts) (es ++ new ∷ []) ≡ first_of_two (find (λ e. has_id c e.facts) es) (cond (has_id c new.facts) (Some new) None)
 pushed-found c new [] = refl
 pushed-found c new (e ∷ es) = by_test (has_id c e.facts) (pushed-found c new es)
@@ -198,9 +278,10 @@ pushed-found c new (e ∷ es) = by_test (has_id c e.facts) (pushed-found c new e
     by_test true rest = refl
     by_test false rest = rest
 
-pub waits_come : (m : Machine) (new : Entry) (next : ℕ) → ((kind : Kind) → IsWait (m.now + length_of kind m.settings) None (until_of kind new)) →
-    Waits m (record m { connections = m.connections ++ new ∷ []; next_id = next })
-waits_come m new next right = record {
+pub waits_come : (scope : Scope) (m : Machine) (new : Entry) → new.facts.cid.0 ≡ m.next_id →
+    ((kind : Kind) → IsWait (m.now + length_of kind m.settings) None (until_of kind new)) →
+    Waits scope m (record m { connections = m.connections ++ new ∷ []; next_id = m.next_id + 1 })
+waits_come scope m new id right = record {
   now = refl;
   settings = refl;
   targets = refl;
@@ -208,6 +289,9 @@ waits_come m new next right = record {
   groups = refl;
   roots = refl;
   each = λ kind c. subst (λ o. IsWait (whole kind) (until_at kind c m) (until_in kind o)) (sym (pushed-found c new m.connections)) (by_found kind (entry_at c m) (has_id c new.facts));
+  next = omega arith;
+  others = λ c own given. subst (IsAsItWas (entry_at c m)) (sym (stays c given)) (was_same (entry_at c m));
+  bytes = λ c none given. subst (KeepsBytes scope.drops (entry_at c m)) (sym (stays c given)) (bytes_same scope.drops (entry_at c m));
 }
   where
     whole : Kind → ℕ
@@ -217,6 +301,20 @@ waits_come m new next right = record {
     by_found kind None true = right kind
     by_found kind None false = tt
     by_found kind (Some e) b = kept (whole kind) (until_of kind e)
+
+    only : (o : Option Entry) → first_of_two o None ≡ o
+    only None = refl
+    only (Some e) = refl
+
+    is_other : (c : ℕ) (b : Bool) → has_id c new.facts ≡ b → c < m.next_id → b ≡ false
+    is_other c true is given = let same = eqb-true new.facts.cid.0 c is in absurd (omega (arith, same, id, given))
+    is_other c false is given = refl
+
+    -- an id that was given before finds what it did
+    stays : (c : ℕ) → c < m.next_id → find (λ e. has_id c e.facts) (m.connections ++ new ∷ []) ≡ entry_at c m
+    stays c given =
+        pushed-found c new m.connections
+        ∙ (ap (λ b. first_of_two (entry_at c m) (cond b (Some new) None)) (is_other c (has_id c new.facts) refl given) ∙ only (entry_at c m))
 
 -- ---- what is owed
 

@@ -119,11 +119,11 @@ class-is a ps p big found class =
 
 -- ---- who is picked
 
-picks-most : (big : Bool) (word number : ℕ) (candidates : List Peer) → length (picks_of big word number candidates) ≤ number
+pub picks-most : (big : Bool) (word number : ℕ) (candidates : List Peer) → length (picks_of big word number candidates) ≤ number
 picks-most false word number candidates = length-picked (addresses_of candidates) number word
 picks-most true word number candidates = length-ranked (map rated_of candidates) number word
 
-of-class : (big : Bool) (p : Peer) → is_of big p ≡ true → p.big ≡ big
+pub of-class : (big : Bool) (p : Peer) → is_of big p ≡ true → p.big ≡ big
 of-class true p h = h
 of-class false p h = not-true p.big h
 
@@ -139,7 +139,7 @@ chosen-class big word number test ps apart =
 -- ---- the picks of groups
 
 -- addresses that are in no group count for none
-none_in-each : (addrs : List Addr) (groups : List Group) → AllByRecursion (λ a. is_listed a (members_of groups) ≡ false) addrs →
+pub none_in-each : (addrs : List Addr) (groups : List Group) → AllByRecursion (λ a. is_listed a (members_of groups) ≡ false) addrs →
     AllByRecursion (λ group. count_by (λ a. is_listed a group.members) addrs ≡ 0) groups
 none_in-each addrs [] h = tt
 none_in-each addrs (g ∷ groups) h = (
@@ -152,7 +152,7 @@ none_in-each addrs (g ∷ groups) h = (
 )
 
 -- of all picks only a group's own are its members
-own_picks : (pick : Group → List Addr) (groups : List Group) → PicksMembers pick → AreApart (members_of groups) →
+pub own_picks : (pick : Group → List Addr) (groups : List Group) → PicksMembers pick → AreApart (members_of groups) →
     AllByRecursion (λ group. count_by (λ a. is_listed a group.members) (flat_map pick groups) ≤ length (pick group)) groups
 own_picks pick [] h apart = tt
 own_picks pick (g ∷ groups) h apart =
@@ -339,7 +339,7 @@ count_by-either {X} c s t (x ∷ xs) =
     one false j k = omega arith
 
 -- What the rules see of an address is what its connections are.
-linked : (test : Link → Bool) (addr : Addr) (es : List Entry) →
+pub linked : (test : Link → Bool) (addr : Addr) (es : List Entry) →
     some_link test (map link_of es) addr ≡ list_any (λ e. same_address e.facts.addr addr && test (link_of e)) es
 linked test addr [] = refl
 linked test addr (e ∷ es) = ap (λ b. (same_address e.facts.addr addr && test (link_of e)) || b) (linked test addr es)
@@ -364,7 +364,7 @@ promotes-number big word m =
     by_class true = refl
     by_class false = refl
 
-hot-active : (t : Temp) → same_temp t Hot ≡ is_active t
+pub hot-active : (t : Temp) → same_temp t Hot ≡ is_active t
 hot-active Cold = refl
 hot-active Warm = refl
 hot-active Hot = refl

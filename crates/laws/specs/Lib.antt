@@ -1,4 +1,5 @@
 pub mod Acts
+pub mod Admitted
 pub mod Agreed
 pub mod AtMoves
 pub mod BackOff
@@ -8,15 +9,19 @@ pub mod Ends
 pub mod Goes
 pub mod Laws
 pub mod Moments
+pub mod OpenEnds
+pub mod Ordered
 pub mod Parts
 pub mod Props
 pub mod Records
 pub mod Responders
 pub mod RootsAsked
+pub mod Sends
 pub mod Served
 pub mod Sound
 pub mod Stages
 pub mod Told
 pub mod Telling
+pub mod Untouched
 pub mod Waits
 pub mod Whole

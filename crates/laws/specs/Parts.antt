@@ -10,19 +10,24 @@ use Rattle.machine.specs.Deadlines.{deadlines}
 use Rattle.machine.specs.Effect.{Effect, Happened, for_each}
 use Rattle.machine.specs.Machine.{Machine}
 use Rattle.machine.specs.Step.{step}
+use Rattle.laws.specs.Admitted.{AdmitsRight}
 use Rattle.laws.specs.Agreed.{AgreesRight}
 use Rattle.laws.specs.BackOff.{Remembers}
 use Rattle.laws.specs.Goes.{GoesWhere}
 use Rattle.laws.specs.Responders.{RespondsRight}
 use Rattle.laws.specs.RootsAsked.{AsksRight}
+use Rattle.laws.specs.Sends.{SendsRight}
 use Rattle.laws.specs.Served.{AnswersRight}
-use Rattle.laws.specs.Acts.{Act, fires_one, does, acts, Part, effect_of, parts_of}
+use Rattle.laws.specs.Acts.{Act, fires_one, carries, does, acts, Part, effect_of, parts_of}
 use Rattle.laws.specs.AtMoves.{is_closed_by, is_negotiated_at, is_up, is_hot_or_asked, is_known, promotes, activates, is_shared_in, is_provided_by, MovesAreLawful}
 use Rattle.laws.specs.CarriedOut.{IsDoneByOrder, TreatsBook, Forgives, PausesRight, IsSet}
 use Rattle.laws.specs.Ends.{ends_due, but_pruned, pruned_in, IsPrunedIn}
 use Rattle.laws.specs.Stages.{causes_in, IsLateCause}
 use Rattle.laws.specs.Telling.{IsTold}
+use Rattle.laws.specs.OpenEnds.{OpenEndsOnce}
+use Rattle.laws.specs.Ordered.{IsDueOrder}
 use Rattle.laws.specs.Moments.{IsOverAfter}
+use Rattle.laws.specs.Untouched.{LeavesRest}
 use Rattle.laws.specs.Waits.{until_at, WaitsRight}
 use Rattle.laws.specs.Told.{ends_in}
 
@@ -36,8 +41,10 @@ pub record IsLeastDue (m : Machine) (d : Deadline) : Type 0 where
   pub waited : until_at d.kind d.cid.0 m ≡ Some d.at
   pub first : All (λ other. deadline_before other d ≡ false) (deadlines m)
 
+-- A deadline fires in its turn, and the governor orders what is due.
 abbrev pub IsNext : Act → Machine → Type 0
 IsNext (fires_one d) m = IsLeastDue m d
+IsNext (carries order) m = IsDueOrder order m
 IsNext other m = Unit {0}
 
 -- ---- whose handshake was done before it
@@ -77,7 +84,7 @@ pub record IsAccounted (event : Event) (before : Machine) (effect : Effect) : Ty
 
 pub record IsLawfulPart (event : Event) (part : Part) : Type 0 where
   pub accounted : IsAccounted event part.before (effect_of part)
-  -- a deadline fires in its turn
+  -- a deadline fires in its turn, and an order is due
   pub next : IsNext part.act part.before
   -- an order does what it says
   pub order : IsDoneByOrder part.act part.before (effect_of part)
@@ -89,16 +96,22 @@ pub record IsLawfulPart (event : Event) (part : Part) : Type 0 where
   pub pauses : PausesRight part.act part.before (effect_of part)
   -- it ends whom it must, for the cause that stands, and nobody else but by pruning
   pub ends : but_pruned (ends_in (effect_of part).moves) ≡ ends_due part.act part.before
+  -- whatever stands open stays so or ends once
+  pub opens : OpenEndsOnce part.act part.before (effect_of part)
   -- it prunes only one that may go, or that moved
   pub pruned : AllByRecursion (IsPrunedIn part.act part.before) (pruned_in (effect_of part).moves)
   -- whatever a connection comes to wait for, it does so as long as the settings say
   pub waits : WaitsRight part.before (effect_of part).machine
+  -- every connection but its own is as it was
+  pub rest : LeavesRest part.act part.before (effect_of part).machine
   -- the clock, the targets and the groups are what was set last
   pub sets : IsSet part.act part.before (effect_of part).machine
   -- what has fired is over
   pub over : IsOverAfter part.act (effect_of part).machine
   -- whom the other side closes is gone, and whose dial fails
   pub goes : GoesWhere part.act part.before (effect_of part)
+  -- who connects is let in, or turned away for the first cause that stands
+  pub admits : AdmitsRight part.act part.before (effect_of part)
   -- public roots are asked for exactly where they are wanted
   pub asks : AsksRight part.act part.before (effect_of part)
   -- what a handshake ends in is what both sides said
@@ -107,6 +120,8 @@ pub record IsLawfulPart (event : Event) (part : Part) : Type 0 where
   pub responds : RespondsRight part.act part.before (effect_of part).machine
   -- whoever asks is answered, and told of nobody but who may be told
   pub answers : AnswersRight part.act part.before (effect_of part)
+  -- what is due is sent, and nothing else
+  pub sends : SendsRight part.act part.before (effect_of part)
   -- what is remembered of a peer changes only by what happens with it
   pub remembers : Remembers part.act part.before (effect_of part).machine
 

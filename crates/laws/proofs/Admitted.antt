@@ -1,0 +1,169 @@
+-- Who connects is let in, or turned away for the first cause that stands.
+use Rattle.std.proofs.Common.{ℕ, ◌+◌, ◌<◌, ◌≡◌, Bool, true, false, ◌&&◌, ◌||◌, nat_le, nat_lt, if◌then◌else◌, List, [], ◌∷◌, ◌++◌, find, cond, Option, Some, None, All, refl, sym, ap, ◌∙◌, subst, arith, eq-eqb, eqb-true}
+use Rattle.std.specs.List.{list_any}
+use Rattle.std.proofs.lemmas.Bool.{cond_both, both_ways, and_parts, and_from, false_from_ne_true}
+use Rattle.std.proofs.lemmas.List.Elements.{All-head, All-tail, All-weaker}
+use Rattle.accept_gate.specs.Gate.{pause_of}
+use Rattle.conn_state.specs.Moves.{accepted}
+use Rattle.conn_state.specs.Use.{has_id, is_live, is_live_at, is_outbound, is_pending, opening_phase, live_phase}
+use Rattle.net_base.specs.Address.{same_address, address_below}
+use Rattle.net_base.specs.declared.action.Action.TheVariants.{Pause}
+use Rattle.net_base.specs.declared.action.Away.{Away}
+use Rattle.net_base.specs.declared.action.Away.TheVariants.{Full, OwnAddr, Crossed, Present}
+use Rattle.net_base.specs.declared.action.CloseCause.TheVariants.{Overwritten}
+use Rattle.net_base.specs.declared.address.Addr.{Addr}
+use Rattle.net_base.specs.declared.connection.Facts.{Facts}
+use Rattle.net_base.specs.declared.connection.Phase.{Phase}
+use Rattle.net_base.specs.declared.connection.Phase.TheVariants.{Dialing, Greeting, Negotiated, Closing}
+use Rattle.machine.specs.Connections.{ending}
+use Rattle.machine.specs.Effect.{Effect, then_do}
+use Rattle.machine.specs.Events.{turned_away, pause_notice, admitted, crossed, accepted_beside, peer_connects}
+use Rattle.machine.specs.Machine.{Machine, Entry, fresh_entry, counted_in, entry_at, live_entry_at}
+use Rattle.laws.specs.Acts.{Act, connects, does}
+use Rattle.laws.specs.Admitted.{admitted_in, turned_away_in, is_crossing, is_present, cause_against, IsTurnedAway, IsNew, IsLetIn, ByCause, AdmitsRight}
+use Rattle.laws.specs.AtMoves.{OnEntry}
+use Rattle.laws.specs.Sound.{HasGivenId, IsOrderly}
+use Rattle.laws.proofs.Entries.{gone-orderly}
+use Rattle.laws.proofs.Finds.{find-none_passes}
+use Rattle.laws.proofs.Lists.{OnePasses, OnePasses-none_after, OnePasses-tail, find_some}
+use Rattle.laws.proofs.Ties.{live_one, find-push_here}
+use Rattle.laws.proofs.WaitsOfParts.{Finds}
+
+-- ---- what is found is what there is
+
+passes_of : (Entry → Bool) → Option Entry → Bool
+passes_of q None = false
+passes_of q (Some e) = q e
+
+none-passes : (p q : Entry → Bool) → ((e : Entry) → q e ≡ true → p e ≡ true) → (es : List Entry) → All (λ e. p e ≡ false) es → list_any q es ≡ false
+none-passes p q only [] h = refl
+none-passes p q only (e ∷ es) h =
+    let here : q e ≡ false = false_from_ne_true (q e) (λ is. both_ways (p e) (All-head (λ x. p x ≡ false) e es h) (only e is)) in
+    rw here (none-passes p q only es (All-tail (λ x. p x ≡ false) e es h))
+
+-- where at most one passes a test, whatever passes a stricter one is it
+any-found : (p q : Entry → Bool) → ((e : Entry) → q e ≡ true → p e ≡ true) → (es : List Entry) → OnePasses p es → list_any q es ≡ passes_of q (find p es)
+unfolding passes_of
+any-found p q only [] one = refl
+any-found p q only (x ∷ es) one = by_test (p x) refl (any-found p q only es (OnePasses-tail p x es one))
+  where
+    or_none : (b : Bool) → (b || false) ≡ b
+    or_none true = refl
+    or_none false = refl
+
+    by_test : (b : Bool) → p x ≡ b → list_any q es ≡ passes_of q (find p es) → (q x || list_any q es) ≡ passes_of q (cond b (Some x) (find p es))
+    by_test true here rest = ap (λ b. q x || b) (none-passes p q only es (OnePasses-none_after p x es one here)) ∙ or_none (q x)
+    by_test false other rest =
+        ap (λ b. b || list_any q es) (false_from_ne_true (q x) (λ is. both_ways (p x) other (only x is))) ∙ rest
+
+pub pending-live : (f : Facts) → is_pending f ≡ true → is_live f ≡ true
+pending-live f pending = by_phase f.phase (and_parts (is_outbound f) (opening_phase f.phase) pending).1
+  where
+    by_phase : (p : Phase) → opening_phase p ≡ true → live_phase p ≡ true
+    by_phase Dialing opening = refl
+    by_phase (Greeting until) opening = refl
+    by_phase Negotiated opening = refl
+    by_phase (Closing until) opening = opening
+
+pending-at : (addr : Addr) (e : Entry) → (same_address e.facts.addr addr && is_pending e.facts) ≡ true → is_live_at addr e.facts ≡ true
+pending-at addr e h =
+    let parts = and_parts (same_address e.facts.addr addr) (is_pending e.facts) h in
+    and_from (same_address e.facts.addr addr) (is_live e.facts) parts.0 (pending-live e.facts parts.1)
+
+crossing-found : (addr : Addr) (m : Machine) → IsOrderly m → is_crossing addr m ≡ passes_of (λ e. same_address e.facts.addr addr && is_pending e.facts) (live_entry_at addr m)
+crossing-found addr m h =
+    any-found (λ e. is_live_at addr e.facts) (λ e. same_address e.facts.addr addr && is_pending e.facts) (pending-at addr) m.connections (live_one addr m h.addresses)
+
+present-found : (addr : Addr) (m : Machine) → IsOrderly m → is_present addr m ≡ passes_of (λ e. is_live_at addr e.facts) (live_entry_at addr m)
+present-found addr m h = any-found (λ e. is_live_at addr e.facts) (λ e. is_live_at addr e.facts) (λ e is. is) m.connections (live_one addr m h.addresses)
+
+-- ---- who is let in
+
+new-found : (m : Machine) (new : Entry) → IsOrderly m → new.facts.cid.0 ≡ m.next_id → find (λ e. has_id m.next_id e.facts) (m.connections ++ new ∷ []) ≡ Some new
+new-found m new h id =
+    find-push_here (λ e. has_id m.next_id e.facts) new m.connections
+    (find-none_passes (λ e. has_id m.next_id e.facts) m.connections
+    (All-weaker (HasGivenId m.next_id) (λ e. has_id m.next_id e.facts ≡ false) (λ e given. false_from_ne_true (has_id m.next_id e.facts) (λ is.
+    let same = eqb-true e.facts.cid.0 m.next_id is in absurd (omega (arith, same, given.1)))) m.connections h.ids_given))
+    (eq-eqb new.facts.cid.0 m.next_id id)
+
+pause-admits : (b : Bool) (length : ℕ) → admitted_in (if b then Pause length ∷ [] else []) ≡ []
+pause-admits true length = refl
+pause-admits false length = refl
+
+pause-turns : (b : Bool) (length : ℕ) → turned_away_in (if b then Pause length ∷ [] else []) ≡ []
+pause-turns true length = refl
+pause-turns false length = refl
+
+let-in : (addr : Addr) (m : Machine) → IsOrderly m → IsLetIn addr m (admitted addr m)
+let-in addr m h =
+    let new : Entry = fresh_entry (accepted m.next_id addr (m.now + m.settings.handshake)) in
+    let n : Machine = (admitted addr m).machine in
+    record {
+      told = ap (λ more. record { cid = m.next_id; addr = addr } ∷ more) (pause-admits (nat_lt n.settings.soft (counted_in n)) (pause_of n.settings (counted_in n)));
+      turned_away = pause-turns (nat_lt n.settings.soft (counted_in n)) (pause_of n.settings (counted_in n));
+      stands = subst (λ o. OnEntry o (IsNew addr)) (sym (new-found m new h refl))
+          (record { address = refl; inbound = refl; greeting = refl; agreed = refl; undecoded = refl; owed = refl });
+    }
+
+-- who is let in ends what this node has dialed
+let-in_beside : (addr : Addr) (e : Entry) (m : Machine) → IsOrderly m → IsLetIn addr m (then_do (ending Overwritten e m) (admitted addr))
+let-in_beside addr e m h =
+    let n : Machine = (ending Overwritten e m).machine in
+    let rest : IsLetIn addr n (admitted addr n) = let-in addr n (gone-orderly m e.facts.cid.0 h) in
+    record { told = rest.told; turned_away = rest.turned_away; stands = rest.stands }
+
+away : (cause : Away) (m : Machine) → IsTurnedAway cause m (turned_away cause m)
+away cause m = record { told = refl; admitted = refl; same = refl }
+
+-- ---- by the cause
+
+by_live : (addr : Addr) (m : Machine) → IsOrderly m → (o : Option Entry) → live_entry_at addr m ≡ o →
+    ByCause (if is_crossing addr m then (if address_below addr m.settings.own then None else Some Crossed) else (if is_present addr m then Some Present else None))
+    addr m (accepted_beside o addr m)
+unfolding passes_of
+by_live addr m h None is =
+    let alone : is_crossing addr m ≡ false = crossing-found addr m h ∙ ap (passes_of (λ e. same_address e.facts.addr addr && is_pending e.facts)) is in
+    let absent : is_present addr m ≡ false = present-found addr m h ∙ ap (passes_of (λ e. is_live_at addr e.facts)) is in
+    subst (λ c. ByCause (if c then (if address_below addr m.settings.own then None else Some Crossed) else (if is_present addr m then Some Present else None)) addr m (admitted addr m))
+    (sym alone)
+    (subst (λ c. ByCause (if c then Some Present else None) addr m (admitted addr m)) (sym absent) (let-in addr m h))
+by_live addr m h (Some e) is =
+    let at = find_some (λ x. is_live_at addr x.facts) m.connections e is in
+    let here = (and_parts (same_address e.facts.addr addr) (is_live e.facts) at.passes).0 in
+    let same : is_crossing addr m ≡ is_pending e.facts =
+    crossing-found addr m h ∙ (ap (passes_of (λ x. same_address x.facts.addr addr && is_pending x.facts)) is ∙ ap (λ b. b && is_pending e.facts) here) in
+    let there : is_present addr m ≡ true = present-found addr m h ∙ (ap (passes_of (λ x. is_live_at addr x.facts)) is ∙ at.passes) in
+    subst (λ c. ByCause (if c then (if address_below addr m.settings.own then None else Some Crossed) else (if is_present addr m then Some Present else None))
+    addr m (accepted_beside (Some e) addr m)) (sym same)
+    (subst (λ c. ByCause (if is_pending e.facts then (if address_below addr m.settings.own then None else Some Crossed) else (if c then Some Present else None))
+    addr m (accepted_beside (Some e) addr m)) (sym there) (by_pending (is_pending e.facts)))
+  where
+    by_below : (b : Bool) → ByCause (if b then None else Some Crossed) addr m (if b then then_do (ending Overwritten e m) (admitted addr) else turned_away Crossed m)
+    by_below true = let-in_beside addr e m h
+    by_below false = away Crossed m
+
+    by_pending : (b : Bool) → ByCause (if b then (if address_below addr m.settings.own then None else Some Crossed) else Some Present) addr m
+        (if b then crossed addr e m else turned_away Present m)
+    by_pending true = by_below (address_below addr m.settings.own)
+    by_pending false = away Present m
+
+connects-admits : (addr : Addr) (m : Machine) → IsOrderly m → ByCause (cause_against addr m) addr m (peer_connects addr m)
+connects-admits addr m h = by_own (same_address addr m.settings.own)
+  where
+    against : Option Away
+    against = if is_crossing addr m then (if address_below addr m.settings.own then None else Some Crossed) else (if is_present addr m then Some Present else None)
+
+    by_room : (b : Bool) → ByCause (if b then Some Full else against) addr m (if b then turned_away Full m else accepted_beside (live_entry_at addr m) addr m)
+    by_room true = away Full m
+    by_room false = by_live addr m h (live_entry_at addr m) refl
+
+    by_own : (b : Bool) → ByCause (if b then Some OwnAddr else (if nat_le m.settings.hard (counted_in m) then Some Full else against)) addr m
+        (if b then turned_away OwnAddr m
+        else (if nat_le m.settings.hard (counted_in m) then turned_away Full m else accepted_beside (live_entry_at addr m) addr m))
+    by_own true = away OwnAddr m
+    by_own false = by_room (nat_le m.settings.hard (counted_in m))
+
+pub admits-right : (act : Act) (m : Machine) → Finds act m → AdmitsRight act m (does act m)
+admits-right (connects addr) m found = connects-admits addr m found
+admits-right other m found = tt

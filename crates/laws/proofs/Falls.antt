@@ -1,0 +1,327 @@
+-- An order at one address lowers what is counted by one at most, and leaves other addresses as they were.
+use Rattle.std.proofs.Common.{ℕ, ◌+◌, ◌≤◌, ◌≡◌, Bool, true, false, cond, not, ◌&&◌, ◌||◌, nat_le, List, [], ◌∷◌, ◌==◌, filter, find, set, count_by, Option, Some, None, is_some, refl, sym, ap, ◌∙◌, subst, arith, eqb-true}
+use Rattle.std.specs.List.{list_any, AllByRecursion}
+use Rattle.std.specs.Option.{unwrap_or}
+use Rattle.std.proofs.lemmas.Bool.{cond_both, both_ways, and_parts}
+use Rattle.std.proofs.lemmas.List.Sums.{sum_by-cons}
+use Rattle.accept_gate.specs.Prune.{choice_of, is_candidate}
+use Rattle.conn_state.specs.Moves.{released}
+use Rattle.conn_state.specs.Use.{has_id, is_live, is_live_at, is_negotiated, is_pending}
+use Rattle.net_base.specs.Address.{same_address}
+use Rattle.net_base.specs.declared.action.CloseCause.TheVariants.{Pruned}
+use Rattle.net_base.specs.declared.address.Addr.{Addr}
+use Rattle.net_base.specs.declared.connection.Cid.{Cid}
+use Rattle.net_base.specs.declared.connection.Facts.{Facts}
+use Rattle.net_base.specs.declared.peer.Peer.{Peer}
+use Rattle.net_base.specs.declared.peer.Temp.TheVariants.{Cold, Warm}
+use Rattle.peer_book.specs.Book.{has_address, is_of, known_of, peer_at as peer_in, with_peer, without_peer}
+use Rattle.machine.specs.Connections.{with_entry, without_entry, entry_turns, is_missed, ending, candidates_in, trim, release}
+use Rattle.machine.specs.Effect.{Effect, nothing_more, then_do, on_entry, on_connection}
+use Rattle.machine.specs.Govern.{is_used_at, on_used, asks_peer, deactivates}
+use Rattle.machine.specs.Machine.{Machine, Entry, counted_in, entry_at}
+use Rattle.machine.specs.Peers.{peer_at, turns_at, peer_changes, peer_becomes}
+use Rattle.machine.specs.Replies.{owing}
+use Rattle.laws.specs.AtMoves.{some_connection}
+use Rattle.laws.specs.Sound.{IsOrderly}
+use Rattle.laws.specs.Whole.{IsShaped, ArePeersApart, IsOrdered}
+use Rattle.laws.proofs.Addresses.{same_address-true}
+use Rattle.laws.proofs.BackOff.{candidate-unmissed, turned-is}
+use Rattle.laws.proofs.CarriedOut.{changed-orderly}
+use Rattle.laws.proofs.Entries.{TurnsInto, turned-orderly}
+use Rattle.laws.proofs.Lawful.{stands-found}
+use Rattle.laws.proofs.Lists.{StandsAt, FoundIn, find_some, All-stands}
+use Rattle.laws.proofs.Orders.{says_done-machine}
+use Rattle.laws.proofs.Pruning.{chosen-goes}
+use Rattle.laws.proofs.Shapes.{local-negotiated}
+use Rattle.laws.proofs.Spending.{IsSameBut, AreSameBut, all_same, with_peer-same_but, ChangesAt, turned-same}
+use Rattle.laws.proofs.ToldMoves.{turns_at-connections}
+use Rattle.laws.proofs.Trims.{lost-connections}
+use Rattle.laws.proofs.WholeMoves.{pending-unnegotiated}
+
+-- ---- books that differ at one address, the other way
+
+same-back : (a : Addr) (p q : Peer) → IsSameBut a p q → IsSameBut a q p
+same-back a p q h = record {
+  same_addr = sym h.same_addr;
+  same_class = sym h.same_class;
+  elsewhere = λ other. sym (h.elsewhere (subst (λ x. same_address x a ≡ false) h.same_addr other));
+}
+
+all-back : (a : Addr) (ps qs : List Peer) → AreSameBut a ps qs → AreSameBut a qs ps
+unfolding AreSameBut
+all-back a [] [] h = tt
+all-back a [] (q ∷ qs) h = elim h [ ]
+all-back a (p ∷ ps) [] h = elim h [ ]
+all-back a (p ∷ ps) (q ∷ qs) h = (same-back a p q h.0, all-back a ps qs h.1)
+
+others-same : (a b : Addr) (ps qs : List Peer) → AreSameBut a ps qs → AllByRecursion (λ x. same_address x.addr b ≡ false) ps →
+    AllByRecursion (λ x. same_address x.addr b ≡ false) qs
+unfolding AreSameBut
+others-same a b [] [] h all = tt
+others-same a b [] (q ∷ qs) h all = elim h [ ]
+others-same a b (p ∷ ps) [] h all = elim h [ ]
+others-same a b (p ∷ ps) (q ∷ qs) h all = (subst (λ x. same_address x b ≡ false) (sym h.0.same_addr) all.0, others-same a b ps qs h.1 all.1)
+
+apart-same : (a : Addr) (ps qs : List Peer) → AreSameBut a ps qs → ArePeersApart ps → ArePeersApart qs
+unfolding AreSameBut
+apart-same a [] [] h apart = tt
+apart-same a [] (q ∷ qs) h apart = elim h [ ]
+apart-same a (p ∷ ps) [] h apart = elim h [ ]
+apart-same a (p ∷ ps) (q ∷ qs) h apart = (
+  subst (λ x. AllByRecursion (λ y. same_address y.addr x ≡ false) qs) (sym h.0.same_addr) (others-same a p.addr ps qs h.1 apart.0),
+  apart-same a ps qs h.1 apart.1,
+)
+
+found-same : (a b : Addr) (ps qs : List Peer) → same_address b a ≡ false → AreSameBut a ps qs → peer_in b qs ≡ peer_in b ps
+unfolding AreSameBut
+found-same a b [] [] other h = refl
+found-same a b [] (q ∷ qs) other h = elim h [ ]
+found-same a b (p ∷ ps) [] other h = elim h [ ]
+found-same a b (p ∷ ps) (q ∷ qs) other h = by_test (same_address p.addr b) refl (found-same a b ps qs other h.1)
+  where
+    by_test : (c : Bool) → same_address p.addr b ≡ c → peer_in b qs ≡ peer_in b ps →
+        cond (same_address q.addr b) (Some q) (peer_in b qs) ≡ cond c (Some p) (peer_in b ps)
+    by_test true at rest =
+        let apart : same_address p.addr a ≡ false = subst (λ x. same_address x a ≡ false) (sym (same_address-true p.addr b at)) other in
+        rw (ap (λ x. same_address x b) h.0.same_addr ∙ at) (ap Some (h.0.elsewhere apart))
+    by_test false away rest = rw (ap (λ x. same_address x b) h.0.same_addr ∙ away) rest
+
+of-same : (big : Bool) (p q : Peer) → q.big ≡ p.big → is_of big q ≡ is_of big p
+of-same true p q same = same
+of-same false p q same = ap not same
+
+known-same : (big : Bool) (a : Addr) (ps qs : List Peer) → AreSameBut a ps qs → known_of big qs ≡ known_of big ps
+unfolding AreSameBut
+known-same big a [] [] h = refl
+known-same big a [] (q ∷ qs) h = elim h [ ]
+known-same big a (p ∷ ps) [] h = elim h [ ]
+known-same big a (p ∷ ps) (q ∷ qs) h =
+    let here : cond {A = ℕ} (is_of big q) 1 0 ≡ cond {A = ℕ} (is_of big p) 1 0 = ap (λ b. cond {A = ℕ} b 1 0) (of-same big p q h.0.same_class) in
+    let rest = known-same big a ps qs h.1 in
+    let before = sum_by-cons (λ x. cond {A = ℕ} (is_of big x) 1 0) p ps in
+    let after = sum_by-cons (λ x. cond {A = ℕ} (is_of big x) 1 0) q qs in
+    omega (arith, here, rest, before, after)
+
+pub ChangesAt-back : (a : Addr) (m n : Machine) → ChangesAt a m n → ChangesAt a n m
+ChangesAt-back a m n h = record {
+  now = sym h.now;
+  targets = sym h.targets;
+  big_targets = sym h.big_targets;
+  groups = sym h.groups;
+  peers = all-back a m.peers n.peers h.peers;
+  connections = λ test b other. sym (h.connections test b other);
+}
+
+pub changes-apart : (a : Addr) (m n : Machine) → ArePeersApart m.peers → ChangesAt a m n → ArePeersApart n.peers
+changes-apart a m n apart h = apart-same a m.peers n.peers h.peers apart
+
+pub changes-found : (a b : Addr) (m n : Machine) → ChangesAt a m n → same_address b a ≡ false → peer_at b n ≡ peer_at b m
+changes-found a b m n h other = found-same a b m.peers n.peers other h.peers
+
+pub changes-known : (big : Bool) (a : Addr) (m n : Machine) → ChangesAt a m n → known_of big n.peers ≡ known_of big m.peers
+changes-known big a m n h = known-same big a m.peers n.peers h.peers
+
+-- ---- a peer is forgotten
+
+taken-none : (a : Addr) (ps : List Peer) → AllByRecursion (λ q. same_address q.addr a ≡ false) ps → without_peer a ps ≡ ps
+taken-none a [] h = refl
+taken-none a (p ∷ ps) h = rw h.0 (ap (λ qs. p ∷ qs) (taken-none a ps h.1))
+
+one-most : (b : Bool) → cond {A = ℕ} b 1 0 ≤ 1
+one-most true = omega arith
+one-most false = omega arith
+
+pub taken-count : (t : Peer → Bool) (a : Addr) (ps : List Peer) → ArePeersApart ps → count_by t ps ≤ count_by t (without_peer a ps) + 1
+taken-count t a [] apart = omega arith
+taken-count t a (p ∷ ps) apart = by_test (same_address p.addr a) refl (taken-count t a ps apart.1)
+  where
+    before : count_by t (p ∷ ps) ≡ cond {A = ℕ} (t p) 1 0 + count_by t ps
+    before = sum_by-cons (λ x. cond {A = ℕ} (t x) 1 0) p ps
+
+    by_test : (c : Bool) → same_address p.addr a ≡ c → count_by t ps ≤ count_by t (without_peer a ps) + 1 →
+        count_by t (p ∷ ps) ≤ count_by t (cond (not c) (p ∷ without_peer a ps) (without_peer a ps)) + 1
+    by_test true at rest =
+        let same : count_by t (without_peer a ps) ≡ count_by t ps =
+        ap (count_by t) (taken-none a ps (subst (λ x. AllByRecursion (λ q. same_address q.addr x ≡ false) ps) (same_address-true p.addr a at) apart.0)) in
+        omega (arith, before, same, one-most (t p))
+    by_test false away rest =
+        let after = sum_by-cons (λ x. cond {A = ℕ} (t x) 1 0) p (without_peer a ps) in
+        omega (arith, before, after, rest)
+
+-- ---- a peer changes
+
+pub changed-changes : (a : Addr) (change : Peer → Peer) (m n : Machine) → ChangesAt a m n → n.peers ≡ m.peers → ArePeersApart m.peers →
+    ((p : Peer) → (change p).addr ≡ p.addr) → ((p : Peer) → (change p).big ≡ p.big) → ChangesAt a m (peer_changes a change n).machine
+changed-changes a change m n h same apart addr class = by_peer (peer_at a n) refl
+  where
+    by_peer : (o : Option Peer) → peer_at a n ≡ o → ChangesAt a m (turns_at o change n).machine
+    by_peer None is = h
+    by_peer (Some p) is =
+        let here : (change p).addr ≡ a = addr p ∙ same_address-true p.addr a (find_some (has_address a) n.peers p is).passes in
+        record {
+          now = h.now;
+          targets = h.targets;
+          big_targets = h.big_targets;
+          groups = h.groups;
+          peers = subst (λ ps. AreSameBut a ps (with_peer (change p) n.peers)) same
+              (subst (λ x. AreSameBut x n.peers (with_peer (change p) n.peers)) here
+              (with_peer-same_but (change p) p n.peers (subst ArePeersApart (sym same) apart)
+              (subst (λ x. peer_in x n.peers ≡ Some p) (sym here) is) (class p)));
+          connections = h.connections;
+        }
+
+nothing-changes : (a : Addr) (m : Machine) → ChangesAt a m m
+nothing-changes a m = record { now = refl; targets = refl; big_targets = refl; groups = refl; peers = all_same a m.peers; connections = λ test b other. refl }
+
+-- what stands in use of an address has it
+used-here : (a : Addr) (m : Machine) (e : Entry) → find (is_used_at a) m.connections ≡ Some e → e.facts.addr ≡ a
+used-here a m e is =
+    let at : FoundIn (is_used_at a) m.connections e = find_some (is_used_at a) m.connections e is in
+    let lives = and_parts (is_live_at a e.facts) e.facts.local at.passes in
+    same_address-true e.facts.addr a (and_parts (same_address e.facts.addr a) (is_live e.facts) lives.0).0
+
+pub ask-changes : (a : Addr) (k : ℕ) (m : Machine) → IsOrdered m → ChangesAt a m (on_used a (asks_peer k) m).machine
+ask-changes a k m h = by_entry (find (is_used_at a) m.connections) refl
+  where
+    by_entry : (o : Option Entry) → find (is_used_at a) m.connections ≡ o → ChangesAt a m (on_entry o (asks_peer k) m).machine
+    by_entry None is = nothing-changes a m
+    by_entry (Some e) is =
+        let at : FoundIn (is_used_at a) m.connections e = find_some (is_used_at a) m.connections e is in
+        let new : Entry = owing 10 k m e in
+        let n : Machine = with_entry new m in
+        let turned : ChangesAt e.facts.addr m n = record {
+          now = refl;
+          targets = refl;
+          big_targets = refl;
+          groups = refl;
+          peers = all_same e.facts.addr m.peers;
+          connections = turned-same m e new at.place h at.stands (record { same_id = refl; same_addr = refl; live = λ l. l });
+        } in
+        subst (λ x. ChangesAt x m (asks_peer k e m).machine) (used-here a m e is)
+        (changed-changes e.facts.addr (λ p. record p { share_next = m.now + m.settings.sharegap }) m n turned refl h.formed.peers (λ p. refl) (λ p. refl))
+
+pub deactivate-changes : (a : Addr) (m : Machine) → IsOrdered m → ChangesAt a m (on_used a deactivates m).machine
+deactivate-changes a m h = by_entry (find (is_used_at a) m.connections) refl
+  where
+    by_entry : (o : Option Entry) → find (is_used_at a) m.connections ≡ o → ChangesAt a m (on_entry o deactivates m).machine
+    by_entry None is = nothing-changes a m
+    by_entry (Some e) is =
+        subst (λ x. ChangesAt x m (deactivates e m).machine) (used-here a m e is)
+        (changed-changes e.facts.addr (λ p. record p { temp = Warm }) m m (nothing-changes e.facts.addr m) refl h.formed.peers (λ p. refl) (λ p. refl))
+
+-- ---- a release
+
+-- a connection may go elsewhere, and no peer changes there
+pub record LeavesOthers (a : Addr) (m n : Machine) : Type 0 where
+  pub peers : AreSameBut a m.peers n.peers
+  pub connections : (test : Entry → Bool) (b : Addr) → same_address b a ≡ false → some_connection test b m ≡ false → some_connection test b n ≡ false
+
+filter-none : (p q : Entry → Bool) (es : List Entry) → list_any p es ≡ false → list_any p (filter q es) ≡ false
+filter-none p q [] none = refl
+filter-none p q (e ∷ es) none = by_test (q e) (p e) refl none (filter-none p q es)
+  where
+    by_test : (stays : Bool) (c : Bool) → p e ≡ c → (c || list_any p es) ≡ false → (list_any p es ≡ false → list_any p (filter q es) ≡ false) →
+        list_any p (cond stays (e ∷ filter q es) (filter q es)) ≡ false
+    by_test true true is none later = absurd cc
+    by_test true false is none later = rw is (later none)
+    by_test false true is none later = absurd cc
+    by_test false false is none later = later none
+
+trim-none : (test : Entry → Bool) (b : Addr) (moved : Cid) (m : Machine) → some_connection test b m ≡ false → some_connection test b (trim moved m).machine ≡ false
+trim-none test b moved m none = cond_both (nat_le (counted_in m) m.settings.hard) (nothing_more m) (on_connection goes (ending Pruned) m)
+    (λ effect. some_connection test b effect.machine ≡ false) (λ within. none) (λ above. by_entry (entry_at goes.0 m))
+  where
+    goes : Cid
+    goes = unwrap_or (choice_of (candidates_in m)) moved
+
+    passes : Entry → Bool
+    passes = λ e. same_address e.facts.addr b && test e
+
+    by_entry : (o : Option Entry) → some_connection test b (on_entry o (ending Pruned) m).machine ≡ false
+    by_entry None = none
+    by_entry (Some e) =
+        ap (list_any passes) (lost-connections e.facts (without_entry e.facts.cid.0 m))
+        ∙ filter-none passes (λ x. not (has_id e.facts.cid.0 x.facts)) m.connections none
+
+unmissed-peers : (e : Entry) (m : Machine) → is_missed e.facts ≡ false → (ending Pruned e m).machine.peers ≡ m.peers
+unmissed-peers e m unmissed = rw unmissed refl
+
+-- nobody fails where the one that moved is not missed
+trim-peers : (moved : Entry) (m : Machine) → IsOrderly m → ((e : Entry) → entry_at moved.facts.cid.0 m ≡ Some e → is_missed e.facts ≡ false) →
+    (trim moved.facts.cid m).machine.peers ≡ m.peers
+trim-peers moved m h unmissed = cond_both (nat_le (counted_in m) m.settings.hard) (nothing_more m) (on_connection goes (ending Pruned) m)
+    (λ effect. effect.machine.peers ≡ m.peers) (λ within. refl) (λ above. by_entry (entry_at goes.0 m) refl)
+  where
+    goes : Cid
+    goes = unwrap_or (choice_of (candidates_in m)) moved.facts.cid
+
+    by_entry : (o : Option Entry) → entry_at goes.0 m ≡ o → (on_entry o (ending Pruned) m).machine.peers ≡ m.peers
+    by_entry None is = refl
+    by_entry (Some e) is = by_own (e.facts.cid.0 == moved.facts.cid.0) refl (chosen-goes moved.facts.cid m h e is)
+      where
+        found : (e.facts.cid.0 == moved.facts.cid.0) ≡ true → entry_at moved.facts.cid.0 m ≡ Some e
+        found own =
+            let at : FoundIn (λ x. has_id goes.0 x.facts) m.connections e = find_some (λ x. has_id goes.0 x.facts) m.connections e is in
+            subst (λ c. entry_at c m ≡ Some e) (eqb-true e.facts.cid.0 moved.facts.cid.0 own) (stands-found m e at.place h at.stands)
+
+        by_own : (b : Bool) → (e.facts.cid.0 == moved.facts.cid.0) ≡ b → (b || is_candidate e.facts) ≡ true → (ending Pruned e m).machine.peers ≡ m.peers
+        by_own true own may = unmissed-peers e m (unmissed e (found own))
+        by_own false own may = unmissed-peers e m (candidate-unmissed e.facts may)
+
+idle-unmissed : (f : Facts) → is_negotiated f ≡ true → is_pending f ≡ false
+idle-unmissed f open_ = by_pending (is_pending f) refl
+  where
+    by_pending : (b : Bool) → is_pending f ≡ b → b ≡ false
+    by_pending true is = absurd (both_ways (is_negotiated f) (pending-unnegotiated f is) open_)
+    by_pending false is = refl
+
+releasing-leaves : (m : Machine) (e : Entry) (k : ℕ) → IsOrdered m → StandsAt m.connections k e → e.facts.local ≡ true →
+    LeavesOthers e.facts.addr m (then_do (entry_turns e (record e { facts = released (m.now + m.settings.idle) e.facts }) m)
+    (λ x. then_do (peer_becomes Cold e.facts.addr x) (trim e.facts.cid))).machine
+releasing-leaves m e k h s local =
+    let new : Entry = record e { facts = released (m.now + m.settings.idle) e.facts } in
+    let cold : Peer → Peer = λ p. record p { temp = Cold } in
+    let n : Machine = with_entry new m in
+    let o : Machine = (peer_becomes Cold e.facts.addr n).machine in
+    let turns : TurnsInto e new = record { same_id = refl; same_addr = refl; live = λ l. l } in
+    let shape : IsShaped e.facts = All-stands (λ x. IsShaped x.facts) m.connections k e s h.formed.shaped in
+    let unpending : is_missed new.facts ≡ false = idle-unmissed new.facts (local-negotiated e.facts shape local) in
+    let list : o.connections ≡ n.connections = turns_at-connections (peer_at e.facts.addr n) cold n in
+    let turned : ChangesAt e.facts.addr m n = record {
+      now = refl;
+      targets = refl;
+      big_targets = refl;
+      groups = refl;
+      peers = all_same e.facts.addr m.peers;
+      connections = turned-same m e new k h s turns;
+    } in
+    let changed : ChangesAt e.facts.addr m o = changed-changes e.facts.addr cold m n turned refl h.formed.peers (λ p. refl) (λ p. refl) in
+    record {
+      peers = subst (AreSameBut e.facts.addr m.peers)
+          (sym (trim-peers new o (changed-orderly (peer_at e.facts.addr n) cold n (turned-orderly m e new k h.orderly s turns))
+          (λ f found. turned-is e new m refl (λ x. is_missed x.facts ≡ false) unpending f
+          (sym (ap (find (λ x. has_id e.facts.cid.0 x.facts)) list) ∙ found)))) changed.peers;
+      connections = λ test b other none. trim-none test b e.facts.cid o (changed.connections test b other ∙ none);
+    }
+
+pub release-leaves : (a : Addr) (m : Machine) → IsOrdered m → LeavesOthers a m (on_used a release m).machine
+release-leaves a m h = by_entry (find (is_used_at a) m.connections) refl
+  where
+    by_entry : (o : Option Entry) → find (is_used_at a) m.connections ≡ o → LeavesOthers a m (on_entry o release m).machine
+    by_entry None is = record { peers = all_same a m.peers; connections = λ test b other none. none }
+    by_entry (Some e) is =
+        let at : FoundIn (is_used_at a) m.connections e = find_some (is_used_at a) m.connections e is in
+        let local : e.facts.local ≡ true = (and_parts (is_live_at a e.facts) e.facts.local at.passes).1 in
+        subst (λ x. LeavesOthers x m (release e m).machine) (used-here a m e is)
+        (subst (λ w. LeavesOthers e.facts.addr m (then_do (entry_turns e (record e { facts = released (w.now + w.settings.idle) e.facts }) w)
+        (λ x. then_do (peer_becomes Cold e.facts.addr x) (trim e.facts.cid))).machine) (sym (says_done-machine e.facts m))
+        (releasing-leaves m e at.place h at.stands local))
+
+pub leaves-found : (a b : Addr) (m n : Machine) → LeavesOthers a m n → same_address b a ≡ false → peer_at b n ≡ peer_at b m
+leaves-found a b m n h other = found-same a b m.peers n.peers other h.peers
+
+pub leaves-apart : (a : Addr) (m n : Machine) → ArePeersApart m.peers → LeavesOthers a m n → ArePeersApart n.peers
+leaves-apart a m n apart h = apart-same a m.peers n.peers h.peers apart
+
+pub leaves-back : (a : Addr) (m n : Machine) → LeavesOthers a m n → AreSameBut a n.peers m.peers
+leaves-back a m n h = all-back a m.peers n.peers h.peers

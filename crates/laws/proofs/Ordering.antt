@@ -1,0 +1,828 @@
+-- Each order of the governor is due: whom a rule picks is one that it may be for, and it picks as many as are too few or too many.
+use Rattle.std.proofs.Common.{ℕ, ◌+◌, ◌-◌, ◌≤◌, ◌<◌, ◌≡◌, Bool, true, false, cond, not, ◌&&◌, ◌||◌, nat_le, nat_lt, min, if◌then◌else◌, List, [], ◌∷◌, ◌++◌, length, map, filter, flat_map, count_by, Option, Some, None, refl, sym, ap, ◌∙◌, subst, arith, leb-true}
+use Rattle.std.specs.List.{list_any, AllByRecursion}
+use Rattle.std.proofs.lemmas.Bool.{both_ways, and_parts, or_parts, not-true, false≢true}
+use Rattle.std.proofs.lemmas.List.Elements.{All-from_recursion}
+use Rattle.std.proofs.lemmas.List.Sums.{sum_by-cons, sum_by-append, count_by-le-length}
+use Rattle.net_base.specs.Address.{same_address}
+use Rattle.net_base.specs.declared.address.Addr.{Addr}
+use Rattle.net_base.specs.declared.event.Group.{Group}
+use Rattle.net_base.specs.declared.peer.Peer.{Peer}
+use Rattle.net_base.specs.declared.peer.Temp.{Temp}
+use Rattle.net_base.specs.declared.peer.Temp.TheVariants.{Cold, Warm, Hot}
+use Rattle.churn_clock.specs.Windows.{effective_of, effective_big_of}
+use Rattle.conn_state.specs.Use.{is_acquirable, is_pending}
+use Rattle.govern_rules.specs.BigRules.{everybody, big_orders}
+use Rattle.govern_rules.specs.Candidates.{may_be_asked, is_eligible, may_be_forgotten, may_be_released, may_be_activated, may_be_deactivated}
+use Rattle.govern_rules.specs.ClassRules.{count_of}
+use Rattle.govern_rules.specs.Links.{some_link, is_linked, is_pending as is_pending_link, is_acquirable as is_acquirable_link, owes_on_2, owes_on_10, owes_a_reply, can_share}
+use Rattle.govern_rules.specs.Orders.{orders_for}
+use Rattle.govern_rules.specs.Rules.{is_not_local, may_be_dropped, is_member_and, members_count, missing_of, g2_orders, g3_orders, g4_orders, g5_orders, g6_orders, g7_orders, g8_orders, g9_orders}
+use Rattle.govern_rules.specs.declared.big_rule.BigRule.TheVariants.{B3, B5, B6, B8, B9}
+use Rattle.govern_rules.specs.declared.link.Link.{Link}
+use Rattle.govern_rules.specs.declared.order.Order.{Order}
+use Rattle.govern_rules.specs.declared.order.Order.TheVariants.{Ask, Forget, Promote, Release, Activate, Deactivate}
+use Rattle.peer_book.specs.Book.{is_of, is_established, is_active, same_temp, known_of, established_of, active_of}
+use Rattle.pick_policy.proofs.LeastLaws.{count_none}
+use Rattle.root_groups.specs.Cleaned.{is_listed, members_of}
+use Rattle.machine.specs.Effect.{for_each}
+use Rattle.machine.specs.Govern.{link_of, view_of, carries_out, ordinary_rules, big_rules}
+use Rattle.machine.specs.Machine.{Machine, Entry}
+use Rattle.machine.specs.Peers.{peer_at}
+use Rattle.laws.specs.Acts.{carries}
+use Rattle.laws.specs.AtMoves.{some_connection, number_with, members_with, known_wanted, established_wanted, active_wanted}
+use Rattle.laws.specs.CarriedOut.{IsUnset}
+use Rattle.laws.specs.Laws.{is_local}
+use Rattle.laws.specs.Ordered.{is_any, is_to_answer, is_to_tell, is_awaited, can_tell, tells_soon, is_hot, MayBeForgotten, MayBeReleased, MayBeDeactivated, MayBePromoted, MayBeActivated, MayBeAsked, IsOne, IsDueOrder}
+use Rattle.laws.specs.Whole.{ArePeersApart, AreApart, IsOrdered}
+use Rattle.laws.proofs.Chosen.{chosen, chosen-apart, PicksMembers, picks-listed, groups_picks-apart, groups_picks-all, map-groups}
+use Rattle.laws.proofs.Addresses.{same_address-true}
+use Rattle.laws.proofs.Falls.{ChangesAt-back, changes-apart, changes-found, changes-known, taken-count, ask-changes, deactivate-changes, LeavesOthers, release-leaves, leaves-found, leaves-apart, leaves-back}
+use Rattle.laws.proofs.GroupsApart.{append-apart}
+use Rattle.laws.proofs.Lists.{all-weaker, all-both, all-appended}
+use Rattle.laws.proofs.Locals.{not_local-no_member}
+use Rattle.laws.proofs.Orders.{EachAccounted, still_may}
+use Rattle.laws.proofs.PeersApart.{all-found}
+use Rattle.laws.proofs.Picks.{filter-all, filter-passing, picks-all}
+use Rattle.laws.proofs.Spending.{ChangesAt, IsLocalTest, counted-one, number-one, members-one, members-none, promote-changes, activate-changes}
+use Rattle.laws.proofs.Ties.{taken-elsewhere}
+use Rattle.laws.proofs.ToldMoves.{is_temp}
+use Rattle.laws.proofs.Wanted.{linked, of-class, picks-most, own_picks, none_in-each, hot-active}
+use Rattle.laws.proofs.WaitsOfParts.{is-set}
+
+-- ---- one order after the other
+
+pub EachDue : List Order → Machine → Type 0
+EachDue [] m = Unit {0}
+EachDue (order ∷ orders) m = IsDueOrder order m × EachDue orders (carries_out order m).machine
+
+-- whom an order may be for, and what is left for the orders that are still to come
+record Spends (May : Machine → Addr → Type 0) (Left : List Addr → Machine → Type 0) (order : Addr → Order) : Type 0 where
+  due : (a : Addr) (addrs : List Addr) (m : Machine) → May m a → Left (a ∷ addrs) m → IsDueOrder (order a) m
+  others : (a b : Addr) (m : Machine) → IsOrdered m → May m a → same_address b a ≡ false → May m b → May (carries_out (order a) m).machine b
+  left : (a : Addr) (addrs : List Addr) (m : Machine) → IsOrdered m → May m a → Left (a ∷ addrs) m → Left addrs (carries_out (order a) m).machine
+
+each-due : (May : Machine → Addr → Type 0) (Left : List Addr → Machine → Type 0) (order : Addr → Order) → Spends May Left order → (addrs : List Addr) (m : Machine) →
+    EachAccounted (map order addrs) m → AreApart addrs → AllByRecursion (May m) addrs → Left addrs m → EachDue (map order addrs) m
+unfolding EachDue
+each-due May Left order s [] m h apart may left = tt
+each-due May Left order s (a ∷ addrs) m h apart may left =
+    let n : Machine = (carries_out (order a) m).machine in
+    let ordered : IsOrdered m = h.0.ordered in (
+      s.due a addrs m may.0 left,
+      each-due May Left order s addrs n h.1 apart.1
+          (still_may May m n a addrs (λ b other here. s.others a b m ordered may.0 other here) apart.0 may.1) (s.left a addrs m ordered may.0 left),
+    )
+
+-- ---- what no order sets
+
+unset-by : (order : Order) (m : Machine) → IsOrdered m → IsUnset m (carries_out order m).machine
+unset-by order m h = is-set (carries order) m h
+
+known-stays : (big : Bool) (m n : Machine) → IsUnset m n → known_wanted big n ≡ known_wanted big m
+known-stays false m n u = λ i. (effective_of (u.targets i) (u.now i)).known
+known-stays true m n u = λ i. (effective_big_of (u.big_targets i) (u.now i)).known
+
+established-stays : (big : Bool) (m n : Machine) → IsUnset m n → established_wanted big n ≡ established_wanted big m
+established-stays false m n u = λ i. (effective_of (u.targets i) (u.now i)).established
+established-stays true m n u = λ i. (effective_big_of (u.big_targets i) (u.now i)).established
+
+active-stays : (big : Bool) (m n : Machine) → IsUnset m n → active_wanted big n ≡ active_wanted big m
+active-stays false m n u = λ i. (effective_of (u.targets i) (u.now i)).active
+active-stays true m n u = λ i. (effective_big_of (u.big_targets i) (u.now i)).active
+
+-- ---- a peer is forgotten
+
+record Forgettable (big : Bool) (m : Machine) (a : Addr) : Type 0 where
+  peer : IsOne (peer_at a m) (λ p. (p.big ≡ big) × (p.temp ≡ Cold))
+  idle : some_connection (λ e. is_pending e.facts) a m ≡ false
+  spared : (big || not (is_local m.groups a || is_listed a m.roots.publics)) ≡ true
+
+abbrev ForgetsLeft : Bool → List Addr → Machine → Type 0
+ForgetsLeft big addrs m = length addrs ≤ known_of big m.peers - known_wanted big m
+
+forget-due : (big : Bool) (a : Addr) (addrs : List Addr) (m : Machine) → Forgettable big m a → ForgetsLeft big (a ∷ addrs) m → IsDueOrder (Forget a) m
+forget-due big a addrs m may left = by_peer (peer_at a m) may.peer
+  where
+    by_peer : (o : Option Peer) → IsOne o (λ p. (p.big ≡ big) × (p.temp ≡ Cold)) → IsOne o (λ p. MayBeForgotten a p m)
+    by_peer None is = is
+    by_peer (Some p) is = record {
+      cold = is.1;
+      idle = may.idle;
+      spared = subst (λ b. (b || not (is_local m.groups a || is_listed a m.roots.publics)) ≡ true) (sym is.0) may.spared;
+      surplus = subst (λ b. known_wanted b m < known_of b m.peers) (sym is.0) (omega (arith, left));
+    }
+
+forget-left : (big : Bool) (a : Addr) (addrs : List Addr) (m : Machine) → IsOrdered m → ForgetsLeft big (a ∷ addrs) m → ForgetsLeft big addrs (carries_out (Forget a) m).machine
+forget-left big a addrs m h left =
+    let n : Machine = (carries_out (Forget a) m).machine in
+    let falls : known_of big m.peers ≤ known_of big n.peers + 1 = taken-count (is_of big) a m.peers h.formed.peers in
+    let same = known-stays big m n (unset-by (Forget a) m h) in
+    omega (arith, falls, same, left)
+
+forgets-spend : (big : Bool) → Spends (Forgettable big) (ForgetsLeft big) Forget
+forgets-spend big = record {
+  due = forget-due big;
+  others = λ a b m h may other here. record {
+    peer = subst (λ o. IsOne o (λ p. (p.big ≡ big) × (p.temp ≡ Cold))) (sym (taken-elsewhere a b m.peers other)) here.peer;
+    idle = here.idle;
+    spared = here.spared;
+  };
+  left = λ a addrs m h may left. forget-left big a addrs m h left;
+}
+
+-- ---- a peer is released
+
+record Releasable (big : Bool) (m : Machine) (a : Addr) : Type 0 where
+  peer : IsOne (peer_at a m) (λ p. (p.big ≡ big) × (p.temp ≡ Warm))
+  settled : some_connection is_awaited a m ≡ false
+  spared : (big || not (is_local m.groups a)) ≡ true
+
+abbrev ReleasesLeft : Bool → List Addr → Machine → Type 0
+ReleasesLeft big addrs m = length addrs ≤ established_of big m.peers - established_wanted big m
+
+release-due : (big : Bool) (a : Addr) (addrs : List Addr) (m : Machine) → Releasable big m a → ReleasesLeft big (a ∷ addrs) m → IsDueOrder (Release a) m
+release-due big a addrs m may left = by_peer (peer_at a m) may.peer
+  where
+    by_peer : (o : Option Peer) → IsOne o (λ p. (p.big ≡ big) × (p.temp ≡ Warm)) → IsOne o (λ p. MayBeReleased a p m)
+    by_peer None is = is
+    by_peer (Some p) is = record {
+      warm = is.1;
+      settled = may.settled;
+      spared = subst (λ b. (b || not (is_local m.groups a)) ≡ true) (sym is.0) may.spared;
+      surplus = subst (λ b. established_wanted b m < established_of b m.peers) (sym is.0) (omega (arith, left));
+    }
+
+release-others : (big : Bool) (a b : Addr) (m : Machine) → IsOrdered m → same_address b a ≡ false → Releasable big m b → Releasable big (carries_out (Release a) m).machine b
+release-others big a b m h other here =
+    let n : Machine = (carries_out (Release a) m).machine in
+    let leaves : LeavesOthers a m n = release-leaves a m h in
+    let unset : IsUnset m n = unset-by (Release a) m h in
+    record {
+      peer = subst (λ o. IsOne o (λ p. (p.big ≡ big) × (p.temp ≡ Warm))) (sym (leaves-found a b m n leaves other)) here.peer;
+      settled = leaves.connections is_awaited b other here.settled;
+      spared = subst (λ groups. (big || not (is_local groups b)) ≡ true) (sym unset.groups) here.spared;
+    }
+
+release-left : (big : Bool) (a : Addr) (addrs : List Addr) (m : Machine) → IsOrdered m → ReleasesLeft big (a ∷ addrs) m → ReleasesLeft big addrs (carries_out (Release a) m).machine
+release-left big a addrs m h left =
+    let n : Machine = (carries_out (Release a) m).machine in
+    let leaves : LeavesOthers a m n = release-leaves a m h in
+    let same = established-stays big m n (unset-by (Release a) m h) in
+    let falls : established_of big m.peers ≤ established_of big n.peers + 1 =
+    counted-one a (λ p. is_of big p && is_established p.temp) (λ p. is_of big p && is_established p.temp) n.peers m.peers
+    (leaves-apart a m n h.formed.peers leaves) (leaves-back a m n leaves) (λ p other. refl) in
+    omega (arith, falls, same, left)
+
+releases-spend : (big : Bool) → Spends (Releasable big) (ReleasesLeft big) Release
+releases-spend big = record {
+  due = release-due big;
+  others = λ a b m h may other here. release-others big a b m h other here;
+  left = λ a addrs m h may left. release-left big a addrs m h left;
+}
+
+-- ---- a peer is asked for addresses
+
+tells-local : IsLocalTest tells_soon
+tells-local addr m n h p other = h.connections is_to_tell p.addr other
+
+record Askable (m : Machine) (a : Addr) : Type 0 where
+  peer : IsOne (peer_at a m) (λ p. (p.big ≡ false) × (is_established p.temp ≡ true) × (p.share_next ≤ m.now))
+  shares : some_connection can_tell a m ≡ true
+
+record AsksLeft (k : ℕ) (addrs : List Addr) (m : Machine) : Type 0 where
+  few : length addrs ≤ m.settings.shares - number_with tells_soon false m
+  missing : 1 ≤ length addrs → known_of false m.peers < known_wanted false m
+  number : k ≡ min (known_wanted false m - known_of false m.peers) 10
+
+ask-due : (k : ℕ) (a : Addr) (addrs : List Addr) (m : Machine) → Askable m a → AsksLeft k (a ∷ addrs) m → IsDueOrder (Ask a k) m
+ask-due k a addrs m may left = by_peer (peer_at a m) may.peer
+  where
+    by_peer : (o : Option Peer) → IsOne o (λ p. (p.big ≡ false) × (is_established p.temp ≡ true) × (p.share_next ≤ m.now)) → IsOne o (λ p. MayBeAsked a k p m)
+    by_peer None is = is
+    by_peer (Some p) is = record {
+      ordinary = is.0;
+      established = is.1;
+      shares = may.shares;
+      again = is.2;
+      missing = left.missing (omega arith);
+      number = left.number;
+      few = let few = left.few in omega (arith, few);
+    }
+
+asks-spend : (k : ℕ) → Spends Askable (AsksLeft k) (λ a. Ask a k)
+asks-spend k = record {
+  due = ask-due k;
+  others = λ a b m h may other here. others a b m h other here;
+  left = λ a addrs m h may left. after a addrs m h left;
+}
+  where
+    others : (a b : Addr) (m : Machine) → IsOrdered m → same_address b a ≡ false → Askable m b → Askable (carries_out (Ask a k) m).machine b
+    others a b m h other here =
+        let n : Machine = (carries_out (Ask a k) m).machine in
+        let changes : ChangesAt a m n = ask-changes a k m h in
+        record {
+          peer = subst (λ now. IsOne (peer_at b n) (λ p. (p.big ≡ false) × (is_established p.temp ≡ true) × (p.share_next ≤ now))) (sym changes.now)
+              (subst (λ o. IsOne o (λ p. (p.big ≡ false) × (is_established p.temp ≡ true) × (p.share_next ≤ m.now))) (sym (changes-found a b m n changes other)) here.peer);
+          shares = changes.connections can_tell b other ∙ here.shares;
+        }
+
+    after : (a : Addr) (addrs : List Addr) (m : Machine) → IsOrdered m → AsksLeft k (a ∷ addrs) m → AsksLeft k addrs (carries_out (Ask a k) m).machine
+    after a addrs m h left =
+        let n : Machine = (carries_out (Ask a k) m).machine in
+        let changes : ChangesAt a m n = ask-changes a k m h in
+        let unset : IsUnset m n = unset-by (Ask a k) m h in
+        let wanted : known_wanted false n ≡ known_wanted false m = known-stays false m n unset in
+        let known : known_of false n.peers ≡ known_of false m.peers = changes-known false a m n changes in
+        let more = number-one tells_soon tells-local false a m n h.formed.peers changes in
+        let shares : n.settings.shares ≡ m.settings.shares = ap (λ s. s.shares) unset.settings in
+        let few = left.few in
+        record {
+          few = omega (arith, more, shares, few);
+          missing = λ some. let short = left.missing (omega arith) in omega (arith, wanted, known, short);
+          number = left.number ∙ sym (λ i. min (wanted i - known i) 10);
+        }
+
+-- ---- a peer is promoted
+
+record Promotable (m : Machine) (a : Addr) : Type 0 where
+  peer : IsOne (peer_at a m) (λ p. p.temp ≡ Cold)
+  idle : some_connection (λ e. is_pending e.facts) a m ≡ false
+  free : (not (some_connection is_any a m) || some_connection (λ e. is_acquirable e.facts) a m) ≡ true
+
+-- how many is a matter of the moves
+abbrev Enough : List Addr → Machine → Type 0
+Enough addrs m = Unit {0}
+
+promote-due : (a : Addr) (m : Machine) → Promotable m a → IsDueOrder (Promote a) m
+promote-due a m may = by_peer (peer_at a m) may.peer
+  where
+    by_peer : (o : Option Peer) → IsOne o (λ p. p.temp ≡ Cold) → IsOne o (λ p. MayBePromoted a p m)
+    by_peer None is = is
+    by_peer (Some p) is = record { cold = is; idle = may.idle; free = may.free }
+
+promote-others : (a b : Addr) (m : Machine) → IsOrdered m → same_address b a ≡ false → Promotable m b → Promotable (carries_out (Promote a) m).machine b
+promote-others a b m h other here =
+    let n : Machine = (carries_out (Promote a) m).machine in
+    let changes : ChangesAt a m n = promote-changes a m h in
+    record {
+      peer = subst (λ o. IsOne o (λ p. p.temp ≡ Cold)) (sym (changes-found a b m n changes other)) here.peer;
+      idle = changes.connections (λ e. is_pending e.facts) b other ∙ here.idle;
+      free = (λ i. not (changes.connections is_any b other i) || changes.connections (λ e. is_acquirable e.facts) b other i) ∙ here.free;
+    }
+
+promotes-spend : Spends Promotable Enough Promote
+promotes-spend = record {
+  due = λ a addrs m may left. promote-due a m may;
+  others = λ a b m h may other here. promote-others a b m h other here;
+  left = λ a addrs m h may left. tt;
+}
+
+-- ---- a peer is activated
+
+record Activatable (m : Machine) (a : Addr) : Type 0 where
+  peer : IsOne (peer_at a m) (λ p. p.temp ≡ Warm)
+  unasked : some_connection is_to_answer a m ≡ false
+
+activate-due : (a : Addr) (m : Machine) → Activatable m a → IsDueOrder (Activate a) m
+activate-due a m may = by_peer (peer_at a m) may.peer
+  where
+    by_peer : (o : Option Peer) → IsOne o (λ p. p.temp ≡ Warm) → IsOne o (λ p. MayBeActivated a p m)
+    by_peer None is = is
+    by_peer (Some p) is = record { warm = is; unasked = may.unasked }
+
+activate-others : (a b : Addr) (m : Machine) → IsOrdered m → same_address b a ≡ false → Activatable m b → Activatable (carries_out (Activate a) m).machine b
+activate-others a b m h other here =
+    let n : Machine = (carries_out (Activate a) m).machine in
+    let changes : ChangesAt a m n = activate-changes a m h in
+    record {
+      peer = subst (λ o. IsOne o (λ p. p.temp ≡ Warm)) (sym (changes-found a b m n changes other)) here.peer;
+      unasked = changes.connections is_to_answer b other ∙ here.unasked;
+    }
+
+activates-spend : Spends Activatable Enough Activate
+activates-spend = record {
+  due = λ a addrs m may left. activate-due a m may;
+  others = λ a b m h may other here. activate-others a b m h other here;
+  left = λ a addrs m h may left. tt;
+}
+
+-- ---- a peer is deactivated
+
+hot-local : IsLocalTest is_hot
+hot-local addr m n h p other = refl
+
+record Deactivatable (big : Bool) (m : Machine) (a : Addr) : Type 0 where
+  peer : IsOne (peer_at a m) (λ p. (p.big ≡ big) × (p.temp ≡ Hot))
+
+deactivate-others : (big : Bool) (a b : Addr) (m : Machine) → IsOrdered m → same_address b a ≡ false → Deactivatable big m b →
+    Deactivatable big (carries_out (Deactivate a) m).machine b
+deactivate-others big a b m h other here =
+    let n : Machine = (carries_out (Deactivate a) m).machine in
+    record { peer = subst (λ o. IsOne o (λ p. (p.big ≡ big) × (p.temp ≡ Hot))) (sym (changes-found a b m n (deactivate-changes a m h) other)) here.peer }
+
+-- one less of a class at most
+hot-falls : (big : Bool) (a : Addr) (m : Machine) → IsOrdered m → active_of big m.peers ≤ active_of big (carries_out (Deactivate a) m).machine.peers + 1
+hot-falls big a m h =
+    let n : Machine = (carries_out (Deactivate a) m).machine in
+    let changes : ChangesAt a m n = deactivate-changes a m h in
+    number-one is_hot hot-local big a n m (changes-apart a m n h.formed.peers changes) (ChangesAt-back a m n changes)
+
+-- of big ledger peers, of which none is in a group
+abbrev BigHotLeft : List Addr → Machine → Type 0
+BigHotLeft addrs m = length addrs ≤ active_of true m.peers - active_wanted true m
+
+big_hot-spend : Spends (Deactivatable true) BigHotLeft Deactivate
+big_hot-spend = record {
+  due = λ a addrs m may left. due a addrs m may left;
+  others = λ a b m h may other here. deactivate-others true a b m h other here;
+  left = λ a addrs m h may left.
+      let falls = hot-falls true a m h in
+      let same = active-stays true m (carries_out (Deactivate a) m).machine (unset-by (Deactivate a) m h) in
+      let number = left in
+      omega (arith, falls, same, number);
+}
+  where
+    due : (a : Addr) (addrs : List Addr) (m : Machine) → Deactivatable true m a → BigHotLeft (a ∷ addrs) m → IsDueOrder (Deactivate a) m
+    due a addrs m may left = by_peer (peer_at a m) may.peer
+      where
+        by_peer : (o : Option Peer) → IsOne o (λ p. (p.big ≡ true) × (p.temp ≡ Hot)) → IsOne o (λ p. MayBeDeactivated a p m)
+        by_peer None is = is
+        by_peer (Some p) is = record {
+          hot = is.1;
+          by_target = λ either. subst (λ b. active_wanted b m < active_of b m.peers) (sym is.0) (omega (arith, left));
+          by_valency = λ ordinary. absurd (both_ways p.big ordinary is.0);
+        }
+
+-- ---- of ordinary peers: by the target first, and then by the valencies
+
+abbrev is_free_of : Machine → Addr → Bool
+is_free_of m a = not (is_local m.groups a)
+
+-- behind a local peer no other one comes
+TargetFirst : Machine → List Addr → Type 0
+TargetFirst m [] = Unit {0}
+TargetFirst m (a ∷ addrs) = (is_local m.groups a ≡ true → count_by (is_free_of m) addrs ≡ 0) × TargetFirst m addrs
+
+abbrev HasHotLeft : List Addr → Machine → Group → Type 0
+HasHotLeft addrs m group = count_by (λ a. is_listed a group.members) addrs ≤ members_with is_hot group m - group.hot
+
+record HotLeft (addrs : List Addr) (m : Machine) : Type 0 where
+  first : TargetFirst m addrs
+  by_target : count_by (is_free_of m) addrs ≤ active_of false m.peers - active_wanted false m
+  by_valency : AllByRecursion (HasHotLeft addrs m) m.groups
+
+one-of : (b : Bool) → b ≡ true → cond {A = ℕ} b 1 0 ≡ 1
+one-of b is = ap (λ c. cond {A = ℕ} c 1 0) is
+
+hot-due : (a : Addr) (addrs : List Addr) (m : Machine) → Deactivatable false m a → HotLeft (a ∷ addrs) m → IsDueOrder (Deactivate a) m
+hot-due a addrs m may left = by_peer (peer_at a m) may.peer
+  where
+    Above : Group → Type 0
+    Above group = is_listed a group.members ≡ true → group.hot < members_with is_hot group m
+
+    above : (group : Group) → HasHotLeft (a ∷ addrs) m group → Above group
+    above group number listed =
+        let first = sum_by-cons (λ b. cond {A = ℕ} (is_listed b group.members) 1 0) a addrs in
+        omega (arith, number, first, one-of (is_listed a group.members) listed)
+
+    free : not (is_local m.groups a) ≡ true → active_wanted false m < active_of false m.peers
+    free other =
+        let first = sum_by-cons (λ b. cond {A = ℕ} (is_free_of m b) 1 0) a addrs in
+        let number = left.by_target in
+        omega (arith, number, first, one-of (is_free_of m a) other)
+
+    by_peer : (o : Option Peer) → IsOne o (λ p. (p.big ≡ false) × (p.temp ≡ Hot)) → IsOne o (λ p. MayBeDeactivated a p m)
+    by_peer None is = is
+    by_peer (Some p) is = record {
+      hot = is.1;
+      by_target = λ either.
+          subst (λ b. active_wanted b m < active_of b m.peers) (sym is.0) (free (subst (λ b. (b || not (is_local m.groups a)) ≡ true) is.0 either));
+      by_valency = λ ordinary. All-from_recursion Above m.groups (all-weaker (HasHotLeft (a ∷ addrs) m) Above above m.groups left.by_valency);
+    }
+
+first-still : (m n : Machine) → n.groups ≡ m.groups → (addrs : List Addr) → TargetFirst m addrs → TargetFirst n addrs
+unfolding TargetFirst
+first-still m n same [] h = tt
+first-still m n same (a ∷ addrs) h = (
+  subst (λ groups. is_local groups a ≡ true → count_by (λ b. not (is_local groups b)) addrs ≡ 0) (sym same) h.0,
+  first-still m n same addrs h.1,
+)
+
+first-behind : (m : Machine) (a : Addr) (addrs : List Addr) → TargetFirst m (a ∷ addrs) → TargetFirst m addrs
+unfolding TargetFirst
+first-behind m a addrs h = h.1
+
+first-here : (m : Machine) (a : Addr) (addrs : List Addr) → TargetFirst m (a ∷ addrs) → is_local m.groups a ≡ true → count_by (is_free_of m) addrs ≡ 0
+unfolding TargetFirst
+first-here m a addrs h = h.0
+
+hot-left : (a : Addr) (addrs : List Addr) (m : Machine) → IsOrdered m → HotLeft (a ∷ addrs) m → HotLeft addrs (carries_out (Deactivate a) m).machine
+hot-left a addrs m h left = record {
+  first = first-still m n unset.groups addrs (first-behind m a addrs left.first);
+  by_target = by_local (is_local m.groups a) refl;
+  by_valency = subst (AllByRecursion (HasHotLeft addrs n)) (sym unset.groups)
+      (all-weaker (HasHotLeft (a ∷ addrs) m) (HasHotLeft addrs n) (λ group number. still group number (is_listed a group.members) refl) m.groups left.by_valency);
+}
+  where
+    n : Machine
+    n = (carries_out (Deactivate a) m).machine
+
+    changes : ChangesAt a m n
+    changes = deactivate-changes a m h
+
+    back : ChangesAt a n m
+    back = ChangesAt-back a m n changes
+
+    apart : ArePeersApart n.peers
+    apart = changes-apart a m n h.formed.peers changes
+
+    unset : IsUnset m n
+    unset = unset-by (Deactivate a) m h
+
+    alike : count_by (is_free_of n) addrs ≡ count_by (is_free_of m) addrs
+    alike = ap (λ groups. count_by (λ b. not (is_local groups b)) addrs) unset.groups
+
+    wanted : active_wanted false n ≡ active_wanted false m
+    wanted = active-stays false m n unset
+
+    by_local : (c : Bool) → is_local m.groups a ≡ c → count_by (is_free_of n) addrs ≤ active_of false n.peers - active_wanted false n
+    by_local true is = let none = first-here m a addrs left.first is in omega (arith, alike, none)
+    by_local false is =
+        let first = sum_by-cons (λ b. cond {A = ℕ} (is_free_of m b) 1 0) a addrs in
+        let number = left.by_target in
+        omega (arith, alike, wanted, hot-falls false a m h, first, number, one-of (is_free_of m a) (ap not is))
+
+    still : (group : Group) → HasHotLeft (a ∷ addrs) m group → (c : Bool) → is_listed a group.members ≡ c → HasHotLeft addrs n group
+    still group number true listed =
+        let first = sum_by-cons (λ b. cond {A = ℕ} (is_listed b group.members) 1 0) a addrs in
+        omega (arith, number, first, one-of (is_listed a group.members) listed, members-one is_hot hot-local group a n m apart back)
+    still group number false unlisted =
+        let first = sum_by-cons (λ b. cond {A = ℕ} (is_listed b group.members) 1 0) a addrs in
+        omega (arith, number, first, members-none is_hot hot-local group a n m unlisted back)
+
+hot-spend : Spends (Deactivatable false) HotLeft Deactivate
+hot-spend = record {
+  due = hot-due;
+  others = λ a b m h may other here. deactivate-others false a b m h other here;
+  left = λ a addrs m h may left. hot-left a addrs m h left;
+}
+
+-- ---- whom a rule picks
+
+-- a law that the peer of an address keeps, of a class
+abbrev Gives : (Machine → Addr → Type 0) → Bool → (Peer → Bool) → Machine → Type 0
+Gives May big test m = (p : Peer) → p.big ≡ big → test p ≡ true → peer_at p.addr m ≡ Some p → May m p.addr
+
+chosen-may : (May : Machine → Addr → Type 0) (big : Bool) (word number : ℕ) (test : Peer → Bool) (m : Machine) → ArePeersApart m.peers → Gives May big test m →
+    AllByRecursion (May m) (chosen big word number test m.peers)
+chosen-may May big word number test m apart gives =
+    let passes : Peer → Bool = λ p. is_of big p && test p in
+    picks-all (May m) big word number (filter passes m.peers)
+    (all-both (λ p. passes p ≡ true) (λ p. peer_at p.addr m ≡ Some p) (λ p. May m p.addr)
+    (λ p h found. let parts = and_parts (is_of big p) (test p) h in gives p (of-class big p parts.0) parts.1 found) (filter passes m.peers)
+    (filter-passing passes m.peers) (filter-all (λ p. peer_at p.addr m ≡ Some p) passes m.peers (all-found m.peers apart)))
+
+class-due : (May : Machine → Addr → Type 0) (Left : List Addr → Machine → Type 0) (order : Addr → Order) → Spends May Left order → (big : Bool) (word number : ℕ)
+    (test : Peer → Bool) (m : Machine) → IsOrdered m → Gives May big test m → ((addrs : List Addr) → length addrs ≤ number → Left addrs m) →
+    EachAccounted (orders_for big word order number test m.peers) m → EachDue (orders_for big word order number test m.peers) m
+class-due May Left order s big word number test m h gives left each =
+    let picks : List Addr = chosen big word number test m.peers in
+    each-due May Left order s picks m each (chosen-apart big word number test m.peers h.formed.peers)
+    (chosen-may May big word number test m h.formed.peers gives)
+    (left picks (picks-most big word number (filter (λ p. is_of big p && test p) m.peers)))
+
+abbrev picks_of_group : ℕ → (Group → ℕ) → (Peer → Bool) → Machine → Group → List Addr
+picks_of_group word number test m g = chosen false word (number g) (is_member_and g test) m.peers
+
+group_picks : (word : ℕ) (number : Group → ℕ) (test : Peer → Bool) (m : Machine) → IsOrdered m → PicksMembers (picks_of_group word number test m)
+group_picks word number test m h = record {
+  apart = λ g. chosen-apart false word (number g) (is_member_and g test) m.peers h.formed.peers;
+  members = λ g. chosen-may (λ n a. is_listed a g.members ≡ true) false word (number g) (is_member_and g test) m h.formed.peers
+      (λ p ordinary passes found. (and_parts (is_listed p.addr g.members) (test p) passes).0);
+}
+
+groups_picks-may : (May : Machine → Addr → Type 0) (word : ℕ) (number : Group → ℕ) (test : Peer → Bool) (m : Machine) → IsOrdered m → Gives May false test m →
+    AllByRecursion (May m) (flat_map (picks_of_group word number test m) m.groups)
+groups_picks-may May word number test m h gives =
+    groups_picks-all (May m) (picks_of_group word number test m) m.groups
+    (λ g. chosen-may May false word (number g) (is_member_and g test) m h.formed.peers
+    (λ p ordinary passes found. gives p ordinary (and_parts (is_listed p.addr g.members) (test p) passes).1 found))
+
+groups-due : (May : Machine → Addr → Type 0) (order : Addr → Order) → Spends May Enough order → (word : ℕ) (number : Group → ℕ) (test : Peer → Bool) (m : Machine) →
+    IsOrdered m → Gives May false test m → EachAccounted (flat_map (λ g. orders_for false word order (number g) (is_member_and g test) m.peers) m.groups) m →
+    EachDue (flat_map (λ g. orders_for false word order (number g) (is_member_and g test) m.peers) m.groups) m
+groups-due May order s word number test m h gives each =
+    let pick : Group → List Addr = picks_of_group word number test m in
+    let same = map-groups order pick m.groups in
+    subst (λ orders. EachDue orders m) (sym same)
+    (each-due May Enough order s (flat_map pick m.groups) m (subst (λ orders. EachAccounted orders m) same each)
+    (groups_picks-apart pick m.groups (group_picks word number test m h) h.formed.groups) (groups_picks-may May word number test m h gives) tt)
+
+-- a law holds of the peer that was found
+one-found : (law : Peer → Type 0) (p : Peer) (o : Option Peer) → o ≡ Some p → law p → IsOne o law
+one-found law p o found holds = subst (λ x. IsOne x law) (sym found) holds
+
+-- ---- the tests of the rules
+
+abbrev links_of : Machine → List Link
+links_of m = map link_of m.connections
+
+unless : (b : Bool) → not b ≡ true → b ≡ false
+unless b h = not-true b h
+
+forget-gives : (big : Bool) (among : Addr → Bool) (m : Machine) →
+    ((a : Addr) → among a ≡ true → (big || not (is_local m.groups a || is_listed a m.roots.publics)) ≡ true) →
+    Gives (Forgettable big) big (λ p. among p.addr && may_be_forgotten (links_of m) p) m
+forget-gives big among m spared p class passes found =
+    let both = and_parts (among p.addr) (may_be_forgotten (links_of m) p) passes in
+    let parts = and_parts (same_temp p.temp Cold) (not (is_pending_link (links_of m) p.addr)) both.1 in
+    record {
+      peer = one-found (λ q. (q.big ≡ big) × (q.temp ≡ Cold)) p (peer_at p.addr m) found (class, is_temp p.temp Cold parts.0);
+      idle = sym (linked (λ l. l.pending) p.addr m.connections) ∙ unless (is_pending_link (links_of m) p.addr) parts.1;
+      spared = spared p.addr both.0;
+    }
+
+release-gives : (big : Bool) (among : Addr → Bool) (m : Machine) → ((a : Addr) → among a ≡ true → (big || not (is_local m.groups a)) ≡ true) →
+    Gives (Releasable big) big (λ p. among p.addr && may_be_released (links_of m) p) m
+release-gives big among m spared p class passes found =
+    let both = and_parts (among p.addr) (may_be_released (links_of m) p) passes in
+    let parts = and_parts (same_temp p.temp Warm) (not (owes_a_reply (links_of m) p.addr)) both.1 in
+    record {
+      peer = one-found (λ q. (q.big ≡ big) × (q.temp ≡ Warm)) p (peer_at p.addr m) found (class, is_temp p.temp Warm parts.0);
+      settled = sym (linked (λ l. l.owes2 || l.owes8 || l.owes10) p.addr m.connections) ∙ unless (owes_a_reply (links_of m) p.addr) parts.1;
+      spared = spared p.addr both.0;
+    }
+
+ask-gives : (m : Machine) → Gives Askable false (may_be_asked m.now (links_of m)) m
+ask-gives m p class passes found =
+    let parts = and_parts (is_established p.temp && can_share (links_of m) p.addr) (nat_le p.share_next m.now) passes in
+    let both = and_parts (is_established p.temp) (can_share (links_of m) p.addr) parts.0 in
+    record {
+      peer = one-found (λ q. (q.big ≡ false) × (is_established q.temp ≡ true) × (q.share_next ≤ m.now)) p (peer_at p.addr m) found
+          (class, both.0, leb-true p.share_next m.now parts.1);
+      shares = sym (linked (λ l. l.local && l.sharing && not l.owes10) p.addr m.connections) ∙ both.1;
+    }
+
+promote-gives : (big : Bool) (m : Machine) → Gives Promotable big (is_eligible m.now (links_of m)) m
+promote-gives big m p class passes found =
+    let links : List Link = links_of m in
+    let last = and_parts (same_temp p.temp Cold && not (is_pending_link links p.addr) && nat_le p.not_before m.now)
+    (not (is_linked links p.addr) || is_acquirable_link links p.addr) passes in
+    let middle = and_parts (same_temp p.temp Cold && not (is_pending_link links p.addr)) (nat_le p.not_before m.now) last.0 in
+    let parts = and_parts (same_temp p.temp Cold) (not (is_pending_link links p.addr)) middle.0 in
+    record {
+      peer = one-found (λ q. q.temp ≡ Cold) p (peer_at p.addr m) found (is_temp p.temp Cold parts.0);
+      idle = sym (linked (λ l. l.pending) p.addr m.connections) ∙ unless (is_pending_link links p.addr) parts.1;
+      free = sym (λ i. not (linked (λ l. true) p.addr m.connections i) || linked (λ l. l.acquirable) p.addr m.connections i) ∙ last.1;
+    }
+
+activate-gives : (big : Bool) (m : Machine) → Gives Activatable big (may_be_activated (links_of m)) m
+activate-gives big m p class passes found =
+    let parts = and_parts (same_temp p.temp Warm) (not (owes_on_2 (links_of m) p.addr)) passes in
+    record {
+      peer = one-found (λ q. q.temp ≡ Warm) p (peer_at p.addr m) found (is_temp p.temp Warm parts.0);
+      unasked = sym (linked (λ l. l.owes2) p.addr m.connections) ∙ unless (owes_on_2 (links_of m) p.addr) parts.1;
+    }
+
+deactivate-gives : (big : Bool) (m : Machine) → Gives (Deactivatable big) big may_be_deactivated m
+deactivate-gives big m p class passes found = record {
+  peer = one-found (λ q. (q.big ≡ big) × (q.temp ≡ Hot)) p (peer_at p.addr m) found (class, is_temp p.temp Hot passes);
+}
+
+-- a stricter test gives it too
+among-gives : (May : Machine → Addr → Type 0) (big : Bool) (among test : Peer → Bool) (m : Machine) → Gives May big test m → Gives May big (λ p. among p && test p) m
+among-gives May big among test m gives p class passes found = gives p class (and_parts (among p) (test p) passes).1 found
+
+-- ---- each rule
+
+unfoldable pub OrdersDue : (Machine → List Order) → Type 0
+OrdersDue orders = (m : Machine) → IsOrdered m → EachAccounted (orders m) m → EachDue (orders m) m
+
+not_local : (groups : List Group) (a : Addr) → is_not_local groups a ≡ true → not (is_local groups a) ≡ true
+not_local groups a h = ap not (not_local-no_member a groups h)
+
+g2-due : (word : ℕ) → OrdersDue (λ m. g2_orders (view_of word m) m.peers)
+unfolding OrdersDue
+g2-due word m h each =
+    let k : ℕ = min (missing_of (view_of word m) m.peers) 10 in
+    class-due Askable (AsksLeft k) (λ a. Ask a k) (asks-spend k) false word
+    (if nat_lt 0 (missing_of (view_of word m) m.peers) then m.settings.shares - count_of false (owes_on_10 (links_of m)) m.peers else 0)
+    (may_be_asked m.now (links_of m)) m h (ask-gives m) (λ addrs few. by_missing (nat_lt 0 (missing_of (view_of word m) m.peers)) refl addrs few) each
+  where
+    seen : count_of false (owes_on_10 (links_of m)) m.peers ≡ number_with tells_soon false m
+    seen = λ i. count_by (λ p. is_of false p && linked (λ l. l.owes10) p.addr m.connections i) m.peers
+
+    short : nat_lt 0 (missing_of (view_of word m) m.peers) ≡ true → known_of false m.peers < known_wanted false m
+    short is = grind (arith, is)
+
+    by_missing : (b : Bool) → nat_lt 0 (missing_of (view_of word m) m.peers) ≡ b → (addrs : List Addr) →
+        length addrs ≤ (if b then m.settings.shares - count_of false (owes_on_10 (links_of m)) m.peers else 0) →
+        AsksLeft (min (missing_of (view_of word m) m.peers) 10) addrs m
+    by_missing true is addrs few = record { few = omega (arith, few, seen); missing = λ some. short is; number = refl }
+    by_missing false is addrs few = record { few = omega (arith, few); missing = λ some. absurd (omega (arith, some, few)); number = refl }
+
+both-false : (a b : Bool) → (not a && not b) ≡ true → not (a || b) ≡ true
+both-false true b h = absurd (false≢true h)
+both-false false b h = h
+
+g3-due : (word : ℕ) → OrdersDue (λ m. g3_orders (view_of word m) m.peers m.groups m.roots.publics)
+unfolding OrdersDue
+g3-due word m h each =
+    class-due (Forgettable false) (ForgetsLeft false) Forget (forgets-spend false) false word _ _ m h
+    (forget-gives false (may_be_dropped m.groups m.roots.publics) m
+    (λ a dropped. let parts = and_parts (is_not_local m.groups a) (not (is_listed a m.roots.publics)) dropped in
+    both-false (is_local m.groups a) (is_listed a m.roots.publics) (and_both (not (is_local m.groups a)) (not_local m.groups a parts.0) parts.1)))
+    (λ addrs few. few) each
+  where
+    and_both : (x : Bool) {y : Bool} → x ≡ true → y ≡ true → (x && y) ≡ true
+    and_both x {y} one two = rw one two
+
+g4-due : (word : ℕ) → OrdersDue (λ m. g4_orders (view_of word m) m.peers m.groups)
+unfolding OrdersDue
+g4-due word m h each =
+    groups-due Promotable Promote promotes-spend word
+    (λ g. g.warm - members_count g (λ p. is_established p.temp || is_pending_link (links_of m) p.addr) m.peers)
+    (is_eligible m.now (links_of m)) m h (promote-gives false m) each
+
+g5-due : (word : ℕ) → OrdersDue (λ m. g5_orders (view_of word m) m.peers m.groups)
+unfolding OrdersDue
+g5-due word m h each =
+    class-due Promotable Enough Promote promotes-spend false word _ _ m h
+    (among-gives Promotable false (λ p. is_not_local m.groups p.addr) (is_eligible m.now (links_of m)) m (promote-gives false m)) (λ addrs few. tt) each
+
+g6-due : (word : ℕ) → OrdersDue (λ m. g6_orders (view_of word m) m.peers m.groups)
+unfolding OrdersDue
+g6-due word m h each =
+    class-due (Releasable false) (ReleasesLeft false) Release (releases-spend false) false word _ _ m h
+    (release-gives false (is_not_local m.groups) m (not_local m.groups)) (λ addrs few. few) each
+
+g7-due : (word : ℕ) → OrdersDue (λ m. g7_orders (view_of word m) m.peers m.groups)
+unfolding OrdersDue
+g7-due word m h each =
+    groups-due Activatable Activate activates-spend word
+    (λ g. g.hot - members_count g (λ p. same_temp p.temp Hot || owes_on_2 (links_of m) p.addr) m.peers)
+    (may_be_activated (links_of m)) m h (activate-gives false m) each
+
+g8-due : (word : ℕ) → OrdersDue (λ m. g8_orders (view_of word m) m.peers m.groups)
+unfolding OrdersDue
+g8-due word m h each =
+    class-due Activatable Enough Activate activates-spend false word _ _ m h
+    (among-gives Activatable false (λ p. is_not_local m.groups p.addr) (may_be_activated (links_of m)) m (activate-gives false m)) (λ addrs few. tt) each
+
+-- ---- by the target, and then by the valencies
+
+abbrev beyond : ℕ → Machine → List Addr
+beyond word m = chosen false word (active_of false m.peers - active_wanted false m) (λ p. is_not_local m.groups p.addr && may_be_deactivated p) m.peers
+
+abbrev members_beyond : ℕ → Machine → Group → List Addr
+members_beyond word m = picks_of_group word (λ g. members_count g may_be_deactivated m.peers - g.hot) may_be_deactivated m
+
+first-local : (m : Machine) (addrs : List Addr) → AllByRecursion (λ a. is_local m.groups a ≡ true) addrs → TargetFirst m addrs
+unfolding TargetFirst
+first-local m [] h = tt
+first-local m (a ∷ addrs) h = (
+  λ is. count_none (is_free_of m) addrs (all-weaker (λ b. is_local m.groups b ≡ true) (λ b. is_free_of m b ≡ false) (λ b here. ap not here) addrs h.1),
+  first-local m addrs h.1,
+)
+
+first-append : (m : Machine) (xs ys : List Addr) → AllByRecursion (λ a. is_local m.groups a ≡ false) xs → TargetFirst m ys → TargetFirst m (xs ++ ys)
+unfolding TargetFirst
+first-append m [] ys free h = h
+first-append m (x ∷ xs) ys free h = (λ is. absurd (both_ways (is_local m.groups x) free.0 is), first-append m xs ys free.1 h)
+
+members-hot : (m : Machine) (g : Group) → members_count g may_be_deactivated m.peers ≡ members_with is_hot g m
+members-hot m g = λ i. count_by (λ p. is_of false p && (is_listed p.addr g.members && hot-active p.temp i)) m.peers
+
+apart_of-local : (m : Machine) (b : Addr) (xs : List Addr) → AllByRecursion (λ a. is_local m.groups a ≡ false) xs → is_local m.groups b ≡ true → is_listed b xs ≡ false
+apart_of-local m b [] free local = refl
+apart_of-local m b (x ∷ xs) free local = by_test (same_address b x) refl (apart_of-local m b xs free.1 local)
+  where
+    by_test : (c : Bool) → same_address b x ≡ c → is_listed b xs ≡ false → (c || is_listed b xs) ≡ false
+    by_test true is rest = absurd (both_ways (is_local m.groups b) (subst (λ y. is_local m.groups y ≡ false) (sym (same_address-true b x is)) free.0) local)
+    by_test false is rest = rest
+
+pub map-append : (order : Addr → Order) (xs ys : List Addr) → map order (xs ++ ys) ≡ map order xs ++ map order ys
+map-append order [] ys = refl
+map-append order (x ∷ xs) ys = ap (λ orders. order x ∷ orders) (map-append order xs ys)
+
+module _ (word : ℕ) (m : Machine) (h : IsOrdered m) where
+  abbrev front : List Addr
+  front = beyond word m
+
+  abbrev behind : List Addr
+  behind = flat_map (members_beyond word m) m.groups
+
+  in_groups : PicksMembers (members_beyond word m)
+  in_groups = group_picks word (λ g. members_count g may_be_deactivated m.peers - g.hot) may_be_deactivated m h
+
+  free_front : AllByRecursion (λ a. is_local m.groups a ≡ false) front
+  free_front = chosen-may (λ n a. is_local n.groups a ≡ false) false word (active_of false m.peers - active_wanted false m)
+      (λ p. is_not_local m.groups p.addr && may_be_deactivated p) m h.formed.peers
+      (λ p class passes found. not_local-no_member p.addr m.groups (and_parts (is_not_local m.groups p.addr) (may_be_deactivated p) passes).0)
+
+  local_behind : AllByRecursion (λ a. is_local m.groups a ≡ true) behind
+  local_behind = picks-listed (members_beyond word m) m.groups in_groups
+
+  apart : AreApart (front ++ behind)
+  apart = append-apart front behind
+      (chosen-apart false word (active_of false m.peers - active_wanted false m) (λ p. is_not_local m.groups p.addr && may_be_deactivated p) m.peers h.formed.peers)
+      (groups_picks-apart (members_beyond word m) m.groups in_groups h.formed.groups)
+      (all-weaker (λ b. is_local m.groups b ≡ true) (λ b. is_listed b front ≡ false) (λ b local. apart_of-local m b front free_front local) behind local_behind)
+
+  may_all : AllByRecursion (Deactivatable false m) (front ++ behind)
+  may_all = all-appended (Deactivatable false m) front behind
+      (chosen-may (Deactivatable false) false word (active_of false m.peers - active_wanted false m) (λ p. is_not_local m.groups p.addr && may_be_deactivated p) m h.formed.peers
+      (among-gives (Deactivatable false) false (λ p. is_not_local m.groups p.addr) may_be_deactivated m (deactivate-gives false m)))
+      (groups_picks-may (Deactivatable false) word (λ g. members_count g may_be_deactivated m.peers - g.hot) may_be_deactivated m h (deactivate-gives false m))
+
+  few_free : count_by (is_free_of m) (front ++ behind) ≤ active_of false m.peers - active_wanted false m
+  few_free =
+      let both = sum_by-append (λ a. cond {A = ℕ} (is_free_of m a) 1 0) front behind in
+      let most = picks-most false word (active_of false m.peers - active_wanted false m)
+      (filter (λ p. is_of false p && (is_not_local m.groups p.addr && may_be_deactivated p)) m.peers) in
+      let all = count_by-le-length (is_free_of m) front in
+      let none = count_none (is_free_of m) behind
+      (all-weaker (λ b. is_local m.groups b ≡ true) (λ b. is_free_of m b ≡ false) (λ b here. ap not here) behind local_behind) in
+      omega (arith, both, most, all, none)
+
+  few_members : AllByRecursion (HasHotLeft (front ++ behind) m) m.groups
+  few_members =
+      all-both (λ g. count_by (λ a. is_listed a g.members) front ≡ 0) (λ g. count_by (λ a. is_listed a g.members) behind ≤ length (members_beyond word m g))
+      (HasHotLeft (front ++ behind) m)
+      (λ g zero few.
+      let parts = sum_by-append (λ a. cond {A = ℕ} (is_listed a g.members) 1 0) front behind in
+      let most = picks-most false word (members_count g may_be_deactivated m.peers - g.hot) (filter (λ p. is_of false p && is_member_and g may_be_deactivated p) m.peers) in
+      let same = members-hot m g in
+      omega (arith, zero, few, parts, most, same))
+      m.groups (none_in-each front m.groups free_front) (own_picks (members_beyond word m) m.groups in_groups h.formed.groups)
+
+  hot_left : HotLeft (front ++ behind) m
+  hot_left = record {
+    first = first-append m front behind free_front (first-local m behind local_behind);
+    by_target = few_free;
+    by_valency = few_members;
+  }
+
+g9-due : (word : ℕ) → OrdersDue (λ m. g9_orders (view_of word m) m.peers m.groups)
+unfolding OrdersDue
+g9-due word m h each =
+    let same : map Deactivate (front word m h ++ behind word m h) ≡ g9_orders (view_of word m) m.peers m.groups =
+    map-append Deactivate (front word m h) (behind word m h)
+    ∙ ap (λ orders. map Deactivate (front word m h) ++ orders) (sym (map-groups Deactivate (members_beyond word m) m.groups)) in
+    subst (λ orders. EachDue orders m) same
+    (each-due (Deactivatable false) HotLeft Deactivate hot-spend (front word m h ++ behind word m h) m (subst (λ orders. EachAccounted orders m) (sym same) each)
+    (apart word m h) (may_all word m h) (hot_left word m h))
+
+pub ordinary-due : (word : ℕ) → AllByRecursion (λ orders. OrdersDue orders) (ordinary_rules word)
+ordinary-due word = (g2-due word, (g3-due word, (g4-due word, (g5-due word, (g6-due word, (g7-due word, (g8-due word, (g9-due word, tt))))))))
+
+b3-due : (word : ℕ) → OrdersDue (λ m. big_orders B3 (view_of word m) m.peers)
+unfolding OrdersDue
+b3-due word m h each =
+    class-due (Forgettable true) (ForgetsLeft true) Forget (forgets-spend true) true word _ _ m h (forget-gives true everybody m (λ a all. refl)) (λ addrs few. few) each
+
+b5-due : (word : ℕ) → OrdersDue (λ m. big_orders B5 (view_of word m) m.peers)
+unfolding OrdersDue
+b5-due word m h each =
+    class-due Promotable Enough Promote promotes-spend true word _ _ m h
+    (among-gives Promotable true (λ p. everybody p.addr) (is_eligible m.now (links_of m)) m (promote-gives true m)) (λ addrs few. tt) each
+
+b6-due : (word : ℕ) → OrdersDue (λ m. big_orders B6 (view_of word m) m.peers)
+unfolding OrdersDue
+b6-due word m h each =
+    class-due (Releasable true) (ReleasesLeft true) Release (releases-spend true) true word _ _ m h (release-gives true everybody m (λ a all. refl)) (λ addrs few. few) each
+
+b8-due : (word : ℕ) → OrdersDue (λ m. big_orders B8 (view_of word m) m.peers)
+unfolding OrdersDue
+b8-due word m h each =
+    class-due Activatable Enough Activate activates-spend true word _ _ m h
+    (among-gives Activatable true (λ p. everybody p.addr) (may_be_activated (links_of m)) m (activate-gives true m)) (λ addrs few. tt) each
+
+b9-due : (word : ℕ) → OrdersDue (λ m. big_orders B9 (view_of word m) m.peers)
+unfolding OrdersDue
+b9-due word m h each =
+    class-due (Deactivatable true) BigHotLeft Deactivate big_hot-spend true word _ _ m h
+    (among-gives (Deactivatable true) true (λ p. everybody p.addr) may_be_deactivated m (deactivate-gives true m)) (λ addrs few. few) each
+
+pub big-due : (word : ℕ) → AllByRecursion (λ orders. OrdersDue orders) (big_rules word)
+big-due word = (b3-due word, (b5-due word, (b6-due word, (b8-due word, (b9-due word, tt)))))
+
+-- ---- one rule after the other
+
+pub due_more : (xs ys : List Order) (m : Machine) → EachDue xs m → EachDue ys (for_each carries_out xs m).machine → EachDue (xs ++ ys) m
+unfolding EachDue for_each
+due_more [] ys m one two = two
+due_more (x ∷ xs) ys m one two = (one.0, due_more xs ys (carries_out x m).machine one.1 two)
+
+pub none_due : (m : Machine) → EachDue [] m
+unfolding EachDue
+none_due m = tt
+
+pub first_due : (order : Order) (orders : List Order) (m : Machine) → EachDue (order ∷ orders) m → IsDueOrder order m
+unfolding EachDue
+first_due order orders m h = h.0
+
+pub rest_due : (order : Order) (orders : List Order) (m : Machine) → EachDue (order ∷ orders) m → EachDue orders (carries_out order m).machine
+unfolding EachDue
+rest_due order orders m h = h.1
