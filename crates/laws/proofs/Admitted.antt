@@ -1,7 +1,7 @@
 -- Who connects is let in, or turned away for the first cause that stands.
-use Rattle.std.proofs.Common.{ℕ, ◌+◌, ◌<◌, ◌≡◌, Bool, true, false, ◌&&◌, ◌||◌, nat_le, nat_lt, if◌then◌else◌, List, [], ◌∷◌, ◌++◌, find, cond, Option, Some, None, All, refl, sym, ap, ◌∙◌, subst, arith, eq-eqb, eqb-true}
+use Rattle.std.proofs.Common.{ℕ, ◌+◌, ◌≡◌, Bool, true, false, ◌&&◌, ◌||◌, nat_le, nat_lt, if◌then◌else◌, List, [], ◌∷◌, ◌++◌, find, cond, Option, Some, None, All, refl, sym, ap, ◌∙◌, subst, arith, eq-eqb, eqb-true}
 use Rattle.std.specs.List.{list_any}
-use Rattle.std.proofs.lemmas.Bool.{cond_both, both_ways, and_parts, and_from, false_from_ne_true}
+use Rattle.std.proofs.lemmas.Bool.{both_ways, and_parts, and_from, false_from_ne_true}
 use Rattle.std.proofs.lemmas.List.Elements.{All-head, All-tail, All-weaker}
 use Rattle.accept_gate.specs.Gate.{pause_of}
 use Rattle.conn_state.specs.Moves.{accepted}
@@ -16,9 +16,9 @@ use Rattle.net_base.specs.declared.connection.Facts.{Facts}
 use Rattle.net_base.specs.declared.connection.Phase.{Phase}
 use Rattle.net_base.specs.declared.connection.Phase.TheVariants.{Dialing, Greeting, Negotiated, Closing}
 use Rattle.machine.specs.Connections.{ending}
-use Rattle.machine.specs.Effect.{Effect, then_do}
-use Rattle.machine.specs.Events.{turned_away, pause_notice, admitted, crossed, accepted_beside, peer_connects}
-use Rattle.machine.specs.Machine.{Machine, Entry, fresh_entry, counted_in, entry_at, live_entry_at}
+use Rattle.machine.specs.Effect.{then_do}
+use Rattle.machine.specs.Events.{turned_away, admitted, crossed, accepted_beside, peer_connects}
+use Rattle.machine.specs.Machine.{Machine, Entry, fresh_entry, counted_in, live_entry_at}
 use Rattle.laws.specs.Acts.{Act, connects, does}
 use Rattle.laws.specs.Admitted.{admitted_in, turned_away_in, is_crossing, is_present, cause_against, IsTurnedAway, IsNew, IsLetIn, ByCause, AdmitsRight}
 use Rattle.laws.specs.AtMoves.{OnEntry}

@@ -1,12 +1,11 @@
 -- The moves of each event.
 use Rattle.std.proofs.Common.{ℕ, ◌+◌, ◌≡◌, ◌≤◌, arith, Bool, true, false, ◌&&◌, ◌||◌, ◌==◌, nat_le, nat_lt, if◌then◌else◌, List, [], ◌∷◌, ◌++◌, length, find, Option, Some, None, refl, sym, ap, ◌∙◌, subst, eqb-true, eq-eqb}
 use Rattle.std.specs.List.{AllByRecursion}
-use Rattle.std.proofs.lemmas.Bool.{cond_both, both_ways, false≢true, and_parts, and_from, or_left, or_right}
+use Rattle.std.proofs.lemmas.Bool.{cond_both, both_ways, false≢true, and_from, or_left, or_right}
 use Rattle.conn_state.specs.Moves.{connected}
-use Rattle.conn_state.specs.Use.{has_id, is_live, live_phase, is_live_at, is_negotiated, is_outbound, is_pending, is_dialing, is_dialing_phase, opening_phase}
+use Rattle.conn_state.specs.Use.{has_id, is_live, is_live_at, is_negotiated, is_outbound, is_pending, is_dialing, is_dialing_phase, opening_phase}
 use Rattle.net_base.specs.declared.action.Action.TheVariants.{Admit, Pause}
 use Rattle.accept_gate.specs.Gate.{pause_of}
-use Rattle.net_base.specs.declared.connection.Facts.{Facts}
 use Rattle.net_base.specs.declared.connection.Phase.{Phase}
 use Rattle.net_base.specs.declared.connection.Phase.TheVariants.{Dialing, Greeting, Negotiated, Closing}
 use Rattle.net_base.specs.Address.{same_address, address_below}

@@ -1,5 +1,5 @@
 -- An order at one address lowers what is counted by one at most, and leaves other addresses as they were.
-use Rattle.std.proofs.Common.{ℕ, ◌+◌, ◌≤◌, ◌≡◌, Bool, true, false, cond, not, ◌&&◌, ◌||◌, nat_le, List, [], ◌∷◌, ◌==◌, filter, find, set, count_by, Option, Some, None, is_some, refl, sym, ap, ◌∙◌, subst, arith, eqb-true}
+use Rattle.std.proofs.Common.{ℕ, ◌+◌, ◌≤◌, ◌≡◌, Bool, true, false, cond, not, ◌&&◌, ◌||◌, nat_le, List, [], ◌∷◌, ◌==◌, filter, find, count_by, Option, Some, None, refl, sym, ap, ◌∙◌, subst, arith, eqb-true}
 use Rattle.std.specs.List.{list_any, AllByRecursion}
 use Rattle.std.specs.Option.{unwrap_or}
 use Rattle.std.proofs.lemmas.Bool.{cond_both, both_ways, and_parts}
@@ -16,7 +16,7 @@ use Rattle.net_base.specs.declared.peer.Peer.{Peer}
 use Rattle.net_base.specs.declared.peer.Temp.TheVariants.{Cold, Warm}
 use Rattle.peer_book.specs.Book.{has_address, is_of, known_of, peer_at as peer_in, with_peer, without_peer}
 use Rattle.machine.specs.Connections.{with_entry, without_entry, entry_turns, is_missed, ending, candidates_in, trim, release}
-use Rattle.machine.specs.Effect.{Effect, nothing_more, then_do, on_entry, on_connection}
+use Rattle.machine.specs.Effect.{nothing_more, then_do, on_entry, on_connection}
 use Rattle.machine.specs.Govern.{is_used_at, on_used, asks_peer, deactivates}
 use Rattle.machine.specs.Machine.{Machine, Entry, counted_in, entry_at}
 use Rattle.machine.specs.Peers.{peer_at, turns_at, peer_changes, peer_becomes}

@@ -27,7 +27,6 @@ use Rattle.net_base.specs.declared.action.FaultKind.TheVariants.{Malformed, Prot
 use Rattle.net_base.specs.declared.address.Addr.{Addr}
 use Rattle.net_base.specs.declared.connection.Cid.{Cid}
 use Rattle.net_base.specs.declared.connection.Facts.{Facts}
-use Rattle.net_base.specs.declared.connection.Grace.TheVariants.{Off, ForRemote, ForLocal}
 use Rattle.net_base.specs.declared.connection.Phase.{Phase}
 use Rattle.net_base.specs.declared.connection.Phase.TheVariants.{Dialing, Greeting, Negotiated, Closing}
 use Rattle.net_base.specs.declared.peer.Peer.{Peer}
@@ -63,7 +62,6 @@ use Rattle.laws.specs.Stages.{stage_of_phase, stage_of, stage_at, causes_by, cau
 use Rattle.laws.specs.Telling.{IsTold}
 use Rattle.laws.specs.Told.{ended_by, ends_in}
 use Rattle.laws.specs.Waits.{until_gone, until_at, until_in}
-use Rattle.laws.specs.Whole.{IsOrdered}
 use Rattle.laws.proofs.Handshakes.{answer-machine}
 use Rattle.laws.proofs.Lawful.{comes-machine, lost_by-quiet, lost-quiet, stands-found}
 use Rattle.laws.proofs.Lists.{find_some}

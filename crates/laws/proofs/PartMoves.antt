@@ -1,5 +1,5 @@
 -- Each part of an event is lawful.
-use Rattle.std.proofs.Common.{ℕ, ◌≤◌, ◌≡◌, Bool, true, false, ◌||◌, ◌==◌, if◌then◌else◌, List, [], ◌∷◌, ◌++◌, All, flat_map, Option, Some, None, refl, sym, subst, arith}
+use Rattle.std.proofs.Common.{ℕ, ◌≤◌, ◌≡◌, Bool, true, false, ◌||◌, List, [], ◌∷◌, ◌++◌, All, Option, Some, None, refl, sym, subst, arith}
 use Rattle.std.specs.List.{AllByRecursion}
 use Rattle.std.proofs.lemmas.Bool.{false≢true, or_left}
 use Rattle.net_base.specs.declared.action.CloseCause.{CloseCause}
@@ -8,15 +8,14 @@ use Rattle.net_base.specs.declared.connection.Phase.{Phase}
 use Rattle.net_base.specs.declared.connection.Phase.TheVariants.{Dialing, Greeting, Negotiated, Closing}
 use Rattle.net_base.specs.declared.event.Event.{Event}
 use Rattle.conn_state.specs.Use.{is_negotiated_phase}
-use Rattle.machine.specs.Effect.{Effect, for_each, Happened, Move, promoted, activated, shared, ended, unused, gone}
+use Rattle.machine.specs.Effect.{Effect, for_each}
 use Rattle.machine.specs.Machine.{Machine, Entry, entry_at}
 use Rattle.laws.specs.Acts.{Act, shows, fires_one, asks_for_roots, carries, connects, ends_dial, stores, handles_item, ends_stream, is_closed, sets_targets, sets_big_targets, sets_groups, sets_roots, makes_ordinary, provides, provides_big, does, parts_from}
-use Rattle.laws.specs.AtMoves.{is_negotiated_entry, is_negotiated_at, ends, is_ended_in, is_closed_by, is_up, is_hot_or_asked, is_known, promotes, activates, is_shared_in, is_provided_by}
+use Rattle.laws.specs.AtMoves.{is_negotiated_entry, is_negotiated_at, is_ended_in, is_closed_by, is_up, is_hot_or_asked, is_known, promotes, activates, is_shared_in, is_provided_by}
 use Rattle.laws.specs.CarriedOut.{IsDoneByOrder}
 use Rattle.laws.specs.Parts.{IsNext, IsDone, EndsOnce, IsAccounted, IsLawfulPart}
-use Rattle.laws.specs.Stages.{stage_of_phase, stage_of, stage_at, causes_by, causes_in, IsOneEnd}
+use Rattle.laws.specs.Stages.{stage_of_phase, stage_of, stage_at, causes_in, IsOneEnd}
 use Rattle.laws.specs.Telling.{IsTold}
-use Rattle.laws.specs.Told.{ended_by, ends_in}
 use Rattle.laws.proofs.CarriedOut.{treats-book, pauses-right}
 use Rattle.laws.proofs.Due.{ends-due}
 use Rattle.laws.proofs.Forgiven.{forgives}

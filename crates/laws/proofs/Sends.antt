@@ -1,11 +1,11 @@
 -- What is due is sent, and nothing else.
-use Rattle.std.proofs.Common.{ℕ, ◌+◌, ◌%◌, ◌≡◌, Bool, true, false, ◌&&◌, ◌==◌, nat_le, nat_lt, if◌then◌else◌, List, [], ◌∷◌, ◌++◌, find, Option, Some, None, Result, Ok, Err, refl, sym, ap, ◌∙◌, subst, flat_map, eqb-true}
+use Rattle.std.proofs.Common.{ℕ, ◌+◌, ◌%◌, ◌≡◌, Bool, true, false, ◌&&◌, ◌==◌, nat_le, nat_lt, if◌then◌else◌, List, [], ◌∷◌, ◌++◌, Option, Some, None, Result, Ok, Err, refl, sym, ap, ◌∙◌, subst, eqb-true}
 use Rattle.std.specs.Option.{option_map}
-use Rattle.std.proofs.lemmas.Bool.{cond_both, both_ways, false≢true}
+use Rattle.std.proofs.lemmas.Bool.{cond_both, false≢true}
 use Rattle.std.proofs.lemmas.Grind.{flat_map-append}
 use Rattle.accept_gate.specs.Gate.{pause_of}
-use Rattle.conn_state.specs.Moves.{acquired, agreed_inbound, agreed_outbound, awakened, connected, dialing, expired, idled, released}
-use Rattle.conn_state.specs.Use.{agreed_sharing, has_id, is_acquirable, is_dialing, is_live, is_live_at, is_pending}
+use Rattle.conn_state.specs.Moves.{acquired, agreed_inbound, agreed_outbound, connected, expired, idled, released}
+use Rattle.conn_state.specs.Use.{agreed_sharing, has_id, is_acquirable, is_dialing, is_live, is_pending}
 use Rattle.govern_rules.specs.declared.order.Order.{Order}
 use Rattle.govern_rules.specs.declared.order.Order.TheVariants.{Ask, Forget, Promote, Release, Activate, Deactivate}
 use Rattle.hs_decide.specs.Agreement.{verdict_of}
@@ -49,12 +49,12 @@ use Rattle.warm_messages.specs.Writing.{written_alive, written_request}
 use Rattle.warm_messages.specs.declared.alive.Alive.TheVariants.{Ask as AskAlive, Done}
 use Rattle.warm_messages.specs.declared.share.Share.{Share}
 use Rattle.warm_messages.specs.declared.share.Share.TheVariants as share
-use Rattle.machine.specs.Connections.{with_entry, without_entry, entry_turns, lost, ending, vanishes, closing_entry, grace_over, is_used, acquire, trim, says_done, release, dial, dial_opens, dial_fails}
+use Rattle.machine.specs.Connections.{with_entry, without_entry, entry_turns, ending, vanishes, closing_entry, grace_over, is_used, acquire, trim, says_done, release, dial, dial_opens, dial_fails}
 use Rattle.machine.specs.Deadlines.{fires_as}
 use Rattle.machine.specs.Effect.{Effect, unused, shared, nothing_more, tells, then_do, as_move, on_entry, for_each}
 use Rattle.machine.specs.Events.{turned_away, pause_notice, admitted, crossed, accepted_beside, peer_connects, closes, dialed}
-use Rattle.machine.specs.Govern.{promoted_at, is_used_at, on_used, asks_peer, activates, deactivates, carries_out, asks_roots}
-use Rattle.machine.specs.Greeting.{role_of, judged, decided, greeted_by, greets, sends_answer}
+use Rattle.machine.specs.Govern.{promoted_at, asks_peer, activates, deactivates, carries_out, asks_roots}
+use Rattle.machine.specs.Greeting.{role_of, judged, decided, greets, sends_answer}
 use Rattle.machine.specs.Machine.{Machine, Entry, Owed, counted_in, entry_at, live_entry_at}
 use Rattle.machine.specs.Own.{own_info}
 use Rattle.machine.specs.Peers.{peer_at, turns_at, note_of, peer_becomes, peer_succeeds, peer_was_asked, peer_comes, note_of_coming}
@@ -64,11 +64,11 @@ use Rattle.machine.specs.Stream.{handled_in, handled, faulted}
 use Rattle.machine.specs.Talking.{stops_if, serves, begins, takes_requests, asked_as, shares_address, taken_of, takes_addresses, pays, brings, answered_as, talks}
 use Rattle.laws.specs.Acts.{Act, shows, fires_one, asks_for_roots, carries, connects, ends_dial, stores, handles_item, ends_stream, is_closed, sets_targets, sets_big_targets, sets_groups, sets_roots, makes_ordinary, provides, provides_big, does}
 use Rattle.laws.specs.Ends.{offered, side_of}
-use Rattle.laws.specs.Sends.{says, keeps_alive, on_one, used_with, due_by_order, answers, comes_into_use, due_by_verdict, by_message, due_of_acceptor, due_of_dialer, due_in_greeting, SendsInUse, SendsByPhase, SendsOnItem, SendsRight}
+use Rattle.laws.specs.Sends.{says, keeps_alive, on_one, used_with, due_by_order, answers, comes_into_use, due_by_verdict, by_message, due_of_dialer, due_in_greeting, SendsInUse, SendsByPhase, SendsOnItem, SendsRight}
 use Rattle.laws.specs.Served.{Sent, sent_by, sent_in}
 use Rattle.laws.proofs.Goes.{lost-silent}
 use Rattle.laws.proofs.Lists.{find_some}
-use Rattle.laws.proofs.Moments.{ending-none, turned-found}
+use Rattle.laws.proofs.Moments.{turned-found}
 use Rattle.laws.proofs.Orders.{says_done-machine}
 use Rattle.laws.proofs.Served.{turns-silent, trim-silent, begins-silent}
 use Rattle.laws.proofs.Talks.{replies-machine}

@@ -1,5 +1,5 @@
 -- Who is let in where a peer connects, and for which cause one is turned away.
-use Rattle.std.specs.Prelude.{ℕ, ◌≡◌, Bool, true, false, nat_le, List, [], ◌∷◌, if◌then◌else◌, Option, Some, None}
+use Rattle.std.specs.Prelude.{◌≡◌, Bool, true, false, nat_le, List, [], ◌∷◌, if◌then◌else◌, Option, Some, None}
 use Rattle.std.specs.List.{flat_map}
 use Rattle.conn_state.specs.Use.{is_greeting, is_live, is_outbound, is_pending}
 use Rattle.net_base.specs.Address.{same_address, address_below}

@@ -4,7 +4,6 @@ use Rattle.conn_state.specs.Use.{agreed_sharing, is_acquirable, is_pending}
 use Rattle.govern_rules.specs.declared.order.Order.{Order}
 use Rattle.govern_rules.specs.declared.order.Order.TheVariants.{Ask, Forget, Promote, Release, Activate, Deactivate}
 use Rattle.net_base.specs.declared.address.Addr.{Addr}
-use Rattle.net_base.specs.declared.event.Group.{Group}
 use Rattle.net_base.specs.declared.peer.Peer.{Peer}
 use Rattle.net_base.specs.declared.peer.Temp.TheVariants.{Cold, Warm, Hot}
 use Rattle.peer_book.specs.Book.{is_established, is_active, known_of, established_of, active_of}
