@@ -45,6 +45,8 @@ fn few_value(digits: &[u8]) -> Option<u64>
 }
 
 // The value of digits, where it is at most a number, which is tested at each of them.
+#[cold]
+#[inline(never)]
 fn many_value(digits: &[u8], most: u64) -> Option<u64>
     ensures { result ≡ digits_up_to most digits.now }
 {

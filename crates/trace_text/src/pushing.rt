@@ -1,6 +1,6 @@
 //! What lines are made of, printed behind some bytes. Where memory is wanting the bytes are as they were.
 
-ghost use Rattle.std.specs.Prelude.{◌≡◌, ◌+◌, ◌<◌, ◌≤◌, [], ◌∷◌, ◌++◌, length, take, decimal, OnOk, OnErr};
+ghost use Rattle.std.specs.Prelude.{◌≡◌, ◌≤◌, ◌∷◌, ◌++◌, length, take, decimal, OnOk, OnErr};
 ghost use Rattle.hex.specs.Hex.{encode_lower};
 ghost use Rattle.trace_text.specs.Addresses.{printed_address, printed_octets};
 
@@ -11,66 +11,17 @@ use itoa::Buffer;
 use net_base::{Addr, Ip, OutOfMemory};
 use std::alloc::Global;
 
-/// A number in decimal. Most have few digits.
+/// A number in decimal. Most have one digit.
 pub(crate) fn push_number(number: u64, bytes: &mut Vec<u8>) -> Result<(), OutOfMemory>
     ensures ok { OnOk result (bytes.new.items ≡ bytes.old.items ++ decimal number) }
     ensures err { OnErr result (bytes.new.items ≡ bytes.old.items) }
 {
-    if number >= 10_000 {
-        return push_many_digits(number, bytes);
+    if number < 10 {
+        bytes.push(b'0' + number as u8)?;
+        return Ok(());
     }
-    let before = bytes.len();
-    let pushed = push_few_digits(number, bytes);
-    if pushed.is_err() {
-        bytes.truncate(before);
-    }
-    pushed
-}
-
-fn push_many_digits(number: u64, bytes: &mut Vec<u8>) -> Result<(), OutOfMemory>
-    ensures ok { OnOk result (bytes.new.items ≡ bytes.old.items ++ decimal number) }
-    ensures err { OnErr result (bytes.new.items ≡ bytes.old.items) }
-{
     let mut digits = Buffer::new();
     bytes.extend_from_slice(digits.format(number).as_bytes())?;
-    Ok(())
-}
-
-// A number of at most four digits. A part of it may come where memory is wanting.
-fn push_few_digits(number: u64, bytes: &mut Vec<u8>) -> Result<(), OutOfMemory>
-    requires { number < 10_000 }
-    ensures ok { OnOk result (bytes.new.items ≡ bytes.old.items ++ decimal number) }
-    ensures front { take (length bytes.old.items) bytes.new.items ≡ bytes.old.items }
-    ensures more { length bytes.old.items ≤ length bytes.new.items }
-{
-    if number < 100 {
-        return push_two_digits(number, bytes);
-    }
-    push_two_digits(number / 100, bytes)?;
-    push_digit(number / 10 % 10, bytes)?;
-    push_digit(number % 10, bytes)
-}
-
-// A number of at most two digits.
-fn push_two_digits(number: u64, bytes: &mut Vec<u8>) -> Result<(), OutOfMemory>
-    requires { number < 100 }
-    ensures ok { OnOk result (bytes.new.items ≡ bytes.old.items ++ decimal number) }
-    ensures front { take (length bytes.old.items) bytes.new.items ≡ bytes.old.items }
-    ensures more { length bytes.old.items ≤ length bytes.new.items }
-{
-    if number < 10 {
-        return push_digit(number, bytes);
-    }
-    push_digit(number / 10, bytes)?;
-    push_digit(number % 10, bytes)
-}
-
-fn push_digit(digit: u64, bytes: &mut Vec<u8>) -> Result<(), OutOfMemory>
-    requires { digit < 10 }
-    ensures ok { OnOk result (bytes.new.items ≡ bytes.old.items ++ (48 + digit) ∷ []) }
-    ensures err { OnErr result (bytes.new.items ≡ bytes.old.items) }
-{
-    bytes.push(b'0' + digit as u8)?;
     Ok(())
 }
 
