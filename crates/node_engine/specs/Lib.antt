@@ -1,3 +1,4 @@
+pub mod Blank
 pub mod Greets
 pub mod Rules
 pub mod State

@@ -89,21 +89,32 @@ impl Engine {
         ensures record { IfOk result (λ r. IsLawfulRecord r.0.machine) }
         ensures event { IfOk result (λ r. IsLawfulEvent self.machine event.now) }
     {
-        let Engine {
-            mut machine,
-            picker,
-            ranked,
-            events,
-        } = self;
-        let actions = machine.handle(event, &picker, &ranked)?;
-        let events = events + 1;
-        let engine = Engine {
-            machine,
-            picker,
-            ranked,
-            events,
-        };
+        let mut engine = self;
+        let actions = engine.step_in_place(event)?;
         Ok((engine, actions))
+    }
+
+    /// The same where the engine is lent too. On a refusal all that it knew is gone.
+    pub fn step_in_place(&mut self, event: &Event) -> Result<ActionList, OutOfMemory>
+        requires few { self.old.events < 1000000 }
+        requires within { IsWithinLimits event.now }
+        ensures machine { OnOk result (self.new.machine ≡ (step self.old.machine event.now).machine) }
+        ensures actions { IfOk result (λ actions. actions ≡ (step self.old.machine event.now).actions) }
+        ensures taken { OnOk result (self.new.events ≡ self.old.events + 1) }
+        ensures numbers { OnOk result (GivesFew self.old.machine self.new.machine) }
+        ensures record { OnOk result (IsLawfulRecord self.new.machine) }
+        ensures event { OnOk result (IsLawfulEvent self.old.machine event.now) }
+    {
+        match self.machine.handle(event, &self.picker, &self.ranked) {
+            Ok(actions) => {
+                self.events += 1;
+                Ok(actions)
+            }
+            Err(OutOfMemory) => {
+                self.machine.forget();
+                Err(OutOfMemory)
+            }
+        }
     }
 
     /// How many events were taken.

@@ -2,6 +2,7 @@ ghost use Rattle.std.specs.Prelude.{◌≡◌, ◌≤◌, ◌+◌, ◌^◌, OnOk
 ghost use Rattle.laws.specs.Whole.{IsSteady};
 ghost use Rattle.machine.specs.Step.{step};
 ghost use Rattle.net_base.specs.Limits.{IsWithinLimits};
+ghost use Rattle.node_engine.specs.Blank.{blank};
 
 use crate::NodeState;
 use net_base::{ActionList, Event, OutOfMemory};
@@ -61,5 +62,12 @@ impl HeldState {
         ensures actions { IfOk result (λ actions. actions ≡ (step self.old event.now).actions) }
     {
         self.state.handle(event, picker, ranked)
+    }
+
+    /// All that is known is given up.
+    pub(crate) fn forget(&mut self)
+        ensures { self.new ≡ blank }
+    {
+        self.state.forget();
     }
 }

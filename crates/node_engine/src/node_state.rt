@@ -7,6 +7,7 @@ ghost use Rattle.machine.specs.Peers.{peer_at};
 ghost use Rattle.machine.specs.Step.{step};
 ghost use Rattle.net_base.specs.Bounds.{AreSound};
 ghost use Rattle.net_base.specs.Limits.{IsWithinLimits};
+ghost use Rattle.node_engine.specs.Blank.{blank};
 ghost use Rattle.node_engine.specs.State.{Does};
 ghost use Rattle.node_engine.specs.Tally.{tally_of};
 ghost use Rattle.timer_queue.specs.Queue.{IsOrderly};
@@ -19,7 +20,7 @@ mod moves;
 use crate::Tally;
 use connections::Connections;
 use net_base::{
-    ActionList, Addr, AddrList, BigTargets, Cid, Event, Facts, OutOfMemory, Peer, Sequence,
+    ActionList, Addr, AddrList, BigTargets, Cid, Event, Facts, Ip, OutOfMemory, Peer, Sequence,
     Settings, Targets,
 };
 use peer_book::PeerBook;
@@ -83,6 +84,17 @@ impl NodeState {
             tellable: None,
             connections: Connections::new(alloc, settings),
         }
+    }
+
+    /// All that is known is given up, and the settings with it. Takes no memory.
+    pub(crate) fn forget(&mut self)
+        ensures { self.new ≡ blank }
+    {
+        let nowhere = Addr {
+            ip: Ip::V4(0),
+            port: 0,
+        };
+        *self = NodeState::new(self.alloc, &Settings::usual(nowhere));
     }
 
     /// What happens to the node, and what it does about it.

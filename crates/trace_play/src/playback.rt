@@ -9,7 +9,7 @@ ghost use Rattle.trace_meaning.specs.Settings.{settings_in};
 ghost use Rattle.trace_play.specs.Playback.{begun, kept, nothing_kept, events_taken, machine_before, IsLineWithin, IsSaid};
 ghost use Rattle.trace_play.specs.Played.{line_means, played, stepped};
 ghost use Rattle.trace_text.specs.Stages.{stage_after};
-ghost use Rattle.trace_text.specs.declared.line.Line.TheVariants.{Happen};
+ghost use Rattle.trace_text.specs.declared.line.Line.TheVariants.{Happen, Head};
 
 use crate::beginning::first;
 use io_edge::PieceWriter;
@@ -60,15 +60,16 @@ impl<E: Stepper> Playback<E> {
         }
     }
 
-    // A line of the head, with the stage behind it.
+    // A line of the head.
+    #[cold]
+    #[inline(never)]
     fn head(
         &mut self,
-        stage: Stage,
         head: HeadLine,
         text: &[u8],
         pieces: &mut PieceWriter,
     ) -> Result<(), OutOfMemory>
-        ensures stage { OnOk result (self.new.stage ≡ stage) }
+        ensures stage { OnOk result (self.new.stage ≡ stage_after self.old.stage (Head head)) }
         ensures heads { OnOk result (self.new.heads.items ≡ self.old.heads.items ++ head ∷ []) }
         ensures engine { OnOk result (self.new.engine ≡ self.old.engine) }
         ensures said { OnOk result (pieces.new ≡ pieces.old ++ ended_lines (text.now ∷ [])) }
@@ -76,7 +77,7 @@ impl<E: Stepper> Playback<E> {
     {
         self.heads.push(head)?;
         pieces.push_line(text)?;
-        self.stage = stage;
+        self.stage = self.stage.after(&Line::Head(head));
         Ok(())
     }
 
@@ -85,6 +86,7 @@ impl<E: Stepper> Playback<E> {
         requires sound { AreSound (settings_in self.old.heads.items) }
         requires few { events_taken (begun self.old.engine E.machine E.events) < 1_000_000 }
         requires within { IsWithinLimits event.now }
+        ensures stage { OnOk result (self.new.stage ≡ self.old.stage) }
         ensures heads { OnOk result (self.new.heads ≡ self.old.heads) }
         ensures engine { OnOk result (begun self.new.engine E.machine E.events ≡
             Some (stepped (kept self.old.stage self.old.heads.items (begun self.old.engine E.machine E.events)) event.now)) }
@@ -94,46 +96,55 @@ impl<E: Stepper> Playback<E> {
         if let Some(engine) = &mut self.engine {
             return engine.step(event);
         }
+        self.first_step(event)
+    }
+
+    // The same of the first event.
+    #[cold]
+    #[inline(never)]
+    fn first_step(&mut self, event: &Event) -> Result<ActionList, OutOfMemory>
+        requires sound { AreSound (settings_in self.old.heads.items) }
+        requires first { self.old.engine ≡ None }
+        requires within { IsWithinLimits event.now }
+        ensures stage { OnOk result (self.new.stage ≡ self.old.stage) }
+        ensures heads { OnOk result (self.new.heads ≡ self.old.heads) }
+        ensures engine { OnOk result (begun self.new.engine E.machine E.events ≡
+            Some (stepped (kept self.old.stage self.old.heads.items (begun self.old.engine E.machine E.events)) event.now)) }
+        ensures actions { IfOk result (λ actions. actions ≡
+            (step (machine_before (kept self.old.stage self.old.heads.items (begun self.old.engine E.machine E.events))) event.now).actions) }
+    {
         let mut engine: E = first(self.alloc, self.means.take(), &self.heads)?;
         let actions = engine.step(event)?;
         self.engine = Some(engine);
         Ok(actions)
     }
 
-    // An event line, with the stage behind it.
-    fn happen(
-        &mut self,
-        stage: Stage,
-        event: Event,
-        text: &[u8],
-        pieces: &mut PieceWriter,
-    ) -> Result<(), Stop>
+    // An event line.
+    fn happen(&mut self, event: &Event, text: &[u8], pieces: &mut PieceWriter) -> Result<(), Stop>
         requires sound { AreSound (settings_in self.old.heads.items) }
-        requires within { IsWithinLimits event }
-        requires stage { stage ≡ stage_after self.old.stage (Happen event) }
-        ensures { (last : List (List ℕ)) → IsInterpreted (line_means last (kept self.old.stage self.old.heads.items (begun self.old.engine E.machine E.events)) text.now (Happen event))
+        requires within { IsWithinLimits event.now }
+        ensures { (last : List (List ℕ)) → IsInterpreted (line_means last (kept self.old.stage self.old.heads.items (begun self.old.engine E.machine E.events)) text.now (Happen event.now))
             (kept self.new.stage self.new.heads.items (begun self.new.engine E.machine E.events)) pieces.old pieces.new result }
     {
         if self.events() >= EVENTS_MOST {
             return Err(Stop::TooMany);
         }
-        let actions = self.step(&event)?;
+        let actions = self.step(event)?;
         tell_line(self.alloc, text, actions.as_slice(), pieces)?;
-        self.stage = stage;
+        self.stage.events = true;
         Ok(())
     }
 
     // A line, by what it says.
-    fn play(&mut self, line: Line, text: &[u8], pieces: &mut PieceWriter) -> Result<(), Stop>
+    fn play(&mut self, line: &Line, text: &[u8], pieces: &mut PieceWriter) -> Result<(), Stop>
         requires sound { AreSound (settings_in self.old.heads.items) }
-        requires within { IsLineWithin line }
-        ensures { IsInterpreted (line_means [] (kept self.old.stage self.old.heads.items (begun self.old.engine E.machine E.events)) text.now line)
+        requires within { IsLineWithin line.now }
+        ensures { IsInterpreted (line_means [] (kept self.old.stage self.old.heads.items (begun self.old.engine E.machine E.events)) text.now line.now)
             (kept self.new.stage self.new.heads.items (begun self.new.engine E.machine E.events)) pieces.old pieces.new result }
     {
-        let stage = self.stage.after(&line);
         match line {
-            Line::Head(head) => Ok(self.head(stage, head, text, pieces)?),
-            Line::Happen(event) => self.happen(stage, event, text, pieces),
+            Line::Head(head) => Ok(self.head(*head, text, pieces)?),
+            Line::Happen(event) => self.happen(event, text, pieces),
             Line::Acted => Ok(()),
             Line::End => Err(Stop::Ended),
         }
@@ -146,7 +157,7 @@ impl<E: Stepper> Playback<E> {
             (kept self.new.stage self.new.heads.items (begun self.new.engine E.machine E.events)) pieces.old pieces.new result }
     {
         match read(self.alloc, &self.stage, text) {
-            Ok(line) => self.play(line, text, pieces),
+            Ok(line) => self.play(&line, text, pieces),
             Err(refusal) => Err(Stop::from(refusal)),
         }
     }

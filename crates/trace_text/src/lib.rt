@@ -9,6 +9,7 @@ mod head_text;
 pub mod law;
 mod line;
 mod line_text;
+mod lower_hex;
 mod magic;
 mod piece;
 mod pieces;

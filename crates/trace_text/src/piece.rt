@@ -1,11 +1,11 @@
 ghost use Rattle.std.specs.Prelude.{◌≡◌, IfOk};
-ghost use Rattle.std.specs.List.{list_all, join_with_byte};
+ghost use Rattle.std.specs.List.{join_with_byte};
 ghost use Rattle.std.specs.String.{string_bytes};
 ghost use Rattle.trace_text.specs.Bytes.{bytes_words};
-ghost use Rattle.trace_text.specs.Events.{piece_of, is_lower_digit};
+ghost use Rattle.trace_text.specs.Events.{piece_of};
 
 use crate::line_text::longer_text;
-use hex::FromHexError;
+use crate::lower_hex::{are_lower_digits, decode_lower};
 use net_base::{Octets, OutOfMemory};
 use std::alloc::{AllocError, Global};
 
@@ -16,21 +16,16 @@ const DIGITS_MOST: usize = 131_072;
 pub fn read_piece(alloc: Global, word: &[u8]) -> Result<Option<Octets>, OutOfMemory>
     ensures { IfOk result (λ piece. piece ≡ piece_of word.now) }
 {
-    if word.len() < 2 || DIGITS_MOST < word.len() || !are_lower_digits(word) {
+    if word.len() < 2
+        || DIGITS_MOST < word.len()
+        || word.len() % 2 == 1
+        || !are_lower_digits(word)
+    {
         return Ok(None);
     }
-    match hex::decode(alloc, word) {
-        Ok(bytes) => Ok(Some(Octets::from_vec(bytes))),
-        Err(FromHexError::OutOfMemory) => Err(OutOfMemory),
-        Err(_) => Ok(None),
-    }
-}
-
-fn are_lower_digits(word: &[u8]) -> bool
-    ensures { result ≡ list_all is_lower_digit word.now }
-{
-    word.iter()
-        .all(|digit| matches!(digit, b'0'..=b'9' | b'a'..=b'f'))
+    let mut bytes = vec![in alloc; 0; word.len() / 2]?;
+    decode_lower(word, &mut bytes);
+    Ok(Some(Octets::from_vec(bytes)))
 }
 
 /// Bytes in hexadecimal, behind a name and an id.

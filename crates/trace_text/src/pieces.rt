@@ -3,7 +3,11 @@ ghost use Rattle.std.specs.Option.{option_map};
 ghost use Rattle.trace_text.specs.Views.{first_of};
 ghost use Rattle.trace_text.specs.Words.{pieces_of, cut_at};
 
+use memchr::memchr;
 use std::marker::Model;
+
+// Of fewer bytes `memchr` takes one after another too, by a call of its own.
+const MANY: usize = 32;
 
 /// What stands between the separators of some bytes, but for the pieces that were taken.
 #[derive(Drop)]
@@ -81,5 +85,16 @@ fn place_of(bytes: &[u8], separator: u8) -> Option<usize>
     ensures value { result ≡ position (λ c. c == separator) bytes.now }
     ensures within { IfSome result (λ place. place < length bytes.now) }
 {
-    bytes.iter().position(|byte| *byte == separator)
+    if bytes.len() < MANY {
+        bytes.iter().position(|byte| *byte == separator)
+    } else {
+        place_of_many(bytes, separator)
+    }
+}
+
+fn place_of_many(bytes: &[u8], separator: u8) -> Option<usize>
+    ensures value { result ≡ position (λ c. c == separator) bytes.now }
+    ensures within { IfSome result (λ place. place < length bytes.now) }
+{
+    memchr(separator, bytes)
 }

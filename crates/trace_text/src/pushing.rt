@@ -5,6 +5,7 @@ ghost use Rattle.hex.specs.Hex.{encode_lower};
 ghost use Rattle.trace_text.specs.Addresses.{printed_address, printed_octets};
 
 use crate::line_text::line_text;
+use crate::lower_hex::encode_lower;
 use crate::text::AddressText;
 use itoa::Buffer;
 use net_base::{Addr, Ip, OutOfMemory};
@@ -51,12 +52,19 @@ pub(crate) fn push_address(
             }
             pushed
         }
-        Ip::V6(_) => {
-            let text = line_text(alloc, AddressText(address))?;
-            bytes.extend_from_slice(text.as_bytes())?;
-            Ok(())
-        }
+        Ip::V6(_) => push_text_of(alloc, address, bytes),
     }
+}
+
+// An address by its text.
+#[inline(never)]
+fn push_text_of(alloc: Global, address: Addr, bytes: &mut Vec<u8>) -> Result<(), OutOfMemory>
+    ensures ok { OnOk result (bytes.new.items ≡ bytes.old.items ++ printed_address address) }
+    ensures err { OnErr result (bytes.new.items ≡ bytes.old.items) }
+{
+    let text = line_text(alloc, AddressText(address))?;
+    bytes.extend_from_slice(text.as_bytes())?;
+    Ok(())
 }
 
 // An IPv4 address with its port. A part of it may come where memory is wanting.
@@ -84,6 +92,6 @@ pub(crate) fn push_hex(piece: &[u8], bytes: &mut Vec<u8>) -> Result<(), OutOfMem
     let before = bytes.len();
     let after = before.checked_add(piece.len() * 2).ok_or(OutOfMemory)?;
     bytes.resize(after, 0)?;
-    let _ = hex::encode_to_slice(piece, &mut bytes[before..]);
+    encode_lower(piece, &mut bytes[before..]);
     Ok(())
 }

@@ -1,4 +1,4 @@
-use Rattle.std.proofs.Common.{◌≡◌, ℕ, ◌∙◌, List, ap}
+use Rattle.std.proofs.Common.{ℕ, ◌∙◌, List, ap}
 use Rattle.io_edge.specs.Pending.{front_line}
 use Rattle.trace_play.specs.Checking.{end_found}
 use Rattle.trace_play.specs.Playback.{begun, kept}

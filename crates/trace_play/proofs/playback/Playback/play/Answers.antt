@@ -1,5 +1,4 @@
-use Rattle.std.proofs.Common.{◌≡◌, [], ◌∷◌, refl, ap, ◌∙◌}
-use Rattle.trace_text.specs.Stages.{stage_after}
+use Rattle.std.proofs.Common.{◌≡◌, [], ◌∷◌, refl}
 use Rattle.trace_play.specs.Playback.{Kept, begun, kept}
 use Rattle.trace_play.proofs.Playing.{head_interpreted, happen_interpreted}
 use Rattle.trace_play.proofs.playback.Playback.play.Goals as goal
@@ -11,11 +10,10 @@ returns-in_ok-head-in-Head g c =
     let next : Kept = kept c.head.new.self.stage c.head.new.self.heads.items (begun c.head.new.self.engine g.E.Stepper.machine g.E.Stepper.events) in
     let engine : next.engine ≡ before.engine = rw ok.ensures.engine refl in (
       c.args.text.now ∷ [],
-      head_interpreted before next c.args.text.now c.args.line c.in-Head.head c.in-Head.is
-          (ok.ensures.stage ∙ c.after-stage.ensures ∙ ap (stage_after c.args.self.now.stage) c.in-Head.is) ok.ensures.heads engine,
+      head_interpreted before next c.args.text.now c.args.line.now c.in-Head.head c.in-Head.is ok.ensures.stage ok.ensures.heads engine,
       ok.ensures.said,
     )
 
 pub returns-in-Happen : goal.returns-in-Happen
 returns-in-Happen g c =
-    happen_interpreted _ _ c.args.text.now c.args.pieces.now c.happen.new.pieces c.args.line c.in-Happen.event c.happen.result c.in-Happen.is (c.happen.ensures [])
+    happen_interpreted _ _ c.args.text.now c.args.pieces.now c.happen.new.pieces c.args.line.now c.in-Happen.event c.happen.result c.in-Happen.is (c.happen.ensures [])

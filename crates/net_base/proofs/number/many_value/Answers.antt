@@ -1,6 +1,6 @@
 use Rattle.std.proofs.Common.{◌<◌, length, arith}
 use Rattle.net_base.proofs.NumberLemmas.{stops_at}
-use Rattle.net_base.proofs.number.digits_value.Goals as goal
+use Rattle.net_base.proofs.number.many_value.Goals as goal
 
 pub returns-in-None : goal.returns-in-None
 returns-in-None c =
