@@ -1,3 +1,4 @@
+pub mod CountedLinks
 pub mod LinkEdits
 pub mod LinkedTurns
 pub mod Retimed

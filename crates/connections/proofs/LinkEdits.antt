@@ -62,7 +62,7 @@ in_order-without placed links rises =
 itself : (placed : Placed) → same_placed placed placed ≡ true
 itself placed = same_placed-itself placed
 
-all_stay : (placed : Placed) (links : List Link) → stands_at placed links ≡ false → without_link placed links ≡ links
+pub all_stay : (placed : Placed) (links : List Link) → stands_at placed links ≡ false → without_link placed links ≡ links
 all_stay placed [] absent = refl
 all_stay placed (l ∷ ls) absent =
     let parts = or_parts (same_placed (place_of l) placed) (stands_at placed ls) absent in

@@ -1,7 +1,6 @@
 -- The links are those of the connections: that is so after each change of a connection.
 use Rattle.std.proofs.Common.{◌≡◌, Bool, true, false, not, cond, ◌&&◌, ◌||◌, List, [], ◌∷◌, ◌++◌, map, find, Option, Some, None, IsSome, IsSomeAnd, refl, sym, ap, subst, ◌∙◌, inl, inr, arith}
 use Rattle.std.specs.List.{AllByRecursion, list_any}
-use Rattle.std.specs.List.Sorted.{IsPermutation}
 use Rattle.std.specs.Option.{option_map}
 use Rattle.std.proofs.lemmas.Bool.{cases_Bool, or_parts, and_right, true≢false}
 use Rattle.std.proofs.lemmas.Bool.Decides.{nat_tests}
@@ -13,7 +12,6 @@ use Rattle.conn_table.specs.Index.{placed_of, same_placed}
 use Rattle.conn_table.specs.declared.placed.Placed.{Placed}
 use Rattle.govern_rules.specs.SortedLinks.{SaySame}
 use Rattle.govern_rules.specs.declared.link.Link.{Link}
-use Rattle.govern_rules.proofs.ByAddress.{SaySame-permutation}
 use Rattle.machine.specs.Govern.{link_of}
 use Rattle.machine.specs.Machine.{Entry, fresh_entry}
 use Rattle.net_base.specs.Address.{same_address}
@@ -289,6 +287,5 @@ goes_from placed s queue links e timed linked found at =
 
 -- ---- what they say
 
-pub says : (s : Standing) (links sorted : List Link) → IsLinked s links → IsPermutation links sorted → SaySame sorted (links_in s)
-says s links sorted linked moved test addr =
-    SaySame-permutation links sorted moved test addr ∙ linked (λ l. same_address l.addr addr && test l)
+pub says : (s : Standing) (links : List Link) → IsLinked s links → SaySame links (links_in s)
+says s links linked test addr = linked (λ l. same_address l.addr addr && test l)

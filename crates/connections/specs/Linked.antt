@@ -1,8 +1,9 @@
 -- The links of the connections that stand: what the rules see of each, found by its address and id.
-use Rattle.std.specs.Prelude.{◌≡◌, Bool, true, false, not, List, [], ◌∷◌, map, filter, IsSomeAnd, if◌then◌else◌}
+use Rattle.std.specs.Prelude.{◌≡◌, Bool, true, false, not, List, [], ◌∷◌, map, filter, Option, Some, None, IsSomeAnd, if◌then◌else◌}
 use Rattle.std.specs.List.{list_any}
 use Rattle.conn_table.specs.Index.{placed_below, same_placed}
 use Rattle.conn_table.specs.declared.placed.Placed.{Placed}
+use Rattle.govern_rules.specs.Lent.{is_counted}
 use Rattle.govern_rules.specs.declared.link.Link.{Link}
 use Rattle.machine.specs.Govern.{link_of}
 use Rattle.net_base.specs.declared.connection.Cid.{Cid}
@@ -55,6 +56,16 @@ with_link new links = map (λ l. if same_placed (place_of l) (place_of new) then
 
 abbrev pub without_link : Placed → List Link → List Link
 without_link placed links = filter (λ l. not (same_placed (place_of l) placed)) links
+
+-- a link that was found, where it is that of a connection
+abbrev pub link_at : Placed → Option Link → Option Link
+link_at placed None = None
+link_at placed (Some l) = if same_placed (place_of l) placed then Some l else None
+
+-- a link among those by which the rules count, where they count by it, in place of the one of its connection
+abbrev pub counted_anew : Link → List Link → List Link
+counted_anew new links =
+    if is_counted new then with_new new (without_link (place_of new) links) else without_link (place_of new) links
 
 -- ---- of the connections
 

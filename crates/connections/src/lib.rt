@@ -4,6 +4,7 @@
 mod connections;
 mod kept;
 mod link;
+mod link_row;
 mod linked;
 mod replies;
 mod reply;

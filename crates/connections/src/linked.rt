@@ -1,9 +1,9 @@
-ghost use Rattle.std.specs.Prelude.{◌≡◌, ◌≤◌, [], true, false, length, IfOk, OnOk, OnErr};
-ghost use Rattle.std.specs.List.{prefix_len};
-ghost use Rattle.std.specs.List.Sorted.{IsPermutation};
-ghost use Rattle.conn_table.specs.Index.{placed_below};
-ghost use Rattle.connections.specs.Linked.{place_of, AreInOrder, stands_at, blank, with_new, with_link, without_link};
+ghost use Rattle.std.specs.Prelude.{◌≡◌, [], true, false, filter, OnOk, OnErr};
+ghost use Rattle.connections.specs.Linked.{place_of, stands_at, blank, with_new, with_link, without_link, counted_anew};
+ghost use Rattle.govern_rules.specs.Lent.{is_counted};
+ghost use Rattle.govern_rules.specs.SortedLinks.{IsInOrder};
 
+use crate::link_row::{LinkRow, place_of};
 use chunked_list::ChunkedList;
 use conn_table::Placed;
 use govern_rules::{Link, LinkList};
@@ -14,19 +14,22 @@ use std::marker::Model;
 /// What the rules see of each connection, in order of address and then id. Contracts see the list of it.
 #[derive(Drop)]
 pub struct Links {
-    rows: ChunkedList<Link>,
+    all: LinkRow,
+    // those by which the rules count, as long as there was memory for each of them
+    counted: LinkRow,
+    has_all_counted: bool,
 }
 
 impl Model for Links {
-    ghost use Rattle.std.specs.Prelude.{List};
+    ghost use Rattle.std.specs.Prelude.{List, ◌≡◌, true, filter};
+    ghost use Rattle.govern_rules.specs.Lent.{is_counted};
     ghost use Rattle.govern_rules.specs.declared.link.Link.{Link};
-    ghost use Rattle.connections.specs.Linked.{AreInOrder};
 
     ghost Value = { List Link };
 
-    ghost view = { λ l. l.rows };
+    ghost view = { λ l. l.all };
 
-    ghost invariant = { λ l. AreInOrder l.rows };
+    ghost invariant = { λ l. l.has_all_counted ≡ true → l.counted ≡ filter is_counted l.all };
 }
 
 impl Links {
@@ -35,7 +38,9 @@ impl Links {
         ensures { result ≡ [] }
     {
         Links {
-            rows: ChunkedList::new(alloc),
+            all: LinkRow::new(alloc),
+            counted: LinkRow::new(alloc),
+            has_all_counted: true,
         }
     }
 
@@ -45,17 +50,18 @@ impl Links {
         ensures ok { OnOk result (self.new ≡ with_new (blank placed) self.old) }
         ensures err { OnErr result (self.new ≡ self.old) }
     {
-        let row = place_in(&self.rows, placed);
-        self.rows.insert(row, blank(placed))
+        self.all.enter(blank(placed))
     }
 
-    /// A link in place of the one of its connection. Takes no memory.
+    /// A link in place of the one of its connection. That takes no memory but for a link by which the rules count; where
+    /// there is none for it, they look at all.
     pub fn set(&mut self, link: Link)
         requires { stands_at (place_of link) self.old ≡ true }
         ensures { self.new ≡ with_link link self.old }
     {
-        let row = place_in(&self.rows, place_of(&link));
-        self.rows.replace(row, link);
+        self.all.set(link);
+        let has_all = count_anew(&mut self.counted, link, self.has_all_counted);
+        self.has_all_counted = has_all;
     }
 
     /// The link of a connection goes.
@@ -63,25 +69,43 @@ impl Links {
         requires { stands_at placed self.old ≡ true }
         ensures { self.new ≡ without_link placed self.old }
     {
-        let row = place_in(&self.rows, placed);
-        self.rows.remove(row);
+        self.all.leave(placed);
+        self.counted.drop_at(placed);
     }
 
-    /// A copy of them.
-    pub fn to_list(&self, alloc: Global) -> Result<LinkList, OutOfMemory>
-        ensures { IfOk result (λ links. IsPermutation self.now links) }
+    /// They are lent to the rules.
+    pub fn list(&self) -> LinkList<'_>
+        ensures { result ≡ self.now }
     {
-        LinkList::from_vec(self.rows.to_vec(alloc)?)
+        LinkList::lent(self.all.rows(), self.counted_rows())
+    }
+
+    // Those by which the rules count, or all.
+    fn counted_rows(&self) -> &ChunkedList<Link>
+        ensures ordered { IsInOrder result.now }
+        ensures same { filter is_counted result.now ≡ filter is_counted self.now }
+    {
+        if self.has_all_counted {
+            self.counted.rows()
+        } else {
+            self.all.rows()
+        }
     }
 }
 
-// The address and id of a link.
-fn place_of(link: &Link) -> Placed
-    ensures { result ≡ place_of link.now }
+// A link is among those by which the rules count, where they count by it, in place of the one of its connection. Tells
+// whether all are there, where all others were: not where there was no memory for it.
+fn count_anew(counted: &mut LinkRow, link: Link, has_all: bool) -> bool
+    ensures had { result ≡ true → has_all ≡ true }
+    ensures counted { result ≡ true → counted.new ≡ counted_anew link counted.old }
 {
-    Placed {
-        addr: link.addr,
-        cid: link.cid,
+    counted.drop_at(place_of(&link));
+    if !link.is_counted() {
+        return has_all;
+    }
+    match counted.enter(link) {
+        Ok(()) => has_all,
+        Err(_) => false,
     }
 }
 
@@ -101,20 +125,4 @@ fn blank(placed: Placed) -> Link
         owes8: false,
         owes10: false,
     }
-}
-
-// How many links have an address and id below one.
-fn place_in(rows: &ChunkedList<Link>, placed: Placed) -> usize
-    requires { AreInOrder rows.now }
-    ensures value { result ≡ prefix_len (λ l. placed_below (place_of l) placed) rows.now }
-    ensures bound { result ≤ length rows.now }
-{
-    rows.partition_point(|link| is_below(link, &placed))
-}
-
-// Whether the address and id of a link are below some.
-fn is_below(link: &Link, placed: &Placed) -> bool
-    ensures { result ≡ placed_below (place_of link.now) placed.now }
-{
-    link.addr.is_before_with(link.cid, &placed.addr, placed.cid)
 }

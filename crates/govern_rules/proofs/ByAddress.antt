@@ -1,13 +1,14 @@
 -- Links in order of address and id, and what they say of an address.
 use Rattle.std.proofs.Common.{◌≡◌, ℕ, suc, zero, ◌<◌, ◌≤◌, ◌+◌, Bool, true, false, ◌&&◌, ◌||◌, List, [], ◌∷◌, length, take, drop, get_or, refl, sym, ap, ◌∙◌, inl, inr, arith, rules}
 use Rattle.std.specs.List.{AllByRecursion, prefix_len, list_any}
-use Rattle.std.specs.List.Sorted.{IsPermutation, IsPartitionedBy, IsSortedBy}
+use Rattle.std.specs.List.Sorted.{IsPartitionedBy, IsSortedBy}
 use Rattle.std.specs.Cmp.{IsTotalOrder, IsStrictWeakOrder}
 use Rattle.std.specs.declared.cmp.Ordering.{Ordering}
 use Rattle.std.specs.Ordering.{is_lt, then_cmp, on}
 use Rattle.std.proofs.lemmas.Cmp.{then_total, on_total}
 use Rattle.std.proofs.lemmas.Bool.{cases_Bool, false≢true, false_from_ne_true}
-use Rattle.std.proofs.lemmas.List.Sorted.{ranks_by, sorted_far, list_any-IsPermutation}
+use Rattle.std.proofs.lemmas.List.{drop_more}
+use Rattle.std.proofs.lemmas.List.Sorted.{ranks_by, sorted_far}
 use Rattle.net_base.specs.Address.{same_address, address_below}
 use Rattle.net_base.specs.contracts.address.AddrOrd.TheImpl.{ghosts}
 use Rattle.net_base.specs.contracts.address.AddrOrd.TheImpl.Laws.{total-law}
@@ -16,8 +17,10 @@ use Rattle.net_base.specs.contracts.connection.CidOrd.TheImpl.Laws.{total-law as
 use Rattle.net_base.specs.declared.address.Addr.{Addr}
 use Rattle.net_base.proofs.AddressOrder.{address_irreflexive, address_transitive, address_connected, same_address-is, other_when_below}
 use Rattle.govern_rules.specs.Links.{some_link}
-use Rattle.govern_rules.specs.SortedLinks.{IsInOrder, link_below, SaySame, is_below, is_up_to, is_above_next, links_of}
+use Rattle.govern_rules.specs.Marks.{has_mark}
+use Rattle.govern_rules.specs.SortedLinks.{AreNotBelow, IsInOrder, link_below, is_below, is_above_next, links_of}
 use Rattle.govern_rules.specs.declared.link.Link.{Link}
+use Rattle.govern_rules.specs.declared.mark.Mark.{Mark}
 
 -- ---- the order of links
 
@@ -38,8 +41,8 @@ link_irreflexive l = false_from_ne_true (link_below l l)
     (λ h. let lt : is_lt (link_cmp l l) ≡ true = below_is l l ∙ h in false≢true (sym (link_order.one_way l l lt) ∙ lt))
 
 -- what is not below one that is not below another
-not_below : (j k l : Link) → link_below j k ≡ false → link_below k l ≡ false → link_below j l ≡ false
-not_below j k l h g = sym (below_is j l) ∙ link_order.chain j k l (below_is j k ∙ h) (below_is k l ∙ g)
+chain : (j k l : Link) → link_below j k ≡ false → link_below k l ≡ false → link_below j l ≡ false
+chain j k l h g = sym (below_is j l) ∙ link_order.chain j k l (below_is j k ∙ h) (below_is k l ∙ g)
 
 -- ---- by places
 
@@ -74,7 +77,7 @@ in_order-drop (suc n) (l ∷ links) h = in_order-drop n links h.1
 none_below : (l k : Link) (links : List Link) → link_below k l ≡ false → AllByRecursion (λ j. link_below j k ≡ false) links →
     AllByRecursion (λ j. link_below j l ≡ false) links
 none_below l k [] upto h = tt
-none_below l k (j ∷ links) upto h = (not_below j k l h.0 upto, none_below l k links upto h.1)
+none_below l k (j ∷ links) upto h = (chain j k l h.0 upto, none_below l k links upto h.1)
 
 -- one in front
 pub in_order-front : (l : Link) (links : List Link) → is_above_next l links ≡ false → IsInOrder links → IsInOrder (l ∷ links)
@@ -116,28 +119,9 @@ under_lower a b addr upto under = elim (cases_Bool (address_below a addr)) [
   ]
 ]
 
-upto_lower : (a b addr : Addr) → address_below b a ≡ false → (address_below b addr || same_address b addr) ≡ true →
-    (address_below a addr || same_address a addr) ≡ true
-upto_lower a b addr upto h = elim (cases_Bool (address_below a addr)) [
-  | inl under ↦ rw under refl
-  | inr over ↦ elim (cases_Bool (same_address a addr)) [
-    | inl same ↦ rw (over, same) refl
-    | inr other ↦
-        let above : address_below addr a ≡ true = address_connected a addr other over in
-        elim (cases_Bool (address_below b addr)) [
-          | inl b_under ↦ absurd (false≢true (sym upto ∙ address_transitive b addr a b_under above))
-          | inr b_over ↦ absurd (false≢true (sym upto ∙ (ap (λ x. address_below x a) (same_address-is b addr (rw b_over at h)) ∙ above)))
-        ]
-  ]
-]
-
 pub partitioned : (addr : Addr) (links : List Link) → IsInOrder links → IsPartitionedBy (is_below addr) links
 partitioned addr links h i j d upto inside under =
     under_lower (get_or links i d).addr (get_or links j d).addr addr (in_order links (by_address links h) i j d upto inside) under
-
-pub partitioned_upto : (addr : Addr) (links : List Link) → IsInOrder links → IsPartitionedBy (is_up_to addr) links
-partitioned_upto addr links h i j d upto inside under =
-    upto_lower (get_or links i d).addr (get_or links j d).addr addr (in_order links (by_address links h) i j d upto inside) under
 
 -- ---- the links of an address
 
@@ -154,14 +138,6 @@ none_above addr l (k ∷ links) above h = rw (other k.addr h.0) (none_above addr
     other a upto = false_from_ne_true (same_address a addr)
         (λ same. false≢true (sym upto ∙ (ap (λ x. address_below x l.addr) (same_address-is a addr same) ∙ above)))
 
-own_front : (addr : Addr) (links : List Link) → AllByRecursion (λ l. address_below l.addr addr ≡ false) links → IsByAddress links →
-    take (prefix_len (is_up_to addr) links) links ≡ links_of addr links
-own_front addr [] over h = refl
-own_front addr (l ∷ links) over h = elim (cases_Bool (same_address l.addr addr)) [
-  | inl same ↦ rw (over.0, same, one_more (prefix_len (is_up_to addr) links)) (ap (λ k. l ∷ k) (own_front addr links over.1 h.1))
-  | inr other ↦ rw (over.0, other) (sym (none_above addr l links (address_connected l.addr addr other over.0) h.0))
-]
-
 over_from_first : (addr : Addr) (l : Link) (links : List Link) → address_below l.addr addr ≡ false → AllByRecursion (λ k. address_below k.addr l.addr ≡ false) links →
     AllByRecursion (λ k. address_below k.addr addr ≡ false) links
 over_from_first addr l [] over h = tt
@@ -170,18 +146,47 @@ over_from_first addr l (k ∷ links) over h = (
   over_from_first addr l links over h.1,
 )
 
--- they stand between those below and those above
-own_run_by_address : (addr : Addr) (links : List Link) → IsByAddress links →
-    take (prefix_len (is_up_to addr) (drop (prefix_len (is_below addr) links) links)) (drop (prefix_len (is_below addr) links) links) ≡ links_of addr links
-own_run_by_address addr [] h = refl
-own_run_by_address addr (l ∷ links) h = elim (cases_Bool (address_below l.addr addr)) [
-  | inl under ↦ rw (under, one_more (prefix_len (is_below addr) links), other_when_below l.addr addr under) (own_run_by_address addr links h.1)
-  | inr over ↦ rw over (own_front addr (l ∷ links) (over, over_from_first addr l links over h.0) h)
+not_below_by_address : (addr : Addr) (links : List Link) → IsByAddress links → AreNotBelow addr (drop (prefix_len (is_below addr) links) links)
+not_below_by_address addr [] h = tt
+not_below_by_address addr (l ∷ links) h = elim (cases_Bool (address_below l.addr addr)) [
+  | inl under ↦ rw (under, one_more (prefix_len (is_below addr) links)) (not_below_by_address addr links h.1)
+  | inr over ↦ rw over (over, over_from_first addr l links over h.0)
 ]
 
-pub own_run : (addr : Addr) (links : List Link) → IsInOrder links →
-    take (prefix_len (is_up_to addr) (drop (prefix_len (is_below addr) links) links)) (drop (prefix_len (is_below addr) links) links) ≡ links_of addr links
-own_run addr links h = own_run_by_address addr links (by_address links h)
+-- from the first that is not below it on, none is
+pub not_below : (addr : Addr) (links : List Link) → IsInOrder links → AreNotBelow addr (drop (prefix_len (is_below addr) links) links)
+not_below addr links h = not_below_by_address addr links (by_address links h)
+
+-- and behind a link none is below that
+pub not_below-behind : (l : Link) (links : List Link) → IsInOrder (l ∷ links) → AreNotBelow l.addr links
+not_below-behind l links h = (by_address (l ∷ links) h).0
+
+-- they stand from there on
+pub own_behind : (addr : Addr) (links : List Link) → links_of addr (drop (prefix_len (is_below addr) links) links) ≡ links_of addr links
+own_behind addr [] = refl
+own_behind addr (l ∷ links) = elim (cases_Bool (address_below l.addr addr)) [
+  | inl under ↦ rw (under, one_more (prefix_len (is_below addr) links), other_when_below l.addr addr under) (own_behind addr links)
+  | inr over ↦ rw over refl
+]
+
+-- up to the first of another address
+pub none_behind : (addr : Addr) (l : Link) (links : List Link) → IsInOrder (l ∷ links) → address_below l.addr addr ≡ false → same_address l.addr addr ≡ false →
+    links_of addr (l ∷ links) ≡ []
+none_behind addr l links h over other =
+    rw other (none_above addr l links (address_connected l.addr addr other over) (by_address (l ∷ links) h).0)
+
+-- ---- the link at a place
+
+pub first_at : (links : List Link) (place : ℕ) (l : Link) → place < length links → l ≡ get_or links place l → drop place links ≡ l ∷ drop (place + 1) links
+first_at links place l inside is = drop_more links place l inside ∙ ap (λ k. k ∷ drop (place + 1) links) (sym is)
+
+pub marked_first : (addr : Addr) (mark : Mark) (l : Link) (links : List Link) → same_address l.addr addr ≡ true → has_mark mark l ≡ true →
+    list_any (has_mark mark) (links_of addr (l ∷ links)) ≡ true
+marked_first addr mark l links same marked = rw (same, marked) refl
+
+pub unmarked_first : (addr : Addr) (mark : Mark) (l : Link) (links : List Link) → same_address l.addr addr ≡ true → has_mark mark l ≡ false →
+    list_any (has_mark mark) (links_of addr (l ∷ links)) ≡ list_any (has_mark mark) (links_of addr links)
+unmarked_first addr mark l links same unmarked = rw (same, unmarked) refl
 
 -- what they say is what all links say of the address
 pub own_say : (test : Link → Bool) (addr : Addr) (links : List Link) → list_any test (links_of addr links) ≡ some_link test links addr
@@ -190,8 +195,3 @@ own_say test addr (l ∷ links) = elim (cases_Bool (same_address l.addr addr)) [
   | inl same ↦ rw same (ap (λ b. test l || b) (own_say test addr links))
   | inr other ↦ rw other (own_say test addr links)
 ]
-
--- links in another order say the same
-pub SaySame-permutation : (links sorted : List Link) → IsPermutation links sorted → SaySame sorted links
-SaySame-permutation links sorted moved test addr =
-    sym (list_any-IsPermutation (λ l. same_address l.addr addr && test l) links sorted moved)

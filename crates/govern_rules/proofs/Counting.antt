@@ -1,9 +1,9 @@
 -- Peers that have a link with a mark are counted by a look through the links.
-use Rattle.std.proofs.Common.{◌≡◌, ℕ, ◌+◌, nat_lt, Bool, true, false, cond, ◌&&◌, ◌||◌, List, [], ◌∷◌, length, Option, Some, None, refl, sym, ap, ◌∙◌, inl, inr, arith}
+use Rattle.std.proofs.Common.{◌≡◌, ℕ, ◌+◌, Bool, true, false, cond, ◌&&◌, ◌||◌, List, [], ◌∷◌, length, drop, get_or, ◌<◌, Option, Some, None, refl, sym, ap, ◌∙◌, inl, inr, arith}
 use Rattle.std.specs.List.{IsDistinct, filter, count_by, list_any}
 use Rattle.std.specs.Option.{option_to_list}
-use Rattle.std.proofs.lemmas.Bool.{cases_Bool}
-use Rattle.std.proofs.lemmas.Bool.Decides.{nat_tests}
+use Rattle.std.proofs.lemmas.Bool.{cases_Bool, and_parts, false_from_ne_true, true≢false}
+use Rattle.std.proofs.lemmas.List.{drop_more}
 use Rattle.std.proofs.lemmas.List.Sums.{sum_by-cons, length-filter}
 use Rattle.net_base.specs.Address.{same_address}
 use Rattle.net_base.specs.declared.address.Addr.{Addr}
@@ -12,8 +12,9 @@ use Rattle.net_base.proofs.AddressOrder.{same_address-is}
 use Rattle.peer_book.specs.Book.{is_of, has_address, peer_at, addresses_of}
 use Rattle.root_groups.proofs.Listed.{same_address-turn}
 use Rattle.govern_rules.specs.ClassRules.{count_of}
+use Rattle.govern_rules.specs.Lent.{is_counted}
 use Rattle.govern_rules.specs.Links.{some_link}
-use Rattle.govern_rules.specs.Marks.{has_mark, is_last_marked, is_class, is_class_at}
+use Rattle.govern_rules.specs.Marks.{has_mark, counts, is_last_marked, is_class, is_class_at}
 use Rattle.govern_rules.specs.SortedLinks.{links_of}
 use Rattle.govern_rules.specs.declared.link.Link.{Link}
 use Rattle.govern_rules.specs.declared.mark.Mark.{Mark}
@@ -51,30 +52,6 @@ count-nobody big (p ∷ peers) =
     nothing : (b : Bool) → cond {A = ℕ} (b && false) 1 0 ≡ 0
     nothing true = refl
     nothing false = refl
-
--- ---- no link has a mark
-
-pub none_of : (n : ℕ) → nat_lt 0 n ≡ false → n ≡ 0
-none_of n h = grind (arith, nat_tests)
-
-pub unmarked : (test : Link → Bool) (links : List Link) (addr : Addr) → count_by test links ≡ 0 → some_link test links addr ≡ false
-unmarked test [] addr none = refl
-unmarked test (l ∷ links) addr none =
-    let parts = sum_by-cons (λ x. cond {A = ℕ} (test x) 1 0) l links in
-    elim (cases_Bool (test l)) [
-      | inl marked ↦ let one : cond {A = ℕ} (test l) 1 0 ≡ 1 = rw marked refl in absurd (omega (arith, parts, none, one))
-      | inr other ↦ let first : (same_address l.addr addr && test l) ≡ false = rw other (and_false (same_address l.addr addr)) in
-          rw first (unmarked test links addr (omega (arith, parts, none)))
-    ]
-  where
-    and_false : (b : Bool) → (b && false) ≡ false
-    and_false true = refl
-    and_false false = refl
-
-pub count-unmarked : (big : Bool) (test : Addr → Bool) (peers : List Peer) → ((addr : Addr) → test addr ≡ false) → count_of big test peers ≡ 0
-count-unmarked big test peers none =
-    count-same (λ p. is_of big p && test p.addr) (λ p. is_of big p && false) (λ p. ap (λ b. is_of big p && b) (none p.addr)) peers
-    ∙ count-nobody big peers
 
 -- ---- the peer of an address
 
@@ -149,3 +126,51 @@ one-link big mark l links peers distinct b e =
 
 pub no-link : (big : Bool) (mark : Mark) (peers : List Peer) → count_of big (some_link (has_mark mark) []) peers ≡ 0
 no-link big mark peers = count-nobody big peers
+
+-- ---- whoever counts by a mark looks among those that count
+
+any-filter : (keep test : Link → Bool) → ((l : Link) → test l ≡ true → keep l ≡ true) → (links : List Link) →
+    list_any test (filter keep links) ≡ list_any test links
+any-filter keep test passes [] = refl
+any-filter keep test passes (l ∷ links) = elim (cases_Bool (keep l)) [
+  | inl kept ↦ rw kept (ap (λ b. test l || b) (any-filter keep test passes links))
+  | inr gone ↦
+      let fails : test l ≡ false = false_from_ne_true (test l) (λ h. true≢false (sym (passes l h) ∙ gone)) in
+      rw (gone, fails) (any-filter keep test passes links)
+]
+
+-- lists that have the same ones that count say the same of a mark by which one counts
+pub same_marked : (test : Link → Bool) → ((l : Link) → test l ≡ true → is_counted l ≡ true) → (all counted : List Link) →
+    filter is_counted counted ≡ filter is_counted all → (addr : Addr) → some_link test counted addr ≡ some_link test all addr
+same_marked test counts all counted same addr =
+    let at : Link → Bool = λ l. same_address l.addr addr && test l in
+    let passes : (l : Link) → at l ≡ true → is_counted l ≡ true = λ l h. counts l (and_parts (same_address l.addr addr) (test l) h).1 in
+    sym (any-filter is_counted at passes counted) ∙ (ap (list_any at) same ∙ any-filter is_counted at passes all)
+
+pub pending-counts : (l : Link) → l.pending ≡ true → is_counted l ≡ true
+pending-counts l h = rw h refl
+
+pub owes2-counts : (l : Link) → l.owes2 ≡ true → is_counted l ≡ true
+owes2-counts l h = rw h (or_left_true l.pending l.owes10)
+  where
+    or_left_true : (a b : Bool) → (a || (true || b)) ≡ true
+    or_left_true true b = refl
+    or_left_true false b = refl
+
+pub owes10-counts : (l : Link) → l.owes10 ≡ true → is_counted l ≡ true
+owes10-counts l h = rw h (last_true l.pending l.owes2)
+  where
+    last_true : (a b : Bool) → (a || (b || true)) ≡ true
+    last_true true b = refl
+    last_true false true = refl
+    last_true false false = refl
+
+-- ---- the link at a place, and those behind it
+
+pub count-next : (big : Bool) (mark : Mark) (links : List Link) (place : ℕ) (peers : List Peer) → IsDistinct same_address (addresses_of peers) →
+    place < length links → (b : Bool) → ((d : Link) → counts mark big (get_or links place d) (drop (place + 1) links) peers ≡ b) →
+    count_of big (some_link (has_mark mark) (drop place links)) peers ≡ cond b 1 0 + count_of big (some_link (has_mark mark) (drop (place + 1) links)) peers
+count-next big mark [] place peers distinct inside b each = absurd (omega (arith, inside))
+count-next big mark (l ∷ links) place peers distinct inside b each =
+    ap (λ ls. count_of big (some_link (has_mark mark) ls) peers) (drop_more (l ∷ links) place l inside)
+    ∙ one-link big mark (get_or (l ∷ links) place l) (drop (place + 1) (l ∷ links)) peers distinct b (each l)

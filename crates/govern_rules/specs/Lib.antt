@@ -1,6 +1,7 @@
 pub mod BigRules
 pub mod Candidates
 pub mod ClassRules
+pub mod Lent
 pub mod Links
 pub mod Marks
 pub mod Members

@@ -1,10 +1,9 @@
 -- What the links say of an address.
-use Rattle.std.specs.Prelude.{Bool, true, ◌&&◌, ◌||◌, not, List, count_by, ◌+◌, ◌<◌, ◌^◌, if◌then◌else◌}
+use Rattle.std.specs.Prelude.{Bool, true, ◌&&◌, ◌||◌, not, List}
 use Rattle.std.specs.List.{list_any}
 use Rattle.net_base.specs.Address.{same_address}
 use Rattle.net_base.specs.declared.address.Addr.{Addr}
 use Rattle.govern_rules.specs.declared.link.Link.{Link}
-use Rattle.govern_rules.specs.declared.mark_counts.MarkCounts.{MarkCounts}
 
 -- some link with the address passes a test
 abbrev pub some_link : (Link → Bool) → List Link → Addr → Bool
@@ -37,24 +36,3 @@ owes_a_reply = some_link (λ l. l.owes2 || l.owes8 || l.owes10)
 -- the connection in use agreed on peer sharing, and owes nothing on that protocol
 abbrev pub can_share : List Link → Addr → Bool
 can_share = some_link (λ l. l.local && l.sharing && not l.owes10)
-
--- ---- how many have a mark
-
-abbrev pub marks_counted : List Link → MarkCounts
-marks_counted links = record {
-  pending = count_by (λ l. l.pending) links;
-  owes2 = count_by (λ l. l.owes2) links;
-  owes10 = count_by (λ l. l.owes10) links;
-}
-
--- one link more
-abbrev pub more_marked : Link → MarkCounts → MarkCounts
-more_marked l counts = record {
-  pending = counts.pending + (if l.pending then 1 else 0);
-  owes2 = counts.owes2 + (if l.owes2 then 1 else 0);
-  owes10 = counts.owes10 + (if l.owes10 then 1 else 0);
-}
-
--- there may be one more of each
-abbrev pub AreFew : MarkCounts → Type 0
-AreFew counts = (counts.pending + 1 < 2 ^ 64) × (counts.owes2 + 1 < 2 ^ 64) × (counts.owes10 + 1 < 2 ^ 64)

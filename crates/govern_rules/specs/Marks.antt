@@ -31,3 +31,7 @@ is_class big (Some p) = is_of big p
 -- there is a peer of a class with an address
 abbrev pub is_class_at : Bool → Addr → List Peer → Bool
 is_class_at big addr peers = is_class big (peer_at addr peers)
+
+-- it counts where peers of a class with the mark are counted
+abbrev pub counts : Mark → Bool → Link → List Link → List Peer → Bool
+counts mark big l after peers = is_last_marked mark l after && is_class_at big l.addr peers

@@ -27,8 +27,9 @@ links_of addr = filter (λ l. same_address l.addr addr)
 abbrev pub is_below : Addr → Link → Bool
 is_below addr l = address_below l.addr addr
 
-abbrev pub is_up_to : Addr → Link → Bool
-is_up_to addr l = address_below l.addr addr || same_address l.addr addr
+-- none has an address below one
+abbrev pub AreNotBelow : Addr → List Link → Type 0
+AreNotBelow addr links = AllByRecursion (λ l. address_below l.addr addr ≡ false) links
 
 -- the next link is below it
 abbrev pub is_above_next : Link → List Link → Bool

@@ -1,4 +1,4 @@
-ghost use Rattle.std.specs.Prelude.{◌≡◌, ◌++◌, filter, IfOk};
+ghost use Rattle.std.specs.Prelude.{◌≡◌, ◌++◌, filter, IfOk, OnOk};
 ghost use Rattle.std.specs.List.{IsDistinct};
 ghost use Rattle.std.specs.List.Sorted.{IsPermutation};
 ghost use Rattle.net_base.specs.Address.{same_address};
@@ -36,7 +36,7 @@ fn known(alloc: Global, search: &Search, book: &PeerBook) -> Result<Vec<Peer>, A
     let mut place = 0;
     while place < book.len() {
         let run = book.run_from(place);
-        cands.extend_from_slice(&among(alloc, search, run)?)?;
+        take_in(&mut cands, search, run)?;
         place += run.len();
     }
     Ok(cands)
@@ -75,6 +75,18 @@ pub fn among(alloc: Global, search: &Search, peers: &[Peer]) -> Result<Vec<Peer>
         .filter(|peer| search.suits(peer))
         .copied()
         .collect(alloc)
+}
+
+// Those of some peers that suit, behind others.
+fn take_in(cands: &mut Vec<Peer>, search: &Search, peers: &[Peer]) -> Result<(), AllocError>
+    ensures { OnOk result (cands.new.items ≡ cands.old.items ++ filter (suits search.now) peers.now) }
+{
+    for peer in peers {
+        if search.suits(peer) {
+            cands.push(*peer)?;
+        }
+    }
+    Ok(())
 }
 
 // Those with some addresses that suit.

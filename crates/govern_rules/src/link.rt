@@ -1,3 +1,5 @@
+ghost use Rattle.std.specs.Prelude.{◌≡◌};
+
 use net_base::{Addr, Cid};
 
 /// What the rules need to know of one entry among the connections. An address may have several.
@@ -21,4 +23,15 @@ pub struct Link {
     pub owes8: bool,
     /// A reply is owed on peer-sharing.
     pub owes10: bool,
+}
+
+impl Link {
+    ghost use Rattle.govern_rules.specs.Lent.{is_counted};
+
+    /// Rules count by it: a dial is on its way, or a reply is owed on chain-sync or peer-sharing.
+    pub fn is_counted(&self) -> bool
+        ensures { result ≡ is_counted self.now }
+    {
+        self.pending || self.owes2 || self.owes10
+    }
 }

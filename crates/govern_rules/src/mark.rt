@@ -1,5 +1,4 @@
 ghost use Rattle.std.specs.Prelude.{◌≡◌};
-ghost use Rattle.std.specs.List.{list_any};
 ghost use Rattle.govern_rules.specs.Marks.{has_mark};
 
 use crate::Link;
@@ -28,11 +27,4 @@ pub fn has_mark(mark: Mark, link: &Link) -> bool
         Mark::OwesReply => link.owes2 || link.owes8 || link.owes10,
         Mark::CanShare => link.local && link.sharing && !link.owes10,
     }
-}
-
-// Some of the links of an address has a mark.
-pub fn some(mark: Mark, own: &[Link]) -> bool
-    ensures { result ≡ list_any (has_mark mark) own.now }
-{
-    own.iter().any(|link| has_mark(mark, link))
 }

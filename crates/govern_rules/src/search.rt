@@ -1,13 +1,14 @@
 ghost use Rattle.std.specs.Prelude.{◌≡◌};
-ghost use Rattle.govern_rules.specs.Marks.{has_mark};
+ghost use Rattle.std.specs.List.{prefix_len};
 ghost use Rattle.govern_rules.specs.Search.{is_ready, is_free, say, suits};
+ghost use Rattle.govern_rules.specs.SortedLinks.{is_below, links_of};
 
-use crate::mark::{Mark, some};
+use crate::mark::Mark;
 use crate::status::is_of;
 use crate::task::Task;
 use crate::whom::Whom;
-use crate::{Link, View};
-use net_base::{Peer, Temp};
+use crate::{LinkList, View};
+use net_base::{Addr, Peer, Temp};
 
 // Which peers a rule picks from.
 #[derive(Clone, Copy)]
@@ -15,7 +16,7 @@ pub struct Search<'a> {
     pub big: bool,
     pub task: Task,
     pub whom: Whom<'a>,
-    pub view: &'a View,
+    pub view: &'a View<'a>,
 }
 
 impl Search<'_> {
@@ -26,7 +27,7 @@ impl Search<'_> {
         is_of(self.big, peer)
             && is_ready(self.task, self.view.moment, peer)
             && self.whom.is_meant(peer.addr)
-            && is_free(self.task, self.view.links.of(peer.addr))
+            && is_free(self.task, &self.view.links, peer.addr)
     }
 }
 
@@ -44,21 +45,32 @@ fn is_ready(task: Task, moment: u64, peer: &Peer) -> bool
 }
 
 // What is asked of the links of its address.
-fn is_free(task: Task, own: &[Link]) -> bool
-    ensures { result ≡ is_free task (say own.now) }
+fn is_free(task: Task, links: &LinkList, addr: Addr) -> bool
+    ensures { result ≡ is_free task (say (links_of addr links.now)) }
+{
+    is_free_at(task, links, links.start_of(addr), addr)
+}
+
+// The same where so many links have an address below it.
+fn is_free_at(task: Task, links: &LinkList, start: usize, addr: Addr) -> bool
+    requires { start ≡ prefix_len (is_below addr) links.now }
+    ensures { result ≡ is_free task (say (links_of addr links.now)) }
 {
     match task {
-        Task::Asking(_) => some(Mark::CanShare, own),
-        Task::Forgetting => !some(Mark::Pending, own),
-        Task::Promoting => may_be_promoted(own),
-        Task::Releasing => !some(Mark::OwesReply, own),
-        Task::Activating => !some(Mark::Owes2, own),
+        Task::Asking(_) => links.some_at(start, addr, Mark::CanShare),
+        Task::Forgetting => !links.some_at(start, addr, Mark::Pending),
+        Task::Promoting => may_be_promoted(links, start, addr),
+        Task::Releasing => !links.some_at(start, addr, Mark::OwesReply),
+        Task::Activating => !links.some_at(start, addr, Mark::Owes2),
         Task::Deactivating => true,
     }
 }
 
-fn may_be_promoted(own: &[Link]) -> bool
-    ensures { result ≡ is_free Task.Promoting (say own.now) }
+fn may_be_promoted(links: &LinkList, start: usize, addr: Addr) -> bool
+    requires { start ≡ prefix_len (is_below addr) links.now }
+    ensures { result ≡ is_free Task.Promoting (say (links_of addr links.now)) }
 {
-    !some(Mark::Pending, own) && (!some(Mark::Entry, own) || some(Mark::Acquirable, own))
+    !links.some_at(start, addr, Mark::Pending)
+        && (!links.some_at(start, addr, Mark::Entry)
+            || links.some_at(start, addr, Mark::Acquirable))
 }

@@ -3,7 +3,7 @@ use net_base::{BigTargets, Settings, Targets};
 
 /// What the rules look at beside the peers, the groups and the public roots.
 #[derive(Drop)]
-pub struct View {
+pub struct View<'a> {
     /// Milliseconds.
     pub moment: u64,
     /// The word that decides between peers.
@@ -13,5 +13,5 @@ pub struct View {
     pub targets: Targets,
     /// Those of big ledger peers.
     pub big: BigTargets,
-    pub links: LinkList,
+    pub links: LinkList<'a>,
 }

@@ -6,11 +6,7 @@ use Rattle.net_base.specs.declared.action.Action.{Action}
 use Rattle.govern_rules.specs.declared.big_rule.BigRule.{BigRule}
 use Rattle.govern_rules.specs.declared.big_rule.BigRule.TheVariants.{B3, B5, B6, B8, B9}
 use Rattle.machine.specs.Effect.{for_each}
-use Rattle.govern_rules.specs.SameViews.{SeeSame}
-use Rattle.govern_rules.specs.declared.order.Order.{Order}
-use Rattle.govern_rules.specs.declared.view.View.{View}
-use Rattle.machine.specs.Govern.{asks_roots, ordinary_rules, big_rules, rules, view_of, carries_out}
-use Rattle.node_engine.proofs.Going.{going-all, going-none}
+use Rattle.machine.specs.Govern.{asks_roots, ordinary_rules, big_rules, rules}
 use Rattle.machine.specs.Machine.{Machine}
 use Rattle.laws.specs.Carrying.{MayFollow, MayGovern}
 use Rattle.node_engine.specs.State.{Does}
@@ -45,15 +41,3 @@ pub big-may : (word : ℕ) (m n o : Machine) (before middle after : List Action)
 big-may word m n o before middle after may asked followed =
     subst (MayFollow (big_rules word))
     (ap (λ x. (for_each rules (ordinary_rules word) x).machine) (sym asked.machine_is) ∙ sym followed.machine_is) may.big
-
--- ---- what the rules see
-
-pub word-seen : (word : ℕ) (view : View) (m : Machine) → SeeSame view (view_of word m) → view.word ≡ word
-word-seen word view m seen = ap (λ (v : View). v.word) seen.same
-
-pub seen-by-word : (word : ℕ) (view : View) (m : Machine) → SeeSame view (view_of word m) → SeeSame view (view_of view.word m)
-seen-by-word word view m seen = subst (λ w. SeeSame view (view_of w m)) (sym (word-seen word view m seen)) seen
-
--- where nothing is ordered, nothing happens
-pub none-ordered : (orders : List Order) (m : Machine) (actions : List Action) → orders ≡ [] → Does (for_each carries_out orders m) actions m actions
-none-ordered orders m actions none = going-all carries_out orders orders m actions m actions none (going-none carries_out orders m actions)

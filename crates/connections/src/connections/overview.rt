@@ -1,4 +1,4 @@
-ghost use Rattle.std.specs.Prelude.{◌≡◌, map, IfOk};
+ghost use Rattle.std.specs.Prelude.{◌≡◌, map};
 ghost use Rattle.std.specs.List.{filter_map};
 ghost use Rattle.accept_gate.specs.Prune.{choice_of};
 ghost use Rattle.connections.specs.Standing.{facts_in};
@@ -11,8 +11,7 @@ ghost use Rattle.timer_queue.specs.Timers.{HaveSame, due_at, least};
 
 use super::Connections;
 use govern_rules::LinkList;
-use net_base::{Cid, Deadline, OutOfMemory};
-use std::alloc::Global;
+use net_base::{Cid, Deadline};
 use timer_queue::TimerQueue;
 
 impl Connections {
@@ -45,9 +44,9 @@ impl Connections {
     }
 
     /// What the rules see of the connections, in address order.
-    pub fn links(&self, alloc: Global) -> Result<LinkList, OutOfMemory>
-        ensures { IfOk result (λ links. SaySame links (map link_of self.now.entries)) }
+    pub fn links(&self) -> LinkList<'_>
+        ensures { SaySame result (map link_of self.now.entries) }
     {
-        self.links.to_list(alloc)
+        self.links.list()
     }
 }

@@ -1,5 +1,5 @@
 use govern_rules::{
-    BigRule, Link, LinkList, Order, OrderList, View, rule_big, rule_g2, rule_g3, rule_g4, rule_g5,
+    BigRule, Link, LinkRows, Order, OrderList, View, rule_big, rule_g2, rule_g3, rule_g4, rule_g5,
     rule_g6, rule_g7, rule_g8, rule_g9,
 };
 use net_base::{
@@ -113,16 +113,24 @@ fn in_use(port: u16) -> Link {
     }
 }
 
-fn view(alloc: Global, targets: Targets, links: &[Link]) -> Result<View, OutOfMemory> {
-    let links = LinkList::from_vec(Vec::from_slice(alloc, links)?)?;
-    Ok(View {
+/// What the rules look at beside the links.
+#[derive(Clone, Copy)]
+struct Sight {
+    moment: u64,
+    word: u64,
+    settings: Settings,
+    targets: Targets,
+    big: BigTargets,
+}
+
+fn sight() -> Sight {
+    Sight {
         moment: 4999,
         word: 0,
         settings: Settings::usual(loopback(3001)),
-        targets,
+        targets: targets(0, 0, 0),
         big: big_targets(0, 0, 0),
-        links,
-    })
+    }
 }
 
 #[derive(Clone, Copy)]
@@ -209,10 +217,23 @@ fn roots(alloc: Global, ports: &[u16]) -> Result<Roots, OutOfMemory> {
 
 #[derive(Drop)]
 struct Scene {
-    view: View,
+    sight: Sight,
+    links: LinkRows,
     book: PeerBook,
     groups: Groups,
     roots: Roots,
+}
+
+fn view(scene: &Scene) -> View<'_> {
+    let sight = &scene.sight;
+    View {
+        moment: sight.moment,
+        word: sight.word,
+        settings: sight.settings,
+        targets: sight.targets,
+        big: sight.big,
+        links: scene.links.list(),
+    }
 }
 
 #[derive(Clone, Copy)]
@@ -233,12 +254,8 @@ fn orders(
     scene: &Scene,
     picker: &Picker,
 ) -> Result<OrderList, OutOfMemory> {
-    let Scene {
-        view,
-        book,
-        groups,
-        roots,
-    } = scene;
+    let view = &view(scene);
+    let (book, groups, roots) = (&scene.book, &scene.groups, &scene.roots);
     match rule {
         Rule::G2 => rule_g2(alloc, view, book, groups, roots, picker),
         Rule::G3 => rule_g3(alloc, view, book, groups, roots, picker),
@@ -268,9 +285,9 @@ fn expect(
     scene: &mut Scene,
     picker: &Picker,
 ) -> Result<(), OutOfMemory> {
-    scene.view.targets = case.targets;
-    scene.view.moment = case.moment;
-    scene.view.word = case.word;
+    scene.sight.targets = case.targets;
+    scene.sight.moment = case.moment;
+    scene.sight.word = case.word;
     let orders = orders(alloc, case.rule, scene, picker)?;
     assert!(rt; orders.as_slice() == case.want);
     Ok(())
@@ -303,7 +320,8 @@ fn scene_of(
     links: &[Link],
 ) -> Result<Scene, OutOfMemory> {
     Ok(Scene {
-        view: view(alloc, targets(0, 0, 0), links)?,
+        sight: sight(),
+        links: LinkRows::from_vec(alloc, Vec::from_slice(alloc, links)?)?,
         book,
         groups,
         roots: roots(alloc, publics)?,
@@ -387,7 +405,7 @@ fn peers_are_asked_for_addresses(rt: HostRuntime) -> Result<(), Fail> {
     expect_all(&rt, alloc, sharing(alloc)?, &picker, &cases)?;
     // five answers may be owed
     let mut scene = sharing(alloc)?;
-    scene.view.settings.shares = 5;
+    scene.sight.settings.shares = 5;
     let two = [Order::Ask(A2, 2), Order::Ask(A3, 2)];
     let three = [Order::Ask(A2, 2), Order::Ask(A3, 2), Order::Ask(A6, 2)];
     let first = case_of(Rule::G2, targets(8, 0, 0), &two);
@@ -661,9 +679,9 @@ fn expect_big(
     scene: &mut Scene,
     picker: &RankedPicker,
 ) -> Result<(), OutOfMemory> {
-    scene.view.big = case.big;
-    scene.view.moment = case.moment;
-    let orders = rule_big(alloc, case.rule, &scene.view, &scene.book, picker)?;
+    scene.sight.big = case.big;
+    scene.sight.moment = case.moment;
+    let orders = rule_big(alloc, case.rule, &view(scene), &scene.book, picker)?;
     assert!(rt; orders.as_slice() == case.want);
     Ok(())
 }

@@ -11,7 +11,7 @@ loop-place-preserved c =
     let test = suits c.args.search.now in
     let place = c.loop-place.place in
     let run = c.run_from-run.result.now in
-    c.in_ok-extend_from_slice.ensures.items
-    ∙ (ap (λ l. l ++ c.deref.result.now) c.loop-place.invariant
-    ∙ (ap (λ l. filter test (take place book) ++ l) (c.deref.ensures.value ∙ (c.in_ok-among.ensures ∙ ap (filter test) c.run_from-run.ensures.front))
+    c.in_ok-take_in.ensures
+    ∙ (ap (λ l. l ++ filter test run) c.loop-place.invariant
+    ∙ (ap (λ l. filter test (take place book) ++ filter test l) c.run_from-run.ensures.front
     ∙ sym (ap (filter test) (take-add place (length run) book) ∙ filter-append test (take place book) (take (length run) (drop place book)))))

@@ -24,8 +24,7 @@ impl NodeState {
         ensures { OnOk result (Does (govern word self.old) actions.old self.new actions.new) }
     {
         self.ask_roots(actions)?;
-        let mut view = self.view(word)?;
-        self.follow_ordinary(word, &mut view, picker, actions)?;
-        self.follow_big(word, &mut view, ranked, actions)
+        self.follow_ordinary(word, picker, actions)?;
+        self.follow_big(word, ranked, actions)
     }
 }

@@ -1,25 +1,24 @@
-use Rattle.std.proofs.Common.{◌≡◌, ap, sym, subst, ◌∙◌}
-use Rattle.std.specs.List.{insert}
+use Rattle.std.proofs.Common.{◌≡◌, false, sym, ap, refl, ◌∙◌}
+use Rattle.std.specs.List.{filter}
 use Rattle.std.proofs.lemmas.Result.{on_ok_weaker}
-use Rattle.connections.specs.Linked.{AreInOrder, stands_at, blank, with_new}
-use Rattle.connections.proofs.LinkEdits.{insert-row, in_order-new}
+use Rattle.govern_rules.specs.Lent.{is_counted}
+use Rattle.connections.specs.Linked.{place_of, stands_at, blank, with_new}
+use Rattle.connections.proofs.CountedLinks.{counted-enrolled}
 use Rattle.connections.proofs.TalkFeeds.{in_either}
-use Rattle.connections.proofs.linked.Links.enroll.Goals.{After-insert}
 use Rattle.connections.proofs.linked.Links.enroll.Goals as goal
 
-put : (c : After-insert) → c.insert.new.self ≡ insert c.self.inside.rows c.place_in-row.result c.blank.result →
-    c.insert.new.self ≡ with_new (blank c.args.placed) c.self.inside.rows
-put c e =
-    e
-    ∙ (ap (insert c.self.inside.rows c.place_in-row.result) c.blank.ensures
-    ∙ insert-row (blank c.args.placed) c.self.inside.rows c.place_in-row.result c.place_in-row.ensures.value)
+pub enter-requires : goal.enter-requires
+enter-requires c =
+    ap (λ l. stands_at (place_of l) c.self.inside.all) c.blank.ensures ∙ (ap (stands_at c.args.placed) c.self.view_is ∙ c.requires)
 
 pub invariant_of-self : goal.invariant_of-self
-invariant_of-self c =
-    in_either _ _ _ c.insert.result c.insert.ensures.ok c.insert.ensures.err
-    (λ e. subst AreInOrder (sym (put c e))
-    (in_order-new (blank c.args.placed) c.self.inside.rows c.self.invariant (ap (stands_at c.args.placed) c.self.view_is ∙ c.requires)))
-    (λ e. subst AreInOrder (sym e) c.self.invariant)
+invariant_of-self c = λ whole.
+    in_either _ _ _ c.enter.result c.enter.ensures.ok c.enter.ensures.err
+    (λ e. counted-enrolled (blank c.args.placed) c.self.inside.all c.self.inside.counted refl (c.self.invariant whole)
+    ∙ sym (ap (filter is_counted) (e ∙ ap (λ l. with_new l c.self.inside.all) c.blank.ensures)))
+    (λ e. c.self.invariant whole ∙ sym (ap (filter is_counted) e))
 
 pub returns-clause-ok : goal.returns-clause-ok
-returns-clause-ok c = on_ok_weaker c.insert.result (λ e. put c e ∙ ap (with_new (blank c.args.placed)) c.self.view_is) c.insert.ensures.ok
+returns-clause-ok c =
+    on_ok_weaker c.enter.result
+    (λ e. e ∙ (ap (λ l. with_new l c.self.inside.all) c.blank.ensures ∙ ap (with_new (blank c.args.placed)) c.self.view_is)) c.enter.ensures.ok

@@ -1,22 +1,17 @@
-use Rattle.std.proofs.Common.{◌≡◌, ◌<◌, length, sym, ap, subst, ◌∙◌}
-use Rattle.connections.specs.Linked.{AreInOrder, stands_at, without_link}
-use Rattle.connections.proofs.LinkEdits.{row-inside, remove-row, in_order-without}
-use Rattle.connections.proofs.linked.Links.leave.Goals.{After-remove}
+use Rattle.std.proofs.Common.{◌≡◌, sym, ap, ◌∙◌}
+use Rattle.std.specs.List.{filter}
+use Rattle.govern_rules.specs.Lent.{is_counted}
+use Rattle.connections.specs.Linked.{stands_at, without_link}
+use Rattle.connections.proofs.CountedLinks.{counted-left}
 use Rattle.connections.proofs.linked.Links.leave.Goals as goal
 
-pub remove-requires : goal.remove-requires
-remove-requires c =
-    subst (λ n. n < length c.self.inside.rows) (sym c.place_in-row.ensures.value)
-    (row-inside c.args.placed c.self.inside.rows c.self.invariant (ap (stands_at c.args.placed) c.self.view_is ∙ c.requires))
-
-taken : (c : After-remove) → c.remove.new.self ≡ without_link c.args.placed c.self.inside.rows
-taken c =
-    c.remove.ensures.items
-    ∙ remove-row c.args.placed c.self.inside.rows c.place_in-row.result c.self.invariant
-    (ap (stands_at c.args.placed) c.self.view_is ∙ c.requires) c.place_in-row.ensures.value
+pub leave-requires : goal.leave-requires
+leave-requires c = ap (stands_at c.args.placed) c.self.view_is ∙ c.requires
 
 pub invariant_of-self : goal.invariant_of-self
-invariant_of-self c = subst AreInOrder (sym (taken c)) (in_order-without c.args.placed c.self.inside.rows c.self.invariant)
+invariant_of-self c = λ whole.
+    c.drop_at.ensures
+    ∙ (counted-left c.args.placed c.self.inside.all c.self.inside.counted (c.self.invariant whole) ∙ sym (ap (filter is_counted) c.leave.ensures))
 
 pub returns : goal.returns
-returns c = taken c ∙ ap (without_link c.args.placed) c.self.view_is
+returns c = c.leave.ensures ∙ ap (without_link c.args.placed) c.self.view_is

@@ -1,26 +1,19 @@
-use Rattle.std.proofs.Common.{◌≡◌, ◌<◌, length, sym, ap, subst, ◌∙◌}
-use Rattle.connections.specs.Linked.{place_of, AreInOrder, stands_at, with_link}
-use Rattle.connections.proofs.LinkEdits.{row_of, row-inside, set-row, in_order-set}
-use Rattle.connections.proofs.linked.Links.set.Goals.{After-replace}
+use Rattle.std.proofs.Common.{◌≡◌, true, sym, ap, ◌∙◌}
+use Rattle.std.specs.List.{filter}
+use Rattle.govern_rules.specs.Lent.{is_counted}
+use Rattle.connections.specs.Linked.{place_of, stands_at, with_link}
+use Rattle.connections.proofs.CountedLinks.{counted-set}
 use Rattle.connections.proofs.linked.Links.set.Goals as goal
 
-pub replace-requires : goal.replace-requires
-replace-requires c =
-    let links = c.self.inside.rows in
-    let at : c.place_in-row.result ≡ row_of (place_of c.args.link) links =
-    c.place_in-row.ensures.value ∙ ap (λ p. row_of p links) c.place_of.ensures in
-    subst (λ n. n < length links) (sym at)
-    (row-inside (place_of c.args.link) links c.self.invariant (ap (stands_at (place_of c.args.link)) c.self.view_is ∙ c.requires))
-
-put : (c : After-replace) → c.replace.new.self ≡ with_link c.args.link c.self.inside.rows
-put c =
-    let links = c.self.inside.rows in
-    c.replace.ensures.items
-    ∙ set-row c.args.link links c.place_in-row.result c.self.invariant (ap (stands_at (place_of c.args.link)) c.self.view_is ∙ c.requires)
-    (c.place_in-row.ensures.value ∙ ap (λ p. row_of p links) c.place_of.ensures)
+pub set-requires : goal.set-requires
+set-requires c = ap (stands_at (place_of c.args.link)) c.self.view_is ∙ c.requires
 
 pub invariant_of-self : goal.invariant_of-self
-invariant_of-self c = subst AreInOrder (sym (put c)) (in_order-set c.args.link c.self.inside.rows c.self.invariant)
+invariant_of-self c = λ whole.
+    c.count_anew-has_all.ensures.counted whole
+    ∙ (counted-set c.args.link c.self.inside.all c.self.inside.counted c.set.ensures.ordered
+    (ap (stands_at (place_of c.args.link)) c.self.view_is ∙ c.requires) (c.self.invariant (c.count_anew-has_all.ensures.had whole))
+    ∙ sym (ap (filter is_counted) c.set.ensures.put))
 
 pub returns : goal.returns
-returns c = put c ∙ ap (with_link c.args.link) c.self.view_is
+returns c = c.set.ensures.put ∙ ap (with_link c.args.link) c.self.view_is

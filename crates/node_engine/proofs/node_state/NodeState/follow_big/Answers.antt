@@ -6,18 +6,15 @@ use Rattle.node_engine.proofs.RuleSteps.{next_big}
 use Rattle.node_engine.proofs.node_state.NodeState.follow_big.Goals as goal
 
 pub follow_one_big-requires : goal.follow_one_big-requires
-follow_one_big-requires g c = record {
-  may = follow-first _ _ _ _ (next_big c.args.word c.loop-rule.rule-index _ c.loop-rule-test.true) c.loop-rule.invariant.may;
-  seen = c.loop-rule.invariant.seen;
-}
+follow_one_big-requires g c =
+    follow-first _ _ _ _ (next_big c.args.word c.loop-rule.rule-index _ c.loop-rule-test.true) c.loop-rule.invariant.may
 
 pub loop-rule-preserved : goal.loop-rule-preserved
 loop-rule-preserved g c =
     let next = next_big c.args.word c.loop-rule.rule-index _ c.loop-rule-test.true in
     record {
-      so_far = going-more _ _ _ _ _ _ _ _ _ _ _ next c.loop-rule.invariant.so_far c.in_ok-follow_one_big.ensures.does;
-      seen = c.in_ok-follow_one_big.ensures.seen;
-      may = follow-more _ _ _ _ _ _ _ next c.loop-rule.invariant.may c.in_ok-follow_one_big.ensures.does;
+      so_far = going-more _ _ _ _ _ _ _ _ _ _ _ next c.loop-rule.invariant.so_far c.in_ok-follow_one_big.ensures;
+      may = follow-more _ _ _ _ _ _ _ next c.loop-rule.invariant.may c.in_ok-follow_one_big.ensures;
     }
 
 pub returns : goal.returns

@@ -1,13 +1,11 @@
 use Rattle.std.proofs.Common.{drop}
 use Rattle.laws.specs.Carrying.{MayFollow}
-use Rattle.govern_rules.specs.SameViews.{SeeSame}
-use Rattle.machine.specs.Govern.{view_of, big_rules, rules}
+use Rattle.machine.specs.Govern.{big_rules, rules}
 use Rattle.node_engine.proofs.Going.{IsGoing}
 use Rattle.node_engine.proofs.node_state.NodeState.follow_big.Given as goal
 
 abbrev pub invariant-loop-rule : goal.invariant-loop-rule
 invariant-loop-rule g l = record {
   so_far : IsGoing rules (big_rules l.word) (drop l.rule-index (big_rules l.word)) l.fn.self l.fn.actions l.self l.actions;
-  seen : SeeSame l.view (view_of l.word l.self);
   may : MayFollow (drop l.rule-index (big_rules l.word)) l.self;
 }

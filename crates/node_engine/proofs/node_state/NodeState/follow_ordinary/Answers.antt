@@ -6,20 +6,17 @@ use Rattle.node_engine.proofs.RuleSteps.{next_ordinary}
 use Rattle.node_engine.proofs.node_state.NodeState.follow_ordinary.Goals as goal
 
 pub follow-requires : goal.follow-requires
-follow-requires g c = record {
-  may = follow-first _ _ _ _ (next_ordinary c.args.word c.loop-rule.rule-index _ c.loop-rule-test.true) c.loop-rule.invariant.may;
-  seen = c.loop-rule.invariant.seen;
-}
+follow-requires g c =
+    follow-first _ _ _ _ (next_ordinary c.args.word c.loop-rule.rule-index _ c.loop-rule-test.true) c.loop-rule.invariant.may
 
 pub loop-rule-preserved : goal.loop-rule-preserved
 loop-rule-preserved g c =
     let next = next_ordinary c.args.word c.loop-rule.rule-index _ c.loop-rule-test.true in
     record {
-      so_far = going-more _ _ _ _ _ _ _ _ _ _ _ next c.loop-rule.invariant.so_far c.in_ok-follow.ensures.does;
-      seen = c.in_ok-follow.ensures.seen;
-      may = follow-more _ _ _ _ _ _ _ next c.loop-rule.invariant.may c.in_ok-follow.ensures.does;
+      so_far = going-more _ _ _ _ _ _ _ _ _ _ _ next c.loop-rule.invariant.so_far c.in_ok-follow.ensures;
+      may = follow-more _ _ _ _ _ _ _ next c.loop-rule.invariant.may c.in_ok-follow.ensures;
     }
 
-pub returns-clause-does : goal.returns-clause-does
-returns-clause-does g c =
+pub returns : goal.returns
+returns g c =
     going-all _ _ _ _ _ _ _ (drop_all c.loop-rule.rule-index (ordinary_rules c.args.word) (omega (arith, c.loop-rule-test.false))) c.loop-rule.invariant.so_far

@@ -8,23 +8,19 @@ use Rattle.laws.proofs.Carrying.{govern-may}
 use Rattle.node_engine.proofs.node_state.NodeState.govern.Goals as goal
 
 pub follow_ordinary-requires : goal.follow_ordinary-requires
-follow_ordinary-requires g c = record {
-  may = ordinary-may c.args.word c.args.self.now _ _ _ (govern-may c.args.word c.args.self.now c.requires.ordered c.requires.within c.requires.few_ids)
-      c.in_ok-ask_roots.ensures;
-  seen = c.in_ok-view.ensures;
-}
+follow_ordinary-requires g c =
+    ordinary-may c.args.word c.args.self.now _ _ _ (govern-may c.args.word c.args.self.now c.requires.ordered c.requires.within c.requires.few_ids)
+    c.in_ok-ask_roots.ensures
 
 pub follow_big-requires : goal.follow_big-requires
-follow_big-requires g c = record {
-  may = big-may c.args.word c.args.self.now _ _ _ _ _ (govern-may c.args.word c.args.self.now c.requires.ordered c.requires.within c.requires.few_ids)
-      c.in_ok-ask_roots.ensures c.in_ok-follow_ordinary.ensures.does;
-  seen = c.in_ok-follow_ordinary.ensures.seen;
-}
+follow_big-requires g c =
+    big-may c.args.word c.args.self.now _ _ _ _ _ (govern-may c.args.word c.args.self.now c.requires.ordered c.requires.within c.requires.few_ids)
+    c.in_ok-ask_roots.ensures c.in_ok-follow_ordinary.ensures
 
 pub returns : goal.returns
 returns g c =
     let word : ℕ = c.args.word in
     on_ok _ _ c.follow_big.result
     (λ done. does_then (asks_roots c.args.self.now) (λ m. then_do (for_each rules (ordinary_rules word) m) (for_each rules (big_rules word))) _ _ _ _ _
-    c.in_ok-ask_roots.ensures (does_then _ (for_each rules (big_rules word)) _ _ _ _ _ c.in_ok-follow_ordinary.ensures.does done))
+    c.in_ok-ask_roots.ensures (does_then _ (for_each rules (big_rules word)) _ _ _ _ _ c.in_ok-follow_ordinary.ensures done))
     c.follow_big.ensures

@@ -1,7 +1,7 @@
 use Rattle.std.proofs.Common.{◌≡◌, ◌∷◌, false, sym, subst, rules}
 use Rattle.govern_rules.specs.SortedLinks.{IsInOrder, is_above_next}
 use Rattle.govern_rules.proofs.ByAddress.{in_order-front}
-use Rattle.govern_rules.proofs.links.is_in_order.Goals as goal
+use Rattle.govern_rules.proofs.link_rows.is_in_order.Goals as goal
 
 pub loop-link-preserved : goal.loop-link-preserved
 loop-link-preserved c = λ h.

@@ -4,7 +4,7 @@ use Rattle.conn_table.specs.Index.{placed_below, same_placed}
 use Rattle.timer_queue.proofs.Rising.{is_under, partitioned, place_is}
 use Rattle.connections.specs.Linked.{place_of}
 use Rattle.connections.proofs.LinkEdits.{placed_order}
-use Rattle.connections.proofs.linked.place_in.Goals as goal
+use Rattle.connections.proofs.link_row.place_in.Goals as goal
 
 pub returns-clause-value : goal.returns-clause-value
 returns-clause-value c =

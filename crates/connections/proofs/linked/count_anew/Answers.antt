@@ -1,0 +1,11 @@
+use Rattle.std.proofs.Common.{◌≡◌, List, Bool, true, false, sym, ap, subst, ◌∙◌, rules}
+use Rattle.conn_table.specs.declared.placed.Placed.{Placed}
+use Rattle.govern_rules.specs.declared.link.Link.{Link}
+use Rattle.connections.specs.Linked.{place_of, stands_at, without_link}
+use Rattle.connections.proofs.CountedLinks.{gone-stands}
+use Rattle.connections.proofs.linked.count_anew.Goals as goal
+
+pub enter-requires : goal.enter-requires
+enter-requires c =
+    ap (stands_at (place_of c.args.link)) (c.drop_at.ensures ∙ ap (λ (p : Placed). without_link p c.args.counted.now) c.place_of.ensures)
+    ∙ gone-stands (place_of c.args.link) c.args.counted.now
