@@ -1,4 +1,5 @@
 ghost use Rattle.std.specs.Prelude.{◌≡◌, ℕ, ◌<◌, ◌≤◌, [], length, None, Err, IfOk, MatchResult};
+ghost use Rattle.std.specs.IoError.{error_kind};
 ghost use Rattle.io_edge.specs.Files.{IsReading, with_reading};
 
 use crate::reading::LentReading;
@@ -78,7 +79,8 @@ fn answer_of<R: Files>(
 
 // Why a file was not read. Want of memory is no fault of the file.
 fn refusal_of(error: io::Error) -> ShelfRefusal
-    ensures { (limit : ℕ) → IsReading None limit (Err result) }
+    ensures reading { (limit : ℕ) → IsReading None limit (Err result) }
+    ensures memory { result ≡ ShelfRefusal.OutOfMemory → error_kind error ≡ ErrorKind.OutOfMemory }
 {
     match error.kind() {
         ErrorKind::OutOfMemory => ShelfRefusal::OutOfMemory,

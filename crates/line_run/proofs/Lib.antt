@@ -2,3 +2,4 @@ pub mod Judging
 pub mod Inputs
 pub mod Meant
 mod Ways
+mod Stopping

@@ -6,6 +6,8 @@ use Rattle.line_run.specs.Meaning.{Meaning, goes_on, ends, is_refused, is_too_ma
 use Rattle.line_run.specs.Judgement.{behind, judged_from}
 use Rattle.line_run.specs.Runs.{Runs}
 use Rattle.line_run.specs.declared.outcome.LineOutcome.{LineOutcome}
+use Rattle.line_run.specs.declared.stop.Stop.{Stop}
+use Rattle.line_run.specs.declared.stop.Stop.TheVariants.{Ended, Refused as LineRefused, TooMany, OutOfMemory as NoMemory}
 use Rattle.line_run.specs.declared.outcome.LineOutcome.TheVariants.{Done, Refused, ReadFault, WriteFault, OutOfMemory, TooLong}
 
 -- Lines lead to this interpreter, and these lines are written for them: whatever follows is judged from here.
@@ -54,6 +56,13 @@ IsLineNext means start number state kept pending left_before left_now taken_befo
 abbrev pub IsTurn : {S : Type 0} → (S → List ℕ → Meaning S) → S → ℕ → S → List ℕ → List ℕ → Option (List ℕ) → Option (List ℕ) → Option (List ℕ) → Option (List ℕ) → Result (Unit {0}) LineOutcome → Type 0
 IsTurn means start number next kept pending left_before left_now taken_before taken_now (Ok done) = IsUnderWay means start (number + 1) next kept pending left_before left_now taken_before taken_now
 IsTurn means start number next kept pending left_before left_now taken_before taken_now (Err outcome) = Ends means start left_before left_now taken_before taken_now pending outcome
+
+-- how the run ends where its interpreter stops at the line with a number
+abbrev pub outcome_at : ℕ → Stop → LineOutcome
+outcome_at number Ended = Done
+outcome_at number (LineRefused kind) = Refused number kind
+outcome_at number TooMany = TooLong number
+outcome_at number NoMemory = OutOfMemory
 
 -- A line with a number was interpreted, and what it gives is said behind what was pending. How it ended is told.
 abbrev pub IsInterpretedAt : {S : Type 0} → ℕ → Meaning S → S → List ℕ → List ℕ → Result (Unit {0}) LineOutcome → Type 0

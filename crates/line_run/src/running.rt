@@ -4,7 +4,7 @@ ghost use Rattle.io_edge.specs.Told.{Takes, TakesProperPrefix, TakesFront};
 ghost use Rattle.line_run.specs.Inputs.{IsRunOver};
 ghost use Rattle.line_run.specs.LineRead.{line_put};
 ghost use Rattle.line_run.specs.Runs.{Runs, outcome_or, HasReadCount, HasWriteCount};
-ghost use Rattle.line_run.specs.UnderWay.{IsUnderWay, IsTurn, IsLineNext, IsInterpretedAt, Ends};
+ghost use Rattle.line_run.specs.UnderWay.{IsUnderWay, IsTurn, IsLineNext, IsInterpretedAt, Ends, outcome_at};
 
 use crate::reading::read_line;
 use crate::{Interpreter, LineOutcome, Stop};
@@ -156,10 +156,19 @@ fn interpret_at<I: Interpreter>(
 {
     match interpreter.interpret(line, pieces) {
         Ok(()) => Ok(()),
-        Err(Stop::Ended) => Err(LineOutcome::Done),
-        Err(Stop::Refused(kind)) => Err(LineOutcome::Refused { line: number, kind }),
-        Err(Stop::TooMany) => Err(LineOutcome::TooLong { line: number }),
-        Err(Stop::OutOfMemory) => Err(LineOutcome::OutOfMemory),
+        Err(stop) => Err(outcome_at(number, stop)),
+    }
+}
+
+// How the run ends where its interpreter stops at the line with a number. Want of memory alone is told as such.
+fn outcome_at(number: u64, stop: Stop) -> LineOutcome
+    ensures { result ≡ outcome_at number stop }
+{
+    match stop {
+        Stop::Ended => LineOutcome::Done,
+        Stop::Refused(kind) => LineOutcome::Refused { line: number, kind },
+        Stop::TooMany => LineOutcome::TooLong { line: number },
+        Stop::OutOfMemory => LineOutcome::OutOfMemory,
     }
 }
 

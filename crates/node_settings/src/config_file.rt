@@ -29,7 +29,7 @@ pub fn read_config(alloc: Global, bytes: &[u8]) -> Result<Config, ConfigRefusal>
 }
 
 fn refusal_of(error: &toml::de::Error) -> ConfigRefusal
-    ensures { (result ≡ NoMemory) ⊎ ((result ≡ NoToml) × ¬ IsMemory error.now) }
+    ensures { ((result ≡ NoMemory) × IsMemory error.now) ⊎ ((result ≡ NoToml) × ¬ IsMemory error.now) }
 {
     if error.is_memory() {
         ConfigRefusal::OutOfMemory

@@ -24,7 +24,7 @@ pub fn read_topology(alloc: Global, bytes: &[u8]) -> Result<Topology, TopologyRe
 }
 
 fn refusal_of(error: &serde_json::Error) -> TopologyRefusal
-    ensures { (result ≡ NoMemory) ⊎ ((result ≡ NoJson) × ¬ IsMemory error.now) }
+    ensures { ((result ≡ NoMemory) × IsMemory error.now) ⊎ ((result ≡ NoJson) × ¬ IsMemory error.now) }
 {
     if error.is_memory() {
         TopologyRefusal::OutOfMemory

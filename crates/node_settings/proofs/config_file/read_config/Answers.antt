@@ -17,6 +17,6 @@ returns-in-Err c =
     let bytes = c.args.bytes.now in
     let told : ConfigRefusal → Type 0 = λ refusal. IsConfigOr (config_of bytes) (Err refusal) in
     ⊎_elim
-    (λ memory. subst told (sym memory) tt)
+    (λ memory. subst told (sym memory.0) tt)
     (λ toml. subst told (sym toml.0) (config_of-none bytes (c.in-Err.ensures.refused toml.1)))
     c.refusal_of.ensures

@@ -17,6 +17,6 @@ returns-in-Err c =
     let bytes = c.args.bytes.now in
     let told : TopologyRefusal → Type 0 = λ refusal. IsTopologyOr (topology_of bytes) (Err refusal) in
     ⊎_elim
-    (λ memory. subst told (sym memory) tt)
+    (λ memory. subst told (sym memory.0) tt)
     (λ json. subst told (sym json.0) (topology_of-none bytes (c.in-Err.ensures.err json.1)))
     c.refusal_of.ensures
