@@ -41,6 +41,10 @@ pub in_either : {T E : Type 0} (A B C : Type 0) (r : Result T E) → OnOk r A �
 in_either A B C (Ok x) ok err f g = f ok
 in_either A B C (Err e) ok err f g = g err
 
+pub some_weaker : {X : Type 0} (P Q : X → Type 0) (o : Option X) → ((x : X) → P x → Q x) → IfSome o P → IfSome o Q
+some_weaker P Q None gives h = tt
+some_weaker P Q (Some x) gives h = gives x h
+
 -- ---- what stands at a place, after a change there
 
 pub talk_there : (ts : List Talk) (k : ℕ) → k < length ts → (t : Talk) × (slice_get ts k ≡ Some t)

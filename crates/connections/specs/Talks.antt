@@ -4,9 +4,9 @@ use Rattle.conn_table.specs.Table.{Table, IdsRise}
 use Rattle.machine.specs.Machine.{Entry, Owed}
 use Rattle.mux_segment.specs.Protocols.{node_limits}
 use Rattle.mux_segment.specs.Stream.{CutterState, FedBy, nothing_fed, fed_by}
-use Rattle.mux_segment.specs.declared.fed.Fed.{Fed}
 use Rattle.net_base.specs.declared.connection.Facts.{Facts}
 use Rattle.connections.specs.Standing.{Standing}
+use Rattle.connections.specs.declared.decoded.Decoded.{Decoded}
 use Rattle.connections.specs.declared.talk.Talk.{Talk}
 
 -- a connection, by its facts and what is kept beside them
@@ -63,6 +63,6 @@ abbrev pub fed_talk : List ℕ → Talk → Talk
 fed_talk bytes talk = with_cutter (going_on (fed_by node_limits talk.cutter bytes).state) talk
 
 -- the answer to new bytes has the items, and the fault of the stream
-pub record IsFed (expected : FedBy) (fed : Fed) : Type 0 where
+pub record IsFed (expected : FedBy) (fed : Decoded) : Type 0 where
   pub items : fed.items ≡ expected.items
   pub fault : fed.fault ≡ expected.state.fault

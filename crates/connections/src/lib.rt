@@ -2,6 +2,7 @@
 #![tactic(auto)]
 
 mod connections;
+mod decoded;
 mod kept;
 mod link;
 mod link_row;
@@ -12,4 +13,5 @@ mod talk;
 mod timed;
 
 pub use connections::Connections;
+pub use decoded::Decoded;
 pub use reply::Reply;

@@ -6,10 +6,10 @@ ghost use Rattle.net_base.specs.Shared.{nothing_undecoded};
 ghost use Rattle.connections.specs.Steps.{unread_if};
 ghost use Rattle.connections.specs.Talks.{TurnsAt, with_cutter, with_owed, fresh_talk, fed_talk, going_on, IsFed};
 
-use crate::Reply;
 use crate::replies::Replies;
+use crate::{Decoded, Reply};
 use chunked_list::ChunkedList;
-use mux_segment::{CutFault, Cutter, Fed};
+use mux_segment::{CutFault, Cutter, PackedItems};
 use net_base::OutOfMemory;
 use std::alloc::Global;
 use std::mem;
@@ -67,7 +67,7 @@ pub fn feed_at(
     place: usize,
     alloc: Global,
     bytes: &[u8],
-) -> Result<Fed, OutOfMemory>
+) -> Result<Decoded, OutOfMemory>
     requires inside { place < length talks.old }
     requires goes_on { IfSome (slice_get talks.old place) (λ t. t.cutter.fault ≡ None) }
     ensures ok { OnOk result (TurnsAt place (fed_talk bytes.now) talks.old talks.new) }
@@ -76,10 +76,11 @@ pub fn feed_at(
     ensures err { OnErr result (TurnsAt place (with_cutter nothing_fed) talks.old talks.new) }
 {
     let cutter = swap_cutter(talks, place, alloc, Cutter::new(alloc));
-    let (cutter, fed) = cutter.feed(bytes)?;
-    let cutter = next_cutter(alloc, cutter, fed.fault);
+    let mut items = PackedItems::new(alloc);
+    let (cutter, fault) = cutter.feed_into(bytes, &mut items)?;
+    let cutter = next_cutter(alloc, cutter, fault);
     swap_cutter(talks, place, alloc, cutter);
-    Ok(fed)
+    Ok(Decoded { items, fault })
 }
 
 // The cutter with which a stream goes on.

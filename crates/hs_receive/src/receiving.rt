@@ -1,11 +1,12 @@
 ghost use Rattle.std.specs.Prelude.{◌≡◌, IfOk, Some};
 ghost use Rattle.hs_message.specs.Reading.{message_of};
 ghost use Rattle.hs_receive.specs.Receiving.{receives, receives_message, CanBeAnswered};
+ghost use Rattle.mux_segment.specs.Lent.{lent};
 
 use crate::{Received, fits_side, is_awaited};
 use hs_decide::{Role, decide};
 use hs_message::{Message, ReadRefusal, VersionInfo, read_message};
-use mux_segment::Item;
+use mux_segment::LentItem;
 use net_base::{FaultKind, OutOfMemory};
 use std::alloc::Global;
 
@@ -16,10 +17,10 @@ pub fn receive(
     alloc: Global,
     role: Role,
     own: &VersionInfo,
-    item: &Item,
+    item: &LentItem<'_>,
 ) -> Result<Received, OutOfMemory>
     ensures received { IfOk result (λ received.
-        received ≡ receives Received.Fault Received.Decided role own.now item.now) }
+        received ≡ receives Received.Fault Received.Decided role own.now (lent item.now)) }
     // What was decided can be answered.
     ensures answerable { IfOk result CanBeAnswered }
 {
@@ -35,13 +36,13 @@ fn receive_body(
     alloc: Global,
     role: Role,
     own: &VersionInfo,
-    item: &Item,
+    item: &LentItem<'_>,
 ) -> Result<Received, OutOfMemory>
     ensures received { IfOk result (λ received.
-        received ≡ receives_message Received.Fault Received.Decided role own.now item.now.side (message_of item.now.body)) }
+        received ≡ receives_message Received.Fault Received.Decided role own.now item.now.side (message_of item.now.body.now)) }
     ensures answerable { IfOk result CanBeAnswered }
 {
-    match read_message(alloc, item.body.as_slice()) {
+    match read_message(alloc, item.body) {
         Ok(message) => Ok(receive_message(role, own, item.side, &message)),
         Err(ReadRefusal::NotAMessage) => Ok(Received::Fault(FaultKind::Malformed)),
         Err(ReadRefusal::OutOfMemory) => Err(OutOfMemory),

@@ -62,7 +62,7 @@ mod Chain
 mod Due
 mod CarriedOut
 mod Least
-mod Moments
+pub mod Moments
 mod BackOff
 mod Served
 mod Goes

@@ -10,3 +10,4 @@ pub mod Grammars
 pub mod Frames
 pub mod Orders
 pub mod Keeps
+mod PackedLists

@@ -9,3 +9,5 @@ pub mod PartView
 pub mod Given
 pub mod Law
 pub mod Kept
+pub mod Lent
+pub mod Packed

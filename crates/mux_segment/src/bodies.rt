@@ -6,9 +6,8 @@ ghost use Rattle.mux_segment.specs.Steps.{Adds, IsNext, next_of};
 
 use crate::stopped::Stopped;
 use crate::waiting::Waiting;
-use crate::{CutFault, Item, ItemList};
+use crate::{CutFault, PackedItems};
 use cbor_items::{Scan, first_item};
-use net_base::Octets;
 use std::alloc::Global;
 
 /// Takes the whole items off what waits and the payload behind it, and gives what waits then.
@@ -19,7 +18,7 @@ pub(crate) fn take_payload(
     limit: usize,
     waiting: Waiting,
     payload: &[u8],
-    items: &mut ItemList,
+    items: &mut PackedItems,
 ) -> Result<Waiting, Stopped>
     ensures items { let t = taken_of limit (waiting ++ payload.now) in Adds result items.old items.new (map (item_of side id) t.bodies) t.fault }
     ensures left { IfOk result (λ left. left ≡ (taken_of limit (waiting ++ payload.now)).left) }
@@ -30,7 +29,7 @@ pub(crate) fn take_payload(
     }
     let mut waiting = waiting;
     let first = waiting.extend(payload)?;
-    let count = take_items(alloc, side, id, limit, waiting.as_slice(), first, items)?;
+    let count = take_items(side, id, limit, waiting.as_slice(), first, items)?;
     match count {
         0 => Ok(waiting),
         _ => Ok(Waiting::from_slice(alloc, &waiting.as_slice()[count..])?),
@@ -43,25 +42,24 @@ fn take_alone(
     id: u16,
     limit: usize,
     payload: &[u8],
-    items: &mut ItemList,
+    items: &mut PackedItems,
 ) -> Result<Waiting, Stopped>
     ensures items { let t = taken_of limit payload.now in Adds result items.old items.new (map (item_of side id) t.bodies) t.fault }
     ensures left { IfOk result (λ left. left ≡ (taken_of limit payload.now).left) }
 {
     let first = first_item(payload);
-    let count = take_items(alloc, side, id, limit, payload, first, items)?;
+    let count = take_items(side, id, limit, payload, first, items)?;
     Ok(Waiting::from_slice(alloc, &payload[count..])?)
 }
 
 // Takes the whole items off the front of a part, of which the first was scanned, and says how many bytes they are.
 fn take_items(
-    alloc: Global,
     side: u8,
     id: u16,
     limit: usize,
     part: &[u8],
     first: Scan,
-    items: &mut ItemList,
+    items: &mut PackedItems,
 ) -> Result<usize, Stopped>
     requires { first ≡ scan_of part.now }
     ensures items { let t = taken_of limit part.now in Adds result items.old items.new (map (item_of side id) t.bodies) t.fault }
@@ -71,11 +69,7 @@ fn take_items(
     let mut scan = first;
     while let Some(size) = next_item_of(limit, rest, scan)? {
         let (body, after) = rest.split_at(size);
-        items.push(Item {
-            side,
-            id,
-            body: Octets::from_slice(alloc, body)?,
-        })?;
+        items.push(side, id, body)?;
         rest = after;
         scan = first_item(rest);
     }

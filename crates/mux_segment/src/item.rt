@@ -1,3 +1,7 @@
+ghost use Rattle.std.specs.Prelude.{◌≡◌};
+ghost use Rattle.mux_segment.specs.Lent.{lent};
+
+use crate::LentItem;
 use net_base::{Octets, Sequence};
 
 /// A whole item that came in.
@@ -12,3 +16,16 @@ pub struct Item {
 
 /// Items one after another.
 pub type ItemList = Sequence<Item>;
+
+impl Item {
+    /// The same, lent.
+    pub fn as_lent(&self) -> LentItem<'_>
+        ensures { lent result ≡ self.now }
+    {
+        LentItem {
+            side: self.side,
+            id: self.id,
+            body: self.body.as_slice(),
+        }
+    }
+}

@@ -1,4 +1,4 @@
-ghost use Rattle.std.specs.Prelude.{◌≡◌, [], OnOk, slice_get};
+ghost use Rattle.std.specs.Prelude.{◌≡◌, [], length, nat_eq, OnOk, slice_get};
 ghost use Rattle.mux_segment.specs.PartView.{parts_view};
 ghost use Rattle.mux_segment.specs.Parts.{place_of, is_of, part_bytes, without_part, with_part};
 
@@ -32,6 +32,12 @@ impl Parts {
         Parts {
             parts: Vec::new(alloc),
         }
+    }
+
+    pub fn are_none(&self) -> bool
+        ensures { result ≡ nat_eq (length self.now) 0 }
+    {
+        self.parts.is_empty()
     }
 
     /// Takes a part out: its bytes, none where there is no such part. Takes no memory.

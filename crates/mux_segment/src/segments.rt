@@ -9,7 +9,7 @@ use crate::bodies::take_payload;
 use crate::bytes::behind;
 use crate::parts::Parts;
 use crate::stopped::Stopped;
-use crate::{CutFault, Header, ItemList, read_header};
+use crate::{CutFault, Header, PackedItems, read_header};
 use net_base::{Octets, protocol};
 use std::alloc::Global;
 
@@ -19,7 +19,7 @@ pub(crate) fn take_stream(
     rest: Octets,
     bytes: &[u8],
     parts: &mut Parts,
-    items: &mut ItemList,
+    items: &mut PackedItems,
 ) -> Result<Octets, Stopped>
     requires { AreKept node_limits parts.old }
     ensures items { let d = decoded node_limits parts.old (cut_of (rest ++ bytes.now)).segments in Adds result items.old items.new d.items d.fault }
@@ -43,7 +43,7 @@ fn take_segments(
     alloc: Global,
     stream: &[u8],
     parts: &mut Parts,
-    items: &mut ItemList,
+    items: &mut PackedItems,
 ) -> Result<usize, Stopped>
     requires { AreKept node_limits parts.old }
     ensures items { let d = decoded node_limits parts.old (cut_of stream.now).segments in Adds result items.old items.new d.items d.fault }
@@ -79,7 +79,7 @@ fn take_segment(
     header: Header,
     payload: &[u8],
     parts: &mut Parts,
-    items: &mut ItemList,
+    items: &mut PackedItems,
 ) -> Result<(), Stopped>
     requires { AreKept node_limits parts.old }
     ensures items { let d = segment_decoded node_limits parts.old (segment_with header payload.now) in Adds result items.old items.new d.items d.fault }
@@ -105,8 +105,8 @@ fn take_segment(
     Ok(())
 }
 
-// How many bytes an item of a protocol may have. None where the protocol is not known.
-fn limit_of(id: u16) -> Option<usize>
+/// How many bytes an item of a protocol may have. None where the protocol is not known.
+pub(crate) fn limit_of(id: u16) -> Option<usize>
     ensures limit { result ≡ node_limits id }
     ensures some { IfSome result (λ limit. 0 < limit) }
 {

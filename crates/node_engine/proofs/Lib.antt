@@ -11,3 +11,4 @@ pub mod LocalUse
 pub mod RuleSteps
 pub mod Together
 pub mod Tellable
+pub mod FirstItems

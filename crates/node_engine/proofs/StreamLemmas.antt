@@ -1,12 +1,13 @@
 -- Items and bytes that come in on a connection.
-use Rattle.std.proofs.Common.{◌≡◌, ℕ, true, ◌==◌, List, Option, Some, None, refl, sym, ap, subst, ◌∙◌, eqb-true, eq-eqb}
+use Rattle.std.proofs.Common.{◌≡◌, ℕ, true, ◌==◌, List, drop, Option, Some, None, IfSome, IsSomeAnd, refl, sym, ap, subst, ◌∙◌, eqb-true, eq-eqb}
 use Rattle.std.specs.Option.{option_map}
 use Rattle.conn_state.specs.Protocols.{has_responder}
 use Rattle.conn_state.specs.Use.{agreed_sharing, runs}
 use Rattle.laws.proofs.Lists.{find_some}
+use Rattle.laws.proofs.Moments.{turned-found}
 use Rattle.laws.proofs.Remains.{awake-runs}
 use Rattle.laws.proofs.Streams.{found-cid}
-use Rattle.machine.specs.Connections.{entry_turns, awake}
+use Rattle.machine.specs.Connections.{with_entry, entry_turns, awake}
 use Rattle.machine.specs.Effect.{nothing_more, then_do, for_each, on_entry, on_connection}
 use Rattle.machine.specs.Machine.{Machine, Entry, Owed, entry_at}
 use Rattle.machine.specs.Replies.{reply_on}
@@ -14,18 +15,20 @@ use Rattle.machine.specs.Stream.{handles, faulted, feeds}
 use Rattle.machine.specs.Talking.{asked_as, answered_as, talks}
 use Rattle.mux_segment.specs.Stream.{FedBy}
 use Rattle.mux_segment.specs.declared.fault.CutFault.{CutFault}
-use Rattle.mux_segment.specs.declared.fed.Fed.{Fed}
 use Rattle.mux_segment.specs.declared.item.Item.{Item}
 use Rattle.net_base.specs.declared.action.Action.{Action}
 use Rattle.net_base.specs.declared.connection.Cid.{Cid}
 use Rattle.net_base.specs.declared.connection.Facts.{Facts}
 use Rattle.connections.specs.Owed.{reply_of}
 use Rattle.connections.specs.Standing.{fed_of, fed_entry}
-use Rattle.node_engine.specs.State.{Does, DoesSilently}
+use Rattle.node_engine.specs.Greets.{greeted_as, feeds_as}
+use Rattle.node_engine.specs.State.{Does, DoesSilently, IsKnown}
 use Rattle.connections.specs.Talks.{IsFed}
+use Rattle.connections.specs.declared.decoded.Decoded.{Decoded}
 use Rattle.connections.specs.declared.reply.Reply.{Reply}
+use Rattle.hs_receive.specs.declared.received.Received.{Received}
 use Rattle.node_engine.proofs.DoesLemmas.{does_silently}
-use Rattle.node_engine.proofs.Doings.{does_nothing, does_then}
+use Rattle.node_engine.proofs.Doings.{does_nothing, does_then, known, of_entry}
 use Rattle.remote_watch.specs.Watch.{watched}
 
 -- ---- the other side asks
@@ -84,7 +87,7 @@ no_fault cid fault m before none =
     subst (λ f. Does (on_connection cid (faulted f) m) before m before) (sym none)
     (subst (λ effect. Does effect before m before) (sym (nothing_faulted (entry_at cid.0 m) m)) (does_nothing m before))
 
-pub feeds-does : (cid : Cid) (bytes : List ℕ) (fed : Fed) (e : Entry) (m decoded handled n : Machine) (before mid after : List Action) →
+pub feeds-does : (cid : Cid) (bytes : List ℕ) (fed : Decoded) (e : Entry) (m decoded handled n : Machine) (before mid after : List Action) →
     entry_at cid.0 m ≡ Some e → DoesSilently (entry_turns e (fed_entry bytes e) m) decoded → IsFed (fed_of bytes e) fed →
     Does (for_each (handles cid) fed.items decoded) before handled mid → Does (on_connection cid (faulted fed.fault) handled) mid n after →
     Does (feeds bytes e m) before n after
@@ -103,3 +106,42 @@ feeds-does cid bytes fed e m decoded handled n before mid after is turns gives e
     (does_silently (entry_turns e (fed_entry bytes e) m) before decoded turns)
     (does_then (for_each (handles e.facts.cid) all.items decoded) (on_connection e.facts.cid (faulted all.state.fault))
     before mid after handled n items fault)
+
+-- the same, where the first item came to something before
+pub feeds_as-does : (cid : Cid) (r : Received) (bytes : List ℕ) (fed : Decoded) (e : Entry) (m decoded greeted handled n : Machine) (before one mid after : List Action) →
+    entry_at cid.0 m ≡ Some e → DoesSilently (entry_turns e (fed_entry bytes e) m) decoded → IsFed (fed_of bytes e) fed →
+    Does (on_connection cid (greeted_as r) decoded) before greeted one → Does (for_each (handles cid) (drop 1 fed.items) greeted) one handled mid →
+    Does (on_connection cid (faulted fed.fault) handled) mid n after → Does (feeds_as r bytes e m) before n after
+feeds_as-does cid r bytes fed e m decoded greeted handled n before one mid after is turns gives first each last =
+    let own : e.facts.cid ≡ cid = found-cid cid m e is in
+    let all : FedBy = fed_of bytes e in
+    let rest : List Item = drop 1 all.items in
+    let greets : Does (on_connection e.facts.cid (greeted_as r) decoded) before greeted one =
+    subst (λ c. Does (on_connection c (greeted_as r) decoded) before greeted one) (sym own) first in
+    let items : Does (for_each (handles e.facts.cid) rest greeted) one handled mid =
+    subst (λ c. Does (for_each (handles c) rest greeted) one handled mid) (sym own)
+    (subst (λ xs. Does (for_each (handles cid) (drop 1 xs) greeted) one handled mid) gives.items each) in
+    let fault : Does (on_connection e.facts.cid (faulted all.state.fault) handled) mid n after =
+    subst (λ c. Does (on_connection c (faulted all.state.fault) handled) mid n after) (sym own)
+    (subst (λ f. Does (on_connection cid (faulted f) handled) mid n after) gives.fault last) in
+    does_then (entry_turns e (fed_entry bytes e) m)
+    (λ k. then_do (on_connection e.facts.cid (greeted_as r) k) (λ k. then_do (for_each (handles e.facts.cid) rest k) (on_connection e.facts.cid (faulted all.state.fault))))
+    before before after decoded n
+    (does_silently (entry_turns e (fed_entry bytes e) m) before decoded turns)
+    (does_then (on_connection e.facts.cid (greeted_as r) decoded) (λ k. then_do (for_each (handles e.facts.cid) rest k) (on_connection e.facts.cid (faulted all.state.fault)))
+    before one after greeted n greets
+    (does_then (for_each (handles e.facts.cid) rest greeted) (on_connection e.facts.cid (faulted all.state.fault)) one mid after handled n items fault))
+
+-- what was fed is known still
+pub known-fed : (bytes : List ℕ) (facts : Facts) (m decoded : Machine) → IsKnown facts m →
+    IfSome (entry_at facts.cid.0 m) (λ e. DoesSilently (entry_turns e (fed_entry bytes e) m) decoded) → IsKnown facts decoded
+known-fed bytes facts m decoded there turns =
+    let it = known facts m there in
+    let e : Entry = it.0 in
+    let own : e.facts.cid ≡ facts.cid = ap (λ (f : Facts). f.cid) it.2 in
+    let done = of_entry (λ x. DoesSilently (entry_turns x (fed_entry bytes x) m) decoded) (entry_at facts.cid.0 m) e it.1 turns in
+    let found : entry_at e.facts.cid.0 (with_entry (fed_entry bytes e) m) ≡ Some (fed_entry bytes e) =
+    turned-found e (fed_entry bytes e) m refl ∙ ap (option_map (λ x. fed_entry bytes e)) (ap (λ (c : Cid). entry_at c.0 m) own ∙ it.1) in
+    let found' : entry_at facts.cid.0 decoded ≡ Some (fed_entry bytes e) =
+    ap (entry_at facts.cid.0) done.machine_is ∙ ap (λ (c : Cid). entry_at c.0 (with_entry (fed_entry bytes e) m)) (sym own) ∙ found in
+    subst (λ o. IsSomeAnd o (λ x. x.facts ≡ facts)) (sym found') it.2

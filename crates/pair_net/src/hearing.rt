@@ -41,7 +41,7 @@ fn hear_first(
     ensures answerable { IfOk result (IfHeard CanBeAnswered) }
 {
     match items {
-        [first, ..] => Ok(Some(receive(alloc, role, own, first)?)),
+        [first, ..] => Ok(Some(receive(alloc, role, own, &first.as_lent())?)),
         [] => Ok(fault.map(|fault| Received::Fault(kind_of(fault)))),
     }
 }

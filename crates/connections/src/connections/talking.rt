@@ -1,4 +1,5 @@
-ghost use Rattle.std.specs.Prelude.{◌≡◌, ◌≤◌, ◌+◌, ◌^◌, true, IsSome, IfSome, IfOk, OnOk, OnErr};
+ghost use Rattle.std.specs.Prelude.{◌≡◌, ◌≤◌, ◌+◌, ◌^◌, true, Some, slice_get, IsSome, IfSome, IfOk, OnOk, OnErr};
+ghost use Rattle.mux_segment.specs.Lent.{lent};
 ghost use Rattle.std.specs.Option.{option_map};
 ghost use Rattle.machine.specs.Replies.{reply_on, paid, is_owed_on};
 ghost use Rattle.connections.specs.Owed.{reply_of};
@@ -6,9 +7,9 @@ ghost use Rattle.connections.specs.Standing.{entry_with, Turns, owes, fed_of, fe
 ghost use Rattle.connections.specs.Talks.{IsFed};
 
 use super::Connections;
-use crate::Reply;
 use crate::talk::{feed_at, owe_at, pay_at};
-use mux_segment::Fed;
+use crate::{Decoded, Reply};
+use mux_segment::LentItem;
 use net_base::{Cid, OutOfMemory};
 
 impl Connections {
@@ -47,9 +48,19 @@ impl Connections {
             .follow(cid, place, &mut self.timers, &mut self.links);
     }
 
+    /// The first item that bytes of a connection would make whole, lent, where nothing that came in before waits and it is
+    /// easily seen. Takes no memory, and changes nothing.
+    pub fn first<'a>(&self, cid: Cid, bytes: &'a [u8]) -> Option<LentItem<'a>>
+        requires { IsSome (entry_with cid.0 self.now) }
+        ensures { IfSome result (λ item. IfSome (entry_with cid.0 self.now) (λ e. slice_get (fed_of bytes.now e).items 0 ≡ Some (lent item))) }
+    {
+        let place = self.kept.roster.place_of(cid);
+        self.kept.talks.at(place).cutter.first(bytes)
+    }
+
     /// Bytes come in on a connection: the items that they make whole, up to the first fault. Where memory is refused,
     /// what came in and was not decoded is lost.
-    pub fn feed(&mut self, cid: Cid, bytes: &[u8]) -> Result<Fed, OutOfMemory>
+    pub fn feed(&mut self, cid: Cid, bytes: &[u8]) -> Result<Decoded, OutOfMemory>
         requires { IsSome (entry_with cid.0 self.old) }
         ensures turns { OnOk result (Turns cid.0 (fed_entry bytes.now) self.old self.new) }
         ensures err { OnErr result (Turns cid.0 unread self.old self.new) }

@@ -1,8 +1,8 @@
 use hs_decide::{Role, Verdict};
 use hs_message::VersionInfo;
 use hs_receive::{Received, kind_of, receive};
-use mux_segment::{CutFault, Item};
-use net_base::{Agreed, FaultKind, Octets, OutOfMemory};
+use mux_segment::{CutFault, LentItem};
+use net_base::{Agreed, FaultKind, OutOfMemory};
 use std::alloc::Global;
 use std::test::Fail;
 
@@ -31,8 +31,7 @@ fn on_item(
     id: u16,
     body: &[u8],
 ) -> Result<Received, OutOfMemory> {
-    let body = Octets::from_slice(alloc, body)?;
-    receive(alloc, role, &OWN, &Item { side, id, body })
+    receive(alloc, role, &OWN, &LentItem { side, id, body })
 }
 
 #[test]

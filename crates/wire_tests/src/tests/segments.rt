@@ -303,3 +303,33 @@ fn long_payloads_are_several_segments(rt: HostRuntime) -> Result<(), Fail> {
     }
     Ok(())
 }
+
+// What a cutter sees as the first item has this body. None is empty.
+fn sees(cutter: &Cutter, bytes: &[u8], body: &[u8]) -> bool {
+    match cutter.first(bytes) {
+        Some(item) => item.body == body,
+        None => body.is_empty(),
+    }
+}
+
+// The first item is seen where it stands at the front of the first segment, and nothing waits before it.
+#[test]
+fn the_first_item_is_seen(rt: HostRuntime) -> Result<(), Fail> {
+    let alloc = rt.alloc();
+    let cutter = Cutter::new(alloc);
+    let cases: [(u16, &[u8], &[u8]); 5] = [
+        (2, b"\x01\x02", b"\x01"),
+        (0x8008, b"\x82\x01\x02\x03", b"\x82\x01\x02"),
+        (1, b"\x01", b""),
+        (2, b"\xff", b""),
+        (2, b"\x82\x01", b""),
+    ];
+    for (word, payload, body) in cases {
+        let stream = segment(alloc, word, payload)?;
+        assert!(rt; sees(&cutter, &stream, body), "at {word}");
+    }
+    let stream = segment(alloc, 2, b"\x01")?;
+    let (cutter, _) = cutter.feed(b"\x00")?;
+    assert!(rt; sees(&cutter, &stream, b""));
+    Ok(())
+}

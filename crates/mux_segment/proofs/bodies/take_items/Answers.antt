@@ -21,9 +21,9 @@ pub loop-size-preserved : goal.loop-size-preserved
 loop-size-preserved c =
     record {
       scanned = c.first_item-scan.ensures.scan;
-      taking = rw c.in_ok-push.ensures.ok
+      taking = rw c.in_ok-push.ensures
           (taking_goes_on c.args.limit c.args.side c.args.id c.args.items.now c.args.part.now c.loop-size.items c.loop-size.rest.now c.split_at.result.1.now _ c.in-Some.size
-          (next_again c.args.limit c.loop-size.rest.now c.loop-size.scan _ c.loop-size.invariant.scanned (c.in_ok-size.ensures ∙ ap Ok c.in-Some.is)) (c.in_ok-from_slice.ensures ∙ c.split_at.ensures.front) c.split_at.ensures.back c.loop-size.invariant.taking);
+          (next_again c.args.limit c.loop-size.rest.now c.loop-size.scan _ c.loop-size.invariant.scanned (c.in_ok-size.ensures ∙ ap Ok c.in-Some.is)) c.split_at.ensures.front c.split_at.ensures.back c.loop-size.invariant.taking);
     }
 
 pub returns-clause-items : goal.returns-clause-items

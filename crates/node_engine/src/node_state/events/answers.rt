@@ -6,13 +6,14 @@ ghost use Rattle.machine.specs.Effect.{for_each};
 ghost use Rattle.machine.specs.Talking.{shares_address, taken_of, takes_addresses, pays, pays_chain_sync, pays_keep_alive, pays_peer_sharing, brings, answered_as};
 ghost use Rattle.connections.specs.Owed.{reply_of};
 ghost use Rattle.node_engine.specs.State.{Does, DoesTo, IsKnown};
+ghost use Rattle.mux_segment.specs.Lent.{lent};
 ghost use Rattle.warm_messages.specs.First.{item_number_of};
 ghost use Rattle.warm_messages.specs.Reading.{alive_of, share_of};
 
 use crate::NodeState;
 use churn_clock::effective;
 use connections::Reply;
-use mux_segment::Item;
+use mux_segment::LentItem;
 use net_base::protocol::{CHAIN_SYNC, KEEP_ALIVE};
 use net_base::{ActionList, AddrList, Cid, CloseCause, Facts, FaultKind, OutOfMemory, Temp};
 use share_rounds::fresh;
@@ -24,11 +25,11 @@ impl NodeState {
     pub(crate) fn take_answer(
         &mut self,
         facts: Facts,
-        item: &Item,
+        item: &LentItem<'_>,
         actions: &mut ActionList,
     ) -> Result<(), OutOfMemory>
         requires { IsKnown facts self.old }
-        ensures { OnOk result (DoesTo facts.cid.0 (λ e. answered_as (reply_on item.now.id e) item.now e) actions.old self.old self.new actions.new) }
+        ensures { OnOk result (DoesTo facts.cid.0 (λ e. answered_as (reply_on item.now.id e) (lent item.now) e) actions.old self.old self.new actions.new) }
     {
         match self.owed_on(facts.cid, item.id) {
             Some(reply) => self.take_owed(facts, reply, item, actions),
@@ -49,12 +50,12 @@ impl NodeState {
         &mut self,
         facts: Facts,
         reply: Reply,
-        item: &Item,
+        item: &LentItem<'_>,
         actions: &mut ActionList,
     ) -> Result<(), OutOfMemory>
         requires { IsKnown facts self.old }
         ensures { OnOk result (DoesTo facts.cid.0
-            (answered_as (Some (record { protocol = item.now.id; until = reply.until; asked = reply.asked })) item.now)
+            (answered_as (Some (record { protocol = item.now.id; until = reply.until; asked = reply.asked })) (lent item.now))
             actions.old self.old self.new actions.new) }
     {
         if !pays(self.alloc, reply, item)? {
@@ -68,15 +69,15 @@ impl NodeState {
     fn bring(
         &mut self,
         facts: Facts,
-        item: &Item,
+        item: &LentItem<'_>,
         actions: &mut ActionList,
     ) -> Result<(), OutOfMemory>
-        ensures { OnOk result (Does (brings item.now.id item.now.body (fresh_entry facts) self.old) actions.old self.new actions.new) }
+        ensures { OnOk result (Does (brings item.now.id item.now.body.now (fresh_entry facts) self.old) actions.old self.new actions.new) }
     {
         match item.id {
             CHAIN_SYNC => self.peer_becomes(Temp::Hot, facts.addr, actions),
             KEEP_ALIVE => Ok(()),
-            _ => self.take_addresses(item.body.as_slice(), actions),
+            _ => self.take_addresses(item.body, actions),
         }
     }
 
@@ -120,11 +121,11 @@ impl NodeState {
 }
 
 // Whether an item pays a reply that is owed on its protocol.
-fn pays(alloc: Global, reply: Reply, item: &Item) -> Result<bool, OutOfMemory>
+fn pays(alloc: Global, reply: Reply, item: &LentItem<'_>) -> Result<bool, OutOfMemory>
     ensures { IfOk result (λ paid. paid
-        ≡ pays (record { protocol = item.now.id; until = reply.until; asked = reply.asked }) item.now.body) }
+        ≡ pays (record { protocol = item.now.id; until = reply.until; asked = reply.asked }) item.now.body.now) }
 {
-    let body = item.body.as_slice();
+    let body = item.body;
     match item.id {
         CHAIN_SYNC => Ok(pays_chain_sync(body)),
         KEEP_ALIVE => Ok(pays_keep_alive(reply.asked, body)),

@@ -1,19 +1,19 @@
-ghost use Rattle.std.specs.Prelude.{◌≡◌, true, Some, OnOk};
+ghost use Rattle.std.specs.Prelude.{◌≡◌, true, IfOk, OnOk};
 ghost use Rattle.conn_state.specs.Use.{is_greeting};
 ghost use Rattle.hs_decide.specs.Answers.{answer_of, CanAnswer};
-ghost use Rattle.hs_message.specs.Reading.{message_of};
-ghost use Rattle.hs_receive.specs.Receiving.{is_awaited, fits_side};
-ghost use Rattle.machine.specs.Greeting.{role_of, sends_answer, judged, greeted_by, greets};
+ghost use Rattle.hs_receive.specs.Receiving.{receives, CanBeAnswered};
+ghost use Rattle.machine.specs.Greeting.{role_of, sends_answer, judged, decided, greets};
 ghost use Rattle.machine.specs.Own.{own_info};
-ghost use Rattle.node_engine.specs.Greets.{CanJudge};
+ghost use Rattle.mux_segment.specs.Lent.{lent};
+ghost use Rattle.node_engine.specs.Greets.{CanJudge, CanFollow, greeted_as};
 ghost use Rattle.node_engine.specs.State.{Does, DoesTo, IsKnown};
 
 use crate::NodeState;
 use crate::own::own_info;
-use hs_decide::{Role, Verdict, answer, decide};
-use hs_message::{Message, ReadRefusal, VersionInfo, read_message};
-use hs_receive::{fits_side, is_awaited};
-use mux_segment::Item;
+use hs_decide::{Role, Verdict, answer};
+use hs_message::VersionInfo;
+use hs_receive::{Received, receive};
+use mux_segment::LentItem;
 use net_base::{ActionList, Cid, CloseCause, Facts, FaultKind, OutOfMemory, Provenance};
 
 impl NodeState {
@@ -21,60 +21,65 @@ impl NodeState {
     pub(crate) fn greet(
         &mut self,
         facts: Facts,
-        item: &Item,
+        item: &LentItem<'_>,
         actions: &mut ActionList,
     ) -> Result<(), OutOfMemory>
         requires known { IsKnown facts self.old }
         requires greeting { is_greeting facts ≡ true }
-        ensures { OnOk result (DoesTo facts.cid.0 (greets item.now) actions.old self.old self.new actions.new) }
+        ensures { OnOk result (DoesTo facts.cid.0 (greets (lent item.now)) actions.old self.old self.new actions.new) }
     {
-        if item.id == 0 && is_awaited(role_of(facts.provenance), item.side) {
-            self.read_greeting(facts, item, actions)
-        } else {
-            self.end(facts, CloseCause::Fault(FaultKind::Protocol), actions)
-        }
+        let received = self.received(facts, item)?;
+        self.greet_as(facts, received, actions)
     }
 
-    // An item of the handshake comes in, on a side that is awaited.
-    fn read_greeting(
-        &mut self,
+    /// What an item comes to in the handshake of a connection.
+    pub(crate) fn received(
+        &self,
         facts: Facts,
-        item: &Item,
-        actions: &mut ActionList,
-    ) -> Result<(), OutOfMemory>
-        requires known { IsKnown facts self.old }
-        requires greeting { is_greeting facts ≡ true }
-        ensures { OnOk result
-            (DoesTo facts.cid.0 (greeted_by (message_of item.now.body) item.now.side) actions.old self.old self.new actions.new) }
+        item: &LentItem<'_>,
+    ) -> Result<Received, OutOfMemory>
+        ensures received { IfOk result (λ received. received
+            ≡ receives Received.Fault Received.Decided (role_of facts.provenance) (own_info self.now.settings) (lent item.now)) }
+        ensures answerable { IfOk result CanBeAnswered }
+        ensures may { IfOk result (λ received. CanFollow received facts) }
     {
-        match read_message(self.alloc, item.body.as_slice()) {
-            Ok(message) => self.take_greeting(facts, item.side, &message, actions),
-            Err(ReadRefusal::NotAMessage) => {
-                self.end(facts, CloseCause::Fault(FaultKind::Malformed), actions)
-            }
-            Err(ReadRefusal::OutOfMemory) => Err(OutOfMemory),
-        }
-    }
-
-    // A message of the handshake comes in.
-    fn take_greeting(
-        &mut self,
-        facts: Facts,
-        side: u8,
-        message: &Message,
-        actions: &mut ActionList,
-    ) -> Result<(), OutOfMemory>
-        requires known { IsKnown facts self.old }
-        requires greeting { is_greeting facts ≡ true }
-        ensures { OnOk result
-            (DoesTo facts.cid.0 (greeted_by (Some message.now) side) actions.old self.old self.new actions.new) }
-    {
-        let role = role_of(facts.provenance);
-        if !fits_side(role, side, message) {
-            return self.end(facts, CloseCause::Fault(FaultKind::Protocol), actions);
-        }
         let own = own_info(self.connections.settings());
-        let verdict = decide(role, &own, message);
+        receive(self.alloc, role_of(facts.provenance), &own, item)
+    }
+
+    /// What an item came to in the handshake is carried out.
+    pub(crate) fn greet_as(
+        &mut self,
+        facts: Facts,
+        received: Received,
+        actions: &mut ActionList,
+    ) -> Result<(), OutOfMemory>
+        requires known { IsKnown facts self.old }
+        requires greeting { is_greeting facts ≡ true }
+        requires answerable { CanBeAnswered received }
+        requires may { CanFollow received facts }
+        ensures { OnOk result (DoesTo facts.cid.0 (greeted_as received) actions.old self.old self.new actions.new) }
+    {
+        match received {
+            Received::Decided(verdict) => self.decide(facts, verdict, actions),
+            Received::Fault(kind) => self.end(facts, CloseCause::Fault(kind), actions),
+        }
+    }
+
+    // A verdict is told where it has an answer, and carried out.
+    fn decide(
+        &mut self,
+        facts: Facts,
+        verdict: Verdict,
+        actions: &mut ActionList,
+    ) -> Result<(), OutOfMemory>
+        requires known { IsKnown facts self.old }
+        requires greeting { is_greeting facts ≡ true }
+        requires answerable { CanAnswer verdict }
+        requires may { CanJudge verdict facts }
+        ensures { OnOk result (DoesTo facts.cid.0 (decided verdict) actions.old self.old self.new actions.new) }
+    {
+        let own = own_info(self.connections.settings());
         self.say(facts.cid, &verdict, &own, actions)?;
         self.follow_verdict(facts, verdict, actions)
     }

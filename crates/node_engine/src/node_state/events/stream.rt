@@ -1,16 +1,21 @@
-ghost use Rattle.std.specs.Prelude.{◌≡◌, Some, IsSome, IfSome, OnOk, IfOk};
-ghost use Rattle.hs_receive.specs.Receiving.{kind_of};
+ghost use Rattle.std.specs.Prelude.{◌≡◌, Some, IsSome, IfSome, OnOk, IfOk, true, drop};
+ghost use Rattle.conn_state.specs.Use.{is_greeting};
+ghost use Rattle.hs_receive.specs.Receiving.{kind_of, CanBeAnswered};
 ghost use Rattle.machine.specs.Connections.{entry_turns};
 ghost use Rattle.machine.specs.Effect.{on_connection, for_each};
 ghost use Rattle.machine.specs.Machine.{entry_at};
 ghost use Rattle.machine.specs.Stream.{handled, handles, faulted, feeds, comes_in, bytes_come_in};
 ghost use Rattle.connections.specs.Standing.{fed_of, fed_entry};
+ghost use Rattle.mux_segment.specs.Lent.{lent};
+ghost use Rattle.node_engine.specs.Greets.{CanFollow, feeds_as};
 ghost use Rattle.node_engine.specs.State.{Does, DoesTo, DoesSilently, IsKnown};
 ghost use Rattle.connections.specs.Talks.{IsFed};
 
 use crate::NodeState;
-use hs_receive::kind_of;
-use mux_segment::{CutFault, Fed, Item};
+use conn_state::facts::is_greeting;
+use connections::Decoded;
+use hs_receive::{Received, kind_of};
+use mux_segment::{CutFault, LentItem, PackedItems};
 use net_base::{ActionList, Cid, CloseCause, Facts, FaultKind, OutOfMemory, Phase};
 
 impl NodeState {
@@ -41,27 +46,108 @@ impl NodeState {
             (DoesTo facts.cid.0 (comes_in bytes.now) actions.old self.old self.new actions.new) }
     {
         match facts.phase {
-            Phase::Greeting(_) | Phase::Negotiated => self.feed(facts.cid, bytes, actions),
+            Phase::Greeting(_) | Phase::Negotiated => self.feed(facts, bytes, actions),
             Phase::Dialing | Phase::Closing(_) => Ok(()),
         }
     }
 
+    // New bytes of a stream. The first item in a handshake is judged before anything behind it is looked at.
+    fn feed(
+        &mut self,
+        facts: Facts,
+        bytes: &[u8],
+        actions: &mut ActionList,
+    ) -> Result<(), OutOfMemory>
+        requires { IsKnown facts self.old }
+        ensures { OnOk result
+            (DoesTo facts.cid.0 (feeds bytes.now) actions.old self.old self.new actions.new) }
+    {
+        if is_greeting(&facts) {
+            self.feed_greeting(facts, bytes, actions)
+        } else {
+            self.feed_all(facts.cid, bytes, actions)
+        }
+    }
+
+    // New bytes of a stream in the handshake, by its first item where that is easily seen.
+    fn feed_greeting(
+        &mut self,
+        facts: Facts,
+        bytes: &[u8],
+        actions: &mut ActionList,
+    ) -> Result<(), OutOfMemory>
+        requires known { IsKnown facts self.old }
+        requires greeting { is_greeting facts ≡ true }
+        ensures { OnOk result
+            (DoesTo facts.cid.0 (feeds bytes.now) actions.old self.old self.new actions.new) }
+    {
+        let Some(item) = self.connections.first(facts.cid, bytes) else {
+            return self.feed_all(facts.cid, bytes, actions);
+        };
+        let received = self.received(facts, &item)?;
+        self.feed_as(facts, received, bytes, actions)
+    }
+
+    // The same, once it is known what the first item came to. Where that ends the connection, the rest is not taken.
+    fn feed_as(
+        &mut self,
+        facts: Facts,
+        received: Received,
+        bytes: &[u8],
+        actions: &mut ActionList,
+    ) -> Result<(), OutOfMemory>
+        requires known { IsKnown facts self.old }
+        requires greeting { is_greeting facts ≡ true }
+        requires answerable { CanBeAnswered received }
+        requires may { CanFollow received facts }
+        ensures { OnOk result
+            (DoesTo facts.cid.0 (feeds_as received bytes.now) actions.old self.old self.new actions.new) }
+    {
+        match received {
+            Received::Fault(kind) => self.end(facts, CloseCause::Fault(kind), actions),
+            Received::Decided(_) => self.feed_behind(facts, received, bytes, actions),
+        }
+    }
+
+    // All is taken, and what the first item came to is carried out before the others are handled.
+    fn feed_behind(
+        &mut self,
+        facts: Facts,
+        received: Received,
+        bytes: &[u8],
+        actions: &mut ActionList,
+    ) -> Result<(), OutOfMemory>
+        requires known { IsKnown facts self.old }
+        requires greeting { is_greeting facts ≡ true }
+        requires answerable { CanBeAnswered received }
+        requires may { CanFollow received facts }
+        ensures { OnOk result
+            (DoesTo facts.cid.0 (feeds_as received bytes.now) actions.old self.old self.new actions.new) }
+    {
+        let fed = self.decode(facts.cid, bytes)?;
+        self.greet_as(facts, received, actions)?;
+        self.handle_from(facts.cid, &fed.items, 1, actions)?;
+        self.fail_by(facts.cid, fed.fault, actions)
+    }
+
     // Each item is handled before the next one, and a fault of the stream after the items before it.
-    fn feed(&mut self, cid: Cid, bytes: &[u8], actions: &mut ActionList) -> Result<(), OutOfMemory>
+    fn feed_all(
+        &mut self,
+        cid: Cid,
+        bytes: &[u8],
+        actions: &mut ActionList,
+    ) -> Result<(), OutOfMemory>
         requires { IsSome (entry_at cid.0 self.old) }
         ensures { OnOk result
             (DoesTo cid.0 (feeds bytes.now) actions.old self.old self.new actions.new) }
     {
         let fed = self.decode(cid, bytes)?;
-        self.handle_all(cid, fed.items.as_slice(), actions)?;
-        match fed.fault {
-            Some(fault) => self.fail(cid, fault, actions),
-            None => Ok(()),
-        }
+        self.handle_from(cid, &fed.items, 0, actions)?;
+        self.fail_by(cid, fed.fault, actions)
     }
 
     // The new bytes follow those that are not decoded yet.
-    fn decode(&mut self, cid: Cid, bytes: &[u8]) -> Result<Fed, OutOfMemory>
+    fn decode(&mut self, cid: Cid, bytes: &[u8]) -> Result<Decoded, OutOfMemory>
         requires { IsSome (entry_at cid.0 self.old) }
         ensures turns { OnOk result (IfSome (entry_at cid.0 self.old)
             (λ e. DoesSilently (entry_turns e (fed_entry bytes.now e) self.old) self.new)) }
@@ -70,51 +156,56 @@ impl NodeState {
         self.connections.feed(cid, bytes)
     }
 
-    // Items come in, one after another.
-    fn handle_all(
+    // Items come in, one after another, from a place on. Where the connection has ended, nothing more is handled.
+    fn handle_from(
         &mut self,
         cid: Cid,
-        items: &[Item],
+        items: &PackedItems,
+        from: usize,
         actions: &mut ActionList,
     ) -> Result<(), OutOfMemory>
-        ensures { OnOk result (Does (for_each (handles cid) items.now self.old) actions.old self.new actions.new) }
+        ensures { OnOk result (Does (for_each (handles cid) (drop from items.now) self.old) actions.old self.new actions.new) }
     {
-        for item in items {
-            self.handle_item(cid, item, actions)?;
+        for place in from..items.len() {
+            let Some(facts) = self.found(cid) else {
+                return Ok(());
+            };
+            self.handle_in_phase(facts, &items.at(place), actions)?;
         }
         Ok(())
-    }
-
-    // An item comes in. Where the connection has ended, nothing more is handled.
-    fn handle_item(
-        &mut self,
-        cid: Cid,
-        item: &Item,
-        actions: &mut ActionList,
-    ) -> Result<(), OutOfMemory>
-        ensures { OnOk result (Does (handles cid item.now self.old) actions.old self.new actions.new) }
-    {
-        match self.found(cid) {
-            Some(facts) => self.handle_in_phase(facts, item, actions),
-            None => Ok(()),
-        }
     }
 
     // What comes in is handled by how far the connection has come.
     fn handle_in_phase(
         &mut self,
         facts: Facts,
-        item: &Item,
+        item: &LentItem<'_>,
         actions: &mut ActionList,
     ) -> Result<(), OutOfMemory>
         requires { IsKnown facts self.old }
         ensures { OnOk result
-            (DoesTo facts.cid.0 (handled item.now) actions.old self.old self.new actions.new) }
+            (DoesTo facts.cid.0 (handled (lent item.now)) actions.old self.old self.new actions.new) }
     {
         match facts.phase {
             Phase::Greeting(_) => self.greet(facts, item, actions),
             Phase::Negotiated => self.talk(facts, item, actions),
             Phase::Dialing | Phase::Closing(_) => Ok(()),
+        }
+    }
+
+    // A fault of the stream, where there is one.
+    fn fail_by(
+        &mut self,
+        cid: Cid,
+        fault: Option<CutFault>,
+        actions: &mut ActionList,
+    ) -> Result<(), OutOfMemory>
+        ensures { OnOk result
+            (Does (on_connection cid (faulted fault) self.old) actions.old self.new actions.new) }
+    {
+        match fault {
+            Some(fault) => self.fail(cid, fault, actions),
+            None => Ok(()),
         }
     }
 

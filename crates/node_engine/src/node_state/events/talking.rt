@@ -5,6 +5,7 @@ ghost use Rattle.conn_state.specs.Use.{is_negotiated, agreed_sharing, runs};
 ghost use Rattle.machine.specs.Effect.{on_connection};
 ghost use Rattle.machine.specs.Machine.{entry_at};
 ghost use Rattle.machine.specs.Talking.{served_peers, replies, serves, begins, asked_as, talks};
+ghost use Rattle.mux_segment.specs.Lent.{lent};
 ghost use Rattle.node_engine.specs.State.{Does, DoesTo, IsKnown};
 ghost use Rattle.remote_watch.specs.Watch.{watched};
 ghost use Rattle.share_rounds.specs.Rounds.{served_to};
@@ -13,7 +14,7 @@ use crate::NodeState;
 use conn_state::facts::{is_sharing, serves_remote};
 use conn_state::responders::runs;
 use conn_table::Step;
-use mux_segment::Item;
+use mux_segment::LentItem;
 use net_base::{ActionList, Addr, AddrList, Cid, CloseCause, Facts, FaultKind, OutOfMemory};
 use remote_watch::{Reply, Seen, WatchRefusal, reply_bytes, watch};
 use share_rounds::{served_among, tellable};
@@ -23,12 +24,12 @@ impl NodeState {
     pub(crate) fn talk(
         &mut self,
         facts: Facts,
-        item: &Item,
+        item: &LentItem<'_>,
         actions: &mut ActionList,
     ) -> Result<(), OutOfMemory>
         requires known { IsKnown facts self.old }
         requires negotiated { is_negotiated facts ≡ true }
-        ensures { OnOk result (DoesTo facts.cid.0 (talks item.now) actions.old self.old self.new actions.new) }
+        ensures { OnOk result (DoesTo facts.cid.0 (talks (lent item.now)) actions.old self.old self.new actions.new) }
     {
         if item.side == 0 {
             self.watch_item(facts, item, actions)
@@ -41,21 +42,16 @@ impl NodeState {
     fn watch_item(
         &mut self,
         facts: Facts,
-        item: &Item,
+        item: &LentItem<'_>,
         actions: &mut ActionList,
     ) -> Result<(), OutOfMemory>
         requires known { IsKnown facts self.old }
         requires negotiated { is_negotiated facts ≡ true }
         ensures { OnOk result (DoesTo facts.cid.0
-            (asked_as (watched item.now.id (agreed_sharing facts.agreed) item.now.body) item.now.id)
+            (asked_as (watched item.now.id (agreed_sharing facts.agreed) item.now.body.now) item.now.id)
             actions.old self.old self.new actions.new) }
     {
-        match watch(
-            self.alloc,
-            item.id,
-            is_sharing(&facts),
-            item.body.as_slice(),
-        ) {
+        match watch(self.alloc, item.id, is_sharing(&facts), item.body) {
             Ok(seen) => self.take_request(facts, item.id, seen, actions),
             Err(WatchRefusal::Fault(kind)) => self.end(facts, CloseCause::Fault(kind), actions),
             Err(WatchRefusal::OutOfMemory) => Err(OutOfMemory),

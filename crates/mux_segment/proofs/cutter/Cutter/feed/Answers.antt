@@ -1,8 +1,6 @@
-use Rattle.std.proofs.Common.{sym}
-use Rattle.mux_segment.specs.Protocols.{node_limits}
-use Rattle.mux_segment.proofs.Feeds.{fed_ended}
+use Rattle.std.proofs.Common.{refl}
+use Rattle.mux_segment.proofs.Feeds.{put_given}
 use Rattle.mux_segment.proofs.cutter.Cutter.feed.Goals as goal
 
-pub returns-then-is_some : goal.returns-then-is_some
-returns-then-is_some c =
-    rw (← c.self.view_is) (fed_ended node_limits _ c.args.bytes.now c.new-items.result c.new-items.ensures (sym c.if-is_some.ensures))
+pub returns : goal.returns
+returns c = put_given _ _ _ _ _ _ c.in_ok-cutter.ensures c.new-packed.ensures c.in_ok-items.ensures refl

@@ -23,9 +23,8 @@ returns-in-Ok c =
     let open' : is_some inside.fault ≡ false = ap (λ (o : Option CutFault). is_some o) (ap (λ (s : CutterState). s.fault) c.self.view_is ∙ c.requires) in
     let stream = inside.rest ++ c.args.bytes.now in
     let adds = c.in-Ok.ensures.items in
-    let items = adds.1 ∙ ap (λ (x : List Item). x ++ (decoded node_limits inside.parts (cut_of stream).segments).items) c.new-items.ensures in
-    rw (← c.self.view_is) (fed_read node_limits state c.args.bytes.now stream open' refl c.in-Ok.rest c.take_stream.new.parts
-    c.take_stream.new.items adds.0 c.in-Ok.ensures.rest c.in-Ok.ensures.parts items)
+    rw (← c.self.view_is) (fed_read node_limits state c.args.bytes.now stream open' refl c.args.items.now c.in-Ok.rest c.take_stream.new.parts
+    c.take_stream.new.items adds.0 c.in-Ok.ensures.rest c.in-Ok.ensures.parts adds.1)
 
 pub returns-in-Err-Fault : goal.returns-in-Err-Fault
 returns-in-Err-Fault c =
@@ -34,6 +33,5 @@ returns-in-Err-Fault c =
     let open' : is_some inside.fault ≡ false = ap (λ (o : Option CutFault). is_some o) (ap (λ (s : CutterState). s.fault) c.self.view_is ∙ c.requires) in
     let stream = inside.rest ++ c.args.bytes.now in
     let adds = rw c.in-Err-Fault.field-0-is at c.in-Err-Fault.ensures.items in
-    let items = adds.1 ∙ ap (λ (x : List Item). x ++ (decoded node_limits inside.parts (cut_of stream).segments).items) c.new-items.ensures in
-    rw (← c.self.view_is) (fed_stopped node_limits state c.args.bytes.now stream open' refl c.in-Err-Fault.fault c.take_stream.new.items
-    c.ended.result.0 c.ended.result.1 adds.0 items (rw c.in-Err-Fault.field-0-is at c.ended.ensures))
+    rw (← c.self.view_is) (fed_stopped node_limits state c.args.bytes.now stream open' refl c.args.items.now c.in-Err-Fault.fault c.take_stream.new.items
+    c.ended.result.0 c.ended.result.1 adds.0 adds.1 (rw c.in-Err-Fault.field-0-is at c.ended.ensures.cutter) (rw c.in-Err-Fault.field-0-is at c.ended.ensures.told))
