@@ -24,6 +24,13 @@ use Rattle.machine.specs.Worked.{AllRun}
 pub all_run : AllRun
 unfolding first_to_go head_at shortest_head skip_row skip_to_break skip_chunk skip_flat_content skip_nested_content skip_item scan_of pieces_within pieces_of frame_of taken_within taken_of part_bytes without_part with_part segment_at cut_within cut_of segment_decoded decoded fed_by node_spelling definite_at definite_array_at flag_at bit_at magic_at version_info_at known_of offer_at row_at table_at row_to_break_at version_list_at text_at tag_at noted_at reason_at message_at message_with message_of item_number_of opening_at elements_at numbers_at address_at addresses_at alive_of peers_at share_of least_by first_places cleaned_after taken_after fire_due for_each actions_of
 all_run = record {
+  lasting = record {
+    public_roots_stay_runs = refl;
+    dialed_after_the_time_wait_runs = refl;
+    turned_away_for_the_first_cause_runs = refl;
+    one_grace_goes_on_runs = refl;
+    greeting_closed_ends_once_runs = refl;
+  };
   handshakes = record {
     inbound_duplex_accept_runs = refl;
     inbound_no_common_version_runs = refl;

@@ -24,4 +24,5 @@ pub mod SharingTraces
 pub mod BigPeerTraces
 pub mod DistinctTraces
 pub mod DistinctPeerTraces
+pub mod LastingTraces
 pub mod Worked

@@ -1,6 +1,6 @@
 //! Laws on the definitions. The functions do nothing.
 
-ghost use Rattle.machine.specs.Worked.{HandshakesRun, RespondersRun, OutboundsRun, CrossingsRun, LimitsRun, GovernorsRun, SharingsRun, BigPeersRun, DistinctRun, DistinctPeersRun};
+ghost use Rattle.machine.specs.Worked.{HandshakesRun, RespondersRun, OutboundsRun, CrossingsRun, LimitsRun, GovernorsRun, SharingsRun, BigPeersRun, DistinctRun, DistinctPeersRun, LastingRun};
 
 /// The machine does on each worked trace what the trace says.
 pub fn worked_traces_are_runs()
@@ -14,4 +14,5 @@ pub fn worked_traces_are_runs()
     ensures big_peers { BigPeersRun }
     ensures distinct { DistinctRun }
     ensures distinct_peers { DistinctPeersRun }
+    ensures lasting { LastingRun }
 {}

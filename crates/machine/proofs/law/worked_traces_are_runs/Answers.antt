@@ -30,3 +30,6 @@ returns-clause-distinct c = all_run.distinct
 
 pub returns-clause-distinct_peers : goal.returns-clause-distinct_peers
 returns-clause-distinct_peers c = all_run.distinct_peers
+
+pub returns-clause-lasting : goal.returns-clause-lasting
+returns-clause-lasting c = all_run.lasting
