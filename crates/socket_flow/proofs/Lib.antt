@@ -1,5 +1,10 @@
+pub mod Ending
 pub mod Fair
+pub mod Living
 pub mod Losing
+pub mod Names
 pub mod Once
 pub mod Order
+pub mod Single
 pub mod Telling
+pub mod Written

@@ -2,7 +2,7 @@
 use Rattle.std.proofs.Common.{◌≡◌, ◌⊎◌, inl, inr, ℕ, List, [], ◌∷◌, ◌++◌, Some, None, refl, ap, sym, ◌∙◌}
 use Rattle.socket_flow.specs.Table.{out_at, stage_at, key_at}
 use Rattle.net_base.specs.declared.event.Event.{Event}
-use Rattle.socket_flow.specs.Asks.{Asks, IsReadable, IsFirst, IsNextCaller}
+use Rattle.socket_flow.specs.Asks.{Asks, IsReadable, IsSilent, IsNoRead, IsFirst, IsNextCaller}
 use Rattle.socket_flow.specs.Talk.{KeepsKeys, KeepsSockets, KeepsAll, Loses, Losing, MayLose, TellsAndMayLose}
 use Rattle.socket_flow.specs.declared.ask.Ask.{Ask}
 use Rattle.socket_flow.specs.declared.ask.Ask.TheVariants.{Close, Connect, Check, Write, Accept, Read, Give, Govern, Wait}
@@ -91,16 +91,38 @@ tells_and_loses a b c d more keeps events loses table same greeting caller = rec
   loses = at_rest_then b c d loses table same greeting caller;
 }
 
-pub asks_of : (ask : Ask) (a b : SocketFlow) → KeepsAll a b → IsReadable b.table ask → Asks a b ask
-asks_of (Close key) a b p r = (p, r)
-asks_of (Connect key addr) a b p r = (p, r)
-asks_of (Check key) a b p r = (p, r)
-asks_of (Write key) a b p r = (p, r)
-asks_of Accept a b p r = (p, r)
-asks_of (Read key most) a b p r = (p, r)
-asks_of (Give event) a b p r = absurd r
-asks_of Govern a b p r = (p, r)
-asks_of (Wait time) a b p r = (p, r)
+pub asks_of : (ask : Ask) (a b : SocketFlow) → KeepsAll a b → IsReadable b.table ask → IsSilent b ask → Asks a b ask
+asks_of (Close key) a b p r s = (p, r)
+asks_of (Connect key addr) a b p r s = (p, r)
+asks_of (Check key) a b p r s = (p, r)
+asks_of (Write key) a b p r s = (p, r)
+asks_of Accept a b p r s = (p, r)
+asks_of (Read key most) a b p r s = (p, r, s)
+asks_of (Give event) a b p r s = absurd r
+asks_of Govern a b p r s = (p, r)
+asks_of (Wait time) a b p r s = (p, r)
+
+pub silent_unread : (ask : Ask) (a : SocketFlow) → IsNoRead ask → IsSilent a ask
+silent_unread (Close key) a p = tt
+silent_unread (Connect key addr) a p = tt
+silent_unread (Check key) a p = tt
+silent_unread (Write key) a p = tt
+silent_unread Accept a p = tt
+silent_unread (Read key most) a p = absurd p
+silent_unread (Give event) a p = tt
+silent_unread Govern a p = tt
+silent_unread (Wait time) a p = tt
+
+pub silent_where : (ask : Ask) (a : SocketFlow) → a.events ≡ [] → IsSilent a ask
+silent_where (Close key) a p = tt
+silent_where (Connect key addr) a p = tt
+silent_where (Check key) a p = tt
+silent_where (Write key) a p = tt
+silent_where Accept a p = tt
+silent_where (Read key most) a p = p
+silent_where (Give event) a p = tt
+silent_where Govern a p = tt
+silent_where (Wait time) a p = tt
 
 -- an event that is given is the first, or tells of the next peer
 pub first_or_next : (a b : SocketFlow) (event : Event) → IsFirst a b event ⊎ IsNextCaller a b event → (a.events ≡ event ∷ b.events) ⊎ IsNextCaller a b event

@@ -34,17 +34,17 @@ use Rattle.socket_flow.specs.declared.terms.Terms.{Terms}
 -- ---- what a socket is for, and what came and was told
 
 -- what was said before a socket is a connection
-record IsKnown (a : Bool) (said : List ℕ) : Type 0 where
+pub record IsKnown (a : Bool) (said : List ℕ) : Type 0 where
   no_more : IsSaid a said
   announced : IsAnnounced a said
 
-record Talks (cid : Cid) (a : Bool) (c : List ℕ) (t : List Event) : Type 0 where
+pub record Talks (cid : Cid) (a : Bool) (c : List ℕ) (t : List Event) : Type 0 where
   said : List ℕ
   known : IsKnown a said
   events : AreBytesOf cid t
   bytes : c ≡ said ++ all_bytes t
 
-abbrev Fits : Option Stage → Bool → List ℕ → List Event → Type 0
+abbrev pub Fits : Option Stage → Bool → List ℕ → List Event → Type 0
 Fits None a c t = IsTold a c t
 Fits (Some (Dialing id)) a c t = (a ≡ false) × (c ≡ []) × (t ≡ [])
 Fits (Some (Announcing said)) a c t = (a ≡ true) × (c ≡ said) × (t ≡ []) × IsSaid true said
@@ -54,7 +54,7 @@ Fits (Some (Open id)) a c t = Talks id.cid a c t
 Fits (Some Closing) a c t = IsTold a c t
 
 -- the peer that the node was told of
-abbrev IsCaller : Option Stage → Type 0
+abbrev pub IsCaller : Option Stage → Type 0
 IsCaller None = Unit {0}
 IsCaller (Some Told) = Unit {0}
 IsCaller (Some stage) = ⊥
@@ -179,7 +179,7 @@ Named (Some key) = Unit {0}
 nobody : (o : Option ℕ) (key : ℕ) → o ≡ None → o ≡ Some key → ⊥
 nobody o key none some = subst Named none (subst Named (sym some) tt)
 
-gone_stands : (s : Option Stage) (stage : Stage) → s ≡ None → s ≡ Some stage → ⊥
+pub gone_stands : (s : Option Stage) (stage : Stage) → s ≡ None → s ≡ Some stage → ⊥
 gone_stands s stage none some = subst Stands none (subst Stands (sym some) tt)
 
 abbrev key_in : ℕ → Option ℕ → ℕ
@@ -190,15 +190,15 @@ same_key : (o : Option ℕ) (k key : ℕ) → o ≡ Some k → o ≡ Some key �
 same_key o k key one two = ap (key_in k) (sym one ∙ two)
 
 -- what a socket and the peer that the node was told of are, in the midst of a history
-record Follows (greeting : List ℕ) (key : ℕ) (flow : SocketFlow) (acc : Bool) (c : List ℕ) (t : List Event) : Type 0 where
-  greets : flow.greeting ≡ greeting
-  fits : Fits (stage_at flow.table key) (acc && not (length greeting == 0)) c t
-  fresh : flow.table.next_key ≤ key → (acc ≡ false) × (c ≡ []) × (t ≡ []) × (stage_at flow.table key ≡ None)
-  given : flow.caller ≡ Some key → flow.table.next_key ≤ key → ⊥
-  caller : flow.caller ≡ Some key → IsCaller (stage_at flow.table key)
+pub record Follows (greeting : List ℕ) (key : ℕ) (flow : SocketFlow) (acc : Bool) (c : List ℕ) (t : List Event) : Type 0 where
+  pub greets : flow.greeting ≡ greeting
+  pub fits : Fits (stage_at flow.table key) (acc && not (length greeting == 0)) c t
+  pub fresh : flow.table.next_key ≤ key → (acc ≡ false) × (c ≡ []) × (t ≡ []) × (stage_at flow.table key ≡ None)
+  pub given : flow.caller ≡ Some key → flow.table.next_key ≤ key → ⊥
+  pub caller : flow.caller ≡ Some key → IsCaller (stage_at flow.table key)
 
 module _ (greeting : List ℕ) (key : ℕ) where
-  abbrev awaits : Bool → Bool
+  abbrev pub awaits : Bool → Bool
   awaits acc = acc && not (length greeting == 0)
 
   stays : (old new : SocketFlow) (acc : Bool) (c : List ℕ) (t : List Event) → KeepsKeys old new
@@ -518,7 +518,7 @@ module _ (greeting : List ℕ) (key : ℕ) where
   went_stage socket Closing [] = inl refl
   went_stage socket Closing (byte ∷ out) = inr refl
 
-  went : (s : Option Socket) (count : ℕ) → (stage_of (after_going s count) ≡ None) ⊎ (stage_of (after_going s count) ≡ stage_of s)
+  pub went : (s : Option Socket) (count : ℕ) → (stage_of (after_going s count) ≡ None) ⊎ (stage_of (after_going s count) ≡ stage_of s)
   went None count = inl refl
   went (Some socket) count =
       went_stage (record socket { out = gone_by socket.out count; has_taken = true; is_held = false }) socket.stage (gone_by socket.out count)
@@ -531,13 +531,13 @@ module _ (greeting : List ℕ) (key : ℕ) where
   full_stage socket (Open id) = inr refl
   full_stage socket Closing = inl refl
 
-  full : (s : Option Socket) → (stage_of (after_full s) ≡ None) ⊎ (stage_of (after_full s) ≡ stage_of s)
+  pub full : (s : Option Socket) → (stage_of (after_full s) ≡ None) ⊎ (stage_of (after_full s) ≡ stage_of s)
   full None = inl refl
   full (Some socket) = full_stage socket socket.stage
 
   -- what comes
 
-  reads_none : (s : Option Stage) (most : ℕ) → MayRead s most → s ≡ None → ⊥
+  pub reads_none : (s : Option Stage) (most : ℕ) → MayRead s most → s ≡ None → ⊥
   reads_none s most may none = subst (λ x. MayRead x most) none may
 
   reads_calls : (s : Option Stage) (most : ℕ) → MayRead s most → IsCaller s → ⊥
@@ -581,7 +581,7 @@ module _ (greeting : List ℕ) (key : ℕ) where
 
   -- ---- a history
 
-  abbrev IsReady : Option (ℕ × ℕ) → SocketFlow → Type 0
+  abbrev pub IsReady : Option (ℕ × ℕ) → SocketFlow → Type 0
   IsReady None flow = Unit {0}
   IsReady (Some reading) flow = MayRead (stage_at flow.table reading.0) reading.1
 
@@ -592,7 +592,7 @@ module _ (greeting : List ℕ) (key : ℕ) where
   comes_read (Some reading) k bytes event old new acc c t ready within_it p f =
       comes_on k (eqb k key) bytes reading.1 event old new acc c t refl (subst (λ j. MayRead (stage_at old.table j) reading.1) (sym within_it.0) ready) within_it.1 p.0 (p.1 key) p.2.keys f
 
-  step : (call : Call) (reading : Option (ℕ × ℕ)) (old new : SocketFlow) (acc : Bool) (c : List ℕ) (t : List Event)
+  pub step : (call : Call) (reading : Option (ℕ × ℕ)) (old new : SocketFlow) (acc : Bool) (c : List ℕ) (t : List Event)
       → IsReady reading old → MayCall reading call → Makes call old new → Follows greeting key old acc c t
       → Follows greeting key new (acc || is_accepted_by key call) (c ++ came_by key call) (t ++ told_by key call)
   step PeerWaits reading old new acc c t ready may p f = padded new acc c t (keeps old new acc c t p.sockets f)
@@ -608,8 +608,8 @@ module _ (greeting : List ℕ) (key : ℕ) where
       (arrives k (eqb k key) addr old new acc c t refl (p.0 key) p.3 f))
   step (DialCameTo k outcome) reading old new acc c t ready may p f = padded new acc c t (dialed k (stage_at old.table k) outcome old new acc c t refl p f)
   step (BytesCame k bytes event) reading old new acc c t ready may p f = comes_read reading k bytes event old new acc c t ready may p f
-  step (BytesWent k count) reading old new acc c t ready may p f =
-      padded new acc c t (stays old new acc c t p.1.keys (put k (eqb k key) old.table (socket_at new.table key) (after_going (socket_at old.table k) count) refl (p.0 key) (went (socket_at old.table k) count)) f)
+  step (BytesWent k count bytes) reading old new acc c t ready may p f =
+      padded new acc c t (stays old new acc c t p.2.keys (put k (eqb k key) old.table (socket_at new.table key) (after_going (socket_at old.table k) count) refl (p.1 key) (went (socket_at old.table k) count)) f)
   step (TakesNoMore k) reading old new acc c t ready may p f =
       padded new acc c t (stays old new acc c t p.1.keys (put k (eqb k key) old.table (socket_at new.table key) (after_full (socket_at old.table k)) refl (p.0 key) (full (socket_at old.table k))) f)
   step (HasEnded k) reading old new acc c t ready may p f = padded new acc c t (loses k old new acc c t p f)
@@ -627,7 +627,7 @@ module _ (greeting : List ℕ) (key : ℕ) where
   ready_to_read Govern old new p = tt
   ready_to_read (Wait time) old new p = tt
 
-  ready_then : (call : Call) (old new : SocketFlow) → Makes call old new → IsReady (to_read call) new
+  pub ready_then : (call : Call) (old new : SocketFlow) → Makes call old new → IsReady (to_read call) new
   ready_then PeerWaits old new p = tt
   ready_then NobodyWaits old new p = tt
   ready_then PeerIsGone old new p = tt
@@ -638,13 +638,13 @@ module _ (greeting : List ℕ) (key : ℕ) where
   ready_then (PeerCame addr k) old new p = tt
   ready_then (DialCameTo k outcome) old new p = tt
   ready_then (BytesCame k bytes event) old new p = tt
-  ready_then (BytesWent k count) old new p = tt
+  ready_then (BytesWent k count bytes) old new p = tt
   ready_then (TakesNoMore k) old new p = tt
   ready_then (HasEnded k) old new p = tt
   ready_then (NodeDoes action) old new p = tt
   ready_then (NodeAsks ask) old new p = ready_to_read ask p.left new p.asks
 
-  or_again : (a b c : Bool) → ((a || b) || c) ≡ (a || (b || c))
+  pub or_again : (a b c : Bool) → ((a || b) || c) ≡ (a || (b || c))
   or_again true b c = refl
   or_again false b c = refl
 
@@ -661,7 +661,7 @@ module _ (greeting : List ℕ) (key : ℕ) where
       (subst (λ x. Follows greeting key new ((acc || is_accepted_by key call) || is_accepted key calls) ((c ++ came_by key call) ++ came_on key calls) x)
       (append_assoc t (told_by key call) (told_on key calls)) done))
 
-at_first : (terms : Terms) (flow : SocketFlow) (key : ℕ) → Begins terms flow → Follows (greeting_by terms) key flow false [] []
+pub at_first : (terms : Terms) (flow : SocketFlow) (key : ℕ) → Begins terms flow → Follows (greeting_by terms) key flow false [] []
 at_first terms flow key b = record {
   greets = b.greeting;
   fits = subst (λ s. Fits s false [] []) (sym (ap stage_of (b.sockets key))) (none_told false [] refl);

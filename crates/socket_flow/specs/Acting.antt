@@ -107,9 +107,15 @@ IsClosing (Some Closing) = Unit {0}
 IsClosing (Some stage) = ⊥
 IsClosing None = Unit {0}
 
+-- where there is a socket still, the same waits on it
+abbrev pub OutStays : Option Stage → List ℕ → List ℕ → Type 0
+OutStays None before after = Unit {0}
+OutStays (Some stage) before after = after ≡ before
+
 -- The id has no socket from then on, nothing is told of it, and no other socket is another.
 pub record ClosesAt (old new : SocketFlow) (key : ℕ) (cid : Cid) : Type 0 where
   pub stage : MatchBool (is_linked (stage_at old.table key)) (IsClosing (stage_at new.table key)) (stage_at new.table key ≡ stage_at old.table key)
+  pub out : OutStays (stage_at new.table key) (out_at old.table key) (out_at new.table key)
   pub others : (k : ℕ) → eqb key k ≡ false → socket_at new.table k ≡ socket_at old.table k
   pub names : (c : ℕ) → key_at new.table c ≡ (if eqb cid.0 c then None else key_at old.table c)
   pub events : new.events ≡ old.events

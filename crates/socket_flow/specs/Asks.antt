@@ -71,12 +71,23 @@ pub record IsFirst (old new : SocketFlow) (event : Event) : Type 0 where
   pub first : old.events ≡ event ∷ new.events
   pub sockets : KeepsSockets old new
 
+-- bytes are read only where nothing else waits to be told
+abbrev pub IsSilent : SocketFlow → Ask → Type 0
+IsSilent flow (Read key most) = flow.events ≡ []
+IsSilent flow _ = Unit {0}
+
+-- what is asked for of a socket that is not read
+abbrev pub IsNoRead : Ask → Type 0
+IsNoRead (Read key most) = ⊥
+IsNoRead _ = Unit {0}
+
 abbrev pub Asks : SocketFlow → SocketFlow → Ask → Type 0
 Asks old new (Give event) = IsFirst old new event ⊎ IsNextCaller old new event
+Asks old new (Read key most) = KeepsAll old new × IsReadable new.table (Read key most) × (new.events ≡ [])
 Asks old new ask = KeepsAll old new × IsReadable new.table ask
 
 -- Sockets may go, each with its end told. Then the first event is given, or the next peer is told of, or something is to be
--- done on a socket, which is read only where it may be.
+-- done on a socket, which is read only where it may be, and where nothing else waits to be told.
 pub record IsAsked (old new : SocketFlow) (ask : Ask) : Type 0 where
   pub left : SocketFlow
   pub loses : MayLose old left

@@ -1,5 +1,5 @@
 -- Histories of a flow: what it is told and asked, one call after another, and what it answers.
-use Rattle.std.specs.Prelude.{◌≡◌, ◌⊎◌, ℕ, ◌≤◌, Bool, true, false, not, ◌&&◌, ◌||◌, ◌==◌, eqb, List, [], ◌∷◌, ◌++◌, length, Option, Some, None}
+use Rattle.std.specs.Prelude.{◌≡◌, ◌≢◌, ◌⊎◌, ℕ, ◌≤◌, Bool, true, false, not, ◌&&◌, ◌||◌, ◌==◌, eqb, List, [], ◌∷◌, ◌++◌, length, Option, Some, None}
 use Rattle.std.specs.List.{AllByRecursion}
 use Rattle.net_base.specs.declared.action.Action.{Action}
 use Rattle.net_base.specs.declared.address.Addr.{Addr}
@@ -11,7 +11,8 @@ use Rattle.socket_flow.specs.Announcement.{announced_size, hearing}
 use Rattle.socket_flow.specs.Asks.{IsAsked}
 use Rattle.socket_flow.specs.Flow.{told_of, after_bytes, after_going, after_full, newcomer}
 use Rattle.socket_flow.specs.Moments.{moments_told}
-use Rattle.socket_flow.specs.Table.{socket_at, stage_at, Puts, NamesSame}
+use Rattle.socket_flow.specs.Table.{socket_at, stage_at, out_at, Puts, NamesSame}
+use Rattle.socket_flow.specs.Writing.{went_of}
 use Rattle.socket_flow.specs.Talk.{KeepsAll, KeepsRest, Loses, MayLose, TellsAndMayLose, TakesIn, IsDialed, Begins, greeting_by}
 use Rattle.socket_flow.specs.declared.announcement.Heard.{Heard}
 use Rattle.socket_flow.specs.declared.announcement.Heard.TheVariants.{Whole}
@@ -37,8 +38,8 @@ pub data Call : Type 0 where
   DialCameTo : (key : ℕ) (outcome : Outcome) → Call
   -- these bytes came, and they are this event
   BytesCame : (key : ℕ) (bytes : List ℕ) (event : Option Event) → Call
-  -- so many of the bytes that wait went out
-  BytesWent : (key count : ℕ) → Call
+  -- so many bytes went out, which are these: the first of those that wait
+  BytesWent : (key count : ℕ) (bytes : List ℕ) → Call
   TakesNoMore : (key : ℕ) → Call
   HasEnded : (key : ℕ) → Call
   NodeDoes : (action : Action) → Call
@@ -58,7 +59,8 @@ Makes (PeerCame addr key) old new =
 Makes (DialCameTo key outcome) old new = IsDialed (stage_at old.table key) outcome key old new
 Makes (BytesCame key bytes event) old new =
     (event ≡ told_of (socket_at old.table key) bytes) × Puts old.table new.table key (after_bytes (socket_at old.table key) bytes) × KeepsRest old new
-Makes (BytesWent key count) old new = Puts old.table new.table key (after_going (socket_at old.table key) count) × KeepsRest old new
+Makes (BytesWent key count bytes) old new =
+    (bytes ≡ went_of (out_at old.table key) count) × Puts old.table new.table key (after_going (socket_at old.table key) count) × KeepsRest old new
 Makes (TakesNoMore key) old new = Puts old.table new.table key (after_full (socket_at old.table key)) × KeepsRest old new
 Makes (HasEnded key) old new = Loses key old new
 Makes (NodeDoes action) old new = Does action old new
@@ -180,3 +182,10 @@ abbrev pub WhatCameIsTold : Type 0
 WhatCameIsTold =
     (terms : Terms) (first last : SocketFlow) (calls : List Call) → Begins terms first → Runs None calls first last
     → (key : ℕ) → IsTold (is_awaited terms key calls) (came_on key calls) (told_on key calls)
+
+-- A socket that has ended is read no more, and nothing more is told of it. It is one whose peer connected, or on which bytes
+-- came.
+abbrev pub EndedIsSilent : Type 0
+EndedIsSilent =
+    (terms : Terms) (first last : SocketFlow) (before after : List Call) (key : ℕ) → Begins terms first → Runs None (before ++ HasEnded key ∷ after) first last
+    → (is_accepted key before ≡ true) ⊎ (came_on key before ≢ []) → (came_on key after ≡ []) × (told_on key after ≡ [])

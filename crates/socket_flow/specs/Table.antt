@@ -3,7 +3,7 @@ use Rattle.std.specs.Prelude.{◌≡◌, ℕ, Bool, true, false, eqb, List, [], 
 use Rattle.std.specs.HashMap.{get}
 use Rattle.socket_flow.specs.declared.socket.Socket.{Socket}
 use Rattle.socket_flow.specs.declared.socket.Stage.{Stage}
-use Rattle.socket_flow.specs.declared.socket.Stage.TheVariants.{Dialing, Open}
+use Rattle.socket_flow.specs.declared.socket.Stage.TheVariants.{Dialing, Announcing, Open}
 use Rattle.socket_flow.specs.declared.socket_table.SocketTable.{SocketTable}
 
 -- the socket of a key
@@ -58,6 +58,11 @@ is_of None cid = false
 abbrev pub is_dialing : Option Stage → Bool
 is_dialing (Some (Dialing id)) = true
 is_dialing _ = false
+
+-- whether a socket announces an address
+abbrev pub is_announcing : Option Stage → Bool
+is_announcing (Some (Announcing said)) = true
+is_announcing _ = false
 
 -- whether a socket is a connection, or is to be one
 abbrev pub is_linked : Option Stage → Bool

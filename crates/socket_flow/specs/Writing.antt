@@ -5,6 +5,10 @@ use Rattle.std.specs.Prelude.{◌≡◌, ℕ, min, List, [], ◌∷◌, ◌++◌
 abbrev pub gone_by : List ℕ → ℕ → List ℕ
 gone_by out count = drop (min count (length out)) out
 
+-- and what went out then
+abbrev pub went_of : List ℕ → ℕ → List ℕ
+went_of out count = take (min count (length out)) out
+
 -- what may happen to it: bytes are put behind the others, or the first so many go out
 pub data Writing : Type 0 where
   Put : (bytes : List ℕ) → Writing
@@ -16,7 +20,7 @@ after_writing out (Went count) = gone_by out count
 
 abbrev pub went_by : List ℕ → Writing → List ℕ
 went_by out (Put bytes) = []
-went_by out (Went count) = take (min count (length out)) out
+went_by out (Went count) = went_of out count
 
 abbrev pub put_by : Writing → List ℕ
 put_by (Put bytes) = bytes

@@ -1,8 +1,8 @@
 //! What is to be done next.
-ghost use Rattle.std.specs.Prelude.{◌≡◌, true, ◌⊎◌, IfOk, OnOk, IfSome, IfNone};
+ghost use Rattle.std.specs.Prelude.{◌≡◌, [], true, ◌⊎◌, IfOk, OnOk, IfSome, IfNone};
 ghost use Rattle.net_base.specs.Limits.{IsWithinLimits};
 ghost use Rattle.socket_flow.specs.Table.{stage_at, is_dialing};
-ghost use Rattle.socket_flow.specs.Asks.{GivesWithinLimits, IsFirst, IsNextCaller, AsksForRoom, Gives, IsOfSockets, IsReadable};
+ghost use Rattle.socket_flow.specs.Asks.{GivesWithinLimits, IsFirst, IsNextCaller, IsNoRead, AsksForRoom, Gives, IsOfSockets, IsReadable};
 ghost use Rattle.socket_flow.specs.Histories.{Makes, NodeAsks};
 ghost use Rattle.socket_flow.specs.Talk.{KeepsAll, MayLose};
 
@@ -36,6 +36,7 @@ impl SocketFlow {
     fn ask_of_peers(&mut self) -> Result<Ask, OutOfMemory>
         ensures sockets { IfOk result IsOfSockets }
         ensures loses { OnOk result (MayLose self.old self.new) }
+        ensures events { OnOk result (self.new.events ≡ self.old.events) }
         ensures readable { IfOk result (IsReadable self.new.table) }
     {
         if let Some(ask) = next_fresh(&mut self.fresh, &self.table) {
@@ -68,6 +69,7 @@ impl SocketFlow {
         ensures caller { self.new.caller ≡ self.old.caller }
         ensures keeps { KeepsAll self.old self.new }
         ensures readable { IfSome result (IsReadable self.new.table) }
+        ensures unread { IfSome result IsNoRead }
     {
         if let Some(key) = self.closing.pop_front() {
             return Some(Ask::Close(key));
@@ -99,6 +101,7 @@ impl SocketFlow {
         ensures limits { IfSome result IsWithinLimits }
         ensures told { IfSome result (λ event. IsFirst self.old self.new event ⊎ IsNextCaller self.old self.new event) }
         ensures none { IfNone result (KeepsAll self.old self.new) }
+        ensures empty { IfNone result (self.new.events ≡ []) }
     {
         if let Some(event) = self.events.pop() {
             return Some(event);
@@ -117,6 +120,7 @@ impl SocketFlow {
     fn ask_to_accept(&mut self) -> Result<Option<Ask>, OutOfMemory>
         ensures limits { IfOk result (λ ask. IfSome ask IsOfSockets) }
         ensures loses { OnOk result (MayLose self.old self.new) }
+        ensures events { OnOk result (self.new.events ≡ self.old.events) }
         ensures readable { IfOk result (λ ask. IfSome ask (IsReadable self.new.table)) }
         ensures room { IfOk result (λ ask. IfSome ask (AsksForRoom self.old)) }
     {

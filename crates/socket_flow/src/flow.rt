@@ -1,5 +1,5 @@
-ghost use Rattle.std.specs.Prelude.{◌≡◌, ℕ, [], ◌∷◌, ◌++◌, None, is_some, if◌then◌else◌, IfOk, OnOk};
-ghost use Rattle.socket_flow.specs.Table.{socket_at, key_at, out_at, is_of, Puts};
+ghost use Rattle.std.specs.Prelude.{◌≡◌, ℕ, true, [], ◌∷◌, ◌++◌, None, is_some, if◌then◌else◌, IfOk, IfSome, OnOk};
+ghost use Rattle.socket_flow.specs.Table.{socket_at, key_at, stage_at, out_at, is_announcing, is_of, Puts};
 ghost use Rattle.socket_flow.specs.Flow.{endings};
 ghost use Rattle.socket_flow.specs.Talk.{greeting_by, Begins, Loses, MayLose};
 
@@ -120,7 +120,8 @@ impl SocketFlow {
 
     // Closes the socket that has announced its address for longest and not wholly. Answers whether there is one.
     pub(crate) fn lose_oldest_stranger(&mut self) -> Result<bool, OutOfMemory>
-        ensures { OnOk result (MayLose self.old self.new) }
+        ensures loses { OnOk result (MayLose self.old self.new) }
+        ensures events { OnOk result (self.new.events ≡ self.old.events) }
     {
         match oldest_stranger(&mut self.announcing, &self.table) {
             Some(key) => {
@@ -136,7 +137,9 @@ impl SocketFlow {
     }
 }
 
-fn is_stranger(table: &SocketTable, key: usize) -> bool {
+fn is_stranger(table: &SocketTable, key: usize) -> bool
+    ensures { result ≡ is_announcing (stage_at table.now key) }
+{
     match table.get(key) {
         Some(socket) => matches!(socket.stage, Stage::Announcing(_)),
         None => false,
@@ -144,7 +147,9 @@ fn is_stranger(table: &SocketTable, key: usize) -> bool {
 }
 
 // Takes out the keys up to the first whose socket has not announced its address wholly.
-fn oldest_stranger(announcing: &mut DueQueue, table: &SocketTable) -> Option<usize> {
+fn oldest_stranger(announcing: &mut DueQueue, table: &SocketTable) -> Option<usize>
+    ensures { IfSome result (λ key. is_announcing (stage_at table.now key) ≡ true) }
+{
     for _ in 0..u64::MAX {
         let key = announcing.pop()?;
         if is_stranger(table, key) {

@@ -4,7 +4,8 @@ ghost use Rattle.net_base.specs.Limits.{IsPiece, IsWithinLimits};
 ghost use Rattle.net_base.specs.declared.event.Event.TheVariants.{Dialed as Told};
 ghost use Rattle.socket_flow.specs.declared.socket.Stage.TheVariants.{Open};
 ghost use Rattle.socket_flow.specs.Moments.{moments_told};
-ghost use Rattle.socket_flow.specs.Table.{socket_at, stage_at, is_dialing, KeepsTalk, NamesSame, Puts};
+ghost use Rattle.socket_flow.specs.Writing.{went_of};
+ghost use Rattle.socket_flow.specs.Table.{socket_at, out_at, stage_at, is_dialing, KeepsTalk, NamesSame, Puts};
 ghost use Rattle.socket_flow.specs.Histories.{Makes, PeerWaits, NobodyWaits, PeerIsGone, HasNoRoom, HasNoRoomToDial, MayBeReady, RoundBegins, PeerCame, DialCameTo, BytesCame, BytesWent, TakesNoMore, HasEnded};
 ghost use Rattle.socket_flow.specs.Talk.{KeepsAll, KeepsSockets, KeepsRest, MayLose, TakesIn, Connects};
 ghost use Rattle.socket_flow.specs.Flow.{endings, told_of, after_bytes, waits_with, after_going, after_full, dial_events, after_dial, newcomer};
@@ -321,7 +322,7 @@ impl SocketFlow {
         ensures after { OnOk result (Puts self.old.table self.new.table key (after_going (socket_at self.old.table key) count)) }
         ensures events { OnOk result (self.new.events ≡ self.old.events) }
         ensures rest { OnOk result (KeepsRest self.old self.new) }
-        ensures made { OnOk result (Makes (BytesWent key count) self.old self.new) }
+        ensures made { OnOk result (Makes (BytesWent key count (went_of (out_at self.old.table key) count)) self.old self.new) }
     {
         let Some(socket) = self.table.sockets.get_mut(&key) else {
             return Ok(());

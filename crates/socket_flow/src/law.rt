@@ -1,6 +1,8 @@
 //! Laws on histories of the flow, and on turns and on what is written, whatever function gives them. The functions do nothing.
 
-ghost use Rattle.socket_flow.specs.Histories.{WhatCameIsTold};
+ghost use Rattle.socket_flow.specs.Histories.{EndedIsSilent, WhatCameIsTold};
+ghost use Rattle.socket_flow.specs.Lives.{HasOneSocket, LivesAreRight};
+ghost use Rattle.socket_flow.specs.Sending.{EndedIsUnwritten, WhatIsWrittenWasSent};
 ghost use Rattle.socket_flow.specs.Turns.{AreFair, AreRound};
 ghost use Rattle.socket_flow.specs.Writing.{KeepsOrder};
 
@@ -19,4 +21,27 @@ pub fn writing_keeps_order()
 /// each told of one and the same connection.
 pub fn what_came_is_told()
     ensures { WhatCameIsTold }
+{}
+
+/// Of every history: a socket that has ended is read no more, nothing more is told of it, and nothing is written on it.
+pub fn ended_is_silent()
+    ensures silent { EndedIsSilent }
+    ensures unwritten { EndedIsUnwritten }
+{}
+
+/// Of every history, on every socket: what is written is a front of the announcement, where the node dials, and of all that it
+/// sends to one connection, in this order; what came on it is told of the same connection.
+pub fn what_is_written_was_sent()
+    ensures { WhatIsWrittenWasSent }
+{}
+
+/// Of every history, for every id: a dial is answered once and before anything else is told of it, the end is told once, and
+/// nothing behind it, up to where the id is used once more.
+pub fn lives_are_right()
+    ensures { LivesAreRight }
+{}
+
+/// Of every history, for every id that is used once: what is told of the connection came on one socket.
+pub fn has_one_socket()
+    ensures { HasOneSocket }
 {}
