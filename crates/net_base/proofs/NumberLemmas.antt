@@ -1,6 +1,5 @@
 -- The value of digits, by the digits that are still to come.
-use Rattle.std.proofs.Common.{◌≡◌, ℕ, ◌+◌, ◌*◌, ◌-◌, ◌^◌, ◌<◌, ◌≤◌, Bool, true, false, List, [], ◌∷◌, Option, Some, None, fold, if◌then◌else◌, refl, ap, arith, rules, ◌&&◌, sym, ◌∙◌, length, drop, get_or, suc, drop-cons}
-use Rattle.std.proofs.Math.Nat.{pow-le-pow_right}
+use Rattle.std.proofs.Common.{◌≡◌, ℕ, ◌+◌, ◌*◌, ◌-◌, ◌<◌, ◌≤◌, Bool, true, false, List, [], ◌∷◌, Option, Some, None, fold, if◌then◌else◌, refl, ap, arith, rules, ◌&&◌, sym, ◌∙◌, length, drop, get_or, suc, drop-cons}
 use Rattle.std.proofs.lemmas.Bool.Decides.{nat_tests}
 use Rattle.std.specs.List.{list_all}
 use Rattle.std.proofs.lemmas.Grind.{common_steps}
@@ -41,9 +40,3 @@ pub stops_at : (most value : ℕ) (digits : List ℕ) (i : ℕ) → i < length d
 stops_at most value digits i inside same h =
     sym (same ∙ (ap (with_rest most value) (drop-cons digits i 0 inside)
     ∙ with_rest-none most value (get_or digits i 0) (drop (suc i) digits) h))
-
--- a number with few digits has room for one more
-pub fits_more : (base most index value : ℕ) → 0 < base → index ≤ most → value < base ^ index → value < base ^ most
-fits_more base most index value some low small =
-    let p : base ^ index ≤ base ^ most = pow-le-pow_right some low in
-    omega arith
