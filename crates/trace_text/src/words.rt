@@ -69,6 +69,7 @@ impl<'a> Words<'a> {
     }
 
     /// A number in a range.
+    #[inline(always)]
     pub fn number(&mut self, least: u64, most: u64) -> Result<u64, LineRefusal>
         ensures { Gives (λ n. n) result self.new (next_number least most self.old) }
     {
