@@ -5,39 +5,29 @@ use node_engine::Engine;
 use std::alloc::Global;
 use stepper::Stepper;
 
-/// An engine that steps in its place. Where memory was wanting it is gone, and memory is wanting still.
+/// An engine that steps in its place.
 #[derive(Drop)]
 pub struct LentEngine {
-    pub engine: Option<Engine>,
+    pub engine: Engine,
 }
 
 impl Stepper for LentEngine {
-    ghost use Rattle.engine_start.specs.Lent.{engine_or, no_machine};
-
     type Means = Pickers;
 
-    ghost machine = { λ lent. engine_or lent.engine (λ e. e.machine) no_machine };
+    ghost machine = { λ lent. lent.engine.machine };
 
-    ghost events = { λ lent. engine_or lent.engine (λ e. e.events) 0 };
+    ghost events = { λ lent. lent.engine.events };
 
     fn begin(alloc: Global, settings: Settings, pickers: Pickers) -> Result<Self, OutOfMemory> {
         let engine = first_engine(alloc, settings, pickers)?;
-        Ok(LentEngine {
-            engine: Some(engine),
-        })
+        Ok(LentEngine { engine })
     }
 
     fn step(&mut self, event: &Event) -> Result<ActionList, OutOfMemory> {
-        let engine = self.engine.take().ok_or(OutOfMemory)?;
-        let (engine, actions) = engine.step_on(event)?;
-        self.engine = Some(engine);
-        Ok(actions)
+        self.engine.step_in_place(event)
     }
 
     fn taken(&self) -> u64 {
-        match &self.engine {
-            Some(engine) => engine.taken(),
-            None => 0,
-        }
+        self.engine.taken()
     }
 }
