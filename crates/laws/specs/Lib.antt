@@ -13,6 +13,7 @@ pub mod Props
 pub mod Records
 pub mod Responders
 pub mod RootsAsked
+pub mod Runs
 pub mod Served
 pub mod Sound
 pub mod Stages
