@@ -17,6 +17,7 @@ pub mod Records
 pub mod Responders
 pub mod RootsAsked
 pub mod Sends
+pub mod Runs
 pub mod Served
 pub mod Sound
 pub mod Stages

@@ -3,6 +3,8 @@
 //! The functions do nothing. Each carries a law as its contract, and the law is proved.
 #![tactic(auto)]
 
+mod lawful_runs;
 mod laws;
 
+pub use lawful_runs::runs_are_lawful;
 pub use laws::{all_due_fires, laws_of_events, laws_of_records};

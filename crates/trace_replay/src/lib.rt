@@ -3,6 +3,7 @@
 #![tactic(auto)]
 
 mod checking;
+pub mod law;
 mod replaying;
 
 pub use checking::check;
