@@ -779,16 +779,21 @@ fn big_ledger_peers_by_their_targets(rt: HostRuntime) -> Result<(), Fail> {
 }
 
 #[test]
-fn links_come_in_order_of_address_and_id(rt: HostRuntime) -> Result<(), Fail> {
-    let later = Link {
-        cid: Cid(2),
+fn links_are_put_in_order(rt: HostRuntime) -> Result<(), Fail> {
+    let alloc = rt.alloc();
+    let picker = Picker::new(Box::new(alloc, |addr: Addr, word: u64| {
+        addr.key().wrapping_add(word)
+    })?);
+    let mut book = PeerBook::new(alloc);
+    enter(&mut book, 3003, false, WARM)?;
+    enter(&mut book, 3004, false, WARM)?;
+    let asked = Link {
+        owes2: true,
         ..in_use(3004)
     };
-    let given = [later, pending(3003), entry(3004)];
-    let links = LinkList::from_vec(Vec::from_slice(rt.alloc(), &given)?)?;
-    let wanted = [pending(3003), entry(3004), later];
-    assert!(rt; links.as_slice() == wanted.as_slice());
-    let again = LinkList::from_vec(Vec::from_slice(rt.alloc(), &wanted)?)?;
-    assert!(rt; again.as_slice() == wanted.as_slice());
+    let links = [asked, in_use(3003)];
+    let scene = scene_of(alloc, book, Groups::new(alloc), &[], &links)?;
+    let cases = [case_of(Rule::G8, targets(9, 9, 2), &[Order::Activate(A3)])];
+    expect_all(&rt, alloc, scene, &picker, &cases)?;
     Ok(())
 }
