@@ -1,6 +1,5 @@
 -- What comes of `check`.
 use Rattle.std.specs.Prelude.{◌≡◌, ℕ, ◌⊎◌, List, Option, Some}
-use Rattle.io_edge.specs.Causes.{Rose}
 use Rattle.trace_compare.specs.Again.{FitsTrace}
 use Rattle.trace_play.specs.CheckedInputs.{IsCheckOf}
 use Rattle.trace_compare.specs.Compare.{outcome_told}
@@ -12,7 +11,9 @@ use Rattle.trace_meaning.specs.Output.{output_of}
 use Rattle.trace_meaning.specs.Replays.{verdict_of}
 use Rattle.trace_meaning.specs.FaultCounts.{HasReadCount, HasWriteCount}
 use Rattle.trace_meaning.specs.declared.outcome.Outcome.{Outcome}
-use Rattle.command_run.specs.Command.{IsAnswered}
+use Rattle.trace_replay.specs.Lawful.{IsLawfulRunOf}
+use Rattle.command_run.specs.Command.{IsAnswered, RoseSource, RoseSink}
+use Rattle.tool_status.specs.Streams.{StreamsTold}
 use Rattle.tool_status.specs.Told.{status_told}
 use Rattle.tool_status.specs.declared.status.Status.{Status}
 use Rattle.tool_status.specs.declared.status.Status.TheVariants.{Done, OutOfMemory}
@@ -21,13 +22,17 @@ use Rattle.tool_status.specs.declared.status.Status.TheVariants.{Done, OutOfMemo
 abbrev pub status_compared : List ℕ → Status
 status_compared input = status_told (outcome_told (comparison_of input))
 
--- A trace was checked: by what the source had left and what the sink had taken, and by the counts of their faults.
-pub record IsChecked (left_before left_after taken_before taken_after : Option (List ℕ)) (reads_before reads_after writes_before writes_after : ℕ) (status : Status) : Type 0 where
+-- A trace was checked: what was read and written, by how it ended, whose count of faults rose, and that every law holds in
+-- the run that it was compared with.
+pub record IsChecked (before after : StreamsTold) (status : Status) : Type 0 where
   pub outcome : Outcome
   pub told : status ≡ status_told outcome
-  pub checks : Checks left_before left_after taken_before taken_after outcome
-  pub reads : HasReadCount reads_before reads_after outcome
-  pub writes : HasWriteCount writes_before writes_after outcome
+  pub checks : Checks before.src.left after.src.left before.out.taken after.out.taken outcome
+  pub lawful : IsLawfulRunOf checks.seen
+  pub reads : HasReadCount before.src.faults after.src.faults outcome
+  pub writes : HasWriteCount before.out.faults after.out.faults outcome
+
+-- ---- what follows
 
 -- what has come of the check of an input
 pub record HasComeOf (input : List ℕ) (left_after taken_before taken_after : Option (List ℕ)) (status : Status) : Type 0 where
@@ -35,19 +40,16 @@ pub record HasComeOf (input : List ℕ) (left_after taken_before taken_after : O
   pub told : status ≡ status_told outcome
   pub is_of : IsCheckOf input outcome left_after taken_before taken_after
 
--- Whatever the source and the sink tell: the sink took the report of what was read, and a count of faults rises with that
--- fault alone (`checked`). The rest is for a source that tells its input.
-pub record ComesOfCheck (left_before left_after taken_before taken_after : Option (List ℕ)) (reads_before reads_after writes_before writes_after : ℕ) (status : Status) : Type 0 where
-  pub checked : IsChecked left_before left_after taken_before taken_after reads_before reads_after writes_before writes_after status
+-- The same of a source that tells its input.
+pub record ComesOfCheck (before after : StreamsTold) (status : Status) : Type 0 where
   -- what was read and written, by each status
-  pub compared : (input : List ℕ) → left_before ≡ Some input → HasComeOf input left_after taken_before taken_after status
+  pub compared : (input : List ℕ) → before.src.left ≡ Some input → HasComeOf input after.src.left before.out.taken after.out.taken status
   -- the comparison has its status, but for want of memory and for faults
-  pub answered : (input : List ℕ) → left_before ≡ Some input →
-      IsAnswered (status_compared input) (Rose reads_before reads_after) (Rose writes_before writes_after) status
-  pub complete : (input : List ℕ) → left_before ≡ Some input → ¬ Rose reads_before reads_after → ¬ Rose writes_before writes_after →
+  pub answered : (input : List ℕ) → before.src.left ≡ Some input → IsAnswered (status_compared input) (RoseSource before after) (RoseSink before after) status
+  pub complete : (input : List ℕ) → before.src.left ≡ Some input → ¬ RoseSource before after → ¬ RoseSink before after →
       (status ≡ status_compared input) ⊎ (status ≡ OutOfMemory)
   -- what agrees is the trace's own output, line by line, up to its `end`
-  pub agreed : (input : List ℕ) → left_before ≡ Some input → status ≡ Done → lines_found (judged input) ≡ lines_written (judged input)
+  pub agreed : (input : List ℕ) → before.src.left ≡ Some input → status ≡ Done → lines_found (judged input) ≡ lines_written (judged input)
   -- the output of a trace that is read to its `end` agrees
-  pub agrees : (trace : List ℕ) → left_before ≡ Some (output_of trace) → verdict_of trace ≡ ended → FitsTrace (output_of trace) →
-      ¬ Rose reads_before reads_after → ¬ Rose writes_before writes_after → (status ≡ Done) ⊎ (status ≡ OutOfMemory)
+  pub agrees : (trace : List ℕ) → before.src.left ≡ Some (output_of trace) → verdict_of trace ≡ ended → FitsTrace (output_of trace) →
+      ¬ RoseSource before after → ¬ RoseSink before after → (status ≡ Done) ⊎ (status ≡ OutOfMemory)

@@ -1,10 +1,12 @@
 -- Which command the words of a command line are, and which statuses it may have.
 use Rattle.std.specs.Prelude.{◌≡◌, ℕ, ◌≤◌, nat_le, ◌&&◌, ◌⊎◌, List, [], ◌∷◌, codes, bytes_eq, if◌then◌else◌, Option, Some, None}
+use Rattle.io_edge.specs.Causes.{Rose}
 use Rattle.local_clients.specs.Rules.{AreInRange}
 use Rattle.net_base.specs.Bounds.{within, is_interval}
 use Rattle.net_base.specs.Number.{number_up_to}
 use Rattle.command_run.specs.declared.command.Command.{Command}
 use Rattle.command_run.specs.declared.command.Command.TheVariants.{Replay, Check, Pair, Clients, Drill}
+use Rattle.tool_status.specs.Streams.{StreamsTold}
 use Rattle.tool_status.specs.declared.status.Status.{Status}
 use Rattle.tool_status.specs.declared.status.Status.TheVariants.{Done, Differ, Usage, Refused, ReadFault, WriteFault, OutOfMemory, WorldFault, FileFault, TooLong, BadSettings, FileTooLarge}
 
@@ -82,6 +84,15 @@ IsStatusOf (Some Check) status = IsCheckStatus status
 IsStatusOf (Some Pair) status = IsReplayStatus status
 IsStatusOf (Some (Clients rules)) status = IsReplayStatus status
 IsStatusOf (Some (Drill seed count)) status = IsDrillStatus status
+
+-- ---- causes
+
+-- a reading failed, or a put
+abbrev pub RoseSource : StreamsTold → StreamsTold → Type 0
+RoseSource before after = Rose before.src.faults after.src.faults
+
+abbrev pub RoseSink : StreamsTold → StreamsTold → Type 0
+RoseSink before after = Rose before.out.faults after.out.faults
 
 -- The status is the one that is due. Only want of memory may come in its place, and a fault whose cause is there.
 abbrev pub IsAnswered : Status → Type 0 → Type 0 → Status → Type 0

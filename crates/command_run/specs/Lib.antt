@@ -4,3 +4,4 @@ pub mod Checked
 pub mod Lined
 pub mod Drilled
 pub mod Run
+pub mod Laws

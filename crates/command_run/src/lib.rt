@@ -2,6 +2,7 @@
 #![tactic(auto)]
 
 mod command;
+pub mod law;
 mod running;
 
 pub use command::Command;

@@ -1,8 +1,14 @@
 -- How a file is judged, from its reading and the judgement of its bytes.
-use Rattle.std.proofs.Common.{◌≡◌, ℕ, List, Option, Result, Ok, subst}
+use Rattle.std.proofs.Common.{◌≡◌, ℕ, List, Option, Result, Ok, Err, ap, subst}
 use Rattle.io_edge.specs.Files.{IsReading, with_reading}
 use Rattle.io_edge.specs.declared.reading.Reading.{Reading}
-use Rattle.node_run.specs.Files.{file_limit, IsVerdict, IsFileRead}
+use Rattle.node_settings.specs.Config.{config_of, IsConfigOr}
+use Rattle.node_settings.specs.Topology.{topology_of, IsTopologyOr}
+use Rattle.node_settings.specs.declared.config_refusal.ConfigRefusal.{ConfigRefusal}
+use Rattle.node_settings.specs.declared.config_refusal.ConfigRefusal.TheVariants as config
+use Rattle.node_settings.specs.declared.topology_refusal.TopologyRefusal.{TopologyRefusal}
+use Rattle.node_settings.specs.declared.topology_refusal.TopologyRefusal.TheVariants as topology
+use Rattle.node_run.specs.Files.{file_limit, what_of_config, what_of_topology, judged_by, config_judged, topology_judged, status_of_config, status_of_topology, IsVerdict, IsFileRead}
 use Rattle.tool_status.specs.declared.status.Status.{Status}
 use Rattle.tool_status.specs.declared.status.What.{What}
 use Rattle.tool_status.specs.declared.status.Which.{Which}
@@ -21,3 +27,14 @@ verdict_read which judge told name before after bytes judged r made reading same
 pub read_from : {T : Type 0} (which : Which) (judge : List ℕ → Result T What) (told0 told1 : Option (List ℕ)) (name : List ℕ) (before after : List Reading) (r : Result T Status) →
     told1 ≡ told0 → IsFileRead which judge told1 name before after r → IsFileRead which judge told0 name before after r
 read_from which judge told0 told1 name before after r same read = subst (λ (told : Option (List ℕ)). IsFileRead which judge told name before after r) same read
+
+-- bytes that are refused: what is told of them
+pub config_verdict : (bytes : List ℕ) (refusal : ConfigRefusal) → IsConfigOr (config_of bytes) (Err refusal) → IsVerdict (config_judged bytes) (Err (status_of_config refusal))
+config_verdict bytes config.BadToml is = ap (judged_by what_of_config) is
+config_verdict bytes (config.BadSetting field) is = ap (judged_by what_of_config) is
+config_verdict bytes config.OutOfMemory is = tt
+
+pub topology_verdict : (bytes : List ℕ) (refusal : TopologyRefusal) → IsTopologyOr (topology_of bytes) (Err refusal) → IsVerdict (topology_judged bytes) (Err (status_of_topology refusal))
+topology_verdict bytes topology.BadJson is = ap (judged_by what_of_topology) is
+topology_verdict bytes (topology.BadSetting field) is = ap (judged_by what_of_topology) is
+topology_verdict bytes topology.OutOfMemory is = tt

@@ -14,7 +14,8 @@ use Rattle.trace_meaning.specs.declared.outcome.Outcome.{Outcome}
 use Rattle.trace_meaning.specs.declared.outcome.Outcome.TheVariants as outcomes
 use Rattle.node_run.specs.Asked.{Asked}
 use Rattle.node_run.specs.Files.{file_limit, config_judged, topology_judged, IsVerdict, IsJudged, IsFileRead, ShelfTold, IsConfRead, IsTopoRead, AreJudged, IsAcceptedFile, IsRefusedFile, IsDue, HasFailed}
-use Rattle.node_run.specs.Node.{WorldTold, SinkTold, NodeTold, first_events, IsDriving, IsShut, IsOpenRefused, IsServing, ComesTo, IsNodeRun, RoseOut, RoseWorld, HasFailedFile, IsDueOf, IsNodeAnswered, HasNodeCause}
+use Rattle.node_run.specs.Node.{WorldTold, NodeTold, first_events, IsDriving, IsShut, IsOpenRefused, IsServing, ComesTo, IsNodeRun, RoseOut, RoseWorld, HasFailedFile, IsDueOf, IsNodeAnswered, HasNodeCause}
+use Rattle.tool_status.specs.Streams.{SinkTold}
 use Rattle.tool_status.specs.Told.{status_told}
 use Rattle.tool_status.specs.declared.status.Status.{Status}
 use Rattle.tool_status.specs.declared.status.Status.TheVariants as status

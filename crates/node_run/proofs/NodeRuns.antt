@@ -19,7 +19,8 @@ use Rattle.world_drive.specs.Drive.{acts_of, all_actions, SaysUpTo, IsDriven, Dr
 use Rattle.trace_compare.specs.RunText.{text_up_to}
 use Rattle.trace_meaning.specs.declared.outcome.Outcome.{Outcome}
 use Rattle.trace_meaning.specs.declared.outcome.Outcome.TheVariants as outcomes
-use Rattle.node_run.specs.Node.{WorldTold, SinkTold, world_told, opened_world, opening_for, opened_with, IsDriving, IsServing}
+use Rattle.node_run.specs.Node.{WorldTold, world_told, opened_world, opening_for, opened_with, IsDriving, IsServing}
+use Rattle.tool_status.specs.Streams.{SinkTold}
 use Rattle.tool_status.specs.declared.status.Status.{Status}
 
 -- ---- the world

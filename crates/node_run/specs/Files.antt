@@ -50,6 +50,17 @@ config_judged bytes = judged_by what_of_config (config_of bytes)
 abbrev pub topology_judged : List ℕ → Result Topology What
 topology_judged bytes = judged_by what_of_topology (topology_of bytes)
 
+-- what is told of it: want of memory exactly where that is why nothing was read of them
+abbrev pub status_of_config : ConfigRefusal → Status
+status_of_config config.BadToml = BadSettings Toml
+status_of_config (config.BadSetting field) = BadSettings (Named field)
+status_of_config config.OutOfMemory = OutOfMemory
+
+abbrev pub status_of_topology : TopologyRefusal → Status
+status_of_topology topology.BadJson = BadSettings Json
+status_of_topology (topology.BadSetting field) = BadSettings (Named field)
+status_of_topology topology.OutOfMemory = OutOfMemory
+
 -- ---- what is read
 
 -- what is told of a file that was not read

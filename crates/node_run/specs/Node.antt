@@ -1,6 +1,7 @@
 -- What a run of a node comes to, over what a shelf, a world and two sinks tell.
 use Rattle.std.specs.Prelude.{◌≡◌, ℕ, ◌≤◌, ◌⊎◌, Bool, true, false, List, [], ◌∷◌, ◌++◌, Option, Some, Result, Ok, Err}
 use Rattle.std.specs.Option.{option_map}
+use Rattle.laws.specs.Runs.{IsLawfulRun}
 use Rattle.net_base.specs.declared.action.Action.{Action}
 use Rattle.net_base.specs.declared.event.Event.{Event}
 use Rattle.net_base.specs.declared.event.Event.TheVariants.{Aims, Locals}
@@ -10,14 +11,13 @@ use Rattle.node_world.specs.declared.opening.Opening.{Opening}
 use Rattle.node_world.specs.Meanings.{Rose}
 use Rattle.trace_compare.specs.RunText.{text_up_to}
 use Rattle.world_drive.specs.Drive.{Drives, HasWorldCount}
-use Rattle.world_drive.specs.Lawful.{IsLawfulRun}
 use Rattle.trace_meaning.specs.FaultCounts.{HasWriteCount}
 use Rattle.trace_meaning.specs.declared.outcome.Outcome.{Outcome}
 use Rattle.trace_meaning.specs.declared.outcome.Outcome.TheVariants as outcomes
 use Rattle.node_run.specs.Asked.{Asked}
 use Rattle.node_run.specs.Files.{ShelfTold, AreJudged, IsDue, HasFailed}
 use Rattle.tool_status.specs.Status.{status_text, unresolved_text}
-use Rattle.tool_status.specs.Telling.{IsTold}
+use Rattle.tool_status.specs.Streams.{SinkTold, IsSaid}
 use Rattle.tool_status.specs.Told.{status_told}
 use Rattle.tool_status.specs.declared.status.Status.{Status}
 use Rattle.tool_status.specs.declared.status.Status.TheVariants.{Done, WriteFault, OutOfMemory, WorldFault, FileFault, BadSettings, FileTooLarge}
@@ -35,14 +35,6 @@ pub record WorldTold : Type 0 where
 abbrev pub world_told : Bool → Bool → ℕ → Option (Option Opening) → Option (List Event) → Option (List Action) → WorldTold
 world_told is_open has_ended faults opening taken done =
     record { is_open = is_open; has_ended = has_ended; faults = faults; opening = opening; taken = taken; done = done }
-
--- the bytes that a sink took, and how many of its calls failed
-pub record SinkTold : Type 0 where
-  pub taken : Option (List ℕ)
-  pub faults : ℕ
-
-abbrev pub sink_told : Option (List ℕ) → ℕ → SinkTold
-sink_told taken faults = record { taken = taken; faults = faults }
 
 -- what all around a node tells
 pub record NodeTold : Type 0 where
@@ -106,11 +98,6 @@ pub record IsShut (before after : WorldTold) (out_before out_after : SinkTold) (
 abbrev pub IsServing : Config → Topology → ℕ → WorldTold → WorldTold → SinkTold → SinkTold → Status → Type 0
 IsServing config topology count before after out_before out_after status =
     IsDriving config topology count (opened_world before config topology) after out_before out_after status ⊎ IsShut before after out_before out_after status
-
--- ---- what is told
-
-abbrev pub IsSaid : SinkTold → SinkTold → List ℕ → Type 0
-IsSaid before after text = IsTold before.taken after.taken before.faults after.faults text
 
 -- ---- the whole
 

@@ -3,7 +3,7 @@
 ghost use Rattle.std.specs.Prelude.{◌≡◌, ℕ, List, All, IfOk};
 ghost use Rattle.net_base.specs.Limits.{HasValencies};
 ghost use Rattle.node_run.specs.Asked.{asked_by};
-ghost use Rattle.node_run.specs.Files.{config_judged, topology_judged, status_unread, shelf_told, IsFileRead, AreJudged, CanRun, CanBeServed, IsVerdict};
+ghost use Rattle.node_run.specs.Files.{config_judged, topology_judged, status_of_config, status_of_topology, status_unread, shelf_told, IsFileRead, AreJudged, CanRun, CanBeServed, IsVerdict};
 ghost use Rattle.tool_status.specs.declared.status.Which.TheVariants.{Conf, Topo};
 
 use crate::node_words::NodeWords;
@@ -70,9 +70,18 @@ fn judge_config(alloc: Global, bytes: &[u8]) -> Result<Config, Status>
 {
     match read_config(alloc, bytes) {
         Ok(config) => Ok(config),
-        Err(ConfigRefusal::BadToml) => Err(refused(What::Toml)),
-        Err(ConfigRefusal::BadSetting(field)) => Err(refused(What::Named(field))),
-        Err(ConfigRefusal::OutOfMemory) => Err(Status::OutOfMemory),
+        Err(refusal) => Err(config_refused(refusal)),
+    }
+}
+
+// What is told of settings that are not accepted. Want of memory alone is told as such.
+fn config_refused(refusal: ConfigRefusal) -> Status
+    ensures { result ≡ status_of_config refusal }
+{
+    match refusal {
+        ConfigRefusal::BadToml => refused(What::Toml),
+        ConfigRefusal::BadSetting(field) => refused(What::Named(field)),
+        ConfigRefusal::OutOfMemory => Status::OutOfMemory,
     }
 }
 
@@ -82,9 +91,18 @@ fn judge_topology(alloc: Global, bytes: &[u8]) -> Result<Topology, Status>
 {
     match read_topology(alloc, bytes) {
         Ok(topology) => Ok(topology),
-        Err(TopologyRefusal::BadJson) => Err(refused(What::Json)),
-        Err(TopologyRefusal::BadSetting(field)) => Err(refused(What::Named(field))),
-        Err(TopologyRefusal::OutOfMemory) => Err(Status::OutOfMemory),
+        Err(refusal) => Err(topology_refused(refusal)),
+    }
+}
+
+// The same of a topology.
+fn topology_refused(refusal: TopologyRefusal) -> Status
+    ensures { result ≡ status_of_topology refusal }
+{
+    match refusal {
+        TopologyRefusal::BadJson => refused(What::Json),
+        TopologyRefusal::BadSetting(field) => refused(What::Named(field)),
+        TopologyRefusal::OutOfMemory => Status::OutOfMemory,
     }
 }
 

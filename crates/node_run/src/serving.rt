@@ -2,21 +2,22 @@ ghost use Rattle.std.specs.Prelude.{◌≡◌, ◌≤◌, ◌++◌, ◌↔◌, A
 ghost use Rattle.net_base.specs.Limits.{HasValencies};
 ghost use Rattle.node_run.specs.Asked.{Asked, asked_by, node_of};
 ghost use Rattle.node_run.specs.Files.{shelf_told, CanRun, IsOfWordsOrFiles};
-ghost use Rattle.node_run.specs.Node.{world_told, sink_told, node_told, IsNodeRun, IsDriving, IsServing};
+ghost use Rattle.node_run.specs.Node.{world_told, node_told, IsNodeRun, IsDriving, IsServing};
 ghost use Rattle.tool_status.specs.Status.{status_text, unresolved_text};
+ghost use Rattle.tool_status.specs.Streams.{sink_told};
 ghost use Rattle.tool_status.specs.Telling.{IsTold};
 ghost use Rattle.trace_compare.specs.Written.{TakesAgreeing};
 
 use crate::files::read_files;
 use crate::node_words::NodeWords;
 use io_edge::{Shelf, Sink};
+use laws::runs_are_lawful;
 use net_base::Event;
 use node_settings::{Config, Topology};
 use node_world::{World, WorldRefusal};
 use std::alloc::Global;
 use tool_status::{Status, tell, tell_behind, tell_unresolved};
 use world_drive::drive;
-use world_drive::law::runs_are_lawful;
 
 /// Runs a node, with its files from a shelf, in a world that is not open. Its words are `node`, the names of the settings
 /// file and of the topology file, and how many events of the world there are to be at most.

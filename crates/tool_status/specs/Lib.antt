@@ -1,3 +1,4 @@
 pub mod Status
 pub mod Telling
+pub mod Streams
 pub mod Told

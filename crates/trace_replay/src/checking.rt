@@ -1,7 +1,9 @@
 ghost use Rattle.trace_meaning.specs.FaultCounts.{HasReadCount, HasWriteCount};
 ghost use Rattle.trace_meaning.specs.Replays.{outcome_or};
 ghost use Rattle.trace_play.specs.Checks.{Checks};
+ghost use Rattle.trace_replay.specs.Lawful.{ChecksLawfully};
 
+use crate::law::traces_are_lawful;
 use engine_start::{LentEngine, Pickers, ranked_score, score};
 use io_edge::{Sink, Source};
 use net_base::{Addr, OutOfMemory};
@@ -15,9 +17,11 @@ use trace_play::check_by;
 /// is written then; where the trace is refused or too long nothing is.
 pub fn check<S: Source, K: Sink>(alloc: Global, src: &mut S, out: &mut K) -> Outcome
     ensures checks { Checks (S.left src.old) (S.left src.new) (K.taken out.old) (K.taken out.new) result }
+    ensures lawful { ChecksLawfully (S.left src.old) (S.left src.new) (K.taken out.old) (K.taken out.new) result }
     ensures reads { HasReadCount (S.faults src.old) (S.faults src.new) result }
     ensures writes { HasWriteCount (K.faults out.old) (K.faults out.new) result }
 {
+    traces_are_lawful();
     match check_anew(alloc, src, out) {
         Ok(outcome) => outcome,
         Err(OutOfMemory) => Outcome::OutOfMemory,

@@ -1,6 +1,8 @@
 ghost use Rattle.trace_meaning.specs.FaultCounts.{HasReadCount, HasWriteCount};
 ghost use Rattle.trace_meaning.specs.Replays.{Replays, outcome_or};
+ghost use Rattle.trace_replay.specs.Lawful.{ReplaysLawfully};
 
+use crate::law::traces_are_lawful;
 use engine_start::{LentEngine, Pickers, ranked_score, score};
 use io_edge::{Sink, Source};
 use net_base::{Addr, OutOfMemory};
@@ -14,9 +16,11 @@ use trace_play::replay_by;
 /// where much has collected.
 pub fn replay<S: Source, K: Sink>(alloc: Global, src: &mut S, out: &mut K) -> Outcome
     ensures replays { Replays (S.left src.old) (S.left src.new) (K.taken out.old) (K.taken out.new) result }
+    ensures lawful { ReplaysLawfully (S.left src.old) (S.left src.new) (K.taken out.old) (K.taken out.new) result }
     ensures reads { HasReadCount (S.faults src.old) (S.faults src.new) result }
     ensures writes { HasWriteCount (K.faults out.old) (K.faults out.new) result }
 {
+    traces_are_lawful();
     match replay_anew(alloc, src, out) {
         Ok(outcome) => outcome,
         Err(OutOfMemory) => Outcome::OutOfMemory,

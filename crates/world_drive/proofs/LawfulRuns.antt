@@ -1,6 +1,7 @@
 -- The runs that are driven and drilled are runs of the machine.
 use Rattle.std.proofs.Common.{◌≡◌, ℕ, zero, suc, ◌+◌, Bool, List, [], ◌∷◌, ◌++◌, length, Option, refl, sym, ap, ◌∙◌, subst, length-append, add-one}
 use Rattle.io_edge.specs.Lines.{ended_lines}
+use Rattle.laws.specs.Runs.{IsLawfulRun}
 use Rattle.machine.specs.Machine.{Machine, start_of}
 use Rattle.machine.specs.Run.{after_all}
 use Rattle.machine.specs.Step.{step}
@@ -12,7 +13,7 @@ use Rattle.node_world.specs.Town.{next_of}
 use Rattle.world_drive.specs.Drill.{Drilled, town_settings, turned, drilled, tallies, tally_lines, drill_text}
 use Rattle.world_drive.specs.Drive.{IsFrontOf, acts_of, all_actions, IsDriven, Drives}
 use Rattle.trace_compare.specs.RunText.{whole_text}
-use Rattle.world_drive.specs.Lawful.{IsLawfulRun, DrivesLawfully, town_events, tallies_of, counted_text}
+use Rattle.world_drive.specs.Lawful.{DrivesLawfully, town_events, tallies_of, counted_text}
 use Rattle.trace_meaning.specs.declared.outcome.Outcome.{Outcome}
 use Rattle.trace_meaning.specs.declared.outcome.Outcome.TheVariants as outcome
 use Rattle.world_drive.specs.declared.tallies.Tallies.{Tallies}

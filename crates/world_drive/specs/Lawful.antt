@@ -2,8 +2,7 @@
 use Rattle.std.specs.Prelude.{◌≡◌, ℕ, zero, suc, List, [], ◌∷◌, ◌++◌, length, Option}
 use Rattle.io_edge.specs.Lines.{ended_lines}
 use Rattle.io_edge.specs.Told.{Takes}
-use Rattle.laws.specs.Parts.{IsLawfulEvent}
-use Rattle.laws.specs.Records.{IsLawfulRecord}
+use Rattle.laws.specs.Runs.{IsLawfulRun}
 use Rattle.machine.specs.Machine.{start_of}
 use Rattle.machine.specs.Run.{after_all}
 use Rattle.net_base.specs.declared.action.Action.{Action}
@@ -17,11 +16,6 @@ use Rattle.world_drive.specs.Drive.{all_actions, IsFrontOf}
 use Rattle.trace_compare.specs.RunText.{whole_text}
 use Rattle.trace_meaning.specs.declared.outcome.Outcome.{Outcome}
 use Rattle.world_drive.specs.declared.tallies.Tallies.{Tallies}
-
--- Every law holds in each record that the events reach, one after another, and at each event there.
-pub record IsLawfulRun (settings : Settings) (events : List Event) : Type 0 where
-  pub records : (before after : List Event) → events ≡ before ++ after → IsLawfulRecord (after_all (start_of settings) before)
-  pub each : (before : List Event) (event : Event) (after : List Event) → events ≡ before ++ event ∷ after → IsLawfulEvent (after_all (start_of settings) before) event
 
 -- ---- in a world
 

@@ -16,9 +16,9 @@ ghost use Rattle.trace_meaning.specs.FaultCounts.{HasWriteCount};
 ghost use Rattle.trace_compare.specs.Written.{TakesAgreeing};
 
 use crate::holding::{hold_address, hold_event};
-use crate::law::runs_are_lawful;
 use engine_start::{Pickers, first_engine, ranked_score, score};
 use io_edge::{PieceWriter, Sink, put_all};
+use laws::runs_are_lawful;
 use line_run::tell_line;
 use net_base::{Action, ActionList, Addr, Event, OutOfMemory, Settings};
 use node_engine::Engine;

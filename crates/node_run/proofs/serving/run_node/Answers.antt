@@ -1,6 +1,7 @@
 use Rattle.node_run.specs.Asked.{Asked, asked_by}
 use Rattle.node_run.specs.Files.{shelf_told}
-use Rattle.node_run.specs.Node.{world_told, sink_told, node_told, IsNodeRun}
+use Rattle.node_run.specs.Node.{world_told, node_told, IsNodeRun}
+use Rattle.tool_status.specs.Streams.{sink_told}
 use Rattle.node_run.proofs.NodeLaws.{run_asked}
 use Rattle.node_run.proofs.serving.run_node.Goals as goal
 
