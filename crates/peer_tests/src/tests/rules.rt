@@ -123,7 +123,7 @@ struct Sight {
     big: BigTargets,
 }
 
-fn sight() -> Sight {
+fn usual_sight() -> Sight {
     Sight {
         moment: 4999,
         word: 0,
@@ -320,7 +320,7 @@ fn scene_of(
     links: &[Link],
 ) -> Result<Scene, OutOfMemory> {
     Ok(Scene {
-        sight: sight(),
+        sight: usual_sight(),
         links: LinkRows::from_vec(alloc, Vec::from_slice(alloc, links)?)?,
         book,
         groups,
