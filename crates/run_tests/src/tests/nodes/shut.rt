@@ -2,24 +2,46 @@ ghost use Rattle.std.specs.Prelude.{◌≡◌, [], Some, None, false, true, IfOk
 
 use super::place::{failing_sink, shelf, strings};
 use super::{SETTINGS, TOPOLOGY};
-use io_edge::{MemShelf, MemSink};
+use io_edge::{Failed, MemShelf, MemSink, Sink};
 use net_base::{Action, AddrList};
 use node_run::run_node;
 use node_settings::Config;
 use node_world::{Next, World, WorldRefusal};
 use std::alloc::Global;
+use std::cell::Cell;
 use std::process::Abort;
 use std::test::Fail;
 use tool_status::Status;
 
-// A world that never opens, and how often it was asked to.
+// A sink that notes how many bytes it took where a world can see it.
 #[derive(Drop)]
-struct ShutWorld {
-    is_open: bool,
-    faults: u64,
+struct NotedSink<'a> {
+    sink: MemSink,
+    said: &'a Cell<usize>,
 }
 
-impl World for ShutWorld {
+impl<'a> Sink for NotedSink<'a> {
+    ghost taken = { λ s. Some s.sink.taken };
+
+    ghost faults = { λ s. s.sink.calls.faults };
+
+    fn put(&mut self, piece: &[u8]) -> Result<usize, Failed> {
+        let count = self.sink.put(piece)?;
+        self.said.set(self.said.get().saturating_add(count));
+        Ok(count)
+    }
+}
+
+// A world that never opens, how often it was asked to, and how much had been told when it was asked last.
+#[derive(Drop)]
+struct ShutWorld<'a> {
+    is_open: bool,
+    faults: u64,
+    said: &'a Cell<usize>,
+    heard: usize,
+}
+
+impl<'a> World for ShutWorld<'a> {
     ghost is_open = { λ w. w.is_open };
 
     ghost has_ended = { λ _. false };
@@ -33,6 +55,7 @@ impl World for ShutWorld {
     ghost done = { λ _. Some [] };
 
     fn open(&mut self, _: &Config, _: &AddrList) -> Result<(), WorldRefusal> {
+        self.heard = self.said.get();
         self.faults = self.faults.saturating_add(1);
         Err(WorldRefusal::Failed)
     }
@@ -50,31 +73,36 @@ impl World for ShutWorld {
 
 // Where a node stands whose world never opens.
 #[derive(Drop)]
-struct ShutPlace {
+struct ShutPlace<'a> {
     shelf: MemShelf,
-    world: ShutWorld,
+    world: ShutWorld<'a>,
     out: MemSink,
-    err: MemSink,
+    err: NotedSink<'a>,
 }
 
-fn make_shut(alloc: Global) -> Result<ShutPlace, Fail>
+fn make_shut<'a>(alloc: Global, said: &'a Cell<usize>) -> Result<ShutPlace<'a>, Fail>
     ensures { IfOk result (λ place. place.world.is_open ≡ false) }
 {
     let shelf = shelf(alloc, Some(SETTINGS), Some(TOPOLOGY), &[])?;
     let out = failing_sink(alloc, &[])?;
-    let err = failing_sink(alloc, &[])?;
+    let err = NotedSink {
+        sink: failing_sink(alloc, &[])?,
+        said,
+    };
     Ok(ShutPlace {
         shelf,
         world: ShutWorld {
             is_open: false,
             faults: 0,
+            said,
+            heard: 0,
         },
         out,
         err,
     })
 }
 
-fn run_shut(alloc: Global, words: &[String], place: &mut ShutPlace) -> Status
+fn run_shut(alloc: Global, words: &[String], place: &mut ShutPlace<'_>) -> Status
     requires { place.old.world.is_open ≡ false }
 {
     run_node(
@@ -87,17 +115,21 @@ fn run_shut(alloc: Global, words: &[String], place: &mut ShutPlace) -> Status
     )
 }
 
-// It was asked to open once, and nothing was written.
-fn expect_shut(rt: &impl Abort, place: &ShutPlace) {
+// It was asked to open once, when what is not resolved had been told and nothing else, and nothing was written.
+fn expect_shut(rt: &impl Abort, place: &ShutPlace<'_>) {
     assert!(rt; place.world.faults == 1);
+    assert!(rt; place.world.heard == "unresolved 1\n".len());
     assert!(rt; place.out.bytes().is_empty());
-    assert!(rt; place.err.bytes() == b"unresolved 1\nworld fault\n".as_slice());
+    assert!(rt; place.err.sink.bytes() == b"unresolved 1\nworld fault\n".as_slice());
 }
 
 #[test]
-fn a_world_that_does_not_open_is_told(rt: HostRuntime) -> Result<(), Fail> {
+fn a_world_that_does_not_open_is_told_behind_what_is_not_resolved(
+    rt: HostRuntime,
+) -> Result<(), Fail> {
     let words = strings(rt.alloc(), &["node", "c", "t", "0"])?;
-    let mut place = make_shut(rt.alloc())?;
+    let said = Cell::new(0);
+    let mut place = make_shut(rt.alloc(), &said)?;
     let status = run_shut(rt.alloc(), &words, &mut place);
     assert!(rt; status == Status::WorldFault);
     expect_shut(&rt, &place);
