@@ -47,6 +47,7 @@ impl Engine {
         ensures start { IfOk result (λ e. e.machine ≡ start_of settings) }
         ensures sound { OnOk result (AreSound settings) }
         ensures none_taken { IfOk result (λ e. e.events ≡ 0) }
+        ensures record { IfOk result (λ e. IsLawfulRecord e.machine) }
     {
         if let Some(field) = settings.check() {
             return Err(NewRefusal::BadSetting(field));
