@@ -1,9 +1,9 @@
-ghost use Rattle.std.specs.Prelude.{◌≡◌, Some, None, IfErr, MatchResult};
+ghost use Rattle.std.specs.Prelude.{◌≡◌, ◌≢◌, Some, None, IfErr, MatchResult};
 ghost use Rattle.net_base.specs.declared.action.FaultKind.{FaultKind};
 ghost use Rattle.remote_watch.specs.Refusal.{Answers};
 ghost use Rattle.remote_watch.specs.Watch.{watched, chain_sync_seen, block_fetch_seen, tx_submission_seen, keep_alive_seen, peer_sharing_seen};
 ghost use Rattle.warm_messages.specs.First.{item_number_of};
-ghost use Rattle.warm_messages.specs.Reading.{alive_of, share_of};
+ghost use Rattle.warm_messages.specs.Reading.{alive_of, share_of, first_peer_at};
 ghost use Rattle.remote_watch.specs.declared.refusal.WatchRefusal.{WatchRefusal};
 
 use crate::{Reply, Seen, WatchRefusal};
@@ -16,7 +16,7 @@ use warm_messages::{Alive, Share, item_number, read_alive, read_share};
 /// that it is whole is not tested again.
 pub fn watch(alloc: Global, id: u16, sharing: bool, item: &[u8]) -> Result<Seen, WatchRefusal>
     ensures answer { Answers result (watched id sharing item.now) }
-    ensures memory { IfErr result (λ refusal. refusal ≡ WatchRefusal.OutOfMemory → id ≡ 10) }
+    ensures memory { IfErr result (λ refusal. refusal ≡ WatchRefusal.OutOfMemory → (id ≡ 10) × (first_peer_at item.now ≢ None)) }
 {
     match id {
         protocol::HANDSHAKE => Err(WatchRefusal::Fault(FaultKind::Protocol)),
@@ -77,7 +77,8 @@ fn keep_alive(item: &[u8]) -> Result<Seen, FaultKind>
 }
 
 fn peer_sharing(alloc: Global, item: &[u8]) -> Result<Seen, WatchRefusal>
-    ensures { Answers result (peer_sharing_seen (share_of item.now)) }
+    ensures answer { Answers result (peer_sharing_seen (share_of item.now)) }
+    ensures memory { IfErr result (λ refusal. refusal ≡ WatchRefusal.OutOfMemory → first_peer_at item.now ≢ None) }
 {
     let message = read_share(alloc, item)?;
     Ok(shared(message)?)
