@@ -120,11 +120,7 @@ fn read_table(alloc: Global, profile: Profile, bytes: &[u8]) -> Result<(Table, &
 fn in_order(offers: &[Offer]) -> Result<(), Absent>
     ensures { MatchResult result (λ done. rises offers.now ≡ true) (λ absent. rises offers.now ≡ false) }
 {
-    if rises(offers) {
-        Ok(())
-    } else {
-        Err(Absent)
-    }
+    if rises(offers) { Ok(()) } else { Err(Absent) }
 }
 
 fn read_offers(

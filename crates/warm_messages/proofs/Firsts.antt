@@ -1,17 +1,13 @@
 -- The first address of an array, where one was read.
-use Rattle.std.proofs.Common.{◌≡◌, ◌≢◌, ℕ, ◌⊎◌, List, Option, Some, None, sym, ap, ◌∙◌, inl, inr}
+use Rattle.std.proofs.Common.{◌≡◌, ◌≢◌, ℕ, ◌⊎◌, List, Some, None, inl, inr}
 use Rattle.net_base.specs.declared.address.Addr.{Addr}
 use Rattle.warm_messages.specs.declared.array.Length.{Length}
 use Rattle.warm_messages.specs.Reading.{opening_at, address_at, first_in}
 
--- nothing was read of what is listed, or its first address was
+-- the head alone was read of what is there, or the first address was too
 abbrev pub BeganWith : List ℕ → List ℕ → Type 0
-BeganWith listed rest = (rest ≡ listed) ⊎ (address_at listed ≢ None)
+BeganWith bytes rest = ((size : Length) × (opening_at bytes ≡ Some (size, rest))) ⊎ (first_in bytes ≢ None)
 
-pub first_read : (listed rest : List ℕ) (read : Addr × List ℕ) → BeganWith listed rest → address_at rest ≡ Some read → address_at listed ≢ None
-first_read listed rest read (inl same) found =
-    λ none. let both : ◌≡◌ {A = Option (Addr × List ℕ)} None (Some read) = sym none ∙ ap address_at (sym same) ∙ found in absurd cc
-first_read listed rest read (inr some) found = some
-
-pub first_listed : (bytes : List ℕ) (opened : Length × List ℕ) → opening_at bytes ≡ Some opened → address_at opened.1 ≢ None → first_in bytes ≢ None
-first_listed bytes opened e some = rw e some
+pub first_read : (bytes rest : List ℕ) (read : Addr × List ℕ) → BeganWith bytes rest → address_at rest ≡ Some read → first_in bytes ≢ None
+first_read bytes rest read (inl (size, opened)) found none = let some : first_in bytes ≡ Some read = rw opened found in absurd cc
+first_read bytes rest read (inr some) found none = some none

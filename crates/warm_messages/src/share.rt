@@ -89,9 +89,8 @@ fn split_addresses(alloc: Global, bytes: &[u8]) -> Result<(PeerItems, &[u8]), Un
     ensures reading { FindsBy UnreadSays (λ read. (read.0, read.1.now)) result (addresses_at bytes.now) }
     ensures memory { result ≡ Err Unread.OutOfMemory → first_in bytes.now ≢ None }
 {
-    let (length, listed) = open_array(bytes).ok_or(Unread::NoMessage)?;
+    let (length, mut rest) = open_array(bytes).ok_or(Unread::NoMessage)?;
     let mut peers = PeerItems::new(alloc);
-    let mut rest = listed;
     // each address takes a byte at least
     for count in 0..bytes.len() {
         if let Some(behind) = length.end(count as u64, rest) {

@@ -7,4 +7,4 @@ use Rattle.warm_messages.proofs.share.split_addresses.Given as goal
 abbrev pub invariant-loop-count : goal.invariant-loop-count
 invariant-loop-count l =
     (behind l.peers (elements_at address_at l.length l.count (length l.bytes - l.count) l.rest) ≡ addresses_at l.bytes)
-    × BeganWith l.listed l.rest
+    × BeganWith l.bytes l.rest
