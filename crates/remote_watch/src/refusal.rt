@@ -10,6 +10,16 @@ pub enum WatchRefusal {
     OutOfMemory,
 }
 
+impl From<FaultKind> for WatchRefusal {
+    ghost use Rattle.remote_watch.specs.declared.refusal.WatchRefusal.TheVariants.{Fault};
+
+    ghost from_gives = { λ kind refusal. refusal ≡ Fault kind };
+
+    fn from(kind: FaultKind) -> Self {
+        WatchRefusal::Fault(kind)
+    }
+}
+
 impl From<OutOfMemory> for WatchRefusal {
     ghost use Rattle.remote_watch.specs.declared.refusal.WatchRefusal.TheVariants.{OutOfMemory};
 
