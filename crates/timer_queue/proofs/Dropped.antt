@@ -1,5 +1,5 @@
 -- The rows of those that have left are dropped.
-use Rattle.std.proofs.Common.{◌≡◌, suc, ◌≤◌, Bool, true, false, cond, List, [], ◌∷◌, ◌++◌, length, Option, Some, None, Result, Ok, Err, refl, ap, sym, ◌∙◌, arith}
+use Rattle.std.proofs.Common.{◌≡◌, suc, ◌≤◌, Bool, true, false, cond, List, [], ◌∷◌, ◌++◌, length, Result, Ok, Err, refl, ap, sym, ◌∙◌, arith}
 use Rattle.std.specs.Result.{OnOk, OnErr}
 use Rattle.timer_queue.specs.Kept.{AreRising, AreIdle, those_in, timers_in, all_timers}
 use Rattle.timer_queue.specs.Rows.{no_moments}

@@ -1,15 +1,13 @@
 -- What stands for a queue, and what is always true of it.
-use Rattle.std.specs.Prelude.{◌≡◌, ◌≤◌, ℕ, false, List, [], ◌∷◌, ◌++◌, filter, map, length, Option, Some, None}
+use Rattle.std.specs.Prelude.{◌≡◌, ◌≤◌, false, List, [], ◌∷◌, ◌++◌, filter, map, length}
 use Rattle.std.specs.List.{AllByRecursion, cons_option}
 use Rattle.std.specs.Vec.{vec_capacity}
-use Rattle.net_base.specs.declared.connection.Cid.{Cid}
 use Rattle.net_base.specs.declared.timer.Deadline.{Deadline}
-use Rattle.net_base.specs.declared.timer.Kind.{Kind}
 use Rattle.net_base.specs.declared.timer.Kind.TheVariants.{Handshake, Grace, TimeWait, Reply2, Reply8, Reply10}
 use Rattle.timer_queue.specs.Order.{IsRising}
 use Rattle.timer_queue.specs.Queue.{Queue}
-use Rattle.timer_queue.specs.Rows.{moment, no_moments}
-use Rattle.timer_queue.specs.Timers.{timer, cid_below, put_in}
+use Rattle.timer_queue.specs.Rows.{no_moments}
+use Rattle.timer_queue.specs.Timers.{cid_below, put_in}
 use Rattle.timer_queue.specs.Trees.{IsTree, nodes_of, timer_in}
 use Rattle.timer_queue.specs.declared.kept.Kept.{Kept}
 use Rattle.timer_queue.specs.declared.rows.Row.{Row}

@@ -1,4 +1,4 @@
-use Rattle.std.proofs.Common.{◌≡◌, ◌≤◌, cond, List, None, length, refl, subst, sym, ap, arith, ◌∙◌}
+use Rattle.std.proofs.Common.{◌≡◌, ◌≤◌, cond, List, length, refl, subst, sym, ap, arith, ◌∙◌}
 use Rattle.std.specs.List.{insert}
 use Rattle.timer_queue.specs.Kept.{AreRising, AreIdle, all_timers}
 use Rattle.timer_queue.specs.Queue.{with_id}
