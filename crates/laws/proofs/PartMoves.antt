@@ -17,7 +17,6 @@ use Rattle.laws.specs.Parts.{IsNext, IsDone, EndsOnce, IsAccounted, IsLawfulPart
 use Rattle.laws.specs.Stages.{stage_of_phase, stage_of, stage_at, causes_in, IsOneEnd}
 use Rattle.laws.specs.Telling.{IsTold}
 use Rattle.laws.proofs.CarriedOut.{treats-book, pauses-right}
-use Rattle.laws.proofs.Due.{ends-due}
 use Rattle.laws.proofs.Forgiven.{forgives}
 use Rattle.laws.proofs.Lawful.{Accounts, IsProviding, ends_same}
 use Rattle.laws.proofs.Lists.{all-placed}
@@ -33,7 +32,7 @@ use Rattle.laws.proofs.RootsAsked.{asks-right}
 use Rattle.laws.proofs.Sends.{sends-right}
 use Rattle.laws.proofs.Served.{answers-right}
 use Rattle.laws.proofs.Telling.{ended-over}
-use Rattle.laws.proofs.Pruning.{pruned-rightly}
+use Rattle.laws.proofs.Pruning.{ends-rightly}
 use Rattle.laws.proofs.WaitsOfParts.{Finds, waits-right, leaves-rest, is-set}
 use Rattle.laws.proofs.Rises.{NoneConnected, or_each, hot_or_asked-down, rises_nowhere, same-connected}
 
@@ -123,9 +122,9 @@ lawful-part event act m next order found h = record {
   book = treats-book act m;
   forgiven = forgives act m;
   pauses = pauses-right act m;
-  ends = ends-due act m;
+  ends = (ends-rightly act m found).others;
   opens = opens-once act m next found h.told;
-  pruned = pruned-rightly act m found;
+  pruned = (ends-rightly act m found).pruned;
   waits = waits-right act m found;
   begins = waits-begin act m next found;
   rest = leaves-rest act m found;
