@@ -25,7 +25,7 @@ use Rattle.laws.specs.AtMoves.{some_connection}
 use Rattle.laws.specs.Sound.{IsOrderly}
 use Rattle.laws.specs.Whole.{IsShaped, ArePeersApart, IsOrdered}
 use Rattle.laws.proofs.Addresses.{same_address-true}
-use Rattle.laws.proofs.BackOff.{candidate-unmissed, turned-is}
+use Rattle.laws.proofs.BackOff.{trim-peers, idle-unmissed, turned-is}
 use Rattle.laws.proofs.CarriedOut.{changed-orderly}
 use Rattle.laws.proofs.Entries.{TurnsInto, turned-orderly}
 use Rattle.laws.proofs.Lawful.{stands-found}
@@ -242,38 +242,6 @@ trim-none test b moved m none = cond_both (nat_le (counted_in m) m.settings.hard
     by_entry (Some e) =
         ap (list_any passes) (lost-connections e.facts (without_entry e.facts.cid.0 m))
         ∙ filter-none passes (λ x. not (has_id e.facts.cid.0 x.facts)) m.connections none
-
-unmissed-peers : (e : Entry) (m : Machine) → is_missed e.facts ≡ false → (ending Pruned e m).machine.peers ≡ m.peers
-unmissed-peers e m unmissed = rw unmissed refl
-
--- nobody fails where the one that moved is not missed
-trim-peers : (moved : Entry) (m : Machine) → IsOrderly m → ((e : Entry) → entry_at moved.facts.cid.0 m ≡ Some e → is_missed e.facts ≡ false) →
-    (trim moved.facts.cid m).machine.peers ≡ m.peers
-trim-peers moved m h unmissed = cond_both (nat_le (counted_in m) m.settings.hard) (nothing_more m) (on_connection goes (ending Pruned) m)
-    (λ effect. effect.machine.peers ≡ m.peers) (λ within. refl) (λ above. by_entry (entry_at goes.0 m) refl)
-  where
-    goes : Cid
-    goes = unwrap_or (choice_of (candidates_in m)) moved.facts.cid
-
-    by_entry : (o : Option Entry) → entry_at goes.0 m ≡ o → (on_entry o (ending Pruned) m).machine.peers ≡ m.peers
-    by_entry None is = refl
-    by_entry (Some e) is = by_own (e.facts.cid.0 == moved.facts.cid.0) refl (chosen-goes moved.facts.cid m h e is)
-      where
-        found : (e.facts.cid.0 == moved.facts.cid.0) ≡ true → entry_at moved.facts.cid.0 m ≡ Some e
-        found own =
-            let at : FoundIn (λ x. has_id goes.0 x.facts) m.connections e = find_some (λ x. has_id goes.0 x.facts) m.connections e is in
-            subst (λ c. entry_at c m ≡ Some e) (eqb-true e.facts.cid.0 moved.facts.cid.0 own) (stands-found m e at.place h at.stands)
-
-        by_own : (b : Bool) → (e.facts.cid.0 == moved.facts.cid.0) ≡ b → (b || is_candidate e.facts) ≡ true → (ending Pruned e m).machine.peers ≡ m.peers
-        by_own true own may = unmissed-peers e m (unmissed e (found own))
-        by_own false own may = unmissed-peers e m (candidate-unmissed e.facts may)
-
-idle-unmissed : (f : Facts) → is_negotiated f ≡ true → is_pending f ≡ false
-idle-unmissed f open_ = by_pending (is_pending f) refl
-  where
-    by_pending : (b : Bool) → is_pending f ≡ b → b ≡ false
-    by_pending true is = absurd (both_ways (is_negotiated f) (pending-unnegotiated f is) open_)
-    by_pending false is = refl
 
 releasing-leaves : (m : Machine) (e : Entry) (k : ℕ) → IsOrdered m → StandsAt m.connections k e → e.facts.local ≡ true →
     LeavesOthers e.facts.addr m (then_do (entry_turns e (record e { facts = released (m.now + m.settings.idle) e.facts }) m)

@@ -27,7 +27,7 @@ use Rattle.machine.specs.Own.{own_info}
 use Rattle.machine.specs.Peers.{peer_at}
 use Rattle.machine.specs.Replies.{owing}
 use Rattle.machine.specs.Stream.{handled_in, handled}
-use Rattle.laws.specs.Acts.{Act, shows, fires_one, asks_for_roots, carries, connects, ends_dial, stores, handles_item, ends_stream, is_closed, sets_targets, sets_big_targets, sets_groups, sets_roots, makes_ordinary, provides, provides_big, does}
+use Rattle.laws.specs.Acts.{Act, handles_item, does}
 use Rattle.laws.specs.CarriedOut.{OnPeer, WhereGreeting, is_in_use, Forgives}
 use Rattle.laws.proofs.CarriedOut.{changed-here}
 use Rattle.laws.proofs.Handshakes.{answer-machine}
@@ -104,20 +104,5 @@ handled-forgiven own item m = by_entry (entry_at own.0 m) refl
         (sym (eqb-true e.facts.cid.0 own.0 (find_some (λ x. has_id own.0 x.facts) m.connections e is).passes)) used)
 
 pub forgives : (act : Act) (m : Machine) → Forgives act m (does act m).machine
-forgives (shows t) m = tt
-forgives (fires_one d) m = tt
-forgives asks_for_roots m = tt
-forgives (carries order) m = tt
-forgives (connects addr) m = tt
-forgives (ends_dial cid opened) m = tt
-forgives (stores entry undecoded) m = tt
 forgives (handles_item cid item) m = handled-forgiven cid item m
-forgives (ends_stream cid fault) m = tt
-forgives (is_closed cid) m = tt
-forgives (sets_targets targets) m = tt
-forgives (sets_big_targets targets) m = tt
-forgives (sets_groups groups) m = tt
-forgives (sets_roots roots) m = tt
-forgives (makes_ordinary addr) m = tt
-forgives (provides addr) m = tt
-forgives (provides_big addr) m = tt
+forgives other m = tt

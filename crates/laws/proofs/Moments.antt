@@ -22,7 +22,7 @@ use Rattle.machine.specs.Deadlines.{deadlines, deadlines_of, phase_deadlines, gr
 use Rattle.machine.specs.Effect.{unused, tells, then_do, as_move, on_entry}
 use Rattle.machine.specs.Machine.{Machine, Entry, Owed, entry_at}
 use Rattle.machine.specs.Replies.{reply_on, is_owed_on}
-use Rattle.laws.specs.Acts.{Act, shows, fires_one, asks_for_roots, carries, connects, ends_dial, stores, handles_item, ends_stream, is_closed, sets_targets, sets_big_targets, sets_groups, sets_roots, makes_ordinary, provides, provides_big, does}
+use Rattle.laws.specs.Acts.{Act, fires_one, does}
 use Rattle.laws.specs.Laws.{DeadlinesAhead}
 use Rattle.laws.specs.Moments.{WaitsAhead, IsOverAfter}
 use Rattle.laws.specs.Waits.{until_greeted, until_gone, until_unused, until_paid, until_of, until_in, until_at}
@@ -218,20 +218,5 @@ fires-over d m = by_entry (entry_at d.cid.0 m) refl
         subst (λ c. until_at d.kind c (fires_as d.kind e m).machine ≡ None) own (fired-over d.kind e m)
 
 pub over-after : (act : Act) (m : Machine) → IsOverAfter act (does act m).machine
-over-after (shows t) m = tt
 over-after (fires_one d) m = fires-over d m
-over-after asks_for_roots m = tt
-over-after (carries order) m = tt
-over-after (connects addr) m = tt
-over-after (ends_dial cid opened) m = tt
-over-after (stores entry undecoded) m = tt
-over-after (handles_item cid item) m = tt
-over-after (ends_stream cid fault) m = tt
-over-after (is_closed cid) m = tt
-over-after (sets_targets targets) m = tt
-over-after (sets_big_targets targets) m = tt
-over-after (sets_groups groups) m = tt
-over-after (sets_roots roots) m = tt
-over-after (makes_ordinary addr) m = tt
-over-after (provides addr) m = tt
-over-after (provides_big addr) m = tt
+over-after other m = tt

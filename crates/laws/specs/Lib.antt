@@ -3,6 +3,7 @@ pub mod Admitted
 pub mod Agreed
 pub mod AtMoves
 pub mod BackOff
+pub mod Begun
 pub mod CarriedOut
 pub mod Carrying
 pub mod Ends
