@@ -130,10 +130,11 @@ fn read_front<R: Read>(alloc: Global, reader: &mut R, limit: usize) -> io::Resul
     ensures { IfOk result (λ bytes. IfSome (R.remaining reader.old) (λ all. bytes.items ≡ take (limit + 1) all)) }
 {
     let mut bytes = Vec::new(alloc);
-    match (limit as u64).checked_add(1) {
-        Some(most) => reader.take(most).read_to_end(&mut bytes)?,
-        None => reader.read_to_end(&mut bytes)?,
+    let Some(most) = (limit as u64).checked_add(1) else {
+        reader.read_to_end(&mut bytes)?;
+        return Ok(bytes);
     };
+    reader.take(most).read_to_end(&mut bytes)?;
     Ok(bytes)
 }
 
