@@ -37,19 +37,22 @@ fn leaf(rows: &[Row], place: usize) -> Option<Deadline>
     }
 }
 
-// After a change of one row: the nodes above it are renewed, up to the first that stays.
-pub fn raise(inner: &mut Vec<Option<Deadline>>, rows: &[Row], row: usize)
+// After a change of one row, of whose timers one is the first: the nodes above it are renewed, up to the first that stays.
+pub fn raise(inner: &mut Vec<Option<Deadline>>, rows: &[Row], row: usize, first: Option<Deadline>)
     requires inside { row < length inner.old.items }
     requires others { AreOthers ((length inner.old.items + row) / 2) inner.old.items (nodes_of rows.now) }
+    requires first { first ≡ slice_index_or (nodes_of rows.now) row None }
     ensures length { length inner.new.items ≡ length inner.old.items }
     ensures tree { IsTree inner.new.items (nodes_of rows.now) }
 {
-    let mut place = above(inner, row);
-    while place > 0 {
-        if !renew(inner, rows, place) {
+    let mut place = inner.len() + row;
+    let mut value = first;
+    while place > 1 {
+        value = above(inner, rows, place, value);
+        place /= 2;
+        if !store(inner, place, value) {
             return;
         }
-        place /= 2;
     }
 }
 
@@ -83,17 +86,25 @@ pub fn widen(rows: &mut Vec<Row>, inner: &mut Vec<Option<Deadline>>) -> Result<(
     Ok(())
 }
 
-// The one of a node's two children that fires first stands at it. Tells whether another one stood there.
-fn renew(inner: &mut Vec<Option<Deadline>>, rows: &[Row], place: usize) -> bool
+// The one of a node's two children that fires first stands at it.
+fn renew(inner: &mut Vec<Option<Deadline>>, rows: &[Row], place: usize)
     requires { place < length inner.old.items }
-    ensures inner { inner.new.items ≡ set inner.old.items place (made inner.old.items (nodes_of rows.now) place) }
-    ensures same { result ≡ false → inner.new.items ≡ inner.old.items }
+    ensures { inner.new.items ≡ set inner.old.items place (made inner.old.items (nodes_of rows.now) place) }
 {
     let made = made(inner, rows, place);
-    if made == inner[place] {
+    store(inner, place, made);
+}
+
+// Puts a timer, or none, at a node. Tells whether another one stood there.
+fn store(inner: &mut Vec<Option<Deadline>>, place: usize, value: Option<Deadline>) -> bool
+    requires { place < length inner.old.items }
+    ensures inner { inner.new.items ≡ set inner.old.items place value }
+    ensures same { result ≡ false → inner.new.items ≡ inner.old.items }
+{
+    if value == inner[place] {
         return false;
     }
-    inner[place] = made;
+    inner[place] = value;
     true
 }
 
@@ -107,10 +118,13 @@ fn made(inner: &[Option<Deadline>], rows: &[Row], place: usize) -> Option<Deadli
     sooner(left, right)
 }
 
-// The node above a leaf.
-fn above(inner: &[Option<Deadline>], row: usize) -> usize
-    requires { row < length inner.now }
-    ensures { result ≡ (length inner.now + row) / 2 }
+// What is to stand above a node, at which a timer stands, or none.
+fn above(inner: &[Option<Deadline>], rows: &[Row], place: usize, value: Option<Deadline>) -> Option<Deadline>
+    requires low { 1 < place }
+    requires inside { place < 2 * length inner.now }
+    requires value { value ≡ node inner.now (nodes_of rows.now) place }
+    ensures { result ≡ made inner.now (nodes_of rows.now) (place / 2) }
 {
-    (inner.len() + row) / 2
+    let beside = if place % 2 == 0 { place + 1 } else { place - 1 };
+    sooner(value, node(inner, rows, beside))
 }

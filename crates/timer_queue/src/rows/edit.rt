@@ -16,7 +16,7 @@ pub fn drop_gone(rows: &mut Vec<Row>)
     rows.retain(|row| row.enrolled);
 }
 
-// Puts a row in the place of the one of its id.
+// Puts a row in the place of the one of its id. Where its first timer is the same, the tree stays.
 pub fn put(rows: &mut Vec<Row>, inner: &mut Vec<Option<Deadline>>, place: usize, row: Row)
     requires rise { AreRising rows.old.items }
     requires fit { length rows.old.items ≤ length inner.old.items }
@@ -28,6 +28,10 @@ pub fn put(rows: &mut Vec<Row>, inner: &mut Vec<Option<Deadline>>, place: usize,
     ensures length { length inner.new.items ≡ length inner.old.items }
     ensures tree { IsTree inner.new.items (nodes_of rows.new.items) }
 {
+    let first = row.first();
+    let stays = first == rows[place].first();
     rows[place] = row;
-    raise(inner, rows, place);
+    if !stays {
+        raise(inner, rows, place, first);
+    }
 }

@@ -1,4 +1,4 @@
-ghost use Rattle.std.specs.Prelude.{◌≡◌, ◌≤◌, is_some, length, slice_get};
+ghost use Rattle.std.specs.Prelude.{◌≡◌, ◌≤◌, true, is_some, length, slice_get};
 ghost use Rattle.std.specs.Bool.{then_some};
 ghost use Rattle.timer_queue.specs.Kept.{AreRising};
 ghost use Rattle.timer_queue.specs.Rows.{row_at, found_at, place_at};
@@ -12,7 +12,21 @@ pub fn place_of(rows: &[Row], cid: Cid) -> usize
     ensures value { result ≡ place_at cid rows.now }
     ensures bound { result ≤ length rows.now }
 {
+    if is_behind(rows, cid) {
+        return rows.len();
+    }
     rows.partition_point(|row| row.cid < cid)
+}
+
+// Whether an id is above all. Ids rise, so one that comes is.
+fn is_behind(rows: &[Row], cid: Cid) -> bool
+    requires { AreRising rows.now }
+    ensures { result ≡ true → place_at cid rows.now ≡ length rows.now }
+{
+    match rows.last() {
+        Some(last) => last.cid < cid,
+        None => true,
+    }
 }
 
 // The place of the row of an id.
