@@ -1,5 +1,5 @@
 -- What is agreed on in a handshake.
-use Rattle.std.proofs.Common.{◌+◌, ◌≡◌, true, ◌==◌, if◌then◌else◌, Option, Some, None, refl, sym, ap, ◌∙◌, eq-eqb}
+use Rattle.std.proofs.Common.{◌+◌, ◌≡◌, true, if◌then◌else◌, Option, Some, None, refl, sym, ap, ◌∙◌, eq-eqb}
 use Rattle.std.specs.Option.{option_and_then}
 use Rattle.std.proofs.lemmas.Bool.{false≢true}
 use Rattle.conn_state.specs.Moves.{agreed_inbound, agreed_outbound}
@@ -11,7 +11,6 @@ use Rattle.hs_decide.specs.declared.verdict.Verdict.TheVariants as verdict
 use Rattle.hs_message.specs.Reading.{message_of}
 use Rattle.hs_message.specs.declared.message.Message.{Message}
 use Rattle.mux_segment.specs.declared.item.Item.{Item}
-use Rattle.net_base.specs.declared.connection.Agreed.{Agreed}
 use Rattle.net_base.specs.declared.connection.Cid.{Cid}
 use Rattle.net_base.specs.declared.connection.Phase.{Phase}
 use Rattle.net_base.specs.declared.connection.Phase.TheVariants.{Dialing, Greeting, Negotiated, Closing}

@@ -54,7 +54,7 @@ use Rattle.machine.specs.Provided.{is_wanted_big, comes_big}
 use Rattle.machine.specs.Replies.{reply_on, owing, paid}
 use Rattle.machine.specs.Stream.{handled_in, handled, faulted}
 use Rattle.machine.specs.Talking.{stops_if, serves, begins, takes_requests, asked_as, shares_address, taken_of, takes_addresses, pays, brings, answered_as, talks}
-use Rattle.laws.specs.Acts.{Act, shows, fires_one, asks_for_roots, carries, connects, ends_dial, stores, handles_item, ends_stream, is_closed, sets_targets, sets_big_targets, sets_groups, sets_roots, makes_ordinary, provides, provides_big, does}
+use Rattle.laws.specs.Acts.{Act, fires_one, carries, ends_dial, handles_item, ends_stream, is_closed, makes_ordinary, provides, provides_big, does}
 use Rattle.laws.specs.AtMoves.{some_connection, is_failure, FailsWhere}
 use Rattle.laws.specs.BackOff.{IsRemembered, WhereBoth, AllRemembered, OthersRemembered, IsAsked, IsTaken, RemembersByOrder, RemembersBeside, Remembers, IsSpared, FailsOnly}
 use Rattle.laws.specs.Sound.{IsOrderly}
@@ -660,23 +660,16 @@ ordinary-still : (addr : Addr) (m : Machine) → Still m (does (makes_ordinary a
 ordinary-still addr m = changed-still addr (λ p. record p { big = false }) m (λ p. refl) (λ p. record { failures = refl; not_before = refl; share_next = refl })
 
 pub remembers : (act : Act) (m : Machine) → Knows act m → Remembers act m (does act m).machine
-remembers (shows t) m known = book-remembered (shows t) m (treats-book (shows t) m)
 remembers (fires_one d) m known = (fires-treats d m).remembered
-remembers asks_for_roots m known = book-remembered asks_for_roots m (treats-book asks_for_roots m)
 remembers (carries order) m known = orders-remember order m known
-remembers (connects addr) m known = book-remembered (connects addr) m (treats-book (connects addr) m)
 remembers (ends_dial cid opened) m known = (dials-treats cid opened m).remembered
-remembers (stores entry undecoded) m known = book-remembered (stores entry undecoded) m (treats-book (stores entry undecoded) m)
 remembers (handles_item cid item) m known = (items-treat cid item m known).remembered
 remembers (ends_stream cid fault) m known = (stream-treats cid fault m).remembered
 remembers (is_closed cid) m known = (closes-treats cid m).remembered
-remembers (sets_targets targets) m known = book-remembered (sets_targets targets) m (treats-book (sets_targets targets) m)
-remembers (sets_big_targets targets) m known = book-remembered (sets_big_targets targets) m (treats-book (sets_big_targets targets) m)
-remembers (sets_groups groups) m known = book-remembered (sets_groups groups) m (treats-book (sets_groups groups) m)
-remembers (sets_roots roots) m known = book-remembered (sets_roots roots) m (treats-book (sets_roots roots) m)
 remembers (makes_ordinary addr) m known = all-remembered m (does (makes_ordinary addr) m).machine (ordinary-still addr m)
 remembers (provides addr) m known = all-remembered m (does (provides addr) m).machine (comes-still false addr m)
 remembers (provides_big addr) m known = all-remembered m (does (provides_big addr) m).machine (big-still addr m)
+remembers other m known = book-remembered other m (treats-book other m)
 
 -- ---- who fails
 
@@ -710,20 +703,13 @@ orders-fail (Activate addr) m h = remembered-fails m (carries_out (Activate addr
 orders-fail (Deactivate addr) m h = remembered-fails m (carries_out (Deactivate addr) m).machine (orders-remember (Deactivate addr) m h)
 
 pub fails-only : (act : Act) (m : Machine) → Knows act m → FailsOnly m (does act m).machine
-fails-only (shows t) m known = book-fails (shows t) m (treats-book (shows t) m)
 fails-only (fires_one d) m known = (fires-treats d m).fails
-fails-only asks_for_roots m known = book-fails asks_for_roots m (treats-book asks_for_roots m)
 fails-only (carries order) m known = orders-fail order m known
-fails-only (connects addr) m known = book-fails (connects addr) m (treats-book (connects addr) m)
 fails-only (ends_dial cid opened) m known = (dials-treats cid opened m).fails
-fails-only (stores entry undecoded) m known = book-fails (stores entry undecoded) m (treats-book (stores entry undecoded) m)
 fails-only (handles_item cid item) m known = (items-treat cid item m known).fails
 fails-only (ends_stream cid fault) m known = (stream-treats cid fault m).fails
 fails-only (is_closed cid) m known = (closes-treats cid m).fails
-fails-only (sets_targets targets) m known = book-fails (sets_targets targets) m (treats-book (sets_targets targets) m)
-fails-only (sets_big_targets targets) m known = book-fails (sets_big_targets targets) m (treats-book (sets_big_targets targets) m)
-fails-only (sets_groups groups) m known = book-fails (sets_groups groups) m (treats-book (sets_groups groups) m)
-fails-only (sets_roots roots) m known = book-fails (sets_roots roots) m (treats-book (sets_roots roots) m)
 fails-only (makes_ordinary addr) m known = still-fails m (does (makes_ordinary addr) m).machine (ordinary-still addr m)
 fails-only (provides addr) m known = still-fails m (does (provides addr) m).machine (comes-still false addr m)
 fails-only (provides_big addr) m known = still-fails m (does (provides_big addr) m).machine (big-still addr m)
+fails-only other m known = book-fails other m (treats-book other m)

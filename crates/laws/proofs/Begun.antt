@@ -1,6 +1,6 @@
 -- On the connection that a part is about a wait begins, goes on and ends exactly where it is to.
-use Rattle.std.proofs.Common.{ℕ, ◌+◌, ◌%◌, ◌≡◌, Bool, true, false, not, ◌&&◌, ◌||◌, ◌==◌, if◌then◌else◌, List, [], find, Option, Some, None, Result, Ok, Err, refl, sym, ap, ◌∙◌, subst, eqb-true}
-use Rattle.std.proofs.lemmas.Bool.{both_ways, false≢true}
+use Rattle.std.proofs.Common.{ℕ, ◌+◌, ◌%◌, ◌≡◌, Bool, true, false, not, ◌&&◌, ◌||◌, ◌==◌, if◌then◌else◌, [], find, Option, Some, None, Result, Ok, Err, refl, sym, ap, ◌∙◌, subst, eqb-true}
+use Rattle.std.proofs.lemmas.Bool.{false≢true}
 use Rattle.conn_state.specs.Moves.{agreed_inbound, agreed_outbound, awakened, connected, expired, released}
 use Rattle.conn_state.specs.Use.{has_id, is_acquirable, is_dialing_phase, is_for_remote, is_greeting_phase, is_live, is_negotiated, runs, some_runs, with_responder, agreed_sharing}
 use Rattle.govern_rules.specs.declared.order.Order.{Order}
@@ -17,21 +17,20 @@ use Rattle.net_base.specs.declared.connection.Grace.{Grace}
 use Rattle.net_base.specs.declared.connection.Grace.TheVariants.{Off, ForRemote, ForLocal}
 use Rattle.net_base.specs.declared.connection.Phase.{Phase}
 use Rattle.net_base.specs.declared.connection.Phase.TheVariants.{Dialing, Greeting, Negotiated, Closing}
-use Rattle.net_base.specs.declared.timer.Deadline.{Deadline}
 use Rattle.net_base.specs.declared.timer.Kind.{Kind}
 use Rattle.net_base.specs.declared.timer.Kind.TheVariants as kind
 use Rattle.remote_watch.specs.Watch.{watched}
 use Rattle.remote_watch.specs.declared.seen.Seen.{Seen}
 use Rattle.machine.specs.Connections.{closing_entry}
 use Rattle.machine.specs.Greeting.{role_of}
-use Rattle.machine.specs.Machine.{Machine, Entry, Owed, entry_at}
+use Rattle.machine.specs.Machine.{Machine, Entry, entry_at}
 use Rattle.machine.specs.Own.{own_info}
-use Rattle.machine.specs.Replies.{reply_on, owing, paid}
+use Rattle.machine.specs.Replies.{owing, paid}
 use Rattle.laws.specs.Acts.{Act, fires_one, carries, ends_dial, stores, handles_item, ends_stream, is_closed, does}
-use Rattle.laws.specs.Begun.{is_kind, is_reply_on, anew, begun_where, ended_where, wait_fired, wait_ordered, wait_agreed, wait_asked, wait_talking, wait_handled, wait_after, WhereStays, WaitsBegin}
+use Rattle.laws.specs.Begun.{is_kind, is_reply_on, begun_where, ended_where, wait_fired, wait_ordered, wait_agreed, wait_asked, wait_handled, wait_after, WhereStays, WaitsBegin}
 use Rattle.laws.specs.Parts.{IsNext}
 use Rattle.laws.specs.Untouched.{is_about, IsAsItWas}
-use Rattle.laws.specs.Waits.{until_greeted, until_gone, until_unused, until_paid, until_of, until_in, until_at}
+use Rattle.laws.specs.Waits.{until_gone, until_unused, until_paid, until_of, until_in, until_at}
 use Rattle.laws.specs.Whole.{IsShaped, IsOwing, IsOrdered}
 use Rattle.laws.proofs.Lists.{FoundIn, find_some, All-stands}
 use Rattle.laws.proofs.Shapes.{greeting-unnegotiated}

@@ -32,7 +32,7 @@ use Rattle.machine.specs.Effect.{Effect, Move, nothing_more, tells, for_each, on
 use Rattle.machine.specs.Peers.{peer_at, turns_at, peer_fails}
 use Rattle.machine.specs.Replies.{owing}
 use Rattle.machine.specs.Connections.{with_entry, without_entry, is_missed, lost, candidates_in, trim, says_done, release, acquire, dial, ending}
-use Rattle.machine.specs.Govern.{link_of, is_used_at, on_used, asks_peer, activates, deactivates, promoted_at, carries_out, asks_roots, govern, ordinary_rules, big_rules, rules, view_of}
+use Rattle.machine.specs.Govern.{link_of, is_used_at, on_used, asks_peer, activates, deactivates, promoted_at, carries_out, asks_roots, ordinary_rules, big_rules, rules, view_of}
 use Rattle.laws.specs.AtMoves.{IsLawful}
 use Rattle.laws.specs.Carrying.{MayGovern, IsFree, MayCarry, MayAll, MayFollow}
 use Rattle.laws.specs.Whole.{AreApart, IsOrdered}
@@ -548,19 +548,3 @@ govern-may word m h within room =
       big = all-follow (0 ∷ 20000 ∷ 0 ∷ 0 ∷ 0 ∷ []) (big_rules word) (big-serve word) (for_each rules (ordinary_rules word) n).machine second.ordered second.within
           (omega (arith, room, one, two));
     }
-
--- They give out that many ids at most.
-pub govern-ids : (word : ℕ) (m : Machine) → IsOrdered m → counted_in m ≤ m.settings.hard → (govern word m).machine.next_id ≤ m.next_id + 60000
-unfolding total
-govern-ids word m h within =
-    let n : Machine = (asks_roots m).machine in
-    let o : Machine = (for_each rules (ordinary_rules word) n).machine in
-    let first : IsFollowed 0 m n = asks_roots-followed m h within in
-    let second : IsFollowed 40000 n o =
-    all-followed (0 ∷ 0 ∷ 20000 ∷ 20000 ∷ 0 ∷ 0 ∷ 0 ∷ 0 ∷ []) (ordinary_rules word) (ordinary-serve word) n first.ordered first.within in
-    let third : IsFollowed 20000 o (for_each rules (big_rules word) o).machine =
-    all-followed (0 ∷ 20000 ∷ 0 ∷ 0 ∷ 0 ∷ []) (big_rules word) (big-serve word) o second.ordered second.within in
-    let one = first.ids in
-    let two = second.ids in
-    let three = third.ids in
-    omega (arith, one, two, three)

@@ -1,17 +1,16 @@
 -- An order at one address lowers what is counted by one at most, and leaves other addresses as they were.
-use Rattle.std.proofs.Common.{ℕ, ◌+◌, ◌≤◌, ◌≡◌, Bool, true, false, cond, not, ◌&&◌, ◌||◌, nat_le, List, [], ◌∷◌, ◌==◌, filter, find, count_by, Option, Some, None, refl, sym, ap, ◌∙◌, subst, arith, eqb-true}
+use Rattle.std.proofs.Common.{ℕ, ◌+◌, ◌≤◌, ◌≡◌, Bool, true, false, cond, not, ◌&&◌, ◌||◌, nat_le, List, [], ◌∷◌, filter, find, count_by, Option, Some, None, refl, sym, ap, ◌∙◌, subst, arith}
 use Rattle.std.specs.List.{list_any, AllByRecursion}
 use Rattle.std.specs.Option.{unwrap_or}
-use Rattle.std.proofs.lemmas.Bool.{cond_both, both_ways, and_parts}
+use Rattle.std.proofs.lemmas.Bool.{cond_both, and_parts}
 use Rattle.std.proofs.lemmas.List.Sums.{sum_by-cons}
-use Rattle.accept_gate.specs.Prune.{choice_of, is_candidate}
+use Rattle.accept_gate.specs.Prune.{choice_of}
 use Rattle.conn_state.specs.Moves.{released}
-use Rattle.conn_state.specs.Use.{has_id, is_live, is_live_at, is_negotiated, is_pending}
+use Rattle.conn_state.specs.Use.{has_id, is_live, is_live_at}
 use Rattle.net_base.specs.Address.{same_address}
 use Rattle.net_base.specs.declared.action.CloseCause.TheVariants.{Pruned}
 use Rattle.net_base.specs.declared.address.Addr.{Addr}
 use Rattle.net_base.specs.declared.connection.Cid.{Cid}
-use Rattle.net_base.specs.declared.connection.Facts.{Facts}
 use Rattle.net_base.specs.declared.peer.Peer.{Peer}
 use Rattle.net_base.specs.declared.peer.Temp.TheVariants.{Cold, Warm}
 use Rattle.peer_book.specs.Book.{has_address, is_of, known_of, peer_at as peer_in, with_peer, without_peer}
@@ -22,21 +21,17 @@ use Rattle.machine.specs.Machine.{Machine, Entry, counted_in, entry_at}
 use Rattle.machine.specs.Peers.{peer_at, turns_at, peer_changes, peer_becomes}
 use Rattle.machine.specs.Replies.{owing}
 use Rattle.laws.specs.AtMoves.{some_connection}
-use Rattle.laws.specs.Sound.{IsOrderly}
 use Rattle.laws.specs.Whole.{IsShaped, ArePeersApart, IsOrdered}
 use Rattle.laws.proofs.Addresses.{same_address-true}
 use Rattle.laws.proofs.BackOff.{trim-peers, idle-unmissed, turned-is}
 use Rattle.laws.proofs.CarriedOut.{changed-orderly}
 use Rattle.laws.proofs.Entries.{TurnsInto, turned-orderly}
-use Rattle.laws.proofs.Lawful.{stands-found}
 use Rattle.laws.proofs.Lists.{StandsAt, FoundIn, find_some, All-stands}
 use Rattle.laws.proofs.Orders.{says_done-machine}
-use Rattle.laws.proofs.Pruning.{chosen-goes}
 use Rattle.laws.proofs.Shapes.{local-negotiated}
 use Rattle.laws.proofs.Spending.{IsSameBut, AreSameBut, all_same, with_peer-same_but, ChangesAt, turned-same}
 use Rattle.laws.proofs.ToldMoves.{turns_at-connections}
 use Rattle.laws.proofs.Trims.{lost-connections}
-use Rattle.laws.proofs.WholeMoves.{pending-unnegotiated}
 
 -- ---- books that differ at one address, the other way
 

@@ -1,5 +1,5 @@
 -- Who is pruned in a part of an event: one that might go, or the one that moved.
-use Rattle.std.proofs.Common.{ℕ, ◌+◌, ◌≡◌, Bool, true, false, ◌&&◌, ◌||◌, ◌==◌, if◌then◌else◌, [], ◌∷◌, find, Option, Some, None, refl, sym, ap, ◌∙◌, subst, arith, eqb-true}
+use Rattle.std.proofs.Common.{ℕ, ◌+◌, ◌≡◌, Bool, true, false, ◌||◌, ◌==◌, if◌then◌else◌, find, Option, Some, None, refl, sym, ap, ◌∙◌, subst, arith, eqb-true}
 use Rattle.std.specs.Option.{option_map, unwrap_or}
 use Rattle.std.proofs.lemmas.Bool.{or_left, or_right}
 use Rattle.accept_gate.specs.Prune.{is_candidate, first_to_go, choice_of}
@@ -23,7 +23,7 @@ use Rattle.laws.specs.Ends.{is_candidate_entry, was_used_at, ends_due, IsPrunedB
 use Rattle.laws.specs.Sound.{IsOrderly}
 use Rattle.laws.specs.Told.{End}
 use Rattle.laws.proofs.CarriedOut.{changed-orderly}
-use Rattle.laws.proofs.Due.{end_of, Chosen, woken, cooled, EndsAs, ChosenByOrder, ChosenBy, part-ends}
+use Rattle.laws.proofs.Due.{end_of, woken, cooled, EndsAs, ChosenByOrder, ChosenBy, part-ends}
 use Rattle.laws.proofs.Entries.{turned-orderly}
 use Rattle.laws.proofs.Lawful.{stands-found}
 use Rattle.laws.proofs.Lists.{FoundIn, find_some}

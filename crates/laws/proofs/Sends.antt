@@ -1,11 +1,10 @@
 -- What is due is sent, and nothing else.
-use Rattle.std.proofs.Common.{ℕ, ◌+◌, ◌%◌, ◌≡◌, Bool, true, false, ◌&&◌, ◌==◌, nat_le, nat_lt, if◌then◌else◌, List, [], ◌∷◌, ◌++◌, Option, Some, None, Result, Ok, Err, refl, sym, ap, ◌∙◌, subst, eqb-true}
+use Rattle.std.proofs.Common.{ℕ, ◌+◌, ◌%◌, ◌≡◌, Bool, true, false, ◌&&◌, ◌==◌, if◌then◌else◌, List, [], ◌∷◌, ◌++◌, Option, Some, None, Result, Ok, Err, refl, sym, ap, ◌∙◌, subst, eqb-true}
 use Rattle.std.specs.Option.{option_map}
 use Rattle.std.proofs.lemmas.Bool.{cond_both, false≢true}
 use Rattle.std.proofs.lemmas.Grind.{flat_map-append}
-use Rattle.accept_gate.specs.Gate.{pause_of}
-use Rattle.conn_state.specs.Moves.{acquired, agreed_inbound, agreed_outbound, connected, expired, idled, released}
-use Rattle.conn_state.specs.Use.{agreed_sharing, has_id, is_acquirable, is_dialing, is_live, is_pending}
+use Rattle.conn_state.specs.Moves.{acquired, agreed_inbound, agreed_outbound, connected, idled, released}
+use Rattle.conn_state.specs.Use.{agreed_sharing, has_id, is_acquirable, is_dialing}
 use Rattle.govern_rules.specs.declared.order.Order.{Order}
 use Rattle.govern_rules.specs.declared.order.Order.TheVariants.{Ask, Forget, Promote, Release, Activate, Deactivate}
 use Rattle.hs_decide.specs.Agreement.{verdict_of}
@@ -17,16 +16,11 @@ use Rattle.hs_decide.specs.declared.verdict.Verdict.TheVariants as verdict
 use Rattle.hs_message.specs.Reading.{message_of}
 use Rattle.hs_message.specs.declared.message.Message.{Message}
 use Rattle.hs_message.specs.declared.message.Message.TheVariants as message
-use Rattle.hs_receive.specs.Receiving.{fits_side, kind_of, receives, receives_message}
-use Rattle.mux_segment.specs.declared.fault.CutFault.{CutFault}
+use Rattle.hs_receive.specs.Receiving.{fits_side, receives, receives_message}
 use Rattle.mux_segment.specs.declared.item.Item.{Item}
-use Rattle.net_base.specs.Address.{same_address, address_below}
-use Rattle.net_base.specs.declared.action.Action.TheVariants.{AskRoots, Close, Pause, Peer as TellPeer}
-use Rattle.net_base.specs.declared.action.Away.TheVariants.{Full, OwnAddr, Crossed, Present}
-use Rattle.net_base.specs.declared.action.CloseCause.{CloseCause}
-use Rattle.net_base.specs.declared.action.CloseCause.TheVariants.{Unused, Pruned, Overwritten, Refused, Query, Fault}
+use Rattle.net_base.specs.declared.action.CloseCause.TheVariants.{Refused, Query, Fault}
 use Rattle.net_base.specs.declared.action.FaultKind.{FaultKind}
-use Rattle.net_base.specs.declared.action.FaultKind.TheVariants.{HandshakeWait, Malformed, Protocol, ReplyWait}
+use Rattle.net_base.specs.declared.action.FaultKind.TheVariants.{Malformed, Protocol}
 use Rattle.net_base.specs.declared.address.Addr.{Addr}
 use Rattle.net_base.specs.declared.connection.Cid.{Cid}
 use Rattle.net_base.specs.declared.connection.Facts.{Facts}
@@ -35,33 +29,25 @@ use Rattle.net_base.specs.declared.connection.Phase.TheVariants.{Dialing, Greeti
 use Rattle.net_base.specs.declared.connection.Provenance.{Provenance}
 use Rattle.net_base.specs.declared.connection.Provenance.TheVariants.{FromRemote, FromLocal}
 use Rattle.net_base.specs.declared.peer.Peer.{Peer}
-use Rattle.net_base.specs.declared.peer.Temp.TheVariants.{Cold, Hot, Warm}
-use Rattle.net_base.specs.declared.timer.Kind.{Kind}
+use Rattle.net_base.specs.declared.peer.Temp.TheVariants.{Cold, Warm}
 use Rattle.net_base.specs.declared.timer.Kind.TheVariants as kind
-use Rattle.peer_book.specs.Book.{entry_of, entered, new_peer, same_temp}
-use Rattle.peer_book.specs.declared.added.Added.{Added}
-use Rattle.peer_book.specs.declared.added.Added.TheVariants.{New, Present as Known, Full as NoRoom}
 use Rattle.remote_watch.specs.Watch.{watched}
 use Rattle.remote_watch.specs.declared.seen.Seen.{Seen}
-use Rattle.root_groups.specs.RootAsk.{asked, may_ask}
-use Rattle.warm_messages.specs.Reading.{share_of}
 use Rattle.warm_messages.specs.Writing.{written_alive, written_request}
 use Rattle.warm_messages.specs.declared.alive.Alive.TheVariants.{Ask as AskAlive, Done}
-use Rattle.warm_messages.specs.declared.share.Share.{Share}
 use Rattle.warm_messages.specs.declared.share.Share.TheVariants as share
-use Rattle.machine.specs.Connections.{with_entry, without_entry, entry_turns, ending, vanishes, closing_entry, grace_over, is_used, acquire, trim, says_done, release, dial, dial_opens, dial_fails}
+use Rattle.machine.specs.Connections.{with_entry, entry_turns, ending, is_used, acquire, trim, says_done, release, dial, dial_opens, dial_fails}
 use Rattle.machine.specs.Deadlines.{fires_as}
-use Rattle.machine.specs.Effect.{Effect, unused, shared, nothing_more, tells, then_do, as_move, on_entry, for_each}
-use Rattle.machine.specs.Events.{turned_away, pause_notice, admitted, crossed, accepted_beside, peer_connects, closes, dialed}
-use Rattle.machine.specs.Govern.{promoted_at, asks_peer, activates, deactivates, carries_out, asks_roots}
+use Rattle.machine.specs.Effect.{Effect, nothing_more, then_do, on_entry}
+use Rattle.machine.specs.Events.{closes, dialed}
+use Rattle.machine.specs.Govern.{promoted_at, asks_peer, activates, deactivates, carries_out}
 use Rattle.machine.specs.Greeting.{role_of, judged, decided, greets, sends_answer}
-use Rattle.machine.specs.Machine.{Machine, Entry, Owed, counted_in, entry_at, live_entry_at}
+use Rattle.machine.specs.Machine.{Machine, Entry, entry_at, live_entry_at}
 use Rattle.machine.specs.Own.{own_info}
-use Rattle.machine.specs.Peers.{peer_at, turns_at, note_of, peer_becomes, peer_succeeds, peer_was_asked, peer_comes, note_of_coming}
-use Rattle.machine.specs.Provided.{is_wanted_big, comes_big}
-use Rattle.machine.specs.Replies.{owing, paid, reply_on, sends_as_initiator, peer_sharing_done, find_intersect, chain_sync_done}
+use Rattle.machine.specs.Peers.{peer_at, turns_at, peer_becomes, peer_succeeds, peer_was_asked}
+use Rattle.machine.specs.Replies.{owing, reply_on, sends_as_initiator, peer_sharing_done, find_intersect, chain_sync_done}
 use Rattle.machine.specs.Stream.{handled_in, handled, faulted}
-use Rattle.machine.specs.Talking.{stops_if, serves, begins, takes_requests, asked_as, shares_address, taken_of, takes_addresses, pays, brings, answered_as, talks}
+use Rattle.machine.specs.Talking.{stops_if, serves, begins, takes_requests, asked_as, answered_as, talks}
 use Rattle.laws.specs.Acts.{Act, shows, fires_one, asks_for_roots, carries, connects, ends_dial, stores, handles_item, ends_stream, is_closed, sets_targets, sets_big_targets, sets_groups, sets_roots, makes_ordinary, provides, provides_big, does}
 use Rattle.laws.specs.Ends.{offered, side_of}
 use Rattle.laws.specs.Sends.{says, keeps_alive, on_one, used_with, due_by_order, answers, comes_into_use, due_by_verdict, by_message, due_of_dialer, due_in_greeting, SendsInUse, SendsByPhase, SendsOnItem, SendsRight}

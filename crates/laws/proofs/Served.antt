@@ -1,19 +1,15 @@
 -- What is answered to what the other side asks.
-use Rattle.std.proofs.Common.{ℕ, zero, suc, ◌+◌, ◌<◌, ◌≤◌, ◌≡◌, Bool, true, false, not, ◌&&◌, ◌||◌, ◌==◌, nat_le, min, if◌then◌else◌, cond, List, [], ◌∷◌, ◌++◌, length, map, filter, get_or, is_some, Option, Some, None, Result, Ok, Err, refl, sym, ap, ◌∙◌, subst, arith, eqb-true}
+use Rattle.std.proofs.Common.{ℕ, ◌+◌, ◌<◌, ◌≤◌, ◌≡◌, Bool, true, false, not, ◌&&◌, ◌||◌, ◌==◌, min, if◌then◌else◌, cond, List, [], ◌∷◌, ◌++◌, length, map, filter, get_or, is_some, Option, Some, None, Result, Ok, Err, refl, sym, ap, ◌∙◌, subst, arith, eqb-true}
 use Rattle.std.specs.List.{AllByRecursion, list_any}
-use Rattle.std.specs.Option.{unwrap_or}
 use Rattle.std.proofs.lemmas.Bool.{cond_both, and_parts, and_from, or_left, or_right, false≢true}
 use Rattle.std.proofs.lemmas.Grind.{flat_map-append}
 use Rattle.std.proofs.lemmas.List.Quantifiers.{position-Some}
-use Rattle.accept_gate.specs.Prune.{choice_of}
-use Rattle.conn_state.specs.Moves.{awakened, idled}
-use Rattle.conn_state.specs.Names.{name_of, same_name}
+use Rattle.conn_state.specs.Moves.{awakened}
 use Rattle.conn_state.specs.Use.{has_id, is_negotiated_phase, agreed_sharing, runs}
 use Rattle.mux_segment.specs.Frame.{frame_of}
 use Rattle.mux_segment.specs.declared.item.Item.{Item}
 use Rattle.net_base.specs.Address.{same_address}
-use Rattle.net_base.specs.declared.action.Action.TheVariants.{State}
-use Rattle.net_base.specs.declared.action.CloseCause.TheVariants.{Pruned, Fault}
+use Rattle.net_base.specs.declared.action.CloseCause.TheVariants.{Fault}
 use Rattle.net_base.specs.declared.action.FaultKind.{FaultKind}
 use Rattle.net_base.specs.declared.action.FaultKind.TheVariants.{Protocol}
 use Rattle.net_base.specs.declared.address.Addr.{Addr}
@@ -31,9 +27,9 @@ use Rattle.root_groups.specs.Cleaned.{is_listed, group_of}
 use Rattle.share_rounds.specs.Rounds.{is_advertised, most_told, served_to}
 use Rattle.share_rounds.proofs.Homes.{told_by_group, told_by_roots}
 use Rattle.share_rounds.proofs.Rules.{each_of_front, told_are_few}
-use Rattle.machine.specs.Connections.{with_entry, without_entry, entry_turns, ending, candidates_in, trim, idle, awake}
-use Rattle.machine.specs.Effect.{Effect, nothing_more, then_do, on_entry, on_connection}
-use Rattle.machine.specs.Machine.{Machine, Entry, counted_in, entry_at}
+use Rattle.machine.specs.Connections.{ending, idle}
+use Rattle.machine.specs.Effect.{Effect, then_do, on_entry, on_connection}
+use Rattle.machine.specs.Machine.{Machine, Entry, entry_at}
 use Rattle.machine.specs.Replies.{reply_on}
 use Rattle.machine.specs.Stream.{handled_in, handled}
 use Rattle.machine.specs.Talking.{replies, stops_if, serves, begins, takes_requests, asked_as, answered_as, talks}

@@ -1,5 +1,5 @@
 -- What is told of a sort by no part but those that are to.
-use Rattle.std.proofs.Common.{ℕ, ◌+◌, ◌%◌, ◌≡◌, Bool, true, false, ◌&&◌, ◌==◌, nat_le, nat_lt, if◌then◌else◌, List, [], ◌∷◌, ◌++◌, flat_map, Option, Some, None, Result, Ok, Err, refl, sym, ap, ◌∙◌, subst}
+use Rattle.std.proofs.Common.{ℕ, ◌+◌, ◌%◌, ◌≡◌, Bool, true, false, ◌&&◌, ◌==◌, nat_le, nat_lt, if◌then◌else◌, List, [], ◌∷◌, ◌++◌, flat_map, Option, Some, None, Result, Ok, Err, refl, ap, ◌∙◌}
 use Rattle.std.specs.Option.{unwrap_or}
 use Rattle.std.proofs.lemmas.Bool.{cond_both}
 use Rattle.std.proofs.lemmas.Grind.{flat_map-append}
@@ -20,7 +20,6 @@ use Rattle.hs_receive.specs.Receiving.{is_awaited, fits_side, kind_of}
 use Rattle.mux_segment.specs.declared.fault.CutFault.{CutFault}
 use Rattle.mux_segment.specs.declared.item.Item.{Item}
 use Rattle.net_base.specs.Address.{same_address, address_below}
-use Rattle.net_base.specs.Peer.{failed_peer}
 use Rattle.net_base.specs.declared.action.Action.{Action}
 use Rattle.net_base.specs.declared.action.Action.TheVariants.{Admit, Turnaway, Dial, Send, Close, Pause, AskRoots, State, Peer as TellPeer}
 use Rattle.net_base.specs.declared.action.Away.{Away}
@@ -40,7 +39,6 @@ use Rattle.net_base.specs.declared.connection.Phase.{Phase}
 use Rattle.net_base.specs.declared.connection.Phase.TheVariants.{Dialing, Greeting, Negotiated, Closing}
 use Rattle.net_base.specs.declared.event.Job.{Job}
 use Rattle.net_base.specs.declared.peer.Peer.{Peer}
-use Rattle.net_base.specs.declared.peer.Temp.{Temp}
 use Rattle.net_base.specs.declared.peer.Temp.TheVariants.{Cold, Hot, Warm}
 use Rattle.net_base.specs.declared.timer.Kind.{Kind}
 use Rattle.net_base.specs.declared.timer.Kind.TheVariants as kind
@@ -57,19 +55,19 @@ use Rattle.warm_messages.specs.Writing.{written_alive, written_request}
 use Rattle.warm_messages.specs.declared.alive.Alive.TheVariants.{Ask as AskAlive, Done}
 use Rattle.warm_messages.specs.declared.share.Share.{Share}
 use Rattle.warm_messages.specs.declared.share.Share.TheVariants as share
-use Rattle.machine.specs.Connections.{is_missed, with_entry, without_entry, entry_turns, lost, ending, vanishes, closing_entry, grace_over, is_used, acquire, candidates_in, trim, says_done, release, awake, dial, dial_opens, dial_fails}
+use Rattle.machine.specs.Connections.{with_entry, without_entry, entry_turns, lost, ending, vanishes, closing_entry, grace_over, is_used, acquire, candidates_in, trim, says_done, release, awake, dial, dial_opens, dial_fails}
 use Rattle.machine.specs.Deadlines.{fires_as}
 use Rattle.machine.specs.Effect.{Effect, unused, shared, nothing_more, tells, then_do, as_move, on_entry, on_connection, for_each}
 use Rattle.machine.specs.Events.{turned_away, pause_notice, admitted, crossed, accepted_beside, peer_connects, closes, dialed}
-use Rattle.machine.specs.Govern.{promoted_at, is_used_at, asks_peer, activates, deactivates, carries_out, asks_roots}
+use Rattle.machine.specs.Govern.{promoted_at, asks_peer, activates, deactivates, carries_out, asks_roots}
 use Rattle.machine.specs.Greeting.{role_of, judged, decided, greeted_by, greets, sends_answer}
 use Rattle.machine.specs.Machine.{Machine, Entry, Owed, counted_in, entry_at, live_entry_at, next_cid}
 use Rattle.machine.specs.Own.{own_info}
-use Rattle.machine.specs.Peers.{peer_at, turns_at, note_of, peer_fails, peer_becomes, peer_succeeds, peer_was_asked, peer_comes, note_of_coming}
+use Rattle.machine.specs.Peers.{peer_at, turns_at, note_of, peer_becomes, peer_succeeds, peer_was_asked, peer_comes, note_of_coming}
 use Rattle.machine.specs.Provided.{is_wanted_big, comes_big}
-use Rattle.machine.specs.Replies.{owing, paid, reply_on, sends_as_initiator, sends_as_responder, peer_sharing_done, find_intersect, chain_sync_done}
+use Rattle.machine.specs.Replies.{owing, paid, reply_on, sends_as_initiator, peer_sharing_done, find_intersect, chain_sync_done}
 use Rattle.machine.specs.Stream.{handled_in, handled, faulted}
-use Rattle.machine.specs.Talking.{replies, stops_if, serves, begins, takes_requests, asked_as, shares_address, taken_of, takes_addresses, pays, brings, answered_as, talks}
+use Rattle.machine.specs.Talking.{replies, stops_if, serves, begins, takes_requests, asked_as, shares_address, taken_of, takes_addresses, pays, brings, answered_as}
 use Rattle.laws.specs.Acts.{Act, shows, fires_one, asks_for_roots, carries, connects, ends_dial, stores, handles_item, ends_stream, is_closed, sets_targets, sets_big_targets, sets_groups, sets_roots, makes_ordinary, provides, provides_big, does}
 use Rattle.laws.specs.Admitted.{admitted_by, turned_away_by}
 use Rattle.laws.specs.CarriedOut.{pauses_by}

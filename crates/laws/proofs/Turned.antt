@@ -1,5 +1,5 @@
 -- What becomes of the connection that a part of an event is about.
-use Rattle.std.proofs.Common.{ℕ, ◌+◌, ◌%◌, ◌<◌, ◌≡◌, Bool, true, false, ◌&&◌, ◌==◌, if◌then◌else◌, List, [], ◌∷◌, find, Option, Some, None, Result, Ok, Err, refl, sym, ap, ◌∙◌, subst, arith, eq-eqb, eqb-true}
+use Rattle.std.proofs.Common.{ℕ, ◌+◌, ◌%◌, ◌<◌, ◌≡◌, Bool, true, false, ◌&&◌, ◌==◌, if◌then◌else◌, [], ◌∷◌, find, Option, Some, None, Result, Ok, Err, refl, sym, ap, ◌∙◌, subst, arith, eq-eqb, eqb-true}
 use Rattle.std.specs.Option.{option_map}
 use Rattle.std.proofs.lemmas.Bool.{cond_both, both_ways, and_parts, and_from, false≢true, false_from_ne_true}
 use Rattle.conn_state.specs.Moves.{connected, agreed_inbound, agreed_outbound, acquired, released, awakened, idled, expired}
@@ -25,13 +25,12 @@ use Rattle.net_base.specs.declared.address.Addr.{Addr}
 use Rattle.net_base.specs.declared.connection.Facts.{Facts}
 use Rattle.net_base.specs.declared.connection.Phase.{Phase}
 use Rattle.net_base.specs.declared.connection.Phase.TheVariants.{Dialing, Greeting, Negotiated, Closing}
-use Rattle.net_base.specs.declared.peer.Peer.{Peer}
 use Rattle.net_base.specs.declared.peer.Temp.TheVariants.{Cold, Warm}
 use Rattle.net_base.specs.declared.timer.Kind.{Kind}
 use Rattle.net_base.specs.declared.timer.Kind.TheVariants as kind
 use Rattle.remote_watch.specs.Watch.{watched}
 use Rattle.remote_watch.specs.declared.seen.Seen.{Seen}
-use Rattle.machine.specs.Connections.{with_entry, without_entry, entry_turns, ending, vanishes, closing_entry, acquire, trim, release, awake, idle, dial, dial_opens, dial_fails}
+use Rattle.machine.specs.Connections.{with_entry, entry_turns, ending, vanishes, closing_entry, acquire, trim, release, awake, idle, dial, dial_opens, dial_fails}
 use Rattle.machine.specs.Deadlines.{fires_as}
 use Rattle.machine.specs.Effect.{Effect, unused, nothing_more, tells, then_do, as_move, on_entry}
 use Rattle.machine.specs.Events.{closes, dialed}
@@ -42,7 +41,7 @@ use Rattle.machine.specs.Own.{own_info}
 use Rattle.machine.specs.Peers.{peer_at, peer_becomes}
 use Rattle.machine.specs.Replies.{reply_on, owing, paid}
 use Rattle.machine.specs.Stream.{handled_in, handled, faulted}
-use Rattle.machine.specs.Talking.{stops_if, serves, begins, takes_requests, asked_as, pays, brings, answered_as, talks}
+use Rattle.machine.specs.Talking.{stops_if, serves, begins, takes_requests, asked_as, pays, brings, answered_as}
 use Rattle.laws.specs.Acts.{Act, fires_one, carries, ends_dial, stores, handles_item, ends_stream, is_closed, does}
 use Rattle.laws.specs.Sound.{HasGivenId}
 use Rattle.laws.specs.Untouched.{address_of, is_with, is_about, IsAsItWas}

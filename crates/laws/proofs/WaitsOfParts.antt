@@ -513,9 +513,7 @@ Changes (sets_roots roots) m n = Unit {0}
 Changes act m n = Waits (scope_of act m) m n
 
 waits-of : (act : Act) (m : Machine) → Finds act m → Changes act m (does act m).machine
-waits-of (shows t) m found = tt
 waits-of (fires_one d) m found = on_found (scope_of (fires_one d) m) d.cid.0 (fires_as d.kind) m (own_id d.cid.0) (λ e stands. fires_as-waits (scope_of (fires_one d) m) d.kind e m refl stands)
-waits-of asks_for_roots m found = tt
 waits-of (carries order) m found = carries-waits (scope_of (carries order) m) order m (orderly-finds order m found.orderly)
 waits-of (connects addr) m found = connects-waits (scope_of (connects addr) m) addr m
 waits-of (ends_dial cid opened) m found = on_found (scope_of (ends_dial cid opened) m) cid.0 (dialed opened) m (own_id cid.0) (λ e stands. dialed-waits (scope_of (ends_dial cid opened) m) opened e m stands)
@@ -526,33 +524,20 @@ waits-of (handles_item cid item) m found =
     on_found (scope_of (handles_item cid item) m) cid.0 (handled item) m (own_id cid.0) (λ e stands. handled_in-waits (scope_of (handles_item cid item) m) e.facts.phase item e m stands)
 waits-of (ends_stream cid fault) m found = on_found (scope_of (ends_stream cid fault) m) cid.0 (faulted fault) m (own_id cid.0) (λ e stands. faulted-waits (scope_of (ends_stream cid fault) m) fault e m)
 waits-of (is_closed cid) m found = on_found (scope_of (is_closed cid) m) cid.0 closes m (own_id cid.0) (λ e stands. closes-waits (scope_of (is_closed cid) m) e m)
-waits-of (sets_targets targets) m found = tt
-waits-of (sets_big_targets targets) m found = tt
-waits-of (sets_groups groups) m found = tt
-waits-of (sets_roots roots) m found = tt
 waits-of (makes_ordinary addr) m found = changed-waits (scope_of (makes_ordinary addr) m) (peer_at addr m) (λ p. record p { big = false }) m
 waits-of (provides addr) m found = comes-waits (scope_of (provides addr) m) false addr m
 waits-of (provides_big addr) m found = big-waits (scope_of (provides_big addr) m) addr m
+waits-of other m found = tt
 
 -- either no connection changes, or nothing is set
 sets_or_waits : (act : Act) (m : Machine) → Finds act m → ((does act m).machine.connections ≡ m.connections) ⊎ Waits (scope_of act m) m (does act m).machine
 sets_or_waits (shows t) m found = inl refl
-sets_or_waits (fires_one d) m found = inr (waits-of (fires_one d) m found)
 sets_or_waits asks_for_roots m found = inl (ap (λ n. n.connections) (roots-set m))
-sets_or_waits (carries order) m found = inr (waits-of (carries order) m found)
-sets_or_waits (connects addr) m found = inr (waits-of (connects addr) m found)
-sets_or_waits (ends_dial cid opened) m found = inr (waits-of (ends_dial cid opened) m found)
-sets_or_waits (stores e undecoded) m found = inr (waits-of (stores e undecoded) m found)
-sets_or_waits (handles_item cid item) m found = inr (waits-of (handles_item cid item) m found)
-sets_or_waits (ends_stream cid fault) m found = inr (waits-of (ends_stream cid fault) m found)
-sets_or_waits (is_closed cid) m found = inr (waits-of (is_closed cid) m found)
 sets_or_waits (sets_targets targets) m found = inl refl
 sets_or_waits (sets_big_targets targets) m found = inl refl
 sets_or_waits (sets_groups groups) m found = inl refl
 sets_or_waits (sets_roots roots) m found = inl refl
-sets_or_waits (makes_ordinary addr) m found = inr (waits-of (makes_ordinary addr) m found)
-sets_or_waits (provides addr) m found = inr (waits-of (provides addr) m found)
-sets_or_waits (provides_big addr) m found = inr (waits-of (provides_big addr) m found)
+sets_or_waits other m found = inr (waits-of other m found)
 
 -- ---- what follows
 
@@ -587,19 +572,9 @@ leaves-rest act m found = elim (sets_or_waits act m found) [
 
 pub is-set : (act : Act) (m : Machine) → Finds act m → IsSet act m (does act m).machine
 is-set (shows t) m found = refl
-is-set (fires_one d) m found = unset (scope_of (fires_one d) m) m (does (fires_one d) m).machine (waits-of (fires_one d) m found)
 is-set asks_for_roots m found = roots-set m
-is-set (carries order) m found = unset (scope_of (carries order) m) m (does (carries order) m).machine (waits-of (carries order) m found)
-is-set (connects addr) m found = unset (scope_of (connects addr) m) m (does (connects addr) m).machine (waits-of (connects addr) m found)
-is-set (ends_dial cid opened) m found = unset (scope_of (ends_dial cid opened) m) m (does (ends_dial cid opened) m).machine (waits-of (ends_dial cid opened) m found)
-is-set (stores e undecoded) m found = unset (scope_of (stores e undecoded) m) m (does (stores e undecoded) m).machine (waits-of (stores e undecoded) m found)
-is-set (handles_item cid item) m found = unset (scope_of (handles_item cid item) m) m (does (handles_item cid item) m).machine (waits-of (handles_item cid item) m found)
-is-set (ends_stream cid fault) m found = unset (scope_of (ends_stream cid fault) m) m (does (ends_stream cid fault) m).machine (waits-of (ends_stream cid fault) m found)
-is-set (is_closed cid) m found = unset (scope_of (is_closed cid) m) m (does (is_closed cid) m).machine (waits-of (is_closed cid) m found)
 is-set (sets_targets targets) m found = refl
 is-set (sets_big_targets targets) m found = refl
 is-set (sets_groups groups) m found = refl
 is-set (sets_roots roots) m found = refl
-is-set (makes_ordinary addr) m found = unset (scope_of (makes_ordinary addr) m) m (does (makes_ordinary addr) m).machine (waits-of (makes_ordinary addr) m found)
-is-set (provides addr) m found = unset (scope_of (provides addr) m) m (does (provides addr) m).machine (waits-of (provides addr) m found)
-is-set (provides_big addr) m found = unset (scope_of (provides_big addr) m) m (does (provides_big addr) m).machine (waits-of (provides_big addr) m found)
+is-set other m found = unset (scope_of other m) m (does other m).machine (waits-of other m found)
