@@ -8,3 +8,4 @@ pub mod Rows
 pub mod SameViews
 pub mod Suiting
 pub mod Tasks
+pub mod Walking

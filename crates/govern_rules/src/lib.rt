@@ -20,6 +20,7 @@ mod task;
 mod task_orders;
 mod valency;
 mod view;
+mod walk;
 mod whom;
 
 pub use big_rule::BigRule;
