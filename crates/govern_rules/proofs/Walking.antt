@@ -1,5 +1,5 @@
 -- Walks past links in order of address.
-use Rattle.std.proofs.Common.{◌≡◌, ℕ, zero, suc, ◌+◌, ◌-◌, ◌<◌, ◌≤◌, min, Bool, true, false, List, [], ◌∷◌, length, take, drop, get_or, Option, Some, None, slice_get, refl, sym, ap, subst, ◌∙◌, inl, inr, arith}
+use Rattle.std.proofs.Common.{◌≡◌, ℕ, zero, suc, ◌+◌, ◌-◌, ◌<◌, ◌≤◌, true, false, List, [], ◌∷◌, length, take, drop, get_or, Option, Some, None, slice_get, refl, sym, ap, subst, ◌∙◌, inl, inr, arith}
 use Rattle.std.specs.List.{prefix_len}
 use Rattle.std.proofs.lemmas.Bool.{cases_Bool, cases_lt, false≢true}
 use Rattle.std.proofs.lemmas.List.{drop-take, drop_all, drop_more, get_or-drop, get_or-take, length-drop, length-take}
@@ -35,6 +35,10 @@ module _ {X : Type 0} where
       later zero b xs = ap (λ n. drop n xs) (omega arith)
       later (suc a) b [] = drop_all b [] (omega arith) ∙ sym (drop_all (suc a + b) [] (omega arith))
       later (suc a) b (x ∷ xs) = later a b xs ∙ sym (ap (λ n. drop n (x ∷ xs)) (one_more a b))
+
+  -- from the next place on stands what is behind the first
+  pub run-next : (items run after : List X) (place : ℕ) → IsRunFrom place items run → 0 < length run → after ≡ drop 1 run → IsRunFrom (place + 1) items after
+  run-next items run after place front some is = subst (IsRunFrom (place + 1) items) (sym is) (run-later items run place 1 front (omega (arith, some)))
 
   within : (items run : List X) (place : ℕ) → IsRunFrom place items run → length run ≤ length items - place
   within items run place front =

@@ -1,5 +1,5 @@
 -- Walks past links in order of address, and past peers beside them.
-use Rattle.std.specs.Prelude.{ℕ, ◌≡◌, ◌<◌, Bool, false, List, take, drop, length, Option, Some, None}
+use Rattle.std.specs.Prelude.{ℕ, ◌≡◌, ◌<◌, Bool, false, not, List, take, drop, length, Option, Some, None}
 use Rattle.std.specs.List.{AllByRecursion, prefix_len}
 use Rattle.net_base.specs.Address.{same_address, address_below}
 use Rattle.net_base.specs.declared.address.Addr.{Addr}
@@ -38,6 +38,11 @@ is_below_at addr (Some l) = is_below addr l
 abbrev pub has_address_at : Addr → Option Link → Bool
 has_address_at addr None = false
 has_address_at addr (Some l) = same_address l.addr addr
+
+-- there is a link, and it has another address
+abbrev pub has_other_address_at : Addr → Option Link → Bool
+has_other_address_at addr None = false
+has_other_address_at addr (Some l) = not (same_address l.addr addr)
 
 -- peers that the book has
 abbrev pub AreKnown : List Peer → List Peer → Type 0

@@ -10,6 +10,7 @@ mod link_rows;
 mod links;
 mod mark;
 mod marked;
+mod nearby;
 mod numbers;
 mod order;
 mod orders;

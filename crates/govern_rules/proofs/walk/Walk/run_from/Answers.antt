@@ -1,4 +1,4 @@
-use Rattle.std.proofs.Common.{◌≡◌, ◌+◌, List, length, drop, sym, ap, subst, ◌∙◌, arith, rules}
+use Rattle.std.proofs.Common.{◌≡◌, ◌+◌, List, drop, sym, subst, arith, rules}
 use Rattle.govern_rules.specs.Walks.{IsRunFrom}
 use Rattle.govern_rules.specs.declared.link.Link.{Link}
 use Rattle.govern_rules.proofs.Walking.{run-later}
