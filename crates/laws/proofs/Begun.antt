@@ -1,5 +1,5 @@
 -- On the connection that a part is about a wait begins, goes on and ends exactly where it is to.
-use Rattle.std.proofs.Common.{ℕ, ◌+◌, ◌%◌, ◌≡◌, Bool, true, false, not, ◌&&◌, ◌||◌, ◌==◌, if◌then◌else◌, [], find, Option, Some, None, Result, Ok, Err, refl, sym, ap, ◌∙◌, subst, eqb-true}
+use Rattle.std.proofs.Common.{ℕ, ◌+◌, ◌%◌, ◌≡◌, Bool, true, false, not, ◌&&◌, ◌||◌, ◌==◌, if◌then◌else◌, [], find, Option, Some, None, Result, Ok, Err, refl, sym, ap, ◌∙◌, subst, eq-eqb, eqb-true}
 use Rattle.std.proofs.lemmas.Bool.{false≢true}
 use Rattle.conn_state.specs.Moves.{agreed_inbound, agreed_outbound, awakened, connected, expired, released}
 use Rattle.conn_state.specs.Use.{has_id, is_acquirable, is_dialing_phase, is_for_remote, is_greeting_phase, is_live, is_negotiated, runs, some_runs, with_responder, agreed_sharing}
@@ -17,17 +17,21 @@ use Rattle.net_base.specs.declared.connection.Grace.{Grace}
 use Rattle.net_base.specs.declared.connection.Grace.TheVariants.{Off, ForRemote, ForLocal}
 use Rattle.net_base.specs.declared.connection.Phase.{Phase}
 use Rattle.net_base.specs.declared.connection.Phase.TheVariants.{Dialing, Greeting, Negotiated, Closing}
+use Rattle.net_base.specs.declared.timer.Deadline.{Deadline}
 use Rattle.net_base.specs.declared.timer.Kind.{Kind}
 use Rattle.net_base.specs.declared.timer.Kind.TheVariants as kind
 use Rattle.remote_watch.specs.Watch.{watched}
 use Rattle.remote_watch.specs.declared.seen.Seen.{Seen}
 use Rattle.machine.specs.Connections.{closing_entry}
+use Rattle.machine.specs.Deadlines.{fires_as, fires}
+use Rattle.machine.specs.Effect.{on_entry}
 use Rattle.machine.specs.Greeting.{role_of}
 use Rattle.machine.specs.Machine.{Machine, Entry, entry_at}
 use Rattle.machine.specs.Own.{own_info}
 use Rattle.machine.specs.Replies.{owing, paid}
 use Rattle.laws.specs.Acts.{Act, fires_one, carries, ends_dial, stores, handles_item, ends_stream, is_closed, does}
 use Rattle.laws.specs.Begun.{is_kind, is_reply_on, begun_where, ended_where, wait_fired, wait_ordered, wait_agreed, wait_asked, wait_handled, wait_after, WhereStays, WaitsBegin}
+use Rattle.laws.specs.Moments.{IsOverAfter}
 use Rattle.laws.specs.Parts.{IsNext}
 use Rattle.laws.specs.Untouched.{is_about, IsAsItWas}
 use Rattle.laws.specs.Waits.{until_gone, until_unused, until_paid, until_of, until_in, until_at}
@@ -371,3 +375,29 @@ waits-begin act m next found cid own = by_entry (entry_at cid m) refl
     by_entry : (o : Option Entry) → entry_at cid m ≡ o → WhereStays (λ x y. (sort : Kind) → until_of sort y ≡ wait_after act sort x y m) o after
     by_entry None is = tt
     by_entry (Some e) is = by_after e is after (part-becomes act m found cid e own is)
+
+-- ---- what has fired is over
+
+fired-over : (fired : Kind) (e : Entry) (m : Machine) (o : Option Entry) → IsAsItWas (turned_by_kind fired e m) o → until_in fired o ≡ None
+fired-over fired e m None becomes = refl
+fired-over kind.Handshake e m (Some f) becomes = absurd cc
+fired-over kind.Grace e m (Some f) becomes = by_local e.facts.local becomes
+  where
+    by_local : (b : Bool) → Some (if b then record e { facts = expired e.facts } else closing_entry m e) ≡ Some f → until_of kind.Grace f ≡ None
+    by_local true same = let it : record e { facts = expired e.facts } ≡ f = cc in ap (until_of kind.Grace) (sym it)
+    by_local false same = let it : closing_entry m e ≡ f = cc in ap (until_of kind.Grace) (sym it)
+fired-over kind.TimeWait e m (Some f) becomes = absurd cc
+fired-over kind.Reply2 e m (Some f) becomes = absurd cc
+fired-over kind.Reply8 e m (Some f) becomes = absurd cc
+fired-over kind.Reply10 e m (Some f) becomes = absurd cc
+
+fires-over : (d : Deadline) (m : Machine) → IsOrdered m → until_at d.kind d.cid.0 (fires d m).machine ≡ None
+fires-over d m h = by_entry (entry_at d.cid.0 m) refl
+  where
+    by_entry : (o : Option Entry) → entry_at d.cid.0 m ≡ o → until_at d.kind d.cid.0 (fires d m).machine ≡ None
+    by_entry None is = subst (λ o. until_at d.kind d.cid.0 (on_entry o (fires_as d.kind) m).machine ≡ None) (sym is) (ap (until_in d.kind) is)
+    by_entry (Some e) is = fired-over d.kind e m (entry_at d.cid.0 (fires d m).machine) (part-becomes (fires_one d) m h d.cid.0 e (eq-eqb d.cid.0 d.cid.0 refl) is)
+
+pub over-after : (act : Act) (m : Machine) → Finds act m → IsOverAfter act (does act m).machine
+over-after (fires_one d) m found = fires-over d m found
+over-after other m found = tt

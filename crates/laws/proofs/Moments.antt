@@ -3,12 +3,8 @@ use Rattle.std.proofs.Common.{ℕ, zero, suc, ◌<◌, ◌≡◌, Bool, true, fa
 use Rattle.std.specs.Option.{option_map}
 use Rattle.std.proofs.lemmas.Bool.{cond_both}
 use Rattle.std.proofs.lemmas.List.Elements.{All-nil, All-contains, Contains-append_left, Contains-append_right}
-use Rattle.conn_state.specs.Moves.{expired}
 use Rattle.conn_state.specs.Use.{has_id}
-use Rattle.net_base.specs.declared.action.Action.TheVariants.{Close}
 use Rattle.net_base.specs.declared.action.CloseCause.{CloseCause}
-use Rattle.net_base.specs.declared.action.CloseCause.TheVariants.{Unused, Fault}
-use Rattle.net_base.specs.declared.action.FaultKind.TheVariants.{HandshakeWait, ReplyWait}
 use Rattle.net_base.specs.declared.connection.Grace.{Grace}
 use Rattle.net_base.specs.declared.connection.Grace.TheVariants.{Off, ForRemote, ForLocal}
 use Rattle.net_base.specs.declared.connection.Phase.{Phase}
@@ -17,14 +13,13 @@ use Rattle.net_base.specs.declared.timer.Deadline.{Deadline}
 use Rattle.net_base.specs.declared.timer.Kind.{Kind}
 use Rattle.net_base.specs.declared.timer.Kind.TheVariants as kind
 use Rattle.timer_queue.specs.Timers.{timer}
-use Rattle.machine.specs.Connections.{with_entry, without_entry, entry_turns, ending, closing_entry}
-use Rattle.machine.specs.Deadlines.{deadlines, deadlines_of, phase_deadlines, grace_deadlines, reply_deadline, due, fires_as, fires}
-use Rattle.machine.specs.Effect.{unused, tells, then_do, as_move, on_entry}
+use Rattle.machine.specs.Connections.{with_entry, without_entry, ending}
+use Rattle.machine.specs.Deadlines.{deadlines, deadlines_of, phase_deadlines, grace_deadlines, reply_deadline, due}
+use Rattle.machine.specs.Effect.{unused}
 use Rattle.machine.specs.Machine.{Machine, Entry, Owed, entry_at}
 use Rattle.machine.specs.Replies.{reply_on, is_owed_on}
-use Rattle.laws.specs.Acts.{Act, fires_one, does}
 use Rattle.laws.specs.Laws.{DeadlinesAhead}
-use Rattle.laws.specs.Moments.{WaitsAhead, IsOverAfter}
+use Rattle.laws.specs.Moments.{WaitsAhead}
 use Rattle.laws.specs.Waits.{until_greeted, until_gone, until_unused, until_paid, until_of, until_in, until_at}
 use Rattle.laws.specs.Whole.{IsOwing, IsOrdered}
 use Rattle.laws.proofs.Firing.{all_one, all-deadlines_of, Due, due_of}
@@ -187,36 +182,3 @@ pub turned-found : (e new : Entry) (m : Machine) → new.facts.cid ≡ e.facts.c
 turned-found e new m same =
     replaced e.facts.cid.0 new m.connections
     ∙ ap (λ b. if b then option_map (λ x. new) (entry_at e.facts.cid.0 m) else entry_at e.facts.cid.0 m) (eq-eqb new.facts.cid.0 e.facts.cid.0 (ap (λ c. c.0) same))
-
-fired-over : (sort : Kind) (e : Entry) (m : Machine) → until_at sort e.facts.cid.0 (fires_as sort e m).machine ≡ None
-fired-over kind.Handshake e m = ap (until_in kind.Handshake) (ending-none (Fault HandshakeWait) e m)
-fired-over kind.Grace e m = by_local e.facts.local
-  where
-    turned : (new : Entry) → new.facts.cid ≡ e.facts.cid → until_of kind.Grace new ≡ None → until_at kind.Grace e.facts.cid.0 (with_entry new m) ≡ None
-    turned new same off = ap (until_in kind.Grace) (turned-found e new m same) ∙ by_found (entry_at e.facts.cid.0 m)
-      where
-        by_found : (o : Option Entry) → until_in kind.Grace (option_map (λ x. new) o) ≡ None
-        by_found None = refl
-        by_found (Some f) = off
-
-    by_local : (b : Bool) → until_at kind.Grace e.facts.cid.0 (if b then entry_turns e (record e { facts = expired e.facts }) m
-        else as_move (unused e.facts.cid.0) m (then_do (tells (Close e.facts.cid Unused ∷ []) m) (entry_turns e (closing_entry m e)))).machine ≡ None
-    by_local true = turned (record e { facts = expired e.facts }) refl refl
-    by_local false = turned (closing_entry m e) refl refl
-fired-over kind.TimeWait e m = ap (until_in kind.TimeWait) (gone-none e.facts.cid.0 m)
-fired-over kind.Reply2 e m = ap (until_in kind.Reply2) (ending-none (Fault ReplyWait) e m)
-fired-over kind.Reply8 e m = ap (until_in kind.Reply8) (ending-none (Fault ReplyWait) e m)
-fired-over kind.Reply10 e m = ap (until_in kind.Reply10) (ending-none (Fault ReplyWait) e m)
-
-fires-over : (d : Deadline) (m : Machine) → until_at d.kind d.cid.0 (fires d m).machine ≡ None
-fires-over d m = by_entry (entry_at d.cid.0 m) refl
-  where
-    by_entry : (o : Option Entry) → entry_at d.cid.0 m ≡ o → until_at d.kind d.cid.0 (on_entry o (fires_as d.kind) m).machine ≡ None
-    by_entry None is = ap (until_in d.kind) is
-    by_entry (Some e) is =
-        let own : e.facts.cid.0 ≡ d.cid.0 = eqb-true e.facts.cid.0 d.cid.0 (find_some (λ x. has_id d.cid.0 x.facts) m.connections e is).passes in
-        subst (λ c. until_at d.kind c (fires_as d.kind e m).machine ≡ None) own (fired-over d.kind e m)
-
-pub over-after : (act : Act) (m : Machine) → IsOverAfter act (does act m).machine
-over-after (fires_one d) m = fires-over d m
-over-after other m = tt

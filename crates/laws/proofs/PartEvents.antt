@@ -130,7 +130,7 @@ items-parts event cid fed (item ∷ items) m f =
     first_part event (handles_item cid item) (map (handles_item cid) items ++ ends_stream cid fed.state.fault ∷ []) m tt tt f.ordered
     (accounted-part event m effect t.accounted)
     (items-parts event cid fed items effect.machine
-    (record { ordered = t.ordered; within = trimmed-within IsLawful m effect t; open_ = handles-open cid item m f.open_ }))
+    (record { ordered = t.ordered; within = trimmed-within IsLawful m effect t; open_ = handles-open cid item m f.ordered f.open_ }))
 
 fed-parts : (event : Event) (fed : FedBy) (m : Machine) (e : Entry) (k : ℕ) → IsOrdered m → counted_in m ≤ m.settings.hard → StandsAt m.connections k e →
     is_live e.facts ≡ true → AreLawful event (acts_fed fed e) m

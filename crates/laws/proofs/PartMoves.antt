@@ -23,9 +23,8 @@ use Rattle.laws.proofs.Lists.{all-placed}
 use Rattle.laws.proofs.Admitted.{admits-right}
 use Rattle.laws.proofs.Agreed.{agrees-right}
 use Rattle.laws.proofs.BackOff.{Knows, fails-only, remembers}
-use Rattle.laws.proofs.Begun.{waits-begin}
+use Rattle.laws.proofs.Begun.{over-after, waits-begin}
 use Rattle.laws.proofs.Goes.{goes-where}
-use Rattle.laws.proofs.Moments.{over-after}
 use Rattle.laws.proofs.Responders.{responds-right}
 use Rattle.laws.proofs.OpenEnds.{uncaused, opens-once}
 use Rattle.laws.proofs.RootsAsked.{asks-right}
@@ -129,7 +128,7 @@ lawful-part event act m next order found h = record {
   begins = waits-begin act m next found;
   rest = leaves-rest act m found;
   sets = is-set act m found;
-  over = over-after act m;
+  over = over-after act m found;
   goes = goes-where act m;
   asks = asks-right act m;
   admits = admits-right act m found;
