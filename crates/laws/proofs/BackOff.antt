@@ -58,7 +58,7 @@ use Rattle.laws.specs.Acts.{Act, fires_one, carries, ends_dial, handles_item, en
 use Rattle.laws.specs.AtMoves.{some_connection, is_failure, FailsWhere}
 use Rattle.laws.specs.BackOff.{IsRemembered, WhereBoth, AllRemembered, OthersRemembered, IsAsked, IsTaken, RemembersByOrder, RemembersBeside, Remembers, IsSpared, FailsOnly}
 use Rattle.laws.specs.Sound.{IsOrderly}
-use Rattle.laws.specs.Whole.{IsShaped, IsOrdered}
+use Rattle.laws.specs.Steady.{IsShaped, IsOrdered}
 use Rattle.laws.proofs.Addresses.{same_address-self, same_address-true}
 use Rattle.laws.proofs.CarriedOut.{changed-orderly, treats-book}
 use Rattle.laws.proofs.Entries.{turned-orderly}

@@ -35,7 +35,7 @@ use Rattle.laws.specs.Moments.{IsOverAfter}
 use Rattle.laws.specs.Parts.{IsNext}
 use Rattle.laws.specs.Untouched.{is_about, IsAsItWas}
 use Rattle.laws.specs.Waits.{until_gone, until_unused, until_paid, until_of, until_in, until_at}
-use Rattle.laws.specs.Whole.{IsShaped, IsOwing, IsOrdered}
+use Rattle.laws.specs.Steady.{IsShaped, IsOwing, IsOrdered}
 use Rattle.laws.proofs.Lists.{FoundIn, find_some, All-stands}
 use Rattle.laws.proofs.Shapes.{greeting-unnegotiated}
 use Rattle.laws.proofs.Talks.{seen-known, woken-runs, runs-some}

@@ -64,7 +64,7 @@ use Rattle.machine.specs.Talking.{replies, stops_if, serves, begins, takes_reque
 use Rattle.laws.specs.Acts.{Act, shows, fires_one, asks_for_roots, carries, connects, ends_dial, stores, handles_item, ends_stream, is_closed, sets_targets, sets_big_targets, sets_groups, sets_roots, makes_ordinary, provides, provides_big, does}
 use Rattle.laws.specs.Ends.{protocol_fault, causes_of_verdict, offered, causes_of_message, causes_to_acceptor, side_of, causes_to_dialer, causes_of_greeting, fault_of_request, is_intersection, is_cookie, are_so_many, is_answer, fault_of_answer, fault_of, causes_of_fault, causes_of_item, kind_of_cut, causes_of_cut, causes_of_kind, causes_of_crossing, ends_on, ends_due, is_pruned, but_pruned, pruned_in}
 use Rattle.laws.specs.CarriedOut.{IsOneMove}
-use Rattle.laws.specs.Told.{End, ended_by, ends_in}
+use Rattle.laws.specs.InActions.{End, ended_by, ends_in}
 use Rattle.laws.proofs.ToldMoves.{turns_at-moves}
 use Rattle.laws.proofs.Lawful.{lost_by-quiet, lost-quiet, comes-providing}
 use Rattle.laws.proofs.Handshakes.{answer-quiet}

@@ -21,7 +21,7 @@ use Rattle.machine.specs.Machine.{Machine, Entry, counted_in, entry_at}
 use Rattle.machine.specs.Peers.{peer_at, turns_at, peer_changes, peer_becomes}
 use Rattle.machine.specs.Replies.{owing}
 use Rattle.laws.specs.AtMoves.{some_connection}
-use Rattle.laws.specs.Whole.{IsShaped, ArePeersApart, IsOrdered}
+use Rattle.laws.specs.Steady.{IsShaped, ArePeersApart, IsOrdered}
 use Rattle.laws.proofs.Addresses.{same_address-true}
 use Rattle.laws.proofs.BackOff.{trim-peers, idle-unmissed, turned-is}
 use Rattle.laws.proofs.CarriedOut.{changed-orderly}

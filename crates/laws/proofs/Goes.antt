@@ -21,7 +21,7 @@ use Rattle.machine.specs.Peers.{peer_at, turns_at, peer_fails}
 use Rattle.laws.specs.Acts.{Act, ends_dial, is_closed, does}
 use Rattle.laws.specs.CarriedOut.{WhereLive}
 use Rattle.laws.specs.Goes.{IsGone, WhereDialing, GoesWhere}
-use Rattle.laws.specs.Told.{names_by, names_in}
+use Rattle.laws.specs.InActions.{names_by, names_in}
 use Rattle.laws.proofs.Lawful.{lost-quiet}
 use Rattle.laws.proofs.Lists.{find_some}
 use Rattle.laws.proofs.Moments.{gone-none}

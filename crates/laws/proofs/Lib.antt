@@ -17,7 +17,7 @@ mod Finds
 mod Failures
 mod Shapes
 mod Effects
-pub mod Carrying
+pub mod OrderNeeds
 mod Chosen
 mod Admitted
 mod Sends

@@ -21,7 +21,7 @@ use Rattle.machine.specs.Replies.{reply_on, is_owed_on}
 use Rattle.laws.specs.Laws.{DeadlinesAhead}
 use Rattle.laws.specs.Moments.{WaitsAhead}
 use Rattle.laws.specs.Waits.{until_greeted, until_gone, until_unused, until_paid, until_of, until_in, until_at}
-use Rattle.laws.specs.Whole.{IsOwing, IsOrdered}
+use Rattle.laws.specs.Steady.{IsOwing, IsOrdered}
 use Rattle.laws.proofs.Firing.{all_one, all-deadlines_of, Due, due_of}
 use Rattle.laws.proofs.Lawful.{lost_by-quiet}
 use Rattle.laws.proofs.Lists.{StandsAt, stands_before, OnePasses, FoundIn, find_some, find_only, All-stands, all-standing}

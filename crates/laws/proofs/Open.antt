@@ -23,7 +23,7 @@ use Rattle.machine.specs.Replies.{paid}
 use Rattle.machine.specs.Stream.{handled, handles}
 use Rattle.laws.specs.Acts.{handles_item}
 use Rattle.laws.specs.Untouched.{IsAsItWas}
-use Rattle.laws.specs.Whole.{IsOrdered}
+use Rattle.laws.specs.Steady.{IsOrdered}
 use Rattle.laws.proofs.Remains.{turned-found}
 use Rattle.laws.proofs.Turned.{taken, turned_by_verdict, turned_by_message, begun, stopped, turned_by_request, turned_by_item, part-becomes}
 

@@ -60,7 +60,7 @@ use Rattle.laws.specs.OpenEnds.{is_open_entry, is_open_at, is_dialing_entry, goe
 use Rattle.laws.specs.Parts.{IsNext}
 use Rattle.laws.specs.Stages.{stage_of_phase, stage_of, stage_at, causes_by, causes_in, IsOneEnd}
 use Rattle.laws.specs.Telling.{IsTold}
-use Rattle.laws.specs.Told.{ended_by, ends_in}
+use Rattle.laws.specs.InActions.{ended_by, ends_in}
 use Rattle.laws.specs.Waits.{until_gone, until_at, until_in}
 use Rattle.laws.proofs.Handshakes.{answer-machine}
 use Rattle.laws.proofs.Lawful.{comes-machine, lost_by-quiet, lost-quiet, stands-found}

@@ -28,7 +28,7 @@ use Rattle.machine.specs.Stream.{handles}
 use Rattle.laws.specs.Acts.{Act, shows, fires_one, asks_for_roots, carries, connects, ends_dial, stores, handles_item, ends_stream, is_closed, sets_targets, sets_big_targets, sets_groups, sets_roots, makes_ordinary, provides, provides_big, does, fired_from, fired, orders_of, acts_at_moment, acts_fed, acts_of_bytes, acts_of_answer, acts}
 use Rattle.laws.specs.AtMoves.{IsLawful, is_known, is_provided_by, fed_on}
 use Rattle.laws.specs.Parts.{IsAccounted, IsLawfulEvent}
-use Rattle.laws.specs.Whole.{IsSteady, IsOrdered}
+use Rattle.laws.specs.Steady.{IsSteady, IsOrdered}
 use Rattle.laws.proofs.Addresses.{same_address-self, same_address-true}
 use Rattle.laws.proofs.CarriedOut.{carried-out}
 use Rattle.laws.proofs.Chain.{orders-chain, parts-chain}

@@ -21,7 +21,7 @@ use Rattle.machine.specs.Peers.{peer_at}
 use Rattle.laws.specs.Acts.{Act, carries, handles_item, does}
 use Rattle.laws.specs.Ends.{is_candidate_entry, was_used_at, ends_due, IsPrunedByOrder, IsPrunedIn}
 use Rattle.laws.specs.Sound.{IsOrderly}
-use Rattle.laws.specs.Told.{End}
+use Rattle.laws.specs.InActions.{End}
 use Rattle.laws.proofs.CarriedOut.{changed-orderly}
 use Rattle.laws.proofs.Due.{end_of, woken, cooled, EndsAs, ChosenByOrder, ChosenBy, part-ends}
 use Rattle.laws.proofs.Entries.{turned-orderly}

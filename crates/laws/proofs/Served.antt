@@ -38,7 +38,7 @@ use Rattle.laws.specs.Laws.{is_local}
 use Rattle.laws.specs.Responders.{WhereSeen, WhereAsked, WhereThere}
 use Rattle.laws.specs.Served.{Sent, sent_by, sent_in, is_tellable, MayBeTold, most_in, messages_of, IsAnswered, AnswersRight}
 use Rattle.laws.specs.Untouched.{IsAsItWas}
-use Rattle.laws.specs.Whole.{IsOrdered}
+use Rattle.laws.specs.Steady.{IsOrdered}
 use Rattle.laws.proofs.Addresses.{same_address-self}
 use Rattle.laws.proofs.Lists.{find_some, any-at, all-weaker}
 use Rattle.laws.proofs.Locals.{not_local-no_member}

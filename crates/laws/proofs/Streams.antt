@@ -15,7 +15,7 @@ use Rattle.machine.specs.Effect.{Effect, then_do, for_each, on_entry, on_connect
 use Rattle.machine.specs.Connections.{entry_turns}
 use Rattle.machine.specs.Stream.{handled_in, handled, handles, faulted, fed_with, feeds, comes_in, bytes_come_in}
 use Rattle.laws.specs.AtMoves.{fed_on, IsLawful}
-use Rattle.laws.specs.Whole.{IsOrdered}
+use Rattle.laws.specs.Steady.{IsOrdered}
 use Rattle.laws.proofs.Handshakes.{greets-trimmed}
 use Rattle.laws.proofs.Lawful.{turns-obeys}
 use Rattle.laws.proofs.Lists.{StandsAt, find_some}

@@ -45,7 +45,7 @@ use Rattle.machine.specs.Talking.{stops_if, serves, begins, takes_requests, aske
 use Rattle.laws.specs.Acts.{Act, fires_one, carries, ends_dial, stores, handles_item, ends_stream, is_closed, does}
 use Rattle.laws.specs.Sound.{HasGivenId}
 use Rattle.laws.specs.Untouched.{address_of, is_with, is_about, IsAsItWas}
-use Rattle.laws.specs.Whole.{IsShaped, IsOrdered}
+use Rattle.laws.specs.Steady.{IsShaped, IsOrdered}
 use Rattle.laws.proofs.Addresses.{same_address-true}
 use Rattle.laws.proofs.CarriedOut.{used_one}
 use Rattle.laws.proofs.Goes.{vanishes-none}

@@ -58,7 +58,7 @@ use Rattle.machine.specs.Talking.{stops_if, serves, begins, takes_requests, aske
 use Rattle.laws.specs.Acts.{Act, shows, fires_one, asks_for_roots, carries, connects, ends_dial, stores, handles_item, ends_stream, is_closed, sets_targets, sets_big_targets, sets_groups, sets_roots, makes_ordinary, provides, provides_big, does}
 use Rattle.laws.specs.CarriedOut.{IsUnset, IsSet}
 use Rattle.laws.specs.Sound.{IsOrderly}
-use Rattle.laws.specs.Whole.{IsOrdered}
+use Rattle.laws.specs.Steady.{IsOrdered}
 use Rattle.laws.specs.Untouched.{address_of, is_with, is_about, has_bytes, may_close, IsAsItWas, KeepsBytes, LeavesRest}
 use Rattle.laws.specs.Waits.{until_of, until_in, until_at, until_unused, length_of, IsWait, WaitsRight}
 use Rattle.laws.proofs.Handshakes.{answer-machine}

@@ -13,7 +13,7 @@ use Rattle.machine.specs.Effect.{Effect}
 use Rattle.machine.specs.Machine.{Machine, Entry, counted_in, entry_at}
 use Rattle.laws.specs.Acts.{Act, connects}
 use Rattle.laws.specs.AtMoves.{some_connection, OnEntry}
-use Rattle.laws.specs.Told.{Given}
+use Rattle.laws.specs.InActions.{Given}
 
 -- ---- what is told
 

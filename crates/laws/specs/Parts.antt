@@ -30,7 +30,7 @@ use Rattle.laws.specs.Ordered.{IsDueOrder}
 use Rattle.laws.specs.Moments.{IsOverAfter}
 use Rattle.laws.specs.Untouched.{LeavesRest}
 use Rattle.laws.specs.Waits.{until_at, WaitsRight}
-use Rattle.laws.specs.Told.{ends_in}
+use Rattle.laws.specs.InActions.{ends_in}
 
 -- ---- what a part does
 

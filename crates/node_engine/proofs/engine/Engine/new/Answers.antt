@@ -1,7 +1,7 @@
 use Rattle.std.proofs.Common.{◌≡◌, ap, sym, subst, ◌∙◌, arith}
 use Rattle.machine.specs.Machine.{Machine, start_of}
 use Rattle.laws.specs.Records.{IsLawfulRecord}
-use Rattle.laws.specs.Whole.{IsSteady}
+use Rattle.laws.specs.Steady.{IsSteady}
 use Rattle.laws.proofs.PeerLaws.{steady-lawful}
 use Rattle.laws.proofs.WholeRuns.{start-steady}
 use Rattle.node_engine.proofs.engine.Engine.new.Goals as goal

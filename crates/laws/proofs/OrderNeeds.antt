@@ -34,8 +34,8 @@ use Rattle.machine.specs.Replies.{owing}
 use Rattle.machine.specs.Connections.{with_entry, without_entry, is_missed, lost, candidates_in, trim, says_done, release, acquire, dial, ending}
 use Rattle.machine.specs.Govern.{link_of, is_used_at, on_used, asks_peer, activates, deactivates, promoted_at, carries_out, asks_roots, ordinary_rules, big_rules, rules, view_of}
 use Rattle.laws.specs.AtMoves.{IsLawful}
-use Rattle.laws.specs.Carrying.{MayGovern, IsFree, MayCarry, MayAll, MayFollow}
-use Rattle.laws.specs.Whole.{AreApart, IsOrdered}
+use Rattle.laws.specs.OrderNeeds.{MayGovern, IsFree, MayCarry, MayAll, MayFollow}
+use Rattle.laws.specs.Steady.{AreApart, IsOrdered}
 use Rattle.laws.proofs.Addresses.{same_address-true}
 use Rattle.laws.proofs.Chosen.{chosen, chosen-apart, chosen-all, groups_picks-apart, groups_picks-all, map-groups}
 use Rattle.laws.proofs.Entries.{turned-connections}
