@@ -161,3 +161,10 @@ same_timer-at (Some c) (Some d) e = ap Some (timer_order.same_is c d (sym (teste
 
 pub set_same : (inner : List (Option Deadline)) (k : ℕ) (w d : Option Deadline) → w ≡ get_or inner k d → inner ≡ set inner k w
 set_same inner k w d e = sym (ap (set inner k) e ∙ set-get_or inner k d)
+
+-- a row with the same first timer changes no leaf
+pub leaves-stay : (rows : List Row) (new old : Row) (place : ℕ) → old ≡ get_or rows place old → first_in new ≡ first_in old →
+    nodes_of (set rows place new) ≡ nodes_of rows
+leaves-stay [] new old place here same = refl
+leaves-stay (r ∷ rs) new old zero here same = ap (λ o. o ∷ nodes_of rs) (same ∙ ap first_in here)
+leaves-stay (r ∷ rs) new old (suc place) here same = ap (λ l. first_in r ∷ l) (leaves-stay rs new old place here same)

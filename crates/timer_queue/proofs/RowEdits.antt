@@ -1,9 +1,10 @@
 -- The rows, after an edit.
-use Rattle.std.proofs.Common.{◌≡◌, ℕ, ◌+◌, ◌<◌, ◌&&◌, Bool, true, false, cond, List, [], ◌∷◌, length, set, slice_get, map, Option, Some, None, is_some, refl, sym, ap, subst, ◌∙◌, inl, inr, arith}
+use Rattle.std.proofs.Common.{◌≡◌, ℕ, ◌+◌, ◌-◌, ◌<◌, ◌&&◌, Bool, true, false, cond, List, [], ◌∷◌, length, set, slice_get, map, Option, Some, None, is_some, refl, sym, ap, subst, ◌∙◌, inl, inr, arith}
 use Rattle.std.specs.List.{insert, list_any}
 use Rattle.std.specs.Bool.{then_some}
 use Rattle.std.proofs.lemmas.Bool.{cases_Bool, false≢true}
 use Rattle.std.proofs.lemmas.List.{length-map}
+use Rattle.std.proofs.lemmas.Option.{get_or_from_slice_get}
 use Rattle.net_base.specs.declared.connection.Cid.{Cid}
 use Rattle.net_base.specs.declared.timer.Kind.{Kind}
 use Rattle.net_base.specs.declared.timer.Kind.TheVariants.{Handshake, Grace, TimeWait, Reply2, Reply8, Reply10}
@@ -14,7 +15,7 @@ use Rattle.timer_queue.specs.Timers.{same_cid, cid_below, same_kind}
 use Rattle.timer_queue.specs.declared.moments.Moments.{Moments}
 use Rattle.timer_queue.specs.declared.rows.Row.{Row}
 use Rattle.timer_queue.proofs.Orders.{cid_order, same_cid-is, same_cid-turned}
-use Rattle.timer_queue.proofs.Rising.{find-place, any-find, map-replaced, length-put_in, IsRising-map, IsRising-from_map, IsRising-put_in, insert-place, set-place, place-inside, find-put_in, find-replaced, find-replaced_other}
+use Rattle.timer_queue.proofs.Rising.{is_under, partitioned, place_is, find-place, any-find, map-replaced, length-put_in, IsRising-map, IsRising-from_map, IsRising-put_in, insert-place, set-place, place-inside, find-put_in, find-replaced, find-replaced_other}
 
 abbrev pub cid_of : Row → Cid
 cid_of r = r.cid
@@ -197,3 +198,13 @@ pub missing : (cid : Cid) (rows seen : List Row) (answer : Option ℕ) → seen 
 missing cid rows seen answer same told none =
     place_missing (row_at cid rows) (place_at cid rows)
     (sym (told ∙ ap (λ rs. then_some (is_some (row_at cid rs)) (place_at cid rs)) same) ∙ none)
+
+-- an id above that of the last is above all
+pub all_under : (cid : Cid) (last : Row) (rows : List Row) → AreRising rows → slice_get rows (length rows - 1) ≡ Some last →
+    cid_below last.cid cid ≡ true → place_at cid rows ≡ length rows
+all_under cid last rows rises here under =
+    sym (place_is (is_under cid_below same_cid cid_order cid_of cid) rows (length rows) (omega arith) (
+      λ k d low inside. partitioned cid_below same_cid cid_order cid_of cid rows rises k (length rows - 1) d (omega (arith, inside)) (omega (arith, inside))
+          (ap (λ (r : Row). cid_below r.cid cid) (get_or_from_slice_get rows (length rows - 1) last d here) ∙ under),
+      λ k d above inside. absurd (omega (arith, above, inside)),
+    ))

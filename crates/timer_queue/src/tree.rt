@@ -119,12 +119,20 @@ fn made(inner: &[Option<Deadline>], rows: &[Row], place: usize) -> Option<Deadli
 }
 
 // What is to stand above a node, at which a timer stands, or none.
-fn above(inner: &[Option<Deadline>], rows: &[Row], place: usize, value: Option<Deadline>) -> Option<Deadline>
+fn above(
+    inner: &[Option<Deadline>],
+    rows: &[Row],
+    place: usize,
+    value: Option<Deadline>,
+) -> Option<Deadline>
     requires low { 1 < place }
     requires inside { place < 2 * length inner.now }
     requires value { value ≡ node inner.now (nodes_of rows.now) place }
     ensures { result ≡ made inner.now (nodes_of rows.now) (place / 2) }
 {
-    let beside = if place % 2 == 0 { place + 1 } else { place - 1 };
-    sooner(value, node(inner, rows, beside))
+    if place % 2 == 0 {
+        sooner(value, node(inner, rows, place + 1))
+    } else {
+        sooner(node(inner, rows, place - 1), value)
+    }
 }

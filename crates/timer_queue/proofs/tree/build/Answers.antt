@@ -18,11 +18,11 @@ loop-place-preserved c =
     let leaves = nodes_of c.args.rows.now in
     let k = c.loop-place.place - 1 in
     let next : suc k ≡ c.loop-place.place = omega (arith, c.loop-place-test.true) in
-    let long = ap length c.renew.ensures.inner ∙ length-set inner k (made inner leaves k) in
+    let long = ap length c.renew.ensures ∙ length-set inner k (made inner leaves k) in
     record {
       as_long = long ∙ c.loop-place.invariant.as_long;
       within = omega (arith, long, c.loop-place.invariant.within);
-      done = subst (λ l. AreFrom k l leaves) (sym c.renew.ensures.inner)
+      done = subst (λ l. AreFrom k l leaves) (sym c.renew.ensures)
           (one_lower inner leaves k (omega (arith, c.loop-place-test.true)) (omega (arith, c.loop-place-test.true, c.loop-place.invariant.within))
           (subst (λ n. AreFrom n inner leaves) (sym next) c.loop-place.invariant.done));
     }

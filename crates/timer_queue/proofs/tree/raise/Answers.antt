@@ -1,4 +1,4 @@
-use Rattle.std.proofs.Common.{◌≡◌, ◌+◌, ◌-◌, ◌/◌, ◌≤◌, ◌<◌, None, length, get_or, set, refl, subst, sym, ap, arith, ◌∙◌}
+use Rattle.std.proofs.Common.{◌≡◌, ◌+◌, ◌/◌, ◌<◌, None, length, get_or, set, refl, subst, sym, ap, arith, ◌∙◌}
 use Rattle.std.proofs.lemmas.List.{length-set}
 use Rattle.timer_queue.specs.Trees.{made, node, AreOthers, IsTree, nodes_of}
 use Rattle.timer_queue.proofs.Raising.{node-leaf, node-set_same, stepped, stayed, all_above}
