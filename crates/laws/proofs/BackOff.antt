@@ -75,6 +75,7 @@ use Rattle.laws.proofs.Shapes.{local-negotiated}
 use Rattle.laws.proofs.Talks.{replies-machine}
 use Rattle.laws.proofs.Ties.{put_in-elsewhere, none_there, taken-elsewhere, taken-here, turns_at-elsewhere}
 use Rattle.laws.proofs.ToldMoves.{turns_at-connections}
+use Rattle.laws.proofs.WaitsOfParts.{Finds}
 use Rattle.laws.proofs.WholeMoves.{pending-unnegotiated}
 
 -- ---- whoever is there is there still, and remembered as before
@@ -629,12 +630,6 @@ big-still addr m = cond_both (is_wanted_big addr m) (as_move (shared addr) m (pe
 
 -- ---- each act
 
--- what must be known of the machine
-abbrev pub Knows : Act → Machine → Type 0
-Knows (carries order) m = IsOrdered m
-Knows (handles_item cid item) m = IsOrderly m
-Knows other m = Unit {0}
-
 book-remembered : (act : Act) (m : Machine) → (does act m).machine.peers ≡ m.peers → AllRemembered m (does act m).machine
 book-remembered act m same = all-remembered m (does act m).machine (same-still m (does act m).machine same)
 
@@ -659,11 +654,11 @@ closes-treats cid m = beside cid.0 closes m (λ e k s. closes-beside e m)
 ordinary-still : (addr : Addr) (m : Machine) → Still m (does (makes_ordinary addr) m).machine
 ordinary-still addr m = changed-still addr (λ p. record p { big = false }) m (λ p. refl) (λ p. record { failures = refl; not_before = refl; share_next = refl })
 
-pub remembers : (act : Act) (m : Machine) → Knows act m → Remembers act m (does act m).machine
+pub remembers : (act : Act) (m : Machine) → Finds act m → Remembers act m (does act m).machine
 remembers (fires_one d) m known = (fires-treats d m).remembered
 remembers (carries order) m known = orders-remember order m known
 remembers (ends_dial cid opened) m known = (dials-treats cid opened m).remembered
-remembers (handles_item cid item) m known = (items-treat cid item m known).remembered
+remembers (handles_item cid item) m known = (items-treat cid item m known.orderly).remembered
 remembers (ends_stream cid fault) m known = (stream-treats cid fault m).remembered
 remembers (is_closed cid) m known = (closes-treats cid m).remembered
 remembers (makes_ordinary addr) m known = all-remembered m (does (makes_ordinary addr) m).machine (ordinary-still addr m)
@@ -702,11 +697,11 @@ orders-fail (Release addr) m h = remembered-fails m (carries_out (Release addr) 
 orders-fail (Activate addr) m h = remembered-fails m (carries_out (Activate addr) m).machine (orders-remember (Activate addr) m h)
 orders-fail (Deactivate addr) m h = remembered-fails m (carries_out (Deactivate addr) m).machine (orders-remember (Deactivate addr) m h)
 
-pub fails-only : (act : Act) (m : Machine) → Knows act m → FailsOnly m (does act m).machine
+pub fails-only : (act : Act) (m : Machine) → Finds act m → FailsOnly m (does act m).machine
 fails-only (fires_one d) m known = (fires-treats d m).fails
 fails-only (carries order) m known = orders-fail order m known
 fails-only (ends_dial cid opened) m known = (dials-treats cid opened m).fails
-fails-only (handles_item cid item) m known = (items-treat cid item m known).fails
+fails-only (handles_item cid item) m known = (items-treat cid item m known.orderly).fails
 fails-only (ends_stream cid fault) m known = (stream-treats cid fault m).fails
 fails-only (is_closed cid) m known = (closes-treats cid m).fails
 fails-only (makes_ordinary addr) m known = still-fails m (does (makes_ordinary addr) m).machine (ordinary-still addr m)

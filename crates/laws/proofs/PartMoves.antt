@@ -10,7 +10,7 @@ use Rattle.net_base.specs.declared.event.Event.{Event}
 use Rattle.conn_state.specs.Use.{is_negotiated_phase}
 use Rattle.machine.specs.Effect.{Effect, for_each}
 use Rattle.machine.specs.Machine.{Machine, Entry, entry_at}
-use Rattle.laws.specs.Acts.{Act, carries, handles_item, does, parts_from}
+use Rattle.laws.specs.Acts.{Act, does, parts_from}
 use Rattle.laws.specs.AtMoves.{is_negotiated_entry, is_negotiated_at, is_ended_in, is_closed_by, is_up, is_hot_or_asked, is_known, promotes, activates, is_shared_in, is_provided_by}
 use Rattle.laws.specs.CarriedOut.{IsDoneByOrder}
 use Rattle.laws.specs.Parts.{IsNext, IsDone, EndsOnce, IsAccounted, IsLawfulPart}
@@ -22,7 +22,7 @@ use Rattle.laws.proofs.Lawful.{Accounts, IsProviding, ends_same}
 use Rattle.laws.proofs.Lists.{all-placed}
 use Rattle.laws.proofs.Admitted.{admits-right}
 use Rattle.laws.proofs.Agreed.{agrees-right}
-use Rattle.laws.proofs.BackOff.{Knows, fails-only, remembers}
+use Rattle.laws.proofs.BackOff.{fails-only, remembers}
 use Rattle.laws.proofs.Begun.{over-after, waits-begin}
 use Rattle.laws.proofs.Goes.{goes-where}
 use Rattle.laws.proofs.Responders.{responds-right}
@@ -108,11 +108,6 @@ providing-part event m effect p named =
           (λ before. or_left (is_known addr m) (is_shared_in addr effect.moves) before) (λ is. is) (named addr known);
     }
 
-known-of : (act : Act) (m : Machine) → Finds act m → Knows act m
-known-of (carries order) m found = found
-known-of (handles_item cid item) m found = found.orderly
-known-of other m found = tt
-
 pub lawful-part : (event : Event) (act : Act) (m : Machine) → IsNext act m → IsDoneByOrder act m (does act m) → Finds act m → IsAccounted event m (does act m) → IsLawfulPart event (record { act = act; before = m })
 lawful-part event act m next order found h = record {
   accounted = h;
@@ -136,8 +131,8 @@ lawful-part event act m next order found h = record {
   responds = responds-right act m found;
   answers = answers-right act m found;
   sends = sends-right act m;
-  remembers = remembers act m (known-of act m found);
-  fails = fails-only act m (known-of act m found);
+  remembers = remembers act m found;
+  fails = fails-only act m found;
 }
 
 -- ---- one part after the other

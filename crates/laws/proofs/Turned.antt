@@ -139,7 +139,7 @@ turned-becomes e new m same = subst (IsAsItWas (Some new)) (sym (turned-found e 
     by_found None = tt
     by_found (Some f) = refl
 
-ending-becomes : (o : Option Entry) (cause : CloseCause) (e : Entry) (m : Machine) → Becomes o e.facts.cid.0 (ending cause e m).machine
+pub ending-becomes : (o : Option Entry) (cause : CloseCause) (e : Entry) (m : Machine) → Becomes o e.facts.cid.0 (ending cause e m).machine
 ending-becomes o cause e m = gone-becomes o e.facts.cid.0 (ending cause e m).machine (ending-none cause e m)
 
 vanishes-becomes : (o : Option Entry) (e : Entry) (m : Machine) → Becomes o e.facts.cid.0 (vanishes e m).machine
@@ -188,7 +188,7 @@ faulted-becomes (Some fault) e m is = ending-becomes (Some e) (Fault (kind_of fa
 
 -- ---- an item in the handshake
 
-judged-becomes : (v : Verdict) (e : Entry) (m : Machine) → Becomes (turned_by_verdict v e m) e.facts.cid.0 (judged v e m).machine
+pub judged-becomes : (v : Verdict) (e : Entry) (m : Machine) → Becomes (turned_by_verdict v e m) e.facts.cid.0 (judged v e m).machine
 judged-becomes (verdict.Accept agreed) e m = turned-becomes e (record e { facts = agreed_inbound agreed (m.now + m.settings.idle) e.facts }) m refl
 judged-becomes (verdict.Refuse why) e m = ending-becomes None Refused e m
 judged-becomes verdict.Query e m = ending-becomes None Query e m
