@@ -1,7 +1,8 @@
 -- Peers that stand together in the book, and links that do.
-use Rattle.std.proofs.Common.{◌≡◌, ℕ, zero, suc, Bool, true, false, not, List, [], ◌∷◌, length, take, drop, slice_get, Some, is_some, refl, sym, ap, subst, ◌∙◌, inl, inr}
+use Rattle.std.proofs.Common.{◌≡◌, ℕ, zero, suc, ◌≤◌, Bool, true, false, not, List, [], ◌∷◌, length, take, drop, slice_get, Option, Some, None, is_some, refl, sym, ap, subst, ◌∙◌, inl, inr, arith}
 use Rattle.std.specs.List.{AllByRecursion}
-use Rattle.std.proofs.lemmas.Bool.{cases_Bool, false≢true}
+use Rattle.std.specs.Option.{option_to_list}
+use Rattle.std.proofs.lemmas.Bool.{cases_Bool, false≢true, true≢false}
 use Rattle.net_base.specs.Address.{same_address}
 use Rattle.net_base.specs.declared.address.Addr.{Addr}
 use Rattle.net_base.specs.declared.peer.Peer.{Peer}
@@ -42,6 +43,23 @@ first-found addr (p ∷ run) book known there = elim (cases_Bool (same_address p
   | inl same ↦ rw same (sym known.0 ∙ ap (λ a. peer_at a book) (same_address-is p.addr addr same))
   | inr other ↦ absurd (false≢true (rw other at there))
 ]
+
+-- where the first has an address, it is the one with it
+pub first-alone : (addr : Addr) (run : List Peer) → is_some (found_at (λ p. p.addr) addr (slice_get run 0)) ≡ true →
+    take 1 run ≡ option_to_list (found_at (λ p. p.addr) addr (slice_get run 0))
+first-alone addr [] there = absurd (false≢true there)
+first-alone addr (p ∷ run) there = elim (cases_Bool (same_address p.addr addr)) [
+  | inl same ↦ rw same refl
+  | inr other ↦ absurd (false≢true (rw other at there))
+]
+
+pub some-first : (addr : Addr) (run : List Peer) → is_some (found_at (λ p. p.addr) addr (slice_get run 0)) ≡ true → 1 ≤ length run
+some-first addr [] there = absurd (false≢true there)
+some-first addr (p ∷ run) there = omega arith
+
+pub none-listed : (o : Option Peer) → is_some o ≡ false → [] ≡ option_to_list o
+none-listed None h = refl
+none-listed (Some p) h = absurd (true≢false h)
 
 -- ---- links
 

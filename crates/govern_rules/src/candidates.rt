@@ -5,6 +5,7 @@ ghost use Rattle.net_base.specs.Address.{same_address};
 ghost use Rattle.peer_book.specs.Book.{addresses_of, listed_at};
 ghost use Rattle.govern_rules.specs.Search.{suits, lookups};
 
+use crate::nearby::Nearby;
 use crate::search::Search;
 use crate::task::Task;
 use crate::walk::Walk;
@@ -98,7 +99,7 @@ fn take_in(
     Ok(())
 }
 
-// Those with some addresses that suit.
+// Those with some addresses that suit. Peers and links are passed beside the addresses.
 fn found(
     alloc: Global,
     search: &Search,
@@ -107,9 +108,11 @@ fn found(
 ) -> Result<Vec<Peer>, AllocError>
     ensures { IfOk result (λ cands. cands.items ≡ filter (suits search.now) (lookups book.now addrs.now)) }
 {
-    addrs
-        .iter()
-        .filter_map(|addr| book.get(*addr))
-        .filter(|peer| search.suits(peer))
-        .collect(alloc)
+    let mut cands = Vec::new(alloc);
+    let mut walk = search.view.links.walk();
+    let mut nearby = Nearby::new(book);
+    for addr in addrs {
+        take_in(&mut cands, search, &mut walk, nearby.at(*addr))?;
+    }
+    Ok(cands)
 }

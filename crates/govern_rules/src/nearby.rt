@@ -1,4 +1,5 @@
 ghost use Rattle.std.specs.Prelude.{◌≡◌, List, is_some, slice_get};
+ghost use Rattle.std.specs.Option.{option_to_list};
 ghost use Rattle.net_base.specs.declared.peer.Peer.{Peer};
 ghost use Rattle.peer_book.specs.Book.{peer_at};
 ghost use Rattle.peer_book.specs.Order.{found_at};
@@ -36,6 +37,16 @@ impl<'a> Nearby<'a> {
         ensures { result ≡ book.now }
     {
         Nearby { book, run: &[] }
+    }
+
+    // The peer with an address, alone. None where there is none.
+    pub fn at(&mut self, addr: Addr) -> &'a [Peer]
+        ensures value { result.now ≡ option_to_list (peer_at addr self.old) }
+        ensures same { self.new ≡ self.old }
+    {
+        let run = come_to(self.book, self.run, addr);
+        self.run = run;
+        first_at(run, addr)
     }
 
     // Whether there is a peer of a class with an address.
@@ -96,6 +107,17 @@ fn starts_at(run: &[Peer], addr: Addr) -> bool
         Some(peer) => peer.addr.is_same(&addr),
         None => false,
     }
+}
+
+// The first of some peers alone, where it has an address.
+fn first_at(run: &[Peer], addr: Addr) -> &[Peer]
+    ensures { result.now ≡ option_to_list (found_at (λ p. p.addr) addr (slice_get run.now 0)) }
+{
+    if !starts_at(run, addr) {
+        return &[];
+    }
+    let (first, _) = run.split_at(1);
+    first
 }
 
 // Whether the first of some peers has an address and is of a class.
