@@ -15,4 +15,6 @@ pub enum RunEnd {
     Done,
     WriteFault,
     OutOfMemory,
+    /// No engine stepped for the node whose trace was asked for: it is none, an attacker's, or never began.
+    NoTrace,
 }

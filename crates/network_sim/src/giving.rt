@@ -32,9 +32,6 @@ impl<S: Stepper> Network<S> {
             return Ok(());
         };
         self.events = self.events.saturating_add(1);
-        if self.traces(index) {
-            self.trace_event(event, actions.as_slice())?;
-        }
         for action in actions.as_slice() {
             self.act(index, action)?;
         }
@@ -42,11 +39,12 @@ impl<S: Stepper> Network<S> {
     }
 
     fn taken(&mut self, index: usize, event: &Event) -> Result<Option<ActionList>, OutOfMemory> {
+        let alloc = self.alloc;
         let Some(node) = self.nodes.get_mut(index) else {
             return Ok(None);
         };
         match &mut node.seat {
-            Some(seat) => seat.take(event),
+            Some(seat) => seat.take(alloc, event),
             None => Ok(None),
         }
     }

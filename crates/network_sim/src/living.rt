@@ -5,6 +5,7 @@ use crate::happening::Happening;
 use crate::link::Hold;
 use crate::network::Network;
 use crate::seat::Seat;
+use crate::trace::Trace;
 use net_base::{AddrList, Event, Group, GroupList, OutOfMemory, Settings, Targets};
 use network_scenario::{Friends, Words};
 use stepper::Stepper;
@@ -30,9 +31,6 @@ impl<S: Stepper> Network<S> {
             return Ok(());
         };
         self.seat(index, settings)?;
-        if self.traces(index) {
-            self.trace_head(&settings)?;
-        }
         self.hand(index, &Event::Aims(targets))?;
         match friends {
             Some(friends) => self.befriend(index, &friends),
@@ -54,11 +52,26 @@ impl<S: Stepper> Network<S> {
         let Some(means) = self.stock.pop() else {
             return Ok(());
         };
-        let seat = Seat::begin(self.alloc, settings, means)?;
+        let is_traced = self.traces(index);
+        let seat = Seat::begin(self.alloc, settings, means, is_traced)?;
         if let Some(node) = self.nodes.get_mut(index) {
             node.seat = seat;
         }
         Ok(())
+    }
+
+    // The trace of the one that was asked for is kept, in its first life.
+    fn traces(&self, index: usize) -> bool {
+        match self.nodes.get(index) {
+            Some(node) => self.asked.traced == Some(index) && node.life == 1,
+            None => false,
+        }
+    }
+
+    /// The trace that was asked for, where one was begun.
+    pub(crate) fn take_trace(&mut self, index: usize) -> Result<Option<Trace>, OutOfMemory> {
+        self.unseat(index)?;
+        Ok(self.trace.take())
     }
 
     // Sets its local roots, which it draws.
@@ -162,13 +175,24 @@ impl<S: Stepper> Network<S> {
 
     /// A node leaves: its links end, and who waits for it is refused.
     pub(crate) fn leave(&mut self, index: usize) -> Result<(), OutOfMemory> {
+        self.unseat(index)?;
+        self.drop_callers(index)?;
+        self.drop_links(index)
+    }
+
+    // Nothing steps for it any more. Its trace stays, where it was kept.
+    fn unseat(&mut self, index: usize) -> Result<(), OutOfMemory> {
         let Some(node) = self.nodes.get_mut(index) else {
             return Ok(());
         };
         node.is_up = false;
-        node.seat = None;
-        self.drop_callers(index)?;
-        self.drop_links(index)
+        let Some(seat) = node.seat.take() else {
+            return Ok(());
+        };
+        if let Some(trace) = seat.into_trace()? {
+            self.trace = Some(trace);
+        }
+        Ok(())
     }
 
     fn drop_links(&mut self, index: usize) -> Result<(), OutOfMemory> {

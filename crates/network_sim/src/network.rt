@@ -4,6 +4,7 @@ use crate::happening::Happening;
 use crate::link::Link;
 use crate::node::Node;
 use crate::queue::Queue;
+use crate::trace::Trace;
 use io_edge::PieceWriter;
 use net_base::OutOfMemory;
 use network_scenario::{Kind, Role, Scenario};
@@ -33,7 +34,9 @@ pub(crate) struct Network<S: Stepper> {
     pub is_parted: bool,
     /// The link of the one that asks to be accepted.
     pub caller: Option<u64>,
-    /// What is written next.
+    /// The trace that was asked for, once its node has left.
+    pub trace: Option<Trace>,
+    /// What is reported next.
     pub pieces: PieceWriter,
     /// How many events and bytes there were since the last report.
     pub events: u64,
@@ -74,6 +77,7 @@ impl<S: Stepper> Network<S> {
             stock,
             is_parted: false,
             caller: None,
+            trace: None,
             pieces: PieceWriter::new(alloc)?,
             events: 0,
             bytes: 0,

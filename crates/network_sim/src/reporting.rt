@@ -161,9 +161,6 @@ impl<S: Stepper> Network<S> {
 
     /// At the end: of each kind, how many have reached which target, and in which time.
     pub(crate) fn report_reached(&mut self) -> Result<(), OutOfMemory> {
-        if self.asked.traced.is_some() {
-            return self.pieces.push_line(b"end");
-        }
         for place in 0..self.scenario.kinds.len() {
             self.report_reached_of(place)?;
         }

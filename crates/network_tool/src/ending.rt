@@ -17,6 +17,7 @@ impl Ending {
     pub(crate) fn code(&self) -> u8 {
         match self {
             Ending::Ran(RunEnd::Done) => 0,
+            Ending::Ran(RunEnd::NoTrace) => 1,
             Ending::Usage => 2,
             Ending::Ran(RunEnd::WriteFault) => 5,
             Ending::Ran(RunEnd::OutOfMemory) | Ending::OutOfMemory => 6,
@@ -31,6 +32,7 @@ impl fmt::Display for Ending {
         match self {
             Ending::Ran(RunEnd::Done) => Ok(()),
             Ending::Usage => writeln!(f, "usage: FILE SEED SECONDS | FILE SEED trace NODE"),
+            Ending::Ran(RunEnd::NoTrace) => writeln!(f, "no trace: no engine stepped for this node"),
             Ending::Ran(RunEnd::WriteFault) => writeln!(f, "write fault"),
             Ending::Ran(RunEnd::OutOfMemory) | Ending::OutOfMemory => writeln!(f, "out of memory"),
             Ending::FileFault => writeln!(f, "the file could not be read"),
