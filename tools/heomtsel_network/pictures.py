@@ -66,9 +66,14 @@ def draw_attackers(axes: Axes, report: Report) -> None:
     axes.legend(loc="center left", bbox_to_anchor=(1.0, 0.5), frameon=False)
 
 
+def is_told(rows: list[KindAt]) -> bool:
+    """Nothing is told of an attacker's nodes, nor of a kind that never began."""
+    return any(measure.greatest > 0 for row in rows for measure in row.measures.values())
+
+
 def run(report: Report, title: str) -> Figure:
     """What a run comes to, from left to right."""
-    kinds = {name: rows for name, rows in report.kinds.items() if rows[-1].up > 0}
+    kinds = {name: rows for name, rows in report.kinds.items() if is_told(rows)}
     with_attackers = any(row["attackers"] for row in report.network)
     rows = len(kinds) + 2 + with_attackers
     figure = Figure(figsize=(WIDTH, ROW * rows + 0.4), layout="constrained")
@@ -91,7 +96,8 @@ def graph(report: Report, title: str) -> Figure:
     figure = Figure(figsize=(WIDTH, WIDTH), layout="constrained")
     axes = figure.subplots()
     users = dict(network.in_degree())
-    networkx.draw_networkx_edges(network, places, ax=axes, width=0.3, alpha=0.4, arrows=False)
+    edges = networkx.draw_networkx_edges(network, places, ax=axes, width=0.3, edge_color=GREY, arrows=False)
+    edges.set_antialiased(False)
     networkx.draw_networkx_nodes(
         network, places, ax=axes, node_size=[8 + 4 * users[node] for node in network], node_color=BLUE
     )

@@ -1,5 +1,5 @@
 -- What a run of the network writes.
-use Rattle.std.specs.Prelude.{◌≡◌, ℕ, ◌≤◌, ⊥, List, Option}
+use Rattle.std.specs.Prelude.{◌≡◌, ℕ, ◌≤◌}
 use Rattle.io_edge.specs.Causes.{Rose}
 use Rattle.network_sim.specs.declared.asked.RunEnd.{RunEnd}
 use Rattle.network_sim.specs.declared.asked.RunEnd.TheVariants.{Done, WriteFault, OutOfMemory, NoTrace}

@@ -1,13 +1,14 @@
 //! How the trace of a node is kept, where it is wanted.
 
-ghost use Rattle.std.specs.Prelude.{◌≡◌, [], ◌++◌, IfOk, OnOk};
+ghost use Rattle.std.specs.Prelude.{◌≡◌, [], ◌∷◌, ◌++◌, codes, IfOk, OnOk};
 ghost use Rattle.io_edge.specs.Lines.{ended_lines};
 ghost use Rattle.network_sim.specs.Keeps.{KeepsOn};
-ghost use Rattle.network_sim.specs.Seat.{IsKept};
+ghost use Rattle.network_sim.specs.Seat.{IsKept, Agrees};
 ghost use Rattle.trace_meaning.specs.Output.{told_event};
 ghost use Rattle.trace_text.specs.EventTexts.{printed_event, IsEventIn};
 
 use crate::kept::Kept;
+use crate::trace::Trace;
 use io_edge::PieceWriter;
 use line_run::tell_line;
 use net_base::{Action, Event, OutOfMemory, Settings};
@@ -46,6 +47,16 @@ pub(crate) fn keep_on(
         Some(kept) => tell(alloc, kept, event, actions),
         None => Ok(()),
     }
+}
+
+/// With its end.
+pub(crate) fn keep_whole(kept: Kept) -> Result<Trace, OutOfMemory>
+    requires { ∥ Agrees kept.head (kept.lines ++ (codes "end" ++ 10 ∷ [])) ∥₁ }
+{
+    let Kept { head, lines } = kept;
+    let mut lines = lines;
+    lines.push_line(b"end")?;
+    Ok(Trace { head, lines })
 }
 
 fn tell(

@@ -2,7 +2,7 @@ ghost use Rattle.std.specs.Prelude.{◌≡◌, false, IfOk};
 ghost use Rattle.network_sim.specs.Seat.{Takes, HasRun};
 
 use crate::fits::fits;
-use crate::keeping::{keep_first, keep_on};
+use crate::keeping::{keep_first, keep_on, keep_whole};
 use crate::kept::Kept;
 use crate::trace::Trace;
 use net_base::{ActionList, Event, OutOfMemory, Settings};
@@ -22,7 +22,7 @@ pub(crate) struct Seat<S: Stepper> {
     kept: Option<Kept>,
     // Memory was wanting, so nothing is known of what steps.
     is_lost: bool,
-    ghost ran: { ∥ is_lost ≡ false → HasRun (S.machine stepper) (S.events stepper) kept ∥₁ },
+    ghost ran: { ∥ (is_lost ≡ false → HasRun (S.machine stepper) (S.events stepper) kept) ∥₁ },
 }
 
 impl<S: Stepper> Seat<S> {
@@ -65,14 +65,17 @@ impl<S: Stepper> Seat<S> {
 
     /// Its trace up to now, where it is kept.
     pub(crate) fn into_trace(self) -> Result<Option<Trace>, OutOfMemory> {
-        if self.is_lost || self.stepper.taken() > EVENTS_MOST {
+        let Seat {
+            stepper,
+            kept,
+            is_lost,
+        } = self;
+        if is_lost || stepper.taken() > EVENTS_MOST {
             return Ok(None);
         }
-        let Some(Kept { head, lines }) = self.kept else {
-            return Ok(None);
-        };
-        let mut lines = lines;
-        lines.push_line(b"end")?;
-        Ok(Some(Trace { head, lines }))
+        match kept {
+            Some(kept) => Ok(Some(keep_whole(kept)?)),
+            None => Ok(None),
+        }
     }
 }
