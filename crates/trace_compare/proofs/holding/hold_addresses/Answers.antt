@@ -1,7 +1,7 @@
 use Rattle.std.proofs.Common.{All, subst, take_all, arith}
 use Rattle.std.proofs.lemmas.List.Elements.{All-more}
 use Rattle.trace_text.specs.EventTexts.{IsKnownIn}
-use Rattle.world_drive.proofs.holding.hold_addresses.Goals as goal
+use Rattle.trace_compare.proofs.holding.hold_addresses.Goals as goal
 
 pub loop-address-preserved : goal.loop-address-preserved
 loop-address-preserved c =

@@ -6,7 +6,7 @@ ghost use Rattle.trace_text.specs.EventTexts.{IsEventIn, IsKnownIn, AreKnownIn, 
 
 use net_base::{Addr, Event, Group, Ip, RootAnswer};
 
-pub(crate) fn hold_event(event: &Event)
+pub fn hold_event(event: &Event)
     ensures { IsEventIn 2 event.now }
 {
     match event {
@@ -24,7 +24,7 @@ pub(crate) fn hold_event(event: &Event)
     }
 }
 
-pub(crate) fn hold_address(address: Addr)
+pub fn hold_address(address: Addr)
     ensures { IsKnownIn 2 address }
 {
     match address.ip {

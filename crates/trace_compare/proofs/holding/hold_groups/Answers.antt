@@ -3,7 +3,7 @@ use Rattle.std.proofs.lemmas.List.Elements.{All-more}
 use Rattle.net_base.specs.declared.address.Addr.{Addr}
 use Rattle.net_base.specs.declared.event.Group.{Group}
 use Rattle.trace_text.specs.EventTexts.{AreKnownIn}
-use Rattle.world_drive.proofs.holding.hold_groups.Goals as goal
+use Rattle.trace_compare.proofs.holding.hold_groups.Goals as goal
 
 pub loop-group-preserved : goal.loop-group-preserved
 loop-group-preserved c =
