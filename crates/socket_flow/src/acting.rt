@@ -53,9 +53,10 @@ impl SocketFlow {
             return Ok(());
         };
         self.table.name(id, key)?;
-        if let Some(socket) = self.table.sockets.get_mut(&key) {
-            socket.stage = Stage::Open(id);
-        }
+        let Some(socket) = self.table.sockets.get_mut(&key) else {
+            return Ok(());
+        };
+        socket.stage = Stage::Open(id);
         self.turns.push(key)
     }
 
@@ -80,8 +81,10 @@ impl SocketFlow {
         };
         let mut out = OutQueue::new(self.alloc);
         out.put(self.greeting.as_slice())?;
-        self.unsent = self.unsent.saturating_add(out.front().len());
+        let unsent = self.unsent.checked_add(out.front().len());
+        let unsent = unsent.ok_or(OutOfMemory)?;
         let key = self.table.insert(Socket::new(Stage::Dialing(id), out))?;
+        self.unsent = unsent;
         self.table.name(id, key)?;
         self.dialing.push(self.moments.moment(), key)?;
         Ok(self.connecting.push_back((key, addr))?)
@@ -97,10 +100,11 @@ impl SocketFlow {
         if unsent > UNSENT_MOST {
             return self.lose(key);
         }
-        if let Some(socket) = self.table.sockets.get_mut(&key) {
-            socket.out.put(bytes)?;
-            self.unsent = unsent;
-        }
+        let Some(socket) = self.table.sockets.get_mut(&key) else {
+            return Ok(());
+        };
+        socket.out.put(bytes)?;
+        self.unsent = unsent;
         self.has_to_write(key)
     }
 
