@@ -5,7 +5,7 @@ use Rattle.std.proofs.lemmas.List.Sums.{sum_by-cons, sum_by-le-sum_by}
 use Rattle.std.proofs.lemmas.Bool.{eq-eqb}
 use Rattle.std.proofs.lemmas.Bool.Decides.{nat_tests}
 use Rattle.socket_flow.specs.Counts.{IsMost, IsBelow, unsent_at, stranger_at}
-use Rattle.socket_flow.specs.Table.{socket_at, out_of, stage_of, is_announcing, Puts, KeepsTalk}
+use Rattle.socket_flow.specs.Table.{socket_at, out_of, stage_of, is_announcing, Puts, HasSame, KeepsTalk}
 use Rattle.socket_flow.specs.Turns.{has_turn, IsOnce}
 use Rattle.socket_flow.specs.declared.flow.SocketFlow.{SocketFlow}
 use Rattle.socket_flow.specs.declared.socket.Socket.{Socket}
@@ -232,3 +232,13 @@ pub gone : (flow : SocketFlow) (b : SocketTable) (key : ℕ) (socket : Socket) (
     → flow.unsent ≤ v + length socket.out → flow.strangers ≤ t + stranger_of (Some socket) → Holds b v t
 gone flow b key socket v t is puts counts strangers =
     put_on flow.table b key (Some socket) None flow.unsent v flow.strangers t is puts (omega (arith, counts)) (omega arith) (omega (arith, strangers)) (held flow)
+
+-- a socket is for what it was, or for something else, and no more waits on it
+pub turns_to : (flow : SocketFlow) (b : SocketTable) (key : ℕ) (old new : Socket) → Some old ≡ socket_at flow.table key → Puts flow.table b key (Some new)
+    → length new.out ≤ length old.out → stranger_of (Some new) ≤ stranger_of (Some old) → Holds b flow.unsent flow.strangers
+turns_to flow b key old new is puts less strangers =
+    put_on flow.table b key (Some old) (Some new) flow.unsent flow.unsent flow.strangers flow.strangers is puts (omega (arith, less)) (omega (arith, less)) (omega (arith, strangers)) (held flow)
+
+-- nothing is put anywhere
+pub same_table : (flow : SocketFlow) (b : SocketTable) → HasSame flow.table b → Holds b flow.unsent flow.strangers
+same_table flow b same = talk_kept flow.table b flow.unsent flow.strangers (λ k. (ap out_of (same k), ap stage_of (same k))) (held flow)

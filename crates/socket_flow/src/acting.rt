@@ -5,6 +5,7 @@ ghost use Rattle.socket_flow.specs.Talk.{KeepsAll, MayLose};
 ghost use Rattle.socket_flow.specs.Acting.{is_free, Admits, Leaves, Dials, Sends, Closes, answers};
 ghost use Rattle.socket_flow.specs.Histories.{Makes, NodeDoes};
 
+use crate::due_queue::DueQueue;
 use crate::flow::SocketFlow;
 use crate::id::Id;
 use crate::limits::UNSENT_MOST;
@@ -120,11 +121,7 @@ impl SocketFlow {
         if socket.unsent() == 0 || matches!(socket.stage, Stage::Dialing(_)) {
             return Ok(());
         }
-        if !socket.is_watched {
-            socket.is_watched = true;
-            socket.has_taken = false;
-            self.watched.push(self.moments.moment(), key)?;
-        }
+        watch(socket, &mut self.watched, self.moments.moment(), key)?;
         if socket.is_blocked {
             return Ok(());
         }
@@ -165,4 +162,22 @@ impl SocketFlow {
         let answer = self.roots.answer(job)?;
         self.events.push(answer)
     }
+}
+
+// Has it looked after that the peer takes what waits.
+fn watch(
+    socket: &mut Socket,
+    watched: &mut DueQueue,
+    moment: u64,
+    key: usize,
+) -> Result<(), OutOfMemory>
+    ensures stage { socket.new.stage ≡ socket.old.stage }
+    ensures out { socket.new.out ≡ socket.old.out }
+{
+    if socket.is_watched {
+        return Ok(());
+    }
+    socket.is_watched = true;
+    socket.has_taken = false;
+    watched.push(moment, key)
 }

@@ -15,6 +15,7 @@ use crate::ask::Dialed;
 use crate::flow::SocketFlow;
 use crate::id::Id;
 use crate::socket::{Socket, Stage, stranger};
+use crate::turn_queue::TurnQueue;
 use net_base::{Addr, Event, Octets, OutOfMemory};
 use node_world::OutQueue;
 
@@ -48,10 +49,11 @@ impl SocketFlow {
             Stage::Waiting(_) | Stage::Told | Stage::Closing => return Ok(()),
             Stage::Open(_) => {}
         }
-        if writable {
-            socket.is_blocked = false;
-            self.has_to_write(key)?;
+        if !writable {
+            return self.turns.push(key);
         }
+        socket.is_blocked = false;
+        self.has_to_write(key)?;
         self.turns.push(key)
     }
 
@@ -332,10 +334,7 @@ impl SocketFlow {
             return Ok(());
         };
         self.unsent = self.unsent.saturating_sub(socket.went(count));
-        if socket.is_held {
-            socket.is_held = false;
-            self.turns.push(key)?;
-        }
+        release(socket, &mut self.turns, key)?;
         if socket.unsent() > 0 {
             return self.writes.push(key);
         }
@@ -361,4 +360,15 @@ impl SocketFlow {
         }
         Ok(())
     }
+}
+
+// Has it read again, where that waited for what is to be sent.
+fn release(socket: &mut Socket, turns: &mut TurnQueue, key: usize) -> Result<(), OutOfMemory>
+    ensures { socket.new ≡ record socket.old { is_held = false } }
+{
+    if !socket.is_held {
+        return Ok(());
+    }
+    socket.is_held = false;
+    turns.push(key)
 }

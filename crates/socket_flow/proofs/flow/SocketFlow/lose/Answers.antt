@@ -44,19 +44,3 @@ invariant_of-self-in-Waiting c =
     let own = c.unsent.ensures in
     let h = gone flow c.remove.new.self c.args.key c.in-Some.socket c.saturating_sub-self.result flow.strangers c.in-Some.ensures.value c.remove.ensures.sockets (omega (arith, left, own)) (omega arith) in
     record { said = flow.said; counted = h.counted; bounded = h.bounded; announces = h.announces }
-
-pub invariant_of-self-in-Told : goal.invariant_of-self-in-Told
-invariant_of-self-in-Told c =
-    let flow = c.args.self.now in
-    let left = c.saturating_sub-self.ensures in
-    let own = c.unsent.ensures in
-    let h = gone flow c.remove.new.self c.args.key c.in-Some.socket c.saturating_sub-self.result flow.strangers c.in-Some.ensures.value c.remove.ensures.sockets (omega (arith, left, own)) (omega arith) in
-    record { said = flow.said; counted = h.counted; bounded = h.bounded; announces = h.announces }
-
-pub invariant_of-self-in-Closing : goal.invariant_of-self-in-Closing
-invariant_of-self-in-Closing c =
-    let flow = c.args.self.now in
-    let left = c.saturating_sub-self.ensures in
-    let own = c.unsent.ensures in
-    let h = gone flow c.remove.new.self c.args.key c.in-Some.socket c.saturating_sub-self.result flow.strangers c.in-Some.ensures.value c.remove.ensures.sockets (omega (arith, left, own)) (omega arith) in
-    record { said = flow.said; counted = h.counted; bounded = h.bounded; announces = h.announces }
