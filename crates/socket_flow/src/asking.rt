@@ -1,5 +1,5 @@
 //! What is to be done next.
-ghost use Rattle.std.specs.Prelude.{◌≡◌, [], true, ◌⊎◌, IfOk, OnOk, IfSome, IfNone};
+ghost use Rattle.std.specs.Prelude.{◌≡◌, ◌<◌, [], true, ◌⊎◌, IfOk, OnOk, IfSome, IfNone};
 ghost use Rattle.net_base.specs.Limits.{IsWithinLimits};
 ghost use Rattle.socket_flow.specs.Table.{stage_at, is_dialing};
 ghost use Rattle.socket_flow.specs.Asks.{GivesWithinLimits, IsFirst, IsNextCaller, IsNoRead, IsNoAccept, AsksForRoom, Gives, IsOfSockets, IsReadable};
@@ -119,6 +119,13 @@ impl SocketFlow {
         Some(Event::Accepted(addr))
     }
 
+    // There is room for one more that announces itself, as far as is known.
+    fn has_room(&self, moment: u64) -> bool
+        ensures { result ≡ true → self.now.strangers < self.now.strangers_most }
+    {
+        self.strangers < self.strangers_most && self.door.has_room(moment, self.table.len())
+    }
+
     // Where there is no room for one more, the oldest that has not announced itself goes first.
     fn ask_to_accept(&mut self) -> Result<Option<Ask>, OutOfMemory>
         ensures limits { IfOk result (λ ask. IfSome ask IsOfSockets) }
@@ -131,7 +138,7 @@ impl SocketFlow {
         if !self.door.is_open(moment) {
             return Ok(None);
         }
-        if self.strangers < self.strangers_most && self.door.has_room(moment, self.table.len()) {
+        if self.has_room(moment) {
             return Ok(Some(Ask::Accept));
         }
         if !self.lose_oldest_stranger()? {
