@@ -25,7 +25,7 @@ returns-in-Some-clause-made c = record {
   left = c.ask_of_sockets.new.self;
   loses = kept _ _ c.ask_of_sockets.ensures.keeps;
   asks = asks_of _ _ _ (same _) c.in-Some.ensures.readable (silent_unread _ c.ask_of_sockets.new.self c.in-Some.ensures.unread);
-  room = room_where _ _ c.in-Some.ensures.accepts;
+  room = room_where _ c.ask_of_sockets.new.self c.in-Some.ensures.accepts;
 }
 
 pub returns-clause-made : goal.returns-clause-made

@@ -10,5 +10,5 @@ invariant_of-self-2 c =
     let one : stranger_of (Some c.in-Some.socket.now) ≡ 1 = ap {B = ℕ} (λ o. stranger_of o) c.in-Some.ensures.value ∙ ap {B = ℕ} (λ test. cond test 1 0) c.requires in
     let fewer = c.saturating_sub-self.ensures in
     let h = put_on flow.table (record flow.table { sockets = c.get_mut.follows.lender w }) c.args.key (Some c.in-Some.socket.now) (Some w) flow.unsent flow.unsent flow.strangers c.saturating_sub-self.result
-            c.in-Some.ensures.value ((c.get_mut.follows.holds w).3 (search rules)).0 (omega arith) (omega arith) (omega (arith, one, fewer)) (held flow) in
+    c.in-Some.ensures.value ((c.get_mut.follows.holds w).3 (search rules)).0 (omega arith) (omega arith) (omega (arith, one, fewer)) (held flow) in
     record { said = flow.said; counted = h.counted; bounded = h.bounded; announces = h.announces }

@@ -34,7 +34,7 @@ invariant_of-self-in-Announcing c =
     let fewer = c.saturating_sub-self-in-Announcing.ensures in
     let one : stranger_of (Some c.in-Some.socket) ≡ 1 = ap {B = ℕ} (λ stage. stranger_of (Some (record c.in-Some.socket { stage = stage }))) c.in-Announcing.is in
     let h = gone flow c.remove.new.self c.args.key c.in-Some.socket c.saturating_sub-self.result c.saturating_sub-self-in-Announcing.result c.in-Some.ensures.value c.remove.ensures.sockets
-            (omega (arith, left, own)) (omega (arith, fewer, one)) in
+    (omega (arith, left, own)) (omega (arith, fewer, one)) in
     record { said = flow.said; counted = h.counted; bounded = h.bounded; announces = h.announces }
 
 pub invariant_of-self-in-Waiting : goal.invariant_of-self-in-Waiting
