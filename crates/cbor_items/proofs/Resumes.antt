@@ -13,6 +13,7 @@ use Rattle.cbor_items.specs.declared.level.Thing.TheVariants.{Item, Entry, ByteC
 use Rattle.cbor_items.specs.declared.level.Level.{Level}
 use Rattle.cbor_items.specs.declared.level.Level.TheVariants.{Items, Value, ToBreak}
 use Rattle.cbor_items.specs.declared.scan.Scan.{Scan}
+use Rattle.cbor_items.specs.declared.scan.Scan.TheVariants as scan
 use Rattle.cbor_items.specs.Reading.{◌>>=◌}
 use Rattle.cbor_items.specs.Head.{info_of, argument_len, may_follow, head_of, initial_at, argument_at}
 use Rattle.cbor_items.specs.Item.{level_limit, IsString}
@@ -432,8 +433,8 @@ module _ (place : Place) (bytes : List ℕ) (seen : HasSeen place bytes) (levels
   pub answer_is : {X E : Type 0} (ended : Result X Halt) (result : Result Scan E) → HasEnded (skip_open levels) rest ended
       → AnswersBy (length bytes - length rest) ended result → IfOk result (λ answer. answer ≡ scan_of bytes)
   answer_is ended (Err e) has answers = tt
-  answer_is (Ok done) (Ok answer) has answers = answers ∙ scan_gives (Ok rest) has
-  answer_is (Err (Stopped stop.More)) (Ok answer) has answers = answers ∙ scan_gives (Err stop.More) has
-  answer_is (Err (Stopped stop.Bad)) (Ok answer) has answers = answers ∙ scan_gives (Err stop.Bad) has
-  answer_is (Err (Stopped stop.Deep)) (Ok answer) has answers = answers ∙ scan_gives (Err stop.Deep) has
+  answer_is (Ok done) (Ok answer) has answers = let is : answer ≡ scan.Whole (length bytes - length rest) = cc in is ∙ scan_gives (Ok rest) has
+  answer_is (Err (Stopped stop.More)) (Ok answer) has answers = let is : answer ≡ scan.More = cc in is ∙ scan_gives (Err stop.More) has
+  answer_is (Err (Stopped stop.Bad)) (Ok answer) has answers = let is : answer ≡ scan.Bad = cc in is ∙ scan_gives (Err stop.Bad) has
+  answer_is (Err (Stopped stop.Deep)) (Ok answer) has answers = let is : answer ≡ scan.Deep = cc in is ∙ scan_gives (Err stop.Deep) has
   answer_is (Err NoMemory) (Ok answer) has answers = absurd answers

@@ -1,5 +1,5 @@
 -- What the steps of a scan that goes on return.
-use Rattle.std.specs.Prelude.{◌≡◌, ℕ, Bool, false, ◌==◌, List, ◌∷◌, ◌++◌, reverse, Result, Ok, Err, IfOk}
+use Rattle.std.specs.Prelude.{◌≡◌, ℕ, Bool, false, ◌==◌, List, ◌∷◌, ◌++◌, reverse, Result, Ok, Err, OnOk}
 use Rattle.cbor_items.specs.declared.stop.Stop.{Stop}
 use Rattle.cbor_items.specs.declared.stop.Stop.TheVariants as stop
 use Rattle.cbor_items.specs.declared.scan.Scan.{Scan}
@@ -52,10 +52,10 @@ abbrev pub HasEnded : {X : Type 0} → Skip → List ℕ → Result X Halt → T
 HasEnded skip bytes (Ok done) = skip bytes ≡ Ok bytes
 HasEnded skip bytes (Err halt) = IsHalted skip bytes halt
 
--- what the scan answers by how it ended, with so many bytes passed over
+-- What the scan answers by how it ended, with so many bytes passed over. Want of memory is answered exactly where memory ran out.
 abbrev pub AnswersBy : {X E : Type 0} → ℕ → Result X Halt → Result Scan E → Type 0
-AnswersBy passed (Ok done) result = IfOk result (λ answer. answer ≡ scan.Whole passed)
-AnswersBy passed (Err (Stopped stop.More)) result = IfOk result (λ answer. answer ≡ scan.More)
-AnswersBy passed (Err (Stopped stop.Bad)) result = IfOk result (λ answer. answer ≡ scan.Bad)
-AnswersBy passed (Err (Stopped stop.Deep)) result = IfOk result (λ answer. answer ≡ scan.Deep)
-AnswersBy passed (Err NoMemory) result = IfOk result (λ answer. ⊥)
+AnswersBy passed (Ok done) result = result ≡ Ok (scan.Whole passed)
+AnswersBy passed (Err (Stopped stop.More)) result = result ≡ Ok scan.More
+AnswersBy passed (Err (Stopped stop.Bad)) result = result ≡ Ok scan.Bad
+AnswersBy passed (Err (Stopped stop.Deep)) result = result ≡ Ok scan.Deep
+AnswersBy passed (Err NoMemory) result = OnOk result ⊥

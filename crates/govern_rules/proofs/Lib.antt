@@ -3,8 +3,10 @@ pub mod ByAddress
 pub mod Counting
 pub mod FoundMembers
 pub mod Members
+pub mod Known
 pub mod Picking
 pub mod Rows
 pub mod SameViews
 pub mod Suiting
 pub mod Tasks
+pub mod Walking

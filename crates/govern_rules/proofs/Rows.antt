@@ -21,7 +21,7 @@ later : (p : Peer) (peers xs : List Peer) → AllByRecursion (λ b. same_address
 later p peers [] apart h = tt
 later p peers (q ∷ xs) apart h = (rw apart.0 h.0, later p peers xs apart.1 h.1)
 
-at_own : (peers : List Peer) → IsDistinct same_address (addresses_of peers) → AllByRecursion (λ p. peer_at p.addr peers ≡ Some p) peers
+pub at_own : (peers : List Peer) → IsDistinct same_address (addresses_of peers) → AllByRecursion (λ p. peer_at p.addr peers ≡ Some p) peers
 unfolding IsDistinct
 at_own [] h = tt
 at_own (p ∷ peers) h = (rw (same_address-itself p.addr) refl, later p peers peers h.0 (at_own peers h.1))

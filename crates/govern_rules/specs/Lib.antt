@@ -12,4 +12,5 @@ pub mod Search
 pub mod SortedLinks
 pub mod Statuses
 pub mod Tasks
+pub mod Walks
 pub mod Whom

@@ -5,8 +5,10 @@ ghost use Rattle.net_base.specs.Address.{same_address};
 ghost use Rattle.peer_book.specs.Book.{addresses_of, listed_at};
 ghost use Rattle.govern_rules.specs.Search.{suits, lookups};
 
+use crate::nearby::Nearby;
 use crate::search::Search;
 use crate::task::Task;
+use crate::walk::Walk;
 use net_base::{Addr, Peer, Temp};
 use peer_book::PeerBook;
 use std::alloc::{AllocError, Global};
@@ -28,15 +30,16 @@ pub fn candidates(alloc: Global, search: &Search, book: &PeerBook) -> Result<Vec
     }
 }
 
-// Those of all peers that suit, of those that stand together at a time.
+// Those of all peers that suit, of those that stand together at a time. Their links are passed beside them.
 fn known(alloc: Global, search: &Search, book: &PeerBook) -> Result<Vec<Peer>, AllocError>
     ensures { IfOk result (λ cands. cands.items ≡ filter (suits search.now) book.now) }
 {
     let mut cands = Vec::new(alloc);
+    let mut walk = search.view.links.walk();
     let mut place = 0;
     while place < book.len() {
         let run = book.run_from(place);
-        take_in(&mut cands, search, run)?;
+        take_in(&mut cands, search, &mut walk, run)?;
         place += run.len();
     }
     Ok(cands)
@@ -78,18 +81,25 @@ pub fn among(alloc: Global, search: &Search, peers: &[Peer]) -> Result<Vec<Peer>
 }
 
 // Those of some peers that suit, behind others.
-fn take_in(cands: &mut Vec<Peer>, search: &Search, peers: &[Peer]) -> Result<(), AllocError>
-    ensures { OnOk result (cands.new.items ≡ cands.old.items ++ filter (suits search.now) peers.now) }
+fn take_in(
+    cands: &mut Vec<Peer>,
+    search: &Search,
+    walk: &mut Walk,
+    peers: &[Peer],
+) -> Result<(), AllocError>
+    requires { walk.old ≡ search.now.view.now.links }
+    ensures same { walk.new ≡ walk.old }
+    ensures cands { OnOk result (cands.new.items ≡ cands.old.items ++ filter (suits search.now) peers.now) }
 {
     for peer in peers {
-        if search.suits(peer) {
+        if search.suits_beside(peer, walk) {
             cands.push(*peer)?;
         }
     }
     Ok(())
 }
 
-// Those with some addresses that suit.
+// Those with some addresses that suit. Peers and links are passed beside the addresses.
 fn found(
     alloc: Global,
     search: &Search,
@@ -98,9 +108,11 @@ fn found(
 ) -> Result<Vec<Peer>, AllocError>
     ensures { IfOk result (λ cands. cands.items ≡ filter (suits search.now) (lookups book.now addrs.now)) }
 {
-    addrs
-        .iter()
-        .filter_map(|addr| book.get(*addr))
-        .filter(|peer| search.suits(peer))
-        .collect(alloc)
+    let mut cands = Vec::new(alloc);
+    let mut walk = search.view.links.walk();
+    let mut nearby = Nearby::new(book);
+    for addr in addrs {
+        take_in(&mut cands, search, &mut walk, nearby.at(*addr))?;
+    }
+    Ok(cands)
 }

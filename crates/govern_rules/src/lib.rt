@@ -10,6 +10,7 @@ mod link_rows;
 mod links;
 mod mark;
 mod marked;
+mod nearby;
 mod numbers;
 mod order;
 mod orders;
@@ -20,6 +21,7 @@ mod task;
 mod task_orders;
 mod valency;
 mod view;
+mod walk;
 mod whom;
 
 pub use big_rule::BigRule;

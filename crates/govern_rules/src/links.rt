@@ -8,6 +8,7 @@ ghost use Rattle.govern_rules.specs.SortedLinks.{AreNotBelow, IsInOrder, is_belo
 
 use crate::Link;
 use crate::mark::{Mark, has_mark};
+use crate::walk::Walk;
 use chunked_list::ChunkedList;
 use net_base::Addr;
 use std::marker::Model;
@@ -39,6 +40,13 @@ impl<'a> LinkList<'a> {
         ensures { result ≡ all.now }
     {
         LinkList { all, counted }
+    }
+
+    // A walk past them, before all of them.
+    pub(crate) fn walk(&self) -> Walk<'a>
+        ensures { result ≡ self.now }
+    {
+        Walk::new(self.all)
     }
 
     // How many links have an address below one.
@@ -76,7 +84,7 @@ impl<'a> LinkList<'a> {
 }
 
 // How many links have an address below one.
-fn start_of(links: &ChunkedList<Link>, addr: Addr) -> usize
+pub fn start_of(links: &ChunkedList<Link>, addr: Addr) -> usize
     requires { IsInOrder links.now }
     ensures { result ≡ prefix_len (is_below addr) links.now }
 {

@@ -1,16 +1,17 @@
-ghost use Rattle.std.specs.Prelude.{◌≡◌, ◌+◌, ◌-◌, ◌<◌, ◌^◌, drop, length, slice_index_or};
-ghost use Rattle.std.specs.List.{IsDistinct};
+ghost use Rattle.std.specs.Prelude.{◌≡◌, ◌+◌, ◌-◌, ◌<◌, ◌^◌, drop, length, slice_get, slice_index_or};
+ghost use Rattle.std.specs.List.{IsDistinct, list_any};
 ghost use Rattle.net_base.specs.Address.{same_address};
 ghost use Rattle.peer_book.specs.Book.{addresses_of};
 ghost use Rattle.govern_rules.specs.ClassRules.{count_of};
 ghost use Rattle.govern_rules.specs.Links.{some_link};
-ghost use Rattle.govern_rules.specs.Marks.{has_mark, counts, is_class_at};
-ghost use Rattle.govern_rules.specs.SortedLinks.{IsInOrder};
+ghost use Rattle.govern_rules.specs.Marks.{has_mark, counts};
+ghost use Rattle.govern_rules.specs.SortedLinks.{AreNotBelow, IsInOrder, links_of};
+ghost use Rattle.govern_rules.specs.Walks.{IsRunFrom, has_other_address_at};
 ghost use Rattle.govern_rules.specs.declared.link.Link.{Link};
 
 use crate::links::some_from;
 use crate::mark::{Mark, has_mark};
-use crate::status::is_of;
+use crate::nearby::Nearby;
 use crate::{Link, View};
 use chunked_list::ChunkedList;
 use net_base::Addr;
@@ -28,38 +29,89 @@ pub fn without_marked(number: u64, mark: Mark, big: bool, view: &View, book: &Pe
     number.saturating_sub(count_marked(mark, big, view.links.marked(mark), book))
 }
 
-// How many peers of a class have a link with a mark. Of each address the last such link counts.
+// How many peers of a class have a link with a mark. Of each address the last such link counts. The peers are passed beside
+// the links.
 fn count_marked(mark: Mark, big: bool, links: &ChunkedList<Link>, book: &PeerBook) -> u64
     requires ordered { IsInOrder links.now }
     requires distinct { IsDistinct same_address (addresses_of book.now) }
     ensures { result ≡ count_of big (some_link (has_mark mark) links.now) book.now }
 {
+    let mut nearby = Nearby::new(book);
+    let mut rest: &[Link] = &[];
     let mut count = 0;
     for place in 0..links.len() {
-        count += u64::from(counts(mark, big, links, place, book));
+        let run = at_hand(links, rest, place);
+        let (_, after) = run.split_at(1);
+        count += u64::from(counts(mark, big, links, place, &run[0], after, &mut nearby));
+        rest = after;
     }
     count
 }
 
-// Whether the link at a place is the last of its address with a mark, and the peer there is of a class.
-fn counts(mark: Mark, big: bool, links: &ChunkedList<Link>, place: usize, book: &PeerBook) -> bool
+// The links from a place on that stand together. Those at hand are not looked for.
+fn at_hand<'a>(links: &'a ChunkedList<Link>, rest: &'a [Link], place: usize) -> &'a [Link]
+    requires inside { place < length links.now }
+    requires rest { IsRunFrom place links.now rest.now }
+    ensures front { IsRunFrom place links.now result.now }
+    ensures some { 0 < length result.now }
+{
+    if rest.is_empty() {
+        links.run_from(place)
+    } else {
+        rest
+    }
+}
+
+// Whether the link at a place is the last of its address with a mark, and the peer there is of a class. Those behind it that
+// stand together are at hand.
+fn counts(
+    mark: Mark,
+    big: bool,
+    links: &ChunkedList<Link>,
+    place: usize,
+    link: &Link,
+    after: &[Link],
+    nearby: &mut Nearby,
+) -> bool
     requires ordered { IsInOrder links.now }
     requires there { place < length links.now }
     requires few { place + 1 < 2 ^ 64 }
-    ensures { (d : Link) → result ≡ counts mark big (slice_index_or links.now place d) (drop (place + 1) links.now) book.now }
+    requires link { link.now ≡ slice_index_or links.now place link.now }
+    requires after { IsRunFrom (place + 1) links.now after.now }
+    ensures value { (d : Link) → result ≡ counts mark big (slice_index_or links.now place d) (drop (place + 1) links.now) nearby.old }
+    ensures same { nearby.new ≡ nearby.old }
 {
-    let link = links.at(place);
     has_mark(mark, link)
-        && !some_from(links, place + 1, link.addr, mark)
-        && is_class_at(big, link.addr, book)
+        && !some_behind(links, place + 1, after, link.addr, mark)
+        && nearby.has(big, link.addr)
 }
 
-// Whether there is a peer of a class with an address.
-fn is_class_at(big: bool, addr: Addr, book: &PeerBook) -> bool
-    ensures { result ≡ is_class_at big addr book.now }
+// Some of the links from a place on that have an address has a mark. None of them has an address below it, and those that
+// stand together are at hand.
+fn some_behind(
+    links: &ChunkedList<Link>,
+    start: usize,
+    run: &[Link],
+    addr: Addr,
+    mark: Mark,
+) -> bool
+    requires ordered { IsInOrder links.now }
+    requires above { AreNotBelow addr (drop start links.now) }
+    requires run { IsRunFrom start links.now run.now }
+    ensures { result ≡ list_any (has_mark mark) (links_of addr (drop start links.now)) }
 {
-    match book.get(addr) {
-        Some(peer) => is_of(big, &peer),
+    if starts_elsewhere(run, addr) {
+        return false;
+    }
+    some_from(links, start, addr, mark)
+}
+
+// Whether the first of some links has another address.
+fn starts_elsewhere(run: &[Link], addr: Addr) -> bool
+    ensures { result ≡ has_other_address_at addr (slice_get run.now 0) }
+{
+    match run.first() {
+        Some(link) => !link.addr.is_same(&addr),
         None => false,
     }
 }

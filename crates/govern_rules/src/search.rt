@@ -1,4 +1,4 @@
-ghost use Rattle.std.specs.Prelude.{◌≡◌};
+ghost use Rattle.std.specs.Prelude.{◌≡◌, []};
 ghost use Rattle.std.specs.List.{prefix_len};
 ghost use Rattle.govern_rules.specs.Search.{is_ready, is_free, say, suits};
 ghost use Rattle.govern_rules.specs.SortedLinks.{is_below, links_of};
@@ -6,6 +6,7 @@ ghost use Rattle.govern_rules.specs.SortedLinks.{is_below, links_of};
 use crate::mark::Mark;
 use crate::status::is_of;
 use crate::task::Task;
+use crate::walk::Walk;
 use crate::whom::Whom;
 use crate::{LinkList, View};
 use net_base::{Addr, Peer, Temp};
@@ -29,6 +30,18 @@ impl Search<'_> {
             && self.whom.is_meant(peer.addr)
             && is_free(self.task, &self.view.links, peer.addr)
     }
+
+    // The same beside a walk past the links, which comes to those of the peer.
+    pub fn suits_beside(&self, peer: &Peer, walk: &mut Walk) -> bool
+        requires { walk.old ≡ self.now.view.now.links }
+        ensures value { result ≡ suits self.now peer.now }
+        ensures same { walk.new ≡ walk.old }
+    {
+        is_of(self.big, peer)
+            && is_ready(self.task, self.view.moment, peer)
+            && self.whom.is_meant(peer.addr)
+            && is_free_beside(self.task, &self.view.links, walk, peer.addr)
+    }
 }
 
 // What is asked of the peer itself.
@@ -49,6 +62,32 @@ fn is_free(task: Task, links: &LinkList, addr: Addr) -> bool
     ensures { result ≡ is_free task (say (links_of addr links.now)) }
 {
     is_free_at(task, links, links.start_of(addr), addr)
+}
+
+// The same beside a walk past the links.
+fn is_free_beside(task: Task, links: &LinkList, walk: &mut Walk, addr: Addr) -> bool
+    requires { walk.old ≡ links.now }
+    ensures value { result ≡ is_free task (say (links_of addr links.now)) }
+    ensures same { walk.new ≡ walk.old }
+{
+    match walk.come_to(addr) {
+        Some(start) => is_free_at(task, links, start, addr),
+        None => is_free_alone(task),
+    }
+}
+
+// The same of an address without links.
+fn is_free_alone(task: Task) -> bool
+    ensures { result ≡ is_free task (say []) }
+{
+    match task {
+        Task::Asking(_) => false,
+        Task::Forgetting
+        | Task::Promoting
+        | Task::Releasing
+        | Task::Activating
+        | Task::Deactivating => true,
+    }
 }
 
 // The same where so many links have an address below it.

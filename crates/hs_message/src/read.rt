@@ -1,4 +1,5 @@
-ghost use Rattle.std.specs.Prelude.{◌≡◌, IfOk, Err, length};
+ghost use Rattle.std.specs.Prelude.{◌≡◌, ◌≢◌, true, false, IfOk, MatchResult, Err, length};
+ghost use Rattle.cbor_items.specs.Scan.{is_one_item};
 ghost use Rattle.cbor_items.specs.Front.{Finds, FindsBy, number_at};
 ghost use Rattle.hs_message.specs.declared.message.Message.{Message as AnyMessage};
 ghost use Rattle.hs_message.specs.Info.{is_node_version, is_client_version};
@@ -24,6 +25,8 @@ pub fn read_message(alloc: Global, bytes: &[u8]) -> Result<Message, ReadRefusal>
     ensures found { IfOk result (λ message. NodeSpells message bytes.now) }
     ensures none { result ≡ Err ReadRefusal.NotAMessage →
         (message : AnyMessage) → NodeSpells message bytes.now → ⊥ }
+    // Memory is asked for only where the bytes are one item.
+    ensures memory { result ≡ Err ReadRefusal.OutOfMemory → is_one_item bytes.now ≡ true }
 {
     read_whole(alloc, Profile::NodeToNode, bytes)
 }
@@ -36,19 +39,30 @@ pub fn read_client_message(alloc: Global, bytes: &[u8]) -> Result<Message, ReadR
     ensures found { IfOk result (λ message. ClientSpells message bytes.now) }
     ensures none { result ≡ Err ReadRefusal.NotAMessage →
         (message : AnyMessage) → ClientSpells message bytes.now → ⊥ }
+    ensures memory { result ≡ Err ReadRefusal.OutOfMemory → is_one_item bytes.now ≡ true }
 {
     read_whole(alloc, Profile::NodeToClient, bytes)
 }
 
 #[tactic(auto, unfolding(crate::specs::Reading::message_with))]
 fn read_whole(alloc: Global, profile: Profile, bytes: &[u8]) -> Result<Message, ReadRefusal>
-    ensures { FindsBy RefusalSays (λ message. message) result (message_with (known_in profile) bytes.now) }
+    ensures reading { FindsBy RefusalSays (λ message. message) result (message_with (known_in profile) bytes.now) }
+    ensures memory { result ≡ Err ReadRefusal.OutOfMemory → is_one_item bytes.now ≡ true }
 {
-    if first_item(bytes) != Scan::Whole(bytes.len()) {
-        return Err(ReadRefusal::NotAMessage);
-    }
+    one_item(bytes)?;
     let (message, _) = read_front(alloc, profile, bytes)?;
     Ok(message)
+}
+
+// The bytes are one item, and no more.
+fn one_item(bytes: &[u8]) -> Result<(), Absent>
+    ensures { MatchResult result (λ done. is_one_item bytes.now ≡ true) (λ absent. is_one_item bytes.now ≡ false) }
+{
+    if first_item(bytes) == Scan::Whole(bytes.len()) {
+        Ok(())
+    } else {
+        Err(Absent)
+    }
 }
 
 #[tactic(auto, unfolding(crate::specs::Reading::message_at))]
@@ -98,11 +112,15 @@ fn read_table(alloc: Global, profile: Profile, bytes: &[u8]) -> Result<(Table, &
 {
     let (count, rest) = split_definite(MAP, bytes)?;
     let (table, rest) = read_offers(alloc, profile, count, rest)?;
-    if rises(table.as_slice()) {
-        Ok((table, rest))
-    } else {
-        Err(ReadRefusal::NotAMessage)
-    }
+    in_order(table.as_slice())?;
+    Ok((table, rest))
+}
+
+// The versions rise strictly.
+fn in_order(offers: &[Offer]) -> Result<(), Absent>
+    ensures { MatchResult result (λ done. rises offers.now ≡ true) (λ absent. rises offers.now ≡ false) }
+{
+    if rises(offers) { Ok(()) } else { Err(Absent) }
 }
 
 fn read_offers(
@@ -300,10 +318,18 @@ fn read_version_list(alloc: Global, bytes: &[u8]) -> Result<(NumberList, &[u8]),
     ensures { FindsBy RefusalSays (λ read. (read.0, read.1.now)) result (version_list_at bytes.now) }
 {
     let (head, rest) = split_head(bytes)?;
-    if head.major != ARRAY {
-        return Err(ReadRefusal::NotAMessage);
-    }
+    of_array(&head)?;
     read_version_row(alloc, &head, rest)
+}
+
+fn of_array(head: &Head) -> Result<(), Absent>
+    ensures { MatchResult result (λ done. head.now.major ≡ 4) (λ absent. head.now.major ≢ 4) }
+{
+    if head.major == ARRAY {
+        Ok(())
+    } else {
+        Err(Absent)
+    }
 }
 
 fn read_version_row<'a>(

@@ -6,7 +6,7 @@ mod received;
 mod receiving;
 mod side;
 
-pub use cut::kind_of;
+pub use cut::{fault_of, kind_of};
 pub use received::Received;
 pub use receiving::receive;
 pub use side::{fits_side, is_awaited};

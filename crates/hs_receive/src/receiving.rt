@@ -3,9 +3,9 @@ ghost use Rattle.hs_message.specs.Reading.{message_of};
 ghost use Rattle.hs_receive.specs.Receiving.{receives, receives_message, CanBeAnswered};
 ghost use Rattle.mux_segment.specs.Lent.{lent};
 
-use crate::{Received, fits_side, is_awaited};
+use crate::{Received, fault_of, fits_side, is_awaited};
 use hs_decide::{Role, decide};
-use hs_message::{Message, ReadRefusal, VersionInfo, read_message};
+use hs_message::{Message, VersionInfo, read_message};
 use mux_segment::LentItem;
 use net_base::{FaultKind, OutOfMemory};
 use std::alloc::Global;
@@ -44,8 +44,7 @@ fn receive_body(
 {
     match read_message(alloc, item.body) {
         Ok(message) => Ok(receive_message(role, own, item.side, &message)),
-        Err(ReadRefusal::NotAMessage) => Ok(Received::Fault(FaultKind::Malformed)),
-        Err(ReadRefusal::OutOfMemory) => Err(OutOfMemory),
+        Err(refusal) => Ok(Received::Fault(fault_of(refusal)?)),
     }
 }
 

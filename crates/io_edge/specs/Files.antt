@@ -13,6 +13,12 @@ IsReading told limit (Err (TooLarge size)) = (limit < size) × IfSome told (λ a
 IsReading told limit (Err Failed) = ⊤
 IsReading told limit (Err OutOfMemory) = ⊤
 
+-- What is read of bytes that are told or not, where at most `limit` are wanted: all of them, or how many were seen where
+-- they are more.
+abbrev pub IsWithin : Option (List ℕ) → ℕ → Result (List ℕ) ℕ → Type 0
+IsWithin told limit (Ok bytes) = (length bytes ≤ limit) × IfSome told (λ all. bytes ≡ all)
+IsWithin told limit (Err seen) = (limit < seen) × IfSome told (λ all. seen ≤ length all)
+
 -- the readings, with one more behind them
 abbrev pub with_reading : List Reading → List ℕ → ℕ → Result (List ℕ) ShelfRefusal → List Reading
 with_reading readings name limit answer = readings ++ record { name = name; limit = limit; answer = answer } ∷ []

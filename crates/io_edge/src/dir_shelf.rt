@@ -1,6 +1,6 @@
-ghost use Rattle.std.specs.Prelude.{◌≡◌, ℕ, ◌<◌, ◌≤◌, [], length, None, Err, IfOk, MatchResult};
+ghost use Rattle.std.specs.Prelude.{◌≡◌, ℕ, ◌+◌, ◌<◌, ◌≤◌, [], length, take, None, Err, IfOk, IfSome, MatchResult};
 ghost use Rattle.std.specs.IoError.{error_kind};
-ghost use Rattle.io_edge.specs.Files.{IsReading, with_reading};
+ghost use Rattle.io_edge.specs.Files.{IsReading, IsWithin, with_reading};
 
 use crate::reading::LentReading;
 use crate::reading_log::ReadingLog;
@@ -102,15 +102,40 @@ fn read_file<R: Files>(
     if size > limit {
         return Ok(Err(size));
     }
-    let mut bytes = Vec::new(alloc);
-    let most = (limit as u64).saturating_add(1);
-    (&mut file).take(most).read_to_end(&mut bytes)?;
-    if bytes.len() > limit {
+    match read_within(alloc, &mut file, limit)? {
+        Ok(bytes) => Ok(Ok(bytes)),
         // It has grown, or is a device that tells no size.
-        let size = size_of(&file)?;
-        return Ok(Err(size.max(bytes.len())));
+        Err(seen) => Ok(Err(size_of(&file)?.max(seen))),
     }
-    Ok(Ok(Octets::from_vec(bytes)))
+}
+
+// All that a reader has left, or how many bytes were seen of it where it is more than so many.
+fn read_within<R: Read>(
+    alloc: Global,
+    reader: &mut R,
+    limit: usize,
+) -> io::Result<Result<Octets, usize>>
+    ensures { IfOk result (λ found. IsWithin (R.remaining reader.old) limit found) }
+{
+    let bytes = read_front(alloc, reader, limit)?;
+    if bytes.len() > limit {
+        Ok(Err(bytes.len()))
+    } else {
+        Ok(Ok(Octets::from_vec(bytes)))
+    }
+}
+
+// What a reader has left, up to one byte behind so many.
+fn read_front<R: Read>(alloc: Global, reader: &mut R, limit: usize) -> io::Result<Vec<u8>>
+    ensures { IfOk result (λ bytes. IfSome (R.remaining reader.old) (λ all. bytes.items ≡ take (limit + 1) all)) }
+{
+    let mut bytes = Vec::new(alloc);
+    let Some(most) = (limit as u64).checked_add(1) else {
+        reader.read_to_end(&mut bytes)?;
+        return Ok(bytes);
+    };
+    reader.take(most).read_to_end(&mut bytes)?;
+    Ok(bytes)
 }
 
 // How many bytes a file has. A directory has none to read.

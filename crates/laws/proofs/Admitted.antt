@@ -19,13 +19,14 @@ use Rattle.machine.specs.Connections.{ending}
 use Rattle.machine.specs.Effect.{then_do}
 use Rattle.machine.specs.Events.{turned_away, admitted, crossed, accepted_beside, peer_connects}
 use Rattle.machine.specs.Machine.{Machine, Entry, fresh_entry, counted_in, live_entry_at}
-use Rattle.laws.specs.Acts.{Act, connects, does}
-use Rattle.laws.specs.Admitted.{admitted_in, turned_away_in, is_crossing, is_present, cause_against, IsTurnedAway, IsNew, IsLetIn, ByCause, AdmitsRight}
+use Rattle.laws.specs.Acts.{Act, asks_for_roots, connects, does}
+use Rattle.laws.specs.Admitted.{admitted_by, admitted_in, turned_away_by, turned_away_in, is_crossing, is_present, cause_against, IsTurnedAway, IsNew, IsLetIn, ByCause, AdmitsNobody, AdmitsRight}
 use Rattle.laws.specs.AtMoves.{OnEntry}
 use Rattle.laws.specs.Sound.{HasGivenId, IsOrderly}
 use Rattle.laws.proofs.Entries.{gone-orderly}
 use Rattle.laws.proofs.Finds.{find-none_passes}
 use Rattle.laws.proofs.Lists.{OnePasses, OnePasses-none_after, OnePasses-tail, find_some}
+use Rattle.laws.proofs.Silent.{IsOther, admitted-deaf, turned_away-deaf, part-silent, asks-silent}
 use Rattle.laws.proofs.Ties.{live_one, find-push_here}
 use Rattle.laws.proofs.WaitsOfParts.{Finds}
 
@@ -164,6 +165,15 @@ connects-admits addr m h = by_own (same_address addr m.settings.own)
     by_own true = away OwnAddr m
     by_own false = by_room (nat_le m.settings.hard (counted_in m))
 
+-- ---- nothing else
+
+admits-nobody : (act : Act) (m : Machine) → IsOther act → AdmitsNobody (does act m)
+admits-nobody act m other = record {
+  admitted = part-silent admitted_by admitted-deaf (λ cid bytes. refl) act m other;
+  turned_away = part-silent turned_away_by turned_away-deaf (λ cid bytes. refl) act m other;
+}
+
 pub admits-right : (act : Act) (m : Machine) → Finds act m → AdmitsRight act m (does act m)
 admits-right (connects addr) m found = connects-admits addr m found
-admits-right other m found = tt
+admits-right asks_for_roots m found = record { admitted = asks-silent admitted_by (λ job. refl) m; turned_away = asks-silent turned_away_by (λ job. refl) m }
+admits-right other m found = admits-nobody other m tt

@@ -1,7 +1,7 @@
 -- What is remembered of peers, through each part of an event.
-use Rattle.std.proofs.Common.{ℕ, ◌+◌, ◌%◌, ◌≡◌, Bool, true, false, not, ◌&&◌, ◌||◌, ◌==◌, nat_le, if◌then◌else◌, List, [], ◌∷◌, find, length, is_some, Option, Some, None, Result, Ok, Err, refl, sym, ap, ◌∙◌, subst, eqb-true}
+use Rattle.std.proofs.Common.{ℕ, ◌+◌, ◌%◌, ◌≡◌, ◌⊎◌, Bool, true, false, not, ◌&&◌, ◌||◌, ◌==◌, nat_le, if◌then◌else◌, List, [], ◌∷◌, find, length, is_some, is_none, Option, Some, None, Result, Ok, Err, refl, sym, ap, ◌∙◌, subst, inl, inr, arith, eqb-true}
 use Rattle.std.specs.Option.{option_map, unwrap_or}
-use Rattle.std.proofs.lemmas.Bool.{cond_both, both_ways, false≢true, and_parts}
+use Rattle.std.proofs.lemmas.Bool.{cond_both, both_ways, false≢true, and_parts, and_from}
 use Rattle.accept_gate.specs.Prune.{choice_of, is_candidate}
 use Rattle.conn_state.specs.Counted.{is_counted}
 use Rattle.conn_state.specs.Moves.{acquired, agreed_outbound, awakened, expired, released}
@@ -31,6 +31,7 @@ use Rattle.net_base.specs.declared.connection.Phase.{Phase}
 use Rattle.net_base.specs.declared.connection.Phase.TheVariants.{Dialing, Greeting, Negotiated, Closing}
 use Rattle.net_base.specs.declared.peer.Peer.{Peer}
 use Rattle.net_base.specs.declared.peer.Temp.TheVariants.{Cold, Warm, Hot}
+use Rattle.net_base.specs.declared.timer.Deadline.{Deadline}
 use Rattle.net_base.specs.declared.timer.Kind.{Kind}
 use Rattle.net_base.specs.declared.timer.Kind.TheVariants as kind
 use Rattle.peer_book.specs.Book.{entry_of, entered, entered_by, new_peer, most_peers}
@@ -53,25 +54,28 @@ use Rattle.machine.specs.Provided.{is_wanted_big, comes_big}
 use Rattle.machine.specs.Replies.{reply_on, owing, paid}
 use Rattle.machine.specs.Stream.{handled_in, handled, faulted}
 use Rattle.machine.specs.Talking.{stops_if, serves, begins, takes_requests, asked_as, shares_address, taken_of, takes_addresses, pays, brings, answered_as, talks}
-use Rattle.laws.specs.Acts.{Act, shows, fires_one, asks_for_roots, carries, connects, ends_dial, stores, handles_item, ends_stream, is_closed, sets_targets, sets_big_targets, sets_groups, sets_roots, makes_ordinary, provides, provides_big, does}
-use Rattle.laws.specs.BackOff.{IsRemembered, WhereBoth, AllRemembered, OthersRemembered, IsAsked, IsTaken, RemembersByOrder, RemembersBeside, Remembers}
+use Rattle.laws.specs.Acts.{Act, fires_one, carries, ends_dial, handles_item, ends_stream, is_closed, makes_ordinary, provides, provides_big, does}
+use Rattle.laws.specs.AtMoves.{some_connection, is_failure, FailsWhere}
+use Rattle.laws.specs.BackOff.{IsRemembered, WhereBoth, AllRemembered, OthersRemembered, IsAsked, IsTaken, RemembersByOrder, RemembersBeside, Remembers, IsSpared, FailsOnly}
 use Rattle.laws.specs.Sound.{IsOrderly}
-use Rattle.laws.specs.Whole.{IsShaped, IsOrdered}
-use Rattle.laws.proofs.Addresses.{same_address-true}
+use Rattle.laws.specs.Steady.{IsShaped, IsOrdered}
+use Rattle.laws.proofs.Addresses.{same_address-self, same_address-true}
 use Rattle.laws.proofs.CarriedOut.{changed-orderly, treats-book}
 use Rattle.laws.proofs.Entries.{turned-orderly}
-use Rattle.laws.proofs.Failures.{changed-found}
+use Rattle.laws.proofs.Failures.{changed-found, ending-failed, vanishes-failed}
+use Rattle.laws.proofs.Goes.{vanishes-none}
 use Rattle.laws.proofs.Handshakes.{answer-machine}
 use Rattle.laws.proofs.Keeping.{note-machine}
 use Rattle.laws.proofs.Lawful.{stands-found}
-use Rattle.laws.proofs.Lists.{StandsAt, FoundIn, find_some, All-stands}
-use Rattle.laws.proofs.Moments.{turned-found}
+use Rattle.laws.proofs.Lists.{StandsAt, FoundIn, find_some, any-at, All-stands}
+use Rattle.laws.proofs.Moments.{ending-none, turned-found}
 use Rattle.laws.proofs.Orders.{says_done-machine}
 use Rattle.laws.proofs.Pruning.{chosen-goes}
 use Rattle.laws.proofs.Shapes.{local-negotiated}
 use Rattle.laws.proofs.Talks.{replies-machine}
 use Rattle.laws.proofs.Ties.{put_in-elsewhere, none_there, taken-elsewhere, taken-here, turns_at-elsewhere}
 use Rattle.laws.proofs.ToldMoves.{turns_at-connections}
+use Rattle.laws.proofs.WaitsOfParts.{Finds}
 use Rattle.laws.proofs.WholeMoves.{pending-unnegotiated}
 
 -- ---- whoever is there is there still, and remembered as before
@@ -121,6 +125,41 @@ both-still m n o one two b = still_then (peer_at b m) (peer_at b n) (peer_at b o
 
 both-others : (a : Addr) (m n o : Machine) → Others a m n → Others a n o → Others a m o
 both-others a m n o one two b other = still_then (peer_at b m) (peer_at b n) (peer_at b o) (one b other) (two b other)
+
+-- ---- a peer that has not failed
+
+SparedAt : Option Peer → Option Peer → Type 0
+SparedAt None after = Unit {0}
+SparedAt (Some p) None = ⊥
+SparedAt (Some p) (Some q) = IsSpared p q
+
+still_spared : (a b : Option Peer) → StillAt a b → SparedAt a b
+unfolding StillAt SparedAt
+still_spared None b still = tt
+still_spared (Some p) None still = still
+still_spared (Some p) (Some q) still = record { failures = let same = still.failures in omega arith; not_before = still.not_before }
+
+spared_then : (a b c : Option Peer) → SparedAt a b → StillAt b c → SparedAt a c
+unfolding StillAt SparedAt
+spared_then None b c one two = tt
+spared_then (Some p) None c one two = elim one [ ]
+spared_then (Some p) (Some q) None one two = elim two [ ]
+spared_then (Some p) (Some q) (Some r) one two =
+    record { failures = let few = one.failures in let same = two.failures in omega arith; not_before = two.not_before ∙ one.not_before }
+
+spared_both : (a b : Option Peer) → SparedAt a b → WhereBoth IsSpared a b
+unfolding SparedAt
+spared_both None b spared = tt
+spared_both (Some p) None spared = tt
+spared_both (Some p) (Some q) spared = spared
+
+-- What happens on a connection leaves all other peers; and its own has lost it, while it was missed, or has not failed.
+record Beside (e : Entry) (m n : Machine) : Type 0 where
+  others : Others e.facts.addr m n
+  own : ((is_missed e.facts ≡ true) × (entry_at e.facts.cid.0 n ≡ None)) ⊎ SparedAt (peer_at e.facts.addr m) (peer_at e.facts.addr n)
+
+still-beside : (e : Entry) (m n : Machine) → Still m n → Beside e m n
+still-beside e m n still = record { others = still-others e.facts.addr m n still; own = inr (still_spared (peer_at e.facts.addr m) (peer_at e.facts.addr n) (still e.facts.addr)) }
 
 -- ---- changes of a peer
 
@@ -180,18 +219,36 @@ lost_by-others Refused f m = lost-others f m
 lost_by-others Query f m = lost-others f m
 lost_by-others (Fault kind) f m = lost-others f m
 
-ending-others : (cause : CloseCause) (e : Entry) (m : Machine) → Others e.facts.addr m (ending cause e m).machine
-ending-others cause e m = lost_by-others cause e.facts (without_entry e.facts.cid.0 m)
+-- where it is not missed, its peer stays as it was
+unmissed-spared : (e : Entry) (m n : Machine) → entry_at e.facts.cid.0 n ≡ None → (fails : Bool) → (fails ≡ true → is_missed e.facts ≡ true) → FailsWhere fails e m n →
+    ((is_missed e.facts ≡ true) × (entry_at e.facts.cid.0 n ≡ None)) ⊎ SparedAt (peer_at e.facts.addr m) (peer_at e.facts.addr n)
+unmissed-spared e m n gone true missed fails = inl (missed refl, gone)
+unmissed-spared e m n gone false missed same =
+    inr (subst (SparedAt (peer_at e.facts.addr m)) (sym same) (still_spared (peer_at e.facts.addr m) (peer_at e.facts.addr m) (still_itself (peer_at e.facts.addr m))))
 
-vanishes-others : (e : Entry) (m : Machine) → Others e.facts.addr m (vanishes e m).machine
-vanishes-others e m = lost-others e.facts (without_entry e.facts.cid.0 m)
+ending-beside : (cause : CloseCause) (e : Entry) (m : Machine) → Beside e m (ending cause e m).machine
+ending-beside cause e m = record {
+  others = lost_by-others cause e.facts (without_entry e.facts.cid.0 m);
+  own = unmissed-spared e m (ending cause e m).machine (ending-none cause e m) (is_failure cause e.facts) (missed cause) (ending-failed cause e m);
+}
+  where
+    missed : (c : CloseCause) → is_failure c e.facts ≡ true → is_missed e.facts ≡ true
+    missed Unused is = is
+    missed Pruned is = is
+    missed Overwritten is = absurd (false≢true is)
+    missed Refused is = is
+    missed Query is = is
+    missed (Fault kind) is = is
+
+vanishes-beside : (e : Entry) (m : Machine) → Beside e m (vanishes e m).machine
+vanishes-beside e m = record {
+  others = lost-others e.facts (without_entry e.facts.cid.0 m);
+  own = unmissed-spared e m (vanishes e m).machine (vanishes-none e m) (is_missed e.facts) (λ is. is) (vanishes-failed e m);
+}
 
 -- one that is not missed
-unmissed-still : (e : Entry) (m : Machine) → is_missed e.facts ≡ false → Still m (ending Pruned e m).machine
-unmissed-still e m unmissed b =
-    subst (λ n. StillAt (peer_at b m) (peer_at b n))
-    (sym (ap (λ c. (if c then peer_fails e.facts.addr (without_entry e.facts.cid.0 m) else nothing_more (without_entry e.facts.cid.0 m)).machine) unmissed))
-    (still_itself (peer_at b m))
+unmissed-peers : (e : Entry) (m : Machine) → is_missed e.facts ≡ false → (ending Pruned e m).machine.peers ≡ m.peers
+unmissed-peers e m unmissed = rw unmissed refl
 
 pub candidate-unmissed : (f : Facts) → is_candidate f ≡ true → is_missed f ≡ false
 candidate-unmissed f may = by_pending (is_pending f) refl
@@ -213,51 +270,43 @@ candidate-unmissed f may = by_pending (is_pending f) refl
     by_pending true is = absurd (both_ways (is_counted f) (uncounted is) parts.0)
     by_pending false is = ap (λ b. b || false) (idle_ f.local parts.1)
 
--- who is pruned could go, or is the one that moved
-trim-others : (moved : Entry) (m : Machine) → IsOrderly m → ((e : Entry) → entry_at moved.facts.cid.0 m ≡ Some e → e.facts.addr ≡ moved.facts.addr) →
-    Others moved.facts.addr m (trim moved.facts.cid m).machine
-trim-others moved m h here = cond_both (nat_le (counted_in m) m.settings.hard) (nothing_more m)
-    (on_connection goes (ending Pruned) m) (λ effect. Others moved.facts.addr m effect.machine) (λ within. still-others moved.facts.addr m m (same-still m m refl))
-    (λ above. by_entry (entry_at goes.0 m) refl)
+-- who is pruned could go, and then nobody fails, or is the one that moved
+trim-by : (Law : Machine → Type 0) (moved : Entry) (m : Machine) → IsOrderly m → ((n : Machine) → n.peers ≡ m.peers → Law n) →
+    ((e : Entry) → e.facts.cid.0 ≡ moved.facts.cid.0 → entry_at moved.facts.cid.0 m ≡ Some e → Law (ending Pruned e m).machine) → Law (trim moved.facts.cid m).machine
+trim-by Law moved m h same own = cond_both (nat_le (counted_in m) m.settings.hard) (nothing_more m)
+    (on_connection goes (ending Pruned) m) (λ effect. Law effect.machine) (λ within. same m refl) (λ above. by_entry (entry_at goes.0 m) refl)
   where
     goes : Cid
     goes = unwrap_or (choice_of (candidates_in m)) moved.facts.cid
 
-    by_entry : (o : Option Entry) → entry_at goes.0 m ≡ o → Others moved.facts.addr m (on_entry o (ending Pruned) m).machine
-    by_entry None is = still-others moved.facts.addr m m (same-still m m refl)
+    by_entry : (o : Option Entry) → entry_at goes.0 m ≡ o → Law (on_entry o (ending Pruned) m).machine
+    by_entry None is = same m refl
     by_entry (Some e) is = by_own (e.facts.cid.0 == moved.facts.cid.0) refl (chosen-goes moved.facts.cid m h e is)
       where
-        found : (e.facts.cid.0 == moved.facts.cid.0) ≡ true → entry_at moved.facts.cid.0 m ≡ Some e
-        found own =
+        by_own : (b : Bool) → (e.facts.cid.0 == moved.facts.cid.0) ≡ b → (b || is_candidate e.facts) ≡ true → Law (ending Pruned e m).machine
+        by_own true mine may =
             let at : FoundIn (λ x. has_id goes.0 x.facts) m.connections e = find_some (λ x. has_id goes.0 x.facts) m.connections e is in
-            subst (λ c. entry_at c m ≡ Some e) (eqb-true e.facts.cid.0 moved.facts.cid.0 own) (stands-found m e at.place h at.stands)
+            let id : e.facts.cid.0 ≡ moved.facts.cid.0 = eqb-true e.facts.cid.0 moved.facts.cid.0 mine in
+            own e id (subst (λ c. entry_at c m ≡ Some e) id (stands-found m e at.place h at.stands))
+        by_own false other may = same (ending Pruned e m).machine (unmissed-peers e m (candidate-unmissed e.facts may))
 
-        by_own : (b : Bool) → (e.facts.cid.0 == moved.facts.cid.0) ≡ b → (b || is_candidate e.facts) ≡ true → Others moved.facts.addr m (ending Pruned e m).machine
-        by_own true own may = subst (λ a. Others a m (ending Pruned e m).machine) (here e (found own)) (ending-others Pruned e m)
-        by_own false own may = still-others moved.facts.addr m (ending Pruned e m).machine (unmissed-still e m (candidate-unmissed e.facts may))
+trim-beside : (moved : Entry) (m : Machine) → IsOrderly m → ((e : Entry) → entry_at moved.facts.cid.0 m ≡ Some e → e.facts ≡ moved.facts) → Beside moved m (trim moved.facts.cid m).machine
+trim-beside moved m h here =
+    trim-by (Beside moved m) moved m h (λ n same. still-beside moved m n (same-still m n same)) (λ e id found.
+    let b : Beside e m (ending Pruned e m).machine = ending-beside Pruned e m in
+    subst (λ f. Beside (record moved { facts = f }) m (ending Pruned e m).machine) (here e found) (record { others = b.others; own = b.own }))
 
 -- nobody fails where the one that moved is not missed
-trim-still : (moved : Entry) (m : Machine) → IsOrderly m → ((e : Entry) → entry_at moved.facts.cid.0 m ≡ Some e → is_missed e.facts ≡ false) →
-    Still m (trim moved.facts.cid m).machine
-trim-still moved m h unmissed = cond_both (nat_le (counted_in m) m.settings.hard) (nothing_more m)
-    (on_connection goes (ending Pruned) m) (λ effect. Still m effect.machine) (λ within. same-still m m refl)
-    (λ above. by_entry (entry_at goes.0 m) refl)
+pub trim-peers : (moved : Entry) (m : Machine) → IsOrderly m → ((e : Entry) → entry_at moved.facts.cid.0 m ≡ Some e → is_missed e.facts ≡ false) →
+    (trim moved.facts.cid m).machine.peers ≡ m.peers
+trim-peers moved m h unmissed = trim-by (λ n. n.peers ≡ m.peers) moved m h (λ n same. same) (λ e id found. unmissed-peers e m (unmissed e found))
+
+pub idle-unmissed : (f : Facts) → is_negotiated f ≡ true → is_pending f ≡ false
+idle-unmissed f open_ = by_pending (is_pending f) refl
   where
-    goes : Cid
-    goes = unwrap_or (choice_of (candidates_in m)) moved.facts.cid
-
-    by_entry : (o : Option Entry) → entry_at goes.0 m ≡ o → Still m (on_entry o (ending Pruned) m).machine
-    by_entry None is = same-still m m refl
-    by_entry (Some e) is = by_own (e.facts.cid.0 == moved.facts.cid.0) refl (chosen-goes moved.facts.cid m h e is)
-      where
-        found : (e.facts.cid.0 == moved.facts.cid.0) ≡ true → entry_at moved.facts.cid.0 m ≡ Some e
-        found own =
-            let at : FoundIn (λ x. has_id goes.0 x.facts) m.connections e = find_some (λ x. has_id goes.0 x.facts) m.connections e is in
-            subst (λ c. entry_at c m ≡ Some e) (eqb-true e.facts.cid.0 moved.facts.cid.0 own) (stands-found m e at.place h at.stands)
-
-        by_own : (b : Bool) → (e.facts.cid.0 == moved.facts.cid.0) ≡ b → (b || is_candidate e.facts) ≡ true → Still m (ending Pruned e m).machine
-        by_own true own may = unmissed-still e m (unmissed e (found own))
-        by_own false own may = unmissed-still e m (candidate-unmissed e.facts may)
+    by_pending : (b : Bool) → is_pending f ≡ b → b ≡ false
+    by_pending true is = absurd (both_ways (is_negotiated f) (pending-unnegotiated f is) open_)
+    by_pending false is = refl
 
 -- what a connection turned into is found in its place
 pub turned-is : (e new : Entry) (m : Machine) → new.facts.cid ≡ e.facts.cid → (law : Entry → Type 0) → law new → (f : Entry) → entry_at e.facts.cid.0 (with_entry new m) ≡ Some f → law f
@@ -269,41 +318,53 @@ turned-is e new m same law holds f is = by_found (entry_at e.facts.cid.0 m) (sym
 
 -- ---- a deadline
 
-fired-others : (sort : Kind) (e : Entry) (m : Machine) → Others e.facts.addr m (fires_as sort e m).machine
-fired-others kind.Handshake e m = ending-others (Fault HandshakeWait) e m
-fired-others kind.Grace e m = still-others e.facts.addr m (grace_over e m).machine (same-still m (grace_over e m).machine
+fired-beside : (sort : Kind) (e : Entry) (m : Machine) → Beside e m (fires_as sort e m).machine
+fired-beside kind.Handshake e m = ending-beside (Fault HandshakeWait) e m
+fired-beside kind.Grace e m = still-beside e m (grace_over e m).machine (same-still m (grace_over e m).machine
     (cond_both e.facts.local (entry_turns e (record e { facts = expired e.facts }) m)
     (as_move (unused e.facts.cid.0) m (then_do (tells (Close e.facts.cid Unused ∷ []) m) (entry_turns e (closing_entry m e))))
     (λ effect. effect.machine.peers ≡ m.peers) (λ local. refl) (λ idle. refl)))
-fired-others kind.TimeWait e m = still-others e.facts.addr m (fires_as kind.TimeWait e m).machine (same-still m (fires_as kind.TimeWait e m).machine refl)
-fired-others kind.Reply2 e m = ending-others (Fault ReplyWait) e m
-fired-others kind.Reply8 e m = ending-others (Fault ReplyWait) e m
-fired-others kind.Reply10 e m = ending-others (Fault ReplyWait) e m
+fired-beside kind.TimeWait e m = still-beside e m (fires_as kind.TimeWait e m).machine (same-still m (fires_as kind.TimeWait e m).machine refl)
+fired-beside kind.Reply2 e m = ending-beside (Fault ReplyWait) e m
+fired-beside kind.Reply8 e m = ending-beside (Fault ReplyWait) e m
+fired-beside kind.Reply10 e m = ending-beside (Fault ReplyWait) e m
 
 -- ---- an item
 
-judged-others : (v : Verdict) (e : Entry) (m : Machine) → Others e.facts.addr m (judged v e m).machine
-judged-others (verdict.Accept agreed) e m = still-others e.facts.addr m (judged (verdict.Accept agreed) e m).machine (same-still m (judged (verdict.Accept agreed) e m).machine refl)
-judged-others (verdict.Refuse why) e m = ending-others Refused e m
-judged-others verdict.Query e m = ending-others Query e m
-judged-others (verdict.Agree agreed) e m =
-    changed-others e.facts.addr (λ p. record p { temp = Warm; failures = 0 })
-    (with_entry (owing 8 (e.facts.cid.0 % 65536) m (record e { facts = agreed_outbound agreed (m.now + m.settings.idle) e.facts })) m) (λ p. refl)
-judged-others verdict.Refused e m = ending-others Refused e m
-judged-others verdict.Wrong e m = ending-others (Fault Protocol) e m
+judged-beside : (v : Verdict) (e : Entry) (m : Machine) → Beside e m (judged v e m).machine
+unfolding SparedAt
+judged-beside (verdict.Accept agreed) e m = still-beside e m (judged (verdict.Accept agreed) e m).machine (same-still m (judged (verdict.Accept agreed) e m).machine refl)
+judged-beside (verdict.Refuse why) e m = ending-beside Refused e m
+judged-beside verdict.Query e m = ending-beside Query e m
+judged-beside (verdict.Agree agreed) e m = record {
+  others = changed-others e.facts.addr change n (λ p. refl);
+  own = inr (subst (SparedAt (peer_at e.facts.addr m)) (sym (changed-found e.facts.addr change n (λ p. refl))) (by_peer (peer_at e.facts.addr m)));
+}
+  where
+    change : Peer → Peer
+    change = λ p. record p { temp = Warm; failures = 0 }
 
-greeted_by-others : (o : Option Message) (side : ℕ) (e : Entry) (m : Machine) → Others e.facts.addr m (greeted_by o side e m).machine
-greeted_by-others None side e m = ending-others (Fault Malformed) e m
-greeted_by-others (Some msg) side e m =
+    n : Machine
+    n = with_entry (owing 8 (e.facts.cid.0 % 65536) m (record e { facts = agreed_outbound agreed (m.now + m.settings.idle) e.facts })) m
+
+    by_peer : (o : Option Peer) → SparedAt o (option_map change o)
+    by_peer None = tt
+    by_peer (Some p) = record { failures = omega arith; not_before = refl }
+judged-beside verdict.Refused e m = ending-beside Refused e m
+judged-beside verdict.Wrong e m = ending-beside (Fault Protocol) e m
+
+greeted_by-beside : (o : Option Message) (side : ℕ) (e : Entry) (m : Machine) → Beside e m (greeted_by o side e m).machine
+greeted_by-beside None side e m = ending-beside (Fault Malformed) e m
+greeted_by-beside (Some msg) side e m =
     let v : Verdict = verdict_of (role_of e.facts.provenance) (own_info m.settings) msg in
-    cond_both (fits_side (role_of e.facts.provenance) side msg) (decided v e m) (ending (Fault Protocol) e m) (λ effect. Others e.facts.addr m effect.machine)
-    (λ fits. subst (λ n. Others e.facts.addr m (judged v e n).machine) (sym (answer-machine (answer_of v (own_info m.settings)) e.facts.cid m)) (judged-others v e m))
-    (λ other. ending-others (Fault Protocol) e m)
+    cond_both (fits_side (role_of e.facts.provenance) side msg) (decided v e m) (ending (Fault Protocol) e m) (λ effect. Beside e m effect.machine)
+    (λ fits. subst (λ n. Beside e m (judged v e n).machine) (sym (answer-machine (answer_of v (own_info m.settings)) e.facts.cid m)) (judged-beside v e m))
+    (λ other. ending-beside (Fault Protocol) e m)
 
-greets-others : (item : Item) (e : Entry) (m : Machine) → Others e.facts.addr m (greets item e m).machine
-greets-others item e m =
+greets-beside : (item : Item) (e : Entry) (m : Machine) → Beside e m (greets item e m).machine
+greets-beside item e m =
     cond_both (item.id == 0 && is_awaited (role_of e.facts.provenance) item.side) (greeted_by (message_of item.body) item.side e m) (ending (Fault Protocol) e m)
-    (λ effect. Others e.facts.addr m effect.machine) (λ heard. greeted_by-others (message_of item.body) item.side e m) (λ other. ending-others (Fault Protocol) e m)
+    (λ effect. Beside e m effect.machine) (λ heard. greeted_by-beside (message_of item.body) item.side e m) (λ other. ending-beside (Fault Protocol) e m)
 
 serves-still : (seen : Seen) (protocol : ℕ) (o : Option Entry) (m : Machine) → Still m (on_entry o (serves seen protocol) m).machine
 serves-still seen protocol None m = same-still m m refl
@@ -311,24 +372,38 @@ serves-still seen protocol (Some e) m =
     subst (λ n. Still m (stops_if seen.done protocol e n).machine) (sym (replies-machine seen.reply protocol e m))
     (cond_both seen.done (idle protocol e m) (nothing_more m) (λ effect. Still m effect.machine) (λ done. same-still m (idle protocol e m).machine refl) (λ on. same-still m m refl))
 
-begins-others : (protocol : ℕ) (m : Machine) (e : Entry) (k : ℕ) → IsOrderly m → StandsAt m.connections k e → Others e.facts.addr m (begins protocol e m).machine
-begins-others protocol m e k h s = cond_both (runs protocol e.facts.running) (nothing_more m) (awake protocol e m) (λ effect. Others e.facts.addr m effect.machine)
-    (λ running. still-others e.facts.addr m m (same-still m m refl))
+begins-beside : (protocol : ℕ) (m : Machine) (e : Entry) (k : ℕ) → IsOrderly m → StandsAt m.connections k e → Beside e m (begins protocol e m).machine
+begins-beside protocol m e k h s = cond_both (runs protocol e.facts.running) (nothing_more m) (awake protocol e m) (λ effect. Beside e m effect.machine)
+    (λ running. still-beside e m m (same-still m m refl))
     (λ silent. let new : Entry = record e { facts = awakened protocol e.facts } in
     let n : Machine = with_entry new m in
-    both-others e.facts.addr m n (trim e.facts.cid n).machine (still-others e.facts.addr m n (same-still m n refl))
-    (trim-others new n (turned-orderly m e new k h s (record { same_id = refl; same_addr = refl; live = λ l. l }))
-    (turned-is e new m refl (λ f. f.facts.addr ≡ e.facts.addr) refl)))
+    let b : Beside new n (trim e.facts.cid n).machine =
+    trim-beside new n (turned-orderly m e new k h s (record { same_id = refl; same_addr = refl; live = λ l. l })) (turned-is e new m refl (λ f. f.facts ≡ new.facts) refl) in
+    record { others = b.others; own = b.own })
 
-asked_as-others : (r : Result Seen FaultKind) (protocol : ℕ) (m : Machine) (e : Entry) (k : ℕ) → IsOrderly m → StandsAt m.connections k e → Others e.facts.addr m (asked_as r protocol e m).machine
-asked_as-others (Err kind) protocol m e k h s = ending-others (Fault kind) e m
-asked_as-others (Ok seen) protocol m e k h s =
-    let first : Effect = begins protocol e m in
-    cond_both (takes_requests e) (then_do first (on_connection e.facts.cid (serves seen protocol))) (ending (Fault Protocol) e m) (λ effect. Others e.facts.addr m effect.machine)
-    (λ takes. both-others e.facts.addr m first.machine (on_connection e.facts.cid (serves seen protocol) first.machine).machine (begins-others protocol m e k h s)
-    (still-others e.facts.addr first.machine (on_connection e.facts.cid (serves seen protocol) first.machine).machine
-    (serves-still seen protocol (entry_at e.facts.cid.0 first.machine) first.machine)))
-    (λ other. ending-others (Fault Protocol) e m)
+asked_as-beside : (r : Result Seen FaultKind) (protocol : ℕ) (m : Machine) (e : Entry) (k : ℕ) → IsOrderly m → StandsAt m.connections k e → Beside e m (asked_as r protocol e m).machine
+asked_as-beside (Err kind) protocol m e k h s = ending-beside (Fault kind) e m
+asked_as-beside (Ok seen) protocol m e k h s =
+    cond_both (takes_requests e) (then_do first (on_connection e.facts.cid (serves seen protocol))) (ending (Fault Protocol) e m) (λ effect. Beside e m effect.machine)
+    (λ takes. by_entry (entry_at e.facts.cid.0 n) refl (begins-beside protocol m e k h s)) (λ other. ending-beside (Fault Protocol) e m)
+  where
+    first : Effect
+    first = begins protocol e m
+
+    n : Machine
+    n = first.machine
+
+    by_entry : (o : Option Entry) → entry_at e.facts.cid.0 n ≡ o → Beside e m n → Beside e m (on_entry o (serves seen protocol) n).machine
+    by_entry None is begun = begun
+    by_entry (Some f) is begun =
+        let still : Still n (serves seen protocol f n).machine = serves-still seen protocol (Some f) n in
+        record {
+          others = both-others e.facts.addr m n (serves seen protocol f n).machine begun.others (still-others e.facts.addr n (serves seen protocol f n).machine still);
+          own = elim begun.own [
+            | inl lost ↦ absurd (let never : Some f ≡ None = sym is ∙ lost.1 in cc)
+            | inr spared ↦ inr (spared_then (peer_at e.facts.addr m) (peer_at e.facts.addr n) (peer_at e.facts.addr (serves seen protocol f n).machine) spared (still e.facts.addr))
+          ];
+        }
 
 shares-still : (addrs : List Addr) (m : Machine) → Still m (for_each shares_address addrs m).machine
 unfolding for_each
@@ -349,27 +424,27 @@ brings-still protocol body e m =
     (λ not_2. cond_both (protocol == 8) (nothing_more m) (takes_addresses (share_of body) m) (λ effect. Still m effect.machine) (λ on_8. same-still m m refl)
     (λ not_8. takes-still (share_of body) m))
 
-answered_as-others : (o : Option Owed) (item : Item) (e : Entry) (m : Machine) → Others e.facts.addr m (answered_as o item e m).machine
-answered_as-others None item e m = ending-others (Fault Protocol) e m
-answered_as-others (Some owed) item e m =
+answered_as-beside : (o : Option Owed) (item : Item) (e : Entry) (m : Machine) → Beside e m (answered_as o item e m).machine
+answered_as-beside None item e m = ending-beside (Fault Protocol) e m
+answered_as-beside (Some owed) item e m =
     let n : Machine = with_entry (paid item.id e) m in
     cond_both (pays owed item.body) (then_do (entry_turns e (paid item.id e) m) (brings item.id item.body e)) (ending (Fault Protocol) e m)
-    (λ effect. Others e.facts.addr m effect.machine)
-    (λ pays. still-others e.facts.addr m (brings item.id item.body e n).machine
+    (λ effect. Beside e m effect.machine)
+    (λ pays. still-beside e m (brings item.id item.body e n).machine
     (both-still m n (brings item.id item.body e n).machine (same-still m n refl) (brings-still item.id item.body e n)))
-    (λ other. ending-others (Fault Protocol) e m)
+    (λ other. ending-beside (Fault Protocol) e m)
 
-talks-others : (item : Item) (m : Machine) (e : Entry) (k : ℕ) → IsOrderly m → StandsAt m.connections k e → Others e.facts.addr m (talks item e m).machine
-talks-others item m e k h s =
+talks-beside : (item : Item) (m : Machine) (e : Entry) (k : ℕ) → IsOrderly m → StandsAt m.connections k e → Beside e m (talks item e m).machine
+talks-beside item m e k h s =
     cond_both (item.side == 0) (asked_as (watched item.id (agreed_sharing e.facts.agreed) item.body) item.id e m) (answered_as (reply_on item.id e) item e m)
-    (λ effect. Others e.facts.addr m effect.machine) (λ asks. asked_as-others (watched item.id (agreed_sharing e.facts.agreed) item.body) item.id m e k h s)
-    (λ answers. answered_as-others (reply_on item.id e) item e m)
+    (λ effect. Beside e m effect.machine) (λ asks. asked_as-beside (watched item.id (agreed_sharing e.facts.agreed) item.body) item.id m e k h s)
+    (λ answers. answered_as-beside (reply_on item.id e) item e m)
 
-handled-others : (p : Phase) (item : Item) (m : Machine) (e : Entry) (k : ℕ) → IsOrderly m → StandsAt m.connections k e → Others e.facts.addr m (handled_in p item e m).machine
-handled-others Dialing item m e k h s = still-others e.facts.addr m m (same-still m m refl)
-handled-others (Greeting until) item m e k h s = greets-others item e m
-handled-others Negotiated item m e k h s = talks-others item m e k h s
-handled-others (Closing until) item m e k h s = still-others e.facts.addr m m (same-still m m refl)
+handled-beside : (p : Phase) (item : Item) (m : Machine) (e : Entry) (k : ℕ) → IsOrderly m → StandsAt m.connections k e → Beside e m (handled_in p item e m).machine
+handled-beside Dialing item m e k h s = still-beside e m m (same-still m m refl)
+handled-beside (Greeting until) item m e k h s = greets-beside item e m
+handled-beside Negotiated item m e k h s = talks-beside item m e k h s
+handled-beside (Closing until) item m e k h s = still-beside e m m (same-still m m refl)
 
 -- ---- on a connection
 
@@ -379,30 +454,61 @@ others-remembered a m n others b other = still_both (peer_at b m) (peer_at b n) 
 all-remembered : (m n : Machine) → Still m n → AllRemembered m n
 all-remembered m n still b = still_both (peer_at b m) (peer_at b n) (still b)
 
-beside : (cid : ℕ) (act : Entry → Machine → Effect) (m : Machine) → ((e : Entry) (k : ℕ) → StandsAt m.connections k e → Others e.facts.addr m (act e m).machine) →
-    RemembersBeside (entry_at cid m) m (on_entry (entry_at cid m) act m).machine
+-- who has lost nothing that was missed has not failed
+beside-fails : (e : Entry) (k : ℕ) (m n : Machine) → StandsAt m.connections k e → Beside e m n → FailsOnly m n
+beside-fails e k m n s b addr kept = by_test (same_address addr e.facts.addr) refl
+  where
+    test : Entry → Bool
+    test = λ x. is_missed x.facts && is_none (entry_at x.facts.cid.0 n)
+
+    lost_it : same_address addr e.facts.addr ≡ true → is_missed e.facts ≡ true → entry_at e.facts.cid.0 n ≡ None → some_connection test addr m ≡ true
+    lost_it here missed gone =
+        any-at (λ x. same_address x.facts.addr addr && test x) m.connections k e s.inside
+        (subst (λ x. (same_address x.facts.addr addr && test x) ≡ true) (sym s.is)
+        (and_from (same_address e.facts.addr addr) (test e) (subst (λ a. same_address e.facts.addr a ≡ true) (sym (same_address-true addr e.facts.addr here)) (same_address-self e.facts.addr))
+        (and_from (is_missed e.facts) (is_none (entry_at e.facts.cid.0 n)) missed (ap is_none gone))))
+
+    by_test : (c : Bool) → same_address addr e.facts.addr ≡ c → WhereBoth IsSpared (peer_at addr m) (peer_at addr n)
+    by_test true here = elim b.own [
+      | inl lost ↦ absurd (both_ways (some_connection test addr m) kept (lost_it here lost.0 lost.1))
+      | inr spared ↦ subst (λ a. WhereBoth IsSpared (peer_at a m) (peer_at a n)) (sym (same_address-true addr e.facts.addr here)) (spared_both (peer_at e.facts.addr m) (peer_at e.facts.addr n) spared)
+    ]
+    by_test false other = spared_both (peer_at addr m) (peer_at addr n) (still_spared (peer_at addr m) (peer_at addr n) (b.others addr other))
+
+still-fails : (m n : Machine) → Still m n → FailsOnly m n
+still-fails m n still addr kept = spared_both (peer_at addr m) (peer_at addr n) (still_spared (peer_at addr m) (peer_at addr n) (still addr))
+
+-- what is remembered, and who fails
+record Treats (o : Option Entry) (m n : Machine) : Type 0 where
+  remembered : RemembersBeside o m n
+  fails : FailsOnly m n
+
+beside : (cid : ℕ) (act : Entry → Machine → Effect) (m : Machine) → ((e : Entry) (k : ℕ) → StandsAt m.connections k e → Beside e m (act e m).machine) →
+    Treats (entry_at cid m) m (on_entry (entry_at cid m) act m).machine
 beside cid act m each = by_entry (entry_at cid m) refl
   where
-    by_entry : (o : Option Entry) → entry_at cid m ≡ o → RemembersBeside o m (on_entry o act m).machine
-    by_entry None is = all-remembered m m (same-still m m refl)
+    by_entry : (o : Option Entry) → entry_at cid m ≡ o → Treats o m (on_entry o act m).machine
+    by_entry None is = record { remembered = all-remembered m m (same-still m m refl); fails = still-fails m m (same-still m m refl) }
     by_entry (Some e) is =
         let at : FoundIn (λ x. has_id cid x.facts) m.connections e = find_some (λ x. has_id cid x.facts) m.connections e is in
-        others-remembered e.facts.addr m (act e m).machine (each e at.place at.stands)
+        let b : Beside e m (act e m).machine = each e at.place at.stands in
+        record { remembered = others-remembered e.facts.addr m (act e m).machine b.others; fails = beside-fails e at.place m (act e m).machine at.stands b }
 
-dialed-others : (opened : Bool) (e : Entry) (m : Machine) → Others e.facts.addr m (dialed opened e m).machine
-dialed-others opened e m =
-    cond_both (is_dialing e.facts) (if opened then dial_opens e m else dial_fails e m) (nothing_more m) (λ effect. Others e.facts.addr m effect.machine)
-    (λ dialing. cond_both opened (dial_opens e m) (dial_fails e m) (λ effect. Others e.facts.addr m effect.machine)
-    (λ open_. still-others e.facts.addr m (dial_opens e m).machine (same-still m (dial_opens e m).machine refl)) (λ failed. vanishes-others e m))
-    (λ other. still-others e.facts.addr m m (same-still m m refl))
+dialed-beside : (opened : Bool) (e : Entry) (m : Machine) → Beside e m (dialed opened e m).machine
+dialed-beside opened e m =
+    cond_both (is_dialing e.facts) (if opened then dial_opens e m else dial_fails e m) (nothing_more m) (λ effect. Beside e m effect.machine)
+    (λ dialing. cond_both opened (dial_opens e m) (dial_fails e m) (λ effect. Beside e m effect.machine)
+    (λ open_. still-beside e m (dial_opens e m).machine (same-still m (dial_opens e m).machine refl))
+    (λ failed. let b : Beside e m (vanishes e m).machine = vanishes-beside e m in record { others = b.others; own = b.own }))
+    (λ other. still-beside e m m (same-still m m refl))
 
-closes-others : (e : Entry) (m : Machine) → Others e.facts.addr m (closes e m).machine
-closes-others e m = cond_both (is_live e.facts) (vanishes e m) (nothing_more m) (λ effect. Others e.facts.addr m effect.machine)
-    (λ live. vanishes-others e m) (λ closed. still-others e.facts.addr m m (same-still m m refl))
+closes-beside : (e : Entry) (m : Machine) → Beside e m (closes e m).machine
+closes-beside e m = cond_both (is_live e.facts) (vanishes e m) (nothing_more m) (λ effect. Beside e m effect.machine)
+    (λ live. vanishes-beside e m) (λ closed. still-beside e m m (same-still m m refl))
 
-faulted-others : (fault : Option CutFault) (e : Entry) (m : Machine) → Others e.facts.addr m (faulted fault e m).machine
-faulted-others None e m = still-others e.facts.addr m m (same-still m m refl)
-faulted-others (Some fault) e m = ending-others (Fault (kind_of fault)) e m
+faulted-beside : (fault : Option CutFault) (e : Entry) (m : Machine) → Beside e m (faulted fault e m).machine
+faulted-beside None e m = still-beside e m m (same-still m m refl)
+faulted-beside (Some fault) e m = ending-beside (Fault (kind_of fault)) e m
 
 -- ---- orders
 
@@ -449,7 +555,7 @@ promotes-remembers addr m = by_live (live_entry_at addr m) refl
     unchanged n same = (
       others-remembered addr m n (still-others addr m n (same-still m n same)),
       subst (λ ps. WhereBoth IsTaken (peer_at addr m) (peer_at addr (record m { peers = ps }))) (sym same)
-          (same-at IsTaken (λ p. record { not_before = refl; share_next = refl }) (peer_at addr m)),
+          (same-at IsTaken (λ p. record { failures = omega arith; not_before = refl; share_next = refl }) (peer_at addr m)),
     )
 
     by_live : (o : Option Entry) → live_entry_at addr m ≡ o → Right (promoted_at o addr m).machine
@@ -462,7 +568,7 @@ promotes-remembers addr m = by_live (live_entry_at addr m) refl
         let n : Machine = with_entry (owing 8 (e.facts.cid.0 % 65536) m (record e { facts = acquired e.facts })) m in
         subst (λ a. OthersRemembered a m (acquire e m).machine × WhereBoth IsTaken (peer_at a m) (peer_at a (acquire e m).machine)) here (
           others-remembered e.facts.addr m (acquire e m).machine (changed-others e.facts.addr change n (λ p. refl)),
-          both-at IsTaken e.facts.addr change m n refl (λ p. refl) (λ p. record { not_before = refl; share_next = refl }),
+          both-at IsTaken e.facts.addr change m n refl (λ p. refl) (λ p. record { failures = omega arith; not_before = refl; share_next = refl }),
         ))
         (λ other. unchanged (dial addr m).machine refl)
 
@@ -491,22 +597,17 @@ releases-remembers addr m h = by_entry (find (is_used_at addr) m.connections) re
         let new : Entry = record e { facts = released (m.now + m.settings.idle) e.facts } in
         let n : Machine = with_entry new m in
         let o : Machine = (peer_becomes Cold e.facts.addr n).machine in
-        let unpending : is_missed new.facts ≡ false = idle_ new.facts open_ in
+        let unpending : is_missed new.facts ≡ false = idle-unmissed new.facts open_ in
+        let apart : IsOrderly n = turned-orderly m e new at.place h.orderly at.stands (record { same_id = refl; same_addr = refl; live = λ l. l }) in
+        let stays : (trim e.facts.cid o).machine.peers ≡ o.peers =
+        trim-peers new o (changed-orderly (peer_at e.facts.addr n) (λ p. record p { temp = Cold }) n apart)
+        (λ f found. turned-is e new m refl (λ x. is_missed x.facts ≡ false) unpending f
+        (sym (ap (find (λ x. has_id e.facts.cid.0 x.facts)) (turns_at-connections (peer_at e.facts.addr n) (λ p. record p { temp = Cold }) n)) ∙ found)) in
         all-remembered m (release e m).machine
         (subst (λ w. Still m (then_do (entry_turns e (record e { facts = released (w.now + w.settings.idle) e.facts }) w)
         (λ x. then_do (peer_becomes Cold e.facts.addr x) (trim e.facts.cid))).machine) (sym (says_done-machine e.facts m))
         (both-still m n (trim e.facts.cid o).machine (same-still m n refl)
-        (both-still n o (trim e.facts.cid o).machine (becomes-still Cold e.facts.addr n)
-        (trim-still new o (changed-orderly (peer_at e.facts.addr n) (λ p. record p { temp = Cold }) n (turned-orderly m e new at.place h.orderly at.stands (record { same_id = refl; same_addr = refl; live = λ l. l })))
-        (λ f found. turned-is e new m refl (λ x. is_missed x.facts ≡ false) unpending f
-        (sym (ap (find (λ x. has_id e.facts.cid.0 x.facts)) (turns_at-connections (peer_at e.facts.addr n) (λ p. record p { temp = Cold }) n)) ∙ found))))))
-      where
-        idle_ : (f : Facts) → is_negotiated f ≡ true → is_pending f ≡ false
-        idle_ f open_ = by_pending (is_pending f) refl
-          where
-            by_pending : (b : Bool) → is_pending f ≡ b → b ≡ false
-            by_pending true is = absurd (both_ways (is_negotiated f) (pending-unnegotiated f is) open_)
-            by_pending false is = refl
+        (both-still n o (trim e.facts.cid o).machine (becomes-still Cold e.facts.addr n) (same-still o (trim e.facts.cid o).machine stays))))
 
 on_each : (addr : Addr) (act : Entry → Machine → Effect) (m : Machine) → ((e : Entry) → Still m (act e m).machine) → AllRemembered m (on_used addr act m).machine
 on_each addr act m each = by_entry (find (is_used_at addr) m.connections)
@@ -529,30 +630,81 @@ big-still addr m = cond_both (is_wanted_big addr m) (as_move (shared addr) m (pe
 
 -- ---- each act
 
--- what must be known of the machine
-abbrev pub Knows : Act → Machine → Type 0
-Knows (carries order) m = IsOrdered m
-Knows (handles_item cid item) m = IsOrderly m
-Knows other m = Unit {0}
-
 book-remembered : (act : Act) (m : Machine) → (does act m).machine.peers ≡ m.peers → AllRemembered m (does act m).machine
 book-remembered act m same = all-remembered m (does act m).machine (same-still m (does act m).machine same)
 
-pub remembers : (act : Act) (m : Machine) → Knows act m → Remembers act m (does act m).machine
-remembers (shows t) m known = book-remembered (shows t) m (treats-book (shows t) m)
-remembers (fires_one d) m known = beside d.cid.0 (fires_as d.kind) m (λ e k s. fired-others d.kind e m)
-remembers asks_for_roots m known = book-remembered asks_for_roots m (treats-book asks_for_roots m)
+book-fails : (act : Act) (m : Machine) → (does act m).machine.peers ≡ m.peers → FailsOnly m (does act m).machine
+book-fails act m same = still-fails m (does act m).machine (same-still m (does act m).machine same)
+
+fires-treats : (d : Deadline) (m : Machine) → Treats (entry_at d.cid.0 m) m (does (fires_one d) m).machine
+fires-treats d m = beside d.cid.0 (fires_as d.kind) m (λ e k s. fired-beside d.kind e m)
+
+dials-treats : (cid : Cid) (opened : Bool) (m : Machine) → Treats (entry_at cid.0 m) m (does (ends_dial cid opened) m).machine
+dials-treats cid opened m = beside cid.0 (dialed opened) m (λ e k s. dialed-beside opened e m)
+
+items-treat : (cid : Cid) (item : Item) (m : Machine) → IsOrderly m → Treats (entry_at cid.0 m) m (does (handles_item cid item) m).machine
+items-treat cid item m h = beside cid.0 (handled item) m (λ e k s. handled-beside e.facts.phase item m e k h s)
+
+stream-treats : (cid : Cid) (fault : Option CutFault) (m : Machine) → Treats (entry_at cid.0 m) m (does (ends_stream cid fault) m).machine
+stream-treats cid fault m = beside cid.0 (faulted fault) m (λ e k s. faulted-beside fault e m)
+
+closes-treats : (cid : Cid) (m : Machine) → Treats (entry_at cid.0 m) m (does (is_closed cid) m).machine
+closes-treats cid m = beside cid.0 closes m (λ e k s. closes-beside e m)
+
+ordinary-still : (addr : Addr) (m : Machine) → Still m (does (makes_ordinary addr) m).machine
+ordinary-still addr m = changed-still addr (λ p. record p { big = false }) m (λ p. refl) (λ p. record { failures = refl; not_before = refl; share_next = refl })
+
+pub remembers : (act : Act) (m : Machine) → Finds act m → Remembers act m (does act m).machine
+remembers (fires_one d) m known = (fires-treats d m).remembered
 remembers (carries order) m known = orders-remember order m known
-remembers (connects addr) m known = book-remembered (connects addr) m (treats-book (connects addr) m)
-remembers (ends_dial cid opened) m known = beside cid.0 (dialed opened) m (λ e k s. dialed-others opened e m)
-remembers (stores entry undecoded) m known = book-remembered (stores entry undecoded) m (treats-book (stores entry undecoded) m)
-remembers (handles_item cid item) m known = beside cid.0 (handled item) m (λ e k s. handled-others e.facts.phase item m e k known s)
-remembers (ends_stream cid fault) m known = beside cid.0 (faulted fault) m (λ e k s. faulted-others fault e m)
-remembers (is_closed cid) m known = beside cid.0 closes m (λ e k s. closes-others e m)
-remembers (sets_targets targets) m known = book-remembered (sets_targets targets) m (treats-book (sets_targets targets) m)
-remembers (sets_big_targets targets) m known = book-remembered (sets_big_targets targets) m (treats-book (sets_big_targets targets) m)
-remembers (sets_groups groups) m known = book-remembered (sets_groups groups) m (treats-book (sets_groups groups) m)
-remembers (sets_roots roots) m known = book-remembered (sets_roots roots) m (treats-book (sets_roots roots) m)
-remembers (makes_ordinary addr) m known = all-remembered m (does (makes_ordinary addr) m).machine (changed-still addr (λ p. record p { big = false }) m (λ p. refl) (λ p. record { failures = refl; not_before = refl; share_next = refl }))
+remembers (ends_dial cid opened) m known = (dials-treats cid opened m).remembered
+remembers (handles_item cid item) m known = (items-treat cid item m known.orderly).remembered
+remembers (ends_stream cid fault) m known = (stream-treats cid fault m).remembered
+remembers (is_closed cid) m known = (closes-treats cid m).remembered
+remembers (makes_ordinary addr) m known = all-remembered m (does (makes_ordinary addr) m).machine (ordinary-still addr m)
 remembers (provides addr) m known = all-remembered m (does (provides addr) m).machine (comes-still false addr m)
 remembers (provides_big addr) m known = all-remembered m (does (provides_big addr) m).machine (big-still addr m)
+remembers other m known = book-remembered other m (treats-book other m)
+
+-- ---- who fails
+
+weaker-both : (P Q : Peer → Peer → Type 0) → ((p q : Peer) → P p q → Q p q) → (a b : Option Peer) → WhereBoth P a b → WhereBoth Q a b
+weaker-both P Q each None b h = tt
+weaker-both P Q each (Some p) None h = tt
+weaker-both P Q each (Some p) (Some q) h = each p q h
+
+remembered-spared : (p q : Peer) → IsRemembered p q → IsSpared p q
+remembered-spared p q h = record { failures = let same = h.failures in omega arith; not_before = h.not_before }
+
+remembered-fails : (m n : Machine) → AllRemembered m n → FailsOnly m n
+remembered-fails m n h addr kept = weaker-both IsRemembered IsSpared remembered-spared (peer_at addr m) (peer_at addr n) (h addr)
+
+-- but for one of whom more is told
+others-fail : (law : Peer → Peer → Type 0) → ((p q : Peer) → law p q → IsSpared p q) → (a : Addr) (m n : Machine) → OthersRemembered a m n → WhereBoth law (peer_at a m) (peer_at a n) → FailsOnly m n
+others-fail law spares a m n others own addr kept = by_test (same_address addr a) refl
+  where
+    by_test : (c : Bool) → same_address addr a ≡ c → WhereBoth IsSpared (peer_at addr m) (peer_at addr n)
+    by_test true here = subst (λ x. WhereBoth IsSpared (peer_at x m) (peer_at x n)) (sym (same_address-true addr a here)) (weaker-both law IsSpared spares (peer_at a m) (peer_at a n) own)
+    by_test false other = weaker-both IsRemembered IsSpared remembered-spared (peer_at addr m) (peer_at addr n) (others addr other)
+
+orders-fail : (order : Order) (m : Machine) → IsOrdered m → FailsOnly m (carries_out order m).machine
+orders-fail (Ask addr n) m h = let r = asks-remembers addr n m in
+    others-fail IsAsked (λ p q is. record { failures = let same = is.failures in omega arith; not_before = is.not_before }) addr m (carries_out (Ask addr n) m).machine r.0 r.1
+orders-fail (Forget addr) m h = remembered-fails m (carries_out (Forget addr) m).machine (orders-remember (Forget addr) m h)
+orders-fail (Promote addr) m h = let r = promotes-remembers addr m in
+    others-fail IsTaken (λ p q is. record { failures = is.failures; not_before = is.not_before }) addr m (carries_out (Promote addr) m).machine r.0 r.1
+orders-fail (Release addr) m h = remembered-fails m (carries_out (Release addr) m).machine (orders-remember (Release addr) m h)
+orders-fail (Activate addr) m h = remembered-fails m (carries_out (Activate addr) m).machine (orders-remember (Activate addr) m h)
+orders-fail (Deactivate addr) m h = remembered-fails m (carries_out (Deactivate addr) m).machine (orders-remember (Deactivate addr) m h)
+
+pub fails-only : (act : Act) (m : Machine) → Finds act m → FailsOnly m (does act m).machine
+fails-only (fires_one d) m known = (fires-treats d m).fails
+fails-only (carries order) m known = orders-fail order m known
+fails-only (ends_dial cid opened) m known = (dials-treats cid opened m).fails
+fails-only (handles_item cid item) m known = (items-treat cid item m known.orderly).fails
+fails-only (ends_stream cid fault) m known = (stream-treats cid fault m).fails
+fails-only (is_closed cid) m known = (closes-treats cid m).fails
+fails-only (makes_ordinary addr) m known = still-fails m (does (makes_ordinary addr) m).machine (ordinary-still addr m)
+fails-only (provides addr) m known = still-fails m (does (provides addr) m).machine (comes-still false addr m)
+fails-only (provides_big addr) m known = still-fails m (does (provides_big addr) m).machine (big-still addr m)
+fails-only other m known = book-fails other m (treats-book other m)

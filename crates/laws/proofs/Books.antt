@@ -10,7 +10,7 @@ use Rattle.peer_book.specs.Book.{has_address, peer_at, with_peer, with_new, ente
 use Rattle.peer_book.specs.declared.added.Added.TheVariants.{New, Present, Full}
 use Rattle.peer_book.proofs.Edits.{filter-within}
 use Rattle.machine.specs.Machine.{Machine}
-use Rattle.laws.specs.Whole.{ArePeersApart, IsFormed}
+use Rattle.laws.specs.Steady.{ArePeersApart, IsFormed}
 use Rattle.laws.proofs.Addresses.{same_address-true}
 use Rattle.laws.proofs.PeersApart.{with_peer-others, with_peer-apart, put_in-others, entered-apart, others-filter, filter-apart}
 

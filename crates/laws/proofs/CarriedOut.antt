@@ -1,9 +1,10 @@
 -- Each order does what it says, the book changes only where it is to, and accepting pauses where it must.
 use Rattle.std.proofs.Common.{ℕ, ◌+◌, ◌%◌, ◌≡◌, Bool, true, false, ◌&&◌, nat_le, nat_lt, if◌then◌else◌, [], ◌∷◌, find, get_or, set, Option, Some, None, is_some, refl, sym, ap, ◌∙◌, subst, arith}
-use Rattle.std.specs.Option.{option_map}
+use Rattle.std.specs.Option.{option_map, unwrap_or}
 use Rattle.std.proofs.lemmas.Bool.{cond_both, and_parts, and_from}
 use Rattle.std.proofs.lemmas.List.Elements.{All-weaker}
 use Rattle.accept_gate.specs.Gate.{pause_of}
+use Rattle.accept_gate.specs.Prune.{choice_of}
 use Rattle.conn_state.specs.Moves.{acquired, released}
 use Rattle.conn_state.specs.Use.{has_id, is_live, is_live_at, is_pending}
 use Rattle.govern_rules.specs.declared.order.Order.{Order}
@@ -12,21 +13,24 @@ use Rattle.net_base.specs.declared.address.Addr.{Addr}
 use Rattle.net_base.specs.declared.peer.Peer.{Peer}
 use Rattle.net_base.specs.declared.peer.Temp.TheVariants.{Cold, Warm}
 use Rattle.net_base.specs.Address.{same_address, address_below}
+use Rattle.net_base.specs.Peer.{failed_peer}
+use Rattle.net_base.specs.declared.connection.Cid.{Cid}
+use Rattle.net_base.specs.declared.connection.Facts.{Facts}
 use Rattle.net_base.specs.declared.action.Action.TheVariants.{AskRoots, Pause}
 use Rattle.net_base.specs.declared.action.Away.TheVariants.{OwnAddr, Crossed, Present, Full}
-use Rattle.net_base.specs.declared.action.CloseCause.TheVariants.{Overwritten}
+use Rattle.net_base.specs.declared.action.CloseCause.TheVariants.{Pruned, Overwritten}
 use Rattle.root_groups.specs.RootAsk.{may_ask, asked}
-use Rattle.machine.specs.Connections.{with_entry, entry_turns, ending, acquire, trim, release}
-use Rattle.machine.specs.Effect.{Effect, nothing_more, tells, then_do, on_entry}
+use Rattle.machine.specs.Connections.{with_entry, without_entry, entry_turns, lost, ending, candidates_in, acquire, trim, release}
+use Rattle.machine.specs.Effect.{Effect, nothing_more, tells, then_do, on_entry, on_connection}
 use Rattle.machine.specs.Events.{turned_away, admitted, crossed, accepted_beside, peer_connects, closes}
-use Rattle.machine.specs.Govern.{promote, is_used_at, on_used, asks_peer, carries_out, asks_roots}
+use Rattle.machine.specs.Govern.{promote, is_used_at, on_used, asks_peer, deactivates, carries_out, asks_roots}
 use Rattle.machine.specs.Machine.{Machine, Entry, counted_in, entry_at, live_entry_at}
-use Rattle.machine.specs.Peers.{peer_at, turns_at, peer_changes, peer_becomes, peer_goes}
+use Rattle.machine.specs.Peers.{peer_at, turns_at, peer_changes, peer_fails, peer_becomes, peer_goes}
 use Rattle.machine.specs.Replies.{owing}
 use Rattle.laws.specs.AtMoves.{is_missed, FailsWhere, OnEntry, is_known}
-use Rattle.laws.specs.CarriedOut.{WhereLive, OnPeer, IsReused, Reuses, LeavesAlone, IsUsedByNobody, IsCarriedOut, TreatsBook, pauses_in, pauses_due, PausesRight}
+use Rattle.laws.specs.CarriedOut.{WhereLive, OnPeer, IsReused, Reuses, LeavesAlone, IsUsedByNobody, Comes, IsCarriedOut, TreatsBook, pauses_by, pauses_in, pauses_due, PausesRight}
 use Rattle.laws.specs.Sound.{IsOrderly}
-use Rattle.laws.specs.Acts.{Act, shows, fires_one, asks_for_roots, carries, connects, ends_dial, stores, handles_item, ends_stream, is_closed, sets_targets, sets_big_targets, sets_groups, sets_roots, makes_ordinary, provides, provides_big, does}
+use Rattle.laws.specs.Acts.{Act, shows, asks_for_roots, connects, stores, is_closed, sets_targets, sets_big_targets, sets_groups, sets_roots, does}
 use Rattle.laws.proofs.Addresses.{same_address-true}
 use Rattle.laws.proofs.Due.{promote-move, activate-move}
 use Rattle.laws.proofs.Entries.{TurnsInto, turned-connections, turned-orderly, one_has_id, has_own_id}
@@ -34,12 +38,13 @@ use Rattle.laws.proofs.Failures.{changed-found, vanishes-failed}
 use Rattle.laws.proofs.Finds.{find-set_here, find-set_gone}
 use Rattle.laws.proofs.Lists.{StandsAt, OnePasses, FoundIn, stands-set, find_some, find_only, find_none}
 use Rattle.laws.proofs.Orders.{says_done-machine, unused_at}
-use Rattle.laws.proofs.Ties.{live_one, taken-here}
+use Rattle.laws.proofs.Silent.{pauses-deaf, part-silent, asks-silent}
+use Rattle.laws.proofs.Ties.{live_one, taken-here, turns_at-elsewhere}
 use Rattle.laws.proofs.ToldMoves.{turns_at-connections}
 use Rattle.laws.proofs.Trims.{trim-used}
 
 -- at most one connection of an address is in local use
-used_one : (addr : Addr) (m : Machine) → IsOrderly m → OnePasses (is_used_at addr) m.connections
+pub used_one : (addr : Addr) (m : Machine) → IsOrderly m → OnePasses (is_used_at addr) m.connections
 used_one addr m h i j d before inside here =
     let e : Entry = get_or m.connections i d in
     let f : Entry = get_or m.connections j d in
@@ -118,6 +123,7 @@ reuses addr m h e live free =
     subst (IsReused e) (sym taken)
     (record {
       stands = subst (λ o. OnEntry o (λ f. f.facts ≡ record e.facts { local = true })) (sym found) refl;
+      warm = changed-here e.facts.addr warm n (λ p. refl) (λ p. p.temp ≡ Warm) (λ p. refl);
       forgiven = changed-here e.facts.addr warm n (λ p. refl) (λ p. p.failures ≡ 0) (λ p. refl);
     })
   where
@@ -126,16 +132,62 @@ reuses addr m h e live free =
 
 -- ---- a peer that is asked for addresses
 
+-- the live connection that is in use is the one that an order finds
+used-here : (addr : Addr) (m : Machine) (e : Entry) → IsOrderly m → live_entry_at addr m ≡ Some e → e.facts.local ≡ true → find (is_used_at addr) m.connections ≡ Some e
+used-here addr m e h live local =
+    let at = find_some (λ x. is_live_at addr x.facts) m.connections e live in
+    find_only (is_used_at addr) e m.connections at.place (used_one addr m h) at.stands (and_from (is_live_at addr e.facts) e.facts.local at.passes local)
+
+address-here : (addr : Addr) (m : Machine) (e : Entry) → live_entry_at addr m ≡ Some e → e.facts.addr ≡ addr
+address-here addr m e live =
+    same_address-true e.facts.addr addr (and_parts (same_address e.facts.addr addr) (is_live e.facts) (find_some (λ x. is_live_at addr x.facts) m.connections e live).passes).0
+
 leaves-alone : (addr : Addr) (n : ℕ) (m : Machine) → IsOrderly m → LeavesAlone addr m (carries_out (Ask addr n) m).machine
 leaves-alone addr n m h e live local =
-    let at = find_some (λ x. is_live_at addr x.facts) m.connections e live in
-    let here : e.facts.addr ≡ addr = same_address-true e.facts.addr addr (and_parts (same_address e.facts.addr addr) (is_live e.facts) at.passes).0 in
-    let used : find (is_used_at addr) m.connections ≡ Some e =
-    find_only (is_used_at addr) e m.connections at.place (used_one addr m h) at.stands (and_from (is_live_at addr e.facts) e.facts.local at.passes local) in
     let gap : ℕ = m.now + m.settings.sharegap in
-    subst (λ o. OnPeer (peer_at addr (on_entry o (asks_peer n) m).machine) (λ p. p.share_next ≡ gap)) (sym used)
-    (subst (λ a. OnPeer (peer_at a (asks_peer n e m).machine) (λ p. p.share_next ≡ gap)) here
+    subst (λ o. OnPeer (peer_at addr (on_entry o (asks_peer n) m).machine) (λ p. p.share_next ≡ gap)) (sym (used-here addr m e h live local))
+    (subst (λ a. OnPeer (peer_at a (asks_peer n e m).machine) (λ p. p.share_next ≡ gap)) (address-here addr m e live)
     (changed-here e.facts.addr (λ p. record p { share_next = gap }) (with_entry (owing 10 n m e) m) (λ p. refl) (λ p. p.share_next ≡ gap) (λ p. refl)))
+
+-- ---- a peer that is deactivated
+
+deactivates-warms : (addr : Addr) (m : Machine) → IsOrderly m → Comes Warm addr m (carries_out (Deactivate addr) m).machine
+deactivates-warms addr m h e live local =
+    subst (λ o. OnPeer (peer_at addr (on_entry o deactivates m).machine) (λ p. p.temp ≡ Warm)) (sym (used-here addr m e h live local))
+    (subst (λ a. OnPeer (peer_at a (deactivates e m).machine) (λ p. p.temp ≡ Warm)) (address-here addr m e live)
+    (changed-here e.facts.addr (λ p. record p { temp = Warm }) m (λ p. refl) (λ p. p.temp ≡ Warm) (λ p. refl)))
+
+-- ---- a peer that is released
+
+-- one that is cold stays so when a connection is pruned
+lost-cold : (a : Addr) (f : Facts) (m : Machine) → OnPeer (peer_at a m) (λ p. p.temp ≡ Cold) → OnPeer (peer_at a (lost f m).machine) (λ p. p.temp ≡ Cold)
+lost-cold a f m cold = cond_both (is_missed f) (peer_fails f.addr m) (nothing_more m) (λ effect. OnPeer (peer_at a effect.machine) (λ p. p.temp ≡ Cold))
+    (λ missed. by_test (same_address a f.addr) refl) (λ other. cold)
+  where
+    fails : Peer → Peer
+    fails = failed_peer m.now m.settings.backoff
+
+    by_test : (b : Bool) → same_address a f.addr ≡ b → OnPeer (peer_at a (peer_changes f.addr fails m).machine) (λ p. p.temp ≡ Cold)
+    by_test true here = subst (λ x. OnPeer (peer_at x (peer_changes f.addr fails m).machine) (λ p. p.temp ≡ Cold)) (sym (same_address-true a f.addr here))
+        (changed-here f.addr fails m (λ p. refl) (λ p. p.temp ≡ Cold) (λ p. refl))
+    by_test false other = subst (λ o. OnPeer o (λ p. p.temp ≡ Cold)) (sym (turns_at-elsewhere f.addr fails m (λ p. refl) a other)) cold
+
+trim-cold : (a : Addr) (moved : Cid) (m : Machine) → OnPeer (peer_at a m) (λ p. p.temp ≡ Cold) → OnPeer (peer_at a (trim moved m).machine) (λ p. p.temp ≡ Cold)
+trim-cold a moved m cold = cond_both (nat_le (counted_in m) m.settings.hard) (nothing_more m) (on_connection (unwrap_or (choice_of (candidates_in m)) moved) (ending Pruned) m)
+    (λ effect. OnPeer (peer_at a effect.machine) (λ p. p.temp ≡ Cold)) (λ within. cold) (λ above. by_entry (entry_at (unwrap_or (choice_of (candidates_in m)) moved).0 m))
+  where
+    by_entry : (o : Option Entry) → OnPeer (peer_at a (on_entry o (ending Pruned) m).machine) (λ p. p.temp ≡ Cold)
+    by_entry None = cold
+    by_entry (Some e) = lost-cold a e.facts (without_entry e.facts.cid.0 m) cold
+
+releases-cools : (addr : Addr) (m : Machine) → IsOrderly m → Comes Cold addr m (carries_out (Release addr) m).machine
+releases-cools addr m h e live local =
+    let n : Machine = with_entry (record e { facts = released (m.now + m.settings.idle) e.facts }) m in
+    subst (λ o. OnPeer (peer_at addr (on_entry o release m).machine) (λ p. p.temp ≡ Cold)) (sym (used-here addr m e h live local))
+    (subst (λ a. OnPeer (peer_at a (release e m).machine) (λ p. p.temp ≡ Cold)) (address-here addr m e live)
+    (subst (λ w. OnPeer (peer_at e.facts.addr (then_do (entry_turns e (record e { facts = released (w.now + w.settings.idle) e.facts }) w)
+    (λ x. then_do (peer_becomes Cold e.facts.addr x) (trim e.facts.cid))).machine) (λ p. p.temp ≡ Cold)) (sym (says_done-machine e.facts m))
+    (trim-cold e.facts.addr e.facts.cid (peer_becomes Cold e.facts.addr n).machine (changed-here e.facts.addr (λ p. record p { temp = Cold }) n (λ p. refl) (λ p. p.temp ≡ Cold) (λ p. refl)))))
 
 -- ---- the book
 
@@ -163,22 +215,15 @@ closed-book (Some e) m = λ live. rw live (vanishes-failed e m)
 
 pub treats-book : (act : Act) (m : Machine) → TreatsBook act m (does act m).machine
 treats-book (shows t) m = refl
-treats-book (fires_one d) m = tt
 treats-book asks_for_roots m = asks-book m
-treats-book (carries order) m = tt
 treats-book (connects addr) m = connects-book addr m
-treats-book (ends_dial cid opened) m = tt
 treats-book (stores entry undecoded) m = refl
-treats-book (handles_item cid item) m = tt
-treats-book (ends_stream cid fault) m = tt
 treats-book (is_closed cid) m = closed-book (entry_at cid.0 m) m
 treats-book (sets_targets targets) m = refl
 treats-book (sets_big_targets targets) m = refl
 treats-book (sets_groups groups) m = refl
 treats-book (sets_roots roots) m = refl
-treats-book (makes_ordinary addr) m = tt
-treats-book (provides addr) m = tt
-treats-book (provides_big addr) m = tt
+treats-book other m = tt
 
 -- ---- the pause
 
@@ -217,23 +262,9 @@ connects-pauses addr m = cond_both (same_address addr m.settings.own) (turned_aw
         (λ below. admitted-pauses addr (ending Overwritten e m).machine) (λ above. nobody-pauses m)) (λ other. nobody-pauses m)
 
 pub pauses-right : (act : Act) (m : Machine) → PausesRight act m (does act m)
-pauses-right (shows t) m = tt
-pauses-right (fires_one d) m = tt
-pauses-right asks_for_roots m = tt
-pauses-right (carries order) m = tt
 pauses-right (connects addr) m = connects-pauses addr m
-pauses-right (ends_dial cid opened) m = tt
-pauses-right (stores entry undecoded) m = tt
-pauses-right (handles_item cid item) m = tt
-pauses-right (ends_stream cid fault) m = tt
-pauses-right (is_closed cid) m = tt
-pauses-right (sets_targets targets) m = tt
-pauses-right (sets_big_targets targets) m = tt
-pauses-right (sets_groups groups) m = tt
-pauses-right (sets_roots roots) m = tt
-pauses-right (makes_ordinary addr) m = tt
-pauses-right (provides addr) m = tt
-pauses-right (provides_big addr) m = tt
+pauses-right asks_for_roots m = asks-silent pauses_by (λ job. refl) m
+pauses-right other m = part-silent pauses_by pauses-deaf (λ cid bytes. refl) other m tt
 
 -- ---- each order
 
@@ -241,6 +272,6 @@ pub carried-out : (order : Order) (m : Machine) → IsOrderly m → IsCarriedOut
 carried-out (Ask addr n) m h = leaves-alone addr n m h
 carried-out (Forget addr) m h = forgotten addr m
 carried-out (Promote addr) m h = (promote-move addr m, reuses addr m h)
-carried-out (Release addr) m h = none-used addr (carries_out (Release addr) m).machine (release-none addr m h)
+carried-out (Release addr) m h = (none-used addr (carries_out (Release addr) m).machine (release-none addr m h), releases-cools addr m h)
 carried-out (Activate addr) m h = activate-move addr m
-carried-out (Deactivate addr) m h = tt
+carried-out (Deactivate addr) m h = deactivates-warms addr m h

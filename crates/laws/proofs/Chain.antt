@@ -71,10 +71,6 @@ alone : (act : Act) (m : Machine) → does act m ≡ for_each does (act ∷ []) 
 unfolding for_each
 alone act m = sym (then_nothing (does act m))
 
-first_act : (act : Act) (each : List Act) (m : Machine) → for_each does (act ∷ each) m ≡ then_do (does act m) (for_each does each)
-unfolding for_each
-first_act act each m = refl
-
 no_act : (m : Machine) → nothing_more m ≡ for_each does [] m
 unfolding for_each
 no_act m = refl

@@ -10,7 +10,7 @@ use Rattle.peer_book.specs.Book.{is_of, peer_at}
 use Rattle.root_groups.specs.Cleaned.{is_listed, members_of}
 use Rattle.govern_rules.specs.Orders.{picks_of}
 use Rattle.govern_rules.specs.declared.order.Order.{Order}
-use Rattle.laws.specs.Whole.{ArePeersApart, AreApart}
+use Rattle.laws.specs.Steady.{ArePeersApart, AreApart}
 use Rattle.laws.proofs.Addresses.{same_address-true}
 use Rattle.laws.proofs.GroupsApart.{append-apart}
 use Rattle.laws.proofs.Lists.{all-weaker, all-appended, all-both}

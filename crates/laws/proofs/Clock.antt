@@ -25,7 +25,7 @@ use Rattle.laws.specs.AtMoves.{is_missed, failed_where, FailsWhere, IsPast, IsOv
 use Rattle.laws.specs.Sound.{IsOrderly}
 use Rattle.laws.specs.Stages.{stage_of_phase, stage_at}
 use Rattle.laws.specs.Telling.{IsTold}
-use Rattle.laws.specs.Whole.{IsShaped, IsOrdered}
+use Rattle.laws.specs.Steady.{IsShaped, IsOrdered}
 use Rattle.laws.proofs.Counts.{is_late}
 use Rattle.laws.proofs.Firing.{all_one, all-deadlines_of, Due, due_of}
 use Rattle.laws.proofs.Keeping.{Keeps}

@@ -1,5 +1,6 @@
--- Whom each part of an event ends: whom it must, and nobody else but by pruning.
-use Rattle.std.proofs.Common.{ℕ, ◌+◌, ◌%◌, ◌≡◌, Bool, true, false, not, ◌&&◌, ◌==◌, nat_le, if◌then◌else◌, List, [], ◌∷◌, ◌++◌, map, find, Option, Some, None, Result, Ok, Err, refl, ap, ◌∙◌}
+-- Whom each part of an event ends: whom it must, and nobody else but by pruning; and whom it prunes.
+use Rattle.std.proofs.Common.{ℕ, ◌+◌, ◌%◌, ◌≡◌, Bool, true, false, not, ◌&&◌, ◌==◌, nat_le, if◌then◌else◌, List, [], ◌∷◌, ◌++◌, map, filter, find, Option, Some, None, Result, Ok, Err, refl, sym, ap, ◌∙◌, subst}
+use Rattle.std.specs.List.{AllByRecursion}
 use Rattle.std.specs.Option.{unwrap_or}
 use Rattle.std.proofs.lemmas.Bool.{cond_both}
 use Rattle.std.proofs.lemmas.Grind.{flat_map-append}
@@ -49,7 +50,7 @@ use Rattle.warm_messages.specs.declared.share.Share.TheVariants as share
 use Rattle.hs_receive.specs.Receiving.{is_awaited, fits_side, kind_of}
 use Rattle.machine.specs.Connections.{with_entry, without_entry, entry_turns, ending, vanishes, acquire, candidates_in, trim, says_done, release, awake, dial, dial_opens, dial_fails, closing_entry}
 use Rattle.machine.specs.Deadlines.{fires_as}
-use Rattle.machine.specs.Effect.{Effect, Move, promoted, activated, shared, ended, unused, gone, on_entry, on_connection, nothing_more, tells, then_do, as_move, for_each}
+use Rattle.machine.specs.Effect.{Effect, Happened, Move, promoted, activated, shared, ended, unused, gone, on_entry, on_connection, nothing_more, tells, then_do, as_move, for_each}
 use Rattle.machine.specs.Events.{turned_away, admitted, accepted_beside, peer_connects, closes, dialed}
 use Rattle.machine.specs.Govern.{promoted_at, promote, is_used_at, on_used, asks_peer, activates, activate, deactivates, carries_out, asks_roots}
 use Rattle.machine.specs.Greeting.{role_of, sends_answer, judged, decided, greeted_by, greets}
@@ -61,85 +62,36 @@ use Rattle.machine.specs.Replies.{reply_on, owing, paid}
 use Rattle.machine.specs.Stream.{handled_in, handled, faulted}
 use Rattle.machine.specs.Talking.{replies, stops_if, serves, begins, takes_requests, asked_as, shares_address, taken_of, takes_addresses, pays_chain_sync, pays_keep_alive, pays_peer_sharing, pays, brings, answered_as, talks}
 use Rattle.laws.specs.Acts.{Act, shows, fires_one, asks_for_roots, carries, connects, ends_dial, stores, handles_item, ends_stream, is_closed, sets_targets, sets_big_targets, sets_groups, sets_roots, makes_ordinary, provides, provides_big, does}
-use Rattle.laws.specs.Ends.{protocol_fault, causes_of_verdict, offered, causes_of_message, causes_to_acceptor, side_of, causes_to_dialer, causes_of_greeting, fault_of_request, is_intersection, is_cookie, are_so_many, is_answer, fault_of_answer, fault_of, causes_of_fault, causes_of_item, kind_of_cut, causes_of_cut, causes_of_kind, causes_of_crossing, ends_on, ends_due, is_pruned, but_pruned}
+use Rattle.laws.specs.Ends.{protocol_fault, causes_of_verdict, offered, causes_of_message, causes_to_acceptor, side_of, causes_to_dialer, causes_of_greeting, fault_of_request, is_intersection, is_cookie, are_so_many, is_answer, fault_of_answer, fault_of, causes_of_fault, causes_of_item, kind_of_cut, causes_of_cut, causes_of_kind, causes_of_crossing, ends_on, ends_due, is_pruned, but_pruned, pruned_in}
 use Rattle.laws.specs.CarriedOut.{IsOneMove}
-use Rattle.laws.specs.Told.{End, ended_by, ends_in}
+use Rattle.laws.specs.InActions.{End, ended_by, ends_in}
 use Rattle.laws.proofs.ToldMoves.{turns_at-moves}
 use Rattle.laws.proofs.Lawful.{lost_by-quiet, lost-quiet, comes-providing}
 use Rattle.laws.proofs.Handshakes.{answer-quiet}
-use Rattle.laws.proofs.Orders.{says_done-quiet}
+use Rattle.laws.proofs.Lists.{all-appended}
+use Rattle.laws.proofs.Orders.{says_done-machine, says_done-quiet}
 use Rattle.laws.proofs.Talks.{replies-quiet}
 
 abbrev pub end_of : Entry → CloseCause → End
 end_of e cause = record { cid = e.facts.cid.0; cause = cause }
 
--- whom an effect ends but by pruning
-abbrev others : Effect → List End
-others effect = but_pruned (ends_in effect.moves)
+-- ---- whom an effect ends
 
-others_none : (effect : Effect) → effect.moves ≡ [] → others effect ≡ []
-others_none effect none = ap (λ ms. but_pruned (ends_in ms)) none
+-- whoever is chosen where one has moved
+abbrev pub Chosen : (End → Type 0) → Cid → Machine → Type 0
+Chosen P moved m = (e : Entry) → entry_at (unwrap_or (choice_of (candidates_in m)) moved).0 m ≡ Some e → P (end_of e cause.Pruned)
 
-others-append : (ms ns : List Move) → but_pruned (ends_in (ms ++ ns)) ≡ but_pruned (ends_in ms) ++ but_pruned (ends_in ns)
-others-append ms ns =
-    ap but_pruned (flat_map-append (λ move. ended_by move.happened) ms ns) ∙ filter-append (λ end. not (is_pruned end.cause)) (ends_in ms) (ends_in ns)
+-- where a protocol begins, and where a connection is released
+abbrev pub woken : ℕ → Entry → Machine → Machine
+woken protocol e m = with_entry (record e { facts = awakened protocol e.facts }) m
 
--- nobody is ended by the first part, and so by both whom the second one ends
-others_later : (first : Effect) (next : Machine → Effect) (ends : List End) → others first ≡ [] → others (next first.machine) ≡ ends → others (then_do first next) ≡ ends
-others_later first next ends none later =
-    others-append first.moves (next first.machine).moves ∙ (ap (λ es. es ++ others (next first.machine)) none ∙ later)
-
--- nor by the second one
-others_first : (first : Effect) (next : Machine → Effect) (end : End) → others first ≡ end ∷ [] → others (next first.machine) ≡ [] → others (then_do first next) ≡ end ∷ []
-others_first first next end ends none =
-    others-append first.moves (next first.machine).moves ∙ (ap (λ es. es ++ others (next first.machine)) ends ∙ ap (λ es. end ∷ es) none)
-
--- ---- a connection
-
-ending-others : (cause : CloseCause) (e : Entry) (m : Machine) → others (ending cause e m) ≡ but_pruned (end_of e cause ∷ [])
-ending-others cause e m =
-    let move : Move = record { happened = ended e.facts.cid.0 cause; before = m; after = (ending cause e m).machine } in
-    ap (λ ms. but_pruned (ends_in (ms ++ move ∷ []))) (lost_by-quiet cause e.facts (without_entry e.facts.cid.0 m)).moves
-
-trim-others : (moved : Cid) (m : Machine) → others (trim moved m) ≡ []
-trim-others moved m = cond_both (nat_le (counted_in m) m.settings.hard) (nothing_more m)
-    (on_connection (unwrap_or (choice_of (candidates_in m)) moved) (ending cause.Pruned) m) (λ effect. others effect ≡ []) (λ within. refl)
-    (λ above. by_entry (entry_at (unwrap_or (choice_of (candidates_in m)) moved).0 m))
-  where
-    by_entry : (o : Option Entry) → others (on_entry o (ending cause.Pruned) m) ≡ []
-    by_entry None = refl
-    by_entry (Some e) = ending-others cause.Pruned e m
-
--- ---- an item
-
-judged-others : (v : Verdict) (e : Entry) (m : Machine) → others (judged v e m) ≡ map (end_of e) (causes_of_verdict v)
-judged-others (verdict.Accept agreed) e m = refl
-judged-others (verdict.Refuse why) e m = ending-others cause.Refused e m
-judged-others verdict.Query e m = ending-others cause.Query e m
-judged-others (verdict.Agree agreed) e m = others_none (judged (verdict.Agree agreed) e m) (ap (λ ms. ms ++ []) (turns_at-moves _ _ _))
-judged-others verdict.Refused e m = ending-others cause.Refused e m
-judged-others verdict.Wrong e m = ending-others (cause.Fault Protocol) e m
+abbrev pub cooled : Entry → Machine → Machine
+cooled e m = (peer_becomes Cold e.facts.addr (with_entry (record e { facts = released (m.now + m.settings.idle) e.facts }) m)).machine
 
 -- as the machine reads a message
 abbrev causes_heard : Option Message → Role → ℕ → Machine → List CloseCause
 causes_heard o role side m =
     causes_of_message o (λ msg. if fits_side role side msg then causes_of_verdict (verdict_of role (own_info m.settings) msg) else protocol_fault)
-
-greeted_by-others : (o : Option Message) (side : ℕ) (e : Entry) (m : Machine) →
-    others (greeted_by o side e m) ≡ map (end_of e) (causes_heard o (role_of e.facts.provenance) side m)
-greeted_by-others None side e m = ending-others (cause.Fault Malformed) e m
-greeted_by-others (Some msg) side e m = by_side (fits_side (role_of e.facts.provenance) side msg)
-  where
-    v : Verdict
-    v = verdict_of (role_of e.facts.provenance) (own_info m.settings) msg
-
-    by_side : (b : Bool) → others (if b then decided v e m else ending (cause.Fault Protocol) e m)
-        ≡ map (end_of e) (if b then causes_of_verdict v else cause.Fault Protocol ∷ [])
-    by_side true =
-        let first : Effect = sends_answer (answer_of v (own_info m.settings)) e.facts.cid m in
-        others_later first (judged v e) (map (end_of e) (causes_of_verdict v))
-        (others_none first (answer-quiet (answer_of v (own_info m.settings)) e.facts.cid m).moves) (judged-others v e first.machine)
-    by_side false = ending-others (cause.Fault Protocol) e m
 
 -- The sides on which a message is awaited.
 heard-same : (p : Provenance) (item : Item) (m : Machine) →
@@ -172,70 +124,6 @@ heard-same FromLocal item m = by_test (item.id == 0)
     by_test true = heard (message_of item.body)
     by_test false = refl
 
-greets-others : (item : Item) (e : Entry) (m : Machine) →
-    others (greets item e m) ≡ map (end_of e) (causes_of_greeting item e.facts m)
-greets-others item e m =
-    by_side (item.id == 0 && is_awaited (role_of e.facts.provenance) item.side) ∙ ap (map (end_of e)) (heard-same e.facts.provenance item m)
-  where
-    by_side : (b : Bool) → others (if b then greeted_by (message_of item.body) item.side e m else ending (cause.Fault Protocol) e m)
-        ≡ map (end_of e)
-        (if b then causes_heard (message_of item.body) (role_of e.facts.provenance) item.side m else protocol_fault)
-    by_side true = greeted_by-others (message_of item.body) item.side e m
-    by_side false = ending-others (cause.Fault Protocol) e m
-
-stops_if-others : (done : Bool) (protocol : ℕ) (e : Entry) (m : Machine) → others (stops_if done protocol e m) ≡ []
-stops_if-others true protocol e m = refl
-stops_if-others false protocol e m = refl
-
-serves-others : (o : Option Entry) (seen : Seen) (protocol : ℕ) (m : Machine) → others (on_entry o (serves seen protocol) m) ≡ []
-serves-others None seen protocol m = refl
-serves-others (Some e) seen protocol m =
-    let first : Effect = replies seen.reply protocol e m in
-    others_later first (stops_if seen.done protocol e) [] (others_none first (replies-quiet seen.reply protocol e m).moves)
-    (stops_if-others seen.done protocol e first.machine)
-
-begins-others : (protocol : ℕ) (e : Entry) (m : Machine) → others (begins protocol e m) ≡ []
-begins-others protocol e m = cond_both (runs protocol e.facts.running) (nothing_more m) (awake protocol e m) (λ effect. others effect ≡ [])
-    (λ running. refl) (λ silent. trim-others e.facts.cid (entry_turns e (record e { facts = awakened protocol e.facts }) m).machine)
-
-asked_as-others : (r : Result Seen FaultKind) (protocol : ℕ) (e : Entry) (m : Machine) →
-    others (asked_as r protocol e m) ≡ map (end_of e) (causes_of_fault (fault_of_request r e.facts))
-asked_as-others (Err kind) protocol e m = ending-others (cause.Fault kind) e m
-asked_as-others (Ok seen) protocol e m = by_test (takes_requests e)
-  where
-    by_test : (b : Bool) → others (if b then then_do (begins protocol e m) (on_connection e.facts.cid (serves seen protocol)) else ending (cause.Fault Protocol) e m)
-        ≡ map (end_of e) (causes_of_fault (if b then None else Some Protocol))
-    by_test true =
-        let first : Effect = begins protocol e m in
-        others_later first (on_connection e.facts.cid (serves seen protocol)) [] (begins-others protocol e m)
-        (serves-others (entry_at e.facts.cid.0 first.machine) seen protocol first.machine)
-    by_test false = ending-others (cause.Fault Protocol) e m
-
-comes-others : (big : Bool) (a : Addr) (m : Machine) → others (as_move (shared a) m (peer_comes big a m)) ≡ []
-comes-others big a m =
-    let effect : Effect = peer_comes big a m in
-    let move : Move = record { happened = shared a; before = m; after = effect.machine } in
-    ap (λ ms. but_pruned (ends_in (ms ++ move ∷ []))) (comes-providing big a m).moves
-
-shares-others : (addrs : List Addr) (m : Machine) → others (for_each shares_address addrs m) ≡ []
-unfolding for_each
-shares-others [] m = refl
-shares-others (a ∷ addrs) m =
-    others_later (shares_address a m) (for_each shares_address addrs) [] (comes-others false a m) (shares-others addrs (shares_address a m).machine)
-
-takes-others : (o : Option Share) (m : Machine) → others (takes_addresses o m) ≡ []
-takes-others None m = refl
-takes-others (Some (share.Request n)) m = refl
-takes-others (Some (share.Peers told)) m = shares-others (taken_of told m) m
-takes-others (Some share.Done) m = refl
-
-brings-others : (protocol : ℕ) (body : List ℕ) (e : Entry) (m : Machine) → others (brings protocol body e m) ≡ []
-brings-others protocol body e m =
-    cond_both (protocol == 2) (peer_becomes Hot e.facts.addr m) (if protocol == 8 then nothing_more m else takes_addresses (share_of body) m)
-    (λ effect. others effect ≡ []) (λ on_2. others_none (peer_becomes Hot e.facts.addr m) (turns_at-moves (peer_at e.facts.addr m) (λ p. record p { temp = Hot }) m))
-    (λ not_2. cond_both (protocol == 8) (nothing_more m) (takes_addresses (share_of body) m) (λ effect. others effect ≡ []) (λ on_8. refl)
-    (λ not_8. takes-others (share_of body) m))
-
 -- What pays a reply.
 pays-same : (owed : Owed) (body : List ℕ) → pays owed body ≡ is_answer owed body
 pays-same owed body = λ i. if owed.protocol == 2 then first (item_number_of body) i else if owed.protocol == 8 then alive_is (alive_of body) i else share_is (share_of body) i
@@ -256,141 +144,12 @@ pays-same owed body = λ i. if owed.protocol == 2 then first (item_number_of bod
     share_is (Some (share.Peers addrs)) = refl
     share_is (Some share.Done) = refl
 
-answered_as-others : (o : Option Owed) (item : Item) (e : Entry) (m : Machine) →
-    others (answered_as o item e m) ≡ map (end_of e) (causes_of_fault (fault_of_answer o item.body))
-answered_as-others None item e m = ending-others (cause.Fault Protocol) e m
-answered_as-others (Some owed) item e m =
-    by_test (pays owed item.body) ∙ ap (λ b. map (end_of e) (causes_of_fault (if b then None else Some Protocol))) (pays-same owed item.body)
-  where
-    by_test : (b : Bool) → others (if b then then_do (entry_turns e (paid item.id e) m) (brings item.id item.body e) else ending (cause.Fault Protocol) e m)
-        ≡ map (end_of e) (causes_of_fault (if b then None else Some Protocol))
-    by_test true = brings-others item.id item.body e (with_entry (paid item.id e) m)
-    by_test false = ending-others (cause.Fault Protocol) e m
-
-talks-others : (item : Item) (e : Entry) (m : Machine) →
-    others (talks item e m) ≡ map (end_of e) (causes_of_fault (fault_of item e))
-talks-others item e m = by_side (item.side == 0)
-  where
-    by_side : (b : Bool) → others (if b then asked_as (watched item.id (agreed_sharing e.facts.agreed) item.body) item.id e m else answered_as (reply_on item.id e) item e m)
-        ≡ map (end_of e)
-        (causes_of_fault (if b then fault_of_request (watched item.id (agreed_sharing e.facts.agreed) item.body) e.facts else fault_of_answer (reply_on item.id e) item.body))
-    by_side true = asked_as-others (watched item.id (agreed_sharing e.facts.agreed) item.body) item.id e m
-    by_side false = answered_as-others (reply_on item.id e) item e m
-
-handled_in-others : (p : Phase) (item : Item) (e : Entry) (m : Machine) →
-    others (handled_in p item e m) ≡ map (end_of e) (causes_of_item p item e m)
-handled_in-others Dialing item e m = refl
-handled_in-others (Greeting until) item e m = greets-others item e m
-handled_in-others Negotiated item e m = talks-others item e m
-handled_in-others (Closing until) item e m = refl
-
-handled-others : (o : Option Entry) (item : Item) (m : Machine) → others (on_entry o (handled item) m) ≡ ends_on o (λ e. causes_of_item e.facts.phase item e m)
-handled-others None item m = refl
-handled-others (Some e) item m = handled_in-others e.facts.phase item e m
-
-stream-others : (o : Option Entry) (fault : Option CutFault) (m : Machine) → others (on_entry o (faulted fault) m) ≡ ends_on o (λ e. causes_of_cut fault)
-stream-others None fault m = refl
-stream-others (Some e) None m = refl
-stream-others (Some e) (Some fault) m =
-    ending-others (cause.Fault (kind_of fault)) e m ∙ ap (λ kind. end_of e (cause.Fault kind) ∷ []) (kind-same fault)
-  where
-    kind-same : (f : CutFault) → kind_of f ≡ kind_of_cut f
-    kind-same cut.Bad = refl
-    kind-same cut.Deep = refl
-    kind-same cut.TooLong = refl
-    kind-same cut.UnknownId = refl
-
--- ---- a deadline
-
-fires_as-others : (kind : Kind) (e : Entry) (m : Machine) → others (fires_as kind e m) ≡ map (end_of e) (causes_of_kind kind e)
-fires_as-others Handshake e m = ending-others (cause.Fault HandshakeWait) e m
-fires_as-others Grace e m = by_local e.facts.local
-  where
-    by_local : (b : Bool) → others (if b then entry_turns e (record e { facts = expired e.facts }) m
-        else as_move (unused e.facts.cid.0) m (then_do (tells (Close e.facts.cid cause.Unused ∷ []) m) (entry_turns e (closing_entry m e))))
-        ≡ map (end_of e) (if b then [] else cause.Unused ∷ [])
-    by_local true = refl
-    by_local false = refl
-fires_as-others TimeWait e m = refl
-fires_as-others Reply2 e m = ending-others (cause.Fault ReplyWait) e m
-fires_as-others Reply8 e m = ending-others (cause.Fault ReplyWait) e m
-fires_as-others Reply10 e m = ending-others (cause.Fault ReplyWait) e m
-
-fires-others : (o : Option Entry) (kind : Kind) (m : Machine) → others (on_entry o (fires_as kind) m) ≡ ends_on o (causes_of_kind kind)
-fires-others None kind m = refl
-fires-others (Some e) kind m = fires_as-others kind e m
-
--- ---- a peer connects
-
-beside-others : (o : Option Entry) (addr : Addr) (m : Machine) →
-    others (accepted_beside o addr m) ≡ ends_on o (λ e. if is_pending e.facts && address_below addr m.settings.own then cause.Overwritten ∷ [] else [])
-beside-others None addr m = refl
-beside-others (Some e) addr m = by_tests (is_pending e.facts) (address_below addr m.settings.own)
-  where
-    by_tests : (p q : Bool) → others (if p then (if q then then_do (ending cause.Overwritten e m) (admitted addr) else turned_away Crossed m) else turned_away Present m)
-        ≡ map (end_of e) (if p && q then cause.Overwritten ∷ [] else [])
-    by_tests true true =
-        others_first (ending cause.Overwritten e m) (admitted addr) (end_of e cause.Overwritten) (ending-others cause.Overwritten e m) refl
-    by_tests true false = refl
-    by_tests false q = refl
-
-connects-others : (addr : Addr) (m : Machine) → others (peer_connects addr m) ≡ ends_on (live_entry_at addr m) (causes_of_crossing addr m)
-connects-others addr m = by_tests (same_address addr m.settings.own) (nat_le m.settings.hard (counted_in m))
-  where
-    nobody : (o : Option Entry) → [] ≡ ends_on o (λ e. [])
-    nobody None = refl
-    nobody (Some e) = refl
-
-    by_tests : (own full : Bool) → others (if own then turned_away OwnAddr m else if full then turned_away Full m else accepted_beside (live_entry_at addr m) addr m)
-        ≡ ends_on (live_entry_at addr m)
-        (λ e. if not own && not full && is_pending e.facts && address_below addr m.settings.own then cause.Overwritten ∷ [] else [])
-    by_tests true full = nobody (live_entry_at addr m)
-    by_tests false true = nobody (live_entry_at addr m)
-    by_tests false false = beside-others (live_entry_at addr m) addr m
-
--- ---- the governor
-
-release-others : (e : Entry) (m : Machine) → others (release e m) ≡ []
-release-others e m =
-    let first : Effect = says_done e.facts m in
-    let turns : Machine → Effect = λ n. entry_turns e (record e { facts = released (n.now + n.settings.idle) e.facts }) n in
-    let o : Machine = (turns first.machine).machine in
-    let cools : Machine → Effect = peer_becomes Cold e.facts.addr in
-    others_later first (λ n. then_do (turns n) (λ w. then_do (cools w) (trim e.facts.cid))) [] (others_none first (says_done-quiet e.facts m).moves)
-    (others_later (turns first.machine) (λ w. then_do (cools w) (trim e.facts.cid)) [] refl
-    (others_later (cools o) (trim e.facts.cid) [] (others_none (cools o) (turns_at-moves (peer_at e.facts.addr o) (λ p. record p { temp = Cold }) o))
-    (trim-others e.facts.cid (cools o).machine)))
-
-on_used-others : (addr : Addr) (act : Entry → Machine → Effect) (m : Machine) → ((e : Entry) → others (act e m) ≡ []) → others (on_used addr act m) ≡ []
-on_used-others addr act m each = by_entry (find (is_used_at addr) m.connections)
-  where
-    by_entry : (o : Option Entry) → others (on_entry o act m) ≡ []
-    by_entry None = refl
-    by_entry (Some e) = each e
-
-promote-others : (addr : Addr) (m : Machine) → others (promote addr m) ≡ []
-promote-others addr m = by_live (live_entry_at addr m)
-  where
-    dials : others (as_move (promoted addr) m (dial addr m)) ≡ []
-    dials = refl
-
-    reuses : (e : Entry) → others (as_move (promoted addr) m (acquire e m)) ≡ []
-    reuses e =
-        let n : Machine = with_entry (owing 8 (e.facts.cid.0 % 65536) m (record e { facts = acquired e.facts })) m in
-        let move : Move = record { happened = promoted addr; before = m; after = (acquire e m).machine } in
-        ap (λ ms. but_pruned (ends_in ((ms ++ []) ++ move ∷ []))) (turns_at-moves (peer_at e.facts.addr n) (λ p. record p { temp = Warm; failures = 0 }) n)
-
-    by_live : (o : Option Entry) → others (as_move (promoted addr) m (promoted_at o addr m)) ≡ []
-    by_live None = dials
-    by_live (Some e) = cond_both (is_acquirable e.facts) (acquire e m) (dial addr m) (λ effect. others (as_move (promoted addr) m effect) ≡ [])
-        (λ free. reuses e) (λ other. dials)
-
-activate-others : (addr : Addr) (m : Machine) → others (activate addr m) ≡ []
-activate-others addr m = by_entry (find (is_used_at addr) m.connections)
-  where
-    by_entry : (o : Option Entry) → others (as_move (activated addr) m (on_entry o activates m)) ≡ []
-    by_entry None = refl
-    by_entry (Some e) = refl
+-- what a cutter's fault is
+kind-same : (f : CutFault) → kind_of f ≡ kind_of_cut f
+kind-same cut.Bad = refl
+kind-same cut.Deep = refl
+kind-same cut.TooLong = refl
+kind-same cut.UnknownId = refl
 
 -- a promotion and an activation are one move each
 pub promote-move : (addr : Addr) (m : Machine) → IsOneMove (promoted addr) m (promote addr m)
@@ -414,66 +173,330 @@ activate-move addr m = by_entry (find (is_used_at addr) m.connections)
     by_entry None = refl
     by_entry (Some e) = refl
 
-carries-others : (order : Order) (m : Machine) → others (carries_out order m) ≡ []
-carries-others (Ask addr n) m = on_used-others addr (asks_peer n) m
-    (λ e. others_none (asks_peer n e m) (turns_at-moves (peer_at e.facts.addr m) (λ p. record p { share_next = m.now + m.settings.sharegap }) (with_entry (owing 10 n m e) m)))
-carries-others (Forget addr) m = refl
-carries-others (Promote addr) m = promote-others addr m
-carries-others (Release addr) m = on_used-others addr release m (λ e. release-others e m)
-carries-others (Activate addr) m = activate-others addr m
-carries-others (Deactivate addr) m = on_used-others addr deactivates m
-    (λ e. others_none (deactivates e m) (turns_at-moves (peer_at e.facts.addr m) (λ p. record p { temp = Warm }) m))
+module _ (P : End → Type 0) where
+  -- those are ended but by pruning, and each that is pruned passes
+  pub record EndsAs (effect : Effect) (due : List End) : Type 0 where
+    pub others : but_pruned (ends_in effect.moves) ≡ due
+    pub pruned : AllByRecursion P (pruned_in effect.moves)
 
-roots-others : (m : Machine) → others (asks_roots m) ≡ []
-roots-others m = cond_both (may_ask m.now m.targets.root m.roots)
-    (tells (AskRoots (record { 0 = m.roots.next_job }) ∷ []) (record m { roots = asked m.roots })) (nothing_more m) (λ effect. others effect ≡ [])
-    (λ too_few. refl) (λ enough. refl)
+  ends_as : (effect : Effect) (ends due : List End) → ends_in effect.moves ≡ ends → but_pruned ends ≡ due → AllByRecursion P (filter (λ end. is_pruned end.cause) ends) → EndsAs effect due
+  ends_as effect ends due is others pruned = record {
+    others = ap but_pruned is ∙ others;
+    pruned = subst (λ es. AllByRecursion P (filter (λ end. is_pruned end.cause) es)) (sym is) pruned;
+  }
 
--- ---- dials and ends
+  ends_nobody : (effect : Effect) → ends_in effect.moves ≡ [] → EndsAs effect []
+  ends_nobody effect none = ends_as effect [] [] none refl tt
 
-vanishes-none : (e : Entry) (m : Machine) → (vanishes e m).moves ≡ []
-vanishes-none e m = (lost-quiet e.facts (without_entry e.facts.cid.0 m)).moves
+  moves_nothing : (effect : Effect) → effect.moves ≡ [] → EndsAs effect []
+  moves_nothing effect none = ends_nobody effect (ap ends_in none)
 
-dial_ends-others : (o : Option Entry) (opened : Bool) (m : Machine) → others (on_entry o (dialed opened) m) ≡ []
-dial_ends-others None opened m = refl
-dial_ends-others (Some e) opened m = by_tests (is_dialing e.facts) opened
-  where
-    fails : others (dial_fails e m) ≡ []
-    fails =
-        let move : Move = record { happened = gone e.facts.cid.0; before = m; after = (vanishes e m).machine } in
-        ap (λ ms. but_pruned (ends_in (ms ++ move ∷ []))) (vanishes-none e m)
+  ends_both : (first : Effect) (next : Machine → Effect) (xs ys : List End) → EndsAs first xs → EndsAs (next first.machine) ys → EndsAs (then_do first next) (xs ++ ys)
+  ends_both first next xs ys one two =
+      let whole : ends_in (first.moves ++ (next first.machine).moves) ≡ ends_in first.moves ++ ends_in (next first.machine).moves =
+      flat_map-append (λ move. ended_by move.happened) first.moves (next first.machine).moves in
+      record {
+        others = ap but_pruned whole ∙ (filter-append (λ end. not (is_pruned end.cause)) (ends_in first.moves) (ends_in (next first.machine).moves) ∙ (λ i. one.others i ++ two.others i));
+        pruned = subst (AllByRecursion P)
+            (sym (ap (filter (λ end. is_pruned end.cause)) whole ∙ filter-append (λ end. is_pruned end.cause) (ends_in first.moves) (ends_in (next first.machine).moves)))
+            (all-appended P (pruned_in first.moves) (pruned_in (next first.machine).moves) one.pruned two.pruned);
+      }
 
-    by_tests : (dials b : Bool) → others (if dials then (if b then dial_opens e m else dial_fails e m) else nothing_more m) ≡ []
-    by_tests true true = refl
-    by_tests true false = fails
-    by_tests false b = refl
+  ends_then : (first : Effect) (next : Machine → Effect) (ys : List End) → EndsAs first [] → EndsAs (next first.machine) ys → EndsAs (then_do first next) ys
+  ends_then first next ys one two = ends_both first next [] ys one two
 
-closed-others : (o : Option Entry) (m : Machine) → others (on_entry o closes m) ≡ []
-closed-others None m = refl
-closed-others (Some e) m = cond_both (is_live e.facts) (vanishes e m) (nothing_more m) (λ effect. others effect ≡ [])
-    (λ live. others_none (vanishes e m) (vanishes-none e m)) (λ closed. refl)
+  -- ---- a connection
 
-big-others : (addr : Addr) (m : Machine) → others (comes_big addr m) ≡ []
-big-others addr m = cond_both (is_wanted_big addr m) (as_move (shared addr) m (peer_comes true addr m)) (nothing_more m) (λ effect. others effect ≡ [])
-    (λ wanted. comes-others true addr m) (λ other. refl)
+  ended_is : (c : CloseCause) (e : Entry) (m : Machine) → ends_in (ending c e m).moves ≡ end_of e c ∷ []
+  ended_is c e m =
+      let move : Move = record { happened = ended e.facts.cid.0 c; before = m; after = (ending c e m).machine } in
+      ap (λ ms. ends_in (ms ++ move ∷ [])) (lost_by-quiet c e.facts (without_entry e.facts.cid.0 m)).moves
 
--- ---- each act
+  -- for whatever cause but pruning
+  ending-ends : (c : CloseCause) (e : Entry) (m : Machine) → is_pruned c ≡ false → EndsAs (ending c e m) (end_of e c ∷ [])
+  ending-ends c e m other = ends_as (ending c e m) (end_of e c ∷ []) (end_of e c ∷ []) (ended_is c e m)
+      (ap (λ b. if not b then end_of e c ∷ [] else []) other) (subst (λ b. AllByRecursion P (if b then end_of e c ∷ [] else [])) (sym other) tt)
 
-pub ends-due : (act : Act) (m : Machine) → but_pruned (ends_in (does act m).moves) ≡ ends_due act m
-ends-due (shows t) m = refl
-ends-due (fires_one d) m = fires-others (entry_at d.cid.0 m) d.kind m
-ends-due asks_for_roots m = roots-others m
-ends-due (carries order) m = carries-others order m
-ends-due (connects addr) m = connects-others addr m
-ends-due (ends_dial cid opened) m = dial_ends-others (entry_at cid.0 m) opened m
-ends-due (stores entry undecoded) m = refl
-ends-due (handles_item cid item) m = handled-others (entry_at cid.0 m) item m
-ends-due (ends_stream cid fault) m = stream-others (entry_at cid.0 m) fault m
-ends-due (is_closed cid) m = closed-others (entry_at cid.0 m) m
-ends-due (sets_targets targets) m = refl
-ends-due (sets_big_targets targets) m = refl
-ends-due (sets_groups groups) m = refl
-ends-due (sets_roots roots) m = refl
-ends-due (makes_ordinary addr) m = others_none (peer_is_ordinary addr m) (turns_at-moves (peer_at addr m) (λ p. record p { big = false }) m)
-ends-due (provides addr) m = others_none (comes_ordinary addr m) (comes-providing false addr m).moves
-ends-due (provides_big addr) m = big-others addr m
+  trim-ends : (moved : Cid) (m : Machine) → Chosen P moved m → EndsAs (trim moved m) []
+  trim-ends moved m chosen = cond_both (nat_le (counted_in m) m.settings.hard) (nothing_more m)
+      (on_connection (unwrap_or (choice_of (candidates_in m)) moved) (ending cause.Pruned) m) (λ effect. EndsAs effect []) (λ within. ends_nobody (nothing_more m) refl)
+      (λ above. by_entry (entry_at (unwrap_or (choice_of (candidates_in m)) moved).0 m) refl)
+    where
+      by_entry : (o : Option Entry) → entry_at (unwrap_or (choice_of (candidates_in m)) moved).0 m ≡ o → EndsAs (on_entry o (ending cause.Pruned) m) []
+      by_entry None is = ends_nobody (nothing_more m) refl
+      by_entry (Some e) is = ends_as (ending cause.Pruned e m) (end_of e cause.Pruned ∷ []) [] (ended_is cause.Pruned e m) refl (chosen e is, tt)
+
+  -- ---- an item
+
+  judged-ends : (v : Verdict) (e : Entry) (m : Machine) → EndsAs (judged v e m) (map (end_of e) (causes_of_verdict v))
+  judged-ends (verdict.Accept agreed) e m = ends_nobody (judged (verdict.Accept agreed) e m) refl
+  judged-ends (verdict.Refuse why) e m = ending-ends cause.Refused e m refl
+  judged-ends verdict.Query e m = ending-ends cause.Query e m refl
+  judged-ends (verdict.Agree agreed) e m = moves_nothing (judged (verdict.Agree agreed) e m) (ap (λ ms. ms ++ []) (turns_at-moves _ _ _))
+  judged-ends verdict.Refused e m = ending-ends cause.Refused e m refl
+  judged-ends verdict.Wrong e m = ending-ends (cause.Fault Protocol) e m refl
+
+  greeted_by-ends : (o : Option Message) (side : ℕ) (e : Entry) (m : Machine) → EndsAs (greeted_by o side e m) (map (end_of e) (causes_heard o (role_of e.facts.provenance) side m))
+  greeted_by-ends None side e m = ending-ends (cause.Fault Malformed) e m refl
+  greeted_by-ends (Some msg) side e m = by_side (fits_side (role_of e.facts.provenance) side msg)
+    where
+      v : Verdict
+      v = verdict_of (role_of e.facts.provenance) (own_info m.settings) msg
+
+      by_side : (b : Bool) → EndsAs (if b then decided v e m else ending (cause.Fault Protocol) e m) (map (end_of e) (if b then causes_of_verdict v else cause.Fault Protocol ∷ []))
+      by_side true =
+          let first : Effect = sends_answer (answer_of v (own_info m.settings)) e.facts.cid m in
+          ends_then first (judged v e) (map (end_of e) (causes_of_verdict v))
+          (moves_nothing first (answer-quiet (answer_of v (own_info m.settings)) e.facts.cid m).moves) (judged-ends v e first.machine)
+      by_side false = ending-ends (cause.Fault Protocol) e m refl
+
+  greets-ends : (item : Item) (e : Entry) (m : Machine) → EndsAs (greets item e m) (map (end_of e) (causes_of_greeting item e.facts m))
+  greets-ends item e m =
+      subst (λ causes. EndsAs (greets item e m) (map (end_of e) causes)) (heard-same e.facts.provenance item m) (by_side (item.id == 0 && is_awaited (role_of e.facts.provenance) item.side))
+    where
+      by_side : (b : Bool) → EndsAs (if b then greeted_by (message_of item.body) item.side e m else ending (cause.Fault Protocol) e m)
+          (map (end_of e) (if b then causes_heard (message_of item.body) (role_of e.facts.provenance) item.side m else protocol_fault))
+      by_side true = greeted_by-ends (message_of item.body) item.side e m
+      by_side false = ending-ends (cause.Fault Protocol) e m refl
+
+  stops_if-ends : (done : Bool) (protocol : ℕ) (e : Entry) (m : Machine) → EndsAs (stops_if done protocol e m) []
+  stops_if-ends true protocol e m = ends_nobody (stops_if true protocol e m) refl
+  stops_if-ends false protocol e m = ends_nobody (stops_if false protocol e m) refl
+
+  serves-ends : (o : Option Entry) (seen : Seen) (protocol : ℕ) (m : Machine) → EndsAs (on_entry o (serves seen protocol) m) []
+  serves-ends None seen protocol m = ends_nobody (nothing_more m) refl
+  serves-ends (Some e) seen protocol m =
+      let first : Effect = replies seen.reply protocol e m in
+      ends_then first (stops_if seen.done protocol e) [] (moves_nothing first (replies-quiet seen.reply protocol e m).moves) (stops_if-ends seen.done protocol e first.machine)
+
+  begins-ends : (protocol : ℕ) (e : Entry) (m : Machine) → Chosen P e.facts.cid (woken protocol e m) → EndsAs (begins protocol e m) []
+  begins-ends protocol e m chosen = cond_both (runs protocol e.facts.running) (nothing_more m) (awake protocol e m) (λ effect. EndsAs effect [])
+      (λ running. ends_nobody (nothing_more m) refl)
+      (λ silent. let new : Entry = record e { facts = awakened protocol e.facts } in
+      ends_then (entry_turns e new m) (trim e.facts.cid) [] (ends_nobody (entry_turns e new m) refl) (trim-ends e.facts.cid (woken protocol e m) chosen))
+
+  asked_as-ends : (r : Result Seen FaultKind) (protocol : ℕ) (e : Entry) (m : Machine) → Chosen P e.facts.cid (woken protocol e m) →
+      EndsAs (asked_as r protocol e m) (map (end_of e) (causes_of_fault (fault_of_request r e.facts)))
+  asked_as-ends (Err kind) protocol e m chosen = ending-ends (cause.Fault kind) e m refl
+  asked_as-ends (Ok seen) protocol e m chosen = by_test (takes_requests e)
+    where
+      by_test : (b : Bool) → EndsAs (if b then then_do (begins protocol e m) (on_connection e.facts.cid (serves seen protocol)) else ending (cause.Fault Protocol) e m)
+          (map (end_of e) (causes_of_fault (if b then None else Some Protocol)))
+      by_test true =
+          let first : Effect = begins protocol e m in
+          ends_then first (on_connection e.facts.cid (serves seen protocol)) [] (begins-ends protocol e m chosen) (serves-ends (entry_at e.facts.cid.0 first.machine) seen protocol first.machine)
+      by_test false = ending-ends (cause.Fault Protocol) e m refl
+
+  comes-ends : (big : Bool) (a : Addr) (m : Machine) → EndsAs (as_move (shared a) m (peer_comes big a m)) []
+  comes-ends big a m =
+      let effect : Effect = peer_comes big a m in
+      let move : Move = record { happened = shared a; before = m; after = effect.machine } in
+      ends_nobody (as_move (shared a) m effect) (ap (λ ms. ends_in (ms ++ move ∷ [])) (comes-providing big a m).moves)
+
+  shares-ends : (addrs : List Addr) (m : Machine) → EndsAs (for_each shares_address addrs m) []
+  unfolding for_each
+  shares-ends [] m = ends_nobody (nothing_more m) refl
+  shares-ends (a ∷ addrs) m = ends_then (shares_address a m) (for_each shares_address addrs) [] (comes-ends false a m) (shares-ends addrs (shares_address a m).machine)
+
+  takes-ends : (o : Option Share) (m : Machine) → EndsAs (takes_addresses o m) []
+  takes-ends None m = ends_nobody (nothing_more m) refl
+  takes-ends (Some (share.Request n)) m = ends_nobody (nothing_more m) refl
+  takes-ends (Some (share.Peers told)) m = shares-ends (taken_of told m) m
+  takes-ends (Some share.Done) m = ends_nobody (nothing_more m) refl
+
+  brings-ends : (protocol : ℕ) (body : List ℕ) (e : Entry) (m : Machine) → EndsAs (brings protocol body e m) []
+  brings-ends protocol body e m =
+      cond_both (protocol == 2) (peer_becomes Hot e.facts.addr m) (if protocol == 8 then nothing_more m else takes_addresses (share_of body) m)
+      (λ effect. EndsAs effect []) (λ on_2. moves_nothing (peer_becomes Hot e.facts.addr m) (turns_at-moves (peer_at e.facts.addr m) (λ p. record p { temp = Hot }) m))
+      (λ not_2. cond_both (protocol == 8) (nothing_more m) (takes_addresses (share_of body) m) (λ effect. EndsAs effect []) (λ on_8. ends_nobody (nothing_more m) refl)
+      (λ not_8. takes-ends (share_of body) m))
+
+  answered_as-ends : (o : Option Owed) (item : Item) (e : Entry) (m : Machine) → EndsAs (answered_as o item e m) (map (end_of e) (causes_of_fault (fault_of_answer o item.body)))
+  answered_as-ends None item e m = ending-ends (cause.Fault Protocol) e m refl
+  answered_as-ends (Some owed) item e m =
+      subst (λ b. EndsAs (answered_as (Some owed) item e m) (map (end_of e) (causes_of_fault (if b then None else Some Protocol)))) (pays-same owed item.body) (by_test (pays owed item.body))
+    where
+      by_test : (b : Bool) → EndsAs (if b then then_do (entry_turns e (paid item.id e) m) (brings item.id item.body e) else ending (cause.Fault Protocol) e m)
+          (map (end_of e) (causes_of_fault (if b then None else Some Protocol)))
+      by_test true = ends_then (entry_turns e (paid item.id e) m) (brings item.id item.body e) [] (ends_nobody (entry_turns e (paid item.id e) m) refl)
+          (brings-ends item.id item.body e (with_entry (paid item.id e) m))
+      by_test false = ending-ends (cause.Fault Protocol) e m refl
+
+  talks-ends : (item : Item) (e : Entry) (m : Machine) → Chosen P e.facts.cid (woken item.id e m) → EndsAs (talks item e m) (map (end_of e) (causes_of_fault (fault_of item e)))
+  talks-ends item e m chosen = by_side (item.side == 0)
+    where
+      seen : Result Seen FaultKind
+      seen = watched item.id (agreed_sharing e.facts.agreed) item.body
+
+      by_side : (b : Bool) → EndsAs (if b then asked_as seen item.id e m else answered_as (reply_on item.id e) item e m)
+          (map (end_of e) (causes_of_fault (if b then fault_of_request seen e.facts else fault_of_answer (reply_on item.id e) item.body)))
+      by_side true = asked_as-ends seen item.id e m chosen
+      by_side false = answered_as-ends (reply_on item.id e) item e m
+
+  handled_in-ends : (p : Phase) (item : Item) (e : Entry) (m : Machine) → Chosen P e.facts.cid (woken item.id e m) → EndsAs (handled_in p item e m) (map (end_of e) (causes_of_item p item e m))
+  handled_in-ends Dialing item e m chosen = ends_nobody (nothing_more m) refl
+  handled_in-ends (Greeting until) item e m chosen = greets-ends item e m
+  handled_in-ends Negotiated item e m chosen = talks-ends item e m chosen
+  handled_in-ends (Closing until) item e m chosen = ends_nobody (nothing_more m) refl
+
+  handled-ends : (o : Option Entry) (item : Item) (m : Machine) → ((e : Entry) → o ≡ Some e → Chosen P e.facts.cid (woken item.id e m)) →
+      EndsAs (on_entry o (handled item) m) (ends_on o (λ e. causes_of_item e.facts.phase item e m))
+  handled-ends None item m chosen = ends_nobody (nothing_more m) refl
+  handled-ends (Some e) item m chosen = handled_in-ends e.facts.phase item e m (chosen e refl)
+
+  stream-ends : (o : Option Entry) (fault : Option CutFault) (m : Machine) → EndsAs (on_entry o (faulted fault) m) (ends_on o (λ e. causes_of_cut fault))
+  stream-ends None fault m = ends_nobody (nothing_more m) refl
+  stream-ends (Some e) None m = ends_nobody (nothing_more m) refl
+  stream-ends (Some e) (Some fault) m =
+      subst (λ kind. EndsAs (ending (cause.Fault (kind_of fault)) e m) (end_of e (cause.Fault kind) ∷ [])) (kind-same fault) (ending-ends (cause.Fault (kind_of fault)) e m refl)
+
+  -- ---- a deadline
+
+  fires_as-ends : (kind : Kind) (e : Entry) (m : Machine) → EndsAs (fires_as kind e m) (map (end_of e) (causes_of_kind kind e))
+  fires_as-ends Handshake e m = ending-ends (cause.Fault HandshakeWait) e m refl
+  fires_as-ends Grace e m = by_local e.facts.local
+    where
+      closes_it : Effect
+      closes_it = as_move (unused e.facts.cid.0) m (then_do (tells (Close e.facts.cid cause.Unused ∷ []) m) (entry_turns e (closing_entry m e)))
+
+      by_local : (b : Bool) → EndsAs (if b then entry_turns e (record e { facts = expired e.facts }) m else closes_it) (map (end_of e) (if b then [] else cause.Unused ∷ []))
+      by_local true = ends_nobody (entry_turns e (record e { facts = expired e.facts }) m) refl
+      by_local false = ends_as closes_it (end_of e cause.Unused ∷ []) (end_of e cause.Unused ∷ []) refl refl tt
+  fires_as-ends TimeWait e m = ends_nobody (fires_as TimeWait e m) refl
+  fires_as-ends Reply2 e m = ending-ends (cause.Fault ReplyWait) e m refl
+  fires_as-ends Reply8 e m = ending-ends (cause.Fault ReplyWait) e m refl
+  fires_as-ends Reply10 e m = ending-ends (cause.Fault ReplyWait) e m refl
+
+  fires-ends : (o : Option Entry) (kind : Kind) (m : Machine) → EndsAs (on_entry o (fires_as kind) m) (ends_on o (causes_of_kind kind))
+  fires-ends None kind m = ends_nobody (nothing_more m) refl
+  fires-ends (Some e) kind m = fires_as-ends kind e m
+
+  -- ---- a peer connects
+
+  beside-ends : (o : Option Entry) (addr : Addr) (m : Machine) →
+      EndsAs (accepted_beside o addr m) (ends_on o (λ e. if is_pending e.facts && address_below addr m.settings.own then cause.Overwritten ∷ [] else []))
+  beside-ends None addr m = ends_nobody (admitted addr m) refl
+  beside-ends (Some e) addr m = by_tests (is_pending e.facts) (address_below addr m.settings.own)
+    where
+      by_tests : (p q : Bool) → EndsAs (if p then (if q then then_do (ending cause.Overwritten e m) (admitted addr) else turned_away Crossed m) else turned_away Present m)
+          (map (end_of e) (if p && q then cause.Overwritten ∷ [] else []))
+      by_tests true true = ends_both (ending cause.Overwritten e m) (admitted addr) (end_of e cause.Overwritten ∷ []) [] (ending-ends cause.Overwritten e m refl)
+          (ends_nobody (admitted addr (ending cause.Overwritten e m).machine) refl)
+      by_tests true false = ends_nobody (turned_away Crossed m) refl
+      by_tests false q = ends_nobody (turned_away Present m) refl
+
+  connects-ends : (addr : Addr) (m : Machine) → EndsAs (peer_connects addr m) (ends_on (live_entry_at addr m) (causes_of_crossing addr m))
+  connects-ends addr m = by_tests (same_address addr m.settings.own) (nat_le m.settings.hard (counted_in m))
+    where
+      nobody : (o : Option Entry) → [] ≡ ends_on o (λ e. [])
+      nobody None = refl
+      nobody (Some e) = refl
+
+      by_tests : (own full : Bool) → EndsAs (if own then turned_away OwnAddr m else if full then turned_away Full m else accepted_beside (live_entry_at addr m) addr m)
+          (ends_on (live_entry_at addr m) (λ e. if not own && not full && is_pending e.facts && address_below addr m.settings.own then cause.Overwritten ∷ [] else []))
+      by_tests true full = subst (EndsAs (turned_away OwnAddr m)) (nobody (live_entry_at addr m)) (ends_nobody (turned_away OwnAddr m) refl)
+      by_tests false true = subst (EndsAs (turned_away Full m)) (nobody (live_entry_at addr m)) (ends_nobody (turned_away Full m) refl)
+      by_tests false false = beside-ends (live_entry_at addr m) addr m
+
+  -- ---- the governor
+
+  release-ends : (e : Entry) (m : Machine) → Chosen P e.facts.cid (cooled e m) → EndsAs (release e m) []
+  release-ends e m chosen =
+      let first : Effect = says_done e.facts m in
+      ends_then first rest [] (moves_nothing first (says_done-quiet e.facts m).moves) (subst (λ n. EndsAs (rest n) []) (sym (says_done-machine e.facts m)) goes_on)
+    where
+      rest : Machine → Effect
+      rest n = then_do (entry_turns e (record e { facts = released (n.now + n.settings.idle) e.facts }) n) (λ w. then_do (peer_becomes Cold e.facts.addr w) (trim e.facts.cid))
+
+      new : Entry
+      new = record e { facts = released (m.now + m.settings.idle) e.facts }
+
+      n : Machine
+      n = with_entry new m
+
+      goes_on : EndsAs (rest m) []
+      goes_on = ends_then (entry_turns e new m) (λ w. then_do (peer_becomes Cold e.facts.addr w) (trim e.facts.cid)) [] (ends_nobody (entry_turns e new m) refl)
+          (ends_then (peer_becomes Cold e.facts.addr n) (trim e.facts.cid) []
+          (moves_nothing (peer_becomes Cold e.facts.addr n) (turns_at-moves (peer_at e.facts.addr n) (λ p. record p { temp = Cold }) n)) (trim-ends e.facts.cid (cooled e m) chosen))
+
+  on_used-ends : (addr : Addr) (act : Entry → Machine → Effect) (m : Machine) → ((e : Entry) → find (is_used_at addr) m.connections ≡ Some e → EndsAs (act e m) []) → EndsAs (on_used addr act m) []
+  on_used-ends addr act m each = by_entry (find (is_used_at addr) m.connections) refl
+    where
+      by_entry : (o : Option Entry) → find (is_used_at addr) m.connections ≡ o → EndsAs (on_entry o act m) []
+      by_entry None is = ends_nobody (nothing_more m) refl
+      by_entry (Some e) is = each e is
+
+  one_move-ends : (happened : Happened) (m : Machine) (effect : Effect) → ended_by happened ≡ [] → IsOneMove happened m effect → EndsAs effect []
+  one_move-ends happened m effect none one = ends_nobody effect (ap ends_in one ∙ ap (λ ends. ends ++ []) none)
+
+  -- whom a release may prune
+  abbrev pub ChosenByOrder : Order → Machine → Type 0
+  ChosenByOrder (Release addr) m = (e : Entry) → find (is_used_at addr) m.connections ≡ Some e → Chosen P e.facts.cid (cooled e m)
+  ChosenByOrder other m = Unit {0}
+
+  carries-ends : (order : Order) (m : Machine) → ChosenByOrder order m → EndsAs (carries_out order m) []
+  carries-ends (Ask addr n) m chosen = on_used-ends addr (asks_peer n) m
+      (λ e is. moves_nothing (asks_peer n e m) (turns_at-moves (peer_at e.facts.addr m) (λ p. record p { share_next = m.now + m.settings.sharegap }) (with_entry (owing 10 n m e) m)))
+  carries-ends (Forget addr) m chosen = ends_nobody (carries_out (Forget addr) m) refl
+  carries-ends (Promote addr) m chosen = one_move-ends (promoted addr) m (promote addr m) refl (promote-move addr m)
+  carries-ends (Release addr) m chosen = on_used-ends addr release m (λ e is. release-ends e m (chosen e is))
+  carries-ends (Activate addr) m chosen = one_move-ends (activated addr) m (activate addr m) refl (activate-move addr m)
+  carries-ends (Deactivate addr) m chosen = on_used-ends addr deactivates m
+      (λ e is. moves_nothing (deactivates e m) (turns_at-moves (peer_at e.facts.addr m) (λ p. record p { temp = Warm }) m))
+
+  roots-ends : (m : Machine) → EndsAs (asks_roots m) []
+  roots-ends m = cond_both (may_ask m.now m.targets.root m.roots)
+      (tells (AskRoots (record { 0 = m.roots.next_job }) ∷ []) (record m { roots = asked m.roots })) (nothing_more m) (λ effect. EndsAs effect [])
+      (λ too_few. ends_nobody (tells (AskRoots (record { 0 = m.roots.next_job }) ∷ []) (record m { roots = asked m.roots })) refl) (λ enough. ends_nobody (nothing_more m) refl)
+
+  -- ---- dials and ends
+
+  dial_ends-ends : (o : Option Entry) (opened : Bool) (m : Machine) → EndsAs (on_entry o (dialed opened) m) []
+  dial_ends-ends None opened m = ends_nobody (nothing_more m) refl
+  dial_ends-ends (Some e) opened m = by_tests (is_dialing e.facts) opened
+    where
+      fails : EndsAs (dial_fails e m) []
+      fails =
+          let move : Move = record { happened = gone e.facts.cid.0; before = m; after = (vanishes e m).machine } in
+          ends_nobody (dial_fails e m) (ap (λ ms. ends_in (ms ++ move ∷ [])) (lost-quiet e.facts (without_entry e.facts.cid.0 m)).moves)
+
+      by_tests : (dials b : Bool) → EndsAs (if dials then (if b then dial_opens e m else dial_fails e m) else nothing_more m) []
+      by_tests true true = ends_nobody (dial_opens e m) refl
+      by_tests true false = fails
+      by_tests false b = ends_nobody (nothing_more m) refl
+
+  closed-ends : (o : Option Entry) (m : Machine) → EndsAs (on_entry o closes m) []
+  closed-ends None m = ends_nobody (nothing_more m) refl
+  closed-ends (Some e) m = cond_both (is_live e.facts) (vanishes e m) (nothing_more m) (λ effect. EndsAs effect [])
+      (λ live. moves_nothing (vanishes e m) (lost-quiet e.facts (without_entry e.facts.cid.0 m)).moves) (λ closed. ends_nobody (nothing_more m) refl)
+
+  big-ends : (addr : Addr) (m : Machine) → EndsAs (comes_big addr m) []
+  big-ends addr m = cond_both (is_wanted_big addr m) (as_move (shared addr) m (peer_comes true addr m)) (nothing_more m) (λ effect. EndsAs effect [])
+      (λ wanted. comes-ends true addr m) (λ other. ends_nobody (nothing_more m) refl)
+
+  -- ---- each act
+
+  -- whom an item may prune, and a release
+  abbrev pub ChosenBy : Act → Machine → Type 0
+  ChosenBy (handles_item cid item) m = (e : Entry) → entry_at cid.0 m ≡ Some e → Chosen P e.facts.cid (woken item.id e m)
+  ChosenBy (carries order) m = ChosenByOrder order m
+  ChosenBy other m = Unit {0}
+
+  pub part-ends : (act : Act) (m : Machine) → ChosenBy act m → EndsAs (does act m) (ends_due act m)
+  part-ends (shows t) m chosen = ends_nobody (does (shows t) m) refl
+  part-ends (fires_one d) m chosen = fires-ends (entry_at d.cid.0 m) d.kind m
+  part-ends asks_for_roots m chosen = roots-ends m
+  part-ends (carries order) m chosen = carries-ends order m chosen
+  part-ends (connects addr) m chosen = connects-ends addr m
+  part-ends (ends_dial cid opened) m chosen = dial_ends-ends (entry_at cid.0 m) opened m
+  part-ends (stores entry undecoded) m chosen = ends_nobody (does (stores entry undecoded) m) refl
+  part-ends (handles_item cid item) m chosen = handled-ends (entry_at cid.0 m) item m chosen
+  part-ends (ends_stream cid fault) m chosen = stream-ends (entry_at cid.0 m) fault m
+  part-ends (is_closed cid) m chosen = closed-ends (entry_at cid.0 m) m
+  part-ends (sets_targets targets) m chosen = ends_nobody (does (sets_targets targets) m) refl
+  part-ends (sets_big_targets targets) m chosen = ends_nobody (does (sets_big_targets targets) m) refl
+  part-ends (sets_groups groups) m chosen = ends_nobody (does (sets_groups groups) m) refl
+  part-ends (sets_roots roots) m chosen = ends_nobody (does (sets_roots roots) m) refl
+  part-ends (makes_ordinary addr) m chosen = moves_nothing (peer_is_ordinary addr m) (turns_at-moves (peer_at addr m) (λ p. record p { big = false }) m)
+  part-ends (provides addr) m chosen = moves_nothing (comes_ordinary addr m) (comes-providing false addr m).moves
+  part-ends (provides_big addr) m chosen = big-ends addr m

@@ -37,8 +37,8 @@ use Rattle.laws.specs.Parts.{IsAccounted}
 use Rattle.laws.specs.Sound.{IsOrderly}
 use Rattle.laws.specs.Stages.{stage_of_phase}
 use Rattle.laws.specs.Telling.{IsTold}
-use Rattle.laws.specs.Told.{promoted_by_dial}
-use Rattle.laws.specs.Whole.{IsSteady, IsOrdered}
+use Rattle.laws.specs.InActions.{promoted_by_dial}
+use Rattle.laws.specs.Steady.{IsSteady, IsOrdered}
 use Rattle.laws.proofs.Admitted.{pending-live}
 use Rattle.laws.proofs.Arrivals.{locals-known, roots-known}
 use Rattle.laws.proofs.Clock.{fire_due-obeys}

@@ -7,22 +7,21 @@ use Rattle.net_base.specs.Address.{same_address, address_below}
 use Rattle.net_base.specs.declared.action.Away.TheVariants.{OwnAddr, Crossed, Present, Full}
 use Rattle.net_base.specs.declared.action.CloseCause.TheVariants.{Overwritten}
 use Rattle.net_base.specs.declared.address.Addr.{Addr}
-use Rattle.net_base.specs.declared.connection.Cid.{Cid}
 use Rattle.conn_state.specs.Moves.{accepted}
-use Rattle.conn_state.specs.Use.{is_live, is_live_at, is_pending, has_id}
-use Rattle.machine.specs.Machine.{Machine, Entry, fresh_entry, counted_in, entry_at, live_entry_at}
-use Rattle.machine.specs.Effect.{nothing_more, then_do, on_entry}
-use Rattle.machine.specs.Connections.{without_entry, ending, vanishes}
+use Rattle.conn_state.specs.Use.{is_live, is_live_at, is_pending}
+use Rattle.machine.specs.Machine.{Machine, Entry, fresh_entry, counted_in, live_entry_at}
+use Rattle.machine.specs.Effect.{nothing_more, then_do}
+use Rattle.machine.specs.Connections.{without_entry, ending}
 use Rattle.machine.specs.Deadlines.{deadlines, fire_all}
-use Rattle.machine.specs.Events.{clock_shows, turned_away, admitted, crossed, accepted_beside, peer_connects, closes, peer_closes}
+use Rattle.machine.specs.Events.{clock_shows, turned_away, admitted, crossed, accepted_beside, peer_connects}
 use Rattle.laws.specs.Laws.{DifferInAddress, WithinHardLimit, DeadlinesAhead}
 use Rattle.laws.specs.Sound.{IsOrderly, IsSound}
 use Rattle.laws.proofs.Addresses.{same_address-self, same_address-true}
-use Rattle.laws.proofs.Lists.{StandsAt, FoundIn, find_some, find_none, All-others, count_by-none, count_by-all_fail}
+use Rattle.laws.proofs.Lists.{FoundIn, find_some, find_none, All-others, count_by-none, count_by-all_fail}
 use Rattle.laws.proofs.Settings.{handshake-positive}
 use Rattle.laws.proofs.Counts.{is_late, counted_of, counted_in-sum, late_of, late_in, late_in-sum}
 use Rattle.laws.proofs.Entries.{with_new, come-orderly, gone-connections}
-use Rattle.laws.proofs.Moves.{Lowers, ending-lowers, vanishes-lowers}
+use Rattle.laws.proofs.Moves.{Lowers, ending-lowers}
 use Rattle.laws.proofs.Firing.{fire_all-lowers, fire_all-none_late}
 
 -- no deadline is late exactly where every deadline is above now
@@ -41,18 +40,6 @@ pub record StaysSound (before after : Machine) : Type 0 where
 
 stays_same : (m : Machine) → IsSound m → StaysSound m m
 stays_same m h = record { sound = h; settings = refl }
-
--- after a part of a step in which no connection comes
-pub lowered-sound : (gone : ℕ) (m n : Machine) → IsSound m → Lowers gone m n → IsSound n
-lowered-sound gone m n h l =
-    let none_before : late_in m ≡ 0 = ahead-none_late m h.deadlines in
-    let hard : n.settings.hard ≡ m.settings.hard = ap (λ s. s.hard) l.settings in
-    let within : counted_in m ≤ m.settings.hard = h.counted in
-    record {
-      orderly = l.orderly;
-      counted = omega arith;
-      deadlines = none_late-ahead n (omega arith);
-    }
 
 -- the record at a moment
 abbrev pub at_moment : ℕ → Machine → Machine
@@ -194,20 +181,3 @@ peer_connects-sound addr m h = cond_both (same_address addr m.settings.own) (tur
     (λ other. cond_both (nat_le m.settings.hard (counted_in m)) (turned_away Full m) (accepted_beside (live_entry_at addr m) addr m)
     (λ effect. StaysSound m effect.machine)
     (λ full. stays_same m h) (λ room. accepted_beside-sound addr m h (leb-false m.settings.hard (counted_in m) room)))
-
-vanishes-sound : (m : Machine) (entry : Entry) (k : ℕ) → IsSound m → StandsAt m.connections k entry →
-    StaysSound m (vanishes entry m).machine
-vanishes-sound m entry k h stands =
-    let goes : Lowers 0 m (vanishes entry m).machine = vanishes-lowers m entry k h.orderly stands in
-    record { sound = lowered-sound 0 m (vanishes entry m).machine h goes; settings = goes.settings }
-
-pub peer_closes-sound : (cid : Cid) (m : Machine) → IsSound m → StaysSound m (peer_closes cid m).machine
-peer_closes-sound cid m h = by_entry (entry_at cid.0 m) refl
-  where
-    by_entry : (o : Option Entry) → entry_at cid.0 m ≡ o → StaysSound m (on_entry o closes m).machine
-    by_entry None e = stays_same m h
-    by_entry (Some entry) e =
-        let found : FoundIn (λ x. has_id cid.0 x.facts) m.connections entry =
-        find_some (λ x. has_id cid.0 x.facts) m.connections entry e in
-        cond_both (is_live entry.facts) (vanishes entry m) (nothing_more m) (λ effect. StaysSound m effect.machine)
-        (λ live. vanishes-sound m entry found.place h found.stands) (λ closed. stays_same m h)

@@ -1,17 +1,16 @@
 -- An order at one address lowers what is counted by one at most, and leaves other addresses as they were.
-use Rattle.std.proofs.Common.{ℕ, ◌+◌, ◌≤◌, ◌≡◌, Bool, true, false, cond, not, ◌&&◌, ◌||◌, nat_le, List, [], ◌∷◌, ◌==◌, filter, find, count_by, Option, Some, None, refl, sym, ap, ◌∙◌, subst, arith, eqb-true}
+use Rattle.std.proofs.Common.{ℕ, ◌+◌, ◌≤◌, ◌≡◌, Bool, true, false, cond, not, ◌&&◌, ◌||◌, nat_le, List, [], ◌∷◌, filter, find, count_by, Option, Some, None, refl, sym, ap, ◌∙◌, subst, arith}
 use Rattle.std.specs.List.{list_any, AllByRecursion}
 use Rattle.std.specs.Option.{unwrap_or}
-use Rattle.std.proofs.lemmas.Bool.{cond_both, both_ways, and_parts}
+use Rattle.std.proofs.lemmas.Bool.{cond_both, and_parts}
 use Rattle.std.proofs.lemmas.List.Sums.{sum_by-cons}
-use Rattle.accept_gate.specs.Prune.{choice_of, is_candidate}
+use Rattle.accept_gate.specs.Prune.{choice_of}
 use Rattle.conn_state.specs.Moves.{released}
-use Rattle.conn_state.specs.Use.{has_id, is_live, is_live_at, is_negotiated, is_pending}
+use Rattle.conn_state.specs.Use.{has_id, is_live, is_live_at}
 use Rattle.net_base.specs.Address.{same_address}
 use Rattle.net_base.specs.declared.action.CloseCause.TheVariants.{Pruned}
 use Rattle.net_base.specs.declared.address.Addr.{Addr}
 use Rattle.net_base.specs.declared.connection.Cid.{Cid}
-use Rattle.net_base.specs.declared.connection.Facts.{Facts}
 use Rattle.net_base.specs.declared.peer.Peer.{Peer}
 use Rattle.net_base.specs.declared.peer.Temp.TheVariants.{Cold, Warm}
 use Rattle.peer_book.specs.Book.{has_address, is_of, known_of, peer_at as peer_in, with_peer, without_peer}
@@ -22,21 +21,17 @@ use Rattle.machine.specs.Machine.{Machine, Entry, counted_in, entry_at}
 use Rattle.machine.specs.Peers.{peer_at, turns_at, peer_changes, peer_becomes}
 use Rattle.machine.specs.Replies.{owing}
 use Rattle.laws.specs.AtMoves.{some_connection}
-use Rattle.laws.specs.Sound.{IsOrderly}
-use Rattle.laws.specs.Whole.{IsShaped, ArePeersApart, IsOrdered}
+use Rattle.laws.specs.Steady.{IsShaped, ArePeersApart, IsOrdered}
 use Rattle.laws.proofs.Addresses.{same_address-true}
-use Rattle.laws.proofs.BackOff.{candidate-unmissed, turned-is}
+use Rattle.laws.proofs.BackOff.{trim-peers, idle-unmissed, turned-is}
 use Rattle.laws.proofs.CarriedOut.{changed-orderly}
 use Rattle.laws.proofs.Entries.{TurnsInto, turned-orderly}
-use Rattle.laws.proofs.Lawful.{stands-found}
 use Rattle.laws.proofs.Lists.{StandsAt, FoundIn, find_some, All-stands}
 use Rattle.laws.proofs.Orders.{says_done-machine}
-use Rattle.laws.proofs.Pruning.{chosen-goes}
 use Rattle.laws.proofs.Shapes.{local-negotiated}
 use Rattle.laws.proofs.Spending.{IsSameBut, AreSameBut, all_same, with_peer-same_but, ChangesAt, turned-same}
 use Rattle.laws.proofs.ToldMoves.{turns_at-connections}
 use Rattle.laws.proofs.Trims.{lost-connections}
-use Rattle.laws.proofs.WholeMoves.{pending-unnegotiated}
 
 -- ---- books that differ at one address, the other way
 
@@ -242,38 +237,6 @@ trim-none test b moved m none = cond_both (nat_le (counted_in m) m.settings.hard
     by_entry (Some e) =
         ap (list_any passes) (lost-connections e.facts (without_entry e.facts.cid.0 m))
         ∙ filter-none passes (λ x. not (has_id e.facts.cid.0 x.facts)) m.connections none
-
-unmissed-peers : (e : Entry) (m : Machine) → is_missed e.facts ≡ false → (ending Pruned e m).machine.peers ≡ m.peers
-unmissed-peers e m unmissed = rw unmissed refl
-
--- nobody fails where the one that moved is not missed
-trim-peers : (moved : Entry) (m : Machine) → IsOrderly m → ((e : Entry) → entry_at moved.facts.cid.0 m ≡ Some e → is_missed e.facts ≡ false) →
-    (trim moved.facts.cid m).machine.peers ≡ m.peers
-trim-peers moved m h unmissed = cond_both (nat_le (counted_in m) m.settings.hard) (nothing_more m) (on_connection goes (ending Pruned) m)
-    (λ effect. effect.machine.peers ≡ m.peers) (λ within. refl) (λ above. by_entry (entry_at goes.0 m) refl)
-  where
-    goes : Cid
-    goes = unwrap_or (choice_of (candidates_in m)) moved.facts.cid
-
-    by_entry : (o : Option Entry) → entry_at goes.0 m ≡ o → (on_entry o (ending Pruned) m).machine.peers ≡ m.peers
-    by_entry None is = refl
-    by_entry (Some e) is = by_own (e.facts.cid.0 == moved.facts.cid.0) refl (chosen-goes moved.facts.cid m h e is)
-      where
-        found : (e.facts.cid.0 == moved.facts.cid.0) ≡ true → entry_at moved.facts.cid.0 m ≡ Some e
-        found own =
-            let at : FoundIn (λ x. has_id goes.0 x.facts) m.connections e = find_some (λ x. has_id goes.0 x.facts) m.connections e is in
-            subst (λ c. entry_at c m ≡ Some e) (eqb-true e.facts.cid.0 moved.facts.cid.0 own) (stands-found m e at.place h at.stands)
-
-        by_own : (b : Bool) → (e.facts.cid.0 == moved.facts.cid.0) ≡ b → (b || is_candidate e.facts) ≡ true → (ending Pruned e m).machine.peers ≡ m.peers
-        by_own true own may = unmissed-peers e m (unmissed e (found own))
-        by_own false own may = unmissed-peers e m (candidate-unmissed e.facts may)
-
-idle-unmissed : (f : Facts) → is_negotiated f ≡ true → is_pending f ≡ false
-idle-unmissed f open_ = by_pending (is_pending f) refl
-  where
-    by_pending : (b : Bool) → is_pending f ≡ b → b ≡ false
-    by_pending true is = absurd (both_ways (is_negotiated f) (pending-unnegotiated f is) open_)
-    by_pending false is = refl
 
 releasing-leaves : (m : Machine) (e : Entry) (k : ℕ) → IsOrdered m → StandsAt m.connections k e → e.facts.local ≡ true →
     LeavesOthers e.facts.addr m (then_do (entry_turns e (record e { facts = released (m.now + m.settings.idle) e.facts }) m)

@@ -1,8 +1,7 @@
 -- A peer whose handshake ends in use has no failures.
-use Rattle.std.proofs.Common.{ℕ, ◌+◌, ◌%◌, ◌≡◌, true, false, ◌&&◌, ◌==◌, find, if◌then◌else◌, Option, Some, None, refl, sym, ap, ◌∙◌, subst, eq-eqb, eqb-true}
-use Rattle.std.specs.Option.{option_map}
+use Rattle.std.proofs.Common.{ℕ, ◌+◌, ◌%◌, ◌≡◌, true, false, ◌&&◌, ◌==◌, Option, Some, None, refl, sym, ap, ◌∙◌, subst, eqb-true}
 use Rattle.std.proofs.lemmas.Bool.{cond_both, both_ways, false≢true}
-use Rattle.conn_state.specs.Moves.{agreed_inbound, agreed_outbound}
+use Rattle.conn_state.specs.Moves.{agreed_outbound}
 use Rattle.conn_state.specs.Use.{has_id, is_greeting_phase}
 use Rattle.hs_decide.specs.Agreement.{verdict_of}
 use Rattle.hs_decide.specs.Answers.{answer_of}
@@ -19,7 +18,7 @@ use Rattle.net_base.specs.declared.connection.Phase.{Phase}
 use Rattle.net_base.specs.declared.connection.Phase.TheVariants.{Dialing, Greeting, Negotiated, Closing}
 use Rattle.net_base.specs.declared.peer.Temp.TheVariants.{Warm}
 use Rattle.hs_receive.specs.Receiving.{is_awaited, fits_side}
-use Rattle.machine.specs.Connections.{with_entry, without_entry, ending}
+use Rattle.machine.specs.Connections.{with_entry, ending}
 use Rattle.machine.specs.Effect.{on_entry}
 use Rattle.machine.specs.Greeting.{role_of, judged, decided, greeted_by, greets}
 use Rattle.machine.specs.Machine.{Machine, Entry, entry_at}
@@ -27,43 +26,29 @@ use Rattle.machine.specs.Own.{own_info}
 use Rattle.machine.specs.Peers.{peer_at}
 use Rattle.machine.specs.Replies.{owing}
 use Rattle.machine.specs.Stream.{handled_in, handled}
-use Rattle.laws.specs.Acts.{Act, shows, fires_one, asks_for_roots, carries, connects, ends_dial, stores, handles_item, ends_stream, is_closed, sets_targets, sets_big_targets, sets_groups, sets_roots, makes_ordinary, provides, provides_big, does}
+use Rattle.laws.specs.Acts.{Act, handles_item, does}
 use Rattle.laws.specs.CarriedOut.{OnPeer, WhereGreeting, is_in_use, Forgives}
+use Rattle.laws.specs.Untouched.{IsAsItWas}
 use Rattle.laws.proofs.CarriedOut.{changed-here}
 use Rattle.laws.proofs.Handshakes.{answer-machine}
-use Rattle.laws.proofs.Lawful.{lost_by-quiet}
 use Rattle.laws.proofs.Lists.{find_some}
-use Rattle.laws.proofs.Waits.{replaced, gone-found}
+use Rattle.laws.proofs.Turned.{turned_by_verdict, ending-becomes, judged-becomes}
 
 -- where the connection is in use after it, its peer has no failures
 abbrev Forgiven : Entry → Machine → Type 0
 Forgiven e after = is_in_use (entry_at e.facts.cid.0 after) ≡ true → OnPeer (peer_at e.facts.addr after) (λ p. p.failures ≡ 0)
 
--- one that has ended is not in use
+-- where it is gone, or has turned into one that is not in use, it is not
+not-used : (o p : Option Entry) → IsAsItWas o p → is_in_use o ≡ false → is_in_use p ≡ true → ⊥
+not-used o None becomes unused used = false≢true used
+not-used o (Some f) becomes unused used = both_ways (is_in_use o) unused (ap is_in_use becomes ∙ used)
+
 ending-forgiven : (c : CloseCause) (e : Entry) (m : Machine) → Forgiven e (ending c e m).machine
-ending-forgiven c e m used = absurd (both_ways (is_in_use (entry_at e.facts.cid.0 (ending c e m).machine)) (ap is_in_use none) used)
-  where
-    none : entry_at e.facts.cid.0 (ending c e m).machine ≡ None
-    none =
-        ap (find (λ x. has_id e.facts.cid.0 x.facts)) (lost_by-quiet c e.facts (without_entry e.facts.cid.0 m)).connections
-        ∙ (gone-found e.facts.cid.0 e.facts.cid.0 m.connections
-        ∙ ap (λ b. if b then None else find (λ x. has_id e.facts.cid.0 x.facts) m.connections) (eq-eqb e.facts.cid.0 e.facts.cid.0 refl))
+ending-forgiven c e m used = absurd (not-used None (entry_at e.facts.cid.0 (ending c e m).machine) (ending-becomes None c e m) refl used)
 
 judged-forgiven : (v : Verdict) (e : Entry) (m : Machine) → e.facts.local ≡ false → Forgiven e (judged v e m).machine
 judged-forgiven (verdict.Accept agreed) e m unused used =
-    absurd (both_ways (is_in_use (entry_at e.facts.cid.0 (with_entry new m))) (ap is_in_use turned ∙ by_found (entry_at e.facts.cid.0 m)) used)
-  where
-    new : Entry
-    new = record e { facts = agreed_inbound agreed (m.now + m.settings.idle) e.facts }
-
-    turned : entry_at e.facts.cid.0 (with_entry new m) ≡ option_map (λ x. new) (entry_at e.facts.cid.0 m)
-    turned =
-        replaced e.facts.cid.0 new m.connections
-        ∙ ap (λ b. if b then option_map (λ x. new) (entry_at e.facts.cid.0 m) else entry_at e.facts.cid.0 m) (eq-eqb e.facts.cid.0 e.facts.cid.0 refl)
-
-    by_found : (o : Option Entry) → is_in_use (option_map (λ x. new) o) ≡ false
-    by_found None = refl
-    by_found (Some f) = unused
+    absurd (not-used (turned_by_verdict (verdict.Accept agreed) e m) (entry_at e.facts.cid.0 (judged (verdict.Accept agreed) e m).machine) (judged-becomes (verdict.Accept agreed) e m) unused used)
 judged-forgiven (verdict.Refuse why) e m unused used = ending-forgiven Refused e m used
 judged-forgiven verdict.Query e m unused used = ending-forgiven Query e m used
 judged-forgiven (verdict.Agree agreed) e m unused used =
@@ -104,20 +89,5 @@ handled-forgiven own item m = by_entry (entry_at own.0 m) refl
         (sym (eqb-true e.facts.cid.0 own.0 (find_some (λ x. has_id own.0 x.facts) m.connections e is).passes)) used)
 
 pub forgives : (act : Act) (m : Machine) → Forgives act m (does act m).machine
-forgives (shows t) m = tt
-forgives (fires_one d) m = tt
-forgives asks_for_roots m = tt
-forgives (carries order) m = tt
-forgives (connects addr) m = tt
-forgives (ends_dial cid opened) m = tt
-forgives (stores entry undecoded) m = tt
 forgives (handles_item cid item) m = handled-forgiven cid item m
-forgives (ends_stream cid fault) m = tt
-forgives (is_closed cid) m = tt
-forgives (sets_targets targets) m = tt
-forgives (sets_big_targets targets) m = tt
-forgives (sets_groups groups) m = tt
-forgives (sets_roots roots) m = tt
-forgives (makes_ordinary addr) m = tt
-forgives (provides addr) m = tt
-forgives (provides_big addr) m = tt
+forgives other m = tt

@@ -18,10 +18,10 @@ use Rattle.machine.specs.Effect.{nothing_more, on_entry}
 use Rattle.machine.specs.Events.{closes, dialed}
 use Rattle.machine.specs.Machine.{Machine, Entry, entry_at}
 use Rattle.machine.specs.Peers.{peer_at, turns_at, peer_fails}
-use Rattle.laws.specs.Acts.{Act, shows, fires_one, asks_for_roots, carries, connects, ends_dial, stores, handles_item, ends_stream, is_closed, sets_targets, sets_big_targets, sets_groups, sets_roots, makes_ordinary, provides, provides_big, does}
+use Rattle.laws.specs.Acts.{Act, ends_dial, is_closed, does}
 use Rattle.laws.specs.CarriedOut.{WhereLive}
 use Rattle.laws.specs.Goes.{IsGone, WhereDialing, GoesWhere}
-use Rattle.laws.specs.Told.{names_by, names_in}
+use Rattle.laws.specs.InActions.{names_by, names_in}
 use Rattle.laws.proofs.Lawful.{lost-quiet}
 use Rattle.laws.proofs.Lists.{find_some}
 use Rattle.laws.proofs.Moments.{gone-none}
@@ -36,12 +36,15 @@ lost-silent by silent f m = cond_both (is_missed f) (peer_fails f.addr m) (nothi
     by_peer (Some p) = cond_both (same_temp p.temp Cold) [] (TellPeer p.addr note.Cold ∷ []) (λ actions. flat_map by actions ≡ []) (λ same. refl)
         (λ other. ap (λ xs. xs ++ []) (silent p.addr))
 
+pub vanishes-none : (e : Entry) (m : Machine) → entry_at e.facts.cid.0 (vanishes e m).machine ≡ None
+vanishes-none e m = ap (find (λ x. has_id e.facts.cid.0 x.facts)) (lost-quiet e.facts (without_entry e.facts.cid.0 m)).connections ∙ gone-none e.facts.cid.0 m
+
 vanishes-gone : (e : Entry) (m : Machine) → IsGone e.facts.cid.0 (vanishes e m)
 vanishes-gone e m =
     let cid : ℕ = e.facts.cid.0 in
     let n : Machine = without_entry cid m in
     record {
-      gone = ap (find (λ x. has_id cid x.facts)) (lost-quiet e.facts n).connections ∙ gone-none cid m;
+      gone = vanishes-none e m;
       told = ap (λ b. (if b then Terminated ∷ [] else []) ++ names_in cid (lost e.facts n).actions) (eq-eqb cid cid refl)
           ∙ ap (λ names. Terminated ∷ names) (lost-silent (names_by cid) (λ addr. refl) e.facts n);
     }
@@ -60,20 +63,6 @@ failed-goes cid opened m (Some e) is failed = λ dialing. rw (dialing, failed)
     record { gone = gone.gone; told = gone.told })
 
 pub goes-where : (act : Act) (m : Machine) → GoesWhere act m (does act m)
-goes-where (shows t) m = tt
-goes-where (fires_one d) m = tt
-goes-where asks_for_roots m = tt
-goes-where (carries order) m = tt
-goes-where (connects addr) m = tt
 goes-where (ends_dial cid opened) m = failed-goes cid opened m (entry_at cid.0 m) refl
-goes-where (stores entry undecoded) m = tt
-goes-where (handles_item cid item) m = tt
-goes-where (ends_stream cid fault) m = tt
 goes-where (is_closed cid) m = closed-goes cid m (entry_at cid.0 m) refl
-goes-where (sets_targets targets) m = tt
-goes-where (sets_big_targets targets) m = tt
-goes-where (sets_groups groups) m = tt
-goes-where (sets_roots roots) m = tt
-goes-where (makes_ordinary addr) m = tt
-goes-where (provides addr) m = tt
-goes-where (provides_big addr) m = tt
+goes-where other m = tt

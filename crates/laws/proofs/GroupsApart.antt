@@ -6,7 +6,7 @@ use Rattle.net_base.specs.Address.{same_address}
 use Rattle.net_base.specs.declared.address.Addr.{Addr}
 use Rattle.net_base.specs.declared.event.Group.{Group}
 use Rattle.root_groups.specs.Cleaned.{is_listed, first_places, cleaned_after, cleaned, members_of}
-use Rattle.laws.specs.Whole.{AreApart}
+use Rattle.laws.specs.Steady.{AreApart}
 use Rattle.laws.proofs.Lists.{all-weaker, all-appended}
 
 -- none of some addresses is listed among others

@@ -36,7 +36,7 @@ use Rattle.machine.specs.Own.{own_info}
 use Rattle.machine.specs.Connections.{ending}
 use Rattle.machine.specs.Greeting.{role_of, sends_answer, judged, decided, greeted_by, greets}
 use Rattle.laws.specs.AtMoves.{IsPrunedRightly, IsLawful, is_up_connection}
-use Rattle.laws.specs.Whole.{IsShaped, IsOrdered}
+use Rattle.laws.specs.Steady.{IsShaped, IsOrdered}
 use Rattle.laws.proofs.Keeping.{Keeps, keeps_nothing}
 use Rattle.laws.proofs.Lawful.{IsQuiet, quiet-obeys, tells-quiet, turns-obeys, negotiated-forward, used-obeys}
 use Rattle.laws.proofs.Lists.{StandsAt}

@@ -7,7 +7,7 @@ use Rattle.machine.specs.Events.{clock_shows, peer_connects, closes, peer_closes
 use Rattle.machine.specs.Provided.{targets_are, big_targets_are, locals_are, comes_big, bigs_are, roots_answer}
 use Rattle.machine.specs.Stream.{comes_in, bytes_come_in}
 use Rattle.machine.specs.Step.{step}
-use Rattle.laws.specs.Whole.{IsFormed, GivesFew}
+use Rattle.laws.specs.Steady.{IsFormed, GivesFew}
 use Rattle.laws.proofs.Numbers.{Gains, GivesNone, closes-none, for_each-none, numbers_of, on_entry-none, unchanged}
 use Rattle.laws.proofs.NumbersOfEvents.{clock_shows-none, comes_big-none, comes_in-none, dialed-none, locals_are-none, peer_connects-one, roots_answer-none}
 use Rattle.laws.proofs.NumbersOfRules.{govern-few}

@@ -30,7 +30,7 @@ use Rattle.laws.specs.AtMoves.{OutOfBackOff, WithinTargets, IsPrunedRightly, is_
 use Rattle.laws.specs.Sound.{IsOrderly}
 use Rattle.laws.specs.Stages.{stage_of_phase, stage_of, stage_at, stage_ended, IsLateCause}
 use Rattle.laws.specs.Telling.{IsTold}
-use Rattle.laws.specs.Told.{Given, ended_by, promoted_by_dial}
+use Rattle.laws.specs.InActions.{Given, ended_by, promoted_by_dial}
 use Rattle.laws.proofs.Entries.{TurnsInto, turned-connections, gone-connections, one_has_id, has_own_id, with_new}
 use Rattle.laws.proofs.Failures.{ending-failed}
 use Rattle.laws.proofs.Finds.{find-set_other, find-set_here, find-remove_other}

@@ -9,7 +9,7 @@ use Rattle.timer_queue.specs.Timers.{earlier, least}
 use Rattle.machine.specs.Machine.{Machine}
 use Rattle.laws.specs.Parts.{IsLeastDue}
 use Rattle.laws.proofs.Firing.{least-none, due-contains}
-use Rattle.laws.specs.Whole.{IsOrdered}
+use Rattle.laws.specs.Steady.{IsOrdered}
 use Rattle.laws.proofs.Lists.{all-placed}
 use Rattle.laws.proofs.Moments.{due-waited}
 

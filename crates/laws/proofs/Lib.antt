@@ -17,7 +17,7 @@ mod Finds
 mod Failures
 mod Shapes
 mod Effects
-pub mod Carrying
+pub mod OrderNeeds
 mod Chosen
 mod Admitted
 mod Sends
@@ -64,13 +64,16 @@ mod CarriedOut
 mod Least
 pub mod Moments
 mod BackOff
+mod Begun
 mod Served
+mod Silent
 mod Goes
 mod RootsAsked
 mod Agreed
 mod Responders
 mod PartMoves
 pub mod PartEvents
+mod Turned
 mod Waits
 mod WaitsOfParts
 mod Pruning

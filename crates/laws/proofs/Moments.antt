@@ -3,12 +3,8 @@ use Rattle.std.proofs.Common.{ℕ, zero, suc, ◌<◌, ◌≡◌, Bool, true, fa
 use Rattle.std.specs.Option.{option_map}
 use Rattle.std.proofs.lemmas.Bool.{cond_both}
 use Rattle.std.proofs.lemmas.List.Elements.{All-nil, All-contains, Contains-append_left, Contains-append_right}
-use Rattle.conn_state.specs.Moves.{expired}
 use Rattle.conn_state.specs.Use.{has_id}
-use Rattle.net_base.specs.declared.action.Action.TheVariants.{Close}
 use Rattle.net_base.specs.declared.action.CloseCause.{CloseCause}
-use Rattle.net_base.specs.declared.action.CloseCause.TheVariants.{Unused, Fault}
-use Rattle.net_base.specs.declared.action.FaultKind.TheVariants.{HandshakeWait, ReplyWait}
 use Rattle.net_base.specs.declared.connection.Grace.{Grace}
 use Rattle.net_base.specs.declared.connection.Grace.TheVariants.{Off, ForRemote, ForLocal}
 use Rattle.net_base.specs.declared.connection.Phase.{Phase}
@@ -17,16 +13,15 @@ use Rattle.net_base.specs.declared.timer.Deadline.{Deadline}
 use Rattle.net_base.specs.declared.timer.Kind.{Kind}
 use Rattle.net_base.specs.declared.timer.Kind.TheVariants as kind
 use Rattle.timer_queue.specs.Timers.{timer}
-use Rattle.machine.specs.Connections.{with_entry, without_entry, entry_turns, ending, closing_entry}
-use Rattle.machine.specs.Deadlines.{deadlines, deadlines_of, phase_deadlines, grace_deadlines, reply_deadline, due, fires_as, fires}
-use Rattle.machine.specs.Effect.{unused, tells, then_do, as_move, on_entry}
+use Rattle.machine.specs.Connections.{with_entry, without_entry, ending}
+use Rattle.machine.specs.Deadlines.{deadlines, deadlines_of, phase_deadlines, grace_deadlines, reply_deadline, due}
+use Rattle.machine.specs.Effect.{unused}
 use Rattle.machine.specs.Machine.{Machine, Entry, Owed, entry_at}
 use Rattle.machine.specs.Replies.{reply_on, is_owed_on}
-use Rattle.laws.specs.Acts.{Act, shows, fires_one, asks_for_roots, carries, connects, ends_dial, stores, handles_item, ends_stream, is_closed, sets_targets, sets_big_targets, sets_groups, sets_roots, makes_ordinary, provides, provides_big, does}
 use Rattle.laws.specs.Laws.{DeadlinesAhead}
-use Rattle.laws.specs.Moments.{WaitsAhead, IsOverAfter}
+use Rattle.laws.specs.Moments.{WaitsAhead}
 use Rattle.laws.specs.Waits.{until_greeted, until_gone, until_unused, until_paid, until_of, until_in, until_at}
-use Rattle.laws.specs.Whole.{IsOwing, IsOrdered}
+use Rattle.laws.specs.Steady.{IsOwing, IsOrdered}
 use Rattle.laws.proofs.Firing.{all_one, all-deadlines_of, Due, due_of}
 use Rattle.laws.proofs.Lawful.{lost_by-quiet}
 use Rattle.laws.proofs.Lists.{StandsAt, stands_before, OnePasses, FoundIn, find_some, find_only, All-stands, all-standing}
@@ -187,51 +182,3 @@ pub turned-found : (e new : Entry) (m : Machine) → new.facts.cid ≡ e.facts.c
 turned-found e new m same =
     replaced e.facts.cid.0 new m.connections
     ∙ ap (λ b. if b then option_map (λ x. new) (entry_at e.facts.cid.0 m) else entry_at e.facts.cid.0 m) (eq-eqb new.facts.cid.0 e.facts.cid.0 (ap (λ c. c.0) same))
-
-fired-over : (sort : Kind) (e : Entry) (m : Machine) → until_at sort e.facts.cid.0 (fires_as sort e m).machine ≡ None
-fired-over kind.Handshake e m = ap (until_in kind.Handshake) (ending-none (Fault HandshakeWait) e m)
-fired-over kind.Grace e m = by_local e.facts.local
-  where
-    turned : (new : Entry) → new.facts.cid ≡ e.facts.cid → until_of kind.Grace new ≡ None → until_at kind.Grace e.facts.cid.0 (with_entry new m) ≡ None
-    turned new same off = ap (until_in kind.Grace) (turned-found e new m same) ∙ by_found (entry_at e.facts.cid.0 m)
-      where
-        by_found : (o : Option Entry) → until_in kind.Grace (option_map (λ x. new) o) ≡ None
-        by_found None = refl
-        by_found (Some f) = off
-
-    by_local : (b : Bool) → until_at kind.Grace e.facts.cid.0 (if b then entry_turns e (record e { facts = expired e.facts }) m
-        else as_move (unused e.facts.cid.0) m (then_do (tells (Close e.facts.cid Unused ∷ []) m) (entry_turns e (closing_entry m e)))).machine ≡ None
-    by_local true = turned (record e { facts = expired e.facts }) refl refl
-    by_local false = turned (closing_entry m e) refl refl
-fired-over kind.TimeWait e m = ap (until_in kind.TimeWait) (gone-none e.facts.cid.0 m)
-fired-over kind.Reply2 e m = ap (until_in kind.Reply2) (ending-none (Fault ReplyWait) e m)
-fired-over kind.Reply8 e m = ap (until_in kind.Reply8) (ending-none (Fault ReplyWait) e m)
-fired-over kind.Reply10 e m = ap (until_in kind.Reply10) (ending-none (Fault ReplyWait) e m)
-
-fires-over : (d : Deadline) (m : Machine) → until_at d.kind d.cid.0 (fires d m).machine ≡ None
-fires-over d m = by_entry (entry_at d.cid.0 m) refl
-  where
-    by_entry : (o : Option Entry) → entry_at d.cid.0 m ≡ o → until_at d.kind d.cid.0 (on_entry o (fires_as d.kind) m).machine ≡ None
-    by_entry None is = ap (until_in d.kind) is
-    by_entry (Some e) is =
-        let own : e.facts.cid.0 ≡ d.cid.0 = eqb-true e.facts.cid.0 d.cid.0 (find_some (λ x. has_id d.cid.0 x.facts) m.connections e is).passes in
-        subst (λ c. until_at d.kind c (fires_as d.kind e m).machine ≡ None) own (fired-over d.kind e m)
-
-pub over-after : (act : Act) (m : Machine) → IsOverAfter act (does act m).machine
-over-after (shows t) m = tt
-over-after (fires_one d) m = fires-over d m
-over-after asks_for_roots m = tt
-over-after (carries order) m = tt
-over-after (connects addr) m = tt
-over-after (ends_dial cid opened) m = tt
-over-after (stores entry undecoded) m = tt
-over-after (handles_item cid item) m = tt
-over-after (ends_stream cid fault) m = tt
-over-after (is_closed cid) m = tt
-over-after (sets_targets targets) m = tt
-over-after (sets_big_targets targets) m = tt
-over-after (sets_groups groups) m = tt
-over-after (sets_roots roots) m = tt
-over-after (makes_ordinary addr) m = tt
-over-after (provides addr) m = tt
-over-after (provides_big addr) m = tt

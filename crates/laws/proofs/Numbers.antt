@@ -20,7 +20,7 @@ use Rattle.machine.specs.Peers.{turns_at, peer_at, peer_changes, peer_fails, pee
 use Rattle.machine.specs.Connections.{with_entry, without_entry, is_missed, lost, lost_by, ending, vanishes, is_used, candidates_in, trim}
 use Rattle.machine.specs.Events.{closes}
 use Rattle.machine.specs.Replies.{owing}
-use Rattle.laws.specs.Whole.{ArePeersApart}
+use Rattle.laws.specs.Steady.{ArePeersApart}
 use Rattle.laws.proofs.Keeping.{note-machine}
 use Rattle.laws.proofs.PeersApart.{with_peer-apart}
 use Rattle.laws.proofs.Spending.{AreSameBut, with_peer-same_but}

@@ -9,7 +9,7 @@ use Rattle.net_base.specs.declared.event.Group.{Group}
 use Rattle.net_base.specs.declared.peer.Peer.{Peer}
 use Rattle.peer_book.specs.Book.{is_of, peer_at as peer_in}
 use Rattle.root_groups.specs.Cleaned.{is_listed, members_of}
-use Rattle.laws.specs.Whole.{ArePeersApart, AreApart}
+use Rattle.laws.specs.Steady.{ArePeersApart, AreApart}
 use Rattle.laws.proofs.Chosen.{chosen}
 use Rattle.laws.proofs.Lists.{all-both}
 use Rattle.laws.proofs.PeersApart.{all-found}

@@ -23,7 +23,7 @@ use Rattle.machine.specs.Machine.{Machine}
 use Rattle.machine.specs.Effect.{Effect, nothing_more, tells, then_do, for_each}
 use Rattle.machine.specs.Connections.{release}
 use Rattle.machine.specs.Govern.{link_of, view_of, asks_peer, activates, deactivates, carries_out, ordinary_rules, big_rules, rules, govern}
-use Rattle.laws.specs.Whole.{IsFormed, GivesFew, ArePeersApart, AreApart}
+use Rattle.laws.specs.Steady.{IsFormed, GivesFew, ArePeersApart, AreApart}
 use Rattle.laws.proofs.Chosen.{chosen, chosen-apart, chosen-all, PicksMembers, picks-listed, groups_picks-apart, groups_picks-all, map-groups}
 use Rattle.laws.proofs.Lists.{all-both}
 use Rattle.laws.proofs.Ties.{found-addr}

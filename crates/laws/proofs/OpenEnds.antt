@@ -54,13 +54,13 @@ use Rattle.machine.specs.Provided.{is_wanted_big, comes_big}
 use Rattle.machine.specs.Replies.{reply_on, owing, paid, sends_as_initiator, find_intersect, chain_sync_done}
 use Rattle.machine.specs.Stream.{handled_in, handled, faulted}
 use Rattle.machine.specs.Talking.{replies, stops_if, serves, begins, takes_requests, asked_as, shares_address, taken_of, takes_addresses, pays, brings, answered_as, talks}
-use Rattle.laws.specs.Acts.{Act, shows, fires_one, asks_for_roots, carries, connects, ends_dial, stores, handles_item, ends_stream, is_closed, sets_targets, sets_big_targets, sets_groups, sets_roots, makes_ordinary, provides, provides_big, does}
+use Rattle.laws.specs.Acts.{Act, fires_one, asks_for_roots, carries, connects, ends_dial, stores, handles_item, ends_stream, is_closed, makes_ordinary, provides, provides_big, does}
 use Rattle.laws.specs.AtMoves.{ends, is_ended_in}
 use Rattle.laws.specs.OpenEnds.{is_open_entry, is_open_at, is_dialing_entry, goes_by_itself, IsOpenEnd, OpenEndsOnce}
 use Rattle.laws.specs.Parts.{IsNext}
 use Rattle.laws.specs.Stages.{stage_of_phase, stage_of, stage_at, causes_by, causes_in, IsOneEnd}
 use Rattle.laws.specs.Telling.{IsTold}
-use Rattle.laws.specs.Told.{ended_by, ends_in}
+use Rattle.laws.specs.InActions.{ended_by, ends_in}
 use Rattle.laws.specs.Waits.{until_gone, until_at, until_in}
 use Rattle.laws.proofs.Handshakes.{answer-machine}
 use Rattle.laws.proofs.Lawful.{comes-machine, lost_by-quiet, lost-quiet, stands-found}
@@ -484,7 +484,6 @@ dialed-stays cid opened e m is = by_tests (is_dialing e.facts) refl opened refl
     by_tests false other c is_c = nothing-stays goes m
 
 stays-of : (act : Act) (m : Machine) → IsNext act m → Finds act m → Stays (goes_by_itself act m) m (does act m)
-stays-of (shows t) m next found = stays_same (goes_by_itself (shows t) m) m (does (shows t) m) refl
 stays-of (fires_one d) m next found =
     on_found (goes_by_itself (fires_one d) m) d.cid.0 (fires_as d.kind) m
     (λ e is. fires-stays (goes_by_itself (fires_one d) m) d.kind e m (found-stands d.cid.0 m e is)
@@ -505,13 +504,10 @@ stays-of (is_closed cid) m next found =
     on_found (goes_by_itself (is_closed cid) m) cid.0 closes m
     (λ e is. closes-stays (goes_by_itself (is_closed cid) m) e m
     (eq-eqb cid.0 e.facts.cid.0 (sym (eqb-true e.facts.cid.0 cid.0 (find_some (λ x. has_id cid.0 x.facts) m.connections e is).passes))))
-stays-of (sets_targets targets) m next found = stays_same (goes_by_itself (sets_targets targets) m) m (does (sets_targets targets) m) refl
-stays-of (sets_big_targets targets) m next found = stays_same (goes_by_itself (sets_big_targets targets) m) m (does (sets_big_targets targets) m) refl
-stays-of (sets_groups groups) m next found = stays_same (goes_by_itself (sets_groups groups) m) m (does (sets_groups groups) m) refl
-stays-of (sets_roots roots) m next found = stays_same (goes_by_itself (sets_roots roots) m) m (does (sets_roots roots) m) refl
 stays-of (makes_ordinary addr) m next found = changed-stays (goes_by_itself (makes_ordinary addr) m) (peer_at addr m) (λ p. record p { big = false }) m
 stays-of (provides addr) m next found = comes-stays (goes_by_itself (provides addr) m) false addr m
 stays-of (provides_big addr) m next found = big-stays (goes_by_itself (provides_big addr) m) addr m
+stays-of other m next found = stays_same (goes_by_itself other m) m (does other m) refl
 
 -- ---- once
 

@@ -33,7 +33,7 @@ use Rattle.laws.specs.AtMoves.{some_connection, number_with, members_with, known
 use Rattle.laws.specs.CarriedOut.{IsUnset}
 use Rattle.laws.specs.Laws.{is_local}
 use Rattle.laws.specs.Ordered.{is_any, is_to_answer, is_to_tell, is_awaited, can_tell, tells_soon, is_hot, MayBeForgotten, MayBeReleased, MayBeDeactivated, MayBePromoted, MayBeActivated, MayBeAsked, IsOne, IsDueOrder}
-use Rattle.laws.specs.Whole.{ArePeersApart, AreApart, IsOrdered}
+use Rattle.laws.specs.Steady.{ArePeersApart, AreApart, IsOrdered}
 use Rattle.laws.proofs.Chosen.{chosen, chosen-apart, PicksMembers, picks-listed, groups_picks-apart, groups_picks-all, map-groups}
 use Rattle.laws.proofs.Addresses.{same_address-true}
 use Rattle.laws.proofs.Falls.{ChangesAt-back, changes-apart, changes-found, changes-known, taken-count, ask-changes, deactivate-changes, LeavesOthers, release-leaves, leaves-found, leaves-apart, leaves-back}

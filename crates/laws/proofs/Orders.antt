@@ -22,7 +22,7 @@ use Rattle.machine.specs.Govern.{is_used_at, on_used, asks_peer, activates, deac
 use Rattle.warm_messages.specs.Writing.{written_alive, written_request}
 use Rattle.warm_messages.specs.declared.alive.Alive.TheVariants.{Done}
 use Rattle.laws.specs.AtMoves.{IsReady, IsLawful, is_up_connection, is_up, is_hot_peer, is_asked_connection, is_hot_or_asked, is_known, promotes, activates as activation, shares}
-use Rattle.laws.specs.Whole.{AreApart, AreTied, IsAlone, TiedBy, IsTied, IsOrdered}
+use Rattle.laws.specs.Steady.{AreApart, AreTied, IsAlone, TiedBy, IsTied, IsOrdered}
 use Rattle.laws.proofs.Addresses.{same_address-true}
 use Rattle.laws.proofs.Books.{book_of, filter-book}
 use Rattle.laws.proofs.Counts.{counted_of, counted_in-sum}

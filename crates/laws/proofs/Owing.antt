@@ -6,7 +6,7 @@ use Rattle.std.proofs.lemmas.List.Kept.{AllPairs-cons, AllPairs-filter}
 use Rattle.conn_state.specs.Use.{agreed_sharing}
 use Rattle.machine.specs.Machine.{Machine, Entry, Owed}
 use Rattle.machine.specs.Replies.{with_reply, without_reply, reply_on, owing, paid, is_owed_on}
-use Rattle.laws.specs.Whole.{IsOwing}
+use Rattle.laws.specs.Steady.{IsOwing}
 use Rattle.laws.proofs.Lists.{AllPairs-head, AllPairs-tail}
 
 -- ---- which replies are found

@@ -28,7 +28,7 @@ use Rattle.machine.specs.Stream.{handles}
 use Rattle.laws.specs.Acts.{Act, shows, fires_one, asks_for_roots, carries, connects, ends_dial, stores, handles_item, ends_stream, is_closed, sets_targets, sets_big_targets, sets_groups, sets_roots, makes_ordinary, provides, provides_big, does, fired_from, fired, orders_of, acts_at_moment, acts_fed, acts_of_bytes, acts_of_answer, acts}
 use Rattle.laws.specs.AtMoves.{IsLawful, is_known, is_provided_by, fed_on}
 use Rattle.laws.specs.Parts.{IsAccounted, IsLawfulEvent}
-use Rattle.laws.specs.Whole.{IsSteady, IsOrdered}
+use Rattle.laws.specs.Steady.{IsSteady, IsOrdered}
 use Rattle.laws.proofs.Addresses.{same_address-self, same_address-true}
 use Rattle.laws.proofs.CarriedOut.{carried-out}
 use Rattle.laws.proofs.Chain.{orders-chain, parts-chain}
@@ -63,7 +63,7 @@ fired-parts event (suc n) m h = by_due (due m) refl (fired-parts event n)
     by_due None is later = no_part event m
     by_due (Some d) is later =
         let keeps : Keeps 0 m (fires d m).machine = fires-keeps d m h is in
-        first_part event (fires_one d) (map fires_one (fired n (fires d m).machine)) m (least-due m d h is) tt tt
+        first_part event (fires_one d) (map fires_one (fired n (fires d m).machine)) m (least-due m d h is) tt h
         (accounted-part event m (fires d m) (fires-obeys d m h is).accounted) (later (fires d m).machine keeps.ordered)
 
 -- what is neither a connection nor a peer is set
@@ -127,10 +127,10 @@ items-parts event cid fed [] m f = stream-part event cid fed m f
 items-parts event cid fed (item ∷ items) m f =
     let effect : Effect = handles cid item m in
     let t : Trimmed IsLawful m effect = handles-trimmed cid item m f.ordered f.within in
-    first_part event (handles_item cid item) (map (handles_item cid) items ++ ends_stream cid fed.state.fault ∷ []) m tt tt f.ordered.orderly
+    first_part event (handles_item cid item) (map (handles_item cid) items ++ ends_stream cid fed.state.fault ∷ []) m tt tt f.ordered
     (accounted-part event m effect t.accounted)
     (items-parts event cid fed items effect.machine
-    (record { ordered = t.ordered; within = trimmed-within IsLawful m effect t; open_ = handles-open cid item m f.open_ }))
+    (record { ordered = t.ordered; within = trimmed-within IsLawful m effect t; open_ = handles-open cid item m f.ordered f.open_ }))
 
 fed-parts : (event : Event) (fed : FedBy) (m : Machine) (e : Entry) (k : ℕ) → IsOrdered m → counted_in m ≤ m.settings.hard → StandsAt m.connections k e →
     is_live e.facts ≡ true → AreLawful event (acts_fed fed e) m

@@ -10,29 +10,28 @@ use Rattle.net_base.specs.declared.event.Event.{Event}
 use Rattle.conn_state.specs.Use.{is_negotiated_phase}
 use Rattle.machine.specs.Effect.{Effect, for_each}
 use Rattle.machine.specs.Machine.{Machine, Entry, entry_at}
-use Rattle.laws.specs.Acts.{Act, shows, fires_one, asks_for_roots, carries, connects, ends_dial, stores, handles_item, ends_stream, is_closed, sets_targets, sets_big_targets, sets_groups, sets_roots, makes_ordinary, provides, provides_big, does, parts_from}
+use Rattle.laws.specs.Acts.{Act, does, parts_from}
 use Rattle.laws.specs.AtMoves.{is_negotiated_entry, is_negotiated_at, is_ended_in, is_closed_by, is_up, is_hot_or_asked, is_known, promotes, activates, is_shared_in, is_provided_by}
 use Rattle.laws.specs.CarriedOut.{IsDoneByOrder}
 use Rattle.laws.specs.Parts.{IsNext, IsDone, EndsOnce, IsAccounted, IsLawfulPart}
 use Rattle.laws.specs.Stages.{stage_of_phase, stage_of, stage_at, causes_in, IsOneEnd}
 use Rattle.laws.specs.Telling.{IsTold}
 use Rattle.laws.proofs.CarriedOut.{treats-book, pauses-right}
-use Rattle.laws.proofs.Due.{ends-due}
 use Rattle.laws.proofs.Forgiven.{forgives}
 use Rattle.laws.proofs.Lawful.{Accounts, IsProviding, ends_same}
 use Rattle.laws.proofs.Lists.{all-placed}
 use Rattle.laws.proofs.Admitted.{admits-right}
 use Rattle.laws.proofs.Agreed.{agrees-right}
-use Rattle.laws.proofs.BackOff.{Knows, remembers}
+use Rattle.laws.proofs.BackOff.{fails-only, remembers}
+use Rattle.laws.proofs.Begun.{over-after, waits-begin}
 use Rattle.laws.proofs.Goes.{goes-where}
-use Rattle.laws.proofs.Moments.{over-after}
 use Rattle.laws.proofs.Responders.{responds-right}
 use Rattle.laws.proofs.OpenEnds.{uncaused, opens-once}
 use Rattle.laws.proofs.RootsAsked.{asks-right}
 use Rattle.laws.proofs.Sends.{sends-right}
 use Rattle.laws.proofs.Served.{answers-right}
 use Rattle.laws.proofs.Telling.{ended-over}
-use Rattle.laws.proofs.Pruning.{pruned-rightly}
+use Rattle.laws.proofs.Pruning.{ends-rightly}
 use Rattle.laws.proofs.WaitsOfParts.{Finds, waits-right, leaves-rest, is-set}
 use Rattle.laws.proofs.Rises.{NoneConnected, or_each, hot_or_asked-down, rises_nowhere, same-connected}
 
@@ -109,25 +108,6 @@ providing-part event m effect p named =
           (λ before. or_left (is_known addr m) (is_shared_in addr effect.moves) before) (λ is. is) (named addr known);
     }
 
-known-of : (act : Act) (m : Machine) → Finds act m → Knows act m
-known-of (shows t) m found = tt
-known-of (fires_one d) m found = tt
-known-of asks_for_roots m found = tt
-known-of (carries order) m found = found
-known-of (connects addr) m found = tt
-known-of (ends_dial cid opened) m found = tt
-known-of (stores entry undecoded) m found = tt
-known-of (handles_item cid item) m found = found
-known-of (ends_stream cid fault) m found = tt
-known-of (is_closed cid) m found = tt
-known-of (sets_targets targets) m found = tt
-known-of (sets_big_targets targets) m found = tt
-known-of (sets_groups groups) m found = tt
-known-of (sets_roots roots) m found = tt
-known-of (makes_ordinary addr) m found = tt
-known-of (provides addr) m found = tt
-known-of (provides_big addr) m found = tt
-
 pub lawful-part : (event : Event) (act : Act) (m : Machine) → IsNext act m → IsDoneByOrder act m (does act m) → Finds act m → IsAccounted event m (does act m) → IsLawfulPart event (record { act = act; before = m })
 lawful-part event act m next order found h = record {
   accounted = h;
@@ -136,21 +116,23 @@ lawful-part event act m next order found h = record {
   book = treats-book act m;
   forgiven = forgives act m;
   pauses = pauses-right act m;
-  ends = ends-due act m;
+  ends = (ends-rightly act m found).others;
   opens = opens-once act m next found h.told;
-  pruned = pruned-rightly act m found;
+  pruned = (ends-rightly act m found).pruned;
   waits = waits-right act m found;
+  begins = waits-begin act m next found;
   rest = leaves-rest act m found;
   sets = is-set act m found;
-  over = over-after act m;
+  over = over-after act m found;
   goes = goes-where act m;
   asks = asks-right act m;
   admits = admits-right act m found;
-  agrees = agrees-right act m;
-  responds = responds-right act m;
-  answers = answers-right act m;
+  agrees = agrees-right act m found;
+  responds = responds-right act m found;
+  answers = answers-right act m found;
   sends = sends-right act m;
-  remembers = remembers act m (known-of act m found);
+  remembers = remembers act m found;
+  fails = fails-only act m found;
 }
 
 -- ---- one part after the other

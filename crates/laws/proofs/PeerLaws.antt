@@ -12,7 +12,7 @@ use Rattle.machine.specs.Peers.{peer_at}
 use Rattle.laws.specs.Laws.{is_established_peer, is_cold_peer, is_used_connection, is_pending_connection, EstablishedAreUsed, PendingAreCold, UsedAreOutOfBackOff}
 use Rattle.laws.specs.AtMoves.{is_hot_peer}
 use Rattle.laws.specs.Records.{LocalsAreEstablished, HotAreUsed, IsLawfulRecord}
-use Rattle.laws.specs.Whole.{IsShaped, IsFormed, IsSteady, TiedBy}
+use Rattle.laws.specs.Steady.{IsShaped, IsFormed, IsSteady, TiedBy}
 use Rattle.laws.proofs.Lists.{FoundIn, find_some, All-stands, all-standing}
 use Rattle.laws.proofs.Moments.{waits-ahead}
 use Rattle.laws.proofs.Shapes.{local-negotiated}

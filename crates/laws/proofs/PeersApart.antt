@@ -7,7 +7,7 @@ use Rattle.net_base.specs.declared.address.Addr.{Addr}
 use Rattle.net_base.specs.declared.peer.Peer.{Peer}
 use Rattle.peer_book.specs.Book.{has_address, peer_at, with_peer, with_new, entered_by, entered, most_peers}
 use Rattle.peer_book.specs.declared.added.Added.TheVariants.{New, Present, Full}
-use Rattle.laws.specs.Whole.{ArePeersApart}
+use Rattle.laws.specs.Steady.{ArePeersApart}
 use Rattle.laws.proofs.Addresses.{same_address-self, same_address-true}
 
 pub same_turned : (a b : Addr) → same_address a b ≡ false → same_address b a ≡ false

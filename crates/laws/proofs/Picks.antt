@@ -12,7 +12,7 @@ use Rattle.pick_policy.specs.Scores.{pair_below, score_of, ranked_score_of, scor
 use Rattle.pick_policy.specs.declared.rated.Rated.{Rated}
 use Rattle.govern_rules.specs.Orders.{rated_of, picks_of}
 use Rattle.peer_book.specs.Book.{peer_at, addresses_of}
-use Rattle.laws.specs.Whole.{ArePeersApart, AreApart}
+use Rattle.laws.specs.Steady.{ArePeersApart, AreApart}
 use Rattle.laws.proofs.Addresses.{same_address-true}
 use Rattle.laws.proofs.Lists.{all-weaker}
 use Rattle.laws.proofs.PeersApart.{all-found}

@@ -23,7 +23,7 @@ use Rattle.machine.specs.Effect.{Effect, Move, promoted, as_move}
 use Rattle.machine.specs.Govern.{link_of, promoted_at, promote}
 use Rattle.laws.specs.AtMoves.{IsReady, is_up_connection, is_up, is_asked_connection, is_hot_or_asked, is_known, promotes, activates, shares}
 use Rattle.laws.specs.Laws.{DifferInAddress}
-use Rattle.laws.specs.Whole.{IsShaped, IsOwing, TiedBy, IsOrdered}
+use Rattle.laws.specs.Steady.{IsShaped, IsOwing, TiedBy, IsOrdered}
 use Rattle.laws.proofs.Addresses.{same_address-self, same_address-true}
 use Rattle.laws.proofs.Books.{found-other}
 use Rattle.laws.proofs.Counts.{counted_of, counted_in-sum, late_of, late_in-sum}

@@ -1,11 +1,12 @@
 -- The public root peers are asked for where they are wanted.
 use Rattle.std.proofs.Common.{◌≡◌, Bool, true, false, [], ◌∷◌, if◌then◌else◌, refl}
-use Rattle.laws.specs.Acts.{Act, shows, fires_one, asks_for_roots, carries, connects, ends_dial, stores, handles_item, ends_stream, is_closed, sets_targets, sets_big_targets, sets_groups, sets_roots, makes_ordinary, provides, provides_big, does}
+use Rattle.laws.specs.Acts.{Act, asks_for_roots, connects, does}
 use Rattle.net_base.specs.declared.action.Action.TheVariants.{AskRoots}
 use Rattle.root_groups.specs.RootAsk.{may_ask, asked}
 use Rattle.machine.specs.Effect.{nothing_more, tells}
 use Rattle.machine.specs.Machine.{Machine}
-use Rattle.laws.specs.RootsAsked.{asked_in, roots_asked, AsksRight}
+use Rattle.laws.specs.RootsAsked.{asked_by, asked_in, roots_asked, AsksRight}
+use Rattle.laws.proofs.Silent.{asked-deaf, connects-silent, part-silent}
 
 roots-asked : (m : Machine) → AsksRight asks_for_roots m (does asks_for_roots m)
 roots-asked m = by_test (may_ask m.now m.targets.root m.roots)
@@ -24,20 +25,6 @@ roots-set m = by_test (may_ask m.now m.targets.root m.roots)
     by_test false = refl
 
 pub asks-right : (act : Act) (m : Machine) → AsksRight act m (does act m)
-asks-right (shows t) m = tt
-asks-right (fires_one d) m = tt
 asks-right asks_for_roots m = roots-asked m
-asks-right (carries order) m = tt
-asks-right (connects addr) m = tt
-asks-right (ends_dial cid opened) m = tt
-asks-right (stores entry undecoded) m = tt
-asks-right (handles_item cid item) m = tt
-asks-right (ends_stream cid fault) m = tt
-asks-right (is_closed cid) m = tt
-asks-right (sets_targets targets) m = tt
-asks-right (sets_big_targets targets) m = tt
-asks-right (sets_groups groups) m = tt
-asks-right (sets_roots roots) m = tt
-asks-right (makes_ordinary addr) m = tt
-asks-right (provides addr) m = tt
-asks-right (provides_big addr) m = tt
+asks-right (connects addr) m = connects-silent asked_by asked-deaf (λ cid to. refl) (λ why. refl) (λ length. refl) addr m
+asks-right other m = part-silent asked_by asked-deaf (λ cid bytes. refl) other m tt

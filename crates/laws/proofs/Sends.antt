@@ -1,11 +1,10 @@
 -- What is due is sent, and nothing else.
-use Rattle.std.proofs.Common.{ℕ, ◌+◌, ◌%◌, ◌≡◌, Bool, true, false, ◌&&◌, ◌==◌, nat_le, nat_lt, if◌then◌else◌, List, [], ◌∷◌, ◌++◌, Option, Some, None, Result, Ok, Err, refl, sym, ap, ◌∙◌, subst, eqb-true}
+use Rattle.std.proofs.Common.{ℕ, ◌+◌, ◌%◌, ◌≡◌, Bool, true, false, ◌&&◌, ◌==◌, if◌then◌else◌, List, [], ◌∷◌, ◌++◌, Option, Some, None, Result, Ok, Err, refl, sym, ap, ◌∙◌, subst, eqb-true}
 use Rattle.std.specs.Option.{option_map}
 use Rattle.std.proofs.lemmas.Bool.{cond_both, false≢true}
 use Rattle.std.proofs.lemmas.Grind.{flat_map-append}
-use Rattle.accept_gate.specs.Gate.{pause_of}
-use Rattle.conn_state.specs.Moves.{acquired, agreed_inbound, agreed_outbound, connected, expired, idled, released}
-use Rattle.conn_state.specs.Use.{agreed_sharing, has_id, is_acquirable, is_dialing, is_live, is_pending}
+use Rattle.conn_state.specs.Moves.{acquired, agreed_inbound, agreed_outbound, connected, idled, released}
+use Rattle.conn_state.specs.Use.{agreed_sharing, has_id, is_acquirable, is_dialing}
 use Rattle.govern_rules.specs.declared.order.Order.{Order}
 use Rattle.govern_rules.specs.declared.order.Order.TheVariants.{Ask, Forget, Promote, Release, Activate, Deactivate}
 use Rattle.hs_decide.specs.Agreement.{verdict_of}
@@ -17,16 +16,11 @@ use Rattle.hs_decide.specs.declared.verdict.Verdict.TheVariants as verdict
 use Rattle.hs_message.specs.Reading.{message_of}
 use Rattle.hs_message.specs.declared.message.Message.{Message}
 use Rattle.hs_message.specs.declared.message.Message.TheVariants as message
-use Rattle.hs_receive.specs.Receiving.{fits_side, kind_of, receives, receives_message}
-use Rattle.mux_segment.specs.declared.fault.CutFault.{CutFault}
+use Rattle.hs_receive.specs.Receiving.{fits_side, receives, receives_message}
 use Rattle.mux_segment.specs.declared.item.Item.{Item}
-use Rattle.net_base.specs.Address.{same_address, address_below}
-use Rattle.net_base.specs.declared.action.Action.TheVariants.{AskRoots, Close, Pause, Peer as TellPeer}
-use Rattle.net_base.specs.declared.action.Away.TheVariants.{Full, OwnAddr, Crossed, Present}
-use Rattle.net_base.specs.declared.action.CloseCause.{CloseCause}
-use Rattle.net_base.specs.declared.action.CloseCause.TheVariants.{Unused, Pruned, Overwritten, Refused, Query, Fault}
+use Rattle.net_base.specs.declared.action.CloseCause.TheVariants.{Refused, Query, Fault}
 use Rattle.net_base.specs.declared.action.FaultKind.{FaultKind}
-use Rattle.net_base.specs.declared.action.FaultKind.TheVariants.{HandshakeWait, Malformed, Protocol, ReplyWait}
+use Rattle.net_base.specs.declared.action.FaultKind.TheVariants.{Malformed, Protocol}
 use Rattle.net_base.specs.declared.address.Addr.{Addr}
 use Rattle.net_base.specs.declared.connection.Cid.{Cid}
 use Rattle.net_base.specs.declared.connection.Facts.{Facts}
@@ -35,42 +29,33 @@ use Rattle.net_base.specs.declared.connection.Phase.TheVariants.{Dialing, Greeti
 use Rattle.net_base.specs.declared.connection.Provenance.{Provenance}
 use Rattle.net_base.specs.declared.connection.Provenance.TheVariants.{FromRemote, FromLocal}
 use Rattle.net_base.specs.declared.peer.Peer.{Peer}
-use Rattle.net_base.specs.declared.peer.Temp.TheVariants.{Cold, Hot, Warm}
-use Rattle.net_base.specs.declared.timer.Kind.{Kind}
+use Rattle.net_base.specs.declared.peer.Temp.TheVariants.{Cold, Warm}
 use Rattle.net_base.specs.declared.timer.Kind.TheVariants as kind
-use Rattle.peer_book.specs.Book.{entry_of, entered, new_peer, same_temp}
-use Rattle.peer_book.specs.declared.added.Added.{Added}
-use Rattle.peer_book.specs.declared.added.Added.TheVariants.{New, Present as Known, Full as NoRoom}
 use Rattle.remote_watch.specs.Watch.{watched}
 use Rattle.remote_watch.specs.declared.seen.Seen.{Seen}
-use Rattle.root_groups.specs.RootAsk.{asked, may_ask}
-use Rattle.warm_messages.specs.Reading.{share_of}
 use Rattle.warm_messages.specs.Writing.{written_alive, written_request}
 use Rattle.warm_messages.specs.declared.alive.Alive.TheVariants.{Ask as AskAlive, Done}
-use Rattle.warm_messages.specs.declared.share.Share.{Share}
 use Rattle.warm_messages.specs.declared.share.Share.TheVariants as share
-use Rattle.machine.specs.Connections.{with_entry, without_entry, entry_turns, ending, vanishes, closing_entry, grace_over, is_used, acquire, trim, says_done, release, dial, dial_opens, dial_fails}
+use Rattle.machine.specs.Connections.{with_entry, entry_turns, ending, is_used, acquire, trim, says_done, release, dial, dial_opens, dial_fails}
 use Rattle.machine.specs.Deadlines.{fires_as}
-use Rattle.machine.specs.Effect.{Effect, unused, shared, nothing_more, tells, then_do, as_move, on_entry, for_each}
-use Rattle.machine.specs.Events.{turned_away, pause_notice, admitted, crossed, accepted_beside, peer_connects, closes, dialed}
-use Rattle.machine.specs.Govern.{promoted_at, asks_peer, activates, deactivates, carries_out, asks_roots}
+use Rattle.machine.specs.Effect.{Effect, nothing_more, then_do, on_entry}
+use Rattle.machine.specs.Events.{closes, dialed}
+use Rattle.machine.specs.Govern.{promoted_at, asks_peer, activates, deactivates, carries_out}
 use Rattle.machine.specs.Greeting.{role_of, judged, decided, greets, sends_answer}
-use Rattle.machine.specs.Machine.{Machine, Entry, Owed, counted_in, entry_at, live_entry_at}
+use Rattle.machine.specs.Machine.{Machine, Entry, entry_at, live_entry_at}
 use Rattle.machine.specs.Own.{own_info}
-use Rattle.machine.specs.Peers.{peer_at, turns_at, note_of, peer_becomes, peer_succeeds, peer_was_asked, peer_comes, note_of_coming}
-use Rattle.machine.specs.Provided.{is_wanted_big, comes_big}
-use Rattle.machine.specs.Replies.{owing, paid, reply_on, sends_as_initiator, peer_sharing_done, find_intersect, chain_sync_done}
+use Rattle.machine.specs.Peers.{peer_at, turns_at, peer_becomes, peer_succeeds, peer_was_asked}
+use Rattle.machine.specs.Replies.{owing, reply_on, sends_as_initiator, peer_sharing_done, find_intersect, chain_sync_done}
 use Rattle.machine.specs.Stream.{handled_in, handled, faulted}
-use Rattle.machine.specs.Talking.{stops_if, serves, begins, takes_requests, asked_as, shares_address, taken_of, takes_addresses, pays, brings, answered_as, talks}
+use Rattle.machine.specs.Talking.{stops_if, serves, begins, takes_requests, asked_as, answered_as, talks}
 use Rattle.laws.specs.Acts.{Act, shows, fires_one, asks_for_roots, carries, connects, ends_dial, stores, handles_item, ends_stream, is_closed, sets_targets, sets_big_targets, sets_groups, sets_roots, makes_ordinary, provides, provides_big, does}
 use Rattle.laws.specs.Ends.{offered, side_of}
 use Rattle.laws.specs.Sends.{says, keeps_alive, on_one, used_with, due_by_order, answers, comes_into_use, due_by_verdict, by_message, due_of_dialer, due_in_greeting, SendsInUse, SendsByPhase, SendsOnItem, SendsRight}
 use Rattle.laws.specs.Served.{Sent, sent_by, sent_in}
-use Rattle.laws.proofs.Goes.{lost-silent}
 use Rattle.laws.proofs.Lists.{find_some}
 use Rattle.laws.proofs.Moments.{turned-found}
 use Rattle.laws.proofs.Orders.{says_done-machine}
-use Rattle.laws.proofs.Served.{turns-silent, trim-silent, begins-silent}
+use Rattle.laws.proofs.Silent.{sent-deaf, turns-silent, changed-silent, comes-silent, ending-silent, vanishes-silent, trim-silent, on_entry-silent, fires-silent, closes-silent, faulted-silent, connects-silent, begins-silent, answered-silent, big-silent, asks-silent}
 use Rattle.laws.proofs.Talks.{replies-machine}
 
 -- ---- one part after the other
@@ -93,79 +78,12 @@ then-sent : (first : Effect) (next : Machine → Effect) (xs : List Sent) → se
     sent_in (then_do first next).actions ≡ xs
 then-sent first next xs one two = then-sends first next xs [] one two ∙ nothing_behind xs
 
--- ---- what sends nothing
-
-changed-silent : (o : Option Peer) (change : Peer → Peer) (m : Machine) → sent_in (turns_at o change m).actions ≡ []
-changed-silent None change m = refl
-changed-silent (Some p) change m = cond_both (same_temp p.temp (change p).temp) [] (TellPeer p.addr (note_of (change p).temp) ∷ []) (λ actions. sent_in actions ≡ []) (λ same. refl) (λ other. refl)
-
-comes-silent : (big : Bool) (addr : Addr) (m : Machine) → sent_in (peer_comes big addr m).actions ≡ []
-comes-silent big addr m = by_added (entry_of addr m.peers)
-  where
-    by_added : (added : Added) → sent_in (note_of_coming added addr (record m { peers = entered (new_peer big addr) m.peers })).actions ≡ []
-    by_added New = refl
-    by_added Known = refl
-    by_added NoRoom = refl
-
-ending-silent : (cause : CloseCause) (e : Entry) (m : Machine) → sent_in (ending cause e m).actions ≡ []
-ending-silent Unused e m = lost-silent sent_by (λ addr. refl) e.facts (without_entry e.facts.cid.0 m)
-ending-silent Pruned e m = lost-silent sent_by (λ addr. refl) e.facts (without_entry e.facts.cid.0 m)
-ending-silent Overwritten e m = refl
-ending-silent Refused e m = lost-silent sent_by (λ addr. refl) e.facts (without_entry e.facts.cid.0 m)
-ending-silent Query e m = lost-silent sent_by (λ addr. refl) e.facts (without_entry e.facts.cid.0 m)
-ending-silent (Fault fault) e m = lost-silent sent_by (λ addr. refl) e.facts (without_entry e.facts.cid.0 m)
-
-vanishes-silent : (e : Entry) (m : Machine) → sent_in (vanishes e m).actions ≡ []
-vanishes-silent e m = lost-silent sent_by (λ addr. refl) e.facts (without_entry e.facts.cid.0 m)
-
-grace-silent : (e : Entry) (m : Machine) → sent_in (grace_over e m).actions ≡ []
-grace-silent e m = cond_both e.facts.local (entry_turns e (record e { facts = expired e.facts }) m)
-    (as_move (unused e.facts.cid.0) m (then_do (tells (Close e.facts.cid Unused ∷ []) m) (entry_turns e (closing_entry m e)))) (λ effect. sent_in effect.actions ≡ [])
-    (λ local. turns-silent e (record e { facts = expired e.facts }) m) (λ other. turns-silent e (closing_entry m e) m)
-
-fires-silent : (sort : Kind) (e : Entry) (m : Machine) → sent_in (fires_as sort e m).actions ≡ []
-fires-silent kind.Handshake e m = ending-silent (Fault HandshakeWait) e m
-fires-silent kind.Grace e m = grace-silent e m
-fires-silent kind.TimeWait e m = refl
-fires-silent kind.Reply2 e m = ending-silent (Fault ReplyWait) e m
-fires-silent kind.Reply8 e m = ending-silent (Fault ReplyWait) e m
-fires-silent kind.Reply10 e m = ending-silent (Fault ReplyWait) e m
-
-on_entry-silent : (o : Option Entry) (act : Entry → Machine → Effect) (m : Machine) → ((e : Entry) → sent_in (act e m).actions ≡ []) → sent_in (on_entry o act m).actions ≡ []
-on_entry-silent None act m each = refl
-on_entry-silent (Some e) act m each = each e
-
--- ---- a peer connects
-
-pause-silent : (m : Machine) → sent_in (pause_notice m) ≡ []
-pause-silent m = cond_both (nat_lt m.settings.soft (counted_in m)) (Pause (pause_of m.settings (counted_in m)) ∷ []) [] (λ actions. sent_in actions ≡ []) (λ pauses. refl) (λ goes_on. refl)
-
-admitted-silent : (addr : Addr) (m : Machine) → sent_in (admitted addr m).actions ≡ []
-admitted-silent addr m = pause-silent (admitted addr m).machine
-
-crossed-silent : (addr : Addr) (e : Entry) (m : Machine) → sent_in (crossed addr e m).actions ≡ []
-crossed-silent addr e m =
-    cond_both (address_below addr m.settings.own) (then_do (ending Overwritten e m) (admitted addr)) (turned_away Crossed m) (λ effect. sent_in effect.actions ≡ [])
-    (λ below. then-silent (ending Overwritten e m) (admitted addr) [] refl (admitted-silent addr (ending Overwritten e m).machine)) (λ above. refl)
-
-beside-silent : (o : Option Entry) (addr : Addr) (m : Machine) → sent_in (accepted_beside o addr m).actions ≡ []
-beside-silent None addr m = admitted-silent addr m
-beside-silent (Some e) addr m = cond_both (is_pending e.facts) (crossed addr e m) (turned_away Present m) (λ effect. sent_in effect.actions ≡ [])
-    (λ pending. crossed-silent addr e m) (λ other. refl)
-
-connects-silent : (addr : Addr) (m : Machine) → sent_in (peer_connects addr m).actions ≡ []
-connects-silent addr m = cond_both (same_address addr m.settings.own) (turned_away OwnAddr m)
-    (if nat_le m.settings.hard (counted_in m) then turned_away Full m else accepted_beside (live_entry_at addr m) addr m) (λ effect. sent_in effect.actions ≡ [])
-    (λ own. refl)
-    (λ other. cond_both (nat_le m.settings.hard (counted_in m)) (turned_away Full m) (accepted_beside (live_entry_at addr m) addr m) (λ effect. sent_in effect.actions ≡ [])
-    (λ full. refl) (λ room. beside-silent (live_entry_at addr m) addr m))
-
 -- ---- a dial ends
 
 opens-sends : (e : Entry) (m : Machine) → sent_in (dial_opens e m).actions ≡ says e.facts.cid.0 0 0 (proposal_of (own_info m.settings)) m
 opens-sends e m =
     let new : Entry = record e { facts = connected (m.now + m.settings.handshake) e.facts } in
-    then-silent (entry_turns e new m) (sends_as_initiator e.facts.cid 0 (proposal_of (own_info m.settings))) (says e.facts.cid.0 0 0 (proposal_of (own_info m.settings)) m) (turns-silent e new m) refl
+    then-silent (entry_turns e new m) (sends_as_initiator e.facts.cid 0 (proposal_of (own_info m.settings))) (says e.facts.cid.0 0 0 (proposal_of (own_info m.settings)) m) (turns-silent sent_by sent-deaf e new m) refl
 
 -- ---- orders
 
@@ -176,9 +94,9 @@ used-sends f e m =
     let o : Machine = (turns_at (peer_at f.addr n) (λ p. record p { temp = Warm; failures = 0 }) n).machine in
     let now : o.now ≡ m.now = turned-now (peer_at f.addr n) n in
     let sends : Machine → Effect = sends_as_initiator f.cid 8 (written_alive (AskAlive (f.cid.0 % 65536))) in
-    then-silent (entry_turns e new m) (λ x. then_do (peer_succeeds f.addr x) sends) (keeps_alive f.cid.0 m) (turns-silent e new m)
+    then-silent (entry_turns e new m) (λ x. then_do (peer_succeeds f.addr x) sends) (keeps_alive f.cid.0 m) (turns-silent sent_by sent-deaf e new m)
     (then-silent (peer_succeeds f.addr n) sends (keeps_alive f.cid.0 m)
-    (changed-silent (peer_at f.addr n) (λ p. record p { temp = Warm; failures = 0 }) n)
+    (changed-silent sent_by sent-deaf (peer_at f.addr n) (λ p. record p { temp = Warm; failures = 0 }) n)
     (ap (λ t. keeps_alive f.cid.0 (record m { now = t })) now))
   where
     turned-now : (x : Option Peer) (n : Machine) → (turns_at x (λ p. record p { temp = Warm; failures = 0 }) n).machine.now ≡ n.now
@@ -199,9 +117,9 @@ release-sends e m =
     silent =
         let new : Entry = record e { facts = released (m.now + m.settings.idle) e.facts } in
         let n : Machine = with_entry new m in
-        then-silent (entry_turns e new m) (λ o. then_do (peer_becomes Cold e.facts.addr o) (trim e.facts.cid)) [] (turns-silent e new m)
-        (then-silent (peer_becomes Cold e.facts.addr n) (trim e.facts.cid) [] (changed-silent (peer_at e.facts.addr n) (λ p. record p { temp = Cold }) n)
-        (trim-silent e.facts.cid (peer_becomes Cold e.facts.addr n).machine))
+        then-silent (entry_turns e new m) (λ o. then_do (peer_becomes Cold e.facts.addr o) (trim e.facts.cid)) [] (turns-silent sent_by sent-deaf e new m)
+        (then-silent (peer_becomes Cold e.facts.addr n) (trim e.facts.cid) [] (changed-silent sent_by sent-deaf (peer_at e.facts.addr n) (λ p. record p { temp = Cold }) n)
+        (trim-silent sent_by sent-deaf e.facts.cid (peer_becomes Cold e.facts.addr n).machine))
 
     first : Effect
     first = if agreed_sharing e.facts.agreed then sends_as_initiator e.facts.cid 10 peer_sharing_done m else nothing_more m
@@ -225,16 +143,16 @@ asks_peer-sends n e m =
     let o : Machine = with_entry new m in
     then-sent (sends_as_initiator e.facts.cid 10 (written_request n) m)
     (λ x. then_do (entry_turns e (owing 10 n x e) x) (λ y. peer_was_asked (y.now + y.settings.sharegap) e.facts.addr y)) (says e.facts.cid.0 0 10 (written_request n) m) refl
-    (then-silent (entry_turns e new m) (λ y. peer_was_asked (y.now + y.settings.sharegap) e.facts.addr y) [] (turns-silent e new m) (changed-silent (peer_at e.facts.addr o) (λ p. record p { share_next = m.now + m.settings.sharegap }) o))
+    (then-silent (entry_turns e new m) (λ y. peer_was_asked (y.now + y.settings.sharegap) e.facts.addr y) [] (turns-silent sent_by sent-deaf e new m) (changed-silent sent_by sent-deaf (peer_at e.facts.addr o) (λ p. record p { share_next = m.now + m.settings.sharegap }) o))
 
 activates-sends : (e : Entry) (m : Machine) → sent_in (activates e m).actions ≡ says e.facts.cid.0 0 2 find_intersect m
 activates-sends e m =
-    then-sent (sends_as_initiator e.facts.cid 2 find_intersect m) (λ n. entry_turns e (owing 2 0 n e) n) (says e.facts.cid.0 0 2 find_intersect m) refl (turns-silent e (owing 2 0 m e) m)
+    then-sent (sends_as_initiator e.facts.cid 2 find_intersect m) (λ n. entry_turns e (owing 2 0 n e) n) (says e.facts.cid.0 0 2 find_intersect m) refl (turns-silent sent_by sent-deaf e (owing 2 0 m e) m)
 
 deactivates-sends : (e : Entry) (m : Machine) → sent_in (deactivates e m).actions ≡ says e.facts.cid.0 0 2 chain_sync_done m
 deactivates-sends e m =
     then-sent (sends_as_initiator e.facts.cid 2 chain_sync_done m) (peer_becomes Warm e.facts.addr) (says e.facts.cid.0 0 2 chain_sync_done m) refl
-    (changed-silent (peer_at e.facts.addr m) (λ p. record p { temp = Warm }) m)
+    (changed-silent sent_by sent-deaf (peer_at e.facts.addr m) (λ p. record p { temp = Warm }) m)
 
 on_used-sends : (o : Option Entry) (act : Entry → Machine → Effect) (m : Machine) (due : Entry → List Sent) → ((e : Entry) → sent_in (act e m).actions ≡ due e) →
     sent_in (on_entry o act m).actions ≡ on_one o due
@@ -263,12 +181,12 @@ orders-send (Deactivate addr) m = on_used-sends (used_with addr m) deactivates m
 -- ---- the handshake
 
 judged-sends : (v : Verdict) (e : Entry) (m : Machine) → sent_in (judged v e m).actions ≡ (if comes_into_use v then keeps_alive e.facts.cid.0 m else [])
-judged-sends (verdict.Accept agreed) e m = turns-silent e (record e { facts = agreed_inbound agreed (m.now + m.settings.idle) e.facts }) m
-judged-sends (verdict.Refuse why) e m = ending-silent Refused e m
-judged-sends verdict.Query e m = ending-silent Query e m
+judged-sends (verdict.Accept agreed) e m = turns-silent sent_by sent-deaf e (record e { facts = agreed_inbound agreed (m.now + m.settings.idle) e.facts }) m
+judged-sends (verdict.Refuse why) e m = ending-silent sent_by sent-deaf Refused e m
+judged-sends verdict.Query e m = ending-silent sent_by sent-deaf Query e m
 judged-sends (verdict.Agree agreed) e m = used-sends (agreed_outbound agreed (m.now + m.settings.idle) e.facts) e m
-judged-sends verdict.Refused e m = ending-silent Refused e m
-judged-sends verdict.Wrong e m = ending-silent (Fault Protocol) e m
+judged-sends verdict.Refused e m = ending-silent sent_by sent-deaf Refused e m
+judged-sends verdict.Wrong e m = ending-silent sent_by sent-deaf (Fault Protocol) e m
 
 answer-sends : (o : Option (List ℕ)) (cid : Cid) (m : Machine) → sent_in (sends_answer o cid m).actions ≡ answers o cid.0 m
 answer-sends None cid m = refl
@@ -291,7 +209,7 @@ receives_by role o item e m = receives_message (λ fault. ending (Fault fault) e
 
 accepts-sends : (o : Option Message) (item : Item) (e : Entry) (m : Machine) →
     sent_in (receives_by Acceptor o item e m).actions ≡ by_message o (λ msg. due_by_verdict (verdict_of Acceptor (offered m.settings) msg) e.facts.cid.0 m)
-accepts-sends None item e m = ending-silent (Fault Malformed) e m
+accepts-sends None item e m = ending-silent sent_by sent-deaf (Fault Malformed) e m
 accepts-sends (Some msg) item e m = decided-sends (verdict_of Acceptor (own_info m.settings) msg) e m
 
 fits-side_of : (side : ℕ) (msg : Message) → fits_side Dialer side msg ≡ (side == side_of msg)
@@ -302,7 +220,7 @@ fits-side_of side (message.QueryReply table) = refl
 
 dials-sends : (o : Option Message) (item : Item) (e : Entry) (m : Machine) → sent_in (receives_by Dialer o item e m).actions
     ≡ by_message o (λ msg. if item.side == side_of msg then due_by_verdict (verdict_of Dialer (offered m.settings) msg) e.facts.cid.0 m else [])
-dials-sends None item e m = ending-silent (Fault Malformed) e m
+dials-sends None item e m = ending-silent sent_by sent-deaf (Fault Malformed) e m
 dials-sends (Some msg) item e m =
     subst (λ b. sent_in (if fits_side Dialer item.side msg then decided (verdict_of Dialer (own_info m.settings) msg) e m else ending (Fault Protocol) e m).actions
     ≡ (if b then due_by_verdict (verdict_of Dialer (offered m.settings) msg) e.facts.cid.0 m else [])) (fits-side_of item.side msg) (by_fit (fits_side Dialer item.side msg))
@@ -310,7 +228,7 @@ dials-sends (Some msg) item e m =
     by_fit : (b : Bool) → sent_in (if b then decided (verdict_of Dialer (own_info m.settings) msg) e m else ending (Fault Protocol) e m).actions
         ≡ (if b then due_by_verdict (verdict_of Dialer (offered m.settings) msg) e.facts.cid.0 m else [])
     by_fit true = decided-sends (verdict_of Dialer (own_info m.settings) msg) e m
-    by_fit false = ending-silent (Fault Protocol) e m
+    by_fit false = ending-silent sent_by sent-deaf (Fault Protocol) e m
 
 greets-sends : (item : Item) (e : Entry) (m : Machine) → sent_in (greets item e m).actions ≡ due_in_greeting item e.facts m
 greets-sends item e m = by_provenance e.facts.provenance refl
@@ -325,43 +243,16 @@ greets-sends item e m = by_provenance e.facts.provenance refl
         by_id : (b c : Bool) → sent_in (if b && c then receives_by Acceptor (message_of item.body) item e m else ending (Fault Protocol) e m).actions
             ≡ (if b then (if c then by_message (message_of item.body) (λ msg. due_by_verdict (verdict_of Acceptor (offered m.settings) msg) e.facts.cid.0 m) else []) else [])
         by_id true true = accepts-sends (message_of item.body) item e m
-        by_id true false = ending-silent (Fault Protocol) e m
-        by_id false c = ending-silent (Fault Protocol) e m
+        by_id true false = ending-silent sent_by sent-deaf (Fault Protocol) e m
+        by_id false c = ending-silent sent_by sent-deaf (Fault Protocol) e m
     by_provenance FromLocal is = subst (λ p. Sends p) (sym is) (by_id (item.id == 0))
       where
         by_id : (b : Bool) → sent_in (if b && true then receives_by Dialer (message_of item.body) item e m else ending (Fault Protocol) e m).actions
             ≡ (if b then due_of_dialer item e.facts.cid.0 m else [])
         by_id true = dials-sends (message_of item.body) item e m
-        by_id false = ending-silent (Fault Protocol) e m
+        by_id false = ending-silent sent_by sent-deaf (Fault Protocol) e m
 
 -- ---- once the handshake is done
-
-shares-silent : (addrs : List Addr) (m : Machine) → sent_in (for_each shares_address addrs m).actions ≡ []
-unfolding for_each
-shares-silent [] m = refl
-shares-silent (a ∷ addrs) m = then-silent (shares_address a m) (for_each shares_address addrs) [] (comes-silent false a m) (shares-silent addrs (shares_address a m).machine)
-
-takes-silent : (o : Option Share) (m : Machine) → sent_in (takes_addresses o m).actions ≡ []
-takes-silent None m = refl
-takes-silent (Some (share.Request n)) m = refl
-takes-silent (Some (share.Peers told)) m = shares-silent (taken_of told m) m
-takes-silent (Some share.Done) m = refl
-
-brings-silent : (protocol : ℕ) (body : List ℕ) (e : Entry) (m : Machine) → sent_in (brings protocol body e m).actions ≡ []
-brings-silent protocol body e m =
-    cond_both (protocol == 2) (peer_becomes Hot e.facts.addr m) (if protocol == 8 then nothing_more m else takes_addresses (share_of body) m)
-    (λ effect. sent_in effect.actions ≡ []) (λ on_2. changed-silent (peer_at e.facts.addr m) (λ p. record p { temp = Hot }) m)
-    (λ not_2. cond_both (protocol == 8) (nothing_more m) (takes_addresses (share_of body) m) (λ effect. sent_in effect.actions ≡ []) (λ on_8. refl)
-    (λ not_8. takes-silent (share_of body) m))
-
-answered-silent : (o : Option Owed) (item : Item) (e : Entry) (m : Machine) → sent_in (answered_as o item e m).actions ≡ []
-answered-silent None item e m = ending-silent (Fault Protocol) e m
-answered-silent (Some owed) item e m =
-    cond_both (pays owed item.body) (then_do (entry_turns e (paid item.id e) m) (brings item.id item.body e)) (ending (Fault Protocol) e m)
-    (λ effect. sent_in effect.actions ≡ [])
-    (λ paid_. then-silent (entry_turns e (paid item.id e) m) (brings item.id item.body e) [] (turns-silent e (paid item.id e) m)
-    (brings-silent item.id item.body e (with_entry (paid item.id e) m)))
-    (λ other. ending-silent (Fault Protocol) e m)
 
 -- who is served stands
 serves-stands : (seen : Seen) (protocol : ℕ) (f : Entry) (m : Machine) → entry_at f.facts.cid.0 m ≡ Some f → entry_at f.facts.cid.0 (serves seen protocol f m).machine ≡ None → ⊥
@@ -377,17 +268,17 @@ serves-stands seen protocol f m stands =
 -- nothing is sent to one that has ended
 asked-gone : (r : Result Seen FaultKind) (protocol : ℕ) (e : Entry) (m : Machine) → entry_at e.facts.cid.0 (asked_as r protocol e m).machine ≡ None →
     sent_in (asked_as r protocol e m).actions ≡ []
-asked-gone (Err fault) protocol e m = λ gone. ending-silent (Fault fault) e m
+asked-gone (Err fault) protocol e m = λ gone. ending-silent sent_by sent-deaf (Fault fault) e m
 asked-gone (Ok seen) protocol e m = cond_both (takes_requests e) (then_do first (on_entry (entry_at e.facts.cid.0 first.machine) (serves seen protocol))) (ending (Fault Protocol) e m)
     (λ effect. entry_at e.facts.cid.0 effect.machine ≡ None → sent_in effect.actions ≡ [])
-    (λ takes. by_entry (entry_at e.facts.cid.0 first.machine) refl) (λ other gone. ending-silent (Fault Protocol) e m)
+    (λ takes. by_entry (entry_at e.facts.cid.0 first.machine) refl) (λ other gone. ending-silent sent_by sent-deaf (Fault Protocol) e m)
   where
     first : Effect
     first = begins protocol e m
 
     by_entry : (o : Option Entry) → entry_at e.facts.cid.0 first.machine ≡ o → entry_at e.facts.cid.0 (then_do first (on_entry o (serves seen protocol))).machine ≡ None →
         sent_in (then_do first (on_entry o (serves seen protocol))).actions ≡ []
-    by_entry None is gone = then-silent first (on_entry None (serves seen protocol)) [] (begins-silent protocol e m) refl
+    by_entry None is gone = then-silent first (on_entry None (serves seen protocol)) [] (begins-silent sent_by sent-deaf protocol e m) refl
     by_entry (Some f) is gone =
         let same : f.facts.cid.0 ≡ e.facts.cid.0 = eqb-true f.facts.cid.0 e.facts.cid.0 (find_some (λ x. has_id e.facts.cid.0 x.facts) first.machine.connections f is).passes in
         absurd (serves-stands seen protocol f first.machine (subst (λ c. entry_at c first.machine ≡ Some f) (sym same) is)
@@ -397,7 +288,7 @@ talks-sends : (item : Item) (e : Entry) (m : Machine) → SendsInUse item e (tal
 talks-sends item e m = record {
   answer = λ other. by_side (item.side == 0) other;
   gone = cond_both (item.side == 0) asks (answered_as (reply_on item.id e) item e m) (λ effect. entry_at e.facts.cid.0 effect.machine ≡ None → sent_in effect.actions ≡ [])
-      (λ first. asked-gone (watched item.id (agreed_sharing e.facts.agreed) item.body) item.id e m) (λ other gone. answered-silent (reply_on item.id e) item e m);
+      (λ first. asked-gone (watched item.id (agreed_sharing e.facts.agreed) item.body) item.id e m) (λ other gone. answered-silent sent_by sent-deaf (reply_on item.id e) item e m);
 }
   where
     asks : Effect
@@ -405,7 +296,7 @@ talks-sends item e m = record {
 
     by_side : (b : Bool) → b ≡ false → sent_in (if b then asks else answered_as (reply_on item.id e) item e m).actions ≡ []
     by_side true is = absurd (false≢true (sym is))
-    by_side false is = answered-silent (reply_on item.id e) item e m
+    by_side false is = answered-silent sent_by sent-deaf (reply_on item.id e) item e m
 
 -- ---- each act
 
@@ -424,39 +315,24 @@ dialed-sends opened e m = by_tests (is_dialing e.facts) opened
   where
     by_tests : (b c : Bool) → sent_in (if b then (if c then dial_opens e m else dial_fails e m) else nothing_more m).actions ≡ (if b && c then says e.facts.cid.0 0 0 (proposal_of (own_info m.settings)) m else [])
     by_tests true true = opens-sends e m
-    by_tests true false = vanishes-silent e m
+    by_tests true false = vanishes-silent sent_by sent-deaf e m
     by_tests false c = refl
-
-asks_roots-silent : (m : Machine) → sent_in (asks_roots m).actions ≡ []
-asks_roots-silent m = cond_both (may_ask m.now m.targets.root m.roots) (tells (AskRoots (record { 0 = m.roots.next_job }) ∷ []) (record m { roots = asked m.roots })) (nothing_more m)
-    (λ effect. sent_in effect.actions ≡ []) (λ too_few. refl) (λ enough. refl)
-
-big-silent : (addr : Addr) (m : Machine) → sent_in (comes_big addr m).actions ≡ []
-big-silent addr m = cond_both (is_wanted_big addr m) (as_move (shared addr) m (peer_comes true addr m)) (nothing_more m) (λ effect. sent_in effect.actions ≡ [])
-    (λ wanted. comes-silent true addr m) (λ other. refl)
-
-closes-silent : (e : Entry) (m : Machine) → sent_in (closes e m).actions ≡ []
-closes-silent e m = cond_both (is_live e.facts) (vanishes e m) (nothing_more m) (λ effect. sent_in effect.actions ≡ []) (λ live. vanishes-silent e m) (λ other. refl)
-
-faulted-silent : (fault : Option CutFault) (e : Entry) (m : Machine) → sent_in (faulted fault e m).actions ≡ []
-faulted-silent None e m = refl
-faulted-silent (Some fault) e m = ending-silent (Fault (kind_of fault)) e m
 
 pub sends-right : (act : Act) (m : Machine) → SendsRight act m (does act m)
 sends-right (shows t) m = refl
-sends-right (fires_one d) m = on_entry-silent (entry_at d.cid.0 m) (fires_as d.kind) m (λ e. fires-silent d.kind e m)
-sends-right asks_for_roots m = asks_roots-silent m
+sends-right (fires_one d) m = on_entry-silent sent_by sent-deaf (entry_at d.cid.0 m) (fires_as d.kind) m (λ e. fires-silent sent_by sent-deaf d.kind e m)
+sends-right asks_for_roots m = asks-silent sent_by (λ job. refl) m
 sends-right (carries order) m = orders-send order m
-sends-right (connects addr) m = connects-silent addr m
+sends-right (connects addr) m = connects-silent sent_by sent-deaf (λ cid to. refl) (λ why. refl) (λ length. refl) addr m
 sends-right (ends_dial cid opened) m = on_used-sends (entry_at cid.0 m) (dialed opened) m (λ e. if is_dialing e.facts && opened then says e.facts.cid.0 0 0 (proposal_of (own_info m.settings)) m else []) (λ e. dialed-sends opened e m)
-sends-right (stores entry undecoded) m = turns-silent entry (record entry { undecoded = undecoded }) m
+sends-right (stores entry undecoded) m = turns-silent sent_by sent-deaf entry (record entry { undecoded = undecoded }) m
 sends-right (handles_item cid item) m = item-sends (entry_at cid.0 m) item m
-sends-right (ends_stream cid fault) m = on_entry-silent (entry_at cid.0 m) (faulted fault) m (λ e. faulted-silent fault e m)
-sends-right (is_closed cid) m = on_entry-silent (entry_at cid.0 m) closes m (λ e. closes-silent e m)
+sends-right (ends_stream cid fault) m = on_entry-silent sent_by sent-deaf (entry_at cid.0 m) (faulted fault) m (λ e. faulted-silent sent_by sent-deaf fault e m)
+sends-right (is_closed cid) m = on_entry-silent sent_by sent-deaf (entry_at cid.0 m) closes m (λ e. closes-silent sent_by sent-deaf e m)
 sends-right (sets_targets targets) m = refl
 sends-right (sets_big_targets targets) m = refl
 sends-right (sets_groups groups) m = refl
 sends-right (sets_roots roots) m = refl
-sends-right (makes_ordinary addr) m = changed-silent (peer_at addr m) (λ p. record p { big = false }) m
-sends-right (provides addr) m = comes-silent false addr m
-sends-right (provides_big addr) m = big-silent addr m
+sends-right (makes_ordinary addr) m = changed-silent sent_by sent-deaf (peer_at addr m) (λ p. record p { big = false }) m
+sends-right (provides addr) m = comes-silent sent_by sent-deaf false addr m
+sends-right (provides_big addr) m = big-silent sent_by sent-deaf addr m

@@ -1,19 +1,15 @@
 -- What is answered to what the other side asks.
-use Rattle.std.proofs.Common.{ℕ, zero, suc, ◌+◌, ◌<◌, ◌≤◌, ◌≡◌, Bool, true, false, not, ◌&&◌, ◌||◌, ◌==◌, nat_le, min, if◌then◌else◌, cond, List, [], ◌∷◌, ◌++◌, length, map, filter, get_or, is_some, Option, Some, None, Result, Ok, Err, refl, sym, ap, ◌∙◌, subst, arith, eqb-true}
+use Rattle.std.proofs.Common.{ℕ, ◌+◌, ◌<◌, ◌≤◌, ◌≡◌, Bool, true, false, not, ◌&&◌, ◌||◌, ◌==◌, min, if◌then◌else◌, cond, List, [], ◌∷◌, ◌++◌, length, map, filter, get_or, is_some, Option, Some, None, Result, Ok, Err, refl, sym, ap, ◌∙◌, subst, arith, eqb-true}
 use Rattle.std.specs.List.{AllByRecursion, list_any}
-use Rattle.std.specs.Option.{unwrap_or}
 use Rattle.std.proofs.lemmas.Bool.{cond_both, and_parts, and_from, or_left, or_right, false≢true}
 use Rattle.std.proofs.lemmas.Grind.{flat_map-append}
 use Rattle.std.proofs.lemmas.List.Quantifiers.{position-Some}
-use Rattle.accept_gate.specs.Prune.{choice_of}
-use Rattle.conn_state.specs.Moves.{awakened, idled}
-use Rattle.conn_state.specs.Names.{name_of, same_name}
+use Rattle.conn_state.specs.Moves.{awakened}
 use Rattle.conn_state.specs.Use.{has_id, is_negotiated_phase, agreed_sharing, runs}
 use Rattle.mux_segment.specs.Frame.{frame_of}
 use Rattle.mux_segment.specs.declared.item.Item.{Item}
 use Rattle.net_base.specs.Address.{same_address}
-use Rattle.net_base.specs.declared.action.Action.TheVariants.{State}
-use Rattle.net_base.specs.declared.action.CloseCause.TheVariants.{Pruned, Fault}
+use Rattle.net_base.specs.declared.action.CloseCause.TheVariants.{Fault}
 use Rattle.net_base.specs.declared.action.FaultKind.{FaultKind}
 use Rattle.net_base.specs.declared.action.FaultKind.TheVariants.{Protocol}
 use Rattle.net_base.specs.declared.address.Addr.{Addr}
@@ -31,32 +27,29 @@ use Rattle.root_groups.specs.Cleaned.{is_listed, group_of}
 use Rattle.share_rounds.specs.Rounds.{is_advertised, most_told, served_to}
 use Rattle.share_rounds.proofs.Homes.{told_by_group, told_by_roots}
 use Rattle.share_rounds.proofs.Rules.{each_of_front, told_are_few}
-use Rattle.machine.specs.Connections.{with_entry, without_entry, entry_turns, ending, candidates_in, trim, idle, awake}
-use Rattle.machine.specs.Effect.{Effect, nothing_more, then_do, on_entry, on_connection}
-use Rattle.machine.specs.Machine.{Machine, Entry, counted_in, entry_at}
+use Rattle.machine.specs.Connections.{ending, idle}
+use Rattle.machine.specs.Effect.{Effect, then_do, on_entry, on_connection}
+use Rattle.machine.specs.Machine.{Machine, Entry, entry_at}
 use Rattle.machine.specs.Replies.{reply_on}
 use Rattle.machine.specs.Stream.{handled_in, handled}
 use Rattle.machine.specs.Talking.{replies, stops_if, serves, begins, takes_requests, asked_as, answered_as, talks}
-use Rattle.laws.specs.Acts.{Act, shows, fires_one, asks_for_roots, carries, connects, ends_dial, stores, handles_item, ends_stream, is_closed, sets_targets, sets_big_targets, sets_groups, sets_roots, makes_ordinary, provides, provides_big, does}
+use Rattle.laws.specs.Acts.{Act, handles_item, does}
 use Rattle.laws.specs.Laws.{is_local}
 use Rattle.laws.specs.Responders.{WhereSeen, WhereAsked, WhereThere}
 use Rattle.laws.specs.Served.{Sent, sent_by, sent_in, is_tellable, MayBeTold, most_in, messages_of, IsAnswered, AnswersRight}
+use Rattle.laws.specs.Untouched.{IsAsItWas}
+use Rattle.laws.specs.Steady.{IsOrdered}
 use Rattle.laws.proofs.Addresses.{same_address-self}
-use Rattle.laws.proofs.Goes.{lost-silent}
-use Rattle.laws.proofs.Lists.{find_some, all-weaker}
+use Rattle.laws.proofs.Lists.{find_some, any-at, all-weaker}
 use Rattle.laws.proofs.Locals.{not_local-no_member}
 use Rattle.laws.proofs.Moments.{ending-none}
-use Rattle.laws.proofs.Responders.{begins-there}
+use Rattle.laws.proofs.Silent.{sent-deaf, begins-silent, stops-silent}
 use Rattle.laws.proofs.Talks.{replies-machine}
+use Rattle.laws.proofs.Turned.{begun, begins-becomes, given_id}
 use Rattle.laws.proofs.Waits.{Scope}
-use Rattle.laws.proofs.WaitsOfParts.{found-stands, begins-waits}
+use Rattle.laws.proofs.WaitsOfParts.{Finds, found-stands, begins-waits}
 
 -- ---- who is told of
-
-any-at : {X : Type 0} (q : X → Bool) (xs : List X) (k : ℕ) (d : X) → k < length xs → q (get_or xs k d) ≡ true → list_any q xs ≡ true
-any-at q [] k d inside holds = absurd (omega (arith, inside))
-any-at q (x ∷ xs) zero d inside holds = or_left (q x) (list_any q xs) holds
-any-at q (x ∷ xs) (suc k) d inside holds = or_right (q x) (list_any q xs) (any-at q xs k d (omega (arith, inside)) holds)
 
 advertised-tellable : (m : Machine) (addr : Addr) → is_advertised m.groups m.roots.publics addr ≡ true → is_tellable m addr ≡ true
 advertised-tellable m addr h = by_place (group_of addr m.groups) refl
@@ -114,32 +107,7 @@ served-each asker n m =
 served-few : (asker : Addr) (n : ℕ) (m : Machine) → length (served_to asker n m.peers m.groups m.roots.publics) ≤ n
 served-few asker n m = let few = told_are_few asker n m.peers m.groups m.roots.publics in omega (arith, few)
 
--- ---- what sends nothing
-
-pub turns-silent : (old new : Entry) (m : Machine) → sent_in (entry_turns old new m).actions ≡ []
-turns-silent old new m = cond_both (same_name (name_of old.facts) (name_of new.facts)) [] (State old.facts.cid (name_of new.facts) ∷ []) (λ actions. sent_in actions ≡ [])
-    (λ same. refl) (λ other. refl)
-
-pub trim-silent : (moved : Cid) (m : Machine) → sent_in (trim moved m).actions ≡ []
-trim-silent moved m = cond_both (nat_le (counted_in m) m.settings.hard) (nothing_more m)
-    (on_connection (unwrap_or (choice_of (candidates_in m)) moved) (ending Pruned) m) (λ effect. sent_in effect.actions ≡ []) (λ within. refl)
-    (λ above. by_entry (entry_at (unwrap_or (choice_of (candidates_in m)) moved).0 m))
-  where
-    by_entry : (o : Option Entry) → sent_in (on_entry o (ending Pruned) m).actions ≡ []
-    by_entry None = refl
-    by_entry (Some e) = lost-silent sent_by (λ addr. refl) e.facts (without_entry e.facts.cid.0 m)
-
-pub begins-silent : (protocol : ℕ) (e : Entry) (m : Machine) → sent_in (begins protocol e m).actions ≡ []
-begins-silent protocol e m = cond_both (runs protocol e.facts.running) (nothing_more m) (awake protocol e m) (λ effect. sent_in effect.actions ≡ []) (λ running. refl)
-    (λ silent. let new : Entry = record e { facts = awakened protocol e.facts } in
-    flat_map-append sent_by (entry_turns e new m).actions (trim e.facts.cid (with_entry new m)).actions
-    ∙ (ap (λ xs. xs ++ sent_in (trim e.facts.cid (with_entry new m)).actions) (turns-silent e new m) ∙ trim-silent e.facts.cid (with_entry new m)))
-
 -- ---- an answer
-
-stops-silent : (done : Bool) (protocol : ℕ) (f : Entry) (m : Machine) → sent_in (stops_if done protocol f m).actions ≡ []
-stops-silent true protocol f m = turns-silent f (record f { facts = idled protocol (m.now + m.settings.idle) f.facts }) m
-stops-silent false protocol f m = refl
 
 -- what is told and sent by it
 record Answering (protocol : ℕ) (asker : Addr) (cid now : ℕ) (r : Reply) (after : Machine) (sent : List Sent) : Type 0 where
@@ -172,7 +140,7 @@ serves-answer seen protocol f m =
       each = subst (λ n. AllByRecursion (MayBeTold f.facts.addr (stops_if seen.done protocol f n).machine) a.told) (sym (replies-machine seen.reply protocol f m))
           (by_done seen.done a.told a.each);
       sends = flat_map-append sent_by first.actions (stops_if seen.done protocol f first.machine).actions
-          ∙ (ap (λ xs. sent_in first.actions ++ xs) (stops-silent seen.done protocol f first.machine) ∙ (nothing_behind (sent_in first.actions) ∙ a.sends));
+          ∙ (ap (λ xs. sent_in first.actions ++ xs) (stops-silent sent_by sent-deaf seen.done protocol f first.machine) ∙ (nothing_behind (sent_in first.actions) ∙ a.sends));
     }
   where
     nothing_behind : (xs : List Sent) → xs ++ [] ≡ xs
@@ -190,12 +158,12 @@ serves-answer seen protocol f m =
     by_done true told each = all-weaker (MayBeTold f.facts.addr m) (MayBeTold f.facts.addr (idle protocol f m).machine) (same (idle protocol f m).machine refl refl refl) told each
     by_done false told each = each
 
-asked-answer : (seen : Seen) (item : Item) (e : Entry) (m : Machine) → entry_at e.facts.cid.0 m ≡ Some e →
+asked-answer : (seen : Seen) (item : Item) (e : Entry) (m : Machine) → e.facts.cid.0 < m.next_id → entry_at e.facts.cid.0 m ≡ Some e →
     WhereThere (entry_at e.facts.cid.0 (asked_as (Ok seen) item.id e m).machine) (λ f. IsAnswered item e seen m (asked_as (Ok seen) item.id e m))
-asked-answer seen item e m stands =
+asked-answer seen item e m given stands =
     cond_both (takes_requests e) (then_do first (on_connection e.facts.cid (serves seen item.id))) (ending (Fault Protocol) e m)
     (λ effect. WhereThere (entry_at e.facts.cid.0 effect.machine) (λ f. IsAnswered item e seen m effect))
-    (λ takes. by_entry (entry_at e.facts.cid.0 first.machine) refl (begins-there (λ f. f.facts.addr ≡ e.facts.addr) item.id e m stands (λ running. refl) refl))
+    (λ takes. by_entry (entry_at e.facts.cid.0 first.machine) refl (begun-there (entry_at e.facts.cid.0 first.machine) (begins-becomes item.id e m given stands)))
     (λ other. subst (λ o. WhereThere o (λ f. IsAnswered item e seen m (ending (Fault Protocol) e m))) (sym (ending-none (Fault Protocol) e m)) tt)
   where
     first : Effect
@@ -206,6 +174,11 @@ asked-answer seen item e m stands =
       where
         everything : Scope
         everything = record { own = λ cid. true; comes = λ cid. true; drops = true }
+
+    begun-there : (o : Option Entry) → IsAsItWas (Some (begun item.id e)) o → WhereThere o (λ f. f.facts.addr ≡ e.facts.addr)
+    begun-there None becomes = tt
+    begun-there (Some f) becomes = let it : begun item.id e ≡ f = cc in ap (λ x. x.facts.addr) (sym it) ∙ cond_both (runs item.id e.facts.running) e (record e { facts = awakened item.id e.facts })
+        (λ x. x.facts.addr ≡ e.facts.addr) (λ running. refl) (λ silent. refl)
 
     each-there : (o : Option Entry) (law : Type 0) → law → WhereThere o (λ f. law)
     each-there None law holds = tt
@@ -226,13 +199,13 @@ asked-answer seen item e m stands =
           told = a.told;
           few = a.few;
           each = a.each;
-          sends = flat_map-append sent_by first.actions second.actions ∙ (ap (λ xs. xs ++ sent_in second.actions) (begins-silent item.id e m) ∙ a.sends);
+          sends = flat_map-append sent_by first.actions second.actions ∙ (ap (λ xs. xs ++ sent_in second.actions) (begins-silent sent_by sent-deaf item.id e m) ∙ a.sends);
         })
 
-asks-answer : (item : Item) (e : Entry) (m : Machine) → entry_at e.facts.cid.0 m ≡ Some e → (item.side == 0) ≡ true →
+asks-answer : (item : Item) (e : Entry) (m : Machine) → e.facts.cid.0 < m.next_id → entry_at e.facts.cid.0 m ≡ Some e → (item.side == 0) ≡ true →
     WhereSeen (watched item.id (agreed_sharing e.facts.agreed) item.body)
     (λ seen. WhereThere (entry_at e.facts.cid.0 (talks item e m).machine) (λ f. IsAnswered item e seen m (talks item e m)))
-asks-answer item e m stands asks = by_seen (watched item.id (agreed_sharing e.facts.agreed) item.body) refl
+asks-answer item e m given stands asks = by_seen (watched item.id (agreed_sharing e.facts.agreed) item.body) refl
   where
     by_seen : (r : Result Seen FaultKind) → watched item.id (agreed_sharing e.facts.agreed) item.body ≡ r → WhereSeen r
         (λ seen. WhereThere (entry_at e.facts.cid.0 (talks item e m).machine) (λ f. IsAnswered item e seen m (talks item e m)))
@@ -241,18 +214,18 @@ asks-answer item e m stands asks = by_seen (watched item.id (agreed_sharing e.fa
         let same : talks item e m ≡ asked_as (Ok seen) item.id e m =
         ap (λ b. if b then asked_as (watched item.id (agreed_sharing e.facts.agreed) item.body) item.id e m else answered_as (reply_on item.id e) item e m) asks
         ∙ ap (λ r. asked_as r item.id e m) is in
-        subst (λ effect. WhereThere (entry_at e.facts.cid.0 effect.machine) (λ f. IsAnswered item e seen m effect)) (sym same) (asked-answer seen item e m stands)
+        subst (λ effect. WhereThere (entry_at e.facts.cid.0 effect.machine) (λ f. IsAnswered item e seen m effect)) (sym same) (asked-answer seen item e m given stands)
 
-handled-answer : (p : Phase) (item : Item) (e : Entry) (m : Machine) → entry_at e.facts.cid.0 m ≡ Some e → is_negotiated_phase p ≡ true → (item.side == 0) ≡ true →
+handled-answer : (p : Phase) (item : Item) (e : Entry) (m : Machine) → e.facts.cid.0 < m.next_id → entry_at e.facts.cid.0 m ≡ Some e → is_negotiated_phase p ≡ true → (item.side == 0) ≡ true →
     WhereSeen (watched item.id (agreed_sharing e.facts.agreed) item.body)
     (λ seen. WhereThere (entry_at e.facts.cid.0 (handled_in p item e m).machine) (λ f. IsAnswered item e seen m (handled_in p item e m)))
-handled-answer Dialing item e m stands negotiated asks = absurd (false≢true negotiated)
-handled-answer (Greeting until) item e m stands negotiated asks = absurd (false≢true negotiated)
-handled-answer Negotiated item e m stands negotiated asks = asks-answer item e m stands asks
-handled-answer (Closing until) item e m stands negotiated asks = absurd (false≢true negotiated)
+handled-answer Dialing item e m given stands negotiated asks = absurd (false≢true negotiated)
+handled-answer (Greeting until) item e m given stands negotiated asks = absurd (false≢true negotiated)
+handled-answer Negotiated item e m given stands negotiated asks = asks-answer item e m given stands asks
+handled-answer (Closing until) item e m given stands negotiated asks = absurd (false≢true negotiated)
 
-item-answer : (own : Cid) (item : Item) (m : Machine) → AnswersRight (handles_item own item) m (does (handles_item own item) m)
-item-answer own item m = by_entry (entry_at own.0 m) refl
+item-answer : (own : Cid) (item : Item) (m : Machine) → IsOrdered m → AnswersRight (handles_item own item) m (does (handles_item own item) m)
+item-answer own item m h = by_entry (entry_at own.0 m) refl
   where
     by_entry : (o : Option Entry) → entry_at own.0 m ≡ o → WhereAsked item o
         (λ e seen. WhereThere (entry_at own.0 (on_entry o (handled item) m).machine) (λ f. IsAnswered item e seen m (on_entry o (handled item) m)))
@@ -261,23 +234,8 @@ item-answer own item m = by_entry (entry_at own.0 m) refl
         let same : e.facts.cid.0 ≡ own.0 = eqb-true e.facts.cid.0 own.0 (find_some (λ x. has_id own.0 x.facts) m.connections e is).passes in
         subst (λ c. WhereSeen (watched item.id (agreed_sharing e.facts.agreed) item.body)
         (λ seen. WhereThere (entry_at c (handled item e m).machine) (λ f. IsAnswered item e seen m (handled item e m)))) same
-        (handled-answer e.facts.phase item e m (subst (λ c. entry_at c m ≡ Some e) (sym same) is) negotiated asks)
+        (handled-answer e.facts.phase item e m (given_id m e h (subst (λ c. entry_at c m ≡ Some e) (sym same) is)) (subst (λ c. entry_at c m ≡ Some e) (sym same) is) negotiated asks)
 
-pub answers-right : (act : Act) (m : Machine) → AnswersRight act m (does act m)
-answers-right (shows t) m = tt
-answers-right (fires_one d) m = tt
-answers-right asks_for_roots m = tt
-answers-right (carries order) m = tt
-answers-right (connects addr) m = tt
-answers-right (ends_dial cid opened) m = tt
-answers-right (stores entry undecoded) m = tt
-answers-right (handles_item cid item) m = item-answer cid item m
-answers-right (ends_stream cid fault) m = tt
-answers-right (is_closed cid) m = tt
-answers-right (sets_targets targets) m = tt
-answers-right (sets_big_targets targets) m = tt
-answers-right (sets_groups groups) m = tt
-answers-right (sets_roots roots) m = tt
-answers-right (makes_ordinary addr) m = tt
-answers-right (provides addr) m = tt
-answers-right (provides_big addr) m = tt
+pub answers-right : (act : Act) (m : Machine) → Finds act m → AnswersRight act m (does act m)
+answers-right (handles_item cid item) m found = item-answer cid item m found
+answers-right other m found = tt

@@ -10,7 +10,7 @@ use Rattle.net_base.specs.declared.connection.Phase.{Phase}
 use Rattle.net_base.specs.declared.connection.Phase.TheVariants.{Dialing, Greeting, Negotiated, Closing}
 use Rattle.conn_state.specs.Moves.{accepted, dialing, connected, agreed_inbound, agreed_outbound, acquired, released, awakened, idled, expired, closing}
 use Rattle.conn_state.specs.Use.{is_negotiated, is_negotiated_phase, is_dialing, is_dialing_phase, is_greeting, is_greeting_phase, is_outbound, is_duplex, is_for_remote, is_for_local, some_runs, is_acquirable}
-use Rattle.laws.specs.Whole.{IsShaped, IsUnused}
+use Rattle.laws.specs.Steady.{IsShaped, IsUnused}
 
 -- ---- phases exclude each other
 

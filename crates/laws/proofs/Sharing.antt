@@ -8,7 +8,7 @@ use Rattle.govern_rules.specs.Links.{can_share}
 use Rattle.machine.specs.Machine.{Machine, Entry}
 use Rattle.machine.specs.Replies.{reply_on}
 use Rattle.machine.specs.Govern.{link_of, is_used_at}
-use Rattle.laws.specs.Whole.{IsOrdered}
+use Rattle.laws.specs.Steady.{IsOrdered}
 use Rattle.laws.proofs.Lists.{StandsAt, OnePasses, stands_next, find_only}
 use Rattle.laws.proofs.Orders.{MayAsk}
 use Rattle.laws.proofs.Ties.{live_one}

@@ -19,7 +19,7 @@ use Rattle.machine.specs.Peers.{turns_at, peer_at}
 use Rattle.machine.specs.Connections.{with_entry, acquire, dial}
 use Rattle.machine.specs.Govern.{promoted_at, promote, is_used_at, activates, activate}
 use Rattle.laws.specs.AtMoves.{some_connection, is_established_or_pending, is_active_or_asked, number_with, members_with}
-use Rattle.laws.specs.Whole.{ArePeersApart, IsOrdered}
+use Rattle.laws.specs.Steady.{ArePeersApart, IsOrdered}
 use Rattle.laws.proofs.Addresses.{same_address-true}
 use Rattle.laws.proofs.Entries.{TurnsInto, turned-connections}
 use Rattle.laws.proofs.Lists.{StandsAt, stands_before, FoundIn, find_some}

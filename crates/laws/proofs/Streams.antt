@@ -1,5 +1,5 @@
 -- Bytes come in on a connection.
-use Rattle.std.proofs.Common.{ℕ, ◌≤◌, ◌≡◌, true, arith, List, Option, Some, None, refl, ap, eqb-true, ◌||◌}
+use Rattle.std.proofs.Common.{ℕ, ◌≤◌, ◌≡◌, true, arith, List, ◌∷◌, [], Option, Some, None, refl, ap, eqb-true, ◌||◌}
 use Rattle.std.proofs.lemmas.Bool.{cond_both, false≢true}
 use Rattle.mux_segment.specs.Stream.{FedBy}
 use Rattle.mux_segment.specs.declared.fault.CutFault.{CutFault}
@@ -15,11 +15,11 @@ use Rattle.machine.specs.Effect.{Effect, then_do, for_each, on_entry, on_connect
 use Rattle.machine.specs.Connections.{entry_turns}
 use Rattle.machine.specs.Stream.{handled_in, handled, handles, faulted, fed_with, feeds, comes_in, bytes_come_in}
 use Rattle.laws.specs.AtMoves.{fed_on, IsLawful}
-use Rattle.laws.specs.Whole.{IsOrdered}
+use Rattle.laws.specs.Steady.{IsOrdered}
 use Rattle.laws.proofs.Handshakes.{greets-trimmed}
 use Rattle.laws.proofs.Lawful.{turns-obeys}
 use Rattle.laws.proofs.Lists.{StandsAt, find_some}
-use Rattle.laws.proofs.Open.{IsOpen, turned-open, all_handled-open}
+use Rattle.laws.proofs.Open.{IsOpen, turned-open, handles-open}
 use Rattle.laws.proofs.Talks.{talks-trimmed}
 use Rattle.laws.proofs.Trims.{Trimmed, keeps-trimmed, ending-trimmed, nothing-trimmed, trimmed_then, trimmed-within, for_each_that-trimmed}
 use Rattle.laws.proofs.WholeMoves.{decodes-keeps}
@@ -51,6 +51,13 @@ handles-trimmed cid item m h within = by_entry (entry_at cid.0 m) refl
         let at = find_some (λ y. has_id cid.0 y.facts) m.connections e is in
         handled_in-trimmed e.facts.phase item m e at.place refl h within at.stands
 
+all_handled-open : (cid : Cid) (items : List Item) (m : Machine) → IsOrdered m → counted_in m ≤ m.settings.hard → IsOpen cid.0 m → IsOpen cid.0 (for_each (handles cid) items m).machine
+unfolding for_each
+all_handled-open cid [] m h within open_ = open_
+all_handled-open cid (item ∷ items) m h within open_ =
+    let t : Trimmed IsLawful m (handles cid item m) = handles-trimmed cid item m h within in
+    all_handled-open cid items (handles cid item m).machine t.ordered (trimmed-within IsLawful m (handles cid item m) t) (handles-open cid item m h open_)
+
 pub faulted-trimmed : (cid : Cid) (fault : Option CutFault) → (m : Machine) → IsOrdered m → counted_in m ≤ m.settings.hard →
     IsOpen cid.0 m → Trimmed IsLawful m (on_connection cid (faulted fault) m)
 faulted-trimmed cid fault m h within open_ = by_entry (entry_at cid.0 m) refl fault
@@ -79,7 +86,7 @@ fed_with-trimmed fed m e k h within s live =
     trimmed_then IsLawful m first (λ m. then_do (for_each (handles e.facts.cid) fed.items m) fault) one
     (trimmed_then IsLawful n second fault two
     (faulted-trimmed e.facts.cid fed.state.fault second.machine two.ordered (trimmed-within IsLawful n second two)
-    (all_handled-open e.facts.cid fed.items n (turned-open new m live))))
+    (all_handled-open e.facts.cid fed.items n one.ordered (trimmed-within IsLawful m first one) (turned-open new m live))))
 
 -- in its handshake or after it a connection is live
 pub open-live : (p : Phase) → (is_greeting_phase p || is_negotiated_phase p) ≡ true → live_phase p ≡ true

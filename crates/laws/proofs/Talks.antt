@@ -37,7 +37,7 @@ use Rattle.laws.proofs.KnownWanted.{takes-within}
 use Rattle.laws.proofs.Lawful.{ends_then, ends_same, ends_turned, Accounts, Obeys, IsQuiet, quiet-lawful, quiet-obeys, tells-quiet, comes-providing, shared-accounts, turns-obeys, IsAllowed, Within, allowed_within, as_move-obeys}
 use Rattle.laws.proofs.Keeping.{Keeps, keeps_nothing, moves_then, moves-keeps, keeps-moves, changes-moves, peer_comes-keeps}
 use Rattle.laws.proofs.Lists.{StandsAt, stands-set, find_some, find_only}
-use Rattle.laws.specs.Whole.{AreTied, IsAlone, TiedBy, IsOrdered}
+use Rattle.laws.specs.Steady.{AreTied, IsAlone, TiedBy, IsOrdered}
 use Rattle.laws.proofs.Addresses.{same_address-true}
 use Rattle.laws.proofs.Owing.{paid-some}
 use Rattle.laws.proofs.Rises.{is_asked, is_hot, NoneConnected, or_each, rises_nowhere, same-connected, connected_then, IsNoHigher, turned-connected, changed-known}

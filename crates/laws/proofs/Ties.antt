@@ -14,7 +14,7 @@ use Rattle.machine.specs.Replies.{reply_on}
 use Rattle.machine.specs.Connections.{with_entry, without_entry}
 use Rattle.laws.specs.Laws.{LiveAddressesDistinct}
 use Rattle.laws.specs.Sound.{IsOrderly}
-use Rattle.laws.specs.Whole.{TiedBy, IsTied}
+use Rattle.laws.specs.Steady.{TiedBy, IsTied}
 use Rattle.laws.proofs.Addresses.{same_address-self, same_address-true}
 use Rattle.laws.proofs.Entries.{TurnsInto, turned-connections, gone-connections, with_new}
 use Rattle.laws.proofs.Finds.{find-set_other, find-set_here, find-set_gone, find-remove_other, find-remove_here}

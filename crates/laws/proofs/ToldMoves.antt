@@ -34,7 +34,7 @@ use Rattle.machine.specs.Peers.{peer_at, note_of, turns_at, peer_changes, note_o
 use Rattle.laws.specs.Sound.{HasGivenId, IsOrderly}
 use Rattle.laws.specs.Stages.{stage_of_phase, stage_of, stage_at, stage_ended, causes_by, causes_in, IsLateCause, IsOneEnd}
 use Rattle.laws.specs.Telling.{KeepsAddress, GoesOn, IsTold}
-use Rattle.laws.specs.Told.{End, Given, closes_in, ended_by, ends_in, dials_in, promoted_by_dial, dial_promotions_in, given_in, CountUp, HasAddress, AreAt, LeadTo, temp_of, temp_at, notes_in, noted, is_change, state_of, state_at, names_in, is_other_name, same_state}
+use Rattle.laws.specs.InActions.{End, Given, closes_in, ended_by, ends_in, dials_in, promoted_by_dial, dial_promotions_in, given_in, CountUp, HasAddress, AreAt, LeadTo, temp_of, temp_at, notes_in, noted, is_change, state_of, state_at, names_in, is_other_name, same_state}
 use Rattle.laws.proofs.Addresses.{same_address-self, same_address-true}
 use Rattle.laws.proofs.Entries.{TurnsInto, one_has_id, has_own_id, turned-connections, gone-connections, with_new}
 use Rattle.laws.proofs.Finds.{find-none_passes, find-set_other, find-set_here, find-remove_other, find-remove_here}

@@ -27,8 +27,8 @@ use Rattle.laws.specs.AtMoves.{as_candidate, IsDueToGo, IsPrunedRightly, IsLawfu
 use Rattle.laws.specs.Laws.{LocalsAreOrdinary}
 use Rattle.laws.specs.Sound.{IsOrderly}
 use Rattle.laws.specs.Stages.{IsLateCause}
-use Rattle.laws.specs.Told.{ended_by, promoted_by_dial}
-use Rattle.laws.specs.Whole.{IsTied, IsOrdered}
+use Rattle.laws.specs.InActions.{ended_by, promoted_by_dial}
+use Rattle.laws.specs.Steady.{IsTied, IsOrdered}
 use Rattle.laws.proofs.Counts.{counted_of, counted_in-sum, late_in}
 use Rattle.laws.proofs.Effects.{one_if-counted}
 use Rattle.laws.proofs.Entries.{gone-connections, gone-sum, one_has_id}

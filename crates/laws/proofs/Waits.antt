@@ -36,7 +36,7 @@ pub was_same : (o : Option Entry) → IsAsItWas o o
 was_same None = tt
 was_same (Some e) = refl
 
-was_then : (a b c : Option Entry) → IsAsItWas a b → IsAsItWas b c → IsAsItWas a c
+pub was_then : (a b c : Option Entry) → IsAsItWas a b → IsAsItWas b c → IsAsItWas a c
 was_then a b None one two = tt
 was_then a b (Some f) one two = subst (IsAsItWas a) two one
 
@@ -348,20 +348,16 @@ found-filter q r b each (x ∷ xs) = by_tests (q x) refl (r x) refl b (each x) (
     by_tests false fails false keeps false same rest = rest
 
 -- a reply comes to be owed
-pub owing-right : (p protocol asked : ℕ) (m : Machine) (e : Entry) →
-    IsWait (m.now + m.settings.reply) (until_paid (reply_on p e)) (until_paid (reply_on p (owing protocol asked m e)))
-unfolding first_or
-owing-right p protocol asked m e =
-    subst (λ o. IsWait whole (until_paid was) (until_paid o)) (sym found) (by_tests (nat_lt p protocol) (protocol == p) (nat_lt protocol p) was)
-  where
-    whole : ℕ
-    whole = m.now + m.settings.reply
+not_below : (n : ℕ) → nat_lt n n ≡ false
+not_below n = grind arith
 
+pub owing-until : (p protocol asked : ℕ) (m : Machine) (e : Entry) →
+    until_paid (reply_on p (owing protocol asked m e)) ≡ (if protocol == p then Some (m.now + m.settings.reply) else until_paid (reply_on p e))
+unfolding first_or
+owing-until p protocol asked m e = ap until_paid found ∙ by_tests (protocol == p) refl (nat_lt p protocol) refl (nat_lt protocol p) refl was
+  where
     new : Owed
     new = record { protocol = protocol; until = m.now + m.settings.reply; asked = asked }
-
-    on : Owed → Bool
-    on o = o.protocol == p
 
     was : Option Owed
     was = reply_on p e
@@ -375,23 +371,42 @@ owing-right p protocol asked m e =
         ∙ ap (λ o. first_or (if nat_lt p protocol then was else None) (cond (protocol == p) (Some new) o))
         (found-filter (λ o. o.protocol == p) (λ o. nat_lt protocol o.protocol) (nat_lt protocol p) (λ o is. ap (λ n. nat_lt protocol n) (eqb-true o.protocol p is)) e.owed))
 
-    by_tests : (a b c : Bool) (o : Option Owed) → IsWait whole (until_paid o) (until_paid (first_or (if a then o else None) (cond b (Some new) (if c then o else None))))
-    by_tests true b c (Some x) = inl refl
-    by_tests true true c None = inr refl
-    by_tests true false true None = tt
-    by_tests true false false None = tt
-    by_tests false true c o = inr refl
-    by_tests false false true o = kept whole (until_paid o)
-    by_tests false false false o = tt
+    by_tests : (b : Bool) → (protocol == p) ≡ b → (a : Bool) → nat_lt p protocol ≡ a → (c : Bool) → nat_lt protocol p ≡ c → (o : Option Owed) →
+        until_paid (first_or (if a then o else None) (cond b (Some new) (if c then o else None))) ≡ (if b then Some (m.now + m.settings.reply) else until_paid o)
+    by_tests true same true lower c upper o =
+        let never : true ≡ false = sym lower ∙ (ap (nat_lt p) (eqb-true protocol p same) ∙ not_below p) in absurd cc
+    by_tests true same false lower c upper o = refl
+    by_tests false other true lower true upper None = refl
+    by_tests false other true lower false upper None = refl
+    by_tests false other true lower c upper (Some x) = refl
+    by_tests false other false lower true upper o = refl
+    by_tests false other false lower false upper o =
+        let never : (protocol == p) ≡ true = grind (arith, lower, upper) in absurd (let wrong : true ≡ false = sym never ∙ other in cc)
+
+pub owing-right : (p protocol asked : ℕ) (m : Machine) (e : Entry) →
+    IsWait (m.now + m.settings.reply) (until_paid (reply_on p e)) (until_paid (reply_on p (owing protocol asked m e)))
+owing-right p protocol asked m e = subst (IsWait (m.now + m.settings.reply) (until_paid (reply_on p e))) (sym (owing-until p protocol asked m e)) (by_test (protocol == p))
+  where
+    by_test : (b : Bool) → IsWait (m.now + m.settings.reply) (until_paid (reply_on p e)) (if b then Some (m.now + m.settings.reply) else until_paid (reply_on p e))
+    by_test true = inr refl
+    by_test false = kept (m.now + m.settings.reply) (until_paid (reply_on p e))
 
 -- it is paid
-pub paid-right : (p protocol : ℕ) (whole : ℕ) (e : Entry) → IsWait whole (until_paid (reply_on p e)) (until_paid (reply_on p (paid protocol e)))
-paid-right p protocol whole e =
-    subst (λ o. IsWait whole (until_paid (reply_on p e)) (until_paid o))
-    (sym (found-filter (λ o. o.protocol == p) (λ o. not (o.protocol == protocol)) (not (p == protocol))
-    (λ o is. ap (λ n. not (n == protocol)) (eqb-true o.protocol p is)) e.owed))
-    (by_test (not (p == protocol)))
+pub paid-until : (p protocol : ℕ) (e : Entry) → until_paid (reply_on p (paid protocol e)) ≡ (if protocol == p then None else until_paid (reply_on p e))
+paid-until p protocol e =
+    ap until_paid (found-filter (λ o. o.protocol == p) (λ o. not (o.protocol == protocol)) (not (p == protocol))
+    (λ o is. ap (λ n. not (n == protocol)) (eqb-true o.protocol p is)) e.owed)
+    ∙ by_tests (protocol == p) (p == protocol) (grind arith)
   where
-    by_test : (b : Bool) → IsWait whole (until_paid (reply_on p e)) (until_paid (if b then reply_on p e else None))
-    by_test true = kept whole (until_paid (reply_on p e))
-    by_test false = tt
+    by_tests : (b c : Bool) → c ≡ b → until_paid (if not c then reply_on p e else None) ≡ (if b then None else until_paid (reply_on p e))
+    by_tests true true same = refl
+    by_tests true false same = absurd cc
+    by_tests false true same = absurd cc
+    by_tests false false same = refl
+
+pub paid-right : (p protocol : ℕ) (whole : ℕ) (e : Entry) → IsWait whole (until_paid (reply_on p e)) (until_paid (reply_on p (paid protocol e)))
+paid-right p protocol whole e = subst (IsWait whole (until_paid (reply_on p e))) (sym (paid-until p protocol e)) (by_test (protocol == p))
+  where
+    by_test : (b : Bool) → IsWait whole (until_paid (reply_on p e)) (if b then None else until_paid (reply_on p e))
+    by_test true = tt
+    by_test false = kept whole (until_paid (reply_on p e))

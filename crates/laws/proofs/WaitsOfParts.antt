@@ -58,7 +58,7 @@ use Rattle.machine.specs.Talking.{stops_if, serves, begins, takes_requests, aske
 use Rattle.laws.specs.Acts.{Act, shows, fires_one, asks_for_roots, carries, connects, ends_dial, stores, handles_item, ends_stream, is_closed, sets_targets, sets_big_targets, sets_groups, sets_roots, makes_ordinary, provides, provides_big, does}
 use Rattle.laws.specs.CarriedOut.{IsUnset, IsSet}
 use Rattle.laws.specs.Sound.{IsOrderly}
-use Rattle.laws.specs.Whole.{IsOrdered}
+use Rattle.laws.specs.Steady.{IsOrdered}
 use Rattle.laws.specs.Untouched.{address_of, is_with, is_about, has_bytes, may_close, IsAsItWas, KeepsBytes, LeavesRest}
 use Rattle.laws.specs.Waits.{until_of, until_in, until_at, until_unused, length_of, IsWait, WaitsRight}
 use Rattle.laws.proofs.Handshakes.{answer-machine}
@@ -73,7 +73,7 @@ use Rattle.laws.proofs.Waits.{Scope, BytesStay, Waits, TurnsRight, kept, waits_b
 module _ (scope : Scope) where
   -- ---- peers
 
-  changed-waits : (o : Option Peer) (change : Peer → Peer) (m : Machine) → Waits scope m (turns_at o change m).machine
+  pub changed-waits : (o : Option Peer) (change : Peer → Peer) (m : Machine) → Waits scope m (turns_at o change m).machine
   changed-waits None change m = waits_nothing scope m
   changed-waits (Some p) change m = waits_same scope m (turns_at (Some p) change m).machine refl refl refl refl refl refl refl refl
 
@@ -133,7 +133,7 @@ module _ (scope : Scope) where
   decodes-right m e undecoded kind.Reply8 = same-right m e kind.Reply8
   decodes-right m e undecoded kind.Reply10 = same-right m e kind.Reply10
 
-  owes-waits : (protocol asked : ℕ) (m : Machine) (e : Entry) → Stands e m → Waits scope m (with_entry (owing protocol asked m e) m)
+  pub owes-waits : (protocol asked : ℕ) (m : Machine) (e : Entry) → Stands e m → Waits scope m (with_entry (owing protocol asked m e) m)
   owes-waits protocol asked m e stands = turned-waits m e (owing protocol asked m e) stands (λ none. inl refl) refl (owing_too-right protocol asked m e e.facts (same-right m e))
 
   -- nothing of it waits but what does by its phase
@@ -170,7 +170,7 @@ module _ (scope : Scope) where
       let n : Machine = without_entry e.facts.cid.0 m in
       waits_then scope m n (lost e.facts n).machine (waits_gone scope m e.facts.cid.0) (lost-waits e.facts n)
 
-  trim-waits : (moved : Cid) (m : Machine) → Waits scope m (trim moved m).machine
+  pub trim-waits : (moved : Cid) (m : Machine) → Waits scope m (trim moved m).machine
   trim-waits moved m = cond_both (nat_le (counted_in m) m.settings.hard) (nothing_more m)
       (on_connection (unwrap_or (choice_of (candidates_in m)) moved) (ending Pruned) m) (λ effect. Waits scope m effect.machine) (λ within. waits_nothing scope m)
       (λ above. by_entry (entry_at (unwrap_or (choice_of (candidates_in m)) moved).0 m))
@@ -230,7 +230,7 @@ module _ (scope : Scope) where
       by_test true = kept (m.now + m.settings.idle) (until_unused e.facts.grace)
       by_test false = inr refl
 
-  release-waits : (e : Entry) (m : Machine) → Stands e m → Waits scope m (release e m).machine
+  pub release-waits : (e : Entry) (m : Machine) → Stands e m → Waits scope m (release e m).machine
   release-waits e m stands =
       subst (λ n. Waits scope m (rest n).machine) (sym (says_done-machine e.facts m)) goes_on
     where
@@ -250,7 +250,7 @@ module _ (scope : Scope) where
           (changed-waits (peer_at e.facts.addr n) (λ p. record p { temp = Cold }) n))
           (trim-waits e.facts.cid o)
 
-  asks_peer-waits : (number : ℕ) (e : Entry) (m : Machine) → Stands e m → Waits scope m (asks_peer number e m).machine
+  pub asks_peer-waits : (number : ℕ) (e : Entry) (m : Machine) → Stands e m → Waits scope m (asks_peer number e m).machine
   asks_peer-waits number e m stands =
       let n : Machine = with_entry (owing 10 number m e) m in
       waits_then scope m n (peer_was_asked (n.now + n.settings.sharegap) e.facts.addr n).machine (owes-waits 10 number m e stands)
@@ -275,7 +275,7 @@ module _ (scope : Scope) where
           let used = and_parts (is_live_at addr e.facts) e.facts.local (find_some (is_used_at addr) m.connections e is).passes in
           each e (stands-own addr m (is_used_at addr) e finds is (and_parts (same_address e.facts.addr addr) (is_live e.facts) used.0).0)
 
-  dial-waits : (addr : Addr) (m : Machine) → Waits scope m (dial addr m).machine
+  pub dial-waits : (addr : Addr) (m : Machine) → Waits scope m (dial addr m).machine
   dial-waits addr m = waits_come scope m (fresh_entry (dialing m.next_id addr)) refl nothing
     where
       nothing : (kind : Kind) → IsWait (m.now + length_of kind m.settings) None (until_of kind (fresh_entry (dialing m.next_id addr)))
@@ -286,16 +286,17 @@ module _ (scope : Scope) where
       nothing kind.Reply8 = tt
       nothing kind.Reply10 = tt
 
+  pub acquire-waits : (e : Entry) (m : Machine) → Stands e m → Waits scope m (acquire e m).machine
+  acquire-waits e m stands = is_used-waits (acquired e.facts) e m stands refl (graced-right m e (acquired e.facts) refl (kept (m.now + m.settings.idle) (until_unused e.facts.grace)))
+
   promoted_at-waits : (addr : Addr) (m : Machine) → FindsOwn addr m → Waits scope m (promoted_at (live_entry_at addr m) addr m).machine
   promoted_at-waits addr m finds = by_live (live_entry_at addr m) refl
     where
       by_live : (o : Option Entry) → live_entry_at addr m ≡ o → Waits scope m (promoted_at o addr m).machine
       by_live None is = dial-waits addr m
       by_live (Some e) is = cond_both (is_acquirable e.facts) (acquire e m) (dial addr m) (λ effect. Waits scope m effect.machine)
-          (λ free. is_used-waits (acquired e.facts) e m
-          (stands-own addr m (λ x. is_live_at addr x.facts) e finds is
-          (and_parts (same_address e.facts.addr addr) (is_live e.facts) (find_some (λ x. is_live_at addr x.facts) m.connections e is).passes).0) refl
-          (graced-right m e (acquired e.facts) refl (kept (m.now + m.settings.idle) (until_unused e.facts.grace))))
+          (λ free. acquire-waits e m (stands-own addr m (λ x. is_live_at addr x.facts) e finds is
+          (and_parts (same_address e.facts.addr addr) (is_live e.facts) (find_some (λ x. is_live_at addr x.facts) m.connections e is).passes).0))
           (λ other. dial-waits addr m)
 
   carries-waits : (order : Order) (m : Machine) → FindsOwn (address_of order) m → Waits scope m (carries_out order m).machine
@@ -434,7 +435,7 @@ module _ (scope : Scope) where
   takes-waits (Some (share.Peers told)) m = shares-waits (taken_of told m) m
   takes-waits (Some share.Done) m = waits_nothing scope m
 
-  brings-waits : (protocol : ℕ) (body : List ℕ) (e : Entry) (m : Machine) → Waits scope m (brings protocol body e m).machine
+  pub brings-waits : (protocol : ℕ) (body : List ℕ) (e : Entry) (m : Machine) → Waits scope m (brings protocol body e m).machine
   brings-waits protocol body e m =
       cond_both (protocol == 2) (peer_becomes Hot e.facts.addr m) (if protocol == 8 then nothing_more m else takes_addresses (share_of body) m)
       (λ effect. Waits scope m effect.machine) (λ on_2. changed-waits (peer_at e.facts.addr m) (λ p. record p { temp = Hot }) m)
@@ -478,11 +479,13 @@ module _ (scope : Scope) where
       (λ wanted. comes-waits true addr m) (λ other. waits_nothing scope m)
   -- ---- each act
 
--- what is stored is of a connection that stands, and where ids are distinct an order and an item find the one that they mean
+-- what is stored is of a connection that stands; and the record is in order where a part finds a connection otherwise, or where
+-- what it does hangs on how the facts of one go together
 abbrev pub Finds : Act → Machine → Type 0
 Finds (stores entry undecoded) m = entry_at entry.facts.cid.0 m ≡ Some entry
+Finds (fires_one d) m = IsOrdered m
 Finds (carries order) m = IsOrdered m
-Finds (handles_item cid item) m = IsOrderly m
+Finds (handles_item cid item) m = IsOrdered m
 Finds (connects addr) m = IsOrderly m
 Finds other m = Unit {0}
 
@@ -510,9 +513,7 @@ Changes (sets_roots roots) m n = Unit {0}
 Changes act m n = Waits (scope_of act m) m n
 
 waits-of : (act : Act) (m : Machine) → Finds act m → Changes act m (does act m).machine
-waits-of (shows t) m found = tt
 waits-of (fires_one d) m found = on_found (scope_of (fires_one d) m) d.cid.0 (fires_as d.kind) m (own_id d.cid.0) (λ e stands. fires_as-waits (scope_of (fires_one d) m) d.kind e m refl stands)
-waits-of asks_for_roots m found = tt
 waits-of (carries order) m found = carries-waits (scope_of (carries order) m) order m (orderly-finds order m found.orderly)
 waits-of (connects addr) m found = connects-waits (scope_of (connects addr) m) addr m
 waits-of (ends_dial cid opened) m found = on_found (scope_of (ends_dial cid opened) m) cid.0 (dialed opened) m (own_id cid.0) (λ e stands. dialed-waits (scope_of (ends_dial cid opened) m) opened e m stands)
@@ -523,33 +524,20 @@ waits-of (handles_item cid item) m found =
     on_found (scope_of (handles_item cid item) m) cid.0 (handled item) m (own_id cid.0) (λ e stands. handled_in-waits (scope_of (handles_item cid item) m) e.facts.phase item e m stands)
 waits-of (ends_stream cid fault) m found = on_found (scope_of (ends_stream cid fault) m) cid.0 (faulted fault) m (own_id cid.0) (λ e stands. faulted-waits (scope_of (ends_stream cid fault) m) fault e m)
 waits-of (is_closed cid) m found = on_found (scope_of (is_closed cid) m) cid.0 closes m (own_id cid.0) (λ e stands. closes-waits (scope_of (is_closed cid) m) e m)
-waits-of (sets_targets targets) m found = tt
-waits-of (sets_big_targets targets) m found = tt
-waits-of (sets_groups groups) m found = tt
-waits-of (sets_roots roots) m found = tt
 waits-of (makes_ordinary addr) m found = changed-waits (scope_of (makes_ordinary addr) m) (peer_at addr m) (λ p. record p { big = false }) m
 waits-of (provides addr) m found = comes-waits (scope_of (provides addr) m) false addr m
 waits-of (provides_big addr) m found = big-waits (scope_of (provides_big addr) m) addr m
+waits-of other m found = tt
 
 -- either no connection changes, or nothing is set
 sets_or_waits : (act : Act) (m : Machine) → Finds act m → ((does act m).machine.connections ≡ m.connections) ⊎ Waits (scope_of act m) m (does act m).machine
 sets_or_waits (shows t) m found = inl refl
-sets_or_waits (fires_one d) m found = inr (waits-of (fires_one d) m found)
 sets_or_waits asks_for_roots m found = inl (ap (λ n. n.connections) (roots-set m))
-sets_or_waits (carries order) m found = inr (waits-of (carries order) m found)
-sets_or_waits (connects addr) m found = inr (waits-of (connects addr) m found)
-sets_or_waits (ends_dial cid opened) m found = inr (waits-of (ends_dial cid opened) m found)
-sets_or_waits (stores e undecoded) m found = inr (waits-of (stores e undecoded) m found)
-sets_or_waits (handles_item cid item) m found = inr (waits-of (handles_item cid item) m found)
-sets_or_waits (ends_stream cid fault) m found = inr (waits-of (ends_stream cid fault) m found)
-sets_or_waits (is_closed cid) m found = inr (waits-of (is_closed cid) m found)
 sets_or_waits (sets_targets targets) m found = inl refl
 sets_or_waits (sets_big_targets targets) m found = inl refl
 sets_or_waits (sets_groups groups) m found = inl refl
 sets_or_waits (sets_roots roots) m found = inl refl
-sets_or_waits (makes_ordinary addr) m found = inr (waits-of (makes_ordinary addr) m found)
-sets_or_waits (provides addr) m found = inr (waits-of (provides addr) m found)
-sets_or_waits (provides_big addr) m found = inr (waits-of (provides_big addr) m found)
+sets_or_waits other m found = inr (waits-of other m found)
 
 -- ---- what follows
 
@@ -584,19 +572,9 @@ leaves-rest act m found = elim (sets_or_waits act m found) [
 
 pub is-set : (act : Act) (m : Machine) → Finds act m → IsSet act m (does act m).machine
 is-set (shows t) m found = refl
-is-set (fires_one d) m found = unset (scope_of (fires_one d) m) m (does (fires_one d) m).machine (waits-of (fires_one d) m found)
 is-set asks_for_roots m found = roots-set m
-is-set (carries order) m found = unset (scope_of (carries order) m) m (does (carries order) m).machine (waits-of (carries order) m found)
-is-set (connects addr) m found = unset (scope_of (connects addr) m) m (does (connects addr) m).machine (waits-of (connects addr) m found)
-is-set (ends_dial cid opened) m found = unset (scope_of (ends_dial cid opened) m) m (does (ends_dial cid opened) m).machine (waits-of (ends_dial cid opened) m found)
-is-set (stores e undecoded) m found = unset (scope_of (stores e undecoded) m) m (does (stores e undecoded) m).machine (waits-of (stores e undecoded) m found)
-is-set (handles_item cid item) m found = unset (scope_of (handles_item cid item) m) m (does (handles_item cid item) m).machine (waits-of (handles_item cid item) m found)
-is-set (ends_stream cid fault) m found = unset (scope_of (ends_stream cid fault) m) m (does (ends_stream cid fault) m).machine (waits-of (ends_stream cid fault) m found)
-is-set (is_closed cid) m found = unset (scope_of (is_closed cid) m) m (does (is_closed cid) m).machine (waits-of (is_closed cid) m found)
 is-set (sets_targets targets) m found = refl
 is-set (sets_big_targets targets) m found = refl
 is-set (sets_groups groups) m found = refl
 is-set (sets_roots roots) m found = refl
-is-set (makes_ordinary addr) m found = unset (scope_of (makes_ordinary addr) m) m (does (makes_ordinary addr) m).machine (waits-of (makes_ordinary addr) m found)
-is-set (provides addr) m found = unset (scope_of (provides addr) m) m (does (provides addr) m).machine (waits-of (provides addr) m found)
-is-set (provides_big addr) m found = unset (scope_of (provides_big addr) m) m (does (provides_big addr) m).machine (waits-of (provides_big addr) m found)
+is-set other m found = unset (scope_of other m) m (does other m).machine (waits-of other m found)

@@ -34,7 +34,7 @@ use Rattle.machine.specs.Connections.{with_entry, acquire, dial}
 use Rattle.machine.specs.Govern.{link_of, view_of, promoted_at, is_used_at, on_used, activates, carries_out}
 use Rattle.laws.specs.AtMoves.{some_connection, is_established_or_pending, is_active_or_asked, number_with, members_with, established_wanted, active_wanted, IsWanted}
 use Rattle.laws.specs.Laws.{is_local}
-use Rattle.laws.specs.Whole.{ArePeersApart, AreApart, IsOrdered}
+use Rattle.laws.specs.Steady.{ArePeersApart, AreApart, IsOrdered}
 use Rattle.laws.proofs.Chosen.{chosen, chosen-apart, chosen-all, PicksMembers, picks-listed, groups_picks-apart, groups_picks-all, apart-behind, front-not_behind, map-groups}
 use Rattle.laws.proofs.GroupsApart.{unlisted_append}
 use Rattle.laws.proofs.KnownWanted.{move-within}

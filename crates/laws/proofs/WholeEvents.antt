@@ -34,7 +34,7 @@ use Rattle.machine.specs.Provided.{targets_are, big_targets_are, comes_ordinary,
 use Rattle.machine.specs.Stream.{bytes_come_in}
 use Rattle.machine.specs.Step.{step}
 use Rattle.laws.specs.AtMoves.{IsLawful}
-use Rattle.laws.specs.Whole.{IsShaped, IsFormed, IsSteady, TiedBy, IsTied, AreApart, IsOwing, IsOrdered}
+use Rattle.laws.specs.Steady.{IsShaped, IsFormed, IsSteady, TiedBy, IsTied, AreApart, IsOwing, IsOrdered}
 use Rattle.laws.specs.Laws.{is_local, LocalsAreOrdinary}
 use Rattle.laws.proofs.Addresses.{same_address-true}
 use Rattle.laws.proofs.Entries.{TurnsInto}

@@ -25,7 +25,7 @@ use Rattle.machine.specs.Peers.{peer_at, peer_fails, peer_succeeds}
 use Rattle.machine.specs.Replies.{reply_on, owing, paid, is_owed_on}
 use Rattle.machine.specs.Connections.{with_entry, without_entry, is_missed, lost, lost_by, ending, vanishes, is_used, is_agreed_inbound, is_agreed_outbound, acquire, idle}
 use Rattle.laws.specs.AtMoves.{IsReady}
-use Rattle.laws.specs.Whole.{IsShaped, IsUnused, AreTied, TiedBy, IsTied, IsOwing, IsOrdered}
+use Rattle.laws.specs.Steady.{IsShaped, IsUnused, AreTied, TiedBy, IsTied, IsOwing, IsOrdered}
 use Rattle.machine.specs.Deadlines.{grace_deadlines}
 use Rattle.laws.proofs.Counts.{counted_of, one_if_counted, is_late, grace_late_of}
 use Rattle.laws.proofs.Effects.{at_most_one, one_if-counted, one_if-not_counted, counted-connected, counted-greeting, counted-agreed_outbound, fewer-acquired, counted-running, phase_late_of, owed_late, late-fewer, ahead, phase-ahead, remote-ahead, local-ahead, owing-fewer, paid-fewer}

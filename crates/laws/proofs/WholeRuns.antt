@@ -7,7 +7,7 @@ use Rattle.net_base.specs.declared.event.Event.{Event}
 use Rattle.net_base.specs.declared.settings.Settings.{Settings}
 use Rattle.machine.specs.Machine.{Machine, start_of}
 use Rattle.machine.specs.Step.{step}
-use Rattle.laws.specs.Whole.{IsShaped, IsOwing, IsSteady}
+use Rattle.laws.specs.Steady.{IsShaped, IsOwing, IsSteady}
 use Rattle.machine.specs.Run.{after_all}
 use Rattle.laws.proofs.Runs.{start-sound}
 use Rattle.laws.proofs.WholeEvents.{StaysSteady, step-steady}

@@ -13,7 +13,7 @@ use Rattle.machine.specs.Effect.{Effect}
 use Rattle.machine.specs.Machine.{Machine, Entry, counted_in, entry_at}
 use Rattle.laws.specs.Acts.{Act, connects}
 use Rattle.laws.specs.AtMoves.{some_connection, OnEntry}
-use Rattle.laws.specs.Told.{Given}
+use Rattle.laws.specs.InActions.{Given}
 
 -- ---- what is told
 
@@ -78,7 +78,13 @@ abbrev pub ByCause : Option Away → Addr → Machine → Effect → Type 0
 ByCause None addr before effect = IsLetIn addr before effect
 ByCause (Some away) addr before effect = IsTurnedAway away before effect
 
--- A peer that connects is let in exactly where nothing is against it.
+-- nobody is let in, and nobody turned away
+pub record AdmitsNobody (effect : Effect) : Type 0 where
+  pub admitted : admitted_in effect.actions ≡ []
+  pub turned_away : turned_away_in effect.actions ≡ []
+
+-- A peer that connects is let in exactly where nothing is against it. Nothing but a peer that connects lets anybody in, or turns
+-- anybody away.
 abbrev pub AdmitsRight : Act → Machine → Effect → Type 0
 AdmitsRight (connects addr) before effect = ByCause (cause_against addr before) addr before effect
-AdmitsRight other before effect = Unit {0}
+AdmitsRight other before effect = AdmitsNobody effect

@@ -1,5 +1,5 @@
 -- What is remembered of a peer: how often it failed, until when it is left alone, and when it may be asked for addresses again.
-use Rattle.std.specs.Prelude.{◌≡◌, false, Option, Some, None}
+use Rattle.std.specs.Prelude.{◌≡◌, ◌≤◌, Bool, false, ◌&&◌, Option, Some, None, is_none}
 use Rattle.govern_rules.specs.declared.order.Order.{Order}
 use Rattle.govern_rules.specs.declared.order.Order.TheVariants.{Ask, Forget, Promote, Release, Activate, Deactivate}
 use Rattle.net_base.specs.Address.{same_address}
@@ -8,6 +8,7 @@ use Rattle.net_base.specs.declared.peer.Peer.{Peer}
 use Rattle.machine.specs.Machine.{Machine, Entry, entry_at}
 use Rattle.machine.specs.Peers.{peer_at}
 use Rattle.laws.specs.Acts.{Act, fires_one, carries, ends_dial, handles_item, ends_stream, is_closed}
+use Rattle.laws.specs.AtMoves.{some_connection, is_missed}
 
 pub record IsRemembered (p q : Peer) : Type 0 where
   pub failures : q.failures ≡ p.failures
@@ -34,6 +35,7 @@ pub record IsAsked (p q : Peer) : Type 0 where
 
 -- a peer that comes into use
 pub record IsTaken (p q : Peer) : Type 0 where
+  pub failures : q.failures ≤ p.failures
   pub not_before : q.not_before ≡ p.not_before
   pub share_next : q.share_next ≡ p.share_next
 
@@ -59,3 +61,18 @@ Remembers (handles_item cid item) before after = RemembersBeside (entry_at cid.0
 Remembers (ends_stream cid fault) before after = RemembersBeside (entry_at cid.0 before) before after
 Remembers (is_closed cid) before after = RemembersBeside (entry_at cid.0 before) before after
 Remembers other before after = AllRemembered before after
+
+-- ---- who fails
+
+-- It has not failed: no failure is added, and it is left alone no longer.
+pub record IsSpared (p q : Peer) : Type 0 where
+  pub failures : q.failures ≤ p.failures
+  pub not_before : q.not_before ≡ p.not_before
+
+-- some connection with the address that this node used, or was on its way to, is gone
+abbrev pub has_lost : Addr → Machine → Machine → Bool
+has_lost addr before after = some_connection (λ e. is_missed e.facts && is_none (entry_at e.facts.cid.0 after)) addr before
+
+-- A peer fails only where a connection with it in use, or its dial, has gone.
+abbrev pub FailsOnly : Machine → Machine → Type 0
+FailsOnly before after = (addr : Addr) → has_lost addr before after ≡ false → WhereBoth IsSpared (peer_at addr before) (peer_at addr after)

@@ -9,6 +9,8 @@ use Rattle.net_base.specs.declared.action.Action.{Action}
 use Rattle.net_base.specs.declared.action.Action.TheVariants.{Pause}
 use Rattle.net_base.specs.declared.address.Addr.{Addr}
 use Rattle.net_base.specs.declared.peer.Peer.{Peer}
+use Rattle.net_base.specs.declared.peer.Temp.{Temp}
+use Rattle.net_base.specs.declared.peer.Temp.TheVariants.{Cold, Warm}
 use Rattle.machine.specs.Effect.{Effect, Happened, promoted, activated}
 use Rattle.machine.specs.Machine.{Machine, Entry, counted_in, entry_at, live_entry_at}
 use Rattle.machine.specs.Peers.{peer_at}
@@ -24,9 +26,10 @@ abbrev pub OnPeer : Option Peer → (Peer → Type 0) → Type 0
 OnPeer None law = Unit {0}
 OnPeer (Some p) law = law p
 
--- A connection that is taken into use stands as it did but for that, so its grace runs on; and its peer has no failures.
+-- A connection that is taken into use stands as it did but for that, so its grace runs on; and its peer is warm, and has no failures.
 pub record IsReused (e : Entry) (after : Machine) : Type 0 where
   pub stands : OnEntry (entry_at e.facts.cid.0 after) (λ f. f.facts ≡ record e.facts { local = true })
+  pub warm : OnPeer (peer_at e.facts.addr after) (λ p. p.temp ≡ Warm)
   pub forgiven : OnPeer (peer_at e.facts.addr after) (λ p. p.failures ≡ 0)
 
 abbrev pub Reuses : Addr → Machine → Machine → Type 0
@@ -41,14 +44,19 @@ LeavesAlone addr before after = (e : Entry) → live_entry_at addr before ≡ So
 abbrev pub IsUsedByNobody : Addr → Machine → Type 0
 IsUsedByNobody addr m = All (λ e. is_live_at addr e.facts ≡ true → e.facts.local ≡ false) m.connections
 
--- After a release nobody uses the address, and one that is forgotten is not known.
+-- Where this node uses a connection with the peer, that comes to such a temperature.
+abbrev pub Comes : Temp → Addr → Machine → Machine → Type 0
+Comes temp addr before after = (e : Entry) → live_entry_at addr before ≡ Some e → e.facts.local ≡ true → OnPeer (peer_at addr after) (λ p. p.temp ≡ temp)
+
+-- After a release nobody uses the address, and the peer is cold; after a deactivation it is warm; and one that is forgotten is not
+-- known.
 abbrev pub IsCarriedOut : Order → Machine → Effect → Type 0
 IsCarriedOut (Ask addr n) before effect = LeavesAlone addr before effect.machine
 IsCarriedOut (Forget addr) before effect = is_known addr effect.machine ≡ false
 IsCarriedOut (Promote addr) before effect = IsOneMove (promoted addr) before effect × Reuses addr before effect.machine
-IsCarriedOut (Release addr) before effect = IsUsedByNobody addr effect.machine
+IsCarriedOut (Release addr) before effect = IsUsedByNobody addr effect.machine × Comes Cold addr before effect.machine
 IsCarriedOut (Activate addr) before effect = IsOneMove (activated addr) before effect
-IsCarriedOut (Deactivate addr) before effect = Unit {0}
+IsCarriedOut (Deactivate addr) before effect = Comes Warm addr before effect.machine
 
 abbrev pub IsDoneByOrder : Act → Machine → Effect → Type 0
 IsDoneByOrder (carries order) before effect = IsCarriedOut order before effect
@@ -86,9 +94,10 @@ abbrev pub pauses_due : Machine → Machine → List ℕ
 pauses_due before after =
     if nat_lt before.next_id after.next_id && nat_lt after.settings.soft (counted_in after) then pause_of after.settings (counted_in after) ∷ [] else []
 
+-- Nothing but a peer that connects brings a pause.
 abbrev pub PausesRight : Act → Machine → Effect → Type 0
 PausesRight (connects addr) before effect = pauses_in effect.actions ≡ pauses_due before effect.machine
-PausesRight other before effect = Unit {0}
+PausesRight other before effect = pauses_in effect.actions ≡ []
 
 -- ---- what is set
 

@@ -39,7 +39,7 @@ use Rattle.machine.specs.Effect.{Move}
 use Rattle.machine.specs.Machine.{Machine, Entry, Owed, counted_in, entry_at, live_entry_at}
 use Rattle.machine.specs.Replies.{reply_on}
 use Rattle.laws.specs.Acts.{Act, fires_one, carries, connects, handles_item, ends_stream}
-use Rattle.laws.specs.Told.{End, ends_in}
+use Rattle.laws.specs.InActions.{End, ends_in}
 
 -- ---- an item in the handshake
 

@@ -6,7 +6,7 @@ use Rattle.machine.specs.Effect.{Effect}
 use Rattle.machine.specs.Machine.{Machine, Entry, entry_at}
 use Rattle.laws.specs.Acts.{Act, ends_dial, is_closed}
 use Rattle.laws.specs.CarriedOut.{WhereLive}
-use Rattle.laws.specs.Told.{names_in}
+use Rattle.laws.specs.InActions.{names_in}
 
 -- The connection is gone, and that it has ended is told, once.
 pub record IsGone (cid : ℕ) (effect : Effect) : Type 0 where

@@ -3,8 +3,9 @@ pub mod Admitted
 pub mod Agreed
 pub mod AtMoves
 pub mod BackOff
+pub mod Begun
 pub mod CarriedOut
-pub mod Carrying
+pub mod OrderNeeds
 pub mod Ends
 pub mod Goes
 pub mod Laws
@@ -21,8 +22,8 @@ pub mod Runs
 pub mod Served
 pub mod Sound
 pub mod Stages
-pub mod Told
+pub mod InActions
 pub mod Telling
 pub mod Untouched
 pub mod Waits
-pub mod Whole
+pub mod Steady

@@ -12,7 +12,8 @@ use Rattle.machine.specs.Machine.{Machine}
 use Rattle.machine.specs.Step.{step}
 use Rattle.laws.specs.Admitted.{AdmitsRight}
 use Rattle.laws.specs.Agreed.{AgreesRight}
-use Rattle.laws.specs.BackOff.{Remembers}
+use Rattle.laws.specs.BackOff.{Remembers, FailsOnly}
+use Rattle.laws.specs.Begun.{WaitsBegin}
 use Rattle.laws.specs.Goes.{GoesWhere}
 use Rattle.laws.specs.Responders.{RespondsRight}
 use Rattle.laws.specs.RootsAsked.{AsksRight}
@@ -29,7 +30,7 @@ use Rattle.laws.specs.Ordered.{IsDueOrder}
 use Rattle.laws.specs.Moments.{IsOverAfter}
 use Rattle.laws.specs.Untouched.{LeavesRest}
 use Rattle.laws.specs.Waits.{until_at, WaitsRight}
-use Rattle.laws.specs.Told.{ends_in}
+use Rattle.laws.specs.InActions.{ends_in}
 
 -- ---- what a part does
 
@@ -92,7 +93,7 @@ pub record IsLawfulPart (event : Event) (part : Part) : Type 0 where
   pub book : TreatsBook part.act part.before (effect_of part).machine
   -- a peer that comes into use by it has no failures
   pub forgiven : Forgives part.act part.before (effect_of part).machine
-  -- accepting pauses where it must, and for how long it must
+  -- accepting pauses where it must, for how long it must, and nowhere else
   pub pauses : PausesRight part.act part.before (effect_of part)
   -- it ends whom it must, for the cause that stands, and nobody else but by pruning
   pub ends : but_pruned (ends_in (effect_of part).moves) ≡ ends_due part.act part.before
@@ -102,6 +103,8 @@ pub record IsLawfulPart (event : Event) (part : Part) : Type 0 where
   pub pruned : AllByRecursion (IsPrunedIn part.act part.before) (pruned_in (effect_of part).moves)
   -- whatever a connection comes to wait for, it does so as long as the settings say
   pub waits : WaitsRight part.before (effect_of part).machine
+  -- on its own connection a wait begins, goes on and ends exactly where it is to
+  pub begins : WaitsBegin part.act part.before (effect_of part).machine
   -- every connection but its own is as it was
   pub rest : LeavesRest part.act part.before (effect_of part).machine
   -- the clock, the targets and the groups are what was set last
@@ -110,7 +113,7 @@ pub record IsLawfulPart (event : Event) (part : Part) : Type 0 where
   pub over : IsOverAfter part.act (effect_of part).machine
   -- whom the other side closes is gone, and whose dial fails
   pub goes : GoesWhere part.act part.before (effect_of part)
-  -- who connects is let in, or turned away for the first cause that stands
+  -- who connects is let in, or turned away for the first cause that stands, and nobody else is
   pub admits : AdmitsRight part.act part.before (effect_of part)
   -- public roots are asked for exactly where they are wanted
   pub asks : AsksRight part.act part.before (effect_of part)
@@ -124,6 +127,8 @@ pub record IsLawfulPart (event : Event) (part : Part) : Type 0 where
   pub sends : SendsRight part.act part.before (effect_of part)
   -- what is remembered of a peer changes only by what happens with it
   pub remembers : Remembers part.act part.before (effect_of part).machine
+  -- a peer fails only where a connection with it in use, or its dial, went
+  pub fails : FailsOnly part.before (effect_of part).machine
 
 pub record IsLawfulEvent (m : Machine) (event : Event) : Type 0 where
   -- it is its parts, one after the other

@@ -5,7 +5,7 @@ use Rattle.std.proofs.Props.{props}
 use Rattle.net_base.specs.declared.address.Addr.{Addr}
 use Rattle.net_base.specs.declared.peer.Peer.{Peer}
 use Rattle.machine.specs.Machine.{Machine, Entry}
-use Rattle.laws.specs.Whole.{ArePeersApart, AreApart, TiedBy, IsSteady}
+use Rattle.laws.specs.Steady.{ArePeersApart, AreApart, TiedBy, IsSteady}
 
 ArePeersApart-prop : (peers : List Peer) → IsProp (ArePeersApart peers)
 ArePeersApart-prop [] = Unit-prop

@@ -6,7 +6,7 @@ use Rattle.machine.specs.Peers.{peer_at}
 use Rattle.laws.specs.AtMoves.{is_hot_peer}
 use Rattle.laws.specs.Laws.{LiveAddressesDistinct, WithinHardLimit, DeadlinesAhead, EstablishedAreUsed, PendingAreCold, UsedAreOutOfBackOff, LocalsAreOrdinary, is_established_peer, is_used_connection}
 use Rattle.laws.specs.Moments.{WaitsAhead}
-use Rattle.laws.specs.Whole.{IsSteady}
+use Rattle.laws.specs.Steady.{IsSteady}
 
 -- Each connection in local use, whatever its phase, has a peer that is warm or hot.
 abbrev pub LocalsAreEstablished : Machine → Type 0

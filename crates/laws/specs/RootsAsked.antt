@@ -20,10 +20,10 @@ asked_by other = []
 abbrev pub asked_in : List Action → List ℕ
 asked_in actions = flat_map asked_by actions
 
--- They are asked for exactly where they are wanted.
+-- They are asked for exactly where they are wanted, at the beginning of a round and never else.
 abbrev pub AsksRight : Act → Machine → Effect → Type 0
 AsksRight asks_for_roots before effect = asked_in effect.actions ≡ (if are_roots_wanted before then before.roots.next_job ∷ [] else [])
-AsksRight other before effect = Unit {0}
+AsksRight other before effect = asked_in effect.actions ≡ []
 
 -- an answer is awaited then, under the next number
 abbrev pub roots_asked : Bool → RootState → RootState

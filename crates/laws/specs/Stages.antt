@@ -7,7 +7,7 @@ use Rattle.net_base.specs.declared.connection.Phase.{Phase}
 use Rattle.net_base.specs.declared.connection.Phase.TheVariants.{Dialing, Greeting, Negotiated, Closing}
 use Rattle.machine.specs.Effect.{Move}
 use Rattle.machine.specs.Machine.{Machine, Entry, entry_at}
-use Rattle.laws.specs.Told.{End, ends_in}
+use Rattle.laws.specs.InActions.{End, ends_in}
 
 abbrev pub stage_of_phase : Phase → ℕ
 stage_of_phase Dialing = 1

@@ -4,7 +4,7 @@ use Rattle.net_base.specs.declared.address.Addr.{Addr}
 use Rattle.machine.specs.Effect.{Effect}
 use Rattle.machine.specs.Machine.{Machine, Entry, entry_at}
 use Rattle.laws.specs.Stages.{stage_at, causes_in, IsOneEnd}
-use Rattle.laws.specs.Told.{closes_in, ends_in, dials_in, dial_promotions_in, given_in, CountUp, AreAt, LeadTo, temp_at, notes_in, noted, is_change, state_at, names_in, is_other_name, same_state}
+use Rattle.laws.specs.InActions.{closes_in, ends_in, dials_in, dial_promotions_in, given_in, CountUp, AreAt, LeadTo, temp_at, notes_in, noted, is_change, state_at, names_in, is_other_name, same_state}
 
 abbrev pub KeepsAddress : Option Entry → Option Entry → Type 0
 KeepsAddress None after = Unit {0}

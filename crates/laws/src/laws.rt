@@ -11,7 +11,7 @@ ghost use Rattle.laws.specs.Laws.{DeadlinesAhead};
 ghost use Rattle.laws.specs.Parts.{IsLawfulEvent};
 ghost use Rattle.laws.specs.Records.{IsLawfulRecord};
 ghost use Rattle.laws.specs.Sound.{IsOrderly, IsSound};
-ghost use Rattle.laws.specs.Whole.{IsSteady, GivesFew};
+ghost use Rattle.laws.specs.Steady.{IsSteady, GivesFew};
 
 /// Where as many deadlines may fire as there are, none that is due is left, since no deadline that fires sets one
 /// that is due.

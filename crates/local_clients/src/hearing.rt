@@ -12,8 +12,8 @@ use crate::phase::Phase;
 use crate::protocol::header_fault;
 use crate::{ClientAction, ClientActions, ClientCause};
 use cbor_items::Scan;
-use hs_message::{Message, ReadRefusal, read_client_message};
-use hs_receive::kind_of;
+use hs_message::{Message, read_client_message};
+use hs_receive::{fault_of, kind_of};
 use mux_segment::{Header, Waiting, frame, next_item};
 use net_base::protocol::HANDSHAKE;
 use net_base::{FaultKind, OutOfMemory};
@@ -99,8 +99,7 @@ fn hear_item(
     let (item, left) = part.split_at(size);
     match read_client_message(alloc, item) {
         Ok(message) => hear_message(alloc, context, left, &message, actions),
-        Err(ReadRefusal::NotAMessage) => close_for(context, FaultKind::Malformed, actions),
-        Err(ReadRefusal::OutOfMemory) => Err(OutOfMemory),
+        Err(refusal) => close_for(context, fault_of(refusal)?, actions),
     }
 }
 

@@ -30,6 +30,12 @@ all_run = record {
     turned_away_for_the_first_cause_runs = refl;
     one_grace_goes_on_runs = refl;
     greeting_closed_ends_once_runs = refl;
+    asked_once_runs = refl;
+    released_once_it_has_answered_runs = refl;
+    let_in_beside_a_time_wait_runs = refl;
+    halves_on_two_connections_runs = refl;
+    one_answer_leaves_the_other_wait_runs = refl;
+    unused_end_is_no_failure_runs = refl;
   };
   handshakes = record {
     inbound_duplex_accept_runs = refl;

@@ -1,13 +1,14 @@
--- What one event leaves as it was.
+-- What an event does once, and what it leaves as it was.
 use Rattle.std.specs.Prelude.{[], ◌∷◌, true, codes}
 use Rattle.net_base.specs.declared.action.Action.TheVariants.{Admit, Turnaway, Dial, Send, AskRoots, Close, State, Peer}
-use Rattle.net_base.specs.declared.action.Away.TheVariants.{Full, OwnAddr}
-use Rattle.net_base.specs.declared.action.CloseCause.TheVariants.{Unused, Overwritten}
+use Rattle.net_base.specs.declared.action.Away.TheVariants.{Full, OwnAddr, Present}
+use Rattle.net_base.specs.declared.action.CloseCause.TheVariants.{Unused, Overwritten, Fault}
+use Rattle.net_base.specs.declared.action.FaultKind.TheVariants.{ReplyWait}
 use Rattle.net_base.specs.declared.action.PeerNote.TheVariants as note
 use Rattle.net_base.specs.declared.action.StateName.TheVariants as state
-use Rattle.net_base.specs.declared.event.Event.TheVariants.{Now, Govern, Accepted, Bytes, Closed, Aims, Locals, Roots}
+use Rattle.net_base.specs.declared.event.Event.TheVariants.{Now, Govern, Accepted, Dialed, Bytes, Closed, Aims, Locals, Roots}
 use Rattle.net_base.specs.declared.event.RootAnswer.TheVariants.{Found}
-use Rattle.machine.specs.Traces.{Trace, brings, usual, node, cid, job, group, aims, bytes_of}
+use Rattle.machine.specs.Traces.{Trace, brings, usual, distinct, node, cid, job, group, aims, bytes_of}
 
 -- public roots stay until a new answer, though no peer is wanted
 abbrev pub public_roots_stay : Trace
@@ -91,5 +92,138 @@ greeting_closed_ends_once = record {
       brings (Accepted (node 3002)) (Admit (cid 1) (node 3002) ∷ State (cid 1) state.UnnegotiatedInbound ∷ [])
       ∷ brings (Closed (cid 1)) (State (cid 1) state.Terminated ∷ [])
       ∷ brings (Now 10000) []
+      ∷ [];
+}
+
+-- a dial is proposed to once, its connection is asked once whether it is alive, and an answer is not answered
+abbrev pub asked_once : Trace
+asked_once = record {
+  settings = usual;
+  happenings =
+      brings (Locals (group 0 1 true (node 3002 ∷ []) ∷ [])) (Peer (node 3002) note.Known ∷ [])
+      ∷ brings (Govern 0) (Dial (cid 1) (node 3002) ∷ State (cid 1) state.ReservedOutbound ∷ [])
+      ∷ brings (Govern 0) []
+      ∷ brings (Dialed (cid 1) true) (
+      State (cid 1) state.UnnegotiatedOutbound
+      ∷ Send (cid 1) (bytes_of (codes "00000000000000118200a20d84182af401f40e84182af401f4"))
+      ∷ [])
+      ∷ brings (Govern 0) []
+      ∷ brings (Bytes (cid 1) (bytes_of (codes "000000008000000983010e84182af401f4"))) (
+      State (cid 1) state.OutboundDupTicking
+      ∷ Peer (node 3002) note.Warm
+      ∷ Send (cid 1) (bytes_of (codes "0000000000080003820001"))
+      ∷ [])
+      ∷ brings (Govern 0) []
+      ∷ brings (Bytes (cid 1) (bytes_of (codes "0000000080080003820101"))) []
+      ∷ brings (Govern 0) []
+      ∷ [];
+}
+
+-- a peer is released once nothing is awaited of it
+abbrev pub released_once_it_has_answered : Trace
+released_once_it_has_answered = record {
+  settings = usual;
+  happenings =
+      brings (Locals (group 0 1 true (node 3002 ∷ []) ∷ [])) (Peer (node 3002) note.Known ∷ [])
+      ∷ brings (Govern 0) (Dial (cid 1) (node 3002) ∷ State (cid 1) state.ReservedOutbound ∷ [])
+      ∷ brings (Dialed (cid 1) true) (
+      State (cid 1) state.UnnegotiatedOutbound
+      ∷ Send (cid 1) (bytes_of (codes "00000000000000118200a20d84182af401f40e84182af401f4"))
+      ∷ [])
+      ∷ brings (Bytes (cid 1) (bytes_of (codes "000000008000000983010e84182af401f4"))) (
+      State (cid 1) state.OutboundDupTicking
+      ∷ Peer (node 3002) note.Warm
+      ∷ Send (cid 1) (bytes_of (codes "0000000000080003820001"))
+      ∷ [])
+      ∷ brings (Locals []) []
+      ∷ brings (Govern 0) []
+      ∷ brings (Bytes (cid 1) (bytes_of (codes "0000000080080003820101"))) []
+      ∷ brings (Govern 0) (
+      Send (cid 1) (bytes_of (codes "00000000000a00028102"))
+      ∷ Send (cid 1) (bytes_of (codes "00000000000800028102"))
+      ∷ State (cid 1) state.InboundIdle
+      ∷ Peer (node 3002) note.Cold
+      ∷ [])
+      ∷ [];
+}
+
+-- one whose connection was closed and waits its time is let in again
+abbrev pub let_in_beside_a_time_wait : Trace
+let_in_beside_a_time_wait = record {
+  settings = usual;
+  happenings =
+      brings (Accepted (node 3002)) (Admit (cid 1) (node 3002) ∷ State (cid 1) state.UnnegotiatedInbound ∷ [])
+      ∷ brings (Bytes (cid 1) (bytes_of (codes "00000000000000118200a20d84182af401f40e84182af401f4"))) (
+      Send (cid 1) (bytes_of (codes "000000008000000983010e84182af401f4"))
+      ∷ State (cid 1) state.InboundIdle
+      ∷ [])
+      ∷ brings (Accepted (node 3002)) (Turnaway Present ∷ [])
+      ∷ brings (Now 5000) (Close (cid 1) Unused ∷ State (cid 1) state.Terminating ∷ [])
+      ∷ brings (Accepted (node 3002)) (Admit (cid 2) (node 3002) ∷ State (cid 2) state.UnnegotiatedInbound ∷ [])
+      ∷ [];
+}
+
+-- what is not decoded yet of one connection is left by the bytes of another
+abbrev pub halves_on_two_connections : Trace
+halves_on_two_connections = record {
+  settings = usual;
+  happenings =
+      brings (Accepted (node 3002)) (Admit (cid 1) (node 3002) ∷ State (cid 1) state.UnnegotiatedInbound ∷ [])
+      ∷ brings (Accepted (node 3003)) (Admit (cid 2) (node 3003) ∷ State (cid 2) state.UnnegotiatedInbound ∷ [])
+      ∷ brings (Bytes (cid 1) (bytes_of (codes "00000000000000118200a20d"))) []
+      ∷ brings (Bytes (cid 2) (bytes_of (codes "00000000000000118200a20d84"))) []
+      ∷ brings (Bytes (cid 1) (bytes_of (codes "84182af401f40e84182af401f4"))) (
+      Send (cid 1) (bytes_of (codes "000000008000000983010e84182af401f4"))
+      ∷ State (cid 1) state.InboundIdle
+      ∷ [])
+      ∷ brings (Bytes (cid 2) (bytes_of (codes "182af401f40e84182af401f4"))) (
+      Send (cid 2) (bytes_of (codes "000000008000000983010e84182af401f4"))
+      ∷ State (cid 2) state.InboundIdle
+      ∷ [])
+      ∷ [];
+}
+
+-- an answer on one protocol ends the wait for it, and neither ends nor renews the one for another
+abbrev pub one_answer_leaves_the_other_wait : Trace
+one_answer_leaves_the_other_wait = record {
+  settings = distinct;
+  happenings =
+      brings (Locals (group 1 1 true (node 3002 ∷ []) ∷ [])) (Peer (node 3002) note.Known ∷ [])
+      ∷ brings (Govern 0) (Dial (cid 1) (node 3002) ∷ State (cid 1) state.ReservedOutbound ∷ [])
+      ∷ brings (Dialed (cid 1) true) (
+      State (cid 1) state.UnnegotiatedOutbound
+      ∷ Send (cid 1) (bytes_of (codes "00000000000000118200a20d84182af401f40e84182af401f4"))
+      ∷ [])
+      ∷ brings (Bytes (cid 1) (bytes_of (codes "000000008000000983010e84182af401f4"))) (
+      State (cid 1) state.OutboundDupTicking
+      ∷ Peer (node 3002) note.Warm
+      ∷ Send (cid 1) (bytes_of (codes "0000000000080003820001"))
+      ∷ [])
+      ∷ brings (Now 200) []
+      ∷ brings (Govern 0) (Send (cid 1) (bytes_of (codes "00030d4000020003820480")) ∷ [])
+      ∷ brings (Now 300) (State (cid 1) state.OutboundDupExpired ∷ [])
+      ∷ brings (Bytes (cid 1) (bytes_of (codes "0000000080080003820101"))) []
+      ∷ brings (Now 2099) []
+      ∷ brings (Now 2100) (
+      Close (cid 1) (Fault ReplyWait)
+      ∷ State (cid 1) state.Terminated
+      ∷ Peer (node 3002) note.Cold
+      ∷ [])
+      ∷ [];
+}
+
+-- where a connection goes that this node does not use, its peer has not failed, and is dialed at once
+abbrev pub unused_end_is_no_failure : Trace
+unused_end_is_no_failure = record {
+  settings = usual;
+  happenings =
+      brings (Accepted (node 3002)) (Admit (cid 1) (node 3002) ∷ State (cid 1) state.UnnegotiatedInbound ∷ [])
+      ∷ brings (Bytes (cid 1) (bytes_of (codes "00000000000000118200a20d84182af401f40e84182af401f4"))) (
+      Send (cid 1) (bytes_of (codes "000000008000000983010e84182af401f4"))
+      ∷ State (cid 1) state.InboundIdle
+      ∷ [])
+      ∷ brings (Locals (group 0 1 true (node 3002 ∷ []) ∷ [])) (Peer (node 3002) note.Known ∷ [])
+      ∷ brings (Closed (cid 1)) (State (cid 1) state.Terminated ∷ [])
+      ∷ brings (Govern 0) (Dial (cid 2) (node 3002) ∷ State (cid 2) state.ReservedOutbound ∷ [])
       ∷ [];
 }

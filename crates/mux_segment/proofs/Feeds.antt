@@ -9,7 +9,7 @@ use Rattle.mux_segment.specs.declared.fed.Fed.{Fed}
 use Rattle.mux_segment.specs.declared.header.Header.{Header}
 use Rattle.mux_segment.specs.Segment.{Segment, Cut, segment_at, cut_of}
 use Rattle.mux_segment.specs.Protocols.{Limits}
-use Rattle.mux_segment.specs.Items.{Taken, taken_of}
+use Rattle.mux_segment.specs.Items.{Taken}
 use Rattle.mux_segment.specs.Parts.{part_bytes}
 use Rattle.mux_segment.specs.Steps.{next_of, segment_with}
 use Rattle.mux_segment.specs.Stream.{Decoded, item_of, segment_decoded, then_decoded, decoded, CutterState, FedBy, ended_with, state_after, fed_after, fed_by}

@@ -13,7 +13,7 @@ use Rattle.mux_segment.specs.Items.{Taken, no_more, taken_at, taken_within, take
 use Rattle.mux_segment.specs.Stream.{item_of}
 use Rattle.mux_segment.specs.declared.stopped.Stopped.{Stopped}
 use Rattle.mux_segment.specs.declared.stopped.Stopped.TheVariants.{Fault, NoMemory}
-use Rattle.mux_segment.specs.Steps.{Adds, next_of, IsNext}
+use Rattle.mux_segment.specs.Steps.{Adds, next_of, IsNext, IsTold}
 
 abbrev pub with_body : List ℕ → Taken → Taken
 with_body body t = record { bodies = body ∷ t.bodies; left = t.left; fault = t.fault }
@@ -189,3 +189,9 @@ pub adds_any : (X Y : Type 0) (stop : Stopped) (old new items : List Item) (faul
     → Adds {X = X} (Err stop) old new items fault → Adds {X = Y} (Err stop) old new items fault
 adds_any X Y (Fault f) old new items fault adds = adds
 adds_any X Y NoMemory old new items fault adds = tt
+
+-- what a feed added before the fault that it is told to have stopped at
+pub adds_told : (X E : Type 0) (stopped : Stopped) (fault : CutFault) (old new items : List Item) (why : Option CutFault)
+    → IsTold {E = E} stopped (Ok fault) → Adds {X = X} (Err stopped) old new items why → (why ≡ Some fault) × (new ≡ old ++ items)
+adds_told X E (Fault f) fault old new items why told adds = let same : f ≡ fault = cc in (adds.0 ∙ ap (λ (g : CutFault). Some g) same, adds.1)
+adds_told X E NoMemory fault old new items why told adds = absurd told

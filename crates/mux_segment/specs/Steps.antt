@@ -1,5 +1,5 @@
 -- What the steps of a feed return: items are added up to a fault, and nothing is said where memory ran out.
-use Rattle.std.specs.Prelude.{◌≡◌, ℕ, nat_lt, nat_le, List, ◌++◌, length, if◌then◌else◌, Option, Some, None, Result, Ok, Err}
+use Rattle.std.specs.Prelude.{◌≡◌, ℕ, nat_lt, nat_le, List, ◌++◌, length, if◌then◌else◌, Option, Some, None, Result, Ok, Err, OnOk}
 use Rattle.mux_segment.specs.declared.item.Item.{Item}
 use Rattle.mux_segment.specs.declared.header.Header.{Header}
 use Rattle.mux_segment.specs.Segment.{Segment}
@@ -27,6 +27,11 @@ abbrev pub IsNext : Result (Option ℕ) Stopped → Scan → ℕ → List ℕ �
 IsNext (Ok next) answer limit part = next_of answer limit part ≡ Ok next
 IsNext (Err (Fault f)) answer limit part = next_of answer limit part ≡ Err f
 IsNext (Err NoMemory) answer limit part = ⊥
+
+-- What a feed that stopped is told as: the fault as such, and want of memory alone as that.
+abbrev pub IsTold : {E : Type 0} → Stopped → Result CutFault E → Type 0
+IsTold (Fault f) told = told ≡ Ok f
+IsTold NoMemory told = OnOk told ⊥
 
 abbrev pub segment_with : Header → List ℕ → Segment
 segment_with header payload = record { header = header; payload = payload }

@@ -6,7 +6,6 @@ ghost use Rattle.mux_segment.specs.Given.{IsGiven, IsPut};
 
 use crate::parts::Parts;
 use crate::segments::{limit_of, split_segment, take_stream};
-use crate::stopped::Stopped;
 use crate::{CutFault, Fed, LentItem, PackedItems, next_item};
 use cbor_items::first_item;
 use net_base::{Octets, OutOfMemory};
@@ -122,8 +121,7 @@ impl Cutter {
                 },
                 fault,
             )),
-            Err(Stopped::Fault(fault)) => Ok(ended(alloc, fault)),
-            Err(Stopped::NoMemory) => Err(OutOfMemory),
+            Err(stopped) => Ok(ended(alloc, stopped.fault()?)),
         }
     }
 }

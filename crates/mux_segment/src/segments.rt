@@ -1,4 +1,4 @@
-ghost use Rattle.std.specs.Prelude.{◌≡◌, ◌≤◌, ◌<◌, ◌++◌, length, drop, IfOk, IfSome, OnOk, MatchOption, None, Some};
+ghost use Rattle.std.specs.Prelude.{◌≡◌, ◌≢◌, Err, ◌≤◌, ◌<◌, ◌++◌, length, drop, IfOk, IfSome, OnOk, MatchOption, None, Some};
 ghost use Rattle.mux_segment.specs.Segment.{Segment, segment_at, cut_of};
 ghost use Rattle.mux_segment.specs.Protocols.{node_limits};
 ghost use Rattle.mux_segment.specs.Stream.{segment_decoded, decoded};
@@ -84,6 +84,7 @@ fn take_segment(
     requires { AreKept node_limits parts.old }
     ensures items { let d = segment_decoded node_limits parts.old (segment_with header payload.now) in Adds result items.old items.new d.items d.fault }
     ensures parts { OnOk result (parts.new ≡ (segment_decoded node_limits parts.old (segment_with header payload.now)).parts) }
+    ensures memory { result ≡ Err Stopped.NoMemory → node_limits header.id ≢ None }
 {
     let Some(limit) = limit_of(header.id) else {
         return Err(Stopped::Fault(CutFault::UnknownId));

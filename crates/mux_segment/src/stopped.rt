@@ -1,5 +1,6 @@
 ghost use Rattle.std.specs.Prelude.{◌≡◌};
 ghost use Rattle.mux_segment.specs.declared.stopped.Stopped.TheVariants.{NoMemory};
+ghost use Rattle.mux_segment.specs.Steps.{IsTold};
 
 use crate::CutFault;
 use net_base::OutOfMemory;
@@ -10,6 +11,18 @@ use std::alloc::{AllocError, AllocFailed};
 pub(crate) enum Stopped {
     Fault(CutFault),
     NoMemory,
+}
+
+impl Stopped {
+    /// The fault of the stream. Want of memory is none.
+    pub(crate) fn fault(self) -> Result<CutFault, OutOfMemory>
+        ensures { IsTold self result }
+    {
+        match self {
+            Stopped::Fault(fault) => Ok(fault),
+            Stopped::NoMemory => Err(OutOfMemory),
+        }
+    }
 }
 
 impl From<OutOfMemory> for Stopped {

@@ -5,7 +5,7 @@ use Rattle.govern_rules.specs.declared.order.Order.{Order}
 use Rattle.machine.specs.Effect.{Effect, for_each}
 use Rattle.machine.specs.Govern.{carries_out, rules}
 use Rattle.machine.specs.Machine.{Machine}
-use Rattle.laws.specs.Carrying.{MayCarry, MayAll, MayFollow}
+use Rattle.laws.specs.OrderNeeds.{MayCarry, MayAll, MayFollow}
 use Rattle.node_engine.specs.State.{Does, DoesSilently}
 
 -- The rest leads where all of them lead.

@@ -8,7 +8,7 @@ use Rattle.govern_rules.specs.declared.big_rule.BigRule.TheVariants.{B3, B5, B6,
 use Rattle.machine.specs.Effect.{for_each}
 use Rattle.machine.specs.Govern.{asks_roots, ordinary_rules, big_rules, rules}
 use Rattle.machine.specs.Machine.{Machine}
-use Rattle.laws.specs.Carrying.{MayFollow, MayGovern}
+use Rattle.laws.specs.OrderNeeds.{MayFollow, MayGovern}
 use Rattle.node_engine.specs.State.{Does}
 use Rattle.node_engine.specs.Rules.{orders_by, big_orders_by}
 use Rattle.node_engine.specs.declared.rule.Rule.{Rule}

@@ -3,7 +3,7 @@ ghost use Rattle.conn_state.specs.Use.{facts_at};
 ghost use Rattle.laws.specs.Parts.{IsLawfulEvent};
 ghost use Rattle.laws.specs.Props.{IsSteady-prop};
 ghost use Rattle.laws.specs.Records.{IsLawfulRecord};
-ghost use Rattle.laws.specs.Whole.{IsSteady, GivesFew};
+ghost use Rattle.laws.specs.Steady.{IsSteady, GivesFew};
 ghost use Rattle.machine.specs.Deadlines.{deadlines};
 ghost use Rattle.machine.specs.Machine.{start_of, facts_of};
 ghost use Rattle.machine.specs.Peers.{peer_at};
@@ -47,6 +47,7 @@ impl Engine {
         ensures start { IfOk result (λ e. e.machine ≡ start_of settings) }
         ensures sound { OnOk result (AreSound settings) }
         ensures none_taken { IfOk result (λ e. e.events ≡ 0) }
+        ensures record { IfOk result (λ e. IsLawfulRecord e.machine) }
     {
         if let Some(field) = settings.check() {
             return Err(NewRefusal::BadSetting(field));

@@ -1,5 +1,5 @@
 ghost use Rattle.std.specs.Prelude.{◌≡◌, ◌≤◌, ◌+◌, ◌^◌, OnOk, IfOk};
-ghost use Rattle.laws.specs.Whole.{IsSteady};
+ghost use Rattle.laws.specs.Steady.{IsSteady};
 ghost use Rattle.machine.specs.Step.{step};
 ghost use Rattle.net_base.specs.Limits.{IsWithinLimits};
 ghost use Rattle.node_engine.specs.Blank.{blank};

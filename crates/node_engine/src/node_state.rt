@@ -1,6 +1,6 @@
 ghost use Rattle.std.specs.Prelude.{◌≡◌, ◌≤◌, ◌+◌, ◌^◌, map, OnOk, IfOk};
 ghost use Rattle.conn_state.specs.Use.{facts_at};
-ghost use Rattle.laws.specs.Whole.{IsSteady};
+ghost use Rattle.laws.specs.Steady.{IsSteady};
 ghost use Rattle.machine.specs.Deadlines.{deadlines};
 ghost use Rattle.machine.specs.Machine.{start_of, facts_of};
 ghost use Rattle.machine.specs.Peers.{peer_at};

@@ -95,3 +95,7 @@ IsLawfulSoFar Opening = Unit {0}
 IsLawfulSoFar Left = Unit {0}
 IsLawfulSoFar (Right left) = Unit {0}
 IsLawfulSoFar (Steps pair count) = IsLawful pair
+
+-- every law holds of the pair behind any number of lines of an input
+abbrev pub LedAreLawful : Type 0
+LedAreLawful = (input : List ℕ) (count : ℕ) → IsLawfulSoFar (progress_after count input)

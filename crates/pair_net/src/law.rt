@@ -1,6 +1,7 @@
 //! What two ends come to, over every interleaving. The functions do nothing.
 
 ghost use Rattle.pair_net.specs.Law.{AgreeAlike, AgreementsAreHeard, AgreeRightly, CrossingsAgree, CrossingsAgreeInTurn, MeetingsAgree, MeetingsAgreeInTurn, PipesEmpty, RefusalsAreTold};
+ghost use Rattle.pair_net.specs.Replay.{LedAreLawful};
 ghost use Rattle.pair_net.specs.Steps.{stepped};
 ghost use Rattle.pair_net.specs.WrongPairs.{AgreesWrongly};
 
@@ -30,6 +31,11 @@ pub fn agreements_are_heard()
 /// Who is refused by the end that it dialed is told why, and which versions that end proposes where none was common.
 pub fn refusals_are_told()
     ensures { RefusalsAreTold stepped }
+{}
+
+/// All of that is so of the pair behind any number of lines of an input.
+pub fn led_pairs_are_lawful()
+    ensures { LedAreLawful }
 {}
 
 /// A pair that agrees across networks breaks the law on what is agreed.

@@ -8,6 +8,7 @@ pub mod Joined
 pub mod Listing
 pub mod Merging
 pub mod Noted
+pub mod OneByOne
 pub mod Places
 pub mod Rising
 pub mod Parts

@@ -1,8 +1,9 @@
 -- A row in two parts.
-use Rattle.std.proofs.Common.{◌≡◌, ℕ, zero, suc, ◌+◌, ◌<◌, ◌≤◌, Bool, true, false, nat_eq, min, List, [], ◌∷◌, ◌++◌, length, take, drop, get_or, refl, sym, ap, ◌∙◌, length-append, inl, inr, arith}
+use Rattle.std.proofs.Common.{◌≡◌, ℕ, zero, suc, ◌+◌, ◌<◌, ◌≤◌, Bool, true, false, nat_eq, min, List, [], ◌∷◌, ◌++◌, length, take, drop, get_or, slice_get, refl, sym, ap, ◌∙◌, length-append, inl, inr, arith}
 use Rattle.std.specs.List.{AllByRecursion, prefix_len, insert, remove}
-use Rattle.std.proofs.lemmas.Bool.{cases_Bool}
-use Rattle.std.proofs.lemmas.List.{drop-append-le, drop_min, length-drop, length-take, take-append-le}
+use Rattle.std.proofs.lemmas.Bool.{cases_Bool, cases_lt}
+use Rattle.std.proofs.lemmas.List.{drop-append-le, drop_min, get_or-drop, get_or-take, length-drop, length-take, take-append-le}
+use Rattle.std.proofs.lemmas.Option.{slice_get_past, slice_get_read}
 use Rattle.std.proofs.Math.Seq.{drop-append-add, take-length}
 use Rattle.net_base.specs.declared.address.Addr.{Addr}
 use Rattle.peer_book.specs.Order.{IsRising}
@@ -60,6 +61,22 @@ module _ {X : Type 0} where
       place < length (xs ++ ys) → 0 < length run
   some_behind xs ys run place behind at is inside =
       omega (arith, at, ap length (is ∙ drop_min behind ys), length-drop behind ys, inside, length-append xs ys)
+
+  -- ---- the first of what stands together
+
+  pub first_of_run : (xs run : List X) (place : ℕ) → run ≡ take (length run) (drop place xs) → (place < length xs → 0 < length run) →
+      slice_get run 0 ≡ slice_get xs place
+  first_of_run xs [] place front some = elim (cases_lt place (length xs)) [
+    | inl inside ↦ absurd (omega (arith, some inside))
+    | inr past ↦ sym (slice_get_past xs place past)
+  ]
+  first_of_run xs (r ∷ run) place front some =
+      let n : ℕ = suc (length run) in
+      let inside : place < length xs = omega (arith, ap length front, length-take n (drop place xs), length-drop place xs) in
+      let at : place + 0 ≡ place = omega arith in
+      let is : r ≡ get_or xs place r =
+      ap (λ l. get_or l 0 r) front ∙ (get_or-take n (drop place xs) 0 r (omega arith) ∙ (get_or-drop place xs 0 r ∙ ap (λ i. get_or xs i r) at)) in
+      sym (slice_get_read xs (length xs) place r refl inside is)
 
   -- ---- the last of the first part goes behind it
 

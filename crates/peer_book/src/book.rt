@@ -1,13 +1,15 @@
-ghost use Rattle.std.specs.Prelude.{◌≡◌, ◌<◌, ◌≤◌, ◌^◌, [], nat_eq, take, drop, length, IsSome, IfSome, IsSomeAnd, IfOk, OnOk, OnErr, false, true};
+ghost use Rattle.std.specs.Prelude.{◌≡◌, ◌<◌, ◌≤◌, ◌^◌, [], nat_eq, take, drop, length, slice_get, IsSome, IfSome, IsSomeAnd, IfOk, OnOk, OnErr, false, true};
+ghost use Rattle.std.specs.List.{prefix_len};
+ghost use Rattle.net_base.specs.Address.{address_below};
 ghost use Rattle.net_base.specs.Peer.{failed_peer};
 ghost use Rattle.peer_book.specs.Book.{peer_at, with_peer, without_peer, without_all, new_peer, newcomers, all_entered, entered, entry_of, known_of, established_of, active_of, listed_at, most_peers};
-ghost use Rattle.peer_book.specs.Order.{IsRising};
+ghost use Rattle.peer_book.specs.Order.{IsRising, found_at};
 
 use crate::kept::Kept;
 use crate::leaving::gathered;
 use crate::merge::fresh;
 use crate::newcomers::Newcomers;
-use crate::place::{peer_with, place_and_peer};
+use crate::place::{peer_with, place_and_peer, place_of_peer};
 use crate::{Added, Listed};
 use net_base::{Addr, AddrList, OutOfMemory, Peer, Temp, backoff_delay};
 use std::alloc::Global;
@@ -67,6 +69,18 @@ impl PeerBook {
         ensures some { place < length self.now → 0 < length result.now }
     {
         self.kept.peers.run_from(place)
+    }
+
+    /// The peers from the place of an address on that stand together in memory. The first of them has the address, where a
+    /// peer has it: so whoever asks for addresses that rise finds many by one search.
+    pub fn run_at(&self, addr: Addr) -> &[Peer]
+        ensures front { result.now ≡ take (length result.now) (drop (prefix_len (λ p. address_below p.addr addr) self.now) self.now) }
+        ensures first { found_at (λ p. p.addr) addr (slice_get result.now 0) ≡ peer_at addr self.now }
+        ensures ordered { IsRising (λ p. p.addr) self.now }
+    {
+        self.kept
+            .peers
+            .run_from(place_of_peer(&self.kept.peers, addr))
     }
 
     /// The peer with an address.

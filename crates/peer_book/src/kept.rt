@@ -6,7 +6,7 @@ ghost use Rattle.peer_book.specs.Order.{IsRising};
 
 use crate::leaving::others_than;
 use crate::merge::{fresh, in_order, merged, row_at};
-use crate::place::place_of_peer;
+use crate::place::{place_and_peer, place_of_peer};
 use crate::row::Row;
 use crate::rows::Rows;
 use crate::tally::Tally;
@@ -14,6 +14,9 @@ use chunked_list::ChunkedList;
 use net_base::{Addr, OutOfMemory, Peer, Temp};
 use std::alloc::Global;
 use std::collections::BTreeSet;
+
+// So many that come in together are put in one after another.
+const FEW: usize = 16;
 
 // The peers in address order, and what is kept beside them.
 #[derive(Drop)]
@@ -74,7 +77,7 @@ impl Kept {
         self.put_some(alloc, big, &addrs)
     }
 
-    // One alone is put in as it is.
+    // A few are put in one after another, since all others are gone through where they are put in at once.
     fn put_some(&mut self, alloc: Global, big: bool, addrs: &[Addr]) -> Result<(), OutOfMemory>
         requires kept { IsKept self.old }
         requires new { AreNew addrs.now self.old.peers }
@@ -82,9 +85,32 @@ impl Kept {
         ensures put { OnOk result (self.new.peers ≡ with_all_new big addrs.now self.old.peers) }
         ensures unchanged { OnErr result (self.new.peers ≡ self.old.peers) }
     {
-        match addrs {
-            [only] => self.put(fresh(*only, big)),
-            _ => self.merge(alloc, big, addrs),
+        if addrs.len() <= FEW {
+            self.put_each(big, addrs)
+        } else {
+            self.merge(alloc, big, addrs)
+        }
+    }
+
+    // Where memory is refused for one of them, those before it are taken out again.
+    fn put_each(&mut self, big: bool, addrs: &[Addr]) -> Result<(), OutOfMemory>
+        requires kept { IsKept self.old }
+        requires new { AreNew addrs.now self.old.peers }
+        ensures kept { IsKept self.new }
+        ensures put { OnOk result (self.new.peers ≡ with_all_new big addrs.now self.old.peers) }
+        ensures unchanged { OnErr result (self.new.peers ≡ self.old.peers) }
+    {
+        let Some((first, others)) = addrs.split_first() else {
+            return Ok(());
+        };
+        self.put(fresh(*first, big))?;
+        match self.put_each(big, others) {
+            Ok(()) => Ok(()),
+            Err(refusal) => {
+                let (place, peer) = place_and_peer(&self.peers, *first);
+                self.take_out(place, peer);
+                Err(refusal)
+            }
         }
     }
 

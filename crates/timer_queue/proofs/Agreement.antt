@@ -1,19 +1,17 @@
 -- The rows and the line agree: what that gives, and that it is kept by each change.
-use Rattle.std.proofs.Common.{◌≡◌, ℕ, ◌==◌, ◌&&◌, ◌||◌, Bool, true, false, not, cond, List, Some, None, refl, sym, ap, ◌∙◌, inl, inr, arith}
-use Rattle.std.specs.List.{filter}
+use Rattle.std.proofs.Common.{◌≡◌, ℕ, ◌==◌, ◌&&◌, ◌||◌, Bool, true, false, not, cond, is_some, List, Some, None, refl, sym, ap, ◌∙◌, inl, inr}
 use Rattle.std.proofs.lemmas.Bool.{cases_Bool, and_parts, and_right, and_from, true≢false, false_from_ne_true}
-use Rattle.std.proofs.lemmas.Bool.Decides.{nat_tests}
 use Rattle.net_base.specs.Timer.{deadline_before}
 use Rattle.net_base.specs.declared.connection.Cid.{Cid}
 use Rattle.net_base.specs.declared.timer.Deadline.{Deadline}
 use Rattle.net_base.specs.declared.timer.Kind.{Kind}
-use Rattle.timer_queue.specs.Rows.{AreMomentsOf, IsMomentOf, row_at, moment_of, moment_at, is_set_at, with_at, empty_row, with_row, with_new_row, without_row}
+use Rattle.timer_queue.specs.Rows.{AreMomentsOf, IsMomentOf, row_at, moment, moment_of, moment_at, is_set_at, with_at, no_moments, empty_row, gone_row, with_row, with_new_row}
 use Rattle.timer_queue.specs.Timers.{timer, same_cid, same_kind, same_timer, has_timer, IsInOrder, is_of, is_timer_of, without_kind, without_cid, put_in}
 use Rattle.timer_queue.specs.declared.rows.Row.{Row}
 use Rattle.timer_queue.proofs.Orders.{timer_order, cid_order, same_cid-is, same_kind-is, same_cid-turned, same_kind-turned, same_kind-itself}
 use Rattle.timer_queue.proofs.Lines.{IsInOrder-put_in, IsInOrder-filter}
-use Rattle.timer_queue.proofs.Rising.{any-put_in, put_in-between, has-filter, filter-members, filter-all, rising_is_one}
-use Rattle.timer_queue.proofs.RowEdits.{moment_at-with_row, moment_at-with_new_row, moment_at-without_row, moment_at-without_other}
+use Rattle.timer_queue.proofs.Rising.{any-put_in, put_in-between, has-filter, filter-all, rising_is_one}
+use Rattle.timer_queue.proofs.RowEdits.{moment_at-with_row, moment_at-with_new_row, moment_at-emptied, none_of}
 
 abbrev pub Agree : List Row → List Deadline → Type 0
 Agree rows line = (d : Deadline) → has_timer d line ≡ is_set_at d.at (moment_at d.cid d.kind rows)
@@ -22,14 +20,11 @@ pub and_true : (b : Bool) → (b && true) ≡ b
 and_true true = refl
 and_true false = refl
 
-or_false : (b : Bool) → (b || false) ≡ b
+pub or_false : (b : Bool) → (b || false) ≡ b
 or_false true = refl
 or_false false = refl
 
-same_itself : (n : ℕ) → (n == n) ≡ true
-same_itself n = grind (arith, nat_tests)
-
-of_turned : (cid : Cid) (kind : Kind) (d : Deadline) → (same_cid cid d.cid && same_kind kind d.kind) ≡ is_timer_of cid kind d
+pub of_turned : (cid : Cid) (kind : Kind) (d : Deadline) → (same_cid cid d.cid && same_kind kind d.kind) ≡ is_timer_of cid kind d
 of_turned cid kind d =
     ap (λ b. b && same_kind kind d.kind) (same_cid-turned cid d.cid) ∙ ap (λ b. same_cid d.cid cid && b) (same_kind-turned kind d.kind)
 
@@ -61,26 +56,6 @@ pub without_kind-unset : (cid : Cid) (kind : Kind) (line : List Deadline) → Is
 without_kind-unset cid kind line told =
     filter-all deadline_before same_timer timer_order (λ d. not (is_timer_of cid kind d)) line (λ d there.
     ap not (false_from_ne_true (is_timer_of cid kind d) (λ of_it. true≢false (sym there ∙ told d of_it))))
-
--- where a timer is set it is the only one of its id and kind
-pub without_kind-set : (cid : Cid) (kind : Kind) (at : ℕ) (line : List Deadline) → IsMomentOf cid kind (Some at) line →
-    filter (λ d. not (same_timer d (timer cid kind at))) line ≡ without_kind cid kind line
-without_kind-set cid kind at line told =
-    filter-members deadline_before same_timer timer_order _ _ line (λ d there. ap not (same d there))
-  where
-    turned : (m n : ℕ) → (m == n) ≡ true → (n == m) ≡ true
-    turned m n h = grind (arith, nat_tests)
-
-    same : (d : Deadline) → has_timer d line ≡ true → same_timer d (timer cid kind at) ≡ is_timer_of cid kind d
-    same d there = elim (cases_Bool (is_timer_of cid kind d)) [
-      | inl of_it ↦
-          let e : (at == d.at) ≡ true = sym (told d of_it) ∙ there in
-          rw (turned at d.at e) refl
-      | inr other ↦ and_right (d.at == at) (is_timer_of cid kind d) other ∙ sym other
-    ]
-
-pub there : (cid : Cid) (kind : Kind) (at : ℕ) (line : List Deadline) → IsMomentOf cid kind (Some at) line → has_timer (timer cid kind at) line ≡ true
-there cid kind at line told = told (timer cid kind at) (its cid kind) ∙ same_itself at
 
 pub cleared : (cid : Cid) (kind : Kind) (at : ℕ) (line : List Deadline) → has_timer (timer cid kind at) (without_kind cid kind line) ≡ false
 cleared cid kind at line =
@@ -165,14 +140,27 @@ pub Agree-admitted : (cid : Cid) (rows : List Row) (line : List Deadline) → ro
     Agree (with_new_row (empty_row cid) rows) line
 Agree-admitted cid rows line none agree d = agree d ∙ ap (is_set_at d.at) (sym (moment_at-with_new_row d.cid d.kind cid rows none))
 
-pub Agree-left : (cid : Cid) (rows : List Row) (line : List Deadline) → Agree rows line → Agree (without_row cid rows) (without_cid cid line)
-Agree-left cid rows line agree d =
-    has-filter deadline_before same_timer timer_order (λ e. not (is_of cid e)) d line ∙ elim (cases_Bool (is_of cid d)) [
-      | inl of_it ↦
-          let none : moment_at d.cid d.kind (without_row cid rows) ≡ None =
-          ap (λ i. moment_at i d.kind (without_row cid rows)) (same_cid-is d.cid cid of_it) ∙ moment_at-without_row cid d.kind rows in
-          and_right (has_timer d line) _ (ap not of_it) ∙ sym (ap (is_set_at d.at) none)
-      | inr other ↦
-          ap (λ b. has_timer d line && not b) other
-          ∙ (and_true (has_timer d line) ∙ (agree d ∙ ap (is_set_at d.at) (sym (moment_at-without_other d.cid cid d.kind rows other))))
+pub Agree-left : (cid : Cid) (rows : List Row) (line : List Deadline) → is_some (row_at cid rows) ≡ true → Agree rows line →
+    Agree (with_row (gone_row cid) rows) (without_cid cid line)
+Agree-left cid rows line there agree d =
+    has-filter deadline_before same_timer timer_order (λ e. not (is_of cid e)) d line
+    ∙ (between ∙ sym (ap (is_set_at d.at) (moment_at-emptied d.cid d.kind (gone_row cid) rows refl there)))
+  where
+    between : (has_timer d line && not (is_of cid d)) ≡ is_set_at d.at (cond (is_of cid d) None (moment_at d.cid d.kind rows))
+    between = elim (cases_Bool (is_of cid d)) [
+      | inl of_it ↦ rw of_it (and_right (has_timer d line) false refl)
+      | inr other ↦ rw other (and_true (has_timer d line) ∙ agree d)
+    ]
+
+-- one that has left comes again
+pub Agree-again : (row : Row) (rows : List Row) (line : List Deadline) → row_at row.cid rows ≡ Some row → row.moments ≡ no_moments → Agree rows line →
+    Agree (with_row (empty_row row.cid) rows) line
+Agree-again row rows line found none agree d =
+    agree d ∙ sym (ap (is_set_at d.at) (moment_at-emptied d.cid d.kind (empty_row row.cid) rows refl (ap is_some found) ∙ same))
+  where
+    same : cond (same_cid d.cid row.cid) None (moment_at d.cid d.kind rows) ≡ moment_at d.cid d.kind rows
+    same = elim (cases_Bool (same_cid d.cid row.cid)) [
+      | inl here ↦ rw here (sym (ap (λ i. moment_at i d.kind rows) (same_cid-is d.cid row.cid here)
+          ∙ (ap (moment_of d.kind) found ∙ (ap (moment d.kind) none ∙ none_of d.kind))))
+      | inr other ↦ rw other refl
     ]

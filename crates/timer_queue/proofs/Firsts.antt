@@ -59,7 +59,7 @@ front_is (d ∷ ds) (Some x) some inside at = ap Some at
 -- ---- of any list
 
 -- what isn't before one is before nothing that one isn't before
-not_before : (a b c : Deadline) → deadline_before a b ≡ false → deadline_before b c ≡ false → deadline_before a c ≡ false
+pub not_before : (a b c : Deadline) → deadline_before a b ≡ false → deadline_before b c ≡ false → deadline_before a c ≡ false
 not_before a b c h k = false_from_ne_true (deadline_before a c) (λ lower. elim (cases_Bool (same_timer b c)) [
   | inl same ↦ false≢true (sym h ∙ (ap (deadline_before a) (timer_order.same_is b c same) ∙ lower))
   | inr other ↦ false≢true (sym h ∙ timer_order.transitive a c b lower (timer_order.connected b c other k))

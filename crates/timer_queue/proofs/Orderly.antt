@@ -1,23 +1,24 @@
 -- What holds of every queue, and what that gives.
-use Rattle.std.proofs.Common.{◌≡◌, ℕ, ◌&&◌, ◌||◌, true, false, not, List, Option, Some, None, is_some, refl, sym, ap, ◌∙◌, arith}
-use Rattle.std.proofs.lemmas.Bool.{and_left, and_right, and_from, false≢true, true≢false, false_from_ne_true}
+use Rattle.std.proofs.Common.{◌≡◌, ℕ, ◌&&◌, ◌||◌, true, false, not, List, Option, Some, None, refl, sym, ap, ◌∙◌, inl, inr, arith}
+use Rattle.std.proofs.lemmas.Bool.{cases_Bool, and_left, and_right, and_from, false≢true, true≢false, false_from_ne_true}
 use Rattle.std.proofs.lemmas.Bool.Decides.{nat_tests}
 use Rattle.net_base.specs.Timer.{deadline_before}
 use Rattle.net_base.specs.declared.connection.Cid.{Cid}
 use Rattle.net_base.specs.declared.timer.Deadline.{Deadline}
 use Rattle.net_base.specs.declared.timer.Kind.{Kind}
-use Rattle.timer_queue.specs.Kept.{IsKept, queue_of, set_of}
+use Rattle.timer_queue.specs.Kept.{IsKept, AreIdle, all_timers, queue_of}
 use Rattle.timer_queue.specs.Queue.{Queue, IsOrderly, is_enrolled, with_enrolled, with_timer, without_timer, without_connection}
-use Rattle.timer_queue.specs.Rows.{row_at, moment_of, moment_at, is_set_at}
+use Rattle.timer_queue.specs.Rows.{row_at, moment, moment_of, moment_at, no_moments, is_set_at}
 use Rattle.timer_queue.specs.Timers.{same_cid, cid_below, same_kind, same_timer, has_timer, is_of, is_timer_of, without_kind}
 use Rattle.timer_queue.specs.declared.kept.Kept.{Kept}
 use Rattle.timer_queue.specs.declared.rows.Row.{Row}
 use Rattle.timer_queue.proofs.Agreement.{Agree, has-put_in}
+use Rattle.timer_queue.proofs.Enrolled.{enrolled_in, enrolled-is, ids-rise, idle-row}
 use Rattle.timer_queue.proofs.Lines.{IsInOrder-filter}
 use Rattle.timer_queue.proofs.Orders.{timer_order, cid_order, same_cid-is, same_kind-itself}
-use Rattle.timer_queue.proofs.Rising.{IsRising-map, between-there, filter-all, has-filter}
-use Rattle.timer_queue.proofs.RowEdits.{cid_of, enrolled-is}
-use Rattle.timer_queue.proofs.SetTimers.{agreeing, in_order}
+use Rattle.timer_queue.proofs.Rising.{between-there, filter-all, has-filter}
+use Rattle.timer_queue.proofs.RowEdits.{none_of}
+use Rattle.timer_queue.proofs.TimersOf.{timers_of, agreeing, in_order-rises}
 
 -- ---- from what is kept
 
@@ -33,19 +34,34 @@ one_each rows line agree a b ha hb cids kinds =
     let moments = same_moment (moment_at a.cid a.kind rows) a.at b.at (sym (agree a) ∙ ha) (sym (ap (is_set_at b.at) one) ∙ (sym (agree b) ∙ hb)) in
     λ i. record { at = moments i; cid = cids i; kind = kinds i }
 
-set_somewhere : (at : ℕ) (kind : Kind) (o : Option Row) → is_set_at at (moment_of kind o) ≡ true → is_some o ≡ true
-set_somewhere at kind None h = absurd (false≢true h)
-set_somewhere at kind (Some row) h = refl
+-- a row of one that has left has no timers
+abbrev OfGone : Option Row → Type 0
+OfGone None = Unit {0}
+OfGone (Some row) = row.enrolled ≡ false → row.moments ≡ no_moments
+
+of_gone : (cid : Cid) (rows : List Row) → AreIdle rows → OfGone (row_at cid rows)
+of_gone cid rows idle = by (row_at cid rows) refl
+  where
+    by : (o : Option Row) → row_at cid rows ≡ o → OfGone o
+    by None e = tt
+    by (Some row) e = idle-row cid row rows idle e
+
+set_somewhere : (at : ℕ) (kind : Kind) (o : Option Row) → (OfGone o) → is_set_at at (moment_of kind o) ≡ true → enrolled_in o ≡ true
+set_somewhere at kind None idle h = absurd (false≢true h)
+set_somewhere at kind (Some row) idle h = elim (cases_Bool row.enrolled) [
+  | inl is ↦ is
+  | inr left ↦ absurd (false≢true (sym (ap (is_set_at at) (ap (moment kind) (idle left) ∙ none_of kind)) ∙ h))
+]
 
 pub orderly_when_kept : (kept : Kept) → IsKept kept → IsOrderly (queue_of kept)
 orderly_when_kept kept h =
-    let lined = h.loose.lined in
-    let agree = agreeing kept.rows kept.line.items lined in record {
-      ids_rise = IsRising-map cid_below same_cid cid_order cid_of kept.rows h.loose.rows_rise;
-      in_order = in_order kept.rows kept.line.items lined;
-      one_each = one_each kept.rows (set_of kept.rows kept.line.items) agree;
+    let rows : List Row = kept.rows.items in
+    let agree = agreeing rows h.rise in record {
+      ids_rise = ids-rise rows h.rise;
+      in_order = in_order-rises (all_timers rows);
+      one_each = one_each rows (timers_of rows) agree;
       of_enrolled = λ d there.
-          enrolled-is d.cid kept.rows ∙ set_somewhere d.at d.kind (row_at d.cid kept.rows) (sym (agree d) ∙ there);
+          enrolled-is d.cid rows h.rise ∙ set_somewhere d.at d.kind (row_at d.cid rows) (of_gone d.cid rows h.idle) (sym (agree d) ∙ there);
     }
 
 -- ---- changes that change nothing

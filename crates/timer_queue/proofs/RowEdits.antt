@@ -1,24 +1,21 @@
 -- The rows, after an edit.
-use Rattle.std.proofs.Common.{◌≡◌, ℕ, ◌+◌, ◌≤◌, ◌*◌, ◌&&◌, Bool, true, false, cond, List, [], ◌∷◌, length, get_or, set, slice_get, map, not, Option, Some, None, is_some, refl, sym, ap, subst, ◌∙◌, inl, inr, arith}
-use Rattle.std.specs.List.{insert, remove, sum_by, list_any, filter}
+use Rattle.std.proofs.Common.{◌≡◌, ℕ, ◌+◌, ◌-◌, ◌<◌, ◌&&◌, Bool, true, false, cond, List, [], ◌∷◌, length, set, slice_get, map, Option, Some, None, is_some, refl, sym, ap, subst, ◌∙◌, inl, inr, arith}
+use Rattle.std.specs.List.{insert, list_any}
 use Rattle.std.specs.Bool.{then_some}
 use Rattle.std.proofs.lemmas.Bool.{cases_Bool, false≢true}
 use Rattle.std.proofs.lemmas.List.{length-map}
-use Rattle.std.proofs.lemmas.List.Sums.{sum_by-cons, sum_by-le}
+use Rattle.std.proofs.lemmas.Option.{get_or_from_slice_get}
 use Rattle.net_base.specs.declared.connection.Cid.{Cid}
 use Rattle.net_base.specs.declared.timer.Kind.{Kind}
 use Rattle.net_base.specs.declared.timer.Kind.TheVariants.{Handshake, Grace, TimeWait, Reply2, Reply8, Reply10}
+use Rattle.timer_queue.specs.Kept.{AreRising}
 use Rattle.timer_queue.specs.Order.{IsRising}
-use Rattle.timer_queue.specs.Rows.{moment, with_moment, one_if_set, timers_in, empty_row, with_at, row_at, found_at, moment_of, moment_at, place_at, with_new_row, with_row, without_row}
+use Rattle.timer_queue.specs.Rows.{moment, with_moment, no_moments, empty_row, with_at, row_at, found_at, moment_of, moment_at, place_at, with_new_row, with_row}
 use Rattle.timer_queue.specs.Timers.{same_cid, cid_below, same_kind}
 use Rattle.timer_queue.specs.declared.moments.Moments.{Moments}
 use Rattle.timer_queue.specs.declared.rows.Row.{Row}
 use Rattle.timer_queue.proofs.Orders.{cid_order, same_cid-is, same_cid-turned}
-use Rattle.timer_queue.specs.Queue.{with_id}
-use Rattle.timer_queue.proofs.Rising.{find-place, above_when_same, any-find, any-map, map-put_in, map-replaced, map-taken_out, put_in-between, length-put_in, IsRising-map, IsRising-from_map, IsRising-put_in, IsRising-filter, insert-place, set-place, remove-place, find-put_in, find-taken_out, find-taken_out_other, find-replaced, find-replaced_other, replaced-above, taken_out-above}
-
-abbrev pub AreRising : List Row → Type 0
-AreRising rows = IsRising cid_below (λ r. r.cid) rows
+use Rattle.timer_queue.proofs.Rising.{is_under, partitioned, place_is, find-place, any-find, map-replaced, length-put_in, IsRising-map, IsRising-from_map, IsRising-put_in, insert-place, set-place, place-inside, find-put_in, find-replaced, find-replaced_other}
 
 abbrev pub cid_of : Row → Cid
 cid_of r = r.cid
@@ -31,7 +28,7 @@ is_found x old e = cc
 pub insert-place_at : (new : Row) (rows : List Row) (n : ℕ) → n ≡ place_at new.cid rows → insert rows n new ≡ with_new_row new rows
 insert-place_at new rows n e = ap (λ m. insert rows m new) e ∙ insert-place cid_below same_cid cid_order cid_of new rows
 
-has_row : (cid : Cid) (rows : List Row) → is_some (row_at cid rows) ≡ true →
+pub has_row : (cid : Cid) (rows : List Row) → is_some (row_at cid rows) ≡ true →
     list_any (λ r. same_cid r.cid cid) rows ≡ true
 has_row cid rows there = sym (any-find cid_below same_cid cid_order cid_of cid rows) ∙ there
 
@@ -39,11 +36,6 @@ pub set-place_at : (new : Row) (rows : List Row) (n : ℕ) → AreRising rows �
     n ≡ place_at new.cid rows → set rows n new ≡ with_row new rows
 set-place_at new rows n rises there e =
     ap (λ m. set rows m new) e ∙ set-place cid_below same_cid cid_order cid_of new.cid new rows rises (has_row new.cid rows there)
-
-pub remove-place_at : (cid : Cid) (rows : List Row) (n : ℕ) → AreRising rows → is_some (row_at cid rows) ≡ true →
-    n ≡ place_at cid rows → remove rows n ≡ without_row cid rows
-remove-place_at cid rows n rises there e =
-    ap (remove rows) e ∙ remove-place cid_below same_cid cid_order cid_of cid rows rises (has_row cid rows there)
 
 -- ---- the row that is found
 
@@ -102,64 +94,26 @@ pub place_missing : (o : Option Row) (m : ℕ) → then_some (is_some o) m ≡ N
 place_missing None m e = refl
 place_missing (Some row) m e = cc
 
--- ---- order and ids afterwards
+-- ---- order afterwards
 
-abbrev pub ids_of : List Row → List Cid
-ids_of rows = map cid_of rows
-
--- an id is enrolled where it has a row
-pub enrolled-is : (cid : Cid) (rows : List Row) → list_any (λ c. same_cid c cid) (ids_of rows) ≡ is_some (row_at cid rows)
-enrolled-is cid rows =
-    any-map cid_below same_cid cid_order cid_of cid rows ∙ sym (any-find cid_below same_cid cid_order cid_of cid rows)
-
-pub ids_of-with_row : (new : Row) (rows : List Row) → ids_of (with_row new rows) ≡ ids_of rows
-ids_of-with_row new rows = map-replaced cid_below same_cid cid_order cid_of new.cid new rows refl
-
-pub ids_of-with_new_row : (new : Row) (rows : List Row) → AreRising rows → row_at new.cid rows ≡ None →
-    ids_of (with_new_row new rows) ≡ with_id new.cid (ids_of rows)
-ids_of-with_new_row new rows rises absent =
-    map-put_in cid_below same_cid cid_order cid_of new rows
-    ∙ put_in-between cid_below same_cid cid_order (λ c. c) new.cid (ids_of rows) (IsRising-map cid_below same_cid cid_order cid_of rows rises)
-    (enrolled-is new.cid rows ∙ ap is_some absent)
-
-pub ids_of-without_row : (cid : Cid) (rows : List Row) → ids_of (without_row cid rows) ≡ filter (λ c. not (same_cid c cid)) (ids_of rows)
-ids_of-without_row cid rows = map-taken_out cid_below same_cid cid_order cid_of cid rows
-
-pub without_row-absent : (cid : Cid) (rows : List Row) → row_at cid rows ≡ None → without_row cid rows ≡ rows
-without_row-absent cid [] e = refl
-without_row-absent cid (r ∷ rs) e = elim (cases_Bool (same_cid r.cid cid)) [
-  | inl here ↦ let clash : Some r ≡ None = rw here at e in cc
-  | inr gone ↦ rw gone (ap (λ l. r ∷ l) (without_row-absent cid rs (rw gone at e)))
-]
-
-pub ids_of-absent : (cid : Cid) (rows : List Row) → row_at cid rows ≡ None → filter (λ c. not (same_cid c cid)) (ids_of rows) ≡ ids_of rows
-ids_of-absent cid rows absent = sym (ids_of-without_row cid rows) ∙ ap ids_of (without_row-absent cid rows absent)
+ids_stay : (new : Row) (rows : List Row) → map cid_of (with_row new rows) ≡ map cid_of rows
+ids_stay new rows = map-replaced cid_below same_cid cid_order cid_of new.cid new rows refl
 
 pub AreRising-with_row : (new : Row) (rows : List Row) → AreRising rows → AreRising (with_row new rows)
 AreRising-with_row new rows rises =
     IsRising-from_map cid_below same_cid cid_order cid_of (with_row new rows)
-    (subst (IsRising cid_below (λ c. c)) (sym (ids_of-with_row new rows)) (IsRising-map cid_below same_cid cid_order cid_of rows rises))
+    (subst (IsRising cid_below (λ c. c)) (sym (ids_stay new rows)) (IsRising-map cid_below same_cid cid_order cid_of rows rises))
 
 pub AreRising-with_new_row : (new : Row) (rows : List Row) → AreRising rows → row_at new.cid rows ≡ None → AreRising (with_new_row new rows)
 AreRising-with_new_row new rows rises absent =
     IsRising-put_in cid_below same_cid cid_order cid_of new rows rises
     (sym (any-find cid_below same_cid cid_order cid_of new.cid rows) ∙ ap is_some absent)
 
-pub AreRising-without_row : (cid : Cid) (rows : List Row) → AreRising rows → AreRising (without_row cid rows)
-AreRising-without_row cid rows rises = IsRising-filter cid_below same_cid cid_order cid_of _ rows rises
-
 pub length-with_row : (new : Row) (rows : List Row) → length (with_row new rows) ≡ length rows
 length-with_row new rows = length-map rows _
 
 pub length-with_new_row : (new : Row) (rows : List Row) → length (with_new_row new rows) ≡ length rows + 1
 length-with_new_row new rows = length-put_in cid_below same_cid cid_order cid_of new rows ∙ omega arith
-
-pub length-without_row : (cid : Cid) (rows : List Row) → length (without_row cid rows) ≤ length rows
-length-without_row cid [] = omega arith
-length-without_row cid (r ∷ rs) = elim (cases_Bool (same_cid r.cid cid)) [
-  | inl here ↦ rw here (omega (arith, length-without_row cid rs))
-  | inr gone ↦ rw gone (omega (arith, length-without_row cid rs))
-]
 
 -- ---- the moments afterwards
 
@@ -209,74 +163,48 @@ moment_at-with_new_row cid k new rows absent =
     nothing false e = refl
     nothing true e = none_at k ∙ sym (ap (λ i. moment_of k (row_at i rows)) (sym (e refl)) ∙ ap (moment_of k) absent)
 
-pub moment_at-without_row : (cid : Cid) (k : Kind) (rows : List Row) → moment_at cid k (without_row cid rows) ≡ None
-moment_at-without_row cid k rows = ap (moment_of k) (find-taken_out cid_below same_cid cid_order cid_of cid rows)
+pub none_of : (k : Kind) → moment k no_moments ≡ None
+none_of Handshake = refl
+none_of k = refl
 
-pub moment_at-without_other : (cid old : Cid) (k : Kind) (rows : List Row) → same_cid cid old ≡ false →
-    moment_at cid k (without_row old rows) ≡ moment_at cid k rows
-moment_at-without_other cid old k rows other =
-    ap (moment_of k) (find-taken_out_other cid_below same_cid cid_order cid_of old cid rows (same_cid-turned old cid ∙ other))
-
--- ---- how many timers there are afterwards
-
-pub sum-with_row : (new old : Row) (rows : List Row) → AreRising rows → row_at new.cid rows ≡ Some old →
-    sum_by timers_in (with_row new rows) + timers_in old ≡ sum_by timers_in rows + timers_in new
-sum-with_row new old [] rises found = cc
-sum-with_row new old (r ∷ rs) rises found = elim (cases_Bool (same_cid r.cid new.cid)) [
+-- a row without timers in place of the one of its id
+pub moment_at-emptied : (cid : Cid) (k : Kind) (new : Row) (rows : List Row) → new.moments ≡ no_moments → is_some (row_at new.cid rows) ≡ true →
+    moment_at cid k (with_row new rows) ≡ cond (same_cid cid new.cid) None (moment_at cid k rows)
+moment_at-emptied cid k new rows empty there = elim (cases_Bool (same_cid cid new.cid)) [
   | inl here ↦
-      let is : r ≡ old = is_found r old (rw here at found) in
-      let rest : with_row new rs ≡ rs = replaced-above cid_below same_cid cid_order cid_of new.cid new rs
-      (above_when_same cid_below same_cid cid_order cid_of new.cid r rs here rises.0) in
-      rw (here, rest) (omega (arith, ap timers_in is, sum_by-cons timers_in new rs, sum_by-cons timers_in r rs))
-  | inr gone ↦
-      let later = sum-with_row new old rs rises.1 (rw gone at found) in
-      rw gone (omega (arith, later, sum_by-cons timers_in r (with_row new rs), sum_by-cons timers_in r rs))
+      let put : row_at new.cid (with_row new rows) ≡ Some new =
+      find-replaced cid_below same_cid cid_order cid_of new.cid new rows (cid_order.same_itself new.cid) (has_row new.cid rows there) in
+      rw here (ap (λ i. moment_at i k (with_row new rows)) (same_cid-is cid new.cid here) ∙ (ap (moment_of k) put ∙ (ap (moment k) empty ∙ none_of k)))
+  | inr other ↦ rw other (ap (moment_of k)
+      (find-replaced_other cid_below same_cid cid_order cid_of new.cid cid new rows (same_cid-turned new.cid cid ∙ other) (cid_order.same_itself new.cid)))
 ]
 
-pub sum-without_row : (cid : Cid) (old : Row) (rows : List Row) → AreRising rows → row_at cid rows ≡ Some old →
-    sum_by timers_in (without_row cid rows) + timers_in old ≡ sum_by timers_in rows
-sum-without_row cid old [] rises found = cc
-sum-without_row cid old (r ∷ rs) rises found = elim (cases_Bool (same_cid r.cid cid)) [
-  | inl here ↦
-      let is : r ≡ old = is_found r old (rw here at found) in
-      let rest : without_row cid rs ≡ rs = taken_out-above cid_below same_cid cid_order cid_of cid rs
-      (above_when_same cid_below same_cid cid_order cid_of cid r rs here rises.0) in
-      rw (here, rest) (omega (arith, ap timers_in is, sum_by-cons timers_in r rs))
-  | inr gone ↦
-      let later = sum-without_row cid old rs rises.1 (rw gone at found) in
-      rw gone (omega (arith, later, sum_by-cons timers_in r (without_row cid rs), sum_by-cons timers_in r rs))
-]
+pub inside_rows : (cid : Cid) (rows : List Row) (place : ℕ) → AreRising rows → is_some (row_at cid rows) ≡ true → place ≡ place_at cid rows →
+    place < length rows
+inside_rows cid rows place rises there at =
+    subst (λ n. n < length rows) (sym at) (place-inside cid_below same_cid cid_order cid_of cid rows rises (has_row cid rows there))
 
-pub sum-with_new_row : (new : Row) (rows : List Row) → sum_by timers_in (with_new_row new rows) ≡ sum_by timers_in rows + timers_in new
-sum-with_new_row new [] = omega (arith, sum_by-cons timers_in new [])
-sum-with_new_row new (r ∷ rs) = elim (cases_Bool (cid_below r.cid new.cid)) [
-  | inl under ↦ rw under (omega (arith, sum-with_new_row new rs, sum_by-cons timers_in r (with_new_row new rs), sum_by-cons timers_in r rs))
-  | inr over ↦ rw over (omega (arith, sum_by-cons timers_in new (r ∷ rs)))
-]
+-- as `place_in` answers of the rows that it sees
+pub stands_as_found : (cid : Cid) (rows seen : List Row) (place : ℕ) (answer : Option ℕ) → AreRising rows → seen ≡ rows →
+    answer ≡ then_some (is_some (row_at cid seen)) (place_at cid seen) → answer ≡ Some place → StandsAt cid rows place
+stands_as_found cid rows seen place answer rises same told some =
+    let told_of : answer ≡ then_some (is_some (row_at cid rows)) (place_at cid rows) =
+    told ∙ ap (λ rs. then_some (is_some (row_at cid rs)) (place_at cid rs)) same in
+    let found = place_found (row_at cid rows) (place_at cid rows) place (sym told_of ∙ some) in
+    stands_at cid rows place rises found.0 found.1
 
-pub timers_in-with_at : (kind : Kind) (at : Option ℕ) (row : Row) →
-    timers_in (with_at kind at row) + one_if_set (moment kind row.moments) ≡ timers_in row + one_if_set at
-timers_in-with_at Handshake at row = omega arith
-timers_in-with_at Grace at row = omega arith
-timers_in-with_at TimeWait at row = omega arith
-timers_in-with_at Reply2 at row = omega arith
-timers_in-with_at Reply8 at row = omega arith
-timers_in-with_at Reply10 at row = omega arith
+pub missing : (cid : Cid) (rows seen : List Row) (answer : Option ℕ) → seen ≡ rows →
+    answer ≡ then_some (is_some (row_at cid seen)) (place_at cid seen) → answer ≡ None → row_at cid rows ≡ None
+missing cid rows seen answer same told none =
+    place_missing (row_at cid rows) (place_at cid rows)
+    (sym (told ∙ ap (λ rs. then_some (is_some (row_at cid rs)) (place_at cid rs)) same) ∙ none)
 
-pub one_if_set-most : (at : Option ℕ) → one_if_set at ≤ 1
-one_if_set-most None = omega arith
-one_if_set-most (Some at) = omega arith
-
-pub timers_in-most : (row : Row) → timers_in row ≤ 6
-timers_in-most row = omega (
-  arith,
-  one_if_set-most row.moments.handshake,
-  one_if_set-most row.moments.grace,
-  one_if_set-most row.moments.time_wait,
-  one_if_set-most row.moments.reply2,
-  one_if_set-most row.moments.reply8,
-  one_if_set-most row.moments.reply10,
-)
-
-pub sum-most : (rows : List Row) → sum_by timers_in rows ≤ 6 * length rows
-sum-most rows = omega (arith, sum_by-le timers_in 6 rows (λ k d inside. timers_in-most (get_or rows k d)))
+-- an id above that of the last is above all
+pub all_under : (cid : Cid) (last : Row) (rows : List Row) → AreRising rows → slice_get rows (length rows - 1) ≡ Some last →
+    cid_below last.cid cid ≡ true → place_at cid rows ≡ length rows
+all_under cid last rows rises here under =
+    sym (place_is (is_under cid_below same_cid cid_order cid_of cid) rows (length rows) (omega arith) (
+      λ k d low inside. partitioned cid_below same_cid cid_order cid_of cid rows rises k (length rows - 1) d (omega (arith, inside)) (omega (arith, inside))
+          (ap (λ (r : Row). cid_below r.cid cid) (get_or_from_slice_get rows (length rows - 1) last d here) ∙ under),
+      λ k d above inside. absurd (omega (arith, above, inside)),
+    ))

@@ -3,3 +3,4 @@ pub mod Order
 pub mod Queue
 pub mod Rows
 pub mod Timers
+pub mod Trees

@@ -1,5 +1,5 @@
 -- The moments of one connection's timers, and the rows of them, one for each connection.
-use Rattle.std.specs.Prelude.{◌≡◌, ℕ, ◌+◌, Bool, true, false, ◌==◌, List, [], ◌∷◌, find, map, filter, not, Option, Some, None, if◌then◌else◌}
+use Rattle.std.specs.Prelude.{◌≡◌, ℕ, Bool, true, false, ◌==◌, List, [], ◌∷◌, find, map, Option, Some, None, if◌then◌else◌}
 use Rattle.std.specs.List.{prefix_len}
 use Rattle.net_base.specs.declared.connection.Cid.{Cid}
 use Rattle.net_base.specs.declared.timer.Deadline.{Deadline}
@@ -28,18 +28,12 @@ with_moment Reply10 at m = record m { reply10 = at }
 abbrev pub no_moments : Moments
 no_moments = record { handshake = None; grace = None; time_wait = None; reply2 = None; reply8 = None; reply10 = None }
 
-abbrev pub one_if_set : Option ℕ → ℕ
-one_if_set None = 0
-one_if_set (Some at) = 1
-
--- how many timers a row has
-abbrev pub timers_in : Row → ℕ
-timers_in row =
-    one_if_set row.moments.handshake + one_if_set row.moments.grace + one_if_set row.moments.time_wait
-    + one_if_set row.moments.reply2 + one_if_set row.moments.reply8 + one_if_set row.moments.reply10
-
 abbrev pub empty_row : Cid → Row
-empty_row cid = record { cid = cid; moments = no_moments }
+empty_row cid = record { cid = cid; enrolled = true; moments = no_moments }
+
+-- of a connection that has left
+abbrev pub gone_row : Cid → Row
+gone_row cid = record { cid = cid; enrolled = false; moments = no_moments }
 
 abbrev pub with_at : Kind → Option ℕ → Row → Row
 with_at kind at row = record row { moments = with_moment kind at row.moments }
@@ -89,6 +83,3 @@ with_new_row new (row ∷ rows) = if cid_below row.cid new.cid then row ∷ with
 -- a row in place of the one of its id
 abbrev pub with_row : Row → List Row → List Row
 with_row new rows = map (λ r. if same_cid r.cid new.cid then new else r) rows
-
-abbrev pub without_row : Cid → List Row → List Row
-without_row cid rows = filter (λ r. not (same_cid r.cid cid)) rows

@@ -1,42 +1,33 @@
-ghost use Rattle.std.specs.Prelude.{◌≡◌, ◌+◌, ◌*◌, ◌<◌, ◌≤◌, true, false, None, Some, OnOk, OnErr, length, slice_get};
-ghost use Rattle.std.specs.VecDeque.{deque_len, deque_capacity};
-ghost use Rattle.net_base.specs.declared.timer.Deadline.{Deadline};
+ghost use Rattle.std.specs.Prelude.{◌≡◌, ◌<◌, true, false, None, OnOk, OnErr, length};
 ghost use Rattle.timer_queue.specs.Rows.{row_at, AreMomentsOf};
 ghost use Rattle.timer_queue.specs.Timers.{timer, least};
 ghost use Rattle.timer_queue.specs.Queue.{is_enrolled, empty_queue, with_enrolled, with_timer, without_timer, without_connection, least_due, without_fired};
 
-use crate::line::{begins_with, put_in, sweep, trim};
 use crate::moments::Moments;
-use crate::rows::{Row, change_row, insert_row, one_if_set, place_in, place_of};
-use chunked_list::ChunkedList;
+use crate::rows::{Row, drop_gone, place_in, place_of, put};
+use crate::tree::{build, node, widen};
 use net_base::{Cid, Deadline, Kind, OutOfMemory};
-use std::alloc::{AllocError, Global};
-use std::collections::VecDeque;
+use std::alloc::Global;
 
-// How many timers a connection may have, one of each kind.
-const KINDS: usize = 6;
-
-// The moments of each connection, in order of id, and all timers in the order in which they fire. A timer that is taken
-// out stays in the line until it is the first of it, or until half of the line was taken out.
+// The moments of each connection, in order of id, and a tree of which they are the leaves: each inner node has the one of
+// its two children that fires first. So a change is told as far up as it matters, and the first timer stands at the root.
 #[derive(Drop)]
 pub struct Kept {
-    pub rows: ChunkedList<Row>,
-    pub line: VecDeque<Deadline>,
-    // how many timers are set
-    pub count: usize,
+    // those that have left among them
+    pub rows: Vec<Row>,
+    pub inner: Vec<Option<Deadline>>,
 }
 
 impl Kept {
-    ghost use Rattle.timer_queue.specs.Kept.{IsLoose, IsKept, queue_of, is_set_or_of};
+    ghost use Rattle.timer_queue.specs.Kept.{IsKept, queue_of};
 
     pub fn new(alloc: Global) -> Kept
         ensures kept { IsKept result }
         ensures queue { queue_of result ≡ empty_queue }
     {
         Kept {
-            rows: ChunkedList::new(alloc),
-            line: VecDeque::new(alloc),
-            count: 0,
+            rows: Vec::new(alloc),
+            inner: Vec::new(alloc),
         }
     }
 
@@ -45,14 +36,17 @@ impl Kept {
         requires { IsKept self.now }
         ensures { result ≡ least (queue_of self.now).timers }
     {
-        self.line.front().copied()
+        node(&self.inner, &self.rows, 1)
     }
 
     pub fn has(&self, cid: Cid) -> bool
         requires { IsKept self.now }
         ensures { result ≡ is_enrolled cid (queue_of self.now) }
     {
-        place_in(&self.rows, cid).is_some()
+        match place_in(&self.rows, cid) {
+            Some(place) => self.rows[place].enrolled,
+            None => false,
+        }
     }
 
     // The moments of a connection's timers.
@@ -61,7 +55,7 @@ impl Kept {
         ensures { AreMomentsOf cid result (queue_of self.now).timers }
     {
         match place_in(&self.rows, cid) {
-            Some(place) => self.rows.at(place).moments,
+            Some(place) => self.rows[place].moments,
             None => Moments::none(),
         }
     }
@@ -76,39 +70,56 @@ impl Kept {
         if self.has(cid) {
             return Ok(());
         }
-        self.reserve()?;
-        self.admit(cid)
+        self.make_room()?;
+        self.admit(cid);
+        Ok(())
     }
 
-    // Makes room for the timers of one more connection, twice over. Where there is none, as much memory again is asked for
-    // as there is, so that n connections that come one after another move each timer a few times at most.
-    fn reserve(&mut self) -> Result<(), AllocError>
+    // Makes room for one more row.
+    fn make_room(&mut self) -> Result<(), OutOfMemory>
         requires { IsKept self.old }
         ensures kept { IsKept self.new }
-        ensures rows { self.new.rows ≡ self.old.rows }
-        ensures line { self.new.line.items ≡ self.old.line.items }
-        ensures room { OnOk result (12 * (length self.new.rows + 1) ≤ deque_capacity self.new.line) }
+        ensures queue { queue_of self.new ≡ queue_of self.old }
+        ensures room { OnOk result (length self.new.rows.items < length self.new.inner.items) }
     {
-        let wanted = 2 * KINDS * (self.rows.len() + 1);
-        let there = self.line.capacity();
-        if wanted <= there {
+        if self.rows.len() < self.inner.len() {
             return Ok(());
         }
-        let more = wanted.max(2 * there).saturating_sub(self.line.len());
-        self.line.try_reserve(more)
+        drop_gone(&mut self.rows);
+        let widened = widen(&mut self.rows, &mut self.inner);
+        build(&mut self.inner, &self.rows);
+        widened
     }
 
-    // A connection with no timers. There has to be room for them.
-    fn admit(&mut self, cid: Cid) -> Result<(), OutOfMemory>
+    // A connection with no timers, where there is room for a row. One that comes again gets the row that it had.
+    fn admit(&mut self, cid: Cid)
         requires kept { IsKept self.old }
-        requires absent { row_at cid self.old.rows ≡ None }
-        requires room { 12 * (length self.old.rows + 1) ≤ deque_capacity self.old.line }
+        requires absent { is_enrolled cid (queue_of self.old) ≡ false }
+        requires room { length self.old.rows.items < length self.old.inner.items }
         ensures kept { IsKept self.new }
-        ensures ok { OnOk result (queue_of self.new ≡ with_enrolled cid (queue_of self.old)) }
-        ensures err { OnErr result (queue_of self.new ≡ queue_of self.old) }
+        ensures queue { queue_of self.new ≡ with_enrolled cid (queue_of self.old) }
     {
-        insert_row(&mut self.rows, Row::empty(cid))?;
-        Ok(())
+        match place_in(&self.rows, cid) {
+            Some(place) => put(&mut self.rows, &mut self.inner, place, Row::empty(cid)),
+            None => self.insert(cid),
+        }
+    }
+
+    // Puts in a row of an id that has none. It has no timer, so where it is the last the tree stays.
+    fn insert(&mut self, cid: Cid)
+        requires kept { IsKept self.old }
+        requires absent { row_at cid self.old.rows.items ≡ None }
+        requires room { length self.old.rows.items < length self.old.inner.items }
+        ensures kept { IsKept self.new }
+        ensures queue { queue_of self.new ≡ with_enrolled cid (queue_of self.old) }
+    {
+        let place = place_of(&self.rows, cid);
+        let is_last = place == self.rows.len();
+        // there is room
+        let _ = self.rows.insert(place, Row::empty(cid));
+        if !is_last {
+            build(&mut self.inner, &self.rows);
+        }
     }
 
     pub fn set(&mut self, cid: Cid, kind: Kind, at: u64)
@@ -117,12 +128,9 @@ impl Kept {
         ensures kept { IsKept self.new }
         ensures queue { queue_of self.new ≡ with_timer (timer cid kind at) (queue_of self.old) }
     {
-        self.make_room();
         let place = place_of(&self.rows, cid);
-        let old = change_row(&mut self.rows, place, kind, Some(at));
-        self.count = self.count - one_if_set(old) + 1;
-        put_in(&mut self.line, Deadline { at, cid, kind });
-        self.settle(cid);
+        let row = self.rows[place].with(kind, Some(at));
+        put(&mut self.rows, &mut self.inner, place, row);
     }
 
     pub fn clear(&mut self, cid: Cid, kind: Kind)
@@ -133,9 +141,8 @@ impl Kept {
         let Some(place) = place_in(&self.rows, cid) else {
             return;
         };
-        let old = change_row(&mut self.rows, place, kind, None);
-        self.count -= one_if_set(old);
-        self.settle(cid);
+        let row = self.rows[place].with(kind, None);
+        put(&mut self.rows, &mut self.inner, place, row);
     }
 
     pub fn leave(&mut self, cid: Cid)
@@ -146,34 +153,7 @@ impl Kept {
         let Some(place) = place_in(&self.rows, cid) else {
             return;
         };
-        let row = self.rows.remove(place);
-        self.count -= row.timers();
-        self.settle(cid);
-    }
-
-    // Sees to it that one more timer has room: drops those that were taken out, where they are half of the line or more.
-    fn make_room(&mut self)
-        requires { IsKept self.old }
-        ensures kept { IsKept self.new }
-        ensures queue { queue_of self.new ≡ queue_of self.old }
-        ensures room { 0 < length self.new.rows → deque_len self.new.line < deque_capacity self.new.line }
-    {
-        if self.line.len() / 2 < self.count {
-            return;
-        }
-        sweep(&mut self.line, &self.rows);
-    }
-
-    // Sees to it that the first of the line is set, where the timers of one connection have changed.
-    fn settle(&mut self, cid: Cid)
-        requires loose { IsLoose self.old }
-        requires begins { is_set_or_of cid self.old.rows (slice_get self.old.line.items 0) ≡ true }
-        ensures kept { IsKept self.new }
-        ensures queue { queue_of self.new ≡ queue_of self.old }
-    {
-        if begins_with(&self.line, cid) {
-            trim(&mut self.line, &self.rows);
-        }
+        put(&mut self.rows, &mut self.inner, place, Row::gone(cid));
     }
 
     pub fn pop_due(&mut self, now: u64) -> Option<Deadline>

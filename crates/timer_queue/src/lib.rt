@@ -3,10 +3,10 @@
 
 mod kept;
 mod laws;
-mod line;
 mod moments;
 mod queue;
 mod rows;
+mod tree;
 
 pub use laws::{
     changes_are_told_by_timers, lists_in_order_are_one, the_first_is_the_least,

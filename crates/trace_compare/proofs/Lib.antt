@@ -3,4 +3,5 @@ pub mod Added
 pub mod Again
 pub mod Agreeing
 pub mod Comparing
+pub mod RunTexts
 pub mod Written

@@ -1,5 +1,5 @@
 -- A piece of bytes has one spelling: its digits in lower case.
-use Rattle.std.proofs.Common.{◌≡◌, ℕ, suc, ◌+◌, ◌*◌, ◌/◌, ◌%◌, ◌<◌, ◌≤◌, true, ◌&&◌, leb, List, [], ◌∷◌, length, get_or, Option, Some, None, refl, sym, ap, ◌∙◌, arith, inl, inr}
+use Rattle.std.proofs.Common.{◌≡◌, ◌≢◌, ℕ, suc, ◌+◌, ◌*◌, ◌/◌, ◌%◌, ◌<◌, ◌≤◌, true, ◌&&◌, leb, List, [], ◌∷◌, length, get_or, Option, Some, None, refl, sym, ap, ◌∙◌, arith, inl, inr}
 use Rattle.std.specs.Prelude.{Result, Ok, Err}
 use Rattle.std.specs.List.{All, list_all}
 use Rattle.std.proofs.lemmas.Bool.{and_parts, and_from, cases_lt, leb-true, le-leb, cond-true}
@@ -123,3 +123,38 @@ piece_again bytes h =
     (decoded (decode_of (encode_lower bytes))) None
     (and_from _ _ (and_from _ _ (all_lower bytes fit) (le-leb 2 _ least)) (le-leb _ 131072 most))
     ∙ ap decoded (decode_of-encode_lower bytes fit)
+
+-- ---- digits in lower case are bytes
+
+some_of : (o : Option ℕ) → (o ≡ None → ⊥) → (v : ℕ) × (o ≡ Some v)
+some_of None is_some = absurd (is_some refl)
+some_of (Some v) is_some = (v, refl)
+
+has_value : (c : ℕ) → is_lower_digit c ≡ true → hex_digit_value c ≡ None → ⊥
+has_value c h none = grind (arith, nat_tests)
+
+pair_read : (i high low a b : ℕ) (rest bytes : List ℕ) → hex_digit_value high ≡ Some a → hex_digit_value low ≡ Some b → decode_pairs (i + 2) rest ≡ Ok bytes
+    → decode_pairs i (high ∷ low ∷ rest) ≡ Ok ((a * 16 + b) ∷ bytes)
+unfolding decode_pairs
+pair_read i high low a b rest bytes upper lower behind = rw (upper, lower, behind) refl
+
+pairs_are_read : (i : ℕ) (word : List ℕ) → list_all is_lower_digit word ≡ true → length word % 2 ≡ 0 → (bytes : List ℕ) × (decode_pairs i word ≡ Ok bytes)
+unfolding decode_pairs
+pairs_are_read i [] h even = ([], refl)
+pairs_are_read i (digit ∷ []) h even = absurd cc
+pairs_are_read i (high ∷ low ∷ rest) h even =
+    let (first, others) = and_parts (is_lower_digit high) (list_all is_lower_digit (low ∷ rest)) h in
+    let (second, more) = and_parts (is_lower_digit low) (list_all is_lower_digit rest) others in
+    let upper = some_of (hex_digit_value high) (has_value high first) in
+    let lower = some_of (hex_digit_value low) (has_value low second) in
+    let behind = pairs_are_read (i + 2) rest more (omega arith) in
+    ((upper.0 * 16 + lower.0) ∷ behind.0, pair_read i high low upper.0 lower.0 rest behind.0 upper.1 lower.1 behind.1)
+
+pub piece_is_some : (word : List ℕ) → list_all is_lower_digit word ≡ true → 2 ≤ length word → length word ≤ 131072 → length word % 2 ≡ 0 → piece_of word ≢ None
+piece_is_some word lower least most even none =
+    let read = pairs_are_read 0 word lower even in
+    let some : piece_of word ≡ Some read.0 =
+    cond-true (list_all is_lower_digit word && leb 2 (length word) && leb (length word) 131072) (decoded (decode_of word)) None
+    (and_from _ _ (and_from _ _ lower (le-leb 2 _ least)) (le-leb _ 131072 most))
+    ∙ ap decoded (decode_of-even word even ∙ read.1) in
+    absurd cc

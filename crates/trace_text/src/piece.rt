@@ -1,4 +1,4 @@
-ghost use Rattle.std.specs.Prelude.{◌≡◌, IfOk};
+ghost use Rattle.std.specs.Prelude.{◌≡◌, ◌≢◌, IfOk, OnErr, None};
 ghost use Rattle.std.specs.List.{join_with_byte};
 ghost use Rattle.std.specs.String.{string_bytes};
 ghost use Rattle.trace_text.specs.Bytes.{bytes_words};
@@ -12,9 +12,10 @@ use std::alloc::{AllocError, Global};
 // One read of a socket has so many bytes at most, and each has two digits.
 const DIGITS_MOST: usize = 131_072;
 
-/// The bytes that a word spells in lower case, if it does: one read of a socket.
+/// The bytes that a word spells in lower case, if it does: one read of a socket. Memory is asked for only where it does.
 pub fn read_piece(alloc: Global, word: &[u8]) -> Result<Option<Octets>, OutOfMemory>
-    ensures { IfOk result (λ piece. piece ≡ piece_of word.now) }
+    ensures piece { IfOk result (λ piece. piece ≡ piece_of word.now) }
+    ensures memory { OnErr result (piece_of word.now ≢ None) }
 {
     if word.len() < 2
         || DIGITS_MOST < word.len()

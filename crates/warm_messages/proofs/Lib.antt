@@ -1,4 +1,5 @@
 pub mod Elements
+pub mod Firsts
 pub mod Returned
 pub mod Arrays
 pub mod Spelling

@@ -88,6 +88,14 @@ peers_in size bytes = number_at bytes >>= λ kind.
 unfoldable pub peers_at : Reader (List Addr)
 peers_at bytes = opening_at bytes >>= λ opened. peers_in opened.0 opened.1
 
+-- an address behind the head of an array
+abbrev pub first_in : Reader Addr
+first_in bytes = opening_at bytes >>= λ opened. address_at opened.1
+
+-- the first address of a peers message
+abbrev pub first_peer_at : Reader Addr
+first_peer_at bytes = opening_at bytes >>= λ opened. number_at opened.1 >>= λ kind. if kind.0 == 1 then first_in kind.1 else None
+
 abbrev pub share_by : Option (List ℕ) → List ℕ → Option Share
 share_by (Some numbers) bytes = share_of_numbers numbers
 share_by None bytes = option_map share.Peers (whole (peers_at bytes))

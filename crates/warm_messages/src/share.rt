@@ -1,8 +1,8 @@
-ghost use Rattle.std.specs.Prelude.{◌≡◌, ◌++◌, List, ℕ, IfOk, OnOk, MatchOption};
+ghost use Rattle.std.specs.Prelude.{◌≡◌, ◌≢◌, ◌++◌, List, ℕ, IfOk, OnOk, OnErr, MatchOption, None, Err};
 ghost use Rattle.cbor_items.specs.Front.{FindsBy, whole};
 ghost use Rattle.warm_messages.specs.declared.share.Share.{Share};
 ghost use Rattle.warm_messages.specs.Message.{SpellsShare};
-ghost use Rattle.warm_messages.specs.Reading.{UnreadSays, addresses_at, peers_in, peers_at, share_of_numbers, share_of};
+ghost use Rattle.warm_messages.specs.Reading.{UnreadSays, first_in, first_peer_at, addresses_at, peers_in, peers_at, share_of_numbers, share_of};
 ghost use Rattle.warm_messages.specs.Writing.{written_addresses, written_request, written_peers};
 
 use crate::PeerItems;
@@ -32,6 +32,8 @@ pub enum Share {
 pub fn read_share(alloc: Global, bytes: &[u8]) -> Result<Option<Share>, OutOfMemory>
     ensures value { IfOk result (λ answer. answer ≡ share_of bytes.now) }
     ensures spelled { IfOk result (λ answer. MatchOption answer ((message : Share) → SpellsShare message bytes.now → ⊥) (λ message. SpellsShare message bytes.now)) }
+    // Want of memory comes only behind the first address of a peers message.
+    ensures memory { OnErr result (first_peer_at bytes.now ≢ None) }
 {
     if let Some(numbers) = only_numbers(bytes) {
         return Ok(share_of_numbers(numbers.as_slice()));
@@ -54,7 +56,8 @@ fn share_of_numbers(numbers: &[u64]) -> Option<Share>
 }
 
 fn only_peers(alloc: Global, bytes: &[u8]) -> Result<PeerItems, Unread>
-    ensures { FindsBy UnreadSays (λ peers. peers) result (whole (peers_at bytes.now)) }
+    ensures reading { FindsBy UnreadSays (λ peers. peers) result (whole (peers_at bytes.now)) }
+    ensures memory { result ≡ Err Unread.OutOfMemory → first_peer_at bytes.now ≢ None }
 {
     let (peers, rest) = split_peers(alloc, bytes)?;
     if rest.is_empty() {
@@ -67,7 +70,8 @@ fn only_peers(alloc: Global, bytes: &[u8]) -> Result<PeerItems, Unread>
 // The addresses of the peers message at the front of the bytes, and the bytes behind it.
 #[tactic(auto, unfolding(crate::specs::Reading::peers_at))]
 fn split_peers(alloc: Global, bytes: &[u8]) -> Result<(PeerItems, &[u8]), Unread>
-    ensures { FindsBy UnreadSays (λ read. (read.0, read.1.now)) result (peers_at bytes.now) }
+    ensures reading { FindsBy UnreadSays (λ read. (read.0, read.1.now)) result (peers_at bytes.now) }
+    ensures memory { result ≡ Err Unread.OutOfMemory → first_peer_at bytes.now ≢ None }
 {
     let (length, rest) = open_array(bytes).ok_or(Unread::NoMessage)?;
     let (kind, rest) = split_number(rest)?;
@@ -82,7 +86,8 @@ fn split_peers(alloc: Global, bytes: &[u8]) -> Result<(PeerItems, &[u8]), Unread
 // The addresses of the array at the front of the bytes, and the bytes behind it.
 #[tactic(auto, unfolding(crate::specs::Reading::addresses_at))]
 fn split_addresses(alloc: Global, bytes: &[u8]) -> Result<(PeerItems, &[u8]), Unread>
-    ensures { FindsBy UnreadSays (λ read. (read.0, read.1.now)) result (addresses_at bytes.now) }
+    ensures reading { FindsBy UnreadSays (λ read. (read.0, read.1.now)) result (addresses_at bytes.now) }
+    ensures memory { result ≡ Err Unread.OutOfMemory → first_in bytes.now ≢ None }
 {
     let (length, mut rest) = open_array(bytes).ok_or(Unread::NoMessage)?;
     let mut peers = PeerItems::new(alloc);

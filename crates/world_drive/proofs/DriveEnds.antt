@@ -22,7 +22,8 @@ use Rattle.trace_meaning.specs.Judgement.{most_events}
 use Rattle.trace_compare.specs.Written.{IsWrittenTrace, TakesAgreeing}
 use Rattle.trace_meaning.specs.declared.outcome.Outcome.{Outcome}
 use Rattle.trace_meaning.specs.declared.outcome.Outcome.TheVariants as outcome
-use Rattle.world_drive.proofs.Drives.{front_all, front_none, front_behind, front_more, text_of-append, acts_of-append, why_behind, of_world, Ran-Ran, Ran-Broke}
+use Rattle.trace_compare.proofs.RunTexts.{text_of-append}
+use Rattle.world_drive.proofs.Drives.{front_all, front_none, front_behind, front_more, acts_of-append, why_behind, of_world, Ran-Ran, Ran-Broke}
 use Rattle.trace_compare.proofs.Written.{whole_agrees}
 
 front_whole : {T : Type 0} (a b c : List T) → IsFrontOf a b → IsFrontOf b c → IsFrontOf a c

@@ -17,8 +17,9 @@ use Rattle.node_world.specs.Meanings.{with_more, with_one_more}
 use Rattle.node_world.proofs.Told.{with_more-nil, with_more-append}
 use Rattle.trace_text.specs.EventTexts.{printed_event}
 use Rattle.world_drive.specs.Drive.{IsFrontOf, acts_of}
-use Rattle.trace_compare.specs.RunText.{text_of}
-use Rattle.world_drive.specs.DriveCourse.{event_text, Ran, RanFor, Broke, BrokeAt, Came, Stopped, IsBreak, IsUnsaid, DoesFront, IsOfWorld}
+use Rattle.trace_compare.specs.RunText.{event_text, text_of}
+use Rattle.trace_compare.proofs.RunTexts.{after_all-append, after_all-one, text_of-append, text_of-one, text_of-none}
+use Rattle.world_drive.specs.DriveCourse.{Ran, RanFor, Broke, BrokeAt, Came, Stopped, IsBreak, IsUnsaid, DoesFront, IsOfWorld}
 use Rattle.trace_meaning.specs.Output.{told_event}
 use Rattle.trace_compare.specs.Written.{IsTraceable}
 use Rattle.trace_meaning.specs.declared.outcome.Outcome.{Outcome}
@@ -46,39 +47,6 @@ front_more {T} front whole more f = record {
 }
 
 -- ---- runs
-
-pub after_all-append : (m : Machine) (xs ys : List Event) → after_all m (xs ++ ys) ≡ after_all (after_all m xs) ys
-unfolding after_all
-after_all-append m [] ys = refl
-after_all-append m (x ∷ xs) ys = after_all-append (step m x).machine xs ys
-
-pub after_all-one : (m : Machine) (event : Event) → after_all m (event ∷ []) ≡ (step m event).machine
-unfolding after_all
-after_all-one m event = refl
-
-text_of-none : (m : Machine) → text_of m [] ≡ []
-unfolding text_of actions_of
-text_of-none m = refl
-
-text_of-cons : (m : Machine) (x : Event) (xs : List Event) → text_of m (x ∷ xs) ≡ event_text m x ++ text_of (step m x).machine xs
-unfolding text_of actions_of event_text
-text_of-cons m x xs =
-    ap ended_lines (flat_map-cons told_event (printed_event x, (step m x).actions) (zip (map printed_event xs) (actions_of (step m x).machine xs)))
-    ∙ flat_map-append (λ line. line ++ 10 ∷ []) (told_event (printed_event x, (step m x).actions))
-    (flat_map told_event (zip (map printed_event xs) (actions_of (step m x).machine xs)))
-
-pub text_of-append : (m : Machine) (xs ys : List Event) → text_of m (xs ++ ys) ≡ text_of m xs ++ text_of (after_all m xs) ys
-unfolding after_all
-text_of-append m [] ys = ap (λ text. text ++ text_of m ys) (sym (text_of-none m))
-text_of-append m (x ∷ xs) ys =
-    text_of-cons m x (xs ++ ys)
-    ∙ ap (λ text. event_text m x ++ text) (text_of-append (step m x).machine xs ys)
-    ∙ sym (append_assoc (event_text m x) (text_of (step m x).machine xs) (text_of (after_all (step m x).machine xs) ys))
-    ∙ ap (λ text. text ++ text_of (after_all (step m x).machine xs) ys) (sym (text_of-cons m x xs))
-
-pub text_of-one : (m : Machine) (event : Event) → text_of m (event ∷ []) ≡ event_text m event
-text_of-one m event =
-    text_of-cons m event [] ∙ ap (λ text. event_text m event ++ text) (text_of-none (step m event).machine) ∙ append-nil (event_text m event)
 
 pub acts_of-none : (m : Machine) → acts_of m [] ≡ []
 unfolding acts_of actions_of

@@ -17,7 +17,8 @@ use Rattle.world_drive.specs.Lawful.{DrivesLawfully, town_events, tallies_of, co
 use Rattle.trace_meaning.specs.declared.outcome.Outcome.{Outcome}
 use Rattle.trace_meaning.specs.declared.outcome.Outcome.TheVariants as outcome
 use Rattle.world_drive.specs.declared.tallies.Tallies.{Tallies}
-use Rattle.world_drive.proofs.Drives.{front_all, after_all-append, after_all-one, acts_of-none, acts_of-append, acts_of-one}
+use Rattle.trace_compare.proofs.RunTexts.{after_all-append, after_all-one}
+use Rattle.world_drive.proofs.Drives.{front_all, acts_of-none, acts_of-append, acts_of-one}
 
 -- ---- in a world
 

@@ -16,10 +16,6 @@ use Rattle.trace_compare.specs.Written.{IsTraceable}
 use Rattle.trace_meaning.specs.declared.outcome.Outcome.{Outcome}
 use Rattle.trace_meaning.specs.declared.outcome.Outcome.TheVariants as outcome
 
--- what is written of an event
-unfoldable pub event_text : Machine → Event → List ℕ
-event_text machine event = ended_lines (told_event (printed_event event, (step machine event).actions))
-
 -- The machine took these events: each is written with its actions, and they are done.
 pub record Ran (m : Machine) (events : List Event) (next : Machine) (done_before done_now : Option (List Action)) (out_before out_now : Option (List ℕ)) : Type 0 where
   pub machine_is : next ≡ after_all m events

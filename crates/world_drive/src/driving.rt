@@ -4,7 +4,7 @@ ghost use Rattle.io_edge.specs.Told.{Takes};
 ghost use Rattle.machine.specs.Machine.{start_of};
 ghost use Rattle.machine.specs.Step.{step};
 ghost use Rattle.node_world.specs.Meanings.{with_more, taken_after, done_after, says_end, GivesWithinLimits};
-ghost use Rattle.world_drive.specs.DriveCourse.{event_text, Ran, Broke, BrokeAt, Came, Stopped, IsUnsaid, DoesFront, IsOfWorld};
+ghost use Rattle.world_drive.specs.DriveCourse.{Ran, Broke, BrokeAt, Came, Stopped, IsUnsaid, DoesFront, IsOfWorld};
 ghost use Rattle.net_base.specs.Bounds.{AreSound};
 ghost use Rattle.net_base.specs.Limits.{IsWithinLimits};
 ghost use Rattle.trace_text.specs.EventTexts.{IsEventIn};
@@ -13,9 +13,9 @@ ghost use Rattle.world_drive.specs.Drive.{Drives, HasWorldCount, outcome_of_driv
 ghost use Rattle.world_drive.specs.Lawful.{DrivesLawfully};
 ghost use Rattle.trace_meaning.specs.Replays.{outcome_or};
 ghost use Rattle.trace_meaning.specs.FaultCounts.{HasWriteCount};
+ghost use Rattle.trace_compare.specs.RunText.{event_text};
 ghost use Rattle.trace_compare.specs.Written.{TakesAgreeing};
 
-use crate::holding::{hold_address, hold_event};
 use engine_start::{Pickers, first_engine, ranked_score, score};
 use io_edge::{PieceWriter, Sink, put_all};
 use laws::runs_are_lawful;
@@ -25,6 +25,7 @@ use node_engine::Engine;
 use node_world::{Next, World, WorldRefusal};
 use pick_policy::{Picker, RankedPicker};
 use std::alloc::Global;
+use trace_compare::{hold_address, hold_event};
 use trace_meaning::{Outcome, put_pending};
 use trace_text::{print_event, print_head};
 
@@ -246,7 +247,7 @@ fn take<W: World, K: Sink>(
 }
 
 // The step of an event, and the writing. Nothing is pending then.
-#[tactic(auto, unfolding(crate::specs::DriveCourse::event_text))]
+#[tactic(auto, unfolding(trace_compare::specs::RunText::event_text))]
 fn say<K: Sink>(
     alloc: Global,
     engine: Engine,

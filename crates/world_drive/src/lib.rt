@@ -4,7 +4,6 @@
 mod course;
 mod drilling;
 mod driving;
-mod holding;
 pub mod law;
 mod tallies;
 

@@ -82,7 +82,7 @@ fn timers_of_a_connection(rt: HostRuntime) -> Result<(), Fail> {
 }
 
 #[test]
-fn what_was_taken_out_stands_in_the_line_and_does_not_fire(rt: HostRuntime) -> Result<(), Fail> {
+fn what_was_taken_out_does_not_fire(rt: HostRuntime) -> Result<(), Fail> {
     let mut queue = TimerQueue::new(rt.alloc());
     for n in 0..20_u64 {
         queue.enroll(Cid(n))?;
@@ -96,12 +96,12 @@ fn what_was_taken_out_stands_in_the_line_and_does_not_fire(rt: HostRuntime) -> R
     set(&rt, &mut queue, (1007, Cid(7), Kind::Grace));
     set(&rt, &mut queue, (1030, Cid(8), Kind::Grace));
     assert!(rt; queue.least() == Some((1000, Cid(0), Kind::Grace)));
-    // the first, and those behind it that are gone already
+    // the first, and one before it
     queue.clear(Cid(1), Kind::Grace);
     queue.clear(Cid(0), Kind::Grace);
     assert!(rt; queue.least() == Some((1002, Cid(2), Kind::Grace)));
 
-    // moved more often than a line has room
+    // moved again and again
     for at in 2000..2300_u64 {
         for n in 16..20_u64 {
             set(&rt, &mut queue, (at + n, Cid(n), Kind::Grace));

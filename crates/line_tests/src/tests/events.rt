@@ -181,6 +181,7 @@ const REFUSED_EVENTS: &[(&str, LineRefusal)] = &[
     ("bytes 1", WORD_3),
     ("bytes 1 ", WORD_3),
     ("bytes 1 0", WORD_3),
+    ("bytes 1 000", WORD_3),
     ("bytes 1 0A", WORD_3),
     ("bytes 1 0g", WORD_3),
     ("bytes x 0g", NUMBER_2),

@@ -1,36 +1,37 @@
-ghost use Rattle.std.specs.Prelude.{◌≡◌, ◌<◌, Some, OnOk, OnErr, length, slice_get, slice_set};
-ghost use Rattle.timer_queue.specs.Order.{IsRising};
-ghost use Rattle.timer_queue.specs.Rows.{moment_of, with_at, with_new_row};
-ghost use Rattle.timer_queue.specs.declared.rows.Row.{Row};
-ghost use Rattle.timer_queue.specs.Timers.{cid_below};
+ghost use Rattle.std.specs.Prelude.{◌≡◌, ◌≤◌, true, length, is_some};
+ghost use Rattle.std.specs.Vec.{vec_capacity};
+ghost use Rattle.timer_queue.specs.Kept.{AreRising, those_in};
+ghost use Rattle.timer_queue.specs.Rows.{row_at, place_at, with_row};
+ghost use Rattle.timer_queue.specs.Trees.{IsTree, nodes_of};
 
-use super::{Row, place_of};
-use chunked_list::ChunkedList;
-use net_base::{Kind, OutOfMemory};
+use super::Row;
+use crate::tree::raise;
+use net_base::Deadline;
 
-// Puts in a row of an id that has none.
-pub fn insert_row(rows: &mut ChunkedList<Row>, row: Row) -> Result<(), OutOfMemory>
-    requires { IsRising cid_below (λ r. r.cid) rows.old }
-    ensures ok { OnOk result (rows.new ≡ with_new_row row rows.old) }
-    ensures err { OnErr result (rows.new ≡ rows.old) }
+// Drops the rows of those that have left.
+pub fn drop_gone(rows: &mut Vec<Row>)
+    ensures rows { rows.new.items ≡ those_in rows.old.items }
+    ensures memory { vec_capacity rows.new ≡ vec_capacity rows.old }
 {
-    let place = place_of(rows, row.cid);
-    rows.insert(place, row)
+    rows.retain(|row| row.enrolled);
 }
 
-// Sets or clears a timer of the row at a place, and gives the moment that it had.
-pub fn change_row(
-    rows: &mut ChunkedList<Row>,
-    place: usize,
-    kind: Kind,
-    at: Option<u64>,
-) -> Option<u64>
-    requires { place < length rows.old }
-    ensures rows { (row : Row) → slice_get rows.old place ≡ Some row → rows.new ≡ slice_set rows.old place (with_at kind at row) }
-    ensures old { result ≡ moment_of kind (slice_get rows.old place) }
+// Puts a row in the place of the one of its id. Where its first timer is the same, the tree stays.
+pub fn put(rows: &mut Vec<Row>, inner: &mut Vec<Option<Deadline>>, place: usize, row: Row)
+    requires rise { AreRising rows.old.items }
+    requires fit { length rows.old.items ≤ length inner.old.items }
+    requires tree { IsTree inner.old.items (nodes_of rows.old.items) }
+    requires there { is_some (row_at row.cid rows.old.items) ≡ true }
+    requires place { place ≡ place_at row.cid rows.old.items }
+    ensures rows { rows.new.items ≡ with_row row rows.old.items }
+    ensures memory { vec_capacity rows.new ≡ vec_capacity rows.old }
+    ensures length { length inner.new.items ≡ length inner.old.items }
+    ensures tree { IsTree inner.new.items (nodes_of rows.new.items) }
 {
-    let mut row = *rows.at(place);
-    let old = row.moments.replace(kind, at);
-    rows.replace(place, row);
-    old
+    let first = row.first();
+    let stays = first == rows[place].first();
+    rows[place] = row;
+    if !stays {
+        raise(inner, rows, place, first);
+    }
 }

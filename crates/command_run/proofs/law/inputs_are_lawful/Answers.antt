@@ -13,5 +13,8 @@ pub returns-clause-events : goal.returns-clause-events
 returns-clause-events c = λ input count event.
     c.laws_of_events.ensures.runs (settings_in (heads_in (judged input).passed)) (take count (events_in (judged input).passed)) event (settings_sound input)
 
+pub returns-clause-pairs : goal.returns-clause-pairs
+returns-clause-pairs c = c.led_pairs_are_lawful.ensures
+
 pub returns-clause-clients : goal.returns-clause-clients
 returns-clause-clients c = c.led_clients_are_lawful.ensures

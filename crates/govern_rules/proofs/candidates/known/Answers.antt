@@ -11,7 +11,9 @@ loop-place-preserved c =
     let test = suits c.args.search.now in
     let place = c.loop-place.place in
     let run = c.run_from-run.result.now in
-    c.in_ok-take_in.ensures
-    ∙ (ap (λ l. l ++ filter test run) c.loop-place.invariant
+    let cands =
+    c.in_ok-take_in.ensures.cands
+    ∙ (ap (λ l. l ++ filter test run) c.loop-place.invariant.0
     ∙ (ap (λ l. filter test (take place book) ++ filter test l) c.run_from-run.ensures.front
-    ∙ sym (ap (filter test) (take-add place (length run) book) ∙ filter-append test (take place book) (take (length run) (drop place book)))))
+    ∙ sym (ap (filter test) (take-add place (length run) book) ∙ filter-append test (take place book) (take (length run) (drop place book))))) in
+    (cands, c.in_ok-take_in.ensures.same ∙ c.loop-place.invariant.1)

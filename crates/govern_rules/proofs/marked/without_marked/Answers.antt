@@ -1,4 +1,4 @@
-use Rattle.std.proofs.Common.{◌≡◌, ◌-◌, Bool, ◌&&◌, List, ap, ◌∙◌}
+use Rattle.std.proofs.Common.{◌-◌, Bool, ◌&&◌, List, ap, ◌∙◌}
 use Rattle.net_base.specs.declared.address.Addr.{Addr}
 use Rattle.peer_book.specs.Book.{is_of}
 use Rattle.govern_rules.specs.Links.{some_link}

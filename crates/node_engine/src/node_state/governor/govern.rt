@@ -1,5 +1,5 @@
 ghost use Rattle.std.specs.Prelude.{◌≤◌, ◌+◌, ◌^◌, OnOk};
-ghost use Rattle.laws.specs.Whole.{IsOrdered};
+ghost use Rattle.laws.specs.Steady.{IsOrdered};
 ghost use Rattle.laws.specs.Laws.{WithinHardLimit};
 ghost use Rattle.machine.specs.Govern.{govern};
 ghost use Rattle.node_engine.specs.State.{Does};

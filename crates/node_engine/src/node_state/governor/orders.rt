@@ -1,5 +1,5 @@
 ghost use Rattle.std.specs.Prelude.{◌≡◌, OnOk};
-ghost use Rattle.laws.specs.Carrying.{CanPromote, MayCarry, MayAll};
+ghost use Rattle.laws.specs.OrderNeeds.{CanPromote, MayCarry, MayAll};
 ghost use Rattle.machine.specs.Effect.{for_each};
 ghost use Rattle.machine.specs.Govern.{asks_peer, activates, deactivates, promote, activate, on_used, carries_out};
 ghost use Rattle.machine.specs.Connections.{release};

@@ -1,5 +1,5 @@
 ghost use Rattle.std.specs.Prelude.{◌≡◌, IfOk, OnOk};
-ghost use Rattle.laws.specs.Carrying.{MayAll, MayFollow};
+ghost use Rattle.laws.specs.OrderNeeds.{MayAll, MayFollow};
 ghost use Rattle.machine.specs.Effect.{for_each};
 ghost use Rattle.govern_rules.specs.SameViews.{SeeSame};
 ghost use Rattle.machine.specs.Govern.{ordinary_rules, big_rules, rules, view_of};

@@ -1,4 +1,4 @@
-use Rattle.std.proofs.Common.{refl, arith}
+use Rattle.std.proofs.Common.{arith}
 use Rattle.mux_segment.proofs.PackedLists.{packed_pushed}
 use Rattle.mux_segment.proofs.packed.PackedItems.push.Goals as goal
 

@@ -2,7 +2,7 @@ use Rattle.std.proofs.Common.{ap, sym, subst, arith}
 use Rattle.machine.specs.Machine.{Machine}
 use Rattle.machine.specs.Step.{step}
 use Rattle.laws.specs.Records.{IsLawfulRecord}
-use Rattle.laws.specs.Whole.{IsSteady, GivesFew}
+use Rattle.laws.specs.Steady.{IsSteady, GivesFew}
 use Rattle.laws.proofs.Ids.{step-few}
 use Rattle.laws.proofs.PartEvents.{event-lawful}
 use Rattle.laws.proofs.PeerLaws.{steady-lawful}

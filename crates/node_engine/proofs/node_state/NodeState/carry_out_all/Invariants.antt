@@ -1,5 +1,5 @@
 use Rattle.std.proofs.Common.{drop}
-use Rattle.laws.specs.Carrying.{MayAll}
+use Rattle.laws.specs.OrderNeeds.{MayAll}
 use Rattle.machine.specs.Govern.{carries_out}
 use Rattle.node_engine.proofs.Going.{IsGoing}
 use Rattle.node_engine.proofs.node_state.NodeState.carry_out_all.Given as goal

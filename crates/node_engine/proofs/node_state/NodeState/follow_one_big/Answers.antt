@@ -1,6 +1,6 @@
 use Rattle.std.proofs.Common.{◌≡◌, OnOk, List, sym, subst, ◌∙◌}
 use Rattle.govern_rules.specs.declared.order.Order.{Order}
-use Rattle.laws.specs.Carrying.{MayAll}
+use Rattle.laws.specs.OrderNeeds.{MayAll}
 use Rattle.machine.specs.Effect.{for_each}
 use Rattle.machine.specs.Govern.{carries_out}
 use Rattle.node_engine.specs.Rules.{big_orders_by}

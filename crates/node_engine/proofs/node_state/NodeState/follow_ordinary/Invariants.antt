@@ -1,5 +1,5 @@
 use Rattle.std.proofs.Common.{drop}
-use Rattle.laws.specs.Carrying.{MayFollow}
+use Rattle.laws.specs.OrderNeeds.{MayFollow}
 use Rattle.machine.specs.Govern.{ordinary_rules, rules}
 use Rattle.node_engine.proofs.Going.{IsGoing}
 use Rattle.node_engine.proofs.node_state.NodeState.follow_ordinary.Given as goal

@@ -4,7 +4,7 @@ use Rattle.machine.specs.Govern.{asks_roots, ordinary_rules, big_rules, rules}
 use Rattle.node_engine.proofs.DoesLemmas.{on_ok}
 use Rattle.node_engine.proofs.Doings.{does_then}
 use Rattle.node_engine.proofs.RuleSteps.{ordinary-may, big-may}
-use Rattle.laws.proofs.Carrying.{govern-may}
+use Rattle.laws.proofs.OrderNeeds.{govern-may}
 use Rattle.node_engine.proofs.node_state.NodeState.govern.Goals as goal
 
 pub follow_ordinary-requires : goal.follow_ordinary-requires

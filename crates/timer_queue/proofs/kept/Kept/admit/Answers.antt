@@ -1,50 +1,48 @@
-use Rattle.std.proofs.Common.{◌≡◌, List, length, ap, sym, subst, ◌∙◌, arith}
-use Rattle.std.specs.List.{sum_by}
+use Rattle.std.proofs.Common.{◌≡◌, List, false, is_some, length, refl, ap, sym, subst, ◌∙◌, arith}
 use Rattle.net_base.specs.declared.connection.Cid.{Cid}
-use Rattle.net_base.specs.declared.timer.Deadline.{Deadline}
-use Rattle.timer_queue.specs.Kept.{set_of, begins_set, IsLineOf}
-use Rattle.timer_queue.specs.Rows.{timers_in, empty_row, with_new_row, is_set_at}
+use Rattle.timer_queue.specs.Kept.{AreRising, AreIdle}
+use Rattle.timer_queue.specs.Rows.{row_at, empty_row, with_row}
 use Rattle.timer_queue.specs.declared.rows.Row.{Row}
-use Rattle.timer_queue.proofs.Edits.{has_admitted}
-use Rattle.timer_queue.proofs.RowEdits.{AreRising, AreRising-with_new_row, ids_of, ids_of-with_new_row, sum-with_new_row, length-with_new_row, moment_at-with_new_row}
-use Rattle.timer_queue.proofs.SetTimers.{begins_set-same}
+use Rattle.timer_queue.proofs.Enrolled.{enrolled_in, enrolled-is, ids_of, ids-again, idle-row, idle-with_row}
+use Rattle.timer_queue.proofs.Puts.{timers-again}
+use Rattle.timer_queue.proofs.RowEdits.{StandsAt, stands_as_found, AreRising-with_row, length-with_row}
+use Rattle.timer_queue.proofs.TimersOf.{timers_of}
+use Rattle.timer_queue.proofs.kept.Kept.admit.Goals.{After-put}
 use Rattle.timer_queue.proofs.kept.Kept.admit.Goals as goal
 
-pub returns-clause-kept : goal.returns-clause-kept
-returns-clause-kept c =
-    let cid : Cid = c.args.cid in
-    let rows : List Row = c.args.self.now.rows in
-    let line : List Deadline = c.args.self.now.line.items in
-    let kept = c.requires.kept.loose in
-    let new : List Row = with_new_row (empty_row cid) rows in
-    let e : c.insert_row.new.rows ≡ new = c.in_ok-insert_row.ensures.ok ∙ ap (λ r. with_new_row r rows) c.empty.ensures in
-    let has = has_admitted cid rows line c.requires.absent kept.lined in
-    let same = begins_set-same rows new line (λ d. ap (is_set_at d.at) (moment_at-with_new_row d.cid d.kind cid rows c.requires.absent)) in
+abbrev before : After-put → List Row
+before c = c.args.self.now.rows.items
+
+stands : (c : After-put) → StandsAt c.args.cid (before c) c.in-Some.place
+stands c =
+    stands_as_found c.args.cid (before c) c.deref.result.now c.in-Some.place c.place_in.result c.requires.kept.rise c.deref.ensures.value
+    c.place_in.ensures c.in-Some.is
+
+items : (c : After-put) → c.put.new.rows.items ≡ with_row (empty_row c.args.cid) (before c)
+items c = c.put.ensures.rows ∙ ap (λ r. with_row r (before c)) c.empty.ensures
+
+pub returns-in-Some-clause-kept : goal.returns-in-Some-clause-kept
+returns-in-Some-clause-kept c =
+    let rows = before c in
+    let new : Row = empty_row c.args.cid in
+    let kept = c.requires.kept in
+    let is = items c in
     record {
-      loose = record {
-        rows_rise = subst AreRising (sym e) (AreRising-with_new_row (empty_row cid) rows kept.rows_rise c.requires.absent);
-        lined = subst (λ rs. IsLineOf rs line) (sym e) has.lined;
-        counted = omega (arith, kept.counted, ap (sum_by timers_in) e, sum-with_new_row (empty_row cid) rows);
-        as_many = omega (
-          arith,
-          kept.as_many,
-          ap length (ap (λ rs. set_of rs line) e ∙ has.set),
-          ap (sum_by timers_in) e,
-          sum-with_new_row (empty_row cid) rows,
-        );
-        roomy = omega (arith, ap length e, length-with_new_row (empty_row cid) rows, c.requires.room);
-      };
-      begins = ap (λ rs. begins_set rs line) e ∙ (same ∙ c.requires.kept.begins);
+      rise = subst AreRising (sym is) (AreRising-with_row new rows kept.rise);
+      idle = subst AreIdle (sym is) (idle-with_row new rows (λ left. refl) kept.idle);
+      fit = omega (arith, ap length is, length-with_row new rows, c.put.ensures.length, kept.fit);
+      memory = omega (arith, c.put.ensures.memory, c.put.ensures.length, kept.memory);
+      tree = c.put.ensures.tree;
     }
 
-pub returns-clause-ok : goal.returns-clause-ok
-returns-clause-ok c =
-    let cid : Cid = c.args.cid in
-    let rows : List Row = c.args.self.now.rows in
-    let line : List Deadline = c.args.self.now.line.items in
-    let kept = c.requires.kept.loose in
-    let e : c.insert_row.new.rows ≡ with_new_row (empty_row cid) rows =
-    c.in_ok-insert_row.ensures.ok ∙ ap (λ r. with_new_row r rows) c.empty.ensures in
-    let ids = ap ids_of e ∙ ids_of-with_new_row (empty_row cid) rows kept.rows_rise c.requires.absent in
-    let timers = ap (λ rs. set_of rs line) e ∙ (has_admitted cid rows line c.requires.absent kept.lined).set in
+pub returns-in-Some-clause-queue : goal.returns-in-Some-clause-queue
+returns-in-Some-clause-queue c =
+    let rows = before c in
+    let kept = c.requires.kept in
+    let s = stands c in
+    let absent : enrolled_in (row_at c.args.cid rows) ≡ false = sym (enrolled-is c.args.cid rows kept.rise) ∙ c.requires.absent in
+    let none = idle-row c.args.cid s.row rows kept.idle s.there (sym (ap enrolled_in s.there) ∙ absent) in
+    let ids = ap ids_of (items c) ∙ ids-again c.args.cid rows kept.rise (ap is_some s.there) absent in
+    let timers = ap timers_of (items c)
+    ∙ subst (λ (i : Cid). timers_of (with_row (empty_row i) rows) ≡ timers_of rows) s.its (timers-again s.row rows kept.rise s.found none) in
     λ i. record { enrolled = ids i; timers = timers i }

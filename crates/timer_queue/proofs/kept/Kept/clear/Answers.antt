@@ -1,94 +1,81 @@
-use Rattle.std.proofs.Common.{◌≡◌, List, true, None, slice_get, length, ap, sym, subst, ◌∙◌, arith}
-use Rattle.std.specs.List.{sum_by}
-use Rattle.std.proofs.lemmas.Option.{slice_get_within}
-use Rattle.net_base.specs.declared.timer.Deadline.{Deadline}
-use Rattle.timer_queue.specs.Kept.{set_of, is_set_or_of, IsLineOf}
-use Rattle.timer_queue.specs.Rows.{moment_of, timers_in, with_row, IsMomentOf}
+use Rattle.std.proofs.Common.{◌≡◌, List, None, is_some, length, ap, sym, subst, ◌∙◌, arith}
+use Rattle.std.proofs.lemmas.Option.{slice_get_within, get_or_from_slice_get}
+use Rattle.net_base.specs.declared.connection.Cid.{Cid}
+use Rattle.timer_queue.specs.Kept.{AreRising, AreIdle, queue_of}
+use Rattle.timer_queue.specs.Rows.{row_at, place_at, with_at, with_row}
 use Rattle.timer_queue.specs.Timers.{without_kind}
 use Rattle.timer_queue.specs.declared.rows.Row.{Row}
-use Rattle.timer_queue.proofs.Agreement.{has-of, without_kind-unset}
-use Rattle.timer_queue.proofs.Changes.{stands_as_found, missing, new_row, changed, old_told, count}
-use Rattle.timer_queue.proofs.Edits.{Has, has_cleared, set-with_row, length-without_kind}
-use Rattle.timer_queue.proofs.RowEdits.{AreRising, AreRising-with_row, ids_of, ids_of-with_row, length-with_row}
-use Rattle.timer_queue.proofs.SetTimers.{agreeing, in_order, still_begins}
+use Rattle.timer_queue.proofs.Enrolled.{enrolled_in, enrolled-is, ids_of, ids-same, idle-with_row}
+use Rattle.timer_queue.proofs.Orderly.{nothing_to_clear, orderly_when_kept}
+use Rattle.timer_queue.proofs.Puts.{timers-cleared, idle-cleared}
+use Rattle.timer_queue.proofs.RowEdits.{StandsAt, stands_as_found, missing, AreRising-with_row, length-with_row}
+use Rattle.timer_queue.proofs.TimersOf.{timers_of}
+use Rattle.timer_queue.proofs.kept.Kept.clear.Goals.{In-Some, After-with-row}
 use Rattle.timer_queue.proofs.kept.Kept.clear.Goals as goal
 
 pub returns-in_default-clause-queue : goal.returns-in_default-clause-queue
 returns-in_default-clause-queue c =
-    let rows : List Row = c.args.self.now.rows in
-    let line : List Deadline = c.args.self.now.line.items in
-    let timers : List Deadline = set_of rows line in
-    let none = missing c.args.cid rows c.place_in.result c.place_in.ensures c.in_default.is in
-    let told : IsMomentOf c.args.cid c.args.kind None timers = subst (λ o. IsMomentOf c.args.cid c.args.kind o timers) (ap (moment_of c.args.kind) none)
-    (has-of c.args.cid c.args.kind rows timers (agreeing rows line c.requires.loose.lined)) in
-    let same = without_kind-unset c.args.cid c.args.kind timers told in
-    λ i. record { enrolled = ids_of rows; timers = sym same i }
+    let kept = c.args.self.now in
+    let rows : List Row = kept.rows.items in
+    let none = missing c.args.cid rows c.deref.result.now c.place_in.result c.deref.ensures.value c.place_in.ensures c.in_default.is in
+    sym (nothing_to_clear c.args.cid c.args.kind (queue_of kept) (orderly_when_kept kept c.requires)
+    (enrolled-is c.args.cid rows c.requires.rise ∙ ap enrolled_in none))
 
-pub change_row-old-requires : goal.change_row-old-requires
-change_row-old-requires c =
-    let rows : List Row = c.args.self.now.rows in
-    let s = stands_as_found c.args.cid rows c.in-Some.place c.place_in.result c.requires.loose.rows_rise c.place_in.ensures c.in-Some.is in
-    slice_get_within rows c.in-Some.place s.row s.here
+abbrev before : In-Some → List Row
+before c = c.args.self.now.rows.items
 
-pub overflow_sub-self : goal.overflow_sub-self
-overflow_sub-self c =
-    let rows : List Row = c.args.self.now.rows in
-    let loose = c.requires.loose in
-    let s = stands_as_found c.args.cid rows c.in-Some.place c.place_in.result loose.rows_rise c.place_in.ensures c.in-Some.is in
-    let old = c.change_row-old.ensures.old ∙ ap (moment_of c.args.kind) s.here in
-    omega (arith, loose.counted, c.one_if_set.ensures.value, count s c.args.kind None c.change_row-old.result loose.rows_rise old)
+stands : (c : In-Some) → StandsAt c.args.cid (before c) c.in-Some.place
+stands c =
+    stands_as_found c.args.cid (before c) c.deref.result.now c.in-Some.place c.place_in.result c.requires.rise c.deref.ensures.value c.place_in.ensures c.in-Some.is
 
-pub settle-requires-clause-loose : goal.settle-requires-clause-loose
-settle-requires-clause-loose c =
-    let rows : List Row = c.args.self.now.rows in
-    let line : List Deadline = c.args.self.now.line.items in
-    let timers : List Deadline = set_of rows line in
-    let loose = c.requires.loose in
-    let s = stands_as_found c.args.cid rows c.in-Some.place c.place_in.result loose.rows_rise c.place_in.ensures c.in-Some.is in
-    let old = c.change_row-old.ensures.old ∙ ap (moment_of c.args.kind) s.here in
-    let new : Row = new_row s c.args.kind None in
-    let e : c.change_row-old.new.rows ≡ with_row new rows = changed s c.args.kind None c.change_row-old.new.rows loose.rows_rise c.change_row-old.ensures.rows in
-    let told = old_told s c.args.kind None timers c.change_row-old.result (agreeing rows line loose.lined) old in
-    let has : Has (with_row new rows) line (without_kind c.args.cid c.args.kind timers) =
-    subst (λ i. Has (with_row new rows) line (without_kind i c.args.kind timers)) s.its (has_cleared s.row c.args.kind rows line s.found loose.lined) in
-    let sums = count s c.args.kind None c.change_row-old.result loose.rows_rise old in
+pub index-requires : goal.index-requires
+index-requires c =
+    let s = stands (goal.at.index-requires c).In-Some in
+    omega (arith, c.args.self.now.rows.ok, slice_get_within c.args.self.now.rows.items c.in-Some.place s.row s.here)
+
+its : (c : After-with-row) (s : StandsAt c.args.cid c.args.self.now.rows.items c.in-Some.place) → c.with-row.result ≡ with_at c.args.kind None s.row
+its c s =
+    c.with-row.ensures ∙ ap (with_at c.args.kind None)
+    (c.index.ensures ∙ get_or_from_slice_get c.args.self.now.rows.items c.in-Some.place s.row c.index.result.now s.here)
+
+pub put-requires-clause-there : goal.put-requires-clause-there
+put-requires-clause-there c =
+    let d = goal.at.put-requires-clause-there c in
+    let s = stands d.In-Some in
+    ap (λ (r : Row). is_some (row_at r.cid c.args.self.now.rows.items)) (its d.After-with-row s) ∙ ap is_some s.found
+
+pub put-requires-clause-place : goal.put-requires-clause-place
+put-requires-clause-place c =
+    let d = goal.at.put-requires-clause-place c in
+    let s = stands d.In-Some in
+    s.at ∙ ap (λ (r : Row). place_at r.cid c.args.self.now.rows.items) (sym (its d.After-with-row s))
+
+pub returns-clause-kept : goal.returns-clause-kept
+returns-clause-kept c =
+    let d = goal.at.returns-clause-kept c in
+    let rows : List Row = c.args.self.now.rows.items in
+    let s = stands d.In-Some in
+    let new : Row = with_at c.args.kind None s.row in
+    let is : c.put.new.rows.items ≡ with_row new rows = c.put.ensures.rows ∙ ap (λ r. with_row r rows) (its d.After-with-row s) in
+    let kept = c.requires in
     record {
-      rows_rise = subst AreRising (sym e) (AreRising-with_row new rows loose.rows_rise);
-      lined = subst (λ rs. IsLineOf rs line) (sym e) has.lined;
-      counted = omega (arith, loose.counted, c.one_if_set.ensures.value, ap (sum_by timers_in) e, sums);
-      as_many = omega (
-        arith,
-        loose.as_many,
-        ap length (ap (λ rs. set_of rs line) e ∙ has.set),
-        length-without_kind c.args.cid c.args.kind c.change_row-old.result timers (in_order rows line loose.lined) told,
-        ap (sum_by timers_in) e,
-        sums,
-      );
-      roomy = omega (arith, loose.roomy, ap length e, length-with_row new rows);
+      rise = subst AreRising (sym is) (AreRising-with_row new rows kept.rise);
+      idle = subst AreIdle (sym is) (idle-with_row new rows (idle-cleared s.row c.args.kind rows kept.idle s.found) kept.idle);
+      fit = omega (arith, ap length is, length-with_row new rows, c.put.ensures.length, kept.fit);
+      memory = omega (arith, c.put.ensures.memory, c.put.ensures.length, kept.memory);
+      tree = c.put.ensures.tree;
     }
-
-pub settle-requires-clause-begins : goal.settle-requires-clause-begins
-settle-requires-clause-begins c =
-    let rows : List Row = c.args.self.now.rows in
-    let line : List Deadline = c.args.self.now.line.items in
-    let loose = c.requires.loose in
-    let s = stands_as_found c.args.cid rows c.in-Some.place c.place_in.result loose.rows_rise c.place_in.ensures c.in-Some.is in
-    let new : Row = new_row s c.args.kind None in
-    let e : c.change_row-old.new.rows ≡ with_row new rows = changed s c.args.kind None c.change_row-old.new.rows loose.rows_rise c.change_row-old.ensures.rows in
-    let begins = still_begins s.row.cid rows (with_row new rows) line (set-with_row s.row c.args.kind None rows s.found) c.requires.begins in
-    ap (λ rs. is_set_or_of c.args.cid rs (slice_get line 0)) e ∙ subst (λ i. is_set_or_of i (with_row new rows) (slice_get line 0) ≡ true) s.its begins
 
 pub returns-clause-queue : goal.returns-clause-queue
 returns-clause-queue c =
-    let rows : List Row = c.args.self.now.rows in
-    let line : List Deadline = c.args.self.now.line.items in
-    let timers : List Deadline = set_of rows line in
-    let loose = c.requires.loose in
-    let s = stands_as_found c.args.cid rows c.in-Some.place c.place_in.result loose.rows_rise c.place_in.ensures c.in-Some.is in
-    let new : Row = new_row s c.args.kind None in
-    let e : c.change_row-old.new.rows ≡ with_row new rows = changed s c.args.kind None c.change_row-old.new.rows loose.rows_rise c.change_row-old.ensures.rows in
-    let has : Has (with_row new rows) line (without_kind c.args.cid c.args.kind timers) =
-    subst (λ i. Has (with_row new rows) line (without_kind i c.args.kind timers)) s.its (has_cleared s.row c.args.kind rows line s.found loose.lined) in
-    let ids = ap ids_of e ∙ ids_of-with_row new rows in
-    let left = ap (λ rs. set_of rs line) e ∙ has.set in
-    c.settle.ensures.queue ∙ (λ i. record { enrolled = ids i; timers = left i })
+    let d = goal.at.returns-clause-queue c in
+    let rows : List Row = c.args.self.now.rows.items in
+    let s = stands d.In-Some in
+    let new : Row = with_at c.args.kind None s.row in
+    let is : c.put.new.rows.items ≡ with_row new rows = c.put.ensures.rows ∙ ap (λ r. with_row r rows) (its d.After-with-row s) in
+    let rise = c.requires.rise in
+    let ids = ap ids_of is ∙ ids-same s.row new rows rise s.found (λ i. s.row.enrolled) in
+    let timers = ap timers_of is
+    ∙ subst (λ (i : Cid). timers_of (with_row new rows) ≡ without_kind i c.args.kind (timers_of rows)) s.its
+    (timers-cleared s.row c.args.kind rows rise s.found) in
+    λ i. record { enrolled = ids i; timers = timers i }

@@ -1,119 +1,79 @@
-use Rattle.std.proofs.Common.{◌≡◌, ◌||◌, ◌⊎◌, true, List, length, slice_get, None, Some, ap, sym, subst, ◌∙◌, arith}
-use Rattle.std.specs.List.{sum_by}
-use Rattle.std.proofs.lemmas.Option.{slice_get_within}
-use Rattle.net_base.specs.declared.timer.Deadline.{Deadline}
-use Rattle.timer_queue.specs.Kept.{set_of, is_set_or_of, IsLineOf}
-use Rattle.timer_queue.specs.Queue.{is_enrolled, with_timer}
-use Rattle.timer_queue.specs.Rows.{moment_of, timers_in, with_row}
-use Rattle.timer_queue.specs.Timers.{timer, same_timer, has_timer, put_in, without_kind}
+use Rattle.std.proofs.Common.{◌≡◌, List, true, Some, is_some, length, ap, sym, subst, ◌∙◌, arith}
+use Rattle.std.proofs.lemmas.Bool.{true≢false}
+use Rattle.std.proofs.lemmas.Option.{slice_get_within, get_or_from_slice_get}
+use Rattle.net_base.specs.declared.connection.Cid.{Cid}
+use Rattle.timer_queue.specs.Kept.{AreRising, AreIdle}
+use Rattle.timer_queue.specs.Rows.{row_at, place_at, with_at, with_row}
+use Rattle.timer_queue.specs.Timers.{timer, put_in, without_kind}
 use Rattle.timer_queue.specs.declared.rows.Row.{Row}
-use Rattle.timer_queue.proofs.Changes.{new_row, changed, old_told, count}
-use Rattle.timer_queue.proofs.Edits.{Has, has_set, put_in-begins, length-set}
-use Rattle.timer_queue.proofs.RowEdits.{AreRising, AreRising-with_row, stands_at, enrolled-is, ids_of, ids_of-with_row, length-with_row, sum-most}
-use Rattle.timer_queue.proofs.SetTimers.{agreeing, in_order}
+use Rattle.timer_queue.proofs.Enrolled.{enrolled_in, enrolled-is, ids_of, ids-same, idle-with_row}
+use Rattle.timer_queue.proofs.Puts.{timers-set, there_if}
+use Rattle.timer_queue.proofs.RowEdits.{StandsAt, stands_at, AreRising-with_row, length-with_row}
+use Rattle.timer_queue.proofs.TimersOf.{timers_of}
+use Rattle.timer_queue.proofs.kept.Kept.set.Goals.{After-place_of-place, After-with-row}
 use Rattle.timer_queue.proofs.kept.Kept.set.Goals as goal
 
-pub change_row-old-requires : goal.change_row-old-requires
-change_row-old-requires c =
-    let rows : List Row = c.make_room.new.self.rows in
-    let loose = c.make_room.ensures.kept.loose in
-    let there = sym (enrolled-is c.args.cid rows) ∙ (ap (is_enrolled c.args.cid) c.make_room.ensures.queue ∙ c.requires.enrolled) in
-    let s = stands_at c.args.cid rows c.place_of-place.result loose.rows_rise there c.place_of-place.ensures.value in
-    omega (arith, slice_get_within rows c.place_of-place.result s.row s.here)
+abbrev before : After-place_of-place → List Row
+before c = c.args.self.now.rows.items
 
-pub overflow_sub-self : goal.overflow_sub-self
-overflow_sub-self c =
-    let rows : List Row = c.make_room.new.self.rows in
-    let loose = c.make_room.ensures.kept.loose in
-    let there = sym (enrolled-is c.args.cid rows) ∙ (ap (is_enrolled c.args.cid) c.make_room.ensures.queue ∙ c.requires.enrolled) in
-    let s = stands_at c.args.cid rows c.place_of-place.result loose.rows_rise there c.place_of-place.ensures.value in
-    let old = c.change_row-old.ensures.old ∙ ap (moment_of c.args.kind) s.here in
-    omega (arith, loose.counted, c.one_if_set.ensures.value, count s c.args.kind None c.change_row-old.result loose.rows_rise old)
+told : (c : After-place_of-place) → enrolled_in (row_at c.args.cid (before c)) ≡ true
+told c = sym (enrolled-is c.args.cid (before c) c.requires.kept.rise) ∙ c.requires.enrolled
 
-pub overflow_add-self : goal.overflow_add-self
-overflow_add-self c =
-    let rows : List Row = c.make_room.new.self.rows in
-    let loose = c.make_room.ensures.kept.loose in
-    omega (arith, loose.counted, loose.roomy, sum-most rows, c.make_room.new.self.line.small)
+stands : (c : After-place_of-place) → StandsAt c.args.cid (before c) c.place_of-place.result
+stands c =
+    stands_at c.args.cid (before c) c.place_of-place.result c.requires.kept.rise (there_if (row_at c.args.cid (before c)) (told c))
+    (c.place_of-place.ensures.value ∙ ap (place_at c.args.cid) c.deref.ensures.value)
 
-pub put_in-requires-clause-room : goal.put_in-requires-clause-room
-put_in-requires-clause-room c =
-    let rows : List Row = c.make_room.new.self.rows in
-    let loose = c.make_room.ensures.kept.loose in
-    let there = sym (enrolled-is c.args.cid rows) ∙ (ap (is_enrolled c.args.cid) c.make_room.ensures.queue ∙ c.requires.enrolled) in
-    let s = stands_at c.args.cid rows c.place_of-place.result loose.rows_rise there c.place_of-place.ensures.value in
-    c.make_room.ensures.room (omega (arith, slice_get_within rows c.place_of-place.result s.row s.here))
+pub index-requires : goal.index-requires
+index-requires c =
+    let s = stands (goal.at.index-requires c).After-place_of-place in
+    omega (arith, c.args.self.now.rows.ok, slice_get_within c.args.self.now.rows.items c.place_of-place.result s.row s.here)
 
-pub settle-requires-clause-loose : goal.settle-requires-clause-loose
-settle-requires-clause-loose c =
-    let rows : List Row = c.make_room.new.self.rows in
-    let line : List Deadline = c.make_room.new.self.line.items in
-    let timers : List Deadline = set_of rows line in
-    let loose = c.make_room.ensures.kept.loose in
-    let there = sym (enrolled-is c.args.cid rows) ∙ (ap (is_enrolled c.args.cid) c.make_room.ensures.queue ∙ c.requires.enrolled) in
-    let s = stands_at c.args.cid rows c.place_of-place.result loose.rows_rise there c.place_of-place.ensures.value in
-    let old = c.change_row-old.ensures.old ∙ ap (moment_of c.args.kind) s.here in
-    let new : Row = new_row s c.args.kind (Some c.args.at) in
-    let e : c.change_row-old.new.rows ≡ with_row new rows = changed s c.args.kind (Some c.args.at) c.change_row-old.new.rows loose.rows_rise c.change_row-old.ensures.rows in
-    let new_line : List Deadline = c.put_in.new.line.items in
-    let told = old_told s c.args.kind (Some c.args.at) timers c.change_row-old.result (agreeing rows line loose.lined) old in
-    let has : Has (with_row new rows) new_line (put_in (timer c.args.cid c.args.kind c.args.at) (without_kind c.args.cid c.args.kind timers)) =
-    subst (λ i. Has (with_row new rows) new_line (put_in (timer i c.args.kind c.args.at) (without_kind i c.args.kind timers))) s.its
-    (has_set s.row c.args.kind c.args.at rows line new_line s.found loose.lined c.put_in.ensures.in_order
-    (subst (λ i. (d : Deadline) → has_timer d new_line ≡ (same_timer (timer i c.args.kind c.args.at) d || has_timer d line)) (sym s.its) c.put_in.ensures.timers)) in
-    let sums = count s c.args.kind (Some c.args.at) c.change_row-old.result loose.rows_rise old in
+its : (c : After-with-row) (s : StandsAt c.args.cid c.args.self.now.rows.items c.place_of-place.result) → c.with-row.result ≡ with_at c.args.kind (Some c.args.at) s.row
+its c s =
+    c.with-row.ensures ∙ ap (with_at c.args.kind (Some c.args.at))
+    (c.index.ensures ∙ get_or_from_slice_get c.args.self.now.rows.items c.place_of-place.result s.row c.index.result.now s.here)
+
+pub put-requires-clause-there : goal.put-requires-clause-there
+put-requires-clause-there c =
+    let d = goal.at.put-requires-clause-there c in
+    let s = stands d.After-place_of-place in
+    ap (λ (r : Row). is_some (row_at r.cid c.args.self.now.rows.items)) (its d.After-with-row s) ∙ ap is_some s.found
+
+pub put-requires-clause-place : goal.put-requires-clause-place
+put-requires-clause-place c =
+    let d = goal.at.put-requires-clause-place c in
+    let s = stands d.After-place_of-place in
+    s.at ∙ ap (λ (r : Row). place_at r.cid c.args.self.now.rows.items) (sym (its d.After-with-row s))
+
+pub returns-clause-kept : goal.returns-clause-kept
+returns-clause-kept c =
+    let d = goal.at.returns-clause-kept c in
+    let rows : List Row = c.args.self.now.rows.items in
+    let s = stands d.After-place_of-place in
+    let new : Row = with_at c.args.kind (Some c.args.at) s.row in
+    let is : c.put.new.rows.items ≡ with_row new rows = c.put.ensures.rows ∙ ap (λ r. with_row r rows) (its d.After-with-row s) in
+    let kept = c.requires.kept in
+    let enrolled : s.row.enrolled ≡ true = sym (ap enrolled_in s.there) ∙ told d.After-place_of-place in
     record {
-      rows_rise = subst AreRising (sym e) (AreRising-with_row new rows loose.rows_rise);
-      lined = subst (λ rs. IsLineOf rs new_line) (sym e) has.lined;
-      counted = omega (
-        arith,
-        loose.counted,
-        c.one_if_set.ensures.value,
-        ap (sum_by timers_in) e,
-        sums,
-        count s c.args.kind None c.change_row-old.result loose.rows_rise old,
-      );
-      as_many = omega (
-        arith,
-        loose.as_many,
-        ap length (ap (λ rs. set_of rs new_line) e ∙ has.set),
-        length-set c.args.cid c.args.kind c.args.at c.change_row-old.result timers (in_order rows line loose.lined) told,
-        ap (sum_by timers_in) e,
-        sums,
-      );
-      roomy = omega (arith, loose.roomy, ap length e, length-with_row new rows, c.put_in.ensures.kept);
+      rise = subst AreRising (sym is) (AreRising-with_row new rows kept.rise);
+      idle = subst AreIdle (sym is) (idle-with_row new rows (λ left. absurd (true≢false (sym enrolled ∙ left))) kept.idle);
+      fit = omega (arith, ap length is, length-with_row new rows, c.put.ensures.length, kept.fit);
+      memory = omega (arith, c.put.ensures.memory, c.put.ensures.length, kept.memory);
+      tree = c.put.ensures.tree;
     }
-
-pub settle-requires-clause-begins : goal.settle-requires-clause-begins
-settle-requires-clause-begins c =
-    let rows : List Row = c.make_room.new.self.rows in
-    let line : List Deadline = c.make_room.new.self.line.items in
-    let new_line : List Deadline = c.put_in.new.line.items in
-    let loose = c.make_room.ensures.kept.loose in
-    let there = sym (enrolled-is c.args.cid rows) ∙ (ap (is_enrolled c.args.cid) c.make_room.ensures.queue ∙ c.requires.enrolled) in
-    let s = stands_at c.args.cid rows c.place_of-place.result loose.rows_rise there c.place_of-place.ensures.value in
-    let new : Row = new_row s c.args.kind (Some c.args.at) in
-    let e : c.change_row-old.new.rows ≡ with_row new rows = changed s c.args.kind (Some c.args.at) c.change_row-old.new.rows loose.rows_rise c.change_row-old.ensures.rows in
-    let first = subst (λ i. (slice_get new_line 0 ≡ slice_get line 0) ⊎ (slice_get new_line 0 ≡ Some (timer i c.args.kind c.args.at))) (sym s.its) c.put_in.ensures.first in
-    let begins = put_in-begins s.row c.args.kind c.args.at rows line new_line s.found c.make_room.ensures.kept.begins first in
-    ap (λ rs. is_set_or_of c.args.cid rs (slice_get new_line 0)) e ∙ subst (λ i. is_set_or_of i (with_row new rows) (slice_get new_line 0) ≡ true) s.its begins
 
 pub returns-clause-queue : goal.returns-clause-queue
 returns-clause-queue c =
-    let rows : List Row = c.make_room.new.self.rows in
-    let line : List Deadline = c.make_room.new.self.line.items in
-    let timers : List Deadline = set_of rows line in
-    let loose = c.make_room.ensures.kept.loose in
-    let there = sym (enrolled-is c.args.cid rows) ∙ (ap (is_enrolled c.args.cid) c.make_room.ensures.queue ∙ c.requires.enrolled) in
-    let s = stands_at c.args.cid rows c.place_of-place.result loose.rows_rise there c.place_of-place.ensures.value in
-    let new : Row = new_row s c.args.kind (Some c.args.at) in
-    let e : c.change_row-old.new.rows ≡ with_row new rows = changed s c.args.kind (Some c.args.at) c.change_row-old.new.rows loose.rows_rise c.change_row-old.ensures.rows in
-    let new_line : List Deadline = c.put_in.new.line.items in
-    let has : Has (with_row new rows) new_line (put_in (timer c.args.cid c.args.kind c.args.at) (without_kind c.args.cid c.args.kind timers)) =
-    subst (λ i. Has (with_row new rows) new_line (put_in (timer i c.args.kind c.args.at) (without_kind i c.args.kind timers))) s.its
-    (has_set s.row c.args.kind c.args.at rows line new_line s.found loose.lined c.put_in.ensures.in_order
-    (subst (λ i. (d : Deadline) → has_timer d new_line ≡ (same_timer (timer i c.args.kind c.args.at) d || has_timer d line)) (sym s.its) c.put_in.ensures.timers)) in
-    let ids = ap ids_of e ∙ ids_of-with_row new rows in
-    let set = ap (λ rs. set_of rs new_line) e ∙ has.set in
-    c.settle.ensures.queue
-    ∙ ((λ i. record { enrolled = ids i; timers = set i }) ∙ ap (with_timer (timer c.args.cid c.args.kind c.args.at)) c.make_room.ensures.queue)
+    let d = goal.at.returns-clause-queue c in
+    let rows : List Row = c.args.self.now.rows.items in
+    let s = stands d.After-place_of-place in
+    let new : Row = with_at c.args.kind (Some c.args.at) s.row in
+    let is : c.put.new.rows.items ≡ with_row new rows = c.put.ensures.rows ∙ ap (λ r. with_row r rows) (its d.After-with-row s) in
+    let rise = c.requires.kept.rise in
+    let kind = c.args.kind in
+    let ids = ap ids_of is ∙ ids-same s.row new rows rise s.found (λ i. s.row.enrolled) in
+    let timers = ap timers_of is
+    ∙ subst (λ (i : Cid). timers_of (with_row new rows) ≡ put_in (timer i kind c.args.at) (without_kind i kind (timers_of rows))) s.its
+    (timers-set s.row kind c.args.at rows rise s.found) in
+    λ i. record { enrolled = ids i; timers = timers i }

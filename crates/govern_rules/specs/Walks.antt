@@ -1,0 +1,49 @@
+-- Walks past links in order of address, and past peers beside them.
+use Rattle.std.specs.Prelude.{ℕ, ◌≡◌, ◌<◌, Bool, false, not, List, take, drop, length, Option, Some, None}
+use Rattle.std.specs.List.{AllByRecursion, prefix_len}
+use Rattle.net_base.specs.Address.{same_address, address_below}
+use Rattle.net_base.specs.declared.address.Addr.{Addr}
+use Rattle.net_base.specs.declared.peer.Peer.{Peer}
+use Rattle.peer_book.specs.Book.{peer_at}
+use Rattle.govern_rules.specs.SortedLinks.{IsInOrder, is_below}
+use Rattle.govern_rules.specs.declared.link.Link.{Link}
+
+-- what stands together from a place on
+abbrev pub IsRunFrom : {X : Type 0} → ℕ → List X → List X → Type 0
+IsRunFrom place items run = run ≡ take (length run) (drop place items)
+
+-- how many links have an address below the one that was asked for last
+abbrev pub passed_by : Option Addr → List Link → ℕ
+passed_by None links = 0
+passed_by (Some addr) links = prefix_len (is_below addr) links
+
+-- the one that was asked for last is above an address
+abbrev pub is_over : Option Addr → Addr → Bool
+is_over None addr = false
+is_over (Some last) addr = address_below addr last
+
+-- a walk has come to a place among links
+pub record HasCome (links : List Link) (last : Option Addr) (place : ℕ) (run : List Link) : Type 0 where
+  pub ordered : IsInOrder links
+  pub passed : place ≡ passed_by last links
+  pub front : IsRunFrom place links run
+  pub some : place < length links → 0 < length run
+
+-- there is a link, and its address is below one
+abbrev pub is_below_at : Addr → Option Link → Bool
+is_below_at addr None = false
+is_below_at addr (Some l) = is_below addr l
+
+-- there is a link, and it has an address
+abbrev pub has_address_at : Addr → Option Link → Bool
+has_address_at addr None = false
+has_address_at addr (Some l) = same_address l.addr addr
+
+-- there is a link, and it has another address
+abbrev pub has_other_address_at : Addr → Option Link → Bool
+has_other_address_at addr None = false
+has_other_address_at addr (Some l) = not (same_address l.addr addr)
+
+-- peers that the book has
+abbrev pub AreKnown : List Peer → List Peer → Type 0
+AreKnown peers book = AllByRecursion (λ p. peer_at p.addr book ≡ Some p) peers

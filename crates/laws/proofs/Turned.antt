@@ -1,0 +1,453 @@
+-- What becomes of the connection that a part of an event is about.
+use Rattle.std.proofs.Common.{ℕ, ◌+◌, ◌%◌, ◌<◌, ◌≡◌, Bool, true, false, ◌&&◌, ◌==◌, if◌then◌else◌, [], ◌∷◌, find, Option, Some, None, Result, Ok, Err, refl, sym, ap, ◌∙◌, subst, arith, eq-eqb, eqb-true}
+use Rattle.std.specs.Option.{option_map}
+use Rattle.std.proofs.lemmas.Bool.{cond_both, both_ways, and_parts, and_from, false≢true, false_from_ne_true}
+use Rattle.conn_state.specs.Moves.{connected, agreed_inbound, agreed_outbound, acquired, released, awakened, idled, expired}
+use Rattle.conn_state.specs.Use.{has_id, is_acquirable, is_dialing, is_live, is_live_at, agreed_sharing, runs}
+use Rattle.govern_rules.specs.declared.order.Order.{Order}
+use Rattle.govern_rules.specs.declared.order.Order.TheVariants.{Ask, Forget, Promote, Release, Activate, Deactivate}
+use Rattle.hs_decide.specs.Agreement.{verdict_of}
+use Rattle.hs_decide.specs.Answers.{answer_of}
+use Rattle.hs_decide.specs.declared.verdict.Verdict.{Verdict}
+use Rattle.hs_decide.specs.declared.verdict.Verdict.TheVariants as verdict
+use Rattle.hs_message.specs.Reading.{message_of}
+use Rattle.hs_message.specs.declared.message.Message.{Message}
+use Rattle.hs_receive.specs.Receiving.{is_awaited, fits_side, kind_of}
+use Rattle.mux_segment.specs.declared.fault.CutFault.{CutFault}
+use Rattle.mux_segment.specs.declared.item.Item.{Item}
+use Rattle.net_base.specs.Address.{same_address}
+use Rattle.net_base.specs.declared.action.Action.TheVariants.{Close}
+use Rattle.net_base.specs.declared.action.CloseCause.{CloseCause}
+use Rattle.net_base.specs.declared.action.CloseCause.TheVariants.{Unused, Refused, Query, Fault}
+use Rattle.net_base.specs.declared.action.FaultKind.{FaultKind}
+use Rattle.net_base.specs.declared.action.FaultKind.TheVariants.{Malformed, Protocol, HandshakeWait, ReplyWait}
+use Rattle.net_base.specs.declared.address.Addr.{Addr}
+use Rattle.net_base.specs.declared.connection.Facts.{Facts}
+use Rattle.net_base.specs.declared.connection.Phase.{Phase}
+use Rattle.net_base.specs.declared.connection.Phase.TheVariants.{Dialing, Greeting, Negotiated, Closing}
+use Rattle.net_base.specs.declared.peer.Temp.TheVariants.{Cold, Warm}
+use Rattle.net_base.specs.declared.timer.Kind.{Kind}
+use Rattle.net_base.specs.declared.timer.Kind.TheVariants as kind
+use Rattle.remote_watch.specs.Watch.{watched}
+use Rattle.remote_watch.specs.declared.seen.Seen.{Seen}
+use Rattle.machine.specs.Connections.{with_entry, entry_turns, ending, vanishes, closing_entry, acquire, trim, release, awake, idle, dial, dial_opens, dial_fails}
+use Rattle.machine.specs.Deadlines.{fires_as}
+use Rattle.machine.specs.Effect.{Effect, unused, nothing_more, tells, then_do, as_move, on_entry}
+use Rattle.machine.specs.Events.{closes, dialed}
+use Rattle.machine.specs.Govern.{promoted_at, is_used_at, on_used, asks_peer, activates, deactivates, carries_out}
+use Rattle.machine.specs.Greeting.{role_of, judged, decided, greeted_by, greets}
+use Rattle.machine.specs.Machine.{Machine, Entry, Owed, entry_at, live_entry_at}
+use Rattle.machine.specs.Own.{own_info}
+use Rattle.machine.specs.Peers.{peer_at, peer_becomes}
+use Rattle.machine.specs.Replies.{reply_on, owing, paid}
+use Rattle.machine.specs.Stream.{handled_in, handled, faulted}
+use Rattle.machine.specs.Talking.{stops_if, serves, begins, takes_requests, asked_as, pays, brings, answered_as}
+use Rattle.laws.specs.Acts.{Act, fires_one, carries, ends_dial, stores, handles_item, ends_stream, is_closed, does}
+use Rattle.laws.specs.Sound.{HasGivenId}
+use Rattle.laws.specs.Untouched.{address_of, is_with, is_about, IsAsItWas}
+use Rattle.laws.specs.Steady.{IsShaped, IsOrdered}
+use Rattle.laws.proofs.Addresses.{same_address-true}
+use Rattle.laws.proofs.CarriedOut.{used_one}
+use Rattle.laws.proofs.Goes.{vanishes-none}
+use Rattle.laws.proofs.Handshakes.{answer-machine}
+use Rattle.laws.proofs.Lawful.{stands-found}
+use Rattle.laws.proofs.Lists.{FoundIn, find_some, find_only, All-stands}
+use Rattle.laws.proofs.Moments.{gone-none, ending-none, turned-found}
+use Rattle.laws.proofs.Orders.{says_done-machine}
+use Rattle.laws.proofs.Shapes.{local-negotiated, can_acquire}
+use Rattle.laws.proofs.Talks.{replies-machine}
+use Rattle.laws.proofs.Ties.{live_here}
+use Rattle.laws.proofs.ToldMoves.{turns_at-connections}
+use Rattle.laws.proofs.Waits.{Scope, Waits, was_then}
+use Rattle.laws.proofs.WaitsOfParts.{Stands, Finds, found-stands, changed-waits, trim-waits, asks_peer-waits, release-waits, owes-waits, acquire-waits, dial-waits, begins-waits, brings-waits}
+use Rattle.laws.proofs.WholeMoves.{negotiated-live}
+
+-- ---- what it turns into
+
+abbrev pub turned_by_kind : Kind → Entry → Machine → Option Entry
+turned_by_kind kind.Handshake e m = None
+turned_by_kind kind.Grace e m = Some (if e.facts.local then record e { facts = expired e.facts } else closing_entry m e)
+turned_by_kind kind.TimeWait e m = None
+turned_by_kind kind.Reply2 e m = None
+turned_by_kind kind.Reply8 e m = None
+turned_by_kind kind.Reply10 e m = None
+
+abbrev pub taken : Facts → Entry → Machine → Entry
+taken f e m = owing 8 (f.cid.0 % 65536) m (record e { facts = f })
+
+abbrev pub turned_by_order : Order → Entry → Machine → Entry
+turned_by_order (Ask addr n) e m = if e.facts.local then owing 10 n m e else e
+turned_by_order (Forget addr) e m = e
+turned_by_order (Promote addr) e m = if is_acquirable e.facts then taken (acquired e.facts) e m else e
+turned_by_order (Release addr) e m = if e.facts.local then record e { facts = released (m.now + m.settings.idle) e.facts } else e
+turned_by_order (Activate addr) e m = if e.facts.local then owing 2 0 m e else e
+turned_by_order (Deactivate addr) e m = e
+
+abbrev pub turned_by_verdict : Verdict → Entry → Machine → Option Entry
+turned_by_verdict (verdict.Accept agreed) e m = Some (record e { facts = agreed_inbound agreed (m.now + m.settings.idle) e.facts })
+turned_by_verdict (verdict.Refuse why) e m = None
+turned_by_verdict verdict.Query e m = None
+turned_by_verdict (verdict.Agree agreed) e m = Some (taken (agreed_outbound agreed (m.now + m.settings.idle) e.facts) e m)
+turned_by_verdict verdict.Refused e m = None
+turned_by_verdict verdict.Wrong e m = None
+
+abbrev pub turned_by_message : Option Message → Entry → Machine → Option Entry
+turned_by_message None e m = None
+turned_by_message (Some message) e m = turned_by_verdict (verdict_of (role_of e.facts.provenance) (own_info m.settings) message) e m
+
+abbrev pub begun : ℕ → Entry → Entry
+begun protocol e = if runs protocol e.facts.running then e else record e { facts = awakened protocol e.facts }
+
+abbrev pub stopped : Bool → ℕ → ℕ → Entry → Entry
+stopped done protocol until e = if done then record e { facts = idled protocol until e.facts } else e
+
+abbrev pub turned_by_request : Result Seen FaultKind → ℕ → Entry → Machine → Option Entry
+turned_by_request (Err fault) protocol e m = None
+turned_by_request (Ok seen) protocol e m = Some (stopped seen.done protocol (m.now + m.settings.idle) (begun protocol e))
+
+abbrev pub turned_by_item : Phase → Item → Entry → Machine → Option Entry
+turned_by_item Dialing item e m = Some e
+turned_by_item (Greeting until) item e m = turned_by_message (message_of item.body) e m
+turned_by_item Negotiated item e m =
+    if item.side == 0 then turned_by_request (watched item.id (agreed_sharing e.facts.agreed) item.body) item.id e m else Some (paid item.id e)
+turned_by_item (Closing until) item e m = Some e
+
+-- nothing where it is sure to go
+abbrev pub turned : Act → Entry → Machine → Option Entry
+turned (fires_one d) e m = turned_by_kind d.kind e m
+turned (carries order) e m = Some (turned_by_order order e m)
+turned (ends_dial own opened) e m = Some (if is_dialing e.facts && opened then record e { facts = connected (m.now + m.settings.handshake) e.facts } else e)
+turned (stores entry undecoded) e m = Some (record e { undecoded = undecoded })
+turned (handles_item own item) e m = turned_by_item e.facts.phase item e m
+turned other e m = Some e
+
+-- ---- it is gone, or that is what it has turned into
+
+abbrev pub Becomes : Option Entry → ℕ → Machine → Type 0
+Becomes o cid m = IsAsItWas o (entry_at cid m)
+
+gone-becomes : (o : Option Entry) (cid : ℕ) (m : Machine) → entry_at cid m ≡ None → Becomes o cid m
+gone-becomes o cid m none = subst (IsAsItWas o) (sym none) tt
+
+stands-becomes : (e : Entry) (m : Machine) → entry_at e.facts.cid.0 m ≡ Some e → Becomes (Some e) e.facts.cid.0 m
+stands-becomes e m is = subst (IsAsItWas (Some e)) (sym is) refl
+
+turned-becomes : (e new : Entry) (m : Machine) → new.facts.cid ≡ e.facts.cid → Becomes (Some new) e.facts.cid.0 (with_entry new m)
+turned-becomes e new m same = subst (IsAsItWas (Some new)) (sym (turned-found e new m same)) (by_found (entry_at e.facts.cid.0 m))
+  where
+    by_found : (o : Option Entry) → IsAsItWas (Some new) (option_map (λ x. new) o)
+    by_found None = tt
+    by_found (Some f) = refl
+
+pub ending-becomes : (o : Option Entry) (cause : CloseCause) (e : Entry) (m : Machine) → Becomes o e.facts.cid.0 (ending cause e m).machine
+ending-becomes o cause e m = gone-becomes o e.facts.cid.0 (ending cause e m).machine (ending-none cause e m)
+
+vanishes-becomes : (o : Option Entry) (e : Entry) (m : Machine) → Becomes o e.facts.cid.0 (vanishes e m).machine
+vanishes-becomes o e m = gone-becomes o e.facts.cid.0 (vanishes e m).machine (vanishes-none e m)
+
+-- what follows changes no connection, but may end one
+abbrev nobody : Scope
+nobody = record { own = λ cid. false; comes = λ cid. false; drops = false }
+
+then-becomes : (o : Option Entry) (cid : ℕ) (m n : Machine) → cid < m.next_id → Becomes o cid m → Waits nobody m n → Becomes o cid n
+then-becomes o cid m n given h w = was_then o (entry_at cid m) (entry_at cid n) h (w.others cid refl given)
+
+-- ---- a deadline
+
+fires-becomes : (sort : Kind) (e : Entry) (m : Machine) → Becomes (turned_by_kind sort e m) e.facts.cid.0 (fires_as sort e m).machine
+fires-becomes kind.Handshake e m = ending-becomes None (Fault HandshakeWait) e m
+fires-becomes kind.Grace e m = by_local e.facts.local
+  where
+    by_local : (b : Bool) → Becomes (Some (if b then record e { facts = expired e.facts } else closing_entry m e)) e.facts.cid.0
+        (if b then entry_turns e (record e { facts = expired e.facts }) m
+        else as_move (unused e.facts.cid.0) m (then_do (tells (Close e.facts.cid Unused ∷ []) m) (entry_turns e (closing_entry m e)))).machine
+    by_local true = turned-becomes e (record e { facts = expired e.facts }) m refl
+    by_local false = turned-becomes e (closing_entry m e) m refl
+fires-becomes kind.TimeWait e m = gone-becomes None e.facts.cid.0 (fires_as kind.TimeWait e m).machine (gone-none e.facts.cid.0 m)
+fires-becomes kind.Reply2 e m = ending-becomes None (Fault ReplyWait) e m
+fires-becomes kind.Reply8 e m = ending-becomes None (Fault ReplyWait) e m
+fires-becomes kind.Reply10 e m = ending-becomes None (Fault ReplyWait) e m
+
+dialed-becomes : (opened : Bool) (e : Entry) (m : Machine) → entry_at e.facts.cid.0 m ≡ Some e →
+    Becomes (Some (if is_dialing e.facts && opened then record e { facts = connected (m.now + m.settings.handshake) e.facts } else e)) e.facts.cid.0 (dialed opened e m).machine
+dialed-becomes opened e m is = by_tests (is_dialing e.facts) opened
+  where
+    by_tests : (b c : Bool) → Becomes (Some (if b && c then record e { facts = connected (m.now + m.settings.handshake) e.facts } else e)) e.facts.cid.0
+        (if b then (if c then dial_opens e m else dial_fails e m) else nothing_more m).machine
+    by_tests true true = turned-becomes e (record e { facts = connected (m.now + m.settings.handshake) e.facts }) m refl
+    by_tests true false = vanishes-becomes (Some e) e m
+    by_tests false c = stands-becomes e m is
+
+closes-becomes : (e : Entry) (m : Machine) → entry_at e.facts.cid.0 m ≡ Some e → Becomes (Some e) e.facts.cid.0 (closes e m).machine
+closes-becomes e m is = cond_both (is_live e.facts) (vanishes e m) (nothing_more m) (λ effect. Becomes (Some e) e.facts.cid.0 effect.machine)
+    (λ live. vanishes-becomes (Some e) e m) (λ closed. stands-becomes e m is)
+
+faulted-becomes : (fault : Option CutFault) (e : Entry) (m : Machine) → entry_at e.facts.cid.0 m ≡ Some e → Becomes (Some e) e.facts.cid.0 (faulted fault e m).machine
+faulted-becomes None e m is = stands-becomes e m is
+faulted-becomes (Some fault) e m is = ending-becomes (Some e) (Fault (kind_of fault)) e m
+
+-- ---- an item in the handshake
+
+pub judged-becomes : (v : Verdict) (e : Entry) (m : Machine) → Becomes (turned_by_verdict v e m) e.facts.cid.0 (judged v e m).machine
+judged-becomes (verdict.Accept agreed) e m = turned-becomes e (record e { facts = agreed_inbound agreed (m.now + m.settings.idle) e.facts }) m refl
+judged-becomes (verdict.Refuse why) e m = ending-becomes None Refused e m
+judged-becomes verdict.Query e m = ending-becomes None Query e m
+judged-becomes (verdict.Agree agreed) e m =
+    let new : Entry = taken (agreed_outbound agreed (m.now + m.settings.idle) e.facts) e m in
+    let n : Machine = with_entry new m in
+    subst (λ es. IsAsItWas (Some new) (find (λ x. has_id e.facts.cid.0 x.facts) es)) (sym (turns_at-connections (peer_at e.facts.addr n) (λ p. record p { temp = Warm; failures = 0 }) n))
+    (turned-becomes e new m refl)
+judged-becomes verdict.Refused e m = ending-becomes None Refused e m
+judged-becomes verdict.Wrong e m = ending-becomes None (Fault Protocol) e m
+
+greeted_by-becomes : (o : Option Message) (side : ℕ) (e : Entry) (m : Machine) → Becomes (turned_by_message o e m) e.facts.cid.0 (greeted_by o side e m).machine
+greeted_by-becomes None side e m = ending-becomes None (Fault Malformed) e m
+greeted_by-becomes (Some msg) side e m =
+    let v : Verdict = verdict_of (role_of e.facts.provenance) (own_info m.settings) msg in
+    cond_both (fits_side (role_of e.facts.provenance) side msg) (decided v e m) (ending (Fault Protocol) e m) (λ effect. Becomes (turned_by_verdict v e m) e.facts.cid.0 effect.machine)
+    (λ fits. subst (λ n. Becomes (turned_by_verdict v e m) e.facts.cid.0 (judged v e n).machine) (sym (answer-machine (answer_of v (own_info m.settings)) e.facts.cid m)) (judged-becomes v e m))
+    (λ other. ending-becomes (turned_by_verdict v e m) (Fault Protocol) e m)
+
+greets-becomes : (item : Item) (e : Entry) (m : Machine) → Becomes (turned_by_message (message_of item.body) e m) e.facts.cid.0 (greets item e m).machine
+greets-becomes item e m =
+    cond_both (item.id == 0 && is_awaited (role_of e.facts.provenance) item.side) (greeted_by (message_of item.body) item.side e m) (ending (Fault Protocol) e m)
+    (λ effect. Becomes (turned_by_message (message_of item.body) e m) e.facts.cid.0 effect.machine) (λ heard. greeted_by-becomes (message_of item.body) item.side e m)
+    (λ other. ending-becomes (turned_by_message (message_of item.body) e m) (Fault Protocol) e m)
+
+-- ---- an item once the handshake is done
+
+serves-becomes : (seen : Seen) (protocol : ℕ) (e : Entry) (m : Machine) → entry_at e.facts.cid.0 m ≡ Some e →
+    Becomes (Some (stopped seen.done protocol (m.now + m.settings.idle) e)) e.facts.cid.0 (serves seen protocol e m).machine
+serves-becomes seen protocol e m is =
+    subst (λ n. Becomes (Some (stopped seen.done protocol (m.now + m.settings.idle) e)) e.facts.cid.0 (stops_if seen.done protocol e n).machine) (sym (replies-machine seen.reply protocol e m))
+    (by_done seen.done)
+  where
+    by_done : (b : Bool) → Becomes (Some (stopped b protocol (m.now + m.settings.idle) e)) e.facts.cid.0 (if b then idle protocol e m else nothing_more m).machine
+    by_done true = turned-becomes e (record e { facts = idled protocol (m.now + m.settings.idle) e.facts }) m refl
+    by_done false = stands-becomes e m is
+
+pub begins-becomes : (protocol : ℕ) (e : Entry) (m : Machine) → e.facts.cid.0 < m.next_id → entry_at e.facts.cid.0 m ≡ Some e → Becomes (Some (begun protocol e)) e.facts.cid.0 (begins protocol e m).machine
+begins-becomes protocol e m given is = by_test (runs protocol e.facts.running)
+  where
+    new : Entry
+    new = record e { facts = awakened protocol e.facts }
+
+    n : Machine
+    n = with_entry new m
+
+    by_test : (b : Bool) → Becomes (Some (if b then e else new)) e.facts.cid.0 (if b then nothing_more m else awake protocol e m).machine
+    by_test true = stands-becomes e m is
+    by_test false = then-becomes (Some new) e.facts.cid.0 n (trim e.facts.cid n).machine given (turned-becomes e new m refl) (trim-waits nobody e.facts.cid n)
+
+asked-becomes : (r : Result Seen FaultKind) (protocol : ℕ) (e : Entry) (m : Machine) → e.facts.cid.0 < m.next_id → entry_at e.facts.cid.0 m ≡ Some e →
+    Becomes (turned_by_request r protocol e m) e.facts.cid.0 (asked_as r protocol e m).machine
+asked-becomes (Err fault) protocol e m given is = ending-becomes None (Fault fault) e m
+asked-becomes (Ok seen) protocol e m given is =
+    cond_both (takes_requests e) (then_do (begins protocol e m) (λ w. on_entry (entry_at e.facts.cid.0 w) (serves seen protocol) w)) (ending (Fault Protocol) e m)
+    (λ effect. Becomes (Some after) e.facts.cid.0 effect.machine)
+    (λ takes. by_entry (entry_at e.facts.cid.0 n) refl (begins-becomes protocol e m given is)) (λ other. ending-becomes (Some after) (Fault Protocol) e m)
+  where
+    until : ℕ
+    until = m.now + m.settings.idle
+
+    after : Entry
+    after = stopped seen.done protocol until (begun protocol e)
+
+    n : Machine
+    n = (begins protocol e m).machine
+
+    -- the clock and the settings stay
+    same : n.now + n.settings.idle ≡ until
+    same =
+        let w = begins-waits (record { own = λ cid. true; comes = λ cid. false; drops = false }) protocol e m (found-stands _ e.facts.cid.0 m e is refl) in
+        ap (λ t. t + n.settings.idle) w.now ∙ ap (λ s. m.now + s.idle) w.settings
+
+    by_entry : (o : Option Entry) → entry_at e.facts.cid.0 n ≡ o → IsAsItWas (Some (begun protocol e)) o → Becomes (Some after) e.facts.cid.0 (on_entry o (serves seen protocol) n).machine
+    by_entry None none was = gone-becomes (Some after) e.facts.cid.0 n none
+    by_entry (Some f) here was =
+        let it : f ≡ begun protocol e = cc in
+        let own : f.facts.cid.0 ≡ e.facts.cid.0 = eqb-true f.facts.cid.0 e.facts.cid.0 (find_some (λ x. has_id e.facts.cid.0 x.facts) n.connections f here).passes in
+        subst (λ x. Becomes (Some x) e.facts.cid.0 (serves seen protocol f n).machine)
+        (ap (λ t. stopped seen.done protocol t f) same ∙ ap (stopped seen.done protocol until) it)
+        (subst (λ c. Becomes (Some (stopped seen.done protocol (n.now + n.settings.idle) f)) c (serves seen protocol f n).machine) own
+        (serves-becomes seen protocol f n (subst (λ c. entry_at c n ≡ Some f) (sym own) here)))
+
+answered-becomes : (o : Option Owed) (item : Item) (e : Entry) (m : Machine) → e.facts.cid.0 < m.next_id → Becomes (Some (paid item.id e)) e.facts.cid.0 (answered_as o item e m).machine
+answered-becomes None item e m given = ending-becomes (Some (paid item.id e)) (Fault Protocol) e m
+answered-becomes (Some owed) item e m given =
+    let n : Machine = with_entry (paid item.id e) m in
+    cond_both (pays owed item.body) (then_do (entry_turns e (paid item.id e) m) (brings item.id item.body e)) (ending (Fault Protocol) e m)
+    (λ effect. Becomes (Some (paid item.id e)) e.facts.cid.0 effect.machine)
+    (λ pays. then-becomes (Some (paid item.id e)) e.facts.cid.0 n (brings item.id item.body e n).machine given (turned-becomes e (paid item.id e) m refl) (brings-waits nobody item.id item.body e n))
+    (λ other. ending-becomes (Some (paid item.id e)) (Fault Protocol) e m)
+
+handled-becomes : (p : Phase) (item : Item) (e : Entry) (m : Machine) → e.facts.cid.0 < m.next_id → entry_at e.facts.cid.0 m ≡ Some e →
+    Becomes (turned_by_item p item e m) e.facts.cid.0 (handled_in p item e m).machine
+handled-becomes Dialing item e m given is = stands-becomes e m is
+handled-becomes (Greeting until) item e m given is = greets-becomes item e m
+handled-becomes Negotiated item e m given is = by_side (item.side == 0)
+  where
+    seen : Result Seen FaultKind
+    seen = watched item.id (agreed_sharing e.facts.agreed) item.body
+
+    by_side : (b : Bool) → Becomes (if b then turned_by_request seen item.id e m else Some (paid item.id e)) e.facts.cid.0
+        (if b then asked_as seen item.id e m else answered_as (reply_on item.id e) item e m).machine
+    by_side true = asked-becomes seen item.id e m given is
+    by_side false = answered-becomes (reply_on item.id e) item e m given
+handled-becomes (Closing until) item e m given is = stands-becomes e m is
+
+-- ---- an order
+
+-- a connection that stands in an ordered record, and has the address of an order
+record Ordered (addr : Addr) (m : Machine) (e : Entry) : Type 0 where
+  ordered : IsOrdered m
+  is : entry_at e.facts.cid.0 m ≡ Some e
+  here : same_address e.facts.addr addr ≡ true
+
+abbrev alone : Entry → Scope
+alone g = record { own = λ cid. g.facts.cid.0 == cid; comes = λ cid. false; drops = false }
+
+pub given_id : (m : Machine) (e : Entry) → IsOrdered m → entry_at e.facts.cid.0 m ≡ Some e → e.facts.cid.0 < m.next_id
+given_id m e h is =
+    let place : FoundIn (λ x. has_id e.facts.cid.0 x.facts) m.connections e = find_some (λ x. has_id e.facts.cid.0 x.facts) m.connections e is in
+    (All-stands (HasGivenId m.next_id) m.connections place.place e place.stands h.orderly.ids_given).1
+
+-- where it has no test that another has, what changes that one leaves it
+other-becomes : (test : Entry → Bool) (m n : Machine) (e g : Entry) → IsOrdered m → entry_at e.facts.cid.0 m ≡ Some e → entry_at g.facts.cid.0 m ≡ Some g → test e ≡ false → test g ≡ true →
+    Waits (alone g) m n → Becomes (Some e) e.facts.cid.0 n
+other-becomes test m n e g h is at fails passes w =
+    was_then (Some e) (entry_at e.facts.cid.0 m) (entry_at e.facts.cid.0 n) (stands-becomes e m is)
+    (w.others e.facts.cid.0 (false_from_ne_true (g.facts.cid.0 == e.facts.cid.0) apart) (given_id m e h is))
+  where
+    apart : (g.facts.cid.0 == e.facts.cid.0) ≡ true → ⊥
+    apart same =
+        let one : Some g ≡ Some e = sym at ∙ (ap (λ c. entry_at c m) (eqb-true g.facts.cid.0 e.facts.cid.0 same) ∙ is) in
+        let it : g ≡ e = cc in
+        both_ways (test e) fails (ap test (sym it) ∙ passes)
+
+-- the one in use is the one that an order finds
+used-found : (addr : Addr) (m : Machine) (e : Entry) → Ordered addr m e → e.facts.local ≡ true → find (is_used_at addr) m.connections ≡ Some e
+used-found addr m e o local =
+    let place : FoundIn (λ x. has_id e.facts.cid.0 x.facts) m.connections e = find_some (λ x. has_id e.facts.cid.0 x.facts) m.connections e o.is in
+    let shape : IsShaped e.facts = All-stands (λ x. IsShaped x.facts) m.connections place.place e place.stands o.ordered.formed.shaped in
+    let live : is_live e.facts ≡ true = negotiated-live e.facts.phase (local-negotiated e.facts shape local) in
+    find_only (is_used_at addr) e m.connections place.place (used_one addr m o.ordered.orderly) place.stands
+    (and_from (is_live_at addr e.facts) e.facts.local (and_from (same_address e.facts.addr addr) (is_live e.facts) o.here live) local)
+
+used-becomes : (addr : Addr) (act : Entry → Machine → Effect) (new : Entry) (m : Machine) (e : Entry) → Ordered addr m e →
+    ((g : Entry) → Stands (alone g) g m → Waits (alone g) m (act g m).machine) → Becomes (Some new) e.facts.cid.0 (act e m).machine →
+    Becomes (Some (if e.facts.local then new else e)) e.facts.cid.0 (on_used addr act m).machine
+used-becomes addr act new m e o others turns = by_local e.facts.local refl
+  where
+    by_found : e.facts.local ≡ false → (found : Option Entry) → find (is_used_at addr) m.connections ≡ found → Becomes (Some e) e.facts.cid.0 (on_entry found act m).machine
+    by_found not_used None none = stands-becomes e m o.is
+    by_found not_used (Some g) at =
+        let place : FoundIn (is_used_at addr) m.connections g = find_some (is_used_at addr) m.connections g at in
+        let stands : entry_at g.facts.cid.0 m ≡ Some g = stands-found m g place.place o.ordered.orderly place.stands in
+        other-becomes (λ x. x.facts.local) m (act g m).machine e g o.ordered o.is stands not_used (and_parts (is_live_at addr g.facts) g.facts.local place.passes).1
+        (others g (found-stands (alone g) g.facts.cid.0 m g stands (eq-eqb g.facts.cid.0 g.facts.cid.0 refl)))
+
+    by_local : (b : Bool) → e.facts.local ≡ b → Becomes (Some (if b then new else e)) e.facts.cid.0 (on_used addr act m).machine
+    by_local true local = subst (λ x. Becomes (Some new) e.facts.cid.0 (on_entry x act m).machine) (sym (used-found addr m e o local)) turns
+    by_local false not_used = by_found not_used (find (is_used_at addr) m.connections) refl
+
+promotes-becomes : (addr : Addr) (m : Machine) (e : Entry) → Ordered addr m e → Becomes (Some (turned_by_order (Promote addr) e m)) e.facts.cid.0 (promoted_at (live_entry_at addr m) addr m).machine
+promotes-becomes addr m e o = by_free (is_acquirable e.facts) refl
+  where
+    new : Entry
+    new = taken (acquired e.facts) e m
+
+    dials : Becomes (Some e) e.facts.cid.0 (dial addr m).machine
+    dials = then-becomes (Some e) e.facts.cid.0 m (dial addr m).machine (given_id m e o.ordered o.is) (stands-becomes e m o.is) (dial-waits nobody addr m)
+
+    by_live : is_acquirable e.facts ≡ false → (found : Option Entry) → live_entry_at addr m ≡ found → Becomes (Some e) e.facts.cid.0 (promoted_at found addr m).machine
+    by_live other None none = dials
+    by_live other (Some g) at =
+        let place : FoundIn (λ x. is_live_at addr x.facts) m.connections g = find_some (λ x. is_live_at addr x.facts) m.connections g at in
+        let stands : entry_at g.facts.cid.0 m ≡ Some g = stands-found m g place.place o.ordered.orderly place.stands in
+        cond_both (is_acquirable g.facts) (acquire g m) (dial addr m) (λ effect. Becomes (Some e) e.facts.cid.0 effect.machine)
+        (λ free. other-becomes (λ x. is_acquirable x.facts) m (acquire g m).machine e g o.ordered o.is stands other free
+        (acquire-waits (alone g) g m (found-stands (alone g) g.facts.cid.0 m g stands (eq-eqb g.facts.cid.0 g.facts.cid.0 refl)))) (λ busy. dials)
+
+    by_free : (b : Bool) → is_acquirable e.facts ≡ b → Becomes (Some (if b then new else e)) e.facts.cid.0 (promoted_at (live_entry_at addr m) addr m).machine
+    by_free true free =
+        let place : FoundIn (λ x. has_id e.facts.cid.0 x.facts) m.connections e = find_some (λ x. has_id e.facts.cid.0 x.facts) m.connections e o.is in
+        let live : is_live e.facts ≡ true = negotiated-live e.facts.phase (can_acquire e.facts free).negotiated in
+        let found : live_entry_at addr m ≡ Some e = subst (λ a. live_entry_at a m ≡ Some e) (same_address-true e.facts.addr addr o.here) (live_here m e place.place o.ordered.orderly place.stands live) in
+        let n : Machine = with_entry new m in
+        let takes : Becomes (Some new) e.facts.cid.0 (acquire e m).machine =
+        subst (λ es. IsAsItWas (Some new) (find (λ x. has_id e.facts.cid.0 x.facts) es)) (sym (turns_at-connections (peer_at e.facts.addr n) (λ p. record p { temp = Warm; failures = 0 }) n))
+        (turned-becomes e new m refl) in
+        subst (λ x. Becomes (Some new) e.facts.cid.0 (promoted_at x addr m).machine) (sym found)
+        (subst (λ b. Becomes (Some new) e.facts.cid.0 (if b then acquire e m else dial addr m).machine) (sym free) takes)
+    by_free false other = by_live other (live_entry_at addr m) refl
+
+release-becomes : (e : Entry) (m : Machine) → e.facts.cid.0 < m.next_id → Becomes (Some (record e { facts = released (m.now + m.settings.idle) e.facts })) e.facts.cid.0 (release e m).machine
+release-becomes e m given =
+    subst (λ n. Becomes (Some new) e.facts.cid.0 (rest n).machine) (sym (says_done-machine e.facts m))
+    (then-becomes (Some new) e.facts.cid.0 o (trim e.facts.cid o).machine (omega (arith, given, cooled.next))
+    (then-becomes (Some new) e.facts.cid.0 n o given (turned-becomes e new m refl) cooled) (trim-waits nobody e.facts.cid o))
+  where
+    new : Entry
+    new = record e { facts = released (m.now + m.settings.idle) e.facts }
+
+    rest : Machine → Effect
+    rest w = then_do (entry_turns e (record e { facts = released (w.now + w.settings.idle) e.facts }) w)
+        (λ x. then_do (peer_becomes Cold e.facts.addr x) (trim e.facts.cid))
+
+    n : Machine
+    n = with_entry new m
+
+    o : Machine
+    o = (peer_becomes Cold e.facts.addr n).machine
+
+    cooled : Waits nobody n o
+    cooled = changed-waits nobody (peer_at e.facts.addr n) (λ p. record p { temp = Cold }) n
+
+orders-become : (order : Order) (m : Machine) (e : Entry) → Ordered (address_of order) m e → Becomes (Some (turned_by_order order e m)) e.facts.cid.0 (carries_out order m).machine
+orders-become (Ask addr n) m e o = used-becomes addr (asks_peer n) (owing 10 n m e) m e o (λ g stands. asks_peer-waits (alone g) n g m stands)
+    (let w : Machine = with_entry (owing 10 n m e) m in
+    then-becomes (Some (owing 10 n m e)) e.facts.cid.0 w (asks_peer n e m).machine (given_id m e o.ordered o.is) (turned-becomes e (owing 10 n m e) m refl)
+    (changed-waits nobody (peer_at e.facts.addr w) (λ p. record p { share_next = m.now + m.settings.sharegap }) w))
+orders-become (Forget addr) m e o = stands-becomes e m o.is
+orders-become (Promote addr) m e o = promotes-becomes addr m e o
+orders-become (Release addr) m e o = used-becomes addr release (record e { facts = released (m.now + m.settings.idle) e.facts }) m e o
+    (λ g stands. release-waits (alone g) g m stands) (release-becomes e m (given_id m e o.ordered o.is))
+orders-become (Activate addr) m e o = used-becomes addr activates (owing 2 0 m e) m e o (λ g stands. owes-waits (alone g) 2 0 m g stands) (turned-becomes e (owing 2 0 m e) m refl)
+orders-become (Deactivate addr) m e o = by_found (find (is_used_at addr) m.connections)
+  where
+    by_found : (found : Option Entry) → Becomes (Some e) e.facts.cid.0 (on_entry found deactivates m).machine
+    by_found None = stands-becomes e m o.is
+    by_found (Some g) = then-becomes (Some e) e.facts.cid.0 m (deactivates g m).machine (given_id m e o.ordered o.is) (stands-becomes e m o.is)
+        (changed-waits nobody (peer_at g.facts.addr m) (λ p. record p { temp = Warm }) m)
+
+-- ---- each act
+
+own-becomes : (o : Option Entry) (own cid : ℕ) (act : Entry → Machine → Effect) (m : Machine) (e : Entry) → (own == cid) ≡ true → entry_at cid m ≡ Some e →
+    (entry_at e.facts.cid.0 m ≡ Some e → Becomes o e.facts.cid.0 (act e m).machine) → Becomes o cid (on_entry (entry_at own m) act m).machine
+own-becomes o own cid act m e same is each =
+    let mine : e.facts.cid.0 ≡ cid = eqb-true e.facts.cid.0 cid (find_some (λ x. has_id cid x.facts) m.connections e is).passes in
+    subst (λ c. Becomes o cid (on_entry (entry_at c m) act m).machine) (sym (eqb-true own cid same))
+    (subst (λ x. Becomes o cid (on_entry x act m).machine) (sym is)
+    (subst (λ c. Becomes o c (act e m).machine) mine (each (subst (λ c. entry_at c m ≡ Some e) (sym mine) is))))
+
+-- The connection that a part is about is gone, or has turned into that one.
+pub part-becomes : (act : Act) (m : Machine) → Finds act m → (cid : ℕ) (e : Entry) → is_about act m cid ≡ true → entry_at cid m ≡ Some e → Becomes (turned act e m) cid (does act m).machine
+part-becomes (fires_one d) m found cid e own is = own-becomes (turned_by_kind d.kind e m) d.cid.0 cid (fires_as d.kind) m e own is (λ here. fires-becomes d.kind e m)
+part-becomes (carries order) m found cid e own is =
+    let mine : e.facts.cid.0 ≡ cid = eqb-true e.facts.cid.0 cid (find_some (λ x. has_id cid x.facts) m.connections e is).passes in
+    subst (λ c. Becomes (Some (turned_by_order order e m)) c (carries_out order m).machine) mine
+    (orders-become order m e (record { ordered = found; is = subst (λ c. entry_at c m ≡ Some e) (sym mine) is; here = subst (λ o. is_with (address_of order) o ≡ true) is own }))
+part-becomes (ends_dial own_id opened) m found cid e own is = own-becomes (turned (ends_dial own_id opened) e m) own_id.0 cid (dialed opened) m e own is (λ here. dialed-becomes opened e m here)
+part-becomes (stores entry undecoded) m found cid e own is =
+    let same : entry.facts.cid.0 ≡ cid = eqb-true entry.facts.cid.0 cid own in
+    let one : Some entry ≡ Some e = sym found ∙ (ap (λ c. entry_at c m) same ∙ is) in
+    let it : entry ≡ e = cc in
+    subst (λ x. Becomes (Some (record x { undecoded = undecoded })) cid (with_entry (record entry { undecoded = undecoded }) m)) it
+    (subst (λ c. Becomes (Some (record entry { undecoded = undecoded })) c (with_entry (record entry { undecoded = undecoded }) m)) same
+    (turned-becomes entry (record entry { undecoded = undecoded }) m refl))
+part-becomes (handles_item own_id item) m found cid e own is =
+    own-becomes (turned_by_item e.facts.phase item e m) own_id.0 cid (handled item) m e own is (λ here. handled-becomes e.facts.phase item e m (given_id m e found here) here)
+part-becomes (ends_stream own_id fault) m found cid e own is = own-becomes (Some e) own_id.0 cid (faulted fault) m e own is (λ here. faulted-becomes fault e m here)
+part-becomes (is_closed own_id) m found cid e own is = own-becomes (Some e) own_id.0 cid closes m e own is (λ here. closes-becomes e m here)
+part-becomes other m found cid e own is = absurd (false≢true own)
