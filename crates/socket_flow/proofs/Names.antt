@@ -9,11 +9,11 @@ use Rattle.net_base.specs.declared.connection.Cid.{Cid}
 use Rattle.net_base.specs.declared.event.Event.{Event}
 use Rattle.socket_flow.specs.Acting.{IsOpenAs, IsOpened, OpensOn, IsDialingAs, DialsAt, SendsOn, PutsOn, put_on, IsClosing, OutStays, ClosesAt, ClosesOn, Does, is_free}
 use Rattle.socket_flow.specs.Asks.{Asks, IsFirst, IsNextCaller}
-use Rattle.socket_flow.specs.Flow.{introduced, heard_on, after_bytes, unless_over, after_going, blocked, after_full, welcomed, newcomer}
+use Rattle.socket_flow.specs.Flow.{introduced, heard_on, after_bytes, unless_over, after_going, blocked, after_full, newcomer}
 use Rattle.socket_flow.specs.Announcement.{hearing}
 use Rattle.socket_flow.specs.Histories.{Call, PeerWaits, NobodyWaits, PeerIsGone, HasNoRoom, HasNoRoomToDial, MayBeReady, RoundBegins, PeerCame, DialCameTo, BytesCame, BytesWent, TakesNoMore, HasEnded, NodeDoes, NodeAsks, Makes}
 use Rattle.socket_flow.specs.Table.{socket_at, key_at, out_at, out_of, stage_at, stage_of, is_connection, is_of, is_linked}
-use Rattle.socket_flow.specs.Talk.{HasNoMoreStrangers, KeepsKeys, KeepsSockets, KeepsAll, Loses, Losing, MayLose, TakesIn, Connects, IsDialed, Begins, greeting_by}
+use Rattle.socket_flow.specs.Talk.{HasNoMoreStrangers, KeepsSockets, KeepsAll, Loses, Losing, MayLose, TakesIn, Connects, IsDialed, Begins, greeting_by}
 use Rattle.socket_flow.specs.Writing.{gone_by}
 use Rattle.socket_flow.specs.declared.announcement.Heard.{Heard}
 use Rattle.socket_flow.specs.declared.announcement.Heard.TheVariants.{Front, Whole, Else}
@@ -26,7 +26,6 @@ use Rattle.socket_flow.specs.declared.id.Id.{Id}
 use Rattle.socket_flow.specs.declared.socket.Socket.{Socket}
 use Rattle.socket_flow.specs.declared.socket.Stage.{Stage}
 use Rattle.socket_flow.specs.declared.socket.Stage.TheVariants.{Dialing, Announcing, Waiting, Told, Open, Closing}
-use Rattle.socket_flow.specs.declared.socket_table.SocketTable.{SocketTable}
 use Rattle.socket_flow.specs.declared.terms.Terms.{Terms}
 use Rattle.socket_flow.proofs.Losing.{as_many_strangers}
 

@@ -1,5 +1,5 @@
 -- No more sockets announce an address than are to, whatever is called.
-use Rattle.std.proofs.Common.{◌≡◌, ◌⊎◌, inl, inr, ℕ, ◌+◌, ◌-◌, ◌^◌, ◌≤◌, ◌<◌, min, max, nat_lt, Bool, true, false, MatchBool, List, [], ◌∷◌, length, Option, Some, None, refl, sym, ap, subst, ◌∙◌, arith}
+use Rattle.std.proofs.Common.{◌≡◌, ◌⊎◌, inl, inr, ℕ, ◌+◌, ◌-◌, ◌^◌, ◌≤◌, ◌<◌, min, max, nat_lt, Bool, true, false, MatchBool, List, [], ◌∷◌, length, Option, Some, None, sym, ap, subst, ◌∙◌, arith}
 use Rattle.net_base.specs.declared.action.Action.{Action}
 use Rattle.net_base.specs.declared.action.Action.TheVariants.{Admit, Turnaway, Dial, Send, Close, Pause, AskRoots, State, Peer}
 use Rattle.net_base.specs.declared.address.Addr.{Addr}
@@ -8,10 +8,9 @@ use Rattle.net_base.specs.declared.event.Event.{Event}
 use Rattle.socket_flow.specs.Acting.{OpensOn, DialsAt, SendsOn, PutsOn, ClosesOn, Does, is_free}
 use Rattle.socket_flow.specs.Asks.{Asks, AsksForRoom, IsFirst, IsNextCaller}
 use Rattle.socket_flow.specs.Bounds.{is_accept, lets_in, MayLetIn, AcceptsAsAsked, StrangersAreFew, WaitsAreBounded}
-use Rattle.socket_flow.specs.Counts.{IsMost, stranger_at}
 use Rattle.socket_flow.specs.Histories.{Call, PeerWaits, NobodyWaits, PeerIsGone, HasNoRoom, HasNoRoomToDial, MayBeReady, RoundBegins, PeerCame, DialCameTo, BytesCame, BytesWent, TakesNoMore, HasEnded, NodeDoes, NodeAsks, Makes, to_read, Runs}
 use Rattle.socket_flow.specs.Table.{key_at, stage_at}
-use Rattle.socket_flow.specs.Talk.{HasNoMoreStrangers, KeepsAll, Loses, Losing, MayLose, IsDialed, Begins}
+use Rattle.socket_flow.specs.Talk.{HasNoMoreStrangers, KeepsAll, Loses, Losing, MayLose, IsDialed}
 use Rattle.socket_flow.specs.declared.ask.Ask.{Ask}
 use Rattle.socket_flow.specs.declared.ask.Ask.TheVariants.{Close as CloseSocket, Connect, Check, Write, Accept, Read, Give, Govern, Wait}
 use Rattle.socket_flow.specs.declared.ask.Dialed.{Dialed as Outcome}
@@ -19,7 +18,6 @@ use Rattle.socket_flow.specs.declared.ask.Dialed.TheVariants.{NotYet, Connected,
 use Rattle.socket_flow.specs.declared.flow.SocketFlow.{SocketFlow}
 use Rattle.socket_flow.specs.declared.socket.Stage.{Stage}
 use Rattle.socket_flow.specs.declared.socket.Stage.TheVariants.{Dialing, Announcing, Waiting, Told, Open, Closing}
-use Rattle.socket_flow.specs.declared.terms.Terms.{Terms}
 use Rattle.socket_flow.proofs.Losing.{as_many_strangers, strangers_then}
 
 -- ---- no more than before

@@ -1,5 +1,5 @@
 -- What waits to be sent, and who announces an address, is bounded, whatever is called.
-use Rattle.std.specs.Prelude.{ℕ, ◌+◌, ◌*◌, ◌≤◌, max, Bool, true, false, List, [], ◌∷◌, length, sum_by, Option, None}
+use Rattle.std.specs.Prelude.{ℕ, ◌+◌, ◌*◌, ◌≤◌, max, Bool, true, false, List, [], ◌∷◌, length, sum_by, None}
 use Rattle.socket_flow.specs.Counts.{unsent_at, stranger_at, IsMost}
 use Rattle.socket_flow.specs.Histories.{Call, PeerCame, NodeAsks, Runs}
 use Rattle.socket_flow.specs.Talk.{Begins}

@@ -1,4 +1,4 @@
-use Rattle.std.proofs.Common.{◌≡◌, ℕ, ◌+◌, ◌≤◌, arith, rules, eqb, Some, length, ap, ◌∙◌}
+use Rattle.std.proofs.Common.{arith, rules, eqb, Some, ap, ◌∙◌}
 use Rattle.std.specs.HashMap.{get}
 use Rattle.socket_flow.specs.declared.socket.Stage.TheVariants.{Open}
 use Rattle.socket_flow.proofs.Bounded.{put_on, same_table}

@@ -1,4 +1,4 @@
-use Rattle.std.proofs.Common.{◌≡◌, ℕ, ◌+◌, ◌≤◌, arith, rules, Some, length}
+use Rattle.std.proofs.Common.{arith, rules, Some}
 use Rattle.socket_flow.specs.declared.socket.Stage.TheVariants.{Closing}
 use Rattle.socket_flow.proofs.Bounded.{put_on, same_table}
 use Rattle.socket_flow.proofs.flow.SocketFlow.close.Goals as goal

@@ -1,4 +1,4 @@
-use Rattle.std.proofs.Common.{◌≡◌, ℕ, ◌+◌, ◌-◌, ◌≤◌, arith, rules, Some, None, length, ap, true, false}
+use Rattle.std.proofs.Common.{ℕ, arith, rules, Some, length, ap}
 use Rattle.socket_flow.proofs.Bounded.{turns_to, stranger_of}
 use Rattle.socket_flow.proofs.flow.SocketFlow.has_to_write.Goals as goal
 

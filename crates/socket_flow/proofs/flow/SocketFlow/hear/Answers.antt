@@ -1,4 +1,4 @@
-use Rattle.std.proofs.Common.{◌≡◌, ℕ, ◌+◌, ◌≤◌, arith, rules, List, Some, length, refl, ap, ◌∙◌}
+use Rattle.std.proofs.Common.{◌≡◌, ℕ, arith, rules, List, Some, length, refl, ap, ◌∙◌}
 use Rattle.socket_flow.specs.Stages.{more_said}
 use Rattle.socket_flow.specs.Table.{socket_at, Puts}
 use Rattle.socket_flow.specs.declared.flow.SocketFlow.{SocketFlow}

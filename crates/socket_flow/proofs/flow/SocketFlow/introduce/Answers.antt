@@ -1,4 +1,4 @@
-use Rattle.std.proofs.Common.{◌≡◌, ℕ, ◌+◌, ◌-◌, ◌≤◌, arith, rules, cond, Some, None, ap, ◌∙◌}
+use Rattle.std.proofs.Common.{◌≡◌, ℕ, arith, rules, cond, Some, ap, ◌∙◌}
 use Rattle.socket_flow.specs.declared.socket.Stage.TheVariants.{Waiting}
 use Rattle.socket_flow.proofs.Bounded.{put_on, held, stranger_of}
 use Rattle.socket_flow.proofs.flow.SocketFlow.introduce.Goals as goal

@@ -1,4 +1,4 @@
-use Rattle.std.proofs.Common.{◌≡◌, ℕ, ◌+◌, ◌-◌, ◌≤◌, arith, rules, Some, None, length, ap, true, false}
+use Rattle.std.proofs.Common.{arith, rules, false}
 use Rattle.socket_flow.proofs.Bounded.{turns_to}
 use Rattle.socket_flow.proofs.flow.SocketFlow.is_taken_from.Goals as goal
 

@@ -1,4 +1,4 @@
-use Rattle.std.proofs.Common.{◌≡◌, ℕ, ◌+◌, ◌-◌, ◌≤◌, arith, Some, None, ap}
+use Rattle.std.proofs.Common.{◌≡◌, ℕ, arith, Some, ap}
 use Rattle.socket_flow.proofs.Bounded.{gone, stranger_of}
 use Rattle.socket_flow.proofs.flow.SocketFlow.lose.Goals as goal
 

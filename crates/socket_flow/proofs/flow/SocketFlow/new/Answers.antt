@@ -1,8 +1,7 @@
-use Rattle.std.proofs.Common.{◌≡◌, ℕ, ◌+◌, ◌*◌, ◌≤◌, arith, cond, List, [], ◌∷◌, length, None, refl, ap}
+use Rattle.std.proofs.Common.{◌≡◌, ℕ, arith, List, [], ◌∷◌, refl, ap}
 use Rattle.std.specs.List.{sum_by}
 use Rattle.std.proofs.lemmas.List.Sums.{sum_by-cons}
 use Rattle.socket_flow.specs.Counts.{unsent_at, stranger_at}
-use Rattle.socket_flow.specs.Table.{out_of, stage_of, is_announcing}
 use Rattle.socket_flow.proofs.Bounded.{waits_on, stranger_of}
 use Rattle.socket_flow.proofs.flow.SocketFlow.new.Goals as goal
 

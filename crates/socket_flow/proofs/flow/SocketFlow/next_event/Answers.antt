@@ -1,4 +1,4 @@
-use Rattle.std.proofs.Common.{◌≡◌, ℕ, ◌+◌, ◌≤◌, arith, rules, Some, length}
+use Rattle.std.proofs.Common.{arith, rules}
 use Rattle.socket_flow.specs.declared.socket.Stage.TheVariants.{Told}
 use Rattle.socket_flow.proofs.Bounded.{turns_to}
 use Rattle.socket_flow.proofs.flow.SocketFlow.next_event.Goals as goal

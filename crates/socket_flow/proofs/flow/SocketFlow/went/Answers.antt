@@ -1,4 +1,4 @@
-use Rattle.std.proofs.Common.{◌≡◌, ℕ, ◌+◌, ◌-◌, ◌≤◌, arith, rules, min, Some, length, drop, true, false, ap, ◌∙◌}
+use Rattle.std.proofs.Common.{◌≡◌, ℕ, ◌-◌, arith, rules, min, Some, length, drop, true, false, ap, ◌∙◌}
 use Rattle.std.proofs.lemmas.List.{length-drop}
 use Rattle.socket_flow.specs.Table.{socket_at, Puts}
 use Rattle.socket_flow.specs.declared.flow.SocketFlow.{SocketFlow}
