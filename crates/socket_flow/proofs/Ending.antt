@@ -12,13 +12,12 @@ use Rattle.socket_flow.specs.Asks.{Asks, IsFirst, IsNextCaller, MayRead}
 use Rattle.socket_flow.specs.Flow.{after_bytes, after_going, after_full, newcomer}
 use Rattle.socket_flow.specs.Histories.{Call, PeerWaits, NobodyWaits, PeerIsGone, HasNoRoom, HasNoRoomToDial, MayBeReady, RoundBegins, PeerCame, DialCameTo, BytesCame, BytesWent, TakesNoMore, HasEnded, NodeDoes, NodeAsks, Makes, to_read, IsWithin, MayCall, Runs, if_on, came_by, came_on, event_if_on, told_by, told_on, is_accepted_by, is_accepted, EndedIsSilent}
 use Rattle.socket_flow.specs.Table.{socket_at, key_at, stage_at, stage_of, is_linked}
-use Rattle.socket_flow.specs.Talk.{KeepsSockets, KeepsAll, Loses, Losing, MayLose, TakesIn, Connects, IsDialed, Begins, greeting_by}
+use Rattle.socket_flow.specs.Talk.{KeepsSockets, KeepsAll, Loses, Losing, MayLose, TakesIn, IsDialed, Begins, greeting_by}
 use Rattle.socket_flow.specs.declared.ask.Ask.{Ask}
 use Rattle.socket_flow.specs.declared.ask.Ask.TheVariants.{Close as CloseSocket, Connect, Check, Write, Accept, Read, Give, Govern, Wait}
 use Rattle.socket_flow.specs.declared.ask.Dialed.{Dialed as Outcome}
 use Rattle.socket_flow.specs.declared.ask.Dialed.TheVariants.{NotYet, Connected, Failed}
 use Rattle.socket_flow.specs.declared.flow.SocketFlow.{SocketFlow}
-use Rattle.socket_flow.specs.declared.id.Id.{Id}
 use Rattle.socket_flow.specs.declared.socket.Socket.{Socket}
 use Rattle.socket_flow.specs.declared.socket.Stage.{Stage}
 use Rattle.socket_flow.specs.declared.socket.Stage.TheVariants.{Dialing, Announcing, Waiting, Told, Open, Closing}

@@ -1,3 +1,4 @@
+pub mod Bounded
 pub mod Ending
 pub mod Fair
 pub mod Living
@@ -6,5 +7,6 @@ pub mod Names
 pub mod Once
 pub mod Order
 pub mod Single
+pub mod Strangers
 pub mod Telling
 pub mod Written

@@ -1,5 +1,5 @@
 -- What a node is told of a connection is right from its first use to its end, whatever is called.
-use Rattle.std.proofs.Common.{◌≡◌, ◌⊎◌, ℕ, ◌+◌, ◌-◌, ◌^◌, ◌≤◌, min, nat_lt, nat_le, ◌==◌, Bool, true, false, cond, eqb, MatchBool, List, [], ◌∷◌, ◌++◌, length, Option, Some, None, refl, sym, ap, subst, ◌∙◌, inl, inr}
+use Rattle.std.proofs.Common.{◌≡◌, ◌⊎◌, ℕ, ◌+◌, ◌-◌, ◌^◌, min, nat_lt, nat_le, ◌==◌, Bool, true, false, cond, eqb, MatchBool, List, [], ◌∷◌, ◌++◌, length, Option, Some, None, refl, sym, ap, subst, ◌∙◌, inl, inr}
 use Rattle.std.proofs.lemmas.Bool.{eqb-true, eqb-false}
 use Rattle.std.proofs.lemmas.List.{append-nil}
 use Rattle.net_base.specs.declared.action.Action.{Action}
@@ -17,7 +17,7 @@ use Rattle.socket_flow.specs.Histories.{Call, PeerWaits, NobodyWaits, PeerIsGone
 use Rattle.socket_flow.specs.Lives.{Life, Unused, Unanswered, Talking, Over, Reused, Wrong, after_answer, after_coming, after_end, after_event, used_as, after_action, after_given, after_came, after_call, after_calls, IsRight, LivesAreRight}
 use Rattle.socket_flow.specs.Moments.{moments_told, is_news, reached}
 use Rattle.socket_flow.specs.Table.{socket_at, key_at, stage_at, stage_of, is_connection, is_linked}
-use Rattle.socket_flow.specs.Talk.{KeepsSockets, KeepsAll, Loses, Losing, MayLose, TakesIn, Connects, IsDialed, Begins, greeting_by}
+use Rattle.socket_flow.specs.Talk.{KeepsSockets, KeepsAll, Loses, Losing, MayLose, Connects, IsDialed, Begins, greeting_by}
 use Rattle.socket_flow.specs.Writing.{gone_by}
 use Rattle.socket_flow.specs.declared.announcement.Heard.{Heard}
 use Rattle.socket_flow.specs.declared.announcement.Heard.TheVariants.{Front, Whole, Else}

@@ -9,11 +9,11 @@ use Rattle.net_base.specs.declared.connection.Cid.{Cid}
 use Rattle.net_base.specs.declared.event.Event.{Event}
 use Rattle.socket_flow.specs.Acting.{IsOpenAs, IsOpened, OpensOn, IsDialingAs, DialsAt, SendsOn, PutsOn, put_on, IsClosing, OutStays, ClosesAt, ClosesOn, Does, is_free}
 use Rattle.socket_flow.specs.Asks.{Asks, IsFirst, IsNextCaller}
-use Rattle.socket_flow.specs.Flow.{introduced, heard_on, after_bytes, unless_over, after_going, blocked, after_full, welcomed, newcomer}
+use Rattle.socket_flow.specs.Flow.{introduced, heard_on, after_bytes, unless_over, after_going, blocked, after_full, newcomer}
 use Rattle.socket_flow.specs.Announcement.{hearing}
 use Rattle.socket_flow.specs.Histories.{Call, PeerWaits, NobodyWaits, PeerIsGone, HasNoRoom, HasNoRoomToDial, MayBeReady, RoundBegins, PeerCame, DialCameTo, BytesCame, BytesWent, TakesNoMore, HasEnded, NodeDoes, NodeAsks, Makes}
 use Rattle.socket_flow.specs.Table.{socket_at, key_at, out_at, out_of, stage_at, stage_of, is_connection, is_of, is_linked}
-use Rattle.socket_flow.specs.Talk.{KeepsKeys, KeepsSockets, KeepsAll, Loses, Losing, MayLose, TakesIn, Connects, IsDialed, Begins, greeting_by}
+use Rattle.socket_flow.specs.Talk.{HasNoMoreStrangers, KeepsSockets, KeepsAll, Loses, Losing, MayLose, TakesIn, Connects, IsDialed, Begins, greeting_by}
 use Rattle.socket_flow.specs.Writing.{gone_by}
 use Rattle.socket_flow.specs.declared.announcement.Heard.{Heard}
 use Rattle.socket_flow.specs.declared.announcement.Heard.TheVariants.{Front, Whole, Else}
@@ -26,8 +26,8 @@ use Rattle.socket_flow.specs.declared.id.Id.{Id}
 use Rattle.socket_flow.specs.declared.socket.Socket.{Socket}
 use Rattle.socket_flow.specs.declared.socket.Stage.{Stage}
 use Rattle.socket_flow.specs.declared.socket.Stage.TheVariants.{Dialing, Announcing, Waiting, Told, Open, Closing}
-use Rattle.socket_flow.specs.declared.socket_table.SocketTable.{SocketTable}
 use Rattle.socket_flow.specs.declared.terms.Terms.{Terms}
+use Rattle.socket_flow.proofs.Losing.{as_many_strangers}
 
 -- ---- what is asked of one socket
 
@@ -672,12 +672,12 @@ module _ (greeting : List ℕ) where
 
   -- ---- what the node does
 
-  untouched : (old new : SocketFlow) → new.table ≡ old.table → new.greeting ≡ old.greeting → new.caller ≡ old.caller → Orderly greeting old → Orderly greeting new
-  untouched old new table greets caller o =
+  untouched : (old new : SocketFlow) → new.table ≡ old.table → new.greeting ≡ old.greeting → new.caller ≡ old.caller → HasNoMoreStrangers old new → Orderly greeting old → Orderly greeting new
+  untouched old new table greets caller strangers o =
       keeps old new (record {
         talk = λ k. (ap (λ t. out_at t k) table, ap (λ t. stage_at t k) table);
         names = λ cid. ap (λ t. key_at t cid) table;
-        keys = record { next = ap (λ t. t.next_key) table; greeting = greets; caller = λ k is. sym caller ∙ is };
+        keys = record { next = ap (λ t. t.next_key) table; greeting = greets; caller = λ k is. sym caller ∙ is; strangers = strangers };
       }) o
 
   does : (action : Action) (old new : SocketFlow) → Does action old new → Orderly greeting old → Orderly greeting new
@@ -686,10 +686,10 @@ module _ (greeting : List ℕ) where
   does (Dial cid addr) old new p o = dials (is_free old cid.0) cid addr old new refl p o
   does (Send cid bytes) old new p o = sends (key_at old.table cid.0) cid bytes old new refl p o
   does (Close cid cause) old new p o = closes (key_at old.table cid.0) cid old new refl p.2 o
-  does (Pause time) old new p o = untouched old new (ap (λ x. x.table) p) (ap (λ x. x.greeting) p) (ap (λ x. x.caller) p) o
-  does (AskRoots job) old new p o = untouched old new (ap (λ x. x.table) p) (ap (λ x. x.greeting) p) (ap (λ x. x.caller) p) o
-  does (State cid name) old new p o = untouched old new (ap (λ x. x.table) p) (ap (λ x. x.greeting) p) (ap (λ x. x.caller) p) o
-  does (Peer addr note) old new p o = untouched old new (ap (λ x. x.table) p) (ap (λ x. x.greeting) p) (ap (λ x. x.caller) p) o
+  does (Pause time) old new p o = untouched old new (ap (λ x. x.table) p) (ap (λ x. x.greeting) p) (ap (λ x. x.caller) p) (as_many_strangers old new (ap (λ x. x.strangers) p) (ap (λ x. x.strangers_most) p)) o
+  does (AskRoots job) old new p o = untouched old new (ap (λ x. x.table) p) (ap (λ x. x.greeting) p) (ap (λ x. x.caller) p) (as_many_strangers old new (ap (λ x. x.strangers) p) (ap (λ x. x.strangers_most) p)) o
+  does (State cid name) old new p o = untouched old new (ap (λ x. x.table) p) (ap (λ x. x.greeting) p) (ap (λ x. x.caller) p) (as_many_strangers old new (ap (λ x. x.strangers) p) (ap (λ x. x.strangers_most) p)) o
+  does (Peer addr note) old new p o = untouched old new (ap (λ x. x.table) p) (ap (λ x. x.greeting) p) (ap (λ x. x.caller) p) (as_many_strangers old new (ap (λ x. x.strangers) p) (ap (λ x. x.strangers_most) p)) o
 
   -- ---- what is asked for
 

@@ -1,28 +1,25 @@
 -- A connection has one socket, whatever is called.
 use Rattle.std.proofs.Common.{◌≡◌, ◌⊎◌, ℕ, Bool, true, false, cond, eqb, List, [], ◌∷◌, ◌++◌, Option, Some, None, refl, sym, ap, subst, ◌∙◌, inl, inr}
-use Rattle.std.proofs.lemmas.Bool.{eqb-true}
 use Rattle.net_base.specs.declared.action.Action.{Action}
-use Rattle.net_base.specs.declared.action.Action.TheVariants.{Admit, Turnaway, Dial, Send, Close, Pause, AskRoots, State, Peer}
+use Rattle.net_base.specs.declared.action.Action.TheVariants.{Admit, Dial}
 use Rattle.net_base.specs.declared.connection.Cid.{Cid}
 use Rattle.net_base.specs.declared.event.Event.{Event}
 use Rattle.net_base.specs.declared.event.Event.TheVariants.{Dialed, Bytes, Closed}
 use Rattle.socket_flow.specs.Flow.{told_bytes, told_of}
-use Rattle.socket_flow.specs.Histories.{Call, PeerWaits, NobodyWaits, PeerIsGone, HasNoRoom, HasNoRoomToDial, MayBeReady, RoundBegins, PeerCame, DialCameTo, BytesCame, BytesWent, TakesNoMore, HasEnded, NodeDoes, NodeAsks, Makes, to_read, IsWithin, MayCall, Runs, event_if_on, told_by, told_on, IsBytesOf, AreBytesOf}
+use Rattle.socket_flow.specs.Histories.{Call, PeerWaits, NobodyWaits, PeerIsGone, HasNoRoom, HasNoRoomToDial, MayBeReady, RoundBegins, PeerCame, DialCameTo, BytesCame, BytesWent, TakesNoMore, HasEnded, NodeDoes, NodeAsks, Makes, to_read, IsWithin, MayCall, Runs, event_if_on, told_by, told_on, AreBytesOf}
 use Rattle.socket_flow.specs.Lives.{Life, Unused, Unanswered, Talking, Over, Reused, Wrong, after_answer, after_coming, after_end, after_event, used_as, after_action, after_given, after_came, after_call, after_calls, IsRight, IsFirstUse, IsToldOf, HasOneSocket}
 use Rattle.socket_flow.specs.Sending.{written_on, sent_to, opened_with, begun_with, IsFrontOf, IsSentSince}
 use Rattle.socket_flow.specs.Table.{socket_at, stage_at, out_at, stage_of}
-use Rattle.socket_flow.specs.Talk.{Begins, greeting_by}
+use Rattle.socket_flow.specs.Talk.{greeting_by}
 use Rattle.socket_flow.specs.declared.ask.Ask.{Ask}
-use Rattle.socket_flow.specs.declared.ask.Ask.TheVariants.{Close as CloseSocket, Connect, Check, Write, Accept, Read, Give, Govern, Wait}
+use Rattle.socket_flow.specs.declared.ask.Ask.TheVariants.{Give}
 use Rattle.socket_flow.specs.declared.flow.SocketFlow.{SocketFlow}
-use Rattle.socket_flow.specs.declared.id.Id.{Id}
 use Rattle.socket_flow.specs.declared.socket.Socket.{Socket}
 use Rattle.socket_flow.specs.declared.socket.Stage.{Stage}
 use Rattle.socket_flow.specs.declared.socket.Stage.TheVariants.{Dialing, Announcing, Waiting, Told, Open, Closing}
-use Rattle.socket_flow.specs.declared.terms.Terms.{Terms}
 use Rattle.socket_flow.proofs.Names.{is_conn, Orderly, one_socket, eqb_same, makes, at_first}
-use Rattle.socket_flow.proofs.Living.{lives, Lives, Fits, IsOwn, IsLived, IsSilent, step, silent_then, history as right_history, at_unused}
-use Rattle.socket_flow.proofs.Written.{Comes, Foresees, Starts, history as foreseen}
+use Rattle.socket_flow.proofs.Living.{lives, Lives, Fits, IsLived, IsSilent, step, silent_then, history as right_history, at_unused}
+use Rattle.socket_flow.proofs.Written.{Comes, Starts, history as foreseen}
 
 -- ---- what is told of an id
 

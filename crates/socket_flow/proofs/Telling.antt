@@ -16,7 +16,7 @@ use Rattle.socket_flow.specs.Histories.{Call, PeerWaits, NobodyWaits, PeerIsGone
 use Rattle.socket_flow.specs.Stages.{still}
 use Rattle.socket_flow.specs.Writing.{gone_by}
 use Rattle.socket_flow.specs.Table.{socket_at, key_at, stage_at, stage_of, is_linked}
-use Rattle.socket_flow.specs.Talk.{KeepsKeys, KeepsSockets, KeepsAll, Loses, Losing, MayLose, TakesIn, Connects, IsDialed, Begins, greeting_by}
+use Rattle.socket_flow.specs.Talk.{HasNoMoreStrangers, KeepsKeys, KeepsSockets, KeepsAll, Loses, Losing, MayLose, TakesIn, Connects, IsDialed, Begins, greeting_by}
 use Rattle.socket_flow.specs.declared.announcement.Heard.{Heard}
 use Rattle.socket_flow.specs.declared.announcement.Heard.TheVariants.{Front, Whole, Else}
 use Rattle.socket_flow.specs.declared.ask.Ask.{Ask}
@@ -30,6 +30,7 @@ use Rattle.socket_flow.specs.declared.socket.Stage.{Stage}
 use Rattle.socket_flow.specs.declared.socket.Stage.TheVariants.{Dialing, Announcing, Waiting, Told, Open, Closing}
 use Rattle.socket_flow.specs.declared.socket_table.SocketTable.{SocketTable}
 use Rattle.socket_flow.specs.declared.terms.Terms.{Terms}
+use Rattle.socket_flow.proofs.Losing.{as_many_strangers}
 
 -- ---- what a socket is for, and what came and was told
 
@@ -370,7 +371,7 @@ module _ (greeting : List ℕ) (key : ℕ) where
       let here = eqb-true k key is in
       opens_here cid old new acc c t (subst (λ j. old.caller ≡ Some j) here caller) (subst (λ j. IsOpened old new j cid) here p) f
   opens_at k false cid old new acc c t is caller p f =
-      stays old new acc c t (record { next = p.next; greeting = p.greeting; caller = λ j now. absurd (nobody new.caller j p.caller now) })
+      stays old new acc c t (record { next = p.next; greeting = p.greeting; caller = λ j now. absurd (nobody new.caller j p.caller now); strangers = p.strangers })
       (inr (ap stage_of (p.others key is))) f
 
   opens : (o : Option ℕ) (cid : Cid) (old new : SocketFlow) (acc : Bool) (c : List ℕ) (t : List Event) → old.caller ≡ o → OpensOn old new o cid
@@ -444,10 +445,10 @@ module _ (greeting : List ℕ) (key : ℕ) where
   closes (Some k) cid old new acc c t p f = closes_at k (eqb k key) cid old new acc c t refl p f
 
   -- what is said of all that a call leaves as it is
-  untouched : (old new : SocketFlow) (acc : Bool) (c : List ℕ) (t : List Event) → new.table ≡ old.table → new.greeting ≡ old.greeting → new.caller ≡ old.caller
+  untouched : (old new : SocketFlow) (acc : Bool) (c : List ℕ) (t : List Event) → new.table ≡ old.table → new.greeting ≡ old.greeting → new.caller ≡ old.caller → HasNoMoreStrangers old new
       → Follows greeting key old acc c t → Follows greeting key new acc c t
-  untouched old new acc c t table same caller f =
-      stays old new acc c t (record { next = ap (λ x. x.next_key) table; greeting = same; caller = λ k is. sym caller ∙ is }) (inr (ap (λ x. stage_at x key) table)) f
+  untouched old new acc c t table same caller strangers f =
+      stays old new acc c t (record { next = ap (λ x. x.next_key) table; greeting = same; caller = λ k is. sym caller ∙ is; strangers = strangers }) (inr (ap (λ x. stage_at x key) table)) f
 
   does : (action : Action) (old new : SocketFlow) (acc : Bool) (c : List ℕ) (t : List Event) → Does action old new
       → Follows greeting key old acc c t → Follows greeting key new acc c t
@@ -456,10 +457,10 @@ module _ (greeting : List ℕ) (key : ℕ) where
   does (Dial cid addr) old new acc c t p f = dials_if (is_free old cid.0) old.table.next_key cid addr old new acc c t p f
   does (Send cid bytes) old new acc c t p f = sends (key_at old.table cid.0) bytes old new acc c t p f
   does (Close cid cause) old new acc c t p f = closes (key_at old.table cid.0) cid old new acc c t p.2 f
-  does (Pause time) old new acc c t p f = untouched old new acc c t (ap (λ x. x.table) p) (ap (λ x. x.greeting) p) (ap (λ x. x.caller) p) f
-  does (AskRoots job) old new acc c t p f = untouched old new acc c t (ap (λ x. x.table) p) (ap (λ x. x.greeting) p) (ap (λ x. x.caller) p) f
-  does (State cid name) old new acc c t p f = untouched old new acc c t (ap (λ x. x.table) p) (ap (λ x. x.greeting) p) (ap (λ x. x.caller) p) f
-  does (Peer addr note) old new acc c t p f = untouched old new acc c t (ap (λ x. x.table) p) (ap (λ x. x.greeting) p) (ap (λ x. x.caller) p) f
+  does (Pause time) old new acc c t p f = untouched old new acc c t (ap (λ x. x.table) p) (ap (λ x. x.greeting) p) (ap (λ x. x.caller) p) (as_many_strangers old new (ap (λ x. x.strangers) p) (ap (λ x. x.strangers_most) p)) f
+  does (AskRoots job) old new acc c t p f = untouched old new acc c t (ap (λ x. x.table) p) (ap (λ x. x.greeting) p) (ap (λ x. x.caller) p) (as_many_strangers old new (ap (λ x. x.strangers) p) (ap (λ x. x.strangers_most) p)) f
+  does (State cid name) old new acc c t p f = untouched old new acc c t (ap (λ x. x.table) p) (ap (λ x. x.greeting) p) (ap (λ x. x.caller) p) (as_many_strangers old new (ap (λ x. x.strangers) p) (ap (λ x. x.strangers_most) p)) f
+  does (Peer addr note) old new acc c t p f = untouched old new acc c t (ap (λ x. x.table) p) (ap (λ x. x.greeting) p) (ap (λ x. x.caller) p) (as_many_strangers old new (ap (λ x. x.strangers) p) (ap (λ x. x.strangers_most) p)) f
 
   -- what is asked for
 

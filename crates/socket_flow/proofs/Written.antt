@@ -1,23 +1,22 @@
 -- What is written on a socket was sent to its connection, whatever is called: what is still to be written and told of a socket,
 -- by what it is for.
-use Rattle.std.proofs.Common.{◌≡◌, ◌⊎◌, ℕ, ◌+◌, ◌-◌, ◌^◌, ◌≤◌, min, nat_lt, nat_le, Bool, true, false, not, cond, ◌&&◌, ◌==◌, eqb, MatchBool, List, [], ◌∷◌, ◌++◌, length, take, drop, Option, Some, None, refl, sym, ap, subst, ◌∙◌, append_assoc, arith, inl, inr}
+use Rattle.std.proofs.Common.{◌≡◌, ◌⊎◌, ℕ, ◌+◌, ◌-◌, ◌^◌, ◌≤◌, min, nat_lt, nat_le, Bool, true, false, cond, ◌==◌, eqb, MatchBool, List, [], ◌∷◌, ◌++◌, length, take, Option, Some, None, refl, sym, ap, subst, ◌∙◌, append_assoc, arith, inl, inr}
 use Rattle.std.proofs.Math.Seq.{take-nil}
-use Rattle.std.proofs.lemmas.Bool.{both_ways, eqb-true, eqb-false}
-use Rattle.std.proofs.lemmas.List.{append-nil, take-append-drop}
+use Rattle.std.proofs.lemmas.Bool.{eqb-true, eqb-false}
+use Rattle.std.proofs.lemmas.List.{take-append-drop}
 use Rattle.net_base.specs.declared.action.Action.{Action}
 use Rattle.net_base.specs.declared.action.Action.TheVariants.{Admit, Turnaway, Dial, Send, Close, Pause, AskRoots, State, Peer}
 use Rattle.net_base.specs.declared.address.Addr.{Addr}
 use Rattle.net_base.specs.declared.connection.Cid.{Cid}
 use Rattle.net_base.specs.declared.event.Event.{Event}
-use Rattle.net_base.specs.declared.event.Event.TheVariants.{Bytes}
 use Rattle.socket_flow.specs.Acting.{IsOpenAs, IsOpened, OpensOn, IsDialingAs, DialsAt, SendsOn, PutsOn, put_on, IsClosing, OutStays, ClosesAt, ClosesOn, Does, is_free}
 use Rattle.socket_flow.specs.Announcement.{hearing}
 use Rattle.socket_flow.specs.Asks.{Asks, IsFirst, IsNextCaller}
-use Rattle.socket_flow.specs.Flow.{told_bytes, told_of, introduced, heard_on, after_bytes, unless_over, after_going, blocked, after_full, welcomed, newcomer}
+use Rattle.socket_flow.specs.Flow.{told_bytes, told_of, introduced, heard_on, after_bytes, unless_over, after_going, blocked, after_full, newcomer}
 use Rattle.socket_flow.specs.Histories.{Call, PeerWaits, NobodyWaits, PeerIsGone, HasNoRoom, HasNoRoomToDial, MayBeReady, RoundBegins, PeerCame, DialCameTo, BytesCame, BytesWent, TakesNoMore, HasEnded, NodeDoes, NodeAsks, Makes, to_read, Runs, if_on, event_if_on, told_by, told_on, AreBytesOf}
-use Rattle.socket_flow.specs.Sending.{written_by, written_on, sent_in, sent_by, sent_to, opened_with, begun_with, IsFront, IsFrontOf, IsSentSince, IsOfOne, IsIdle, WhatIsWrittenWasSent}
-use Rattle.socket_flow.specs.Table.{socket_at, key_at, out_at, out_of, stage_at, stage_of, is_connection, is_linked}
-use Rattle.socket_flow.specs.Talk.{KeepsSockets, KeepsAll, Loses, Losing, MayLose, TakesIn, Connects, IsDialed, Begins, greeting_by}
+use Rattle.socket_flow.specs.Sending.{written_by, written_on, sent_by, sent_to, begun_with, IsFront, IsFrontOf, IsSentSince, IsOfOne, IsIdle, WhatIsWrittenWasSent}
+use Rattle.socket_flow.specs.Table.{socket_at, key_at, out_at, out_of, stage_at, stage_of, is_linked}
+use Rattle.socket_flow.specs.Talk.{KeepsSockets, KeepsAll, Loses, Losing, MayLose, TakesIn, Connects, IsDialed, greeting_by}
 use Rattle.socket_flow.specs.Writing.{gone_by}
 use Rattle.socket_flow.specs.declared.announcement.Heard.{Heard}
 use Rattle.socket_flow.specs.declared.announcement.Heard.TheVariants.{Front, Whole, Else}
@@ -30,7 +29,6 @@ use Rattle.socket_flow.specs.declared.id.Id.{Id}
 use Rattle.socket_flow.specs.declared.socket.Socket.{Socket}
 use Rattle.socket_flow.specs.declared.socket.Stage.{Stage}
 use Rattle.socket_flow.specs.declared.socket.Stage.TheVariants.{Dialing, Announcing, Waiting, Told, Open, Closing}
-use Rattle.socket_flow.specs.declared.terms.Terms.{Terms}
 use Rattle.socket_flow.proofs.Names.{IsNamed, IsCaller, IsBare, is_conn, Orderly, gone_stands, false_true, same_key, nobody, eqb_same, keeps, loses, makes, at_first}
 
 -- ---- fronts

@@ -10,7 +10,7 @@ use Rattle.net_base.specs.declared.event.Event.TheVariants.{Roots as Answered}
 use Rattle.net_base.specs.declared.event.Job.{Job}
 use Rattle.net_base.specs.declared.event.RootAnswer.TheVariants.{Found}
 use Rattle.socket_flow.specs.Table.{socket_at, key_at, stage_at, out_at, is_linked, Puts, HasSame}
-use Rattle.socket_flow.specs.Talk.{KeepsAll, KeepsKeys, KeepsRest, Loses, MayLose, TakesIn}
+use Rattle.socket_flow.specs.Talk.{HasNoMoreStrangers, KeepsAll, KeepsKeys, KeepsRest, Loses, MayLose, TakesIn}
 use Rattle.socket_flow.specs.declared.flow.SocketFlow.{SocketFlow}
 use Rattle.socket_flow.specs.declared.roots.Roots.{Roots}
 use Rattle.socket_flow.specs.declared.socket.Socket.{Socket}
@@ -44,6 +44,7 @@ pub record IsOpened (old new : SocketFlow) (key : ℕ) (cid : Cid) : Type 0 wher
   pub events : new.events ≡ old.events
   pub next : new.table.next_key ≡ old.table.next_key
   pub greeting : new.greeting ≡ old.greeting
+  pub strangers : HasNoMoreStrangers old new
 
 abbrev pub OpensOn : SocketFlow → SocketFlow → Option ℕ → Cid → Type 0
 OpensOn old new None cid = KeepsAll old new
@@ -75,6 +76,7 @@ pub record DialsAt (old new : SocketFlow) (key : ℕ) (cid : Cid) (addr : Addr) 
   pub names : Names old new cid key
   pub events : new.events ≡ old.events
   pub taken : TakesIn key old new
+  pub strangers : HasNoMoreStrangers old new
 
 abbrev pub Dials : SocketFlow → SocketFlow → Cid → Addr → Type 0
 Dials old new cid addr = MatchBool (is_free old cid.0) (DialsAt old new old.table.next_key cid addr) (KeepsAll old new)

@@ -7,7 +7,7 @@ use Rattle.net_base.specs.declared.event.Event.TheVariants.{Accepted}
 use Rattle.socket_flow.specs.Acting.{LeavesAt}
 use Rattle.socket_flow.specs.Stages.{unheard}
 use Rattle.socket_flow.specs.Table.{stage_at, out_at, NamesSame}
-use Rattle.socket_flow.specs.Talk.{KeepsAll, KeepsSockets, MayLose}
+use Rattle.socket_flow.specs.Talk.{HasNoMoreStrangers, KeepsAll, KeepsSockets, MayLose}
 use Rattle.socket_flow.specs.declared.ask.Ask.{Ask}
 use Rattle.socket_flow.specs.declared.flow.SocketFlow.{SocketFlow}
 use Rattle.socket_flow.specs.declared.socket.Stage.{Stage}
@@ -32,6 +32,7 @@ pub record IsNextCaller (old new : SocketFlow) (event : Event) : Type 0 where
   pub left : new.events ≡ []
   pub next : new.table.next_key ≡ old.table.next_key
   pub greeting : new.greeting ≡ old.greeting
+  pub strangers : HasNoMoreStrangers old new
 
 -- An event that is given is the first that waits, or tells of the next peer. Before that the socket of a peer that the node
 -- was told of, and has neither admitted nor turned away, is closed.
@@ -81,14 +82,21 @@ abbrev pub IsNoRead : Ask → Type 0
 IsNoRead (Read key most) = ⊥
 IsNoRead _ = Unit {0}
 
+-- what is asked for where nobody is accepted
+abbrev pub IsNoAccept : Ask → Type 0
+IsNoAccept Accept = ⊥
+IsNoAccept _ = Unit {0}
+
 abbrev pub Asks : SocketFlow → SocketFlow → Ask → Type 0
 Asks old new (Give event) = IsFirst old new event ⊎ IsNextCaller old new event
 Asks old new (Read key most) = KeepsAll old new × IsReadable new.table (Read key most) × (new.events ≡ [])
 Asks old new ask = KeepsAll old new × IsReadable new.table ask
 
 -- Sockets may go, each with its end told. Then the first event is given, or the next peer is told of, or something is to be
--- done on a socket, which is read only where it may be, and where nothing else waits to be told.
+-- done on a socket, which is read only where it may be, and where nothing else waits to be told. A peer is accepted only where
+-- there is room for one more that announces itself.
 pub record IsAsked (old new : SocketFlow) (ask : Ask) : Type 0 where
   pub left : SocketFlow
   pub loses : MayLose old left
   pub asks : Asks left new ask
+  pub room : AsksForRoom new ask

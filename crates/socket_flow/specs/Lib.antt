@@ -1,6 +1,8 @@
 pub mod Acting
 pub mod Announcement
 pub mod Asks
+pub mod Bounds
+pub mod Counts
 pub mod Dues
 pub mod Flow
 pub mod Histories

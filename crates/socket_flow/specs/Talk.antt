@@ -1,5 +1,5 @@
 -- What a call leaves as it is of all that is told and sent, and which sockets go.
-use Rattle.std.specs.Prelude.{◌≡◌, ℕ, ◌+◌, true, false, eqb, List, [], ◌∷◌, ◌++◌, if◌then◌else◌, Option, Some, None}
+use Rattle.std.specs.Prelude.{◌≡◌, ℕ, ◌+◌, ◌≤◌, max, true, false, eqb, List, [], ◌∷◌, ◌++◌, if◌then◌else◌, Option, Some, None}
 use Rattle.net_base.specs.declared.event.Event.{Event}
 use Rattle.net_base.specs.declared.event.Event.TheVariants.{Dialed}
 use Rattle.socket_flow.specs.Announcement.{announced}
@@ -15,11 +15,18 @@ use Rattle.socket_flow.specs.declared.terms.Terms.{Terms}
 
 -- ---- what stays
 
--- No key is given to a socket, the announcement is what it was, and nobody else is the peer that the node was told of.
+-- no more sockets count as those that announce an address, and as many may
+pub record HasNoMoreStrangers (old new : SocketFlow) : Type 0 where
+  pub count : new.strangers ≤ old.strangers
+  pub most : new.strangers_most ≡ old.strangers_most
+
+-- No key is given to a socket, the announcement is what it was, nobody else is the peer that the node was told of, and nobody
+-- more is to announce an address.
 pub record KeepsKeys (old new : SocketFlow) : Type 0 where
   pub next : new.table.next_key ≡ old.table.next_key
   pub greeting : new.greeting ≡ old.greeting
   pub caller : (key : ℕ) → new.caller ≡ Some key → old.caller ≡ Some key
+  pub strangers : HasNoMoreStrangers old new
 
 -- every socket is for what it was, and the same waits on it
 pub record KeepsSockets (old new : SocketFlow) : Type 0 where
@@ -59,12 +66,14 @@ pub record MayLose (old new : SocketFlow) : Type 0 where
 
 -- ---- what comes
 
--- a key is given, which none had before
+-- a key is given, which none had before, to a socket that may be one that announces an address
 pub record TakesIn (key : ℕ) (old new : SocketFlow) : Type 0 where
   pub was : old.table.next_key ≡ key
   pub next : new.table.next_key ≡ key + 1
   pub greeting : new.greeting ≡ old.greeting
   pub caller : new.caller ≡ old.caller
+  pub strangers : new.strangers ≤ old.strangers + 1
+  pub most : new.strangers_most ≡ old.strangers_most
 
 -- a socket that was to connect has, and its dial is answered
 pub record Connects (key : ℕ) (id : Id) (old new : SocketFlow) : Type 0 where
@@ -100,3 +109,5 @@ pub record Begins (terms : Terms) (flow : SocketFlow) : Type 0 where
   pub events : flow.events ≡ []
   pub greeting : flow.greeting ≡ greeting_by terms
   pub caller : flow.caller ≡ None
+  pub strangers : flow.strangers ≡ 0
+  pub most : flow.strangers_most ≡ max terms.soft 1

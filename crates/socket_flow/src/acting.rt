@@ -5,6 +5,7 @@ ghost use Rattle.socket_flow.specs.Talk.{KeepsAll, MayLose};
 ghost use Rattle.socket_flow.specs.Acting.{is_free, Admits, Leaves, Dials, Sends, Closes, answers};
 ghost use Rattle.socket_flow.specs.Histories.{Makes, NodeDoes};
 
+use crate::due_queue::DueQueue;
 use crate::flow::SocketFlow;
 use crate::id::Id;
 use crate::limits::UNSENT_MOST;
@@ -53,9 +54,10 @@ impl SocketFlow {
             return Ok(());
         };
         self.table.name(id, key)?;
-        if let Some(socket) = self.table.sockets.get_mut(&key) {
-            socket.stage = Stage::Open(id);
-        }
+        let Some(socket) = self.table.sockets.get_mut(&key) else {
+            return Ok(());
+        };
+        socket.stage = Stage::Open(id);
         self.turns.push(key)
     }
 
@@ -80,8 +82,10 @@ impl SocketFlow {
         };
         let mut out = OutQueue::new(self.alloc);
         out.put(self.greeting.as_slice())?;
-        self.unsent = self.unsent.saturating_add(out.front().len());
+        let unsent = self.unsent.checked_add(out.front().len());
+        let unsent = unsent.ok_or(OutOfMemory)?;
         let key = self.table.insert(Socket::new(Stage::Dialing(id), out))?;
+        self.unsent = unsent;
         self.table.name(id, key)?;
         self.dialing.push(self.moments.moment(), key)?;
         Ok(self.connecting.push_back((key, addr))?)
@@ -97,10 +101,11 @@ impl SocketFlow {
         if unsent > UNSENT_MOST {
             return self.lose(key);
         }
-        if let Some(socket) = self.table.sockets.get_mut(&key) {
-            socket.out.put(bytes)?;
-            self.unsent = unsent;
-        }
+        let Some(socket) = self.table.sockets.get_mut(&key) else {
+            return Ok(());
+        };
+        socket.out.put(bytes)?;
+        self.unsent = unsent;
         self.has_to_write(key)
     }
 
@@ -116,11 +121,7 @@ impl SocketFlow {
         if socket.unsent() == 0 || matches!(socket.stage, Stage::Dialing(_)) {
             return Ok(());
         }
-        if !socket.is_watched {
-            socket.is_watched = true;
-            socket.has_taken = false;
-            self.watched.push(self.moments.moment(), key)?;
-        }
+        watch(socket, &mut self.watched, self.moments.moment(), key)?;
         if socket.is_blocked {
             return Ok(());
         }
@@ -161,4 +162,22 @@ impl SocketFlow {
         let answer = self.roots.answer(job)?;
         self.events.push(answer)
     }
+}
+
+// Has it looked after that the peer takes what waits.
+fn watch(
+    socket: &mut Socket,
+    watched: &mut DueQueue,
+    moment: u64,
+    key: usize,
+) -> Result<(), OutOfMemory>
+    ensures stage { socket.new.stage ≡ socket.old.stage }
+    ensures out { socket.new.out ≡ socket.old.out }
+{
+    if socket.is_watched {
+        return Ok(());
+    }
+    socket.is_watched = true;
+    socket.has_taken = false;
+    watched.push(moment, key)
 }

@@ -1,13 +1,28 @@
 //! How a dialer tells the address at which it listens, before its first segment.
-ghost use Rattle.std.specs.Prelude.{◌≡◌, IfOk};
+ghost use Rattle.std.specs.Prelude.{◌≡◌, ◌≤◌, length, IfOk};
 ghost use Rattle.socket_flow.specs.Announcement.{announced, announced_ip, announced_size as size_of, ip_of as ip_told, address_of as told, whole_of, hearing};
+ghost use Rattle.socket_flow.specs.Talk.{greeting_by};
 
+use crate::terms::Terms;
 use net_base::{Addr, Ip, Octets, OutOfMemory};
 use std::alloc::Global;
 
-/// What a dialer with this address says.
-pub(crate) fn announcement(alloc: Global, addr: Addr) -> Result<Octets, OutOfMemory>
-    ensures { IfOk result (λ bytes. bytes ≡ announced addr) }
+/// What a dialer says first: its address, or nothing.
+pub(crate) fn greeting_of(alloc: Global, terms: Terms) -> Result<Octets, OutOfMemory>
+    ensures said { IfOk result (λ bytes. bytes ≡ greeting_by terms) }
+    ensures size { IfOk result (λ bytes. length bytes ≤ 19) }
+{
+    if terms.announce {
+        announcement(alloc, terms.own)
+    } else {
+        Ok(Octets::new(alloc))
+    }
+}
+
+// What a dialer with this address says.
+fn announcement(alloc: Global, addr: Addr) -> Result<Octets, OutOfMemory>
+    ensures said { IfOk result (λ bytes. bytes ≡ announced addr) }
+    ensures size { IfOk result (λ bytes. length bytes ≤ 19) }
 {
     let mut bytes = ip_announcement(alloc, addr.ip)?;
     bytes.extend_from_slice(&addr.port.to_be_bytes())?;
@@ -15,7 +30,8 @@ pub(crate) fn announcement(alloc: Global, addr: Addr) -> Result<Octets, OutOfMem
 }
 
 fn ip_announcement(alloc: Global, ip: Ip) -> Result<Octets, OutOfMemory>
-    ensures { IfOk result (λ bytes. bytes ≡ announced_ip ip) }
+    ensures said { IfOk result (λ bytes. bytes ≡ announced_ip ip) }
+    ensures size { IfOk result (λ bytes. length bytes ≤ 17) }
 {
     let mut bytes = Octets::new(alloc);
     match ip {

@@ -1,8 +1,8 @@
 //! What is to be done next.
-ghost use Rattle.std.specs.Prelude.{◌≡◌, [], true, ◌⊎◌, IfOk, OnOk, IfSome, IfNone};
+ghost use Rattle.std.specs.Prelude.{◌≡◌, ◌<◌, [], true, ◌⊎◌, IfOk, OnOk, IfSome, IfNone};
 ghost use Rattle.net_base.specs.Limits.{IsWithinLimits};
 ghost use Rattle.socket_flow.specs.Table.{stage_at, is_dialing};
-ghost use Rattle.socket_flow.specs.Asks.{GivesWithinLimits, IsFirst, IsNextCaller, IsNoRead, AsksForRoom, Gives, IsOfSockets, IsReadable};
+ghost use Rattle.socket_flow.specs.Asks.{GivesWithinLimits, IsFirst, IsNextCaller, IsNoRead, IsNoAccept, AsksForRoom, Gives, IsOfSockets, IsReadable};
 ghost use Rattle.socket_flow.specs.Histories.{Makes, NodeAsks};
 ghost use Rattle.socket_flow.specs.Talk.{KeepsAll, MayLose};
 
@@ -38,6 +38,7 @@ impl SocketFlow {
         ensures loses { OnOk result (MayLose self.old self.new) }
         ensures events { OnOk result (self.new.events ≡ self.old.events) }
         ensures readable { IfOk result (IsReadable self.new.table) }
+        ensures room { IfOk result (AsksForRoom self.new) }
     {
         if let Some(ask) = next_fresh(&mut self.fresh, &self.table) {
             return Ok(ask);
@@ -52,6 +53,7 @@ impl SocketFlow {
         ensures sockets { IsOfSockets result }
         ensures keeps { KeepsAll self.old self.new }
         ensures readable { IsReadable self.new.table result }
+        ensures accepts { IsNoAccept result }
     {
         if let Some(ask) = self.next_turn() {
             return ask;
@@ -70,6 +72,7 @@ impl SocketFlow {
         ensures keeps { KeepsAll self.old self.new }
         ensures readable { IfSome result (IsReadable self.new.table) }
         ensures unread { IfSome result IsNoRead }
+        ensures accepts { IfSome result IsNoAccept }
     {
         if let Some(key) = self.closing.pop_front() {
             return Some(Ask::Close(key));
@@ -116,19 +119,26 @@ impl SocketFlow {
         Some(Event::Accepted(addr))
     }
 
+    // There is room for one more that announces itself, as far as is known.
+    fn has_room(&self, moment: u64) -> bool
+        ensures { result ≡ true → self.now.strangers < self.now.strangers_most }
+    {
+        self.strangers < self.strangers_most && self.door.has_room(moment, self.table.len())
+    }
+
     // Where there is no room for one more, the oldest that has not announced itself goes first.
     fn ask_to_accept(&mut self) -> Result<Option<Ask>, OutOfMemory>
         ensures limits { IfOk result (λ ask. IfSome ask IsOfSockets) }
         ensures loses { OnOk result (MayLose self.old self.new) }
         ensures events { OnOk result (self.new.events ≡ self.old.events) }
         ensures readable { IfOk result (λ ask. IfSome ask (IsReadable self.new.table)) }
-        ensures room { IfOk result (λ ask. IfSome ask (AsksForRoom self.old)) }
+        ensures room { IfOk result (λ ask. IfSome ask (AsksForRoom self.new)) }
     {
         let moment = self.moments.moment();
         if !self.door.is_open(moment) {
             return Ok(None);
         }
-        if self.strangers < self.strangers_most && self.door.has_room(moment, self.table.len()) {
+        if self.has_room(moment) {
             return Ok(Some(Ask::Accept));
         }
         if !self.lose_oldest_stranger()? {
@@ -143,6 +153,7 @@ impl SocketFlow {
         ensures sockets { IfSome result IsOfSockets }
         ensures keeps { KeepsAll self.old self.new }
         ensures readable { IfSome result (IsReadable self.new.table) }
+        ensures accepts { IfSome result IsNoAccept }
     {
         for _ in 0..self.left {
             self.left = self.left.saturating_sub(1);
@@ -159,6 +170,7 @@ impl SocketFlow {
         ensures sockets { IfSome result IsOfSockets }
         ensures keeps { KeepsAll self.old self.new }
         ensures readable { IfSome result (IsReadable self.new.table) }
+        ensures accepts { IfSome result IsNoAccept }
     {
         let socket = self.table.sockets.get_mut(&key)?;
         if !matches!(socket.stage, Stage::Open(_)) {
@@ -202,6 +214,7 @@ impl SocketFlow {
 fn next_fresh(fresh: &mut TurnQueue, table: &SocketTable) -> Option<Ask>
     ensures sockets { IfSome result IsOfSockets }
     ensures readable { IfSome result (IsReadable table.now) }
+    ensures accepts { IfSome result IsNoAccept }
 {
     for _ in 0..u64::MAX {
         let key = fresh.pop()?;
@@ -216,6 +229,7 @@ fn next_fresh(fresh: &mut TurnQueue, table: &SocketTable) -> Option<Ask>
 fn fresh_turn(table: &SocketTable, key: usize) -> Option<Ask>
     ensures sockets { IfSome result IsOfSockets }
     ensures readable { IfSome result (IsReadable table.now) }
+    ensures accepts { IfSome result IsNoAccept }
 {
     let socket = table.get(key)?;
     match socket.stage {

@@ -1,9 +1,8 @@
-ghost use Rattle.std.specs.Prelude.{◌≡◌, ℕ, true, [], ◌∷◌, ◌++◌, None, is_some, if◌then◌else◌, IfOk, IfSome, OnOk};
-ghost use Rattle.socket_flow.specs.Table.{socket_at, key_at, stage_at, out_at, is_announcing, is_of, Puts};
-ghost use Rattle.socket_flow.specs.Flow.{endings};
-ghost use Rattle.socket_flow.specs.Talk.{greeting_by, Begins, Loses, MayLose};
+ghost use Rattle.std.specs.Prelude.{◌≡◌, ◌≤◌, true, length, IfSome};
+ghost use Rattle.socket_flow.specs.Counts.{IsMost, IsBelow, unsent_at, stranger_at};
+ghost use Rattle.socket_flow.specs.Table.{stage_at, is_announcing};
 
-use crate::announcement::announcement;
+use crate::announcement::greeting_of;
 use crate::door::Door;
 use crate::due_queue::DueQueue;
 use crate::moments::Moments;
@@ -51,9 +50,18 @@ pub struct SocketFlow {
     pub(crate) strangers_most: u64,
     // How many bytes wait to be sent, on all sockets.
     pub(crate) unsent: usize,
+    ghost said: { length greeting ≤ 19 },
+    ghost counted: { IsMost (unsent_at table) unsent },
+    ghost bounded: { IsBelow table },
+    ghost announces: { IsMost (stranger_at table) strangers },
 }
 
 impl SocketFlow {
+    ghost use Rattle.std.specs.Prelude.{◌≡◌, ℕ, [], ◌∷◌, ◌++◌, None, is_some, if◌then◌else◌, IfOk, OnOk};
+    ghost use Rattle.socket_flow.specs.Table.{socket_at, key_at, out_at, is_of, Puts};
+    ghost use Rattle.socket_flow.specs.Flow.{endings};
+    ghost use Rattle.socket_flow.specs.Talk.{Begins, Loses, MayLose};
+
     /// Nobody has connected yet, and it is moment 0.
     pub fn new(alloc: Global, terms: Terms, publics: &AddrList) -> Result<SocketFlow, OutOfMemory>
         ensures { IfOk result (Begins terms) }
@@ -157,15 +165,4 @@ fn oldest_stranger(announcing: &mut DueQueue, table: &SocketTable) -> Option<usi
         }
     }
     None
-}
-
-// What a dialer says first: its address, or nothing.
-fn greeting_of(alloc: Global, terms: Terms) -> Result<Octets, OutOfMemory>
-    ensures { IfOk result (λ bytes. bytes ≡ greeting_by terms) }
-{
-    if terms.announce {
-        announcement(alloc, terms.own)
-    } else {
-        Ok(Octets::new(alloc))
-    }
 }

@@ -5,7 +5,7 @@ ghost use Rattle.net_base.specs.declared.event.Event.TheVariants.{Dialed as Told
 ghost use Rattle.socket_flow.specs.declared.socket.Stage.TheVariants.{Open};
 ghost use Rattle.socket_flow.specs.Moments.{moments_told};
 ghost use Rattle.socket_flow.specs.Writing.{went_of};
-ghost use Rattle.socket_flow.specs.Table.{socket_at, out_at, stage_at, is_dialing, KeepsTalk, NamesSame, Puts};
+ghost use Rattle.socket_flow.specs.Table.{socket_at, out_at, stage_at, is_announcing, is_dialing, KeepsTalk, NamesSame, Puts};
 ghost use Rattle.socket_flow.specs.Histories.{Makes, PeerWaits, NobodyWaits, PeerIsGone, HasNoRoom, HasNoRoomToDial, MayBeReady, RoundBegins, PeerCame, DialCameTo, BytesCame, BytesWent, TakesNoMore, HasEnded};
 ghost use Rattle.socket_flow.specs.Talk.{KeepsAll, KeepsSockets, KeepsRest, MayLose, TakesIn, Connects};
 ghost use Rattle.socket_flow.specs.Flow.{endings, told_of, after_bytes, waits_with, after_going, after_full, dial_events, after_dial, newcomer};
@@ -15,6 +15,7 @@ use crate::ask::Dialed;
 use crate::flow::SocketFlow;
 use crate::id::Id;
 use crate::socket::{Socket, Stage, stranger};
+use crate::turn_queue::TurnQueue;
 use net_base::{Addr, Event, Octets, OutOfMemory};
 use node_world::OutQueue;
 
@@ -48,10 +49,11 @@ impl SocketFlow {
             Stage::Waiting(_) | Stage::Told | Stage::Closing => return Ok(()),
             Stage::Open(_) => {}
         }
-        if writable {
-            socket.is_blocked = false;
-            self.has_to_write(key)?;
+        if !writable {
+            return self.turns.push(key);
         }
+        socket.is_blocked = false;
+        self.has_to_write(key)?;
         self.turns.push(key)
     }
 
@@ -176,8 +178,9 @@ impl SocketFlow {
             self.callers.push_back(key)?;
             return Ok(key);
         }
+        let strangers = self.strangers.checked_add(1).ok_or(OutOfMemory)?;
         let key = self.table.insert(stranger(self.alloc))?;
-        self.strangers = self.strangers.saturating_add(1);
+        self.strangers = strangers;
         self.announcing.push(self.moments.moment(), key)?;
         self.fresh.push(key)?;
         Ok(key)
@@ -245,9 +248,10 @@ impl SocketFlow {
         ensures others { (k : ℕ) → eqb key k ≡ false → stage_at self.new.table k ≡ stage_at self.old.table k }
         ensures connects { OnOk result (Connects key id self.old self.new) }
     {
-        if let Some(socket) = self.table.sockets.get_mut(&key) {
-            socket.stage = Stage::Open(id);
-        }
+        let Some(socket) = self.table.sockets.get_mut(&key) else {
+            return Ok(());
+        };
+        socket.stage = Stage::Open(id);
         self.events.push(Event::Dialed(id.cid, true))?;
         self.has_to_write(key)?;
         self.turns.push(key)
@@ -298,13 +302,15 @@ impl SocketFlow {
 
     // A peer has connected, and its address is known.
     fn introduce(&mut self, addr: Addr, key: usize) -> Result<(), OutOfMemory>
+        requires { is_announcing (stage_at self.old.table key) ≡ true }
         ensures after { Puts self.old.table self.new.table key (waits_with addr (socket_at self.old.table key)) }
         ensures rest { KeepsRest self.old self.new }
     {
-        if let Some(socket) = self.table.sockets.get_mut(&key) {
-            socket.stage = Stage::Waiting(addr);
-            self.strangers = self.strangers.saturating_sub(1);
-        }
+        let Some(socket) = self.table.sockets.get_mut(&key) else {
+            return Ok(());
+        };
+        socket.stage = Stage::Waiting(addr);
+        self.strangers = self.strangers.saturating_sub(1);
         Ok(self.callers.push_back(key)?)
     }
 
@@ -328,10 +334,7 @@ impl SocketFlow {
             return Ok(());
         };
         self.unsent = self.unsent.saturating_sub(socket.went(count));
-        if socket.is_held {
-            socket.is_held = false;
-            self.turns.push(key)?;
-        }
+        release(socket, &mut self.turns, key)?;
         if socket.unsent() > 0 {
             return self.writes.push(key);
         }
@@ -357,4 +360,15 @@ impl SocketFlow {
         }
         Ok(())
     }
+}
+
+// Has it read again, where that waited for what is to be sent.
+fn release(socket: &mut Socket, turns: &mut TurnQueue, key: usize) -> Result<(), OutOfMemory>
+    ensures { socket.new ≡ record socket.old { is_held = false } }
+{
+    if !socket.is_held {
+        return Ok(());
+    }
+    socket.is_held = false;
+    turns.push(key)
 }

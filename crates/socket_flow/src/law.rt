@@ -1,5 +1,6 @@
 //! Laws on histories of the flow, and on turns and on what is written, whatever function gives them. The functions do nothing.
 
+ghost use Rattle.socket_flow.specs.Bounds.{WaitsAreBounded, StrangersAreFew};
 ghost use Rattle.socket_flow.specs.Histories.{EndedIsSilent, WhatCameIsTold};
 ghost use Rattle.socket_flow.specs.Lives.{HasOneSocket, LivesAreRight};
 ghost use Rattle.socket_flow.specs.Sending.{EndedIsUnwritten, WhatIsWrittenWasSent};
@@ -39,6 +40,17 @@ pub fn what_is_written_was_sent()
 /// nothing behind it, up to where the id is used once more.
 pub fn lives_are_right()
     ensures { LivesAreRight }
+{}
+
+/// Of every flow, whatever was called, and of its sockets whichever one takes: no more bytes wait to be sent than a `send` may
+/// leave, but for what dials announce.
+pub fn what_waits_is_bounded()
+    ensures { WaitsAreBounded }
+{}
+
+/// Of every history in which each peer is accepted where the flow asks for it: no more sockets announce an address than are to.
+pub fn strangers_are_few()
+    ensures { StrangersAreFew }
 {}
 
 /// Of every history, for every id that is used once: what is told of the connection came on one socket.

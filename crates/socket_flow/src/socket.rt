@@ -103,6 +103,7 @@ impl Socket {
     pub(crate) fn hear(&mut self, bytes: &[u8]) -> Result<Option<Heard>, OutOfMemory>
         ensures heard { IfOk result (λ heard. heard ≡ heard_by self.old.stage bytes.now) }
         ensures after { OnOk result (self.new ≡ record self.old { stage = more_said self.old.stage bytes.now }) }
+        ensures err { OnErr result (self.new ≡ self.old) }
     {
         let Stage::Announcing(said) = &mut self.stage else {
             return Ok(None);

@@ -23,7 +23,7 @@ stranger_endings None p = refl
 stranger_endings (Some socket) p = stranger_ends socket.stage p
 
 pub returns-in_ok-lose-in-Some-clause-loses : goal.returns-in_ok-lose-in-Some-clause-loses
-returns-in_ok-lose-in-Some-clause-loses c = at_rest_then _ _ _ (lost _ _ _ c.in_ok-lose-in-Some.ensures.loses) refl refl refl refl
+returns-in_ok-lose-in-Some-clause-loses c = at_rest_then _ _ _ (lost _ _ _ c.in_ok-lose-in-Some.ensures.loses) refl refl refl refl refl refl
 
 pub returns-in_ok-lose-in-Some-clause-events : goal.returns-in_ok-lose-in-Some-clause-events
 returns-in_ok-lose-in-Some-clause-events c =

@@ -1,0 +1,34 @@
+use Rattle.std.proofs.Common.{arith, rules, Some}
+use Rattle.socket_flow.specs.declared.socket.Stage.TheVariants.{Closing}
+use Rattle.socket_flow.proofs.Bounded.{put_on, same_table}
+use Rattle.socket_flow.proofs.flow.SocketFlow.close.Goals as goal
+
+pub invariant_of-self-then-not-is_linked : goal.invariant_of-self-then-not-is_linked
+invariant_of-self-then-not-is_linked c =
+    let flow = c.args.self.now in
+    let old = c.in-Some-get_mut.socket.now in
+    let w = old in
+    let b = record c.forget.new.self { sockets = c.get_mut.follows.lender w } in
+    let h = put_on c.forget.new.self b c.in-Some.key (Some old) (Some w) flow.unsent flow.unsent flow.strangers flow.strangers c.in-Some-get_mut.ensures.value ((c.get_mut.follows.holds w).3 (search rules)).0
+    (omega arith) (omega arith) (omega arith) (same_table flow c.forget.new.self c.forget.ensures.sockets) in
+    record { said = flow.said; counted = h.counted; bounded = h.bounded; announces = h.announces }
+
+pub invariant_of-self-then-writes : goal.invariant_of-self-then-writes
+invariant_of-self-then-writes c =
+    let flow = c.args.self.now in
+    let old = c.in-Some-get_mut.socket.now in
+    let w = record old { stage = Closing } in
+    let b = record c.forget.new.self { sockets = c.get_mut.follows.lender w } in
+    let h = put_on c.forget.new.self b c.in-Some.key (Some old) (Some w) flow.unsent flow.unsent flow.strangers flow.strangers c.in-Some-get_mut.ensures.value ((c.get_mut.follows.holds w).3 (search rules)).0
+    (omega arith) (omega arith) (omega arith) (same_table flow c.forget.new.self c.forget.ensures.sockets) in
+    record { said = flow.said; counted = h.counted; bounded = h.bounded; announces = h.announces }
+
+pub invariant_of-self-else-writes : goal.invariant_of-self-else-writes
+invariant_of-self-else-writes c =
+    let flow = c.args.self.now in
+    let old = c.in-Some-get_mut.socket.now in
+    let w = record old { stage = Closing } in
+    let b = record c.forget.new.self { sockets = c.get_mut.follows.lender w } in
+    let h = put_on c.forget.new.self b c.in-Some.key (Some old) (Some w) flow.unsent flow.unsent flow.strangers flow.strangers c.in-Some-get_mut.ensures.value ((c.get_mut.follows.holds w).3 (search rules)).0
+    (omega arith) (omega arith) (omega arith) (same_table flow c.forget.new.self c.forget.ensures.sockets) in
+    record { said = flow.said; counted = h.counted; bounded = h.bounded; announces = h.announces }

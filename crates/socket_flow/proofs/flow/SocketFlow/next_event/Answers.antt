@@ -1,0 +1,18 @@
+use Rattle.std.proofs.Common.{arith, rules}
+use Rattle.socket_flow.specs.declared.socket.Stage.TheVariants.{Told}
+use Rattle.socket_flow.proofs.Bounded.{turns_to}
+use Rattle.socket_flow.proofs.flow.SocketFlow.next_event.Goals as goal
+
+pub invariant_of-self-in_default-stage : goal.invariant_of-self-in_default-stage
+invariant_of-self-in_default-stage c =
+    let flow = c.args.self.now in
+    let w = c.in_ok-socket.socket.now in
+    let h = turns_to flow (record flow.table { sockets = c.get_mut.follows.lender w }) c.in_ok-key.key c.in_ok-socket.socket.now w c.in_ok-socket.ensures.value ((c.get_mut.follows.holds w).3 (search rules)).0 (omega arith) (omega arith) in
+    record { said = flow.said; counted = h.counted; bounded = h.bounded; announces = h.announces }
+
+pub invariant_of-self-2 : goal.invariant_of-self-2
+invariant_of-self-2 c =
+    let flow = c.args.self.now in
+    let w = record c.in_ok-socket.socket.now { stage = Told } in
+    let h = turns_to flow (record flow.table { sockets = c.get_mut.follows.lender w }) c.in_ok-key.key c.in_ok-socket.socket.now w c.in_ok-socket.ensures.value ((c.get_mut.follows.holds w).3 (search rules)).0 (omega arith) (omega arith) in
+    record { said = flow.said; counted = h.counted; bounded = h.bounded; announces = h.announces }
