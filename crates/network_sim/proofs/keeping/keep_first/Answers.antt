@@ -1,2 +1,0 @@
-use Rattle.network_sim.proofs.Runs.{kept_first}
-use Rattle.network_sim.proofs.keeping.keep_first.Goals as goal

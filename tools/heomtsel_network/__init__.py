@@ -1,1 +1,0 @@
-"""What heomtsel-network reports, read and drawn."""
