@@ -1,0 +1,132 @@
+//! What an attacker's nodes do.
+
+ghost use Rattle.std.specs.Prelude.{◌<◌, ◌^◌};
+
+use crate::addresses::address_of;
+use crate::link::Side;
+use crate::network::Network;
+use crate::segments::{
+    ACCEPTANCE, ALIVE_WITH_FIVE, INITIATOR, NO_INTERSECTION, PROPOSAL, RESPONDER, heard, spoken,
+};
+use mux_segment::Header;
+use net_base::protocol::{CHAIN_SYNC, HANDSHAKE, KEEP_ALIVE, PEER_SHARING};
+use net_base::{AddrList, Octets, OutOfMemory};
+use network_scenario::Role;
+use stepper::Stepper;
+use warm_messages::write_peers;
+
+// At most so many addresses may be asked for.
+const PEERS_MOST: u8 = 10;
+
+impl<S: Stepper> Network<S> {
+    /// An attacker's node takes one more slot, where it holds fewer than it wants.
+    pub(crate) fn attack(&mut self, index: usize) -> Result<(), OutOfMemory> {
+        if !self.wants_slots(index) {
+            return Ok(());
+        }
+        match self.draws.place(self.nodes.len()) {
+            Some(to) if self.is_honest(to) => self.dial(index, None, to),
+            _ => Ok(()),
+        }
+    }
+
+    fn wants_slots(&self, index: usize) -> bool {
+        let Some(node) = self.nodes.get(index) else {
+            return false;
+        };
+        match self.kind_of(node) {
+            Some(kind) => node.dialed() < kind.holds,
+            None => false,
+        }
+    }
+
+    /// An attacker's node proposes, on a socket that it opened.
+    pub(crate) fn propose(&mut self, id: u64) -> Result<(), OutOfMemory> {
+        let bytes = spoken(self.alloc, INITIATOR, HANDSHAKE, &PROPOSAL)?;
+        self.deliver(id, Side::Acceptor, bytes.as_slice())
+    }
+
+    /// An attacker's node answers what came.
+    pub(crate) fn answer(
+        &mut self,
+        id: u64,
+        side: Side,
+        node: usize,
+        bytes: &[u8],
+    ) -> Result<(), OutOfMemory> {
+        let Some((header, payload)) = heard(bytes) else {
+            return Ok(());
+        };
+        match self.answer_of(node, header, payload)? {
+            Some(answer) => self.deliver(id, side.other(), answer.as_slice()),
+            None => Ok(()),
+        }
+    }
+
+    fn answer_of(
+        &mut self,
+        node: usize,
+        header: Header,
+        payload: &[u8],
+    ) -> Result<Option<Octets>, OutOfMemory> {
+        if header.id == HANDSHAKE {
+            return self.answer_in_handshake(header);
+        }
+        if header.side != INITIATOR || !self.answers(node) {
+            return Ok(None);
+        }
+        match (header.id, payload) {
+            (KEEP_ALIVE, [0x82, 0x00, cookie @ ..]) => self.say_alive(cookie),
+            (CHAIN_SYNC, [0x82, 0x04, 0x80]) => self.said(CHAIN_SYNC, &NO_INTERSECTION),
+            (PEER_SHARING, [0x82, 0x00, count]) => self.tell_attackers(*count),
+            _ => Ok(None),
+        }
+    }
+
+    // It agrees, and where it was agreed with it holds its slot.
+    fn answer_in_handshake(&self, header: Header) -> Result<Option<Octets>, OutOfMemory> {
+        if header.side == INITIATOR {
+            self.said(HANDSHAKE, &ACCEPTANCE)
+        } else {
+            let bytes = spoken(self.alloc, INITIATOR, KEEP_ALIVE, &ALIVE_WITH_FIVE)?;
+            Ok(Some(bytes))
+        }
+    }
+
+    fn answers(&self, node: usize) -> bool {
+        match self.nodes.get(node) {
+            Some(node) => node.role == Role::Answering,
+            None => false,
+        }
+    }
+
+    fn said(&self, id: u16, payload: &[u8]) -> Result<Option<Octets>, OutOfMemory>
+        requires { id < 2 ^ 15 }
+    {
+        let bytes = spoken(self.alloc, RESPONDER, id, payload)?;
+        Ok(Some(bytes))
+    }
+
+    fn say_alive(&self, cookie: &[u8]) -> Result<Option<Octets>, OutOfMemory> {
+        let mut reply = Octets::from_slice(self.alloc, &[0x82, 0x01])?;
+        reply.extend_from_slice(cookie)?;
+        self.said(KEEP_ALIVE, reply.as_slice())
+    }
+
+    // Some of the attacker's own addresses, as many as were asked for.
+    fn tell_attackers(&mut self, count: u8) -> Result<Option<Octets>, OutOfMemory> {
+        let mut told = AddrList::new(self.alloc);
+        for _ in 0..count.min(PEERS_MOST) {
+            if let Some(attacker) = self.some_attacker() {
+                told.push(address_of(attacker))?;
+            }
+        }
+        let message = write_peers(self.alloc, told.as_slice())?;
+        self.said(PEER_SHARING, message.as_slice())
+    }
+
+    fn some_attacker(&mut self) -> Option<usize> {
+        let place = self.draws.place(self.attackers.len())?;
+        self.attackers.get(place).copied()
+    }
+}

@@ -1,0 +1,88 @@
+use net_base::{Cid, Octets};
+use std::alloc::Global;
+use std::collections::VecDeque;
+
+/// An end of a link, by who dialed.
+#[derive(Clone, Copy, PartialEq, Eq)]
+pub(crate) enum Side {
+    Dialer,
+    Acceptor,
+}
+
+impl Side {
+    pub(crate) fn other(self) -> Side {
+        match self {
+            Side::Dialer => Side::Acceptor,
+            Side::Acceptor => Side::Dialer,
+        }
+    }
+}
+
+/// Which end of which link a node's connection is.
+#[derive(Clone, Copy, PartialEq, Eq)]
+pub(crate) struct Hold {
+    pub link: u64,
+    pub side: Side,
+}
+
+/// One end of a link.
+#[derive(Drop)]
+pub(crate) struct End {
+    pub node: usize,
+    /// What the node calls it. None before it was admitted.
+    pub cid: Option<Cid>,
+    pub is_open: bool,
+    /// The moment before which nothing that is sent now comes here: bytes stay in order.
+    pub ready: u64,
+    /// What came before it was admitted.
+    pub early: VecDeque<Octets>,
+}
+
+impl End {
+    fn new(alloc: Global, node: usize, cid: Option<Cid>, is_open: bool) -> End {
+        End {
+            node,
+            cid,
+            is_open,
+            ready: 0,
+            early: VecDeque::new(alloc),
+        }
+    }
+}
+
+/// A link between two nodes, or a dial on its way.
+#[derive(Drop)]
+pub(crate) struct Link {
+    dialer: End,
+    acceptor: End,
+    pub latency: u64,
+}
+
+impl Link {
+    /// A dial on its way.
+    pub(crate) fn new(alloc: Global, from: usize, cid: Cid, to: usize, latency: u64) -> Link {
+        Link {
+            dialer: End::new(alloc, from, Some(cid), true),
+            acceptor: End::new(alloc, to, None, false),
+            latency,
+        }
+    }
+
+    pub(crate) fn end(&self, side: Side) -> &End {
+        match side {
+            Side::Dialer => &self.dialer,
+            Side::Acceptor => &self.acceptor,
+        }
+    }
+
+    pub(crate) fn end_mut(&mut self, side: Side) -> &mut End {
+        match side {
+            Side::Dialer => &mut self.dialer,
+            Side::Acceptor => &mut self.acceptor,
+        }
+    }
+
+    pub(crate) fn is_over(&self) -> bool {
+        !self.dialer.is_open && !self.acceptor.is_open
+    }
+}

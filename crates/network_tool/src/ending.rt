@@ -1,0 +1,45 @@
+use network_scenario::ScenarioRefusal;
+use network_sim::RunEnd;
+use std::fmt;
+
+/// How the program ended.
+#[derive(Clone, Copy, PartialEq, Eq)]
+pub(crate) enum Ending {
+    Ran(RunEnd),
+    Usage,
+    FileFault,
+    Refused(ScenarioRefusal),
+    OutOfMemory,
+}
+
+impl Ending {
+    /// The exit status of the process: that of the main program, where it has one for this.
+    pub(crate) fn code(&self) -> u8 {
+        match self {
+            Ending::Ran(RunEnd::Done) => 0,
+            Ending::Ran(RunEnd::NoTrace) => 1,
+            Ending::Usage => 2,
+            Ending::Ran(RunEnd::WriteFault) => 5,
+            Ending::Ran(RunEnd::OutOfMemory) | Ending::OutOfMemory => 6,
+            Ending::FileFault => 8,
+            Ending::Refused(_) => 10,
+        }
+    }
+}
+
+impl fmt::Display for Ending {
+    fn fmt<W: fmt::Write>(&self, f: &mut fmt::Formatter<W>) -> fmt::Result {
+        match self {
+            Ending::Ran(RunEnd::Done) => Ok(()),
+            Ending::Usage => writeln!(f, "usage: FILE SEED SECONDS | FILE SEED trace NODE"),
+            Ending::Ran(RunEnd::NoTrace) => writeln!(
+                f,
+                "no trace: no engine stepped for this node"
+            ),
+            Ending::Ran(RunEnd::WriteFault) => writeln!(f, "write fault"),
+            Ending::Ran(RunEnd::OutOfMemory) | Ending::OutOfMemory => writeln!(f, "out of memory"),
+            Ending::FileFault => writeln!(f, "the file could not be read"),
+            Ending::Refused(refusal) => writeln!(f, "bad scenario: {refusal}"),
+        }
+    }
+}

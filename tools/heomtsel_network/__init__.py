@@ -1,0 +1,1 @@
+"""What heomtsel-network reports, read and drawn."""
