@@ -16,7 +16,7 @@ use conn_state::responders::runs;
 use conn_table::Step;
 use mux_segment::LentItem;
 use net_base::{ActionList, Addr, AddrList, Cid, CloseCause, Facts, FaultKind, OutOfMemory};
-use remote_watch::{Reply, Seen, WatchRefusal, reply_bytes, watch};
+use remote_watch::{Reply, Seen, reply_bytes, watch};
 use share_rounds::{served_among, tellable};
 
 impl NodeState {
@@ -53,8 +53,7 @@ impl NodeState {
     {
         match watch(self.alloc, item.id, is_sharing(&facts), item.body) {
             Ok(seen) => self.take_request(facts, item.id, seen, actions),
-            Err(WatchRefusal::Fault(kind)) => self.end(facts, CloseCause::Fault(kind), actions),
-            Err(WatchRefusal::OutOfMemory) => Err(OutOfMemory),
+            Err(refusal) => self.end(facts, CloseCause::Fault(refusal.fault()?), actions),
         }
     }
 

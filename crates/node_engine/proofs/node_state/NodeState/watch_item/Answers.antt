@@ -12,9 +12,9 @@ returns-in-Ok c =
     subst (λ r. OnOk c.take_request.result (DoesTo c.args.facts.cid.0 (asked_as r c.args.item.now.id)
     c.args.actions.now c.args.self.now c.take_request.new.self c.take_request.new.actions)) (sym is) c.take_request.ensures
 
-pub returns-in-Err-Fault : goal.returns-in-Err-Fault
-returns-in-Err-Fault c =
-    let is : watched c.args.item.now.id (agreed_sharing c.args.facts.agreed) c.args.item.now.body.now ≡ Err c.in-Err-Fault.kind =
-    rw (← c.is_sharing.ensures) (rw c.in-Err-Fault.field-0-is at c.in-Err-Fault.ensures.answer) in
+pub returns-in_ok-fault-in-Err : goal.returns-in_ok-fault-in-Err
+returns-in_ok-fault-in-Err c =
+    let is : watched c.args.item.now.id (agreed_sharing c.args.facts.agreed) c.args.item.now.body.now ≡ Err c.in_ok-fault-in-Err.field-0 =
+    rw (← c.is_sharing.ensures) (rw c.in_ok-fault-in-Err.ensures at c.in-Err.ensures.answer) in
     subst (λ r. OnOk c.end.result (DoesTo c.args.facts.cid.0 (asked_as r c.args.item.now.id)
     c.args.actions.now c.args.self.now c.end.new.self c.end.new.actions)) (sym is) c.end.ensures
