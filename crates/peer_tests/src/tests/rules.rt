@@ -3,7 +3,8 @@ use govern_rules::{
     rule_g6, rule_g7, rule_g8, rule_g9,
 };
 use net_base::{
-    Addr, AddrList, BigTargets, Cid, Group, GroupList, Ip, OutOfMemory, Settings, Targets, Temp,
+    Addr, AddrList, BigTargets, Cid, Group, GroupList, Ip, Job, OutOfMemory, Settings, Targets,
+    Temp,
 };
 use peer_book::PeerBook;
 use pick_policy::{Picker, RankedPicker};
@@ -165,52 +166,76 @@ fn enter(book: &mut PeerBook, port: u16, big: bool, state: State) -> Result<(), 
     Ok(())
 }
 
+fn enter_all(book: &mut PeerBook, peers: &[(u16, State)], big: bool) -> Result<(), OutOfMemory> {
+    for (port, state) in peers {
+        enter(book, *port, big, *state)?;
+    }
+    Ok(())
+}
+
 fn book(
     alloc: Global,
     ordinary: &[(u16, State)],
     big: &[(u16, State)],
 ) -> Result<PeerBook, OutOfMemory> {
     let mut book = PeerBook::new(alloc);
-    for (port, state) in ordinary {
-        enter(&mut book, *port, false, *state)?;
-    }
-    for (port, state) in big {
-        enter(&mut book, *port, true, *state)?;
-    }
+    enter_all(&mut book, ordinary, false)?;
+    enter_all(&mut book, big, true)?;
     Ok(book)
+}
+
+fn push_all(list: &mut AddrList, ports: &[u16]) -> Result<(), OutOfMemory> {
+    for port in ports {
+        list.push(loopback(*port))?;
+    }
+    Ok(())
 }
 
 fn addresses(alloc: Global, ports: &[u16]) -> Result<AddrList, OutOfMemory> {
     let mut list = AddrList::new(alloc);
-    for port in ports {
-        list.push(loopback(*port))?;
-    }
+    push_all(&mut list, ports)?;
     Ok(list)
 }
 
-/// Two groups, each by its hot and its warm valency and its members.
+/// A group by its hot and its warm valency and its members.
+fn push_group(
+    alloc: Global,
+    list: &mut GroupList,
+    (hot, warm, ports): (u64, u64, &[u16]),
+) -> Result<(), OutOfMemory> {
+    let members = addresses(alloc, ports)?;
+    list.push(Group {
+        hot,
+        warm,
+        advertise: false,
+        members,
+    })?;
+    Ok(())
+}
+
+/// Two groups.
 fn groups(
     alloc: Global,
     first: (u64, u64, &[u16]),
     second: (u64, u64, &[u16]),
 ) -> Result<Groups, OutOfMemory> {
     let mut list = GroupList::new(alloc);
-    for (hot, warm, ports) in [first, second] {
-        list.push(Group {
-            hot,
-            warm,
-            advertise: false,
-            members: addresses(alloc, ports)?,
-        })?;
-    }
+    push_group(alloc, &mut list, first)?;
+    push_group(alloc, &mut list, second)?;
     Groups::replace(alloc, &list, loopback(3001))
+}
+
+/// The answer to an ask for public roots.
+fn find(alloc: Global, roots: &mut Roots, job: Job, ports: &[u16]) -> Result<(), OutOfMemory> {
+    let publics = addresses(alloc, ports)?;
+    roots.found(job, 1, &publics, loopback(3001), 9, 0)?;
+    Ok(())
 }
 
 fn roots(alloc: Global, ports: &[u16]) -> Result<Roots, OutOfMemory> {
     let mut roots = Roots::new(alloc);
-    let publics = addresses(alloc, ports)?;
     if let Some(job) = roots.ask(0, 9) {
-        roots.found(job, 1, &publics, loopback(3001), 9, 0)?;
+        find(alloc, &mut roots, job, ports)?;
     }
     Ok(roots)
 }
@@ -278,6 +303,10 @@ struct Case<'a> {
     want: &'a [Order],
 }
 
+fn are(rt: &impl Abort, got: &[Order], want: &[Order]) {
+    assert!(rt; got == want);
+}
+
 fn expect(
     rt: &impl Abort,
     alloc: Global,
@@ -289,7 +318,20 @@ fn expect(
     scene.sight.moment = case.moment;
     scene.sight.word = case.word;
     let orders = orders(alloc, case.rule, scene, picker)?;
-    assert!(rt; orders.as_slice() == case.want);
+    are(rt, orders.as_slice(), case.want);
+    Ok(())
+}
+
+fn expect_each(
+    rt: &impl Abort,
+    alloc: Global,
+    scene: &mut Scene,
+    picker: &Picker,
+    cases: &[Case],
+) -> Result<(), OutOfMemory> {
+    for case in cases {
+        expect(rt, alloc, *case, scene, picker)?;
+    }
     Ok(())
 }
 
@@ -300,10 +342,7 @@ fn expect_all(
     picker: &Picker,
     cases: &[Case],
 ) -> Result<(), OutOfMemory> {
-    for case in cases {
-        expect(rt, alloc, *case, &mut scene, picker)?;
-    }
-    Ok(())
+    expect_each(rt, alloc, &mut scene, picker, cases)
 }
 
 const COLD: State = State::Is(Temp::Cold);
@@ -311,6 +350,10 @@ const COLD: State = State::Is(Temp::Cold);
 const WARM: State = State::Is(Temp::Warm);
 
 const HOT: State = State::Is(Temp::Hot);
+
+fn rows(alloc: Global, links: &[Link]) -> Result<LinkRows, OutOfMemory> {
+    LinkRows::from_vec(alloc, Vec::from_slice(alloc, links)?)
+}
 
 fn scene_of(
     alloc: Global,
@@ -321,7 +364,7 @@ fn scene_of(
 ) -> Result<Scene, OutOfMemory> {
     Ok(Scene {
         sight: usual_sight(),
-        links: LinkRows::from_vec(alloc, Vec::from_slice(alloc, links)?)?,
+        links: rows(alloc, links)?,
         book,
         groups,
         roots: roots(alloc, publics)?,
@@ -386,12 +429,11 @@ fn sharing(alloc: Global) -> Result<Scene, OutOfMemory> {
     )
 }
 
-#[test]
-fn peers_are_asked_for_addresses(rt: HostRuntime) -> Result<(), Fail> {
-    let alloc = rt.alloc();
-    let picker = Picker::new(Box::new(alloc, |addr: Addr, word: u64| {
-        addr.key().wrapping_add(word)
-    })?);
+fn asked_where_two_may_be_owed(
+    rt: &impl Abort,
+    alloc: Global,
+    picker: &Picker,
+) -> Result<(), OutOfMemory> {
     // two answers may be owed, and one is; two more, eleven more, one more or none are to be known
     let cases = [
         case_of(Rule::G2, targets(8, 0, 0), &[Order::Ask(A2, 2)]),
@@ -402,15 +444,31 @@ fn peers_are_asked_for_addresses(rt: HostRuntime) -> Result<(), Fail> {
         },
         case_of(Rule::G2, targets(6, 0, 0), &[]),
     ];
-    expect_all(&rt, alloc, sharing(alloc)?, &picker, &cases)?;
-    // five answers may be owed
+    expect_all(rt, alloc, sharing(alloc)?, picker, &cases)
+}
+
+fn asked_where_five_may_be_owed(
+    rt: &impl Abort,
+    alloc: Global,
+    picker: &Picker,
+) -> Result<(), OutOfMemory> {
     let mut scene = sharing(alloc)?;
     scene.sight.settings.shares = 5;
     let two = [Order::Ask(A2, 2), Order::Ask(A3, 2)];
     let three = [Order::Ask(A2, 2), Order::Ask(A3, 2), Order::Ask(A6, 2)];
     let first = case_of(Rule::G2, targets(8, 0, 0), &two);
     let second = later(&case_of(Rule::G2, targets(8, 0, 0), &three));
-    expect_all(&rt, alloc, scene, &picker, &[first, second])?;
+    expect_all(rt, alloc, scene, picker, &[first, second])
+}
+
+#[test]
+fn peers_are_asked_for_addresses(rt: HostRuntime) -> Result<(), Fail> {
+    let alloc = rt.alloc();
+    let picker = Picker::new(Box::new(alloc, |addr: Addr, word: u64| {
+        addr.key().wrapping_add(word)
+    })?);
+    asked_where_two_may_be_owed(&rt, alloc, &picker)?;
+    asked_where_five_may_be_owed(&rt, alloc, &picker)?;
     Ok(())
 }
 
@@ -453,12 +511,11 @@ fn beginning(alloc: Global) -> Result<Scene, OutOfMemory> {
     )
 }
 
-#[test]
-fn known_and_established_peers_by_the_targets(rt: HostRuntime) -> Result<(), Fail> {
-    let alloc = rt.alloc();
-    let picker = Picker::new(Box::new(alloc, |addr: Addr, word: u64| {
-        addr.key().wrapping_add(word)
-    })?);
+fn forgotten_and_promoted(
+    rt: &impl Abort,
+    alloc: Global,
+    picker: &Picker,
+) -> Result<(), OutOfMemory> {
     let cold = [
         Order::Forget(A2),
         Order::Forget(A7),
@@ -476,7 +533,16 @@ fn known_and_established_peers_by_the_targets(rt: HostRuntime) -> Result<(), Fai
         case_of(Rule::G5, targets(9, 9, 0), &eligible),
         later(&case_of(Rule::G5, targets(9, 5, 0), &out_of_back_off)),
     ];
-    expect_all(&rt, alloc, beginning(alloc)?, &picker, &cases)?;
+    expect_all(rt, alloc, beginning(alloc)?, picker, &cases)
+}
+
+#[test]
+fn known_and_established_peers_by_the_targets(rt: HostRuntime) -> Result<(), Fail> {
+    let alloc = rt.alloc();
+    let picker = Picker::new(Box::new(alloc, |addr: Addr, word: u64| {
+        addr.key().wrapping_add(word)
+    })?);
+    forgotten_and_promoted(&rt, alloc, &picker)?;
     Ok(())
 }
 
@@ -517,15 +583,13 @@ fn connected(alloc: Global, second: (u64, u64, &[u16])) -> Result<Scene, OutOfMe
     )
 }
 
-#[test]
-fn warm_and_hot_peers_by_the_targets(rt: HostRuntime) -> Result<(), Fail> {
-    let alloc = rt.alloc();
-    let picker = Picker::new(Box::new(alloc, |addr: Addr, word: u64| {
-        addr.key().wrapping_add(word)
-    })?);
+fn released_activated_and_deactivated(
+    rt: &impl Abort,
+    alloc: Global,
+    picker: &Picker,
+) -> Result<(), OutOfMemory> {
     let two = [Order::Activate(A2), Order::Activate(A3)];
     let both = [Order::Deactivate(A6), Order::Deactivate(A7)];
-    let one = [Order::Deactivate(A6)];
     // 3005 and 3007 are local
     let cases = [
         case_of(Rule::G6, targets(9, 1, 0), &[Order::Release(A2)]),
@@ -537,24 +601,33 @@ fn warm_and_hot_peers_by_the_targets(rt: HostRuntime) -> Result<(), Fail> {
         // by the target, and by the valency
         case_of(Rule::G9, targets(9, 9, 0), &both),
     ];
-    expect_all(
-        &rt,
-        alloc,
-        connected(alloc, (0, 0, &[3007]))?,
-        &picker,
-        &cases,
-    )?;
+    let scene = connected(alloc, (0, 0, &[3007]))?;
+    expect_all(rt, alloc, scene, picker, &cases)
+}
+
+// A local peer stays hot by the valency of its group.
+fn deactivated_beside_a_valency(
+    rt: &impl Abort,
+    alloc: Global,
+    picker: &Picker,
+) -> Result<(), OutOfMemory> {
+    let one = [Order::Deactivate(A6)];
     let cases = [
         case_of(Rule::G9, targets(9, 9, 0), &one),
         case_of(Rule::G9, targets(9, 9, 2), &[]),
     ];
-    expect_all(
-        &rt,
-        alloc,
-        connected(alloc, (1, 0, &[3007]))?,
-        &picker,
-        &cases,
-    )?;
+    let scene = connected(alloc, (1, 0, &[3007]))?;
+    expect_all(rt, alloc, scene, picker, &cases)
+}
+
+#[test]
+fn warm_and_hot_peers_by_the_targets(rt: HostRuntime) -> Result<(), Fail> {
+    let alloc = rt.alloc();
+    let picker = Picker::new(Box::new(alloc, |addr: Addr, word: u64| {
+        addr.key().wrapping_add(word)
+    })?);
+    released_activated_and_deactivated(&rt, alloc, &picker)?;
+    deactivated_beside_a_valency(&rt, alloc, &picker)?;
     Ok(())
 }
 
@@ -583,17 +656,23 @@ fn grouped(alloc: Global, groups: Groups) -> Result<Scene, OutOfMemory> {
     scene_of(alloc, book(alloc, &ordinary, &[])?, groups, &[], &links)
 }
 
-#[test]
-fn groups_by_their_valencies(rt: HostRuntime) -> Result<(), Fail> {
-    let alloc = rt.alloc();
-    let picker = Picker::new(Box::new(alloc, |addr: Addr, word: u64| {
-        addr.key().wrapping_add(word)
-    })?);
+fn promoted_by_the_first_group(
+    rt: &impl Abort,
+    alloc: Global,
+    picker: &Picker,
+) -> Result<(), OutOfMemory> {
     let first = [Order::Promote(A2), Order::Promote(A3)];
     // whatever the targets; 3002 belongs to the first group alone, and 3005 is not known
     let disjoint = groups(alloc, (1, 2, &[3004, 3003, 3002]), (0, 2, &[3002, 3005]))?;
     let cases = [case_of(Rule::G4, targets(0, 0, 0), &first)];
-    expect_all(&rt, alloc, all_cold(alloc, disjoint)?, &picker, &cases)?;
+    expect_all(rt, alloc, all_cold(alloc, disjoint)?, picker, &cases)
+}
+
+fn promoted_and_activated_by_groups(
+    rt: &impl Abort,
+    alloc: Global,
+    picker: &Picker,
+) -> Result<(), OutOfMemory> {
     // of the one group a member is established, and one pending; of the other one is hot, and one asked to become so
     let more = groups(alloc, (1, 3, &[3002, 3003, 3004]), (2, 2, &[3006, 3007]))?;
     let cases = [
@@ -601,8 +680,32 @@ fn groups_by_their_valencies(rt: HostRuntime) -> Result<(), Fail> {
         case_of(Rule::G7, targets(0, 0, 0), &[Order::Activate(A2)]),
         case_of(Rule::G9, targets(9, 9, 9), &[]),
     ];
-    expect_all(&rt, alloc, grouped(alloc, more)?, &picker, &cases)?;
+    expect_all(rt, alloc, grouped(alloc, more)?, picker, &cases)
+}
+
+#[test]
+fn groups_by_their_valencies(rt: HostRuntime) -> Result<(), Fail> {
+    let alloc = rt.alloc();
+    let picker = Picker::new(Box::new(alloc, |addr: Addr, word: u64| {
+        addr.key().wrapping_add(word)
+    })?);
+    promoted_by_the_first_group(&rt, alloc, &picker)?;
+    promoted_and_activated_by_groups(&rt, alloc, &picker)?;
     Ok(())
+}
+
+fn deactivated_by_a_group(
+    rt: &impl Abort,
+    alloc: Global,
+    picker: &Picker,
+) -> Result<(), OutOfMemory> {
+    let enough = groups(alloc, (0, 2, &[3002, 3003, 3004]), (0, 2, &[3006, 3007]))?;
+    let cases = [
+        case_of(Rule::G4, targets(0, 0, 0), &[]),
+        case_of(Rule::G7, targets(0, 0, 0), &[]),
+        case_of(Rule::G9, targets(9, 9, 9), &[Order::Deactivate(A7)]),
+    ];
+    expect_all(rt, alloc, grouped(alloc, enough)?, picker, &cases)
 }
 
 #[test]
@@ -611,14 +714,40 @@ fn groups_that_have_enough(rt: HostRuntime) -> Result<(), Fail> {
     let picker = Picker::new(Box::new(alloc, |addr: Addr, word: u64| {
         addr.key().wrapping_add(word)
     })?);
-    let enough = groups(alloc, (0, 2, &[3002, 3003, 3004]), (0, 2, &[3006, 3007]))?;
-    let cases = [
-        case_of(Rule::G4, targets(0, 0, 0), &[]),
-        case_of(Rule::G7, targets(0, 0, 0), &[]),
-        case_of(Rule::G9, targets(9, 9, 9), &[Order::Deactivate(A7)]),
-    ];
-    expect_all(&rt, alloc, grouped(alloc, enough)?, &picker, &cases)?;
+    deactivated_by_a_group(&rt, alloc, &picker)?;
     Ok(())
+}
+
+fn promoted_by_the_word(
+    rt: &impl Abort,
+    alloc: Global,
+    picker: &Picker,
+) -> Result<(), OutOfMemory> {
+    let two = [Order::Promote(A2), Order::Promote(A3)];
+    let cases = [case_of(Rule::G5, targets(5, 2, 0), &two)];
+    let scene = all_cold(alloc, Groups::new(alloc))?;
+    expect_all(rt, alloc, scene, picker, &cases)
+}
+
+fn two_warm(alloc: Global) -> Result<Scene, OutOfMemory> {
+    let book = book(alloc, &[(3002, WARM), (3003, WARM), (3004, COLD)], &[])?;
+    let links = [in_use(3002), in_use(3003)];
+    scene_of(alloc, book, Groups::new(alloc), &[], &links)
+}
+
+fn released_by_the_word(
+    rt: &impl Abort,
+    alloc: Global,
+    picker: &Picker,
+) -> Result<(), OutOfMemory> {
+    let cases = [
+        case_of(Rule::G6, targets(5, 1, 0), &[Order::Release(A2)]),
+        Case {
+            word: WRAPPING,
+            ..case_of(Rule::G6, targets(5, 1, 0), &[Order::Release(A3)])
+        },
+    ];
+    expect_all(rt, alloc, two_warm(alloc)?, picker, &cases)
 }
 
 #[test]
@@ -627,31 +756,8 @@ fn the_word_decides_between_peers(rt: HostRuntime) -> Result<(), Fail> {
     let picker = Picker::new(Box::new(alloc, |addr: Addr, word: u64| {
         addr.key().wrapping_add(word)
     })?);
-    let two = [Order::Promote(A2), Order::Promote(A3)];
-    let cases = [case_of(Rule::G5, targets(5, 2, 0), &two)];
-    expect_all(
-        &rt,
-        alloc,
-        all_cold(alloc, Groups::new(alloc))?,
-        &picker,
-        &cases,
-    )?;
-    let book = book(alloc, &[(3002, WARM), (3003, WARM), (3004, COLD)], &[])?;
-    let links = [in_use(3002), in_use(3003)];
-    let cases = [
-        case_of(Rule::G6, targets(5, 1, 0), &[Order::Release(A2)]),
-        Case {
-            word: WRAPPING,
-            ..case_of(Rule::G6, targets(5, 1, 0), &[Order::Release(A3)])
-        },
-    ];
-    expect_all(
-        &rt,
-        alloc,
-        scene_of(alloc, book, Groups::new(alloc), &[], &links)?,
-        &picker,
-        &cases,
-    )?;
+    promoted_by_the_word(&rt, alloc, &picker)?;
+    released_by_the_word(&rt, alloc, &picker)?;
     Ok(())
 }
 
@@ -672,6 +778,15 @@ fn big_case(rule: BigRule, big: BigTargets, moment: u64, want: &[Order]) -> BigC
     }
 }
 
+fn big_orders(
+    alloc: Global,
+    rule: BigRule,
+    scene: &Scene,
+    picker: &RankedPicker,
+) -> Result<OrderList, OutOfMemory> {
+    rule_big(alloc, rule, &view(scene), &scene.book, picker)
+}
+
 fn expect_big(
     rt: &impl Abort,
     alloc: Global,
@@ -681,8 +796,21 @@ fn expect_big(
 ) -> Result<(), OutOfMemory> {
     scene.sight.big = case.big;
     scene.sight.moment = case.moment;
-    let orders = rule_big(alloc, case.rule, &view(scene), &scene.book, picker)?;
-    assert!(rt; orders.as_slice() == case.want);
+    let orders = big_orders(alloc, case.rule, scene, picker)?;
+    are(rt, orders.as_slice(), case.want);
+    Ok(())
+}
+
+fn expect_each_big(
+    rt: &impl Abort,
+    alloc: Global,
+    scene: &mut Scene,
+    picker: &RankedPicker,
+    cases: &[BigCase],
+) -> Result<(), OutOfMemory> {
+    for case in cases {
+        expect_big(rt, alloc, *case, scene, picker)?;
+    }
     Ok(())
 }
 
@@ -693,10 +821,7 @@ fn expect_all_big(
     picker: &RankedPicker,
     cases: &[BigCase],
 ) -> Result<(), OutOfMemory> {
-    for case in cases {
-        expect_big(rt, alloc, *case, &mut scene, picker)?;
-    }
-    Ok(())
+    expect_each_big(rt, alloc, &mut scene, picker, cases)
 }
 
 // an ordinary peer of each temperature stands beside the big ones
@@ -742,13 +867,11 @@ fn big_connected(alloc: Global) -> Result<Scene, OutOfMemory> {
     )
 }
 
-#[test]
-fn big_ledger_peers_by_their_targets(rt: HostRuntime) -> Result<(), Fail> {
-    let alloc = rt.alloc();
-    let picker = RankedPicker::new(Box::new(alloc, |addr: Addr, failures: u64, word: u64| {
-        failures.min(65_535) * 281_474_976_710_656
-            + addr.key().wrapping_add(word) % 281_474_976_710_656
-    })?);
+fn big_forgotten_and_promoted(
+    rt: &impl Abort,
+    alloc: Global,
+    picker: &RankedPicker,
+) -> Result<(), OutOfMemory> {
     // the one that failed comes last, and is in its back-off at first
     let two = [Order::Forget(A3), Order::Forget(A5)];
     let three = [Order::Forget(A3), Order::Forget(A5), Order::Forget(A2)];
@@ -761,7 +884,14 @@ fn big_ledger_peers_by_their_targets(rt: HostRuntime) -> Result<(), Fail> {
         big_case(BigRule::B5, big_targets(9, 9, 0), 4999, &one),
         big_case(BigRule::B5, big_targets(9, 9, 0), 5000, &eligible),
     ];
-    expect_all_big(&rt, alloc, big_beginning(alloc)?, &picker, &cases)?;
+    expect_all_big(rt, alloc, big_beginning(alloc)?, picker, &cases)
+}
+
+fn big_released_activated_and_deactivated(
+    rt: &impl Abort,
+    alloc: Global,
+    picker: &RankedPicker,
+) -> Result<(), OutOfMemory> {
     let cases = [
         big_case(BigRule::B6, big_targets(9, 1, 0), 0, &[Order::Release(A2)]),
         big_case(BigRule::B6, big_targets(9, 4, 0), 0, &[]),
@@ -774,8 +904,35 @@ fn big_ledger_peers_by_their_targets(rt: HostRuntime) -> Result<(), Fail> {
         ),
         big_case(BigRule::B9, big_targets(9, 9, 1), 0, &[]),
     ];
-    expect_all_big(&rt, alloc, big_connected(alloc)?, &picker, &cases)?;
+    expect_all_big(rt, alloc, big_connected(alloc)?, picker, &cases)
+}
+
+#[test]
+fn big_ledger_peers_by_their_targets(rt: HostRuntime) -> Result<(), Fail> {
+    let alloc = rt.alloc();
+    let picker = RankedPicker::new(Box::new(alloc, |addr: Addr, failures: u64, word: u64| {
+        failures.min(65_535) * 281_474_976_710_656
+            + addr.key().wrapping_add(word) % 281_474_976_710_656
+    })?);
+    big_forgotten_and_promoted(&rt, alloc, &picker)?;
+    big_released_activated_and_deactivated(&rt, alloc, &picker)?;
     Ok(())
+}
+
+// The link of the greater address comes first.
+fn out_of_order(alloc: Global) -> Result<Scene, OutOfMemory> {
+    let book = book(alloc, &[(3003, WARM), (3004, WARM)], &[])?;
+    let asked = Link {
+        owes2: true,
+        ..in_use(3004)
+    };
+    let links = [asked, in_use(3003)];
+    scene_of(alloc, book, Groups::new(alloc), &[], &links)
+}
+
+fn activated_in_order(rt: &impl Abort, alloc: Global, picker: &Picker) -> Result<(), OutOfMemory> {
+    let cases = [case_of(Rule::G8, targets(9, 9, 2), &[Order::Activate(A3)])];
+    expect_all(rt, alloc, out_of_order(alloc)?, picker, &cases)
 }
 
 #[test]
@@ -784,16 +941,6 @@ fn links_are_put_in_order(rt: HostRuntime) -> Result<(), Fail> {
     let picker = Picker::new(Box::new(alloc, |addr: Addr, word: u64| {
         addr.key().wrapping_add(word)
     })?);
-    let mut book = PeerBook::new(alloc);
-    enter(&mut book, 3003, false, WARM)?;
-    enter(&mut book, 3004, false, WARM)?;
-    let asked = Link {
-        owes2: true,
-        ..in_use(3004)
-    };
-    let links = [asked, in_use(3003)];
-    let scene = scene_of(alloc, book, Groups::new(alloc), &[], &links)?;
-    let cases = [case_of(Rule::G8, targets(9, 9, 2), &[Order::Activate(A3)])];
-    expect_all(&rt, alloc, scene, &picker, &cases)?;
+    activated_in_order(&rt, alloc, &picker)?;
     Ok(())
 }
