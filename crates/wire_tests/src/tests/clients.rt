@@ -7,6 +7,7 @@ use local_clients::{
 };
 use net_base::{FaultKind, Octets, OutOfMemory};
 use std::alloc::Global;
+use std::process::Abort;
 use std::test::Fail;
 
 mod lines;
@@ -37,6 +38,19 @@ fn does(
     Ok((clients, same))
 }
 
+// An event, and whether this action alone comes of it.
+fn does_one(
+    clients: Clients,
+    event: ClientEvent,
+    action: ClientAction,
+) -> Result<(Clients, bool), OutOfMemory>
+    requires few { clients.taken < 1000000 }
+    requires event { CanHappen event }
+    ensures { IfOk result (λ done. done.0.taken ≡ clients.taken + 1) }
+{
+    does(clients, event, &[action])
+}
+
 // A piece of what the first client says.
 fn says(alloc: Global, bytes: &[u8]) -> Result<ClientEvent, OutOfMemory>
     requires { IsPiece bytes.now }
@@ -53,6 +67,17 @@ const fn closes(cause: ClientCause) -> ClientAction {
     ClientAction::Close(1, cause)
 }
 
+// The first client greets.
+fn greeted(alloc: Global) -> Result<(Clients, bool), OutOfMemory>
+    ensures { IfOk result (λ done. done.0.taken ≡ 1) }
+{
+    does_one(
+        Clients::new(alloc, RULES),
+        ClientEvent::Joined,
+        ClientAction::Admit(1),
+    )
+}
+
 // The first client after the first thing that it says, and whether these actions come of it.
 fn first_words(
     alloc: Global,
@@ -62,9 +87,9 @@ fn first_words(
     requires { IsPiece bytes.now }
     ensures { IfOk result (λ done. done.0.taken ≡ 2) }
 {
-    let clients = Clients::new(alloc, RULES);
-    let (clients, joined) = does(clients, ClientEvent::Joined, &[ClientAction::Admit(1)])?;
-    let (clients, same) = does(clients, says(alloc, bytes)?, actions)?;
+    let said = says(alloc, bytes)?;
+    let (clients, joined) = greeted(alloc)?;
+    let (clients, same) = does(clients, said, actions)?;
     Ok((clients, joined && same))
 }
 
@@ -76,45 +101,55 @@ fn opened(alloc: Global) -> Result<(Clients, bool), OutOfMemory>
     first_words(alloc, PROPOSAL, &opens)
 }
 
+// The first client is open, and no other is there.
+fn is_let_in(rt: &impl Abort, clients: &Clients) {
+    assert!(rt; clients.open(1) == Some(32785));
+    assert!(rt; clients.live() == 1);
+    assert!(rt; clients.taken() == 2);
+}
+
 #[test]
 fn a_client_is_let_in_and_opens(rt: HostRuntime) -> Result<(), Fail> {
     let (clients, same) = opened(rt.alloc())?;
     assert!(rt; same);
-    assert!(rt; clients.open(1) == Some(32785));
-    assert!(rt; clients.live() == 1);
-    assert!(rt; clients.taken() == 2);
+    is_let_in(&rt, &clients);
     Ok(())
 }
 
 #[test]
 fn one_too_many_is_turned_away(rt: HostRuntime) -> Result<(), Fail> {
     let (clients, _) = opened(rt.alloc())?;
-    let (_, same) = does(clients, ClientEvent::Joined, &[ClientAction::Turnaway])?;
+    let (_, same) = does_one(clients, ClientEvent::Joined, ClientAction::Turnaway)?;
     assert!(rt; same);
     Ok(())
 }
 
+// An event after the first client is open, and whether nothing comes of it.
+fn silent_when_open(alloc: Global, event: ClientEvent) -> Result<(Clients, bool), OutOfMemory>
+    requires { CanHappen event }
+{
+    let (clients, _) = opened(alloc)?;
+    does(clients, event, &[])
+}
+
 #[test]
 fn what_an_open_client_asks_is_passed_over(rt: HostRuntime) -> Result<(), Fail> {
-    let (clients, _) = opened(rt.alloc())?;
     let asks = says(rt.alloc(), b"\0\0\0\0\0\x07\0\x03\x82\0\0")?;
-    let (clients, silent) = does(clients, asks, &[])?;
+    let (clients, silent) = silent_when_open(rt.alloc(), asks)?;
     assert!(rt; silent && clients.open(1) == Some(32785));
     Ok(())
 }
 
 #[test]
 fn an_open_client_has_no_deadline(rt: HostRuntime) -> Result<(), Fail> {
-    let (clients, _) = opened(rt.alloc())?;
-    let (clients, silent) = does(clients, ClientEvent::Now(20_000), &[])?;
+    let (clients, silent) = silent_when_open(rt.alloc(), ClientEvent::Now(20_000))?;
     assert!(rt; silent && clients.open(1) == Some(32785));
     Ok(())
 }
 
 #[test]
 fn an_open_client_goes(rt: HostRuntime) -> Result<(), Fail> {
-    let (clients, _) = opened(rt.alloc())?;
-    let (clients, silent) = does(clients, ClientEvent::Gone(1), &[])?;
+    let (clients, silent) = silent_when_open(rt.alloc(), ClientEvent::Gone(1))?;
     assert!(rt; silent && clients.live() == 0);
     Ok(())
 }
@@ -128,8 +163,7 @@ fn waited(
     requires { IsBounded moment }
     ensures { IfOk result (λ done. done.0.taken ≡ 2) }
 {
-    let clients = Clients::new(alloc, RULES);
-    let (clients, joined) = does(clients, ClientEvent::Joined, &[ClientAction::Admit(1)])?;
+    let (clients, joined) = greeted(alloc)?;
     let (clients, same) = does(clients, ClientEvent::Now(moment), actions)?;
     Ok((clients, joined && same))
 }
@@ -141,62 +175,86 @@ fn a_silent_client_waits(rt: HostRuntime) -> Result<(), Fail> {
     Ok(())
 }
 
+// The first client is closed, and whether that alone comes of the time.
+fn late(alloc: Global) -> Result<(Clients, bool), OutOfMemory>
+    ensures { IfOk result (λ done. done.0.taken ≡ 2) }
+{
+    let late = [closes(ClientCause::Fault(FaultKind::HandshakeWait))];
+    waited(alloc, 10_000, &late)
+}
+
 #[test]
 fn a_silent_client_is_closed_in_time(rt: HostRuntime) -> Result<(), Fail> {
-    let late = [closes(ClientCause::Fault(FaultKind::HandshakeWait))];
-    let (clients, same) = waited(rt.alloc(), 10_000, &late)?;
+    let (clients, same) = late(rt.alloc())?;
     assert!(rt; same && clients.live() == 0);
-    let (_, same) = does(clients, ClientEvent::Joined, &[ClientAction::Admit(2)])?;
+    let (_, same) = does_one(clients, ClientEvent::Joined, ClientAction::Admit(2))?;
     assert!(rt; same);
     Ok(())
 }
 
+// Whether the first client is told this and closed, for the first thing that it says.
+fn is_told_and_closed(
+    alloc: Global,
+    bytes: &[u8],
+    told: &[u8],
+    cause: ClientCause,
+) -> Result<bool, OutOfMemory>
+    requires { IsPiece bytes.now }
+{
+    let actions = [sends(alloc, told)?, closes(cause)];
+    let (_, same) = first_words(alloc, bytes, &actions)?;
+    Ok(same)
+}
+
 #[test]
 fn no_common_version_is_refused(rt: HostRuntime) -> Result<(), Fail> {
-    let alloc = rt.alloc();
     let refusal = b"\0\0\0\0\x80\0\0\x0b\x82\x02\x82\x00\x82\x19\x80\x10\x19\x80\x11";
-    let actions = [sends(alloc, refusal)?, closes(ClientCause::Refused)];
     let proposal = b"\0\0\0\0\0\0\0\x06\x82\x00\xa1\x18\x63\x80";
-    let (_, same) = first_words(alloc, proposal, &actions)?;
-    assert!(rt; same);
+    assert!(rt; is_told_and_closed(rt.alloc(), proposal, refusal, ClientCause::Refused)?);
     Ok(())
 }
 
 #[test]
 fn a_query_is_answered(rt: HostRuntime) -> Result<(), Fail> {
-    let alloc = rt.alloc();
     let reply =
         b"\0\0\0\0\x80\0\0\x11\x82\x03\xa2\x19\x80\x10\x82\x18\x2a\xf4\x19\x80\x11\x82\x18\x2a\xf4";
-    let actions = [sends(alloc, reply)?, closes(ClientCause::Query)];
     let proposal = b"\0\0\0\0\0\0\0\x0a\x82\x00\xa1\x19\x80\x10\x82\x18\x2a\xf5";
-    let (_, same) = first_words(alloc, proposal, &actions)?;
-    assert!(rt; same);
+    assert!(rt; is_told_and_closed(rt.alloc(), proposal, reply, ClientCause::Query)?);
     Ok(())
 }
 
 #[test]
 fn another_network_is_refused(rt: HostRuntime) -> Result<(), Fail> {
-    let alloc = rt.alloc();
     let refusal = b"\0\0\0\0\x80\0\0\x1d\x82\x02\x83\x02\x19\x80\x11\x75network magic differs";
-    let actions = [sends(alloc, refusal)?, closes(ClientCause::Refused)];
     let proposal = b"\0\0\0\0\0\0\0\x0a\x82\x00\xa1\x19\x80\x11\x82\x18\x2b\xf4";
-    let (_, same) = first_words(alloc, proposal, &actions)?;
-    assert!(rt; same);
+    assert!(rt; is_told_and_closed(rt.alloc(), proposal, refusal, ClientCause::Refused)?);
     Ok(())
 }
 
-#[test]
-fn bytes_behind_a_proposal_are_a_fault(rt: HostRuntime) -> Result<(), Fail> {
-    let alloc = rt.alloc();
+// The first client says more than a proposal, and whether it is open and then closed for that.
+fn said_more(alloc: Global) -> Result<(Clients, bool), OutOfMemory> {
     let actions = [
         sends(alloc, ACCEPTANCE)?,
         ClientAction::Open(1, 32785),
         closes(ClientCause::Fault(FaultKind::Protocol)),
     ];
     let proposal = b"\0\0\0\0\0\0\0\x0b\x82\x00\xa1\x19\x80\x11\x82\x18\x2a\xf4\x1c";
-    let (clients, same) = first_words(alloc, proposal, &actions)?;
+    first_words(alloc, proposal, &actions)
+}
+
+#[test]
+fn bytes_behind_a_proposal_are_a_fault(rt: HostRuntime) -> Result<(), Fail> {
+    let (clients, same) = said_more(rt.alloc())?;
     assert!(rt; same && clients.live() == 0);
     Ok(())
+}
+
+// Whether the first client is closed so, for the first thing that it says.
+fn is_closed(alloc: Global, bytes: &[u8], kind: FaultKind) -> Result<bool, OutOfMemory>
+    requires { IsPiece bytes.now }
+{
+    let (_, same) = first_words(alloc, bytes, &[closes(ClientCause::Fault(kind))])?;
+    Ok(same)
 }
 
 #[test]
@@ -216,8 +274,7 @@ fn faults_close_a_client(rt: HostRuntime) -> Result<(), Fail> {
         (b"\0\0\0\0\0\0\0\x03\x82\x03\xa0", FaultKind::Protocol),
     ];
     for (bytes, kind) in cases {
-        let (_, same) = first_words(alloc, bytes, &[closes(ClientCause::Fault(kind))])?;
-        assert!(rt; same, "at {bytes:?}");
+        assert!(rt; is_closed(alloc, bytes, kind)?, "at {bytes:?}");
     }
     Ok(())
 }

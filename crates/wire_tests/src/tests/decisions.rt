@@ -4,6 +4,7 @@ use hs_decide::{Role, Verdict, Why, answer, decide, proposal};
 use hs_message::{Info, Message, Offer, Reason, Table, VersionInfo};
 use net_base::{Agreed, NumberList, OutOfMemory};
 use std::alloc::Global;
+use std::process::Abort;
 use std::test::Fail;
 
 const OWN: VersionInfo = VersionInfo {
@@ -87,11 +88,22 @@ fn on_proposal(
     Ok(decide(role, own, &proposal))
 }
 
-#[test]
-fn an_acceptor_decides_on_a_proposal(rt: HostRuntime) -> Result<(), Fail> {
-    let both = [known(13, OWN), known(14, OWN)];
-    let duplex = Verdict::Accept(agreed(14, false, true));
-    let cases: [(&[Offer], Verdict); 18] = [
+// Each of these offers comes to its verdict.
+fn expect_verdicts(
+    rt: &impl Abort,
+    alloc: Global,
+    role: Role,
+    cases: &[(&[Offer], Verdict)],
+) -> Result<(), OutOfMemory> {
+    for (n, (offers, want)) in cases.iter().enumerate() {
+        let got = on_proposal(alloc, role, &OWN, *offers)?;
+        assert!(rt; got == *want, "at case {n}");
+    }
+    Ok(())
+}
+
+fn refuses_what_it_does_not_know(rt: &impl Abort, alloc: Global) -> Result<(), OutOfMemory> {
+    let cases: [(&[Offer], Verdict); 5] = [
         (&[], Verdict::Refuse(Why::NoCommon)),
         (
             &[known(12, OWN), known(15, OWN)],
@@ -103,7 +115,12 @@ fn an_acceptor_decides_on_a_proposal(rt: HostRuntime) -> Result<(), Fail> {
             &[known(13, OWN), foreign(14)],
             Verdict::Refuse(Why::NotDecoded(14)),
         ),
-        (&[foreign(13), known(14, OWN)], duplex),
+    ];
+    expect_verdicts(rt, alloc, Role::Acceptor, &cases)
+}
+
+fn refuses_other_networks(rt: &impl Abort, alloc: Global) -> Result<(), OutOfMemory> {
+    let cases: [(&[Offer], Verdict); 4] = [
         (&[known(14, ELSEWHERE)], Verdict::Refuse(Why::Magic(14))),
         (&[known(13, ELSEWHERE)], Verdict::Refuse(Why::Magic(13))),
         (
@@ -114,9 +131,23 @@ fn an_acceptor_decides_on_a_proposal(rt: HostRuntime) -> Result<(), Fail> {
             &[known(14, ASKS_ELSEWHERE)],
             Verdict::Refuse(Why::Magic(14)),
         ),
+    ];
+    expect_verdicts(rt, alloc, Role::Acceptor, &cases)
+}
+
+fn takes_the_greatest_version(rt: &impl Abort, alloc: Global) -> Result<(), OutOfMemory> {
+    let duplex = Verdict::Accept(agreed(14, false, true));
+    let cases: [(&[Offer], Verdict); 4] = [
+        (&[foreign(13), known(14, OWN)], duplex),
         (&[known(14, ASKS)], Verdict::Query),
         (&[known(13, ASKS), known(14, OWN)], duplex),
-        (&both, duplex),
+        (&[known(13, OWN), known(14, OWN)], duplex),
+    ];
+    expect_verdicts(rt, alloc, Role::Acceptor, &cases)
+}
+
+fn takes_what_is_offered(rt: &impl Abort, alloc: Global) -> Result<(), OutOfMemory> {
+    let cases: [(&[Offer], Verdict); 5] = [
         (&[known(13, OWN)], Verdict::Accept(agreed(13, false, true))),
         (
             &[known(13, OWN), known(15, OWN)],
@@ -135,21 +166,26 @@ fn an_acceptor_decides_on_a_proposal(rt: HostRuntime) -> Result<(), Fail> {
             Verdict::Accept(agreed(14, true, true)),
         ),
     ];
-    for (n, (offers, want)) in cases.into_iter().enumerate() {
-        let got = on_proposal(rt.alloc(), Role::Acceptor, &OWN, offers)?;
-        assert!(rt; got == want, "at case {n}");
-    }
-    let got = on_proposal(rt.alloc(), Role::Acceptor, &DIALS_ONLY, &both)?;
+    expect_verdicts(rt, alloc, Role::Acceptor, &cases)
+}
+
+#[test]
+fn an_acceptor_decides_on_a_proposal(rt: HostRuntime) -> Result<(), Fail> {
+    let alloc = rt.alloc();
+    refuses_what_it_does_not_know(&rt, alloc)?;
+    refuses_other_networks(&rt, alloc)?;
+    takes_the_greatest_version(&rt, alloc)?;
+    takes_what_is_offered(&rt, alloc)?;
+    let both = [known(13, OWN), known(14, OWN)];
+    let got = on_proposal(alloc, Role::Acceptor, &DIALS_ONLY, &both)?;
     assert!(rt; got == Verdict::Accept(agreed(14, true, true)));
-    let got = on_proposal(rt.alloc(), Role::Acceptor, &SHARES_NOTHING, &both)?;
+    let got = on_proposal(alloc, Role::Acceptor, &SHARES_NOTHING, &both)?;
     assert!(rt; got == Verdict::Accept(agreed(14, false, false)));
     Ok(())
 }
 
-#[test]
-fn a_dialer_decides_on_a_proposal(rt: HostRuntime) -> Result<(), Fail> {
-    let both = [known(13, OWN), known(14, OWN)];
-    let cases: [(&[Offer], Verdict); 12] = [
+fn dialer_does_not_agree(rt: &impl Abort, alloc: Global) -> Result<(), OutOfMemory> {
+    let cases: [(&[Offer], Verdict); 8] = [
         (&[], Verdict::Refused),
         (&[known(12, OWN), known(15, OWN)], Verdict::Refused),
         (&[foreign(14)], Verdict::Refused),
@@ -158,6 +194,12 @@ fn a_dialer_decides_on_a_proposal(rt: HostRuntime) -> Result<(), Fail> {
         (&[known(14, ASKS_ELSEWHERE)], Verdict::Refused),
         (&[known(14, ASKS)], Verdict::Wrong),
         (&[known(14, DIALS_ONLY)], Verdict::Refused),
+    ];
+    expect_verdicts(rt, alloc, Role::Dialer, &cases)
+}
+
+fn dialer_agrees(rt: &impl Abort, alloc: Global) -> Result<(), OutOfMemory> {
+    let cases: [(&[Offer], Verdict); 4] = [
         (
             &[known(14, SHARES_NOTHING)],
             Verdict::Agree(agreed(14, false, false)),
@@ -167,13 +209,21 @@ fn a_dialer_decides_on_a_proposal(rt: HostRuntime) -> Result<(), Fail> {
             Verdict::Agree(agreed(14, false, true)),
         ),
         (&[known(13, OWN)], Verdict::Agree(agreed(13, false, true))),
-        (&both, Verdict::Agree(agreed(14, false, true))),
+        (
+            &[known(13, OWN), known(14, OWN)],
+            Verdict::Agree(agreed(14, false, true)),
+        ),
     ];
-    for (n, (offers, want)) in cases.into_iter().enumerate() {
-        let got = on_proposal(rt.alloc(), Role::Dialer, &OWN, offers)?;
-        assert!(rt; got == want, "at case {n}");
-    }
-    let got = on_proposal(rt.alloc(), Role::Dialer, &DIALS_ONLY, &both)?;
+    expect_verdicts(rt, alloc, Role::Dialer, &cases)
+}
+
+#[test]
+fn a_dialer_decides_on_a_proposal(rt: HostRuntime) -> Result<(), Fail> {
+    let alloc = rt.alloc();
+    dialer_does_not_agree(&rt, alloc)?;
+    dialer_agrees(&rt, alloc)?;
+    let both = [known(13, OWN), known(14, OWN)];
+    let got = on_proposal(alloc, Role::Dialer, &DIALS_ONLY, &both)?;
     assert!(rt; got == Verdict::Refused);
     Ok(())
 }
@@ -184,9 +234,24 @@ fn is_decided(message: &Message, want: Verdict) -> bool {
         && decide(Role::Acceptor, &OWN, message) == Verdict::Wrong
 }
 
+// The same, of the accept of an offer.
+fn is_accept_decided(offer: Offer, want: Verdict) -> bool {
+    is_decided(&Message::Accept(offer.version, offer.info), want)
+}
+
+fn is_refusal_decided(alloc: Global, want: Verdict) -> bool {
+    let refuse = Message::Refuse(Reason::NoCommon(NumberList::new(alloc)));
+    is_decided(&refuse, want)
+}
+
 // A query reply of the version 14.
 fn reply(alloc: Global) -> Result<Message, OutOfMemory> {
     Ok(Message::QueryReply(Table::from_slice(alloc, &[known(14, OWN)])?))
+}
+
+fn is_reply_decided(alloc: Global, want: Verdict) -> Result<bool, OutOfMemory> {
+    let reply = reply(alloc)?;
+    Ok(is_decided(&reply, want))
 }
 
 #[test]
@@ -210,12 +275,10 @@ fn other_messages_are_decided(rt: HostRuntime) -> Result<(), Fail> {
         (known(14, ELSEWHERE), Verdict::Wrong),
     ];
     for (n, (offer, want)) in cases.into_iter().enumerate() {
-        let message = Message::Accept(offer.version, offer.info);
-        assert!(rt; is_decided(&message, want), "at case {n}");
+        assert!(rt; is_accept_decided(offer, want), "at case {n}");
     }
-    let refuse = Message::Refuse(Reason::NoCommon(NumberList::new(rt.alloc())));
-    assert!(rt; is_decided(&refuse, Verdict::Refused));
-    assert!(rt; is_decided(&reply(rt.alloc())?, Verdict::Wrong));
+    assert!(rt; is_refusal_decided(rt.alloc(), Verdict::Refused));
+    assert!(rt; is_reply_decided(rt.alloc(), Verdict::Wrong)?);
     Ok(())
 }
 
@@ -231,12 +294,16 @@ fn is_answered(alloc: Global, verdict: Verdict, bytes: Option<&[u8]>) -> Result<
     })
 }
 
+fn is_proposed(alloc: Global, bytes: &[u8]) -> Result<bool, OutOfMemory> {
+    let proposed = proposal(alloc, &OWN)?;
+    Ok(proposed.as_slice() == bytes)
+}
+
 #[test]
 fn the_vectors_are_answered(rt: HostRuntime) -> Result<(), Fail> {
     let alloc = rt.alloc();
-    let proposed = proposal(alloc, &OWN)?;
     let bytes = b"\x82\x00\xa2\x0d\x84\x18\x2a\xf4\x01\xf4\x0e\x84\x18\x2a\xf4\x01\xf4";
-    assert!(rt; proposed.as_slice() == bytes.as_slice());
+    assert!(rt; is_proposed(alloc, bytes)?);
     let bytes = b"\x83\x01\x0e\x84\x18\x2a\xf4\x01\xf4";
     assert!(rt; is_answered(alloc, Verdict::Accept(DUPLEX), Some(bytes))?);
     let rows: [(Why, &[u8]); 3] = [

@@ -7,35 +7,48 @@ use cbor_items::{
     write_head,
 };
 use net_base::{Octets, OutOfMemory};
-use std::alloc::Global;
+use std::alloc::{AllocError, Global};
 use std::process::Abort;
 use std::test::Fail;
 
+// Every proper front of an item goes on.
+fn expect_fronts_go_on(rt: &impl Abort, item: &[u8]) {
+    for n in 0..item.len() {
+        assert!(rt;
+            first_item(&item[..n]) == Scan::More,
+            "at {n} bytes of {item:?}"
+        );
+    }
+}
+
+// Each is an item, and no front of it is.
+fn expect_whole(rt: &impl Abort, items: &[&[u8]]) {
+    for item in items {
+        assert!(rt; first_item(*item) == Scan::Whole(item.len()), "at {item:?}");
+        expect_fronts_go_on(rt, *item);
+    }
+}
+
 #[test]
 fn every_whole_item_is_found(rt: HostRuntime) {
-    for item in WHOLE_ITEMS {
-        assert!(rt; first_item(item) == Scan::Whole(item.len()), "at {item:?}");
-        for n in 0..item.len() {
-            assert!(rt;
-                first_item(&item[..n]) == Scan::More,
-                "at {n} bytes of {item:?}"
-            );
-        }
+    expect_whole(&rt, &WHOLE_ITEMS);
+}
+
+// This is found at the front of each.
+fn expect_each(rt: &impl Abort, items: &[&[u8]], found: Scan) {
+    for bytes in items {
+        assert!(rt; first_item(*bytes) == found, "at {bytes:?}");
     }
 }
 
 #[test]
 fn what_is_cut_goes_on(rt: HostRuntime) {
-    for bytes in CUT_ITEMS {
-        assert!(rt; first_item(bytes) == Scan::More, "at {bytes:?}");
-    }
+    expect_each(&rt, &CUT_ITEMS, Scan::More);
 }
 
 #[test]
 fn what_is_not_well_formed_is_bad(rt: HostRuntime) {
-    for bytes in NO_ITEMS {
-        assert!(rt; first_item(bytes) == Scan::Bad, "at {bytes:?}");
-    }
+    expect_each(&rt, &NO_ITEMS, Scan::Bad);
 }
 
 // What is found at the front of each.
@@ -101,6 +114,12 @@ fn a_scan_goes_on(rt: HostRuntime) -> Result<(), Fail> {
     Ok(())
 }
 
+// What is found at the front of so many arrays inside each other around some bytes.
+fn found_in_levels(alloc: Global, levels: usize, inner: &[u8]) -> Result<Scan, AllocError> {
+    let item = nest(alloc, levels, inner)?;
+    Ok(first_item(&item))
+}
+
 #[test]
 fn sixty_four_levels_are_the_most(rt: HostRuntime) -> Result<(), Fail> {
     let rows: [(usize, &[u8], Scan); 8] = [
@@ -117,9 +136,8 @@ fn sixty_four_levels_are_the_most(rt: HostRuntime) -> Result<(), Fail> {
         (1000, b"\x00", Scan::Deep),
     ];
     for (levels, inner, found) in rows {
-        let item = nest(rt.alloc(), levels, inner)?;
         assert!(rt;
-            first_item(&item) == found,
+            found_in_levels(rt.alloc(), levels, inner)? == found,
             "at {levels} levels around {inner:?}"
         );
     }

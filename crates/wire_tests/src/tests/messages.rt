@@ -39,6 +39,14 @@ const DECLINED: &[u8] = b"\x82\x02\x83\x02\x0e\x75network magic differs";
 
 const QUERY_REPLY: &[u8] = b"\x82\x03\xa2\x0d\x84\x18\x2a\xf4\x01\xf4\x0e\x84\x18\x2a\xf4\x01\xf4";
 
+// Whether a message is written so.
+fn writes(alloc: Global, message: &Message, bytes: &[u8]) -> Result<bool, OutOfMemory>
+    requires { CanWrite message.now }
+{
+    let written = write_message(alloc, message)?;
+    Ok(written.as_slice() == bytes)
+}
+
 // A message is written so.
 fn expect_written(
     rt: &impl Abort,
@@ -48,8 +56,8 @@ fn expect_written(
 ) -> Result<(), Fail>
     requires { CanWrite message }
 {
-    let written = write_message(alloc, &message)?;
-    assert!(rt; written.as_slice() == bytes, "at {bytes:?}");
+    let same = writes(alloc, &message, bytes)?;
+    assert!(rt; same, "at {bytes:?}");
     Ok(())
 }
 
@@ -122,6 +130,19 @@ fn declined(alloc: Global, version: u64, text: &[u8]) -> Result<Message, OutOfMe
     Ok(Message::Refuse(Reason::Declined(version, text)))
 }
 
+// Whether bytes are read as a message.
+fn reads(alloc: Global, bytes: &[u8], want: &Message) -> bool {
+    match &read_message(alloc, bytes) {
+        Ok(read) => *read == *want,
+        Err(_) => false,
+    }
+}
+
+// Whether bytes are read as the accept of an offer.
+fn reads_accept(alloc: Global, bytes: &[u8], offer: Offer) -> bool {
+    reads(alloc, bytes, &accepted(offer))
+}
+
 // The bytes are read as a message.
 fn assert_read(
     rt: &impl Abort,
@@ -129,8 +150,8 @@ fn assert_read(
     bytes: &[u8],
     want: Result<Message, OutOfMemory>,
 ) -> Result<(), Fail> {
-    let want = want?;
-    assert!(rt; read_message(alloc, bytes) == Ok(want), "at {bytes:?}");
+    let same = reads(alloc, bytes, &want?);
+    assert!(rt; same, "at {bytes:?}");
     Ok(())
 }
 
@@ -174,8 +195,7 @@ fn accepts_are_read(rt: HostRuntime) {
         ),
     ];
     for (bytes, offer) in cases {
-        let read = read_message(rt.alloc(), bytes);
-        assert!(rt; read == Ok(accepted(offer)), "at {bytes:?}");
+        assert!(rt; reads_accept(rt.alloc(), bytes, offer), "at {bytes:?}");
     }
 }
 
@@ -244,9 +264,8 @@ fn expect_foreign(
     info: &[u8],
 ) -> Result<(), AllocError> {
     let bytes = accept(alloc, version, info)?;
-    let read = read_message(alloc, &bytes);
-    let want = accepted(foreign(u64::from(version)));
-    assert!(rt; read == Ok(want), "at version {version} and {info:?}");
+    let same = reads_accept(alloc, &bytes, foreign(u64::from(version)));
+    assert!(rt; same, "at version {version} and {info:?}");
     Ok(())
 }
 
@@ -349,11 +368,23 @@ fn nested(alloc: Global, levels: usize) -> Result<Vec<u8>, AllocError> {
     Ok(bytes)
 }
 
+// An accept with so many levels in its info is read as one with a foreign info.
+fn expect_foreign_levels(rt: &impl Abort, alloc: Global, levels: usize) -> Result<(), AllocError> {
+    let info = nested(alloc, levels)?;
+    expect_foreign(rt, alloc, 14, &info)
+}
+
+// An accept with so many levels in its info.
+fn accept_of_levels(alloc: Global, levels: usize) -> Result<Vec<u8>, AllocError> {
+    let info = nested(alloc, levels)?;
+    accept(alloc, 14, &info)
+}
+
 #[test]
 fn a_message_has_sixty_four_levels_at_most(rt: HostRuntime) -> Result<(), Fail> {
     let alloc = rt.alloc();
-    expect_foreign(&rt, alloc, 14, &nested(alloc, 63)?)?;
-    let deeper = accept(alloc, 14, &nested(alloc, 64)?)?;
+    expect_foreign_levels(&rt, alloc, 63)?;
+    let deeper = accept_of_levels(alloc, 64)?;
     assert!(rt; is_no_message(alloc, &deeper));
     Ok(())
 }

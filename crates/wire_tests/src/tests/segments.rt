@@ -27,6 +27,19 @@ fn takes(
     Ok((cutter, same))
 }
 
+// Takes one byte. Whether an item is given, or nothing.
+fn takes_byte(
+    cutter: Cutter,
+    byte: u8,
+    item: (u8, u16, &[u8]),
+    given: bool,
+) -> Result<(Cutter, bool), OutOfMemory> {
+    if given {
+        return takes(cutter, &[byte], &[item], None);
+    }
+    takes(cutter, &[byte], &[], None)
+}
+
 // Whether a new cutter gives this for one piece.
 fn gives(
     alloc: Global,
@@ -71,6 +84,21 @@ fn expect_given(
     Ok(())
 }
 
+// A new cutter gives an item, or does not, for one segment with it.
+fn expect_item(
+    rt: &impl Abort,
+    alloc: Global,
+    id: u16,
+    item: &[u8],
+    given: bool,
+    fault: Option<CutFault>,
+) -> Result<(), Fail> {
+    if given {
+        return expect_given(rt, alloc, id, item, &[(0, id, item)], fault);
+    }
+    expect_given(rt, alloc, id, item, &[], fault)
+}
+
 // A new cutter gives such a string, or does not, for one segment with it.
 fn expect_string(
     rt: &impl Abort,
@@ -81,10 +109,7 @@ fn expect_string(
     fault: Option<CutFault>,
 ) -> Result<(), Fail> {
     let part = string(alloc, announced, there)?;
-    if given {
-        return expect_given(rt, alloc, id, &part, &[(0, id, &part)], fault);
-    }
-    expect_given(rt, alloc, id, &part, &[], fault)
+    expect_item(rt, alloc, id, &part, given, fault)
 }
 
 #[test]
@@ -113,16 +138,12 @@ fn headers_are_read_and_written(rt: HostRuntime) {
 
 #[test]
 fn a_stream_byte_by_byte(rt: HostRuntime) -> Result<(), Fail> {
-    let alloc = rt.alloc();
     let stream =
         b"\x00\x00\x00\x00\x00\x00\x00\x11\x82\x00\xa2\x0d\x84\x18\x2a\xf4\x01\xf4\x0e\x84\x18\x2a\xf4\x01\xf4";
-    let mut cutter = Cutter::new(alloc);
+    let item: (u8, u16, &[u8]) = (0, 0, &stream[8..]);
+    let mut cutter = Cutter::new(rt.alloc());
     for (n, byte) in stream.iter().enumerate() {
-        let (next, same) = if n < 24 {
-            takes(cutter, &[*byte], &[], None)?
-        } else {
-            takes(cutter, &[*byte], &[(0, 0, &stream[8..])], None)?
-        };
+        let (next, same) = takes_byte(cutter, *byte, item, n == 24)?;
         assert!(rt; same, "at {n}");
         cutter = next;
     }
@@ -167,13 +188,19 @@ fn between(alloc: Global, bytes: &[u8]) -> Result<Vec<u8>, AllocError> {
     Ok(stream)
 }
 
+// Whether a new cutter gives the first item and a fault for a stream, and the fault alone for what comes then.
+fn stops(alloc: Global, stream: &[u8], fault: CutFault) -> Result<(bool, bool), OutOfMemory> {
+    let (cutter, at) = takes(Cutter::new(alloc), stream, &[(0, 3, b"\x17")], Some(fault))?;
+    let (_, after) = takes(cutter, BEHIND, &[], Some(fault))?;
+    Ok((at, after))
+}
+
 // What stands before a fault is given, and nothing behind it.
 fn expect_stop(rt: &impl Abort, alloc: Global, bytes: &[u8], fault: CutFault) -> Result<(), Fail> {
     let stream = between(alloc, bytes)?;
-    let (cutter, same) = takes(Cutter::new(alloc), &stream, &[(0, 3, b"\x17")], Some(fault))?;
-    assert!(rt; same, "at {bytes:?}");
-    let (_, same) = takes(cutter, BEHIND, &[], Some(fault))?;
-    assert!(rt; same, "after {bytes:?}");
+    let (at, after) = stops(alloc, &stream, fault)?;
+    assert!(rt; at, "at {bytes:?}");
+    assert!(rt; after, "after {bytes:?}");
     Ok(())
 }
 
@@ -199,13 +226,23 @@ fn a_fault_ends_the_stream(rt: HostRuntime) -> Result<(), Fail> {
     Ok(())
 }
 
+// A new cutter gives so many arrays inside each other, or does not, for one segment with them.
+fn expect_nest(
+    rt: &impl Abort,
+    alloc: Global,
+    (levels, inner): (usize, &[u8]),
+    given: bool,
+    fault: Option<CutFault>,
+) -> Result<(), Fail> {
+    let item = nest(alloc, levels, inner)?;
+    expect_item(rt, alloc, 2, &item, given, fault)
+}
+
 #[test]
 fn too_many_levels_are_a_fault(rt: HostRuntime) -> Result<(), Fail> {
     let alloc = rt.alloc();
-    let deep = nest(alloc, 65, b"")?;
-    expect_given(&rt, alloc, 2, &deep, &[], Some(CutFault::Deep))?;
-    let most = nest(alloc, 64, b"\0")?;
-    expect_given(&rt, alloc, 2, &most, &[(0, 2, &most)], None)
+    expect_nest(&rt, alloc, (65, b""), false, Some(CutFault::Deep))?;
+    expect_nest(&rt, alloc, (64, b"\0"), true, None)
 }
 
 // The front of an array to a break, with more bytes than an item may have while shaking hands, and what is no head.
@@ -225,9 +262,13 @@ fn the_limit_of_a_handshake(rt: HostRuntime) -> Result<(), Fail> {
     expect_string(&rt, alloc, 0, (5758, 5758), false, too_long)?;
     expect_string(&rt, alloc, 0, (5757, 5756), false, None)?;
     expect_string(&rt, alloc, 0, (5758, 5757), false, too_long)?;
-    // the bytes behind the limit are scanned too
+    expect_bad_behind_the_limit(&rt, alloc)
+}
+
+// The bytes behind the limit are scanned too.
+fn expect_bad_behind_the_limit(rt: &impl Abort, alloc: Global) -> Result<(), Fail> {
     let part = bad_behind_the_limit(alloc)?;
-    expect_given(&rt, alloc, 0, &part, &[], Some(CutFault::Bad))
+    expect_item(rt, alloc, 0, &part, false, Some(CutFault::Bad))
 }
 
 // A cutter that has all of the longest item but its last byte, and whether it gave nothing.
@@ -237,6 +278,14 @@ fn one_byte_short(alloc: Global) -> Result<(Cutter, bool), Fail> {
     Ok(takes(Cutter::new(alloc), &stream, &[], None)?)
 }
 
+// Whether nothing is given before the last byte of the longest item, and the item then.
+fn given_at_last(alloc: Global, whole: &[u8]) -> Result<(bool, bool), Fail> {
+    let (cutter, silent) = one_byte_short(alloc)?;
+    let last = b"\0\0\0\0\0\x04\0\x01\0";
+    let (_, same) = takes(cutter, last, &[(0, 4, whole)], None)?;
+    Ok((silent, same))
+}
+
 // Other items may have 65,535 bytes, so the longest comes in two segments.
 #[test]
 fn the_limit_of_the_other_protocols(rt: HostRuntime) -> Result<(), Fail> {
@@ -244,10 +293,8 @@ fn the_limit_of_the_other_protocols(rt: HostRuntime) -> Result<(), Fail> {
     let too_long = Some(CutFault::TooLong);
     expect_string(&rt, alloc, 4, (65_533, 65_532), false, too_long)?;
     let whole = string(alloc, 65_532, 65_532)?;
-    let (cutter, silent) = one_byte_short(alloc)?;
+    let (silent, same) = given_at_last(alloc, &whole)?;
     assert!(rt; silent);
-    let last = b"\0\0\0\0\0\x04\0\x01\0";
-    let (_, same) = takes(cutter, last, &[(0, 4, &whole)], None)?;
     assert!(rt; same);
     Ok(())
 }
@@ -292,14 +339,19 @@ fn framed_sevens(alloc: Global, count: usize) -> Result<Octets, OutOfMemory> {
     frame(alloc, 1, 3, 0, &payload)
 }
 
+// Whether a payload with so many bytes behind the first 12,288 is framed in these segments.
+fn is_cut(alloc: Global, more: u16, segments: &[u8]) -> Result<bool, OutOfMemory> {
+    let framed = framed_sevens(alloc, 12_288 + usize::from(more))?;
+    Ok(framed.as_slice() == segments)
+}
+
 // A long payload is cut behind 12,288 bytes.
 #[test]
 fn long_payloads_are_several_segments(rt: HostRuntime) -> Result<(), Fail> {
     let alloc = rt.alloc();
     for more in [0u16, 1, 12_288] {
-        let bytes = two_segments(alloc, more)?;
-        let framed = framed_sevens(alloc, 12_288 + usize::from(more))?;
-        assert!(rt; framed.as_slice() == bytes.as_slice(), "at {more} more");
+        let segments = two_segments(alloc, more)?;
+        assert!(rt; is_cut(alloc, more, &segments)?, "at {more} more");
     }
     Ok(())
 }
@@ -312,11 +364,20 @@ fn sees(cutter: &Cutter, bytes: &[u8], body: &[u8]) -> bool {
     }
 }
 
-// The first item is seen where it stands at the front of the first segment, and nothing waits before it.
-#[test]
-fn the_first_item_is_seen(rt: HostRuntime) -> Result<(), Fail> {
-    let alloc = rt.alloc();
-    let cutter = Cutter::new(alloc);
+// Whether what a cutter sees as the first item of one segment with a payload has this body.
+fn sees_in_segment(
+    cutter: &Cutter,
+    alloc: Global,
+    word: u16,
+    payload: &[u8],
+    body: &[u8],
+) -> Result<bool, AllocError> {
+    let stream = segment(alloc, word, payload)?;
+    Ok(sees(cutter, &stream, body))
+}
+
+// A cutter that nothing waits in sees what stands at the front of a segment.
+fn expect_seen(rt: &impl Abort, alloc: Global, cutter: &Cutter) -> Result<(), AllocError> {
     let cases: [(u16, &[u8], &[u8]); 5] = [
         (2, b"\x01\x02", b"\x01"),
         (0x8008, b"\x82\x01\x02\x03", b"\x82\x01\x02"),
@@ -325,11 +386,19 @@ fn the_first_item_is_seen(rt: HostRuntime) -> Result<(), Fail> {
         (2, b"\x82\x01", b""),
     ];
     for (word, payload, body) in cases {
-        let stream = segment(alloc, word, payload)?;
-        assert!(rt; sees(&cutter, &stream, body), "at {word}");
+        let same = sees_in_segment(cutter, alloc, word, payload, body)?;
+        assert!(rt; same, "at {word}");
     }
-    let stream = segment(alloc, 2, b"\x01")?;
-    let (cutter, _) = cutter.feed(b"\x00")?;
-    assert!(rt; sees(&cutter, &stream, b""));
+    Ok(())
+}
+
+// The first item is seen where it stands at the front of the first segment, and nothing waits before it.
+#[test]
+fn the_first_item_is_seen(rt: HostRuntime) -> Result<(), Fail> {
+    let alloc = rt.alloc();
+    let cutter = Cutter::new(alloc);
+    expect_seen(&rt, alloc, &cutter)?;
+    let (cutter, _) = takes(cutter, b"\x00", &[], None)?;
+    assert!(rt; sees_in_segment(&cutter, alloc, 2, b"\x01", b"")?);
     Ok(())
 }

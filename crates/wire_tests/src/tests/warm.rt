@@ -9,8 +9,14 @@ use warm_messages::{
     write_request,
 };
 
-#[test]
-fn keep_alive_is_read_and_written(rt: HostRuntime) -> Result<(), Fail> {
+// What each is read as.
+fn expect_alive(rt: &impl Abort, messages: &[(&[u8], Alive)]) {
+    for (bytes, message) in messages {
+        assert!(rt; read_alive(*bytes) == Some(*message), "at {bytes:?}");
+    }
+}
+
+fn keep_alive_is_read(rt: &impl Abort) {
     let messages: [(&[u8], Alive); 9] = [
         (b"\x82\x00\x05", Alive::Ask(5)),
         (b"\x82\x01\x07", Alive::Reply(7)),
@@ -30,9 +36,17 @@ fn keep_alive_is_read_and_written(rt: HostRuntime) -> Result<(), Fail> {
             Alive::Reply(65_535),
         ),
     ];
-    for (bytes, message) in messages {
-        assert!(rt; read_alive(bytes) == Some(message), "at {bytes:?}");
+    expect_alive(rt, &messages);
+}
+
+// Each is no message.
+fn expect_no_alive(rt: &impl Abort, others: &[&[u8]]) {
+    for bytes in others {
+        assert!(rt; read_alive(*bytes).is_none(), "at {bytes:?}");
     }
+}
+
+fn other_bytes_are_no_message_of_keep_alive(rt: &impl Abort) {
     let others: [&[u8]; 21] = [
         b"",
         b"\x05",
@@ -59,9 +73,19 @@ fn keep_alive_is_read_and_written(rt: HostRuntime) -> Result<(), Fail> {
         b"\x9b\x80\x00\x00\x00\x00\x00\x00\x00\x00\x05",
         b"\x9f\x00\x00\x00\x00\x00\x00\x00\x00\x00\x00\xff",
     ];
-    for bytes in others {
-        assert!(rt; read_alive(bytes).is_none(), "at {bytes:?}");
-    }
+    expect_no_alive(rt, &others);
+}
+
+// Whether a message is written so.
+fn is_written(alloc: Global, message: Alive, bytes: &[u8]) -> Result<bool, OutOfMemory> {
+    let out = write_alive(alloc, &message)?;
+    Ok(out.as_slice() == bytes)
+}
+
+#[test]
+fn keep_alive_is_read_and_written(rt: HostRuntime) -> Result<(), Fail> {
+    keep_alive_is_read(&rt);
+    other_bytes_are_no_message_of_keep_alive(&rt);
     let written: [(Alive, &[u8]); 5] = [
         (Alive::Ask(5), b"\x82\x00\x05"),
         (Alive::Ask(65_535), b"\x82\x00\x19\xff\xff"),
@@ -70,8 +94,7 @@ fn keep_alive_is_read_and_written(rt: HostRuntime) -> Result<(), Fail> {
         (Alive::Done, b"\x81\x02"),
     ];
     for (message, bytes) in written {
-        let out = write_alive(rt.alloc(), &message)?;
-        assert!(rt; out.as_slice() == bytes, "at {bytes:?}");
+        assert!(rt; is_written(rt.alloc(), message, bytes)?, "at {bytes:?}");
     }
     Ok(())
 }
@@ -95,6 +118,12 @@ fn is_read(alloc: Global, bytes: &[u8], wanted: Option<Share>) -> Result<bool, O
     Ok(read_share(alloc, bytes)? == wanted)
 }
 
+// Whether a request is written so.
+fn is_written_request(alloc: Global, number: u64, bytes: &[u8]) -> Result<bool, OutOfMemory> {
+    let out = write_request(alloc, number)?;
+    Ok(out.as_slice() == bytes)
+}
+
 #[test]
 fn requests_are_read_and_written(rt: HostRuntime) -> Result<(), Fail> {
     let rows: [(&[u8], u64); 4] = [
@@ -108,13 +137,24 @@ fn requests_are_read_and_written(rt: HostRuntime) -> Result<(), Fail> {
             is_read(rt.alloc(), bytes, Some(Share::Request(number)))?,
             "at {bytes:?}"
         );
-        let out = write_request(rt.alloc(), number)?;
-        assert!(rt; out.as_slice() == bytes, "at {bytes:?}");
+        assert!(rt;
+            is_written_request(rt.alloc(), number, bytes)?,
+            "at {bytes:?}"
+        );
     }
     let to_break = b"\x9f\x18\x00\x05\xff";
     assert!(rt; is_read(rt.alloc(), to_break, Some(Share::Request(5)))?);
     assert!(rt; is_read(rt.alloc(), b"\x81\x02", Some(Share::Done))?);
     Ok(())
+}
+
+// Whether bytes are read as a peers message of these addresses.
+fn are_peers(alloc: Global, bytes: &[u8], addrs: &[Addr]) -> Result<bool, OutOfMemory> {
+    let read = read_share(alloc, bytes)?;
+    Ok(match &read {
+        Some(Share::Peers(peers)) => peers.as_slice() == addrs,
+        _ => false,
+    })
 }
 
 // Bytes are read as a peers message of these addresses.
@@ -124,13 +164,15 @@ fn expect_peers(
     bytes: &[u8],
     addrs: &[Addr],
 ) -> Result<(), OutOfMemory> {
-    let read = read_share(alloc, bytes)?;
-    let same = match &read {
-        Some(Share::Peers(peers)) => peers.as_slice() == addrs,
-        _ => false,
-    };
+    let same = are_peers(alloc, bytes, addrs)?;
     assert!(rt; same, "at {bytes:?}");
     Ok(())
+}
+
+// Whether a peers message of these addresses is written so.
+fn are_written(alloc: Global, addrs: &[Addr], bytes: &[u8]) -> Result<bool, OutOfMemory> {
+    let out = write_peers(alloc, addrs)?;
+    Ok(out.as_slice() == bytes)
 }
 
 #[test]
@@ -156,8 +198,7 @@ fn addresses_are_read_and_written(rt: HostRuntime) -> Result<(), Fail> {
     ];
     for (bytes, addrs) in written {
         expect_peers(&rt, alloc, bytes, addrs)?;
-        let out = write_peers(alloc, addrs)?;
-        assert!(rt; out.as_slice() == bytes, "at {bytes:?}");
+        assert!(rt; are_written(alloc, addrs, bytes)?, "at {bytes:?}");
     }
     // eight elements, of which two are passed over
     let longer =
@@ -217,6 +258,12 @@ fn five_and_levels(alloc: Global, levels: usize) -> Result<Vec<u8>, AllocError> 
     Ok(item)
 }
 
+// The number of such an array.
+fn number_before_levels(alloc: Global, levels: usize) -> Result<Option<u64>, AllocError> {
+    let item = five_and_levels(alloc, levels)?;
+    Ok(first_number(&item))
+}
+
 #[test]
 fn first_numbers(rt: HostRuntime) -> Result<(), Fail> {
     let rows: [(&[u8], Option<u64>); 18] = [
@@ -249,7 +296,7 @@ fn first_numbers(rt: HostRuntime) -> Result<(), Fail> {
     }
     // behind the number nothing is looked at
     assert!(rt; item_number(b"\x82\x04\x1c") == Some(4));
-    assert!(rt; first_number(&five_and_levels(rt.alloc(), 63)?) == Some(5));
-    assert!(rt; first_number(&five_and_levels(rt.alloc(), 64)?).is_none());
+    assert!(rt; number_before_levels(rt.alloc(), 63)? == Some(5));
+    assert!(rt; number_before_levels(rt.alloc(), 64)?.is_none());
     Ok(())
 }

@@ -1,10 +1,29 @@
-use net_base::{Addr, Agreed, Cid, Facts, FaultKind, Grace, Ip, Phase, Provenance, Responders};
+use net_base::{
+    Addr, Agreed, Cid, Facts, FaultKind, Grace, Ip, OutOfMemory, Phase, Provenance, Responders,
+};
 use remote_watch::{RemoteTemp, Reply, Seen, WatchRefusal, remote_temp, reply_bytes, watch};
+use std::alloc::Global;
 use std::test::Fail;
 
 const GOES_ON: bool = false;
 
 const DONE: bool = true;
+
+// Whether an item is seen so.
+fn is_seen(alloc: Global, id: u16, item: &[u8], seen: Seen) -> bool {
+    watch(alloc, id, true, item) == Ok(seen)
+}
+
+// Whether a reply, to be told of these peers, has these bytes.
+fn has_bytes(
+    alloc: Global,
+    reply: &Reply,
+    peers: &[Addr],
+    bytes: &[u8],
+) -> Result<bool, OutOfMemory> {
+    let out = reply_bytes(alloc, reply, peers)?;
+    Ok(out.as_slice() == bytes)
+}
 
 // What side 0 may send, line by line, and what it is answered.
 #[test]
@@ -50,18 +69,17 @@ fn what_an_initiator_may_send(rt: HostRuntime) -> Result<(), Fail> {
         (2, b"\x98\x01\x19\x00\x07", DONE, Reply::Nothing, b""),
     ];
     for (id, item, done, reply, bytes) in rows {
-        let seen = watch(rt.alloc(), id, true, item);
-        assert!(rt; seen == Ok(Seen { done, reply }), "on {id} at {item:?}");
-        let out = reply_bytes(rt.alloc(), &reply, &[])?;
-        assert!(rt; out.as_slice() == bytes, "on {id} at {item:?}");
+        let same = is_seen(rt.alloc(), id, item, Seen { done, reply });
+        assert!(rt; same, "on {id} at {item:?}");
+        let same = has_bytes(rt.alloc(), &reply, &[], bytes)?;
+        assert!(rt; same, "on {id} at {item:?}");
     }
     let peer = Addr {
         ip: Ip::V4(0x7f00_0001),
         port: 3003,
     };
-    let told = reply_bytes(rt.alloc(), &Reply::Share(5), &[peer])?;
     let wanted = b"\x82\x01\x81\x83\x00\x1a\x7f\x00\x00\x01\x19\x0b\xbb";
-    assert!(rt; told.as_slice() == wanted.as_slice());
+    assert!(rt; has_bytes(rt.alloc(), &Reply::Share(5), &[peer], wanted)?);
     Ok(())
 }
 

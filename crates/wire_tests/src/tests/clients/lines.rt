@@ -1,7 +1,6 @@
 use super::*;
 use io_edge::{MemSink, MemSource};
 use net_base::{NumberList, RefusalKind};
-use std::process::Abort;
 
 const OPENED: &[u8] = b"joined
 joined
@@ -49,37 +48,46 @@ fn sink(alloc: Global) -> Result<MemSink, OutOfMemory> {
     MemSink::new(alloc, 1000, NumberList::new(alloc))
 }
 
+// What a run comes to.
+fn outcome(alloc: Global, src: &mut MemSource, out: &mut MemSink) -> ClientOutcome {
+    clients_run(alloc, RULES, src, out)
+}
+
+// A run comes to the end of its input, and a text is written.
+fn comes_to_its_end(
+    rt: &impl Abort,
+    alloc: Global,
+    src: &mut MemSource,
+    out: &mut MemSink,
+    text: &[u8],
+) {
+    assert!(rt; outcome(alloc, src, out) == ClientOutcome::Done);
+    assert!(rt; out.bytes() == text);
+}
+
 // An input comes to its end, and a text is written.
-fn expect_told<R: Abort>(
-    rt: &R,
+fn expect_told(
+    rt: &impl Abort,
     alloc: Global,
     input: &[u8],
     text: &[u8],
 ) -> Result<(), OutOfMemory> {
     let mut src = source(alloc, input)?;
     let mut out = sink(alloc)?;
-    let came = clients_run(alloc, RULES, &mut src, &mut out);
-    assert!(rt; came == ClientOutcome::Done);
-    assert!(rt; out.bytes() == text);
+    comes_to_its_end(rt, alloc, &mut src, &mut out, text);
     Ok(())
 }
 
-// An input is refused so.
-fn expect_refused<R: Abort>(
-    rt: &R,
+// Whether an input is refused so.
+fn is_refused(
     alloc: Global,
     input: &[u8],
     line: u64,
     kind: RefusalKind,
-) -> Result<(), OutOfMemory> {
+) -> Result<bool, OutOfMemory> {
     let mut src = source(alloc, input)?;
     let mut out = sink(alloc)?;
-    let came = clients_run(alloc, RULES, &mut src, &mut out);
-    assert!(rt;
-        came == ClientOutcome::Refused { line, kind },
-        "at {input:?}"
-    );
-    Ok(())
+    Ok(outcome(alloc, &mut src, &mut out) == ClientOutcome::Refused { line, kind })
 }
 
 #[test]
@@ -108,7 +116,7 @@ fn lines_that_are_refused(rt: HostRuntime) -> Result<(), Fail> {
     ];
     let alloc = rt.alloc();
     for (input, line, kind) in cases {
-        expect_refused(&rt, alloc, input, line, kind)?;
+        assert!(rt; is_refused(alloc, input, line, kind)?, "at {input:?}");
     }
     Ok(())
 }

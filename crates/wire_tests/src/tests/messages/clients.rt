@@ -5,7 +5,7 @@ ghost use Rattle.hs_message.specs.Canonical.{IsOwnTableBy, IsClientOwn, CanWrite
 
 use super::{accepted, declined, foreign, no_common, proposal, query_reply};
 use hs_message::{
-    Info, Message, Offer, ReadRefusal, Table, VersionInfo, read_client_message, read_message,
+    Info, Message, Offer, ReadRefusal, Table, VersionInfo, read_client_message,
     write_client_message,
 };
 use net_base::OutOfMemory;
@@ -48,6 +48,14 @@ const QUERY_REPLY: &[u8] = b"\x82\x03\xa2\x19\x80\x10\x82\x18\x2a\xf4\x19\x80\x1
 
 const DECLINED: &[u8] = b"\x82\x02\x83\x02\x19\x80\x11\x75network magic differs";
 
+// Whether a message is written so.
+fn writes(alloc: Global, message: &Message, bytes: &[u8]) -> Result<bool, OutOfMemory>
+    requires { CanWriteToClient message.now }
+{
+    let written = write_client_message(alloc, message)?;
+    Ok(written.as_slice() == bytes)
+}
+
 // A message is written so.
 fn expect_written(
     rt: &impl Abort,
@@ -57,8 +65,8 @@ fn expect_written(
 ) -> Result<(), Fail>
     requires { CanWriteToClient message }
 {
-    let written = write_client_message(alloc, &message)?;
-    assert!(rt; written.as_slice() == bytes, "at {bytes:?}");
+    let same = writes(alloc, &message, bytes)?;
+    assert!(rt; same, "at {bytes:?}");
     Ok(())
 }
 
@@ -87,6 +95,23 @@ fn known(version: u64, magic: u32, query: bool) -> Offer {
     }
 }
 
+// Whether bytes are read as a message of a client.
+fn reads(alloc: Global, bytes: &[u8], want: &Message) -> bool {
+    match &read_client_message(alloc, bytes) {
+        Ok(read) => *read == *want,
+        Err(_) => false,
+    }
+}
+
+// Whether bytes are read as the accept of an offer.
+fn reads_accept(alloc: Global, bytes: &[u8], offer: Offer) -> bool {
+    reads(alloc, bytes, &accepted(offer))
+}
+
+fn is_no_message(alloc: Global, bytes: &[u8]) -> bool {
+    read_client_message(alloc, bytes) == Err(ReadRefusal::NotAMessage)
+}
+
 // The bytes are read as a message of a client.
 fn assert_read(
     rt: &impl Abort,
@@ -94,11 +119,8 @@ fn assert_read(
     bytes: &[u8],
     want: Result<Message, OutOfMemory>,
 ) -> Result<(), Fail> {
-    let want = want?;
-    assert!(rt;
-        read_client_message(alloc, bytes) == Ok(want),
-        "at {bytes:?}"
-    );
+    let same = reads(alloc, bytes, &want?);
+    assert!(rt; same, "at {bytes:?}");
     Ok(())
 }
 
@@ -108,17 +130,14 @@ fn messages_of_clients_are_read(rt: HostRuntime) -> Result<(), Fail> {
     let own = [known(32784, 42, false), known(32785, 42, false)];
     assert_read(&rt, alloc, PROPOSAL, proposal(alloc, &own))?;
     assert_read(&rt, alloc, QUERY_REPLY, query_reply(alloc, &own))?;
-    let read = read_client_message(alloc, ACCEPT);
-    assert!(rt; read == Ok(accepted(known(32785, 42, false))));
+    assert!(rt; reads_accept(alloc, ACCEPT, known(32785, 42, false)));
     // heads of every width, the greatest magic, and query
-    let read = read_client_message(
-        alloc,
-        b"\x98\x03\x01\x1a\x00\x00\x80\x10\x99\x00\x02\x1b\x00\x00\x00\x00\xff\xff\xff\xff\xf5",
-    );
-    assert!(rt; read == Ok(accepted(known(32784, 4_294_967_295, true))));
+    let wide =
+        b"\x98\x03\x01\x1a\x00\x00\x80\x10\x99\x00\x02\x1b\x00\x00\x00\x00\xff\xff\xff\xff\xf5";
+    assert!(rt; reads_accept(alloc, wide, known(32784, 4_294_967_295, true)));
     // keys that do not rise
-    let read = read_client_message(alloc, b"\x82\x00\xa2\x19\x80\x11\x00\x19\x80\x10\x00");
-    assert!(rt; read == Err(ReadRefusal::NotAMessage));
+    let falling = b"\x82\x00\xa2\x19\x80\x11\x00\x19\x80\x10\x00";
+    assert!(rt; is_no_message(alloc, falling));
     Ok(())
 }
 
@@ -139,22 +158,25 @@ fn every_other_info_of_a_client_is_foreign(rt: HostRuntime) {
         b"\x83\x01\x19\x80\x11\xa0",
     ];
     for bytes in accepts {
-        let read = read_client_message(rt.alloc(), bytes);
-        assert!(rt; read == Ok(accepted(foreign(32785))), "at {bytes:?}");
+        assert!(rt;
+            reads_accept(rt.alloc(), bytes, foreign(32785)),
+            "at {bytes:?}"
+        );
     }
 }
 
 #[test]
 fn neither_handshake_knows_the_versions_of_the_other(rt: HostRuntime) {
-    let read = read_message(rt.alloc(), ACCEPT);
-    assert!(rt; read == Ok(accepted(foreign(32785))));
+    assert!(rt; super::reads_accept(rt.alloc(), ACCEPT, foreign(32785)));
     let cases: [(&[u8], u64); 3] = [
         (b"\x83\x01\x0e\x84\x18\x2a\xf4\x01\xf4", 14),
         (b"\x83\x01\x0e\x82\x18\x2a\xf4", 14),
         (b"\x83\x01\x19\x80\x0f\x82\x18\x2a\xf4", 32783),
     ];
     for (bytes, version) in cases {
-        let read = read_client_message(rt.alloc(), bytes);
-        assert!(rt; read == Ok(accepted(foreign(version))), "at {bytes:?}");
+        assert!(rt;
+            reads_accept(rt.alloc(), bytes, foreign(version)),
+            "at {bytes:?}"
+        );
     }
 }
