@@ -20,6 +20,34 @@ fn numbers(alloc: Global, numbers: &[u64]) -> Result<NumberList, OutOfMemory> {
     Ok(NumberList::from_vec(numbers.to_vec(alloc)?))
 }
 
+// A text in pieces of this size; the calls of these numbers fail.
+fn source(
+    alloc: Global,
+    text: &[u8],
+    piece: usize,
+    failing: &[u64],
+) -> Result<MemSource, OutOfMemory>
+    requires { 1 ≤ piece }
+{
+    let text = octets(alloc, text)?;
+    Ok(MemSource::new(text, piece, numbers(alloc, failing)?))
+}
+
+fn sink(alloc: Global, room: usize, failing: &[u64]) -> Result<MemSink, OutOfMemory> {
+    MemSink::new(alloc, room, numbers(alloc, failing)?)
+}
+
+// What comes next of an input: how long its line is, or that it is over.
+fn next_length<S: Source>(
+    reader: &mut LineReader,
+    src: &mut S,
+) -> Result<Option<usize>, LineFault> {
+    match reader.next_line(src)? {
+        Got::Line(line) => Ok(Some(line.as_slice().len())),
+        Got::Over => Ok(None),
+    }
+}
+
 // What a reader gave: each line with a bar behind it, and how often it answered that the source failed.
 #[derive(Drop)]
 struct Heard {
@@ -35,22 +63,43 @@ impl Heard {
     }
 }
 
+// Hears what comes next, and answers whether the input goes on.
+fn hear_next<S: Source>(
+    reader: &mut LineReader,
+    src: &mut S,
+    heard: &mut Heard,
+) -> Result<bool, Fail> {
+    match reader.next_line(src) {
+        Ok(Got::Line(line)) => heard.add(line.as_slice())?,
+        Ok(Got::Over) => return Ok(false),
+        Err(LineFault::Failed) => heard.faults = heard.faults.saturating_add(1),
+        Err(_) => return Err("another fault than the source's".into()),
+    }
+    Ok(true)
+}
+
 // Reads lines until the input is over, and asks again after each fault of the source.
+fn hear_all<S: Source>(
+    reader: &mut LineReader,
+    src: &mut S,
+    heard: &mut Heard,
+) -> Result<(), Fail> {
+    for _ in 0..1000 {
+        if !hear_next(reader, src, heard)? {
+            return Ok(());
+        }
+    }
+    Err("the input has no end".into())
+}
+
 fn hear<S: Source>(alloc: Global, src: &mut S) -> Result<Heard, Fail> {
     let mut reader = LineReader::new(alloc)?;
     let mut heard = Heard {
         lines: Vec::new(alloc),
         faults: 0,
     };
-    for _ in 0..1000 {
-        match reader.next_line(src) {
-            Ok(Got::Line(line)) => heard.add(line.as_slice())?,
-            Ok(Got::Over) => return Ok(heard),
-            Err(LineFault::Failed) => heard.faults = heard.faults.saturating_add(1),
-            Err(_) => return Err("another fault than the source's".into()),
-        }
-    }
-    Err("the input has no end".into())
+    hear_all(&mut reader, src, &mut heard)?;
+    Ok(heard)
 }
 
 // Whether these lines are heard of a text that is given in pieces of this size.
@@ -76,13 +125,18 @@ fn the_lines_do_not_depend_on_the_pieces(rt: HostRuntime) -> Result<(), Fail> {
     Ok(())
 }
 
-// 26 bytes in pieces of 3, and the call that finds the end, where one call fails.
-fn expect_all_heard(rt: &impl Abort, alloc: Global, failing: u64) -> Result<(), Fail> {
-    let mut src = MemSource::new(octets(alloc, INPUT)?, 3, numbers(alloc, &[failing])?);
-    let heard = hear(alloc, &mut src)?;
+// All was heard, in so many calls of which one failed.
+fn expect_heard(rt: &impl Abort, heard: &Heard, calls: u64, failing: u64) {
     assert!(rt; heard.lines.as_slice() == LINES, "{failing}");
     assert!(rt; heard.faults == 1, "{failing}");
-    assert!(rt; src.calls() == 11, "{failing}");
+    assert!(rt; calls == 11, "{failing}");
+}
+
+// 26 bytes in pieces of 3, and the call that finds the end, where one call fails.
+fn expect_all_heard(rt: &impl Abort, alloc: Global, failing: u64) -> Result<(), Fail> {
+    let mut src = source(alloc, INPUT, 3, &[failing])?;
+    let heard = hear(alloc, &mut src)?;
+    expect_heard(rt, &heard, src.calls(), failing);
     Ok(())
 }
 
@@ -94,17 +148,21 @@ fn a_call_that_fails_costs_no_byte(rt: HostRuntime) -> Result<(), Fail> {
     Ok(())
 }
 
-#[test]
-fn no_call_is_made_once_a_line_is_there(rt: HostRuntime) -> Result<(), Fail> {
-    let alloc = rt.alloc();
-    let mut src = MemSource::new(octets(alloc, INPUT)?, 20, numbers(alloc, &[2])?);
-    let mut reader = LineReader::new(alloc)?;
+// Three lines come of one call, the next call fails, and then the input is over.
+fn expect_lines_of_one_call(rt: &impl Abort, reader: &mut LineReader, src: &mut MemSource) {
     for _ in 0..3 {
-        assert!(rt; matches!(reader.next_line(&mut src), Ok(Got::Line(_))));
+        assert!(rt; matches!(next_length(reader, src), Ok(Some(_))));
         assert!(rt; src.calls() == 1);
     }
-    assert!(rt; matches!(reader.next_line(&mut src), Err(LineFault::Failed)));
-    assert!(rt; matches!(reader.next_line(&mut src), Ok(Got::Over)));
+    assert!(rt; next_length(reader, src) == Err(LineFault::Failed));
+    assert!(rt; next_length(reader, src) == Ok(None));
+}
+
+#[test]
+fn no_call_is_made_once_a_line_is_there(rt: HostRuntime) -> Result<(), Fail> {
+    let mut src = source(rt.alloc(), INPUT, 20, &[2])?;
+    let mut reader = LineReader::new(rt.alloc())?;
+    expect_lines_of_one_call(&rt, &mut reader, &mut src);
     Ok(())
 }
 
@@ -117,27 +175,23 @@ fn line_of(alloc: Global, count: usize, ended: bool) -> Result<Octets, AllocErro
     Ok(Octets::from_vec(bytes))
 }
 
-// What such a line is answered: how long it is, 0 where the input is over.
+// What such a line is answered.
 fn answer_of(
     alloc: Global,
     count: usize,
     ended: bool,
-) -> Result<Result<usize, LineFault>, OutOfMemory> {
+) -> Result<Result<Option<usize>, LineFault>, OutOfMemory> {
     let mut src = SureSource::new(line_of(alloc, count, ended)?, 4_096);
     let mut reader = LineReader::new(alloc)?;
-    Ok(match reader.next_line(&mut src) {
-        Ok(Got::Line(line)) => Ok(line.as_slice().len()),
-        Ok(Got::Over) => Ok(0),
-        Err(fault) => Err(fault),
-    })
+    Ok(next_length(&mut reader, &mut src))
 }
 
 #[test]
 fn a_line_has_at_most_140_000_bytes(rt: HostRuntime) -> Result<(), Fail> {
     for (count, ended, answer) in [
-        (140_000, true, Ok(140_000)),
+        (140_000, true, Ok(Some(140_000))),
         (140_001, true, Err(LineFault::TooLong)),
-        (140_000, false, Ok(0)),
+        (140_000, false, Ok(None)),
         (140_001, false, Err(LineFault::TooLong)),
     ] {
         let found = answer_of(rt.alloc(), count, ended)?;
@@ -146,31 +200,49 @@ fn a_line_has_at_most_140_000_bytes(rt: HostRuntime) -> Result<(), Fail> {
     Ok(())
 }
 
+// A line is too long as often as it is asked for, and three calls are made for it.
+fn expect_too_long(rt: &impl Abort, reader: &mut LineReader, src: &mut MemSource) {
+    for _ in 0..3 {
+        assert!(rt; next_length(reader, src) == Err(LineFault::TooLong));
+        assert!(rt; src.calls() == 3);
+    }
+}
+
 #[test]
 fn a_line_that_is_too_long_stays(rt: HostRuntime) -> Result<(), Fail> {
     let alloc = rt.alloc();
-    let bytes = Octets::from_vec(vec![in alloc; b'a'; 200_000]?);
-    let mut src = MemSource::new(bytes, 65_536, numbers(alloc, &[])?);
+    let text = vec![in alloc; b'a'; 200_000]?;
+    let mut src = source(alloc, &text, 65_536, &[])?;
     let mut reader = LineReader::new(alloc)?;
-    for _ in 0..3 {
-        assert!(rt; matches!(reader.next_line(&mut src), Err(LineFault::TooLong)));
-        assert!(rt; src.calls() == 3);
-    }
+    expect_too_long(&rt, &mut reader, &mut src);
     Ok(())
+}
+
+// A piece is put with this answer, and then the sink holds these bytes.
+fn expect_put(
+    rt: &impl Abort,
+    out: &mut MemSink,
+    piece: &[u8],
+    answer: Result<(), Failed>,
+    held: &[u8],
+) {
+    assert!(rt; put_all(out, piece) == answer);
+    assert!(rt; out.bytes() == held);
+}
+
+fn expect_pieces(rt: &impl Abort, out: &mut MemSink) {
+    expect_put(rt, out, b"abc", Ok(()), b"abc");
+    expect_put(rt, out, b"", Ok(()), b"abc");
+    expect_put(rt, out, b"def", Ok(()), b"abcdef");
+    expect_put(rt, out, b"gh", Err(Failed), b"abcdef");
+    expect_put(rt, out, b"ghi", Err(Failed), b"abcdefgh");
+    assert!(rt; out.put(b"") == Ok(0));
 }
 
 #[test]
 fn a_piece_is_taken_whole_or_up_to_a_fault(rt: HostRuntime) -> Result<(), Fail> {
-    let alloc = rt.alloc();
-    let mut out = MemSink::new(alloc, 8, numbers(alloc, &[3])?)?;
-    assert!(rt; put_all(&mut out, b"abc") == Ok(()));
-    assert!(rt; put_all(&mut out, b"") == Ok(()));
-    assert!(rt; put_all(&mut out, b"def") == Ok(()));
-    assert!(rt; put_all(&mut out, b"gh") == Err(Failed));
-    assert!(rt; out.bytes() == b"abcdef".as_slice());
-    assert!(rt; put_all(&mut out, b"ghi") == Err(Failed));
-    assert!(rt; out.bytes() == b"abcdefgh".as_slice());
-    assert!(rt; out.put(b"") == Ok(0));
+    let mut out = sink(rt.alloc(), 8, &[3])?;
+    expect_pieces(&rt, &mut out);
     Ok(())
 }
 
@@ -208,32 +280,48 @@ fn expect_read(
     Ok(())
 }
 
+fn hands_out_without_a_reading(
+    rt: &impl Abort,
+    reader: &mut LineReader,
+    src: &mut MemSource,
+    line: &mut Vec<u8>,
+) -> Result<(), Fail> {
+    expect_none_kept(rt, reader, line)?;
+    expect_read(rt, reader, src, b"first line")?;
+    expect_kept(rt, reader, line, b"")?;
+    expect_none_kept(rt, reader, line)?;
+    assert!(rt; src.calls() == 1);
+    expect_read(rt, reader, src, b"> third")?;
+    expect_none_kept(rt, reader, line)
+}
+
 #[test]
 fn a_line_that_is_kept_whole_is_handed_out_without_a_reading(rt: HostRuntime) -> Result<(), Fail> {
-    let alloc = rt.alloc();
-    let mut src = MemSource::new(octets(alloc, INPUT)?, 18, numbers(alloc, &[])?);
-    let mut reader = LineReader::new(alloc)?;
-    let mut line = b"older".to_vec(alloc)?;
-    expect_none_kept(&rt, &mut reader, &mut line)?;
-    expect_read(&rt, &mut reader, &mut src, b"first line")?;
-    expect_kept(&rt, &mut reader, &mut line, b"")?;
-    expect_none_kept(&rt, &mut reader, &mut line)?;
-    assert!(rt; src.calls() == 1);
-    expect_read(&rt, &mut reader, &mut src, b"> third")?;
-    expect_none_kept(&rt, &mut reader, &mut line)
+    let mut src = source(rt.alloc(), INPUT, 18, &[])?;
+    let mut reader = LineReader::new(rt.alloc())?;
+    let mut line = b"older".to_vec(rt.alloc())?;
+    hands_out_without_a_reading(&rt, &mut reader, &mut src, &mut line)
+}
+
+fn puts_into_one_buffer(
+    rt: &impl Abort,
+    reader: &mut LineReader,
+    src: &mut MemSource,
+    line: &mut Vec<u8>,
+) -> Result<(), Fail> {
+    expect_read(rt, reader, src, b"first")?;
+    expect_kept(rt, reader, line, b"a longer second")?;
+    expect_kept(rt, reader, line, b"last")?;
+    expect_none_kept(rt, reader, line)
 }
 
 #[test]
 fn lines_that_are_kept_are_put_into_one_buffer(rt: HostRuntime) -> Result<(), Fail> {
-    let alloc = rt.alloc();
     let text = b"first\na longer second\nlast\n";
-    let mut src = MemSource::new(octets(alloc, text)?, 65_536, numbers(alloc, &[])?);
-    let mut reader = LineReader::new(alloc)?;
-    let mut line = Vec::new(alloc);
-    expect_read(&rt, &mut reader, &mut src, b"first")?;
-    expect_kept(&rt, &mut reader, &mut line, b"a longer second")?;
-    expect_kept(&rt, &mut reader, &mut line, b"last")?;
-    expect_none_kept(&rt, &mut reader, &mut line)
+    let mut src = source(rt.alloc(), text, 65_536, &[])?;
+    let mut reader = LineReader::new(rt.alloc())?;
+    let mut line = Vec::new(rt.alloc());
+    puts_into_one_buffer(&rt, &mut reader, &mut src, &mut line)
 }
 
 // Two lines, of which one is empty.
@@ -244,36 +332,58 @@ fn two_lines(alloc: Global) -> Result<PieceWriter, OutOfMemory> {
     Ok(writer)
 }
 
-#[test]
-fn lines_are_put_in_one_piece(rt: HostRuntime) -> Result<(), Fail> {
-    let mut out = MemSink::new(rt.alloc(), 9, numbers(rt.alloc(), &[2])?)?;
-    let mut writer = two_lines(rt.alloc())?;
-    assert!(rt; out.bytes() == b"".as_slice());
-    assert!(rt; writer.put(&mut out) == Ok(()));
-    assert!(rt; out.bytes() == b"ab\n\n".as_slice());
-    // nothing is pending, so no call is made
-    assert!(rt; writer.put(&mut out) == Ok(()));
-    Ok(())
+// What is pending is put with this answer, and then the sink holds these bytes.
+fn expect_written(
+    rt: &impl Abort,
+    writer: &mut PieceWriter,
+    out: &mut MemSink,
+    answer: Result<(), Failed>,
+    held: &[u8],
+) {
+    assert!(rt; writer.put(out) == answer);
+    assert!(rt; out.bytes() == held);
 }
 
 #[test]
-fn what_found_no_room_is_still_pending(rt: HostRuntime) -> Result<(), Fail> {
-    let mut out = MemSink::new(rt.alloc(), 9, numbers(rt.alloc(), &[3])?)?;
+fn lines_are_put_in_one_piece(rt: HostRuntime) -> Result<(), Fail> {
+    let mut out = sink(rt.alloc(), 9, &[2])?;
     let mut writer = two_lines(rt.alloc())?;
-    assert!(rt; writer.put(&mut out) == Ok(()));
+    assert!(rt; out.bytes() == b"".as_slice());
+    expect_written(&rt, &mut writer, &mut out, Ok(()), b"ab\n\n");
+    // nothing is pending, so no call is made
+    expect_written(&rt, &mut writer, &mut out, Ok(()), b"ab\n\n");
+    Ok(())
+}
+
+// Two lines more, of which the last two bytes are given up.
+fn push_cut(writer: &mut PieceWriter) -> Result<(), OutOfMemory> {
     writer.push_line(b"cdefgh")?;
     writer.push_line(b"ij")?;
     writer.truncate(8);
+    Ok(())
+}
+
+fn keeps_what_found_no_room(
+    rt: &impl Abort,
+    writer: &mut PieceWriter,
+    out: &mut MemSink,
+) -> Result<(), Fail> {
+    assert!(rt; writer.put(out) == Ok(()));
+    push_cut(writer)?;
     // behind the first piece five of eight bytes find room, then a call fails
-    assert!(rt; writer.put(&mut out) == Err(Failed));
-    assert!(rt; out.bytes() == b"ab\n\ncdefg".as_slice());
+    expect_written(rt, writer, out, Err(Failed), b"ab\n\ncdefg");
     assert!(rt; writer.len() == 3);
     Ok(())
 }
 
 #[test]
-fn so_many_bytes_are_a_full_piece(rt: HostRuntime) -> Result<(), Fail> {
-    let mut writer = PieceWriter::new(rt.alloc())?;
+fn what_found_no_room_is_still_pending(rt: HostRuntime) -> Result<(), Fail> {
+    let mut out = sink(rt.alloc(), 9, &[3])?;
+    let mut writer = two_lines(rt.alloc())?;
+    keeps_what_found_no_room(&rt, &mut writer, &mut out)
+}
+
+fn is_full_at_last(rt: &impl Abort, writer: &mut PieceWriter) -> Result<(), Fail> {
     for _ in 0..65_535 {
         writer.push_line(b"")?;
     }
@@ -284,15 +394,25 @@ fn so_many_bytes_are_a_full_piece(rt: HostRuntime) -> Result<(), Fail> {
 }
 
 #[test]
-fn lines_are_given_up_from_the_front(rt: HostRuntime) -> Result<(), Fail> {
-    let none = PieceWriter::new(rt.alloc())?;
-    assert!(rt; none.first_line().is_none());
-    let mut writer = two_lines(rt.alloc())?;
+fn so_many_bytes_are_a_full_piece(rt: HostRuntime) -> Result<(), Fail> {
+    let mut writer = PieceWriter::new(rt.alloc())?;
+    is_full_at_last(&rt, &mut writer)
+}
+
+fn gives_up_from_the_front(rt: &impl Abort, writer: &mut PieceWriter) {
     assert!(rt; writer.first_line() == Some(b"ab".as_slice()));
     writer.skip(3);
     assert!(rt; writer.first_line() == Some(b"".as_slice()));
     writer.skip(7);
     assert!(rt; writer.first_line().is_none());
     assert!(rt; writer.len() == 0);
+}
+
+#[test]
+fn lines_are_given_up_from_the_front(rt: HostRuntime) -> Result<(), Fail> {
+    let none = PieceWriter::new(rt.alloc())?;
+    assert!(rt; none.first_line().is_none());
+    let mut writer = two_lines(rt.alloc())?;
+    gives_up_from_the_front(&rt, &mut writer);
     Ok(())
 }

@@ -95,7 +95,7 @@ struct FlowWorld {
     ended: u64,
 }
 
-fn opened(alloc: Global, seed: u64, announce: bool) -> Result<FlowWorld, OutOfMemory> {
+fn new_flow(alloc: Global, announce: bool) -> Result<SocketFlow, OutOfMemory> {
     let terms = Terms {
         own: local(3001),
         announce,
@@ -105,9 +105,13 @@ fn opened(alloc: Global, seed: u64, announce: bool) -> Result<FlowWorld, OutOfMe
         tick: 1000,
         rootttl: 1000,
     };
+    SocketFlow::new(alloc, terms, &AddrList::new(alloc))
+}
+
+fn opened(alloc: Global, seed: u64, announce: bool) -> Result<FlowWorld, OutOfMemory> {
     Ok(FlowWorld {
         alloc,
-        flow: SocketFlow::new(alloc, terms, &AddrList::new(alloc))?,
+        flow: new_flow(alloc, announce)?,
         words: Pcg64::seed_from_u64(seed),
         peers: HashMap::new(alloc),
         announces: announce,
@@ -147,18 +151,23 @@ fn accept(world: &mut FlowWorld) -> Result<(), OutOfMemory> {
     Ok(())
 }
 
-// What a peer says at once, at most so much.
-fn said(world: &mut FlowWorld, key: usize, most: usize) -> Result<Vec<u8>, OutOfMemory> {
-    let count = most.min(1 + (below(world, 200) % 200) as usize);
-    let mut bytes = Vec::new(world.alloc);
-    let Some(peer) = world.peers.get_mut(&key) else {
-        return Ok(bytes);
-    };
+// A peer says so many bytes, or all that it has to say.
+fn say(peer: &mut Peer, count: usize, bytes: &mut Vec<u8>) -> Result<(), OutOfMemory> {
     for _ in 0..count {
         let Some(byte) = next_byte(peer) else {
             break;
         };
         bytes.push(byte)?;
+    }
+    Ok(())
+}
+
+// What a peer says at once, at most so much.
+fn said(world: &mut FlowWorld, key: usize, most: usize) -> Result<Vec<u8>, OutOfMemory> {
+    let count = most.min(1 + (below(world, 200) % 200) as usize);
+    let mut bytes = Vec::new(world.alloc);
+    if let Some(peer) = world.peers.get_mut(&key) {
+        say(peer, count, &mut bytes)?;
     }
     Ok(bytes)
 }
@@ -179,10 +188,15 @@ fn read(world: &mut FlowWorld, key: usize, most: usize) -> Result<(), OutOfMemor
         return world.flow.ended(key);
     }
     let bytes = said(world, key, most)?;
+    hear(world, key, &bytes)
+}
+
+// These bytes come, or none and the socket has ended.
+fn hear(world: &mut FlowWorld, key: usize, bytes: &[u8]) -> Result<(), OutOfMemory> {
     if bytes.is_empty() || bytes.len() > 65_536 {
         return world.flow.ended(key);
     }
-    match world.flow.came(key, bytes.as_slice())? {
+    match world.flow.came(key, bytes)? {
         Some(event) => tell(world, &event),
         None => Ok(()),
     }
@@ -227,6 +241,16 @@ fn key_of(cid: Cid) -> usize {
     usize::try_from(cid.0.saturating_sub(1)).unwrap_or(0)
 }
 
+// So many bytes, which go on where the node's last answer ended.
+fn next_answer(alloc: Global, peer: &mut Peer, count: usize) -> Result<Octets, OutOfMemory> {
+    let mut answer = Octets::new(alloc);
+    for _ in 0..count {
+        answer.push(peer.sends)?;
+        peer.sends = peer.sends.wrapping_add(1);
+    }
+    Ok(answer)
+}
+
 // Bytes that the node is told go on where the last ended, and it answers with bytes that do.
 fn heard(world: &mut FlowWorld, cid: Cid, bytes: &[u8]) -> Result<(), OutOfMemory> {
     let count = (below(world, 300) % 300) as usize;
@@ -237,11 +261,7 @@ fn heard(world: &mut FlowWorld, cid: Cid, bytes: &[u8]) -> Result<(), OutOfMemor
     let (holds, next) = counts_up(bytes, peer.told);
     let holds = holds && !peer.is_over;
     peer.told = next;
-    let mut answer = Octets::new(world.alloc);
-    for _ in 0..count {
-        answer.push(peer.sends)?;
-        peer.sends = peer.sends.wrapping_add(1);
-    }
+    let answer = next_answer(world.alloc, peer, count)?;
     world.told = world.told.saturating_add(bytes.len() as u64);
     expect(world, holds);
     world.flow.act(&Action::Send(cid, answer))

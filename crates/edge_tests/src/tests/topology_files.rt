@@ -1,6 +1,6 @@
 use net_base::{Addr, AddrList, Field, Group, GroupList, Ip, OutOfMemory};
 use node_settings::{Topology, TopologyRefusal, read_topology};
-use std::alloc::Global;
+use std::alloc::{AllocError, Global};
 use std::process::Abort;
 use std::test::Fail;
 
@@ -27,6 +27,44 @@ fn group(
     })
 }
 
+// What a file says.
+fn topology(alloc: Global, text: &str) -> Result<Topology, Fail> {
+    Ok(read_topology(alloc, text.as_bytes())?)
+}
+
+// Why a file is refused.
+fn refusal_of(alloc: Global, text: &[u8]) -> Option<TopologyRefusal> {
+    read_topology(alloc, text).err()
+}
+
+// A file says so.
+fn expect_topology(
+    rt: &impl Abort,
+    alloc: Global,
+    text: &str,
+    wanted: &Topology,
+) -> Result<(), Fail> {
+    let found = topology(alloc, text)?;
+    assert!(rt; found == *wanted, "{text}");
+    Ok(())
+}
+
+// A file gives these groups, no public root, and so many names.
+fn expect_groups(
+    rt: &impl Abort,
+    alloc: Global,
+    text: &str,
+    groups: GroupList,
+    unresolved: u64,
+) -> Result<(), Fail> {
+    let wanted = Topology {
+        groups,
+        publics: AddrList::new(alloc),
+        unresolved,
+    };
+    expect_topology(rt, alloc, text, &wanted)
+}
+
 fn expect_group(
     rt: &impl Abort,
     alloc: Global,
@@ -36,14 +74,12 @@ fn expect_group(
 ) -> Result<(), Fail> {
     let mut groups = GroupList::new(alloc);
     groups.push(wanted)?;
-    let wanted = Topology {
-        groups,
-        publics: AddrList::new(alloc),
-        unresolved,
-    };
-    let found = read_topology(alloc, text.as_bytes())?;
-    assert!(rt; found == wanted, "{text}");
-    Ok(())
+    expect_groups(rt, alloc, text, groups, unresolved)
+}
+
+fn push_usual(alloc: Global, groups: &mut GroupList) -> Result<(), OutOfMemory> {
+    groups.push(group(alloc, 1, 2, false, &[peer(3002), peer(3003)])?)?;
+    groups.push(group(alloc, 1, 1, true, &[peer(3004)])?)
 }
 
 #[test]
@@ -56,29 +92,25 @@ fn a_file_of_the_usual_shape_is_read(rt: HostRuntime) -> Result<(), Fail> {
  "publicRoots":[{"accessPoints":[{"address":"relays.example","port":3001}],"advertise":false}],
  "useLedgerAfterSlot":128908827}"#;
     let mut groups = GroupList::new(alloc);
-    groups.push(group(alloc, 1, 2, false, &[peer(3002), peer(3003)])?)?;
-    groups.push(group(alloc, 1, 1, true, &[peer(3004)])?)?;
-    let wanted = Topology {
-        groups,
-        publics: AddrList::new(alloc),
-        unresolved: 1,
-    };
-    let found = read_topology(alloc, text.as_bytes())?;
-    assert!(rt; found == wanted, "{text}");
-    Ok(())
+    push_usual(alloc, &mut groups)?;
+    expect_groups(&rt, alloc, text, groups, 1)
+}
+
+// A topology has these public roots, this many names, and no group.
+fn expect_publics(rt: &impl Abort, found: &Topology, publics: &[Addr], unresolved: u64) {
+    assert!(rt; found.publics.as_slice() == publics);
+    assert!(rt; found.unresolved == unresolved);
+    assert!(rt; found.groups.as_slice().is_empty());
 }
 
 #[test]
 fn public_roots_are_joined_in_file_order(rt: HostRuntime) -> Result<(), Fail> {
-    let alloc = rt.alloc();
     let text = r#"{"publicRoots":[
  {"accessPoints":[{"address":"localhost","port":2},{"address":"x","port":0}]},
  {"accessPoints":[]},
  {"accessPoints":[{"address":"y","port":65535},{"address":"127.0.0.1","port":1}]}]}"#;
-    let found = read_topology(alloc, text.as_bytes())?;
-    assert!(rt; found.publics.as_slice() == [peer(2), peer(1)].as_slice());
-    assert!(rt; found.unresolved == 2);
-    assert!(rt; found.groups.as_slice().is_empty());
+    let found = topology(rt.alloc(), text)?;
+    expect_publics(&rt, &found, &[peer(2), peer(1)], 2);
     Ok(())
 }
 
@@ -109,7 +141,7 @@ fn valencies_have_defaults(rt: HostRuntime) -> Result<(), Fail> {
 // The answer to a file with one local root of these members.
 fn expect_refused(rt: &impl Abort, alloc: Global, members: &str, field: Field) -> Result<(), Fail> {
     let text = format!(in alloc; "{{\"localRoots\":[{{{members}}}]}}")?;
-    let found = read_topology(alloc, text.as_bytes()).err();
+    let found = refusal_of(alloc, text.as_bytes());
     assert!(rt;
         found == Some(TopologyRefusal::BadSetting(field)),
         "{members}"
@@ -202,20 +234,30 @@ fn what_is_wrong_outside_a_root_is_named_too(rt: HostRuntime) {
         (b"{\"publicRoots\":[{}]}", bad(Field::AccessPoints)),
     ];
     for (text, refusal) in &texts {
-        let found = read_topology(rt.alloc(), *text).err();
+        let found = refusal_of(rt.alloc(), text);
         assert!(rt; found == Some(*refusal), "{text:?}");
     }
 }
 
+// Adds one byte so often.
+fn push_times(alloc: Global, text: &mut Vec<u8>, byte: u8, times: usize) -> Result<(), AllocError> {
+    let bytes = vec![in alloc; byte; times]?;
+    text.extend_from_slice(&bytes)
+}
+
+// Adds so many arrays one inside the other, and the end of a member.
+fn push_nested(alloc: Global, text: &mut Vec<u8>, depth: usize) -> Result<(), AllocError> {
+    push_times(alloc, text, b'[', depth)?;
+    push_times(alloc, text, b']', depth)?;
+    text.push(b'}')?;
+    Ok(())
+}
+
 // A file with a member that is ignored, of so many arrays one inside the other.
 fn answer_to_nesting(alloc: Global, depth: usize) -> Result<Option<TopologyRefusal>, Fail> {
-    let open = vec![in alloc; b'['; depth]?;
-    let close = vec![in alloc; b']'; depth]?;
     let mut text = b"{\"x\":".to_vec(alloc)?;
-    text.extend_from_slice(&open)?;
-    text.extend_from_slice(&close)?;
-    text.push(b'}')?;
-    Ok(read_topology(alloc, &text).err())
+    push_nested(alloc, &mut text, depth)?;
+    Ok(refusal_of(alloc, &text))
 }
 
 #[test]

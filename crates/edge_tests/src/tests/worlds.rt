@@ -98,16 +98,26 @@ fn opened_script(alloc: Global, failing: &[u64]) -> Result<ScriptWorld, Fail>
     }
 }
 
+fn gives_and_keeps(
+    rt: &impl Abort,
+    world: &mut ScriptWorld,
+    actions: &[Action; 2],
+) -> Result<(), Fail>
+    requires { is_some world.old.opening ≡ true }
+{
+    expect_event(rt, world, Event::Now(5))?;
+    expect_act(rt, world, &actions[0], Ok(()))?;
+    expect_act(rt, world, &actions[1], Ok(()))?;
+    assert!(rt; world.done().as_slice() == actions.as_slice());
+    Ok(())
+}
+
 #[test]
 fn a_script_gives_its_events_and_keeps_what_was_done(rt: HostRuntime) -> Result<(), Fail> {
     let alloc = rt.alloc();
     let actions = [Action::Dial(Cid(2), peer(5)), sent(alloc, 2, b"\x07")?];
     let mut world = opened_script(alloc, &[])?;
-    expect_event(&rt, &mut world, Event::Now(5))?;
-    expect_act(&rt, &mut world, &actions[0], Ok(()))?;
-    expect_act(&rt, &mut world, &actions[1], Ok(()))?;
-    assert!(rt; world.done().as_slice() == actions.as_slice());
-    Ok(())
+    gives_and_keeps(&rt, &mut world, &actions)
 }
 
 // The world answers this when it is asked for a pause.
@@ -122,16 +132,22 @@ fn expect_pause<W: World>(
     expect_act(rt, world, &Action::Pause(9), wanted)
 }
 
+fn fails_at_the_third_call(rt: &impl Abort, world: &mut ScriptWorld) -> Result<(), Fail>
+    requires { is_some world.old.opening ≡ true }
+{
+    expect_event(rt, world, Event::Now(5))?;
+    expect_pause(rt, world, Ok(()))?;
+    expect_pause(rt, world, Err(WorldRefusal::Failed))?;
+    expect_event(rt, world, Event::Closed(Cid(1)))?;
+    expect_next(rt, world, Ok(Next::End))?;
+    assert!(rt; world.done().as_slice() == [Action::Pause(9)].as_slice());
+    Ok(())
+}
+
 #[test]
 fn calls_of_a_script_fail_by_their_numbers(rt: HostRuntime) -> Result<(), Fail> {
     let mut world = opened_script(rt.alloc(), &[3])?;
-    expect_event(&rt, &mut world, Event::Now(5))?;
-    expect_pause(&rt, &mut world, Ok(()))?;
-    expect_pause(&rt, &mut world, Err(WorldRefusal::Failed))?;
-    expect_event(&rt, &mut world, Event::Closed(Cid(1)))?;
-    expect_next(&rt, &mut world, Ok(Next::End))?;
-    assert!(rt; world.done().as_slice() == [Action::Pause(9)].as_slice());
-    Ok(())
+    fails_at_the_third_call(&rt, &mut world)
 }
 
 fn locals(alloc: Global) -> Result<Event, OutOfMemory> {
@@ -159,27 +175,51 @@ fn expect_beginning(rt: &impl Abort, alloc: Global, town: &mut TownWorld) -> Res
 
 const ALIVE_DONE: &[u8] = b"\0\0\0\0\0\x08\0\x02\x81\x02";
 
+// The town says these bytes.
+fn expect_bytes(
+    rt: &impl Abort,
+    alloc: Global,
+    town: &mut TownWorld,
+    cid: u64,
+    bytes: &[u8],
+) -> Result<(), Fail> {
+    expect_event(rt, town, received(alloc, cid, bytes)?)
+}
+
+// The town takes these bytes.
+fn expect_send(
+    rt: &impl Abort,
+    alloc: Global,
+    town: &mut TownWorld,
+    bytes: &[u8],
+) -> Result<(), Fail> {
+    expect_act(rt, town, &sent(alloc, 3, bytes)?, Ok(()))
+}
+
 // What seed 7 draws was made by a program of another language, which has PCG64 (XSL RR 128/64) and its seeding by PCG32
 // as their C code has them.
 fn expect_drawn(rt: &impl Abort, alloc: Global, town: &mut TownWorld) -> Result<(), Fail> {
-    expect_event(rt, town, received(alloc, 1, ALIVE_DONE)?)?;
+    expect_bytes(rt, alloc, town, 1, ALIVE_DONE)?;
     expect_event(rt, town, Event::Closed(Cid(1)))?;
     for moment in [1201, 5636, 9372] {
         expect_event(rt, town, Event::Now(moment))?;
     }
     for _ in 0..2 {
-        expect_event(rt, town, received(alloc, 1, ALIVE_DONE)?)?;
+        expect_bytes(rt, alloc, town, 1, ALIVE_DONE)?;
     }
     expect_event(rt, town, Event::Now(10_150))
 }
 
+fn expect_ten_events(rt: &impl Abort, alloc: Global, town: &mut TownWorld) -> Result<(), Fail> {
+    assert!(rt; town.open(&config(), &AddrList::new(alloc)) == Ok(()));
+    expect_beginning(rt, alloc, town)?;
+    expect_drawn(rt, alloc, town)
+}
+
 #[test]
 fn the_first_ten_events_of_a_town(rt: HostRuntime) -> Result<(), Fail> {
-    let alloc = rt.alloc();
-    let mut town = TownWorld::new(alloc, 7);
-    assert!(rt; town.open(&config(), &peers(alloc, &[])?) == Ok(()));
-    expect_beginning(&rt, alloc, &mut town)?;
-    expect_drawn(&rt, alloc, &mut town)
+    let mut town = TownWorld::new(rt.alloc(), 7);
+    expect_ten_events(&rt, rt.alloc(), &mut town)
 }
 
 // A peer is let in, one is dialed, and the node asks what it may.
@@ -192,9 +232,9 @@ fn ask_for_all(rt: &impl Abort, alloc: Global, town: &mut TownWorld) -> Result<(
         b"\0\0\0\0\0\x02\0\x03\x82\x04\x80",
         b"\0\0\0\0\0\0\0\x03\x82\0\xa0",
     ] {
-        expect_act(rt, town, &sent(alloc, 3, bytes)?, Ok(()))?;
+        expect_send(rt, alloc, town, bytes)?;
     }
-    expect_act(rt, town, &sent(alloc, 3, ALIVE_DONE)?, Ok(()))?;
+    expect_send(rt, alloc, town, ALIVE_DONE)?;
     expect_act(rt, town, &Action::AskRoots(Job(1)), Ok(()))
 }
 
@@ -207,41 +247,57 @@ fn expect_replies(rt: &impl Abort, alloc: Global, town: &mut TownWorld) -> Resul
         b"\0\0\0\0\x80\0\0\x09\x83\x01\x0e\x84\x18\x2a\xf4\x01\xf4",
     ];
     for reply in replies {
-        expect_event(rt, town, received(alloc, 3, reply)?)?;
+        expect_bytes(rt, alloc, town, 3, reply)?;
     }
     Ok(())
 }
 
-fn expect_answers(rt: &impl Abort, alloc: Global, town: &mut TownWorld) -> Result<(), Fail> {
-    let proposal =
-        b"\0\0\0\0\0\0\0\x11\x82\0\xa2\x0d\x84\x18\x2a\xf4\x01\xf4\x0e\x84\x18\x2a\xf4\x01\xf4";
-    expect_event(rt, town, received(alloc, 2, proposal)?)?;
-    expect_event(rt, town, Event::Dialed(Cid(3), false))?;
-    expect_replies(rt, alloc, town)?;
+// The roots that it asked for.
+fn expect_roots(rt: &impl Abort, alloc: Global, town: &mut TownWorld) -> Result<(), Fail> {
     let roots = peers(alloc, &[11, 12, 13, 14, 15, 16, 17, 18])?;
     let answer = RootAnswer::Found(3_600_000, roots);
     expect_event(rt, town, Event::Roots(Job(1), answer))
 }
 
+fn expect_answers(rt: &impl Abort, alloc: Global, town: &mut TownWorld) -> Result<(), Fail> {
+    let proposal =
+        b"\0\0\0\0\0\0\0\x11\x82\0\xa2\x0d\x84\x18\x2a\xf4\x01\xf4\x0e\x84\x18\x2a\xf4\x01\xf4";
+    expect_bytes(rt, alloc, town, 2, proposal)?;
+    expect_event(rt, town, Event::Dialed(Cid(3), false))?;
+    expect_replies(rt, alloc, town)?;
+    expect_roots(rt, alloc, town)
+}
+
 // The dial and the shared address take a draw each, and what is drawn comes once nothing waits.
-#[test]
-fn a_town_answers_before_anything_is_drawn(rt: HostRuntime) -> Result<(), Fail> {
-    let alloc = rt.alloc();
-    let mut town = TownWorld::new(alloc, 7);
-    expect_beginning(&rt, alloc, &mut town)?;
-    expect_drawn(&rt, alloc, &mut town)?;
-    ask_for_all(&rt, alloc, &mut town)?;
-    expect_answers(&rt, alloc, &mut town)?;
-    expect_event(&rt, &mut town, Event::Govern(3_251_572_882_586_621_912))
+fn answers_before_it_draws(
+    rt: &impl Abort,
+    alloc: Global,
+    town: &mut TownWorld,
+) -> Result<(), Fail> {
+    expect_beginning(rt, alloc, town)?;
+    expect_drawn(rt, alloc, town)?;
+    ask_for_all(rt, alloc, town)?;
+    expect_answers(rt, alloc, town)?;
+    expect_event(rt, town, Event::Govern(3_251_572_882_586_621_912))
 }
 
 #[test]
-fn what_is_sent_goes_from_the_front(rt: HostRuntime) -> Result<(), Fail> {
-    let mut queue = OutQueue::new(rt.alloc());
+fn a_town_answers_before_anything_is_drawn(rt: HostRuntime) -> Result<(), Fail> {
+    let mut town = TownWorld::new(rt.alloc(), 7);
+    answers_before_it_draws(&rt, rt.alloc(), &mut town)
+}
+
+fn goes_from_the_front(rt: &impl Abort, queue: &mut OutQueue) -> Result<(), Fail> {
     queue.put(b"abc")?;
     queue.put(b"de")?;
     assert!(rt; queue.front() == b"abcde".as_slice());
     queue.sent(2);
     assert!(rt; queue.front() == b"cde".as_slice());
     Ok(())
+}
+
+#[test]
+fn what_is_sent_goes_from_the_front(rt: HostRuntime) -> Result<(), Fail> {
+    let mut queue = OutQueue::new(rt.alloc());
+    goes_from_the_front(&rt, &mut queue)
 }
