@@ -95,8 +95,8 @@ struct FlowWorld {
     ended: u64,
 }
 
-fn new_flow(alloc: Global, announce: bool) -> Result<SocketFlow, OutOfMemory> {
-    let terms = Terms {
+fn terms(announce: bool) -> Terms {
+    Terms {
         own: local(3001),
         announce,
         soft: 64,
@@ -104,14 +104,19 @@ fn new_flow(alloc: Global, announce: bool) -> Result<SocketFlow, OutOfMemory> {
         reply: 1_000_000,
         tick: 1000,
         rootttl: 1000,
-    };
-    SocketFlow::new(alloc, terms, &AddrList::new(alloc))
+    }
+}
+
+fn new_flow(alloc: Global, terms: Terms, publics: &AddrList) -> Result<SocketFlow, OutOfMemory> {
+    SocketFlow::new(alloc, terms, publics)
 }
 
 fn opened(alloc: Global, seed: u64, announce: bool) -> Result<FlowWorld, OutOfMemory> {
+    let publics = AddrList::new(alloc);
+    let flow = new_flow(alloc, terms(announce), &publics)?;
     Ok(FlowWorld {
         alloc,
-        flow: new_flow(alloc, announce)?,
+        flow,
         words: Pcg64::seed_from_u64(seed),
         peers: HashMap::new(alloc),
         announces: announce,

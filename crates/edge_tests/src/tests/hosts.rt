@@ -1,7 +1,17 @@
 use net_base::{Addr, Ip};
-use node_settings::read_topology;
+use node_settings::{Topology, read_topology};
 use std::alloc::Global;
 use std::test::Fail;
+
+fn topology(alloc: Global, text: &str) -> Result<Topology, Fail> {
+    Ok(read_topology(alloc, text.as_bytes())?)
+}
+
+// Whether a topology has these public roots, or none and one that is counted.
+fn has(found: &Topology, addresses: &[Addr]) -> bool {
+    let counted = if addresses.is_empty() { 1 } else { 0 };
+    found.publics.as_slice() == addresses && found.unresolved == counted
+}
 
 // Whether a host stands for these addresses, at port 3001, in a file that has it as its one access point. Without an
 // address it is counted.
@@ -9,9 +19,8 @@ fn stands_for(alloc: Global, host: &str, addresses: &[Addr]) -> Result<bool, Fai
     let text = format!(in alloc;
         "{{\"publicRoots\":[{{\"accessPoints\":[{{\"address\":\"{host}\",\"port\":3001}}]}}]}}"
     )?;
-    let found = read_topology(alloc, text.as_bytes())?;
-    let counted = if addresses.is_empty() { 1 } else { 0 };
-    Ok(found.publics.as_slice() == addresses && found.unresolved == counted)
+    let found = topology(alloc, text.as_str())?;
+    Ok(has(&found, addresses))
 }
 
 #[test]

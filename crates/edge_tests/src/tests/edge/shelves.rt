@@ -1,5 +1,6 @@
+use super::octets;
 use io_edge::*;
-use net_base::{NumberList, Octets, OutOfMemory, Sequence};
+use net_base::{NumberList, OutOfMemory, Sequence};
 use std::alloc::Global;
 use std::process::Abort;
 use std::test::Fail;
@@ -7,8 +8,8 @@ use std::{env, fs, process};
 
 fn file(alloc: Global, name: &[u8], bytes: &[u8]) -> Result<NamedFile, OutOfMemory> {
     Ok(NamedFile {
-        name: Octets::from_slice(alloc, name)?,
-        bytes: Octets::from_slice(alloc, bytes)?,
+        name: octets(alloc, name)?,
+        bytes: octets(alloc, bytes)?,
     })
 }
 
