@@ -1,9 +1,11 @@
-use Rattle.std.proofs.Common.{◌≡◌, ℕ, ◌+◌, ◌≤◌, arith, rules, Some, length, ap, ◌∙◌}
-use Rattle.socket_flow.specs.Table.{Puts}
+use Rattle.std.proofs.Common.{◌≡◌, ℕ, ◌+◌, ◌≤◌, Bool, arith, rules, [], ◌∷◌, ◌++◌, Some, length, inl, refl, sym, subst, ap, ◌∙◌}
+use Rattle.socket_flow.specs.Peers.{StandInLine}
+use Rattle.socket_flow.specs.Table.{socket_at, is_told, Puts}
 use Rattle.socket_flow.specs.declared.flow.SocketFlow.{SocketFlow}
 use Rattle.socket_flow.specs.declared.socket.Socket.{Socket}
 use Rattle.socket_flow.specs.declared.socket_table.SocketTable.{SocketTable}
-use Rattle.socket_flow.proofs.Bounded.{Holds, taken_in, same_table, held, stranger_of}
+use Rattle.socket_flow.proofs.Bounded.{Holds, taken_in, same_table, held, meets_of, stranger_of}
+use Rattle.socket_flow.proofs.Meeting.{met, met_put, met_longer, met_waiting, is_settled}
 use Rattle.socket_flow.proofs.flow.SocketFlow.accepted.Goals as goal
 
 -- a socket is taken in on which nothing waits
@@ -11,19 +13,37 @@ comes : (flow : SocketFlow) (b : SocketTable) (key t : ℕ) (socket : Socket) �
 comes flow b key t socket puts size strangers =
     taken_in flow.table b key (Some socket) flow.unsent flow.unsent flow.strangers t puts (omega (arith, size)) (omega (arith, size)) strangers (held flow)
 
+pub invariant_of-self-in-Break-branch-2 : goal.invariant_of-self-in-Break-branch-2
+invariant_of-self-in-Break-branch-2 c =
+    let flow = c.args.self.now in
+    let h = same_table flow c.insert.new.self c.in_err-key.ensures.err in
+    let m = met_longer c.insert.new.self flow.caller flow.callers.items c.next_key.result (meets_of flow c.insert.new.self flow.unsent flow.strangers h) in
+    record {
+      said = flow.said;
+      counted = h.counted;
+      bounded = h.bounded;
+      announces = h.announces;
+      alone = m.alone;
+      in_line = subst (λ l. StandInLine c.insert.new.self l) (sym c.in_ok-push_back.ensures.items) m.in_line;
+    }
+
 pub invariant_of-self-then-is_empty : goal.invariant_of-self-then-is_empty
 invariant_of-self-then-is_empty c =
     let flow = c.args.self.now in
     let size = ap {B = ℕ} (λ s. length s.out) c.new-waiting.ensures ∙ ap {B = ℕ} (λ bytes. length bytes) c.new.ensures in
     let none = ap {B = ℕ} (λ s. stranger_of (Some s)) c.new-waiting.ensures in
     let h = comes flow c.insert.new.self c.in_ok-key.key flow.strangers c.new-waiting.result c.in_ok-key.ensures.sockets size (omega (arith, none)) in
-    record { said = flow.said; counted = h.counted; bounded = h.bounded; announces = h.announces }
+    let m = met_waiting flow.table c.insert.new.self c.in_ok-key.key (Some c.new-waiting.result) flow.caller flow.callers.items c.in_ok-key.ensures.sockets
+    (ap {B = Bool} (λ s. is_told (Some s.stage)) c.new-waiting.ensures) (met flow) in
+    let same = c.next_key.ensures ∙ sym c.in_ok-key.ensures.key in
+    let line = c.in_ok-push_back.ensures.items ∙ ap (λ k. flow.callers.items ++ k ∷ []) same in
+    record { said = flow.said; counted = h.counted; bounded = h.bounded; announces = h.announces; alone = m.alone; in_line = subst (λ l. StandInLine c.insert.new.self l) (sym line) m.in_line }
 
 pub invariant_of-self-in-Break-branch-4 : goal.invariant_of-self-in-Break-branch-4
 invariant_of-self-in-Break-branch-4 c =
     let flow = c.args.self.now in
     let h = same_table flow c.insert-2.new.self c.in_err-key-2.ensures.err in
-    record { said = flow.said; counted = h.counted; bounded = h.bounded; announces = h.announces }
+    record { said = flow.said; counted = h.counted; bounded = h.bounded; announces = h.announces; alone = h.alone; in_line = h.in_line }
 
 pub invariant_of-self-in-Break-branch-5 : goal.invariant_of-self-in-Break-branch-5
 invariant_of-self-in-Break-branch-5 c =
@@ -32,7 +52,9 @@ invariant_of-self-in-Break-branch-5 c =
     let one = ap {B = ℕ} (λ s. stranger_of (Some s)) c.stranger.ensures in
     let more : c.in_ok-strangers.strangers ≡ flow.strangers + 1 = search rules in
     let h = comes flow c.insert-2.new.self c.in_ok-key-2.key c.in_ok-strangers.strangers c.stranger.result c.in_ok-key-2.ensures.sockets size (omega (arith, one, more)) in
-    record { said = flow.said; counted = h.counted; bounded = h.bounded; announces = h.announces }
+    let m = met_put flow.table c.insert-2.new.self c.in_ok-key-2.key (socket_at flow.table c.in_ok-key-2.key) (Some c.stranger.result) flow.caller flow.callers.items refl c.in_ok-key-2.ensures.sockets
+    (inl (ap {B = Bool} (λ s. is_settled (Some s.stage)) c.stranger.ensures)) (met flow) in
+    record { said = flow.said; counted = h.counted; bounded = h.bounded; announces = h.announces; alone = m.alone; in_line = m.in_line }
 
 pub invariant_of-self-2 : goal.invariant_of-self-2
 invariant_of-self-2 c =
@@ -41,4 +63,6 @@ invariant_of-self-2 c =
     let one = ap {B = ℕ} (λ s. stranger_of (Some s)) c.stranger.ensures in
     let more : c.in_ok-strangers.strangers ≡ flow.strangers + 1 = search rules in
     let h = comes flow c.insert-2.new.self c.in_ok-key-2.key c.in_ok-strangers.strangers c.stranger.result c.in_ok-key-2.ensures.sockets size (omega (arith, one, more)) in
-    record { said = flow.said; counted = h.counted; bounded = h.bounded; announces = h.announces }
+    let m = met_put flow.table c.insert-2.new.self c.in_ok-key-2.key (socket_at flow.table c.in_ok-key-2.key) (Some c.stranger.result) flow.caller flow.callers.items refl c.in_ok-key-2.ensures.sockets
+    (inl (ap {B = Bool} (λ s. is_settled (Some s.stage)) c.stranger.ensures)) (met flow) in
+    record { said = flow.said; counted = h.counted; bounded = h.bounded; announces = h.announces; alone = m.alone; in_line = m.in_line }
