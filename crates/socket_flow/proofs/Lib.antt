@@ -9,6 +9,7 @@ pub mod Once
 pub mod Order
 pub mod Passing
 pub mod Pending
+pub mod Queueing
 pub mod Sharing
 pub mod Single
 pub mod Strangers

@@ -168,6 +168,13 @@ waiting_none (Some Told) p = refl
 waiting_none (Some (Open id)) p = refl
 waiting_none (Some Closing) p = refl
 
+-- one more that is gone stands before the next
+pub one_gone : (table : SocketTable) (line : List ℕ) (key k : ℕ) (addr : Addr) (behind : List ℕ) → is_waiting (stage_at table k) ≡ false → IsNextOf table line key addr behind → IsNextOf table (k ∷ line) key addr behind
+one_gone table line key k addr behind none next = record { gone = k ∷ next.gone; none = (none, next.none); first = ap (λ x. k ∷ x) next.first; waits = next.waits }
+
+pub next_is : (table : SocketTable) (line : List ℕ) (key : ℕ) (addr : Addr) (behind : List ℕ) → line ≡ key ∷ behind → Some addr ≡ waiting_of (stage_at table key) → IsNextOf table line key addr behind
+next_is table line key addr behind first waits = record { gone = []; none = tt; first = first; waits = waiting_is (stage_at table key) addr (sym waits) }
+
 same_of : (a b : ℕ) → (a == b) ≡ true → a ≡ b
 same_of a b h = grind (arith, nat_tests)
 

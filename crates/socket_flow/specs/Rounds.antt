@@ -29,11 +29,6 @@ abbrev pub MayQueueAt : List ℕ → List ℕ → Option ℕ → Type 0
 MayQueueAt old new None = new ≡ old
 MayQueueAt old new (Some key) = MayQueue old new key
 
--- the same stand in both lines
-pub record KeepsLines (old new : SocketFlow) : Type 0 where
-  pub callers : new.callers ≡ old.callers
-  pub turns : new.turns ≡ old.turns
-
 -- none of these may be read
 abbrev pub NoneMayBeRead : SocketFlow → List ℕ → Type 0
 NoneMayBeRead flow [] = Unit {0}

@@ -4,7 +4,7 @@ ghost use Rattle.socket_flow.specs.Table.{key_at, KeepsTalk};
 ghost use Rattle.socket_flow.specs.Talk.{KeepsAll, MayLose};
 ghost use Rattle.socket_flow.specs.Acting.{is_free, Admits, Leaves, Dials, Sends, Closes, answers};
 ghost use Rattle.socket_flow.specs.Histories.{Makes, Queues, NodeDoes};
-ghost use Rattle.socket_flow.specs.Rounds.{KeepsLines, MayQueueAt};
+ghost use Rattle.socket_flow.specs.Rounds.{MayQueueAt};
 
 use crate::due_queue::DueQueue;
 use crate::flow::SocketFlow;
@@ -69,7 +69,8 @@ impl SocketFlow {
     pub(crate) fn turn_away(&mut self) -> Result<(), OutOfMemory>
         ensures leaves { OnOk result (Leaves self.old self.new) }
         ensures loses { OnOk result (MayLose self.old self.new) }
-        ensures lines { KeepsLines self.old self.new }
+        ensures callers { self.new.callers ≡ self.old.callers }
+        ensures turns { self.new.turns ≡ self.old.turns }
     {
         let Some(key) = self.caller else {
             return Ok(());

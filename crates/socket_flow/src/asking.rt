@@ -1,12 +1,12 @@
 //! What is to be done next.
 ghost use Rattle.std.specs.Prelude.{◌≡◌, ◌<◌, [], true, false, None, Some, ◌⊎◌, IfOk, OnOk, IfSome, IfNone};
 ghost use Rattle.net_base.specs.Limits.{IsWithinLimits};
-ghost use Rattle.socket_flow.specs.Table.{stage_at, is_dialing, waiting_of};
+ghost use Rattle.socket_flow.specs.Table.{stage_at, is_dialing as connects, waiting_of};
 ghost use Rattle.socket_flow.specs.Asks.{GivesWithinLimits, IsFirst, IsNextCaller, IsNoRead, IsNoAccept, AsksForRoom, Gives, IsOfSockets, IsReadable, comes_last, IsQuiet, HasNoDial, ComesAfter, NoneIsLeft};
 ghost use Rattle.socket_flow.specs.Histories.{Makes, Queues, NodeAsks};
 ghost use Rattle.socket_flow.specs.declared.socket.Stage.TheVariants.{Waiting};
 ghost use Rattle.socket_flow.specs.Peers.{IsNextOf, NoneOf};
-ghost use Rattle.socket_flow.specs.Rounds.{KeepsLines, HasPassed, HasTurn, IsTurnOf, may_be_read, turn_of};
+ghost use Rattle.socket_flow.specs.Rounds.{HasPassed, HasTurn, IsTurnOf, may_be_read, turn_of};
 ghost use Rattle.socket_flow.specs.Talk.{KeepsAll, MayLose};
 
 use crate::ask::Ask;
@@ -85,7 +85,8 @@ impl SocketFlow {
         ensures early { IfSome result (λ ask. comes_last ask ≡ false) }
         ensures order { IfSome result (ComesAfter self.old) }
         ensures none { IfNone result (NoneIsLeft self.old) }
-        ensures lines { KeepsLines self.old self.new }
+        ensures callers { self.new.callers ≡ self.old.callers }
+        ensures turns { self.new.turns ≡ self.old.turns }
     {
         if let Some(key) = self.closing.pop_front() {
             return Some(Ask::Close(key));
@@ -132,7 +133,8 @@ impl SocketFlow {
         ensures events { OnOk result (self.new.events ≡ self.old.events) }
         ensures readable { IfOk result (λ ask. IfSome ask (IsReadable self.new.table)) }
         ensures room { IfOk result (λ ask. IfSome ask (AsksForRoom self.new)) }
-        ensures lines { KeepsLines self.old self.new }
+        ensures callers { self.new.callers ≡ self.old.callers }
+        ensures turns { self.new.turns ≡ self.old.turns }
         ensures turn { IfOk result (λ ask. IfSome ask (λ ask. turn_of self.new.table ask ≡ [])) }
     {
         let moment = self.moments.moment();
@@ -175,7 +177,8 @@ impl SocketFlow {
         ensures readable { IfSome result (IsReadable self.new.table) }
         ensures accepts { IfSome result IsNoAccept }
         ensures unsent { self.new.unsent ≡ self.old.unsent }
-        ensures lines { KeepsLines self.old self.new }
+        ensures callers { self.new.callers ≡ self.old.callers }
+        ensures turns { self.new.turns ≡ self.old.turns }
         ensures turn { IfSome result (IsTurnOf self.new key) }
         ensures none { IfNone result (may_be_read self.new key ≡ false) }
     {
@@ -250,7 +253,7 @@ fn fresh_turn(table: &SocketTable, key: usize) -> Option<Ask>
 
 // Takes out the dials up to the first that is to be begun still: one may be given up before.
 fn next_dial(connecting: &mut VecDeque<(usize, Addr)>, table: &SocketTable) -> Option<(usize, Addr)>
-    ensures dials { IfSome result (λ next. is_dialing (stage_at table.now next.0) ≡ true) }
+    ensures dials { IfSome result (λ next. connects (stage_at table.now next.0) ≡ true) }
     ensures none { IfNone result (HasNoDial table.now connecting.old.items) }
 {
     while let Some((key, addr)) = connecting.pop_front() {

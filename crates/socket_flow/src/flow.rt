@@ -1,7 +1,7 @@
 ghost use Rattle.std.specs.Prelude.{◌≡◌, ◌≤◌, true, length, IfSome};
 ghost use Rattle.socket_flow.specs.Counts.{IsMost, IsBelow, unsent_at, stranger_at};
 ghost use Rattle.socket_flow.specs.Peers.{IsToldAlone, StandInLine};
-ghost use Rattle.socket_flow.specs.Table.{stage_at, is_announcing, is_dialing};
+ghost use Rattle.socket_flow.specs.Table.{stage_at, is_announcing, is_dialing as connects};
 
 use crate::announcement::greeting_of;
 use crate::door::Door;
@@ -63,8 +63,7 @@ impl SocketFlow {
     ghost use Rattle.std.specs.Prelude.{◌≡◌, ℕ, [], ◌∷◌, ◌++◌, None, is_some, if◌then◌else◌, IfOk, OnOk};
     ghost use Rattle.socket_flow.specs.Table.{socket_at, key_at, out_at, is_of, Puts};
     ghost use Rattle.socket_flow.specs.Flow.{endings};
-    ghost use Rattle.socket_flow.specs.Rounds.{KeepsLines};
-    ghost use Rattle.socket_flow.specs.Talk.{Begins, Loses, MayLose};
+        ghost use Rattle.socket_flow.specs.Talk.{Begins, Loses, MayLose};
 
     /// Nobody has connected yet, and it is moment 0.
     pub fn new(alloc: Global, terms: Terms, publics: &AddrList) -> Result<SocketFlow, OutOfMemory>
@@ -113,7 +112,8 @@ impl SocketFlow {
         ensures caller { self.new.caller ≡ self.old.caller }
         ensures closing { OnOk result (self.new.closing.items ≡ self.old.closing.items ++ (if is_some (socket_at self.old.table key) then key ∷ [] else [])) }
         ensures loses { OnOk result (Loses key self.old self.new) }
-        ensures lines { KeepsLines self.old self.new }
+        ensures callers { self.new.callers ≡ self.old.callers }
+        ensures turns { self.new.turns ≡ self.old.turns }
     {
         let Some(socket) = self.table.remove(key) else {
             return Ok(());
@@ -135,7 +135,8 @@ impl SocketFlow {
     pub(crate) fn lose_oldest_stranger(&mut self) -> Result<bool, OutOfMemory>
         ensures loses { OnOk result (MayLose self.old self.new) }
         ensures events { OnOk result (self.new.events ≡ self.old.events) }
-        ensures lines { KeepsLines self.old self.new }
+        ensures callers { self.new.callers ≡ self.old.callers }
+        ensures turns { self.new.turns ≡ self.old.turns }
     {
         match oldest_stranger(&mut self.announcing, &self.table) {
             Some(key) => {
@@ -161,7 +162,7 @@ fn is_stranger(table: &SocketTable, key: usize) -> bool
 }
 
 pub(crate) fn is_dialing(table: &SocketTable, key: usize) -> bool
-    ensures { result ≡ is_dialing (stage_at table.now key) }
+    ensures { result ≡ connects (stage_at table.now key) }
 {
     match table.get(key) {
         Some(socket) => matches!(socket.stage, Stage::Dialing(_)),

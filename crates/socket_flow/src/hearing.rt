@@ -42,7 +42,7 @@ impl SocketFlow {
         ensures talk { KeepsTalk self.old.table self.new.table }
         ensures events { self.new.events ≡ self.old.events }
         ensures made { Makes (MayBeReady key writable) self.old self.new }
-        ensures turns { Queues (MayBeReady key writable) self.old self.new }
+        ensures turns { OnOk result (Queues (MayBeReady key writable) self.old self.new) }
     {
         let Some(socket) = self.table.sockets.get_mut(&key) else {
             return Ok(());
@@ -380,7 +380,7 @@ impl SocketFlow {
 // Has it read again, where that waited for what is to be sent.
 fn release(socket: &mut Socket, turns: &mut TurnQueue, key: usize) -> Result<(), OutOfMemory>
     ensures socket { socket.new ≡ record socket.old { is_held = false } }
-    ensures turns { MayQueue turns.old turns.new key }
+    ensures turns { OnOk result (MayQueue turns.old turns.new key) }
 {
     if !socket.is_held {
         return Ok(());

@@ -339,6 +339,61 @@ const TAKES_A_BYTE: &[Step] = &[
     Step::Asks(Sought::Wait),
 ];
 
+// Two peers wait: the node is told of one after the other. The first is closed, since nothing was said of it before the second.
+const UNANSWERED: &[Step] = &[
+    Step::PeerWaits,
+    Step::RoundBegins(1),
+    Step::Asks(Sought::Now(1)),
+    Step::Asks(Sought::Accept),
+    Step::PeerCame(1),
+    Step::PeerCame(2),
+    Step::Asks(Sought::Accepted(1)),
+    Step::Asks(Sought::Accepted(2)),
+    Step::TurnsAway,
+    Step::Asks(Sought::Close(0)),
+    Step::Asks(Sought::Close(1)),
+    Step::Asks(Sought::Accept),
+    Step::NobodyWaits,
+    Step::Asks(Sought::Wait),
+];
+
+// Connections have their turns in the order in which they became ready, and who has had its turn goes behind.
+const TURNS: &[Step] = &[
+    Step::PeerWaits,
+    Step::RoundBegins(1),
+    Step::Asks(Sought::Now(1)),
+    Step::Asks(Sought::Accept),
+    Step::PeerCame(1),
+    Step::Asks(Sought::Accepted(1)),
+    Step::Admits(1),
+    Step::Asks(Sought::Accept),
+    Step::PeerCame(2),
+    Step::Asks(Sought::Accepted(2)),
+    Step::Admits(2),
+    Step::Asks(Sought::Accept),
+    Step::NobodyWaits,
+    Step::Asks(Sought::Wait),
+    Step::RoundBegins(2),
+    Step::Asks(Sought::Now(2)),
+    Step::Asks(Sought::Read(0)),
+    Step::Comes(0, 1, b"a"),
+    Step::Asks(Sought::Read(1)),
+    Step::Comes(1, 2, b"b"),
+    Step::Asks(Sought::Wait),
+    Step::RoundBegins(3),
+    Step::Asks(Sought::Now(3)),
+    Step::Asks(Sought::Read(0)),
+    Step::Asks(Sought::Read(1)),
+    Step::Comes(1, 2, b"c"),
+    Step::Asks(Sought::Wait),
+    Step::MayBeRead(0),
+    Step::RoundBegins(4),
+    Step::Asks(Sought::Now(4)),
+    Step::Asks(Sought::Read(1)),
+    Step::Asks(Sought::Read(0)),
+    Step::Asks(Sought::Wait),
+];
+
 #[test]
 fn sockets_of_a_script_are_asked_for_as_it_says(rt: HostRuntime) -> Result<(), Fail> {
     for (announce, steps) in [
@@ -347,6 +402,8 @@ fn sockets_of_a_script_are_asked_for_as_it_says(rt: HostRuntime) -> Result<(), F
         (true, ANNOUNCES),
         (false, TAKES_NOTHING),
         (false, TAKES_A_BYTE),
+        (false, UNANSWERED),
+        (false, TURNS),
     ] {
         let count = played(rt.alloc(), announce, steps)?;
         assert_eq!(rt; count, steps.len());

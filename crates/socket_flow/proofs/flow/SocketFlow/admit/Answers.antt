@@ -3,6 +3,7 @@ use Rattle.std.specs.HashMap.{get}
 use Rattle.socket_flow.specs.declared.socket.Stage.TheVariants.{Open}
 use Rattle.socket_flow.proofs.Bounded.{put_on, same_table, holds_of, meets_of}
 use Rattle.socket_flow.proofs.Meeting.{met_none, met_answered}
+use Rattle.socket_flow.proofs.Queueing.{queued_at}
 use Rattle.socket_flow.proofs.flow.SocketFlow.admit.Goals as goal
 
 pub invariant_of-self-in_default-get_mut : goal.invariant_of-self-in_default-get_mut
@@ -25,3 +26,6 @@ invariant_of-self-2 c =
     let m = met_answered c.name.new.self b c.in-Some-caller.key (Some old) (Some w) flow.caller flow.callers.items c.in-Some-get_mut.ensures.value ((c.get_mut.follows.holds w).3 (search rules)).0 refl refl c.in-Some-caller.is
     (meets_of flow c.name.new.self flow.unsent flow.strangers same) in
     record { said = flow.said; counted = h.counted; bounded = h.bounded; announces = h.announces; alone = m.alone; in_line = m.in_line }
+
+pub returns-clause-turns : goal.returns-clause-turns
+returns-clause-turns c = queued_at _ _ _ _ _ c.in-Some-caller.is c.push.ensures.ok

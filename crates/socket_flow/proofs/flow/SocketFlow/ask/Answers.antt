@@ -24,7 +24,7 @@ returns-in-Some-next_event-clause-made c = record {
 }
 
 pub returns-in-Some-next_event-clause-turns : goal.returns-in-Some-next_event-clause-turns
-returns-in-Some-next_event-clause-turns c = nobody_has_turn _ _ _ (c.next_event.ensures.turns ∙ (c.turn_away.ensures.lines.turns ∙ c.ask_of_sockets.ensures.lines.turns)) refl
+returns-in-Some-next_event-clause-turns c = nobody_has_turn _ _ _ (c.next_event.ensures.turns ∙ (c.turn_away.ensures.turns ∙ c.ask_of_sockets.ensures.turns)) refl
 
 pub returns-in-Some-clause-made : goal.returns-in-Some-clause-made
 returns-in-Some-clause-made c = record {
@@ -37,7 +37,7 @@ returns-in-Some-clause-made c = record {
 }
 
 pub returns-in-Some-clause-turns : goal.returns-in-Some-clause-turns
-returns-in-Some-clause-turns c = nobody_has_turn _ _ _ c.ask_of_sockets.ensures.lines.turns (unread_turn _ _ c.in-Some.ensures.unread)
+returns-in-Some-clause-turns c = nobody_has_turn _ _ _ c.ask_of_sockets.ensures.turns (unread_turn _ _ c.in-Some.ensures.unread)
 
 pub returns-clause-made : goal.returns-clause-made
 returns-clause-made c =
@@ -55,4 +55,4 @@ returns-clause-made c =
 
 pub returns-clause-turns : goal.returns-clause-turns
 returns-clause-turns c =
-    turn_after _ _ _ _ (c.next_event.ensures.turns ∙ (c.turn_away.ensures.lines.turns ∙ c.ask_of_sockets.ensures.lines.turns)) c.in_ok-ask_of_peers.ensures.turns
+    turn_after _ _ _ _ (c.next_event.ensures.turns ∙ (c.turn_away.ensures.turns ∙ c.ask_of_sockets.ensures.turns)) c.in_ok-ask_of_peers.ensures.turns

@@ -10,10 +10,10 @@ pub loop-preserved : goal.loop-preserved
 loop-preserved c = record {
   keeps = all_then _ _ _ c.loop.invariant.keeps (all_then _ _ _ (at_rest _ _ refl refl refl refl refl refl) c.turn.ensures.keeps);
   unsent = c.turn.ensures.unsent ∙ c.loop.invariant.unsent;
-  callers = c.turn.ensures.lines.callers ∙ c.loop.invariant.callers;
-  passed = pass_on _ _ _ _ _ c.loop.invariant.passed c.in_ok-key.ensures.some refl refl c.turn.ensures.keeps c.turn.ensures.unsent c.turn.ensures.lines.turns c.in_default-turn.ensures.none;
+  callers = c.turn.ensures.callers ∙ c.loop.invariant.callers;
+  passed = pass_on _ _ _ _ _ c.loop.invariant.passed c.in_ok-key.ensures.some refl refl c.turn.ensures.keeps c.turn.ensures.unsent c.turn.ensures.turns c.in_default-turn.ensures.none;
 }
 
 pub returns-in-Some-clause-turns : goal.returns-in-Some-clause-turns
 returns-in-Some-clause-turns c =
-    has_turn_then _ _ _ _ _ _ c.loop.invariant.passed c.in_ok-key.ensures.some refl refl c.turn.ensures.keeps c.turn.ensures.unsent c.turn.ensures.lines.turns c.in_ok-key.ensures.once c.in-Some.ensures.turn
+    has_turn_then _ _ _ _ _ _ c.loop.invariant.passed c.in_ok-key.ensures.some refl refl c.turn.ensures.keeps c.turn.ensures.unsent c.turn.ensures.turns c.in_ok-key.ensures.once c.in-Some.ensures.turn

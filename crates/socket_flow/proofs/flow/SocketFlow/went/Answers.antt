@@ -7,6 +7,7 @@ use Rattle.socket_flow.specs.declared.socket_table.SocketTable.{SocketTable}
 use Rattle.socket_flow.proofs.Bounded.{Stays, put_on, held, stranger_of}
 use Rattle.socket_flow.proofs.Meeting.{met, met_put}
 use Rattle.socket_flow.specs.declared.socket.Stage.{Stage}
+use Rattle.socket_flow.proofs.Queueing.{queued_before}
 use Rattle.socket_flow.proofs.flow.SocketFlow.went.Goals as goal
 
 -- so many bytes of what waited went out, and were counted down
@@ -61,3 +62,6 @@ invariant_of-self-2 c =
     let h = gone_out flow (record flow.table { sockets = c.get_mut.follows.lender w }) c.args.key c.args.count c.saturating_sub-self.result c.in-Some.socket.now c.went.new.self w
     c.in-Some.ensures.value ((c.get_mut.follows.holds w).3 (search rules)).0 c.went.ensures.after c.release.ensures.socket (omega (arith, count, left)) in
     record { said = flow.said; counted = h.counted; bounded = h.bounded; announces = h.announces; alone = h.alone; in_line = h.in_line }
+
+pub returns-in-Closing-clause-turns : goal.returns-in-Closing-clause-turns
+returns-in-Closing-clause-turns c = queued_before _ _ _ _ _ c.in_ok-release.ensures.turns c.lose.ensures.turns
