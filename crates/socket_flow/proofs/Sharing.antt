@@ -26,7 +26,7 @@ unless_true false p = refl
 pub all_are_told : AllAreTold
 all_are_told old new ask made last key =
     unless_true (is_waiting (stage_at new.table key)) (λ waits.
-      both_ways false refl (subst (λ line. has_turn line key ≡ true) (quiet_where ask new last made.quiet).callers (new.in_line key waits)))
+    both_ways false refl (subst (λ line. has_turn line key ≡ true) (quiet_where ask new last made.quiet).callers (new.in_line key waits)))
 
 -- ---- who stands ahead in the line
 
@@ -82,7 +82,7 @@ does key other (Peer addr note) old new q p = same_line key other old.turns new.
 abbrev Waits : ℕ → ℕ → Call → List ℕ → Type 0
 Waits key other call line = (asks_to_read other call ≡ true) ⊎ Precedes other key line
 
-reads_at : (key other k most : ℕ) (talks : Bool) (line : List ℕ) → Precedes other key (cond open (k ∷ []) [] ++ line) → Waits key other (NodeAsks (Read k most)) line
+reads_at : (key other k most : ℕ) (talks : Bool) (line : List ℕ) → Precedes other key (cond talks (k ∷ []) [] ++ line) → Waits key other (NodeAsks (Read k most)) line
 reads_at key other k most true line (inl is) = inl (eq-eqb k other is)
 reads_at key other k most true line (inr p) = inr p.1
 reads_at key other k most false line p = inr p

@@ -63,7 +63,7 @@ impl SocketFlow {
     ghost use Rattle.std.specs.Prelude.{◌≡◌, ℕ, [], ◌∷◌, ◌++◌, None, is_some, if◌then◌else◌, IfOk, OnOk};
     ghost use Rattle.socket_flow.specs.Table.{socket_at, key_at, out_at, is_of, Puts};
     ghost use Rattle.socket_flow.specs.Flow.{endings};
-        ghost use Rattle.socket_flow.specs.Talk.{Begins, Loses, MayLose};
+    ghost use Rattle.socket_flow.specs.Talk.{Begins, Loses, MayLose};
 
     /// Nobody has connected yet, and it is moment 0.
     pub fn new(alloc: Global, terms: Terms, publics: &AddrList) -> Result<SocketFlow, OutOfMemory>

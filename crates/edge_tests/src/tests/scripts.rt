@@ -95,7 +95,12 @@ fn is_sought(flow: &SocketFlow, ask: &Ask, sought: &Sought) -> bool {
 }
 
 // Bytes come, and are told of this connection, or of none.
-fn comes(flow: &mut SocketFlow, key: usize, id: Option<u64>, bytes: &[u8]) -> Result<bool, OutOfMemory> {
+fn comes(
+    flow: &mut SocketFlow,
+    key: usize,
+    id: Option<u64>,
+    bytes: &[u8],
+) -> Result<bool, OutOfMemory> {
     if bytes.is_empty() || bytes.len() > 65_536 {
         return Ok(false);
     }
