@@ -1,6 +1,6 @@
 -- Whose turn it is, one ask after another.
 use Rattle.std.proofs.Common.{◌≡◌, ℕ, Bool, true, false, not, ◌&&◌, cond, MatchBool, List, [], ◌∷◌, ◌++◌, Some, None, refl, sym, ap, subst, ◌∙◌, append_assoc}
-use Rattle.socket_flow.specs.Asks.{IsNoRead, NoneIsLeft, ComesAfter}
+use Rattle.socket_flow.specs.Asks.{IsNoRead, comes_last, IsQuiet, NoneIsLeft, ComesAfter}
 use Rattle.socket_flow.specs.Rounds.{is_behind, may_be_read, NoneMayBeRead, HasPassed, turn_of, HasTurn, IsTurnOf, IsOutOfLine}
 use Rattle.socket_flow.specs.Table.{stage_at, out_at, is_open}
 use Rattle.socket_flow.specs.Talk.{KeepsAll}
@@ -104,13 +104,19 @@ unread_turn table (Wait time) p = refl
 
 -- ---- what comes before what
 
-pub quiet_unless : (test : Bool) (A : Type 0) → test ≡ false → MatchBool test A (Unit {0})
+quiet_unless : (test : Bool) (A : Type 0) → test ≡ false → MatchBool test A (Unit {0})
 quiet_unless true A p = absurd (cc)
 quiet_unless false A p = tt
 
-pub quiet_if : (test : Bool) (A : Type 0) → A → MatchBool test A (Unit {0})
+quiet_if : (test : Bool) (A : Type 0) → A → MatchBool test A (Unit {0})
 quiet_if true A p = p
 quiet_if false A p = tt
+
+pub early_quiet : (ask : Ask) (flow : SocketFlow) → comes_last ask ≡ false → MatchBool (comes_last ask) (IsQuiet flow) (Unit {0})
+early_quiet ask flow p = quiet_unless (comes_last ask) (IsQuiet flow) p
+
+pub late_quiet : (ask : Ask) (flow : SocketFlow) → IsQuiet flow → MatchBool (comes_last ask) (IsQuiet flow) (Unit {0})
+late_quiet ask flow p = quiet_if (comes_last ask) (IsQuiet flow) p
 
 pub after_all : (flow : SocketFlow) (ask : Ask) → NoneIsLeft flow → ComesAfter flow ask
 after_all flow (Close k) p = tt

@@ -1,7 +1,7 @@
 use Rattle.std.proofs.Common.{subst, refl, ap, ◌∙◌}
 use Rattle.socket_flow.specs.Acting.{LeavesAt}
 use Rattle.socket_flow.proofs.Losing.{same, kept, and_then, asks_of, silent_unread, silent_where, room_where, first_or_next}
-use Rattle.socket_flow.proofs.Passing.{nobody_has_turn, turn_after, unread_turn, quiet_unless, quiet_if, after_all}
+use Rattle.socket_flow.proofs.Passing.{nobody_has_turn, turn_after, unread_turn, early_quiet, late_quiet, after_all}
 use Rattle.socket_flow.proofs.flow.SocketFlow.ask.Goals as goal
 
 pub returns-in-Some-next_event-clause-gives : goal.returns-in-Some-next_event-clause-gives
@@ -33,7 +33,7 @@ returns-in-Some-clause-made c = record {
   asks = asks_of _ _ _ (same _) c.in-Some.ensures.readable (silent_unread _ c.ask_of_sockets.new.self c.in-Some.ensures.unread);
   room = room_where _ c.ask_of_sockets.new.self c.in-Some.ensures.accepts;
   order = c.in-Some.ensures.order;
-  quiet = quiet_unless _ _ c.in-Some.ensures.early;
+  quiet = early_quiet _ c.ask_of_sockets.new.self c.in-Some.ensures.early;
 }
 
 pub returns-in-Some-clause-turns : goal.returns-in-Some-clause-turns
@@ -47,7 +47,7 @@ returns-clause-made c =
       asks = asks_of _ _ _ (same _) c.in_ok-ask_of_peers.ensures.readable (silent_where _ c.ask_of_peers.new.self (c.in_ok-ask_of_peers.ensures.events ∙ c.in_default-next_event.ensures.quiet.events));
       room = c.in_ok-ask_of_peers.ensures.room;
       order = after_all _ _ c.in_default-ask_of_sockets.ensures.none;
-      quiet = quiet_if _ _ (record {
+      quiet = late_quiet _ c.ask_of_peers.new.self (record {
         events = c.in_ok-ask_of_peers.ensures.events ∙ c.in_default-next_event.ensures.quiet.events;
         callers = ap (λ callers. callers.items) c.ask_of_peers.ensures.callers ∙ c.in_default-next_event.ensures.quiet.callers;
       });
