@@ -247,6 +247,12 @@ gone flow b key socket v t is puts counts strangers =
     both flow b v t (put_on flow.table b key (Some socket) None flow.unsent v flow.strangers t is puts (omega (arith, counts)) (omega arith) (omega (arith, strangers)) (held flow))
     (met_put flow.table b key (Some socket) None flow.caller flow.callers.items is puts (inl refl) (met flow))
 
+-- there was none
+pub none_gone : (flow : SocketFlow) (b : SocketTable) (key : ℕ) → None ≡ socket_at flow.table key → Puts flow.table b key None → Stays flow b flow.unsent flow.strangers
+none_gone flow b key is puts =
+    both flow b flow.unsent flow.strangers (put_on flow.table b key None None flow.unsent flow.unsent flow.strangers flow.strangers is puts (omega arith) (omega arith) (omega arith) (held flow))
+    (met_put flow.table b key None None flow.caller flow.callers.items is puts (inl refl) (met flow))
+
 -- a socket is for what it was, or for something else, and no more waits on it
 pub turns_to : (flow : SocketFlow) (b : SocketTable) (key : ℕ) (old new : Socket) → Some old ≡ socket_at flow.table key → Puts flow.table b key (Some new)
     → length new.out ≤ length old.out → stranger_of (Some new) ≤ stranger_of (Some old) → Settles (Some old.stage) (Some new.stage) → Stays flow b flow.unsent flow.strangers

@@ -139,7 +139,7 @@ unmet_at b key k caller line is none m told =
 pub met_none : (b : SocketTable) (key : ℕ) (caller : Option ℕ) (line : List ℕ) → caller ≡ Some key → is_told (stage_at b key) ≡ false → Meets b caller line → Meets b None line
 met_none b key caller line is none m = record { alone = λ k told. unmet_at b key k caller line is none m told; in_line = m.in_line }
 
-here : (a b : SocketTable) (key : ℕ) (new : Option Socket) → Puts a b key new → stage_at b key ≡ stage_of new
+pub here : (a b : SocketTable) (key : ℕ) (new : Option Socket) → Puts a b key new → stage_at b key ≡ stage_of new
 here a b key new puts = ap stage_of (subst (λ test. socket_at b key ≡ cond test new (socket_at a key)) (eq-eqb key key refl) (puts key))
 
 -- the socket of the peer that was told of is something else, or gone

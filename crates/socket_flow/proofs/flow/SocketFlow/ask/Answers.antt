@@ -19,7 +19,7 @@ returns-in-Some-next_event-clause-made c = record {
   loses = and_then _ _ _ (kept _ _ c.ask_of_sockets.ensures.keeps) c.in_ok-turn_away.ensures.loses;
   asks = c.in-Some-next_event.ensures.told;
   room = tt;
-  order = c.in_default-ask_of_sockets.ensures.none;
+  order = c.in_default.ensures.none;
   quiet = tt;
 }
 
@@ -37,7 +37,7 @@ returns-in-Some-clause-made c = record {
 }
 
 pub returns-in-Some-clause-turns : goal.returns-in-Some-clause-turns
-returns-in-Some-clause-turns c = nobody_has_turn _ _ _ c.ask_of_sockets.ensures.turns (unread_turn _ _ c.in-Some.ensures.unread)
+returns-in-Some-clause-turns c = nobody_has_turn _ _ _ c.ask_of_sockets.ensures.turns (unread_turn c.ask_of_sockets.new.self.table _ c.in-Some.ensures.unread)
 
 pub returns-clause-made : goal.returns-clause-made
 returns-clause-made c =
@@ -46,7 +46,7 @@ returns-clause-made c =
       loses = and_then _ _ _ (and_then _ _ _ before (kept _ _ c.in_default-next_event.ensures.none)) c.in_ok-ask_of_peers.ensures.loses;
       asks = asks_of _ _ _ (same _) c.in_ok-ask_of_peers.ensures.readable (silent_where _ c.ask_of_peers.new.self (c.in_ok-ask_of_peers.ensures.events ∙ c.in_default-next_event.ensures.quiet.events));
       room = c.in_ok-ask_of_peers.ensures.room;
-      order = after_all _ _ c.in_default-ask_of_sockets.ensures.none;
+      order = after_all _ _ c.in_default.ensures.none;
       quiet = late_quiet _ c.ask_of_peers.new.self (record {
         events = c.in_ok-ask_of_peers.ensures.events ∙ c.in_default-next_event.ensures.quiet.events;
         callers = ap (λ callers. callers.items) c.ask_of_peers.ensures.callers ∙ c.in_default-next_event.ensures.quiet.callers;

@@ -1,6 +1,12 @@
 use Rattle.std.proofs.Common.{◌≡◌, ℕ, arith, Some, ap}
-use Rattle.socket_flow.proofs.Bounded.{gone, stranger_of}
+use Rattle.socket_flow.proofs.Bounded.{gone, none_gone, stranger_of}
 use Rattle.socket_flow.proofs.flow.SocketFlow.lose.Goals as goal
+
+pub invariant_of-self : goal.invariant_of-self
+invariant_of-self c =
+    let flow = c.args.self.now in
+    let h = none_gone flow c.remove.new.self c.args.key c.in_default.ensures.value c.remove.ensures.sockets in
+    record { said = flow.said; counted = h.counted; bounded = h.bounded; announces = h.announces; alone = h.alone; in_line = h.in_line }
 
 pub invariant_of-self-in-Break-1 : goal.invariant_of-self-in-Break-1
 invariant_of-self-in-Break-1 c =

@@ -5,6 +5,19 @@ use Rattle.socket_flow.proofs.Bounded.{put_on, held}
 use Rattle.socket_flow.proofs.Meeting.{met, met_empty, met_next}
 use Rattle.socket_flow.proofs.flow.SocketFlow.next_event.Goals as goal
 
+pub invariant_of-self-in-Break-1 : goal.invariant_of-self-in-Break-1
+invariant_of-self-in-Break-1 c =
+    let flow = c.args.self.now in
+    let m = met_empty flow.table flow.caller flow.callers.items c.in_err-key.ensures.none (met flow) in
+    record {
+      said = flow.said;
+      counted = flow.counted;
+      bounded = flow.bounded;
+      announces = flow.announces;
+      alone = m.alone;
+      in_line = subst (λ l. StandInLine flow.table l) (sym c.in_err-key.ensures.empty) m.in_line;
+    }
+
 pub invariant_of-self-2 : goal.invariant_of-self-2
 invariant_of-self-2 c =
     let flow = c.args.self.now in

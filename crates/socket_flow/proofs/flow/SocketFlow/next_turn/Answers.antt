@@ -11,7 +11,7 @@ loop-preserved c = record {
   keeps = all_then _ _ _ c.loop.invariant.keeps (all_then _ _ _ (at_rest _ _ refl refl refl refl refl refl) c.turn.ensures.keeps);
   unsent = c.turn.ensures.unsent ∙ c.loop.invariant.unsent;
   callers = c.turn.ensures.callers ∙ c.loop.invariant.callers;
-  passed = pass_on _ _ _ _ _ c.loop.invariant.passed c.in_ok-key.ensures.some refl refl c.turn.ensures.keeps c.turn.ensures.unsent c.turn.ensures.turns c.in_default-turn.ensures.none;
+  passed = pass_on _ _ _ _ _ c.loop.invariant.passed c.in_ok-key.ensures.some refl refl c.turn.ensures.keeps c.turn.ensures.unsent c.turn.ensures.turns c.in_default.ensures.none;
 }
 
 pub returns-in-Some-clause-turns : goal.returns-in-Some-clause-turns
