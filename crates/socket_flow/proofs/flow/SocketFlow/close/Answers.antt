@@ -1,8 +1,16 @@
-use Rattle.std.proofs.Common.{arith, rules, Some, inl, inr, refl}
+use Rattle.std.proofs.Common.{arith, rules, eqb, Some, inl, inr, refl, ap, ◌∙◌}
+use Rattle.std.specs.HashMap.{get}
 use Rattle.socket_flow.specs.declared.socket.Stage.TheVariants.{Closing}
 use Rattle.socket_flow.proofs.Bounded.{put_on, same_table, holds_of, meets_of}
 use Rattle.socket_flow.proofs.Meeting.{met_put}
 use Rattle.socket_flow.proofs.flow.SocketFlow.close.Goals as goal
+
+pub invariant_of-self : goal.invariant_of-self
+invariant_of-self c =
+    let flow = c.args.self.now in
+    let b = record c.forget.new.self { sockets = c.get_mut.follows.lender-at-none } in
+    let h = same_table flow b (λ k. ap (λ sockets. get eqb sockets k) c.get_mut.follows.holds-at-none ∙ c.forget.ensures.sockets k) in
+    record { said = flow.said; counted = h.counted; bounded = h.bounded; announces = h.announces; alone = h.alone; in_line = h.in_line }
 
 pub invariant_of-self-then-not-is_linked : goal.invariant_of-self-then-not-is_linked
 invariant_of-self-then-not-is_linked c =

@@ -3,7 +3,7 @@ use Rattle.socket_flow.specs.Table.{socket_at, out_of, stage_of, Puts, HasSame}
 use Rattle.socket_flow.specs.declared.flow.SocketFlow.{SocketFlow}
 use Rattle.socket_flow.specs.declared.socket.Socket.{Socket}
 use Rattle.socket_flow.specs.declared.socket_table.SocketTable.{SocketTable}
-use Rattle.socket_flow.proofs.Bounded.{Holds, taken_in, talk_kept, held, stranger_of}
+use Rattle.socket_flow.proofs.Bounded.{Holds, taken_in, talk_kept, same_table, held, stranger_of}
 use Rattle.socket_flow.proofs.Meeting.{Meets, met, met_put, met_same, is_settled}
 use Rattle.socket_flow.proofs.flow.SocketFlow.dial.Goals as goal
 
@@ -18,6 +18,12 @@ dials flow a b key v socket puts same size counts strangers =
 met_dialing : (flow : SocketFlow) (a b : SocketTable) (key : ℕ) (socket : Socket) → Puts flow.table a key (Some socket) → HasSame a b → is_settled (Some socket.stage) ≡ true → Meets b flow.caller flow.callers.items
 met_dialing flow a b key socket puts same settled =
     met_same a b flow.caller flow.callers.items same (met_put flow.table a key (socket_at flow.table key) (Some socket) flow.caller flow.callers.items refl puts (inl settled) (met flow))
+
+pub invariant_of-self-in-Break-branch-3 : goal.invariant_of-self-in-Break-branch-3
+invariant_of-self-in-Break-branch-3 c =
+    let flow = c.args.self.now in
+    let h = same_table flow c.insert.new.self c.in_err-key.ensures.err in
+    record { said = flow.said; counted = h.counted; bounded = h.bounded; announces = h.announces; alone = h.alone; in_line = h.in_line }
 
 pub invariant_of-self-in-Break-branch-4 : goal.invariant_of-self-in-Break-branch-4
 invariant_of-self-in-Break-branch-4 c =

@@ -1,4 +1,4 @@
-use Rattle.std.proofs.Common.{◌≡◌, ℕ, ◌-◌, arith, rules, min, Some, length, drop, true, false, ap, ◌∙◌, Option, inr}
+use Rattle.std.proofs.Common.{◌≡◌, ℕ, ◌-◌, arith, rules, min, Some, length, drop, true, false, ap, ◌∙◌, Option, inr, List, Result, Ok, Err, OnOk, refl}
 use Rattle.std.proofs.lemmas.List.{length-drop}
 use Rattle.socket_flow.specs.Table.{socket_at, Puts}
 use Rattle.socket_flow.specs.declared.flow.SocketFlow.{SocketFlow}
@@ -63,5 +63,20 @@ invariant_of-self-2 c =
     c.in-Some.ensures.value ((c.get_mut.follows.holds w).3 (search rules)).0 c.went.ensures.after c.release.ensures.socket (omega (arith, count, left)) in
     record { said = flow.said; counted = h.counted; bounded = h.bounded; announces = h.announces; alone = h.alone; in_line = h.in_line }
 
-pub returns-in-Closing-clause-turns : goal.returns-in-Closing-clause-turns
-returns-in-Closing-clause-turns c = queued_before _ _ _ _ _ c.in_ok-release.ensures.turns c.lose.ensures.turns
+pub returns-then-matches-clause-turns : goal.returns-then-matches-clause-turns
+returns-then-matches-clause-turns c =
+    let same : c.match-matches.self.turns ≡ c.release.new.turns = search rules in
+    queued_before _ _ _ _ _ c.in_ok-release.ensures.turns (c.lose.ensures.turns ∙ same)
+
+pub returns-then-matches-clause-after : goal.returns-then-matches-clause-after
+returns-then-matches-clause-after c = search rules
+
+pub returns-then-matches-clause-rest : goal.returns-then-matches-clause-rest
+returns-then-matches-clause-rest c = search rules
+
+both_ok : {T E : Type 0} (r : Result T E) (A B : Type 0) (w : List ℕ) → OnOk r A → OnOk r B → OnOk r ((w ≡ w) × A × B)
+both_ok (Ok x) A B w a b = (refl, a, b)
+both_ok (Err e) A B w a b = tt
+
+pub returns-then-matches-clause-made : goal.returns-then-matches-clause-made
+returns-then-matches-clause-made c = both_ok _ _ _ _ (returns-then-matches-clause-after c) (returns-then-matches-clause-rest c)
