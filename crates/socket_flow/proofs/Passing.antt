@@ -1,5 +1,5 @@
 -- Whose turn it is, one ask after another.
-use Rattle.std.proofs.Common.{◌≡◌, ℕ, Bool, true, false, not, ◌&&◌, cond, MatchBool, List, [], ◌∷◌, ◌++◌, Some, None, refl, sym, ap, subst, ◌∙◌, append_assoc}
+use Rattle.std.proofs.Common.{◌≡◌, ℕ, Bool, true, false, not, ◌&&◌, cond, MatchBool, List, [], ◌∷◌, ◌++◌, refl, sym, ap, subst, ◌∙◌, append_assoc}
 use Rattle.socket_flow.specs.Asks.{IsNoRead, comes_last, IsQuiet, NoneIsLeft, ComesAfter}
 use Rattle.socket_flow.specs.Rounds.{is_behind, may_be_read, NoneMayBeRead, HasPassed, turn_of, HasTurn, IsTurnOf, IsOutOfLine}
 use Rattle.socket_flow.specs.Table.{stage_at, out_at, is_open}

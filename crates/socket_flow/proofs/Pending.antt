@@ -1,6 +1,5 @@
 -- How many events wait, whatever is called.
 use Rattle.std.proofs.Common.{◌≡◌, ◌⊎◌, inl, inr, ℕ, suc, ◌+◌, ◌-◌, ◌^◌, ◌≤◌, min, nat_lt, nat_le, ◌==◌, Bool, true, false, cond, eqb, MatchBool, List, [], ◌∷◌, ◌++◌, length, Option, Some, None, refl, sym, ap, subst, ◌∙◌, arith}
-use Rattle.std.specs.List.{sum_by}
 use Rattle.std.proofs.lemmas.Bool.{eq-eqb}
 use Rattle.std.proofs.lemmas.List.{length-append}
 use Rattle.std.proofs.lemmas.List.Sums.{sum_by-cons}
@@ -12,11 +11,11 @@ use Rattle.net_base.specs.declared.event.Event.{Event}
 use Rattle.net_base.specs.declared.event.Event.TheVariants.{Dialed, Now, Roots as Answered}
 use Rattle.net_base.specs.declared.event.Job.{Job}
 use Rattle.net_base.specs.declared.event.RootAnswer.TheVariants.{Found}
-use Rattle.socket_flow.specs.Acting.{IsOpenAs, OpensOn, DialsAt, SendsOn, PutsOn, IsClosing, ClosesAt, ClosesOn, Does, is_free, answers}
+use Rattle.socket_flow.specs.Acting.{IsOpenAs, OpensOn, DialsAt, SendsOn, PutsOn, IsClosing, ClosesOn, Does, is_free, answers}
 use Rattle.socket_flow.specs.Asks.{Asks, comes_last, IsFirst, IsNextCaller, IsQuiet}
 use Rattle.socket_flow.specs.Bounds.{untold_of, untold_at, more_of, more_by, more_in, NoneWaits, EventsAreBounded}
 use Rattle.socket_flow.specs.Counts.{IsMost}
-use Rattle.socket_flow.specs.Flow.{ending, endings, introduced, heard_on, after_bytes, after_going, after_full, welcomed, newcomer}
+use Rattle.socket_flow.specs.Flow.{ending, endings, introduced, heard_on, after_bytes, after_going, after_full, newcomer}
 use Rattle.socket_flow.specs.Announcement.{hearing}
 use Rattle.socket_flow.specs.Histories.{Call, PeerWaits, NobodyWaits, PeerIsGone, HasNoRoom, HasNoRoomToDial, MayBeReady, RoundBegins, PeerCame, DialCameTo, BytesCame, BytesWent, TakesNoMore, HasEnded, NodeDoes, NodeAsks, Makes, to_read, Runs}
 use Rattle.socket_flow.specs.Moments.{Times, moments_told, is_news, reached}

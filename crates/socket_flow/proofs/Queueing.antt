@@ -1,5 +1,5 @@
 -- Who stands in line once somebody was put into it.
-use Rattle.std.proofs.Common.{◌≡◌, ◌⊎◌, inl, inr, ℕ, List, Option, Some, None, refl, sym, subst, Result, Ok, Err, OnOk, ap, ◌∙◌}
+use Rattle.std.proofs.Common.{◌≡◌, inl, inr, ℕ, List, Option, Some, None, refl, sym, subst, Result, Ok, Err, OnOk, ap, ◌∙◌}
 use Rattle.socket_flow.specs.Rounds.{MayQueue, MayQueueAt}
 use Rattle.socket_flow.specs.Turns.{queued}
 

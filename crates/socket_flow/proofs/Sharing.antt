@@ -1,13 +1,13 @@
 -- Turns are shared over whole histories, and the node is told of one peer at a time, and of all.
-use Rattle.std.proofs.Common.{◌≡◌, ◌≢◌, ◌⊎◌, inl, inr, ℕ, ◌==◌, Bool, true, false, ◌||◌, cond, eqb, MatchBool, List, [], ◌∷◌, ◌++◌, Option, Some, None, refl, sym, ap, subst, ◌∙◌, arith}
+use Rattle.std.proofs.Common.{◌≡◌, ◌≢◌, ◌⊎◌, inl, inr, ℕ, ◌==◌, Bool, true, false, ◌||◌, cond, List, [], ◌∷◌, ◌++◌, Option, Some, None, refl, sym, subst}
 use Rattle.std.proofs.lemmas.Bool.{both_ways, eqb-true, eqb-false, eq-eqb}
 use Rattle.net_base.specs.declared.action.Action.{Action}
 use Rattle.net_base.specs.declared.action.Action.TheVariants.{Admit, Turnaway, Dial, Send, Close, Pause, AskRoots, State, Peer}
-use Rattle.socket_flow.specs.Fairness.{OneIsTold, AllAreTold, Throughout, is_read_by, asks_to_read, is_read_in, TurnsAreShared}
-use Rattle.socket_flow.specs.Histories.{Call, PeerWaits, NobodyWaits, PeerIsGone, HasNoRoom, HasNoRoomToDial, MayBeReady, RoundBegins, PeerCame, DialCameTo, BytesCame, BytesWent, TakesNoMore, HasEnded, NodeDoes, NodeAsks, Makes, to_read, Runs, QueuesBy, Queues}
+use Rattle.socket_flow.specs.Fairness.{OneIsTold, AllAreTold, Throughout, asks_to_read, is_read_in, TurnsAreShared}
+use Rattle.socket_flow.specs.Histories.{Call, PeerWaits, NobodyWaits, PeerIsGone, HasNoRoom, HasNoRoomToDial, MayBeReady, RoundBegins, PeerCame, DialCameTo, BytesCame, BytesWent, TakesNoMore, HasEnded, NodeDoes, NodeAsks, to_read, Runs, QueuesBy, Queues}
 use Rattle.socket_flow.specs.Rounds.{may_be_read, MayQueue, MayQueueAt, NoneMayBeRead, IsOutOfLine, turn_of, HasTurn}
 use Rattle.socket_flow.specs.Table.{stage_at, is_waiting, is_open}
-use Rattle.socket_flow.specs.Turns.{has_turn, queued, Precedes}
+use Rattle.socket_flow.specs.Turns.{has_turn, Precedes}
 use Rattle.socket_flow.specs.declared.ask.Ask.{Ask}
 use Rattle.socket_flow.specs.declared.ask.Ask.TheVariants.{Close as CloseSocket, Connect, Check, Write, Accept, Read, Give, Govern, Wait}
 use Rattle.socket_flow.specs.declared.flow.SocketFlow.{SocketFlow}

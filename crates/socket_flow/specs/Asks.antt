@@ -1,5 +1,5 @@
 -- What is asked for.
-use Rattle.std.specs.Prelude.{◌≡◌, ◌⊎◌, ℕ, ◌<◌, Bool, true, false, eqb, MatchBool, List, [], ◌∷◌, ◌++◌, Option, Some}
+use Rattle.std.specs.Prelude.{◌≡◌, ◌⊎◌, ℕ, ◌<◌, Bool, true, false, eqb, MatchBool, List, [], ◌∷◌, Option, Some}
 use Rattle.net_base.specs.Limits.{IsWithinLimits}
 use Rattle.net_base.specs.declared.address.Addr.{Addr}
 use Rattle.net_base.specs.declared.event.Event.{Event}

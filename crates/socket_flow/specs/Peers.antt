@@ -1,5 +1,5 @@
 -- Peers that have connected: the node is told of one at a time, and each waits in line until then.
-use Rattle.std.specs.Prelude.{◌≡◌, ℕ, Bool, true, false, List, [], ◌∷◌, ◌++◌, Option, Some}
+use Rattle.std.specs.Prelude.{◌≡◌, ℕ, true, false, List, [], ◌∷◌, ◌++◌, Option, Some}
 use Rattle.net_base.specs.declared.address.Addr.{Addr}
 use Rattle.socket_flow.specs.Table.{stage_at, is_waiting, is_told}
 use Rattle.socket_flow.specs.Turns.{has_turn}

@@ -1,7 +1,5 @@
 -- Whose turn it is: connections have theirs in the order in which they became ready.
 use Rattle.std.specs.Prelude.{◌≡◌, ◌⊎◌, ℕ, Bool, true, false, not, ◌&&◌, ◌||◌, nat_lt, List, [], ◌∷◌, ◌++◌, length, if◌then◌else◌, Option, Some, None}
-use Rattle.net_base.specs.declared.action.Action.{Action}
-use Rattle.net_base.specs.declared.action.Action.TheVariants.{Admit}
 use Rattle.socket_flow.specs.Table.{stage_at, out_at, is_open}
 use Rattle.socket_flow.specs.Turns.{has_turn, queued}
 use Rattle.socket_flow.specs.declared.ask.Ask.{Ask}

@@ -1,4 +1,4 @@
-use Rattle.std.proofs.Common.{◌∷◌, sym, subst, ap, rules}
+use Rattle.std.proofs.Common.{sym, subst}
 use Rattle.socket_flow.specs.Peers.{NoneOf, IsNextOf}
 use Rattle.socket_flow.proofs.Meeting.{waiting_is, waiting_none, one_gone, next_is}
 use Rattle.socket_flow.proofs.asking.next_caller.Goals as goal

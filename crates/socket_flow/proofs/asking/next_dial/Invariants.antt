@@ -1,4 +1,4 @@
-use Rattle.std.specs.Prelude.{ℕ, length}
+use Rattle.std.specs.Prelude.{length}
 use Rattle.socket_flow.specs.Asks.{HasNoDial}
 use Rattle.socket_flow.proofs.asking.next_dial.Given as goal
 

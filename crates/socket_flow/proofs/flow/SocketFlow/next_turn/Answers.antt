@@ -1,6 +1,6 @@
 use Rattle.std.proofs.Common.{refl, ◌∙◌}
 use Rattle.socket_flow.proofs.Losing.{same, all_then, at_rest}
-use Rattle.socket_flow.proofs.Passing.{none_passed, passed_still, pass_on, has_turn_then}
+use Rattle.socket_flow.proofs.Passing.{none_passed, pass_on, has_turn_then}
 use Rattle.socket_flow.proofs.flow.SocketFlow.next_turn.Goals as goal
 
 pub loop-init : goal.loop-init
