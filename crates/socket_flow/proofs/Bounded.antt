@@ -5,11 +5,13 @@ use Rattle.std.proofs.lemmas.List.Sums.{sum_by-cons, sum_by-le-sum_by}
 use Rattle.std.proofs.lemmas.Bool.{eq-eqb}
 use Rattle.std.proofs.lemmas.Bool.Decides.{nat_tests}
 use Rattle.socket_flow.specs.Counts.{IsMost, IsBelow, unsent_at, stranger_at}
+use Rattle.socket_flow.specs.Peers.{IsToldAlone, StandInLine}
 use Rattle.socket_flow.specs.Table.{socket_at, out_of, stage_of, is_announcing, Puts, HasSame, KeepsTalk}
 use Rattle.socket_flow.specs.Turns.{has_turn, IsOnce}
 use Rattle.socket_flow.specs.declared.flow.SocketFlow.{SocketFlow}
 use Rattle.socket_flow.specs.declared.socket.Socket.{Socket}
 use Rattle.socket_flow.specs.declared.socket_table.SocketTable.{SocketTable}
+use Rattle.socket_flow.proofs.Meeting.{Meets, met, met_put, met_same, Settles}
 
 -- ---- one key among others
 
@@ -227,18 +229,44 @@ talk_kept a b u s talk h = record {
   announces = falls (stranger_at a) (stranger_at b) s s (λ k. let same = ap {B = ℕ} (λ stage. cond (is_announcing stage) 1 0) (talk k).1 in omega (arith, same)) (omega arith) h.announces;
 }
 
+-- and what it keeps of the peers that have connected
+pub record Stays (flow : SocketFlow) (table : SocketTable) (unsent strangers : ℕ) : Type 0 where
+  pub counted : IsMost (unsent_at table) unsent
+  pub bounded : IsBelow table
+  pub announces : IsMost (stranger_at table) strangers
+  pub alone : IsToldAlone table flow.caller
+  pub in_line : StandInLine table flow.callers.items
+
+both : (flow : SocketFlow) (b : SocketTable) (v t : ℕ) → Holds b v t → Meets b flow.caller flow.callers.items → Stays flow b v t
+both flow b v t h m = record { counted = h.counted; bounded = h.bounded; announces = h.announces; alone = m.alone; in_line = m.in_line }
+
 -- a socket is gone, and was counted down
 pub gone : (flow : SocketFlow) (b : SocketTable) (key : ℕ) (socket : Socket) (v t : ℕ) → Some socket ≡ socket_at flow.table key → Puts flow.table b key None
-    → flow.unsent ≤ v + length socket.out → flow.strangers ≤ t + stranger_of (Some socket) → Holds b v t
+    → flow.unsent ≤ v + length socket.out → flow.strangers ≤ t + stranger_of (Some socket) → Stays flow b v t
 gone flow b key socket v t is puts counts strangers =
-    put_on flow.table b key (Some socket) None flow.unsent v flow.strangers t is puts (omega (arith, counts)) (omega arith) (omega (arith, strangers)) (held flow)
+    both flow b v t (put_on flow.table b key (Some socket) None flow.unsent v flow.strangers t is puts (omega (arith, counts)) (omega arith) (omega (arith, strangers)) (held flow))
+    (met_put flow.table b key (Some socket) None flow.caller flow.callers.items is puts (inl refl) (met flow))
+
+-- there was none
+pub none_gone : (flow : SocketFlow) (b : SocketTable) (key : ℕ) → None ≡ socket_at flow.table key → Puts flow.table b key None → Stays flow b flow.unsent flow.strangers
+none_gone flow b key is puts =
+    both flow b flow.unsent flow.strangers (put_on flow.table b key None None flow.unsent flow.unsent flow.strangers flow.strangers is puts (omega arith) (omega arith) (omega arith) (held flow))
+    (met_put flow.table b key None None flow.caller flow.callers.items is puts (inl refl) (met flow))
 
 -- a socket is for what it was, or for something else, and no more waits on it
 pub turns_to : (flow : SocketFlow) (b : SocketTable) (key : ℕ) (old new : Socket) → Some old ≡ socket_at flow.table key → Puts flow.table b key (Some new)
-    → length new.out ≤ length old.out → stranger_of (Some new) ≤ stranger_of (Some old) → Holds b flow.unsent flow.strangers
-turns_to flow b key old new is puts less strangers =
-    put_on flow.table b key (Some old) (Some new) flow.unsent flow.unsent flow.strangers flow.strangers is puts (omega (arith, less)) (omega (arith, less)) (omega (arith, strangers)) (held flow)
+    → length new.out ≤ length old.out → stranger_of (Some new) ≤ stranger_of (Some old) → Settles (Some old.stage) (Some new.stage) → Stays flow b flow.unsent flow.strangers
+turns_to flow b key old new is puts less strangers settles =
+    both flow b flow.unsent flow.strangers (put_on flow.table b key (Some old) (Some new) flow.unsent flow.unsent flow.strangers flow.strangers is puts (omega (arith, less)) (omega (arith, less)) (omega (arith, strangers)) (held flow))
+    (met_put flow.table b key (Some old) (Some new) flow.caller flow.callers.items is puts settles (met flow))
 
 -- nothing is put anywhere
-pub same_table : (flow : SocketFlow) (b : SocketTable) → HasSame flow.table b → Holds b flow.unsent flow.strangers
-same_table flow b same = talk_kept flow.table b flow.unsent flow.strangers (λ k. (ap out_of (same k), ap stage_of (same k))) (held flow)
+pub same_table : (flow : SocketFlow) (b : SocketTable) → HasSame flow.table b → Stays flow b flow.unsent flow.strangers
+same_table flow b same =
+    both flow b flow.unsent flow.strangers (talk_kept flow.table b flow.unsent flow.strangers (λ k. (ap out_of (same k), ap stage_of (same k))) (held flow)) (met_same flow.table b flow.caller flow.callers.items same (met flow))
+
+pub holds_of : (flow : SocketFlow) (b : SocketTable) (v t : ℕ) → Stays flow b v t → Holds b v t
+holds_of flow b v t h = record { counted = h.counted; bounded = h.bounded; announces = h.announces }
+
+pub meets_of : (flow : SocketFlow) (b : SocketTable) (v t : ℕ) → Stays flow b v t → Meets b flow.caller flow.callers.items
+meets_of flow b v t h = record { alone = h.alone; in_line = h.in_line }

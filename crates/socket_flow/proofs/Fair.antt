@@ -7,7 +7,7 @@ precedes-append one other [] more p = absurd p
 precedes-append one other (key ∷ queue) more (inl is) = inl is
 precedes-append one other (key ∷ queue) more (inr rest) = inr (rest.0, precedes-append one other queue more rest.1)
 
-precedes-queued : (one other : ℕ) (queue : List ℕ) (key : ℕ) → Precedes one other queue → Precedes one other (queued queue key)
+pub precedes-queued : (one other : ℕ) (queue : List ℕ) (key : ℕ) → Precedes one other queue → Precedes one other (queued queue key)
 precedes-queued one other queue key p =
     elim (has_turn queue key) as (λ b. Precedes one other (if b then queue else queue ++ key ∷ [])) [
       | true ↦ p

@@ -3,9 +3,14 @@ pub mod Ending
 pub mod Fair
 pub mod Living
 pub mod Losing
+pub mod Meeting
 pub mod Names
 pub mod Once
 pub mod Order
+pub mod Passing
+pub mod Pending
+pub mod Queueing
+pub mod Sharing
 pub mod Single
 pub mod Strangers
 pub mod Telling

@@ -78,17 +78,16 @@ pub then_at_rest : (a b c : SocketFlow) → MayLose a b → c.table ≡ b.table 
 then_at_rest a b c p table events greeting caller count most = and_then a b c p (kept b c (at_rest b c table events greeting caller count most))
 
 -- the peer that the node was told of is that no more, and its socket goes
-pub left_alone : (a b c : SocketFlow) (key : ℕ) → Loses key b c → b.table ≡ a.table → b.events ≡ a.events → b.greeting ≡ a.greeting → b.caller ≡ None → b.strangers ≡ a.strangers → b.strangers_most ≡ a.strangers_most → MayLose a c
+pub left_alone : (a b c : SocketFlow) (key : ℕ) → Loses key a b → c.table ≡ b.table → c.events ≡ b.events → c.greeting ≡ b.greeting → c.caller ≡ None → c.strangers ≡ b.strangers → c.strangers_most ≡ b.strangers_most → MayLose a c
 left_alone a b c key p table events greeting none count most =
-    let same_till = at_rest a (record b { caller = a.caller }) table events greeting refl count most in
-    and_then a b c (kept a b (record {
+    and_then a b c (lost a b key p) (kept b c (record {
       sockets = record {
-        talk = same_till.sockets.talk;
-        names = same_till.sockets.names;
-        keys = record { next = same_till.sockets.keys.next; greeting = greeting; caller = λ k is. nobody k (sym none ∙ is); strangers = as_many_strangers a b count most };
+        talk = λ k. (ap (λ t. out_at t k) table, ap (λ t. stage_at t k) table);
+        names = λ cid. ap (λ t. key_at t cid) table;
+        keys = record { next = ap (λ t. t.next_key) table; greeting = greeting; caller = λ k is. nobody k (sym none ∙ is); strangers = as_many_strangers b c count most };
       };
       events = events;
-    })) (lost b c key p)
+    }))
 
 -- events are told, something is done that is said of nothing, and sockets go
 pub tells_and_loses : (a b c d : SocketFlow) (more : List Event) → KeepsSockets a b → b.events ≡ a.events ++ more → MayLose c d

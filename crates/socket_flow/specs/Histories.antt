@@ -2,6 +2,7 @@
 use Rattle.std.specs.Prelude.{◌≡◌, ◌≢◌, ◌⊎◌, ℕ, ◌≤◌, Bool, true, false, not, ◌&&◌, ◌||◌, ◌==◌, eqb, List, [], ◌∷◌, ◌++◌, length, Option, Some, None}
 use Rattle.std.specs.List.{AllByRecursion}
 use Rattle.net_base.specs.declared.action.Action.{Action}
+use Rattle.net_base.specs.declared.action.Action.TheVariants.{Admit}
 use Rattle.net_base.specs.declared.address.Addr.{Addr}
 use Rattle.net_base.specs.declared.connection.Cid.{Cid}
 use Rattle.net_base.specs.declared.event.Event.{Event}
@@ -11,6 +12,7 @@ use Rattle.socket_flow.specs.Announcement.{announced_size, hearing}
 use Rattle.socket_flow.specs.Asks.{IsAsked}
 use Rattle.socket_flow.specs.Flow.{told_of, after_bytes, after_going, after_full, newcomer}
 use Rattle.socket_flow.specs.Moments.{moments_told}
+use Rattle.socket_flow.specs.Rounds.{MayQueue, MayQueueAt, HasTurn}
 use Rattle.socket_flow.specs.Table.{socket_at, stage_at, out_at, Puts, NamesSame}
 use Rattle.socket_flow.specs.Writing.{went_of}
 use Rattle.socket_flow.specs.Talk.{KeepsAll, KeepsRest, Loses, MayLose, TellsAndMayLose, TakesIn, IsDialed, Begins, greeting_by}
@@ -66,6 +68,20 @@ Makes (HasEnded key) old new = Loses key old new
 Makes (NodeDoes action) old new = Does action old new
 Makes (NodeAsks ask) old new = IsAsked old new ask
 
+-- and who stands in line for a turn afterwards
+abbrev pub QueuesBy : Action → SocketFlow → SocketFlow → Type 0
+QueuesBy (Admit cid addr) old new = MayQueueAt old.turns new.turns old.caller
+QueuesBy _ old new = new.turns ≡ old.turns
+
+abbrev pub Queues : Call → SocketFlow → SocketFlow → Type 0
+Queues (MayBeReady key writable) old new = MayQueue old.turns new.turns key
+Queues (DialCameTo key outcome) old new = MayQueue old.turns new.turns key
+Queues (BytesCame key bytes event) old new = MayQueue old.turns new.turns key
+Queues (BytesWent key count bytes) old new = MayQueue old.turns new.turns key
+Queues (NodeDoes action) old new = QueuesBy action old new
+Queues (NodeAsks ask) old new = HasTurn old new ask
+Queues _ old new = new.turns ≡ old.turns
+
 -- ---- histories
 
 -- of which socket how many bytes may be read, once a call was made
@@ -88,7 +104,7 @@ MayCall reading _ = Unit {0}
 
 abbrev pub Runs : Option (ℕ × ℕ) → List Call → SocketFlow → SocketFlow → Type 0
 Runs reading [] old new = new ≡ old
-Runs reading (call ∷ calls) old new = MayCall reading call × (next : SocketFlow) × Makes call old next × Runs (to_read call) calls next new
+Runs reading (call ∷ calls) old new = MayCall reading call × (next : SocketFlow) × Makes call old next × Runs (to_read call) calls next new × Queues call old next
 
 -- ---- what comes on a socket, and what is told of it
 

@@ -4,10 +4,13 @@ pub mod Asks
 pub mod Bounds
 pub mod Counts
 pub mod Dues
+pub mod Fairness
 pub mod Flow
 pub mod Histories
 pub mod Lives
 pub mod Moments
+pub mod Peers
+pub mod Rounds
 pub mod Sending
 pub mod Stages
 pub mod Table

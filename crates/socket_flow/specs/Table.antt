@@ -1,9 +1,10 @@
 -- The sockets under their keys, and the keys of connections.
 use Rattle.std.specs.Prelude.{◌≡◌, ℕ, Bool, true, false, eqb, List, [], if◌then◌else◌, Option, Some, None}
 use Rattle.std.specs.HashMap.{get}
+use Rattle.net_base.specs.declared.address.Addr.{Addr}
 use Rattle.socket_flow.specs.declared.socket.Socket.{Socket}
 use Rattle.socket_flow.specs.declared.socket.Stage.{Stage}
-use Rattle.socket_flow.specs.declared.socket.Stage.TheVariants.{Dialing, Announcing, Open}
+use Rattle.socket_flow.specs.declared.socket.Stage.TheVariants.{Dialing, Announcing, Waiting, Told, Open}
 use Rattle.socket_flow.specs.declared.socket_table.SocketTable.{SocketTable}
 
 -- the socket of a key
@@ -69,3 +70,23 @@ abbrev pub is_linked : Option Stage → Bool
 is_linked (Some (Dialing id)) = true
 is_linked (Some (Open id)) = true
 is_linked _ = false
+
+-- the address of a peer of which the node is to be told, if a socket is that of one
+abbrev pub waiting_of : Option Stage → Option Addr
+waiting_of (Some (Waiting addr)) = Some addr
+waiting_of _ = None
+
+-- whether the node is to be told of the peer of a socket
+abbrev pub is_waiting : Option Stage → Bool
+is_waiting (Some (Waiting addr)) = true
+is_waiting _ = false
+
+-- whether the node was told of the peer of a socket, and has neither admitted it nor turned it away
+abbrev pub is_told : Option Stage → Bool
+is_told (Some Told) = true
+is_told _ = false
+
+-- whether a socket is a connection
+abbrev pub is_open : Option Stage → Bool
+is_open (Some (Open id)) = true
+is_open _ = false

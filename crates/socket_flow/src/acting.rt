@@ -3,7 +3,8 @@ ghost use Rattle.std.specs.Prelude.{◌≡◌, ◌++◌, is_some, IfSome, OnOk};
 ghost use Rattle.socket_flow.specs.Table.{key_at, KeepsTalk};
 ghost use Rattle.socket_flow.specs.Talk.{KeepsAll, MayLose};
 ghost use Rattle.socket_flow.specs.Acting.{is_free, Admits, Leaves, Dials, Sends, Closes, answers};
-ghost use Rattle.socket_flow.specs.Histories.{Makes, NodeDoes};
+ghost use Rattle.socket_flow.specs.Histories.{Makes, Queues, NodeDoes};
+ghost use Rattle.socket_flow.specs.Rounds.{MayQueueAt};
 
 use crate::due_queue::DueQueue;
 use crate::flow::SocketFlow;
@@ -16,7 +17,8 @@ use node_world::OutQueue;
 impl SocketFlow {
     /// Has an action done. What the node only tells is passed over.
     pub fn act(&mut self, action: &Action) -> Result<(), OutOfMemory>
-        ensures { OnOk result (Makes (NodeDoes action.now) self.old self.new) }
+        ensures made { OnOk result (Makes (NodeDoes action.now) self.old self.new) }
+        ensures turns { OnOk result (Queues (NodeDoes action.now) self.old self.new) }
     {
         match action {
             Action::Admit(cid, _) => self.admit(*cid),
@@ -45,15 +47,17 @@ impl SocketFlow {
     }
 
     fn admit(&mut self, cid: Cid) -> Result<(), OutOfMemory>
-        ensures { OnOk result (Admits self.old self.new cid) }
+        ensures admits { OnOk result (Admits self.old self.new cid) }
+        ensures turns { OnOk result (MayQueueAt self.old.turns self.new.turns self.old.caller) }
     {
         let Some(id) = self.free_id(cid) else {
             return Ok(());
         };
-        let Some(key) = self.caller.take() else {
+        let Some(key) = self.caller else {
             return Ok(());
         };
         self.table.name(id, key)?;
+        self.caller = None;
         let Some(socket) = self.table.sockets.get_mut(&key) else {
             return Ok(());
         };
@@ -65,17 +69,20 @@ impl SocketFlow {
     pub(crate) fn turn_away(&mut self) -> Result<(), OutOfMemory>
         ensures leaves { OnOk result (Leaves self.old self.new) }
         ensures loses { OnOk result (MayLose self.old self.new) }
+        ensures callers { self.new.callers ≡ self.old.callers }
+        ensures turns { self.new.turns ≡ self.old.turns }
     {
         let Some(key) = self.caller else {
             return Ok(());
         };
-        self.caller = None;
         self.lose(key)?;
+        self.caller = None;
         Ok(())
     }
 
     fn dial(&mut self, cid: Cid, addr: Addr) -> Result<(), OutOfMemory>
-        ensures { OnOk result (Dials self.old self.new cid addr) }
+        ensures dials { OnOk result (Dials self.old self.new cid addr) }
+        ensures turns { self.new.turns ≡ self.old.turns }
     {
         let Some(id) = self.free_id(cid) else {
             return Ok(());
@@ -92,7 +99,8 @@ impl SocketFlow {
     }
 
     fn send(&mut self, cid: Cid, bytes: &[u8]) -> Result<(), OutOfMemory>
-        ensures { OnOk result (Sends self.old self.new cid bytes.now) }
+        ensures sends { OnOk result (Sends self.old self.new cid bytes.now) }
+        ensures turns { self.new.turns ≡ self.old.turns }
     {
         let Some(key) = self.table.key_of(cid) else {
             return Ok(());
@@ -114,6 +122,7 @@ impl SocketFlow {
         ensures talk { KeepsTalk self.old.table self.new.table }
         ensures events { self.new.events ≡ self.old.events }
         ensures keeps { KeepsAll self.old self.new }
+        ensures turns { self.new.turns ≡ self.old.turns }
     {
         let Some(socket) = self.table.sockets.get_mut(&key) else {
             return Ok(());
@@ -130,7 +139,8 @@ impl SocketFlow {
 
     // Closes a connection, once as much of what waits is written as its socket takes at once.
     fn close(&mut self, cid: Cid) -> Result<(), OutOfMemory>
-        ensures { OnOk result (Closes self.old self.new cid) }
+        ensures closes { OnOk result (Closes self.old self.new cid) }
+        ensures turns { self.new.turns ≡ self.old.turns }
     {
         let Some(key) = self.table.key_of(cid) else {
             return Ok(());

@@ -1,6 +1,7 @@
 ghost use Rattle.std.specs.Prelude.{◌≡◌, ◌≤◌, true, length, IfSome};
 ghost use Rattle.socket_flow.specs.Counts.{IsMost, IsBelow, unsent_at, stranger_at};
-ghost use Rattle.socket_flow.specs.Table.{stage_at, is_announcing};
+ghost use Rattle.socket_flow.specs.Peers.{IsToldAlone, StandInLine};
+ghost use Rattle.socket_flow.specs.Table.{stage_at, is_announcing, is_dialing as connects};
 
 use crate::announcement::greeting_of;
 use crate::door::Door;
@@ -54,6 +55,8 @@ pub struct SocketFlow {
     ghost counted: { IsMost (unsent_at table) unsent },
     ghost bounded: { IsBelow table },
     ghost announces: { IsMost (stranger_at table) strangers },
+    ghost alone: { IsToldAlone table caller },
+    ghost in_line: { StandInLine table callers.items },
 }
 
 impl SocketFlow {
@@ -109,6 +112,8 @@ impl SocketFlow {
         ensures caller { self.new.caller ≡ self.old.caller }
         ensures closing { OnOk result (self.new.closing.items ≡ self.old.closing.items ++ (if is_some (socket_at self.old.table key) then key ∷ [] else [])) }
         ensures loses { OnOk result (Loses key self.old self.new) }
+        ensures callers { self.new.callers ≡ self.old.callers }
+        ensures turns { self.new.turns ≡ self.old.turns }
     {
         let Some(socket) = self.table.remove(key) else {
             return Ok(());
@@ -130,6 +135,8 @@ impl SocketFlow {
     pub(crate) fn lose_oldest_stranger(&mut self) -> Result<bool, OutOfMemory>
         ensures loses { OnOk result (MayLose self.old self.new) }
         ensures events { OnOk result (self.new.events ≡ self.old.events) }
+        ensures callers { self.new.callers ≡ self.old.callers }
+        ensures turns { self.new.turns ≡ self.old.turns }
     {
         match oldest_stranger(&mut self.announcing, &self.table) {
             Some(key) => {
@@ -150,6 +157,15 @@ fn is_stranger(table: &SocketTable, key: usize) -> bool
 {
     match table.get(key) {
         Some(socket) => matches!(socket.stage, Stage::Announcing(_)),
+        None => false,
+    }
+}
+
+pub(crate) fn is_dialing(table: &SocketTable, key: usize) -> bool
+    ensures { result ≡ connects (stage_at table.now key) }
+{
+    match table.get(key) {
+        Some(socket) => matches!(socket.stage, Stage::Dialing(_)),
         None => false,
     }
 }

@@ -5,14 +5,15 @@ ghost use Rattle.net_base.specs.declared.event.Event.TheVariants.{Dialed as Told
 ghost use Rattle.socket_flow.specs.declared.socket.Stage.TheVariants.{Open};
 ghost use Rattle.socket_flow.specs.Moments.{moments_told};
 ghost use Rattle.socket_flow.specs.Writing.{went_of};
-ghost use Rattle.socket_flow.specs.Table.{socket_at, out_at, stage_at, is_announcing, is_dialing, KeepsTalk, NamesSame, Puts};
-ghost use Rattle.socket_flow.specs.Histories.{Makes, PeerWaits, NobodyWaits, PeerIsGone, HasNoRoom, HasNoRoomToDial, MayBeReady, RoundBegins, PeerCame, DialCameTo, BytesCame, BytesWent, TakesNoMore, HasEnded};
+ghost use Rattle.socket_flow.specs.Table.{socket_at, out_at, stage_at, is_announcing, KeepsTalk, NamesSame, Puts};
+ghost use Rattle.socket_flow.specs.Rounds.{MayQueue};
+ghost use Rattle.socket_flow.specs.Histories.{Makes, Queues, PeerWaits, NobodyWaits, PeerIsGone, HasNoRoom, HasNoRoomToDial, MayBeReady, RoundBegins, PeerCame, DialCameTo, BytesCame, BytesWent, TakesNoMore, HasEnded};
 ghost use Rattle.socket_flow.specs.Talk.{KeepsAll, KeepsSockets, KeepsRest, MayLose, TakesIn, Connects};
 ghost use Rattle.socket_flow.specs.Flow.{endings, told_of, after_bytes, waits_with, after_going, after_full, dial_events, after_dial, newcomer};
 
 use crate::announcement::Heard;
 use crate::ask::Dialed;
-use crate::flow::SocketFlow;
+use crate::flow::{SocketFlow, is_dialing};
 use crate::id::Id;
 use crate::socket::{Socket, Stage, stranger};
 use crate::turn_queue::TurnQueue;
@@ -30,7 +31,8 @@ enum Late {
 impl SocketFlow {
     /// Somebody may wait to be accepted.
     pub fn is_called(&mut self)
-        ensures { Makes PeerWaits self.old self.new }
+        ensures made { Makes PeerWaits self.old self.new }
+        ensures turns { Queues PeerWaits self.old self.new }
     {
         self.door.is_called();
     }
@@ -40,6 +42,7 @@ impl SocketFlow {
         ensures talk { KeepsTalk self.old.table self.new.table }
         ensures events { self.new.events ≡ self.old.events }
         ensures made { Makes (MayBeReady key writable) self.old self.new }
+        ensures turns { OnOk result (Queues (MayBeReady key writable) self.old self.new) }
     {
         let Some(socket) = self.table.sockets.get_mut(&key) else {
             return Ok(());
@@ -59,7 +62,8 @@ impl SocketFlow {
 
     /// The sockets have told what they are ready for, and it is this moment: a round begins.
     pub fn begin_round(&mut self, moment: u64) -> Result<(), OutOfMemory>
-        ensures { OnOk result (Makes (RoundBegins moment) self.old self.new) }
+        ensures made { OnOk result (Makes (RoundBegins moment) self.old self.new) }
+        ensures turns { OnOk result (Queues (RoundBegins moment) self.old self.new) }
     {
         self.reach(moment)?;
         self.door.begin_round();
@@ -72,6 +76,7 @@ impl SocketFlow {
     fn reach(&mut self, moment: u64) -> Result<(), OutOfMemory>
         ensures sockets { KeepsSockets self.old self.new }
         ensures events { OnOk result (self.new.events ≡ self.old.events ++ moments_told self.old.moments moment) }
+        ensures turns { self.new.turns ≡ self.old.turns }
     {
         self.moments.reach(moment);
         if self.moments.is_told() {
@@ -82,7 +87,8 @@ impl SocketFlow {
 
     // Ends the sockets whose time is over.
     fn lose_late(&mut self) -> Result<(), OutOfMemory>
-        ensures { OnOk result (MayLose self.old self.new) }
+        ensures loses { OnOk result (MayLose self.old self.new) }
+        ensures turns { self.new.turns ≡ self.old.turns }
     {
         for _ in 0..u64::MAX {
             let Some(late) = self.next_late() else {
@@ -95,7 +101,8 @@ impl SocketFlow {
 
     // The next whose time is over, those that announce their address first and those that are looked at last.
     fn next_late(&mut self) -> Option<Late>
-        ensures { KeepsAll self.old self.new }
+        ensures keeps { KeepsAll self.old self.new }
+        ensures turns { self.new.turns ≡ self.old.turns }
     {
         let moment = self.moments.moment();
         if let Some(key) = self.announcing.pop_due(moment) {
@@ -109,7 +116,8 @@ impl SocketFlow {
     }
 
     fn end_late(&mut self, late: Late) -> Result<(), OutOfMemory>
-        ensures { OnOk result (MayLose self.old self.new) }
+        ensures loses { OnOk result (MayLose self.old self.new) }
+        ensures turns { self.new.turns ≡ self.old.turns }
     {
         if let Late::Watched(key) = late {
             return self.look_after(key);
@@ -125,23 +133,15 @@ impl SocketFlow {
     fn key_over(&self, late: Late) -> Option<usize> {
         match late {
             Late::Announcing(key) if self.is_stranger(key) => Some(key),
-            Late::Dialing(key) if self.is_dialing(key) => Some(key),
+            Late::Dialing(key) if is_dialing(&self.table, key) => Some(key),
             _ => None,
-        }
-    }
-
-    pub(crate) fn is_dialing(&self, key: usize) -> bool
-        ensures { result ≡ is_dialing (stage_at self.now.table key) }
-    {
-        match self.table.get(key) {
-            Some(socket) => matches!(socket.stage, Stage::Dialing(_)),
-            None => false,
         }
     }
 
     // Ends a socket whose peer took nothing of what waits since it was looked at.
     fn look_after(&mut self, key: usize) -> Result<(), OutOfMemory>
-        ensures { OnOk result (MayLose self.old self.new) }
+        ensures loses { OnOk result (MayLose self.old self.new) }
+        ensures turns { self.new.turns ≡ self.old.turns }
     {
         if self.is_taken_from(key) {
             self.has_to_write(key)?;
@@ -153,7 +153,8 @@ impl SocketFlow {
 
     // Whether nothing waits on a socket, or its peer took something. It is looked at no more.
     fn is_taken_from(&mut self, key: usize) -> bool
-        ensures { KeepsAll self.old self.new }
+        ensures keeps { KeepsAll self.old self.new }
+        ensures turns { self.new.turns ≡ self.old.turns }
     {
         let Some(socket) = self.table.sockets.get_mut(&key) else {
             return true;
@@ -170,12 +171,13 @@ impl SocketFlow {
         ensures names { OnOk result (NamesSame self.old.table self.new.table) }
         ensures taken { IfOk result (λ key. TakesIn key self.old self.new) }
         ensures made { IfOk result (λ key. Makes (PeerCame addr key) self.old self.new) }
+        ensures turns { IfOk result (λ key. Queues (PeerCame addr key) self.old self.new) }
     {
         self.door.count();
         if self.greeting.as_slice().is_empty() {
             let waiting = Socket::new(Stage::Waiting(addr), OutQueue::new(self.alloc));
+            self.callers.push_back(self.table.next_key())?;
             let key = self.table.insert(waiting)?;
-            self.callers.push_back(key)?;
             return Ok(key);
         }
         let strangers = self.strangers.checked_add(1).ok_or(OutOfMemory)?;
@@ -188,21 +190,24 @@ impl SocketFlow {
 
     /// Nobody waited to be accepted.
     pub fn nobody_waits(&mut self)
-        ensures { Makes NobodyWaits self.old self.new }
+        ensures made { Makes NobodyWaits self.old self.new }
+        ensures turns { Queues NobodyWaits self.old self.new }
     {
         self.door.is_left();
     }
 
     /// Whoever waited to be accepted is gone again.
     pub fn caller_is_gone(&mut self)
-        ensures { Makes PeerIsGone self.old self.new }
+        ensures made { Makes PeerIsGone self.old self.new }
+        ensures turns { Queues PeerIsGone self.old self.new }
     {
         self.door.count();
     }
 
     /// The system has no room for the socket of the peer that waits to be accepted.
     pub fn has_no_room(&mut self)
-        ensures { Makes HasNoRoom self.old self.new }
+        ensures made { Makes HasNoRoom self.old self.new }
+        ensures turns { Queues HasNoRoom self.old self.new }
     {
         self.door
             .is_crowded(self.moments.moment(), self.table.len());
@@ -210,7 +215,8 @@ impl SocketFlow {
 
     /// The system has no room for a socket that is to connect to this address.
     pub fn has_no_room_to_dial(&mut self, key: usize, addr: Addr) -> Result<(), OutOfMemory>
-        ensures { OnOk result (Makes (HasNoRoomToDial key addr) self.old self.new) }
+        ensures made { OnOk result (Makes (HasNoRoomToDial key addr) self.old self.new) }
+        ensures turns { OnOk result (Queues (HasNoRoomToDial key addr) self.old self.new) }
     {
         self.has_no_room();
         if self.lose_oldest_stranger()? {
@@ -227,6 +233,7 @@ impl SocketFlow {
         ensures stage { OnOk result (stage_at self.new.table key ≡ after_dial (socket_at self.old.table key) dialed) }
         ensures others { (k : ℕ) → eqb key k ≡ false → stage_at self.new.table k ≡ stage_at self.old.table k }
         ensures made { OnOk result (Makes (DialCameTo key dialed) self.old self.new) }
+        ensures turns { OnOk result (Queues (DialCameTo key dialed) self.old self.new) }
     {
         let Some(socket) = self.table.sockets.get_mut(&key) else {
             return Ok(());
@@ -247,6 +254,7 @@ impl SocketFlow {
         ensures stage { OnOk result (stage_at self.new.table key ≡ Some (Open id)) }
         ensures others { (k : ℕ) → eqb key k ≡ false → stage_at self.new.table k ≡ stage_at self.old.table k }
         ensures connects { OnOk result (Connects key id self.old self.new) }
+        ensures turns { OnOk result (MayQueue self.old.turns self.new.turns key) }
     {
         let Some(socket) = self.table.sockets.get_mut(&key) else {
             return Ok(());
@@ -265,6 +273,7 @@ impl SocketFlow {
         ensures after { OnOk result (Puts self.old.table self.new.table key (after_bytes (socket_at self.old.table key) bytes.now)) }
         ensures rest { OnOk result (KeepsRest self.old self.new) }
         ensures made { IfOk result (λ event. Makes (BytesCame key bytes.now event) self.old self.new) }
+        ensures turns { IfOk result (λ event. Queues (BytesCame key bytes.now event) self.old self.new) }
     {
         let Some(socket) = self.table.get(key) else {
             return Ok(None);
@@ -286,6 +295,7 @@ impl SocketFlow {
     fn hear(&mut self, key: usize, bytes: &[u8]) -> Result<(), OutOfMemory>
         ensures after { OnOk result (Puts self.old.table self.new.table key (after_bytes (socket_at self.old.table key) bytes.now)) }
         ensures rest { OnOk result (KeepsRest self.old self.new) }
+        ensures turns { self.new.turns ≡ self.old.turns }
     {
         let Some(socket) = self.table.sockets.get_mut(&key) else {
             return Ok(());
@@ -303,15 +313,17 @@ impl SocketFlow {
     // A peer has connected, and its address is known.
     fn introduce(&mut self, addr: Addr, key: usize) -> Result<(), OutOfMemory>
         requires { is_announcing (stage_at self.old.table key) ≡ true }
-        ensures after { Puts self.old.table self.new.table key (waits_with addr (socket_at self.old.table key)) }
-        ensures rest { KeepsRest self.old self.new }
+        ensures after { OnOk result (Puts self.old.table self.new.table key (waits_with addr (socket_at self.old.table key))) }
+        ensures rest { OnOk result (KeepsRest self.old self.new) }
+        ensures turns { self.new.turns ≡ self.old.turns }
     {
+        self.callers.push_back(key)?;
         let Some(socket) = self.table.sockets.get_mut(&key) else {
             return Ok(());
         };
         socket.stage = Stage::Waiting(addr);
         self.strangers = self.strangers.saturating_sub(1);
-        Ok(self.callers.push_back(key)?)
+        Ok(())
     }
 
     /// The peer sends no more, or the socket has failed.
@@ -319,6 +331,7 @@ impl SocketFlow {
         ensures gone { Puts self.old.table self.new.table key None }
         ensures events { OnOk result (self.new.events ≡ self.old.events ++ endings (socket_at self.old.table key)) }
         ensures made { OnOk result (Makes (HasEnded key) self.old self.new) }
+        ensures turns { OnOk result (Queues (HasEnded key) self.old self.new) }
     {
         self.lose(key)
     }
@@ -329,6 +342,7 @@ impl SocketFlow {
         ensures events { OnOk result (self.new.events ≡ self.old.events) }
         ensures rest { OnOk result (KeepsRest self.old self.new) }
         ensures made { OnOk result (Makes (BytesWent key count (went_of (out_at self.old.table key) count)) self.old self.new) }
+        ensures turns { OnOk result (Queues (BytesWent key count (went_of (out_at self.old.table key) count)) self.old self.new) }
     {
         let Some(socket) = self.table.sockets.get_mut(&key) else {
             return Ok(());
@@ -350,6 +364,7 @@ impl SocketFlow {
         ensures events { OnOk result (self.new.events ≡ self.old.events) }
         ensures rest { OnOk result (KeepsRest self.old self.new) }
         ensures made { OnOk result (Makes (TakesNoMore key) self.old self.new) }
+        ensures turns { OnOk result (Queues (TakesNoMore key) self.old self.new) }
     {
         let Some(socket) = self.table.sockets.get_mut(&key) else {
             return Ok(());
@@ -364,7 +379,8 @@ impl SocketFlow {
 
 // Has it read again, where that waited for what is to be sent.
 fn release(socket: &mut Socket, turns: &mut TurnQueue, key: usize) -> Result<(), OutOfMemory>
-    ensures { socket.new ≡ record socket.old { is_held = false } }
+    ensures socket { socket.new ≡ record socket.old { is_held = false } }
+    ensures turns { OnOk result (MayQueue turns.old turns.new key) }
 {
     if !socket.is_held {
         return Ok(());

@@ -1,6 +1,7 @@
 //! Laws on histories of the flow, and on turns and on what is written, whatever function gives them. The functions do nothing.
 
-ghost use Rattle.socket_flow.specs.Bounds.{WaitsAreBounded, StrangersAreFew};
+ghost use Rattle.socket_flow.specs.Bounds.{EventsAreBounded, NoneWaits, WaitsAreBounded, StrangersAreFew};
+ghost use Rattle.socket_flow.specs.Fairness.{AllAreTold, OneIsTold, TurnsAreShared};
 ghost use Rattle.socket_flow.specs.Histories.{EndedIsSilent, WhatCameIsTold};
 ghost use Rattle.socket_flow.specs.Lives.{HasOneSocket, LivesAreRight};
 ghost use Rattle.socket_flow.specs.Sending.{EndedIsUnwritten, WhatIsWrittenWasSent};
@@ -46,6 +47,26 @@ pub fn lives_are_right()
 /// leave, but for what dials announce.
 pub fn what_waits_is_bounded()
     ensures { WaitsAreBounded }
+{}
+
+/// Of every flow: no event waits where anything is asked for behind closings, connects, writes and events; and over every history
+/// from there on, no more wait than the sockets had to tell, and what comes of rounds and of what the node does since.
+pub fn events_are_bounded()
+    ensures none { NoneWaits }
+    ensures bounded { EventsAreBounded }
+{}
+
+/// Of every flow: of the peers that the node was told of one at a time is neither admitted nor turned away; and where anything is
+/// asked for behind closings, connects, writes and events, it was told of each.
+pub fn peers_are_told()
+    ensures one { OneIsTold }
+    ensures all { AllAreTold }
+{}
+
+/// Of every history, between two reads of one connection: each other that stood in line then, and may be read all the while, is
+/// read.
+pub fn turns_are_shared()
+    ensures { TurnsAreShared }
 {}
 
 /// Of every history in which each peer is accepted where the flow asks for it: no more sockets announce an address than are to.

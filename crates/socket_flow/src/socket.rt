@@ -1,6 +1,7 @@
 ghost use Rattle.std.specs.Prelude.{◌≡◌, ◌+◌, ◌-◌, min, true, false, nat_lt, ◌&&◌, length, [], ◌++◌, drop, Some, IfOk, OnOk, OnErr};
 ghost use Rattle.socket_flow.specs.declared.socket.Stage.TheVariants.{Announcing};
 ghost use Rattle.socket_flow.specs.Stages.{heard_by, more_said, unheard};
+ghost use Rattle.socket_flow.specs.Rounds.{is_behind};
 ghost use Rattle.socket_flow.specs.Table.{is_linked};
 
 use crate::announcement::{Heard, announced_size, read_announcement};
@@ -70,7 +71,9 @@ impl Socket {
     }
 
     /// So much waits to be sent that nothing is to be read, where so much waits on all sockets.
-    pub(crate) fn is_behind(&self, unsent: usize) -> bool {
+    pub(crate) fn is_behind(&self, unsent: usize) -> bool
+        ensures { result ≡ is_behind self.now.out unsent }
+    {
         let own = self.unsent();
         own > UNSENT_EACH || (unsent > UNSENT_SOME && 0 < own)
     }

@@ -32,6 +32,13 @@ impl SocketTable {
         self.sockets.len()
     }
 
+    /// The key that the next socket is given.
+    pub(crate) fn next_key(&self) -> usize
+        ensures { result ≡ self.now.next_key }
+    {
+        self.next_key
+    }
+
     /// Takes a socket in, under a key of its own.
     pub(crate) fn insert(&mut self, socket: Socket) -> Result<usize, OutOfMemory>
         ensures key { IfOk result (λ key. key ≡ self.old.next_key) }

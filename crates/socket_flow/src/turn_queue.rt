@@ -1,5 +1,5 @@
-ghost use Rattle.std.specs.Prelude.{◌≡◌, [], ◌∷◌, length, IfSome, IfNone, OnOk, OnErr};
-ghost use Rattle.socket_flow.specs.Turns.{queued};
+ghost use Rattle.std.specs.Prelude.{◌≡◌, false, [], ◌∷◌, length, IfSome, IfNone, OnOk, OnErr};
+ghost use Rattle.socket_flow.specs.Turns.{has_turn, queued};
 
 use net_base::OutOfMemory;
 use std::alloc::Global;
@@ -61,6 +61,7 @@ impl TurnQueue {
     /// Whose turn it is, if any waits.
     pub(crate) fn pop(&mut self) -> Option<usize>
         ensures some { IfSome result (λ key. self.old ≡ key ∷ self.new) }
+        ensures once { IfSome result (λ key. has_turn self.new key ≡ false) }
         ensures none { IfNone result ((self.old ≡ []) × (self.new ≡ [])) }
     {
         let key = self.queue.pop_front()?;

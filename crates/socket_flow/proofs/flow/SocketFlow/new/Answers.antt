@@ -1,6 +1,8 @@
-use Rattle.std.proofs.Common.{◌≡◌, ℕ, arith, List, [], ◌∷◌, refl, ap}
+use Rattle.std.proofs.Common.{◌≡◌, ℕ, Bool, arith, List, [], ◌∷◌, refl, ap}
 use Rattle.std.specs.List.{sum_by}
 use Rattle.std.proofs.lemmas.List.Sums.{sum_by-cons}
+use Rattle.std.proofs.lemmas.Bool.{both_ways}
+use Rattle.socket_flow.specs.Table.{stage_at, stage_of, is_told, is_waiting}
 use Rattle.socket_flow.specs.Counts.{unsent_at, stranger_at}
 use Rattle.socket_flow.proofs.Bounded.{waits_on, stranger_of}
 use Rattle.socket_flow.proofs.flow.SocketFlow.new.Goals as goal
@@ -22,4 +24,6 @@ invariant_of-result c =
       counted = λ keys once. let sum = unsent keys in omega (arith, sum);
       bounded = λ keys once. let sum = unsent keys in omega (arith, sum);
       announces = λ keys once. let sum = strangers keys in omega (arith, sum);
+      alone = λ k told. absurd (both_ways (is_told (stage_at c.new.result k)) (ap {B = Bool} (λ s. is_told (stage_of s)) (none k)) told);
+      in_line = λ k waits. absurd (both_ways (is_waiting (stage_at c.new.result k)) (ap {B = Bool} (λ s. is_waiting (stage_of s)) (none k)) waits);
     }
