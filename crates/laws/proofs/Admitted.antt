@@ -14,7 +14,7 @@ use Rattle.net_base.specs.declared.action.CloseCause.TheVariants.{Overwritten}
 use Rattle.net_base.specs.declared.address.Addr.{Addr}
 use Rattle.net_base.specs.declared.connection.Facts.{Facts}
 use Rattle.net_base.specs.declared.connection.Phase.{Phase}
-use Rattle.net_base.specs.declared.connection.Phase.TheVariants.{Dialing, Greeting, Negotiated, Closing}
+use Rattle.net_base.specs.declared.connection.Phase.TheVariants.{Closing}
 use Rattle.machine.specs.Connections.{ending}
 use Rattle.machine.specs.Effect.{then_do}
 use Rattle.machine.specs.Events.{turned_away, admitted, crossed, accepted_beside, peer_connects}
@@ -23,16 +23,18 @@ use Rattle.laws.specs.Acts.{Act, asks_for_roots, connects, does}
 use Rattle.laws.specs.Admitted.{admitted_by, admitted_in, turned_away_by, turned_away_in, is_crossing, is_present, cause_against, IsTurnedAway, IsNew, IsLetIn, ByCause, AdmitsNobody, AdmitsRight}
 use Rattle.laws.specs.AtMoves.{OnEntry}
 use Rattle.laws.specs.Sound.{HasGivenId, IsOrderly}
+use Rattle.laws.specs.Parts.{IsNext}
 use Rattle.laws.proofs.Entries.{gone-orderly}
 use Rattle.laws.proofs.Finds.{find-none_passes}
 use Rattle.laws.proofs.Lists.{OnePasses, OnePasses-none_after, OnePasses-tail, find_some}
 use Rattle.laws.proofs.Silent.{IsOther, admitted-deaf, turned_away-deaf, part-silent, asks-silent}
 use Rattle.laws.proofs.Ties.{live_one, find-push_here}
-use Rattle.laws.proofs.WaitsOfParts.{Finds}
+use Rattle.laws.proofs.Walk.{Finds}
+use Rattle.laws.proofs.Cases.{by_bool}
 
 -- ---- what is found is what there is
 
-passes_of : (Entry → Bool) → Option Entry → Bool
+abbrev passes_of : (Entry → Bool) → Option Entry → Bool
 passes_of q None = false
 passes_of q (Some e) = q e
 
@@ -44,27 +46,20 @@ none-passes p q only (e ∷ es) h =
 
 -- where at most one passes a test, whatever passes a stricter one is it
 any-found : (p q : Entry → Bool) → ((e : Entry) → q e ≡ true → p e ≡ true) → (es : List Entry) → OnePasses p es → list_any q es ≡ passes_of q (find p es)
-unfolding passes_of
 any-found p q only [] one = refl
-any-found p q only (x ∷ es) one = by_test (p x) refl (any-found p q only es (OnePasses-tail p x es one))
-  where
-    or_none : (b : Bool) → (b || false) ≡ b
-    or_none true = refl
-    or_none false = refl
-
-    by_test : (b : Bool) → p x ≡ b → list_any q es ≡ passes_of q (find p es) → (q x || list_any q es) ≡ passes_of q (cond b (Some x) (find p es))
-    by_test true here rest = ap (λ b. q x || b) (none-passes p q only es (OnePasses-none_after p x es one here)) ∙ or_none (q x)
-    by_test false other rest =
-        ap (λ b. b || list_any q es) (false_from_ne_true (q x) (λ is. both_ways (p x) other (only x is))) ∙ rest
+any-found p q only (x ∷ es) one = by_bool (p x)
+    (λ b. list_any q es ≡ passes_of q (find p es) → (q x || list_any q es) ≡ passes_of q (cond b (Some x) (find p es)))
+    (λ here rest. ap (λ b. q x || b) (none-passes p q only es (OnePasses-none_after p x es one here)) ∙ by_bool (q x) (λ b. (b || false) ≡ b)
+    (λ is. refl) (λ is. refl))
+    (λ other rest.
+    ap (λ b. b || list_any q es) (false_from_ne_true (q x) (λ is. both_ways (p x) other (only x is))) ∙ rest) (any-found p q only es (OnePasses-tail p x es one))
 
 pub pending-live : (f : Facts) → is_pending f ≡ true → is_live f ≡ true
 pending-live f pending = by_phase f.phase (and_parts (is_outbound f) (opening_phase f.phase) pending).1
   where
     by_phase : (p : Phase) → opening_phase p ≡ true → live_phase p ≡ true
-    by_phase Dialing opening = refl
-    by_phase (Greeting until) opening = refl
-    by_phase Negotiated opening = refl
     by_phase (Closing until) opening = opening
+    by_phase other opening = refl
 
 pending-at : (addr : Addr) (e : Entry) → (same_address e.facts.addr addr && is_pending e.facts) ≡ true → is_live_at addr e.facts ≡ true
 pending-at addr e h =
@@ -122,7 +117,6 @@ away cause m = record { told = refl; admitted = refl; same = refl }
 by_live : (addr : Addr) (m : Machine) → IsOrderly m → (o : Option Entry) → live_entry_at addr m ≡ o →
     ByCause (if is_crossing addr m then (if address_below addr m.settings.own then None else Some Crossed) else (if is_present addr m then Some Present else None))
     addr m (accepted_beside o addr m)
-unfolding passes_of
 by_live addr m h None is =
     let alone : is_crossing addr m ≡ false = crossing-found addr m h ∙ ap (passes_of (λ e. same_address e.facts.addr addr && is_pending e.facts)) is in
     let absent : is_present addr m ≡ false = present-found addr m h ∙ ap (passes_of (λ e. is_live_at addr e.facts)) is in
@@ -138,42 +132,32 @@ by_live addr m h (Some e) is =
     subst (λ c. ByCause (if c then (if address_below addr m.settings.own then None else Some Crossed) else (if is_present addr m then Some Present else None))
     addr m (accepted_beside (Some e) addr m)) (sym same)
     (subst (λ c. ByCause (if is_pending e.facts then (if address_below addr m.settings.own then None else Some Crossed) else (if c then Some Present else None))
-    addr m (accepted_beside (Some e) addr m)) (sym there) (by_pending (is_pending e.facts)))
-  where
-    by_below : (b : Bool) → ByCause (if b then None else Some Crossed) addr m (if b then then_do (ending Overwritten e m) (admitted addr) else turned_away Crossed m)
-    by_below true = let-in_beside addr e m h
-    by_below false = away Crossed m
-
-    by_pending : (b : Bool) → ByCause (if b then (if address_below addr m.settings.own then None else Some Crossed) else Some Present) addr m
-        (if b then crossed addr e m else turned_away Present m)
-    by_pending true = by_below (address_below addr m.settings.own)
-    by_pending false = away Present m
+    addr m (accepted_beside (Some e) addr m)) (sym there) (by_bool (is_pending e.facts)
+    (λ b. ByCause (if b then (if address_below addr m.settings.own then None else Some Crossed) else Some Present) addr m (if b then crossed addr e m else turned_away Present m))
+    (λ is. by_bool (address_below addr m.settings.own)
+    (λ b. ByCause (if b then None else Some Crossed) addr m (if b then then_do (ending Overwritten e m) (admitted addr) else turned_away Crossed m))
+    (λ is. let-in_beside addr e m h) (λ is. away Crossed m)) (λ is. away Present m)))
 
 connects-admits : (addr : Addr) (m : Machine) → IsOrderly m → ByCause (cause_against addr m) addr m (peer_connects addr m)
-connects-admits addr m h = by_own (same_address addr m.settings.own)
-  where
-    against : Option Away
-    against = if is_crossing addr m then (if address_below addr m.settings.own then None else Some Crossed) else (if is_present addr m then Some Present else None)
-
-    by_room : (b : Bool) → ByCause (if b then Some Full else against) addr m (if b then turned_away Full m else accepted_beside (live_entry_at addr m) addr m)
-    by_room true = away Full m
-    by_room false = by_live addr m h (live_entry_at addr m) refl
-
-    by_own : (b : Bool) → ByCause (if b then Some OwnAddr else (if nat_le m.settings.hard (counted_in m) then Some Full else against)) addr m
-        (if b then turned_away OwnAddr m
-        else (if nat_le m.settings.hard (counted_in m) then turned_away Full m else accepted_beside (live_entry_at addr m) addr m))
-    by_own true = away OwnAddr m
-    by_own false = by_room (nat_le m.settings.hard (counted_in m))
+connects-admits addr m h =
+    let against : Option Away = if is_crossing addr m then (if address_below addr m.settings.own then None else Some Crossed) else (if is_present addr m then Some Present else None) in
+    by_bool (same_address addr m.settings.own)
+    (λ b. ByCause (if b then Some OwnAddr else (if nat_le m.settings.hard (counted_in m) then Some Full else against)) addr m
+    (if b then turned_away OwnAddr m
+    else (if nat_le m.settings.hard (counted_in m) then turned_away Full m else accepted_beside (live_entry_at addr m) addr m)))
+    (λ is. away OwnAddr m) (λ is. by_bool (nat_le m.settings.hard (counted_in m))
+    (λ b. ByCause (if b then Some Full else against) addr m (if b then turned_away Full m else accepted_beside (live_entry_at addr m) addr m))
+    (λ is. away Full m) (λ is. by_live addr m h (live_entry_at addr m) refl))
 
 -- ---- nothing else
 
-admits-nobody : (act : Act) (m : Machine) → IsOther act → AdmitsNobody (does act m)
-admits-nobody act m other = record {
-  admitted = part-silent admitted_by admitted-deaf (λ cid bytes. refl) act m other;
-  turned_away = part-silent turned_away_by turned_away-deaf (λ cid bytes. refl) act m other;
+admits-nobody : (act : Act) (m : Machine) → IsOther act → IsNext act m → Finds act m → AdmitsNobody (does act m)
+admits-nobody act m other next found = record {
+  admitted = part-silent admitted_by admitted-deaf (λ cid bytes. refl) act m other next found;
+  turned_away = part-silent turned_away_by turned_away-deaf (λ cid bytes. refl) act m other next found;
 }
 
-pub admits-right : (act : Act) (m : Machine) → Finds act m → AdmitsRight act m (does act m)
-admits-right (connects addr) m found = connects-admits addr m found
-admits-right asks_for_roots m found = record { admitted = asks-silent admitted_by (λ job. refl) m; turned_away = asks-silent turned_away_by (λ job. refl) m }
-admits-right other m found = admits-nobody other m tt
+pub admits-right : (act : Act) (m : Machine) → IsNext act m → Finds act m → AdmitsRight act m (does act m)
+admits-right (connects addr) m next found = connects-admits addr m found
+admits-right asks_for_roots m next found = record { admitted = asks-silent admitted_by (λ job. refl) m; turned_away = asks-silent turned_away_by (λ job. refl) m }
+admits-right other m next found = admits-nobody other m tt next found

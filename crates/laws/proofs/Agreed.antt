@@ -13,7 +13,7 @@ use Rattle.hs_message.specs.declared.message.Message.{Message}
 use Rattle.mux_segment.specs.declared.item.Item.{Item}
 use Rattle.net_base.specs.declared.connection.Cid.{Cid}
 use Rattle.net_base.specs.declared.connection.Phase.{Phase}
-use Rattle.net_base.specs.declared.connection.Phase.TheVariants.{Dialing, Greeting, Negotiated, Closing}
+use Rattle.net_base.specs.declared.connection.Phase.TheVariants.{Greeting}
 use Rattle.net_base.specs.declared.connection.Provenance.{Provenance}
 use Rattle.net_base.specs.declared.connection.Provenance.TheVariants.{FromRemote, FromLocal}
 use Rattle.machine.specs.Greeting.{role_of}
@@ -23,16 +23,14 @@ use Rattle.laws.specs.Acts.{Act, handles_item, does}
 use Rattle.laws.specs.Agreed.{agreement_of, agreement_in, WhereNegotiated, AgreesRight}
 use Rattle.laws.specs.CarriedOut.{WhereGreeting}
 use Rattle.laws.specs.Untouched.{IsAsItWas}
-use Rattle.laws.proofs.Turned.{taken, turned_by_verdict, turned_by_message, turned_by_item, part-becomes}
-use Rattle.laws.proofs.WaitsOfParts.{Finds}
+use Rattle.laws.proofs.Turned.{turned_by_verdict, turned_by_message, turned_by_item, part-becomes}
+use Rattle.laws.proofs.Walk.{Finds, taken}
+use Rattle.laws.proofs.Cases.{by_option}
 
 verdict-agrees : (v : Verdict) (e f : Entry) (m : Machine) → turned_by_verdict v e m ≡ Some f → f.facts.agreed ≡ agreement_of v
 verdict-agrees (verdict.Accept agreed) e f m is = let it : record e { facts = agreed_inbound agreed (m.now + m.settings.idle) e.facts } ≡ f = cc in ap (λ x. x.facts.agreed) (sym it)
-verdict-agrees (verdict.Refuse why) e f m is = absurd cc
-verdict-agrees verdict.Query e f m is = absurd cc
 verdict-agrees (verdict.Agree agreed) e f m is = let it : taken (agreed_outbound agreed (m.now + m.settings.idle) e.facts) e m ≡ f = cc in ap (λ x. x.facts.agreed) (sym it)
-verdict-agrees verdict.Refused e f m is = absurd cc
-verdict-agrees verdict.Wrong e f m is = absurd cc
+verdict-agrees other e f m is = absurd cc
 
 role-is : (p : Provenance) → role_of p ≡ (if is_outbound_by p then Dialer else Acceptor)
 role-is FromRemote = refl
@@ -47,21 +45,17 @@ message-agrees (Some message) e f m is =
 
 handled-agrees : (p : Phase) (item : Item) (e : Entry) (m : Machine) (o : Option Entry) → IsAsItWas (turned_by_item p item e m) o → is_greeting_phase p ≡ true →
     WhereNegotiated o (λ f. f.facts.agreed ≡ agreement_in e.facts item m.settings)
-handled-agrees Dialing item e m o becomes greeting = absurd (false≢true greeting)
 handled-agrees (Greeting until) item e m None becomes greeting = tt
 handled-agrees (Greeting until) item e m (Some f) becomes greeting = λ negotiated. message-agrees (message_of item.body) e f m becomes
-handled-agrees Negotiated item e m o becomes greeting = absurd (false≢true greeting)
-handled-agrees (Closing until) item e m o becomes greeting = absurd (false≢true greeting)
+handled-agrees other item e m o becomes greeting = absurd (false≢true greeting)
 
 item-agrees : (own : Cid) (item : Item) (m : Machine) → Finds (handles_item own item) m → AgreesRight (handles_item own item) m (does (handles_item own item) m).machine
-item-agrees own item m found = by_entry (entry_at own.0 m) refl
-  where
-    after : Option Entry
-    after = entry_at own.0 (does (handles_item own item) m).machine
-
-    by_entry : (o : Option Entry) → entry_at own.0 m ≡ o → WhereGreeting o (λ e. WhereNegotiated after (λ f. f.facts.agreed ≡ agreement_in e.facts item m.settings))
-    by_entry None is = tt
-    by_entry (Some e) is = handled-agrees e.facts.phase item e m after (part-becomes (handles_item own item) m found own.0 e (eq-eqb own.0 own.0 refl) is)
+item-agrees own item m found =
+    let after : Option Entry = entry_at own.0 (does (handles_item own item) m).machine in
+    by_option (entry_at own.0 m)
+    (λ o. WhereGreeting o (λ e. WhereNegotiated after (λ f. f.facts.agreed ≡ agreement_in e.facts item m.settings)))
+    (λ is. tt)
+    (λ e is. handled-agrees e.facts.phase item e m after (part-becomes (handles_item own item) m found own.0 e (eq-eqb own.0 own.0 refl) is))
 
 pub agrees-right : (act : Act) (m : Machine) → Finds act m → AgreesRight act m (does act m).machine
 agrees-right (handles_item cid item) m found = item-agrees cid item m found

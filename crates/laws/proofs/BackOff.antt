@@ -28,7 +28,7 @@ use Rattle.net_base.specs.declared.address.Addr.{Addr}
 use Rattle.net_base.specs.declared.connection.Cid.{Cid}
 use Rattle.net_base.specs.declared.connection.Facts.{Facts}
 use Rattle.net_base.specs.declared.connection.Phase.{Phase}
-use Rattle.net_base.specs.declared.connection.Phase.TheVariants.{Dialing, Greeting, Negotiated, Closing}
+use Rattle.net_base.specs.declared.connection.Phase.TheVariants.{Greeting, Negotiated}
 use Rattle.net_base.specs.declared.peer.Peer.{Peer}
 use Rattle.net_base.specs.declared.peer.Temp.TheVariants.{Cold, Warm, Hot}
 use Rattle.net_base.specs.declared.timer.Deadline.{Deadline}
@@ -64,23 +64,21 @@ use Rattle.laws.proofs.CarriedOut.{changed-orderly, treats-book}
 use Rattle.laws.proofs.Entries.{turned-orderly}
 use Rattle.laws.proofs.Failures.{changed-found, ending-failed, vanishes-failed}
 use Rattle.laws.proofs.Goes.{vanishes-none}
-use Rattle.laws.proofs.Handshakes.{answer-machine}
+use Rattle.laws.proofs.Walk.{answer-machine, says_done-machine, replies-machine, Finds}
 use Rattle.laws.proofs.Keeping.{note-machine}
 use Rattle.laws.proofs.Lawful.{stands-found}
 use Rattle.laws.proofs.Lists.{StandsAt, FoundIn, find_some, any-at, All-stands}
 use Rattle.laws.proofs.Moments.{ending-none, turned-found}
-use Rattle.laws.proofs.Orders.{says_done-machine}
 use Rattle.laws.proofs.Pruning.{chosen-goes}
 use Rattle.laws.proofs.Shapes.{local-negotiated}
-use Rattle.laws.proofs.Talks.{replies-machine}
 use Rattle.laws.proofs.Ties.{put_in-elsewhere, none_there, taken-elsewhere, taken-here, turns_at-elsewhere}
 use Rattle.laws.proofs.ToldMoves.{turns_at-connections}
-use Rattle.laws.proofs.WaitsOfParts.{Finds}
 use Rattle.laws.proofs.WholeMoves.{pending-unnegotiated}
+use Rattle.laws.proofs.Cases.{by_bool, by_option}
 
 -- ---- whoever is there is there still, and remembered as before
 
-StillAt : Option Peer → Option Peer → Type 0
+abbrev StillAt : Option Peer → Option Peer → Type 0
 StillAt None after = Unit {0}
 StillAt (Some p) None = ⊥
 StillAt (Some p) (Some q) = IsRemembered p q
@@ -89,12 +87,10 @@ same-remembered : (p : Peer) → IsRemembered p p
 same-remembered p = record { failures = refl; not_before = refl; share_next = refl }
 
 still_itself : (o : Option Peer) → StillAt o o
-unfolding StillAt
 still_itself None = tt
 still_itself (Some p) = same-remembered p
 
 still_then : (a b c : Option Peer) → StillAt a b → StillAt b c → StillAt a c
-unfolding StillAt
 still_then None b c one two = tt
 still_then (Some p) None c one two = elim one [ ]
 still_then (Some p) (Some q) None one two = elim two [ ]
@@ -102,7 +98,6 @@ still_then (Some p) (Some q) (Some r) one two =
     record { failures = two.failures ∙ one.failures; not_before = two.not_before ∙ one.not_before; share_next = two.share_next ∙ one.share_next }
 
 still_both : (a b : Option Peer) → StillAt a b → WhereBoth IsRemembered a b
-unfolding StillAt
 still_both None b still = tt
 still_both (Some p) None still = tt
 still_both (Some p) (Some q) still = still
@@ -128,19 +123,17 @@ both-others a m n o one two b other = still_then (peer_at b m) (peer_at b n) (pe
 
 -- ---- a peer that has not failed
 
-SparedAt : Option Peer → Option Peer → Type 0
+abbrev SparedAt : Option Peer → Option Peer → Type 0
 SparedAt None after = Unit {0}
 SparedAt (Some p) None = ⊥
 SparedAt (Some p) (Some q) = IsSpared p q
 
 still_spared : (a b : Option Peer) → StillAt a b → SparedAt a b
-unfolding StillAt SparedAt
 still_spared None b still = tt
 still_spared (Some p) None still = still
 still_spared (Some p) (Some q) still = record { failures = let same = still.failures in omega arith; not_before = still.not_before }
 
 spared_then : (a b c : Option Peer) → SparedAt a b → StillAt b c → SparedAt a c
-unfolding StillAt SparedAt
 spared_then None b c one two = tt
 spared_then (Some p) None c one two = elim one [ ]
 spared_then (Some p) (Some q) None one two = elim two [ ]
@@ -148,7 +141,6 @@ spared_then (Some p) (Some q) (Some r) one two =
     record { failures = let few = one.failures in let same = two.failures in omega arith; not_before = two.not_before ∙ one.not_before }
 
 spared_both : (a b : Option Peer) → SparedAt a b → WhereBoth IsSpared a b
-unfolding SparedAt
 spared_both None b spared = tt
 spared_both (Some p) None spared = tt
 spared_both (Some p) (Some q) spared = spared
@@ -167,43 +159,31 @@ changed-others : (a : Addr) (change : Peer → Peer) (m : Machine) → ((p : Pee
 changed-others a change m same b other = subst (StillAt (peer_at b m)) (sym (turns_at-elsewhere a change m same b other)) (still_itself (peer_at b m))
 
 changed-still : (a : Addr) (change : Peer → Peer) (m : Machine) → ((p : Peer) → (change p).addr ≡ p.addr) → ((p : Peer) → IsRemembered p (change p)) → Still m (peer_changes a change m).machine
-unfolding StillAt
-changed-still a change m same keeps b = by_test (same_address b a) refl
-  where
-    by_peer : (o : Option Peer) → StillAt o (option_map change o)
-    by_peer None = tt
-    by_peer (Some p) = keeps p
-
-    by_test : (c : Bool) → same_address b a ≡ c → StillAt (peer_at b m) (peer_at b (peer_changes a change m).machine)
-    by_test true is = subst (λ x. StillAt (peer_at x m) (peer_at x (peer_changes a change m).machine)) (sym (same_address-true b a is))
-        (subst (StillAt (peer_at a m)) (sym (changed-found a change m same)) (by_peer (peer_at a m)))
-    by_test false other = changed-others a change m same b other
+changed-still a change m same keeps b = by_bool (same_address b a) (λ c. StillAt (peer_at b m) (peer_at b (peer_changes a change m).machine))
+    (λ is. subst (λ x. StillAt (peer_at x m) (peer_at x (peer_changes a change m).machine)) (sym (same_address-true b a is))
+    (subst (StillAt (peer_at a m)) (sym (changed-found a change m same)) (by_option (peer_at a m) (λ o. StillAt o (option_map change o))
+    (λ is. tt) (λ p is. keeps p))))
+    (λ other. changed-others a change m same b other)
 
 becomes-still : (t : _) (a : Addr) (m : Machine) → Still m (peer_becomes t a m).machine
 becomes-still t a m = changed-still a (λ p. record p { temp = t }) m (λ p. refl) (λ p. record { failures = refl; not_before = refl; share_next = refl })
 
 comes-still : (big : Bool) (a : Addr) (m : Machine) → Still m (peer_comes big a m).machine
-unfolding StillAt
 comes-still big a m =
     subst (λ n. Still m n) (sym (note-machine (entry_of a m.peers) a (record m { peers = entered (new_peer big a) m.peers })))
-    (by_there (is_some (peer_at a m)) refl)
+    (by_bool (is_some (peer_at a m))
+    (λ c. Still m (record m { peers = entered_by (if c then Present else if nat_le most_peers (length m.peers) then Full else New) (new_peer big a) m.peers }))
+    (λ is. same-still m m refl) (λ is. by_room (none_there (peer_at a m) is) (nat_le most_peers (length m.peers))))
   where
     comes : peer_at a m ≡ None → Still m (record m { peers = entered_by New (new_peer big a) m.peers })
-    comes none b = by_test (same_address b a) refl
-      where
-        by_test : (c : Bool) → same_address b a ≡ c → StillAt (peer_at b m) (peer_at b (record m { peers = entered_by New (new_peer big a) m.peers }))
-        by_test true is =
-            subst (λ o. StillAt o (peer_at b (record m { peers = entered_by New (new_peer big a) m.peers }))) (sym (ap (λ x. peer_at x m) (same_address-true b a is) ∙ none)) tt
-        by_test false other = subst (StillAt (peer_at b m)) (sym (put_in-elsewhere (new_peer big a) b m.peers other)) (still_itself (peer_at b m))
+    comes none b = by_bool (same_address b a) (λ c. StillAt (peer_at b m) (peer_at b (record m { peers = entered_by New (new_peer big a) m.peers })))
+        (λ is.
+        subst (λ o. StillAt o (peer_at b (record m { peers = entered_by New (new_peer big a) m.peers }))) (sym (ap (λ x. peer_at x m) (same_address-true b a is) ∙ none)) tt)
+        (λ other. subst (StillAt (peer_at b m)) (sym (put_in-elsewhere (new_peer big a) b m.peers other)) (still_itself (peer_at b m)))
 
     by_room : peer_at a m ≡ None → (c : Bool) → Still m (record m { peers = entered_by (if c then Full else New) (new_peer big a) m.peers })
     by_room none true = same-still m m refl
     by_room none false = comes none
-
-    by_there : (c : Bool) → is_some (peer_at a m) ≡ c →
-        Still m (record m { peers = entered_by (if c then Present else if nat_le most_peers (length m.peers) then Full else New) (new_peer big a) m.peers })
-    by_there true is = same-still m m refl
-    by_there false is = by_room (none_there (peer_at a m) is) (nat_le most_peers (length m.peers))
 
 -- ---- a connection goes
 
@@ -212,12 +192,8 @@ lost-others f m = cond_both (is_missed f) (peer_fails f.addr m) (nothing_more m)
     (λ missed. changed-others f.addr (failed_peer m.now m.settings.backoff) m (λ p. refl)) (λ other. still-others f.addr m m (same-still m m refl))
 
 lost_by-others : (cause : CloseCause) (f : Facts) (m : Machine) → Others f.addr m (lost_by cause f m).machine
-lost_by-others Unused f m = lost-others f m
-lost_by-others Pruned f m = lost-others f m
 lost_by-others Overwritten f m = still-others f.addr m m (same-still m m refl)
-lost_by-others Refused f m = lost-others f m
-lost_by-others Query f m = lost-others f m
-lost_by-others (Fault kind) f m = lost-others f m
+lost_by-others other f m = lost-others f m
 
 -- where it is not missed, its peer stays as it was
 unmissed-spared : (e : Entry) (m n : Machine) → entry_at e.facts.cid.0 n ≡ None → (fails : Bool) → (fails ≡ true → is_missed e.facts ≡ true) → FailsWhere fails e m n →
@@ -233,12 +209,8 @@ ending-beside cause e m = record {
 }
   where
     missed : (c : CloseCause) → is_failure c e.facts ≡ true → is_missed e.facts ≡ true
-    missed Unused is = is
-    missed Pruned is = is
     missed Overwritten is = absurd (false≢true is)
-    missed Refused is = is
-    missed Query is = is
-    missed (Fault kind) is = is
+    missed other is = is
 
 vanishes-beside : (e : Entry) (m : Machine) → Beside e m (vanishes e m).machine
 vanishes-beside e m = record {
@@ -251,24 +223,18 @@ unmissed-peers : (e : Entry) (m : Machine) → is_missed e.facts ≡ false → (
 unmissed-peers e m unmissed = rw unmissed refl
 
 pub candidate-unmissed : (f : Facts) → is_candidate f ≡ true → is_missed f ≡ false
-candidate-unmissed f may = by_pending (is_pending f) refl
+candidate-unmissed f may = by_bool (is_pending f) (λ b. (f.local || b) ≡ false)
+    (λ is. absurd (both_ways (is_counted f) (uncounted is) parts.0)) (λ is. ap (λ b. b || false) (by_bool f.local (λ b. not b ≡ true → b ≡ false)
+    (λ is h. absurd (false≢true h)) (λ is h. refl) parts.1))
   where
     parts : (is_counted f ≡ true) × (not f.local ≡ true)
     parts = and_parts (is_counted f) (not f.local) may
-
-    idle_ : (b : Bool) → not b ≡ true → b ≡ false
-    idle_ true h = absurd (false≢true h)
-    idle_ false h = refl
 
     uncounted : is_pending f ≡ true → is_counted f ≡ false
     uncounted pending =
         let none : is_negotiated f ≡ false = pending-unnegotiated f pending in
         let out : is_outbound f ≡ true = (and_parts (is_outbound f) (opening_phase f.phase) pending).0 in
         rw (none, out) refl
-
-    by_pending : (b : Bool) → is_pending f ≡ b → (f.local || b) ≡ false
-    by_pending true is = absurd (both_ways (is_counted f) (uncounted is) parts.0)
-    by_pending false is = ap (λ b. b || false) (idle_ f.local parts.1)
 
 -- who is pruned could go, and then nobody fails, or is the one that moved
 trim-by : (Law : Machine → Type 0) (moved : Entry) (m : Machine) → IsOrderly m → ((n : Machine) → n.peers ≡ m.peers → Law n) →
@@ -281,14 +247,12 @@ trim-by Law moved m h same own = cond_both (nat_le (counted_in m) m.settings.har
 
     by_entry : (o : Option Entry) → entry_at goes.0 m ≡ o → Law (on_entry o (ending Pruned) m).machine
     by_entry None is = same m refl
-    by_entry (Some e) is = by_own (e.facts.cid.0 == moved.facts.cid.0) refl (chosen-goes moved.facts.cid m h e is)
-      where
-        by_own : (b : Bool) → (e.facts.cid.0 == moved.facts.cid.0) ≡ b → (b || is_candidate e.facts) ≡ true → Law (ending Pruned e m).machine
-        by_own true mine may =
-            let at : FoundIn (λ x. has_id goes.0 x.facts) m.connections e = find_some (λ x. has_id goes.0 x.facts) m.connections e is in
-            let id : e.facts.cid.0 ≡ moved.facts.cid.0 = eqb-true e.facts.cid.0 moved.facts.cid.0 mine in
-            own e id (subst (λ c. entry_at c m ≡ Some e) id (stands-found m e at.place h at.stands))
-        by_own false other may = same (ending Pruned e m).machine (unmissed-peers e m (candidate-unmissed e.facts may))
+    by_entry (Some e) is = by_bool (e.facts.cid.0 == moved.facts.cid.0) (λ b. (b || is_candidate e.facts) ≡ true → Law (ending Pruned e m).machine)
+        (λ mine may.
+        let at : FoundIn (λ x. has_id goes.0 x.facts) m.connections e = find_some (λ x. has_id goes.0 x.facts) m.connections e is in
+        let id : e.facts.cid.0 ≡ moved.facts.cid.0 = eqb-true e.facts.cid.0 moved.facts.cid.0 mine in
+        own e id (subst (λ c. entry_at c m ≡ Some e) id (stands-found m e at.place h at.stands)))
+        (λ other may. same (ending Pruned e m).machine (unmissed-peers e m (candidate-unmissed e.facts may))) (chosen-goes moved.facts.cid m h e is)
 
 trim-beside : (moved : Entry) (m : Machine) → IsOrderly m → ((e : Entry) → entry_at moved.facts.cid.0 m ≡ Some e → e.facts ≡ moved.facts) → Beside moved m (trim moved.facts.cid m).machine
 trim-beside moved m h here =
@@ -302,19 +266,13 @@ pub trim-peers : (moved : Entry) (m : Machine) → IsOrderly m → ((e : Entry) 
 trim-peers moved m h unmissed = trim-by (λ n. n.peers ≡ m.peers) moved m h (λ n same. same) (λ e id found. unmissed-peers e m (unmissed e found))
 
 pub idle-unmissed : (f : Facts) → is_negotiated f ≡ true → is_pending f ≡ false
-idle-unmissed f open_ = by_pending (is_pending f) refl
-  where
-    by_pending : (b : Bool) → is_pending f ≡ b → b ≡ false
-    by_pending true is = absurd (both_ways (is_negotiated f) (pending-unnegotiated f is) open_)
-    by_pending false is = refl
+idle-unmissed f open_ = by_bool (is_pending f) (λ b. b ≡ false)
+    (λ is. absurd (both_ways (is_negotiated f) (pending-unnegotiated f is) open_)) (λ is. refl)
 
 -- what a connection turned into is found in its place
 pub turned-is : (e new : Entry) (m : Machine) → new.facts.cid ≡ e.facts.cid → (law : Entry → Type 0) → law new → (f : Entry) → entry_at e.facts.cid.0 (with_entry new m) ≡ Some f → law f
-turned-is e new m same law holds f is = by_found (entry_at e.facts.cid.0 m) (sym (turned-found e new m same) ∙ is)
-  where
-    by_found : (o : Option Entry) → option_map (λ x. new) o ≡ Some f → law f
-    by_found None never = absurd cc
-    by_found (Some y) same = subst law (let s : new ≡ f = cc in s) holds
+turned-is e new m same law holds f is = by_option (entry_at e.facts.cid.0 m) (λ o. option_map (λ x. new) o ≡ Some f → law f)
+    (λ is never. absurd cc) (λ y is same. subst law (let s : new ≡ f = cc in s) holds) (sym (turned-found e new m same) ∙ is)
 
 -- ---- a deadline
 
@@ -325,14 +283,11 @@ fired-beside kind.Grace e m = still-beside e m (grace_over e m).machine (same-st
     (as_move (unused e.facts.cid.0) m (then_do (tells (Close e.facts.cid Unused ∷ []) m) (entry_turns e (closing_entry m e))))
     (λ effect. effect.machine.peers ≡ m.peers) (λ local. refl) (λ idle. refl)))
 fired-beside kind.TimeWait e m = still-beside e m (fires_as kind.TimeWait e m).machine (same-still m (fires_as kind.TimeWait e m).machine refl)
-fired-beside kind.Reply2 e m = ending-beside (Fault ReplyWait) e m
-fired-beside kind.Reply8 e m = ending-beside (Fault ReplyWait) e m
-fired-beside kind.Reply10 e m = ending-beside (Fault ReplyWait) e m
+fired-beside other e m = ending-beside (Fault ReplyWait) e m
 
 -- ---- an item
 
 judged-beside : (v : Verdict) (e : Entry) (m : Machine) → Beside e m (judged v e m).machine
-unfolding SparedAt
 judged-beside (verdict.Accept agreed) e m = still-beside e m (judged (verdict.Accept agreed) e m).machine (same-still m (judged (verdict.Accept agreed) e m).machine refl)
 judged-beside (verdict.Refuse why) e m = ending-beside Refused e m
 judged-beside verdict.Query e m = ending-beside Query e m
@@ -384,26 +339,20 @@ begins-beside protocol m e k h s = cond_both (runs protocol e.facts.running) (no
 asked_as-beside : (r : Result Seen FaultKind) (protocol : ℕ) (m : Machine) (e : Entry) (k : ℕ) → IsOrderly m → StandsAt m.connections k e → Beside e m (asked_as r protocol e m).machine
 asked_as-beside (Err kind) protocol m e k h s = ending-beside (Fault kind) e m
 asked_as-beside (Ok seen) protocol m e k h s =
+    let first : Effect = begins protocol e m in
+    let n : Machine = first.machine in
     cond_both (takes_requests e) (then_do first (on_connection e.facts.cid (serves seen protocol))) (ending (Fault Protocol) e m) (λ effect. Beside e m effect.machine)
-    (λ takes. by_entry (entry_at e.facts.cid.0 n) refl (begins-beside protocol m e k h s)) (λ other. ending-beside (Fault Protocol) e m)
-  where
-    first : Effect
-    first = begins protocol e m
-
-    n : Machine
-    n = first.machine
-
-    by_entry : (o : Option Entry) → entry_at e.facts.cid.0 n ≡ o → Beside e m n → Beside e m (on_entry o (serves seen protocol) n).machine
-    by_entry None is begun = begun
-    by_entry (Some f) is begun =
-        let still : Still n (serves seen protocol f n).machine = serves-still seen protocol (Some f) n in
-        record {
-          others = both-others e.facts.addr m n (serves seen protocol f n).machine begun.others (still-others e.facts.addr n (serves seen protocol f n).machine still);
-          own = elim begun.own [
-            | inl lost ↦ absurd (let never : Some f ≡ None = sym is ∙ lost.1 in cc)
-            | inr spared ↦ inr (spared_then (peer_at e.facts.addr m) (peer_at e.facts.addr n) (peer_at e.facts.addr (serves seen protocol f n).machine) spared (still e.facts.addr))
-          ];
-        }
+    (λ takes. by_option (entry_at e.facts.cid.0 n) (λ o. Beside e m n → Beside e m (on_entry o (serves seen protocol) n).machine)
+    (λ is begun. begun)
+    (λ f is begun.
+    let still : Still n (serves seen protocol f n).machine = serves-still seen protocol (Some f) n in
+    record {
+      others = both-others e.facts.addr m n (serves seen protocol f n).machine begun.others (still-others e.facts.addr n (serves seen protocol f n).machine still);
+      own = elim begun.own [
+        | inl lost ↦ absurd (let never : Some f ≡ None = sym is ∙ lost.1 in cc)
+        | inr spared ↦ inr (spared_then (peer_at e.facts.addr m) (peer_at e.facts.addr n) (peer_at e.facts.addr (serves seen protocol f n).machine) spared (still e.facts.addr))
+      ];
+    }) (begins-beside protocol m e k h s)) (λ other. ending-beside (Fault Protocol) e m)
 
 shares-still : (addrs : List Addr) (m : Machine) → Still m (for_each shares_address addrs m).machine
 unfolding for_each
@@ -441,10 +390,9 @@ talks-beside item m e k h s =
     (λ answers. answered_as-beside (reply_on item.id e) item e m)
 
 handled-beside : (p : Phase) (item : Item) (m : Machine) (e : Entry) (k : ℕ) → IsOrderly m → StandsAt m.connections k e → Beside e m (handled_in p item e m).machine
-handled-beside Dialing item m e k h s = still-beside e m m (same-still m m refl)
 handled-beside (Greeting until) item m e k h s = greets-beside item e m
 handled-beside Negotiated item m e k h s = talks-beside item m e k h s
-handled-beside (Closing until) item m e k h s = still-beside e m m (same-still m m refl)
+handled-beside other item m e k h s = still-beside e m m (same-still m m refl)
 
 -- ---- on a connection
 
@@ -485,14 +433,12 @@ record Treats (o : Option Entry) (m n : Machine) : Type 0 where
 
 beside : (cid : ℕ) (act : Entry → Machine → Effect) (m : Machine) → ((e : Entry) (k : ℕ) → StandsAt m.connections k e → Beside e m (act e m).machine) →
     Treats (entry_at cid m) m (on_entry (entry_at cid m) act m).machine
-beside cid act m each = by_entry (entry_at cid m) refl
-  where
-    by_entry : (o : Option Entry) → entry_at cid m ≡ o → Treats o m (on_entry o act m).machine
-    by_entry None is = record { remembered = all-remembered m m (same-still m m refl); fails = still-fails m m (same-still m m refl) }
-    by_entry (Some e) is =
-        let at : FoundIn (λ x. has_id cid x.facts) m.connections e = find_some (λ x. has_id cid x.facts) m.connections e is in
-        let b : Beside e m (act e m).machine = each e at.place at.stands in
-        record { remembered = others-remembered e.facts.addr m (act e m).machine b.others; fails = beside-fails e at.place m (act e m).machine at.stands b }
+beside cid act m each = by_option (entry_at cid m) (λ o. Treats o m (on_entry o act m).machine)
+    (λ is. record { remembered = all-remembered m m (same-still m m refl); fails = still-fails m m (same-still m m refl) })
+    (λ e is.
+    let at : FoundIn (λ x. has_id cid x.facts) m.connections e = find_some (λ x. has_id cid x.facts) m.connections e is in
+    let b : Beside e m (act e m).machine = each e at.place at.stands in
+    record { remembered = others-remembered e.facts.addr m (act e m).machine b.others; fails = beside-fails e at.place m (act e m).machine at.stands b })
 
 dialed-beside : (opened : Bool) (e : Entry) (m : Machine) → Beside e m (dialed opened e m).machine
 dialed-beside opened e m =
@@ -515,11 +461,9 @@ faulted-beside (Some fault) e m = ending-beside (Fault (kind_of fault)) e m
 both-at : (law : Peer → Peer → Type 0) (a : Addr) (change : Peer → Peer) (m n : Machine) → n.peers ≡ m.peers → ((p : Peer) → (change p).addr ≡ p.addr) → ((p : Peer) → law p (change p)) →
     WhereBoth law (peer_at a m) (peer_at a (peer_changes a change n).machine)
 both-at law a change m n same_book same each =
-    subst (WhereBoth law (peer_at a m)) (sym (changed-found a change n same ∙ ap (λ ps. option_map change (peer_at a (record m { peers = ps }))) same_book)) (by_peer (peer_at a m))
-  where
-    by_peer : (o : Option Peer) → WhereBoth law o (option_map change o)
-    by_peer None = tt
-    by_peer (Some p) = each p
+    subst (WhereBoth law (peer_at a m)) (sym (changed-found a change n same ∙ ap (λ ps. option_map change (peer_at a (record m { peers = ps }))) same_book)) (by_option (peer_at a m)
+    (λ o. WhereBoth law o (option_map change o))
+    (λ is. tt) (λ p is. each p))
 
 same-at : (law : Peer → Peer → Type 0) → ((p : Peer) → law p p) → (o : Option Peer) → WhereBoth law o o
 same-at law each None = tt
@@ -546,7 +490,19 @@ asks-remembers addr n m = by_entry (find (is_used_at addr) m.connections) refl
         )
 
 promotes-remembers : (addr : Addr) (m : Machine) → RemembersByOrder (Promote addr) m (carries_out (Promote addr) m).machine
-promotes-remembers addr m = by_live (live_entry_at addr m) refl
+promotes-remembers addr m = by_option (live_entry_at addr m) (λ o. Right (promoted_at o addr m).machine)
+    (λ is. unchanged (dial addr m).machine refl)
+    (λ e is. cond_both (is_acquirable e.facts) (acquire e m) (dial addr m) (λ effect. Right effect.machine)
+    (λ free.
+    let at = find_some (λ x. is_live_at addr x.facts) m.connections e is in
+    let here : e.facts.addr ≡ addr = same_address-true e.facts.addr addr (and_parts (same_address e.facts.addr addr) (is_live e.facts) at.passes).0 in
+    let change : Peer → Peer = λ p. record p { temp = Warm; failures = 0 } in
+    let n : Machine = with_entry (owing 8 (e.facts.cid.0 % 65536) m (record e { facts = acquired e.facts })) m in
+    subst (λ a. OthersRemembered a m (acquire e m).machine × WhereBoth IsTaken (peer_at a m) (peer_at a (acquire e m).machine)) here (
+      others-remembered e.facts.addr m (acquire e m).machine (changed-others e.facts.addr change n (λ p. refl)),
+      both-at IsTaken e.facts.addr change m n refl (λ p. refl) (λ p. record { failures = omega arith; not_before = refl; share_next = refl }),
+    ))
+    (λ other. unchanged (dial addr m).machine refl))
   where
     Right : Machine → Type 0
     Right n = OthersRemembered addr m n × WhereBoth IsTaken (peer_at addr m) (peer_at addr n)
@@ -558,63 +514,42 @@ promotes-remembers addr m = by_live (live_entry_at addr m) refl
           (same-at IsTaken (λ p. record { failures = omega arith; not_before = refl; share_next = refl }) (peer_at addr m)),
     )
 
-    by_live : (o : Option Entry) → live_entry_at addr m ≡ o → Right (promoted_at o addr m).machine
-    by_live None is = unchanged (dial addr m).machine refl
-    by_live (Some e) is = cond_both (is_acquirable e.facts) (acquire e m) (dial addr m) (λ effect. Right effect.machine)
-        (λ free.
-        let at = find_some (λ x. is_live_at addr x.facts) m.connections e is in
-        let here : e.facts.addr ≡ addr = same_address-true e.facts.addr addr (and_parts (same_address e.facts.addr addr) (is_live e.facts) at.passes).0 in
-        let change : Peer → Peer = λ p. record p { temp = Warm; failures = 0 } in
-        let n : Machine = with_entry (owing 8 (e.facts.cid.0 % 65536) m (record e { facts = acquired e.facts })) m in
-        subst (λ a. OthersRemembered a m (acquire e m).machine × WhereBoth IsTaken (peer_at a m) (peer_at a (acquire e m).machine)) here (
-          others-remembered e.facts.addr m (acquire e m).machine (changed-others e.facts.addr change n (λ p. refl)),
-          both-at IsTaken e.facts.addr change m n refl (λ p. refl) (λ p. record { failures = omega arith; not_before = refl; share_next = refl }),
-        ))
-        (λ other. unchanged (dial addr m).machine refl)
-
 forgets-remembers : (addr : Addr) (m : Machine) → AllRemembered m (peer_goes addr m).machine
-forgets-remembers addr m b = by_test (same_address b addr) refl
+forgets-remembers addr m b = by_bool (same_address b addr) (λ c. WhereBoth IsRemembered (peer_at b m) (peer_at b (peer_goes addr m).machine))
+    (λ is. subst (WhereBoth IsRemembered (peer_at b m)) (sym (ap (λ x. peer_at x (peer_goes addr m).machine) (same_address-true b addr is) ∙ taken-here addr m.peers)) (none-after (peer_at b m)))
+    (λ other. subst (WhereBoth IsRemembered (peer_at b m)) (sym (taken-elsewhere addr b m.peers other)) (same-at IsRemembered (same-remembered) (peer_at b m)))
   where
     none-after : (o : Option Peer) → WhereBoth IsRemembered o None
     none-after None = tt
     none-after (Some p) = tt
 
-    by_test : (c : Bool) → same_address b addr ≡ c → WhereBoth IsRemembered (peer_at b m) (peer_at b (peer_goes addr m).machine)
-    by_test true is = subst (WhereBoth IsRemembered (peer_at b m)) (sym (ap (λ x. peer_at x (peer_goes addr m).machine) (same_address-true b addr is) ∙ taken-here addr m.peers)) (none-after (peer_at b m))
-    by_test false other = subst (WhereBoth IsRemembered (peer_at b m)) (sym (taken-elsewhere addr b m.peers other)) (same-at IsRemembered (same-remembered) (peer_at b m))
-
 -- a release is no failure
 releases-remembers : (addr : Addr) (m : Machine) → IsOrdered m → AllRemembered m (on_used addr release m).machine
-releases-remembers addr m h = by_entry (find (is_used_at addr) m.connections) refl
-  where
-    by_entry : (o : Option Entry) → find (is_used_at addr) m.connections ≡ o → AllRemembered m (on_entry o release m).machine
-    by_entry None is = all-remembered m m (same-still m m refl)
-    by_entry (Some e) is =
-        let at : FoundIn (is_used_at addr) m.connections e = find_some (is_used_at addr) m.connections e is in
-        let local : e.facts.local ≡ true = (and_parts (is_live_at addr e.facts) e.facts.local at.passes).1 in
-        let shape : IsShaped e.facts = All-stands (λ x. IsShaped x.facts) m.connections at.place e at.stands h.formed.shaped in
-        let open_ : is_negotiated e.facts ≡ true = local-negotiated e.facts shape local in
-        let new : Entry = record e { facts = released (m.now + m.settings.idle) e.facts } in
-        let n : Machine = with_entry new m in
-        let o : Machine = (peer_becomes Cold e.facts.addr n).machine in
-        let unpending : is_missed new.facts ≡ false = idle-unmissed new.facts open_ in
-        let apart : IsOrderly n = turned-orderly m e new at.place h.orderly at.stands (record { same_id = refl; same_addr = refl; live = λ l. l }) in
-        let stays : (trim e.facts.cid o).machine.peers ≡ o.peers =
-        trim-peers new o (changed-orderly (peer_at e.facts.addr n) (λ p. record p { temp = Cold }) n apart)
-        (λ f found. turned-is e new m refl (λ x. is_missed x.facts ≡ false) unpending f
-        (sym (ap (find (λ x. has_id e.facts.cid.0 x.facts)) (turns_at-connections (peer_at e.facts.addr n) (λ p. record p { temp = Cold }) n)) ∙ found)) in
-        all-remembered m (release e m).machine
-        (subst (λ w. Still m (then_do (entry_turns e (record e { facts = released (w.now + w.settings.idle) e.facts }) w)
-        (λ x. then_do (peer_becomes Cold e.facts.addr x) (trim e.facts.cid))).machine) (sym (says_done-machine e.facts m))
-        (both-still m n (trim e.facts.cid o).machine (same-still m n refl)
-        (both-still n o (trim e.facts.cid o).machine (becomes-still Cold e.facts.addr n) (same-still o (trim e.facts.cid o).machine stays))))
+releases-remembers addr m h = by_option (find (is_used_at addr) m.connections) (λ o. AllRemembered m (on_entry o release m).machine)
+    (λ is. all-remembered m m (same-still m m refl))
+    (λ e is.
+    let at : FoundIn (is_used_at addr) m.connections e = find_some (is_used_at addr) m.connections e is in
+    let local : e.facts.local ≡ true = (and_parts (is_live_at addr e.facts) e.facts.local at.passes).1 in
+    let shape : IsShaped e.facts = All-stands (λ x. IsShaped x.facts) m.connections at.place e at.stands h.formed.shaped in
+    let open_ : is_negotiated e.facts ≡ true = local-negotiated e.facts shape local in
+    let new : Entry = record e { facts = released (m.now + m.settings.idle) e.facts } in
+    let n : Machine = with_entry new m in
+    let o : Machine = (peer_becomes Cold e.facts.addr n).machine in
+    let unpending : is_missed new.facts ≡ false = idle-unmissed new.facts open_ in
+    let apart : IsOrderly n = turned-orderly m e new at.place h.orderly at.stands (record { same_id = refl; same_addr = refl; live = λ l. l }) in
+    let stays : (trim e.facts.cid o).machine.peers ≡ o.peers =
+    trim-peers new o (changed-orderly (peer_at e.facts.addr n) (λ p. record p { temp = Cold }) n apart)
+    (λ f found. turned-is e new m refl (λ x. is_missed x.facts ≡ false) unpending f
+    (sym (ap (find (λ x. has_id e.facts.cid.0 x.facts)) (turns_at-connections (peer_at e.facts.addr n) (λ p. record p { temp = Cold }) n)) ∙ found)) in
+    all-remembered m (release e m).machine
+    (subst (λ w. Still m (then_do (entry_turns e (record e { facts = released (w.now + w.settings.idle) e.facts }) w)
+    (λ x. then_do (peer_becomes Cold e.facts.addr x) (trim e.facts.cid))).machine) (sym (says_done-machine e.facts m))
+    (both-still m n (trim e.facts.cid o).machine (same-still m n refl)
+    (both-still n o (trim e.facts.cid o).machine (becomes-still Cold e.facts.addr n) (same-still o (trim e.facts.cid o).machine stays)))))
 
 on_each : (addr : Addr) (act : Entry → Machine → Effect) (m : Machine) → ((e : Entry) → Still m (act e m).machine) → AllRemembered m (on_used addr act m).machine
-on_each addr act m each = by_entry (find (is_used_at addr) m.connections)
-  where
-    by_entry : (o : Option Entry) → AllRemembered m (on_entry o act m).machine
-    by_entry None = all-remembered m m (same-still m m refl)
-    by_entry (Some e) = all-remembered m (act e m).machine (each e)
+on_each addr act m each = by_option (find (is_used_at addr) m.connections) (λ o. AllRemembered m (on_entry o act m).machine)
+    (λ is. all-remembered m m (same-still m m refl)) (λ e is. all-remembered m (act e m).machine (each e))
 
 orders-remember : (order : Order) (m : Machine) → IsOrdered m → RemembersByOrder order m (carries_out order m).machine
 orders-remember (Ask addr n) m h = asks-remembers addr n m
@@ -681,21 +616,16 @@ remembered-fails m n h addr kept = weaker-both IsRemembered IsSpared remembered-
 
 -- but for one of whom more is told
 others-fail : (law : Peer → Peer → Type 0) → ((p q : Peer) → law p q → IsSpared p q) → (a : Addr) (m n : Machine) → OthersRemembered a m n → WhereBoth law (peer_at a m) (peer_at a n) → FailsOnly m n
-others-fail law spares a m n others own addr kept = by_test (same_address addr a) refl
-  where
-    by_test : (c : Bool) → same_address addr a ≡ c → WhereBoth IsSpared (peer_at addr m) (peer_at addr n)
-    by_test true here = subst (λ x. WhereBoth IsSpared (peer_at x m) (peer_at x n)) (sym (same_address-true addr a here)) (weaker-both law IsSpared spares (peer_at a m) (peer_at a n) own)
-    by_test false other = weaker-both IsRemembered IsSpared remembered-spared (peer_at addr m) (peer_at addr n) (others addr other)
+others-fail law spares a m n others own addr kept = by_bool (same_address addr a) (λ c. WhereBoth IsSpared (peer_at addr m) (peer_at addr n))
+    (λ here. subst (λ x. WhereBoth IsSpared (peer_at x m) (peer_at x n)) (sym (same_address-true addr a here)) (weaker-both law IsSpared spares (peer_at a m) (peer_at a n) own))
+    (λ other. weaker-both IsRemembered IsSpared remembered-spared (peer_at addr m) (peer_at addr n) (others addr other))
 
 orders-fail : (order : Order) (m : Machine) → IsOrdered m → FailsOnly m (carries_out order m).machine
 orders-fail (Ask addr n) m h = let r = asks-remembers addr n m in
     others-fail IsAsked (λ p q is. record { failures = let same = is.failures in omega arith; not_before = is.not_before }) addr m (carries_out (Ask addr n) m).machine r.0 r.1
-orders-fail (Forget addr) m h = remembered-fails m (carries_out (Forget addr) m).machine (orders-remember (Forget addr) m h)
 orders-fail (Promote addr) m h = let r = promotes-remembers addr m in
     others-fail IsTaken (λ p q is. record { failures = is.failures; not_before = is.not_before }) addr m (carries_out (Promote addr) m).machine r.0 r.1
-orders-fail (Release addr) m h = remembered-fails m (carries_out (Release addr) m).machine (orders-remember (Release addr) m h)
-orders-fail (Activate addr) m h = remembered-fails m (carries_out (Activate addr) m).machine (orders-remember (Activate addr) m h)
-orders-fail (Deactivate addr) m h = remembered-fails m (carries_out (Deactivate addr) m).machine (orders-remember (Deactivate addr) m h)
+orders-fail other m h = remembered-fails m (carries_out other m).machine (orders-remember other m h)
 
 pub fails-only : (act : Act) (m : Machine) → Finds act m → FailsOnly m (does act m).machine
 fails-only (fires_one d) m known = (fires-treats d m).fails

@@ -1,10 +1,10 @@
 -- On the connection that a part is about a wait begins, goes on and ends exactly where it is to.
-use Rattle.std.proofs.Common.{ℕ, ◌+◌, ◌%◌, ◌≡◌, Bool, true, false, not, ◌&&◌, ◌||◌, ◌==◌, if◌then◌else◌, [], find, Option, Some, None, Result, Ok, Err, refl, sym, ap, ◌∙◌, subst, eq-eqb, eqb-true}
+use Rattle.std.proofs.Common.{ℕ, ◌+◌, ◌%◌, ◌≡◌, Bool, true, false, not, ◌&&◌, ◌||◌, ◌==◌, if◌then◌else◌, find, Option, Some, None, Result, Ok, Err, refl, sym, ap, ◌∙◌, subst, eq-eqb, eqb-true, []}
 use Rattle.std.proofs.lemmas.Bool.{false≢true}
 use Rattle.conn_state.specs.Moves.{agreed_inbound, agreed_outbound, awakened, connected, expired, released}
 use Rattle.conn_state.specs.Use.{has_id, is_acquirable, is_dialing_phase, is_for_remote, is_greeting_phase, is_live, is_negotiated, runs, some_runs, with_responder, agreed_sharing}
 use Rattle.govern_rules.specs.declared.order.Order.{Order}
-use Rattle.govern_rules.specs.declared.order.Order.TheVariants.{Ask, Forget, Promote, Release, Activate, Deactivate}
+use Rattle.govern_rules.specs.declared.order.Order.TheVariants.{Ask, Promote, Release, Activate}
 use Rattle.hs_decide.specs.Agreement.{verdict_of}
 use Rattle.hs_decide.specs.declared.verdict.Verdict.{Verdict}
 use Rattle.hs_decide.specs.declared.verdict.Verdict.TheVariants as verdict
@@ -16,7 +16,7 @@ use Rattle.net_base.specs.declared.connection.Agreed.{Agreed}
 use Rattle.net_base.specs.declared.connection.Grace.{Grace}
 use Rattle.net_base.specs.declared.connection.Grace.TheVariants.{Off, ForRemote, ForLocal}
 use Rattle.net_base.specs.declared.connection.Phase.{Phase}
-use Rattle.net_base.specs.declared.connection.Phase.TheVariants.{Dialing, Greeting, Negotiated, Closing}
+use Rattle.net_base.specs.declared.connection.Phase.TheVariants.{Dialing, Greeting, Negotiated}
 use Rattle.net_base.specs.declared.timer.Deadline.{Deadline}
 use Rattle.net_base.specs.declared.timer.Kind.{Kind}
 use Rattle.net_base.specs.declared.timer.Kind.TheVariants as kind
@@ -39,66 +39,51 @@ use Rattle.laws.specs.Steady.{IsShaped, IsOwing, IsOrdered}
 use Rattle.laws.proofs.Lists.{FoundIn, find_some, All-stands}
 use Rattle.laws.proofs.Shapes.{greeting-unnegotiated}
 use Rattle.laws.proofs.Talks.{seen-known, woken-runs, runs-some}
-use Rattle.laws.proofs.Turned.{turned_by_kind, taken, turned_by_order, turned_by_verdict, turned_by_message, begun, stopped, turned_by_request, turned_by_item, turned, part-becomes}
+use Rattle.laws.proofs.Turned.{turned_by_kind, turned_by_order, turned_by_verdict, turned_by_message, begun, stopped, turned_by_request, turned_by_item, turned, part-becomes}
 use Rattle.laws.proofs.Waits.{owing-until, paid-until}
-use Rattle.laws.proofs.WaitsOfParts.{Finds}
+use Rattle.laws.proofs.Walk.{Finds, taken}
 use Rattle.laws.proofs.WholeMoves.{negotiated-live}
+use Rattle.laws.proofs.Cases.{by_bool, by_option}
 
 -- ---- a deadline
 
 -- who has a grace has done its handshake
 graced-negotiated : (e : Entry) (until : ℕ) → IsShaped e.facts → until_unused e.facts.grace ≡ Some until → is_negotiated e.facts ≡ true
-graced-negotiated e until h waits = by_test (is_negotiated e.facts) refl
-  where
-    by_test : (b : Bool) → is_negotiated e.facts ≡ b → b ≡ true
-    by_test true is = refl
-    by_test false is = let never : None ≡ Some until = sym (ap until_unused (h.unused is).grace) ∙ waits in absurd cc
+graced-negotiated e until h waits = by_bool (is_negotiated e.facts) (λ b. b ≡ true)
+    (λ is. refl) (λ is. let never : None ≡ Some until = sym (ap until_unused (h.unused is).grace) ∙ waits in absurd cc)
 
 expired-waits : (e : Entry) (m : Machine) → is_live e.facts ≡ true → (sort : Kind) →
     until_of sort (record e { facts = expired e.facts }) ≡ wait_fired kind.Grace sort e (record e { facts = expired e.facts }) m
 expired-waits e m live kind.Handshake = rw live refl
-expired-waits e m live kind.Grace = rw live refl
-expired-waits e m live kind.TimeWait = rw live refl
-expired-waits e m live kind.Reply2 = rw live refl
-expired-waits e m live kind.Reply8 = rw live refl
-expired-waits e m live kind.Reply10 = rw live refl
+expired-waits e m live other = rw live refl
 
 -- nothing is owed on one that nobody uses
 closed-waits : (e : Entry) (m : Machine) → e.owed ≡ [] → (sort : Kind) → until_of sort (closing_entry m e) ≡ wait_fired kind.Grace sort e (closing_entry m e) m
-closed-waits e m none kind.Handshake = refl
-closed-waits e m none kind.Grace = refl
-closed-waits e m none kind.TimeWait = refl
 closed-waits e m none kind.Reply2 = ap (λ os. until_paid (find (λ o. o.protocol == 2) os)) none
 closed-waits e m none kind.Reply8 = ap (λ os. until_paid (find (λ o. o.protocol == 8) os)) none
 closed-waits e m none kind.Reply10 = ap (λ os. until_paid (find (λ o. o.protocol == 10) os)) none
+closed-waits e m none other = refl
 
 fired-waits : (fired : Kind) (until : ℕ) (e f : Entry) (m : Machine) → IsShaped e.facts → IsOwing e → until_of fired e ≡ Some until → turned_by_kind fired e m ≡ Some f →
     (sort : Kind) → until_of sort f ≡ wait_fired fired sort e f m
-fired-waits kind.Handshake until e f m shape owing_ waits is sort = absurd cc
-fired-waits kind.Grace until e f m shape owing_ waits is sort = by_local e.facts.local refl is
-  where
-    by_local : (b : Bool) → e.facts.local ≡ b → Some (if b then record e { facts = expired e.facts } else closing_entry m e) ≡ Some f → until_of sort f ≡ wait_fired kind.Grace sort e f m
-    by_local true local same =
-        let it : record e { facts = expired e.facts } ≡ f = cc in
-        subst (λ x. until_of sort x ≡ wait_fired kind.Grace sort e x m) it
-        (expired-waits e m (negotiated-live e.facts.phase (graced-negotiated e until shape waits)) sort)
-    by_local false unused same =
-        let it : closing_entry m e ≡ f = cc in
-        subst (λ x. until_of sort x ≡ wait_fired kind.Grace sort e x m) it (closed-waits e m (owing_.used unused) sort)
-fired-waits kind.TimeWait until e f m shape owing_ waits is sort = absurd cc
-fired-waits kind.Reply2 until e f m shape owing_ waits is sort = absurd cc
-fired-waits kind.Reply8 until e f m shape owing_ waits is sort = absurd cc
-fired-waits kind.Reply10 until e f m shape owing_ waits is sort = absurd cc
+fired-waits kind.Grace until e f m shape owing_ waits is sort = by_bool e.facts.local
+    (λ b. Some (if b then record e { facts = expired e.facts } else closing_entry m e) ≡ Some f → until_of sort f ≡ wait_fired kind.Grace sort e f m)
+    (λ local same.
+    let it : record e { facts = expired e.facts } ≡ f = cc in
+    subst (λ x. until_of sort x ≡ wait_fired kind.Grace sort e x m) it
+    (expired-waits e m (negotiated-live e.facts.phase (graced-negotiated e until shape waits)) sort))
+    (λ unused same.
+    let it : closing_entry m e ≡ f = cc in
+    subst (λ x. until_of sort x ≡ wait_fired kind.Grace sort e x m) it (closed-waits e m (owing_.used unused) sort)) is
+fired-waits other until e f m shape owing_ waits is sort = absurd cc
 
 -- ---- what is asked
 
 owes-waits : (protocol asked : ℕ) (e : Entry) (m : Machine) (sort : Kind) → until_of sort (owing protocol asked m e) ≡ begun_where (is_reply_on protocol sort) sort e m
-owes-waits protocol asked e m kind.Handshake = refl
-owes-waits protocol asked e m kind.Grace = refl
-owes-waits protocol asked e m kind.TimeWait = refl
 owes-waits protocol asked e m kind.Reply2 = owing-until 2 protocol asked m e
 owes-waits protocol asked e m kind.Reply8 = owing-until 8 protocol asked m e
 owes-waits protocol asked e m kind.Reply10 = owing-until 10 protocol asked m e
+owes-waits protocol asked e m other = refl
 
 owes_where-waits : (b : Bool) (protocol asked : ℕ) (e : Entry) (m : Machine) (sort : Kind) →
     until_of sort (if b then owing protocol asked m e else e) ≡ begun_where (b && is_reply_on protocol sort) sort e m
@@ -119,11 +104,7 @@ released-waits e m sort = by_test (some_runs e.facts.running || is_for_remote e.
       where
         by_kind : (x : Kind) → until_of x (record e { facts = record e.facts { local = false } }) ≡ until_of x e
         by_kind kind.Handshake = refl
-        by_kind kind.Grace = refl
-        by_kind kind.TimeWait = refl
-        by_kind kind.Reply2 = refl
-        by_kind kind.Reply8 = refl
-        by_kind kind.Reply10 = refl
+        by_kind other = refl
     by_test false kind.Handshake = refl
     by_test false kind.Grace = refl
     by_test false kind.TimeWait = refl
@@ -132,31 +113,23 @@ released-waits e m sort = by_test (some_runs e.facts.running || is_for_remote e.
     by_test false kind.Reply10 = refl
 
 taken-waits : (e : Entry) (m : Machine) (sort : Kind) → until_of sort (taken (record e.facts { local = true }) e m) ≡ begun_where (is_reply_on 8 sort) sort e m
-taken-waits e m kind.Handshake = refl
-taken-waits e m kind.Grace = refl
-taken-waits e m kind.TimeWait = refl
 taken-waits e m kind.Reply2 = owing-until 2 8 (e.facts.cid.0 % 65536) m e
 taken-waits e m kind.Reply8 = owing-until 8 8 (e.facts.cid.0 % 65536) m e
 taken-waits e m kind.Reply10 = owing-until 10 8 (e.facts.cid.0 % 65536) m e
+taken-waits e m other = refl
 
 ordered-waits : (order : Order) (e : Entry) (m : Machine) (sort : Kind) → until_of sort (turned_by_order order e m) ≡ wait_ordered order sort e m
 ordered-waits (Ask addr n) e m sort = owes_where-waits e.facts.local 10 n e m sort
-ordered-waits (Forget addr) e m sort = refl
-ordered-waits (Promote addr) e m sort = by_free (is_acquirable e.facts)
-  where
-    by_free : (b : Bool) → until_of sort (if b then taken (record e.facts { local = true }) e m else e) ≡ begun_where (b && is_reply_on 8 sort) sort e m
-    by_free true = taken-waits e m sort
-    by_free false = refl
-ordered-waits (Release addr) e m sort = by_local e.facts.local
-  where
-    kept : Bool
-    kept = some_runs e.facts.running || is_for_remote e.facts.grace
-
-    by_local : (b : Bool) → until_of sort (if b then record e { facts = released (m.now + m.settings.idle) e.facts } else e) ≡ begun_where (b && not kept && is_kind kind.Grace sort) sort e m
-    by_local true = released-waits e m sort
-    by_local false = refl
+ordered-waits (Promote addr) e m sort = by_bool (is_acquirable e.facts)
+    (λ b. until_of sort (if b then taken (record e.facts { local = true }) e m else e) ≡ begun_where (b && is_reply_on 8 sort) sort e m)
+    (λ is. taken-waits e m sort) (λ is. refl)
+ordered-waits (Release addr) e m sort =
+    let kept : Bool = some_runs e.facts.running || is_for_remote e.facts.grace in
+    by_bool e.facts.local
+    (λ b. until_of sort (if b then record e { facts = released (m.now + m.settings.idle) e.facts } else e) ≡ begun_where (b && not kept && is_kind kind.Grace sort) sort e m)
+    (λ is. released-waits e m sort) (λ is. refl)
 ordered-waits (Activate addr) e m sort = owes_where-waits e.facts.local 2 0 e m sort
-ordered-waits (Deactivate addr) e m sort = refl
+ordered-waits other e m sort = refl
 
 -- ---- the end of a dial
 
@@ -166,58 +139,43 @@ dialed-waits : (opened : Bool) (e : Entry) (m : Machine) (sort : Kind) →
 dialed-waits opened e m sort = by_phase e.facts.phase refl opened
   where
     opens : (k : Kind) → e.facts.phase ≡ Dialing → until_of k (record e { facts = connected (m.now + m.settings.handshake) e.facts }) ≡ begun_where (is_kind kind.Handshake k) k e m
-    opens kind.Handshake is = refl
-    opens kind.Grace is = refl
     opens kind.TimeWait is = sym (ap until_gone is)
-    opens kind.Reply2 is = refl
-    opens kind.Reply8 is = refl
-    opens kind.Reply10 is = refl
+    opens other is = refl
 
     by_phase : (p : Phase) → e.facts.phase ≡ p → (b : Bool) →
         until_of sort (if is_dialing_phase p && b then record e { facts = connected (m.now + m.settings.handshake) e.facts } else e)
         ≡ begun_where (is_dialing_phase p && b && is_kind kind.Handshake sort) sort e m
     by_phase Dialing is true = opens sort is
     by_phase Dialing is false = refl
-    by_phase (Greeting until) is b = refl
-    by_phase Negotiated is b = refl
-    by_phase (Closing until) is b = refl
+    by_phase other is b = refl
 
 -- ---- the handshake
 
 -- nobody uses a connection before its handshake is done
 agreed_inbound-waits : (agreed : Agreed) (e : Entry) (m : Machine) → e.facts.local ≡ false → (sort : Kind) →
     until_of sort (record e { facts = agreed_inbound agreed (m.now + m.settings.idle) e.facts }) ≡ wait_agreed sort e (record e { facts = agreed_inbound agreed (m.now + m.settings.idle) e.facts }) m
-agreed_inbound-waits agreed e m unused kind.Handshake = refl
 agreed_inbound-waits agreed e m unused kind.Grace = rw unused refl
-agreed_inbound-waits agreed e m unused kind.TimeWait = refl
-agreed_inbound-waits agreed e m unused kind.Reply2 = refl
 agreed_inbound-waits agreed e m unused kind.Reply8 = rw unused refl
-agreed_inbound-waits agreed e m unused kind.Reply10 = refl
+agreed_inbound-waits agreed e m unused other = refl
 
 agreed_outbound-waits : (agreed : Agreed) (e : Entry) (m : Machine) (sort : Kind) →
     until_of sort (taken (agreed_outbound agreed (m.now + m.settings.idle) e.facts) e m) ≡ wait_agreed sort e (taken (agreed_outbound agreed (m.now + m.settings.idle) e.facts) e m) m
-agreed_outbound-waits agreed e m kind.Handshake = refl
-agreed_outbound-waits agreed e m kind.Grace = by_flow agreed.initiator_only
-  where
-    by_flow : (b : Bool) → until_unused (if b then Off else ForRemote (m.now + m.settings.idle)) ≡ (if true && not (not b) then None else Some (m.now + m.settings.idle))
-    by_flow true = refl
-    by_flow false = refl
-agreed_outbound-waits agreed e m kind.TimeWait = refl
+agreed_outbound-waits agreed e m kind.Grace = by_bool agreed.initiator_only
+    (λ b. until_unused (if b then Off else ForRemote (m.now + m.settings.idle)) ≡ (if true && not (not b) then None else Some (m.now + m.settings.idle)))
+    (λ is. refl) (λ is. refl)
 agreed_outbound-waits agreed e m kind.Reply2 = owing-until 2 8 (e.facts.cid.0 % 65536) m e
 agreed_outbound-waits agreed e m kind.Reply8 = owing-until 8 8 (e.facts.cid.0 % 65536) m e
 agreed_outbound-waits agreed e m kind.Reply10 = owing-until 10 8 (e.facts.cid.0 % 65536) m e
+agreed_outbound-waits agreed e m other = refl
 
 verdict-waits : (v : Verdict) (e f : Entry) (m : Machine) → e.facts.local ≡ false → turned_by_verdict v e m ≡ Some f → (sort : Kind) → until_of sort f ≡ wait_agreed sort e f m
 verdict-waits (verdict.Accept agreed) e f m unused is sort =
     let it : record e { facts = agreed_inbound agreed (m.now + m.settings.idle) e.facts } ≡ f = cc in
     subst (λ x. until_of sort x ≡ wait_agreed sort e x m) it (agreed_inbound-waits agreed e m unused sort)
-verdict-waits (verdict.Refuse why) e f m unused is sort = absurd cc
-verdict-waits verdict.Query e f m unused is sort = absurd cc
 verdict-waits (verdict.Agree agreed) e f m unused is sort =
     let it : taken (agreed_outbound agreed (m.now + m.settings.idle) e.facts) e m ≡ f = cc in
     subst (λ x. until_of sort x ≡ wait_agreed sort e x m) it (agreed_outbound-waits agreed e m sort)
-verdict-waits verdict.Refused e f m unused is sort = absurd cc
-verdict-waits verdict.Wrong e f m unused is sort = absurd cc
+verdict-waits other e f m unused is sort = absurd cc
 
 message-waits : (o : Option Message) (e f : Entry) (m : Machine) → e.facts.local ≡ false → turned_by_message o e m ≡ Some f → (sort : Kind) → until_of sort f ≡ wait_agreed sort e f m
 message-waits None e f m unused is sort = absurd cc
@@ -227,33 +185,23 @@ message-waits (Some message) e f m unused is sort = verdict-waits (verdict_of (r
 
 -- no grace runs while a protocol does that has begun
 begun-off : (protocol : ℕ) (e : Entry) → IsShaped e.facts → (begun protocol e).facts.grace ≡ Off
-begun-off protocol e h = by_runs (runs protocol e.facts.running) refl
-  where
-    by_runs : (b : Bool) → runs protocol e.facts.running ≡ b → (if b then e else record e { facts = awakened protocol e.facts }).facts.grace ≡ Off
-    by_runs true is = h.remote (runs-some protocol e.facts.running is)
-    by_runs false is = refl
+begun-off protocol e h = by_bool (runs protocol e.facts.running)
+    (λ b. (if b then e else record e { facts = awakened protocol e.facts }).facts.grace ≡ Off)
+    (λ is. h.remote (runs-some protocol e.facts.running is)) (λ is. refl)
 
 begun-runs : (protocol : ℕ) (e : Entry) → some_runs (awakened protocol e.facts).running ≡ true → some_runs (begun protocol e).facts.running ≡ true
-begun-runs protocol e wakes = by_runs (runs protocol e.facts.running) refl
-  where
-    by_runs : (b : Bool) → runs protocol e.facts.running ≡ b → some_runs (if b then e else record e { facts = awakened protocol e.facts }).facts.running ≡ true
-    by_runs true is = runs-some protocol e.facts.running is
-    by_runs false is = wakes
+begun-runs protocol e wakes = by_bool (runs protocol e.facts.running)
+    (λ b. some_runs (if b then e else record e { facts = awakened protocol e.facts }).facts.running ≡ true)
+    (λ is. runs-some protocol e.facts.running is) (λ is. wakes)
 
 begun-same : (protocol : ℕ) (e : Entry) (sort : Kind) → is_kind kind.Grace sort ≡ false → until_of sort (begun protocol e) ≡ until_of sort e
-begun-same protocol e sort other = by_runs (runs protocol e.facts.running)
+begun-same protocol e sort other = by_bool (runs protocol e.facts.running)
+    (λ b. until_of sort (if b then e else record e { facts = awakened protocol e.facts }) ≡ until_of sort e)
+    (λ is. refl) (λ is. by_kind sort other)
   where
     by_kind : (x : Kind) → is_kind kind.Grace x ≡ false → until_of x (record e { facts = awakened protocol e.facts }) ≡ until_of x e
-    by_kind kind.Handshake is = refl
     by_kind kind.Grace is = absurd (false≢true (sym is))
-    by_kind kind.TimeWait is = refl
-    by_kind kind.Reply2 is = refl
-    by_kind kind.Reply8 is = refl
-    by_kind kind.Reply10 is = refl
-
-    by_runs : (b : Bool) → until_of sort (if b then e else record e { facts = awakened protocol e.facts }) ≡ until_of sort e
-    by_runs true = refl
-    by_runs false = by_kind sort other
+    by_kind other is = refl
 
 -- what has begun, and stops where it is done
 asked-waits : (done : Bool) (protocol : ℕ) (e : Entry) (m : Machine) → IsShaped e.facts → some_runs (awakened protocol e.facts).running ≡ true → (sort : Kind) →
@@ -268,11 +216,9 @@ asked-waits done protocol e m h wakes sort = by_kind sort
 
     -- one that goes on runs, and where it was the last one a grace begins
     graced : (b : Bool) → until_unused (stopped b protocol until g).facts.grace ≡ (if some_runs (stopped b protocol until g).facts.running then None else Some until)
-    graced true = by_some (some_runs (with_responder protocol false g.facts.running))
-      where
-        by_some : (b : Bool) → until_unused (if b then g.facts.grace else ForRemote until) ≡ (if b then None else Some until)
-        by_some true = ap until_unused (begun-off protocol e h)
-        by_some false = refl
+    graced true = by_bool (some_runs (with_responder protocol false g.facts.running))
+        (λ b. until_unused (if b then g.facts.grace else ForRemote until) ≡ (if b then None else Some until))
+        (λ is. ap until_unused (begun-off protocol e h)) (λ is. refl)
     graced false = ap until_unused (begun-off protocol e h) ∙ sym (ap (λ b. if b then None else Some until) (begun-runs protocol e wakes))
 
     same : (x : Kind) → is_kind kind.Grace x ≡ false → (b : Bool) → until_of x (stopped b protocol until g) ≡ until_of x g
@@ -285,20 +231,14 @@ asked-waits done protocol e m h wakes sort = by_kind sort
     same x other false = refl
 
     by_kind : (x : Kind) → until_of x (stopped done protocol until g) ≡ wait_asked x e (stopped done protocol until g) m
-    by_kind kind.Handshake = same kind.Handshake refl done ∙ begun-same protocol e kind.Handshake refl
     by_kind kind.Grace = graced done
-    by_kind kind.TimeWait = same kind.TimeWait refl done ∙ begun-same protocol e kind.TimeWait refl
-    by_kind kind.Reply2 = same kind.Reply2 refl done ∙ begun-same protocol e kind.Reply2 refl
-    by_kind kind.Reply8 = same kind.Reply8 refl done ∙ begun-same protocol e kind.Reply8 refl
-    by_kind kind.Reply10 = same kind.Reply10 refl done ∙ begun-same protocol e kind.Reply10 refl
+    by_kind other = same other refl done ∙ begun-same protocol e other refl
 
 paid-waits : (protocol : ℕ) (e : Entry) (sort : Kind) → until_of sort (paid protocol e) ≡ ended_where (is_reply_on protocol sort) sort e
-paid-waits protocol e kind.Handshake = refl
-paid-waits protocol e kind.Grace = refl
-paid-waits protocol e kind.TimeWait = refl
 paid-waits protocol e kind.Reply2 = paid-until 2 protocol e
 paid-waits protocol e kind.Reply8 = paid-until 8 protocol e
 paid-waits protocol e kind.Reply10 = paid-until 10 protocol e
+paid-waits protocol e other = refl
 
 requested-waits : (r : Result Seen FaultKind) (item : Item) (e f : Entry) (m : Machine) → watched item.id (agreed_sharing e.facts.agreed) item.body ≡ r → IsShaped e.facts →
     turned_by_request r item.id e m ≡ Some f → (sort : Kind) → until_of sort f ≡ wait_asked sort e f m
@@ -310,31 +250,24 @@ requested-waits (Ok seen) item e f m seen_ h is sort =
 
 handled-waits : (p : Phase) (item : Item) (e f : Entry) (m : Machine) → e.facts.phase ≡ p → IsShaped e.facts → turned_by_item p item e m ≡ Some f → (sort : Kind) →
     until_of sort f ≡ wait_handled p item sort e f m
-handled-waits Dialing item e f m at h is sort = let it : e ≡ f = cc in ap (until_of sort) (sym it)
 handled-waits (Greeting until) item e f m at h is sort = message-waits (message_of item.body) e f m unused is sort
   where
     unused : e.facts.local ≡ false
     unused = (h.unused (greeting-unnegotiated e.facts.phase (subst (λ p. is_greeting_phase p ≡ true) (sym at) refl))).local
-handled-waits Negotiated item e f m at h is sort = by_side (item.side == 0) is
-  where
-    seen : Result Seen FaultKind
-    seen = watched item.id (agreed_sharing e.facts.agreed) item.body
-
-    by_side : (b : Bool) → (if b then turned_by_request seen item.id e m else Some (paid item.id e)) ≡ Some f →
-        until_of sort f ≡ (if b then wait_asked sort e f m else ended_where (is_reply_on item.id sort) sort e)
-    by_side true same = requested-waits seen item e f m refl h same sort
-    by_side false same = let it : paid item.id e ≡ f = cc in subst (λ x. until_of sort x ≡ ended_where (is_reply_on item.id sort) sort e) it (paid-waits item.id e sort)
-handled-waits (Closing until) item e f m at h is sort = let it : e ≡ f = cc in ap (until_of sort) (sym it)
+handled-waits Negotiated item e f m at h is sort =
+    let seen : Result Seen FaultKind = watched item.id (agreed_sharing e.facts.agreed) item.body in
+    by_bool (item.side == 0)
+    (λ b. (if b then turned_by_request seen item.id e m else Some (paid item.id e)) ≡ Some f →
+    until_of sort f ≡ (if b then wait_asked sort e f m else ended_where (is_reply_on item.id sort) sort e))
+    (λ is same. requested-waits seen item e f m refl h same sort)
+    (λ is same. let it : paid item.id e ≡ f = cc in subst (λ x. until_of sort x ≡ ended_where (is_reply_on item.id sort) sort e) it (paid-waits item.id e sort)) is
+handled-waits other item e f m at h is sort = let it : e ≡ f = cc in ap (until_of sort) (sym it)
 
 -- ---- each act
 
 stored-waits : (undecoded : _) (e : Entry) (sort : Kind) → until_of sort (record e { undecoded = undecoded }) ≡ until_of sort e
 stored-waits undecoded e kind.Handshake = refl
-stored-waits undecoded e kind.Grace = refl
-stored-waits undecoded e kind.TimeWait = refl
-stored-waits undecoded e kind.Reply2 = refl
-stored-waits undecoded e kind.Reply8 = refl
-stored-waits undecoded e kind.Reply10 = refl
+stored-waits undecoded e other = refl
 
 shaped-at : (m : Machine) (cid : ℕ) (e : Entry) → IsOrdered m → entry_at cid m ≡ Some e → IsShaped e.facts × IsOwing e
 shaped-at m cid e h is =
@@ -362,7 +295,9 @@ turned-waits (is_closed own_id) m next found cid e f own at is sort = let it : e
 turned-waits other m next found cid e f own at is sort = absurd (false≢true own)
 
 pub waits-begin : (act : Act) (m : Machine) → IsNext act m → Finds act m → WaitsBegin act m (does act m).machine
-waits-begin act m next found cid own = by_entry (entry_at cid m) refl
+waits-begin act m next found cid own = by_option (entry_at cid m)
+    (λ o. WhereStays (λ x y. (sort : Kind) → until_of sort y ≡ wait_after act sort x y m) o after)
+    (λ is. tt) (λ e is. by_after e is after (part-becomes act m found cid e own is))
   where
     after : Option Entry
     after = entry_at cid (does act m).machine
@@ -372,31 +307,24 @@ waits-begin act m next found cid own = by_entry (entry_at cid m) refl
     by_after e is None becomes = tt
     by_after e is (Some f) becomes = λ sort. turned-waits act m next found cid e f own is becomes sort
 
-    by_entry : (o : Option Entry) → entry_at cid m ≡ o → WhereStays (λ x y. (sort : Kind) → until_of sort y ≡ wait_after act sort x y m) o after
-    by_entry None is = tt
-    by_entry (Some e) is = by_after e is after (part-becomes act m found cid e own is)
-
 -- ---- what has fired is over
 
 fired-over : (fired : Kind) (e : Entry) (m : Machine) (o : Option Entry) → IsAsItWas (turned_by_kind fired e m) o → until_in fired o ≡ None
 fired-over fired e m None becomes = refl
 fired-over kind.Handshake e m (Some f) becomes = absurd cc
-fired-over kind.Grace e m (Some f) becomes = by_local e.facts.local becomes
-  where
-    by_local : (b : Bool) → Some (if b then record e { facts = expired e.facts } else closing_entry m e) ≡ Some f → until_of kind.Grace f ≡ None
-    by_local true same = let it : record e { facts = expired e.facts } ≡ f = cc in ap (until_of kind.Grace) (sym it)
-    by_local false same = let it : closing_entry m e ≡ f = cc in ap (until_of kind.Grace) (sym it)
+fired-over kind.Grace e m (Some f) becomes = by_bool e.facts.local
+    (λ b. Some (if b then record e { facts = expired e.facts } else closing_entry m e) ≡ Some f → until_of kind.Grace f ≡ None)
+    (λ is same. let it : record e { facts = expired e.facts } ≡ f = cc in ap (until_of kind.Grace) (sym it))
+    (λ is same. let it : closing_entry m e ≡ f = cc in ap (until_of kind.Grace) (sym it)) becomes
 fired-over kind.TimeWait e m (Some f) becomes = absurd cc
 fired-over kind.Reply2 e m (Some f) becomes = absurd cc
 fired-over kind.Reply8 e m (Some f) becomes = absurd cc
 fired-over kind.Reply10 e m (Some f) becomes = absurd cc
 
 fires-over : (d : Deadline) (m : Machine) → IsOrdered m → until_at d.kind d.cid.0 (fires d m).machine ≡ None
-fires-over d m h = by_entry (entry_at d.cid.0 m) refl
-  where
-    by_entry : (o : Option Entry) → entry_at d.cid.0 m ≡ o → until_at d.kind d.cid.0 (fires d m).machine ≡ None
-    by_entry None is = subst (λ o. until_at d.kind d.cid.0 (on_entry o (fires_as d.kind) m).machine ≡ None) (sym is) (ap (until_in d.kind) is)
-    by_entry (Some e) is = fired-over d.kind e m (entry_at d.cid.0 (fires d m).machine) (part-becomes (fires_one d) m h d.cid.0 e (eq-eqb d.cid.0 d.cid.0 refl) is)
+fires-over d m h = by_option (entry_at d.cid.0 m) (λ o. until_at d.kind d.cid.0 (fires d m).machine ≡ None)
+    (λ is. subst (λ o. until_at d.kind d.cid.0 (on_entry o (fires_as d.kind) m).machine ≡ None) (sym is) (ap (until_in d.kind) is))
+    (λ e is. fired-over d.kind e m (entry_at d.cid.0 (fires d m).machine) (part-becomes (fires_one d) m h d.cid.0 e (eq-eqb d.cid.0 d.cid.0 refl) is))
 
 pub over-after : (act : Act) (m : Machine) → Finds act m → IsOverAfter act (does act m).machine
 over-after (fires_one d) m found = fires-over d m found

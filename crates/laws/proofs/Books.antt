@@ -1,5 +1,5 @@
 -- What holds of the book of peers, through each change of it.
-use Rattle.std.proofs.Common.{◌+◌, ◌≤◌, ◌≡◌, Bool, true, false, cond, nat_le, List, [], ◌∷◌, length, filter, Some, is_some, if◌then◌else◌, refl, subst, arith, leb-false}
+use Rattle.std.proofs.Common.{◌+◌, ◌≤◌, ◌≡◌, Bool, false, cond, nat_le, List, [], ◌∷◌, length, filter, Some, is_some, if◌then◌else◌, refl, subst, arith, leb-false}
 use Rattle.std.specs.List.{AllByRecursion}
 use Rattle.std.proofs.lemmas.Bool.{cond_both}
 use Rattle.std.proofs.lemmas.List.{length-map}
@@ -13,6 +13,7 @@ use Rattle.machine.specs.Machine.{Machine}
 use Rattle.laws.specs.Steady.{ArePeersApart, IsFormed}
 use Rattle.laws.proofs.Addresses.{same_address-true}
 use Rattle.laws.proofs.PeersApart.{with_peer-others, with_peer-apart, put_in-others, entered-apart, others-filter, filter-apart}
+use Rattle.laws.proofs.Cases.{by_bool}
 
 pub record IsBook (own : Addr) (peers : List Peer) : Type 0 where
   pub apart : ArePeersApart peers
@@ -26,12 +27,9 @@ book_of m h = record { apart = h.peers; others = h.other_peers; room = h.room }
 pub found-other : (own a : Addr) (ps : List Peer) (p : Peer) → AllByRecursion (λ q. same_address q.addr own ≡ false) ps → peer_at a ps ≡ Some p →
     same_address a own ≡ false
 found-other own a [] p h found = absurd cc
-found-other own a (q ∷ ps) p h found = by_test (has_address a q) refl found (found-other own a ps p h.1)
-  where
-    by_test : (b : Bool) → has_address a q ≡ b → cond b (Some q) (peer_at a ps) ≡ Some p → (peer_at a ps ≡ Some p → same_address a own ≡ false) →
-        same_address a own ≡ false
-    by_test true is f later = subst (λ x. same_address x own ≡ false) (same_address-true q.addr a is) h.0
-    by_test false is f later = later f
+found-other own a (q ∷ ps) p h found = by_bool (has_address a q)
+    (λ b. cond b (Some q) (peer_at a ps) ≡ Some p → (peer_at a ps ≡ Some p → same_address a own ≡ false) → same_address a own ≡ false)
+    (λ is f later. subst (λ x. same_address x own ≡ false) (same_address-true q.addr a is) h.0) (λ is f later. later f) found (found-other own a ps p h.1)
 
 -- a peer in place of the one with its address
 pub with_peer-book : (own : Addr) (new : Peer) (ps : List Peer) → IsBook own ps → IsBook own (with_peer new ps)
@@ -46,12 +44,9 @@ with_peer-book own new ps h =
 -- a new one
 with_new-longer : (new : Peer) (ps : List Peer) → length (with_new new ps) ≡ length ps + 1
 with_new-longer new [] = refl
-with_new-longer new (p ∷ ps) = by_test (address_below p.addr new.addr) (with_new-longer new ps)
-  where
-    by_test : (b : Bool) → length (with_new new ps) ≡ length ps + 1 →
-        length (if b then p ∷ with_new new ps else new ∷ p ∷ ps) ≡ length (p ∷ ps) + 1
-    by_test true rest = omega (arith, rest)
-    by_test false rest = omega arith
+with_new-longer new (p ∷ ps) = by_bool (address_below p.addr new.addr)
+    (λ b. length (with_new new ps) ≡ length ps + 1 → length (if b then p ∷ with_new new ps else new ∷ p ∷ ps) ≡ length (p ∷ ps) + 1)
+    (λ is rest. omega (arith, rest)) (λ is rest. omega arith) (with_new-longer new ps)
 
 entered-others : (own : Addr) (new : Peer) (ps : List Peer) → same_address new.addr own ≡ false → AllByRecursion (λ p. same_address p.addr own ≡ false) ps →
     AllByRecursion (λ p. same_address p.addr own ≡ false) (entered new ps)

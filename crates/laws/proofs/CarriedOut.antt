@@ -6,23 +6,22 @@ use Rattle.std.proofs.lemmas.List.Elements.{All-weaker}
 use Rattle.accept_gate.specs.Gate.{pause_of}
 use Rattle.accept_gate.specs.Prune.{choice_of}
 use Rattle.conn_state.specs.Moves.{acquired, released}
-use Rattle.conn_state.specs.Use.{has_id, is_live, is_live_at, is_pending}
+use Rattle.conn_state.specs.Use.{has_id, is_live, is_live_at}
 use Rattle.govern_rules.specs.declared.order.Order.{Order}
 use Rattle.govern_rules.specs.declared.order.Order.TheVariants.{Ask, Forget, Promote, Release, Activate, Deactivate}
 use Rattle.net_base.specs.declared.address.Addr.{Addr}
 use Rattle.net_base.specs.declared.peer.Peer.{Peer}
 use Rattle.net_base.specs.declared.peer.Temp.TheVariants.{Cold, Warm}
-use Rattle.net_base.specs.Address.{same_address, address_below}
+use Rattle.net_base.specs.Address.{same_address}
 use Rattle.net_base.specs.Peer.{failed_peer}
 use Rattle.net_base.specs.declared.connection.Cid.{Cid}
 use Rattle.net_base.specs.declared.connection.Facts.{Facts}
 use Rattle.net_base.specs.declared.action.Action.TheVariants.{AskRoots, Pause}
-use Rattle.net_base.specs.declared.action.Away.TheVariants.{OwnAddr, Crossed, Present, Full}
 use Rattle.net_base.specs.declared.action.CloseCause.TheVariants.{Pruned, Overwritten}
 use Rattle.root_groups.specs.RootAsk.{may_ask, asked}
 use Rattle.machine.specs.Connections.{with_entry, without_entry, entry_turns, lost, ending, candidates_in, acquire, trim, release}
-use Rattle.machine.specs.Effect.{Effect, nothing_more, tells, then_do, on_entry, on_connection}
-use Rattle.machine.specs.Events.{turned_away, admitted, crossed, accepted_beside, peer_connects, closes}
+use Rattle.machine.specs.Effect.{nothing_more, tells, then_do, on_entry, on_connection}
+use Rattle.machine.specs.Events.{admitted, peer_connects, closes}
 use Rattle.machine.specs.Govern.{promote, is_used_at, on_used, asks_peer, deactivates, carries_out, asks_roots}
 use Rattle.machine.specs.Machine.{Machine, Entry, counted_in, entry_at, live_entry_at}
 use Rattle.machine.specs.Peers.{peer_at, turns_at, peer_changes, peer_fails, peer_becomes, peer_goes}
@@ -31,17 +30,21 @@ use Rattle.laws.specs.AtMoves.{is_missed, FailsWhere, OnEntry, is_known}
 use Rattle.laws.specs.CarriedOut.{WhereLive, OnPeer, IsReused, Reuses, LeavesAlone, IsUsedByNobody, Comes, IsCarriedOut, TreatsBook, pauses_by, pauses_in, pauses_due, PausesRight}
 use Rattle.laws.specs.Sound.{IsOrderly}
 use Rattle.laws.specs.Acts.{Act, shows, asks_for_roots, connects, stores, is_closed, sets_targets, sets_big_targets, sets_groups, sets_roots, does}
+use Rattle.laws.specs.Parts.{IsNext}
 use Rattle.laws.proofs.Addresses.{same_address-true}
 use Rattle.laws.proofs.Due.{promote-move, activate-move}
 use Rattle.laws.proofs.Entries.{TurnsInto, turned-connections, turned-orderly, one_has_id, has_own_id}
 use Rattle.laws.proofs.Failures.{changed-found, vanishes-failed}
 use Rattle.laws.proofs.Finds.{find-set_here, find-set_gone}
 use Rattle.laws.proofs.Lists.{StandsAt, OnePasses, FoundIn, stands-set, find_some, find_only, find_none}
-use Rattle.laws.proofs.Orders.{says_done-machine, unused_at}
+use Rattle.laws.proofs.Walk.{says_done-machine, Finds}
+use Rattle.laws.proofs.Orders.{unused_at}
 use Rattle.laws.proofs.Silent.{pauses-deaf, part-silent, asks-silent}
 use Rattle.laws.proofs.Ties.{live_one, taken-here, turns_at-elsewhere}
 use Rattle.laws.proofs.ToldMoves.{turns_at-connections}
 use Rattle.laws.proofs.Trims.{trim-used}
+use Rattle.laws.proofs.Cases.{by_bool, by_option}
+use Rattle.laws.proofs.Connects.{connects-cases}
 
 -- at most one connection of an address is in local use
 pub used_one : (addr : Addr) (m : Machine) → IsOrderly m → OnePasses (is_used_at addr) m.connections
@@ -53,13 +56,7 @@ used_one addr m h i j d before inside here =
 -- a change of a peer leaves the connections in order
 pub changed-orderly : (o : Option Peer) (change : Peer → Peer) (m : Machine) → IsOrderly m → IsOrderly (turns_at o change m).machine
 changed-orderly None change m h = h
-changed-orderly (Some p) change m h = record {
-  settings = h.settings;
-  next_id = h.next_id;
-  ids_given = h.ids_given;
-  ids_rise = h.ids_rise;
-  addresses = h.addresses;
-}
+changed-orderly (Some p) change m h = assumption
 
 releasing-none : (addr : Addr) (m : Machine) (e : Entry) (k : ℕ) → IsOrderly m → StandsAt m.connections k e → is_used_at addr e ≡ true →
     find (is_used_at addr) (then_do (entry_turns e (record e { facts = released (m.now + m.settings.idle) e.facts }) m)
@@ -76,15 +73,14 @@ releasing-none addr m e k h s used =
     ∙ (ap (find (is_used_at addr)) list ∙ find-set_gone (is_used_at addr) new e m.connections k (used_one addr m h) s used (unused_at addr new refl))
 
 release-none : (addr : Addr) (m : Machine) → IsOrderly m → find (is_used_at addr) (on_used addr release m).machine.connections ≡ None
-release-none addr m h = by_entry (find (is_used_at addr) m.connections) refl
-  where
-    by_entry : (o : Option Entry) → find (is_used_at addr) m.connections ≡ o → find (is_used_at addr) (on_entry o release m).machine.connections ≡ None
-    by_entry None is = is
-    by_entry (Some e) is =
-        let at : FoundIn (is_used_at addr) m.connections e = find_some (is_used_at addr) m.connections e is in
-        subst (λ n. find (is_used_at addr) (then_do (entry_turns e (record e { facts = released (n.now + n.settings.idle) e.facts }) n)
-        (λ w. then_do (peer_becomes Cold e.facts.addr w) (trim e.facts.cid))).machine.connections ≡ None) (sym (says_done-machine e.facts m))
-        (releasing-none addr m e at.place h at.stands at.passes)
+release-none addr m h = by_option (find (is_used_at addr) m.connections)
+    (λ o. find (is_used_at addr) (on_entry o release m).machine.connections ≡ None)
+    (λ is. is)
+    (λ e is.
+    let at : FoundIn (is_used_at addr) m.connections e = find_some (is_used_at addr) m.connections e is in
+    subst (λ n. find (is_used_at addr) (then_do (entry_turns e (record e { facts = released (n.now + n.settings.idle) e.facts }) n)
+    (λ w. then_do (peer_becomes Cold e.facts.addr w) (trim e.facts.cid))).machine.connections ≡ None) (sym (says_done-machine e.facts m))
+    (releasing-none addr m e at.place h at.stands at.passes))
 
 -- where none is found, no live one of the address is in local use
 none-used : (addr : Addr) (m : Machine) → find (is_used_at addr) m.connections ≡ None → IsUsedByNobody addr m
@@ -100,16 +96,15 @@ forgotten addr m = ap is_some (taken-here addr m.peers)
 -- what is found at its address is what it turned into
 pub changed-here : (a : Addr) (change : Peer → Peer) (m : Machine) → ((p : Peer) → (change p).addr ≡ p.addr) → (law : Peer → Type 0) →
     ((p : Peer) → law (change p)) → OnPeer (peer_at a (peer_changes a change m).machine) law
-changed-here a change m same law each = subst (λ o. OnPeer o law) (sym (changed-found a change m same)) (by_peer (peer_at a m))
-  where
-    by_peer : (o : Option Peer) → OnPeer (option_map change o) law
-    by_peer None = tt
-    by_peer (Some p) = each p
+changed-here a change m same law each = subst (λ o. OnPeer o law) (sym (changed-found a change m same)) (by_option (peer_at a m)
+    (λ o. OnPeer (option_map change o) law)
+    (λ is. tt) (λ p is. each p))
 
 -- ---- a connection that is taken into use
 
 reuses : (addr : Addr) (m : Machine) → IsOrderly m → Reuses addr m (promote addr m).machine
 reuses addr m h e live free =
+    let taken : (promote addr m).machine ≡ (acquire e m).machine = rw (live, free) refl in
     let at = find_some (λ x. is_live_at addr x.facts) m.connections e live in
     let new : Entry = owing 8 (e.facts.cid.0 % 65536) m (record e { facts = acquired e.facts }) in
     let n : Machine = with_entry new m in
@@ -126,9 +121,6 @@ reuses addr m h e live free =
       warm = changed-here e.facts.addr warm n (λ p. refl) (λ p. p.temp ≡ Warm) (λ p. refl);
       forgiven = changed-here e.facts.addr warm n (λ p. refl) (λ p. p.failures ≡ 0) (λ p. refl);
     })
-  where
-    taken : (promote addr m).machine ≡ (acquire e m).machine
-    taken = rw (live, free) refl
 
 -- ---- a peer that is asked for addresses
 
@@ -162,23 +154,19 @@ deactivates-warms addr m h e live local =
 -- one that is cold stays so when a connection is pruned
 lost-cold : (a : Addr) (f : Facts) (m : Machine) → OnPeer (peer_at a m) (λ p. p.temp ≡ Cold) → OnPeer (peer_at a (lost f m).machine) (λ p. p.temp ≡ Cold)
 lost-cold a f m cold = cond_both (is_missed f) (peer_fails f.addr m) (nothing_more m) (λ effect. OnPeer (peer_at a effect.machine) (λ p. p.temp ≡ Cold))
-    (λ missed. by_test (same_address a f.addr) refl) (λ other. cold)
+    (λ missed. by_bool (same_address a f.addr) (λ b. OnPeer (peer_at a (peer_changes f.addr fails m).machine) (λ p. p.temp ≡ Cold))
+    (λ here. subst (λ x. OnPeer (peer_at x (peer_changes f.addr fails m).machine) (λ p. p.temp ≡ Cold)) (sym (same_address-true a f.addr here))
+    (changed-here f.addr fails m (λ p. refl) (λ p. p.temp ≡ Cold) (λ p. refl)))
+    (λ other. subst (λ o. OnPeer o (λ p. p.temp ≡ Cold)) (sym (turns_at-elsewhere f.addr fails m (λ p. refl) a other)) cold)) (λ other. cold)
   where
     fails : Peer → Peer
     fails = failed_peer m.now m.settings.backoff
 
-    by_test : (b : Bool) → same_address a f.addr ≡ b → OnPeer (peer_at a (peer_changes f.addr fails m).machine) (λ p. p.temp ≡ Cold)
-    by_test true here = subst (λ x. OnPeer (peer_at x (peer_changes f.addr fails m).machine) (λ p. p.temp ≡ Cold)) (sym (same_address-true a f.addr here))
-        (changed-here f.addr fails m (λ p. refl) (λ p. p.temp ≡ Cold) (λ p. refl))
-    by_test false other = subst (λ o. OnPeer o (λ p. p.temp ≡ Cold)) (sym (turns_at-elsewhere f.addr fails m (λ p. refl) a other)) cold
-
 trim-cold : (a : Addr) (moved : Cid) (m : Machine) → OnPeer (peer_at a m) (λ p. p.temp ≡ Cold) → OnPeer (peer_at a (trim moved m).machine) (λ p. p.temp ≡ Cold)
 trim-cold a moved m cold = cond_both (nat_le (counted_in m) m.settings.hard) (nothing_more m) (on_connection (unwrap_or (choice_of (candidates_in m)) moved) (ending Pruned) m)
-    (λ effect. OnPeer (peer_at a effect.machine) (λ p. p.temp ≡ Cold)) (λ within. cold) (λ above. by_entry (entry_at (unwrap_or (choice_of (candidates_in m)) moved).0 m))
-  where
-    by_entry : (o : Option Entry) → OnPeer (peer_at a (on_entry o (ending Pruned) m).machine) (λ p. p.temp ≡ Cold)
-    by_entry None = cold
-    by_entry (Some e) = lost-cold a e.facts (without_entry e.facts.cid.0 m) cold
+    (λ effect. OnPeer (peer_at a effect.machine) (λ p. p.temp ≡ Cold)) (λ within. cold) (λ above. by_option (entry_at (unwrap_or (choice_of (candidates_in m)) moved).0 m)
+    (λ o. OnPeer (peer_at a (on_entry o (ending Pruned) m).machine) (λ p. p.temp ≡ Cold))
+    (λ is. cold) (λ e is. lost-cold a e.facts (without_entry e.facts.cid.0 m) cold))
 
 releases-cools : (addr : Addr) (m : Machine) → IsOrderly m → Comes Cold addr m (carries_out (Release addr) m).machine
 releases-cools addr m h e live local =
@@ -192,17 +180,7 @@ releases-cools addr m h e live local =
 -- ---- the book
 
 connects-book : (addr : Addr) (m : Machine) → (peer_connects addr m).machine.peers ≡ m.peers
-connects-book addr m = cond_both (same_address addr m.settings.own) (turned_away OwnAddr m)
-    (if nat_le m.settings.hard (counted_in m) then turned_away Full m else accepted_beside (live_entry_at addr m) addr m)
-    (λ effect. effect.machine.peers ≡ m.peers) (λ own. refl)
-    (λ other. cond_both (nat_le m.settings.hard (counted_in m)) (turned_away Full m) (accepted_beside (live_entry_at addr m) addr m)
-    (λ effect. effect.machine.peers ≡ m.peers) (λ full. refl) (λ room. beside (live_entry_at addr m)))
-  where
-    beside : (o : Option Entry) → (accepted_beside o addr m).machine.peers ≡ m.peers
-    beside None = refl
-    beside (Some e) = cond_both (is_pending e.facts) (crossed addr e m) (turned_away Present m) (λ effect. effect.machine.peers ≡ m.peers)
-        (λ pending. cond_both (address_below addr m.settings.own) (then_do (ending Overwritten e m) (admitted addr)) (turned_away Crossed m)
-        (λ effect. effect.machine.peers ≡ m.peers) (λ below. refl) (λ above. refl)) (λ other. refl)
+connects-book addr m = connects-cases addr m (λ effect. effect.machine.peers ≡ m.peers) (λ cause. refl) (λ room alone. refl) (λ room e is pending. refl)
 
 asks-book : (m : Machine) → (asks_roots m).machine.peers ≡ m.peers
 asks-book m = cond_both (may_ask m.now m.targets.root m.roots)
@@ -247,24 +225,13 @@ nobody-pauses : (m : Machine) → [] ≡ pauses_due m m
 nobody-pauses m = ap (λ b. if b && nat_lt m.settings.soft (counted_in m) then pause_of m.settings (counted_in m) ∷ [] else []) (sym (not_below m.next_id))
 
 connects-pauses : (addr : Addr) (m : Machine) → pauses_in (peer_connects addr m).actions ≡ pauses_due m (peer_connects addr m).machine
-connects-pauses addr m = cond_both (same_address addr m.settings.own) (turned_away OwnAddr m)
-    (if nat_le m.settings.hard (counted_in m) then turned_away Full m else accepted_beside (live_entry_at addr m) addr m) Right (λ own. nobody-pauses m)
-    (λ other. cond_both (nat_le m.settings.hard (counted_in m)) (turned_away Full m) (accepted_beside (live_entry_at addr m) addr m) Right
-    (λ full. nobody-pauses m) (λ room. beside (live_entry_at addr m)))
-  where
-    Right : Effect → Type 0
-    Right effect = pauses_in effect.actions ≡ pauses_due m effect.machine
+connects-pauses addr m = connects-cases addr m (λ effect. pauses_in effect.actions ≡ pauses_due m effect.machine) (λ cause. nobody-pauses m)
+    (λ room alone. admitted-pauses addr m) (λ room e is pending. admitted-pauses addr (ending Overwritten e m).machine)
 
-    beside : (o : Option Entry) → Right (accepted_beside o addr m)
-    beside None = admitted-pauses addr m
-    beside (Some e) = cond_both (is_pending e.facts) (crossed addr e m) (turned_away Present m) Right
-        (λ pending. cond_both (address_below addr m.settings.own) (then_do (ending Overwritten e m) (admitted addr)) (turned_away Crossed m) Right
-        (λ below. admitted-pauses addr (ending Overwritten e m).machine) (λ above. nobody-pauses m)) (λ other. nobody-pauses m)
-
-pub pauses-right : (act : Act) (m : Machine) → PausesRight act m (does act m)
-pauses-right (connects addr) m = connects-pauses addr m
-pauses-right asks_for_roots m = asks-silent pauses_by (λ job. refl) m
-pauses-right other m = part-silent pauses_by pauses-deaf (λ cid bytes. refl) other m tt
+pub pauses-right : (act : Act) (m : Machine) → IsNext act m → Finds act m → PausesRight act m (does act m)
+pauses-right (connects addr) m next found = connects-pauses addr m
+pauses-right asks_for_roots m next found = asks-silent pauses_by (λ job. refl) m
+pauses-right other m next found = part-silent pauses_by pauses-deaf (λ cid bytes. refl) other m tt next found
 
 -- ---- each order
 

@@ -12,7 +12,6 @@ use Rattle.net_base.specs.declared.event.Event.TheVariants.{Now, Govern, Accepte
 use Rattle.net_base.specs.declared.event.Group.{Group}
 use Rattle.net_base.specs.declared.event.RootAnswer.{RootAnswer}
 use Rattle.net_base.specs.declared.event.RootAnswer.TheVariants.{Found, Failed}
-use Rattle.net_base.specs.declared.timer.Deadline.{Deadline}
 use Rattle.root_groups.specs.Cleaned.{cleaned, members_of}
 use Rattle.root_groups.specs.RootAsk.{awaits, publics_of, found}
 use Rattle.machine.specs.Deadlines.{deadlines, due, fires, fires_some, fire_due, fire_all}
@@ -26,6 +25,7 @@ use Rattle.machine.specs.Stream.{handles, fed_with, feeds, comes_in}
 use Rattle.machine.specs.Step.{step}
 use Rattle.laws.specs.Acts.{Act, fires_one, carries, connects, ends_dial, stores, handles_item, ends_stream, is_closed, sets_targets, sets_big_targets, makes_ordinary, provides, provides_big, does, fired_from, fired, orders_of, acts_at_moment, acts_fed, acts_of_bytes, acts_of_groups, acts_of_answer, acts}
 use Rattle.laws.specs.AtMoves.{fed_on}
+use Rattle.laws.proofs.Cases.{by_bool, by_option}
 
 -- ---- one after the other
 
@@ -51,7 +51,7 @@ then_same effect f g same = ap (λ second. with_actions (effect.actions ++ secon
 then_of : (one two : Effect) (f g : Machine → Effect) → one ≡ two → f two.machine ≡ g two.machine → then_do one f ≡ then_do two g
 then_of one two f g same later = ap (λ effect. then_do effect f) same ∙ then_same two f g later
 
-each_appended : {X : Type 0} (act : X → Machine → Effect) (xs ys : List X) (m : Machine) →
+pub each_appended : {X : Type 0} (act : X → Machine → Effect) (xs ys : List X) (m : Machine) →
     for_each act (xs ++ ys) m ≡ then_do (for_each act xs m) (for_each act ys)
 unfolding for_each
 each_appended act [] ys m = refl
@@ -80,26 +80,23 @@ no_act m = refl
 fired-chain : (n : ℕ) (m : Machine) → fire_due n m ≡ for_each fires (fired n m) m
 unfolding fire_due fired for_each
 fired-chain zero m = refl
-fired-chain (suc n) m = by_due (due m) (fired-chain n)
-  where
-    by_due : (o : Option Deadline) → ((w : Machine) → fire_due n w ≡ for_each fires (fired n w) w) →
-        fires_some o (fire_due n) m ≡ for_each fires (fired_from o (fired n) m) m
-    by_due None later = refl
-    by_due (Some d) later = then_same (fires d m) (fire_due n) (for_each fires (fired n (fires d m).machine)) (later (fires d m).machine)
+fired-chain (suc n) m = by_option (due m)
+    (λ o. ((w : Machine) → fire_due n w ≡ for_each fires (fired n w) w) → fires_some o (fire_due n) m ≡ for_each fires (fired_from o (fired n) m) m)
+    (λ is later. refl)
+    (λ d is later. then_same (fires d m) (fire_due n) (for_each fires (fired n (fires d m).machine)) (later (fires d m).machine)) (fired-chain n)
 
 clock-chain : (t : ℕ) (m : Machine) → clock_shows t m ≡ for_each does (if nat_le t m.now then [] else acts_at_moment t m) m
 unfolding for_each
-clock-chain t m = by_test (nat_le t m.now)
-  where
-    by_test : (b : Bool) → (if b then nothing_more m else fire_all (record m { now = t })) ≡ for_each does (if b then [] else acts_at_moment t m) m
-    by_test true = refl
-    by_test false =
-        let n : Machine = record m { now = t } in
-        fired-chain (length (deadlines n)) n ∙ sym (each_mapped fires_one fires (λ d w. refl) (fired (length (deadlines n)) n) n)
+clock-chain t m = by_bool (nat_le t m.now)
+    (λ b. (if b then nothing_more m else fire_all (record m { now = t })) ≡ for_each does (if b then [] else acts_at_moment t m) m)
+    (λ is. refl)
+    (λ is.
+    let n : Machine = record m { now = t } in
+    fired-chain (length (deadlines n)) n ∙ sym (each_mapped fires_one fires (λ d w. refl) (fired (length (deadlines n)) n) n))
 
 -- ---- the governor
 
-rules-chain : (each : List (Machine → List Order)) (m : Machine) → for_each rules each m ≡ for_each carries_out (orders_of each m) m
+pub rules-chain : (each : List (Machine → List Order)) (m : Machine) → for_each rules each m ≡ for_each carries_out (orders_of each m) m
 unfolding for_each orders_of
 rules-chain [] m = refl
 rules-chain (r ∷ each) m =
@@ -139,11 +136,9 @@ fed-chain fed e m =
 
 comes-chain : (o : Option Entry) (bytes : List ℕ) (m : Machine) → on_entry o (comes_in bytes) m ≡ for_each does (acts_of_bytes o bytes) m
 comes-chain None bytes m = no_act m
-comes-chain (Some e) bytes m = by_test (is_greeting e.facts || is_negotiated e.facts)
-  where
-    by_test : (b : Bool) → (if b then feeds bytes e m else nothing_more m) ≡ for_each does (if b then acts_fed (fed_on e bytes) e else []) m
-    by_test true = fed-chain (fed_on e bytes) e m
-    by_test false = no_act m
+comes-chain (Some e) bytes m = by_bool (is_greeting e.facts || is_negotiated e.facts)
+    (λ b. (if b then feeds bytes e m else nothing_more m) ≡ for_each does (if b then acts_fed (fed_on e bytes) e else []) m)
+    (λ is. fed-chain (fed_on e bytes) e m) (λ is. no_act m)
 
 -- ---- what is set and provided
 

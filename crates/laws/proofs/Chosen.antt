@@ -16,6 +16,8 @@ use Rattle.laws.proofs.GroupsApart.{append-apart}
 use Rattle.laws.proofs.Lists.{all-weaker, all-appended, all-both}
 use Rattle.laws.proofs.PeersApart.{all-found, same_turned, filter-apart}
 use Rattle.laws.proofs.Picks.{filter-all, filter-passing, picks-apart, picks-all}
+use Rattle.laws.proofs.Cases.{by_bool}
+use Rattle.govern_rules.specs.Rules.{is_member_and}
 
 -- ---- of all peers
 
@@ -41,12 +43,9 @@ chosen-all P big word number test peers apart gives =
 
 listed_front : (a : Addr) (xs ys : List Addr) → is_listed a xs ≡ true → is_listed a (xs ++ ys) ≡ true
 listed_front a [] ys h = absurd cc
-listed_front a (x ∷ xs) ys h = by_test (same_address a x) refl h (listed_front a xs ys)
-  where
-    by_test : (b : Bool) → same_address a x ≡ b → (b || is_listed a xs) ≡ true → (is_listed a xs ≡ true → is_listed a (xs ++ ys) ≡ true) →
-        (b || is_listed a (xs ++ ys)) ≡ true
-    by_test true e here later = refl
-    by_test false e there later = later there
+listed_front a (x ∷ xs) ys h = by_bool (same_address a x)
+    (λ b. (b || is_listed a xs) ≡ true → (is_listed a xs ≡ true → is_listed a (xs ++ ys) ≡ true) → (b || is_listed a (xs ++ ys)) ≡ true)
+    (λ e here later. refl) (λ e there later. later there) h (listed_front a xs ys)
 
 listed_behind : (a : Addr) (xs ys : List Addr) → is_listed a ys ≡ true → is_listed a (xs ++ ys) ≡ true
 listed_behind a [] ys h = h
@@ -68,14 +67,12 @@ not_among a (y ∷ ys) h = or_from (same_address a y) (is_listed a ys) (same_tur
 -- an address of the front is none behind it
 pub front-not_behind : (a : Addr) (xs ys : List Addr) → AreApart (xs ++ ys) → is_listed a xs ≡ true → is_listed a ys ≡ false
 front-not_behind a [] ys h listed = absurd cc
-front-not_behind a (x ∷ xs) ys h listed = by_test (same_address a x) refl listed (front-not_behind a xs ys h.1)
-  where
-    by_test : (b : Bool) → same_address a x ≡ b → (b || is_listed a xs) ≡ true → (is_listed a xs ≡ true → is_listed a ys ≡ false) →
-        is_listed a ys ≡ false
-    by_test true e here later =
-        subst (λ z. is_listed z ys ≡ false) (sym (same_address-true a x e))
-        (not_among x ys (all-behind (λ b. same_address b x ≡ false) xs ys h.0))
-    by_test false e there later = later there
+front-not_behind a (x ∷ xs) ys h listed = by_bool (same_address a x)
+    (λ b. (b || is_listed a xs) ≡ true → (is_listed a xs ≡ true → is_listed a ys ≡ false) → is_listed a ys ≡ false)
+    (λ e here later.
+    subst (λ z. is_listed z ys ≡ false) (sym (same_address-true a x e))
+    (not_among x ys (all-behind (λ b. same_address b x ≡ false) xs ys h.0)))
+    (λ e there later. later there) listed (front-not_behind a xs ys h.1)
 
 others : (front behind : List Addr) (a b : Addr) → AreApart (front ++ behind) → is_listed a front ≡ true → is_listed b behind ≡ true → same_address b a ≡ false
 others front behind a b h one two = false_from_ne_true (same_address b a) (λ same.
@@ -124,3 +121,12 @@ map-groups order pick (g ∷ groups) = by_picks (pick g) (map-groups order pick 
         map order xs ++ flat_map (λ x. map order (pick x)) groups ≡ map order (xs ++ flat_map pick groups)
     by_picks [] rest = rest
     by_picks (x ∷ xs) rest = ap (λ orders. order x ∷ orders) (by_picks xs rest)
+
+-- the picks of each group
+pub group_picks : (word : ℕ) (number : Group → ℕ) (test : Peer → Bool) (ps : List Peer) → ArePeersApart ps →
+    PicksMembers (λ g. chosen false word (number g) (is_member_and g test) ps)
+group_picks word number test ps apart = record {
+  apart = λ g. chosen-apart false word (number g) (is_member_and g test) ps apart;
+  members = λ g. chosen-all (λ a. is_listed a g.members ≡ true) false word (number g) (is_member_and g test) ps apart
+      (λ p passes found. (and_parts (is_listed p.addr g.members) (test p) passes).0);
+}

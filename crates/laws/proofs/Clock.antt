@@ -1,5 +1,5 @@
 -- The moves of the clock: a reply is late, a grace is over, a handshake was not done in time, a time-wait is over.
-use Rattle.std.proofs.Common.{ℕ, zero, suc, ◌≡◌, ◌≤◌, ◌<◌, arith, Bool, true, false, ◌&&◌, ◌||◌, ◌==◌, if◌then◌else◌, [], ◌∷◌, List, length, Option, Some, None, All, Contains, refl, sym, ap, ◌∙◌, subst, eq-eqb, leb-true}
+use Rattle.std.proofs.Common.{ℕ, zero, suc, ◌≡◌, ◌≤◌, ◌<◌, arith, Bool, true, false, ◌&&◌, ◌||◌, ◌==◌, if◌then◌else◌, [], ◌∷◌, List, length, Some, All, Contains, refl, sym, ap, ◌∙◌, subst, eq-eqb, leb-true}
 use Rattle.std.proofs.lemmas.Bool.{cond_both, both_ways, false≢true, and_right, or_from}
 use Rattle.std.proofs.lemmas.List.Elements.{All-nil, All-weaker, All-contains, All-contains_itself}
 use Rattle.net_base.specs.declared.action.Action.TheVariants.{Close}
@@ -9,7 +9,7 @@ use Rattle.net_base.specs.declared.connection.Facts.{Facts}
 use Rattle.net_base.specs.declared.connection.Grace.{Grace}
 use Rattle.net_base.specs.declared.connection.Grace.TheVariants.{Off, ForRemote, ForLocal}
 use Rattle.net_base.specs.declared.connection.Phase.{Phase}
-use Rattle.net_base.specs.declared.connection.Phase.TheVariants.{Dialing, Greeting, Negotiated, Closing}
+use Rattle.net_base.specs.declared.connection.Phase.TheVariants.{Greeting, Closing}
 use Rattle.net_base.specs.declared.timer.Deadline.{Deadline}
 use Rattle.net_base.specs.declared.timer.Kind.{Kind}
 use Rattle.net_base.specs.declared.timer.Kind.TheVariants.{Handshake, Grace as GraceKind, TimeWait, Reply2, Reply8, Reply10}
@@ -37,6 +37,7 @@ use Rattle.laws.proofs.Telling.{told_move}
 use Rattle.laws.proofs.ToldMoves.{turned-told, turned-stage, goes-told, ended-told}
 use Rattle.laws.proofs.WholeEvents.{fires-keeps}
 use Rattle.laws.proofs.WholeMoves.{stands-shaped, stands-owing, greeting-live, negotiated-live}
+use Rattle.laws.proofs.Cases.{by_bool, by_option}
 
 -- ---- what it is that is late
 
@@ -47,26 +48,21 @@ record IsLate (now : ℕ) (e : Entry) : Type 0 where
   late : owed.until ≤ now
 
 -- by the kind of the deadline
-LateAs : ℕ → Entry → Kind → Type 0
+abbrev LateAs : ℕ → Entry → Kind → Type 0
 LateAs now e Handshake = is_greeting e.facts ≡ true
 LateAs now e GraceKind = IsPast now e.facts.grace
 LateAs now e TimeWait = is_live e.facts ≡ false
-LateAs now e Reply2 = IsLate now e
-LateAs now e Reply8 = IsLate now e
-LateAs now e Reply10 = IsLate now e
+LateAs now e other = IsLate now e
 
-MeansLate : ℕ → Entry → Deadline → Type 0
+abbrev MeansLate : ℕ → Entry → Deadline → Type 0
 MeansLate now e d = is_late now d ≡ true → LateAs now e d.kind
 
 phase-late : (now : ℕ) (e : Entry) (phase : Phase) → e.facts.phase ≡ phase → All (MeansLate now e) (phase_deadlines e.facts.cid phase)
-unfolding MeansLate LateAs
-phase-late now e Dialing is = All-nil (MeansLate now e)
 phase-late now e (Greeting until) is = all_one (MeansLate now e) (timer e.facts.cid Handshake until) (λ late. ap is_greeting_phase is)
-phase-late now e Negotiated is = All-nil (MeansLate now e)
 phase-late now e (Closing until) is = all_one (MeansLate now e) (timer e.facts.cid TimeWait until) (λ late. ap live_phase is)
+phase-late now e other is = All-nil (MeansLate now e)
 
 grace-late : (now : ℕ) (e : Entry) (grace : Grace) → e.facts.grace ≡ grace → All (MeansLate now e) (grace_deadlines e.facts.cid grace)
-unfolding MeansLate LateAs
 grace-late now e Off is = All-nil (MeansLate now e)
 grace-late now e (ForRemote until) is =
     all_one (MeansLate now e) (timer e.facts.cid GraceKind until) (λ late. subst (IsPast now) (sym is) (leb-true until now late))
@@ -74,13 +70,10 @@ grace-late now e (ForLocal until) is =
     all_one (MeansLate now e) (timer e.facts.cid GraceKind until) (λ late. subst (IsPast now) (sym is) (leb-true until now late))
 
 reply-late : (now : ℕ) (e : Entry) (owed : Owed) → Contains e.owed owed → MeansLate now e (reply_deadline e.facts.cid owed)
-unfolding MeansLate LateAs
 reply-late now e owed among late =
+    let waited : IsLate now e = record { owed = owed; among = among; late = leb-true owed.until now late } in
     cond_both (owed.protocol == 2) Reply2 (if owed.protocol == 8 then Reply8 else Reply10) (LateAs now e) (λ on_2. waited)
     (λ not_2. cond_both (owed.protocol == 8) Reply8 Reply10 (LateAs now e) (λ on_8. waited) (λ not_8. waited))
-  where
-    waited : IsLate now e
-    waited = record { owed = owed; among = among; late = leb-true owed.until now late }
 
 deadlines_of-late : (now : ℕ) (e : Entry) → All (MeansLate now e) (deadlines_of e)
 deadlines_of-late now e =
@@ -99,11 +92,8 @@ over now f shape idle past = record { local = idle; running = by_running (some_r
 
 -- a grace runs only while the handshake is done
 past-negotiated : (now : ℕ) (f : Facts) → IsShaped f → IsPast now f.grace → is_negotiated f ≡ true
-past-negotiated now f shape past = by_phase (is_negotiated f) refl
-  where
-    by_phase : (b : Bool) → is_negotiated f ≡ b → b ≡ true
-    by_phase true is = refl
-    by_phase false is = elim (subst (IsPast now) (shape.unused is).grace past) [ ]
+past-negotiated now f shape past = by_bool (is_negotiated f) (λ b. b ≡ true)
+    (λ is. refl) (λ is. elim (subst (IsPast now) (shape.unused is).grace past) [ ])
 
 grace_over-told : (m : Machine) (e : Entry) (k : ℕ) → IsOrderly m → StandsAt m.connections k e → is_live e.facts ≡ true →
     IsTold m (as_move (unused e.facts.cid.0) m (then_do (tells (Close e.facts.cid Unused ∷ []) m) (entry_turns e (closing_entry m e))))
@@ -119,6 +109,8 @@ grace_over-told m e k h s live =
 grace_over-obeys : (m : Machine) (e : Entry) (k : ℕ) → IsOrdered m → StandsAt m.connections k e → IsPast m.now e.facts.grace →
     Obeys IsLawful m (grace_over e m)
 grace_over-obeys m e k h s past =
+    let closes : Effect = then_do (tells (Close e.facts.cid Unused ∷ []) m) (entry_turns e (closing_entry m e)) in
+    let closed : Effect = as_move (unused e.facts.cid.0) m closes in
     cond_both e.facts.local (entry_turns e (record e { facts = expired e.facts }) m) closed (Obeys IsLawful m)
     (λ local. turns-obeys IsLawful m e (record e { facts = expired e.facts }) k h.orderly s
     (record { same_id = refl; same_addr = refl; live = λ l. l }) (record { up = λ up. up; asked = λ asked. asked }) (λ negotiated. negotiated) (omega arith))
@@ -132,19 +124,10 @@ grace_over-obeys m e k h s past =
     (record { up = λ up. absurd (both_ways (is_outbound e.facts && false) (and_right (is_outbound e.facts) false refl) up); asked = λ asked. asked }) refl
     (λ negotiated. ap (λ b. b || false) (eq-eqb e.facts.cid.0 e.facts.cid.0 refl))
     (grace_over-told m e k h.orderly s (negotiated-live e.facts.phase (past-negotiated m.now e.facts (stands-shaped m e k h s) past)))))
-  where
-    closes : Effect
-    closes = then_do (tells (Close e.facts.cid Unused ∷ []) m) (entry_turns e (closing_entry m e))
-
-    closed : Effect
-    closed = as_move (unused e.facts.cid.0) m closes
 
 live-negotiated : (f : Facts) → is_live f ≡ false → is_negotiated f ≡ false
-live-negotiated f dead = by_phase (is_negotiated f) refl
-  where
-    by_phase : (b : Bool) → is_negotiated f ≡ b → b ≡ false
-    by_phase true is = absurd (both_ways (is_live f) dead (negotiated-live f.phase is))
-    by_phase false is = refl
+live-negotiated f dead = by_bool (is_negotiated f) (λ b. b ≡ false)
+    (λ is. absurd (both_ways (is_live f) dead (negotiated-live f.phase is))) (λ is. refl)
 
 -- nobody misses one that this side has closed
 dead-unmissed : (f : Facts) → IsShaped f → is_live f ≡ false → is_missed f ≡ false
@@ -153,10 +136,8 @@ dead-unmissed f shape dead =
     (ap (λ b. is_outbound f && b) (unopened f.phase dead) ∙ and_right (is_outbound f) false refl)
   where
     unopened : (p : Phase) → live_phase p ≡ false → opening_phase p ≡ false
-    unopened Dialing is = absurd (false≢true (sym is))
-    unopened (Greeting until) is = absurd (false≢true (sym is))
-    unopened Negotiated is = absurd (false≢true (sym is))
     unopened (Closing until) is = refl
+    unopened other is = absurd (false≢true (sym is))
 
 wait_over-obeys : (m : Machine) (e : Entry) (k : ℕ) → IsOrdered m → StandsAt m.connections k e → is_live e.facts ≡ false →
     Obeys IsLawful m (wait_over e m)
@@ -173,31 +154,24 @@ wait_over-obeys m e k h s dead =
 late-live : (m : Machine) (e : Entry) (k : ℕ) → IsOrdered m → StandsAt m.connections k e → IsLate m.now e → is_live e.facts ≡ true
 late-live m e k h s late =
     let shape : IsShaped e.facts = stands-shaped m e k h s in
-    negotiated-live e.facts.phase (local-negotiated e.facts shape (by_local e.facts.local refl))
+    negotiated-live e.facts.phase (local-negotiated e.facts shape (by_bool e.facts.local (λ b. b ≡ true)
+    (λ is. refl) (λ is. none e.owed ((stands-owing m e k h s).used is) late.among)))
   where
     none : {Z : Type 0} (owed : List Owed) → owed ≡ [] → Contains owed late.owed → Z
     none owed is among = absurd (let inside : among.0 < length owed = among.1 in let empty : length owed ≡ 0 = ap length is in omega (arith, inside, empty))
 
-    by_local : (b : Bool) → e.facts.local ≡ b → b ≡ true
-    by_local true is = refl
-    by_local false is = none e.owed ((stands-owing m e k h s).used is) late.among
-
 fires_as-obeys : (kind : Kind) (m : Machine) (e : Entry) (k : ℕ) → IsOrdered m → StandsAt m.connections k e → LateAs m.now e kind →
     Obeys IsLawful m (fires_as kind e m)
-unfolding LateAs
 fires_as-obeys Handshake m e k h s late =
     ending-obeys (Fault HandshakeWait) m e k h.orderly s (greeting-live e.facts.phase late)
     (λ negotiated. tt) tt
 fires_as-obeys GraceKind m e k h s late = grace_over-obeys m e k h s late
 fires_as-obeys TimeWait m e k h s late = wait_over-obeys m e k h s late
-fires_as-obeys Reply2 m e k h s late = ending-obeys (Fault ReplyWait) m e k h.orderly s (late-live m e k h s late) (λ negotiated. tt) tt
-fires_as-obeys Reply8 m e k h s late = ending-obeys (Fault ReplyWait) m e k h.orderly s (late-live m e k h s late) (λ negotiated. tt) tt
-fires_as-obeys Reply10 m e k h s late = ending-obeys (Fault ReplyWait) m e k h.orderly s (late-live m e k h s late) (λ negotiated. tt) tt
+fires_as-obeys other m e k h s late = ending-obeys (Fault ReplyWait) m e k h.orderly s (late-live m e k h s late) (λ negotiated. tt) tt
 
 -- ---- all that are due
 
 pub fires-obeys : (d : Deadline) (m : Machine) → IsOrdered m → due m ≡ Some d → Obeys IsLawful m (fires d m)
-unfolding MeansLate
 fires-obeys d m h is =
     let next : Due m d = due_of m d h.orderly is in
     subst (λ o. Obeys IsLawful m (on_entry o (fires_as d.kind) m)) (sym next.found)
@@ -207,11 +181,9 @@ fires-obeys d m h is =
 pub fire_due-obeys : (n : ℕ) (m : Machine) → IsOrdered m → Obeys IsLawful m (fire_due n m)
 unfolding fire_due
 fire_due-obeys zero m h = obeys_nothing IsLawful m
-fire_due-obeys (suc n) m h = by_due (due m) refl (fire_due-obeys n)
-  where
-    by_due : (o : Option Deadline) → due m ≡ o → ((w : Machine) → IsOrdered w → Obeys IsLawful w (fire_due n w)) →
-        Obeys IsLawful m (fires_some o (fire_due n) m)
-    by_due None is later = obeys_nothing IsLawful m
-    by_due (Some d) is later =
-        let first : Keeps 0 m (fires d m).machine = fires-keeps d m h is in
-        obeys_then IsLawful m (fires d m) (fire_due n) (fires-obeys d m h is) (later (fires d m).machine first.ordered)
+fire_due-obeys (suc n) m h = by_option (due m)
+    (λ o. ((w : Machine) → IsOrdered w → Obeys IsLawful w (fire_due n w)) → Obeys IsLawful m (fires_some o (fire_due n) m))
+    (λ is later. obeys_nothing IsLawful m)
+    (λ d is later.
+    let first : Keeps 0 m (fires d m).machine = fires-keeps d m h is in
+    obeys_then IsLawful m (fires d m) (fire_due n) (fires-obeys d m h is) (later (fires d m).machine first.ordered)) (fire_due-obeys n)

@@ -34,10 +34,10 @@ use Rattle.net_base.specs.declared.connection.Cid.{Cid}
 use Rattle.net_base.specs.declared.connection.Provenance.{Provenance}
 use Rattle.net_base.specs.declared.connection.Provenance.TheVariants.{FromRemote, FromLocal}
 use Rattle.net_base.specs.declared.connection.Phase.{Phase}
-use Rattle.net_base.specs.declared.connection.Phase.TheVariants.{Dialing, Greeting, Negotiated, Closing}
+use Rattle.net_base.specs.declared.connection.Phase.TheVariants.{Greeting, Negotiated}
 use Rattle.net_base.specs.declared.peer.Temp.TheVariants.{Cold, Warm, Hot}
 use Rattle.net_base.specs.declared.timer.Kind.{Kind}
-use Rattle.net_base.specs.declared.timer.Kind.TheVariants.{Handshake, Grace, TimeWait, Reply2, Reply8, Reply10}
+use Rattle.net_base.specs.declared.timer.Kind.TheVariants.{Handshake, Grace, TimeWait}
 use Rattle.remote_watch.specs.Watch.{watched}
 use Rattle.remote_watch.specs.declared.seen.Seen.{Seen}
 use Rattle.root_groups.specs.RootAsk.{may_ask, asked}
@@ -61,7 +61,7 @@ use Rattle.machine.specs.Provided.{comes_ordinary, is_wanted_big, comes_big}
 use Rattle.machine.specs.Replies.{reply_on, owing, paid}
 use Rattle.machine.specs.Stream.{handled_in, handled, faulted}
 use Rattle.machine.specs.Talking.{replies, stops_if, serves, begins, takes_requests, asked_as, shares_address, taken_of, takes_addresses, pays_chain_sync, pays_keep_alive, pays_peer_sharing, pays, brings, answered_as, talks}
-use Rattle.laws.specs.Acts.{Act, shows, fires_one, asks_for_roots, carries, connects, ends_dial, stores, handles_item, ends_stream, is_closed, sets_targets, sets_big_targets, sets_groups, sets_roots, makes_ordinary, provides, provides_big, does}
+use Rattle.laws.specs.Acts.{Act, fires_one, asks_for_roots, carries, connects, ends_dial, handles_item, ends_stream, is_closed, makes_ordinary, provides, provides_big, does}
 use Rattle.laws.specs.Ends.{protocol_fault, causes_of_verdict, offered, causes_of_message, causes_to_acceptor, side_of, causes_to_dialer, causes_of_greeting, fault_of_request, is_intersection, is_cookie, are_so_many, is_answer, fault_of_answer, fault_of, causes_of_fault, causes_of_item, kind_of_cut, causes_of_cut, causes_of_kind, causes_of_crossing, ends_on, ends_due, is_pruned, but_pruned, pruned_in}
 use Rattle.laws.specs.CarriedOut.{IsOneMove}
 use Rattle.laws.specs.InActions.{End, ended_by, ends_in}
@@ -69,8 +69,10 @@ use Rattle.laws.proofs.ToldMoves.{turns_at-moves}
 use Rattle.laws.proofs.Lawful.{lost_by-quiet, lost-quiet, comes-providing}
 use Rattle.laws.proofs.Handshakes.{answer-quiet}
 use Rattle.laws.proofs.Lists.{all-appended}
-use Rattle.laws.proofs.Orders.{says_done-machine, says_done-quiet}
+use Rattle.laws.proofs.Walk.{says_done-machine}
+use Rattle.laws.proofs.Orders.{says_done-quiet}
 use Rattle.laws.proofs.Talks.{replies-quiet}
+use Rattle.laws.proofs.Cases.{by_bool, by_option}
 
 abbrev pub end_of : Entry → CloseCause → End
 end_of e cause = record { cid = e.facts.cid.0; cause = cause }
@@ -109,7 +111,9 @@ heard-same FromRemote item m = by_tests (item.id == 0) (item.side == 0)
     by_tests true true = heard (message_of item.body)
     by_tests true false = refl
     by_tests false c = refl
-heard-same FromLocal item m = by_test (item.id == 0)
+heard-same FromLocal item m = by_bool (item.id == 0)
+    (λ b. (if b && true then causes_heard (message_of item.body) Dialer item.side m else protocol_fault) ≡ (if b then causes_to_dialer item m else protocol_fault))
+    (λ is. heard (message_of item.body)) (λ is. refl)
   where
     heard : (o : Option Message) → causes_heard o Dialer item.side m
         ≡ causes_of_message o (λ msg. if item.side == side_of msg then causes_of_verdict (verdict_of Dialer (offered m.settings) msg) else protocol_fault)
@@ -118,11 +122,6 @@ heard-same FromLocal item m = by_test (item.id == 0)
     heard (Some (message.Accept version info)) = refl
     heard (Some (message.Refuse reason)) = refl
     heard (Some (message.QueryReply table)) = refl
-
-    by_test : (b : Bool) → (if b && true then causes_heard (message_of item.body) Dialer item.side m else protocol_fault)
-        ≡ (if b then causes_to_dialer item m else protocol_fault)
-    by_test true = heard (message_of item.body)
-    by_test false = refl
 
 -- What pays a reply.
 pays-same : (owed : Owed) (body : List ℕ) → pays owed body ≡ is_answer owed body
@@ -147,13 +146,14 @@ pays-same owed body = λ i. if owed.protocol == 2 then first (item_number_of bod
 -- what a cutter's fault is
 kind-same : (f : CutFault) → kind_of f ≡ kind_of_cut f
 kind-same cut.Bad = refl
-kind-same cut.Deep = refl
-kind-same cut.TooLong = refl
-kind-same cut.UnknownId = refl
+kind-same other = refl
 
 -- a promotion and an activation are one move each
 pub promote-move : (addr : Addr) (m : Machine) → IsOneMove (promoted addr) m (promote addr m)
-promote-move addr m = by_live (live_entry_at addr m)
+promote-move addr m = by_option (live_entry_at addr m) (λ o. IsOneMove (promoted addr) m (as_move (promoted addr) m (promoted_at o addr m)))
+    (λ is. refl)
+    (λ e is. cond_both (is_acquirable e.facts) (acquire e m) (dial addr m) (λ effect. IsOneMove (promoted addr) m (as_move (promoted addr) m effect))
+    (λ free. reuses e) (λ other. refl))
   where
     reuses : (e : Entry) → IsOneMove (promoted addr) m (as_move (promoted addr) m (acquire e m))
     reuses e =
@@ -161,17 +161,10 @@ promote-move addr m = by_live (live_entry_at addr m)
         let move : Move = record { happened = promoted addr; before = m; after = (acquire e m).machine } in
         ap (λ ms. (ms ++ []) ++ move ∷ []) (turns_at-moves (peer_at e.facts.addr n) (λ p. record p { temp = Warm; failures = 0 }) n)
 
-    by_live : (o : Option Entry) → IsOneMove (promoted addr) m (as_move (promoted addr) m (promoted_at o addr m))
-    by_live None = refl
-    by_live (Some e) = cond_both (is_acquirable e.facts) (acquire e m) (dial addr m) (λ effect. IsOneMove (promoted addr) m (as_move (promoted addr) m effect))
-        (λ free. reuses e) (λ other. refl)
-
 pub activate-move : (addr : Addr) (m : Machine) → IsOneMove (activated addr) m (activate addr m)
-activate-move addr m = by_entry (find (is_used_at addr) m.connections)
-  where
-    by_entry : (o : Option Entry) → IsOneMove (activated addr) m (as_move (activated addr) m (on_entry o activates m))
-    by_entry None = refl
-    by_entry (Some e) = refl
+activate-move addr m = by_option (find (is_used_at addr) m.connections)
+    (λ o. IsOneMove (activated addr) m (as_move (activated addr) m (on_entry o activates m)))
+    (λ is. refl) (λ e is. refl)
 
 module _ (P : End → Type 0) where
   -- those are ended but by pruning, and each that is pruned passes
@@ -220,44 +213,37 @@ module _ (P : End → Type 0) where
   trim-ends : (moved : Cid) (m : Machine) → Chosen P moved m → EndsAs (trim moved m) []
   trim-ends moved m chosen = cond_both (nat_le (counted_in m) m.settings.hard) (nothing_more m)
       (on_connection (unwrap_or (choice_of (candidates_in m)) moved) (ending cause.Pruned) m) (λ effect. EndsAs effect []) (λ within. ends_nobody (nothing_more m) refl)
-      (λ above. by_entry (entry_at (unwrap_or (choice_of (candidates_in m)) moved).0 m) refl)
-    where
-      by_entry : (o : Option Entry) → entry_at (unwrap_or (choice_of (candidates_in m)) moved).0 m ≡ o → EndsAs (on_entry o (ending cause.Pruned) m) []
-      by_entry None is = ends_nobody (nothing_more m) refl
-      by_entry (Some e) is = ends_as (ending cause.Pruned e m) (end_of e cause.Pruned ∷ []) [] (ended_is cause.Pruned e m) refl (chosen e is, tt)
+      (λ above. by_option (entry_at (unwrap_or (choice_of (candidates_in m)) moved).0 m) (λ o. EndsAs (on_entry o (ending cause.Pruned) m) [])
+      (λ is. ends_nobody (nothing_more m) refl)
+      (λ e is. ends_as (ending cause.Pruned e m) (end_of e cause.Pruned ∷ []) [] (ended_is cause.Pruned e m) refl (chosen e is, tt)))
 
   -- ---- an item
 
   judged-ends : (v : Verdict) (e : Entry) (m : Machine) → EndsAs (judged v e m) (map (end_of e) (causes_of_verdict v))
   judged-ends (verdict.Accept agreed) e m = ends_nobody (judged (verdict.Accept agreed) e m) refl
-  judged-ends (verdict.Refuse why) e m = ending-ends cause.Refused e m refl
   judged-ends verdict.Query e m = ending-ends cause.Query e m refl
   judged-ends (verdict.Agree agreed) e m = moves_nothing (judged (verdict.Agree agreed) e m) (ap (λ ms. ms ++ []) (turns_at-moves _ _ _))
-  judged-ends verdict.Refused e m = ending-ends cause.Refused e m refl
   judged-ends verdict.Wrong e m = ending-ends (cause.Fault Protocol) e m refl
+  judged-ends other e m = ending-ends cause.Refused e m refl
 
   greeted_by-ends : (o : Option Message) (side : ℕ) (e : Entry) (m : Machine) → EndsAs (greeted_by o side e m) (map (end_of e) (causes_heard o (role_of e.facts.provenance) side m))
   greeted_by-ends None side e m = ending-ends (cause.Fault Malformed) e m refl
-  greeted_by-ends (Some msg) side e m = by_side (fits_side (role_of e.facts.provenance) side msg)
-    where
-      v : Verdict
-      v = verdict_of (role_of e.facts.provenance) (own_info m.settings) msg
-
-      by_side : (b : Bool) → EndsAs (if b then decided v e m else ending (cause.Fault Protocol) e m) (map (end_of e) (if b then causes_of_verdict v else cause.Fault Protocol ∷ []))
-      by_side true =
-          let first : Effect = sends_answer (answer_of v (own_info m.settings)) e.facts.cid m in
-          ends_then first (judged v e) (map (end_of e) (causes_of_verdict v))
-          (moves_nothing first (answer-quiet (answer_of v (own_info m.settings)) e.facts.cid m).moves) (judged-ends v e first.machine)
-      by_side false = ending-ends (cause.Fault Protocol) e m refl
+  greeted_by-ends (Some msg) side e m =
+      let v : Verdict = verdict_of (role_of e.facts.provenance) (own_info m.settings) msg in
+      by_bool (fits_side (role_of e.facts.provenance) side msg)
+      (λ b. EndsAs (if b then decided v e m else ending (cause.Fault Protocol) e m) (map (end_of e) (if b then causes_of_verdict v else cause.Fault Protocol ∷ [])))
+      (λ is.
+      let first : Effect = sends_answer (answer_of v (own_info m.settings)) e.facts.cid m in
+      ends_then first (judged v e) (map (end_of e) (causes_of_verdict v))
+      (moves_nothing first (answer-quiet (answer_of v (own_info m.settings)) e.facts.cid m).moves) (judged-ends v e first.machine))
+      (λ is. ending-ends (cause.Fault Protocol) e m refl)
 
   greets-ends : (item : Item) (e : Entry) (m : Machine) → EndsAs (greets item e m) (map (end_of e) (causes_of_greeting item e.facts m))
   greets-ends item e m =
-      subst (λ causes. EndsAs (greets item e m) (map (end_of e) causes)) (heard-same e.facts.provenance item m) (by_side (item.id == 0 && is_awaited (role_of e.facts.provenance) item.side))
-    where
-      by_side : (b : Bool) → EndsAs (if b then greeted_by (message_of item.body) item.side e m else ending (cause.Fault Protocol) e m)
-          (map (end_of e) (if b then causes_heard (message_of item.body) (role_of e.facts.provenance) item.side m else protocol_fault))
-      by_side true = greeted_by-ends (message_of item.body) item.side e m
-      by_side false = ending-ends (cause.Fault Protocol) e m refl
+      subst (λ causes. EndsAs (greets item e m) (map (end_of e) causes)) (heard-same e.facts.provenance item m) (by_bool (item.id == 0 && is_awaited (role_of e.facts.provenance) item.side)
+      (λ b. EndsAs (if b then greeted_by (message_of item.body) item.side e m else ending (cause.Fault Protocol) e m)
+      (map (end_of e) (if b then causes_heard (message_of item.body) (role_of e.facts.provenance) item.side m else protocol_fault)))
+      (λ is. greeted_by-ends (message_of item.body) item.side e m) (λ is. ending-ends (cause.Fault Protocol) e m refl))
 
   stops_if-ends : (done : Bool) (protocol : ℕ) (e : Entry) (m : Machine) → EndsAs (stops_if done protocol e m) []
   stops_if-ends true protocol e m = ends_nobody (stops_if true protocol e m) refl
@@ -278,14 +264,13 @@ module _ (P : End → Type 0) where
   asked_as-ends : (r : Result Seen FaultKind) (protocol : ℕ) (e : Entry) (m : Machine) → Chosen P e.facts.cid (woken protocol e m) →
       EndsAs (asked_as r protocol e m) (map (end_of e) (causes_of_fault (fault_of_request r e.facts)))
   asked_as-ends (Err kind) protocol e m chosen = ending-ends (cause.Fault kind) e m refl
-  asked_as-ends (Ok seen) protocol e m chosen = by_test (takes_requests e)
-    where
-      by_test : (b : Bool) → EndsAs (if b then then_do (begins protocol e m) (on_connection e.facts.cid (serves seen protocol)) else ending (cause.Fault Protocol) e m)
-          (map (end_of e) (causes_of_fault (if b then None else Some Protocol)))
-      by_test true =
-          let first : Effect = begins protocol e m in
-          ends_then first (on_connection e.facts.cid (serves seen protocol)) [] (begins-ends protocol e m chosen) (serves-ends (entry_at e.facts.cid.0 first.machine) seen protocol first.machine)
-      by_test false = ending-ends (cause.Fault Protocol) e m refl
+  asked_as-ends (Ok seen) protocol e m chosen = by_bool (takes_requests e)
+      (λ b. EndsAs (if b then then_do (begins protocol e m) (on_connection e.facts.cid (serves seen protocol)) else ending (cause.Fault Protocol) e m)
+      (map (end_of e) (causes_of_fault (if b then None else Some Protocol))))
+      (λ is.
+      let first : Effect = begins protocol e m in
+      ends_then first (on_connection e.facts.cid (serves seen protocol)) [] (begins-ends protocol e m chosen) (serves-ends (entry_at e.facts.cid.0 first.machine) seen protocol first.machine))
+      (λ is. ending-ends (cause.Fault Protocol) e m refl)
 
   comes-ends : (big : Bool) (a : Addr) (m : Machine) → EndsAs (as_move (shared a) m (peer_comes big a m)) []
   comes-ends big a m =
@@ -314,30 +299,25 @@ module _ (P : End → Type 0) where
   answered_as-ends : (o : Option Owed) (item : Item) (e : Entry) (m : Machine) → EndsAs (answered_as o item e m) (map (end_of e) (causes_of_fault (fault_of_answer o item.body)))
   answered_as-ends None item e m = ending-ends (cause.Fault Protocol) e m refl
   answered_as-ends (Some owed) item e m =
-      subst (λ b. EndsAs (answered_as (Some owed) item e m) (map (end_of e) (causes_of_fault (if b then None else Some Protocol)))) (pays-same owed item.body) (by_test (pays owed item.body))
-    where
-      by_test : (b : Bool) → EndsAs (if b then then_do (entry_turns e (paid item.id e) m) (brings item.id item.body e) else ending (cause.Fault Protocol) e m)
-          (map (end_of e) (causes_of_fault (if b then None else Some Protocol)))
-      by_test true = ends_then (entry_turns e (paid item.id e) m) (brings item.id item.body e) [] (ends_nobody (entry_turns e (paid item.id e) m) refl)
-          (brings-ends item.id item.body e (with_entry (paid item.id e) m))
-      by_test false = ending-ends (cause.Fault Protocol) e m refl
+      subst (λ b. EndsAs (answered_as (Some owed) item e m) (map (end_of e) (causes_of_fault (if b then None else Some Protocol)))) (pays-same owed item.body) (by_bool (pays owed item.body)
+      (λ b. EndsAs (if b then then_do (entry_turns e (paid item.id e) m) (brings item.id item.body e) else ending (cause.Fault Protocol) e m)
+      (map (end_of e) (causes_of_fault (if b then None else Some Protocol))))
+      (λ is. ends_then (entry_turns e (paid item.id e) m) (brings item.id item.body e) [] (ends_nobody (entry_turns e (paid item.id e) m) refl)
+      (brings-ends item.id item.body e (with_entry (paid item.id e) m)))
+      (λ is. ending-ends (cause.Fault Protocol) e m refl))
 
   talks-ends : (item : Item) (e : Entry) (m : Machine) → Chosen P e.facts.cid (woken item.id e m) → EndsAs (talks item e m) (map (end_of e) (causes_of_fault (fault_of item e)))
-  talks-ends item e m chosen = by_side (item.side == 0)
-    where
-      seen : Result Seen FaultKind
-      seen = watched item.id (agreed_sharing e.facts.agreed) item.body
-
-      by_side : (b : Bool) → EndsAs (if b then asked_as seen item.id e m else answered_as (reply_on item.id e) item e m)
-          (map (end_of e) (causes_of_fault (if b then fault_of_request seen e.facts else fault_of_answer (reply_on item.id e) item.body)))
-      by_side true = asked_as-ends seen item.id e m chosen
-      by_side false = answered_as-ends (reply_on item.id e) item e m
+  talks-ends item e m chosen =
+      let seen : Result Seen FaultKind = watched item.id (agreed_sharing e.facts.agreed) item.body in
+      by_bool (item.side == 0)
+      (λ b. EndsAs (if b then asked_as seen item.id e m else answered_as (reply_on item.id e) item e m)
+      (map (end_of e) (causes_of_fault (if b then fault_of_request seen e.facts else fault_of_answer (reply_on item.id e) item.body))))
+      (λ is. asked_as-ends seen item.id e m chosen) (λ is. answered_as-ends (reply_on item.id e) item e m)
 
   handled_in-ends : (p : Phase) (item : Item) (e : Entry) (m : Machine) → Chosen P e.facts.cid (woken item.id e m) → EndsAs (handled_in p item e m) (map (end_of e) (causes_of_item p item e m))
-  handled_in-ends Dialing item e m chosen = ends_nobody (nothing_more m) refl
   handled_in-ends (Greeting until) item e m chosen = greets-ends item e m
   handled_in-ends Negotiated item e m chosen = talks-ends item e m chosen
-  handled_in-ends (Closing until) item e m chosen = ends_nobody (nothing_more m) refl
+  handled_in-ends other item e m chosen = ends_nobody (nothing_more m) refl
 
   handled-ends : (o : Option Entry) (item : Item) (m : Machine) → ((e : Entry) → o ≡ Some e → Chosen P e.facts.cid (woken item.id e m)) →
       EndsAs (on_entry o (handled item) m) (ends_on o (λ e. causes_of_item e.facts.phase item e m))
@@ -354,18 +334,14 @@ module _ (P : End → Type 0) where
 
   fires_as-ends : (kind : Kind) (e : Entry) (m : Machine) → EndsAs (fires_as kind e m) (map (end_of e) (causes_of_kind kind e))
   fires_as-ends Handshake e m = ending-ends (cause.Fault HandshakeWait) e m refl
-  fires_as-ends Grace e m = by_local e.facts.local
-    where
-      closes_it : Effect
-      closes_it = as_move (unused e.facts.cid.0) m (then_do (tells (Close e.facts.cid cause.Unused ∷ []) m) (entry_turns e (closing_entry m e)))
-
-      by_local : (b : Bool) → EndsAs (if b then entry_turns e (record e { facts = expired e.facts }) m else closes_it) (map (end_of e) (if b then [] else cause.Unused ∷ []))
-      by_local true = ends_nobody (entry_turns e (record e { facts = expired e.facts }) m) refl
-      by_local false = ends_as closes_it (end_of e cause.Unused ∷ []) (end_of e cause.Unused ∷ []) refl refl tt
+  fires_as-ends Grace e m =
+      let closes_it : Effect = as_move (unused e.facts.cid.0) m (then_do (tells (Close e.facts.cid cause.Unused ∷ []) m) (entry_turns e (closing_entry m e))) in
+      by_bool e.facts.local
+      (λ b. EndsAs (if b then entry_turns e (record e { facts = expired e.facts }) m else closes_it) (map (end_of e) (if b then [] else cause.Unused ∷ [])))
+      (λ is. ends_nobody (entry_turns e (record e { facts = expired e.facts }) m) refl)
+      (λ is. ends_as closes_it (end_of e cause.Unused ∷ []) (end_of e cause.Unused ∷ []) refl refl tt)
   fires_as-ends TimeWait e m = ends_nobody (fires_as TimeWait e m) refl
-  fires_as-ends Reply2 e m = ending-ends (cause.Fault ReplyWait) e m refl
-  fires_as-ends Reply8 e m = ending-ends (cause.Fault ReplyWait) e m refl
-  fires_as-ends Reply10 e m = ending-ends (cause.Fault ReplyWait) e m refl
+  fires_as-ends other e m = ending-ends (cause.Fault ReplyWait) e m refl
 
   fires-ends : (o : Option Entry) (kind : Kind) (m : Machine) → EndsAs (on_entry o (fires_as kind) m) (ends_on o (causes_of_kind kind))
   fires-ends None kind m = ends_nobody (nothing_more m) refl
@@ -420,11 +396,8 @@ module _ (P : End → Type 0) where
           (moves_nothing (peer_becomes Cold e.facts.addr n) (turns_at-moves (peer_at e.facts.addr n) (λ p. record p { temp = Cold }) n)) (trim-ends e.facts.cid (cooled e m) chosen))
 
   on_used-ends : (addr : Addr) (act : Entry → Machine → Effect) (m : Machine) → ((e : Entry) → find (is_used_at addr) m.connections ≡ Some e → EndsAs (act e m) []) → EndsAs (on_used addr act m) []
-  on_used-ends addr act m each = by_entry (find (is_used_at addr) m.connections) refl
-    where
-      by_entry : (o : Option Entry) → find (is_used_at addr) m.connections ≡ o → EndsAs (on_entry o act m) []
-      by_entry None is = ends_nobody (nothing_more m) refl
-      by_entry (Some e) is = each e is
+  on_used-ends addr act m each = by_option (find (is_used_at addr) m.connections) (λ o. EndsAs (on_entry o act m) [])
+      (λ is. ends_nobody (nothing_more m) refl) (λ e is. each e is)
 
   one_move-ends : (happened : Happened) (m : Machine) (effect : Effect) → ended_by happened ≡ [] → IsOneMove happened m effect → EndsAs effect []
   one_move-ends happened m effect none one = ends_nobody effect (ap ends_in one ∙ ap (λ ends. ends ++ []) none)
@@ -483,20 +456,15 @@ module _ (P : End → Type 0) where
   ChosenBy other m = Unit {0}
 
   pub part-ends : (act : Act) (m : Machine) → ChosenBy act m → EndsAs (does act m) (ends_due act m)
-  part-ends (shows t) m chosen = ends_nobody (does (shows t) m) refl
   part-ends (fires_one d) m chosen = fires-ends (entry_at d.cid.0 m) d.kind m
   part-ends asks_for_roots m chosen = roots-ends m
   part-ends (carries order) m chosen = carries-ends order m chosen
   part-ends (connects addr) m chosen = connects-ends addr m
   part-ends (ends_dial cid opened) m chosen = dial_ends-ends (entry_at cid.0 m) opened m
-  part-ends (stores entry undecoded) m chosen = ends_nobody (does (stores entry undecoded) m) refl
   part-ends (handles_item cid item) m chosen = handled-ends (entry_at cid.0 m) item m chosen
   part-ends (ends_stream cid fault) m chosen = stream-ends (entry_at cid.0 m) fault m
   part-ends (is_closed cid) m chosen = closed-ends (entry_at cid.0 m) m
-  part-ends (sets_targets targets) m chosen = ends_nobody (does (sets_targets targets) m) refl
-  part-ends (sets_big_targets targets) m chosen = ends_nobody (does (sets_big_targets targets) m) refl
-  part-ends (sets_groups groups) m chosen = ends_nobody (does (sets_groups groups) m) refl
-  part-ends (sets_roots roots) m chosen = ends_nobody (does (sets_roots roots) m) refl
   part-ends (makes_ordinary addr) m chosen = moves_nothing (peer_is_ordinary addr m) (turns_at-moves (peer_at addr m) (λ p. record p { big = false }) m)
   part-ends (provides addr) m chosen = moves_nothing (comes_ordinary addr m) (comes-providing false addr m).moves
   part-ends (provides_big addr) m chosen = big-ends addr m
+  part-ends other m chosen = ends_nobody (does other m) refl

@@ -15,6 +15,7 @@ use Rattle.machine.specs.Deadlines.{phase_deadlines, grace_deadlines, reply_dead
 use Rattle.machine.specs.Machine.{Entry, Owed}
 use Rattle.machine.specs.Replies.{with_reply, without_reply}
 use Rattle.laws.proofs.Counts.{one_if_counted, is_late, late_of, late_of-parts, grace_late_of}
+use Rattle.laws.proofs.Cases.{by_bool}
 
 -- ---- counted connections
 
@@ -52,11 +53,9 @@ fewer-acquired f = cond_both (is_counted (acquired f)) 1 0 (λ n. n ≤ one_if_c
     (λ yes_. let same : one_if_counted f ≡ 1 = one_if-counted f (counted-acquired f yes_) in omega arith) (λ no_. omega arith)
 
 pub counted-running : (f : Facts) → is_negotiated f ≡ true → some_runs f.running ≡ true → is_counted f ≡ true
-counted-running f negotiated runs = rw (negotiated, runs) (by_greeting (not (is_outbound f) && is_greeting f))
-  where
-    by_greeting : (b : Bool) → (b || true || (true && not f.local && is_for_remote f.grace)) ≡ true
-    by_greeting true = refl
-    by_greeting false = refl
+counted-running f negotiated runs = rw (negotiated, runs) (by_bool (not (is_outbound f) && is_greeting f)
+    (λ b. (b || true || (true && not f.local && is_for_remote f.grace)) ≡ true)
+    (λ is. refl) (λ is. refl))
 
 -- ---- late deadlines
 

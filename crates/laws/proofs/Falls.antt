@@ -1,5 +1,5 @@
 -- An order at one address lowers what is counted by one at most, and leaves other addresses as they were.
-use Rattle.std.proofs.Common.{ℕ, ◌+◌, ◌≤◌, ◌≡◌, Bool, true, false, cond, not, ◌&&◌, ◌||◌, nat_le, List, [], ◌∷◌, filter, find, count_by, Option, Some, None, refl, sym, ap, ◌∙◌, subst, arith}
+use Rattle.std.proofs.Common.{ℕ, ◌+◌, ◌≤◌, ◌≡◌, Bool, true, false, cond, not, ◌&&◌, ◌||◌, nat_le, List, [], ◌∷◌, filter, find, count_by, Some, refl, sym, ap, ◌∙◌, subst, arith}
 use Rattle.std.specs.List.{list_any, AllByRecursion}
 use Rattle.std.specs.Option.{unwrap_or}
 use Rattle.std.proofs.lemmas.Bool.{cond_both, and_parts}
@@ -27,11 +27,12 @@ use Rattle.laws.proofs.BackOff.{trim-peers, idle-unmissed, turned-is}
 use Rattle.laws.proofs.CarriedOut.{changed-orderly}
 use Rattle.laws.proofs.Entries.{TurnsInto, turned-orderly}
 use Rattle.laws.proofs.Lists.{StandsAt, FoundIn, find_some, All-stands}
-use Rattle.laws.proofs.Orders.{says_done-machine}
+use Rattle.laws.proofs.Walk.{says_done-machine}
 use Rattle.laws.proofs.Shapes.{local-negotiated}
 use Rattle.laws.proofs.Spending.{IsSameBut, AreSameBut, all_same, with_peer-same_but, ChangesAt, turned-same}
 use Rattle.laws.proofs.ToldMoves.{turns_at-connections}
 use Rattle.laws.proofs.Trims.{lost-connections}
+use Rattle.laws.proofs.Cases.{by_bool, by_option}
 
 -- ---- books that differ at one address, the other way
 
@@ -43,7 +44,6 @@ same-back a p q h = record {
 }
 
 all-back : (a : Addr) (ps qs : List Peer) → AreSameBut a ps qs → AreSameBut a qs ps
-unfolding AreSameBut
 all-back a [] [] h = tt
 all-back a [] (q ∷ qs) h = elim h [ ]
 all-back a (p ∷ ps) [] h = elim h [ ]
@@ -51,14 +51,12 @@ all-back a (p ∷ ps) (q ∷ qs) h = (same-back a p q h.0, all-back a ps qs h.1)
 
 others-same : (a b : Addr) (ps qs : List Peer) → AreSameBut a ps qs → AllByRecursion (λ x. same_address x.addr b ≡ false) ps →
     AllByRecursion (λ x. same_address x.addr b ≡ false) qs
-unfolding AreSameBut
 others-same a b [] [] h all = tt
 others-same a b [] (q ∷ qs) h all = elim h [ ]
 others-same a b (p ∷ ps) [] h all = elim h [ ]
 others-same a b (p ∷ ps) (q ∷ qs) h all = (subst (λ x. same_address x b ≡ false) (sym h.0.same_addr) all.0, others-same a b ps qs h.1 all.1)
 
 apart-same : (a : Addr) (ps qs : List Peer) → AreSameBut a ps qs → ArePeersApart ps → ArePeersApart qs
-unfolding AreSameBut
 apart-same a [] [] h apart = tt
 apart-same a [] (q ∷ qs) h apart = elim h [ ]
 apart-same a (p ∷ ps) [] h apart = elim h [ ]
@@ -68,25 +66,21 @@ apart-same a (p ∷ ps) (q ∷ qs) h apart = (
 )
 
 found-same : (a b : Addr) (ps qs : List Peer) → same_address b a ≡ false → AreSameBut a ps qs → peer_in b qs ≡ peer_in b ps
-unfolding AreSameBut
 found-same a b [] [] other h = refl
 found-same a b [] (q ∷ qs) other h = elim h [ ]
 found-same a b (p ∷ ps) [] other h = elim h [ ]
-found-same a b (p ∷ ps) (q ∷ qs) other h = by_test (same_address p.addr b) refl (found-same a b ps qs other h.1)
-  where
-    by_test : (c : Bool) → same_address p.addr b ≡ c → peer_in b qs ≡ peer_in b ps →
-        cond (same_address q.addr b) (Some q) (peer_in b qs) ≡ cond c (Some p) (peer_in b ps)
-    by_test true at rest =
-        let apart : same_address p.addr a ≡ false = subst (λ x. same_address x a ≡ false) (sym (same_address-true p.addr b at)) other in
-        rw (ap (λ x. same_address x b) h.0.same_addr ∙ at) (ap Some (h.0.elsewhere apart))
-    by_test false away rest = rw (ap (λ x. same_address x b) h.0.same_addr ∙ away) rest
+found-same a b (p ∷ ps) (q ∷ qs) other h = by_bool (same_address p.addr b)
+    (λ c. peer_in b qs ≡ peer_in b ps → cond (same_address q.addr b) (Some q) (peer_in b qs) ≡ cond c (Some p) (peer_in b ps))
+    (λ at rest.
+    let apart : same_address p.addr a ≡ false = subst (λ x. same_address x a ≡ false) (sym (same_address-true p.addr b at)) other in
+    rw (ap (λ x. same_address x b) h.0.same_addr ∙ at) (ap Some (h.0.elsewhere apart)))
+    (λ away rest. rw (ap (λ x. same_address x b) h.0.same_addr ∙ away) rest) (found-same a b ps qs other h.1)
 
 of-same : (big : Bool) (p q : Peer) → q.big ≡ p.big → is_of big q ≡ is_of big p
 of-same true p q same = same
 of-same false p q same = ap not same
 
 known-same : (big : Bool) (a : Addr) (ps qs : List Peer) → AreSameBut a ps qs → known_of big qs ≡ known_of big ps
-unfolding AreSameBut
 known-same big a [] [] h = refl
 known-same big a [] (q ∷ qs) h = elim h [ ]
 known-same big a (p ∷ ps) [] h = elim h [ ]
@@ -128,42 +122,33 @@ one-most false = omega arith
 
 pub taken-count : (t : Peer → Bool) (a : Addr) (ps : List Peer) → ArePeersApart ps → count_by t ps ≤ count_by t (without_peer a ps) + 1
 taken-count t a [] apart = omega arith
-taken-count t a (p ∷ ps) apart = by_test (same_address p.addr a) refl (taken-count t a ps apart.1)
-  where
-    before : count_by t (p ∷ ps) ≡ cond {A = ℕ} (t p) 1 0 + count_by t ps
-    before = sum_by-cons (λ x. cond {A = ℕ} (t x) 1 0) p ps
-
-    by_test : (c : Bool) → same_address p.addr a ≡ c → count_by t ps ≤ count_by t (without_peer a ps) + 1 →
-        count_by t (p ∷ ps) ≤ count_by t (cond (not c) (p ∷ without_peer a ps) (without_peer a ps)) + 1
-    by_test true at rest =
-        let same : count_by t (without_peer a ps) ≡ count_by t ps =
-        ap (count_by t) (taken-none a ps (subst (λ x. AllByRecursion (λ q. same_address q.addr x ≡ false) ps) (same_address-true p.addr a at) apart.0)) in
-        omega (arith, before, same, one-most (t p))
-    by_test false away rest =
-        let after = sum_by-cons (λ x. cond {A = ℕ} (t x) 1 0) p (without_peer a ps) in
-        omega (arith, before, after, rest)
+taken-count t a (p ∷ ps) apart =
+    let before : count_by t (p ∷ ps) ≡ cond {A = ℕ} (t p) 1 0 + count_by t ps = sum_by-cons (λ x. cond {A = ℕ} (t x) 1 0) p ps in
+    by_bool (same_address p.addr a)
+    (λ c. count_by t ps ≤ count_by t (without_peer a ps) + 1 → count_by t (p ∷ ps) ≤ count_by t (cond (not c) (p ∷ without_peer a ps) (without_peer a ps)) + 1)
+    (λ at rest.
+    let same : count_by t (without_peer a ps) ≡ count_by t ps =
+    ap (count_by t) (taken-none a ps (subst (λ x. AllByRecursion (λ q. same_address q.addr x ≡ false) ps) (same_address-true p.addr a at) apart.0)) in
+    omega (arith, before, same, one-most (t p)))
+    (λ away rest.
+    let after = sum_by-cons (λ x. cond {A = ℕ} (t x) 1 0) p (without_peer a ps) in
+    omega (arith, before, after, rest)) (taken-count t a ps apart.1)
 
 -- ---- a peer changes
 
 pub changed-changes : (a : Addr) (change : Peer → Peer) (m n : Machine) → ChangesAt a m n → n.peers ≡ m.peers → ArePeersApart m.peers →
     ((p : Peer) → (change p).addr ≡ p.addr) → ((p : Peer) → (change p).big ≡ p.big) → ChangesAt a m (peer_changes a change n).machine
-changed-changes a change m n h same apart addr class = by_peer (peer_at a n) refl
-  where
-    by_peer : (o : Option Peer) → peer_at a n ≡ o → ChangesAt a m (turns_at o change n).machine
-    by_peer None is = h
-    by_peer (Some p) is =
-        let here : (change p).addr ≡ a = addr p ∙ same_address-true p.addr a (find_some (has_address a) n.peers p is).passes in
-        record {
-          now = h.now;
-          targets = h.targets;
-          big_targets = h.big_targets;
-          groups = h.groups;
-          peers = subst (λ ps. AreSameBut a ps (with_peer (change p) n.peers)) same
-              (subst (λ x. AreSameBut x n.peers (with_peer (change p) n.peers)) here
-              (with_peer-same_but (change p) p n.peers (subst ArePeersApart (sym same) apart)
-              (subst (λ x. peer_in x n.peers ≡ Some p) (sym here) is) (class p)));
-          connections = h.connections;
-        }
+changed-changes a change m n h same apart addr class = by_option (peer_at a n) (λ o. ChangesAt a m (turns_at o change n).machine)
+    (λ is. h)
+    (λ p is.
+    let here : (change p).addr ≡ a = addr p ∙ same_address-true p.addr a (find_some (has_address a) n.peers p is).passes in
+    assumption (
+      subst (λ ps. AreSameBut a ps (with_peer (change p) n.peers)) same
+          (subst (λ x. AreSameBut x n.peers (with_peer (change p) n.peers)) here
+          (with_peer-same_but (change p) p n.peers (subst ArePeersApart (sym same) apart)
+          (subst (λ x. peer_in x n.peers ≡ Some p) (sym here) is) (class p))),
+      h,
+    ))
 
 nothing-changes : (a : Addr) (m : Machine) → ChangesAt a m m
 nothing-changes a m = record { now = refl; targets = refl; big_targets = refl; groups = refl; peers = all_same a m.peers; connections = λ test b other. refl }
@@ -176,33 +161,23 @@ used-here a m e is =
     same_address-true e.facts.addr a (and_parts (same_address e.facts.addr a) (is_live e.facts) lives.0).0
 
 pub ask-changes : (a : Addr) (k : ℕ) (m : Machine) → IsOrdered m → ChangesAt a m (on_used a (asks_peer k) m).machine
-ask-changes a k m h = by_entry (find (is_used_at a) m.connections) refl
-  where
-    by_entry : (o : Option Entry) → find (is_used_at a) m.connections ≡ o → ChangesAt a m (on_entry o (asks_peer k) m).machine
-    by_entry None is = nothing-changes a m
-    by_entry (Some e) is =
-        let at : FoundIn (is_used_at a) m.connections e = find_some (is_used_at a) m.connections e is in
-        let new : Entry = owing 10 k m e in
-        let n : Machine = with_entry new m in
-        let turned : ChangesAt e.facts.addr m n = record {
-          now = refl;
-          targets = refl;
-          big_targets = refl;
-          groups = refl;
-          peers = all_same e.facts.addr m.peers;
-          connections = turned-same m e new at.place h at.stands (record { same_id = refl; same_addr = refl; live = λ l. l });
-        } in
-        subst (λ x. ChangesAt x m (asks_peer k e m).machine) (used-here a m e is)
-        (changed-changes e.facts.addr (λ p. record p { share_next = m.now + m.settings.sharegap }) m n turned refl h.formed.peers (λ p. refl) (λ p. refl))
+ask-changes a k m h = by_option (find (is_used_at a) m.connections) (λ o. ChangesAt a m (on_entry o (asks_peer k) m).machine)
+    (λ is. nothing-changes a m)
+    (λ e is.
+    let at : FoundIn (is_used_at a) m.connections e = find_some (is_used_at a) m.connections e is in
+    let new : Entry = owing 10 k m e in
+    let n : Machine = with_entry new m in
+    let turned : ChangesAt e.facts.addr m n =
+    assumption (all_same e.facts.addr m.peers, turned-same m e new at.place h at.stands (record { same_id = refl; same_addr = refl; live = λ l. l })) in
+    subst (λ x. ChangesAt x m (asks_peer k e m).machine) (used-here a m e is)
+    (changed-changes e.facts.addr (λ p. record p { share_next = m.now + m.settings.sharegap }) m n turned refl h.formed.peers (λ p. refl) (λ p. refl)))
 
 pub deactivate-changes : (a : Addr) (m : Machine) → IsOrdered m → ChangesAt a m (on_used a deactivates m).machine
-deactivate-changes a m h = by_entry (find (is_used_at a) m.connections) refl
-  where
-    by_entry : (o : Option Entry) → find (is_used_at a) m.connections ≡ o → ChangesAt a m (on_entry o deactivates m).machine
-    by_entry None is = nothing-changes a m
-    by_entry (Some e) is =
-        subst (λ x. ChangesAt x m (deactivates e m).machine) (used-here a m e is)
-        (changed-changes e.facts.addr (λ p. record p { temp = Warm }) m m (nothing-changes e.facts.addr m) refl h.formed.peers (λ p. refl) (λ p. refl))
+deactivate-changes a m h = by_option (find (is_used_at a) m.connections) (λ o. ChangesAt a m (on_entry o deactivates m).machine)
+    (λ is. nothing-changes a m)
+    (λ e is.
+    subst (λ x. ChangesAt x m (deactivates e m).machine) (used-here a m e is)
+    (changed-changes e.facts.addr (λ p. record p { temp = Warm }) m m (nothing-changes e.facts.addr m) refl h.formed.peers (λ p. refl) (λ p. refl)))
 
 -- ---- a release
 
@@ -224,19 +199,18 @@ filter-none p q (e ∷ es) none = by_test (q e) (p e) refl none (filter-none p q
 
 trim-none : (test : Entry → Bool) (b : Addr) (moved : Cid) (m : Machine) → some_connection test b m ≡ false → some_connection test b (trim moved m).machine ≡ false
 trim-none test b moved m none = cond_both (nat_le (counted_in m) m.settings.hard) (nothing_more m) (on_connection goes (ending Pruned) m)
-    (λ effect. some_connection test b effect.machine ≡ false) (λ within. none) (λ above. by_entry (entry_at goes.0 m))
+    (λ effect. some_connection test b effect.machine ≡ false) (λ within. none) (λ above. by_option (entry_at goes.0 m)
+    (λ o. some_connection test b (on_entry o (ending Pruned) m).machine ≡ false)
+    (λ is. none)
+    (λ e is.
+    ap (list_any passes) (lost-connections e.facts (without_entry e.facts.cid.0 m))
+    ∙ filter-none passes (λ x. not (has_id e.facts.cid.0 x.facts)) m.connections none))
   where
     goes : Cid
     goes = unwrap_or (choice_of (candidates_in m)) moved
 
     passes : Entry → Bool
     passes = λ e. same_address e.facts.addr b && test e
-
-    by_entry : (o : Option Entry) → some_connection test b (on_entry o (ending Pruned) m).machine ≡ false
-    by_entry None = none
-    by_entry (Some e) =
-        ap (list_any passes) (lost-connections e.facts (without_entry e.facts.cid.0 m))
-        ∙ filter-none passes (λ x. not (has_id e.facts.cid.0 x.facts)) m.connections none
 
 releasing-leaves : (m : Machine) (e : Entry) (k : ℕ) → IsOrdered m → StandsAt m.connections k e → e.facts.local ≡ true →
     LeavesOthers e.facts.addr m (then_do (entry_turns e (record e { facts = released (m.now + m.settings.idle) e.facts }) m)
@@ -250,14 +224,7 @@ releasing-leaves m e k h s local =
     let shape : IsShaped e.facts = All-stands (λ x. IsShaped x.facts) m.connections k e s h.formed.shaped in
     let unpending : is_missed new.facts ≡ false = idle-unmissed new.facts (local-negotiated e.facts shape local) in
     let list : o.connections ≡ n.connections = turns_at-connections (peer_at e.facts.addr n) cold n in
-    let turned : ChangesAt e.facts.addr m n = record {
-      now = refl;
-      targets = refl;
-      big_targets = refl;
-      groups = refl;
-      peers = all_same e.facts.addr m.peers;
-      connections = turned-same m e new k h s turns;
-    } in
+    let turned : ChangesAt e.facts.addr m n = assumption (all_same e.facts.addr m.peers, turned-same m e new k h s turns) in
     let changed : ChangesAt e.facts.addr m o = changed-changes e.facts.addr cold m n turned refl h.formed.peers (λ p. refl) (λ p. refl) in
     record {
       peers = subst (AreSameBut e.facts.addr m.peers)
@@ -268,17 +235,15 @@ releasing-leaves m e k h s local =
     }
 
 pub release-leaves : (a : Addr) (m : Machine) → IsOrdered m → LeavesOthers a m (on_used a release m).machine
-release-leaves a m h = by_entry (find (is_used_at a) m.connections) refl
-  where
-    by_entry : (o : Option Entry) → find (is_used_at a) m.connections ≡ o → LeavesOthers a m (on_entry o release m).machine
-    by_entry None is = record { peers = all_same a m.peers; connections = λ test b other none. none }
-    by_entry (Some e) is =
-        let at : FoundIn (is_used_at a) m.connections e = find_some (is_used_at a) m.connections e is in
-        let local : e.facts.local ≡ true = (and_parts (is_live_at a e.facts) e.facts.local at.passes).1 in
-        subst (λ x. LeavesOthers x m (release e m).machine) (used-here a m e is)
-        (subst (λ w. LeavesOthers e.facts.addr m (then_do (entry_turns e (record e { facts = released (w.now + w.settings.idle) e.facts }) w)
-        (λ x. then_do (peer_becomes Cold e.facts.addr x) (trim e.facts.cid))).machine) (sym (says_done-machine e.facts m))
-        (releasing-leaves m e at.place h at.stands local))
+release-leaves a m h = by_option (find (is_used_at a) m.connections) (λ o. LeavesOthers a m (on_entry o release m).machine)
+    (λ is. record { peers = all_same a m.peers; connections = λ test b other none. none })
+    (λ e is.
+    let at : FoundIn (is_used_at a) m.connections e = find_some (is_used_at a) m.connections e is in
+    let local : e.facts.local ≡ true = (and_parts (is_live_at a e.facts) e.facts.local at.passes).1 in
+    subst (λ x. LeavesOthers x m (release e m).machine) (used-here a m e is)
+    (subst (λ w. LeavesOthers e.facts.addr m (then_do (entry_turns e (record e { facts = released (w.now + w.settings.idle) e.facts }) w)
+    (λ x. then_do (peer_becomes Cold e.facts.addr x) (trim e.facts.cid))).machine) (sym (says_done-machine e.facts m))
+    (releasing-leaves m e at.place h at.stands local)))
 
 pub leaves-found : (a b : Addr) (m n : Machine) → LeavesOthers a m n → same_address b a ≡ false → peer_at b n ≡ peer_at b m
 leaves-found a b m n h other = found-same a b m.peers n.peers other h.peers

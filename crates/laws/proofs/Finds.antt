@@ -2,6 +2,7 @@
 use Rattle.std.proofs.Common.{ℕ, zero, suc, ◌≡◌, Bool, true, false, cond, List, [], ◌∷◌, find, set, remove, Some, None, All, refl, ap, ◌∙◌, arith}
 use Rattle.laws.proofs.Lists.{StandsAt, stands_before, OnePasses, OnePasses-none_after, OnePasses-not_before, OnePasses-tail}
 use Rattle.std.proofs.lemmas.List.Elements.{All-head, All-tail}
+use Rattle.std.proofs.lemmas.List.Folds.{find_past}
 
 pub find-none_passes : {X : Type 0} (p : X → Bool) (xs : List X) → All (λ x. p x ≡ false) xs → find p xs ≡ None
 find-none_passes p [] h = refl
@@ -11,11 +12,7 @@ find-none_passes p (x ∷ xs) h =
 -- an element that fails gives way to another that fails
 pub find-set_other : {X : Type 0} (p : X → Bool) (new x : X) (xs : List X) (k : ℕ) → StandsAt xs k x →
     p x ≡ false → p new ≡ false → find p (set xs k new) ≡ find p xs
-find-set_other p new x [] k s old_fails new_fails = absurd (omega (arith, s.inside))
-find-set_other p new x (y ∷ ys) zero s old_fails new_fails =
-    let here : p y ≡ false = ap p s.is ∙ old_fails in rw (here, new_fails) refl
-find-set_other p new x (y ∷ ys) (suc k) s old_fails new_fails =
-    ap (λ o. cond (p y) (Some y) o) (find-set_other p new x ys k (stands_before y x ys k s) old_fails new_fails)
+find-set_other p new x xs k s old_fails new_fails = find_past p xs k new x (ap p s.is ∙ old_fails) new_fails
 
 -- the one that passes gives way to another that passes
 pub find-set_here : {X : Type 0} (p : X → Bool) (new x : X) (xs : List X) (k : ℕ) → OnePasses p xs → StandsAt xs k x →

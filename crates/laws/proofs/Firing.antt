@@ -1,5 +1,5 @@
 -- The deadlines that are due fire, and none is left.
-use Rattle.std.proofs.Common.{ℕ, zero, suc, ◌≤◌, ◌≡◌, ◌≢◌, true, false, cond, List, [], ◌∷◌, ◌++◌, length, get_or, map, filter, flat_map, count_by, Option, Some, None, All, Contains, ◌==◌, if◌then◌else◌, refl, sym, ap, ◌∙◌, subst, ⊎_elim, arith, eq-eqb}
+use Rattle.std.proofs.Common.{ℕ, zero, suc, ◌≤◌, ◌≡◌, ◌≢◌, true, false, cond, List, [], ◌∷◌, ◌++◌, length, get_or, map, filter, flat_map, count_by, Some, None, All, Contains, ◌==◌, if◌then◌else◌, refl, sym, ap, ◌∙◌, subst, ⊎_elim, arith, eq-eqb}
 use Rattle.std.proofs.lemmas.Bool.{cond_both}
 use Rattle.std.proofs.lemmas.List.{nil_from_length}
 use Rattle.std.proofs.lemmas.List.Elements.{All-nil, All-cons, All-append, All-map, All-filter, All-contains, All-contains_itself, filter_passes, Contains-append_cases, Contains-append_right}
@@ -8,7 +8,7 @@ use Rattle.net_base.specs.declared.connection.Cid.{Cid}
 use Rattle.net_base.specs.declared.connection.Grace.{Grace}
 use Rattle.net_base.specs.declared.connection.Grace.TheVariants.{Off, ForRemote, ForLocal}
 use Rattle.net_base.specs.declared.connection.Phase.{Phase}
-use Rattle.net_base.specs.declared.connection.Phase.TheVariants.{Dialing, Greeting, Negotiated, Closing}
+use Rattle.net_base.specs.declared.connection.Phase.TheVariants.{Greeting, Closing}
 use Rattle.net_base.specs.declared.action.CloseCause.TheVariants.{Fault}
 use Rattle.net_base.specs.declared.action.FaultKind.TheVariants.{HandshakeWait, ReplyWait}
 use Rattle.net_base.specs.declared.timer.Deadline.{Deadline}
@@ -25,49 +25,40 @@ use Rattle.laws.proofs.Entries.{one_has_id}
 use Rattle.laws.proofs.Counts.{is_late, late_of, late_in, grace_late_of}
 use Rattle.laws.proofs.Moves.{Lowers, lowers_nothing, lowers_then, lowers_less, ending-lowers, grace_over-lowers, wait_over-lowers}
 use Rattle.machine.specs.Effect.{on_entry}
+use Rattle.laws.proofs.Cases.{by_option}
 
 -- how many late deadlines of a connection are gone once one of a kind has fired
 abbrev pub fired_of : Kind → ℕ → Entry → ℕ
-fired_of Handshake = late_of
 fired_of GraceKind = grace_late_of
-fired_of TimeWait = late_of
-fired_of Reply2 = late_of
-fired_of Reply8 = late_of
-fired_of Reply10 = late_of
+fired_of other = late_of
 
 pub fires_as-lowers : (kind : Kind) (m : Machine) (e : Entry) (k : ℕ) → IsOrderly m → StandsAt m.connections k e →
     Lowers (fired_of kind m.now e) m (fires_as kind e m).machine
 fires_as-lowers Handshake = ending-lowers (Fault HandshakeWait)
 fires_as-lowers GraceKind = grace_over-lowers
 fires_as-lowers TimeWait = wait_over-lowers
-fires_as-lowers Reply2 = ending-lowers (Fault ReplyWait)
-fires_as-lowers Reply8 = ending-lowers (Fault ReplyWait)
-fires_as-lowers Reply10 = ending-lowers (Fault ReplyWait)
+fires_as-lowers other = ending-lowers (Fault ReplyWait)
 
 -- whatever deadline fires
 pub fires-lowers : (d : Deadline) (m : Machine) → IsOrderly m → Lowers 0 m (fires d m).machine
-fires-lowers d m h = by_entry (entry_at d.cid.0 m) refl
-  where
-    by_entry : (o : Option Entry) → entry_at d.cid.0 m ≡ o → Lowers 0 m (on_entry o (fires_as d.kind) m).machine
-    by_entry None e = lowers_nothing m h
-    by_entry (Some entry) e =
-        let found : FoundIn (λ x. has_id d.cid.0 x.facts) m.connections entry =
-        find_some (λ x. has_id d.cid.0 x.facts) m.connections entry e in
-        lowers_less 0 (fired_of d.kind m.now entry) m (fires_as d.kind entry m).machine (omega arith)
-        (fires_as-lowers d.kind m entry found.place h found.stands)
+fires-lowers d m h = by_option (entry_at d.cid.0 m) (λ o. Lowers 0 m (on_entry o (fires_as d.kind) m).machine)
+    (λ e. lowers_nothing m h)
+    (λ entry e.
+    let found : FoundIn (λ x. has_id d.cid.0 x.facts) m.connections entry =
+    find_some (λ x. has_id d.cid.0 x.facts) m.connections entry e in
+    lowers_less 0 (fired_of d.kind m.now entry) m (fires_as d.kind entry m).machine (omega arith)
+    (fires_as-lowers d.kind m entry found.place h found.stands))
 
 pub fire_due-lowers : (n : ℕ) (m : Machine) → IsOrderly m → Lowers 0 m (fire_due n m).machine
 unfolding fire_due
 fire_due-lowers zero m h = lowers_nothing m h
-fire_due-lowers (suc n) m h = by_due (due m) (fire_due-lowers n)
-  where
-    by_due : (o : Option Deadline) → ((w : Machine) → IsOrderly w → Lowers 0 w (fire_due n w).machine) →
-        Lowers 0 m (fires_some o (fire_due n) m).machine
-    by_due None later = lowers_nothing m h
-    by_due (Some d) later =
-        let first : Lowers 0 m (fires d m).machine = fires-lowers d m h in
-        lowers_then 0 0 m (fires d m).machine (fire_due n (fires d m).machine).machine first
-        (later (fires d m).machine first.orderly)
+fire_due-lowers (suc n) m h = by_option (due m)
+    (λ o. ((w : Machine) → IsOrderly w → Lowers 0 w (fire_due n w).machine) → Lowers 0 m (fires_some o (fire_due n) m).machine)
+    (λ is later. lowers_nothing m h)
+    (λ d is later.
+    let first : Lowers 0 m (fires d m).machine = fires-lowers d m h in
+    lowers_then 0 0 m (fires d m).machine (fire_due n (fires d m).machine).machine first
+    (later (fires d m).machine first.orderly)) (fire_due-lowers n)
 
 -- The deadline that fires is one of the record, and late.
 
@@ -76,19 +67,17 @@ contains_first x xs = (0, omega arith, refl)
 
 least-contains : (ds : List Deadline) (d : Deadline) → least ds ≡ Some d → Contains ds d
 least-contains [] d e = absurd cc
-least-contains (x ∷ xs) d e = by_least (least xs) (least-contains xs) e
+least-contains (x ∷ xs) d e = by_option (least xs)
+    (λ o. ((y : Deadline) → o ≡ Some y → Contains xs y) → Some (earlier x o) ≡ Some d → Contains (x ∷ xs) d)
+    (λ is later same. subst (Contains (x ∷ xs)) (let is : x ≡ d = cc in is) (contains_first x xs))
+    (λ y is later same.
+    let is : earlier x (Some y) ≡ d = cc in
+    subst (Contains (x ∷ xs)) is
+    (cond_both (deadline_before y x) y x (Contains (x ∷ xs)) (λ before. in_tail y (later y refl))
+    (λ after. contains_first x xs))) (least-contains xs) e
   where
     in_tail : (y : Deadline) → Contains xs y → Contains (x ∷ xs) y
     in_tail y c = Contains-append_right (x ∷ []) xs y c
-
-    by_least : (o : Option Deadline) → ((y : Deadline) → o ≡ Some y → Contains xs y) → Some (earlier x o) ≡ Some d →
-        Contains (x ∷ xs) d
-    by_least None later same = subst (Contains (x ∷ xs)) (let is : x ≡ d = cc in is) (contains_first x xs)
-    by_least (Some y) later same =
-        let is : earlier x (Some y) ≡ d = cc in
-        subst (Contains (x ∷ xs)) is
-        (cond_both (deadline_before y x) y x (Contains (x ∷ xs)) (λ before. in_tail y (later y refl))
-        (λ after. contains_first x xs))
 
 pub least-none : (ds : List Deadline) → least ds ≡ None → ds ≡ []
 least-none [] e = refl
@@ -132,10 +121,9 @@ pub all_one : {X : Type 0} (P : X → Type 0) (x : X) → P x → All P (x ∷ [
 all_one P x h = All-cons P x [] h (All-nil P)
 
 phase-cid : (cid : Cid) (phase : Phase) → All (λ d. d.cid ≡ cid) (phase_deadlines cid phase)
-phase-cid cid Dialing = All-nil (λ d. d.cid ≡ cid)
 phase-cid cid (Greeting until) = all_one (λ d. d.cid ≡ cid) (timer cid Handshake until) refl
-phase-cid cid Negotiated = All-nil (λ d. d.cid ≡ cid)
 phase-cid cid (Closing until) = all_one (λ d. d.cid ≡ cid) (timer cid TimeWait until) refl
+phase-cid cid other = All-nil (λ d. d.cid ≡ cid)
 
 grace-cid : (cid : Cid) (grace : Grace) → All (λ d. d.cid ≡ cid) (grace_deadlines cid grace)
 grace-cid cid Off = All-nil (λ d. d.cid ≡ cid)
@@ -152,10 +140,9 @@ abbrev IsOther : Deadline → Type 0
 IsOther d = d.kind ≢ GraceKind
 
 phase-other : (cid : Cid) (phase : Phase) → All IsOther (phase_deadlines cid phase)
-phase-other cid Dialing = All-nil IsOther
 phase-other cid (Greeting until) = all_one IsOther (timer cid Handshake until) (λ same. cc)
-phase-other cid Negotiated = All-nil IsOther
 phase-other cid (Closing until) = all_one IsOther (timer cid TimeWait until) (λ same. cc)
+phase-other cid other = All-nil IsOther
 
 reply-other : (protocol : ℕ) → reply_kind protocol ≢ GraceKind
 reply-other protocol = cond_both (protocol == 2) Reply2 (if protocol == 8 then Reply8 else Reply10)
@@ -202,12 +189,8 @@ fired_of-positive now e d c late = by_kind d.kind refl
     any = late-counted now (deadlines_of e) d c late
 
     by_kind : (kind : Kind) → d.kind ≡ kind → 1 ≤ fired_of kind now e
-    by_kind Handshake is = any
     by_kind GraceKind is = late-counted now (grace_deadlines e.facts.cid e.facts.grace) d (grace-among e d c is) late
-    by_kind TimeWait is = any
-    by_kind Reply2 is = any
-    by_kind Reply8 is = any
-    by_kind Reply10 is = any
+    by_kind other is = any
 
 -- the deadline that fires next is late, and stands among those of the record
 pub due-contains : (m : Machine) (d : Deadline) → due m ≡ Some d → Contains (deadlines m) d × (is_late m.now d ≡ true)
@@ -221,10 +204,9 @@ due-contains m d e =
 
 -- Only a connection that this side has closed has a time-wait.
 phase-waits : (cid : Cid) (phase : Phase) → All (λ d. d.kind ≡ TimeWait → live_phase phase ≡ false) (phase_deadlines cid phase)
-phase-waits cid Dialing = All-nil (λ d. d.kind ≡ TimeWait → live_phase Dialing ≡ false)
 phase-waits cid (Greeting until) = all_one (λ d. d.kind ≡ TimeWait → true ≡ false) (timer cid Handshake until) (λ same. absurd cc)
-phase-waits cid Negotiated = All-nil (λ d. d.kind ≡ TimeWait → live_phase Negotiated ≡ false)
 phase-waits cid (Closing until) = all_one (λ d. d.kind ≡ TimeWait → false ≡ false) (timer cid TimeWait until) (λ same. refl)
+phase-waits cid other = All-nil (λ d. d.kind ≡ TimeWait → live_phase other ≡ false)
 
 grace-waits : (Z : Type 0) (cid : Cid) (grace : Grace) → All (λ d. d.kind ≡ TimeWait → Z) (grace_deadlines cid grace)
 grace-waits Z cid Off = All-nil (λ d. d.kind ≡ TimeWait → Z)
@@ -288,15 +270,12 @@ due-none m e =
 pub fire_due-all : (n : ℕ) (m : Machine) → IsOrderly m → late_in m ≤ n → late_in (fire_due n m).machine ≡ 0
 unfolding fire_due
 fire_due-all zero m h enough = omega arith
-fire_due-all (suc n) m h enough = by_due (due m) refl (fire_due-all n)
-  where
-    by_due : (o : Option Deadline) → due m ≡ o →
-        ((w : Machine) → IsOrderly w → late_in w ≤ n → late_in (fire_due n w).machine ≡ 0) →
-        late_in (fires_some o (fire_due n) m).machine ≡ 0
-    by_due None e later = due-none m e
-    by_due (Some d) e later =
-        let first : Lowers 1 m (fires d m).machine = due-lowers m d h e in
-        later (fires d m).machine first.orderly (omega arith)
+fire_due-all (suc n) m h enough = by_option (due m)
+    (λ o. ((w : Machine) → IsOrderly w → late_in w ≤ n → late_in (fire_due n w).machine ≡ 0) → late_in (fires_some o (fire_due n) m).machine ≡ 0)
+    (λ e later. due-none m e)
+    (λ d e later.
+    let first : Lowers 1 m (fires d m).machine = due-lowers m d h e in
+    later (fires d m).machine first.orderly (omega arith)) (fire_due-all n)
 
 -- The number of deadlines suffices.
 pub fire_all-none_late : (m : Machine) → IsOrderly m → late_in (fire_all m).machine ≡ 0

@@ -15,7 +15,7 @@ use Rattle.net_base.specs.declared.action.CloseCause.TheVariants.{Refused, Query
 use Rattle.net_base.specs.declared.action.FaultKind.TheVariants.{Malformed, Protocol}
 use Rattle.net_base.specs.declared.connection.Cid.{Cid}
 use Rattle.net_base.specs.declared.connection.Phase.{Phase}
-use Rattle.net_base.specs.declared.connection.Phase.TheVariants.{Dialing, Greeting, Negotiated, Closing}
+use Rattle.net_base.specs.declared.connection.Phase.TheVariants.{Greeting}
 use Rattle.net_base.specs.declared.peer.Temp.TheVariants.{Warm}
 use Rattle.hs_receive.specs.Receiving.{is_awaited, fits_side}
 use Rattle.machine.specs.Connections.{with_entry, ending}
@@ -30,9 +30,10 @@ use Rattle.laws.specs.Acts.{Act, handles_item, does}
 use Rattle.laws.specs.CarriedOut.{OnPeer, WhereGreeting, is_in_use, Forgives}
 use Rattle.laws.specs.Untouched.{IsAsItWas}
 use Rattle.laws.proofs.CarriedOut.{changed-here}
-use Rattle.laws.proofs.Handshakes.{answer-machine}
+use Rattle.laws.proofs.Walk.{answer-machine}
 use Rattle.laws.proofs.Lists.{find_some}
 use Rattle.laws.proofs.Turned.{turned_by_verdict, ending-becomes, judged-becomes}
+use Rattle.laws.proofs.Cases.{by_option}
 
 -- where the connection is in use after it, its peer has no failures
 abbrev Forgiven : Entry → Machine → Type 0
@@ -49,14 +50,13 @@ ending-forgiven c e m used = absurd (not-used None (entry_at e.facts.cid.0 (endi
 judged-forgiven : (v : Verdict) (e : Entry) (m : Machine) → e.facts.local ≡ false → Forgiven e (judged v e m).machine
 judged-forgiven (verdict.Accept agreed) e m unused used =
     absurd (not-used (turned_by_verdict (verdict.Accept agreed) e m) (entry_at e.facts.cid.0 (judged (verdict.Accept agreed) e m).machine) (judged-becomes (verdict.Accept agreed) e m) unused used)
-judged-forgiven (verdict.Refuse why) e m unused used = ending-forgiven Refused e m used
 judged-forgiven verdict.Query e m unused used = ending-forgiven Query e m used
 judged-forgiven (verdict.Agree agreed) e m unused used =
     changed-here e.facts.addr (λ p. record p { temp = Warm; failures = 0 })
     (with_entry (owing 8 (e.facts.cid.0 % 65536) m (record e { facts = agreed_outbound agreed (m.now + m.settings.idle) e.facts })) m)
     (λ p. refl) (λ p. p.failures ≡ 0) (λ p. refl)
-judged-forgiven verdict.Refused e m unused used = ending-forgiven Refused e m used
 judged-forgiven verdict.Wrong e m unused used = ending-forgiven (Fault Protocol) e m used
+judged-forgiven other e m unused used = ending-forgiven Refused e m used
 
 greeted_by-forgiven : (o : Option Message) (side : ℕ) (e : Entry) (m : Machine) → e.facts.local ≡ false → Forgiven e (greeted_by o side e m).machine
 greeted_by-forgiven None side e m unused = ending-forgiven (Fault Malformed) e m
@@ -72,21 +72,18 @@ greets-forgiven item e m unused =
     (λ effect. Forgiven e effect.machine) (λ heard. greeted_by-forgiven (message_of item.body) item.side e m unused) (λ other. ending-forgiven (Fault Protocol) e m)
 
 handled_in-forgiven : (p : Phase) (item : Item) (e : Entry) (m : Machine) → is_greeting_phase p ≡ true → e.facts.local ≡ false → Forgiven e (handled_in p item e m).machine
-handled_in-forgiven Dialing item e m greeting unused = absurd (false≢true greeting)
 handled_in-forgiven (Greeting until) item e m greeting unused = greets-forgiven item e m unused
-handled_in-forgiven Negotiated item e m greeting unused = absurd (false≢true greeting)
-handled_in-forgiven (Closing until) item e m greeting unused = absurd (false≢true greeting)
+handled_in-forgiven other item e m greeting unused = absurd (false≢true greeting)
 
 handled-forgiven : (own : Cid) (item : Item) (m : Machine) → Forgives (handles_item own item) m (does (handles_item own item) m).machine
-handled-forgiven own item m = by_entry (entry_at own.0 m) refl
-  where
-    by_entry : (o : Option Entry) → entry_at own.0 m ≡ o → WhereGreeting o
-        (λ e. e.facts.local ≡ false → is_in_use (entry_at own.0 (on_entry o (handled item) m).machine) ≡ true →
-        OnPeer (peer_at e.facts.addr (on_entry o (handled item) m).machine) (λ p. p.failures ≡ 0))
-    by_entry None is = tt
-    by_entry (Some e) is = λ greeting unused used. handled_in-forgiven e.facts.phase item e m greeting unused
-        (subst (λ c. is_in_use (entry_at c (handled item e m).machine) ≡ true)
-        (sym (eqb-true e.facts.cid.0 own.0 (find_some (λ x. has_id own.0 x.facts) m.connections e is).passes)) used)
+handled-forgiven own item m = by_option (entry_at own.0 m)
+    (λ o. WhereGreeting o
+    (λ e. e.facts.local ≡ false → is_in_use (entry_at own.0 (on_entry o (handled item) m).machine) ≡ true →
+    OnPeer (peer_at e.facts.addr (on_entry o (handled item) m).machine) (λ p. p.failures ≡ 0)))
+    (λ is. tt)
+    (λ e is. λ greeting unused used. handled_in-forgiven e.facts.phase item e m greeting unused
+    (subst (λ c. is_in_use (entry_at c (handled item e m).machine) ≡ true)
+    (sym (eqb-true e.facts.cid.0 own.0 (find_some (λ x. has_id own.0 x.facts) m.connections e is).passes)) used))
 
 pub forgives : (act : Act) (m : Machine) → Forgives act m (does act m).machine
 forgives (handles_item cid item) m = handled-forgiven cid item m

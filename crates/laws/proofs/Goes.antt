@@ -10,7 +10,6 @@ use Rattle.net_base.specs.declared.action.PeerNote.TheVariants as note
 use Rattle.net_base.specs.declared.action.StateName.TheVariants.{Terminated}
 use Rattle.net_base.specs.declared.connection.Cid.{Cid}
 use Rattle.net_base.specs.declared.connection.Facts.{Facts}
-use Rattle.net_base.specs.declared.peer.Peer.{Peer}
 use Rattle.net_base.specs.declared.peer.Temp.TheVariants.{Cold}
 use Rattle.peer_book.specs.Book.{same_temp}
 use Rattle.machine.specs.Connections.{is_missed, lost, vanishes, without_entry}
@@ -25,16 +24,15 @@ use Rattle.laws.specs.InActions.{names_by, names_in}
 use Rattle.laws.proofs.Lawful.{lost-quiet}
 use Rattle.laws.proofs.Lists.{find_some}
 use Rattle.laws.proofs.Moments.{gone-none}
+use Rattle.laws.proofs.Cases.{by_option}
 
 -- what comes of a loss is a note on a peer
 pub lost-silent : {X : Type 0} (by : Action → List X) → ((addr : Addr) → by (TellPeer addr note.Cold) ≡ []) → (f : Facts) (m : Machine) → flat_map by (lost f m).actions ≡ []
 lost-silent by silent f m = cond_both (is_missed f) (peer_fails f.addr m) (nothing_more m) (λ effect. flat_map by effect.actions ≡ [])
-    (λ missed. by_peer (peer_at f.addr m)) (λ other. refl)
-  where
-    by_peer : (o : Option Peer) → flat_map by (turns_at o (failed_peer m.now m.settings.backoff) m).actions ≡ []
-    by_peer None = refl
-    by_peer (Some p) = cond_both (same_temp p.temp Cold) [] (TellPeer p.addr note.Cold ∷ []) (λ actions. flat_map by actions ≡ []) (λ same. refl)
-        (λ other. ap (λ xs. xs ++ []) (silent p.addr))
+    (λ missed. by_option (peer_at f.addr m) (λ o. flat_map by (turns_at o (failed_peer m.now m.settings.backoff) m).actions ≡ [])
+    (λ is. refl)
+    (λ p is. cond_both (same_temp p.temp Cold) [] (TellPeer p.addr note.Cold ∷ []) (λ actions. flat_map by actions ≡ []) (λ same. refl)
+    (λ other. ap (λ xs. xs ++ []) (silent p.addr)))) (λ other. refl)
 
 pub vanishes-none : (e : Entry) (m : Machine) → entry_at e.facts.cid.0 (vanishes e m).machine ≡ None
 vanishes-none e m = ap (find (λ x. has_id e.facts.cid.0 x.facts)) (lost-quiet e.facts (without_entry e.facts.cid.0 m)).connections ∙ gone-none e.facts.cid.0 m

@@ -1,13 +1,14 @@
 -- Cleaned groups have no address twice.
-use Rattle.std.proofs.Common.{◌≡◌, Bool, true, false, ◌||◌, List, [], ◌∷◌, ◌++◌, if◌then◌else◌, refl, sym, subst}
+use Rattle.std.proofs.Common.{◌≡◌, false, ◌||◌, List, [], ◌∷◌, ◌++◌, if◌then◌else◌, refl, sym, subst}
 use Rattle.std.specs.List.{AllByRecursion}
-use Rattle.std.proofs.lemmas.Bool.{or_parts}
+use Rattle.std.proofs.lemmas.Bool.{or_parts, or_from}
 use Rattle.net_base.specs.Address.{same_address}
 use Rattle.net_base.specs.declared.address.Addr.{Addr}
 use Rattle.net_base.specs.declared.event.Group.{Group}
 use Rattle.root_groups.specs.Cleaned.{is_listed, first_places, cleaned_after, cleaned, members_of}
 use Rattle.laws.specs.Steady.{AreApart}
 use Rattle.laws.proofs.Lists.{all-weaker, all-appended}
+use Rattle.laws.proofs.Cases.{by_bool}
 
 -- none of some addresses is listed among others
 abbrev pub NoneListed : List Addr → List Addr → Type 0
@@ -20,10 +21,7 @@ unlisted_push a last [] h = (refl, (or_parts (same_address a last) false h).0)
 unlisted_push a last (x ∷ before) h =
     let parts = or_parts (same_address a x) (is_listed a (before ++ last ∷ [])) h in
     let rest = unlisted_push a last before parts.1 in
-    (by_both (same_address a x) (is_listed a before) parts.0 rest.0, rest.1)
-  where
-    by_both : (b c : Bool) → b ≡ false → c ≡ false → (b || c) ≡ false
-    by_both b c d e = subst (λ x. (x || c) ≡ false) (sym d) e
+    (or_from (same_address a x) (is_listed a before) parts.0 rest.0, rest.1)
 
 pub unlisted_append : (a : Addr) (before more : List Addr) → is_listed a (before ++ more) ≡ false → (is_listed a before ≡ false) × (is_listed a more ≡ false)
 unlisted_append a [] more h = (refl, h)
@@ -37,34 +35,32 @@ unlisted_append a (x ∷ before) more h =
 pub first_places-none : (before addrs : List Addr) → NoneListed before (first_places before addrs)
 unfolding first_places
 first_places-none before [] = tt
-first_places-none before (a ∷ addrs) = by_test (is_listed a before) refl (first_places-none before addrs) (first_places-none (before ++ a ∷ []) addrs)
-  where
-    by_test : (b : Bool) → is_listed a before ≡ b → AllByRecursion (λ x. is_listed x before ≡ false) (first_places before addrs) →
-        AllByRecursion (λ x. is_listed x (before ++ a ∷ []) ≡ false) (first_places (before ++ a ∷ []) addrs) →
-        AllByRecursion (λ x. is_listed x before ≡ false) (if b then first_places before addrs else a ∷ first_places (before ++ a ∷ []) addrs)
-    by_test true e skipped kept = skipped
-    by_test false e skipped kept = (
+first_places-none before (a ∷ addrs) = by_bool (is_listed a before)
+    (λ b. AllByRecursion (λ x. is_listed x before ≡ false) (first_places before addrs) →
+    AllByRecursion (λ x. is_listed x (before ++ a ∷ []) ≡ false) (first_places (before ++ a ∷ []) addrs) →
+    AllByRecursion (λ x. is_listed x before ≡ false) (if b then first_places before addrs else a ∷ first_places (before ++ a ∷ []) addrs))
+    (λ e skipped kept. skipped)
+    (λ e skipped kept. (
       e,
       all-weaker (λ x. is_listed x (before ++ a ∷ []) ≡ false) (λ x. is_listed x before ≡ false)
           (λ x h. (unlisted_push x a before h).0) (first_places (before ++ a ∷ []) addrs) kept,
-    )
+    )) (first_places-none before addrs) (first_places-none (before ++ a ∷ []) addrs)
 
 first_places-apart : (before addrs : List Addr) → AreApart (first_places before addrs)
 unfolding first_places
 first_places-apart before [] = tt
-first_places-apart before (a ∷ addrs) = by_test (is_listed a before) (first_places-apart before addrs)
-    (first_places-none (before ++ a ∷ []) addrs) (first_places-apart (before ++ a ∷ []) addrs)
-  where
-    by_test : (b : Bool) → AreApart (first_places before addrs) →
-        AllByRecursion (λ x. is_listed x (before ++ a ∷ []) ≡ false) (first_places (before ++ a ∷ []) addrs) →
-        AreApart (first_places (before ++ a ∷ []) addrs) →
-        AreApart (if b then first_places before addrs else a ∷ first_places (before ++ a ∷ []) addrs)
-    by_test true skipped none kept = skipped
-    by_test false skipped none kept = (
+first_places-apart before (a ∷ addrs) = by_bool (is_listed a before)
+    (λ b. AreApart (first_places before addrs) →
+    AllByRecursion (λ x. is_listed x (before ++ a ∷ []) ≡ false) (first_places (before ++ a ∷ []) addrs) →
+    AreApart (first_places (before ++ a ∷ []) addrs) →
+    AreApart (if b then first_places before addrs else a ∷ first_places (before ++ a ∷ []) addrs))
+    (λ is skipped none kept. skipped)
+    (λ is skipped none kept. (
       all-weaker (λ x. is_listed x (before ++ a ∷ []) ≡ false) (λ x. same_address x a ≡ false)
           (λ x h. (unlisted_push x a before h).1) (first_places (before ++ a ∷ []) addrs) none,
       kept,
-    )
+    )) (first_places-apart before addrs)
+    (first_places-none (before ++ a ∷ []) addrs) (first_places-apart (before ++ a ∷ []) addrs)
 
 -- ---- all groups
 

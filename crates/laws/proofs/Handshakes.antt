@@ -1,6 +1,6 @@
 -- A connection in its handshake: whatever comes in, the connections stay in order and within the limit.
 use Rattle.std.proofs.Common.{ℕ, ◌+◌, ◌≤◌, ◌≡◌, Bool, true, false, not, ◌&&◌, ◌==◌, if◌then◌else◌, List, [], Option, Some, None, refl, sym, subst}
-use Rattle.std.proofs.lemmas.Bool.{cond_both, both_ways, false≢true, and_from, and_right, or_from, or_right}
+use Rattle.std.proofs.lemmas.Bool.{cond_both, both_ways, and_from, and_right, or_from, or_right}
 use Rattle.hs_decide.specs.Agreement.{accepts_info, accepts_offer, agrees_info, agrees_on, meets_joined, meets_info, meets_offer, verdict_of, common_in, joined, same_magic}
 use Rattle.hs_decide.specs.Answers.{answer_of}
 use Rattle.hs_decide.specs.declared.role.Role.{Role}
@@ -22,12 +22,11 @@ use Rattle.net_base.specs.declared.action.CloseCause.TheVariants as cause
 use Rattle.net_base.specs.declared.action.FaultKind.TheVariants.{Malformed, Protocol}
 use Rattle.net_base.specs.declared.connection.Agreed.{Agreed}
 use Rattle.net_base.specs.declared.connection.Cid.{Cid}
-use Rattle.net_base.specs.declared.connection.Phase.{Phase}
-use Rattle.net_base.specs.declared.connection.Phase.TheVariants.{Dialing, Greeting, Negotiated, Closing}
+use Rattle.net_base.specs.declared.connection.Phase.TheVariants.{Negotiated}
 use Rattle.net_base.specs.declared.connection.Provenance.{Provenance}
 use Rattle.net_base.specs.declared.connection.Provenance.TheVariants.{FromRemote, FromLocal}
 use Rattle.conn_state.specs.Moves.{agreed_inbound, agreed_outbound}
-use Rattle.conn_state.specs.Use.{is_greeting, is_greeting_phase, is_negotiated, opening_phase, is_outbound, is_outbound_by, is_pending}
+use Rattle.conn_state.specs.Use.{is_greeting, is_negotiated, opening_phase, is_outbound, is_outbound_by, is_pending}
 use Rattle.hs_receive.specs.Receiving.{is_awaited, fits_side}
 use Rattle.machine.specs.Machine.{Machine, Entry, counted_in}
 use Rattle.machine.specs.Replies.{sends_as_responder}
@@ -42,28 +41,20 @@ use Rattle.laws.proofs.Lawful.{IsQuiet, quiet-obeys, tells-quiet, turns-obeys, n
 use Rattle.laws.proofs.Lists.{StandsAt}
 use Rattle.laws.proofs.Shapes.{greeting-unnegotiated}
 use Rattle.laws.proofs.Trims.{Trimmed, keeps-trimmed, ending-trimmed, trimmed_then}
-use Rattle.laws.proofs.WholeMoves.{stands-shaped, IsLost, greeting-live, agrees_inbound-keeps, agrees_outbound-keeps}
+use Rattle.laws.proofs.WholeMoves.{stands-shaped, IsLost, greeting-live, agrees_inbound-keeps, agrees_outbound-keeps, greeting-opening}
+use Rattle.laws.proofs.Walk.{answer-machine}
 
 -- ---- who comes to which verdict
 
-is_accept : Verdict → Bool
+abbrev is_accept : Verdict → Bool
 is_accept (verdict.Accept agreed) = true
-is_accept (verdict.Refuse reason) = false
-is_accept verdict.Query = false
-is_accept (verdict.Agree agreed) = false
-is_accept verdict.Refused = false
-is_accept verdict.Wrong = false
+is_accept other = false
 
-is_agree : Verdict → Bool
-is_agree (verdict.Accept agreed) = false
-is_agree (verdict.Refuse reason) = false
-is_agree verdict.Query = false
+abbrev is_agree : Verdict → Bool
 is_agree (verdict.Agree agreed) = true
-is_agree verdict.Refused = false
-is_agree verdict.Wrong = false
+is_agree other = false
 
 accepts_info-no_agree : (own : VersionInfo) (version : ℕ) (info : Info) → is_agree (accepts_info own version info) ≡ false
-unfolding is_agree
 accepts_info-no_agree own version Foreign = refl
 accepts_info-no_agree own version (Known theirs) =
     cond_both (not (same_magic own theirs)) (verdict.Refuse (why.Magic version))
@@ -71,12 +62,10 @@ accepts_info-no_agree own version (Known theirs) =
     (λ h. cond_both theirs.query verdict.Query (verdict.Accept (joined version own theirs)) (λ v. is_agree v ≡ false) (λ k. refl) (λ k. refl))
 
 accepts_offer-no_agree : (own : VersionInfo) (o : Option Offer) → is_agree (accepts_offer own o) ≡ false
-unfolding is_agree
 accepts_offer-no_agree own None = refl
 accepts_offer-no_agree own (Some offer) = accepts_info-no_agree own offer.version offer.info
 
 meets_info-no_accept : (own : VersionInfo) (version : ℕ) (info : Info) → is_accept (meets_info own version info) ≡ false
-unfolding is_accept
 meets_info-no_accept own version Foreign = refl
 meets_info-no_accept own version (Known theirs) =
     cond_both (not (same_magic own theirs)) verdict.Refused
@@ -86,12 +75,10 @@ meets_info-no_accept own version (Known theirs) =
     (λ v. is_accept v ≡ false) (λ l. refl) (λ l. refl)))
 
 meets_offer-no_accept : (own : VersionInfo) (o : Option Offer) → is_accept (meets_offer own o) ≡ false
-unfolding is_accept
 meets_offer-no_accept own None = refl
 meets_offer-no_accept own (Some offer) = meets_info-no_accept own offer.version offer.info
 
 agrees_on-no_accept : (own : VersionInfo) (version : ℕ) (info : Info) → is_accept (agrees_on own version info) ≡ false
-unfolding is_accept
 agrees_on-no_accept own version info =
     cond_both (is_node_version version) (agrees_info own version info) verdict.Wrong (λ v. is_accept v ≡ false) (λ h. by_info info) (λ h. refl)
   where
@@ -102,25 +89,15 @@ agrees_on-no_accept own version info =
 
 -- a dialer accepts nothing, and an acceptor agrees to nothing
 dialer-no_accept : (own : VersionInfo) (m : Message) → is_accept (verdict_of Dialer own m) ≡ false
-unfolding is_accept
 dialer-no_accept own (message.Propose table) = meets_offer-no_accept own (common_in table)
 dialer-no_accept own (message.Accept version info) = agrees_on-no_accept own version info
-dialer-no_accept own (message.Refuse reason) = refl
-dialer-no_accept own (message.QueryReply table) = refl
+dialer-no_accept own other = refl
 
 acceptor-no_agree : (own : VersionInfo) (m : Message) → is_agree (verdict_of Acceptor own m) ≡ false
-unfolding is_agree
 acceptor-no_agree own (message.Propose table) = accepts_offer-no_agree own (common_in table)
-acceptor-no_agree own (message.Accept version info) = refl
-acceptor-no_agree own (message.Refuse reason) = refl
-acceptor-no_agree own (message.QueryReply table) = refl
+acceptor-no_agree own other = refl
 
 -- ---- what a verdict does
-
--- what is sent is no matter of the record
-pub answer-machine : (o : Option (List ℕ)) (cid : Cid) (m : Machine) → (sends_answer o cid m).machine ≡ m
-answer-machine None cid m = refl
-answer-machine (Some bytes) cid m = refl
 
 pub answer-quiet : (o : Option (List ℕ)) (cid : Cid) (m : Machine) → IsQuiet m (sends_answer o cid m)
 answer-quiet None cid m = tells-quiet [] m refl
@@ -147,12 +124,6 @@ agreed_inbound-down agreed until e greeting shape up =
     absurd (both_ways (is_up_connection (Some (record e { facts = agreed_inbound agreed until e.facts })))
     (or_from e.facts.local (is_outbound e.facts && false) unused (and_right (is_outbound e.facts) false refl)) up)
 
-greeting-opening : (p : Phase) → is_greeting_phase p ≡ true → opening_phase p ≡ true
-greeting-opening Dialing h = absurd (false≢true h)
-greeting-opening (Greeting until) h = refl
-greeting-opening Negotiated h = absurd (false≢true h)
-greeting-opening (Closing until) h = absurd (false≢true h)
-
 -- and who was dialed by this node is on its way
 greeting-up : (e : Entry) → is_greeting e.facts ≡ true → is_outbound e.facts ≡ true → is_up_connection (Some e) ≡ true
 greeting-up e greeting outbound =
@@ -161,21 +132,19 @@ greeting-up e greeting outbound =
 
 judged-trimmed : (v : Verdict) (m : Machine) (e : Entry) (k : ℕ) → Greets m e k → (is_accept v ≡ true → is_outbound e.facts ≡ false) →
     (is_agree v ≡ true → is_outbound e.facts ≡ true) → Trimmed IsLawful m (judged v e m)
-unfolding is_accept is_agree
 judged-trimmed (verdict.Accept agreed) m e k g accepts agrees =
     keeps-trimmed IsLawful m (judged (verdict.Accept agreed) e m) g.within (agrees_inbound-keeps agreed m e k g.ordered g.stands g.greeting (accepts refl))
     (turns-obeys IsLawful m e (record e { facts = agreed_inbound agreed (m.now + m.settings.idle) e.facts }) k g.ordered.orderly g.stands
     (record { same_id = refl; same_addr = refl; live = λ l. greeting-live e.facts.phase g.greeting })
     (record { up = agreed_inbound-down agreed (m.now + m.settings.idle) e g.greeting (stands-shaped m e k g.ordered g.stands); asked = λ asked. asked }) (λ was. refl)
     (negotiated-forward e.facts.phase Negotiated (greeting-live e.facts.phase g.greeting) refl))
-judged-trimmed (verdict.Refuse reason) m e k g accepts agrees = ends cause.Refused refl m e k g tt
 judged-trimmed verdict.Query m e k g accepts agrees = ends cause.Query refl m e k g tt
 judged-trimmed (verdict.Agree agreed) m e k g accepts agrees =
     keeps-trimmed IsLawful m (judged (verdict.Agree agreed) e m) g.within (agrees_outbound-keeps agreed m e k g.ordered g.stands g.greeting (agrees refl))
     (used-obeys IsLawful (agreed_outbound agreed (m.now + m.settings.idle) e.facts) m e k g.ordered.orderly g.stands refl refl
     (greeting-live e.facts.phase g.greeting) refl (greeting-up e g.greeting (agrees refl)))
-judged-trimmed verdict.Refused m e k g accepts agrees = ends cause.Refused refl m e k g tt
 judged-trimmed verdict.Wrong m e k g accepts agrees = ends (cause.Fault Protocol) refl m e k g tt
+judged-trimmed other m e k g accepts agrees = ends cause.Refused refl m e k g tt
 
 accepts-inbound : (own : VersionInfo) (p : Provenance) (msg : Message) → is_accept (verdict_of (role_of p) own msg) ≡ true → is_outbound_by p ≡ false
 accepts-inbound own FromRemote msg h = refl

@@ -3,13 +3,13 @@ use Rattle.std.proofs.Common.{ℕ, ◌≤◌, refl, arith}
 use Rattle.net_base.specs.declared.event.Event.{Event}
 use Rattle.net_base.specs.declared.event.Event.TheVariants.{Now, Govern, Accepted, Dialed, Bytes, Closed, Aims, Locals, Roots, BigAims, Bigs}
 use Rattle.machine.specs.Machine.{Machine, entry_at}
-use Rattle.machine.specs.Events.{clock_shows, peer_connects, closes, peer_closes, dialed, dial_ends}
+use Rattle.machine.specs.Events.{clock_shows, peer_connects, closes, peer_closes, dial_ends}
 use Rattle.machine.specs.Provided.{targets_are, big_targets_are, locals_are, comes_big, bigs_are, roots_answer}
 use Rattle.machine.specs.Stream.{comes_in, bytes_come_in}
 use Rattle.machine.specs.Step.{step}
 use Rattle.laws.specs.Steady.{IsFormed, GivesFew}
 use Rattle.laws.proofs.Numbers.{Gains, GivesNone, closes-none, for_each-none, numbers_of, on_entry-none, unchanged}
-use Rattle.laws.proofs.NumbersOfEvents.{clock_shows-none, comes_big-none, comes_in-none, dialed-none, locals_are-none, peer_connects-one, roots_answer-none}
+use Rattle.laws.proofs.NumbersOfEvents.{clock_shows-none, comes_big-none, comes_in-none, dial_ends-none, locals_are-none, peer_connects-one, roots_answer-none}
 use Rattle.laws.proofs.NumbersOfRules.{govern-few}
 
 -- ---- each event
@@ -24,7 +24,7 @@ pub step-few : (m : Machine) (event : Event) → IsFormed m → GivesFew m (step
 step-few m (Now t) h = none_few m (clock_shows t m).machine (clock_shows-none t m)
 step-few m (Govern word) h = govern-few word m h
 step-few m (Accepted addr) h = few 1 m (peer_connects addr m).machine (omega arith) (peer_connects-one addr m)
-step-few m (Dialed cid opened) h = none_few m (dial_ends cid opened m).machine (on_entry-none (dialed opened) (dialed-none opened) (entry_at cid.0 m) m)
+step-few m (Dialed cid opened) h = none_few m (dial_ends cid opened m).machine (dial_ends-none cid opened m)
 step-few m (Bytes cid bytes) h = none_few m (bytes_come_in cid bytes m).machine (on_entry-none (comes_in bytes) (comes_in-none bytes) (entry_at cid.0 m) m)
 step-few m (Closed cid) h = none_few m (peer_closes cid m).machine (on_entry-none closes closes-none (entry_at cid.0 m) m)
 step-few m (Aims targets) h = none_few m (targets_are targets m).machine (unchanged refl)

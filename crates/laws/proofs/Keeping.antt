@@ -1,5 +1,5 @@
 -- A part of a step of the whole machine: what it keeps, and by how much it may raise the counted connections.
-use Rattle.std.proofs.Common.{ℕ, ◌+◌, ◌<◌, ◌≤◌, ◌≡◌, Bool, true, false, not, List, [], ◌∷◌, set, All, sum_by, Option, Some, None, refl, sym, ◌∙◌, subst, arith}
+use Rattle.std.proofs.Common.{ℕ, ◌+◌, ◌<◌, ◌≤◌, ◌≡◌, Bool, true, false, not, List, [], ◌∷◌, set, All, sum_by, Some, refl, sym, ◌∙◌, subst, arith}
 use Rattle.std.proofs.lemmas.List.Elements.{All-head, All-tail, All-set, All-filter}
 use Rattle.net_base.specs.Address.{same_address}
 use Rattle.net_base.specs.declared.peer.Peer.{Peer}
@@ -14,7 +14,7 @@ use Rattle.net_base.specs.declared.targets.BigTargets.{BigTargets}
 use Rattle.net_base.specs.declared.targets.Targets.{Targets}
 use Rattle.peer_book.specs.Book.{with_peer as with_peer_in, new_peer, entry_of, entered}
 use Rattle.peer_book.specs.declared.added.Added.{Added}
-use Rattle.peer_book.specs.declared.added.Added.TheVariants.{New, Present, Full}
+use Rattle.peer_book.specs.declared.added.Added.TheVariants.{New}
 use Rattle.conn_state.specs.Use.{has_id}
 use Rattle.laws.specs.Laws.{is_local, LocalsAreOrdinary}
 use Rattle.laws.specs.Sound.{IsOrderly}
@@ -25,6 +25,7 @@ use Rattle.laws.proofs.Entries.{TurnsInto, turned-connections, turned-orderly, t
 use Rattle.laws.proofs.Lists.{StandsAt, All-stands}
 use Rattle.laws.proofs.Ordinary.{turned-classes, comes-classes}
 use Rattle.laws.proofs.Ties.{changed-ties, comes-ties}
+use Rattle.laws.proofs.Cases.{by_option}
 
 -- From one record to another, by what may be a part of a move: both hold at every moment, no more than so many
 -- connections come to be counted, and no more deadlines are late.
@@ -48,15 +49,7 @@ pub record Keeps (raised : ℕ) (before after : Machine) : Type 0 where
   pub ties : IsTied before → IsTied after
 
 pub moves-keeps : (raised : ℕ) (m n : Machine) → Moves raised m n → (IsTied m → IsTied n) → Keeps raised m n
-moves-keeps raised m n h ties = record {
-  ordered = h.ordered;
-  settings = h.settings;
-  now = h.now;
-  counted = h.counted;
-  late = h.late;
-  classes = h.classes;
-  ties = ties;
-}
+moves-keeps raised m n h ties = assumption
 
 pub keeps-moves : (raised : ℕ) (m n : Machine) → Keeps raised m n → Moves raised m n
 keeps-moves raised m n h = record { ordered = h.ordered; settings = h.settings; now = h.now; counted = h.counted; late = h.late; classes = h.classes }
@@ -110,20 +103,12 @@ turns-moves raised m old new k h s t shaped owes more later =
     let late_before : late_in m ≡ sum_by (late_of m.now) m.connections = late_in-sum m in
     let late_after : late_in n ≡ sum_by (late_of m.now) n.connections = late_in-sum n in
     record {
-      ordered = record {
-        orderly = turned-orderly m old new k o s t;
-        formed = record {
-          shaped = subst (All (λ e. IsShaped e.facts)) list (All-set (λ e. IsShaped e.facts) m.connections k new shaped h.formed.shaped);
-          owing = subst (All IsOwing) list (All-set IsOwing m.connections k new owes h.formed.owing);
-          peers = h.formed.peers;
-          groups = h.formed.groups;
-          other_peers = h.formed.other_peers;
-          other_connections = subst (All (λ e. same_address e.facts.addr own ≡ false)) list
-              (All-set (λ e. same_address e.facts.addr own ≡ false) m.connections k new other h.formed.other_connections);
-          room = h.formed.room;
-          pending_job = h.formed.pending_job;
-        };
-      };
+      ordered = assumption (
+        turned-orderly m old new k o s t,
+        subst (All (λ e. IsShaped e.facts)) list (All-set (λ e. IsShaped e.facts) m.connections k new shaped h.formed.shaped),
+        subst (All IsOwing) list (All-set IsOwing m.connections k new owes h.formed.owing),
+        subst (All (λ e. same_address e.facts.addr own ≡ false)) list (All-set (λ e. same_address e.facts.addr own ≡ false) m.connections k new other h.formed.other_connections),
+      );
       settings = refl;
       now = refl;
       counted = omega arith;
@@ -145,20 +130,12 @@ goes-moves m e k h s =
     let late_before : late_in m ≡ sum_by (late_of m.now) m.connections = late_in-sum m in
     let late_after : late_in n ≡ sum_by (late_of m.now) n.connections = late_in-sum n in
     record {
-      ordered = record {
-        orderly = gone-orderly m e.facts.cid.0 h.orderly;
-        formed = record {
-          shaped = All-filter (λ x. not (has_id e.facts.cid.0 x.facts)) (λ x. IsShaped x.facts) m.connections h.formed.shaped;
-          owing = All-filter (λ x. not (has_id e.facts.cid.0 x.facts)) IsOwing m.connections h.formed.owing;
-          peers = h.formed.peers;
-          groups = h.formed.groups;
-          other_peers = h.formed.other_peers;
-          other_connections = All-filter (λ x. not (has_id e.facts.cid.0 x.facts)) (λ x. same_address x.facts.addr m.settings.own ≡ false)
-              m.connections h.formed.other_connections;
-          room = h.formed.room;
-          pending_job = h.formed.pending_job;
-        };
-      };
+      ordered = assumption (
+        gone-orderly m e.facts.cid.0 h.orderly,
+        All-filter (λ x. not (has_id e.facts.cid.0 x.facts)) (λ x. IsShaped x.facts) m.connections h.formed.shaped,
+        All-filter (λ x. not (has_id e.facts.cid.0 x.facts)) IsOwing m.connections h.formed.owing,
+        All-filter (λ x. not (has_id e.facts.cid.0 x.facts)) (λ x. same_address x.facts.addr m.settings.own ≡ false) m.connections h.formed.other_connections,
+      );
       settings = refl;
       now = refl;
       counted = omega arith;
@@ -175,25 +152,7 @@ pub elsewhere-moves : (targets : Targets) (big : BigTargets) (roots : RootState)
     IsOrdered m → IsNumbered roots → IsBook m.settings.own peers → (LocalsAreOrdinary m → LocalsAreOrdinary (record m { peers = peers })) →
     Moves 0 m (record m { targets = targets; big_targets = big; roots = roots; peers = peers })
 elsewhere-moves targets big roots peers m h numbered book classes = record {
-  ordered = record {
-    orderly = record {
-      settings = h.orderly.settings;
-      next_id = h.orderly.next_id;
-      ids_given = h.orderly.ids_given;
-      ids_rise = h.orderly.ids_rise;
-      addresses = h.orderly.addresses;
-    };
-    formed = record {
-      shaped = h.formed.shaped;
-      owing = h.formed.owing;
-      peers = book.apart;
-      groups = h.formed.groups;
-      other_peers = book.others;
-      other_connections = h.formed.other_connections;
-      room = book.room;
-      pending_job = numbered;
-    };
-  };
+  ordered = assumption;
   settings = refl;
   now = refl;
   counted = omega arith;
@@ -217,13 +176,11 @@ peers-moves peers m h book classes = elsewhere-moves m.targets m.big_targets m.r
 -- a change that keeps addresses, and makes no big ledger peer
 pub changes-moves : (addr : Addr) (change : Peer → Peer) (m : Machine) → ((p : Peer) → (change p).addr ≡ p.addr) →
     ((p : Peer) → p.big ≡ false → (change p).big ≡ false) → IsOrdered m → Moves 0 m (peer_changes addr change m).machine
-changes-moves addr change m same class h = by_peer (peer_at addr m) refl
-  where
-    by_peer : (o : Option Peer) → peer_at addr m ≡ o → Moves 0 m (turns_at o change m).machine
-    by_peer None is = moves_nothing m h
-    by_peer (Some p) is =
-        peers-moves (with_peer_in (change p) m.peers) m h (with_peer-book m.settings.own (change p) m.peers (book_of m h.formed))
-        (turned-classes addr change m same class p is)
+changes-moves addr change m same class h = by_option (peer_at addr m) (λ o. Moves 0 m (turns_at o change m).machine)
+    (λ is. moves_nothing m h)
+    (λ p is.
+    peers-moves (with_peer_in (change p) m.peers) m h (with_peer-book m.settings.own (change p) m.peers (book_of m h.formed))
+    (turned-classes addr change m same class p is))
 
 -- which leaves the peer tied to its connection
 pub changes-keeps : (addr : Addr) (change : Peer → Peer) (m : Machine) → ((p : Peer) → (change p).addr ≡ p.addr) →
@@ -236,8 +193,7 @@ changes-keeps addr change m same class step h =
 
 pub note-machine : (added : Added) (addr : Addr) (m : Machine) → (note_of_coming added addr m).machine ≡ m
 note-machine New addr m = refl
-note-machine Present addr m = refl
-note-machine Full addr m = refl
+note-machine other addr m = refl
 
 -- it is not the own address, and no big ledger peer's where it is local
 pub peer_comes-keeps : (big : Bool) (addr : Addr) (m : Machine) → IsOrdered m → same_address addr m.settings.own ≡ false →

@@ -9,7 +9,7 @@ use Rattle.net_base.specs.declared.peer.Peer.{Peer}
 use Rattle.churn_clock.specs.Windows.{effective_big_of}
 use Rattle.peer_book.specs.Book.{is_of, known_of, peer_at as peer_in, new_peer, entry_of, entered_by, entered}
 use Rattle.peer_book.specs.declared.added.Added.{Added}
-use Rattle.peer_book.specs.declared.added.Added.TheVariants.{New, Present, Full}
+use Rattle.peer_book.specs.declared.added.Added.TheVariants.{New}
 use Rattle.peer_book.proofs.Edits.{count_by-put_in}
 use Rattle.root_groups.specs.Cleaned.{group_of}
 use Rattle.share_rounds.specs.Rounds.{room_for, is_new, taken_after}
@@ -24,6 +24,7 @@ use Rattle.laws.specs.AtMoves.{known_wanted, IsWantedNew, WithinTargets}
 use Rattle.laws.proofs.Lawful.{comes-machine, comes-providing, Within}
 use Rattle.laws.proofs.Lists.{all-appended}
 use Rattle.laws.proofs.Ties.{put_in-here}
+use Rattle.laws.proofs.Cases.{by_bool, some_same}
 
 -- a part that is one move
 pub move-within : (happened : Happened) (before : Machine) (effect : Effect) → effect.moves ≡ [] → WithinTargets happened before effect.machine →
@@ -48,8 +49,7 @@ entered-known big addr ps = by_added (entry_of addr ps)
     by_added New =
         let count = count_by-put_in (λ p. p.addr) (is_of big) (new_peer big addr) ps in
         omega (arith, count, one (is_of big (new_peer big addr)))
-    by_added Present = omega arith
-    by_added Full = omega arith
+    by_added other = omega arith
 
 -- whoever was not there and is found is of its class
 entered-class : (big : Bool) (addr : Addr) (ps : List Peer) (p : Peer) → peer_in addr ps ≡ None → peer_in addr (entered (new_peer big addr) ps) ≡ Some p →
@@ -61,11 +61,7 @@ entered-class big addr ps p none found = by_added (entry_of addr ps) found
         let here : peer_in addr (entered_by New (new_peer big addr) ps) ≡ Some (new_peer big addr) = put_in-here (new_peer big addr) ps none in
         let same : Some p ≡ Some (new_peer big addr) = sym found ∙ here in
         ap (λ q. q.big) (some_same p (new_peer big addr) same)
-      where
-        some_same : (a b : Peer) → Some a ≡ Some b → a ≡ b
-        some_same a b e = cc
-    by_added Present found = let never : None ≡ Some p = sym none ∙ found in absurd cc
-    by_added Full found = let never : None ≡ Some p = sym none ∙ found in absurd cc
+    by_added other found = let never : None ≡ Some p = sym none ∙ found in absurd cc
 
 came-within : (big : Bool) (addr : Addr) (m : Machine) → known_of big m.peers < known_wanted big m → IsWantedNew addr m (came big addr m)
 came-within big addr m fewer none p found =
@@ -117,14 +113,12 @@ takes-within (Some (Peers told)) m =
 -- ---- big ledger peers that are set
 
 comes_big-within : (addr : Addr) (m : Machine) → AllByRecursion Within (comes_big addr m).moves
-comes_big-within addr m = by_test (is_wanted_big addr m) refl
-  where
-    by_test : (b : Bool) → is_wanted_big addr m ≡ b → AllByRecursion Within (if b then coming true addr m else nothing_more m).moves
-    by_test false other = tt
-    by_test true wanted =
-        let parts = and_parts (not (same_address addr m.settings.own) && not (is_some (peer_at addr m)) && not (is_some (group_of addr m.groups)))
-        (nat_lt (known_of true m.peers) (effective_big_of m.big_targets m.now).known) wanted in
-        coming-within true addr m (ltb-true (known_of true m.peers) (effective_big_of m.big_targets m.now).known parts.1)
+comes_big-within addr m = by_bool (is_wanted_big addr m) (λ b. AllByRecursion Within (if b then coming true addr m else nothing_more m).moves)
+    (λ wanted.
+    let parts = and_parts (not (same_address addr m.settings.own) && not (is_some (peer_at addr m)) && not (is_some (group_of addr m.groups)))
+    (nat_lt (known_of true m.peers) (effective_big_of m.big_targets m.now).known) wanted in
+    coming-within true addr m (ltb-true (known_of true m.peers) (effective_big_of m.big_targets m.now).known parts.1))
+    (λ other. tt)
 
 pub bigs-within : (addrs : List Addr) (m : Machine) → AllByRecursion Within (bigs_are addrs m).moves
 unfolding for_each

@@ -1,16 +1,16 @@
 -- The moves of a part of a step: each keeps a law, no connection whose handshake is done is gone without one, and nobody
 -- comes up without one.
-use Rattle.std.proofs.Common.{ℕ, ◌+◌, ◌%◌, ◌≡◌, ◌≤◌, Bool, true, false, ◌||◌, ◌==◌, nat_lt, if◌then◌else◌, arith, cond, List, [], ◌∷◌, ◌++◌, find, set, remove, Option, Some, None, is_some, refl, sym, ap, ◌∙◌, subst, eqb-true, eq-eqb}
+use Rattle.std.proofs.Common.{ℕ, ◌+◌, ◌%◌, ◌≡◌, ◌≤◌, Bool, true, false, ◌||◌, ◌==◌, nat_lt, if◌then◌else◌, arith, List, [], ◌∷◌, ◌++◌, find, set, remove, Some, is_some, refl, sym, ap, ◌∙◌, subst, eqb-true, eq-eqb}
 use Rattle.std.specs.List.{AllByRecursion, list_any}
 use Rattle.std.proofs.lemmas.Bool.{cond_both, false≢true, or_left, or_right}
-use Rattle.std.proofs.lemmas.List.Folds.{list_any-append}
+use Rattle.std.proofs.lemmas.List.Folds.{list_any-append, find-append}
 use Rattle.net_base.specs.Address.{same_address}
 use Rattle.net_base.specs.declared.action.Action.{Action}
 use Rattle.net_base.specs.declared.action.CloseCause.{CloseCause}
-use Rattle.net_base.specs.declared.action.CloseCause.TheVariants.{Unused, Pruned, Overwritten, Refused, Query, Fault}
+use Rattle.net_base.specs.declared.action.CloseCause.TheVariants.{Unused, Overwritten}
 use Rattle.net_base.specs.declared.connection.Facts.{Facts}
 use Rattle.net_base.specs.declared.connection.Phase.{Phase}
-use Rattle.net_base.specs.declared.connection.Phase.TheVariants.{Dialing, Greeting, Negotiated, Closing}
+use Rattle.net_base.specs.declared.connection.Phase.TheVariants.{Negotiated, Closing}
 use Rattle.net_base.specs.declared.peer.Peer.{Peer}
 use Rattle.conn_state.specs.Use.{has_id, is_live, live_phase, is_negotiated, is_negotiated_phase}
 use Rattle.machine.specs.Machine.{Machine, Entry, entry_at}
@@ -19,7 +19,7 @@ use Rattle.machine.specs.Peers.{peer_at, peer_changes, peer_fails, peer_succeeds
 use Rattle.net_base.specs.declared.address.Addr.{Addr}
 use Rattle.peer_book.specs.Book.{peer_at as peer_in, new_peer, entry_of, entered}
 use Rattle.peer_book.specs.declared.added.Added.{Added}
-use Rattle.peer_book.specs.declared.added.Added.TheVariants.{New, Present, Full}
+use Rattle.peer_book.specs.declared.added.Added.TheVariants.{New}
 use Rattle.machine.specs.Replies.{owing, sends_as_initiator}
 use Rattle.machine.specs.Connections.{with_entry, without_entry, entry_turns, entry_goes, is_missed, lost, lost_by, ending, is_used}
 use Rattle.net_base.specs.declared.peer.Temp.TheVariants.{Warm}
@@ -38,10 +38,12 @@ use Rattle.laws.proofs.Keeping.{note-machine}
 use Rattle.laws.proofs.Lists.{StandsAt, find_only, all-appended}
 use Rattle.laws.proofs.Owing.{with_reply-some}
 use Rattle.laws.proofs.PeersApart.{same_turned}
-use Rattle.laws.proofs.Rises.{Rises, rises_then, rises_move, rises_said, StaysDown, is_hot, NoneConnected, hot_or_asked-down, rises_nowhere, rises_none, same-connected, connected_then, IsNoHigher, turned-down, turned-connected, gone-connected, come-down, IsCooling, changed-hot, changed-known, entered-hot, entered-known}
+use Rattle.laws.proofs.Rises.{Rises, rises_then, rises_move, rises_said, StaysDown, is_hot, NoneConnected, hot_or_asked-down, rises_nowhere, rises_none, same-connected, connected_then, IsNoHigher, turned-down, turned-connected, gone-connected, come-down, IsCooling, changed-hot, changed-known, entered-hot, entered-known, more}
 use Rattle.laws.proofs.Telling.{are_mute, mute, told_unchanged, told_then, told_move}
 use Rattle.laws.proofs.Ties.{turned_elsewhere}
 use Rattle.laws.proofs.ToldMoves.{turned-told, goes-told, goes-stage, ended-told, changes-told, turns_at-next, peer_comes-told, turns_at-moves, turns_at-connections}
+use Rattle.laws.proofs.Cases.{by_bool, by_option}
+use Rattle.std.specs.Option.{option_or}
 
 -- ---- no connection is gone without a move
 
@@ -56,11 +58,8 @@ ends_then m first next one two cid h =
   where
     by_first : (b : Bool) → is_negotiated_at cid first.machine ≡ b → (c d : Bool) → (is_negotiated_at cid first.machine ≡ true → (c || d) ≡ true) →
         (b || is_ended_in cid first.moves) ≡ true → (c || (is_ended_in cid first.moves || d)) ≡ true
-    by_first true is c d later here = by_after c (later is)
-      where
-        by_after : (x : Bool) → (x || d) ≡ true → (x || (is_ended_in cid first.moves || d)) ≡ true
-        by_after true e = refl
-        by_after false e = or_right (is_ended_in cid first.moves) d e
+    by_first true is c d later here = by_bool c (λ x. (x || d) ≡ true → (x || (is_ended_in cid first.moves || d)) ≡ true)
+        (λ is e. refl) (λ is e. or_right (is_ended_in cid first.moves) d e) (later is)
     by_first false is c d later here = or_right c (is_ended_in cid first.moves || d) (or_left (is_ended_in cid first.moves) d here)
 
 -- more moves account for more
@@ -69,10 +68,6 @@ ends_move happened m effect h cid before =
     let move : Move = record { happened = happened; before = m; after = effect.machine } in
     subst (λ b. (is_negotiated_at cid effect.machine || b) ≡ true) (sym (list_any-append (λ x. ends cid x.happened) effect.moves (move ∷ [])))
     (more (is_negotiated_at cid effect.machine) (is_ended_in cid effect.moves) (list_any (λ x. ends cid x.happened) (move ∷ [])) (h cid before))
-  where
-    more : (a b c : Bool) → (a || b) ≡ true → (a || (b || c)) ≡ true
-    more true b c e = refl
-    more false b c e = or_left b c e
 
 pub ends_same : (m : Machine) (effect : Effect) → effect.machine.connections ≡ m.connections → EndsBy m effect
 ends_same m effect same cid h =
@@ -85,65 +80,52 @@ pub ends_turned : (m : Machine) (e new : Entry) (k : ℕ) (effect : Effect) → 
     (is_negotiated e.facts ≡ true → (is_negotiated new.facts || is_ended_in e.facts.cid.0 effect.moves) ≡ true) → EndsBy m effect
 ends_turned m e new k effect h s t same still cid before =
     let list : effect.machine.connections ≡ set m.connections k new = same ∙ turned-connections m e new k h s t in
-    by_id (has_id cid e.facts) refl list
-  where
-    has : Entry → Bool
-    has x = has_id cid x.facts
-
-    by_id : (b : Bool) → has_id cid e.facts ≡ b → effect.machine.connections ≡ set m.connections k new →
-        (is_negotiated_at cid effect.machine || is_ended_in cid effect.moves) ≡ true
-    by_id true is list =
-        let own : e.facts.cid.0 ≡ cid = eqb-true e.facts.cid.0 cid is in
-        let new_is : has_id cid new.facts ≡ true = eq-eqb new.facts.cid.0 cid (ap (λ c. c.0) t.same_id ∙ own) in
-        let was : entry_at cid m ≡ Some e = find_only (λ x. has_id cid x.facts) e m.connections k (one_has_id cid m.connections h.ids_rise) s is in
-        let now : entry_at cid effect.machine ≡ Some new =
-        ap (find (λ x. has_id cid x.facts)) list
-        ∙ find-set_here (λ x. has_id cid x.facts) new e m.connections k (one_has_id cid m.connections h.ids_rise) s is new_is in
-        subst (λ o. (is_negotiated_entry o || is_ended_in cid effect.moves) ≡ true) (sym now)
-        (subst (λ c. (is_negotiated new.facts || is_ended_in c effect.moves) ≡ true) own (still (ap is_negotiated_entry (sym was) ∙ before)))
-    by_id false is list =
-        let new_is : has_id cid new.facts ≡ false = ap (λ c. c.0 == cid) t.same_id ∙ is in
-        let now : entry_at cid effect.machine ≡ entry_at cid m =
-        ap (find (λ x. has_id cid x.facts)) list ∙ find-set_other (λ x. has_id cid x.facts) new e m.connections k s is new_is in
-        or_left (is_negotiated_at cid effect.machine) (is_ended_in cid effect.moves) (ap is_negotiated_entry now ∙ before)
+    by_bool (has_id cid e.facts)
+    (λ b. effect.machine.connections ≡ set m.connections k new → (is_negotiated_at cid effect.machine || is_ended_in cid effect.moves) ≡ true)
+    (λ is list.
+    let own : e.facts.cid.0 ≡ cid = eqb-true e.facts.cid.0 cid is in
+    let new_is : has_id cid new.facts ≡ true = eq-eqb new.facts.cid.0 cid (ap (λ c. c.0) t.same_id ∙ own) in
+    let was : entry_at cid m ≡ Some e = find_only (λ x. has_id cid x.facts) e m.connections k (one_has_id cid m.connections h.ids_rise) s is in
+    let now : entry_at cid effect.machine ≡ Some new =
+    ap (find (λ x. has_id cid x.facts)) list
+    ∙ find-set_here (λ x. has_id cid x.facts) new e m.connections k (one_has_id cid m.connections h.ids_rise) s is new_is in
+    subst (λ o. (is_negotiated_entry o || is_ended_in cid effect.moves) ≡ true) (sym now)
+    (subst (λ c. (is_negotiated new.facts || is_ended_in c effect.moves) ≡ true) own (still (ap is_negotiated_entry (sym was) ∙ before))))
+    (λ is list.
+    let new_is : has_id cid new.facts ≡ false = ap (λ c. c.0 == cid) t.same_id ∙ is in
+    let now : entry_at cid effect.machine ≡ entry_at cid m =
+    ap (find (λ x. has_id cid x.facts)) list ∙ find-set_other (λ x. has_id cid x.facts) new e m.connections k s is new_is in
+    or_left (is_negotiated_at cid effect.machine) (is_ended_in cid effect.moves) (ap is_negotiated_entry now ∙ before)) list
 
 -- a connection goes, which a move tells where it is negotiated
 ends_gone : (m : Machine) (e : Entry) (k : ℕ) (effect : Effect) → IsOrderly m → StandsAt m.connections k e →
     effect.machine.connections ≡ (without_entry e.facts.cid.0 m).connections →
     (is_negotiated e.facts ≡ true → is_ended_in e.facts.cid.0 effect.moves ≡ true) → EndsBy m effect
 ends_gone m e k effect h s same told cid before =
-    by_id (has_id cid e.facts) refl (same ∙ gone-connections m e k h s)
-  where
-    by_id : (b : Bool) → has_id cid e.facts ≡ b → effect.machine.connections ≡ remove m.connections k →
-        (is_negotiated_at cid effect.machine || is_ended_in cid effect.moves) ≡ true
-    by_id true is list =
-        let own : e.facts.cid.0 ≡ cid = eqb-true e.facts.cid.0 cid is in
-        let was : entry_at cid m ≡ Some e = find_only (λ x. has_id cid x.facts) e m.connections k (one_has_id cid m.connections h.ids_rise) s is in
-        or_right (is_negotiated_at cid effect.machine) (is_ended_in cid effect.moves)
-        (subst (λ c. is_ended_in c effect.moves ≡ true) own (told (ap is_negotiated_entry (sym was) ∙ before)))
-    by_id false is list =
-        let now : entry_at cid effect.machine ≡ entry_at cid m =
-        ap (find (λ x. has_id cid x.facts)) list ∙ find-remove_other (λ x. has_id cid x.facts) e m.connections k s is in
-        or_left (is_negotiated_at cid effect.machine) (is_ended_in cid effect.moves) (ap is_negotiated_entry now ∙ before)
+    by_bool (has_id cid e.facts)
+    (λ b. effect.machine.connections ≡ remove m.connections k → (is_negotiated_at cid effect.machine || is_ended_in cid effect.moves) ≡ true)
+    (λ is list.
+    let own : e.facts.cid.0 ≡ cid = eqb-true e.facts.cid.0 cid is in
+    let was : entry_at cid m ≡ Some e = find_only (λ x. has_id cid x.facts) e m.connections k (one_has_id cid m.connections h.ids_rise) s is in
+    or_right (is_negotiated_at cid effect.machine) (is_ended_in cid effect.moves)
+    (subst (λ c. is_ended_in c effect.moves ≡ true) own (told (ap is_negotiated_entry (sym was) ∙ before))))
+    (λ is list.
+    let now : entry_at cid effect.machine ≡ entry_at cid m =
+    ap (find (λ x. has_id cid x.facts)) list ∙ find-remove_other (λ x. has_id cid x.facts) e m.connections k s is in
+    or_left (is_negotiated_at cid effect.machine) (is_ended_in cid effect.moves) (ap is_negotiated_entry now ∙ before)) (same ∙ gone-connections m e k h s)
 
 -- a connection comes
 find-front : {X : Type 0} (p : X → Bool) (xs ys : List X) (x : X) → find p xs ≡ Some x → find p (xs ++ ys) ≡ Some x
-find-front p [] ys x h = absurd cc
-find-front {X} p (y ∷ xs) ys x h = by_head (p y) h (find-front p xs ys x)
-  where
-    by_head : (b : Bool) → cond b (Some y) (find p xs) ≡ Some x → (find p xs ≡ Some x → find p (xs ++ ys) ≡ Some x) → cond b (Some y) (find p (xs ++ ys)) ≡ Some x
-    by_head true e later = e
-    by_head false e later = later e
+find-front p xs ys x h = find-append p xs ys ∙ ap (λ o. option_or o (find p ys)) h
 
 pub ends_come : (m : Machine) (new : Entry) (effect : Effect) → effect.machine.connections ≡ (with_new new m).connections → EndsBy m effect
-ends_come m new effect same cid before = by_entry (entry_at cid m) refl before
-  where
-    by_entry : (o : Option Entry) → entry_at cid m ≡ o → is_negotiated_entry o ≡ true → (is_negotiated_at cid effect.machine || is_ended_in cid effect.moves) ≡ true
-    by_entry None is h = absurd (false≢true h)
-    by_entry (Some e) is h =
-        let now : entry_at cid effect.machine ≡ Some e =
-        ap (find (λ x. has_id cid x.facts)) same ∙ find-front (λ x. has_id cid x.facts) m.connections (new ∷ []) e is in
-        or_left (is_negotiated_at cid effect.machine) (is_ended_in cid effect.moves) (ap is_negotiated_entry now ∙ h)
+ends_come m new effect same cid before = by_option (entry_at cid m)
+    (λ o. is_negotiated_entry o ≡ true → (is_negotiated_at cid effect.machine || is_ended_in cid effect.moves) ≡ true)
+    (λ is h. absurd (false≢true h))
+    (λ e is h.
+    let now : entry_at cid effect.machine ≡ Some e =
+    ap (find (λ x. has_id cid x.facts)) same ∙ find-front (λ x. has_id cid x.facts) m.connections (new ∷ []) e is in
+    or_left (is_negotiated_at cid effect.machine) (is_ended_in cid effect.moves) (ap is_negotiated_entry now ∙ h)) before
 
 -- ---- nor does anybody come up without one
 
@@ -278,12 +260,8 @@ lost-quiet f m = cond_both (is_missed f) (peer_fails f.addr m) (nothing_more m) 
     (λ other. tells-quiet [] m refl)
 
 pub lost_by-quiet : (cause : CloseCause) (f : Facts) (m : Machine) → IsQuiet m (lost_by cause f m)
-lost_by-quiet Unused f m = lost-quiet f m
-lost_by-quiet Pruned f m = lost-quiet f m
 lost_by-quiet Overwritten f m = tells-quiet [] m refl
-lost_by-quiet Refused f m = lost-quiet f m
-lost_by-quiet Query f m = lost-quiet f m
-lost_by-quiet (Fault kind) f m = lost-quiet f m
+lost_by-quiet other f m = lost-quiet f m
 
 -- ---- an address comes into the book
 
@@ -296,8 +274,7 @@ pub record IsProviding (before : Machine) (effect : Effect) : Type 0 where
 
 note-moves : (added : Added) (addr : Addr) (m : Machine) → (note_of_coming added addr m).moves ≡ []
 note-moves New addr m = refl
-note-moves Present addr m = refl
-note-moves Full addr m = refl
+note-moves other addr m = refl
 
 pub comes-machine : (big : Bool) (addr : Addr) (m : Machine) → (peer_comes big addr m).machine ≡ record m { peers = entered (new_peer big addr) m.peers }
 comes-machine big addr m = note-machine (entry_of addr m.peers) addr (record m { peers = entered (new_peer big addr) m.peers })
@@ -348,24 +325,16 @@ ended-lawful cause m after e k h s may crowded fails = record {
 }
 
 pub live_stage : (p : Phase) → live_phase p ≡ true → stage_of_phase p ≤ 3
-live_stage Dialing live = omega arith
-live_stage (Greeting until) live = omega arith
-live_stage Negotiated live = omega arith
 live_stage (Closing until) live = absurd (false≢true live)
+live_stage other live = omega arith
 
 negotiated_stage : (p : Phase) → stage_of_phase p ≡ 3 → is_negotiated_phase p ≡ true
-negotiated_stage Dialing is = absurd (omega (arith, is))
-negotiated_stage (Greeting until) is = absurd (omega (arith, is))
 negotiated_stage Negotiated is = refl
-negotiated_stage (Closing until) is = absurd (omega (arith, is))
+negotiated_stage other is = absurd (omega (arith, is))
 
 ended-most : (cause : CloseCause) → stage_ended cause ≤ 5
 ended-most Unused = omega arith
-ended-most Pruned = omega arith
-ended-most Overwritten = omega arith
-ended-most Refused = omega arith
-ended-most Query = omega arith
-ended-most (Fault kind) = omega arith
+ended-most other = omega arith
 
 -- the stage of one that stands
 pub stands-stage : (m : Machine) (e : Entry) (k : ℕ) → IsOrderly m → StandsAt m.connections k e → stage_at e.facts.cid.0 m ≡ stage_of_phase e.facts.phase
@@ -431,10 +400,8 @@ asked-before m e f =
     with_reply-some (λ o. o.protocol == 2) (record { protocol = 8; until = m.now + m.settings.reply; asked = f.cid.0 % 65536 }) e.owed refl
 
 pub negotiated-forward : (p q : Phase) → live_phase p ≡ true → is_negotiated_phase q ≡ true → stage_of_phase p ≤ stage_of_phase q
-negotiated-forward p Dialing live negotiated = absurd (false≢true negotiated)
-negotiated-forward p (Greeting until) live negotiated = absurd (false≢true negotiated)
 negotiated-forward p Negotiated live negotiated = live_stage p live
-negotiated-forward p (Closing until) live negotiated = absurd (false≢true negotiated)
+negotiated-forward p other live negotiated = absurd (false≢true negotiated)
 
 -- one that was on its way
 pub used-obeys : (Law : Move → Type 0) (f : Facts) (m : Machine) (e : Entry) (k : ℕ) → IsOrderly m → StandsAt m.connections k e → f.cid ≡ e.facts.cid → f.addr ≡ e.facts.addr →
@@ -472,14 +439,10 @@ not_lower n = grind arith
 
 reuse-told : (a : Addr) (m : Machine) (effect : Effect) → effect.machine.next_id ≡ m.next_id → IsTold m effect → IsTold m (as_move (promoted a) m effect)
 reuse-told a m effect same h =
-    told_move (promoted a) m effect refl (subst (λ next. promoted_by_dial (promoted a) m.next_id next ≡ []) (sym same) (no_dial (nat_lt m.next_id m.next_id) (not_lower m.next_id))) h
-  where
-    dial : Given
-    dial = record { cid = m.next_id; addr = a }
-
-    no_dial : (b : Bool) → b ≡ false → (if b then dial ∷ [] else []) ≡ []
-    no_dial true is = absurd (false≢true (sym is))
-    no_dial false is = refl
+    let dial : Given = record { cid = m.next_id; addr = a } in
+    told_move (promoted a) m effect refl (subst (λ next. promoted_by_dial (promoted a) m.next_id next ≡ []) (sym same) (by_bool (nat_lt m.next_id m.next_id)
+    (λ b. b ≡ false → (if b then dial ∷ [] else []) ≡ [])
+    (λ here is. absurd (false≢true (sym is))) (λ here is. refl) (not_lower m.next_id))) h
 
 -- a connection that stood comes into use, as a promotion of its address
 pub promoted-obeys : (Law : Move → Type 0) (f : Facts) (m : Machine) (e : Entry) (k : ℕ) (a : Addr) → IsOrderly m → StandsAt m.connections k e → f.cid ≡ e.facts.cid → f.addr ≡ e.facts.addr →

@@ -12,6 +12,7 @@ use Rattle.laws.proofs.Firing.{least-none, due-contains}
 use Rattle.laws.specs.Steady.{IsOrdered}
 use Rattle.laws.proofs.Lists.{all-placed}
 use Rattle.laws.proofs.Moments.{due-waited}
+use Rattle.laws.proofs.Cases.{by_bool}
 
 -- of three, where neither the first is before the second nor the second before the third: by one number, and then the rest
 none_before : (a b c : ℕ) (p q r : Bool) → (nat_lt a b || (a == b && p)) ≡ false → (nat_lt b c || (b == c && q)) ≡ false → (p ≡ false → q ≡ false → r ≡ false) →
@@ -19,18 +20,17 @@ none_before : (a b c : ℕ) (p q r : Bool) → (nat_lt a b || (a == b && p)) ≡
 none_before a b c p q r one two rest =
     let above : nat_lt a b ≡ false = (or_parts (nat_lt a b) (a == b && p) one).0 in
     let below : nat_lt b c ≡ false = (or_parts (nat_lt b c) (b == c && q) two).0 in
-    or_from (nat_lt a c) (a == c && r) (grind (arith, above, below)) (by_same (a == c) refl above below)
+    or_from (nat_lt a c) (a == c && r) (grind (arith, above, below)) (by_bool (a == c)
+    (λ e. nat_lt a b ≡ false → nat_lt b c ≡ false → (e && r) ≡ false)
+    (λ same above below.
+    let first : (a == b) ≡ true = grind (arith, same, above, below) in
+    let second : (b == c) ≡ true = grind (arith, same, above, below) in
+    rest (alone (a == b) p first (or_parts (nat_lt a b) (a == b && p) one).1) (alone (b == c) q second (or_parts (nat_lt b c) (b == c && q) two).1))
+    (λ other above below. refl) above below)
   where
     alone : (x : Bool) (y : Bool) → x ≡ true → (x && y) ≡ false → y ≡ false
     alone true y is h = h
     alone false y is h = absurd (false≢true is)
-
-    by_same : (e : Bool) → (a == c) ≡ e → nat_lt a b ≡ false → nat_lt b c ≡ false → (e && r) ≡ false
-    by_same false other above below = refl
-    by_same true same above below =
-        let first : (a == b) ≡ true = grind (arith, same, above, below) in
-        let second : (b == c) ≡ true = grind (arith, same, above, below) in
-        rest (alone (a == b) p first (or_parts (nat_lt a b) (a == b && p) one).1) (alone (b == c) q second (or_parts (nat_lt b c) (b == c && q) two).1)
 
 abbrev kinds : Deadline → Deadline → Bool
 kinds x y = nat_lt (kind_place x.kind) (kind_place y.kind)
@@ -77,11 +77,9 @@ least-first (x ∷ xs) d e = by_least (least xs) (least-first xs) refl e
     by_least None later is same =
         subst (λ w. AllByRecursion (λ z. deadline_before z w ≡ false) (x ∷ xs)) (let s : x ≡ d = cc in s) (before_itself x, none_left is)
     by_least (Some y) later is same =
-        subst (λ w. AllByRecursion (λ z. deadline_before z w ≡ false) (x ∷ xs)) (let s : earlier x (Some y) ≡ d = cc in s) (by_order (deadline_before y x) refl)
-      where
-        by_order : (b : Bool) → deadline_before y x ≡ b → AllByRecursion (λ z. deadline_before z (if b then y else x) ≡ false) (x ∷ xs)
-        by_order true before = (before_other y x before, later y refl)
-        by_order false after = (before_itself x, weaker y xs after (later y refl))
+        subst (λ w. AllByRecursion (λ z. deadline_before z w ≡ false) (x ∷ xs)) (let s : earlier x (Some y) ≡ d = cc in s) (by_bool (deadline_before y x)
+        (λ b. AllByRecursion (λ z. deadline_before z (if b then y else x) ≡ false) (x ∷ xs))
+        (λ before. (before_other y x before, later y refl)) (λ after. (before_itself x, weaker y xs after (later y refl))))
 
 -- one that is not due yet is not before one that is
 later : (now : ℕ) (x d : Deadline) → d.at ≤ now → nat_le x.at now ≡ false → deadline_before x d ≡ false
@@ -97,14 +95,11 @@ later now x d due_by after =
 not_due : (now : ℕ) (d : Deadline) → d.at ≤ now → (ds : List Deadline) → AllByRecursion (λ x. deadline_before x d ≡ false) (filter (λ x. nat_le x.at now) ds) →
     AllByRecursion (λ x. deadline_before x d ≡ false) ds
 not_due now d due_by [] h = tt
-not_due now d due_by (x ∷ ds) h = by_due (nat_le x.at now) refl h (not_due now d due_by ds)
-  where
-    by_due : (b : Bool) → nat_le x.at now ≡ b →
-        AllByRecursion (λ z. deadline_before z d ≡ false) (cond b (x ∷ filter (λ z. nat_le z.at now) ds) (filter (λ z. nat_le z.at now) ds)) →
-        (AllByRecursion (λ z. deadline_before z d ≡ false) (filter (λ z. nat_le z.at now) ds) → AllByRecursion (λ z. deadline_before z d ≡ false) ds) →
-        AllByRecursion (λ z. deadline_before z d ≡ false) (x ∷ ds)
-    by_due true is h rest = (h.0, rest h.1)
-    by_due false is h rest = (later now x d due_by is, rest h)
+not_due now d due_by (x ∷ ds) h = by_bool (nat_le x.at now)
+    (λ b. AllByRecursion (λ z. deadline_before z d ≡ false) (cond b (x ∷ filter (λ z. nat_le z.at now) ds) (filter (λ z. nat_le z.at now) ds)) →
+    (AllByRecursion (λ z. deadline_before z d ≡ false) (filter (λ z. nat_le z.at now) ds) → AllByRecursion (λ z. deadline_before z d ≡ false) ds) →
+    AllByRecursion (λ z. deadline_before z d ≡ false) (x ∷ ds))
+    (λ is h rest. (h.0, rest h.1)) (λ is h rest. (later now x d due_by is, rest h)) h (not_due now d due_by ds)
 
 pub least-due : (m : Machine) (d : Deadline) → IsOrdered m → due m ≡ Some d → IsLeastDue m d
 least-due m d h is =

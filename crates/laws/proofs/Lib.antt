@@ -14,6 +14,7 @@ pub mod Moves
 pub mod Runs
 pub mod Settings
 mod Finds
+mod Connects
 mod Failures
 mod Shapes
 mod Effects
@@ -78,3 +79,5 @@ mod Waits
 mod WaitsOfParts
 mod Pruning
 mod Forgiven
+mod Walk
+mod Cases

@@ -5,6 +5,7 @@ use Rattle.std.proofs.lemmas.Bool.{false_from_ne_true, both_ways, or_left, or_ri
 use Rattle.std.proofs.lemmas.List.Elements.{All-head, All-tail, All-cons, All-nil, All-set, All-weaker}
 use Rattle.std.proofs.lemmas.List.Kept.{AllPairs-cons}
 use Rattle.std.proofs.lemmas.List.Sums.{sum_by-cons, sum_by-append, sum_by-set, sum_by-remove, get_or-le-sum_by}
+use Rattle.laws.proofs.Cases.{by_bool}
 
 pub AllPairs-tail : {X : Type 0} (R : X → X → Type 0) (x : X) (xs : List X) → AllPairs R (x ∷ xs) → AllPairs R xs
 AllPairs-tail R x xs h i j d l k = h (suc i) (suc j) d (omega arith) (omega arith)
@@ -107,25 +108,20 @@ pub record FoundIn {X : Type 0} (p : X → Bool) (xs : List X) (x : X) : Type 0 
 
 pub find_some : {X : Type 0} (p : X → Bool) (xs : List X) (x : X) → find p xs ≡ Some x → FoundIn p xs x
 find_some p [] x e = absurd cc
-find_some {X} p (y ∷ ys) x e = at_head (p y) refl (find_some p ys x) e
-  where
-    at_head : (b : Bool) → p y ≡ b → (find p ys ≡ Some x → FoundIn p ys x) → cond b (Some y) (find p ys) ≡ Some x →
-        FoundIn p (y ∷ ys) x
-    at_head true here later e =
-        let same : y ≡ x = cc in
-        record { place = 0; stands = record { inside = omega arith; is = same }; passes = ap p (sym same) ∙ here }
-    at_head false here later e =
-        let found : FoundIn p ys x = later e in
-        record { place = suc found.place; stands = stands_next y x ys found.place found.stands; passes = found.passes }
+find_some {X} p (y ∷ ys) x e = by_bool (p y)
+    (λ b. (find p ys ≡ Some x → FoundIn p ys x) → cond b (Some y) (find p ys) ≡ Some x → FoundIn p (y ∷ ys) x)
+    (λ here later e.
+    let same : y ≡ x = cc in
+    record { place = 0; stands = record { inside = omega arith; is = same }; passes = ap p (sym same) ∙ here })
+    (λ here later e.
+    let found : FoundIn p ys x = later e in
+    record { place = suc found.place; stands = stands_next y x ys found.place found.stands; passes = found.passes }) (find_some p ys x) e
 
 pub find_none : {X : Type 0} (p : X → Bool) (xs : List X) → find p xs ≡ None → All (λ x. p x ≡ false) xs
 find_none p [] e = All-nil (λ x. p x ≡ false)
-find_none p (y ∷ ys) e = at_head (p y) refl (find_none p ys) e
-  where
-    at_head : (b : Bool) → p y ≡ b → (find p ys ≡ None → All (λ x. p x ≡ false) ys) → cond b (Some y) (find p ys) ≡ None →
-        All (λ x. p x ≡ false) (y ∷ ys)
-    at_head true here later e = absurd cc
-    at_head false here later e = All-cons (λ x. p x ≡ false) y ys here (later e)
+find_none p (y ∷ ys) e = by_bool (p y)
+    (λ b. (find p ys ≡ None → All (λ x. p x ≡ false) ys) → cond b (Some y) (find p ys) ≡ None → All (λ x. p x ≡ false) (y ∷ ys))
+    (λ here later e. absurd cc) (λ here later e. All-cons (λ x. p x ≡ false) y ys here (later e)) (find_none p ys) e
 
 pub find_only : {X : Type 0} (p : X → Bool) (x : X) (xs : List X) (k : ℕ) → OnePasses p xs → StandsAt xs k x →
     p x ≡ true → find p xs ≡ Some x

@@ -8,7 +8,7 @@ use Rattle.net_base.specs.declared.action.CloseCause.{CloseCause}
 use Rattle.net_base.specs.declared.connection.Grace.{Grace}
 use Rattle.net_base.specs.declared.connection.Grace.TheVariants.{Off, ForRemote, ForLocal}
 use Rattle.net_base.specs.declared.connection.Phase.{Phase}
-use Rattle.net_base.specs.declared.connection.Phase.TheVariants.{Dialing, Greeting, Negotiated, Closing}
+use Rattle.net_base.specs.declared.connection.Phase.TheVariants.{Greeting, Closing}
 use Rattle.net_base.specs.declared.timer.Deadline.{Deadline}
 use Rattle.net_base.specs.declared.timer.Kind.{Kind}
 use Rattle.net_base.specs.declared.timer.Kind.TheVariants as kind
@@ -26,6 +26,7 @@ use Rattle.laws.proofs.Firing.{all_one, all-deadlines_of, Due, due_of}
 use Rattle.laws.proofs.Lawful.{lost_by-quiet}
 use Rattle.laws.proofs.Lists.{StandsAt, stands_before, OnePasses, FoundIn, find_some, find_only, All-stands, all-standing}
 use Rattle.laws.proofs.Waits.{replaced, gone-found}
+use Rattle.laws.proofs.Cases.{by_option}
 
 -- ---- what a connection waits for is a deadline of the record
 
@@ -66,20 +67,16 @@ ahead-of now e each sort until is = by_kind sort is
     in_grace d c = each d (Contains-append_left (opening ++ unused) (map (reply_deadline e.facts.cid) e.owed) d (Contains-append_right opening unused d c))
 
     greeted : (p : Phase) → e.facts.phase ≡ p → until_greeted p ≡ Some until → now < until
-    greeted Dialing at never = absurd cc
     greeted (Greeting t) at same =
         subst (λ x. now < x) (let s : t ≡ until = cc in s)
         (in_phase (timer e.facts.cid kind.Handshake t) (subst (λ p. Contains (phase_deadlines e.facts.cid p) (timer e.facts.cid kind.Handshake t)) (sym at) (0, omega arith, refl)))
-    greeted Negotiated at never = absurd cc
-    greeted (Closing t) at never = absurd cc
+    greeted other at never = absurd cc
 
     gone : (p : Phase) → e.facts.phase ≡ p → until_gone p ≡ Some until → now < until
-    gone Dialing at never = absurd cc
-    gone (Greeting t) at never = absurd cc
-    gone Negotiated at never = absurd cc
     gone (Closing t) at same =
         subst (λ x. now < x) (let s : t ≡ until = cc in s)
         (in_phase (timer e.facts.cid kind.TimeWait t) (subst (λ p. Contains (phase_deadlines e.facts.cid p) (timer e.facts.cid kind.TimeWait t)) (sym at) (0, omega arith, refl)))
+    gone other at never = absurd cc
 
     graced : (g : Grace) → e.facts.grace ≡ g → until_unused g ≡ Some until → now < until
     graced Off at never = absurd cc
@@ -107,13 +104,11 @@ ahead-of now e each sort until is = by_kind sort is
     by_kind kind.Reply10 same = paid 10 (reply_on 10 e) refl same
 
 pub waits-ahead : (m : Machine) → DeadlinesAhead m → WaitsAhead m
-waits-ahead m h kind cid until is = by_entry (entry_at cid m) refl is
-  where
-    by_entry : (o : Option Entry) → entry_at cid m ≡ o → until_in kind o ≡ Some until → m.now < until
-    by_entry None found never = absurd cc
-    by_entry (Some e) found waits =
-        let at : FoundIn (λ x. has_id cid x.facts) m.connections e = find_some (λ x. has_id cid x.facts) m.connections e found in
-        ahead-of m.now e (λ d c. All-contains (λ x. m.now < x.at) (deadlines m) d h (stands-among m.connections at.place e d at.stands c)) kind until waits
+waits-ahead m h kind cid until is = by_option (entry_at cid m) (λ o. until_in kind o ≡ Some until → m.now < until)
+    (λ found never. absurd cc)
+    (λ e found waits.
+    let at : FoundIn (λ x. has_id cid x.facts) m.connections e = find_some (λ x. has_id cid x.facts) m.connections e found in
+    ahead-of m.now e (λ d c. All-contains (λ x. m.now < x.at) (deadlines m) d h (stands-among m.connections at.place e d at.stands c)) kind until waits) is
 
 -- ---- what fires is waited for
 
@@ -121,10 +116,9 @@ abbrev IsWaited : Entry → Deadline → Type 0
 IsWaited e d = until_of d.kind e ≡ Some d.at
 
 phase-waited : (e : Entry) (p : Phase) → e.facts.phase ≡ p → All (IsWaited e) (phase_deadlines e.facts.cid p)
-phase-waited e Dialing is = All-nil (IsWaited e)
 phase-waited e (Greeting until) is = all_one (IsWaited e) (timer e.facts.cid kind.Handshake until) (ap until_greeted is)
-phase-waited e Negotiated is = All-nil (IsWaited e)
 phase-waited e (Closing until) is = all_one (IsWaited e) (timer e.facts.cid kind.TimeWait until) (ap until_gone is)
+phase-waited e other is = All-nil (IsWaited e)
 
 grace-waited : (e : Entry) (g : Grace) → e.facts.grace ≡ g → All (IsWaited e) (grace_deadlines e.facts.cid g)
 grace-waited e Off is = All-nil (IsWaited e)

@@ -3,7 +3,7 @@ use Rattle.std.proofs.Common.{ℕ, ◌+◌, ◌≤◌, ◌≡◌, true, cond, []
 use Rattle.std.proofs.lemmas.Bool.{cond_both, false≢true}
 use Rattle.net_base.specs.declared.action.Action.TheVariants.{Close}
 use Rattle.net_base.specs.declared.action.CloseCause.{CloseCause}
-use Rattle.net_base.specs.declared.action.CloseCause.TheVariants.{Unused, Pruned, Overwritten, Refused, Query, Fault}
+use Rattle.net_base.specs.declared.action.CloseCause.TheVariants.{Unused, Overwritten}
 use Rattle.net_base.specs.declared.connection.Facts.{Facts}
 use Rattle.net_base.specs.declared.peer.Peer.{Peer}
 use Rattle.net_base.specs.Peer.{failed_peer}
@@ -11,7 +11,7 @@ use Rattle.conn_state.specs.Moves.{expired}
 use Rattle.machine.specs.Machine.{Machine, Entry, counted_in}
 use Rattle.machine.specs.Effect.{Effect, nothing_more, then_do, tells, as_move, unused}
 use Rattle.machine.specs.Peers.{with_peer, turns_at, peer_fails, peer_at}
-use Rattle.machine.specs.Connections.{with_entry, without_entry, entry_turns, is_missed, lost, lost_by, ending, vanishes, closing_entry, grace_over, wait_over}
+use Rattle.machine.specs.Connections.{with_entry, without_entry, entry_turns, is_missed, lost, lost_by, ending, closing_entry, grace_over, wait_over}
 use Rattle.laws.specs.Sound.{IsOrderly}
 use Rattle.laws.proofs.Lists.{StandsAt}
 use Rattle.laws.proofs.Entries.{TurnsInto, turned-orderly, turned-sum, gone-orderly, gone-sum}
@@ -101,19 +101,7 @@ turns-lowers gone m old new k h s t fewer earlier =
 
 -- the book is no matter of the connections
 pub with_peer-lowers : (m : Machine) (p : Peer) → IsOrderly m → Lowers 0 m (with_peer p m)
-with_peer-lowers m p h = record {
-  orderly = record {
-    settings = h.settings;
-    next_id = h.next_id;
-    ids_given = h.ids_given;
-    ids_rise = h.ids_rise;
-    addresses = h.addresses;
-  };
-  settings = refl;
-  now = refl;
-  counted = omega arith;
-  late = omega arith;
-}
+with_peer-lowers m p h = record { orderly = assumption; settings = refl; now = refl; counted = omega arith; late = omega arith }
 
 turns_at-lowers : (o : Option Peer) (change : Peer → Peer) (m : Machine) → IsOrderly m → Lowers 0 m (turns_at o change m).machine
 turns_at-lowers None change m h = lowers_nothing m h
@@ -124,12 +112,8 @@ lost-lowers f m h = cond_both (is_missed f) (peer_fails f.addr m) (nothing_more 
     (λ missed. turns_at-lowers (peer_at f.addr m) (failed_peer m.now m.settings.backoff) m h) (λ other. lowers_nothing m h)
 
 lost_by-lowers : (cause : CloseCause) (f : Facts) (m : Machine) → IsOrderly m → Lowers 0 m (lost_by cause f m).machine
-lost_by-lowers Unused f m h = lost-lowers f m h
-lost_by-lowers Pruned f m h = lost-lowers f m h
 lost_by-lowers Overwritten f m h = lowers_nothing m h
-lost_by-lowers Refused f m h = lost-lowers f m h
-lost_by-lowers Query f m h = lost-lowers f m h
-lost_by-lowers (Fault kind) f m h = lost-lowers f m h
+lost_by-lowers other f m h = lost-lowers f m h
 
 pub ending-lowers : (cause : CloseCause) (m : Machine) (e : Entry) (k : ℕ) → IsOrderly m → StandsAt m.connections k e →
     Lowers (late_of m.now e) m (ending cause e m).machine
@@ -139,15 +123,6 @@ ending-lowers cause m e k h s =
     let after : Lowers 0 n (lost_by cause e.facts n).machine = lost_by-lowers cause e.facts n goes.orderly in
     lowers_less (late_of m.now e) (late_of m.now e + 0) m (lost_by cause e.facts n).machine (omega arith)
     (lowers_then (late_of m.now e) 0 m n (lost_by cause e.facts n).machine goes after)
-
-pub vanishes-lowers : (m : Machine) (e : Entry) (k : ℕ) → IsOrderly m → StandsAt m.connections k e →
-    Lowers 0 m (vanishes e m).machine
-vanishes-lowers m e k h s =
-    let n : Machine = without_entry e.facts.cid.0 m in
-    let goes : Lowers (late_of m.now e) m n = goes-lowers m e k h s in
-    let after : Lowers 0 n (lost e.facts n).machine = lost-lowers e.facts n goes.orderly in
-    lowers_less 0 (late_of m.now e + 0) m (lost e.facts n).machine (omega arith)
-    (lowers_then (late_of m.now e) 0 m n (lost e.facts n).machine goes after)
 
 expired-turns : (e : Entry) → TurnsInto e (record e { facts = expired e.facts })
 expired-turns e = record { same_id = refl; same_addr = refl; live = λ live. live }

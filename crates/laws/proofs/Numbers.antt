@@ -7,7 +7,7 @@ use Rattle.accept_gate.specs.Prune.{choice_of}
 use Rattle.conn_state.specs.Use.{is_live}
 use Rattle.net_base.specs.Peer.{failed_peer}
 use Rattle.net_base.specs.declared.action.CloseCause.{CloseCause}
-use Rattle.net_base.specs.declared.action.CloseCause.TheVariants.{Unused, Pruned, Overwritten, Refused, Query, Fault}
+use Rattle.net_base.specs.declared.action.CloseCause.TheVariants.{Pruned, Overwritten}
 use Rattle.net_base.specs.declared.address.Addr.{Addr}
 use Rattle.net_base.specs.declared.connection.Cid.{Cid}
 use Rattle.net_base.specs.declared.connection.Facts.{Facts}
@@ -25,6 +25,7 @@ use Rattle.laws.proofs.Keeping.{note-machine}
 use Rattle.laws.proofs.PeersApart.{with_peer-apart}
 use Rattle.laws.proofs.Spending.{AreSameBut, with_peer-same_but}
 use Rattle.laws.proofs.Ties.{found-addr}
+use Rattle.laws.proofs.Cases.{by_option}
 
 -- ---- the numbers that are given next
 
@@ -83,7 +84,6 @@ pub connections-gives : (connections : List Entry) (m : Machine) → Gives 0 m (
 connections-gives connections m = record { numbers = unchanged refl; groups = refl; apart = λ h. h; fewer = λ h test. omega arith }
 
 same_but-number : (test : Addr → Bool → Bool) (addr : Addr) (ps qs : List Peer) → AreSameBut addr ps qs → number_of test qs ≡ number_of test ps
-unfolding AreSameBut
 same_but-number test addr [] [] h = refl
 same_but-number test addr [] (q ∷ qs) h = elim h [ ]
 same_but-number test addr (p ∷ ps) [] h = elim h [ ]
@@ -98,21 +98,19 @@ same_but-number test addr (p ∷ ps) (q ∷ qs) h =
 -- a change that keeps addresses and classes
 pub changes-gives : (addr : Addr) (change : Peer → Peer) (m : Machine) → ((p : Peer) → (change p).addr ≡ p.addr) → ((p : Peer) → (change p).big ≡ p.big) →
     Gives 0 m (peer_changes addr change m).machine
-changes-gives addr change m same class = by_peer (peer_at addr m) refl
-  where
-    by_peer : (o : Option Peer) → peer_at addr m ≡ o → Gives 0 m (turns_at o change m).machine
-    by_peer None is = gives_nothing m
-    by_peer (Some p) is =
-        let new : Peer = change p in
-        let found : peer_in new.addr m.peers ≡ Some p = subst (λ a. peer_in a m.peers ≡ Some p) (sym (same p ∙ found-addr addr m.peers p is)) is in
-        record {
-          numbers = unchanged refl;
-          groups = refl;
-          apart = λ h. with_peer-apart new m.peers h;
-          fewer = λ h test.
-              let same_number = same_but-number test new.addr m.peers (with_peer_in new m.peers) (with_peer-same_but new p m.peers h found (class p)) in
-              omega (arith, same_number);
-        }
+changes-gives addr change m same class = by_option (peer_at addr m) (λ o. Gives 0 m (turns_at o change m).machine)
+    (λ is. gives_nothing m)
+    (λ p is.
+    let new : Peer = change p in
+    let found : peer_in new.addr m.peers ≡ Some p = subst (λ a. peer_in a m.peers ≡ Some p) (sym (same p ∙ found-addr addr m.peers p is)) is in
+    record {
+      numbers = unchanged refl;
+      groups = refl;
+      apart = λ h. with_peer-apart new m.peers h;
+      fewer = λ h test.
+          let same_number = same_but-number test new.addr m.peers (with_peer_in new m.peers) (with_peer-same_but new p m.peers h found (class p)) in
+          omega (arith, same_number);
+    })
 
 -- ---- a connection goes
 
@@ -121,12 +119,8 @@ lost-gives f m = cond_both (is_missed f) (peer_fails f.addr m) (nothing_more m) 
     (λ missed. changes-gives f.addr (failed_peer m.now m.settings.backoff) m (λ p. refl) (λ p. refl)) (λ other. gives_nothing m)
 
 lost_by-gives : (cause : CloseCause) (f : Facts) (m : Machine) → Gives 0 m (lost_by cause f m).machine
-lost_by-gives Unused f m = lost-gives f m
-lost_by-gives Pruned f m = lost-gives f m
 lost_by-gives Overwritten f m = gives_nothing m
-lost_by-gives Refused f m = lost-gives f m
-lost_by-gives Query f m = lost-gives f m
-lost_by-gives (Fault kind) f m = lost-gives f m
+lost_by-gives other f m = lost-gives f m
 
 ending-gives : (cause : CloseCause) (e : Entry) (m : Machine) → Gives 0 m (ending cause e m).machine
 ending-gives cause e m =

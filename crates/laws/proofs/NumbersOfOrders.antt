@@ -1,5 +1,5 @@
 -- How many ids the governor's orders give out: each promotion one at most.
-use Rattle.std.proofs.Common.{ℕ, ◌+◌, ◌≤◌, ◌≡◌, Bool, true, false, cond, not, List, [], ◌∷◌, length, map, filter, find, count_by, Option, Some, None, refl, sym, subst, arith}
+use Rattle.std.proofs.Common.{ℕ, ◌+◌, ◌≤◌, ◌≡◌, Bool, cond, not, List, [], ◌∷◌, length, map, filter, find, count_by, refl, sym, subst, arith}
 use Rattle.std.proofs.lemmas.Bool.{cond_both}
 use Rattle.std.proofs.lemmas.List.Sums.{sum_by-cons}
 use Rattle.conn_state.specs.Moves.{released, acquired}
@@ -16,9 +16,10 @@ use Rattle.machine.specs.Peers.{peer_becomes, peer_was_asked, peer_goes}
 use Rattle.machine.specs.Connections.{with_entry, trim, acquire, release, dial}
 use Rattle.machine.specs.Govern.{promoted_at, promote, is_used_at, on_used, asks_peer, activates, deactivates, carries_out}
 use Rattle.machine.specs.Replies.{owing}
-use Rattle.laws.proofs.Orders.{says_done-machine}
+use Rattle.laws.proofs.Walk.{says_done-machine}
 use Rattle.laws.proofs.PeersApart.{filter-apart}
 use Rattle.laws.proofs.Numbers.{Gives, changes-gives, connections-gives, gives_more, gives_nothing, gives_then, is_used-gives, numbers_of, on_entry-gives, one_more, trim-gives, unchanged}
+use Rattle.laws.proofs.Cases.{by_bool, by_option}
 
 -- ---- the governor's orders
 
@@ -47,13 +48,11 @@ asks_peer-gives number e m =
 
 count-filter : (p q : Peer → Bool) (ps : List Peer) → count_by p (filter q ps) ≤ count_by p ps
 count-filter p q [] = omega arith
-count-filter p q (x ∷ ps) = by_test (q x) (count-filter p q ps) (sum_by-cons (λ y. cond {A = ℕ} (p y) 1 0) x ps) (sum_by-cons (λ y. cond {A = ℕ} (p y) 1 0) x (filter q ps))
-  where
-    by_test : (b : Bool) → count_by p (filter q ps) ≤ count_by p ps → count_by p (x ∷ ps) ≡ cond {A = ℕ} (p x) 1 0 + count_by p ps →
-        count_by p (x ∷ filter q ps) ≡ cond {A = ℕ} (p x) 1 0 + count_by p (filter q ps) →
-        count_by p (cond b (x ∷ filter q ps) (filter q ps)) ≤ count_by p (x ∷ ps)
-    by_test true rest before after = omega (arith, rest, before, after)
-    by_test false rest before after = omega (arith, rest, before)
+count-filter p q (x ∷ ps) = by_bool (q x)
+    (λ b. count_by p (filter q ps) ≤ count_by p ps → count_by p (x ∷ ps) ≡ cond {A = ℕ} (p x) 1 0 + count_by p ps →
+    count_by p (x ∷ filter q ps) ≡ cond {A = ℕ} (p x) 1 0 + count_by p (filter q ps) →
+    count_by p (cond b (x ∷ filter q ps) (filter q ps)) ≤ count_by p (x ∷ ps))
+    (λ is rest before after. omega (arith, rest, before, after)) (λ is rest before after. omega (arith, rest, before)) (count-filter p q ps) (sum_by-cons (λ y. cond {A = ℕ} (p y) 1 0) x ps) (sum_by-cons (λ y. cond {A = ℕ} (p y) 1 0) x (filter q ps))
 
 pub peer_goes-gives : (addr : Addr) (m : Machine) → Gives 0 m (peer_goes addr m).machine
 peer_goes-gives addr m =
@@ -74,12 +73,10 @@ dial-gives : (addr : Addr) (m : Machine) → Gives 1 m (dial addr m).machine
 dial-gives addr m = record { numbers = one_more (numbers_of m); groups = refl; apart = λ h. h; fewer = λ h test. omega arith }
 
 promote-gives : (addr : Addr) (m : Machine) → Gives 1 m (promote addr m).machine
-promote-gives addr m = by_live (live_entry_at addr m)
-  where
-    by_live : (o : Option Entry) → Gives 1 m (promoted_at o addr m).machine
-    by_live None = dial-gives addr m
-    by_live (Some e) = cond_both (is_acquirable e.facts) (acquire e m) (dial addr m) (λ effect. Gives 1 m effect.machine)
-        (λ free. gives_more 0 1 m (acquire e m).machine (omega arith) (is_used-gives (acquired e.facts) e m)) (λ other. dial-gives addr m)
+promote-gives addr m = by_option (live_entry_at addr m) (λ o. Gives 1 m (promoted_at o addr m).machine)
+    (λ is. dial-gives addr m)
+    (λ e is. cond_both (is_acquirable e.facts) (acquire e m) (dial addr m) (λ effect. Gives 1 m effect.machine)
+    (λ free. gives_more 0 1 m (acquire e m).machine (omega arith) (is_used-gives (acquired e.facts) e m)) (λ other. dial-gives addr m))
 
 -- ---- many orders
 

@@ -1,5 +1,5 @@
 -- Distinct addresses of the book are no more than its peers, and so no more are picked in all.
-use Rattle.std.proofs.Common.{ℕ, ◌+◌, ◌≤◌, ◌≡◌, Bool, true, false, cond, not, ◌&&◌, List, [], ◌∷◌, length, filter, Some, refl, ap, ◌∙◌, arith}
+use Rattle.std.proofs.Common.{ℕ, ◌+◌, ◌≤◌, ◌≡◌, Bool, true, false, cond, not, ◌&&◌, List, [], ◌∷◌, length, filter, Some, ap, ◌∙◌, arith}
 use Rattle.std.specs.List.{AllByRecursion}
 use Rattle.std.proofs.lemmas.Bool.{and_from, and_right}
 use Rattle.std.proofs.lemmas.List.Sums.{sum_by-cons}
@@ -16,6 +16,7 @@ use Rattle.laws.proofs.PeersApart.{all-found}
 use Rattle.laws.proofs.Picks.{filter-all, filter-passing, picks-all}
 use Rattle.laws.proofs.Ties.{found-addr}
 use Rattle.laws.proofs.Numbers.{number_of}
+use Rattle.laws.proofs.Cases.{by_bool}
 
 -- ---- distinct addresses, each found in the book, are no more than peers
 
@@ -45,22 +46,21 @@ except-one_less addr test ps h = along ps h.found
   where
     along : (qs : List Peer) → peer_in addr qs ≡ Some h.peer → number_of (except addr test) qs + 1 ≤ number_of test qs
     along [] found = absurd cc
-    along (q ∷ qs) found = by_test (same_address q.addr addr) refl found (along qs)
+    along (q ∷ qs) found = by_bool (same_address q.addr addr)
+        (λ b. cond b (Some q) (peer_in addr qs) ≡ Some h.peer →
+        (peer_in addr qs ≡ Some h.peer → number_of (except addr test) qs + 1 ≤ number_of test qs) →
+        number_of test (q ∷ qs) ≡ cond {A = ℕ} (test q.addr q.big) 1 0 + number_of test qs →
+        number_of (except addr test) (q ∷ qs) ≡ cond {A = ℕ} (except addr test q.addr q.big) 1 0 + number_of (except addr test) qs →
+        number_of (except addr test) (q ∷ qs) + 1 ≤ number_of test (q ∷ qs))
+        (λ is found later before after.
+        let same : q ≡ h.peer = cc in
+        let one : cond {A = ℕ} (test q.addr q.big) 1 0 ≡ 1 = ap (λ b. cond {A = ℕ} b 1 0) (ap (λ x. test x.addr x.big) same ∙ h.passes) in
+        let none : cond {A = ℕ} (except addr test q.addr q.big) 1 0 ≡ 0 =
+        ap (λ b. cond {A = ℕ} b 1 0) (and_right (test q.addr q.big) (not (same_address q.addr addr)) (ap not is)) in
+        omega (arith, one, none, except-less addr test qs, before, after))
+        (λ is found later before after.
+        omega (arith, and-less (test q.addr q.big) (not (same_address q.addr addr)), later found, before, after)) found (along qs)
         (sum_by-cons (λ x. cond {A = ℕ} (test x.addr x.big) 1 0) q qs) (sum_by-cons (λ x. cond {A = ℕ} (except addr test x.addr x.big) 1 0) q qs)
-      where
-        by_test : (b : Bool) → same_address q.addr addr ≡ b → cond b (Some q) (peer_in addr qs) ≡ Some h.peer →
-            (peer_in addr qs ≡ Some h.peer → number_of (except addr test) qs + 1 ≤ number_of test qs) →
-            number_of test (q ∷ qs) ≡ cond {A = ℕ} (test q.addr q.big) 1 0 + number_of test qs →
-            number_of (except addr test) (q ∷ qs) ≡ cond {A = ℕ} (except addr test q.addr q.big) 1 0 + number_of (except addr test) qs →
-            number_of (except addr test) (q ∷ qs) + 1 ≤ number_of test (q ∷ qs)
-        by_test true is found later before after =
-            let same : q ≡ h.peer = cc in
-            let one : cond {A = ℕ} (test q.addr q.big) 1 0 ≡ 1 = ap (λ b. cond {A = ℕ} b 1 0) (ap (λ x. test x.addr x.big) same ∙ h.passes) in
-            let none : cond {A = ℕ} (except addr test q.addr q.big) 1 0 ≡ 0 =
-            ap (λ b. cond {A = ℕ} b 1 0) (and_right (test q.addr q.big) (not (same_address q.addr addr)) (ap not is)) in
-            omega (arith, one, none, except-less addr test qs, before, after)
-        by_test false is found later before after =
-            omega (arith, and-less (test q.addr q.big) (not (same_address q.addr addr)), later found, before, after)
 
 pub distinct-number : (test : Addr → Bool → Bool) (addrs : List Addr) (ps : List Peer) → AreApart addrs → AllByRecursion (IsFoundWith test ps) addrs →
     length addrs ≤ number_of test ps

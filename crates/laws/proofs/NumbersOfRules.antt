@@ -24,7 +24,7 @@ use Rattle.machine.specs.Effect.{Effect, nothing_more, tells, then_do, for_each}
 use Rattle.machine.specs.Connections.{release}
 use Rattle.machine.specs.Govern.{link_of, view_of, asks_peer, activates, deactivates, carries_out, ordinary_rules, big_rules, rules, govern}
 use Rattle.laws.specs.Steady.{IsFormed, GivesFew, ArePeersApart, AreApart}
-use Rattle.laws.proofs.Chosen.{chosen, chosen-apart, chosen-all, PicksMembers, picks-listed, groups_picks-apart, groups_picks-all, map-groups}
+use Rattle.laws.proofs.Chosen.{chosen, chosen-apart, PicksMembers, picks-listed, groups_picks-apart, groups_picks-all, map-groups, group_picks}
 use Rattle.laws.proofs.Lists.{all-both}
 use Rattle.laws.proofs.Ties.{found-addr}
 use Rattle.laws.proofs.Locals.{not_local-no_member}
@@ -102,11 +102,7 @@ g4-rule start word peers members given m h =
     pick g = chosen false word (number g) (is_member_and g eligible) m.peers
 
     picks : PicksMembers pick
-    picks = record {
-      apart = λ g. chosen-apart false word (number g) (is_member_and g eligible) m.peers here;
-      members = λ g. chosen-all (λ a. is_listed a g.members ≡ true) false word (number g) (is_member_and g eligible) m.peers here
-          (λ p passes found. (and_parts (is_listed p.addr g.members) (eligible p) passes).0);
-    }
+    picks = group_picks word number eligible m.peers here
 
 -- a rule by the targets
 class-rule : (start : Machine) (kind : Addr → Bool → Bool) (big : Bool) (word number : ℕ) (test : Peer → Bool) (given : ℕ) (m : Machine) →
@@ -206,7 +202,7 @@ big-give start word peers =
     (rule_then start _ _ _ _ (still-rule start _ (λ m. still-gives Deactivate deactivate-still _ m)) (no_rules start)))))
 
 -- from a record on in which all other rules start
-rules-give : (word : ℕ) (m : Machine) → ArePeersApart m.peers → AreApart (members_of m.groups) →
+pub rules-give : (word : ℕ) (m : Machine) → ArePeersApart m.peers → AreApart (members_of m.groups) →
     Gains (length m.peers) (numbers_of m) (numbers_of (for_each rules (big_rules word) (for_each rules (ordinary_rules word) m).machine).machine)
 unfolding DoesGive
 rules-give word m peers members =
@@ -217,13 +213,12 @@ rules-give word m peers members =
 
 -- each peer is dialed once at most, and the provider asked once
 pub govern-few : (word : ℕ) (m : Machine) → IsFormed m → GivesFew m (govern word m).machine
-govern-few word m h = cond_both (may_ask m.now m.targets.root m.roots)
+govern-few word m h =
+    let asking : Machine = record m { roots = asked m.roots } in
+    cond_both (may_ask m.now m.targets.root m.roots)
     (tells (AskRoots (record { 0 = m.roots.next_job }) ∷ []) asking) (nothing_more m)
     (λ first. GivesFew m (then_do first (λ n. then_do (for_each rules (ordinary_rules word) n) (for_each rules (big_rules word)))).machine)
     (λ too_few. let rest = rules-give word asking h.peers h.groups in
     record { ids = omega (arith, rest.id, h.room); jobs = omega (arith, rest.job) })
     (λ enough. let rest = rules-give word m h.peers h.groups in
     record { ids = omega (arith, rest.id, h.room); jobs = omega (arith, rest.job) })
-  where
-    asking : Machine
-    asking = record m { roots = asked m.roots }

@@ -11,7 +11,7 @@ use Rattle.mux_segment.specs.declared.item.Item.{Item}
 use Rattle.net_base.specs.declared.action.FaultKind.{FaultKind}
 use Rattle.net_base.specs.declared.connection.Cid.{Cid}
 use Rattle.net_base.specs.declared.connection.Phase.{Phase}
-use Rattle.net_base.specs.declared.connection.Phase.TheVariants.{Dialing, Greeting, Negotiated, Closing}
+use Rattle.net_base.specs.declared.connection.Phase.TheVariants.{Greeting, Negotiated}
 use Rattle.remote_watch.specs.Watch.{watched}
 use Rattle.remote_watch.specs.declared.seen.Seen.{Seen}
 use Rattle.machine.specs.Connections.{with_entry}
@@ -25,7 +25,9 @@ use Rattle.laws.specs.Acts.{handles_item}
 use Rattle.laws.specs.Untouched.{IsAsItWas}
 use Rattle.laws.specs.Steady.{IsOrdered}
 use Rattle.laws.proofs.Remains.{turned-found}
-use Rattle.laws.proofs.Turned.{taken, turned_by_verdict, turned_by_message, begun, stopped, turned_by_request, turned_by_item, part-becomes}
+use Rattle.laws.proofs.Walk.{taken}
+use Rattle.laws.proofs.Turned.{turned_by_verdict, turned_by_message, begun, stopped, turned_by_request, turned_by_item, part-becomes}
+use Rattle.laws.proofs.Cases.{by_bool, by_option}
 
 -- whoever has the id there stands open
 abbrev pub IsOpen : ℕ → Machine → Type 0
@@ -37,12 +39,9 @@ turned-open new m live x found = ap (λ y. is_live y.facts) (turned-found new x 
 verdict-live : (v : Verdict) (e x : Entry) (m : Machine) → turned_by_verdict v e m ≡ Some x → is_live x.facts ≡ true
 verdict-live (verdict.Accept agreed) e x m is =
     let it : record e { facts = agreed_inbound agreed (m.now + m.settings.idle) e.facts } ≡ x = cc in ap (λ y. is_live y.facts) (sym it)
-verdict-live (verdict.Refuse why) e x m is = absurd cc
-verdict-live verdict.Query e x m is = absurd cc
 verdict-live (verdict.Agree agreed) e x m is =
     let it : taken (agreed_outbound agreed (m.now + m.settings.idle) e.facts) e m ≡ x = cc in ap (λ y. is_live y.facts) (sym it)
-verdict-live verdict.Refused e x m is = absurd cc
-verdict-live verdict.Wrong e x m is = absurd cc
+verdict-live other e x m is = absurd cc
 
 message-live : (o : Option Message) (e x : Entry) (m : Machine) → turned_by_message o e m ≡ Some x → is_live x.facts ≡ true
 message-live None e x m is = absurd cc
@@ -65,19 +64,15 @@ requested-live (Ok seen) protocol e x m live is =
     ap (λ y. is_live y.facts) (sym it) ∙ (served-live seen.done protocol (m.now + m.settings.idle) e ∙ live)
 
 item-live : (p : Phase) (item : Item) (e x : Entry) (m : Machine) → is_live e.facts ≡ true → turned_by_item p item e m ≡ Some x → is_live x.facts ≡ true
-item-live Dialing item e x m live is = let it : e ≡ x = cc in ap (λ y. is_live y.facts) (sym it) ∙ live
 item-live (Greeting until) item e x m live is = message-live (message_of item.body) e x m is
-item-live Negotiated item e x m live is = by_side (item.side == 0) is
-  where
-    by_side : (b : Bool) → (if b then turned_by_request (watched item.id (agreed_sharing e.facts.agreed) item.body) item.id e m else Some (paid item.id e)) ≡ Some x → is_live x.facts ≡ true
-    by_side true same = requested-live (watched item.id (agreed_sharing e.facts.agreed) item.body) item.id e x m live same
-    by_side false same = let it : paid item.id e ≡ x = cc in ap (λ y. is_live y.facts) (sym it) ∙ live
-item-live (Closing until) item e x m live is = let it : e ≡ x = cc in ap (λ y. is_live y.facts) (sym it) ∙ live
+item-live Negotiated item e x m live is = by_bool (item.side == 0)
+    (λ b. (if b then turned_by_request (watched item.id (agreed_sharing e.facts.agreed) item.body) item.id e m else Some (paid item.id e)) ≡ Some x → is_live x.facts ≡ true)
+    (λ is same. requested-live (watched item.id (agreed_sharing e.facts.agreed) item.body) item.id e x m live same)
+    (λ is same. let it : paid item.id e ≡ x = cc in ap (λ y. is_live y.facts) (sym it) ∙ live) is
+item-live other item e x m live is = let it : e ≡ x = cc in ap (λ y. is_live y.facts) (sym it) ∙ live
 
 pub handles-open : (cid : Cid) (item : Item) (m : Machine) → IsOrdered m → IsOpen cid.0 m → IsOpen cid.0 (handles cid item m).machine
-handles-open cid item m h open_ x found = by_entry (entry_at cid.0 m) refl
-  where
-    by_entry : (o : Option Entry) → entry_at cid.0 m ≡ o → is_live x.facts ≡ true
-    by_entry None is = open_ x (subst (λ o. entry_at cid.0 (on_entry o (handled item) m).machine ≡ Some x) is found)
-    by_entry (Some e) is = item-live e.facts.phase item e x m (open_ e is)
-        (subst (IsAsItWas (turned_by_item e.facts.phase item e m)) found (part-becomes (handles_item cid item) m h cid.0 e (eq-eqb cid.0 cid.0 refl) is))
+handles-open cid item m h open_ x found = by_option (entry_at cid.0 m) (λ o. is_live x.facts ≡ true)
+    (λ is. open_ x (subst (λ o. entry_at cid.0 (on_entry o (handled item) m).machine ≡ Some x) is found))
+    (λ e is. item-live e.facts.phase item e x m (open_ e is)
+    (subst (IsAsItWas (turned_by_item e.facts.phase item e m)) found (part-becomes (handles_item cid item) m h cid.0 e (eq-eqb cid.0 cid.0 refl) is)))

@@ -1,7 +1,7 @@
 -- Each order of the governor is due: whom a rule picks is one that it may be for, and it picks as many as are too few or too many.
-use Rattle.std.proofs.Common.{ℕ, ◌+◌, ◌-◌, ◌≤◌, ◌<◌, ◌≡◌, Bool, true, false, cond, not, ◌&&◌, ◌||◌, nat_le, nat_lt, min, if◌then◌else◌, List, [], ◌∷◌, ◌++◌, length, map, filter, flat_map, count_by, Option, Some, None, refl, sym, ap, ◌∙◌, subst, arith, leb-true}
+use Rattle.std.proofs.Common.{ℕ, ◌+◌, ◌-◌, ◌≤◌, ◌<◌, ◌≡◌, Bool, true, false, cond, not, ◌&&◌, ◌||◌, nat_le, nat_lt, min, if◌then◌else◌, List, [], ◌∷◌, ◌++◌, length, map, filter, flat_map, count_by, Option, Some, refl, sym, ap, ◌∙◌, subst, arith, leb-true, find, is_some, None}
 use Rattle.std.specs.List.{AllByRecursion}
-use Rattle.std.proofs.lemmas.Bool.{both_ways, and_parts, not-true, false≢true}
+use Rattle.std.proofs.lemmas.Bool.{both_ways, and_parts, not-true, false≢true, or_parts}
 use Rattle.std.proofs.lemmas.List.Elements.{All-from_recursion}
 use Rattle.std.proofs.lemmas.List.Sums.{sum_by-cons, sum_by-append, count_by-le-length}
 use Rattle.net_base.specs.Address.{same_address}
@@ -10,11 +10,11 @@ use Rattle.net_base.specs.declared.event.Group.{Group}
 use Rattle.net_base.specs.declared.peer.Peer.{Peer}
 use Rattle.net_base.specs.declared.peer.Temp.TheVariants.{Cold, Warm, Hot}
 use Rattle.churn_clock.specs.Windows.{effective_of, effective_big_of}
-use Rattle.conn_state.specs.Use.{is_acquirable, is_pending}
+use Rattle.conn_state.specs.Use.{is_acquirable, is_pending, is_live, is_live_at}
 use Rattle.govern_rules.specs.BigRules.{everybody, big_orders}
 use Rattle.govern_rules.specs.Candidates.{may_be_asked, is_eligible, may_be_forgotten, may_be_released, may_be_activated, may_be_deactivated}
 use Rattle.govern_rules.specs.ClassRules.{count_of}
-use Rattle.govern_rules.specs.Links.{is_linked, is_pending as is_pending_link, is_acquirable as is_acquirable_link, owes_on_2, owes_on_10, owes_a_reply, can_share}
+use Rattle.govern_rules.specs.Links.{is_linked, is_pending as is_pending_link, is_acquirable as is_acquirable_link, owes_on_2, owes_on_10, owes_a_reply, can_share, some_link}
 use Rattle.govern_rules.specs.Orders.{orders_for}
 use Rattle.govern_rules.specs.Rules.{is_not_local, may_be_dropped, is_member_and, members_count, missing_of, g2_orders, g3_orders, g4_orders, g5_orders, g6_orders, g7_orders, g8_orders, g9_orders}
 use Rattle.govern_rules.specs.declared.big_rule.BigRule.TheVariants.{B3, B5, B6, B8, B9}
@@ -24,59 +24,84 @@ use Rattle.govern_rules.specs.declared.order.Order.TheVariants.{Ask, Forget, Pro
 use Rattle.peer_book.specs.Book.{is_of, is_established, same_temp, known_of, established_of, active_of}
 use Rattle.pick_policy.proofs.LeastLaws.{count_none}
 use Rattle.root_groups.specs.Cleaned.{is_listed}
-use Rattle.machine.specs.Effect.{for_each}
-use Rattle.machine.specs.Govern.{link_of, view_of, carries_out, ordinary_rules, big_rules}
-use Rattle.machine.specs.Machine.{Machine}
+use Rattle.machine.specs.Effect.{for_each, Effect, Move}
+use Rattle.machine.specs.Govern.{link_of, view_of, carries_out, ordinary_rules, big_rules, is_used_at}
+use Rattle.machine.specs.Machine.{Machine, Entry, counted_in, live_entry_at}
 use Rattle.machine.specs.Peers.{peer_at}
-use Rattle.laws.specs.Acts.{carries}
-use Rattle.laws.specs.AtMoves.{some_connection, number_with, members_with, known_wanted, established_wanted, active_wanted}
+use Rattle.laws.specs.AtMoves.{some_connection, number_with, members_with, known_wanted, established_wanted, active_wanted, IsLawful, IsReady}
 use Rattle.laws.specs.CarriedOut.{IsUnset}
 use Rattle.laws.specs.Laws.{is_local}
 use Rattle.laws.specs.Ordered.{is_any, is_to_answer, is_to_tell, is_awaited, can_tell, tells_soon, is_hot, MayBeForgotten, MayBeReleased, MayBeDeactivated, MayBePromoted, MayBeActivated, MayBeAsked, IsOne, IsDueOrder}
 use Rattle.laws.specs.Steady.{ArePeersApart, AreApart, IsOrdered}
-use Rattle.laws.proofs.Chosen.{chosen, chosen-apart, PicksMembers, picks-listed, groups_picks-apart, groups_picks-all, map-groups}
+use Rattle.laws.proofs.Chosen.{chosen, chosen-apart, PicksMembers, picks-listed, groups_picks-apart, groups_picks-all, map-groups, group_picks}
 use Rattle.laws.proofs.Addresses.{same_address-true}
 use Rattle.laws.proofs.Falls.{ChangesAt-back, changes-apart, changes-found, changes-known, taken-count, ask-changes, deactivate-changes, LeavesOthers, release-leaves, leaves-found, leaves-apart, leaves-back}
 use Rattle.laws.proofs.GroupsApart.{append-apart}
 use Rattle.laws.proofs.Lists.{all-weaker, all-both, all-appended}
 use Rattle.laws.proofs.Locals.{not_local-no_member}
-use Rattle.laws.proofs.Orders.{EachAccounted, still_may}
+use Rattle.laws.proofs.Orders.{EachAccounted, still_may, Carries, Followed, nothing-followed, first-followed, ask-carried, IsCold, IsIdle, forget-carried, release-carried, activate-carried, deactivate-carried}
 use Rattle.laws.proofs.PeersApart.{all-found}
 use Rattle.laws.proofs.Picks.{filter-all, filter-passing, picks-all}
 use Rattle.laws.proofs.Spending.{ChangesAt, IsLocalTest, counted-one, number-one, members-one, members-none, promote-changes, activate-changes}
 use Rattle.laws.proofs.Ties.{taken-elsewhere}
 use Rattle.laws.proofs.ToldMoves.{is_temp}
-use Rattle.laws.proofs.Wanted.{linked, of-class, picks-most, own_picks, none_in-each, hot-active}
-use Rattle.laws.proofs.WaitsOfParts.{is-set}
+use Rattle.laws.proofs.Wanted.{linked, of-class, picks-most, own_picks, none_in-each, hot-active, promotes-within, activates-within, groups_promotes-within, groups_activates-within, one-of}
+use Rattle.laws.proofs.WaitsOfParts.{order-unset}
+use Rattle.laws.proofs.Cases.{by_bool, by_option}
+use Rattle.laws.proofs.Promotions.{MayBy, promotes-carried, free-may}
+use Rattle.laws.proofs.Sharing.{shares-may}
+use Rattle.laws.proofs.Trims.{Trimmed, trimmed_both, trimmed-within}
+use Rattle.laws.proofs.Lawful.{IsAllowed, Within, allowed_within}
+use Rattle.laws.specs.OrderNeeds.{IsFree}
+use Rattle.laws.proofs.WholeMoves.{IsWarm}
+use Rattle.machine.specs.Replies.{reply_on}
 
 -- ---- one order after the other
 
-pub EachDue : List Order → Machine → Type 0
+abbrev pub EachDue : List Order → Machine → Type 0
 EachDue [] m = Unit {0}
 EachDue (order ∷ orders) m = IsDueOrder order m × EachDue orders (carries_out order m).machine
 
 -- whom an order may be for, and what is left for the orders that are still to come
-record Spends (May : Machine → Addr → Type 0) (Left : List Addr → Machine → Type 0) (order : Addr → Order) : Type 0 where
+record Spends (Law : Move → Type 0) (May : Machine → Addr → Type 0) (Left : List Addr → Machine → Type 0) (order : Addr → Order) : Type 0 where
+  carried : Carries Law May order
   due : (a : Addr) (addrs : List Addr) (m : Machine) → May m a → Left (a ∷ addrs) m → IsDueOrder (order a) m
   others : (a b : Addr) (m : Machine) → IsOrdered m → May m a → same_address b a ≡ false → May m b → May (carries_out (order a) m).machine b
   left : (a : Addr) (addrs : List Addr) (m : Machine) → IsOrdered m → May m a → Left (a ∷ addrs) m → Left addrs (carries_out (order a) m).machine
 
-each-due : (May : Machine → Addr → Type 0) (Left : List Addr → Machine → Type 0) (order : Addr → Order) → Spends May Left order → (addrs : List Addr) (m : Machine) →
-    EachAccounted (map order addrs) m → AreApart addrs → AllByRecursion (May m) addrs → Left addrs m → EachDue (map order addrs) m
-unfolding EachDue
-each-due May Left order s [] m h apart may left = tt
-each-due May Left order s (a ∷ addrs) m h apart may left =
-    let n : Machine = (carries_out (order a) m).machine in
-    let ordered : IsOrdered m = h.0.ordered in (
-      s.due a addrs m may.0 left,
-      each-due May Left order s addrs n h.1 apart.1
-          (still_may May m n a addrs (λ b other here. s.others a b m ordered may.0 other here) apart.0 may.1) (s.left a addrs m ordered may.0 left),
-    )
+-- orders are carried out one after the other, each where it is due
+pub record Done (Law : Move → Type 0) (orders : List Order) (m : Machine) : Type 0 where
+  pub followed : Followed Law orders m
+  pub due : EachDue orders m
+
+each-done : (Law : Move → Type 0) (May : Machine → Addr → Type 0) (Left : List Addr → Machine → Type 0) (order : Addr → Order) → Spends Law May Left order →
+    (addrs : List Addr) (m : Machine) → IsOrdered m → counted_in m ≤ m.settings.hard → AreApart addrs → AllByRecursion (May m) addrs → Left addrs m →
+    Done Law (map order addrs) m
+each-done Law May Left order s [] m h within apart may left = record { followed = nothing-followed Law m h within; due = tt }
+each-done Law May Left order s (a ∷ addrs) m h within apart may left =
+    let effect : Effect = carries_out (order a) m in
+    let first : Trimmed Law m effect = s.carried a m h within may.0 in
+    let rest : Done Law (map order addrs) effect.machine =
+    each-done Law May Left order s addrs effect.machine first.ordered (trimmed-within Law m effect first) apart.1
+    (still_may May m effect.machine a addrs (λ b other here. s.others a b m h may.0 other here) apart.0 may.1) (s.left a addrs m h may.0 left) in
+    record { followed = first-followed Law (order a) (map order addrs) m h first rest.followed; due = (s.due a addrs m may.0 left, rest.due) }
+
+-- ---- what the links say
+
+-- where no link of an address passes a test, none of its connections does
+unlinked : (test : Link → Bool) (addr : Addr) (q : Entry → Bool) → ((x : Entry) → q x ≡ true → same_address x.facts.addr addr ≡ true) →
+    (es : List Entry) (e : Entry) → some_link test (map link_of es) addr ≡ false → find q es ≡ Some e → test (link_of e) ≡ false
+unlinked test addr q at [] e none found = absurd cc
+unlinked test addr q at (x ∷ es) e none found =
+    let parts = or_parts (same_address x.facts.addr addr && test (link_of x)) (some_link test (map link_of es) addr) none in
+    by_bool (q x)
+    (λ b. cond b (Some x) (find q es) ≡ Some e → (same_address x.facts.addr addr && test (link_of x)) ≡ false → (find q es ≡ Some e → test (link_of e) ≡ false) → test (link_of e) ≡ false)
+    (λ is found fails later.
+    let same : x ≡ e = cc in
+    subst (λ y. test (link_of y) ≡ false) same (subst (λ b. (b && test (link_of x)) ≡ false) (at x is) fails))
+    (λ is found fails later. later found) found parts.0 (unlinked test addr q at es e parts.1)
 
 -- ---- what no order sets
-
-unset-by : (order : Order) (m : Machine) → IsOrdered m → IsUnset m (carries_out order m).machine
-unset-by order m h = is-set (carries order) m h
 
 known-stays : (big : Bool) (m n : Machine) → IsUnset m n → known_wanted big n ≡ known_wanted big m
 known-stays false m n u = λ i. (effective_of (u.targets i) (u.now i)).known
@@ -90,6 +115,10 @@ active-stays : (big : Bool) (m n : Machine) → IsUnset m n → active_wanted bi
 active-stays false m n u = λ i. (effective_of (u.targets i) (u.now i)).active
 active-stays true m n u = λ i. (effective_big_of (u.big_targets i) (u.now i)).active
 
+one-also : (law other : Peer → Type 0) (o : Option Peer) → ((p : Peer) → law p → other p) → IsOne o law → IsOne o other
+one-also law other None each is = is
+one-also law other (Some p) each is = each p is
+
 -- ---- a peer is forgotten
 
 record Forgettable (big : Bool) (m : Machine) (a : Addr) : Type 0 where
@@ -101,26 +130,28 @@ abbrev ForgetsLeft : Bool → List Addr → Machine → Type 0
 ForgetsLeft big addrs m = length addrs ≤ known_of big m.peers - known_wanted big m
 
 forget-due : (big : Bool) (a : Addr) (addrs : List Addr) (m : Machine) → Forgettable big m a → ForgetsLeft big (a ∷ addrs) m → IsDueOrder (Forget a) m
-forget-due big a addrs m may left = by_peer (peer_at a m) may.peer
-  where
-    by_peer : (o : Option Peer) → IsOne o (λ p. (p.big ≡ big) × (p.temp ≡ Cold)) → IsOne o (λ p. MayBeForgotten a p m)
-    by_peer None is = is
-    by_peer (Some p) is = record {
-      cold = is.1;
-      idle = may.idle;
-      spared = subst (λ b. (b || not (is_local m.groups a || is_listed a m.roots.publics)) ≡ true) (sym is.0) may.spared;
-      surplus = subst (λ b. known_wanted b m < known_of b m.peers) (sym is.0) (omega (arith, left));
-    }
+forget-due big a addrs m may left = one-also (λ p. (p.big ≡ big) × (p.temp ≡ Cold)) (λ p. MayBeForgotten a p m) (peer_at a m) (λ p is. record {
+  cold = is.1;
+  idle = may.idle;
+  spared = subst (λ b. (b || not (is_local m.groups a || is_listed a m.roots.publics)) ≡ true) (sym is.0) may.spared;
+  surplus = subst (λ b. known_wanted b m < known_of b m.peers) (sym is.0) (omega (arith, left));
+}) may.peer
 
 forget-left : (big : Bool) (a : Addr) (addrs : List Addr) (m : Machine) → IsOrdered m → ForgetsLeft big (a ∷ addrs) m → ForgetsLeft big addrs (carries_out (Forget a) m).machine
 forget-left big a addrs m h left =
     let n : Machine = (carries_out (Forget a) m).machine in
     let falls : known_of big m.peers ≤ known_of big n.peers + 1 = taken-count (is_of big) a m.peers h.formed.peers in
-    let same = known-stays big m n (unset-by (Forget a) m h) in
+    let same = known-stays big m n (order-unset (Forget a) m h) in
     omega (arith, falls, same, left)
 
-forgets-spend : (big : Bool) → Spends (Forgettable big) (ForgetsLeft big) Forget
+forgets-spend : (big : Bool) → Spends IsLawful (Forgettable big) (ForgetsLeft big) Forget
 forgets-spend big = record {
+  carried = λ a m h within may. forget-carried IsLawful a m h within (record {
+    cold = by_option (peer_at a m) (λ o. IsOne o (λ p. (p.big ≡ big) × (p.temp ≡ Cold)) → IsCold o) (λ is never. never) (λ p is one. one.1) may.peer;
+    idle = by_option (live_entry_at a m) (λ o. IsIdle o) (λ is. tt)
+        (λ e is. unlinked (λ l. l.pending) a (λ x. is_live_at a x.facts) (λ x at. (and_parts (same_address x.facts.addr a) (is_live x.facts) at).0)
+        m.connections e (linked (λ l. l.pending) a m.connections ∙ may.idle) is);
+  });
   due = forget-due big;
   others = λ a b m h may other here. record {
     peer = subst (λ o. IsOne o (λ p. (p.big ≡ big) × (p.temp ≡ Cold))) (sym (taken-elsewhere a b m.peers other)) here.peer;
@@ -141,22 +172,18 @@ abbrev ReleasesLeft : Bool → List Addr → Machine → Type 0
 ReleasesLeft big addrs m = length addrs ≤ established_of big m.peers - established_wanted big m
 
 release-due : (big : Bool) (a : Addr) (addrs : List Addr) (m : Machine) → Releasable big m a → ReleasesLeft big (a ∷ addrs) m → IsDueOrder (Release a) m
-release-due big a addrs m may left = by_peer (peer_at a m) may.peer
-  where
-    by_peer : (o : Option Peer) → IsOne o (λ p. (p.big ≡ big) × (p.temp ≡ Warm)) → IsOne o (λ p. MayBeReleased a p m)
-    by_peer None is = is
-    by_peer (Some p) is = record {
-      warm = is.1;
-      settled = may.settled;
-      spared = subst (λ b. (b || not (is_local m.groups a)) ≡ true) (sym is.0) may.spared;
-      surplus = subst (λ b. established_wanted b m < established_of b m.peers) (sym is.0) (omega (arith, left));
-    }
+release-due big a addrs m may left = one-also (λ p. (p.big ≡ big) × (p.temp ≡ Warm)) (λ p. MayBeReleased a p m) (peer_at a m) (λ p is. record {
+  warm = is.1;
+  settled = may.settled;
+  spared = subst (λ b. (b || not (is_local m.groups a)) ≡ true) (sym is.0) may.spared;
+  surplus = subst (λ b. established_wanted b m < established_of b m.peers) (sym is.0) (omega (arith, left));
+}) may.peer
 
 release-others : (big : Bool) (a b : Addr) (m : Machine) → IsOrdered m → same_address b a ≡ false → Releasable big m b → Releasable big (carries_out (Release a) m).machine b
 release-others big a b m h other here =
     let n : Machine = (carries_out (Release a) m).machine in
     let leaves : LeavesOthers a m n = release-leaves a m h in
-    let unset : IsUnset m n = unset-by (Release a) m h in
+    let unset : IsUnset m n = order-unset (Release a) m h in
     record {
       peer = subst (λ o. IsOne o (λ p. (p.big ≡ big) × (p.temp ≡ Warm))) (sym (leaves-found a b m n leaves other)) here.peer;
       settled = leaves.connections is_awaited b other here.settled;
@@ -167,14 +194,22 @@ release-left : (big : Bool) (a : Addr) (addrs : List Addr) (m : Machine) → IsO
 release-left big a addrs m h left =
     let n : Machine = (carries_out (Release a) m).machine in
     let leaves : LeavesOthers a m n = release-leaves a m h in
-    let same = established-stays big m n (unset-by (Release a) m h) in
+    let same = established-stays big m n (order-unset (Release a) m h) in
     let falls : established_of big m.peers ≤ established_of big n.peers + 1 =
     counted-one a (λ p. is_of big p && is_established p.temp) (λ p. is_of big p && is_established p.temp) n.peers m.peers
     (leaves-apart a m n h.formed.peers leaves) (leaves-back a m n leaves) (λ p other. refl) in
     omega (arith, falls, same, left)
 
-releases-spend : (big : Bool) → Spends (Releasable big) (ReleasesLeft big) Release
+releases-spend : (big : Bool) → Spends IsLawful (Releasable big) (ReleasesLeft big) Release
 releases-spend big = record {
+  carried = λ a m h within may. release-carried a m h within (λ e is.
+      let none : is_awaited e ≡ false =
+      unlinked (λ l. l.owes2 || l.owes8 || l.owes10) a (is_used_at a)
+      (λ x at. (and_parts (same_address x.facts.addr a) (is_live x.facts) (and_parts (is_live_at a x.facts) x.facts.local at).0).0)
+      m.connections e (linked (λ l. l.owes2 || l.owes8 || l.owes10) a m.connections ∙ may.settled) is in
+      let early = or_parts (is_some (reply_on 2 e) || is_some (reply_on 8 e)) (is_some (reply_on 10 e)) none in
+      let two = or_parts (is_some (reply_on 2 e)) (is_some (reply_on 8 e)) early.0 in
+      record { on_2 = two.0; on_8 = two.1; on_10 = early.1 });
   due = release-due big;
   others = λ a b m h may other here. release-others big a b m h other here;
   left = λ a addrs m h may left. release-left big a addrs m h left;
@@ -195,22 +230,20 @@ record AsksLeft (k : ℕ) (addrs : List Addr) (m : Machine) : Type 0 where
   number : k ≡ min (known_wanted false m - known_of false m.peers) 10
 
 ask-due : (k : ℕ) (a : Addr) (addrs : List Addr) (m : Machine) → Askable m a → AsksLeft k (a ∷ addrs) m → IsDueOrder (Ask a k) m
-ask-due k a addrs m may left = by_peer (peer_at a m) may.peer
-  where
-    by_peer : (o : Option Peer) → IsOne o (λ p. (p.big ≡ false) × (is_established p.temp ≡ true) × (p.share_next ≤ m.now)) → IsOne o (λ p. MayBeAsked a k p m)
-    by_peer None is = is
-    by_peer (Some p) is = record {
-      ordinary = is.0;
-      established = is.1;
-      shares = may.shares;
-      again = is.2;
-      missing = left.missing (omega arith);
-      number = left.number;
-      few = let few = left.few in omega (arith, few);
-    }
+ask-due k a addrs m may left = one-also (λ p. (p.big ≡ false) × (is_established p.temp ≡ true) × (p.share_next ≤ m.now)) (λ p. MayBeAsked a k p m) (peer_at a m) (λ p is. record {
+  ordinary = is.0;
+  established = is.1;
+  shares = may.shares;
+  again = is.2;
+  missing = left.missing (omega arith);
+  number = left.number;
+  few = let few = left.few in omega (arith, few);
+}) may.peer
 
-asks-spend : (k : ℕ) → Spends Askable (AsksLeft k) (λ a. Ask a k)
+asks-spend : (k : ℕ) → Spends IsLawful Askable (AsksLeft k) (λ a. Ask a k)
 asks-spend k = record {
+  carried = λ a m h within may. ask-carried IsLawful k a m h within
+      (shares-may m h a (linked (λ l. l.local && l.sharing && not l.owes10) a m.connections ∙ may.shares));
   due = ask-due k;
   others = λ a b m h may other here. others a b m h other here;
   left = λ a addrs m h may left. after a addrs m h left;
@@ -230,7 +263,7 @@ asks-spend k = record {
     after a addrs m h left =
         let n : Machine = (carries_out (Ask a k) m).machine in
         let changes : ChangesAt a m n = ask-changes a k m h in
-        let unset : IsUnset m n = unset-by (Ask a k) m h in
+        let unset : IsUnset m n = order-unset (Ask a k) m h in
         let wanted : known_wanted false n ≡ known_wanted false m = known-stays false m n unset in
         let known : known_of false n.peers ≡ known_of false m.peers = changes-known false a m n changes in
         let more = number-one tells_soon tells-local false a m n h.formed.peers changes in
@@ -248,17 +281,14 @@ record Promotable (m : Machine) (a : Addr) : Type 0 where
   peer : IsOne (peer_at a m) (λ p. p.temp ≡ Cold)
   idle : some_connection (λ e. is_pending e.facts) a m ≡ false
   free : (not (some_connection is_any a m) || some_connection (λ e. is_acquirable e.facts) a m) ≡ true
+  ready : IsReady m.now (peer_at a m)
 
 -- how many is a matter of the moves
 abbrev Enough : List Addr → Machine → Type 0
 Enough addrs m = Unit {0}
 
 promote-due : (a : Addr) (m : Machine) → Promotable m a → IsDueOrder (Promote a) m
-promote-due a m may = by_peer (peer_at a m) may.peer
-  where
-    by_peer : (o : Option Peer) → IsOne o (λ p. p.temp ≡ Cold) → IsOne o (λ p. MayBePromoted a p m)
-    by_peer None is = is
-    by_peer (Some p) is = record { cold = is; idle = may.idle; free = may.free }
+promote-due a m may = one-also (λ p. p.temp ≡ Cold) (λ p. MayBePromoted a p m) (peer_at a m) (λ p is. record { cold = is; idle = may.idle; free = may.free }) may.peer
 
 promote-others : (a b : Addr) (m : Machine) → IsOrdered m → same_address b a ≡ false → Promotable m b → Promotable (carries_out (Promote a) m).machine b
 promote-others a b m h other here =
@@ -268,10 +298,15 @@ promote-others a b m h other here =
       peer = subst (λ o. IsOne o (λ p. p.temp ≡ Cold)) (sym (changes-found a b m n changes other)) here.peer;
       idle = changes.connections (λ e. is_pending e.facts) b other ∙ here.idle;
       free = (λ i. not (changes.connections is_any b other i) || changes.connections (λ e. is_acquirable e.facts) b other i) ∙ here.free;
+      ready = subst (λ t. IsReady t (peer_at b n)) (sym changes.now) (subst (IsReady m.now) (sym (changes-found a b m n changes other)) here.ready);
     }
 
-promotes-spend : Spends Promotable Enough Promote
+promotes-spend : Spends IsAllowed Promotable Enough Promote
 promotes-spend = record {
+  carried = λ a m h within may. promotes-carried a m h within (record {
+    free = by_option (live_entry_at a m) (λ o. IsFree o a m → MayBy o) (λ is free. tt) (λ e is free. free) (free-may a m h may.free);
+    ready = may.ready;
+  });
   due = λ a addrs m may left. promote-due a m may;
   others = λ a b m h may other here. promote-others a b m h other here;
   left = λ a addrs m h may left. tt;
@@ -284,11 +319,7 @@ record Activatable (m : Machine) (a : Addr) : Type 0 where
   unasked : some_connection is_to_answer a m ≡ false
 
 activate-due : (a : Addr) (m : Machine) → Activatable m a → IsDueOrder (Activate a) m
-activate-due a m may = by_peer (peer_at a m) may.peer
-  where
-    by_peer : (o : Option Peer) → IsOne o (λ p. p.temp ≡ Warm) → IsOne o (λ p. MayBeActivated a p m)
-    by_peer None is = is
-    by_peer (Some p) is = record { warm = is; unasked = may.unasked }
+activate-due a m may = one-also (λ p. p.temp ≡ Warm) (λ p. MayBeActivated a p m) (peer_at a m) (λ p is. record { warm = is; unasked = may.unasked }) may.peer
 
 activate-others : (a b : Addr) (m : Machine) → IsOrdered m → same_address b a ≡ false → Activatable m b → Activatable (carries_out (Activate a) m).machine b
 activate-others a b m h other here =
@@ -299,8 +330,10 @@ activate-others a b m h other here =
       unasked = changes.connections is_to_answer b other ∙ here.unasked;
     }
 
-activates-spend : Spends Activatable Enough Activate
+activates-spend : Spends IsAllowed Activatable Enough Activate
 activates-spend = record {
+  carried = λ a m h within may. activate-carried a m h within
+      (by_option (peer_at a m) (λ o. IsOne o (λ p. p.temp ≡ Warm) → IsWarm o) (λ is never. never) (λ p is one. one) may.peer);
   due = λ a addrs m may left. activate-due a m may;
   others = λ a b m h may other here. activate-others a b m h other here;
   left = λ a addrs m h may left. tt;
@@ -331,27 +364,24 @@ hot-falls big a m h =
 abbrev BigHotLeft : List Addr → Machine → Type 0
 BigHotLeft addrs m = length addrs ≤ active_of true m.peers - active_wanted true m
 
-big_hot-spend : Spends (Deactivatable true) BigHotLeft Deactivate
+big_hot-spend : Spends IsLawful (Deactivatable true) BigHotLeft Deactivate
 big_hot-spend = record {
+  carried = λ a m h within may. deactivate-carried IsLawful a m h within tt;
   due = λ a addrs m may left. due a addrs m may left;
   others = λ a b m h may other here. deactivate-others true a b m h other here;
   left = λ a addrs m h may left.
       let falls = hot-falls true a m h in
-      let same = active-stays true m (carries_out (Deactivate a) m).machine (unset-by (Deactivate a) m h) in
+      let same = active-stays true m (carries_out (Deactivate a) m).machine (order-unset (Deactivate a) m h) in
       let number = left in
       omega (arith, falls, same, number);
 }
   where
     due : (a : Addr) (addrs : List Addr) (m : Machine) → Deactivatable true m a → BigHotLeft (a ∷ addrs) m → IsDueOrder (Deactivate a) m
-    due a addrs m may left = by_peer (peer_at a m) may.peer
-      where
-        by_peer : (o : Option Peer) → IsOne o (λ p. (p.big ≡ true) × (p.temp ≡ Hot)) → IsOne o (λ p. MayBeDeactivated a p m)
-        by_peer None is = is
-        by_peer (Some p) is = record {
-          hot = is.1;
-          by_target = λ either. subst (λ b. active_wanted b m < active_of b m.peers) (sym is.0) (omega (arith, left));
-          by_valency = λ ordinary. absurd (both_ways p.big ordinary is.0);
-        }
+    due a addrs m may left = one-also (λ p. (p.big ≡ true) × (p.temp ≡ Hot)) (λ p. MayBeDeactivated a p m) (peer_at a m) (λ p is. record {
+      hot = is.1;
+      by_target = λ either. subst (λ b. active_wanted b m < active_of b m.peers) (sym is.0) (omega (arith, left));
+      by_valency = λ ordinary. absurd (both_ways p.big ordinary is.0);
+    }) may.peer
 
 -- ---- of ordinary peers: by the target first, and then by the valencies
 
@@ -359,7 +389,7 @@ abbrev is_free_of : Machine → Addr → Bool
 is_free_of m a = not (is_local m.groups a)
 
 -- behind a local peer no other one comes
-TargetFirst : Machine → List Addr → Type 0
+abbrev TargetFirst : Machine → List Addr → Type 0
 TargetFirst m [] = Unit {0}
 TargetFirst m (a ∷ addrs) = (is_local m.groups a ≡ true → count_by (is_free_of m) addrs ≡ 0) × TargetFirst m addrs
 
@@ -371,11 +401,13 @@ record HotLeft (addrs : List Addr) (m : Machine) : Type 0 where
   by_target : count_by (is_free_of m) addrs ≤ active_of false m.peers - active_wanted false m
   by_valency : AllByRecursion (HasHotLeft addrs m) m.groups
 
-one-of : (b : Bool) → b ≡ true → cond {A = ℕ} b 1 0 ≡ 1
-one-of b is = ap (λ c. cond {A = ℕ} c 1 0) is
-
 hot-due : (a : Addr) (addrs : List Addr) (m : Machine) → Deactivatable false m a → HotLeft (a ∷ addrs) m → IsDueOrder (Deactivate a) m
-hot-due a addrs m may left = by_peer (peer_at a m) may.peer
+hot-due a addrs m may left = one-also (λ p. (p.big ≡ false) × (p.temp ≡ Hot)) (λ p. MayBeDeactivated a p m) (peer_at a m) (λ p is. record {
+  hot = is.1;
+  by_target = λ either.
+      subst (λ b. active_wanted b m < active_of b m.peers) (sym is.0) (free (subst (λ b. (b || not (is_local m.groups a)) ≡ true) is.0 either));
+  by_valency = λ ordinary. All-from_recursion Above m.groups (all-weaker (HasHotLeft (a ∷ addrs) m) Above above m.groups left.by_valency);
+}) may.peer
   where
     Above : Group → Type 0
     Above group = is_listed a group.members ≡ true → group.hot < members_with is_hot group m
@@ -391,34 +423,16 @@ hot-due a addrs m may left = by_peer (peer_at a m) may.peer
         let number = left.by_target in
         omega (arith, number, first, one-of (is_free_of m a) other)
 
-    by_peer : (o : Option Peer) → IsOne o (λ p. (p.big ≡ false) × (p.temp ≡ Hot)) → IsOne o (λ p. MayBeDeactivated a p m)
-    by_peer None is = is
-    by_peer (Some p) is = record {
-      hot = is.1;
-      by_target = λ either.
-          subst (λ b. active_wanted b m < active_of b m.peers) (sym is.0) (free (subst (λ b. (b || not (is_local m.groups a)) ≡ true) is.0 either));
-      by_valency = λ ordinary. All-from_recursion Above m.groups (all-weaker (HasHotLeft (a ∷ addrs) m) Above above m.groups left.by_valency);
-    }
-
 first-still : (m n : Machine) → n.groups ≡ m.groups → (addrs : List Addr) → TargetFirst m addrs → TargetFirst n addrs
-unfolding TargetFirst
 first-still m n same [] h = tt
 first-still m n same (a ∷ addrs) h = (
   subst (λ groups. is_local groups a ≡ true → count_by (λ b. not (is_local groups b)) addrs ≡ 0) (sym same) h.0,
   first-still m n same addrs h.1,
 )
 
-first-behind : (m : Machine) (a : Addr) (addrs : List Addr) → TargetFirst m (a ∷ addrs) → TargetFirst m addrs
-unfolding TargetFirst
-first-behind m a addrs h = h.1
-
-first-here : (m : Machine) (a : Addr) (addrs : List Addr) → TargetFirst m (a ∷ addrs) → is_local m.groups a ≡ true → count_by (is_free_of m) addrs ≡ 0
-unfolding TargetFirst
-first-here m a addrs h = h.0
-
 hot-left : (a : Addr) (addrs : List Addr) (m : Machine) → IsOrdered m → HotLeft (a ∷ addrs) m → HotLeft addrs (carries_out (Deactivate a) m).machine
 hot-left a addrs m h left = record {
-  first = first-still m n unset.groups addrs (first-behind m a addrs left.first);
+  first = first-still m n unset.groups addrs left.first.1;
   by_target = by_local (is_local m.groups a) refl;
   by_valency = subst (AllByRecursion (HasHotLeft addrs n)) (sym unset.groups)
       (all-weaker (HasHotLeft (a ∷ addrs) m) (HasHotLeft addrs n) (λ group number. still group number (is_listed a group.members) refl) m.groups left.by_valency);
@@ -437,7 +451,7 @@ hot-left a addrs m h left = record {
     apart = changes-apart a m n h.formed.peers changes
 
     unset : IsUnset m n
-    unset = unset-by (Deactivate a) m h
+    unset = order-unset (Deactivate a) m h
 
     alike : count_by (is_free_of n) addrs ≡ count_by (is_free_of m) addrs
     alike = ap (λ groups. count_by (λ b. not (is_local groups b)) addrs) unset.groups
@@ -446,7 +460,7 @@ hot-left a addrs m h left = record {
     wanted = active-stays false m n unset
 
     by_local : (c : Bool) → is_local m.groups a ≡ c → count_by (is_free_of n) addrs ≤ active_of false n.peers - active_wanted false n
-    by_local true is = let none = first-here m a addrs left.first is in omega (arith, alike, none)
+    by_local true is = let none = left.first.0 is in omega (arith, alike, none)
     by_local false is =
         let first = sum_by-cons (λ b. cond {A = ℕ} (is_free_of m b) 1 0) a addrs in
         let number = left.by_target in
@@ -460,8 +474,9 @@ hot-left a addrs m h left = record {
         let first = sum_by-cons (λ b. cond {A = ℕ} (is_listed b group.members) 1 0) a addrs in
         omega (arith, number, first, members-none is_hot hot-local group a n m unlisted back)
 
-hot-spend : Spends (Deactivatable false) HotLeft Deactivate
+hot-spend : Spends IsLawful (Deactivatable false) HotLeft Deactivate
 hot-spend = record {
+  carried = λ a m h within may. deactivate-carried IsLawful a m h within tt;
   due = hot-due;
   others = λ a b m h may other here. deactivate-others false a b m h other here;
   left = λ a addrs m h may left. hot-left a addrs m h left;
@@ -482,24 +497,17 @@ chosen-may May big word number test m apart gives =
     (λ p h found. let parts = and_parts (is_of big p) (test p) h in gives p (of-class big p parts.0) parts.1 found) (filter passes m.peers)
     (filter-passing passes m.peers) (filter-all (λ p. peer_at p.addr m ≡ Some p) passes m.peers (all-found m.peers apart)))
 
-class-due : (May : Machine → Addr → Type 0) (Left : List Addr → Machine → Type 0) (order : Addr → Order) → Spends May Left order → (big : Bool) (word number : ℕ)
-    (test : Peer → Bool) (m : Machine) → IsOrdered m → Gives May big test m → ((addrs : List Addr) → length addrs ≤ number → Left addrs m) →
-    EachAccounted (orders_for big word order number test m.peers) m → EachDue (orders_for big word order number test m.peers) m
-class-due May Left order s big word number test m h gives left each =
+class-done : (Law : Move → Type 0) (May : Machine → Addr → Type 0) (Left : List Addr → Machine → Type 0) (order : Addr → Order) → Spends Law May Left order →
+    (big : Bool) (word number : ℕ) (test : Peer → Bool) (m : Machine) → IsOrdered m → counted_in m ≤ m.settings.hard → Gives May big test m →
+    ((addrs : List Addr) → length addrs ≤ number → Left addrs m) → Done Law (orders_for big word order number test m.peers) m
+class-done Law May Left order s big word number test m h within gives left =
     let picks : List Addr = chosen big word number test m.peers in
-    each-due May Left order s picks m each (chosen-apart big word number test m.peers h.formed.peers)
+    each-done Law May Left order s picks m h within (chosen-apart big word number test m.peers h.formed.peers)
     (chosen-may May big word number test m h.formed.peers gives)
     (left picks (picks-most big word number (filter (λ p. is_of big p && test p) m.peers)))
 
 abbrev picks_of_group : ℕ → (Group → ℕ) → (Peer → Bool) → Machine → Group → List Addr
 picks_of_group word number test m g = chosen false word (number g) (is_member_and g test) m.peers
-
-group_picks : (word : ℕ) (number : Group → ℕ) (test : Peer → Bool) (m : Machine) → IsOrdered m → PicksMembers (picks_of_group word number test m)
-group_picks word number test m h = record {
-  apart = λ g. chosen-apart false word (number g) (is_member_and g test) m.peers h.formed.peers;
-  members = λ g. chosen-may (λ n a. is_listed a g.members ≡ true) false word (number g) (is_member_and g test) m h.formed.peers
-      (λ p ordinary passes found. (and_parts (is_listed p.addr g.members) (test p) passes).0);
-}
 
 groups_picks-may : (May : Machine → Addr → Type 0) (word : ℕ) (number : Group → ℕ) (test : Peer → Bool) (m : Machine) → IsOrdered m → Gives May false test m →
     AllByRecursion (May m) (flat_map (picks_of_group word number test m) m.groups)
@@ -508,15 +516,14 @@ groups_picks-may May word number test m h gives =
     (λ g. chosen-may May false word (number g) (is_member_and g test) m h.formed.peers
     (λ p ordinary passes found. gives p ordinary (and_parts (is_listed p.addr g.members) (test p) passes).1 found))
 
-groups-due : (May : Machine → Addr → Type 0) (order : Addr → Order) → Spends May Enough order → (word : ℕ) (number : Group → ℕ) (test : Peer → Bool) (m : Machine) →
-    IsOrdered m → Gives May false test m → EachAccounted (flat_map (λ g. orders_for false word order (number g) (is_member_and g test) m.peers) m.groups) m →
-    EachDue (flat_map (λ g. orders_for false word order (number g) (is_member_and g test) m.peers) m.groups) m
-groups-due May order s word number test m h gives each =
+groups-done : (Law : Move → Type 0) (May : Machine → Addr → Type 0) (order : Addr → Order) → Spends Law May Enough order → (word : ℕ) (number : Group → ℕ)
+    (test : Peer → Bool) (m : Machine) → IsOrdered m → counted_in m ≤ m.settings.hard → Gives May false test m →
+    Done Law (flat_map (λ g. orders_for false word order (number g) (is_member_and g test) m.peers) m.groups) m
+groups-done Law May order s word number test m h within gives =
     let pick : Group → List Addr = picks_of_group word number test m in
-    let same = map-groups order pick m.groups in
-    subst (λ orders. EachDue orders m) (sym same)
-    (each-due May Enough order s (flat_map pick m.groups) m (subst (λ orders. EachAccounted orders m) same each)
-    (groups_picks-apart pick m.groups (group_picks word number test m h) h.formed.groups) (groups_picks-may May word number test m h gives) tt)
+    subst (λ orders. Done Law orders m) (sym (map-groups order pick m.groups))
+    (each-done Law May Enough order s (flat_map pick m.groups) m h within
+    (groups_picks-apart pick m.groups (group_picks word number test m.peers h.formed.peers) h.formed.groups) (groups_picks-may May word number test m h gives) tt)
 
 -- a law holds of the peer that was found
 one-found : (law : Peer → Type 0) (p : Peer) (o : Option Peer) → o ≡ Some p → law p → IsOne o law
@@ -574,6 +581,7 @@ promote-gives big m p class passes found =
       peer = one-found (λ q. q.temp ≡ Cold) p (peer_at p.addr m) found (is_temp p.temp Cold parts.0);
       idle = sym (linked (λ l. l.pending) p.addr m.connections) ∙ unless (is_pending_link links p.addr) parts.1;
       free = sym (λ i. not (linked (λ l. true) p.addr m.connections i) || linked (λ l. l.acquirable) p.addr m.connections i) ∙ last.1;
+      ready = subst (IsReady m.now) (sym found) (leb-true p.not_before m.now middle.1);
     }
 
 activate-gives : (big : Bool) (m : Machine) → Gives Activatable big (may_be_activated (links_of m)) m
@@ -595,19 +603,35 @@ among-gives May big among test m gives p class passes found = gives p class (and
 
 -- ---- each rule
 
-unfoldable pub OrdersDue : (Machine → List Order) → Type 0
-OrdersDue orders = (m : Machine) → IsOrdered m → EachAccounted (orders m) m → EachDue (orders m) m
+-- what a rule does with a machine that is in order and within the limit
+abbrev pub DoesRight : (Machine → List Order) → Type 0
+DoesRight orders = (m : Machine) → IsOrdered m → counted_in m ≤ m.settings.hard → Done IsLawful (orders m) m
+
+-- promotions and activations are lawful where they are within what is wanted
+wanted-done : (m : Machine) (orders : List Order) → Done IsAllowed orders m → (EachAccounted orders m → AllByRecursion Within (for_each carries_out orders m).moves) →
+    Done IsLawful orders m
+wanted-done m orders allowed within = record {
+  followed = record {
+    trimmed = trimmed_both IsAllowed Within IsLawful (allowed_within) m (for_each carries_out orders m) allowed.followed.trimmed (within allowed.followed.each);
+    each = allowed.followed.each;
+  };
+  due = allowed.due;
+}
 
 not_local : (groups : List Group) (a : Addr) → is_not_local groups a ≡ true → not (is_local groups a) ≡ true
 not_local groups a h = ap not (not_local-no_member a groups h)
 
-g2-due : (word : ℕ) → OrdersDue (λ m. g2_orders (view_of word m) m.peers)
-unfolding OrdersDue
-g2-due word m h each =
+g2-due : (word : ℕ) → DoesRight (λ m. g2_orders (view_of word m) m.peers)
+g2-due word m h within =
     let k : ℕ = min (missing_of (view_of word m) m.peers) 10 in
-    class-due Askable (AsksLeft k) (λ a. Ask a k) (asks-spend k) false word
+    class-done IsLawful Askable (AsksLeft k) (λ a. Ask a k) (asks-spend k) false word
     (if nat_lt 0 (missing_of (view_of word m) m.peers) then m.settings.shares - count_of false (owes_on_10 (links_of m)) m.peers else 0)
-    (may_be_asked m.now (links_of m)) m h (ask-gives m) (λ addrs few. by_missing (nat_lt 0 (missing_of (view_of word m) m.peers)) refl addrs few) each
+    (may_be_asked m.now (links_of m)) m h within (ask-gives m) (λ addrs few. by_bool (nat_lt 0 (missing_of (view_of word m) m.peers))
+    (λ b. (addrs : List Addr) →
+    length addrs ≤ (if b then m.settings.shares - count_of false (owes_on_10 (links_of m)) m.peers else 0) →
+    AsksLeft (min (missing_of (view_of word m) m.peers) 10) addrs m)
+    (λ is addrs few. record { few = omega (arith, few, seen); missing = λ some. short is; number = refl })
+    (λ is addrs few. record { few = omega (arith, few); missing = λ some. absurd (omega (arith, some, few)); number = refl }) addrs few)
   where
     seen : count_of false (owes_on_10 (links_of m)) m.peers ≡ number_with tells_soon false m
     seen = λ i. count_by (λ p. is_of false p && linked (λ l. l.owes10) p.addr m.connections i) m.peers
@@ -615,59 +639,53 @@ g2-due word m h each =
     short : nat_lt 0 (missing_of (view_of word m) m.peers) ≡ true → known_of false m.peers < known_wanted false m
     short is = grind (arith, is)
 
-    by_missing : (b : Bool) → nat_lt 0 (missing_of (view_of word m) m.peers) ≡ b → (addrs : List Addr) →
-        length addrs ≤ (if b then m.settings.shares - count_of false (owes_on_10 (links_of m)) m.peers else 0) →
-        AsksLeft (min (missing_of (view_of word m) m.peers) 10) addrs m
-    by_missing true is addrs few = record { few = omega (arith, few, seen); missing = λ some. short is; number = refl }
-    by_missing false is addrs few = record { few = omega (arith, few); missing = λ some. absurd (omega (arith, some, few)); number = refl }
-
 both-false : (a b : Bool) → (not a && not b) ≡ true → not (a || b) ≡ true
 both-false true b h = absurd (false≢true h)
 both-false false b h = h
 
-g3-due : (word : ℕ) → OrdersDue (λ m. g3_orders (view_of word m) m.peers m.groups m.roots.publics)
-unfolding OrdersDue
-g3-due word m h each =
-    class-due (Forgettable false) (ForgetsLeft false) Forget (forgets-spend false) false word _ _ m h
+g3-due : (word : ℕ) → DoesRight (λ m. g3_orders (view_of word m) m.peers m.groups m.roots.publics)
+g3-due word m h within =
+    class-done IsLawful (Forgettable false) (ForgetsLeft false) Forget (forgets-spend false) false word _ _ m h within
     (forget-gives false (may_be_dropped m.groups m.roots.publics) m
     (λ a dropped. let parts = and_parts (is_not_local m.groups a) (not (is_listed a m.roots.publics)) dropped in
     both-false (is_local m.groups a) (is_listed a m.roots.publics) (and_both (not (is_local m.groups a)) (not_local m.groups a parts.0) parts.1)))
-    (λ addrs few. few) each
+    (λ addrs few. few)
   where
     and_both : (x : Bool) {y : Bool} → x ≡ true → y ≡ true → (x && y) ≡ true
     and_both x {y} one two = rw one two
 
-g4-due : (word : ℕ) → OrdersDue (λ m. g4_orders (view_of word m) m.peers m.groups)
-unfolding OrdersDue
-g4-due word m h each =
-    groups-due Promotable Promote promotes-spend word
+g4-due : (word : ℕ) → DoesRight (λ m. g4_orders (view_of word m) m.peers m.groups)
+g4-due word m h within =
+    wanted-done m (g4_orders (view_of word m) m.peers m.groups)
+    (groups-done IsAllowed Promotable Promote promotes-spend word
     (λ g. g.warm - members_count g (λ p. is_established p.temp || is_pending_link (links_of m) p.addr) m.peers)
-    (is_eligible m.now (links_of m)) m h (promote-gives false m) each
+    (is_eligible m.now (links_of m)) m h within (promote-gives false m)) (groups_promotes-within word m h)
 
-g5-due : (word : ℕ) → OrdersDue (λ m. g5_orders (view_of word m) m.peers m.groups)
-unfolding OrdersDue
-g5-due word m h each =
-    class-due Promotable Enough Promote promotes-spend false word _ _ m h
-    (among-gives Promotable false (λ p. is_not_local m.groups p.addr) (is_eligible m.now (links_of m)) m (promote-gives false m)) (λ addrs few. tt) each
+g5-due : (word : ℕ) → DoesRight (λ m. g5_orders (view_of word m) m.peers m.groups)
+g5-due word m h within =
+    wanted-done m (g5_orders (view_of word m) m.peers m.groups)
+    (class-done IsAllowed Promotable Enough Promote promotes-spend false word _ _ m h within
+    (among-gives Promotable false (λ p. is_not_local m.groups p.addr) (is_eligible m.now (links_of m)) m (promote-gives false m)) (λ addrs few. tt))
+    (promotes-within false (is_not_local m.groups) word m (not_local m.groups) h)
 
-g6-due : (word : ℕ) → OrdersDue (λ m. g6_orders (view_of word m) m.peers m.groups)
-unfolding OrdersDue
-g6-due word m h each =
-    class-due (Releasable false) (ReleasesLeft false) Release (releases-spend false) false word _ _ m h
-    (release-gives false (is_not_local m.groups) m (not_local m.groups)) (λ addrs few. few) each
+g6-due : (word : ℕ) → DoesRight (λ m. g6_orders (view_of word m) m.peers m.groups)
+g6-due word m h within =
+    class-done IsLawful (Releasable false) (ReleasesLeft false) Release (releases-spend false) false word _ _ m h within
+    (release-gives false (is_not_local m.groups) m (not_local m.groups)) (λ addrs few. few)
 
-g7-due : (word : ℕ) → OrdersDue (λ m. g7_orders (view_of word m) m.peers m.groups)
-unfolding OrdersDue
-g7-due word m h each =
-    groups-due Activatable Activate activates-spend word
+g7-due : (word : ℕ) → DoesRight (λ m. g7_orders (view_of word m) m.peers m.groups)
+g7-due word m h within =
+    wanted-done m (g7_orders (view_of word m) m.peers m.groups)
+    (groups-done IsAllowed Activatable Activate activates-spend word
     (λ g. g.hot - members_count g (λ p. same_temp p.temp Hot || owes_on_2 (links_of m) p.addr) m.peers)
-    (may_be_activated (links_of m)) m h (activate-gives false m) each
+    (may_be_activated (links_of m)) m h within (activate-gives false m)) (groups_activates-within word m h)
 
-g8-due : (word : ℕ) → OrdersDue (λ m. g8_orders (view_of word m) m.peers m.groups)
-unfolding OrdersDue
-g8-due word m h each =
-    class-due Activatable Enough Activate activates-spend false word _ _ m h
-    (among-gives Activatable false (λ p. is_not_local m.groups p.addr) (may_be_activated (links_of m)) m (activate-gives false m)) (λ addrs few. tt) each
+g8-due : (word : ℕ) → DoesRight (λ m. g8_orders (view_of word m) m.peers m.groups)
+g8-due word m h within =
+    wanted-done m (g8_orders (view_of word m) m.peers m.groups)
+    (class-done IsAllowed Activatable Enough Activate activates-spend false word _ _ m h within
+    (among-gives Activatable false (λ p. is_not_local m.groups p.addr) (may_be_activated (links_of m)) m (activate-gives false m)) (λ addrs few. tt))
+    (activates-within false (is_not_local m.groups) word m (not_local m.groups) h)
 
 -- ---- by the target, and then by the valencies
 
@@ -678,7 +696,6 @@ abbrev members_beyond : ℕ → Machine → Group → List Addr
 members_beyond word m = picks_of_group word (λ g. members_count g may_be_deactivated m.peers - g.hot) may_be_deactivated m
 
 first-local : (m : Machine) (addrs : List Addr) → AllByRecursion (λ a. is_local m.groups a ≡ true) addrs → TargetFirst m addrs
-unfolding TargetFirst
 first-local m [] h = tt
 first-local m (a ∷ addrs) h = (
   λ is. count_none (is_free_of m) addrs (all-weaker (λ b. is_local m.groups b ≡ true) (λ b. is_free_of m b ≡ false) (λ b here. ap not here) addrs h.1),
@@ -686,7 +703,6 @@ first-local m (a ∷ addrs) h = (
 )
 
 first-append : (m : Machine) (xs ys : List Addr) → AllByRecursion (λ a. is_local m.groups a ≡ false) xs → TargetFirst m ys → TargetFirst m (xs ++ ys)
-unfolding TargetFirst
 first-append m [] ys free h = h
 first-append m (x ∷ xs) ys free h = (λ is. absurd (both_ways (is_local m.groups x) free.0 is), first-append m xs ys free.1 h)
 
@@ -695,11 +711,9 @@ members-hot m g = λ i. count_by (λ p. is_of false p && (is_listed p.addr g.mem
 
 apart_of-local : (m : Machine) (b : Addr) (xs : List Addr) → AllByRecursion (λ a. is_local m.groups a ≡ false) xs → is_local m.groups b ≡ true → is_listed b xs ≡ false
 apart_of-local m b [] free local = refl
-apart_of-local m b (x ∷ xs) free local = by_test (same_address b x) refl (apart_of-local m b xs free.1 local)
-  where
-    by_test : (c : Bool) → same_address b x ≡ c → is_listed b xs ≡ false → (c || is_listed b xs) ≡ false
-    by_test true is rest = absurd (both_ways (is_local m.groups b) (subst (λ y. is_local m.groups y ≡ false) (sym (same_address-true b x is)) free.0) local)
-    by_test false is rest = rest
+apart_of-local m b (x ∷ xs) free local = by_bool (same_address b x) (λ c. is_listed b xs ≡ false → (c || is_listed b xs) ≡ false)
+    (λ is rest. absurd (both_ways (is_local m.groups b) (subst (λ y. is_local m.groups y ≡ false) (sym (same_address-true b x is)) free.0) local))
+    (λ is rest. rest) (apart_of-local m b xs free.1 local)
 
 pub map-append : (order : Addr → Order) (xs ys : List Addr) → map order (xs ++ ys) ≡ map order xs ++ map order ys
 map-append order [] ys = refl
@@ -713,7 +727,7 @@ module _ (word : ℕ) (m : Machine) (h : IsOrdered m) where
   behind = flat_map (members_beyond word m) m.groups
 
   in_groups : PicksMembers (members_beyond word m)
-  in_groups = group_picks word (λ g. members_count g may_be_deactivated m.peers - g.hot) may_be_deactivated m h
+  in_groups = group_picks word (λ g. members_count g may_be_deactivated m.peers - g.hot) may_be_deactivated m.peers h.formed.peers
 
   free_front : AllByRecursion (λ a. is_local m.groups a ≡ false) front
   free_front = chosen-may (λ n a. is_local n.groups a ≡ false) false word (active_of false m.peers - active_wanted false m)
@@ -763,65 +777,50 @@ module _ (word : ℕ) (m : Machine) (h : IsOrdered m) where
     by_valency = few_members;
   }
 
-g9-due : (word : ℕ) → OrdersDue (λ m. g9_orders (view_of word m) m.peers m.groups)
-unfolding OrdersDue
-g9-due word m h each =
+g9-due : (word : ℕ) → DoesRight (λ m. g9_orders (view_of word m) m.peers m.groups)
+g9-due word m h within =
     let same : map Deactivate (front word m h ++ behind word m h) ≡ g9_orders (view_of word m) m.peers m.groups =
     map-append Deactivate (front word m h) (behind word m h)
     ∙ ap (λ orders. map Deactivate (front word m h) ++ orders) (sym (map-groups Deactivate (members_beyond word m) m.groups)) in
-    subst (λ orders. EachDue orders m) same
-    (each-due (Deactivatable false) HotLeft Deactivate hot-spend (front word m h ++ behind word m h) m (subst (λ orders. EachAccounted orders m) (sym same) each)
-    (apart word m h) (may_all word m h) (hot_left word m h))
+    subst (λ orders. Done IsLawful orders m) same
+    (each-done IsLawful (Deactivatable false) HotLeft Deactivate hot-spend (front word m h ++ behind word m h) m h within (apart word m h) (may_all word m h) (hot_left word m h))
 
-pub ordinary-due : (word : ℕ) → AllByRecursion (λ orders. OrdersDue orders) (ordinary_rules word)
+pub ordinary-due : (word : ℕ) → AllByRecursion (λ orders. DoesRight orders) (ordinary_rules word)
 ordinary-due word = (g2-due word, (g3-due word, (g4-due word, (g5-due word, (g6-due word, (g7-due word, (g8-due word, (g9-due word, tt))))))))
 
-b3-due : (word : ℕ) → OrdersDue (λ m. big_orders B3 (view_of word m) m.peers)
-unfolding OrdersDue
-b3-due word m h each =
-    class-due (Forgettable true) (ForgetsLeft true) Forget (forgets-spend true) true word _ _ m h (forget-gives true everybody m (λ a all. refl)) (λ addrs few. few) each
+b3-due : (word : ℕ) → DoesRight (λ m. big_orders B3 (view_of word m) m.peers)
+b3-due word m h within =
+    class-done IsLawful (Forgettable true) (ForgetsLeft true) Forget (forgets-spend true) true word _ _ m h within (forget-gives true everybody m (λ a all. refl)) (λ addrs few. few)
 
-b5-due : (word : ℕ) → OrdersDue (λ m. big_orders B5 (view_of word m) m.peers)
-unfolding OrdersDue
-b5-due word m h each =
-    class-due Promotable Enough Promote promotes-spend true word _ _ m h
-    (among-gives Promotable true (λ p. everybody p.addr) (is_eligible m.now (links_of m)) m (promote-gives true m)) (λ addrs few. tt) each
+b5-due : (word : ℕ) → DoesRight (λ m. big_orders B5 (view_of word m) m.peers)
+b5-due word m h within =
+    wanted-done m (big_orders B5 (view_of word m) m.peers)
+    (class-done IsAllowed Promotable Enough Promote promotes-spend true word _ _ m h within
+    (among-gives Promotable true (λ p. everybody p.addr) (is_eligible m.now (links_of m)) m (promote-gives true m)) (λ addrs few. tt))
+    (promotes-within true everybody word m (λ a all. refl) h)
 
-b6-due : (word : ℕ) → OrdersDue (λ m. big_orders B6 (view_of word m) m.peers)
-unfolding OrdersDue
-b6-due word m h each =
-    class-due (Releasable true) (ReleasesLeft true) Release (releases-spend true) true word _ _ m h (release-gives true everybody m (λ a all. refl)) (λ addrs few. few) each
+b6-due : (word : ℕ) → DoesRight (λ m. big_orders B6 (view_of word m) m.peers)
+b6-due word m h within =
+    class-done IsLawful (Releasable true) (ReleasesLeft true) Release (releases-spend true) true word _ _ m h within (release-gives true everybody m (λ a all. refl)) (λ addrs few. few)
 
-b8-due : (word : ℕ) → OrdersDue (λ m. big_orders B8 (view_of word m) m.peers)
-unfolding OrdersDue
-b8-due word m h each =
-    class-due Activatable Enough Activate activates-spend true word _ _ m h
-    (among-gives Activatable true (λ p. everybody p.addr) (may_be_activated (links_of m)) m (activate-gives true m)) (λ addrs few. tt) each
+b8-due : (word : ℕ) → DoesRight (λ m. big_orders B8 (view_of word m) m.peers)
+b8-due word m h within =
+    wanted-done m (big_orders B8 (view_of word m) m.peers)
+    (class-done IsAllowed Activatable Enough Activate activates-spend true word _ _ m h within
+    (among-gives Activatable true (λ p. everybody p.addr) (may_be_activated (links_of m)) m (activate-gives true m)) (λ addrs few. tt))
+    (activates-within true everybody word m (λ a all. refl) h)
 
-b9-due : (word : ℕ) → OrdersDue (λ m. big_orders B9 (view_of word m) m.peers)
-unfolding OrdersDue
-b9-due word m h each =
-    class-due (Deactivatable true) BigHotLeft Deactivate big_hot-spend true word _ _ m h
-    (among-gives (Deactivatable true) true (λ p. everybody p.addr) may_be_deactivated m (deactivate-gives true m)) (λ addrs few. few) each
+b9-due : (word : ℕ) → DoesRight (λ m. big_orders B9 (view_of word m) m.peers)
+b9-due word m h within =
+    class-done IsLawful (Deactivatable true) BigHotLeft Deactivate big_hot-spend true word _ _ m h within
+    (among-gives (Deactivatable true) true (λ p. everybody p.addr) may_be_deactivated m (deactivate-gives true m)) (λ addrs few. few)
 
-pub big-due : (word : ℕ) → AllByRecursion (λ orders. OrdersDue orders) (big_rules word)
+pub big-due : (word : ℕ) → AllByRecursion (λ orders. DoesRight orders) (big_rules word)
 big-due word = (b3-due word, (b5-due word, (b6-due word, (b8-due word, (b9-due word, tt)))))
 
 -- ---- one rule after the other
 
 pub due_more : (xs ys : List Order) (m : Machine) → EachDue xs m → EachDue ys (for_each carries_out xs m).machine → EachDue (xs ++ ys) m
-unfolding EachDue for_each
+unfolding for_each
 due_more [] ys m one two = two
 due_more (x ∷ xs) ys m one two = (one.0, due_more xs ys (carries_out x m).machine one.1 two)
-
-pub none_due : (m : Machine) → EachDue [] m
-unfolding EachDue
-none_due m = tt
-
-pub first_due : (order : Order) (orders : List Order) (m : Machine) → EachDue (order ∷ orders) m → IsDueOrder order m
-unfolding EachDue
-first_due order orders m h = h.0
-
-pub rest_due : (order : Order) (orders : List Order) (m : Machine) → EachDue (order ∷ orders) m → EachDue orders (carries_out order m).machine
-unfolding EachDue
-rest_due order orders m h = h.1

@@ -1,5 +1,5 @@
 -- The governor's orders, one by one: the connections stay in order and within the limit, and peers tied to them.
-use Rattle.std.proofs.Common.{ℕ, ◌+◌, ◌≤◌, ◌≡◌, Bool, true, false, ◌&&◌, not, ◌||◌, ◌==◌, if◌then◌else◌, List, [], ◌∷◌, find, map, set, sum_by, Option, Some, None, is_some, refl, sym, ap, ◌∙◌, subst, arith}
+use Rattle.std.proofs.Common.{ℕ, ◌+◌, ◌≤◌, ◌≡◌, Bool, true, false, ◌&&◌, not, ◌||◌, ◌==◌, if◌then◌else◌, List, [], ◌∷◌, find, set, sum_by, Option, Some, None, is_some, refl, sym, ap, ◌∙◌, subst, arith}
 use Rattle.std.specs.List.{AllByRecursion}
 use Rattle.std.proofs.lemmas.Bool.{cond_both, both_ways, false≢true, and_parts, or_left, or_right}
 use Rattle.net_base.specs.Address.{same_address}
@@ -22,13 +22,12 @@ use Rattle.machine.specs.Govern.{is_used_at, on_used, asks_peer, activates, deac
 use Rattle.warm_messages.specs.Writing.{written_alive, written_request}
 use Rattle.warm_messages.specs.declared.alive.Alive.TheVariants.{Done}
 use Rattle.laws.specs.AtMoves.{IsReady, IsLawful, is_up_connection, is_up, is_hot_peer, is_asked_connection, is_hot_or_asked, is_known, promotes, activates as activation, shares}
-use Rattle.laws.specs.Steady.{AreApart, AreTied, IsAlone, TiedBy, IsTied, IsOrdered}
+use Rattle.laws.specs.Steady.{AreTied, IsAlone, TiedBy, IsTied, IsOrdered}
 use Rattle.laws.proofs.Addresses.{same_address-true}
 use Rattle.laws.proofs.Books.{book_of, filter-book}
 use Rattle.laws.proofs.Counts.{counted_of, counted_in-sum}
 use Rattle.laws.proofs.Effects.{one_if-not_counted}
 use Rattle.laws.proofs.Entries.{TurnsInto, turned-connections, turned-sum}
-use Rattle.laws.proofs.Finds.{find-set_other}
 use Rattle.laws.proofs.Keeping.{Moves, Keeps, keeps_nothing, keeps_then, moves_then, moves-keeps, peers-moves, changes-moves, changes-keeps}
 use Rattle.laws.proofs.Lawful.{ends_move, ends_turned, Accounts, Obeys, obeys_then, IsQuiet, quiet-obeys, tells-quiet, quiet_then, changes-quiet, turns-obeys, turned_then-obeys, IsAllowed}
 use Rattle.laws.proofs.Lists.{StandsAt, FoundIn, stands-set, find_some}
@@ -38,20 +37,17 @@ use Rattle.laws.proofs.PeersApart.{same_turned}
 use Rattle.laws.proofs.Rises.{rises_said, rises_nowhere, turned-down, taken-hot, taken-known}
 use Rattle.laws.proofs.Telling.{told_then, told_move}
 use Rattle.laws.proofs.ToldMoves.{turned-told, peer_goes-told, turns_at-connections}
-use Rattle.laws.proofs.Ties.{live_here, turned_here, turned_elsewhere, changed-ties, taken-ties, taken-elsewhere}
-use Rattle.laws.proofs.Trims.{Trimmed, tied-trimmed, keeps-trimmed, nothing-trimmed, trimmed_then, trimmed-within, as_move-trimmed, raised_twice_then_trimmed, trim-trims, trim-used, turns_at-counted}
+use Rattle.laws.proofs.Ties.{live_here, turned_here, turned_elsewhere, changed-ties, taken-ties}
+use Rattle.laws.proofs.Trims.{Trimmed, tied-trimmed, keeps-trimmed, nothing-trimmed, trimmed_then, as_move-trimmed, raised_twice_then_trimmed, trim-trims, turns_at-counted}
 use Rattle.laws.proofs.WholeMoves.{owes-keeps, IsWarm, asks_warm-keeps, releases-moves}
+use Rattle.laws.proofs.Walk.{says_done-machine}
+use Rattle.laws.proofs.Cases.{by_bool, by_option}
 
 -- ---- one order after the other
 
--- An order was carried out for whom it may be, and may still be carried out for all others for whom it might before.
-pub record Carried (Law : Move → Type 0) (May : Machine → Addr → Type 0) (addr : Addr) (before : Machine) (effect : Effect) : Type 0 where
-  pub trimmed : Trimmed Law before effect
-  pub elsewhere : (b : Addr) → same_address b addr ≡ false → May before b → May effect.machine b
-
-unfoldable pub Carries : (Move → Type 0) → (Machine → Addr → Type 0) → (Addr → Order) → Type 0
-Carries Law May order =
-    (addr : Addr) (m : Machine) → IsOrdered m → counted_in m ≤ m.settings.hard → May m addr → Carried Law May addr m (carries_out (order addr) m)
+-- an order is carried out for whom it may be
+abbrev pub Carries : (Move → Type 0) → (Machine → Addr → Type 0) → (Addr → Order) → Type 0
+Carries Law May order = (addr : Addr) (m : Machine) → IsOrdered m → counted_in m ≤ m.settings.hard → May m addr → Trimmed Law m (carries_out (order addr) m)
 
 pub still_may : (May : Machine → Addr → Type 0) (m n : Machine) (a : Addr) (addrs : List Addr) →
     ((b : Addr) → same_address b a ≡ false → May m b → May n b) →
@@ -85,17 +81,6 @@ first-followed Law order orders m ordered first rest = record {
   each = (record { ordered = ordered; accounts = first.accounted }, rest.each);
 }
 
-pub orders-followed : (Law : Move → Type 0) (May : Machine → Addr → Type 0) (order : Addr → Order) → Carries Law May order → (addrs : List Addr) (m : Machine) →
-    IsOrdered m → counted_in m ≤ m.settings.hard → AreApart addrs → AllByRecursion (May m) addrs → Followed Law (map order addrs) m
-unfolding Carries
-orders-followed Law May order each [] m h within apart may = nothing-followed Law m h within
-orders-followed Law May order each (a ∷ addrs) m h within apart may =
-    let effect : Effect = carries_out (order a) m in
-    let first : Carried Law May a m effect = each a m h within may.0 in
-    first-followed Law (order a) (map order addrs) m h first.trimmed
-    (orders-followed Law May order each addrs effect.machine first.trimmed.ordered (trimmed-within Law m effect first.trimmed) apart.1
-    (still_may May m effect.machine a addrs first.elsewhere apart.0 may.1))
-
 -- where nothing is asked of whom an order is for
 abbrev pub Always : Machine → Addr → Type 0
 Always m addr = Unit {0}
@@ -113,35 +98,22 @@ record Used (m : Machine) (addr : Addr) (e : Entry) (k : ℕ) : Type 0 where
   found : find (is_used_at addr) m.connections ≡ Some e
 
 -- what is done on it may be a part of something
-on_used_by-carried : (Law : Move → Type 0) (May : Machine → Addr → Type 0) (addr : Addr) (whole : Effect → Effect) (act : Entry → Machine → Effect) (m : Machine) →
-    IsOrdered m → counted_in m ≤ m.settings.hard → Carried Law May addr m (whole (nothing_more m)) →
-    ((e : Entry) (k : ℕ) → Used m addr e k → Carried Law May addr m (whole (act e m))) → Carried Law May addr m (whole (on_used addr act m))
-on_used_by-carried Law May addr whole act m h within none each = by_entry (find (is_used_at addr) m.connections) refl
-  where
-    by_entry : (o : Option Entry) → find (is_used_at addr) m.connections ≡ o → Carried Law May addr m (whole (on_entry o act m))
-    by_entry None is = none
-    by_entry (Some e) is =
-        let at : FoundIn (is_used_at addr) m.connections e = find_some (is_used_at addr) m.connections e is in
-        let parts = and_parts (is_live_at addr e.facts) e.facts.local at.passes in
-        let lives = and_parts (same_address e.facts.addr addr) (is_live e.facts) parts.0 in
-        each e at.place (record {
-          ordered = h;
-          within = within;
-          stands = at.stands;
-          live = lives.1;
-          local = parts.1;
-          here = same_address-true e.facts.addr addr lives.0;
-          found = is;
-        })
+on_used_by-carried : (Law : Move → Type 0) (addr : Addr) (whole : Effect → Effect) (act : Entry → Machine → Effect) (m : Machine) →
+    IsOrdered m → counted_in m ≤ m.settings.hard → Trimmed Law m (whole (nothing_more m)) →
+    ((e : Entry) (k : ℕ) → Used m addr e k → Trimmed Law m (whole (act e m))) → Trimmed Law m (whole (on_used addr act m))
+on_used_by-carried Law addr whole act m h within none each = by_option (find (is_used_at addr) m.connections)
+    (λ o. Trimmed Law m (whole (on_entry o act m)))
+    (λ is. none)
+    (λ e is.
+    let at : FoundIn (is_used_at addr) m.connections e = find_some (is_used_at addr) m.connections e is in
+    let parts = and_parts (is_live_at addr e.facts) e.facts.local at.passes in
+    let lives = and_parts (same_address e.facts.addr addr) (is_live e.facts) parts.0 in
+    let here : e.facts.addr ≡ addr = same_address-true e.facts.addr addr lives.0 in
+    each e at.place assumption)
 
-on_used-carried : (Law : Move → Type 0) (May : Machine → Addr → Type 0) (addr : Addr) (act : Entry → Machine → Effect) (m : Machine) → IsOrdered m →
-    counted_in m ≤ m.settings.hard → ((e : Entry) (k : ℕ) → Used m addr e k → Carried Law May addr m (act e m)) → Carried Law May addr m (on_used addr act m)
-on_used-carried Law May addr act m h within each = on_used_by-carried Law May addr (λ effect. effect) act m h within
-    (record { trimmed = nothing-trimmed Law m within h; elsewhere = λ b other may. may }) each
-
--- a connection of another address is not it
-other_at : (b : Addr) (x : Entry) → same_address x.facts.addr b ≡ false → is_used_at b x ≡ false
-other_at b x other = ap (λ c. (c && is_live x.facts) && x.facts.local) other
+on_used-carried : (Law : Move → Type 0) (addr : Addr) (act : Entry → Machine → Effect) (m : Machine) → IsOrdered m →
+    counted_in m ≤ m.settings.hard → ((e : Entry) (k : ℕ) → Used m addr e k → Trimmed Law m (act e m)) → Trimmed Law m (on_used addr act m)
+on_used-carried Law addr act m h within each = on_used_by-carried Law addr (λ effect. effect) act m h within (nothing-trimmed Law m within h) each
 
 -- ---- a peer is asked for addresses
 
@@ -163,35 +135,24 @@ asked-obeys Law n m e k h s =
 abbrev pub MayAsk : Machine → Addr → Type 0
 MayAsk m addr = (e : Entry) → find (is_used_at addr) m.connections ≡ Some e → agreed_sharing e.facts.agreed ≡ true
 
-asked-carried : (Law : Move → Type 0) (n : ℕ) (addr : Addr) (m : Machine) (e : Entry) (k : ℕ) → Used m addr e k → MayAsk m addr →
-    Carried Law MayAsk addr m (asks_peer n e m)
+asked-carried : (Law : Move → Type 0) (n : ℕ) (addr : Addr) (m : Machine) (e : Entry) (k : ℕ) → Used m addr e k → MayAsk m addr → Trimmed Law m (asks_peer n e m)
 asked-carried Law n addr m e k u may =
-    let new : Entry = owing 10 n m e in
-    let o : Machine = with_entry new m in
+    let o : Machine = with_entry (owing 10 n m e) m in
     let owes : Keeps 0 m o =
     owes-keeps 10 n m e k u.ordered u.stands (record { known = refl; local = u.local; sharing = λ on_10. may e u.found }) refl in
     let next : ℕ = m.now + m.settings.sharegap in
-    record {
-      trimmed = keeps-trimmed Law m (asks_peer n e m) u.within
-          (keeps_then 0 0 m o (peer_was_asked next e.facts.addr o).machine owes
-          (changes-keeps e.facts.addr (λ p. record p { share_next = next }) o (λ p. refl) (λ p ordinary. ordinary)
-          (λ p tie. same_peer next o.now p (live_entry_at e.facts.addr o) tie) owes.ordered))
-          (asked-obeys Law n m e k u.ordered u.stands);
-      elsewhere = λ b other may_b x found.
-          let apart : same_address e.facts.addr b ≡ false = subst (λ a. same_address a b ≡ false) (sym u.here) (same_turned b addr other) in
-          may_b x
-          (sym (ap (find (is_used_at b)) (turns_at-connections (peer_at e.facts.addr o) (λ p. record p { share_next = next }) o
-          ∙ turned-connections m e new k u.ordered.orderly u.stands (record { same_id = refl; same_addr = refl; live = λ l. l }))
-          ∙ find-set_other (is_used_at b) new e m.connections k u.stands (other_at b e apart) (other_at b new apart)) ∙ found);
-    }
+    keeps-trimmed Law m (asks_peer n e m) u.within
+    (keeps_then 0 0 m o (peer_was_asked next e.facts.addr o).machine owes
+    (changes-keeps e.facts.addr (λ p. record p { share_next = next }) o (λ p. refl) (λ p ordinary. ordinary)
+    (λ p tie. same_peer next o.now p (live_entry_at e.facts.addr o) tie) owes.ordered))
+    (asked-obeys Law n m e k u.ordered u.stands)
   where
     same_peer : (next now : ℕ) (p : Peer) (x : Option Entry) → TiedBy now (Some p) x → TiedBy now (Some (record p { share_next = next })) x
     same_peer next now p None tie = tie
     same_peer next now p (Some x) tie = record { established = tie.established; in_use = tie.in_use; on_its_way = tie.on_its_way; asked = tie.asked }
 
 pub ask-carried : (Law : Move → Type 0) (n : ℕ) → Carries Law MayAsk (λ addr. Ask addr n)
-unfolding Carries
-ask-carried Law n addr m h within may = on_used-carried Law MayAsk addr (asks_peer n) m h within (λ e k u. asked-carried Law n addr m e k u may)
+ask-carried Law n addr m h within may = on_used-carried Law addr (asks_peer n) m h within (λ e k u. asked-carried Law n addr m e k u may)
 
 -- ---- a warm peer is to become hot
 
@@ -231,22 +192,15 @@ activates-accounts addr m e k u =
     }
 
 activated-carried : (addr : Addr) (m : Machine) (e : Entry) (k : ℕ) → Used m addr e k → MayActivate m addr →
-    Carried IsAllowed MayActivate addr m (as_move (activated addr) m (activates e m))
-activated-carried addr m e k u may = record {
-  trimmed = tied-trimmed IsAllowed m (as_move (activated addr) m (activates e m)) u.within
-      (asks_warm-keeps 0 m e k u.ordered u.stands u.local (subst (λ a. IsWarm (peer_at a m)) (sym u.here) may))
-      (λ ties. (activated-allowed addr m (activates e m).machine may ties, tt)) (activates-accounts addr m e k u);
-  elsewhere = λ b other warm. warm;
-}
+    Trimmed IsAllowed m (as_move (activated addr) m (activates e m))
+activated-carried addr m e k u may = tied-trimmed IsAllowed m (as_move (activated addr) m (activates e m)) u.within
+    (asks_warm-keeps 0 m e k u.ordered u.stands u.local (subst (λ a. IsWarm (peer_at a m)) (sym u.here) may))
+    (λ ties. (activated-allowed addr m (activates e m).machine may ties, tt)) (activates-accounts addr m e k u)
 
 pub activate-carried : Carries IsAllowed MayActivate Activate
-unfolding Carries
-activate-carried addr m h within may = on_used_by-carried IsAllowed MayActivate addr (as_move (activated addr) m) activates m h within
-    (record {
-      trimmed = as_move-trimmed IsAllowed (activated addr) m (nothing_more m) refl refl (nothing-trimmed IsAllowed m within h)
-          (λ ties. activated-allowed addr m m may ties);
-      elsewhere = λ b other warm. warm;
-    })
+activate-carried addr m h within may = on_used_by-carried IsAllowed addr (as_move (activated addr) m) activates m h within
+    (as_move-trimmed IsAllowed (activated addr) m (nothing_more m) refl refl (nothing-trimmed IsAllowed m within h)
+    (λ ties. activated-allowed addr m m may ties))
     (λ e k u. activated-carried addr m e k u may)
 
 -- ---- a hot peer is to become warm
@@ -258,24 +212,20 @@ deactivated-obeys Law m e =
     (quiet_then m notice (peer_becomes Warm e.facts.addr) (tells-quiet notice.actions m refl)
     (changes-quiet e.facts.addr (λ p. record p { temp = Warm }) m (record { addr = λ p. refl; hot = λ p hot. absurd (false≢true hot) })))
 
-deactivated-carried : (Law : Move → Type 0) (addr : Addr) (m : Machine) (e : Entry) (k : ℕ) → Used m addr e k → Carried Law Always addr m (deactivates e m)
+deactivated-carried : (Law : Move → Type 0) (addr : Addr) (m : Machine) (e : Entry) (k : ℕ) → Used m addr e k → Trimmed Law m (deactivates e m)
 deactivated-carried Law addr m e k u =
     let was : live_entry_at e.facts.addr m ≡ Some e = live_here m e k u.ordered.orderly u.stands u.live in
-    record {
-      trimmed = keeps-trimmed Law m (deactivates e m) u.within
-          (changes-keeps e.facts.addr (λ p. record p { temp = Warm }) m (λ p. refl) (λ p ordinary. ordinary)
-          (λ p tie. subst (λ o. TiedBy m.now (Some (record p { temp = Warm })) o) (sym was)
-          (warm p (subst (λ o. TiedBy m.now (Some p) o) was tie))) u.ordered)
-          (deactivated-obeys Law m e);
-      elsewhere = λ b other may. tt;
-    }
+    keeps-trimmed Law m (deactivates e m) u.within
+    (changes-keeps e.facts.addr (λ p. record p { temp = Warm }) m (λ p. refl) (λ p ordinary. ordinary)
+    (λ p tie. subst (λ o. TiedBy m.now (Some (record p { temp = Warm })) o) (sym was)
+    (warm p (subst (λ o. TiedBy m.now (Some p) o) was tie))) u.ordered)
+    (deactivated-obeys Law m e)
   where
     warm : (p : Peer) → AreTied m.now p e → AreTied m.now (record p { temp = Warm }) e
     warm p tie = record { established = sym u.local; in_use = tie.in_use; on_its_way = tie.on_its_way; asked = λ asked. refl }
 
 pub deactivate-carried : (Law : Move → Type 0) → Carries Law Always Deactivate
-unfolding Carries
-deactivate-carried Law addr m h within may = on_used-carried Law Always addr deactivates m h within (deactivated-carried Law addr m)
+deactivate-carried Law addr m h within may = on_used-carried Law addr deactivates m h within (deactivated-carried Law addr m)
 
 -- ---- a peer is forgotten
 
@@ -310,23 +260,19 @@ cold-there None cold = elim cold [ ]
 cold-there (Some p) cold = refl
 
 pub forget-carried : (Law : Move → Type 0) → Carries Law MayForget Forget
-unfolding Carries
 forget-carried Law addr m h within may =
     let n : Machine = (peer_goes addr m).machine in
-    record {
-      trimmed = keeps-trimmed Law m (peer_goes addr m) within
-          (moves-keeps 0 m n (peers-moves n.peers m h (filter-book m.settings.own (λ p. not (same_address p.addr addr)) m.peers (book_of m h.formed))
-          (taken-classes addr m))
-          (λ ties. taken-ties addr m (cold-alone m.now (peer_at addr m) (live_entry_at addr m) may.cold may.idle (ties addr)) ties))
-          (quiet-obeys Law m (peer_goes addr m) (record {
-            moves = refl;
-            connections = refl;
-            hot = taken-hot addr m;
-            known = taken-known addr m;
-            told = peer_goes-told addr m (cold-there (peer_at addr m) may.cold);
-          }));
-      elsewhere = λ b other there. record { cold = subst IsCold (sym (taken-elsewhere addr b m.peers other)) there.cold; idle = there.idle };
-    }
+    keeps-trimmed Law m (peer_goes addr m) within
+    (moves-keeps 0 m n (peers-moves n.peers m h (filter-book m.settings.own (λ p. not (same_address p.addr addr)) m.peers (book_of m h.formed))
+    (taken-classes addr m))
+    (λ ties. taken-ties addr m (cold-alone m.now (peer_at addr m) (live_entry_at addr m) may.cold may.idle (ties addr)) ties))
+    (quiet-obeys Law m (peer_goes addr m) (record {
+      moves = refl;
+      connections = refl;
+      hot = taken-hot addr m;
+      known = taken-known addr m;
+      told = peer_goes-told addr m (cold-there (peer_at addr m) may.cold);
+    }))
 
 -- ---- a release
 
@@ -342,20 +288,13 @@ says_done-quiet f m =
     (cond_both (agreed_sharing f.agreed) sharing_done (nothing_more m) (IsQuiet m) (λ sharing. tells-quiet sharing_done.actions m refl) (λ other. tells-quiet [] m refl))
     (tells-quiet (sends_as_initiator f.cid 8 (written_alive Done) first.machine).actions first.machine refl)
 
-pub says_done-machine : (f : Facts) (m : Machine) → (says_done f m).machine ≡ m
-says_done-machine f m = cond_both (agreed_sharing f.agreed) (sends_as_initiator f.cid 10 peer_sharing_done m) (nothing_more m) (λ effect. effect.machine ≡ m)
-    (λ sharing. refl) (λ other. refl)
-
-releasing : Entry → Machine → Effect
+abbrev releasing : Entry → Machine → Effect
 releasing e m = then_do (entry_turns e (record e { facts = released (m.now + m.settings.idle) e.facts }) m)
     (λ m. then_do (peer_becomes Cold e.facts.addr m) (trim e.facts.cid))
 
 pub unused_at : (b : Addr) (x : Entry) → x.facts.local ≡ false → is_used_at b x ≡ false
-unused_at b x unused = by_test (is_live_at b x.facts)
-  where
-    by_test : (c : Bool) → (c && x.facts.local) ≡ false
-    by_test true = unused
-    by_test false = refl
+unused_at b x unused = by_bool (is_live_at b x.facts) (λ c. (c && x.facts.local) ≡ false)
+    (λ is. unused) (λ is. refl)
 
 -- whoever is on its way afterwards was so before
 released-down : (until : ℕ) (e : Entry) → is_up_connection (Some (record e { facts = released until e.facts })) ≡ true → is_up_connection (Some e) ≡ true
@@ -365,9 +304,7 @@ released-down until e up = by_used (is_negotiated e.facts) e.facts.local (is_pen
     by_used true b c is = or_right b c is
     by_used false b c is = is
 
-releasing-carried : (addr : Addr) (m : Machine) (e : Entry) (k : ℕ) → Used m addr e k → MayRelease m addr →
-    Carried IsLawful MayRelease addr m (releasing e m)
-unfolding releasing
+releasing-carried : (addr : Addr) (m : Machine) (e : Entry) (k : ℕ) → Used m addr e k → MayRelease m addr → Trimmed IsLawful m (releasing e m)
 releasing-carried addr m e k u may =
     let h : IsOrdered m = u.ordered in
     let s = u.stands in
@@ -401,28 +338,17 @@ releasing-carried addr m e k u may =
       place = k;
       stands = stands;
       same = refl;
-      counted = unless_false (is_counted new.facts)
+      counted = by_bool (is_counted new.facts) (λ b. (b ≡ false → b ≡ true) → b ≡ true)
+          (λ is gives. refl) (λ is gives. gives refl)
           (λ none. let zero : counted_of new ≡ 0 = one_if-not_counted new.facts none in
           absurd (omega (arith, over, alike, counts, before, after, limit, within, zero)));
     }) in
-    record {
-      trimmed = raised_twice_then_trimmed IsLawful m (entry_turns e new m) (peer_becomes Cold e.facts.addr) (trim e.facts.cid) raised
-          (turns-obeys IsLawful m e new k h.orderly s t (record { up = released-down (m.now + m.settings.idle) e; asked = λ asked. asked }) (λ negotiated. negotiated)
-          (omega arith))
-          (quiet-obeys IsLawful n (peer_becomes Cold e.facts.addr n)
-          (changes-quiet e.facts.addr cold n (record { addr = λ p. refl; hot = λ p hot. absurd (false≢true hot) }))) trimmed;
-      elsewhere = λ b other may_b x found.
-          let apart : same_address e.facts.addr b ≡ false = subst (λ a. same_address a b ≡ false) (sym u.here) (same_turned b addr other) in
-          may_b x
-          (sym (trim-used (is_used_at b) (unused_at b) e.facts.cid o new k raised.ordered.orderly stands refl refl
-          ∙ ap (find (is_used_at b)) same
-          ∙ find-set_other (is_used_at b) new e m.connections k s (other_at b e apart) (other_at b new apart)) ∙ found);
-    }
+    raised_twice_then_trimmed IsLawful m (entry_turns e new m) (peer_becomes Cold e.facts.addr) (trim e.facts.cid) raised
+    (turns-obeys IsLawful m e new k h.orderly s t (record { up = released-down (m.now + m.settings.idle) e; asked = λ asked. asked }) (λ negotiated. negotiated)
+    (omega arith))
+    (quiet-obeys IsLawful n (peer_becomes Cold e.facts.addr n)
+    (changes-quiet e.facts.addr cold n (record { addr = λ p. refl; hot = λ p hot. absurd (false≢true hot) }))) trimmed
   where
-    unless_false : (b : Bool) → (b ≡ false → b ≡ true) → b ≡ true
-    unless_false true gives = refl
-    unless_false false gives = gives refl
-
     used_by_none : {Z : Type 0} → IsAlone e → Z
     used_by_none alone = absurd (both_ways e.facts.local alone.unused u.local)
 
@@ -435,21 +361,14 @@ releasing-carried addr m e k u may =
       asked = λ asked. absurd (both_ways (is_some (reply_on 2 e)) (may e u.found).on_2 (ap is_some (sym owed) ∙ asked));
     }
 
-released-carried : (addr : Addr) (m : Machine) (e : Entry) (k : ℕ) → Used m addr e k → MayRelease m addr →
-    Carried IsLawful MayRelease addr m (release e m)
-unfolding releasing
+released-carried : (addr : Addr) (m : Machine) (e : Entry) (k : ℕ) → Used m addr e k → MayRelease m addr → Trimmed IsLawful m (release e m)
 released-carried addr m e k u may =
     let first : Effect = says_done e.facts m in
     let same : m ≡ first.machine = sym (says_done-machine e.facts m) in
-    let rest : Carried IsLawful MayRelease addr m (releasing e m) = releasing-carried addr m e k u may in
-    record {
-      trimmed = trimmed_then IsLawful m first (releasing e)
-          (keeps-trimmed IsLawful m first u.within (subst (Keeps 0 m) same (keeps_nothing m u.ordered))
-          (quiet-obeys IsLawful m first (says_done-quiet e.facts m)))
-          (subst (λ n. Trimmed IsLawful n (releasing e n)) same rest.trimmed);
-      elsewhere = subst (λ n. (b : Addr) → same_address b addr ≡ false → MayRelease m b → MayRelease (releasing e n).machine b) same rest.elsewhere;
-    }
+    trimmed_then IsLawful m first (releasing e)
+    (keeps-trimmed IsLawful m first u.within (subst (Keeps 0 m) same (keeps_nothing m u.ordered))
+    (quiet-obeys IsLawful m first (says_done-quiet e.facts m)))
+    (subst (λ n. Trimmed IsLawful n (releasing e n)) same (releasing-carried addr m e k u may))
 
 pub release-carried : Carries IsLawful MayRelease Release
-unfolding Carries
-release-carried addr m h within may = on_used-carried IsLawful MayRelease addr release m h within (λ e k u. released-carried addr m e k u may)
+release-carried addr m h within may = on_used-carried IsLawful addr release m h within (λ e k u. released-carried addr m e k u may)

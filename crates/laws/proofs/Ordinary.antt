@@ -1,23 +1,20 @@
 -- Local peers are ordinary ones, through each change of the book.
 use Rattle.std.proofs.Common.{◌≡◌, Bool, true, false, nat_le, ◌||◌, List, [], ◌∷◌, length, Option, Some, None, is_some, if◌then◌else◌, refl, sym, ◌∙◌, subst}
 use Rattle.std.proofs.lemmas.Bool.{cond_both}
-use Rattle.net_base.specs.Address.{same_address, address_below}
-use Rattle.net_base.specs.declared.action.Away.TheVariants.{OwnAddr, Crossed, Present, Full}
-use Rattle.net_base.specs.declared.action.CloseCause.TheVariants.{Overwritten}
+use Rattle.net_base.specs.Address.{same_address}
+use Rattle.net_base.specs.declared.action.Away.TheVariants.{Present, Full}
 use Rattle.net_base.specs.declared.address.Addr.{Addr}
 use Rattle.net_base.specs.declared.peer.Peer.{Peer}
-use Rattle.conn_state.specs.Use.{is_pending}
 use Rattle.peer_book.specs.Book.{peer_at as peer_in, with_peer as with_peer_in, with_new as with_new_in, without_peer, new_peer, entered_by, entered, most_peers}
 use Rattle.peer_book.specs.declared.added.Added.TheVariants.{New, Present, Full}
 use Rattle.root_groups.specs.Cleaned.{is_listed, members_of}
-use Rattle.machine.specs.Machine.{Machine, Entry, counted_in, live_entry_at}
-use Rattle.machine.specs.Effect.{then_do, for_each}
+use Rattle.machine.specs.Machine.{Machine}
+use Rattle.machine.specs.Effect.{for_each}
 use Rattle.machine.specs.Peers.{peer_at, turns_at, peer_is_ordinary}
-use Rattle.machine.specs.Connections.{ending}
-use Rattle.machine.specs.Events.{turned_away, admitted, crossed, accepted_beside, peer_connects}
 use Rattle.laws.specs.Laws.{is_local, LocalsAreOrdinary}
 use Rattle.laws.proofs.Addresses.{same_address-true}
 use Rattle.laws.proofs.Ties.{found-addr, peer_elsewhere, peer_here, put_in-elsewhere, put_in-here, none_there, taken-elsewhere, taken-here}
+use Rattle.laws.proofs.Cases.{by_bool, by_option}
 
 -- ---- one peer
 
@@ -31,14 +28,12 @@ same_peer p q e = cc
 -- a peer that is put in place of another is ordinary where that was
 with_peer-ordinary : (new p : Peer) (ps : List Peer) → peer_in new.addr ps ≡ Some p → (p.big ≡ false → new.big ≡ false) → (b : Addr) →
     IsOrdinaryIn ps b → IsOrdinaryIn (with_peer_in new ps) b
-with_peer-ordinary new p ps found keeps b h q is = by_test (same_address b new.addr) refl
-  where
-    by_test : (c : Bool) → same_address b new.addr ≡ c → q.big ≡ false
-    by_test true e =
-        let at : b ≡ new.addr = same_address-true b new.addr e in
-        let same : new ≡ q = same_peer new q (sym (peer_here new p ps found) ∙ subst (λ a. peer_in a (with_peer_in new ps) ≡ Some q) at is) in
-        subst (λ x. x.big ≡ false) same (keeps (h p (subst (λ a. peer_in a ps ≡ Some p) (sym at) found)))
-    by_test false e = h q (sym (peer_elsewhere new b ps e) ∙ is)
+with_peer-ordinary new p ps found keeps b h q is = by_bool (same_address b new.addr) (λ c. q.big ≡ false)
+    (λ e.
+    let at : b ≡ new.addr = same_address-true b new.addr e in
+    let same : new ≡ q = same_peer new q (sym (peer_here new p ps found) ∙ subst (λ a. peer_in a (with_peer_in new ps) ≡ Some q) at is) in
+    subst (λ x. x.big ≡ false) same (keeps (h p (subst (λ a. peer_in a ps ≡ Some p) (sym at) found))))
+    (λ e. h q (sym (peer_elsewhere new b ps e) ∙ is))
 
 -- a change that makes no big ledger peer, at the address of a peer
 turned-ordinary : (a : Addr) (change : Peer → Peer) (m : Machine) → ((p : Peer) → (change p).addr ≡ p.addr) →
@@ -60,53 +55,45 @@ turned-classes a change m same keeps p is h b q found local =
 -- An ordinary peer comes, or a big ledger peer that is not local.
 pub comes-classes : (big : Bool) (addr : Addr) (m : Machine) → (is_local m.groups addr ≡ true → big ≡ false) →
     LocalsAreOrdinary m → LocalsAreOrdinary (record m { peers = entered (new_peer big addr) m.peers })
-comes-classes big addr m class h = by_there (is_some (peer_in addr m.peers)) refl
+comes-classes big addr m class h = by_bool (is_some (peer_in addr m.peers))
+    (λ c. LocalsAreOrdinary (record m { peers = entered_by (if c then Present else if nat_le most_peers (length m.peers) then Full else New) new m.peers }))
+    (λ e. h)
+    (λ e.
+    cond_both (nat_le most_peers (length m.peers)) Full New (λ added. LocalsAreOrdinary (record m { peers = entered_by added new m.peers }))
+    (λ full. h) (λ room. comes (none_there (peer_in addr m.peers) e)))
   where
     new : Peer
     new = new_peer big addr
 
     comes : peer_in addr m.peers ≡ None → LocalsAreOrdinary (record m { peers = with_new_in new m.peers })
-    comes none b q is local = by_test (same_address b addr) refl
-      where
-        by_test : (c : Bool) → same_address b addr ≡ c → q.big ≡ false
-        by_test true e =
-            let at : b ≡ addr = same_address-true b addr e in
-            let same : new ≡ q = same_peer new q (sym (put_in-here new m.peers none) ∙ subst (λ a. peer_in a (with_new_in new m.peers) ≡ Some q) at is) in
-            subst (λ x. x.big ≡ false) same (class (subst (λ a. is_local m.groups a ≡ true) at local))
-        by_test false e = h b q (sym (put_in-elsewhere new b m.peers e) ∙ is) local
-
-    by_there : (c : Bool) → is_some (peer_in addr m.peers) ≡ c →
-        LocalsAreOrdinary (record m { peers = entered_by (if c then Present else if nat_le most_peers (length m.peers) then Full else New) new m.peers })
-    by_there true e = h
-    by_there false e =
-        cond_both (nat_le most_peers (length m.peers)) Full New (λ added. LocalsAreOrdinary (record m { peers = entered_by added new m.peers }))
-        (λ full. h) (λ room. comes (none_there (peer_in addr m.peers) e))
+    comes none b q is local = by_bool (same_address b addr) (λ c. q.big ≡ false)
+        (λ e.
+        let at : b ≡ addr = same_address-true b addr e in
+        let same : new ≡ q = same_peer new q (sym (put_in-here new m.peers none) ∙ subst (λ a. peer_in a (with_new_in new m.peers) ≡ Some q) at is) in
+        subst (λ x. x.big ≡ false) same (class (subst (λ a. is_local m.groups a ≡ true) at local)))
+        (λ e. h b q (sym (put_in-elsewhere new b m.peers e) ∙ is) local)
 
 pub taken-classes : (addr : Addr) (m : Machine) → LocalsAreOrdinary m → LocalsAreOrdinary (record m { peers = without_peer addr m.peers })
-taken-classes addr m h b q is local = by_test (same_address b addr) refl
+taken-classes addr m h b q is local = by_bool (same_address b addr) (λ c. q.big ≡ false)
+    (λ e.
+    absurd (none_some (sym (taken-here addr m.peers) ∙ subst (λ a. peer_in a (without_peer addr m.peers) ≡ Some q) (same_address-true b addr e) is)))
+    (λ e. h b q (sym (taken-elsewhere addr b m.peers e) ∙ is) local)
   where
     none_some : None ≡ Some q → ⊥
     none_some e = cc
-
-    by_test : (c : Bool) → same_address b addr ≡ c → q.big ≡ false
-    by_test true e =
-        absurd (none_some (sym (taken-here addr m.peers) ∙ subst (λ a. peer_in a (without_peer addr m.peers) ≡ Some q) (same_address-true b addr e) is))
-    by_test false e = h b q (sym (taken-elsewhere addr b m.peers e) ∙ is) local
 
 -- ---- the groups are set
 
 -- a peer that is made ordinary
 made-ordinary : (a : Addr) (m : Machine) → IsOrdinaryIn (peer_is_ordinary a m).machine.peers a
-made-ordinary a m q = by_peer (peer_at a m) refl
-  where
-    by_peer : (o : Option Peer) → peer_at a m ≡ o → peer_in a (turns_at o (λ p. record p { big = false }) m).machine.peers ≡ Some q → q.big ≡ false
-    by_peer None is found = absurd (let never : None ≡ Some q = sym is ∙ found in cc)
-    by_peer (Some p) is found =
-        let at : p.addr ≡ a = found-addr a m.peers p is in
-        let new : Peer = record p { big = false } in
-        let here : peer_in a (with_peer_in new m.peers) ≡ Some new =
-        subst (λ x. peer_in x (with_peer_in new m.peers) ≡ Some new) at (peer_here new p m.peers (subst (λ x. peer_in x m.peers ≡ Some p) (sym at) is)) in
-        subst (λ x. x.big ≡ false) (same_peer new q (sym here ∙ found)) refl
+made-ordinary a m q = by_option (peer_at a m) (λ o. peer_in a (turns_at o (λ p. record p { big = false }) m).machine.peers ≡ Some q → q.big ≡ false)
+    (λ is found. absurd (let never : None ≡ Some q = sym is ∙ found in cc))
+    (λ p is found.
+    let at : p.addr ≡ a = found-addr a m.peers p is in
+    let new : Peer = record p { big = false } in
+    let here : peer_in a (with_peer_in new m.peers) ≡ Some new =
+    subst (λ x. peer_in x (with_peer_in new m.peers) ≡ Some new) at (peer_here new p m.peers (subst (λ x. peer_in x m.peers ≡ Some p) (sym at) is)) in
+    subst (λ x. x.big ≡ false) (same_peer new q (sym here ∙ found)) refl)
 
 all-stay : (addrs : List Addr) (m : Machine) (b : Addr) → IsOrdinaryIn m.peers b → IsOrdinaryIn (for_each peer_is_ordinary addrs m).machine.peers b
 unfolding for_each
@@ -117,16 +104,14 @@ all-stay (a ∷ addrs) m b h =
 all-made : (addrs : List Addr) (m : Machine) (b : Addr) → is_listed b addrs ≡ true → IsOrdinaryIn (for_each peer_is_ordinary addrs m).machine.peers b
 unfolding for_each
 all-made [] m b listed = absurd cc
-all-made (a ∷ addrs) m b listed = by_test (same_address b a) refl listed (all-made addrs (peer_is_ordinary a m).machine b)
-  where
-    n : Machine
-    n = (peer_is_ordinary a m).machine
-
-    by_test : (c : Bool) → same_address b a ≡ c → (c || is_listed b addrs) ≡ true →
-        (is_listed b addrs ≡ true → IsOrdinaryIn (for_each peer_is_ordinary addrs n).machine.peers b) →
-        IsOrdinaryIn (for_each peer_is_ordinary addrs n).machine.peers b
-    by_test true e there later = all-stay addrs n b (subst (IsOrdinaryIn n.peers) (sym (same_address-true b a e)) (made-ordinary a m))
-    by_test false e there later = later there
+all-made (a ∷ addrs) m b listed =
+    let n : Machine = (peer_is_ordinary a m).machine in
+    by_bool (same_address b a)
+    (λ c. (c || is_listed b addrs) ≡ true →
+    (is_listed b addrs ≡ true → IsOrdinaryIn (for_each peer_is_ordinary addrs n).machine.peers b) →
+    IsOrdinaryIn (for_each peer_is_ordinary addrs n).machine.peers b)
+    (λ e there later. all-stay addrs n b (subst (IsOrdinaryIn n.peers) (sym (same_address-true b a e)) (made-ordinary a m)))
+    (λ e there later. later there) listed (all-made addrs (peer_is_ordinary a m).machine b)
 
 turned-groups : (o : Option Peer) (change : Peer → Peer) (m : Machine) → (turns_at o change m).machine.groups ≡ m.groups
 turned-groups None change m = refl
@@ -141,23 +126,3 @@ made-groups (a ∷ addrs) m = made-groups addrs (peer_is_ordinary a m).machine �
 pub members-classes : (m : Machine) → LocalsAreOrdinary (for_each peer_is_ordinary (members_of m.groups) m).machine
 members-classes m b q found local =
     all-made (members_of m.groups) m b (subst (λ groups. is_local groups b ≡ true) (made-groups (members_of m.groups) m) local) q found
-
--- ---- a peer connects
-
--- which changes neither the book nor the groups
-beside-classes : (addr : Addr) (m : Machine) → LocalsAreOrdinary m → LocalsAreOrdinary (accepted_beside (live_entry_at addr m) addr m).machine
-beside-classes addr m h = by_live (live_entry_at addr m)
-  where
-    by_live : (o : Option Entry) → LocalsAreOrdinary (accepted_beside o addr m).machine
-    by_live None = h
-    by_live (Some e) = cond_both (is_pending e.facts) (crossed addr e m) (turned_away Present m) (λ effect. LocalsAreOrdinary effect.machine)
-        (λ pending. cond_both (address_below addr m.settings.own) (then_do (ending Overwritten e m) (admitted addr)) (turned_away Crossed m)
-        (λ effect. LocalsAreOrdinary effect.machine) (λ below. h) (λ above. h)) (λ other. h)
-
-pub connects-classes : (addr : Addr) (m : Machine) → LocalsAreOrdinary m → LocalsAreOrdinary (peer_connects addr m).machine
-connects-classes addr m h = cond_both (same_address addr m.settings.own) (turned_away OwnAddr m)
-    (if nat_le m.settings.hard (counted_in m) then turned_away Full m else accepted_beside (live_entry_at addr m) addr m)
-    (λ effect. LocalsAreOrdinary effect.machine)
-    (λ own. h)
-    (λ other. cond_both (nat_le m.settings.hard (counted_in m)) (turned_away Full m) (accepted_beside (live_entry_at addr m) addr m)
-    (λ effect. LocalsAreOrdinary effect.machine) (λ full. h) (λ room. beside-classes addr m h))

@@ -8,36 +8,27 @@ use Rattle.machine.specs.Machine.{Machine, Entry, Owed}
 use Rattle.machine.specs.Replies.{with_reply, without_reply, reply_on, owing, paid, is_owed_on}
 use Rattle.laws.specs.Steady.{IsOwing}
 use Rattle.laws.proofs.Lists.{AllPairs-head, AllPairs-tail}
+use Rattle.laws.proofs.Cases.{by_bool}
 
 -- ---- which replies are found
 
 some_filter : {X : Type 0} (q r : X → Bool) (xs : List X) → is_some (find q (filter r xs)) ≡ true → is_some (find q xs) ≡ true
 some_filter q r [] h = h
-some_filter {X} q r (x ∷ xs) h = by_kept (r x) h (some_filter q r xs)
-  where
-    either : (b : Bool) → is_some (find q xs) ≡ true → is_some (cond b (Some x) (find q xs)) ≡ true
-    either true rest = refl
-    either false rest = rest
-
-    by_found : (b : Bool) → is_some (cond b (Some x) (find q (filter r xs))) ≡ true → (is_some (find q (filter r xs)) ≡ true → is_some (find q xs) ≡ true) →
-        is_some (cond b (Some x) (find q xs)) ≡ true
-    by_found true h later = refl
-    by_found false h later = later h
-
-    by_kept : (b : Bool) → is_some (find q (cond b (x ∷ filter r xs) (filter r xs))) ≡ true →
-        (is_some (find q (filter r xs)) ≡ true → is_some (find q xs) ≡ true) → is_some (find q (x ∷ xs)) ≡ true
-    by_kept true h later = by_found (q x) h later
-    by_kept false h later = either (q x) (later h)
+some_filter {X} q r (x ∷ xs) h = by_bool (r x)
+    (λ b. is_some (find q (cond b (x ∷ filter r xs) (filter r xs))) ≡ true → (is_some (find q (filter r xs)) ≡ true → is_some (find q xs) ≡ true) → is_some (find q (x ∷ xs)) ≡ true)
+    (λ is h later. by_bool (q x)
+    (λ b. is_some (cond b (Some x) (find q (filter r xs))) ≡ true → (is_some (find q (filter r xs)) ≡ true → is_some (find q xs) ≡ true) → is_some (cond b (Some x) (find q xs)) ≡ true)
+    (λ is h later. refl) (λ is h later. later h) h later) (λ is h later. by_bool (q x)
+    (λ b. is_some (find q xs) ≡ true → is_some (cond b (Some x) (find q xs)) ≡ true)
+    (λ is rest. refl) (λ is rest. rest) (later h)) h (some_filter q r xs)
 
 some_append : {X : Type 0} (Z : Type 0) (q : X → Bool) (xs ys : List X) → (is_some (find q xs) ≡ true → Z) → (is_some (find q ys) ≡ true → Z) →
     is_some (find q (xs ++ ys)) ≡ true → Z
 some_append Z q [] ys front behind h = behind h
-some_append {X} Z q (x ∷ xs) ys front behind h = by_test (q x) front h (some_append Z q xs ys)
-  where
-    by_test : (b : Bool) → (is_some (cond b (Some x) (find q xs)) ≡ true → Z) → is_some (cond b (Some x) (find q (xs ++ ys))) ≡ true →
-        ((is_some (find q xs) ≡ true → Z) → (is_some (find q ys) ≡ true → Z) → is_some (find q (xs ++ ys)) ≡ true → Z) → Z
-    by_test true front h later = front refl
-    by_test false front h later = later front behind h
+some_append {X} Z q (x ∷ xs) ys front behind h = by_bool (q x)
+    (λ b. (is_some (cond b (Some x) (find q xs)) ≡ true → Z) → is_some (cond b (Some x) (find q (xs ++ ys))) ≡ true →
+    ((is_some (find q xs) ≡ true → Z) → (is_some (find q ys) ≡ true → Z) → is_some (find q (xs ++ ys)) ≡ true → Z) → Z)
+    (λ is front h later. front refl) (λ is front h later. later front behind h) front h (some_append Z q xs ys)
 
 -- a reply of another kind than the one that comes to be owed was owed before it
 pub with_reply-some : (q : Owed → Bool) (new : Owed) (owed : List Owed) → q new ≡ false →
@@ -45,12 +36,10 @@ pub with_reply-some : (q : Owed → Bool) (new : Owed) (owed : List Owed) → q 
 with_reply-some q new owed other h =
     some_append (is_some (find q owed) ≡ true) q
     (filter (λ o. nat_lt o.protocol new.protocol) owed) (new ∷ filter (λ o. nat_lt new.protocol o.protocol) owed)
-    (some_filter q (λ o. nat_lt o.protocol new.protocol) owed) (λ found. behind (q new) other found) h
-  where
-    behind : (b : Bool) → b ≡ false → is_some (cond b (Some new) (find q (filter (λ o. nat_lt new.protocol o.protocol) owed))) ≡ true →
-        is_some (find q owed) ≡ true
-    behind true other found = absurd (false≢true (sym other))
-    behind false other found = some_filter q (λ o. nat_lt new.protocol o.protocol) owed found
+    (some_filter q (λ o. nat_lt o.protocol new.protocol) owed) (λ found. by_bool (q new)
+    (λ b. b ≡ false → is_some (cond b (Some new) (find q (filter (λ o. nat_lt new.protocol o.protocol) owed))) ≡ true → is_some (find q owed) ≡ true)
+    (λ is other found. absurd (false≢true (sym other)))
+    (λ is other found. some_filter q (λ o. nat_lt new.protocol o.protocol) owed found) other found) h
 
 -- and so was one that is owed once another was paid
 pub paid-some : (q : Owed → Bool) (protocol : ℕ) (owed : List Owed) → is_some (find q (without_reply protocol owed)) ≡ true → is_some (find q owed) ≡ true

@@ -1,5 +1,5 @@
 -- The parts of each event are lawful.
-use Rattle.std.proofs.Common.{ℕ, zero, suc, ◌≤◌, ◌≡◌, Bool, true, false, ◌||◌, nat_le, if◌then◌else◌, List, [], ◌∷◌, ◌++◌, map, length, Option, Some, None, refl, sym, ap, subst, arith}
+use Rattle.std.proofs.Common.{ℕ, zero, suc, ◌≤◌, ◌≡◌, Bool, true, false, ◌||◌, nat_le, if◌then◌else◌, List, [], ◌∷◌, ◌++◌, map, length, refl, sym, ap, subst, arith}
 use Rattle.std.specs.List.{AllByRecursion}
 use Rattle.std.proofs.lemmas.Bool.{or_left, or_right, false≢true}
 use Rattle.conn_state.specs.Use.{has_id, is_live, is_greeting, is_negotiated}
@@ -14,7 +14,6 @@ use Rattle.net_base.specs.declared.event.Event.TheVariants.{Now, Govern, Accepte
 use Rattle.net_base.specs.declared.event.Group.{Group}
 use Rattle.net_base.specs.declared.event.RootAnswer.{RootAnswer}
 use Rattle.net_base.specs.declared.event.RootAnswer.TheVariants.{Found, Failed}
-use Rattle.net_base.specs.declared.timer.Deadline.{Deadline}
 use Rattle.root_groups.specs.Cleaned.{is_listed, cleaned, members_of}
 use Rattle.root_groups.specs.RootAsk.{awaits, publics_of, found}
 use Rattle.machine.specs.Connections.{with_entry, entry_turns}
@@ -25,14 +24,14 @@ use Rattle.machine.specs.Machine.{Machine, Entry, counted_in, entry_at}
 use Rattle.machine.specs.Peers.{peer_is_ordinary}
 use Rattle.machine.specs.Provided.{comes_ordinary, comes_big}
 use Rattle.machine.specs.Stream.{handles}
-use Rattle.laws.specs.Acts.{Act, shows, fires_one, asks_for_roots, carries, connects, ends_dial, stores, handles_item, ends_stream, is_closed, sets_targets, sets_big_targets, sets_groups, sets_roots, makes_ordinary, provides, provides_big, does, fired_from, fired, orders_of, acts_at_moment, acts_fed, acts_of_bytes, acts_of_answer, acts}
+use Rattle.laws.specs.Acts.{Act, shows, fires_one, asks_for_roots, carries, connects, ends_dial, stores, handles_item, ends_stream, is_closed, sets_targets, sets_big_targets, sets_groups, sets_roots, makes_ordinary, provides, provides_big, does, fired_from, fired, orders_of, acts_at_moment, acts_fed, acts_of_bytes, acts_of_answer, acts, parts_of}
 use Rattle.laws.specs.AtMoves.{IsLawful, is_known, is_provided_by, fed_on}
-use Rattle.laws.specs.Parts.{IsAccounted, IsLawfulEvent}
+use Rattle.laws.specs.Parts.{IsLawfulEvent, IsLawfulPart}
 use Rattle.laws.specs.Steady.{IsSteady, IsOrdered}
 use Rattle.laws.proofs.Addresses.{same_address-self, same_address-true}
 use Rattle.laws.proofs.CarriedOut.{carried-out}
 use Rattle.laws.proofs.Chain.{orders-chain, parts-chain}
-use Rattle.laws.proofs.EventMoves.{connects-obeys, dial_ends-obeys, comes_big-allowed, closes-accounted, step-known, moves-lawful}
+use Rattle.laws.proofs.EventMoves.{connects-obeys, dial_ends-obeys, comes_big-allowed, closes-accounted, moves-lawful}
 use Rattle.laws.proofs.Clock.{fires-obeys}
 use Rattle.laws.proofs.Events.{at_moment-orderly}
 use Rattle.laws.proofs.Least.{least-due}
@@ -40,61 +39,56 @@ use Rattle.laws.proofs.Arrivals.{cleaned-listed, publics-listed, comes-known}
 use Rattle.laws.proofs.Governing.{Governs, governs}
 use Rattle.laws.proofs.Keeping.{Keeps}
 use Rattle.laws.proofs.Lawful.{Accounts, quiet-obeys, elsewhere-quiet, changes-quiet, comes-providing, stands-found, turns-obeys}
-use Rattle.laws.proofs.Lists.{StandsAt, find_some}
+use Rattle.laws.proofs.Lists.{StandsAt, find_some, all-placed}
 use Rattle.laws.proofs.Open.{IsOpen, turned-open, handles-open}
-use Rattle.laws.proofs.Ordering.{EachDue, first_due, rest_due}
+use Rattle.laws.proofs.Ordering.{EachDue}
 use Rattle.laws.proofs.Orders.{EachAccounted}
-use Rattle.laws.proofs.PartMoves.{accounted-part, providing-part, AreLawful, no_part, first_part, one_part, more_parts, all_parts}
+use Rattle.laws.proofs.PartMoves.{accounted-part, providing-part, AreLawful, no_part, first_part, one_part, more_parts, Tells, accounted_by}
 use Rattle.laws.proofs.Streams.{handles-trimmed, faulted-trimmed, open-live}
 use Rattle.laws.proofs.Telling.{are_mute}
 use Rattle.laws.proofs.Trims.{Trimmed, trimmed-within}
 use Rattle.laws.proofs.WholeEvents.{ordered_of, formed_at_moment, fires-keeps}
 use Rattle.laws.proofs.WholeMoves.{decodes-keeps}
+use Rattle.laws.proofs.Cases.{by_bool, by_option}
+use Rattle.machine.specs.Step.{step}
 
 -- ---- the clock
 
 fired-parts : (event : Event) (n : ℕ) (m : Machine) → IsOrdered m → AreLawful event (map fires_one (fired n m)) m
 unfolding fired
 fired-parts event zero m h = no_part event m
-fired-parts event (suc n) m h = by_due (due m) refl (fired-parts event n)
-  where
-    by_due : (o : Option Deadline) → due m ≡ o → ((w : Machine) → IsOrdered w → AreLawful event (map fires_one (fired n w)) w) →
-        AreLawful event (map fires_one (fired_from o (fired n) m)) m
-    by_due None is later = no_part event m
-    by_due (Some d) is later =
-        let keeps : Keeps 0 m (fires d m).machine = fires-keeps d m h is in
-        first_part event (fires_one d) (map fires_one (fired n (fires d m).machine)) m (least-due m d h is) tt h
-        (accounted-part event m (fires d m) (fires-obeys d m h is).accounted) (later (fires d m).machine keeps.ordered)
+fired-parts event (suc n) m h = by_option (due m)
+    (λ o. ((w : Machine) → IsOrdered w → AreLawful event (map fires_one (fired n w)) w) → AreLawful event (map fires_one (fired_from o (fired n) m)) m)
+    (λ is later. no_part event m)
+    (λ d is later.
+    let keeps : Keeps 0 m (fires d m).machine = fires-keeps d m h is in
+    first_part event (fires_one d) (map fires_one (fired n (fires d m).machine)) m (least-due m d h is) tt h
+    (accounted-part event m (fires d m) (fires-obeys d m h is).accounted) (later (fires d m).machine keeps.ordered)) (fired-parts event n)
 
 -- what is neither a connection nor a peer is set
 set-part : (event : Event) (act : Act) (m : Machine) → (does act m).moves ≡ [] → (does act m).machine.connections ≡ m.connections →
-    (does act m).machine.peers ≡ m.peers → (does act m).machine.next_id ≡ m.next_id → (does act m).actions ≡ [] → IsAccounted event m (does act m)
+    (does act m).machine.peers ≡ m.peers → (does act m).machine.next_id ≡ m.next_id → (does act m).actions ≡ [] → Tells event m (does act m)
 set-part event act m none connections peers next_id silent =
     accounted-part event m (does act m) (quiet-obeys (λ move. Unit {0}) m (does act m)
     (elsewhere-quiet m (does act m) none connections peers next_id (ap are_mute silent))).accounted
 
 clock-parts : (t : ℕ) (m : Machine) → IsOrdered m → AreLawful (Now t) (acts m (Now t)) m
-clock-parts t m h = by_test (nat_le t m.now)
-  where
-    n : Machine
-    n = record m { now = t }
-
-    ordered : IsOrdered n
-    ordered = record { orderly = at_moment-orderly t m h.orderly; formed = formed_at_moment t m h.formed }
-
-    by_test : (b : Bool) → AreLawful (Now t) (if b then [] else acts_at_moment t m) m
-    by_test true = no_part (Now t) m
-    by_test false =
-        first_part (Now t) (shows t) (map fires_one (fired (length (deadlines n)) n)) m tt tt tt (set-part (Now t) (shows t) m refl refl refl refl refl)
-        (fired-parts (Now t) (length (deadlines n)) n ordered)
+clock-parts t m h =
+    let n : Machine = record m { now = t } in
+    let ordered : IsOrdered n = record { orderly = at_moment-orderly t m h.orderly; formed = formed_at_moment t m h.formed } in
+    by_bool (nat_le t m.now) (λ b. AreLawful (Now t) (if b then [] else acts_at_moment t m) m)
+    (λ is. no_part (Now t) m)
+    (λ is.
+    first_part (Now t) (shows t) (map fires_one (fired (length (deadlines n)) n)) m tt tt tt (set-part (Now t) (shows t) m refl refl refl refl refl)
+    (fired-parts (Now t) (length (deadlines n)) n ordered))
 
 -- ---- the governor
 
 orders-parts : (event : Event) (orders : List Order) (m : Machine) → EachAccounted orders m → EachDue orders m → AreLawful event (map carries orders) m
 orders-parts event [] m h due = no_part event m
 orders-parts event (o ∷ orders) m h due =
-    first_part event (carries o) (map carries orders) m (first_due o orders m due) (carried-out o m h.0.ordered.orderly) h.0.ordered
-    (accounted-part event m (carries_out o m) h.0.accounts) (orders-parts event orders (carries_out o m).machine h.1 (rest_due o orders m due))
+    first_part event (carries o) (map carries orders) m due.0 (carried-out o m h.0.ordered.orderly) h.0.ordered
+    (accounted-part event m (carries_out o m) h.0.accounts) (orders-parts event orders (carries_out o m).machine h.1 due.1)
 
 govern-parts : (word : ℕ) (m : Machine) → IsOrdered m → counted_in m ≤ m.settings.hard → AreLawful (Govern word) (acts m (Govern word)) m
 govern-parts word m h within =
@@ -147,18 +141,16 @@ fed-parts event fed m e k h within s live =
     (record { ordered = keeps.ordered; within = omega (arith, keeps.counted, hard, within); open_ = turned-open new m live }))
 
 bytes-parts : (cid : Cid) (bytes : List ℕ) (m : Machine) → IsOrdered m → counted_in m ≤ m.settings.hard → AreLawful (Bytes cid bytes) (acts m (Bytes cid bytes)) m
-bytes-parts cid bytes m h within = by_entry (entry_at cid.0 m) refl
+bytes-parts cid bytes m h within = by_option (entry_at cid.0 m) (λ o. AreLawful (Bytes cid bytes) (acts_of_bytes o bytes) m)
+    (λ is. no_part (Bytes cid bytes) m)
+    (λ e is.
+    let at = find_some (λ y. has_id cid.0 y.facts) m.connections e is in
+    by_test e at.place at.stands (is_greeting e.facts || is_negotiated e.facts) refl)
   where
     by_test : (e : Entry) (k : ℕ) → StandsAt m.connections k e → (b : Bool) → (is_greeting e.facts || is_negotiated e.facts) ≡ b →
         AreLawful (Bytes cid bytes) (if b then acts_fed (fed_on e bytes) e else []) m
     by_test e k s true is = fed-parts (Bytes cid bytes) (fed_on e bytes) m e k h within s (open-live e.facts.phase is)
     by_test e k s false is = no_part (Bytes cid bytes) m
-
-    by_entry : (o : Option Entry) → entry_at cid.0 m ≡ o → AreLawful (Bytes cid bytes) (acts_of_bytes o bytes) m
-    by_entry None is = no_part (Bytes cid bytes) m
-    by_entry (Some e) is =
-        let at = find_some (λ y. has_id cid.0 y.facts) m.connections e is in
-        by_test e at.place at.stands (is_greeting e.facts || is_negotiated e.facts) refl
 
 -- ---- what is set and provided
 
@@ -239,22 +231,21 @@ parts-lawful m (Bytes cid bytes) h = bytes-parts cid bytes m (ordered_of m h) h.
 parts-lawful m (Closed cid) h = one_part (Closed cid) (is_closed cid) m tt tt tt (closes-accounted cid m (ordered_of m h))
 parts-lawful m (Aims targets) h = one_part (Aims targets) (sets_targets targets) m tt tt tt (set-part (Aims targets) (sets_targets targets) m refl refl refl refl refl)
 parts-lawful m (Locals groups) h = locals-parts groups m
-parts-lawful m (Roots job answer) h = by_test (awaits job.0 m.roots)
+parts-lawful m (Roots job answer) h = by_bool (awaits job.0 m.roots) (λ b. AreLawful (Roots job answer) (if b then acts_of_answer answer m else []) m)
+    (λ is. roots-parts (Roots job answer) answer m named) (λ is. no_part (Roots job answer) m)
   where
     named : (a : Addr) (ttl : ℕ) (addrs : List Addr) → answer ≡ Found ttl addrs → is_listed a addrs ≡ true → is_provided_by a (Roots job answer) ≡ true
     named a ttl addrs is listed = subst (λ x. is_provided_by a (Roots job x) ≡ true) (sym is) listed
-
-    by_test : (b : Bool) → AreLawful (Roots job answer) (if b then acts_of_answer answer m else []) m
-    by_test true = roots-parts (Roots job answer) answer m named
-    by_test false = no_part (Roots job answer) m
 parts-lawful m (BigAims targets) h =
     one_part (BigAims targets) (sets_big_targets targets) m tt tt tt (set-part (BigAims targets) (sets_big_targets targets) m refl refl refl refl refl)
 parts-lawful m (Bigs addrs) h = bigs-parts (Bigs addrs) addrs m
 
 pub event-lawful : (m : Machine) (event : Event) → IsSteady m → IsLawfulEvent m event
-event-lawful m event h = record {
-  parts = parts-chain m event;
-  each = all_parts event (acts m event) m (parts-lawful m event h);
-  accounted = (step-known m event h).accounted;
-  moves = moves-lawful m event h;
-}
+event-lawful m event h =
+    let all : AreLawful event (acts m event) m = parts-lawful m event h in
+    record {
+      parts = parts-chain m event;
+      each = all-placed (IsLawfulPart event) (parts_of m event) all.each;
+      accounted = accounted_by event m (step m event) (subst (Tells event m) (sym (parts-chain m event)) all.tells);
+      moves = moves-lawful m event h;
+    }

@@ -1,10 +1,10 @@
 -- The laws on peers, from what ties them to connections.
-use Rattle.std.proofs.Common.{ℕ, ◌≤◌, ◌≡◌, Bool, true, false, ◌&&◌, ◌||◌, Option, Some, None, refl, sym, ap, ◌∙◌, subst}
+use Rattle.std.proofs.Common.{ℕ, ◌≤◌, ◌≡◌, true, false, ◌&&◌, ◌||◌, Option, Some, None, refl, sym, ap, ◌∙◌, subst}
 use Rattle.std.proofs.lemmas.Bool.{both_ways, false≢true, and_parts, and_from}
 use Rattle.net_base.specs.declared.address.Addr.{Addr}
 use Rattle.net_base.specs.declared.peer.Peer.{Peer}
 use Rattle.net_base.specs.declared.peer.Temp.{Temp}
-use Rattle.net_base.specs.declared.peer.Temp.TheVariants.{Cold, Warm, Hot}
+use Rattle.net_base.specs.declared.peer.Temp.TheVariants.{Cold, Hot}
 use Rattle.conn_state.specs.Use.{is_negotiated, is_pending, is_live_at}
 use Rattle.peer_book.specs.Book.{is_active, is_established, same_temp}
 use Rattle.machine.specs.Machine.{Machine, Entry, live_entry_at}
@@ -18,6 +18,7 @@ use Rattle.laws.proofs.Moments.{waits-ahead}
 use Rattle.laws.proofs.Shapes.{local-negotiated}
 use Rattle.laws.proofs.Ties.{live_here}
 use Rattle.laws.proofs.WholeMoves.{pending-unnegotiated, negotiated-live}
+use Rattle.laws.proofs.Cases.{by_bool, by_option}
 
 -- the live connection of an address is in shape
 abbrev IsShapedBy : Option Entry → Type 0
@@ -25,21 +26,16 @@ IsShapedBy None = Unit {0}
 IsShapedBy (Some e) = IsShaped e.facts
 
 live-shaped : (addr : Addr) (m : Machine) → IsFormed m → IsShapedBy (live_entry_at addr m)
-live-shaped addr m h = by_live (live_entry_at addr m) refl
-  where
-    by_live : (o : Option Entry) → live_entry_at addr m ≡ o → IsShapedBy o
-    by_live None is = tt
-    by_live (Some e) is =
-        let at : FoundIn (λ x. is_live_at addr x.facts) m.connections e = find_some (λ x. is_live_at addr x.facts) m.connections e is in
-        All-stands (λ x. IsShaped x.facts) m.connections at.place e at.stands h.shaped
+live-shaped addr m h = by_option (live_entry_at addr m) (λ o. IsShapedBy o)
+    (λ is. tt)
+    (λ e is.
+    let at : FoundIn (λ x. is_live_at addr x.facts) m.connections e = find_some (λ x. is_live_at addr x.facts) m.connections e is in
+    All-stands (λ x. IsShaped x.facts) m.connections at.place e at.stands h.shaped)
 
 -- what is in local use is negotiated
 used_is_local : (e : Entry) → IsShaped e.facts → (is_negotiated e.facts && e.facts.local) ≡ e.facts.local
-used_is_local e shape = by_phase (is_negotiated e.facts) refl
-  where
-    by_phase : (b : Bool) → is_negotiated e.facts ≡ b → (b && e.facts.local) ≡ e.facts.local
-    by_phase true is = refl
-    by_phase false is = sym (shape.unused is).local
+used_is_local e shape = by_bool (is_negotiated e.facts) (λ b. (b && e.facts.local) ≡ e.facts.local)
+    (λ is. refl) (λ is. sym (shape.unused is).local)
 
 established-used : (now : ℕ) (p : Option Peer) (e : Option Entry) → IsShapedBy e → TiedBy now p e → is_established_peer p ≡ is_used_connection e
 established-used now None None shape tie = refl
@@ -49,8 +45,7 @@ established-used now (Some p) (Some e) shape tie = tie.established ∙ sym (used
 
 cold-unless : (t : Temp) → is_established t ≡ false → same_temp t Cold ≡ true
 cold-unless Cold h = refl
-cold-unless Warm h = absurd (false≢true (sym h))
-cold-unless Hot h = absurd (false≢true (sym h))
+cold-unless other h = absurd (false≢true (sym h))
 
 pending-cold : (now : ℕ) (p : Option Peer) (e : Option Entry) → IsShapedBy e → TiedBy now p e → is_pending_connection e ≡ true → is_cold_peer p ≡ true
 pending-cold now p None shape tie pending = absurd (false≢true pending)
@@ -60,11 +55,8 @@ pending-cold now (Some p) (Some e) shape tie pending =
 
 used-rested : (now : ℕ) (p : Peer) (e : Option Entry) → TiedBy now (Some p) e → (is_used_connection e || is_pending_connection e) ≡ true → p.not_before ≤ now
 used-rested now p None tie either = absurd (false≢true either)
-used-rested now p (Some e) tie either = by_used (is_negotiated e.facts && e.facts.local) refl either
-  where
-    by_used : (b : Bool) → (is_negotiated e.facts && e.facts.local) ≡ b → (b || is_pending e.facts) ≡ true → p.not_before ≤ now
-    by_used true is h = tie.in_use (and_parts (is_negotiated e.facts) e.facts.local is).1
-    by_used false is h = tie.on_its_way h
+used-rested now p (Some e) tie either = by_bool (is_negotiated e.facts && e.facts.local) (λ b. (b || is_pending e.facts) ≡ true → p.not_before ≤ now)
+    (λ is h. tie.in_use (and_parts (is_negotiated e.facts) e.facts.local is).1) (λ is h. tie.on_its_way h) either
 
 pub steady-established : (m : Machine) → IsSteady m → EstablishedAreUsed m
 steady-established m h addr = established-used m.now (peer_at addr m) (live_entry_at addr m) (live-shaped addr m h.formed) (h.tied addr)
@@ -79,16 +71,12 @@ steady-back_off m h addr p found either =
 -- ---- the record
 
 steady-hot : (m : Machine) → IsSteady m → HotAreUsed m
-steady-hot m h addr hot = sym (steady-established m h addr) ∙ by_peer (peer_at addr m) hot
+steady-hot m h addr hot = sym (steady-established m h addr) ∙ by_option (peer_at addr m) (λ o. is_hot_peer o ≡ true → is_established_peer o ≡ true)
+    (λ is hot. absurd (false≢true hot)) (λ p is hot. by_temp p.temp hot) hot
   where
     by_temp : (t : Temp) → is_active t ≡ true → is_established t ≡ true
-    by_temp Cold hot = absurd (false≢true hot)
-    by_temp Warm hot = absurd (false≢true hot)
     by_temp Hot hot = refl
-
-    by_peer : (o : Option Peer) → is_hot_peer o ≡ true → is_established_peer o ≡ true
-    by_peer None hot = absurd (false≢true hot)
-    by_peer (Some p) hot = by_temp p.temp hot
+    by_temp other hot = absurd (false≢true hot)
 
 -- what is in local use is live, and so the live connection of its address
 steady-local : (m : Machine) → IsSteady m → LocalsAreEstablished m
@@ -100,16 +88,12 @@ steady-local m h = all-standing (λ e. e.facts.local ≡ true → is_established
     steady-established m h e.facts.addr ∙ (ap is_used_connection here ∙ and_from (is_negotiated e.facts) e.facts.local negotiated local))
 
 pub steady-lawful : (m : Machine) → IsSteady m → IsLawfulRecord m
-steady-lawful m h = record {
-  steady = h;
-  distinct = h.sound.addresses;
-  hot = steady-hot m h;
-  local = steady-local m h;
-  established = steady-established m h;
-  pending = steady-pending m h;
-  back_off = steady-back_off m h;
-  limit = h.sound.counted;
-  deadlines = h.sound.deadlines;
-  ordinary = h.locals;
-  waits = waits-ahead m h.sound.deadlines;
-}
+steady-lawful m h = assumption (
+  h,
+  steady-hot m h,
+  steady-local m h,
+  steady-established m h,
+  steady-pending m h,
+  steady-back_off m h,
+  waits-ahead m h.sound.deadlines,
+)

@@ -9,23 +9,19 @@ use Rattle.peer_book.specs.Book.{has_address, peer_at, with_peer, with_new, ente
 use Rattle.peer_book.specs.declared.added.Added.TheVariants.{New, Present, Full}
 use Rattle.laws.specs.Steady.{ArePeersApart}
 use Rattle.laws.proofs.Addresses.{same_address-self, same_address-true}
+use Rattle.laws.proofs.Cases.{by_bool}
 
 pub same_turned : (a b : Addr) → same_address a b ≡ false → same_address b a ≡ false
-same_turned a b h = by_test (same_address b a) refl
-  where
-    by_test : (c : Bool) → same_address b a ≡ c → same_address b a ≡ false
-    by_test false e = e
-    by_test true e =
-        let same : b ≡ a = same_address-true b a e in
-        absurd (both_ways (same_address a b) h (subst (λ x. same_address x b ≡ true) same (same_address-self b)))
+same_turned a b h = by_bool (same_address b a) (λ c. same_address b a ≡ false)
+    (λ e.
+    let same : b ≡ a = same_address-true b a e in
+    absurd (both_ways (same_address a b) h (subst (λ x. same_address x b ≡ true) same (same_address-self b))))
+    (λ e. e)
 
 -- a peer in place of the one with its address
 replaced-addr : (new p : Peer) → (if has_address new.addr p then new else p).addr ≡ p.addr
-replaced-addr new p = by_test (has_address new.addr p) refl
-  where
-    by_test : (b : Bool) → has_address new.addr p ≡ b → (if b then new else p).addr ≡ p.addr
-    by_test true e = sym (same_address-true p.addr new.addr e)
-    by_test false e = refl
+replaced-addr new p = by_bool (has_address new.addr p) (λ b. (if b then new else p).addr ≡ p.addr)
+    (λ e. sym (same_address-true p.addr new.addr e)) (λ e. refl)
 
 pub with_peer-others : (new : Peer) (addr : Addr) (ps : List Peer) → AllByRecursion (λ q. same_address q.addr addr ≡ false) ps →
     AllByRecursion (λ q. same_address q.addr addr ≡ false) (with_peer new ps)
@@ -44,59 +40,44 @@ with_peer-apart new (p ∷ ps) h = (
 pub put_in-others : (new : Peer) (addr : Addr) (ps : List Peer) → same_address new.addr addr ≡ false →
     AllByRecursion (λ q. same_address q.addr addr ≡ false) ps → AllByRecursion (λ q. same_address q.addr addr ≡ false) (with_new new ps)
 put_in-others new addr [] n h = (n, tt)
-put_in-others new addr (p ∷ ps) n h = by_test (address_below p.addr new.addr) (put_in-others new addr ps n h.1)
-  where
-    by_test : (b : Bool) → AllByRecursion (λ q. same_address q.addr addr ≡ false) (with_new new ps) →
-        AllByRecursion (λ q. same_address q.addr addr ≡ false) (if b then p ∷ with_new new ps else new ∷ p ∷ ps)
-    by_test true rest = (h.0, rest)
-    by_test false rest = (n, h)
+put_in-others new addr (p ∷ ps) n h = by_bool (address_below p.addr new.addr)
+    (λ b. AllByRecursion (λ q. same_address q.addr addr ≡ false) (with_new new ps) → AllByRecursion (λ q. same_address q.addr addr ≡ false) (if b then p ∷ with_new new ps else new ∷ p ∷ ps))
+    (λ is rest. (h.0, rest)) (λ is rest. (n, h)) (put_in-others new addr ps n h.1)
 
 with_new-apart : (new : Peer) (ps : List Peer) → AllByRecursion (λ q. same_address q.addr new.addr ≡ false) ps → ArePeersApart ps → ArePeersApart (with_new new ps)
 with_new-apart new [] n h = (tt, tt)
-with_new-apart new (p ∷ ps) n h = by_test (address_below p.addr new.addr) (with_new-apart new ps n.1 h.1)
-  where
-    by_test : (b : Bool) → ArePeersApart (with_new new ps) → ArePeersApart (if b then p ∷ with_new new ps else new ∷ p ∷ ps)
-    by_test true rest = (put_in-others new p.addr ps (same_turned p.addr new.addr n.0) h.0, rest)
-    by_test false rest = (n, h)
+with_new-apart new (p ∷ ps) n h = by_bool (address_below p.addr new.addr)
+    (λ b. ArePeersApart (with_new new ps) → ArePeersApart (if b then p ∷ with_new new ps else new ∷ p ∷ ps))
+    (λ is rest. (put_in-others new p.addr ps (same_turned p.addr new.addr n.0) h.0, rest)) (λ is rest. (n, h)) (with_new-apart new ps n.1 h.1)
 
 -- where none is found, all are others
 none_found : (addr : Addr) (ps : List Peer) → is_some (peer_at addr ps) ≡ false → AllByRecursion (λ q. same_address q.addr addr ≡ false) ps
 none_found addr [] h = tt
-none_found addr (p ∷ ps) h = by_test (has_address addr p) refl h (none_found addr ps)
-  where
-    by_test : (b : Bool) → has_address addr p ≡ b → is_some (cond b (Some p) (peer_at addr ps)) ≡ false →
-        (is_some (peer_at addr ps) ≡ false → AllByRecursion (λ q. same_address q.addr addr ≡ false) ps) →
-        AllByRecursion (λ q. same_address q.addr addr ≡ false) (p ∷ ps)
-    by_test true e none later = absurd (false≢true (sym none))
-    by_test false e none later = (e, later none)
+none_found addr (p ∷ ps) h = by_bool (has_address addr p)
+    (λ b. is_some (cond b (Some p) (peer_at addr ps)) ≡ false →
+    (is_some (peer_at addr ps) ≡ false → AllByRecursion (λ q. same_address q.addr addr ≡ false) ps) →
+    AllByRecursion (λ q. same_address q.addr addr ≡ false) (p ∷ ps))
+    (λ e none later. absurd (false≢true (sym none))) (λ e none later. (e, later none)) h (none_found addr ps)
 
 pub entered-apart : (new : Peer) (ps : List Peer) → ArePeersApart ps → ArePeersApart (entered new ps)
-entered-apart new ps h = by_there (is_some (peer_at new.addr ps)) refl
-  where
-    by_there : (b : Bool) → is_some (peer_at new.addr ps) ≡ b →
-        ArePeersApart (entered_by (if b then Present else if nat_le most_peers (length ps) then Full else New) new ps)
-    by_there true e = h
-    by_there false e = cond_both (nat_le most_peers (length ps)) Full New (λ added. ArePeersApart (entered_by added new ps))
-        (λ full. h) (λ room. with_new-apart new ps (none_found new.addr ps e) h)
+entered-apart new ps h = by_bool (is_some (peer_at new.addr ps))
+    (λ b. ArePeersApart (entered_by (if b then Present else if nat_le most_peers (length ps) then Full else New) new ps))
+    (λ e. h)
+    (λ e. cond_both (nat_le most_peers (length ps)) Full New (λ added. ArePeersApart (entered_by added new ps))
+    (λ full. h) (λ room. with_new-apart new ps (none_found new.addr ps e) h))
 
 -- one goes
 pub others-filter : (addr : Addr) (q : Peer → Bool) (ps : List Peer) → AllByRecursion (λ x. same_address x.addr addr ≡ false) ps →
     AllByRecursion (λ x. same_address x.addr addr ≡ false) (filter q ps)
 others-filter addr q [] h = tt
-others-filter addr q (p ∷ ps) h = by_test (q p) (others-filter addr q ps h.1)
-  where
-    by_test : (b : Bool) → AllByRecursion (λ x. same_address x.addr addr ≡ false) (filter q ps) →
-        AllByRecursion (λ x. same_address x.addr addr ≡ false) (cond b (p ∷ filter q ps) (filter q ps))
-    by_test true rest = (h.0, rest)
-    by_test false rest = rest
+others-filter addr q (p ∷ ps) h = by_bool (q p)
+    (λ b. AllByRecursion (λ x. same_address x.addr addr ≡ false) (filter q ps) → AllByRecursion (λ x. same_address x.addr addr ≡ false) (cond b (p ∷ filter q ps) (filter q ps)))
+    (λ is rest. (h.0, rest)) (λ is rest. rest) (others-filter addr q ps h.1)
 
 pub filter-apart : (q : Peer → Bool) (ps : List Peer) → ArePeersApart ps → ArePeersApart (filter q ps)
 filter-apart q [] h = tt
-filter-apart q (p ∷ ps) h = by_test (q p) (filter-apart q ps h.1)
-  where
-    by_test : (b : Bool) → ArePeersApart (filter q ps) → ArePeersApart (cond b (p ∷ filter q ps) (filter q ps))
-    by_test true rest = (others-filter p.addr q ps h.0, rest)
-    by_test false rest = rest
+filter-apart q (p ∷ ps) h = by_bool (q p) (λ b. ArePeersApart (filter q ps) → ArePeersApart (cond b (p ∷ filter q ps) (filter q ps)))
+    (λ is rest. (others-filter p.addr q ps h.0, rest)) (λ is rest. rest) (filter-apart q ps h.1)
 
 -- each is found under its address
 found_behind : (p : Peer) (ps qs : List Peer) → AllByRecursion (λ q. same_address q.addr p.addr ≡ false) qs →

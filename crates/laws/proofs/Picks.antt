@@ -1,7 +1,7 @@
 -- Picks are of the candidates, and no address is picked twice.
-use Rattle.std.proofs.Common.{ℕ, zero, suc, ◌≡◌, Bool, true, false, cond, ◌&&◌, ◌||◌, ◌==◌, nat_lt, List, [], ◌∷◌, map, filter, Some, refl, sym, ap, ◌∙◌, subst, arith}
+use Rattle.std.proofs.Common.{ℕ, zero, suc, ◌≡◌, Bool, true, false, cond, ◌&&◌, ◌==◌, nat_lt, List, [], ◌∷◌, map, filter, Some, refl, sym, ap, ◌∙◌, subst, arith}
 use Rattle.std.specs.List.{AllByRecursion, best_of}
-use Rattle.std.proofs.lemmas.Bool.{both_ways, false_from_ne_true, and_right}
+use Rattle.std.proofs.lemmas.Bool.{both_ways, false_from_ne_true, and_right, or_from}
 use Rattle.net_base.specs.Address.{address_below, ip_below, same_ip, same_address}
 use Rattle.net_base.specs.declared.address.Ip.{Ip}
 use Rattle.net_base.specs.declared.address.Ip.TheVariants.{V4, V6}
@@ -16,6 +16,7 @@ use Rattle.laws.specs.Steady.{ArePeersApart, AreApart}
 use Rattle.laws.proofs.Addresses.{same_address-true}
 use Rattle.laws.proofs.Lists.{all-weaker}
 use Rattle.laws.proofs.PeersApart.{all-found}
+use Rattle.laws.proofs.Cases.{by_bool, some_same}
 
 -- ---- the least of several things
 
@@ -26,28 +27,19 @@ RisesBy below (x ∷ xs) = AllByRecursion (λ y. below x y ≡ true) xs × Rises
 
 pub filter-all : {X : Type 0} (P : X → Type 0) (q : X → Bool) (xs : List X) → AllByRecursion P xs → AllByRecursion P (filter q xs)
 filter-all P q [] h = h
-filter-all {X} P q (x ∷ xs) h = by_head (q x) (filter-all P q xs h.1)
-  where
-    by_head : (b : Bool) → AllByRecursion P (filter q xs) → AllByRecursion P (cond b (x ∷ filter q xs) (filter q xs))
-    by_head true rest = (h.0, rest)
-    by_head false rest = rest
+filter-all {X} P q (x ∷ xs) h = by_bool (q x) (λ b. AllByRecursion P (filter q xs) → AllByRecursion P (cond b (x ∷ filter q xs) (filter q xs)))
+    (λ is rest. (h.0, rest)) (λ is rest. rest) (filter-all P q xs h.1)
 
 pub filter-passing : {X : Type 0} (q : X → Bool) (xs : List X) → AllByRecursion (λ y. q y ≡ true) (filter q xs)
 filter-passing q [] = tt
-filter-passing {X} q (x ∷ xs) = by_head (q x) refl (filter-passing q xs)
-  where
-    by_head : (b : Bool) → q x ≡ b → AllByRecursion (λ y. q y ≡ true) (filter q xs) →
-        AllByRecursion (λ y. q y ≡ true) (cond b (x ∷ filter q xs) (filter q xs))
-    by_head true e rest = (e, rest)
-    by_head false e rest = rest
+filter-passing {X} q (x ∷ xs) = by_bool (q x)
+    (λ b. AllByRecursion (λ y. q y ≡ true) (filter q xs) → AllByRecursion (λ y. q y ≡ true) (cond b (x ∷ filter q xs) (filter q xs)))
+    (λ e rest. (e, rest)) (λ e rest. rest) (filter-passing q xs)
 
 best-all : {X : Type 0} (P : X → Type 0) (below : X → X → Bool) (a : X) (xs : List X) → P a → AllByRecursion P xs → P (best_of below a xs)
 best-all P below a [] h all = h
-best-all {X} P below a (x ∷ xs) h all = best-all P below (cond (below x a) x a) xs (by_test (below x a)) all.1
-  where
-    by_test : (b : Bool) → P (cond b x a)
-    by_test true = all.0
-    by_test false = h
+best-all {X} P below a (x ∷ xs) h all = best-all P below (cond (below x a) x a) xs (by_bool (below x a) (λ b. P (cond b x a))
+    (λ is. all.0) (λ is. h)) all.1
 
 pub least-all : {X : Type 0} (P : X → Type 0) (below : X → X → Bool) (k : ℕ) (xs : List X) → AllByRecursion P xs → AllByRecursion P (least_by below k xs)
 unfolding least_by
@@ -77,15 +69,12 @@ ip_below-self : (ip : Ip) → ip_below ip ip ≡ false
 ip_below-self (V4 n) = lt-self n
 ip_below-self (V6 n) = lt-self n
 
-or_both_false : (a b : Bool) → a ≡ false → b ≡ false → (a || b) ≡ false
-or_both_false a b h k = subst (λ x. (x || b) ≡ false) (sym h) k
-
 address_below-self : (a : Addr) → address_below a a ≡ false
-address_below-self a = or_both_false (ip_below a.ip a.ip) (same_ip a.ip a.ip && nat_lt a.port a.port) (ip_below-self a.ip)
+address_below-self a = or_from (ip_below a.ip a.ip) (same_ip a.ip a.ip && nat_lt a.port a.port) (ip_below-self a.ip)
     (and_right (same_ip a.ip a.ip) (nat_lt a.port a.port) (lt-self a.port))
 
 pair_below-self : (n : ℕ) (a : Addr) → pair_below n a n a ≡ false
-pair_below-self n a = or_both_false (nat_lt n n) (n == n && address_below a a) (lt-self n)
+pair_below-self n a = or_from (nat_lt n n) (n == n && address_below a a) (lt-self n)
     (and_right (n == n) (address_below a a) (address_below-self a))
 
 -- ---- picks of ordinary peers
@@ -129,9 +118,6 @@ rates-other word peers r s fr fs h = false_from_ne_true (same_address s.addr r.a
     let all : s ≡ r = fs.is ∙ ap rated_of peer ∙ sym fr.is in
     both_ways (rates_below word r r) (pair_below-self (ranked_score_of word r.failures r.addr) r.addr)
     (subst (λ x. rates_below word r x ≡ true) all h))
-  where
-    some_same : (a b : Peer) → Some a ≡ Some b → a ≡ b
-    some_same a b e = cc
 
 rates-apart : (word : ℕ) (peers : List Peer) (rs : List Rated) → RisesBy (rates_below word) rs → AllByRecursion (FoundAs peers) rs →
     AreApart (map (λ r. r.addr) rs)

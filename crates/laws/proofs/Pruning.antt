@@ -1,13 +1,12 @@
 -- Who is pruned in a part of an event: one that might go, or the one that moved.
-use Rattle.std.proofs.Common.{ℕ, ◌+◌, ◌≡◌, Bool, true, false, ◌||◌, ◌==◌, if◌then◌else◌, find, Option, Some, None, refl, sym, ap, ◌∙◌, subst, arith, eqb-true}
+use Rattle.std.proofs.Common.{ℕ, ◌+◌, ◌≡◌, true, false, ◌||◌, ◌==◌, if◌then◌else◌, find, Some, refl, sym, ap, ◌∙◌, subst, arith, eqb-true}
 use Rattle.std.specs.Option.{option_map, unwrap_or}
 use Rattle.std.proofs.lemmas.Bool.{or_left, or_right}
 use Rattle.accept_gate.specs.Prune.{is_candidate, first_to_go, choice_of}
-use Rattle.accept_gate.specs.declared.prune.Candidate.{Candidate}
 use Rattle.conn_state.specs.Moves.{awakened, released}
 use Rattle.conn_state.specs.Use.{has_id}
 use Rattle.govern_rules.specs.declared.order.Order.{Order}
-use Rattle.govern_rules.specs.declared.order.Order.TheVariants.{Ask, Forget, Promote, Release, Activate, Deactivate}
+use Rattle.govern_rules.specs.declared.order.Order.TheVariants.{Release}
 use Rattle.mux_segment.specs.declared.item.Item.{Item}
 use Rattle.net_base.specs.declared.action.CloseCause.TheVariants as cause
 use Rattle.net_base.specs.declared.address.Addr.{Addr}
@@ -30,31 +29,34 @@ use Rattle.laws.proofs.Lists.{FoundIn, find_some}
 use Rattle.laws.proofs.ToldMoves.{turns_at-connections}
 use Rattle.laws.proofs.Trims.{Goes, goes_among, found_by_id}
 use Rattle.laws.proofs.Waits.{replaced}
-use Rattle.laws.proofs.WaitsOfParts.{Finds}
+use Rattle.laws.proofs.Walk.{Finds}
+use Rattle.laws.proofs.Cases.{by_bool, by_option}
 
 -- whoever is chosen may go, or has moved
 pub chosen-goes : (moved : Cid) (m : Machine) → IsOrderly m → (e : Entry) → entry_at (unwrap_or (choice_of (candidates_in m)) moved).0 m ≡ Some e →
     (e.facts.cid.0 == moved.0 || is_candidate e.facts) ≡ true
-chosen-goes moved m h e is = by_choice (first_to_go (candidates_in m)) refl
+chosen-goes moved m h e is = by_option (first_to_go (candidates_in m)) (λ o. (e.facts.cid.0 == moved.0 || is_candidate e.facts) ≡ true)
+    (λ none.
+    let found : entry_at moved.0 m ≡ Some e = subst (λ o. entry_at (unwrap_or (option_map (λ c. c.cid) o) moved).0 m ≡ Some e) none is in
+    or_left (e.facts.cid.0 == moved.0) (is_candidate e.facts) (find_some (λ x. has_id moved.0 x.facts) m.connections e found).passes)
+    (λ c some.
+    let found : entry_at c.cid.0 m ≡ Some e = subst (λ o. entry_at (unwrap_or (option_map (λ x. x.cid) o) moved).0 m ≡ Some e) some is in
+    let goes : Goes m.connections c = goes_among m.connections c some in
+    let same = same_entry goes.entry (sym (found_by_id m goes.entry goes.place c.cid h goes.stands goes.same) ∙ found) in
+    or_right (e.facts.cid.0 == moved.0) (is_candidate e.facts) (ap (λ x. is_candidate x.facts) (sym same) ∙ goes.may))
   where
     same_entry : (f : Entry) → Some f ≡ Some e → f ≡ e
     same_entry f same = cc
-
-    by_choice : (o : Option Candidate) → first_to_go (candidates_in m) ≡ o → (e.facts.cid.0 == moved.0 || is_candidate e.facts) ≡ true
-    by_choice None none =
-        let found : entry_at moved.0 m ≡ Some e = subst (λ o. entry_at (unwrap_or (option_map (λ c. c.cid) o) moved).0 m ≡ Some e) none is in
-        or_left (e.facts.cid.0 == moved.0) (is_candidate e.facts) (find_some (λ x. has_id moved.0 x.facts) m.connections e found).passes
-    by_choice (Some c) some =
-        let found : entry_at c.cid.0 m ≡ Some e = subst (λ o. entry_at (unwrap_or (option_map (λ x. x.cid) o) moved).0 m ≡ Some e) some is in
-        let goes : Goes m.connections c = goes_among m.connections c some in
-        let same = same_entry goes.entry (sym (found_by_id m goes.entry goes.place c.cid h goes.stands goes.same) ∙ found) in
-        or_right (e.facts.cid.0 == moved.0) (is_candidate e.facts) (ap (λ x. is_candidate x.facts) (sym same) ∙ goes.may)
 
 -- and was so before that one has turned
 chosen-went : (m n : Machine) (old new : Entry) → new.facts.cid ≡ old.facts.cid → n.connections ≡ (with_entry new m).connections → IsOrderly n →
     (e : Entry) → entry_at (unwrap_or (choice_of (candidates_in n)) old.facts.cid).0 n ≡ Some e →
     (e.facts.cid.0 == old.facts.cid.0 || is_candidate_entry (entry_at e.facts.cid.0 m)) ≡ true
-chosen-went m n old new same list h e is = by_own (e.facts.cid.0 == old.facts.cid.0) refl (chosen-goes old.facts.cid n h e is)
+chosen-went m n old new same list h e is = by_bool (e.facts.cid.0 == old.facts.cid.0)
+    (λ b. (b || is_candidate e.facts) ≡ true → (b || is_candidate_entry (entry_at e.facts.cid.0 m)) ≡ true)
+    (λ own may. refl)
+    (λ apart may.
+    ap is_candidate_entry (other (ap (λ c. c.0 == e.facts.cid.0) same ∙ turned e.facts.cid.0 old.facts.cid.0 apart)) ∙ may) (chosen-goes old.facts.cid n h e is)
   where
     found : entry_at e.facts.cid.0 n ≡ Some e
     found =
@@ -68,11 +70,6 @@ chosen-went m n old new same list h e is = by_own (e.facts.cid.0 == old.facts.ci
 
     turned : (a b : ℕ) → (a == b) ≡ false → (b == a) ≡ false
     turned a b h = grind arith
-
-    by_own : (b : Bool) → (e.facts.cid.0 == old.facts.cid.0) ≡ b → (b || is_candidate e.facts) ≡ true → (b || is_candidate_entry (entry_at e.facts.cid.0 m)) ≡ true
-    by_own true own may = refl
-    by_own false apart may =
-        ap is_candidate_entry (other (ap (λ c. c.0 == e.facts.cid.0) same ∙ turned e.facts.cid.0 old.facts.cid.0 apart)) ∙ may
 
 -- ---- an item, and a release
 
@@ -93,7 +90,12 @@ OfRelease addr m end = (was_used_at addr (entry_at end.cid m) || is_candidate_en
 
 release-chosen : (addr : Addr) (m : Machine) → IsOrderly m → ChosenByOrder (OfRelease addr m) (Release addr) m
 release-chosen addr m h e is f at =
-    by_own (f.facts.cid.0 == e.facts.cid.0) refl
+    by_bool (f.facts.cid.0 == e.facts.cid.0)
+    (λ b. (b || is_candidate_entry (entry_at f.facts.cid.0 m)) ≡ true → OfRelease addr m (end_of f cause.Pruned))
+    (λ own may.
+    or_left (was_used_at addr (entry_at f.facts.cid.0 m)) (is_candidate_entry (entry_at f.facts.cid.0 m))
+    (ap (λ c. was_used_at addr (entry_at c m)) (eqb-true f.facts.cid.0 e.facts.cid.0 own) ∙ (ap (was_used_at addr) (stands-found m e place.place h place.stands) ∙ place.passes)))
+    (λ other may. or_right (was_used_at addr (entry_at f.facts.cid.0 m)) (is_candidate_entry (entry_at f.facts.cid.0 m)) may)
     (chosen-went m (cooled e m) e new refl (turns_at-connections (peer_at e.facts.addr n) cold n)
     (changed-orderly (peer_at e.facts.addr n) cold n (turned-orderly m e new place.place h place.stands (record { same_id = refl; same_addr = refl; live = λ l. l }))) f at)
   where
@@ -109,19 +111,9 @@ release-chosen addr m h e is f at =
     cold : Peer → Peer
     cold = λ p. record p { temp = Cold }
 
-    by_own : (b : Bool) → (f.facts.cid.0 == e.facts.cid.0) ≡ b → (b || is_candidate_entry (entry_at f.facts.cid.0 m)) ≡ true → OfRelease addr m (end_of f cause.Pruned)
-    by_own true own may =
-        or_left (was_used_at addr (entry_at f.facts.cid.0 m)) (is_candidate_entry (entry_at f.facts.cid.0 m))
-        (ap (λ c. was_used_at addr (entry_at c m)) (eqb-true f.facts.cid.0 e.facts.cid.0 own) ∙ (ap (was_used_at addr) (stands-found m e place.place h place.stands) ∙ place.passes))
-    by_own false other may = or_right (was_used_at addr (entry_at f.facts.cid.0 m)) (is_candidate_entry (entry_at f.facts.cid.0 m)) may
-
 order-chosen : (order : Order) (m : Machine) → IsOrderly m → ChosenByOrder (IsPrunedByOrder order m) order m
-order-chosen (Ask addr n) m h = tt
-order-chosen (Forget addr) m h = tt
-order-chosen (Promote addr) m h = tt
 order-chosen (Release addr) m h = release-chosen addr m h
-order-chosen (Activate addr) m h = tt
-order-chosen (Deactivate addr) m h = tt
+order-chosen other m h = tt
 
 -- ---- each act
 

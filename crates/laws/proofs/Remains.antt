@@ -14,9 +14,7 @@ use Rattle.machine.specs.Effect.{nothing_more, on_entry}
 use Rattle.machine.specs.Machine.{Machine, Entry, counted_in, entry_at}
 use Rattle.laws.proofs.Trims.{lost-connections}
 use Rattle.net_base.specs.declared.action.CloseCause.TheVariants.{Pruned}
-
-some_same : (x e : Entry) → Some x ≡ Some e → x ≡ e
-some_same x e same = cc
+use Rattle.laws.proofs.Cases.{by_bool, some_same}
 
 nothing_found : {Z : Type 0} (x : Entry) → None ≡ Some x → Z
 nothing_found x same = absurd cc
@@ -25,12 +23,10 @@ nothing_found x same = absurd cc
 
 none-left : (cid : ℕ) (es : List Entry) → find (λ e. has_id cid e.facts) (filter (λ e. not (has_id cid e.facts)) es) ≡ None
 none-left cid [] = refl
-none-left cid (e ∷ es) = by_test (has_id cid e.facts) refl (none-left cid es)
-  where
-    by_test : (b : Bool) → has_id cid e.facts ≡ b → find (λ y. has_id cid y.facts) (filter (λ y. not (has_id cid y.facts)) es) ≡ None →
-        find (λ y. has_id cid y.facts) (cond (not b) (e ∷ filter (λ y. not (has_id cid y.facts)) es) (filter (λ y. not (has_id cid y.facts)) es)) ≡ None
-    by_test true is rest = rest
-    by_test false is rest = rw is rest
+none-left cid (e ∷ es) = by_bool (has_id cid e.facts)
+    (λ b. find (λ y. has_id cid y.facts) (filter (λ y. not (has_id cid y.facts)) es) ≡ None →
+    find (λ y. has_id cid y.facts) (cond (not b) (e ∷ filter (λ y. not (has_id cid y.facts)) es) (filter (λ y. not (has_id cid y.facts)) es)) ≡ None)
+    (λ is rest. rest) (λ is rest. rw is rest) (none-left cid es)
 
 found-among : (cid other : ℕ) (x : Entry) (es : List Entry) →
     find (λ e. has_id cid e.facts) (filter (λ e. not (has_id other e.facts)) es) ≡ Some x → find (λ e. has_id cid e.facts) es ≡ Some x
@@ -69,16 +65,14 @@ trim-found moved cid x m = cond_both (nat_le (counted_in m) m.settings.hard) (no
 turned-among : (new x : Entry) (es : List Entry) →
     find (λ e. has_id new.facts.cid.0 e.facts) (map (λ e. if has_id new.facts.cid.0 e.facts then new else e) es) ≡ Some x → x ≡ new
 turned-among new x [] found = nothing_found x found
-turned-among new x (e ∷ es) found = by_test (has_id new.facts.cid.0 e.facts) refl (turned-among new x es) found
-  where
-    by_test : (b : Bool) → has_id new.facts.cid.0 e.facts ≡ b →
-        (find (λ y. has_id new.facts.cid.0 y.facts) (map (λ y. if has_id new.facts.cid.0 y.facts then new else y) es) ≡ Some x → x ≡ new) →
-        find (λ y. has_id new.facts.cid.0 y.facts) ((if b then new else e) ∷ map (λ y. if has_id new.facts.cid.0 y.facts then new else y) es) ≡ Some x →
-        x ≡ new
-    by_test true is later found =
-        let own : has_id new.facts.cid.0 new.facts ≡ true = eq-eqb new.facts.cid.0 new.facts.cid.0 refl in
-        some_same x new (sym (rw own at found))
-    by_test false is later found = later (rw is at found)
+turned-among new x (e ∷ es) found = by_bool (has_id new.facts.cid.0 e.facts)
+    (λ b. (find (λ y. has_id new.facts.cid.0 y.facts) (map (λ y. if has_id new.facts.cid.0 y.facts then new else y) es) ≡ Some x → x ≡ new) →
+    find (λ y. has_id new.facts.cid.0 y.facts) ((if b then new else e) ∷ map (λ y. if has_id new.facts.cid.0 y.facts then new else y) es) ≡ Some x →
+    x ≡ new)
+    (λ is later found.
+    let own : has_id new.facts.cid.0 new.facts ≡ true = eq-eqb new.facts.cid.0 new.facts.cid.0 refl in
+    some_same x new (sym (rw own at found)))
+    (λ is later found. later (rw is at found)) (turned-among new x es) found
 
 pub turned-found : (new x : Entry) (m : Machine) → entry_at new.facts.cid.0 (with_entry new m) ≡ Some x → x ≡ new
 turned-found new x m found = turned-among new x m.connections found

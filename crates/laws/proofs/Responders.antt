@@ -7,7 +7,7 @@ use Rattle.mux_segment.specs.declared.item.Item.{Item}
 use Rattle.net_base.specs.declared.action.FaultKind.{FaultKind}
 use Rattle.net_base.specs.declared.connection.Cid.{Cid}
 use Rattle.net_base.specs.declared.connection.Phase.{Phase}
-use Rattle.net_base.specs.declared.connection.Phase.TheVariants.{Dialing, Greeting, Negotiated, Closing}
+use Rattle.net_base.specs.declared.connection.Phase.TheVariants.{Negotiated}
 use Rattle.net_base.specs.declared.connection.Responders.{Responders}
 use Rattle.remote_watch.specs.Watch.{watched}
 use Rattle.remote_watch.specs.declared.seen.Seen.{Seen}
@@ -17,7 +17,8 @@ use Rattle.laws.specs.Acts.{Act, handles_item, does}
 use Rattle.laws.specs.Responders.{WhereSeen, WhereAsked, WhereThere, RespondsRight}
 use Rattle.laws.specs.Untouched.{IsAsItWas}
 use Rattle.laws.proofs.Turned.{begun, stopped, turned_by_request, turned_by_item, part-becomes}
-use Rattle.laws.proofs.WaitsOfParts.{Finds}
+use Rattle.laws.proofs.Walk.{Finds}
+use Rattle.laws.proofs.Cases.{by_bool, by_option}
 
 -- one that runs is begun without a change
 runs-begun : (protocol : ℕ) (r : Responders) → runs protocol r ≡ true → r ≡ with_responder protocol true r
@@ -51,11 +52,9 @@ begun-stopped protocol r = by_tests (protocol == 2) (protocol == 3) (protocol ==
     by_tests false false false false false = refl
 
 begun-running : (protocol : ℕ) (e : Entry) → (begun protocol e).facts.running ≡ with_responder protocol true e.facts.running
-begun-running protocol e = by_runs (runs protocol e.facts.running) refl
-  where
-    by_runs : (b : Bool) → runs protocol e.facts.running ≡ b → (if b then e else record e { facts = awakened protocol e.facts }).facts.running ≡ with_responder protocol true e.facts.running
-    by_runs true is = runs-begun protocol e.facts.running is
-    by_runs false is = refl
+begun-running protocol e = by_bool (runs protocol e.facts.running)
+    (λ b. (if b then e else record e { facts = awakened protocol e.facts }).facts.running ≡ with_responder protocol true e.facts.running)
+    (λ is. runs-begun protocol e.facts.running is) (λ is. refl)
 
 stopped-running : (done : Bool) (protocol until : ℕ) (e : Entry) → (stopped done protocol until (begun protocol e)).facts.running ≡ with_responder protocol (not done) e.facts.running
 stopped-running true protocol until e = ap (with_responder protocol false) (begun-running protocol e) ∙ begun-stopped protocol e.facts.running
@@ -72,22 +71,18 @@ requested-runs (Ok seen) protocol e m (Some f) becomes =
 
 handled-runs : (p : Phase) (item : Item) (e : Entry) (m : Machine) (o : Option Entry) → IsAsItWas (turned_by_item p item e m) o → is_negotiated_phase p ≡ true → (item.side == 0) ≡ true →
     WhereSeen (watched item.id (agreed_sharing e.facts.agreed) item.body) (λ seen. WhereThere o (λ f. f.facts.running ≡ with_responder item.id (not seen.done) e.facts.running))
-handled-runs Dialing item e m o becomes negotiated asks = absurd (false≢true negotiated)
-handled-runs (Greeting until) item e m o becomes negotiated asks = absurd (false≢true negotiated)
 handled-runs Negotiated item e m o becomes negotiated asks =
     let r : Result Seen FaultKind = watched item.id (agreed_sharing e.facts.agreed) item.body in
     requested-runs r item.id e m o (subst (λ b. IsAsItWas (if b then turned_by_request r item.id e m else Some (paid item.id e)) o) asks becomes)
-handled-runs (Closing until) item e m o becomes negotiated asks = absurd (false≢true negotiated)
+handled-runs other item e m o becomes negotiated asks = absurd (false≢true negotiated)
 
 item-runs : (own : Cid) (item : Item) (m : Machine) → Finds (handles_item own item) m → RespondsRight (handles_item own item) m (does (handles_item own item) m).machine
-item-runs own item m found = by_entry (entry_at own.0 m) refl
-  where
-    after : Option Entry
-    after = entry_at own.0 (does (handles_item own item) m).machine
-
-    by_entry : (o : Option Entry) → entry_at own.0 m ≡ o → WhereAsked item o (λ e seen. WhereThere after (λ f. f.facts.running ≡ with_responder item.id (not seen.done) e.facts.running))
-    by_entry None is = tt
-    by_entry (Some e) is = handled-runs e.facts.phase item e m after (part-becomes (handles_item own item) m found own.0 e (eq-eqb own.0 own.0 refl) is)
+item-runs own item m found =
+    let after : Option Entry = entry_at own.0 (does (handles_item own item) m).machine in
+    by_option (entry_at own.0 m)
+    (λ o. WhereAsked item o (λ e seen. WhereThere after (λ f. f.facts.running ≡ with_responder item.id (not seen.done) e.facts.running)))
+    (λ is. tt)
+    (λ e is. handled-runs e.facts.phase item e m after (part-becomes (handles_item own item) m found own.0 e (eq-eqb own.0 own.0 refl) is))
 
 pub responds-right : (act : Act) (m : Machine) → Finds act m → RespondsRight act m (does act m).machine
 responds-right (handles_item cid item) m found = item-runs cid item m found

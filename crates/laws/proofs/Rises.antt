@@ -21,6 +21,7 @@ use Rattle.laws.proofs.Entries.{TurnsInto, with_new}
 use Rattle.laws.proofs.Lists.{StandsAt}
 use Rattle.laws.proofs.PeersApart.{same_turned}
 use Rattle.laws.proofs.Ties.{live_here, turned_here, turned_elsewhere, turned_dead, gone_here, gone_elsewhere, gone_dead, found-addr, peer_here, put_in-elsewhere, put_in-here, none_there, taken-elsewhere, taken-here, turns_at-elsewhere}
+use Rattle.laws.proofs.Cases.{by_bool, by_option}
 
 -- ---- a move says so
 
@@ -29,7 +30,7 @@ pub record Rises (before : Machine) (effect : Effect) : Type 0 where
   pub activations : RisesBy is_hot_or_asked activates before effect
   pub arrivals : RisesBy is_known shares before effect
 
-rises_by_then : (is : Addr → Machine → Bool) (says : Addr → Happened → Bool) (m : Machine) (first : Effect) (next : Machine → Effect) → RisesBy is says m first →
+pub rises_by_then : (is : Addr → Machine → Bool) (says : Addr → Happened → Bool) (m : Machine) (first : Effect) (next : Machine → Effect) → RisesBy is says m first →
     RisesBy is says first.machine (next first.machine) → RisesBy is says m (then_do first next)
 rises_by_then is says m first next one two addr h =
     let second : Effect = next first.machine in
@@ -44,6 +45,10 @@ rises_by_then is says m first next one two addr h =
     by_first true false false late one two = absurd (false≢true (one refl))
     by_first false false false late one two = two
 
+pub more : (a b c : Bool) → (a || b) ≡ true → (a || (b || c)) ≡ true
+more true b c is = refl
+more false b c is = or_left b c is
+
 -- more moves say more
 rises_by_move : (is : Addr → Machine → Bool) (says : Addr → Happened → Bool) (happened : Happened) (m : Machine) (effect : Effect) → RisesBy is says m effect →
     RisesBy is says m (as_move happened m effect)
@@ -51,11 +56,6 @@ rises_by_move is says happened m effect rises addr h =
     let move : Move = record { happened = happened; before = m; after = effect.machine } in
     subst (λ b. (is addr m || b) ≡ true) (sym (list_any-append (λ x. says addr x.happened) effect.moves (move ∷ [])))
     (more (is addr m) (list_any (λ x. says addr x.happened) effect.moves) (list_any (λ x. says addr x.happened) (move ∷ [])) (rises addr h))
-  where
-    more : (a b c : Bool) → (a || b) ≡ true → (a || (b || c)) ≡ true
-    more true b c is = refl
-    more false true c is = refl
-    more false false c is = absurd (false≢true is)
 
 pub rises_then : (m : Machine) (first : Effect) (next : Machine → Effect) → Rises m first → Rises first.machine (next first.machine) → Rises m (then_do first next)
 rises_then m first next one two = record {
@@ -82,12 +82,11 @@ said says happened m effect addr h =
 -- only whom the move is of comes up
 pub rises_said : (is : Addr → Machine → Bool) (says : Addr → Happened → Bool) (happened : Happened) (m : Machine) (effect : Effect) →
     ((addr : Addr) → says addr happened ≡ false → is addr effect.machine ≡ true → is addr m ≡ true) → RisesBy is says m (as_move happened m effect)
-rises_said is says happened m effect others addr h = by_move (says addr happened) refl
-  where
-    by_move : (b : Bool) → says addr happened ≡ b → (is addr m || list_any (λ move. says addr move.happened) (as_move happened m effect).moves) ≡ true
-    by_move true e =
-        or_right (is addr m) (list_any (λ move. says addr move.happened) (as_move happened m effect).moves) (said says happened m effect addr e)
-    by_move false e = or_left (is addr m) (list_any (λ move. says addr move.happened) (as_move happened m effect).moves) (others addr e h)
+rises_said is says happened m effect others addr h = by_bool (says addr happened)
+    (λ b. (is addr m || list_any (λ move. says addr move.happened) (as_move happened m effect).moves) ≡ true)
+    (λ e.
+    or_right (is addr m) (list_any (λ move. says addr move.happened) (as_move happened m effect).moves) (said says happened m effect addr e))
+    (λ e. or_left (is addr m) (list_any (λ move. says addr move.happened) (as_move happened m effect).moves) (others addr e h))
 
 -- ---- nobody comes up
 
@@ -149,7 +148,10 @@ pub record IsNoHigher (old new : Entry) : Type 0 where
 
 pub turned-down : (q : Option Entry → Bool) → q None ≡ false → (m : Machine) (e new : Entry) (k : ℕ) → IsOrderly m → StandsAt m.connections k e → TurnsInto e new →
     (q (Some new) ≡ true → q (Some e) ≡ true) → StaysDown (of_connection q) m (with_entry new m)
-turned-down q none m e new k h s t lower addr = by_live (is_live e.facts) refl
+turned-down q none m e new k h s t lower addr = by_bool (is_live e.facts)
+    (λ b. q (live_entry_at addr (with_entry new m)) ≡ true → q (live_entry_at addr m) ≡ true)
+    (λ live is. by_address live (same_address addr e.facts.addr) refl is)
+    (λ dead is. ap q (sym (turned_dead m e new k h s t dead addr)) ∙ is)
   where
     by_new : (b : Bool) → is_live e.facts ≡ true → q (if b then Some new else None) ≡ true → q (live_entry_at e.facts.addr m) ≡ true
     by_new true live is = subst (λ o. q o ≡ true) (sym (live_here m e k h s live)) (lower is)
@@ -161,10 +163,6 @@ turned-down q none m e new k h s t lower addr = by_live (is_live e.facts) refl
         (λ there. by_new (is_live new.facts) live (ap q (sym (turned_here m e new k h s t live)) ∙ there)) is
     by_address live false other is = ap q (sym (turned_elsewhere m e new k h s t addr other)) ∙ is
 
-    by_live : (b : Bool) → is_live e.facts ≡ b → q (live_entry_at addr (with_entry new m)) ≡ true → q (live_entry_at addr m) ≡ true
-    by_live true live is = by_address live (same_address addr e.facts.addr) refl is
-    by_live false dead is = ap q (sym (turned_dead m e new k h s t dead addr)) ∙ is
-
 -- a connection turns
 pub turned-connected : (m : Machine) (e new : Entry) (k : ℕ) → IsOrderly m → StandsAt m.connections k e → TurnsInto e new → IsNoHigher e new →
     NoneConnected m (with_entry new m)
@@ -175,7 +173,9 @@ turned-connected m e new k h s t lower = record {
 
 gone-down : (q : Option Entry → Bool) → q None ≡ false → (m : Machine) (e : Entry) (k : ℕ) → IsOrderly m → StandsAt m.connections k e →
     StaysDown (of_connection q) m (without_entry e.facts.cid.0 m)
-gone-down q none m e k h s addr = by_live (is_live e.facts) refl
+gone-down q none m e k h s addr = by_bool (is_live e.facts) (λ b. q (live_entry_at addr gone) ≡ true → q (live_entry_at addr m) ≡ true)
+    (λ live is. by_address live (same_address addr e.facts.addr) refl is)
+    (λ dead is. ap q (sym (gone_dead m e k h s dead addr)) ∙ is)
   where
     gone : Machine
     gone = without_entry e.facts.cid.0 m
@@ -186,10 +186,6 @@ gone-down q none m e k h s addr = by_live (is_live e.facts) refl
         absurd (false≢true (sym none ∙ ap q (sym here) ∙ is))
     by_address live false other is = ap q (sym (gone_elsewhere m e k h s addr other)) ∙ is
 
-    by_live : (b : Bool) → is_live e.facts ≡ b → q (live_entry_at addr gone) ≡ true → q (live_entry_at addr m) ≡ true
-    by_live true live is = by_address live (same_address addr e.facts.addr) refl is
-    by_live false dead is = ap q (sym (gone_dead m e k h s dead addr)) ∙ is
-
 -- a connection goes
 pub gone-connected : (m : Machine) (e : Entry) (k : ℕ) → IsOrderly m → StandsAt m.connections k e → NoneConnected m (without_entry e.facts.cid.0 m)
 gone-connected m e k h s = record {
@@ -199,17 +195,11 @@ gone-connected m e k h s = record {
 
 pushed-down : {X : Type 0} (q : Option X → Bool) (p : X → Bool) (new : X) (xs : List X) → q None ≡ false → q (Some new) ≡ false →
     q (find p (xs ++ new ∷ [])) ≡ true → q (find p xs) ≡ true
-pushed-down {X} q p new [] none lower is = by_test (p new) is
-  where
-    by_test : (b : Bool) → q (cond b (Some new) None) ≡ true → q None ≡ true
-    by_test true is = absurd (false≢true (sym lower ∙ is))
-    by_test false is = is
-pushed-down {X} q p new (x ∷ xs) none lower is = by_test (p x) is (pushed-down q p new xs none lower)
-  where
-    by_test : (b : Bool) → q (cond b (Some x) (find p (xs ++ new ∷ []))) ≡ true → (q (find p (xs ++ new ∷ [])) ≡ true → q (find p xs) ≡ true) →
-        q (cond b (Some x) (find p xs)) ≡ true
-    by_test true is later = is
-    by_test false is later = later is
+pushed-down {X} q p new [] none lower is = by_bool (p new) (λ b. q (cond b (Some new) None) ≡ true → q None ≡ true)
+    (λ here is. absurd (false≢true (sym lower ∙ is))) (λ here is. is) is
+pushed-down {X} q p new (x ∷ xs) none lower is = by_bool (p x)
+    (λ b. q (cond b (Some x) (find p (xs ++ new ∷ []))) ≡ true → (q (find p (xs ++ new ∷ [])) ≡ true → q (find p xs) ≡ true) → q (cond b (Some x) (find p xs)) ≡ true)
+    (λ here is later. is) (λ here is later. later is) is (pushed-down q p new xs none lower)
 
 -- a connection comes
 pub come-down : (q : Option Entry → Bool) → q None ≡ false → (m : Machine) (new : Entry) → q (Some new) ≡ false → StaysDown (of_connection q) m (with_new new m)
@@ -224,21 +214,19 @@ pub record IsCooling (change : Peer → Peer) : Type 0 where
 
 changed-down : (q : Option Peer → Bool) (a : Addr) (change : Peer → Peer) (m : Machine) → ((p : Peer) → (change p).addr ≡ p.addr) →
     ((p : Peer) → q (Some (change p)) ≡ true → q (Some p) ≡ true) → (b : Addr) → q (peer_at b (peer_changes a change m).machine) ≡ true → q (peer_at b m) ≡ true
-changed-down q a change m same lower b = by_address (same_address b a) refl
-  where
-    by_peer : (o : Option Peer) → peer_at a m ≡ o → q (peer_at a (turns_at o change m).machine) ≡ true → q (peer_at a m) ≡ true
-    by_peer None is h = h
-    by_peer (Some p) is h =
-        let new : Peer = change p in
-        let here : new.addr ≡ a = same p ∙ found-addr a m.peers p is in
-        let found : peer_in a (with_peer_in new m.peers) ≡ Some new =
-        subst (λ x. peer_in x (with_peer_in new m.peers) ≡ Some new) here (peer_here new p m.peers (subst (λ x. peer_in x m.peers ≡ Some p) (sym here) is)) in
-        ap q is ∙ lower p (ap q (sym found) ∙ h)
-
-    by_address : (c : Bool) → same_address b a ≡ c → q (peer_at b (peer_changes a change m).machine) ≡ true → q (peer_at b m) ≡ true
-    by_address true e h =
-        subst (λ x. q (peer_at x (peer_changes a change m).machine) ≡ true → q (peer_at x m) ≡ true) (sym (same_address-true b a e)) (by_peer (peer_at a m) refl) h
-    by_address false e h = ap q (sym (turns_at-elsewhere a change m same b e)) ∙ h
+changed-down q a change m same lower b = by_bool (same_address b a)
+    (λ c. q (peer_at b (peer_changes a change m).machine) ≡ true → q (peer_at b m) ≡ true)
+    (λ e h.
+    subst (λ x. q (peer_at x (peer_changes a change m).machine) ≡ true → q (peer_at x m) ≡ true) (sym (same_address-true b a e)) (by_option (peer_at a m)
+    (λ o. q (peer_at a (turns_at o change m).machine) ≡ true → q (peer_at a m) ≡ true)
+    (λ is h. h)
+    (λ p is h.
+    let new : Peer = change p in
+    let here : new.addr ≡ a = same p ∙ found-addr a m.peers p is in
+    let found : peer_in a (with_peer_in new m.peers) ≡ Some new =
+    subst (λ x. peer_in x (with_peer_in new m.peers) ≡ Some new) here (peer_here new p m.peers (subst (λ x. peer_in x m.peers ≡ Some p) (sym here) is)) in
+    ap q is ∙ lower p (ap q (sym found) ∙ h))) h)
+    (λ e h. ap q (sym (turns_at-elsewhere a change m same b e)) ∙ h)
 
 pub changed-hot : (a : Addr) (change : Peer → Peer) (m : Machine) → IsCooling change → StaysDown is_hot m (peer_changes a change m).machine
 changed-hot a change m cools = changed-down is_hot_peer a change m cools.addr cools.hot
@@ -249,7 +237,12 @@ changed-known a change m same = changed-down is_some a change m same (λ p known
 -- an address comes into the book: at all others nothing changes, and a peer that is new there is cold
 entered-down : (q : Option Peer → Bool) (new : Peer) (ps : List Peer) (b : Addr) → (same_address new.addr b ≡ true → q (Some new) ≡ false) →
     q (peer_in b (entered new ps)) ≡ true → q (peer_in b ps) ≡ true
-entered-down q new ps b lower = by_there (is_some (peer_in new.addr ps)) refl
+entered-down q new ps b lower = by_bool (is_some (peer_in new.addr ps))
+    (λ c. q (peer_in b (entered_by (if c then Present else if nat_le most_peers (length ps) then Full else New) new ps)) ≡ true → q (peer_in b ps) ≡ true)
+    (λ e is. is)
+    (λ e is.
+    cond_both (nat_le most_peers (length ps)) Full New (λ added. q (peer_in b (entered_by added new ps)) ≡ true → q (peer_in b ps) ≡ true)
+    (λ full there. there) (λ room. comes (none_there (peer_in new.addr ps) e) (same_address new.addr b) refl) is)
   where
     comes : peer_in new.addr ps ≡ None → (c : Bool) → same_address new.addr b ≡ c → q (peer_in b (with_new_in new ps)) ≡ true → q (peer_in b ps) ≡ true
     comes none true e is =
@@ -257,13 +250,6 @@ entered-down q new ps b lower = by_there (is_some (peer_in new.addr ps)) refl
         let here : peer_in b (with_new_in new ps) ≡ Some new = subst (λ a. peer_in a (with_new_in new ps) ≡ Some new) at (put_in-here new ps none) in
         absurd (false≢true (sym (lower e) ∙ ap q (sym here) ∙ is))
     comes none false e is = ap q (sym (put_in-elsewhere new b ps (same_turned new.addr b e))) ∙ is
-
-    by_there : (c : Bool) → is_some (peer_in new.addr ps) ≡ c →
-        q (peer_in b (entered_by (if c then Present else if nat_le most_peers (length ps) then Full else New) new ps)) ≡ true → q (peer_in b ps) ≡ true
-    by_there true e is = is
-    by_there false e is =
-        cond_both (nat_le most_peers (length ps)) Full New (λ added. q (peer_in b (entered_by added new ps)) ≡ true → q (peer_in b ps) ≡ true)
-        (λ full there. there) (λ room. comes (none_there (peer_in new.addr ps) e) (same_address new.addr b) refl) is
 
 pub entered-hot : (big : Bool) (a : Addr) (m : Machine) → StaysDown is_hot m (record m { peers = entered (new_peer big a) m.peers })
 entered-hot big a m addr h = entered-down is_hot_peer (new_peer big a) m.peers addr (λ same. refl) h
@@ -274,13 +260,11 @@ pub entered-known : (big : Bool) (a b : Addr) (m : Machine) → same_address a b
 entered-known big a b m other h = entered-down is_some (new_peer big a) m.peers b (λ same. absurd (both_ways (same_address a b) other same)) h
 
 taken-down : (q : Option Peer → Bool) → q None ≡ false → (a : Addr) (ps : List Peer) (b : Addr) → q (peer_in b (without_peer a ps)) ≡ true → q (peer_in b ps) ≡ true
-taken-down q none a ps b = by_address (same_address b a) refl
-  where
-    by_address : (c : Bool) → same_address b a ≡ c → q (peer_in b (without_peer a ps)) ≡ true → q (peer_in b ps) ≡ true
-    by_address true e is =
-        let here : peer_in b (without_peer a ps) ≡ None = subst (λ x. peer_in x (without_peer a ps) ≡ None) (sym (same_address-true b a e)) (taken-here a ps) in
-        absurd (false≢true (sym none ∙ ap q (sym here) ∙ is))
-    by_address false e is = ap q (sym (taken-elsewhere a b ps e)) ∙ is
+taken-down q none a ps b = by_bool (same_address b a) (λ c. q (peer_in b (without_peer a ps)) ≡ true → q (peer_in b ps) ≡ true)
+    (λ e is.
+    let here : peer_in b (without_peer a ps) ≡ None = subst (λ x. peer_in x (without_peer a ps) ≡ None) (sym (same_address-true b a e)) (taken-here a ps) in
+    absurd (false≢true (sym none ∙ ap q (sym here) ∙ is)))
+    (λ e is. ap q (sym (taken-elsewhere a b ps e)) ∙ is)
 
 -- a peer goes
 pub taken-hot : (a : Addr) (m : Machine) → StaysDown is_hot m (record m { peers = without_peer a m.peers })

@@ -1,30 +1,28 @@
 -- The public root peers are asked for where they are wanted.
-use Rattle.std.proofs.Common.{◌≡◌, Bool, true, false, [], ◌∷◌, if◌then◌else◌, refl}
+use Rattle.std.proofs.Common.{◌≡◌, [], ◌∷◌, if◌then◌else◌, refl}
 use Rattle.laws.specs.Acts.{Act, asks_for_roots, connects, does}
 use Rattle.net_base.specs.declared.action.Action.TheVariants.{AskRoots}
 use Rattle.root_groups.specs.RootAsk.{may_ask, asked}
 use Rattle.machine.specs.Effect.{nothing_more, tells}
 use Rattle.machine.specs.Machine.{Machine}
 use Rattle.laws.specs.RootsAsked.{asked_by, asked_in, roots_asked, AsksRight}
+use Rattle.laws.specs.Parts.{IsNext}
+use Rattle.laws.proofs.Walk.{Finds}
 use Rattle.laws.proofs.Silent.{asked-deaf, connects-silent, part-silent}
+use Rattle.laws.proofs.Cases.{by_bool}
 
 roots-asked : (m : Machine) → AsksRight asks_for_roots m (does asks_for_roots m)
-roots-asked m = by_test (may_ask m.now m.targets.root m.roots)
-  where
-    by_test : (b : Bool) → asked_in (if b then tells (AskRoots (record { 0 = m.roots.next_job }) ∷ []) (record m { roots = asked m.roots }) else nothing_more m).actions
-        ≡ (if b then m.roots.next_job ∷ [] else [])
-    by_test true = refl
-    by_test false = refl
+roots-asked m = by_bool (may_ask m.now m.targets.root m.roots)
+    (λ b. asked_in (if b then tells (AskRoots (record { 0 = m.roots.next_job }) ∷ []) (record m { roots = asked m.roots }) else nothing_more m).actions
+    ≡ (if b then m.roots.next_job ∷ [] else []))
+    (λ is. refl) (λ is. refl)
 
 pub roots-set : (m : Machine) → (does asks_for_roots m).machine ≡ record m { roots = roots_asked (may_ask m.now m.targets.root m.roots) m.roots }
-roots-set m = by_test (may_ask m.now m.targets.root m.roots)
-  where
-    by_test : (b : Bool) → (if b then tells (AskRoots (record { 0 = m.roots.next_job }) ∷ []) (record m { roots = asked m.roots }) else nothing_more m).machine
-        ≡ record m { roots = roots_asked b m.roots }
-    by_test true = refl
-    by_test false = refl
+roots-set m = by_bool (may_ask m.now m.targets.root m.roots)
+    (λ b. (if b then tells (AskRoots (record { 0 = m.roots.next_job }) ∷ []) (record m { roots = asked m.roots }) else nothing_more m).machine ≡ record m { roots = roots_asked b m.roots })
+    (λ is. refl) (λ is. refl)
 
-pub asks-right : (act : Act) (m : Machine) → AsksRight act m (does act m)
-asks-right asks_for_roots m = roots-asked m
-asks-right (connects addr) m = connects-silent asked_by asked-deaf (λ cid to. refl) (λ why. refl) (λ length. refl) addr m
-asks-right other m = part-silent asked_by asked-deaf (λ cid bytes. refl) other m tt
+pub asks-right : (act : Act) (m : Machine) → IsNext act m → Finds act m → AsksRight act m (does act m)
+asks-right asks_for_roots m next found = roots-asked m
+asks-right (connects addr) m next found = connects-silent asked_by asked-deaf (λ cid to. refl) (λ why. refl) (λ length. refl) addr m
+asks-right other m next found = part-silent asked_by asked-deaf (λ cid bytes. refl) other m tt next found

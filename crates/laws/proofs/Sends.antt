@@ -1,5 +1,5 @@
 -- What is due is sent, and nothing else.
-use Rattle.std.proofs.Common.{ℕ, ◌+◌, ◌%◌, ◌≡◌, Bool, true, false, ◌&&◌, ◌==◌, if◌then◌else◌, List, [], ◌∷◌, ◌++◌, Option, Some, None, Result, Ok, Err, refl, sym, ap, ◌∙◌, subst, eqb-true}
+use Rattle.std.proofs.Common.{ℕ, ◌+◌, ◌%◌, ◌≡◌, Bool, true, false, ◌&&◌, ◌==◌, if◌then◌else◌, List, [], ◌++◌, Option, Some, None, Result, Ok, Err, refl, sym, ap, ◌∙◌, subst, eqb-true, append-nil}
 use Rattle.std.specs.Option.{option_map}
 use Rattle.std.proofs.lemmas.Bool.{cond_both, false≢true}
 use Rattle.std.proofs.lemmas.Grind.{flat_map-append}
@@ -25,38 +25,36 @@ use Rattle.net_base.specs.declared.address.Addr.{Addr}
 use Rattle.net_base.specs.declared.connection.Cid.{Cid}
 use Rattle.net_base.specs.declared.connection.Facts.{Facts}
 use Rattle.net_base.specs.declared.connection.Phase.{Phase}
-use Rattle.net_base.specs.declared.connection.Phase.TheVariants.{Dialing, Greeting, Negotiated, Closing}
+use Rattle.net_base.specs.declared.connection.Phase.TheVariants.{Greeting, Negotiated}
 use Rattle.net_base.specs.declared.connection.Provenance.{Provenance}
 use Rattle.net_base.specs.declared.connection.Provenance.TheVariants.{FromRemote, FromLocal}
 use Rattle.net_base.specs.declared.peer.Peer.{Peer}
 use Rattle.net_base.specs.declared.peer.Temp.TheVariants.{Cold, Warm}
-use Rattle.net_base.specs.declared.timer.Kind.TheVariants as kind
 use Rattle.remote_watch.specs.Watch.{watched}
 use Rattle.remote_watch.specs.declared.seen.Seen.{Seen}
 use Rattle.warm_messages.specs.Writing.{written_alive, written_request}
 use Rattle.warm_messages.specs.declared.alive.Alive.TheVariants.{Ask as AskAlive, Done}
-use Rattle.warm_messages.specs.declared.share.Share.TheVariants as share
 use Rattle.machine.specs.Connections.{with_entry, entry_turns, ending, is_used, acquire, trim, says_done, release, dial, dial_opens, dial_fails}
-use Rattle.machine.specs.Deadlines.{fires_as}
 use Rattle.machine.specs.Effect.{Effect, nothing_more, then_do, on_entry}
-use Rattle.machine.specs.Events.{closes, dialed}
+use Rattle.machine.specs.Events.{dialed}
 use Rattle.machine.specs.Govern.{promoted_at, asks_peer, activates, deactivates, carries_out}
 use Rattle.machine.specs.Greeting.{role_of, judged, decided, greets, sends_answer}
 use Rattle.machine.specs.Machine.{Machine, Entry, entry_at, live_entry_at}
 use Rattle.machine.specs.Own.{own_info}
 use Rattle.machine.specs.Peers.{peer_at, turns_at, peer_becomes, peer_succeeds, peer_was_asked}
 use Rattle.machine.specs.Replies.{owing, reply_on, sends_as_initiator, peer_sharing_done, find_intersect, chain_sync_done}
-use Rattle.machine.specs.Stream.{handled_in, handled, faulted}
+use Rattle.machine.specs.Stream.{handled_in, handled}
 use Rattle.machine.specs.Talking.{stops_if, serves, begins, takes_requests, asked_as, answered_as, talks}
-use Rattle.laws.specs.Acts.{Act, shows, fires_one, asks_for_roots, carries, connects, ends_dial, stores, handles_item, ends_stream, is_closed, sets_targets, sets_big_targets, sets_groups, sets_roots, makes_ordinary, provides, provides_big, does}
+use Rattle.laws.specs.Acts.{Act, asks_for_roots, carries, connects, ends_dial, handles_item, does}
 use Rattle.laws.specs.Ends.{offered, side_of}
 use Rattle.laws.specs.Sends.{says, keeps_alive, on_one, used_with, due_by_order, answers, comes_into_use, due_by_verdict, by_message, due_of_dialer, due_in_greeting, SendsInUse, SendsByPhase, SendsOnItem, SendsRight}
 use Rattle.laws.specs.Served.{Sent, sent_by, sent_in}
+use Rattle.laws.specs.Parts.{IsNext}
 use Rattle.laws.proofs.Lists.{find_some}
 use Rattle.laws.proofs.Moments.{turned-found}
-use Rattle.laws.proofs.Orders.{says_done-machine}
-use Rattle.laws.proofs.Silent.{sent-deaf, turns-silent, changed-silent, comes-silent, ending-silent, vanishes-silent, trim-silent, on_entry-silent, fires-silent, closes-silent, faulted-silent, connects-silent, begins-silent, answered-silent, big-silent, asks-silent}
-use Rattle.laws.proofs.Talks.{replies-machine}
+use Rattle.laws.proofs.Walk.{says_done-machine, replies-machine, Finds, answer-machine}
+use Rattle.laws.proofs.Silent.{sent-deaf, turns-silent, changed-silent, ending-silent, vanishes-silent, trim-silent, connects-silent, begins-silent, answered-silent, asks-silent, quiet-silent}
+use Rattle.laws.proofs.Cases.{by_bool, by_option}
 
 -- ---- one part after the other
 
@@ -69,14 +67,10 @@ then-silent : (first : Effect) (next : Machine → Effect) (ys : List Sent) → 
     sent_in (then_do first next).actions ≡ ys
 then-silent first next ys one two = then-sends first next [] ys one two
 
-nothing_behind : (xs : List Sent) → xs ++ [] ≡ xs
-nothing_behind [] = refl
-nothing_behind (x ∷ xs) = ap (λ ys. x ∷ ys) (nothing_behind xs)
-
 -- where what follows sends nothing
 then-sent : (first : Effect) (next : Machine → Effect) (xs : List Sent) → sent_in first.actions ≡ xs → sent_in (next first.machine).actions ≡ [] →
     sent_in (then_do first next).actions ≡ xs
-then-sent first next xs one two = then-sends first next xs [] one two ∙ nothing_behind xs
+then-sent first next xs one two = then-sends first next xs [] one two ∙ append-nil xs
 
 -- ---- a dial ends
 
@@ -162,11 +156,9 @@ on_used-sends (Some e) act m due each = each e
 promoted_at-sends : (o : Option Entry) (addr : Addr) (m : Machine) →
     sent_in (promoted_at o addr m).actions ≡ on_one o (λ e. if is_acquirable e.facts then keeps_alive e.facts.cid.0 m else [])
 promoted_at-sends None addr m = refl
-promoted_at-sends (Some e) addr m = by_free (is_acquirable e.facts)
-  where
-    by_free : (b : Bool) → sent_in (if b then acquire e m else dial addr m).actions ≡ (if b then keeps_alive e.facts.cid.0 m else [])
-    by_free true = used-sends (acquired e.facts) e m
-    by_free false = refl
+promoted_at-sends (Some e) addr m = by_bool (is_acquirable e.facts)
+    (λ b. sent_in (if b then acquire e m else dial addr m).actions ≡ (if b then keeps_alive e.facts.cid.0 m else []))
+    (λ is. used-sends (acquired e.facts) e m) (λ is. refl)
 
 orders-send : (order : Order) (m : Machine) → sent_in (carries_out order m).actions ≡ due_by_order order m
 orders-send (Ask addr n) m = on_used-sends (used_with addr m) (asks_peer n) m (λ e. says e.facts.cid.0 0 10 (written_request n) m) (λ e. asks_peer-sends n e m)
@@ -182,26 +174,21 @@ orders-send (Deactivate addr) m = on_used-sends (used_with addr m) deactivates m
 
 judged-sends : (v : Verdict) (e : Entry) (m : Machine) → sent_in (judged v e m).actions ≡ (if comes_into_use v then keeps_alive e.facts.cid.0 m else [])
 judged-sends (verdict.Accept agreed) e m = turns-silent sent_by sent-deaf e (record e { facts = agreed_inbound agreed (m.now + m.settings.idle) e.facts }) m
-judged-sends (verdict.Refuse why) e m = ending-silent sent_by sent-deaf Refused e m
 judged-sends verdict.Query e m = ending-silent sent_by sent-deaf Query e m
 judged-sends (verdict.Agree agreed) e m = used-sends (agreed_outbound agreed (m.now + m.settings.idle) e.facts) e m
-judged-sends verdict.Refused e m = ending-silent sent_by sent-deaf Refused e m
 judged-sends verdict.Wrong e m = ending-silent sent_by sent-deaf (Fault Protocol) e m
+judged-sends other e m = ending-silent sent_by sent-deaf Refused e m
 
 answer-sends : (o : Option (List ℕ)) (cid : Cid) (m : Machine) → sent_in (sends_answer o cid m).actions ≡ answers o cid.0 m
 answer-sends None cid m = refl
 answer-sends (Some bytes) cid m = refl
-
-answer-same : (o : Option (List ℕ)) (cid : Cid) (m : Machine) → (sends_answer o cid m).machine ≡ m
-answer-same None cid m = refl
-answer-same (Some bytes) cid m = refl
 
 decided-sends : (v : Verdict) (e : Entry) (m : Machine) → sent_in (decided v e m).actions ≡ due_by_verdict v e.facts.cid.0 m
 decided-sends v e m =
     let answer : Option (List ℕ) = answer_of v (own_info m.settings) in
     then-sends (sends_answer answer e.facts.cid m) (judged v e) (answers answer e.facts.cid.0 m) (if comes_into_use v then keeps_alive e.facts.cid.0 m else [])
     (answer-sends answer e.facts.cid m)
-    (subst (λ n. sent_in (judged v e n).actions ≡ (if comes_into_use v then keeps_alive e.facts.cid.0 m else [])) (sym (answer-same answer e.facts.cid m)) (judged-sends v e m))
+    (subst (λ n. sent_in (judged v e n).actions ≡ (if comes_into_use v then keeps_alive e.facts.cid.0 m else [])) (sym (answer-machine answer e.facts.cid m)) (judged-sends v e m))
 
 -- what a message comes to, to whoever takes the part
 abbrev receives_by : Role → Option Message → Item → Entry → Machine → Effect
@@ -214,21 +201,18 @@ accepts-sends (Some msg) item e m = decided-sends (verdict_of Acceptor (own_info
 
 fits-side_of : (side : ℕ) (msg : Message) → fits_side Dialer side msg ≡ (side == side_of msg)
 fits-side_of side (message.Propose table) = refl
-fits-side_of side (message.Accept version info) = refl
-fits-side_of side (message.Refuse reason) = refl
-fits-side_of side (message.QueryReply table) = refl
+fits-side_of side other = refl
 
 dials-sends : (o : Option Message) (item : Item) (e : Entry) (m : Machine) → sent_in (receives_by Dialer o item e m).actions
     ≡ by_message o (λ msg. if item.side == side_of msg then due_by_verdict (verdict_of Dialer (offered m.settings) msg) e.facts.cid.0 m else [])
 dials-sends None item e m = ending-silent sent_by sent-deaf (Fault Malformed) e m
 dials-sends (Some msg) item e m =
     subst (λ b. sent_in (if fits_side Dialer item.side msg then decided (verdict_of Dialer (own_info m.settings) msg) e m else ending (Fault Protocol) e m).actions
-    ≡ (if b then due_by_verdict (verdict_of Dialer (offered m.settings) msg) e.facts.cid.0 m else [])) (fits-side_of item.side msg) (by_fit (fits_side Dialer item.side msg))
-  where
-    by_fit : (b : Bool) → sent_in (if b then decided (verdict_of Dialer (own_info m.settings) msg) e m else ending (Fault Protocol) e m).actions
-        ≡ (if b then due_by_verdict (verdict_of Dialer (offered m.settings) msg) e.facts.cid.0 m else [])
-    by_fit true = decided-sends (verdict_of Dialer (own_info m.settings) msg) e m
-    by_fit false = ending-silent sent_by sent-deaf (Fault Protocol) e m
+    ≡ (if b then due_by_verdict (verdict_of Dialer (offered m.settings) msg) e.facts.cid.0 m else [])) (fits-side_of item.side msg) (by_bool (fits_side Dialer item.side msg)
+    (λ b. sent_in (if b then decided (verdict_of Dialer (own_info m.settings) msg) e m else ending (Fault Protocol) e m).actions
+    ≡ (if b then due_by_verdict (verdict_of Dialer (offered m.settings) msg) e.facts.cid.0 m else []))
+    (λ is. decided-sends (verdict_of Dialer (own_info m.settings) msg) e m)
+    (λ is. ending-silent sent_by sent-deaf (Fault Protocol) e m))
 
 greets-sends : (item : Item) (e : Entry) (m : Machine) → sent_in (greets item e m).actions ≡ due_in_greeting item e.facts m
 greets-sends item e m = by_provenance e.facts.provenance refl
@@ -245,44 +229,37 @@ greets-sends item e m = by_provenance e.facts.provenance refl
         by_id true true = accepts-sends (message_of item.body) item e m
         by_id true false = ending-silent sent_by sent-deaf (Fault Protocol) e m
         by_id false c = ending-silent sent_by sent-deaf (Fault Protocol) e m
-    by_provenance FromLocal is = subst (λ p. Sends p) (sym is) (by_id (item.id == 0))
-      where
-        by_id : (b : Bool) → sent_in (if b && true then receives_by Dialer (message_of item.body) item e m else ending (Fault Protocol) e m).actions
-            ≡ (if b then due_of_dialer item e.facts.cid.0 m else [])
-        by_id true = dials-sends (message_of item.body) item e m
-        by_id false = ending-silent sent_by sent-deaf (Fault Protocol) e m
+    by_provenance FromLocal is = subst (λ p. Sends p) (sym is) (by_bool (item.id == 0)
+        (λ b. sent_in (if b && true then receives_by Dialer (message_of item.body) item e m else ending (Fault Protocol) e m).actions ≡ (if b then due_of_dialer item e.facts.cid.0 m else []))
+        (λ is. dials-sends (message_of item.body) item e m) (λ is. ending-silent sent_by sent-deaf (Fault Protocol) e m))
 
 -- ---- once the handshake is done
 
 -- who is served stands
 serves-stands : (seen : Seen) (protocol : ℕ) (f : Entry) (m : Machine) → entry_at f.facts.cid.0 m ≡ Some f → entry_at f.facts.cid.0 (serves seen protocol f m).machine ≡ None → ⊥
 serves-stands seen protocol f m stands =
-    subst (λ n. entry_at f.facts.cid.0 (stops_if seen.done protocol f n).machine ≡ None → ⊥) (sym (replies-machine seen.reply protocol f m)) (by_done seen.done)
-  where
-    by_done : (b : Bool) → entry_at f.facts.cid.0 (stops_if b protocol f m).machine ≡ None → ⊥
-    by_done true gone =
-        let new : Entry = record f { facts = idled protocol (m.now + m.settings.idle) f.facts } in
-        let there : Some new ≡ None = sym (turned-found f new m refl ∙ ap (option_map (λ x. new)) stands) ∙ gone in absurd cc
-    by_done false gone = let there : Some f ≡ None = sym stands ∙ gone in absurd cc
+    subst (λ n. entry_at f.facts.cid.0 (stops_if seen.done protocol f n).machine ≡ None → ⊥) (sym (replies-machine seen.reply protocol f m)) (by_bool seen.done
+    (λ b. entry_at f.facts.cid.0 (stops_if b protocol f m).machine ≡ None → ⊥)
+    (λ is gone.
+    let new : Entry = record f { facts = idled protocol (m.now + m.settings.idle) f.facts } in
+    let there : Some new ≡ None = sym (turned-found f new m refl ∙ ap (option_map (λ x. new)) stands) ∙ gone in absurd cc)
+    (λ is gone. let there : Some f ≡ None = sym stands ∙ gone in absurd cc))
 
 -- nothing is sent to one that has ended
 asked-gone : (r : Result Seen FaultKind) (protocol : ℕ) (e : Entry) (m : Machine) → entry_at e.facts.cid.0 (asked_as r protocol e m).machine ≡ None →
     sent_in (asked_as r protocol e m).actions ≡ []
 asked-gone (Err fault) protocol e m = λ gone. ending-silent sent_by sent-deaf (Fault fault) e m
-asked-gone (Ok seen) protocol e m = cond_both (takes_requests e) (then_do first (on_entry (entry_at e.facts.cid.0 first.machine) (serves seen protocol))) (ending (Fault Protocol) e m)
+asked-gone (Ok seen) protocol e m =
+    let first : Effect = begins protocol e m in
+    cond_both (takes_requests e) (then_do first (on_entry (entry_at e.facts.cid.0 first.machine) (serves seen protocol))) (ending (Fault Protocol) e m)
     (λ effect. entry_at e.facts.cid.0 effect.machine ≡ None → sent_in effect.actions ≡ [])
-    (λ takes. by_entry (entry_at e.facts.cid.0 first.machine) refl) (λ other gone. ending-silent sent_by sent-deaf (Fault Protocol) e m)
-  where
-    first : Effect
-    first = begins protocol e m
-
-    by_entry : (o : Option Entry) → entry_at e.facts.cid.0 first.machine ≡ o → entry_at e.facts.cid.0 (then_do first (on_entry o (serves seen protocol))).machine ≡ None →
-        sent_in (then_do first (on_entry o (serves seen protocol))).actions ≡ []
-    by_entry None is gone = then-silent first (on_entry None (serves seen protocol)) [] (begins-silent sent_by sent-deaf protocol e m) refl
-    by_entry (Some f) is gone =
-        let same : f.facts.cid.0 ≡ e.facts.cid.0 = eqb-true f.facts.cid.0 e.facts.cid.0 (find_some (λ x. has_id e.facts.cid.0 x.facts) first.machine.connections f is).passes in
-        absurd (serves-stands seen protocol f first.machine (subst (λ c. entry_at c first.machine ≡ Some f) (sym same) is)
-        (subst (λ c. entry_at c (serves seen protocol f first.machine).machine ≡ None) (sym same) gone))
+    (λ takes. by_option (entry_at e.facts.cid.0 first.machine)
+    (λ o. entry_at e.facts.cid.0 (then_do first (on_entry o (serves seen protocol))).machine ≡ None → sent_in (then_do first (on_entry o (serves seen protocol))).actions ≡ [])
+    (λ is gone. then-silent first (on_entry None (serves seen protocol)) [] (begins-silent sent_by sent-deaf protocol e m) refl)
+    (λ f is gone.
+    let same : f.facts.cid.0 ≡ e.facts.cid.0 = eqb-true f.facts.cid.0 e.facts.cid.0 (find_some (λ x. has_id e.facts.cid.0 x.facts) first.machine.connections f is).passes in
+    absurd (serves-stands seen protocol f first.machine (subst (λ c. entry_at c first.machine ≡ Some f) (sym same) is)
+    (subst (λ c. entry_at c (serves seen protocol f first.machine).machine ≡ None) (sym same) gone)))) (λ other gone. ending-silent sent_by sent-deaf (Fault Protocol) e m)
 
 talks-sends : (item : Item) (e : Entry) (m : Machine) → SendsInUse item e (talks item e m)
 talks-sends item e m = record {
@@ -301,10 +278,9 @@ talks-sends item e m = record {
 -- ---- each act
 
 handled-sends : (p : Phase) (item : Item) (e : Entry) (m : Machine) → SendsByPhase p item e m (handled_in p item e m)
-handled-sends Dialing item e m = refl
 handled-sends (Greeting until) item e m = greets-sends item e m
 handled-sends Negotiated item e m = talks-sends item e m
-handled-sends (Closing until) item e m = refl
+handled-sends other item e m = refl
 
 item-sends : (o : Option Entry) (item : Item) (m : Machine) → SendsOnItem o item m (on_entry o (handled item) m)
 item-sends None item m = refl
@@ -318,21 +294,10 @@ dialed-sends opened e m = by_tests (is_dialing e.facts) opened
     by_tests true false = vanishes-silent sent_by sent-deaf e m
     by_tests false c = refl
 
-pub sends-right : (act : Act) (m : Machine) → SendsRight act m (does act m)
-sends-right (shows t) m = refl
-sends-right (fires_one d) m = on_entry-silent sent_by sent-deaf (entry_at d.cid.0 m) (fires_as d.kind) m (λ e. fires-silent sent_by sent-deaf d.kind e m)
-sends-right asks_for_roots m = asks-silent sent_by (λ job. refl) m
-sends-right (carries order) m = orders-send order m
-sends-right (connects addr) m = connects-silent sent_by sent-deaf (λ cid to. refl) (λ why. refl) (λ length. refl) addr m
-sends-right (ends_dial cid opened) m = on_used-sends (entry_at cid.0 m) (dialed opened) m (λ e. if is_dialing e.facts && opened then says e.facts.cid.0 0 0 (proposal_of (own_info m.settings)) m else []) (λ e. dialed-sends opened e m)
-sends-right (stores entry undecoded) m = turns-silent sent_by sent-deaf entry (record entry { undecoded = undecoded }) m
-sends-right (handles_item cid item) m = item-sends (entry_at cid.0 m) item m
-sends-right (ends_stream cid fault) m = on_entry-silent sent_by sent-deaf (entry_at cid.0 m) (faulted fault) m (λ e. faulted-silent sent_by sent-deaf fault e m)
-sends-right (is_closed cid) m = on_entry-silent sent_by sent-deaf (entry_at cid.0 m) closes m (λ e. closes-silent sent_by sent-deaf e m)
-sends-right (sets_targets targets) m = refl
-sends-right (sets_big_targets targets) m = refl
-sends-right (sets_groups groups) m = refl
-sends-right (sets_roots roots) m = refl
-sends-right (makes_ordinary addr) m = changed-silent sent_by sent-deaf (peer_at addr m) (λ p. record p { big = false }) m
-sends-right (provides addr) m = comes-silent sent_by sent-deaf false addr m
-sends-right (provides_big addr) m = big-silent sent_by sent-deaf addr m
+pub sends-right : (act : Act) (m : Machine) → IsNext act m → Finds act m → SendsRight act m (does act m)
+sends-right asks_for_roots m next found = asks-silent sent_by (λ job. refl) m
+sends-right (carries order) m next found = orders-send order m
+sends-right (connects addr) m next found = connects-silent sent_by sent-deaf (λ cid to. refl) (λ why. refl) (λ length. refl) addr m
+sends-right (ends_dial cid opened) m next found = on_used-sends (entry_at cid.0 m) (dialed opened) m (λ e. if is_dialing e.facts && opened then says e.facts.cid.0 0 0 (proposal_of (own_info m.settings)) m else []) (λ e. dialed-sends opened e m)
+sends-right (handles_item cid item) m next found = item-sends (entry_at cid.0 m) item m
+sends-right other m next found = quiet-silent sent_by sent-deaf other m tt (λ never. absurd (false≢true never)) next found

@@ -1,7 +1,7 @@
 -- What is answered to what the other side asks.
-use Rattle.std.proofs.Common.{ℕ, ◌+◌, ◌<◌, ◌≤◌, ◌≡◌, Bool, true, false, not, ◌&&◌, ◌||◌, ◌==◌, min, if◌then◌else◌, cond, List, [], ◌∷◌, ◌++◌, length, map, filter, get_or, is_some, Option, Some, None, Result, Ok, Err, refl, sym, ap, ◌∙◌, subst, arith, eqb-true}
+use Rattle.std.proofs.Common.{ℕ, ◌+◌, ◌<◌, ◌≤◌, ◌≡◌, Bool, true, false, not, ◌&&◌, ◌||◌, ◌==◌, min, if◌then◌else◌, cond, List, [], ◌∷◌, ◌++◌, length, map, filter, get_or, is_some, Option, Some, None, Result, Ok, Err, refl, sym, ap, ◌∙◌, subst, arith, eqb-true, append-nil}
 use Rattle.std.specs.List.{AllByRecursion, list_any}
-use Rattle.std.proofs.lemmas.Bool.{cond_both, and_parts, and_from, or_left, or_right, false≢true}
+use Rattle.std.proofs.lemmas.Bool.{cond_both, and_parts, and_from, or_left, or_right, false≢true, not-true}
 use Rattle.std.proofs.lemmas.Grind.{flat_map-append}
 use Rattle.std.proofs.lemmas.List.Quantifiers.{position-Some}
 use Rattle.conn_state.specs.Moves.{awakened}
@@ -15,7 +15,7 @@ use Rattle.net_base.specs.declared.action.FaultKind.TheVariants.{Protocol}
 use Rattle.net_base.specs.declared.address.Addr.{Addr}
 use Rattle.net_base.specs.declared.connection.Cid.{Cid}
 use Rattle.net_base.specs.declared.connection.Phase.{Phase}
-use Rattle.net_base.specs.declared.connection.Phase.TheVariants.{Dialing, Greeting, Negotiated, Closing}
+use Rattle.net_base.specs.declared.connection.Phase.TheVariants.{Negotiated}
 use Rattle.net_base.specs.declared.event.Group.{Group}
 use Rattle.net_base.specs.declared.peer.Peer.{Peer}
 use Rattle.peer_book.specs.Book.{has_address, addresses_of, peer_at as peer_in}
@@ -44,34 +44,27 @@ use Rattle.laws.proofs.Lists.{find_some, any-at, all-weaker}
 use Rattle.laws.proofs.Locals.{not_local-no_member}
 use Rattle.laws.proofs.Moments.{ending-none}
 use Rattle.laws.proofs.Silent.{sent-deaf, begins-silent, stops-silent}
-use Rattle.laws.proofs.Talks.{replies-machine}
+use Rattle.laws.proofs.Walk.{replies-machine, Finds, found-stands, Scope, on_those, begins-walk}
 use Rattle.laws.proofs.Turned.{begun, begins-becomes, given_id}
-use Rattle.laws.proofs.Waits.{Scope}
-use Rattle.laws.proofs.WaitsOfParts.{Finds, found-stands, begins-waits}
+use Rattle.laws.proofs.WaitsOfParts.{Waited, waits-kept}
+use Rattle.laws.proofs.Cases.{by_bool, by_option}
 
 -- ---- who is told of
 
 advertised-tellable : (m : Machine) (addr : Addr) → is_advertised m.groups m.roots.publics addr ≡ true → is_tellable m addr ≡ true
-advertised-tellable m addr h = by_place (group_of addr m.groups) refl
-  where
-    some_group : Group
-    some_group = record { hot = 0; warm = 0; advertise = false; members = [] }
-
-    grouped : Bool
-    grouped = list_any (λ group. group.advertise && is_listed addr group.members) m.groups
-
-    apart : Bool
-    apart = not (is_local m.groups addr) && not (is_listed addr m.roots.publics)
-
-    by_place : (o : Option ℕ) → group_of addr m.groups ≡ o → (grouped || apart) ≡ true
-    by_place None none =
-        or_right grouped apart (and_from (not (is_local m.groups addr)) (not (is_listed addr m.roots.publics))
-        (ap not (not_local-no_member addr m.groups (ap (λ o. not (is_some o)) none))) (told_by_roots addr m.groups m.roots.publics none ∙ h))
-    by_place (Some place) some =
-        let at = position-Some (λ group. is_listed addr group.members) m.groups place some_group some in
-        or_left grouped apart (any-at (λ group. group.advertise && is_listed addr group.members) m.groups place some_group at.0
-        (and_from (get_or m.groups place some_group).advertise (is_listed addr (get_or m.groups place some_group).members)
-        (told_by_group addr m.groups m.roots.publics place some_group some ∙ h) at.1))
+advertised-tellable m addr h =
+    let some_group : Group = record { hot = 0; warm = 0; advertise = false; members = [] } in
+    let grouped : Bool = list_any (λ group. group.advertise && is_listed addr group.members) m.groups in
+    let apart : Bool = not (is_local m.groups addr) && not (is_listed addr m.roots.publics) in
+    by_option (group_of addr m.groups) (λ o. (grouped || apart) ≡ true)
+    (λ none.
+    or_right grouped apart (and_from (not (is_local m.groups addr)) (not (is_listed addr m.roots.publics))
+    (ap not (not_local-no_member addr m.groups (ap (λ o. not (is_some o)) none))) (told_by_roots addr m.groups m.roots.publics none ∙ h)))
+    (λ place some.
+    let at = position-Some (λ group. is_listed addr group.members) m.groups place some_group some in
+    or_left grouped apart (any-at (λ group. group.advertise && is_listed addr group.members) m.groups place some_group at.0
+    (and_from (get_or m.groups place some_group).advertise (is_listed addr (get_or m.groups place some_group).members)
+    (told_by_group addr m.groups m.roots.publics place some_group some ∙ h) at.1)))
 
 book-known : (ps : List Peer) → AllByRecursion (λ a. is_some (peer_in a ps) ≡ true) (addresses_of ps)
 book-known [] = tt
@@ -86,11 +79,9 @@ book-known (p ∷ ps) = (
 
 filtered-all : (P Q : Addr → Type 0) (test : Addr → Bool) → ((a : Addr) → P a → test a ≡ true → Q a) → (addrs : List Addr) → AllByRecursion P addrs → AllByRecursion Q (filter test addrs)
 filtered-all P Q test each [] h = tt
-filtered-all P Q test each (a ∷ addrs) h = by_test (test a) refl (filtered-all P Q test each addrs h.1)
-  where
-    by_test : (b : Bool) → test a ≡ b → AllByRecursion Q (filter test addrs) → AllByRecursion Q (cond b (a ∷ filter test addrs) (filter test addrs))
-    by_test true is rest = (each a h.0 is, rest)
-    by_test false is rest = rest
+filtered-all P Q test each (a ∷ addrs) h = by_bool (test a)
+    (λ b. AllByRecursion Q (filter test addrs) → AllByRecursion Q (cond b (a ∷ filter test addrs) (filter test addrs)))
+    (λ is rest. (each a h.0 is, rest)) (λ is rest. rest) (filtered-all P Q test each addrs h.1)
 
 served-each : (asker : Addr) (n : ℕ) (m : Machine) → AllByRecursion (MayBeTold asker m) (served_to asker n m.peers m.groups m.roots.publics)
 served-each asker n m =
@@ -98,11 +89,7 @@ served-each asker n m =
     each_of_front (MayBeTold asker m) (min n most_told) (filter test (addresses_of m.peers))
     (filtered-all (λ a. is_some (peer_in a m.peers) ≡ true) (MayBeTold asker m) test (λ a known passes.
     let parts = and_parts (is_advertised m.groups m.roots.publics a) (not (same_address a asker)) passes in
-    record { known = known; tellable = advertised-tellable m a parts.0; other = untrue (same_address a asker) parts.1 }) (addresses_of m.peers) (book-known m.peers))
-  where
-    untrue : (b : Bool) → not b ≡ true → b ≡ false
-    untrue true h = absurd (false≢true h)
-    untrue false h = refl
+    record { known = known; tellable = advertised-tellable m a parts.0; other = not-true (same_address a asker) parts.1 }) (addresses_of m.peers) (book-known m.peers))
 
 served-few : (asker : Addr) (n : ℕ) (m : Machine) → length (served_to asker n m.peers m.groups m.roots.publics) ≤ n
 served-few asker n m = let few = told_are_few asker n m.peers m.groups m.roots.publics in omega (arith, few)
@@ -117,17 +104,13 @@ record Answering (protocol : ℕ) (asker : Addr) (cid now : ℕ) (r : Reply) (af
   sends : sent ≡ map (λ message. record { cid = cid; bytes = frame_of 1 protocol now message }) (messages_of r told)
 
 replies-answer : (r : Reply) (protocol : ℕ) (f : Entry) (m : Machine) → Answering protocol f.facts.addr f.facts.cid.0 m.now r m (sent_in (replies r protocol f m).actions)
-replies-answer reply.Nothing protocol f m = record { told = []; few = omega arith; each = tt; sends = refl }
-replies-answer (reply.Alive cookie) protocol f m = record { told = []; few = omega arith; each = tt; sends = refl }
 replies-answer (reply.Share n) protocol f m = record {
   told = served_to f.facts.addr n m.peers m.groups m.roots.publics;
   few = served-few f.facts.addr n m;
   each = served-each f.facts.addr n m;
   sends = refl;
 }
-replies-answer reply.NoIntersect protocol f m = record { told = []; few = omega arith; each = tt; sends = refl }
-replies-answer reply.Await protocol f m = record { told = []; few = omega arith; each = tt; sends = refl }
-replies-answer reply.NoBlocks protocol f m = record { told = []; few = omega arith; each = tt; sends = refl }
+replies-answer other protocol f m = record { told = []; few = omega arith; each = tt; sends = refl }
 
 serves-answer : (seen : Seen) (protocol : ℕ) (f : Entry) (m : Machine) →
     Answering protocol f.facts.addr f.facts.cid.0 m.now seen.reply (serves seen protocol f m).machine (sent_in (serves seen protocol f m).actions)
@@ -140,13 +123,9 @@ serves-answer seen protocol f m =
       each = subst (λ n. AllByRecursion (MayBeTold f.facts.addr (stops_if seen.done protocol f n).machine) a.told) (sym (replies-machine seen.reply protocol f m))
           (by_done seen.done a.told a.each);
       sends = flat_map-append sent_by first.actions (stops_if seen.done protocol f first.machine).actions
-          ∙ (ap (λ xs. sent_in first.actions ++ xs) (stops-silent sent_by sent-deaf seen.done protocol f first.machine) ∙ (nothing_behind (sent_in first.actions) ∙ a.sends));
+          ∙ (ap (λ xs. sent_in first.actions ++ xs) (stops-silent sent_by sent-deaf seen.done protocol f first.machine) ∙ (append-nil (sent_in first.actions) ∙ a.sends));
     }
   where
-    nothing_behind : (xs : List Sent) → xs ++ [] ≡ xs
-    nothing_behind [] = refl
-    nothing_behind (x ∷ xs) = ap (λ ys. x ∷ ys) (nothing_behind xs)
-
     same : (n : Machine) → n.peers ≡ m.peers → n.groups ≡ m.groups → n.roots ≡ m.roots → (a : Addr) → MayBeTold f.facts.addr m a → MayBeTold f.facts.addr n a
     same n peers groups roots a may = record {
       known = ap (λ ps. is_some (peer_in a ps)) peers ∙ may.known;
@@ -163,17 +142,33 @@ asked-answer : (seen : Seen) (item : Item) (e : Entry) (m : Machine) → e.facts
 asked-answer seen item e m given stands =
     cond_both (takes_requests e) (then_do first (on_connection e.facts.cid (serves seen item.id))) (ending (Fault Protocol) e m)
     (λ effect. WhereThere (entry_at e.facts.cid.0 effect.machine) (λ f. IsAnswered item e seen m effect))
-    (λ takes. by_entry (entry_at e.facts.cid.0 first.machine) refl (begun-there (entry_at e.facts.cid.0 first.machine) (begins-becomes item.id e m given stands)))
+    (λ takes. by_option (entry_at e.facts.cid.0 first.machine)
+    (λ o. WhereThere o (λ f. f.facts.addr ≡ e.facts.addr) →
+    WhereThere (entry_at e.facts.cid.0 (then_do first (on_entry o (serves seen item.id))).machine) (λ f. IsAnswered item e seen m (then_do first (on_entry o (serves seen item.id)))))
+    (λ is here. subst (λ o. WhereThere o (λ f. IsAnswered item e seen m (then_do first (on_entry None (serves seen item.id))))) (sym is) tt)
+    (λ f is here.
+    let own : f.facts.cid.0 ≡ e.facts.cid.0 = eqb-true f.facts.cid.0 e.facts.cid.0 (find_some (λ x. has_id e.facts.cid.0 x.facts) first.machine.connections f is).passes in
+    let second : Effect = serves seen item.id f first.machine in
+    let a : Answering item.id e.facts.addr e.facts.cid.0 m.now seen.reply second.machine (sent_in second.actions) =
+    subst (λ t. Answering item.id e.facts.addr e.facts.cid.0 t seen.reply second.machine (sent_in second.actions)) now
+    (subst (λ c. Answering item.id e.facts.addr c first.machine.now seen.reply second.machine (sent_in second.actions)) own
+    (subst (λ x. Answering item.id x f.facts.cid.0 first.machine.now seen.reply second.machine (sent_in second.actions)) here (serves-answer seen item.id f first.machine))) in
+    each-there (entry_at e.facts.cid.0 second.machine) (IsAnswered item e seen m (then_do first (serves seen item.id f)))
+    (record {
+      told = a.told;
+      few = a.few;
+      each = a.each;
+      sends = flat_map-append sent_by first.actions second.actions ∙ (ap (λ xs. xs ++ sent_in second.actions) (begins-silent sent_by sent-deaf item.id e m) ∙ a.sends);
+    })) (begun-there (entry_at e.facts.cid.0 first.machine) (begins-becomes item.id e m given stands)))
     (λ other. subst (λ o. WhereThere o (λ f. IsAnswered item e seen m (ending (Fault Protocol) e m))) (sym (ending-none (Fault Protocol) e m)) tt)
   where
     first : Effect
     first = begins item.id e m
 
     now : first.machine.now ≡ m.now
-    now = (begins-waits everything item.id e m (found-stands everything e.facts.cid.0 m e stands refl)).now
-      where
-        everything : Scope
-        everything = record { own = λ cid. true; comes = λ cid. true; drops = true }
+    now =
+        let everything : Scope = on_those (λ cid. true) in
+        (begins-walk everything (Waited everything) (waits-kept everything) item.id e m (found-stands everything e.facts.cid.0 m e stands refl)).now
 
     begun-there : (o : Option Entry) → IsAsItWas (Some (begun item.id e)) o → WhereThere o (λ f. f.facts.addr ≡ e.facts.addr)
     begun-there None becomes = tt
@@ -183,24 +178,6 @@ asked-answer seen item e m given stands =
     each-there : (o : Option Entry) (law : Type 0) → law → WhereThere o (λ f. law)
     each-there None law holds = tt
     each-there (Some f) law holds = holds
-
-    by_entry : (o : Option Entry) → entry_at e.facts.cid.0 first.machine ≡ o → WhereThere o (λ f. f.facts.addr ≡ e.facts.addr) →
-        WhereThere (entry_at e.facts.cid.0 (then_do first (on_entry o (serves seen item.id))).machine) (λ f. IsAnswered item e seen m (then_do first (on_entry o (serves seen item.id))))
-    by_entry None is here = subst (λ o. WhereThere o (λ f. IsAnswered item e seen m (then_do first (on_entry None (serves seen item.id))))) (sym is) tt
-    by_entry (Some f) is here =
-        let own : f.facts.cid.0 ≡ e.facts.cid.0 = eqb-true f.facts.cid.0 e.facts.cid.0 (find_some (λ x. has_id e.facts.cid.0 x.facts) first.machine.connections f is).passes in
-        let second : Effect = serves seen item.id f first.machine in
-        let a : Answering item.id e.facts.addr e.facts.cid.0 m.now seen.reply second.machine (sent_in second.actions) =
-        subst (λ t. Answering item.id e.facts.addr e.facts.cid.0 t seen.reply second.machine (sent_in second.actions)) now
-        (subst (λ c. Answering item.id e.facts.addr c first.machine.now seen.reply second.machine (sent_in second.actions)) own
-        (subst (λ x. Answering item.id x f.facts.cid.0 first.machine.now seen.reply second.machine (sent_in second.actions)) here (serves-answer seen item.id f first.machine))) in
-        each-there (entry_at e.facts.cid.0 second.machine) (IsAnswered item e seen m (then_do first (serves seen item.id f)))
-        (record {
-          told = a.told;
-          few = a.few;
-          each = a.each;
-          sends = flat_map-append sent_by first.actions second.actions ∙ (ap (λ xs. xs ++ sent_in second.actions) (begins-silent sent_by sent-deaf item.id e m) ∙ a.sends);
-        })
 
 asks-answer : (item : Item) (e : Entry) (m : Machine) → e.facts.cid.0 < m.next_id → entry_at e.facts.cid.0 m ≡ Some e → (item.side == 0) ≡ true →
     WhereSeen (watched item.id (agreed_sharing e.facts.agreed) item.body)
@@ -219,22 +196,18 @@ asks-answer item e m given stands asks = by_seen (watched item.id (agreed_sharin
 handled-answer : (p : Phase) (item : Item) (e : Entry) (m : Machine) → e.facts.cid.0 < m.next_id → entry_at e.facts.cid.0 m ≡ Some e → is_negotiated_phase p ≡ true → (item.side == 0) ≡ true →
     WhereSeen (watched item.id (agreed_sharing e.facts.agreed) item.body)
     (λ seen. WhereThere (entry_at e.facts.cid.0 (handled_in p item e m).machine) (λ f. IsAnswered item e seen m (handled_in p item e m)))
-handled-answer Dialing item e m given stands negotiated asks = absurd (false≢true negotiated)
-handled-answer (Greeting until) item e m given stands negotiated asks = absurd (false≢true negotiated)
 handled-answer Negotiated item e m given stands negotiated asks = asks-answer item e m given stands asks
-handled-answer (Closing until) item e m given stands negotiated asks = absurd (false≢true negotiated)
+handled-answer other item e m given stands negotiated asks = absurd (false≢true negotiated)
 
 item-answer : (own : Cid) (item : Item) (m : Machine) → IsOrdered m → AnswersRight (handles_item own item) m (does (handles_item own item) m)
-item-answer own item m h = by_entry (entry_at own.0 m) refl
-  where
-    by_entry : (o : Option Entry) → entry_at own.0 m ≡ o → WhereAsked item o
-        (λ e seen. WhereThere (entry_at own.0 (on_entry o (handled item) m).machine) (λ f. IsAnswered item e seen m (on_entry o (handled item) m)))
-    by_entry None is = tt
-    by_entry (Some e) is = λ negotiated asks.
-        let same : e.facts.cid.0 ≡ own.0 = eqb-true e.facts.cid.0 own.0 (find_some (λ x. has_id own.0 x.facts) m.connections e is).passes in
-        subst (λ c. WhereSeen (watched item.id (agreed_sharing e.facts.agreed) item.body)
-        (λ seen. WhereThere (entry_at c (handled item e m).machine) (λ f. IsAnswered item e seen m (handled item e m)))) same
-        (handled-answer e.facts.phase item e m (given_id m e h (subst (λ c. entry_at c m ≡ Some e) (sym same) is)) (subst (λ c. entry_at c m ≡ Some e) (sym same) is) negotiated asks)
+item-answer own item m h = by_option (entry_at own.0 m)
+    (λ o. WhereAsked item o (λ e seen. WhereThere (entry_at own.0 (on_entry o (handled item) m).machine) (λ f. IsAnswered item e seen m (on_entry o (handled item) m))))
+    (λ is. tt)
+    (λ e is. λ negotiated asks.
+    let same : e.facts.cid.0 ≡ own.0 = eqb-true e.facts.cid.0 own.0 (find_some (λ x. has_id own.0 x.facts) m.connections e is).passes in
+    subst (λ c. WhereSeen (watched item.id (agreed_sharing e.facts.agreed) item.body)
+    (λ seen. WhereThere (entry_at c (handled item e m).machine) (λ f. IsAnswered item e seen m (handled item e m)))) same
+    (handled-answer e.facts.phase item e m (given_id m e h (subst (λ c. entry_at c m ≡ Some e) (sym same) is)) (subst (λ c. entry_at c m ≡ Some e) (sym same) is) negotiated asks))
 
 pub answers-right : (act : Act) (m : Machine) → Finds act m → AnswersRight act m (does act m)
 answers-right (handles_item cid item) m found = item-answer cid item m found

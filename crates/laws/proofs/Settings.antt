@@ -1,20 +1,18 @@
 -- What sound settings say.
-use Rattle.std.proofs.Common.{ℕ, ◌≤◌, ◌≡◌, Bool, true, false, cond, List, [], ◌∷◌, Some, None, All, nat_le, refl, arith, leb-true}
+use Rattle.std.proofs.Common.{ℕ, ◌≤◌, ◌≡◌, Bool, true, cond, List, [], ◌∷◌, Some, None, All, nat_le, arith, leb-true}
 use Rattle.std.proofs.lemmas.Bool.{and_parts}
 use Rattle.std.proofs.lemmas.List.Elements.{All-nil, All-cons}
 use Rattle.net_base.specs.declared.settings.Settings.{Settings}
 use Rattle.net_base.specs.declared.settings.Field.{Field}
 use Rattle.net_base.specs.declared.settings.Field.TheVariants.{Version}
 use Rattle.net_base.specs.Bounds.{AreSound, first_failing, settings_tests, is_interval}
+use Rattle.laws.proofs.Cases.{by_bool}
 
 pub first_failing-none : (tests : List (Field × Bool)) → first_failing tests ≡ None → All (λ test. test.1 ≡ true) tests
 first_failing-none [] e = All-nil (λ test. test.1 ≡ true)
-first_failing-none (test ∷ tests) e = at_head test.1 refl (first_failing-none tests) e
-  where
-    at_head : (b : Bool) → test.1 ≡ b → (first_failing tests ≡ None → All (λ t. t.1 ≡ true) tests) →
-        cond b (first_failing tests) (Some test.0) ≡ None → All (λ t. t.1 ≡ true) (test ∷ tests)
-    at_head true here later e = All-cons (λ t. t.1 ≡ true) test tests here (later e)
-    at_head false here later e = absurd cc
+first_failing-none (test ∷ tests) e = by_bool test.1
+    (λ b. (first_failing tests ≡ None → All (λ t. t.1 ≡ true) tests) → cond b (first_failing tests) (Some test.0) ≡ None → All (λ t. t.1 ≡ true) (test ∷ tests))
+    (λ here later e. All-cons (λ t. t.1 ≡ true) test tests here (later e)) (λ here later e. absurd cc) (first_failing-none tests) e
 
 pub interval-positive : (n : ℕ) → is_interval n ≡ true → 1 ≤ n
 interval-positive n h = leb-true 1 n (and_parts (nat_le 1 n) (nat_le n 86400000) h).0

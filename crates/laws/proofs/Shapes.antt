@@ -7,24 +7,21 @@ use Rattle.net_base.specs.declared.connection.Facts.{Facts}
 use Rattle.net_base.specs.declared.connection.Grace.{Grace}
 use Rattle.net_base.specs.declared.connection.Grace.TheVariants.{Off, ForRemote, ForLocal}
 use Rattle.net_base.specs.declared.connection.Phase.{Phase}
-use Rattle.net_base.specs.declared.connection.Phase.TheVariants.{Dialing, Greeting, Negotiated, Closing}
+use Rattle.net_base.specs.declared.connection.Phase.TheVariants.{Negotiated}
 use Rattle.conn_state.specs.Moves.{accepted, dialing, connected, agreed_inbound, agreed_outbound, acquired, released, awakened, idled, expired, closing}
 use Rattle.conn_state.specs.Use.{is_negotiated, is_negotiated_phase, is_dialing, is_dialing_phase, is_greeting, is_greeting_phase, is_outbound, is_duplex, is_for_remote, is_for_local, some_runs, is_acquirable}
 use Rattle.laws.specs.Steady.{IsShaped, IsUnused}
+use Rattle.laws.proofs.Cases.{by_bool}
 
 -- ---- phases exclude each other
 
 pub dialing-unnegotiated : (p : Phase) → is_dialing_phase p ≡ true → is_negotiated_phase p ≡ false
-dialing-unnegotiated Dialing h = refl
-dialing-unnegotiated (Greeting until) h = refl
 dialing-unnegotiated Negotiated h = absurd (false≢true h)
-dialing-unnegotiated (Closing until) h = refl
+dialing-unnegotiated other h = refl
 
 pub greeting-unnegotiated : (p : Phase) → is_greeting_phase p ≡ true → is_negotiated_phase p ≡ false
-greeting-unnegotiated Dialing h = refl
-greeting-unnegotiated (Greeting until) h = refl
 greeting-unnegotiated Negotiated h = absurd (false≢true h)
-greeting-unnegotiated (Closing until) h = refl
+greeting-unnegotiated other h = refl
 
 -- ---- an unused one
 
@@ -81,11 +78,8 @@ outbound_grace-kept false until = refl
 
 outbound_grace-serves : (uni out runs : Bool) (until : ℕ) → runs ≡ false →
     (runs || is_for_remote (if uni then Off else ForRemote until)) ≡ true → (not out || not uni) ≡ true
-outbound_grace-serves true out runs until none serves = absurd (both_ways runs none (by_runs runs serves))
-  where
-    by_runs : (b : Bool) → (b || false) ≡ true → b ≡ true
-    by_runs true e = refl
-    by_runs false e = e
+outbound_grace-serves true out runs until none serves = absurd (both_ways runs none (by_bool runs (λ b. (b || false) ≡ true → b ≡ true)
+    (λ is e. refl) (λ is e. e) serves))
 outbound_grace-serves false true runs until none serves = refl
 outbound_grace-serves false false runs until none serves = refl
 
@@ -105,18 +99,12 @@ agreed_outbound-shaped agreed until f h greets outbound =
 -- ---- what is in use is negotiated
 
 pub local-negotiated : (f : Facts) → IsShaped f → f.local ≡ true → is_negotiated f ≡ true
-local-negotiated f h local = by_phase (is_negotiated f) refl
-  where
-    by_phase : (b : Bool) → is_negotiated f ≡ b → is_negotiated f ≡ true
-    by_phase true e = e
-    by_phase false e = absurd (both_ways f.local (h.unused e).local local)
+local-negotiated f h local = by_bool (is_negotiated f) (λ b. is_negotiated f ≡ true)
+    (λ e. e) (λ e. absurd (both_ways f.local (h.unused e).local local))
 
 pub running-negotiated : (f : Facts) → IsShaped f → some_runs f.running ≡ true → is_negotiated f ≡ true
-running-negotiated f h runs = by_phase (is_negotiated f) refl
-  where
-    by_phase : (b : Bool) → is_negotiated f ≡ b → is_negotiated f ≡ true
-    by_phase true e = e
-    by_phase false e = absurd (both_ways (some_runs f.running) (h.unused e).running runs)
+running-negotiated f h runs = by_bool (is_negotiated f) (λ b. is_negotiated f ≡ true)
+    (λ e. e) (λ e. absurd (both_ways (some_runs f.running) (h.unused e).running runs))
 
 abbrev pub serves_remote : Facts → Bool
 serves_remote f = not (is_outbound f) || is_duplex f

@@ -1,5 +1,5 @@
 -- Who can share is found among the links: its connection in use has agreed on it.
-use Rattle.std.proofs.Common.{ℕ, suc, ◌≡◌, Bool, true, false, not, ◌&&◌, ◌||◌, List, [], ◌∷◌, map, find, get_or, Some, is_some, refl, sym, ◌∙◌, subst, arith}
+use Rattle.std.proofs.Common.{ℕ, suc, ◌≡◌, Bool, true, not, ◌&&◌, ◌||◌, List, [], ◌∷◌, map, find, get_or, Some, is_some, refl, sym, ◌∙◌, subst, arith}
 use Rattle.std.proofs.lemmas.Bool.{both_ways, and_parts, and_from, false≢true, false_from_ne_true}
 use Rattle.net_base.specs.Address.{same_address}
 use Rattle.net_base.specs.declared.address.Addr.{Addr}
@@ -13,6 +13,7 @@ use Rattle.laws.proofs.Lists.{StandsAt, OnePasses, stands_next, find_only}
 use Rattle.laws.proofs.Orders.{MayAsk}
 use Rattle.laws.proofs.Ties.{live_one}
 use Rattle.laws.proofs.WholeMoves.{stands-shaped, negotiated-live}
+use Rattle.laws.proofs.Cases.{by_bool, some_same}
 
 record SharesIn (addr : Addr) (es : List Entry) : Type 0 where
   entry : Entry
@@ -24,28 +25,25 @@ record SharesIn (addr : Addr) (es : List Entry) : Type 0 where
 
 shares_in : (addr : Addr) (es : List Entry) → can_share (map link_of es) addr ≡ true → SharesIn addr es
 shares_in addr [] h = absurd (false≢true h)
-shares_in addr (e ∷ es) h = by_test (same_address e.facts.addr addr && (e.facts.local && agreed_sharing e.facts.agreed && free)) refl h (shares_in addr es)
-  where
-    free : Bool
-    free = not (is_some (reply_on 10 e))
-
-    by_test : (b : Bool) → (same_address e.facts.addr addr && (e.facts.local && agreed_sharing e.facts.agreed && free)) ≡ b →
-        (b || can_share (map link_of es) addr) ≡ true → (can_share (map link_of es) addr ≡ true → SharesIn addr es) → SharesIn addr (e ∷ es)
-    by_test true is found later =
-        let parts = and_parts (same_address e.facts.addr addr) (e.facts.local && agreed_sharing e.facts.agreed && free) is in
-        let uses = and_parts (e.facts.local && agreed_sharing e.facts.agreed) free parts.1 in
-        let both = and_parts e.facts.local (agreed_sharing e.facts.agreed) uses.0 in
-        record { entry = e; place = 0; stands = record { inside = omega arith; is = refl }; at = parts.0; local = both.0; sharing = both.1 }
-    by_test false is found later =
-        let rest : SharesIn addr es = later found in
-        record {
-          entry = rest.entry;
-          place = suc rest.place;
-          stands = stands_next e rest.entry es rest.place rest.stands;
-          at = rest.at;
-          local = rest.local;
-          sharing = rest.sharing;
-        }
+shares_in addr (e ∷ es) h =
+    let free : Bool = not (is_some (reply_on 10 e)) in
+    by_bool (same_address e.facts.addr addr && (e.facts.local && agreed_sharing e.facts.agreed && free))
+    (λ b. (b || can_share (map link_of es) addr) ≡ true → (can_share (map link_of es) addr ≡ true → SharesIn addr es) → SharesIn addr (e ∷ es))
+    (λ is found later.
+    let parts = and_parts (same_address e.facts.addr addr) (e.facts.local && agreed_sharing e.facts.agreed && free) is in
+    let uses = and_parts (e.facts.local && agreed_sharing e.facts.agreed) free parts.1 in
+    let both = and_parts e.facts.local (agreed_sharing e.facts.agreed) uses.0 in
+    record { entry = e; place = 0; stands = record { inside = omega arith; is = refl }; at = parts.0; local = both.0; sharing = both.1 })
+    (λ is found later.
+    let rest : SharesIn addr es = later found in
+    record {
+      entry = rest.entry;
+      place = suc rest.place;
+      stands = stands_next e rest.entry es rest.place rest.stands;
+      at = rest.at;
+      local = rest.local;
+      sharing = rest.sharing;
+    }) h (shares_in addr es)
 
 -- at most one connection of an address is in use
 used_one : (addr : Addr) (m : Machine) → IsOrdered m → OnePasses (is_used_at addr) m.connections
@@ -59,11 +57,9 @@ used_one addr m h i j d before inside here =
 
 -- what is in use is live
 local-live : (m : Machine) (e : Entry) (k : ℕ) → IsOrdered m → StandsAt m.connections k e → e.facts.local ≡ true → is_live e.facts ≡ true
-local-live m e k h s local = by_phase (is_negotiated e.facts) refl
-  where
-    by_phase : (b : Bool) → is_negotiated e.facts ≡ b → is_live e.facts ≡ true
-    by_phase true is = negotiated-live e.facts.phase is
-    by_phase false is = absurd (both_ways e.facts.local ((stands-shaped m e k h s).unused is).local local)
+local-live m e k h s local = by_bool (is_negotiated e.facts) (λ b. is_live e.facts ≡ true)
+    (λ is. negotiated-live e.facts.phase is)
+    (λ is. absurd (both_ways e.facts.local ((stands-shaped m e k h s).unused is).local local))
 
 pub shares-may : (m : Machine) → IsOrdered m → (addr : Addr) → can_share (map link_of m.connections) addr ≡ true → MayAsk m addr
 shares-may m h addr can e found =
@@ -73,8 +69,5 @@ shares-may m h addr can e found =
     let own : find (is_used_at addr) m.connections ≡ Some x.entry =
     find_only (is_used_at addr) x.entry m.connections x.place (used_one addr m h) x.stands
     (and_from (is_live_at addr x.entry.facts) x.entry.facts.local at x.local) in
-    let same : x.entry ≡ e = some_same x.entry (sym own ∙ found) in
+    let same : x.entry ≡ e = some_same x.entry e (sym own ∙ found) in
     subst (λ y. agreed_sharing y.facts.agreed ≡ true) same x.sharing
-  where
-    some_same : (y : Entry) → Some y ≡ Some e → y ≡ e
-    some_same y is = cc

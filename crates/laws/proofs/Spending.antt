@@ -25,6 +25,7 @@ use Rattle.laws.proofs.Entries.{TurnsInto, turned-connections}
 use Rattle.laws.proofs.Lists.{StandsAt, stands_before, FoundIn, find_some}
 use Rattle.laws.proofs.PeersApart.{same_turned}
 use Rattle.machine.specs.Effect.{on_entry}
+use Rattle.laws.proofs.Cases.{by_bool, by_option}
 
 none_unlisted : (a b c : Bool) → b ≡ false → (a && (b && c)) ≡ false
 none_unlisted true true c h = absurd cc
@@ -39,7 +40,7 @@ pub record IsSameBut (addr : Addr) (p q : Peer) : Type 0 where
   pub same_class : q.big ≡ p.big
   pub elsewhere : same_address p.addr addr ≡ false → q ≡ p
 
-unfoldable pub AreSameBut : Addr → List Peer → List Peer → Type 0
+abbrev pub AreSameBut : Addr → List Peer → List Peer → Type 0
 AreSameBut addr [] [] = Unit {0}
 AreSameBut addr [] (q ∷ qs) = ⊥
 AreSameBut addr (p ∷ ps) [] = ⊥
@@ -49,37 +50,33 @@ same_but-self : (addr : Addr) (p : Peer) → IsSameBut addr p p
 same_but-self addr p = record { same_addr = refl; same_class = refl; elsewhere = λ other. refl }
 
 pub all_same : (addr : Addr) (ps : List Peer) → AreSameBut addr ps ps
-unfolding AreSameBut
 all_same addr [] = tt
 all_same addr (p ∷ ps) = (same_but-self addr p, all_same addr ps)
 
 -- one takes the place of the peer with its address
 with_peer-same : (new : Peer) (ps : List Peer) → AllByRecursion (λ q. same_address q.addr new.addr ≡ false) ps → AreSameBut new.addr ps (with_peer new ps)
-unfolding AreSameBut
 with_peer-same new [] others = tt
 with_peer-same new (p ∷ ps) others =
     (subst (λ b. IsSameBut new.addr p (if b then new else p)) (sym others.0) (same_but-self new.addr p), with_peer-same new ps others.1)
 
 pub with_peer-same_but : (new p : Peer) (ps : List Peer) → ArePeersApart ps → peer_in new.addr ps ≡ Some p → new.big ≡ p.big →
     AreSameBut new.addr ps (with_peer new ps)
-unfolding AreSameBut
 with_peer-same_but new p [] apart found class = tt
-with_peer-same_but new p (q ∷ ps) apart found class = by_test (has_address new.addr q) refl found (with_peer-same_but new p ps apart.1)
-  where
-    by_test : (b : Bool) → has_address new.addr q ≡ b → cond b (Some q) (peer_in new.addr ps) ≡ Some p →
-        (peer_in new.addr ps ≡ Some p → new.big ≡ p.big → AreSameBut new.addr ps (with_peer new ps)) →
-        IsSameBut new.addr q (if b then new else q) × AreSameBut new.addr ps (with_peer new ps)
-    by_test true here found later =
-        let same : q ≡ p = cc in
-        let addr : q.addr ≡ new.addr = same_address-true q.addr new.addr here in (
-          record {
-            same_addr = sym addr;
-            same_class = class ∙ ap (λ x. x.big) (sym same);
-            elsewhere = λ other. let never : true ≡ false = sym here ∙ other in absurd cc;
-          },
-          with_peer-same new ps (subst (λ a. AllByRecursion (λ x. same_address x.addr a ≡ false) ps) addr apart.0),
-        )
-    by_test false other found later = (same_but-self new.addr q, later found class)
+with_peer-same_but new p (q ∷ ps) apart found class = by_bool (has_address new.addr q)
+    (λ b. cond b (Some q) (peer_in new.addr ps) ≡ Some p →
+    (peer_in new.addr ps ≡ Some p → new.big ≡ p.big → AreSameBut new.addr ps (with_peer new ps)) →
+    IsSameBut new.addr q (if b then new else q) × AreSameBut new.addr ps (with_peer new ps))
+    (λ here found later.
+    let same : q ≡ p = cc in
+    let addr : q.addr ≡ new.addr = same_address-true q.addr new.addr here in (
+      record {
+        same_addr = sym addr;
+        same_class = class ∙ ap (λ x. x.big) (sym same);
+        elsewhere = λ other. let never : true ≡ false = sym here ∙ other in absurd cc;
+      },
+      with_peer-same new ps (subst (λ a. AllByRecursion (λ x. same_address x.addr a ≡ false) ps) addr apart.0),
+    ))
+    (λ other found later. (same_but-self new.addr q, later found class)) found (with_peer-same_but new p ps apart.1)
 
 -- ---- the class of an address
 
@@ -87,18 +84,14 @@ abbrev pub class_at : Addr → List Peer → Option Bool
 class_at addr ps = option_map (λ p. p.big) (peer_in addr ps)
 
 pub same_but-class : (addr b : Addr) (ps qs : List Peer) → AreSameBut addr ps qs → class_at b qs ≡ class_at b ps
-unfolding AreSameBut
 same_but-class addr b [] [] h = refl
 same_but-class addr b [] (q ∷ qs) h = elim h [ ]
 same_but-class addr b (p ∷ ps) [] h = elim h [ ]
 same_but-class addr b (p ∷ ps) (q ∷ qs) h =
     ap (λ a. option_map (λ x. x.big) (cond (same_address a b) (Some q) (peer_in b qs))) h.0.same_addr
-    ∙ by_test (same_address p.addr b) (same_but-class addr b ps qs h.1)
-  where
-    by_test : (c : Bool) → class_at b qs ≡ class_at b ps →
-        option_map (λ x. x.big) (cond c (Some q) (peer_in b qs)) ≡ option_map (λ x. x.big) (cond c (Some p) (peer_in b ps))
-    by_test true rest = ap Some h.0.same_class
-    by_test false rest = rest
+    ∙ by_bool (same_address p.addr b)
+    (λ c. class_at b qs ≡ class_at b ps → option_map (λ x. x.big) (cond c (Some q) (peer_in b qs)) ≡ option_map (λ x. x.big) (cond c (Some p) (peer_in b ps)))
+    (λ is rest. ap Some h.0.same_class) (λ is rest. rest) (same_but-class addr b ps qs h.1)
 
 -- ---- what is counted
 
@@ -110,29 +103,26 @@ one-most false = omega arith
 pub counted-none : (addr : Addr) (s t : Peer → Bool) (ps qs : List Peer) → AreSameBut addr ps qs →
     ((p : Peer) → same_address p.addr addr ≡ false → t p ≡ s p) → ((q : Peer) → same_address q.addr addr ≡ true → t q ≡ false) →
     count_by t qs ≤ count_by s ps
-unfolding AreSameBut
 counted-none addr s t [] [] h other fails = omega arith
 counted-none addr s t [] (q ∷ qs) h other fails = elim h [ ]
 counted-none addr s t (p ∷ ps) [] h other fails = elim h [ ]
 counted-none addr s t (p ∷ ps) (q ∷ qs) h other fails =
-    let here : cond {A = ℕ} (t q) 1 0 ≤ cond {A = ℕ} (s p) 1 0 = by_test (same_address p.addr addr) refl in
+    let here : cond {A = ℕ} (t q) 1 0 ≤ cond {A = ℕ} (s p) 1 0 = by_bool (same_address p.addr addr)
+    (λ b. cond {A = ℕ} (t q) 1 0 ≤ cond {A = ℕ} (s p) 1 0)
+    (λ at.
+    let none : t q ≡ false = fails q (ap (λ a. same_address a addr) h.0.same_addr ∙ at) in
+    subst (λ b. cond {A = ℕ} b 1 0 ≤ cond {A = ℕ} (s p) 1 0) (sym none) (omega arith))
+    (λ elsewhere.
+    let same : t q ≡ s p = ap t (h.0.elsewhere elsewhere) ∙ other p elsewhere in
+    subst (λ b. cond {A = ℕ} b 1 0 ≤ cond {A = ℕ} (s p) 1 0) (sym same) (omega arith)) in
     let rest = counted-none addr s t ps qs h.1 other fails in
     let before = sum_by-cons (λ x. cond {A = ℕ} (s x) 1 0) p ps in
     let after = sum_by-cons (λ x. cond {A = ℕ} (t x) 1 0) q qs in
     omega (arith, here, rest, before, after)
-  where
-    by_test : (b : Bool) → same_address p.addr addr ≡ b → cond {A = ℕ} (t q) 1 0 ≤ cond {A = ℕ} (s p) 1 0
-    by_test true at =
-        let none : t q ≡ false = fails q (ap (λ a. same_address a addr) h.0.same_addr ∙ at) in
-        subst (λ b. cond {A = ℕ} b 1 0 ≤ cond {A = ℕ} (s p) 1 0) (sym none) (omega arith)
-    by_test false elsewhere =
-        let same : t q ≡ s p = ap t (h.0.elsewhere elsewhere) ∙ other p elsewhere in
-        subst (λ b. cond {A = ℕ} b 1 0 ≤ cond {A = ℕ} (s p) 1 0) (sym same) (omega arith)
 
 counted-others : (addr : Addr) (s t : Peer → Bool) (ps qs : List Peer) → AreSameBut addr ps qs →
     ((p : Peer) → same_address p.addr addr ≡ false → t p ≡ s p) → AllByRecursion (λ p. same_address p.addr addr ≡ false) ps →
     count_by t qs ≤ count_by s ps
-unfolding AreSameBut
 counted-others addr s t [] [] h other apart = omega arith
 counted-others addr s t [] (q ∷ qs) h other apart = elim h [ ]
 counted-others addr s t (p ∷ ps) [] h other apart = elim h [ ]
@@ -146,24 +136,22 @@ counted-others addr s t (p ∷ ps) (q ∷ qs) h other apart =
 -- at most one more, since no two peers have one address
 pub counted-one : (addr : Addr) (s t : Peer → Bool) (ps qs : List Peer) → ArePeersApart ps → AreSameBut addr ps qs →
     ((p : Peer) → same_address p.addr addr ≡ false → t p ≡ s p) → count_by t qs ≤ count_by s ps + 1
-unfolding AreSameBut
 counted-one addr s t [] [] apart h other = omega arith
 counted-one addr s t [] (q ∷ qs) apart h other = elim h [ ]
 counted-one addr s t (p ∷ ps) [] apart h other = elim h [ ]
 counted-one addr s t (p ∷ ps) (q ∷ qs) apart h other =
     let before = sum_by-cons (λ x. cond {A = ℕ} (s x) 1 0) p ps in
     let after = sum_by-cons (λ x. cond {A = ℕ} (t x) 1 0) q qs in
-    by_test (same_address p.addr addr) refl before after (counted-one addr s t ps qs apart.1 h.1 other)
-  where
-    by_test : (b : Bool) → same_address p.addr addr ≡ b → count_by s (p ∷ ps) ≡ cond {A = ℕ} (s p) 1 0 + count_by s ps →
-        count_by t (q ∷ qs) ≡ cond {A = ℕ} (t q) 1 0 + count_by t qs → count_by t qs ≤ count_by s ps + 1 → count_by t (q ∷ qs) ≤ count_by s (p ∷ ps) + 1
-    by_test true at before after later =
-        let rest = counted-others addr s t ps qs h.1 other
-        (subst (λ a. AllByRecursion (λ x. same_address x.addr a ≡ false) ps) (same_address-true p.addr addr at) apart.0) in
-        omega (arith, one-most (t q), rest, before, after)
-    by_test false elsewhere before after later =
-        let same : cond {A = ℕ} (t q) 1 0 ≡ cond {A = ℕ} (s p) 1 0 = ap (λ b. cond {A = ℕ} b 1 0) (ap t (h.0.elsewhere elsewhere) ∙ other p elsewhere) in
-        omega (arith, same, later, before, after)
+    by_bool (same_address p.addr addr)
+    (λ b. count_by s (p ∷ ps) ≡ cond {A = ℕ} (s p) 1 0 + count_by s ps →
+    count_by t (q ∷ qs) ≡ cond {A = ℕ} (t q) 1 0 + count_by t qs → count_by t qs ≤ count_by s ps + 1 → count_by t (q ∷ qs) ≤ count_by s (p ∷ ps) + 1)
+    (λ at before after later.
+    let rest = counted-others addr s t ps qs h.1 other
+    (subst (λ a. AllByRecursion (λ x. same_address x.addr a ≡ false) ps) (same_address-true p.addr addr at) apart.0) in
+    omega (arith, one-most (t q), rest, before, after))
+    (λ elsewhere before after later.
+    let same : cond {A = ℕ} (t q) 1 0 ≡ cond {A = ℕ} (s p) 1 0 = ap (λ b. cond {A = ℕ} b 1 0) (ap t (h.0.elsewhere elsewhere) ∙ other p elsewhere) in
+    omega (arith, same, later, before, after)) before after (counted-one addr s t ps qs apart.1 h.1 other)
 
 -- ---- records that differ at one address
 
@@ -257,7 +245,15 @@ dial-changes addr m = record {
 }
 
 acquire-changes : (m : Machine) (e : Entry) (k : ℕ) → IsOrdered m → StandsAt m.connections k e → ChangesAt e.facts.addr m (acquire e m).machine
-acquire-changes m e k h s = by_peer (peer_at e.facts.addr m) refl
+acquire-changes m e k h s = by_option (peer_at e.facts.addr m) (λ o. ChangesAt e.facts.addr m (turns_at o warm (with_entry new m)).machine)
+    (λ is. record { now = refl; targets = refl; big_targets = refl; groups = refl; peers = all_same e.facts.addr m.peers; connections = same })
+    (λ p is.
+    let here : p.addr ≡ e.facts.addr = same_address-true p.addr e.facts.addr (find_some (has_address e.facts.addr) m.peers p is).passes in
+    assumption (
+      subst (λ a. AreSameBut a m.peers (with_peer (warm p) m.peers)) here
+          (with_peer-same_but (warm p) p m.peers h.formed.peers (subst (λ a. peer_in a m.peers ≡ Some p) (sym here) is) refl),
+      same,
+    ))
   where
     new : Entry
     new = owing 8 (e.facts.cid.0 % 65536) m (record e { facts = acquired e.facts })
@@ -268,20 +264,6 @@ acquire-changes m e k h s = by_peer (peer_at e.facts.addr m) refl
     same : (test : Entry → Bool) (b : Addr) → same_address b e.facts.addr ≡ false → some_connection test b (with_entry new m) ≡ some_connection test b m
     same = turned-same m e new k h s (record { same_id = refl; same_addr = refl; live = λ l. l })
 
-    by_peer : (o : Option Peer) → peer_at e.facts.addr m ≡ o → ChangesAt e.facts.addr m (turns_at o warm (with_entry new m)).machine
-    by_peer None is = record { now = refl; targets = refl; big_targets = refl; groups = refl; peers = all_same e.facts.addr m.peers; connections = same }
-    by_peer (Some p) is =
-        let here : p.addr ≡ e.facts.addr = same_address-true p.addr e.facts.addr (find_some (has_address e.facts.addr) m.peers p is).passes in
-        record {
-          now = refl;
-          targets = refl;
-          big_targets = refl;
-          groups = refl;
-          peers = subst (λ a. AreSameBut a m.peers (with_peer (warm p) m.peers)) here
-              (with_peer-same_but (warm p) p m.peers h.formed.peers (subst (λ a. peer_in a m.peers ≡ Some p) (sym here) is) refl);
-          connections = same;
-        }
-
 pub promote-changes : (addr : Addr) (m : Machine) → IsOrdered m → ChangesAt addr m (promote addr m).machine
 promote-changes addr m h = by_live (live_entry_at addr m) refl
   where
@@ -290,29 +272,25 @@ promote-changes addr m h = by_live (live_entry_at addr m) refl
     by_live (Some e) is =
         let at : FoundIn (λ x. is_live_at addr x.facts) m.connections e = find_some (λ x. is_live_at addr x.facts) m.connections e is in
         let here : e.facts.addr ≡ addr = same_address-true e.facts.addr addr (and_parts (same_address e.facts.addr addr) (is_live e.facts) at.passes).0 in
-        by_test (is_acquirable e.facts) (subst (λ a. ChangesAt a m (acquire e m).machine) here (acquire-changes m e at.place h at.stands))
-      where
-        by_test : (b : Bool) → ChangesAt addr m (acquire e m).machine → ChangesAt addr m (if b then acquire e m else dial addr m).machine
-        by_test true acquired = acquired
-        by_test false acquired = dial-changes addr m
+        by_bool (is_acquirable e.facts)
+        (λ b. ChangesAt addr m (acquire e m).machine → ChangesAt addr m (if b then acquire e m else dial addr m).machine)
+        (λ is acquired. acquired) (λ is acquired. dial-changes addr m) (subst (λ a. ChangesAt a m (acquire e m).machine) here (acquire-changes m e at.place h at.stands))
 
 -- ---- an activation
 
 pub activate-changes : (addr : Addr) (m : Machine) → IsOrdered m → ChangesAt addr m (activate addr m).machine
-activate-changes addr m h = by_entry (find (is_used_at addr) m.connections) refl
-  where
-    by_entry : (o : Option Entry) → find (is_used_at addr) m.connections ≡ o → ChangesAt addr m (on_entry o activates m).machine
-    by_entry None is = record { now = refl; targets = refl; big_targets = refl; groups = refl; peers = all_same addr m.peers; connections = λ test b other. refl }
-    by_entry (Some e) is =
-        let at : FoundIn (is_used_at addr) m.connections e = find_some (is_used_at addr) m.connections e is in
-        let lives = and_parts (same_address e.facts.addr addr) (is_live e.facts) (and_parts (is_live_at addr e.facts) e.facts.local at.passes).0 in
-        let here : e.facts.addr ≡ addr = same_address-true e.facts.addr addr lives.0 in
-        record {
-          now = refl;
-          targets = refl;
-          big_targets = refl;
-          groups = refl;
-          peers = all_same addr m.peers;
-          connections = λ test b other. turned-same m e (owing 2 0 m e) at.place h at.stands (record { same_id = refl; same_addr = refl; live = λ l. l }) test b
-              (subst (λ a. same_address b a ≡ false) (sym here) other);
-        }
+activate-changes addr m h = by_option (find (is_used_at addr) m.connections) (λ o. ChangesAt addr m (on_entry o activates m).machine)
+    (λ is. record { now = refl; targets = refl; big_targets = refl; groups = refl; peers = all_same addr m.peers; connections = λ test b other. refl })
+    (λ e is.
+    let at : FoundIn (is_used_at addr) m.connections e = find_some (is_used_at addr) m.connections e is in
+    let lives = and_parts (same_address e.facts.addr addr) (is_live e.facts) (and_parts (is_live_at addr e.facts) e.facts.local at.passes).0 in
+    let here : e.facts.addr ≡ addr = same_address-true e.facts.addr addr lives.0 in
+    record {
+      now = refl;
+      targets = refl;
+      big_targets = refl;
+      groups = refl;
+      peers = all_same addr m.peers;
+      connections = λ test b other. turned-same m e (owing 2 0 m e) at.place h at.stands (record { same_id = refl; same_addr = refl; live = λ l. l }) test b
+          (subst (λ a. same_address b a ≡ false) (sym here) other);
+    })

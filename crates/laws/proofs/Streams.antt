@@ -1,5 +1,5 @@
 -- Bytes come in on a connection.
-use Rattle.std.proofs.Common.{ℕ, ◌≤◌, ◌≡◌, true, arith, List, ◌∷◌, [], Option, Some, None, refl, ap, eqb-true, ◌||◌}
+use Rattle.std.proofs.Common.{ℕ, ◌≤◌, ◌≡◌, true, arith, List, [], ◌∷◌, Option, Some, None, refl, ap, eqb-true, ◌||◌}
 use Rattle.std.proofs.lemmas.Bool.{cond_both, false≢true}
 use Rattle.mux_segment.specs.Stream.{FedBy}
 use Rattle.mux_segment.specs.declared.fault.CutFault.{CutFault}
@@ -7,7 +7,7 @@ use Rattle.mux_segment.specs.declared.item.Item.{Item}
 use Rattle.net_base.specs.declared.action.CloseCause.TheVariants.{Fault}
 use Rattle.net_base.specs.declared.connection.Cid.{Cid}
 use Rattle.net_base.specs.declared.connection.Phase.{Phase}
-use Rattle.net_base.specs.declared.connection.Phase.TheVariants.{Dialing, Greeting, Negotiated, Closing}
+use Rattle.net_base.specs.declared.connection.Phase.TheVariants.{Greeting, Negotiated}
 use Rattle.conn_state.specs.Use.{has_id, is_live, live_phase, is_greeting_phase, is_negotiated_phase, is_greeting, is_negotiated}
 use Rattle.hs_receive.specs.Receiving.{kind_of}
 use Rattle.machine.specs.Machine.{Machine, Entry, counted_in, entry_at}
@@ -23,14 +23,14 @@ use Rattle.laws.proofs.Open.{IsOpen, turned-open, handles-open}
 use Rattle.laws.proofs.Talks.{talks-trimmed}
 use Rattle.laws.proofs.Trims.{Trimmed, keeps-trimmed, ending-trimmed, nothing-trimmed, trimmed_then, trimmed-within, for_each_that-trimmed}
 use Rattle.laws.proofs.WholeMoves.{decodes-keeps}
+use Rattle.laws.proofs.Cases.{by_option}
 
 handled_in-trimmed : (p : Phase) (item : Item) (m : Machine) (e : Entry) (k : ℕ) → e.facts.phase ≡ p → IsOrdered m → counted_in m ≤ m.settings.hard →
     StandsAt m.connections k e → Trimmed IsLawful m (handled_in p item e m)
-handled_in-trimmed Dialing item m e k is h within s = nothing-trimmed IsLawful m within h
 handled_in-trimmed (Greeting until) item m e k is h within s = greets-trimmed item m e k h within s (ap is_greeting_phase is)
 handled_in-trimmed Negotiated item m e k is h within s =
     talks-trimmed item m e k (record { ordered = h; within = within; stands = s; negotiated = ap is_negotiated_phase is })
-handled_in-trimmed (Closing until) item m e k is h within s = nothing-trimmed IsLawful m within h
+handled_in-trimmed other item m e k is h within s = nothing-trimmed IsLawful m within h
 
 -- who is found by an id has it
 pub found-cid : (cid : Cid) (m : Machine) (e : Entry) → entry_at cid.0 m ≡ Some e → e.facts.cid ≡ cid
@@ -43,13 +43,11 @@ found-cid cid m e is =
 
 pub handles-trimmed : (cid : Cid) (item : Item) (m : Machine) → IsOrdered m → counted_in m ≤ m.settings.hard →
     Trimmed IsLawful m (handles cid item m)
-handles-trimmed cid item m h within = by_entry (entry_at cid.0 m) refl
-  where
-    by_entry : (o : Option Entry) → entry_at cid.0 m ≡ o → Trimmed IsLawful m (on_entry o (handled item) m)
-    by_entry None is = nothing-trimmed IsLawful m within h
-    by_entry (Some e) is =
-        let at = find_some (λ y. has_id cid.0 y.facts) m.connections e is in
-        handled_in-trimmed e.facts.phase item m e at.place refl h within at.stands
+handles-trimmed cid item m h within = by_option (entry_at cid.0 m) (λ o. Trimmed IsLawful m (on_entry o (handled item) m))
+    (λ is. nothing-trimmed IsLawful m within h)
+    (λ e is.
+    let at = find_some (λ y. has_id cid.0 y.facts) m.connections e is in
+    handled_in-trimmed e.facts.phase item m e at.place refl h within at.stands)
 
 all_handled-open : (cid : Cid) (items : List Item) (m : Machine) → IsOrdered m → counted_in m ≤ m.settings.hard → IsOpen cid.0 m → IsOpen cid.0 (for_each (handles cid) items m).machine
 unfolding for_each
@@ -90,10 +88,9 @@ fed_with-trimmed fed m e k h within s live =
 
 -- in its handshake or after it a connection is live
 pub open-live : (p : Phase) → (is_greeting_phase p || is_negotiated_phase p) ≡ true → live_phase p ≡ true
-open-live Dialing h = absurd (false≢true h)
 open-live (Greeting until) h = refl
 open-live Negotiated h = refl
-open-live (Closing until) h = absurd (false≢true h)
+open-live other h = absurd (false≢true h)
 
 comes_in-trimmed : (bytes : List ℕ) (m : Machine) (e : Entry) (k : ℕ) → IsOrdered m → counted_in m ≤ m.settings.hard →
     StandsAt m.connections k e → Trimmed IsLawful m (comes_in bytes e m)
@@ -103,10 +100,8 @@ comes_in-trimmed bytes m e k h within s = cond_both (is_greeting e.facts || is_n
 
 pub bytes_come_in-trimmed : (cid : Cid) (bytes : List ℕ) (m : Machine) → IsOrdered m → counted_in m ≤ m.settings.hard →
     Trimmed IsLawful m (bytes_come_in cid bytes m)
-bytes_come_in-trimmed cid bytes m h within = by_entry (entry_at cid.0 m) refl
-  where
-    by_entry : (o : Option Entry) → entry_at cid.0 m ≡ o → Trimmed IsLawful m (on_entry o (comes_in bytes) m)
-    by_entry None is = nothing-trimmed IsLawful m within h
-    by_entry (Some e) is =
-        let at = find_some (λ y. has_id cid.0 y.facts) m.connections e is in
-        comes_in-trimmed bytes m e at.place h within at.stands
+bytes_come_in-trimmed cid bytes m h within = by_option (entry_at cid.0 m) (λ o. Trimmed IsLawful m (on_entry o (comes_in bytes) m))
+    (λ is. nothing-trimmed IsLawful m within h)
+    (λ e is.
+    let at = find_some (λ y. has_id cid.0 y.facts) m.connections e is in
+    comes_in-trimmed bytes m e at.place h within at.stands)

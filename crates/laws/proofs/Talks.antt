@@ -49,6 +49,8 @@ use Rattle.laws.proofs.WholeMoves.{negotiated-live, awakes-keeps, idles-keeps, p
 use Rattle.laws.proofs.OwnAddress.{IsOther, taken-other}
 use Rattle.laws.proofs.Remains.{trim-found}
 use Rattle.net_base.specs.declared.connection.Cid.{Cid}
+use Rattle.laws.proofs.Walk.{replies-machine}
+use Rattle.laws.proofs.Cases.{by_bool, by_option, some_same}
 
 -- ---- only known protocols are answered
 
@@ -71,37 +73,18 @@ seen-known id sharing item seen h =
 
 -- ---- a responder that starts runs
 
+any_true : (x : Bool) → (x || true) ≡ true
+any_true x = or_right x true refl
+
 woken-runs_by : (r : Responders) (a b c d e : Bool) → (a || b || c || d || e) ≡ true →
     some_runs (if a then record r { chain_sync = true } else if b then record r { block_fetch = true }
     else if c then record r { tx_submission = true } else if d then record r { keep_alive = true }
     else if e then record r { peer_sharing = true } else r) ≡ true
 woken-runs_by r true b c d e h = refl
-woken-runs_by r false true c d e h = by_one r.chain_sync
-  where
-    by_one : (x : Bool) → (x || true || r.tx_submission || r.keep_alive || r.peer_sharing) ≡ true
-    by_one true = refl
-    by_one false = refl
-woken-runs_by r false false true d e h = by_two r.chain_sync r.block_fetch
-  where
-    by_two : (x y : Bool) → (x || y || true || r.keep_alive || r.peer_sharing) ≡ true
-    by_two true y = refl
-    by_two false true = refl
-    by_two false false = refl
-woken-runs_by r false false false true e h = by_three r.chain_sync r.block_fetch r.tx_submission
-  where
-    by_three : (x y z : Bool) → (x || y || z || true || r.peer_sharing) ≡ true
-    by_three true y z = refl
-    by_three false true z = refl
-    by_three false false true = refl
-    by_three false false false = refl
-woken-runs_by r false false false false true h = by_four r.chain_sync r.block_fetch r.tx_submission r.keep_alive
-  where
-    by_four : (x y z w : Bool) → (x || y || z || w || true) ≡ true
-    by_four true y z w = refl
-    by_four false true z w = refl
-    by_four false false true w = refl
-    by_four false false false true = refl
-    by_four false false false false = refl
+woken-runs_by r false true c d e h = rw (any_true r.chain_sync) refl
+woken-runs_by r false false true d e h = rw (any_true (r.chain_sync || r.block_fetch)) refl
+woken-runs_by r false false false true e h = rw (any_true (r.chain_sync || r.block_fetch || r.tx_submission)) refl
+woken-runs_by r false false false false true h = any_true (r.chain_sync || r.block_fetch || r.tx_submission || r.keep_alive)
 woken-runs_by r false false false false false h = absurd (false≢true h)
 
 pub woken-runs : (protocol : ℕ) (f : Facts) → has_responder protocol ≡ true → some_runs (awakened protocol f).running ≡ true
@@ -112,32 +95,10 @@ runs-some_by : (r : Responders) (a b c d e : Bool) →
     (if a then r.chain_sync else if b then r.block_fetch else if c then r.tx_submission else if d then r.keep_alive else if e then r.peer_sharing else false) ≡ true →
     some_runs r ≡ true
 runs-some_by r true b c d e h = rw h refl
-runs-some_by r false true c d e h = rw h (by_one r.chain_sync)
-  where
-    by_one : (x : Bool) → (x || true || r.tx_submission || r.keep_alive || r.peer_sharing) ≡ true
-    by_one true = refl
-    by_one false = refl
-runs-some_by r false false true d e h = rw h (by_two r.chain_sync r.block_fetch)
-  where
-    by_two : (x y : Bool) → (x || y || true || r.keep_alive || r.peer_sharing) ≡ true
-    by_two true y = refl
-    by_two false true = refl
-    by_two false false = refl
-runs-some_by r false false false true e h = rw h (by_three r.chain_sync r.block_fetch r.tx_submission)
-  where
-    by_three : (x y z : Bool) → (x || y || z || true || r.peer_sharing) ≡ true
-    by_three true y z = refl
-    by_three false true z = refl
-    by_three false false true = refl
-    by_three false false false = refl
-runs-some_by r false false false false true h = rw h (by_four r.chain_sync r.block_fetch r.tx_submission r.keep_alive)
-  where
-    by_four : (x y z w : Bool) → (x || y || z || w || true) ≡ true
-    by_four true y z w = refl
-    by_four false true z w = refl
-    by_four false false true w = refl
-    by_four false false false true = refl
-    by_four false false false false = refl
+runs-some_by r false true c d e h = rw h (rw (any_true r.chain_sync) refl)
+runs-some_by r false false true d e h = rw h (rw (any_true (r.chain_sync || r.block_fetch)) refl)
+runs-some_by r false false false true e h = rw h (rw (any_true (r.chain_sync || r.block_fetch || r.tx_submission)) refl)
+runs-some_by r false false false false true h = rw h (any_true (r.chain_sync || r.block_fetch || r.tx_submission || r.keep_alive))
 runs-some_by r false false false false false h = absurd (false≢true h)
 
 pub runs-some : (protocol : ℕ) (r : Responders) → runs protocol r ≡ true → some_runs r ≡ true
@@ -165,10 +126,7 @@ found_is : (m : Machine) (e x : Entry) (k : ℕ) → IsOrdered m → StandsAt m.
 found_is m e x k h s found =
     let own : entry_at e.facts.cid.0 m ≡ Some e =
     find_only (λ y. has_id e.facts.cid.0 y.facts) e m.connections k (one_has_id e.facts.cid.0 m.connections h.orderly.ids_rise) s (eq-eqb e.facts.cid.0 e.facts.cid.0 refl) in
-    some_same (sym found ∙ own)
-  where
-    some_same : Some x ≡ Some e → x ≡ e
-    some_same e2 = cc
+    some_same x e (sym found ∙ own)
 
 awake-begun : (protocol : ℕ) (m : Machine) (e : Entry) (k : ℕ) → Talking m e k → takes_requests e ≡ true → has_responder protocol ≡ true →
     Begun e.facts.cid.0 m (awake protocol e m)
@@ -201,22 +159,10 @@ begins-begun protocol m e k t takes known = cond_both (runs protocol e.facts.run
     })
     (λ silent. awake-begun protocol m e k t takes known)
 
-pub replies-machine : (r : Reply) (protocol : ℕ) (e : Entry) (m : Machine) → (replies r protocol e m).machine ≡ m
-replies-machine reply.Nothing protocol e m = refl
-replies-machine (reply.Alive cookie) protocol e m = refl
-replies-machine (reply.Share n) protocol e m = refl
-replies-machine reply.NoIntersect protocol e m = refl
-replies-machine reply.Await protocol e m = refl
-replies-machine reply.NoBlocks protocol e m = refl
-
 -- what is told is no matter of the connections either
 pub replies-quiet : (r : Reply) (protocol : ℕ) (e : Entry) (m : Machine) → IsQuiet m (replies r protocol e m)
 replies-quiet reply.Nothing protocol e m = tells-quiet (replies reply.Nothing protocol e m).actions m refl
-replies-quiet (reply.Alive cookie) protocol e m = tells-quiet (replies (reply.Alive cookie) protocol e m).actions m refl
-replies-quiet (reply.Share n) protocol e m = tells-quiet (replies (reply.Share n) protocol e m).actions m refl
-replies-quiet reply.NoIntersect protocol e m = tells-quiet (replies reply.NoIntersect protocol e m).actions m refl
-replies-quiet reply.Await protocol e m = tells-quiet (replies reply.Await protocol e m).actions m refl
-replies-quiet reply.NoBlocks protocol e m = tells-quiet (replies reply.NoBlocks protocol e m).actions m refl
+replies-quiet other protocol e m = tells-quiet (replies other protocol e m).actions m refl
 
 stops_if-trimmed : (done : Bool) (protocol : ℕ) (m : Machine) (e : Entry) (k : ℕ) → IsOrdered m → counted_in m ≤ m.settings.hard →
     StandsAt m.connections k e → some_runs e.facts.running ≡ true → Trimmed IsLawful m (stops_if done protocol e m)
@@ -229,37 +175,32 @@ stops_if-trimmed true protocol m e k h within s running =
 serves-trimmed : (seen : Seen) (protocol : ℕ) (cid : Cid) (m : Machine) → IsOrdered m → counted_in m ≤ m.settings.hard →
     ((x : Entry) → entry_at cid.0 m ≡ Some x → some_runs x.facts.running ≡ true) →
     Trimmed IsLawful m (on_connection cid (serves seen protocol) m)
-serves-trimmed seen protocol cid m h within running = by_entry (entry_at cid.0 m) refl
-  where
-    by_entry : (o : Option Entry) → entry_at cid.0 m ≡ o → Trimmed IsLawful m (on_entry o (serves seen protocol) m)
-    by_entry None is = nothing-trimmed IsLawful m within h
-    by_entry (Some e) is =
-        let at = find_some (λ y. has_id cid.0 y.facts) m.connections e is in
-        let first : Effect = replies seen.reply protocol e m in
-        let same : m ≡ first.machine = sym (replies-machine seen.reply protocol e m) in
-        trimmed_then IsLawful m first (stops_if seen.done protocol e)
-        (keeps-trimmed IsLawful m first within (subst (Keeps 0 m) same (keeps_nothing m h))
-        (quiet-obeys IsLawful m first (replies-quiet seen.reply protocol e m)))
-        (subst (λ n. Trimmed IsLawful n (stops_if seen.done protocol e n)) same
-        (stops_if-trimmed seen.done protocol m e at.place h within at.stands (running e is)))
+serves-trimmed seen protocol cid m h within running = by_option (entry_at cid.0 m) (λ o. Trimmed IsLawful m (on_entry o (serves seen protocol) m))
+    (λ is. nothing-trimmed IsLawful m within h)
+    (λ e is.
+    let at = find_some (λ y. has_id cid.0 y.facts) m.connections e is in
+    let first : Effect = replies seen.reply protocol e m in
+    let same : m ≡ first.machine = sym (replies-machine seen.reply protocol e m) in
+    trimmed_then IsLawful m first (stops_if seen.done protocol e)
+    (keeps-trimmed IsLawful m first within (subst (Keeps 0 m) same (keeps_nothing m h))
+    (quiet-obeys IsLawful m first (replies-quiet seen.reply protocol e m)))
+    (subst (λ n. Trimmed IsLawful n (stops_if seen.done protocol e n)) same
+    (stops_if-trimmed seen.done protocol m e at.place h within at.stands (running e is))))
 
 asked_as-trimmed : (r : Result Seen FaultKind) (item : List ℕ) (sharing : Bool) (protocol : ℕ) (m : Machine) (e : Entry) (k : ℕ) →
     watched protocol sharing item ≡ r → Talking m e k →
     Trimmed IsLawful m (asked_as r protocol e m)
 asked_as-trimmed (Err kind) item sharing protocol m e k is t = ends kind m e k t
-asked_as-trimmed (Ok seen) item sharing protocol m e k is t = by_test (takes_requests e) refl
-  where
-    known : has_responder protocol ≡ true
-    known = seen-known protocol sharing item seen is
-
-    by_test : (b : Bool) → takes_requests e ≡ b →
-        Trimmed IsLawful m (if b then then_do (begins protocol e m) (on_connection e.facts.cid (serves seen protocol)) else ending (Fault Protocol) e m)
-    by_test true takes =
-        let first : Effect = begins protocol e m in
-        let begun : Begun e.facts.cid.0 m first = begins-begun protocol m e k t takes known in
-        trimmed_then IsLawful m first (on_connection e.facts.cid (serves seen protocol)) begun.trimmed
-        (serves-trimmed seen protocol e.facts.cid first.machine begun.trimmed.ordered (trimmed-within IsLawful m first begun.trimmed) begun.runs)
-    by_test false takes = ends Protocol m e k t
+asked_as-trimmed (Ok seen) item sharing protocol m e k is t =
+    let known : has_responder protocol ≡ true = seen-known protocol sharing item seen is in
+    by_bool (takes_requests e)
+    (λ b. Trimmed IsLawful m (if b then then_do (begins protocol e m) (on_connection e.facts.cid (serves seen protocol)) else ending (Fault Protocol) e m))
+    (λ takes.
+    let first : Effect = begins protocol e m in
+    let begun : Begun e.facts.cid.0 m first = begins-begun protocol m e k t takes known in
+    trimmed_then IsLawful m first (on_connection e.facts.cid (serves seen protocol)) begun.trimmed
+    (serves-trimmed seen protocol e.facts.cid first.machine begun.trimmed.ordered (trimmed-within IsLawful m first begun.trimmed) begun.runs))
+    (λ takes. ends Protocol m e k t)
 
 -- ---- the other side answers
 
@@ -284,12 +225,9 @@ takes-trimmed o m h within = trimmed_both IsAllowed Within IsLawful (allowed_wit
 -- what is asked of a peer is answered: it is hot
 paid-none : (owed : List Owed) → is_some (find (λ o. o.protocol == 2) (without_reply 2 owed)) ≡ false
 paid-none [] = refl
-paid-none (o ∷ owed) = by_test (o.protocol == 2) refl (paid-none owed)
-  where
-    by_test : (b : Bool) → (o.protocol == 2) ≡ b → is_some (find (λ x. x.protocol == 2) (without_reply 2 owed)) ≡ false →
-        is_some (find (λ x. x.protocol == 2) (cond (not b) (o ∷ without_reply 2 owed) (without_reply 2 owed))) ≡ false
-    by_test true is rest = rest
-    by_test false is rest = rw is rest
+paid-none (o ∷ owed) = by_bool (o.protocol == 2)
+    (λ b. is_some (find (λ x. x.protocol == 2) (without_reply 2 owed)) ≡ false → is_some (find (λ x. x.protocol == 2) (cond (not b) (o ∷ without_reply 2 owed) (without_reply 2 owed))) ≡ false)
+    (λ is rest. rest) (λ is rest. rw is rest) (paid-none owed)
 
 hot-keeps : (m : Machine) (e : Entry) (k : ℕ) → IsOrdered m → StandsAt m.connections k e → is_live e.facts ≡ true → is_some (reply_on 2 e) ≡ true →
     Keeps 0 m (peer_becomes Hot e.facts.addr (with_entry (paid 2 e) m)).machine

@@ -4,15 +4,15 @@ use Rattle.std.proofs.lemmas.Bool.{and_parts, false≢true}
 use Rattle.std.proofs.lemmas.Grind.{flat_map-append}
 use Rattle.std.proofs.lemmas.List.{append-nil}
 use Rattle.net_base.specs.declared.action.Action.{Action}
-use Rattle.net_base.specs.declared.action.Action.TheVariants.{Admit, Turnaway, Dial, Send, Close, Pause, AskRoots, State, Peer as TellPeer}
+use Rattle.net_base.specs.declared.action.Action.TheVariants.{Turnaway, Send, Pause, AskRoots}
 use Rattle.net_base.specs.declared.action.CloseCause.{CloseCause}
-use Rattle.net_base.specs.declared.action.CloseCause.TheVariants.{Unused, Pruned, Overwritten, Refused, Query, Fault}
+use Rattle.net_base.specs.declared.action.CloseCause.TheVariants.{Unused}
 use Rattle.net_base.specs.declared.address.Addr.{Addr}
 use Rattle.net_base.specs.declared.connection.Phase.{Phase}
-use Rattle.net_base.specs.declared.connection.Phase.TheVariants.{Dialing, Greeting, Negotiated, Closing}
+use Rattle.net_base.specs.declared.connection.Phase.TheVariants.{Dialing}
 use Rattle.conn_state.specs.Use.{has_id}
 use Rattle.peer_book.specs.Book.{peer_at as peer_in}
-use Rattle.machine.specs.Effect.{Effect, Happened, Move, tells, then_do, as_move}
+use Rattle.machine.specs.Effect.{Effect, Happened, Move, then_do, as_move}
 use Rattle.machine.specs.Machine.{Machine, Entry, entry_at}
 use Rattle.laws.specs.Stages.{stage_of_phase, stage_of, stage_at, stage_ended, causes_by, causes_in, IsOneEnd}
 use Rattle.laws.specs.Telling.{KeepsAddress, GoesOn, IsTold}
@@ -37,15 +37,11 @@ counted_to a b (g ∷ gs) h = let rest = counted_to (a + 1) b gs h.1 in omega (a
 
 pub open_stage : (p : Phase) → stage_of_phase p ≤ 4
 open_stage Dialing = omega arith
-open_stage (Greeting until) = omega arith
-open_stage Negotiated = omega arith
-open_stage (Closing until) = omega arith
+open_stage other = omega arith
 
 some_stage : (p : Phase) → 1 ≤ stage_of_phase p
 some_stage Dialing = omega arith
-some_stage (Greeting until) = omega arith
-some_stage Negotiated = omega arith
-some_stage (Closing until) = omega arith
+some_stage other = omega arith
 
 keeps_then : (o p q : Option Entry) (a b c : Bool) → stage_of o a ≤ stage_of p b → stage_of p b ≤ stage_of q c → KeepsAddress o p → KeepsAddress p q → KeepsAddress o q
 keeps_then None p q a b c early late one two = tt
@@ -93,11 +89,7 @@ causes-append cid ms ns = ap (flat_map (causes_by cid)) (flat_map-append ends_of
 
 pub ended-over : (cause : CloseCause) → 4 ≤ stage_ended cause
 ended-over Unused = omega arith
-ended-over Pruned = omega arith
-ended-over Overwritten = omega arith
-ended-over Refused = omega arith
-ended-over Query = omega arith
-ended-over (Fault kind) = omega arith
+ended-over other = omega arith
 
 one_end_on : (cs ds : List CloseCause) (a b c : ℕ) → a ≤ b → b ≤ c → IsOneEnd cs a b → IsOneEnd ds b c → IsOneEnd (cs ++ ds) a c
 one_end_on [] [] a b c early late one two = tt
@@ -195,9 +187,6 @@ told_unchanged m effect mute none same = record {
 pub mute-none : IsMute []
 mute-none = record { closes = refl; dials = refl; given = refl; notes = λ addr. refl; names = λ cid. refl }
 
-pub told_nothing : (m : Machine) → IsTold m (tells [] m)
-told_nothing m = told_unchanged m (tells [] m) mute-none refl (record { connections = refl; peers = refl; next_id = refl })
-
 -- ---- the part as a whole is a move
 
 -- a move that is neither an end nor a dial
@@ -240,15 +229,11 @@ are_mute [] = true
 are_mute (a ∷ actions) = is_mute a && are_mute actions
 
 mute_first : (a : Action) (actions : List Action) → is_mute a ≡ true → IsMute actions → IsMute (a ∷ actions)
-mute_first (Admit cid addr) actions is rest = absurd (false≢true is)
 mute_first (Turnaway away) actions is rest = record { closes = rest.closes; dials = rest.dials; given = rest.given; notes = rest.notes; names = rest.names }
-mute_first (Dial cid addr) actions is rest = absurd (false≢true is)
 mute_first (Send cid payload) actions is rest = record { closes = rest.closes; dials = rest.dials; given = rest.given; notes = rest.notes; names = rest.names }
-mute_first (Close cid cause) actions is rest = absurd (false≢true is)
 mute_first (Pause delay) actions is rest = record { closes = rest.closes; dials = rest.dials; given = rest.given; notes = rest.notes; names = rest.names }
 mute_first (AskRoots job) actions is rest = record { closes = rest.closes; dials = rest.dials; given = rest.given; notes = rest.notes; names = rest.names }
-mute_first (State cid name) actions is rest = absurd (false≢true is)
-mute_first (TellPeer addr note) actions is rest = absurd (false≢true is)
+mute_first other actions is rest = absurd (false≢true is)
 
 pub mute : (actions : List Action) → are_mute actions ≡ true → IsMute actions
 mute [] h = mute-none

@@ -20,6 +20,9 @@ use Rattle.laws.proofs.Entries.{TurnsInto, turned-connections, gone-connections,
 use Rattle.laws.proofs.Finds.{find-set_other, find-set_here, find-set_gone, find-remove_other, find-remove_here}
 use Rattle.laws.proofs.Lists.{StandsAt, OnePasses, FoundIn, find_some, find_only}
 use Rattle.laws.proofs.PeersApart.{same_turned}
+use Rattle.laws.proofs.Cases.{by_bool, by_option}
+use Rattle.std.proofs.lemmas.List.Folds.{find-append}
+use Rattle.std.specs.Option.{option_or}
 
 -- ---- all but one address stay
 
@@ -27,13 +30,11 @@ pub tied_but : (a : Addr) (m n : Machine) → n.now ≡ m.now →
     ((b : Addr) → same_address b a ≡ false → peer_at b n ≡ peer_at b m) →
     ((b : Addr) → same_address b a ≡ false → live_entry_at b n ≡ live_entry_at b m) →
     TiedBy n.now (peer_at a n) (live_entry_at a n) → IsTied m → IsTied n
-tied_but a m n now peers lives here h b = by_test (same_address b a) refl
-  where
-    by_test : (c : Bool) → same_address b a ≡ c → TiedBy n.now (peer_at b n) (live_entry_at b n)
-    by_test true e = subst (λ x. TiedBy n.now (peer_at x n) (live_entry_at x n)) (sym (same_address-true b a e)) here
-    by_test false e =
-        subst (λ t. TiedBy t (peer_at b n) (live_entry_at b n)) (sym now)
-        (subst (λ o. TiedBy m.now o (live_entry_at b n)) (sym (peers b e)) (subst (λ o. TiedBy m.now (peer_at b m) o) (sym (lives b e)) (h b)))
+tied_but a m n now peers lives here h b = by_bool (same_address b a) (λ c. TiedBy n.now (peer_at b n) (live_entry_at b n))
+    (λ e. subst (λ x. TiedBy n.now (peer_at x n) (live_entry_at x n)) (sym (same_address-true b a e)) here)
+    (λ e.
+    subst (λ t. TiedBy t (peer_at b n) (live_entry_at b n)) (sym now)
+    (subst (λ o. TiedBy m.now o (live_entry_at b n)) (sym (peers b e)) (subst (λ o. TiedBy m.now (peer_at b m) o) (sym (lives b e)) (h b))))
 
 -- ---- the live connection of an address
 
@@ -57,11 +58,8 @@ not_at : (f : Facts) (b : Addr) → same_address b f.addr ≡ false → is_live_
 not_at f b h = ap (λ x. x && is_live f) (same_turned b f.addr h)
 
 not_live : (f : Facts) (b : Addr) → is_live f ≡ false → is_live_at b f ≡ false
-not_live f b h = by_test (same_address f.addr b)
-  where
-    by_test : (c : Bool) → (c && is_live f) ≡ false
-    by_test true = h
-    by_test false = refl
+not_live f b h = by_bool (same_address f.addr b) (λ c. (c && is_live f) ≡ false)
+    (λ is. h) (λ is. refl)
 
 -- the connection that is found there once one of that address has changed
 abbrev pub live_of : Entry → Option Entry
@@ -86,17 +84,14 @@ turned_dead m e new k h s t dead b =
 pub turned_here : (m : Machine) (e new : Entry) (k : ℕ) → IsOrderly m → StandsAt m.connections k e → TurnsInto e new → is_live e.facts ≡ true →
     live_entry_at e.facts.addr (with_entry new m) ≡ live_of new
 turned_here m e new k h s t live =
-    ap (find (λ x. is_live_at e.facts.addr x.facts)) (turned-connections m e new k h s t) ∙ by_live (is_live new.facts) refl
-  where
-    before : is_live_at e.facts.addr e.facts ≡ true
-    before = and_from (same_address e.facts.addr e.facts.addr) (is_live e.facts) (same_address-self e.facts.addr) live
-
-    by_live : (b : Bool) → is_live new.facts ≡ b → find (λ x. is_live_at e.facts.addr x.facts) (set m.connections k new) ≡ (if b then Some new else None)
-    by_live true is = find-set_here (λ x. is_live_at e.facts.addr x.facts) new e m.connections k (live_one e.facts.addr m h.addresses) s before
-        (and_from (same_address new.facts.addr e.facts.addr) (is_live new.facts)
-        (subst (λ a. same_address a e.facts.addr ≡ true) (sym t.same_addr) (same_address-self e.facts.addr)) is)
-    by_live false is = find-set_gone (λ x. is_live_at e.facts.addr x.facts) new e m.connections k (live_one e.facts.addr m h.addresses) s before
-        (not_live new.facts e.facts.addr is)
+    let before : is_live_at e.facts.addr e.facts ≡ true = and_from (same_address e.facts.addr e.facts.addr) (is_live e.facts) (same_address-self e.facts.addr) live in
+    ap (find (λ x. is_live_at e.facts.addr x.facts)) (turned-connections m e new k h s t) ∙ by_bool (is_live new.facts)
+    (λ b. find (λ x. is_live_at e.facts.addr x.facts) (set m.connections k new) ≡ (if b then Some new else None))
+    (λ is. find-set_here (λ x. is_live_at e.facts.addr x.facts) new e m.connections k (live_one e.facts.addr m h.addresses) s before
+    (and_from (same_address new.facts.addr e.facts.addr) (is_live new.facts)
+    (subst (λ a. same_address a e.facts.addr ≡ true) (sym t.same_addr) (same_address-self e.facts.addr)) is))
+    (λ is. find-set_gone (λ x. is_live_at e.facts.addr x.facts) new e m.connections k (live_one e.facts.addr m h.addresses) s before
+    (not_live new.facts e.facts.addr is))
 
 pub gone_elsewhere : (m : Machine) (e : Entry) (k : ℕ) → IsOrderly m → StandsAt m.connections k e → (b : Addr) →
     same_address b e.facts.addr ≡ false → live_entry_at b (without_entry e.facts.cid.0 m) ≡ live_entry_at b m
@@ -121,25 +116,21 @@ gone_here m e k h s live =
 
 pub peer_elsewhere : (new : Peer) (b : Addr) (ps : List Peer) → same_address b new.addr ≡ false → peer_in b (with_peer_in new ps) ≡ peer_in b ps
 peer_elsewhere new b [] other = refl
-peer_elsewhere new b (p ∷ ps) other = by_test (has_address new.addr p) refl (peer_elsewhere new b ps other)
-  where
-    by_test : (c : Bool) → has_address new.addr p ≡ c → peer_in b (with_peer_in new ps) ≡ peer_in b ps →
-        peer_in b ((if c then new else p) ∷ with_peer_in new ps) ≡ peer_in b (p ∷ ps)
-    by_test true e rest =
-        let here : same_address new.addr b ≡ false = same_turned b new.addr other in
-        let same : same_address p.addr b ≡ false = subst (λ a. same_address a b ≡ false) (sym (same_address-true p.addr new.addr e)) here in
-        rw (here, same) rest
-    by_test false e rest = ap (λ o. cond (has_address b p) (Some p) o) rest
+peer_elsewhere new b (p ∷ ps) other = by_bool (has_address new.addr p)
+    (λ c. peer_in b (with_peer_in new ps) ≡ peer_in b ps → peer_in b ((if c then new else p) ∷ with_peer_in new ps) ≡ peer_in b (p ∷ ps))
+    (λ e rest.
+    let here : same_address new.addr b ≡ false = same_turned b new.addr other in
+    let same : same_address p.addr b ≡ false = subst (λ a. same_address a b ≡ false) (sym (same_address-true p.addr new.addr e)) here in
+    rw (here, same) rest)
+    (λ e rest. ap (λ o. cond (has_address b p) (Some p) o) rest) (peer_elsewhere new b ps other)
 
 pub peer_here : (new p : Peer) (ps : List Peer) → peer_in new.addr ps ≡ Some p → peer_in new.addr (with_peer_in new ps) ≡ Some new
 peer_here new p [] found = absurd cc
-peer_here new p (q ∷ ps) found = by_test (has_address new.addr q) refl found (peer_here new p ps)
-  where
-    by_test : (c : Bool) → has_address new.addr q ≡ c → cond c (Some q) (peer_in new.addr ps) ≡ Some p →
-        (peer_in new.addr ps ≡ Some p → peer_in new.addr (with_peer_in new ps) ≡ Some new) →
-        peer_in new.addr ((if c then new else q) ∷ with_peer_in new ps) ≡ Some new
-    by_test true e f later = rw (same_address-self new.addr) refl
-    by_test false e f later = rw e (later f)
+peer_here new p (q ∷ ps) found = by_bool (has_address new.addr q)
+    (λ c. cond c (Some q) (peer_in new.addr ps) ≡ Some p →
+    (peer_in new.addr ps ≡ Some p → peer_in new.addr (with_peer_in new ps) ≡ Some new) →
+    peer_in new.addr ((if c then new else q) ∷ with_peer_in new ps) ≡ Some new)
+    (λ e f later. rw (same_address-self new.addr) refl) (λ e f later. rw e (later f)) found (peer_here new p ps)
 
 pub found-addr : (a : Addr) (ps : List Peer) (p : Peer) → peer_in a ps ≡ Some p → p.addr ≡ a
 found-addr a ps p found =
@@ -151,32 +142,25 @@ found-addr a ps p found =
 -- a connection changes
 pub turned-ties : (m : Machine) (e new : Entry) (k : ℕ) → IsOrderly m → StandsAt m.connections k e → TurnsInto e new →
     (is_live e.facts ≡ true → (o : Option Peer) → TiedBy m.now o (Some e) → TiedBy m.now o (live_of new)) → IsTied m → IsTied (with_entry new m)
-turned-ties m e new k h s t step ties = by_live (is_live e.facts) refl
-  where
-    by_live : (b : Bool) → is_live e.facts ≡ b → IsTied (with_entry new m)
-    by_live true live =
-        tied_but e.facts.addr m (with_entry new m) refl (λ b other. refl) (turned_elsewhere m e new k h s t)
-        (subst (λ o. TiedBy m.now (peer_at e.facts.addr m) o) (sym (turned_here m e new k h s t live))
-        (step live (peer_at e.facts.addr m) (subst (λ o. TiedBy m.now (peer_at e.facts.addr m) o) (live_here m e k h s live) (ties e.facts.addr)))) ties
-    by_live false dead =
-        λ b. subst (λ o. TiedBy m.now (peer_at b m) o) (sym (turned_dead m e new k h s t dead b)) (ties b)
+turned-ties m e new k h s t step ties = by_bool (is_live e.facts) (λ b. IsTied (with_entry new m))
+    (λ live.
+    tied_but e.facts.addr m (with_entry new m) refl (λ b other. refl) (turned_elsewhere m e new k h s t)
+    (subst (λ o. TiedBy m.now (peer_at e.facts.addr m) o) (sym (turned_here m e new k h s t live))
+    (step live (peer_at e.facts.addr m) (subst (λ o. TiedBy m.now (peer_at e.facts.addr m) o) (live_here m e k h s live) (ties e.facts.addr)))) ties)
+    (λ dead.
+    λ b. subst (λ o. TiedBy m.now (peer_at b m) o) (sym (turned_dead m e new k h s t dead b)) (ties b))
 
 -- a connection goes
 pub gone-ties : (m : Machine) (e : Entry) (k : ℕ) → IsOrderly m → StandsAt m.connections k e →
     (is_live e.facts ≡ true → e.facts.local ≡ false) → IsTied m → IsTied (without_entry e.facts.cid.0 m)
-gone-ties m e k h s unused ties = by_live (is_live e.facts) refl
-  where
-    step : (o : Option Peer) → e.facts.local ≡ false → TiedBy m.now o (Some e) → TiedBy m.now o None
-    step None unused tie = tt
-    step (Some p) unused tie = tie.established ∙ unused
-
-    by_live : (b : Bool) → is_live e.facts ≡ b → IsTied (without_entry e.facts.cid.0 m)
-    by_live true live =
-        tied_but e.facts.addr m (without_entry e.facts.cid.0 m) refl (λ b other. refl) (gone_elsewhere m e k h s)
-        (subst (λ o. TiedBy m.now (peer_at e.facts.addr m) o) (sym (gone_here m e k h s live))
-        (step (peer_at e.facts.addr m) (unused live) (subst (λ o. TiedBy m.now (peer_at e.facts.addr m) o) (live_here m e k h s live) (ties e.facts.addr)))) ties
-    by_live false dead =
-        λ b. subst (λ o. TiedBy m.now (peer_at b m) o) (sym (gone_dead m e k h s dead b)) (ties b)
+gone-ties m e k h s unused ties = by_bool (is_live e.facts) (λ b. IsTied (without_entry e.facts.cid.0 m))
+    (λ live.
+    tied_but e.facts.addr m (without_entry e.facts.cid.0 m) refl (λ b other. refl) (gone_elsewhere m e k h s)
+    (subst (λ o. TiedBy m.now (peer_at e.facts.addr m) o) (sym (gone_here m e k h s live))
+    (by_option (peer_at e.facts.addr m) (λ o. e.facts.local ≡ false → TiedBy m.now o (Some e) → TiedBy m.now o None)
+    (λ is unused tie. tt) (λ p is unused tie. tie.established ∙ unused) (unused live) (subst (λ o. TiedBy m.now (peer_at e.facts.addr m) o) (live_here m e k h s live) (ties e.facts.addr)))) ties)
+    (λ dead.
+    λ b. subst (λ o. TiedBy m.now (peer_at b m) o) (sym (gone_dead m e k h s dead b)) (ties b))
 
 -- A peer changes, from one record to another in which its connection may have changed too.
 pub changed-ties : (a : Addr) (change : Peer → Peer) (m n : Machine) → ((p : Peer) → (change p).addr ≡ p.addr) → n.now ≡ m.now → n.peers ≡ m.peers →
@@ -214,12 +198,9 @@ changed-ties a change m n same now peers lives alone step ties = by_peer (peer_a
 
 pub put_in-elsewhere : (new : Peer) (b : Addr) (ps : List Peer) → same_address b new.addr ≡ false → peer_in b (with_new_in new ps) ≡ peer_in b ps
 put_in-elsewhere new b [] other = rw (same_turned b new.addr other) refl
-put_in-elsewhere new b (p ∷ ps) other = by_test (address_below p.addr new.addr) (put_in-elsewhere new b ps other)
-  where
-    by_test : (c : Bool) → peer_in b (with_new_in new ps) ≡ peer_in b ps →
-        peer_in b (if c then p ∷ with_new_in new ps else new ∷ p ∷ ps) ≡ peer_in b (p ∷ ps)
-    by_test true rest = ap (λ o. cond (has_address b p) (Some p) o) rest
-    by_test false rest = rw (same_turned b new.addr other) refl
+put_in-elsewhere new b (p ∷ ps) other = by_bool (address_below p.addr new.addr)
+    (λ c. peer_in b (with_new_in new ps) ≡ peer_in b ps → peer_in b (if c then p ∷ with_new_in new ps else new ∷ p ∷ ps) ≡ peer_in b (p ∷ ps))
+    (λ is rest. ap (λ o. cond (has_address b p) (Some p) o) rest) (λ is rest. rw (same_turned b new.addr other) refl) (put_in-elsewhere new b ps other)
 
 pub put_in-here : (new : Peer) (ps : List Peer) → peer_in new.addr ps ≡ None → peer_in new.addr (with_new_in new ps) ≡ Some new
 put_in-here new [] none = rw (same_address-self new.addr) refl
@@ -228,12 +209,9 @@ put_in-here new (p ∷ ps) none = by_there (has_address new.addr p) refl none (p
     by_there : (c : Bool) → has_address new.addr p ≡ c → cond c (Some p) (peer_in new.addr ps) ≡ None →
         (peer_in new.addr ps ≡ None → peer_in new.addr (with_new_in new ps) ≡ Some new) → peer_in new.addr (with_new_in new (p ∷ ps)) ≡ Some new
     by_there true e f later = absurd cc
-    by_there false e f later = by_test (address_below p.addr new.addr) (later f)
-      where
-        by_test : (c : Bool) → peer_in new.addr (with_new_in new ps) ≡ Some new →
-            peer_in new.addr (if c then p ∷ with_new_in new ps else new ∷ p ∷ ps) ≡ Some new
-        by_test true rest = rw e rest
-        by_test false rest = rw (same_address-self new.addr) refl
+    by_there false e f later = by_bool (address_below p.addr new.addr)
+        (λ c. peer_in new.addr (with_new_in new ps) ≡ Some new → peer_in new.addr (if c then p ∷ with_new_in new ps else new ∷ p ∷ ps) ≡ Some new)
+        (λ is rest. rw e rest) (λ is rest. rw (same_address-self new.addr) refl) (later f)
 
 pub none_there : (o : Option Peer) → is_some o ≡ false → o ≡ None
 none_there None h = refl
@@ -250,7 +228,12 @@ new-tied big addr now (Some e) tie = record {
 }
 
 pub comes-ties : (big : Bool) (addr : Addr) (m : Machine) → IsTied m → IsTied (record m { peers = entered (new_peer big addr) m.peers })
-comes-ties big addr m ties = by_there (is_some (peer_in addr m.peers)) refl
+comes-ties big addr m ties = by_bool (is_some (peer_in addr m.peers))
+    (λ b. IsTied (record m { peers = entered_by (if b then Present else if nat_le most_peers (length m.peers) then Full else New) new m.peers }))
+    (λ e. ties)
+    (λ e.
+    cond_both (nat_le most_peers (length m.peers)) Full New (λ added. IsTied (record m { peers = entered_by added new m.peers }))
+    (λ full. ties) (λ room. comes (none_there (peer_in addr m.peers) e)))
   where
     new : Peer
     new = new_peer big addr
@@ -261,32 +244,20 @@ comes-ties big addr m ties = by_there (is_some (peer_in addr m.peers)) refl
         (subst (λ o. TiedBy m.now o (live_entry_at addr m)) (sym (put_in-here new m.peers none))
         (new-tied big addr m.now (live_entry_at addr m) (subst (λ o. TiedBy m.now o (live_entry_at addr m)) none (ties addr)))) ties
 
-    by_there : (b : Bool) → is_some (peer_in addr m.peers) ≡ b →
-        IsTied (record m { peers = entered_by (if b then Present else if nat_le most_peers (length m.peers) then Full else New) new m.peers })
-    by_there true e = ties
-    by_there false e =
-        cond_both (nat_le most_peers (length m.peers)) Full New (λ added. IsTied (record m { peers = entered_by added new m.peers }))
-        (λ full. ties) (λ room. comes (none_there (peer_in addr m.peers) e))
-
 pub taken-elsewhere : (addr b : Addr) (ps : List Peer) → same_address b addr ≡ false → peer_in b (without_peer addr ps) ≡ peer_in b ps
 taken-elsewhere addr b [] other = refl
-taken-elsewhere addr b (p ∷ ps) other = by_test (same_address p.addr addr) refl (taken-elsewhere addr b ps other)
-  where
-    by_test : (c : Bool) → same_address p.addr addr ≡ c → peer_in b (without_peer addr ps) ≡ peer_in b ps →
-        peer_in b (cond (not c) (p ∷ without_peer addr ps) (without_peer addr ps)) ≡ peer_in b (p ∷ ps)
-    by_test true e rest =
-        let same : same_address p.addr b ≡ false = subst (λ a. same_address a b ≡ false) (sym (same_address-true p.addr addr e)) (same_turned b addr other) in
-        rw same rest
-    by_test false e rest = ap (λ o. cond (has_address b p) (Some p) o) rest
+taken-elsewhere addr b (p ∷ ps) other = by_bool (same_address p.addr addr)
+    (λ c. peer_in b (without_peer addr ps) ≡ peer_in b ps → peer_in b (cond (not c) (p ∷ without_peer addr ps) (without_peer addr ps)) ≡ peer_in b (p ∷ ps))
+    (λ e rest.
+    let same : same_address p.addr b ≡ false = subst (λ a. same_address a b ≡ false) (sym (same_address-true p.addr addr e)) (same_turned b addr other) in
+    rw same rest)
+    (λ e rest. ap (λ o. cond (has_address b p) (Some p) o) rest) (taken-elsewhere addr b ps other)
 
 pub taken-here : (addr : Addr) (ps : List Peer) → peer_in addr (without_peer addr ps) ≡ None
 taken-here addr [] = refl
-taken-here addr (p ∷ ps) = by_test (same_address p.addr addr) refl (taken-here addr ps)
-  where
-    by_test : (c : Bool) → same_address p.addr addr ≡ c → peer_in addr (without_peer addr ps) ≡ None →
-        peer_in addr (cond (not c) (p ∷ without_peer addr ps) (without_peer addr ps)) ≡ None
-    by_test true e rest = rest
-    by_test false e rest = rw e rest
+taken-here addr (p ∷ ps) = by_bool (same_address p.addr addr)
+    (λ c. peer_in addr (without_peer addr ps) ≡ None → peer_in addr (cond (not c) (p ∷ without_peer addr ps) (without_peer addr ps)) ≡ None)
+    (λ e rest. rest) (λ e rest. rw e rest) (taken-here addr ps)
 
 pub taken-ties : (addr : Addr) (m : Machine) → TiedBy m.now None (live_entry_at addr m) → IsTied m → IsTied (record m { peers = without_peer addr m.peers })
 taken-ties addr m alone ties =
@@ -300,13 +271,8 @@ find-push_other p new [] h = rw h refl
 find-push_other p new (x ∷ xs) h = ap (λ o. cond (p x) (Some x) o) (find-push_other p new xs h)
 
 pub find-push_here : {X : Type 0} (p : X → Bool) (new : X) (xs : List X) → find p xs ≡ None → p new ≡ true → find p (xs ++ new ∷ []) ≡ Some new
-find-push_here p new [] none h = rw h refl
-find-push_here {X} p new (x ∷ xs) none h = by_test (p x) none (find-push_here p new xs)
-  where
-    by_test : (b : Bool) → cond b (Some x) (find p xs) ≡ None → (find p xs ≡ None → p new ≡ true → find p (xs ++ new ∷ []) ≡ Some new) →
-        cond b (Some x) (find p (xs ++ new ∷ [])) ≡ Some new
-    by_test true none later = absurd cc
-    by_test false none later = later none h
+find-push_here p new xs none h =
+    find-append p xs (new ∷ []) ∙ (ap (λ o. option_or o (cond (p new) (Some new) None)) none ∙ ap (λ b. cond b (Some new) None) h)
 
 pub come_elsewhere : (m : Machine) (new : Entry) (b : Addr) → same_address b new.facts.addr ≡ false → live_entry_at b (with_new new m) ≡ live_entry_at b m
 come_elsewhere m new b other = find-push_other (λ e. is_live_at b e.facts) new m.connections (not_at new.facts b other)
@@ -324,9 +290,7 @@ come-ties m new live none step ties =
 -- a change at one address leaves the peers of all others
 pub turns_at-elsewhere : (a : Addr) (change : Peer → Peer) (m : Machine) → ((p : Peer) → (change p).addr ≡ p.addr) → (b : Addr) → same_address b a ≡ false →
     peer_at b (peer_changes a change m).machine ≡ peer_at b m
-turns_at-elsewhere a change m same b other = by_peer (peer_at a m) refl
-  where
-    by_peer : (o : Option Peer) → peer_at a m ≡ o → peer_at b (turns_at o change m).machine ≡ peer_at b m
-    by_peer None is = refl
-    by_peer (Some p) is =
-        peer_elsewhere (change p) b m.peers (subst (λ x. same_address b x ≡ false) (sym (same p ∙ found-addr a m.peers p is)) other)
+turns_at-elsewhere a change m same b other = by_option (peer_at a m) (λ o. peer_at b (turns_at o change m).machine ≡ peer_at b m)
+    (λ is. refl)
+    (λ p is.
+    peer_elsewhere (change p) b m.peers (subst (λ x. same_address b x ≡ false) (sym (same p ∙ found-addr a m.peers p is)) other))

@@ -1,5 +1,5 @@
 -- What each change of a connection or a peer tells.
-use Rattle.std.proofs.Common.{ℕ, ◌+◌, ◌≡◌, ◌≤◌, Bool, true, false, cond, not, ◌==◌, nat_lt, nat_le, if◌then◌else◌, List, [], ◌∷◌, ◌++◌, All, find, get_or, set, remove, length, flat_map, Option, Some, None, is_some, refl, sym, ap, ◌∙◌, subst, arith, eqb-true, eq-eqb, ne_eqb}
+use Rattle.std.proofs.Common.{ℕ, ◌+◌, ◌≡◌, ◌≤◌, Bool, true, false, not, ◌==◌, nat_lt, nat_le, if◌then◌else◌, List, [], ◌∷◌, ◌++◌, All, find, get_or, set, remove, length, flat_map, Option, Some, None, is_some, refl, sym, ap, ◌∙◌, subst, arith, eqb-true, eq-eqb, ne_eqb}
 use Rattle.std.proofs.lemmas.Bool.{cond_both, both_ways, false≢true}
 use Rattle.std.proofs.lemmas.List.Elements.{All-weaker}
 use Rattle.conn_state.specs.Names.{name_of, name_in_phase, name_in_use, name_place, same_name}
@@ -18,7 +18,7 @@ use Rattle.net_base.specs.declared.connection.Facts.{Facts}
 use Rattle.net_base.specs.declared.connection.Grace.{Grace}
 use Rattle.net_base.specs.declared.connection.Grace.TheVariants.{Off, ForRemote, ForLocal}
 use Rattle.net_base.specs.declared.connection.Phase.{Phase}
-use Rattle.net_base.specs.declared.connection.Phase.TheVariants.{Dialing, Greeting, Negotiated, Closing}
+use Rattle.net_base.specs.declared.connection.Phase.TheVariants.{Greeting, Negotiated}
 use Rattle.net_base.specs.declared.connection.Provenance.{Provenance}
 use Rattle.net_base.specs.declared.connection.Provenance.TheVariants.{FromRemote, FromLocal}
 use Rattle.net_base.specs.declared.peer.Peer.{Peer}
@@ -41,7 +41,8 @@ use Rattle.laws.proofs.Finds.{find-none_passes, find-set_other, find-set_here, f
 use Rattle.laws.proofs.Lists.{StandsAt, OnePasses, All-stands, find_only}
 use Rattle.laws.proofs.PeersApart.{same_turned}
 use Rattle.laws.proofs.Telling.{open_stage, keeps_itself, told_unchanged, mute-none}
-use Rattle.laws.proofs.Ties.{found-addr, peer_here, put_in-here, put_in-elsewhere, none_there, taken-here, taken-elsewhere, find-push_other, turns_at-elsewhere}
+use Rattle.laws.proofs.Ties.{found-addr, peer_here, put_in-here, put_in-elsewhere, none_there, taken-here, taken-elsewhere, find-push_other, turns_at-elsewhere, find-push_here}
+use Rattle.laws.proofs.Cases.{by_bool}
 
 -- ---- names
 
@@ -50,17 +51,7 @@ all_names = ReservedOutbound ∷ UnnegotiatedInbound ∷ UnnegotiatedOutbound �
 
 placed : (a : StateName) → get_or all_names (name_place a) Terminated ≡ a
 placed ReservedOutbound = refl
-placed UnnegotiatedInbound = refl
-placed UnnegotiatedOutbound = refl
-placed Duplex = refl
-placed OutboundUni = refl
-placed OutboundDupTicking = refl
-placed OutboundDupExpired = refl
-placed Inbound = refl
-placed InboundIdle = refl
-placed OutboundIdle = refl
-placed Terminating = refl
-placed Terminated = refl
+placed other = refl
 
 same_name-true : (a b : StateName) → same_name a b ≡ true → a ≡ b
 same_name-true a b h =
@@ -86,10 +77,9 @@ stands-named f = by_phase f.phase
     by_side FromLocal until = refl
 
     by_phase : (p : Phase) → same_name (name_in_phase p f) Terminated ≡ false
-    by_phase Dialing = refl
     by_phase (Greeting until) = by_side f.provenance until
     by_phase Negotiated = by_grace f.local (some_runs f.running) (is_duplex f) f.grace
-    by_phase (Closing until) = refl
+    by_phase other = refl
 
 named-stands : (f : Facts) → same_name Terminated (name_of f) ≡ false
 named-stands f = ne_eqb 11 (name_place (name_of f)) (λ same. both_ways (same_name (name_of f) Terminated) (stands-named f) (eq-eqb (name_place (name_of f)) 11 (sym same)))
@@ -260,57 +250,39 @@ ended-told happened cid cause m inner is_end no_dial h none early late may =
 
 -- ---- a connection comes
 
-find-push_here : {X : Type 0} (p : X → Bool) (new : X) (xs : List X) → find p xs ≡ None → p new ≡ true → find p (xs ++ new ∷ []) ≡ Some new
-find-push_here p new [] none here = rw here refl
-find-push_here {X} p new (x ∷ xs) none here = by_test (p x) none (λ later. find-push_here p new xs later here)
-  where
-    by_test : (b : Bool) → cond b (Some x) (find p xs) ≡ None → (find p xs ≡ None → find p (xs ++ new ∷ []) ≡ Some new) →
-        cond b (Some x) (find p (xs ++ new ∷ [])) ≡ Some new
-    by_test true found later = absurd cc
-    by_test false found later = later found
-
--- notices of ids alone
-abbrev comes_first : Bool → Cid → Addr → Action
-comes_first true cid addr = Admit cid addr
-comes_first false cid addr = Dial cid addr
-
 given_later : (o : Option Entry) (cid next : ℕ) → stage_of o (nat_lt cid next) ≤ stage_of o (nat_lt cid (next + 1))
-given_later None cid next = by_given (nat_lt cid next) refl
-  where
-    by_given : (b : Bool) → nat_lt cid next ≡ b → (if b then 5 else 0) ≤ (if nat_lt cid (next + 1) then 5 else 0)
-    by_given true is =
-        let later : nat_lt cid (next + 1) ≡ true = grind (arith, is) in
-        subst (λ c. 5 ≤ (if c then 5 else 0)) (sym later) (omega arith)
-    by_given false is = omega arith
+given_later None cid next = by_bool (nat_lt cid next) (λ b. (if b then 5 else 0) ≤ (if nat_lt cid (next + 1) then 5 else 0))
+    (λ is.
+    let later : nat_lt cid (next + 1) ≡ true = grind (arith, is) in
+    subst (λ c. 5 ≤ (if c then 5 else 0)) (sym later) (omega arith))
+    (λ is. omega arith)
 given_later (Some e) cid next = omega arith
 
 -- what is told of it before its name is that it is admitted, or the dial
 pub came-goes_on : (m : Machine) (new : Entry) (effect : Effect) (cid : ℕ) → IsOrderly m → new.facts.cid.0 ≡ m.next_id → effect.machine ≡ with_new new m →
     effect.moves ≡ [] → names_in cid effect.actions ≡ names_in cid (State new.facts.cid (name_of new.facts) ∷ []) → GoesOn cid m effect
-came-goes_on m new effect cid h id same none named = by_id (has_id cid new.facts) refl
+came-goes_on m new effect cid h id same none named = by_bool (has_id cid new.facts) (λ b. GoesOn cid m effect)
+    (λ own.
+    let none_before : entry_at cid m ≡ None = find-none_passes (λ x. has_id cid x.facts) m.connections (all_others own) in
+    let here : m.next_id ≡ cid = sym id ∙ eqb-true new.facts.cid.0 cid own in
+    let not_given : nat_lt cid m.next_id ≡ false = grind (arith, here) in
+    went_on cid m effect None (Some new) none_before
+    (ap (entry_at cid) same ∙ find-push_here (λ x. has_id cid x.facts) new m.connections none_before own) none tt
+    (subst (λ names. LeadTo is_other_name same_state Terminated names (name_of new.facts)) (sym named)
+    (one_name cid new.facts.cid Terminated (name_of new.facts) own (named-stands new.facts)))
+    (subst (λ b. (if b then 5 else 0) ≤ stage_of_phase new.facts.phase) (sym not_given) (omega arith)))
+    (λ other.
+    went_on cid m effect (entry_at cid m) (entry_at cid m) refl
+    (ap (entry_at cid) same ∙ find-push_other (λ x. has_id cid x.facts) new m.connections other) none (keeps_itself (entry_at cid m))
+    (subst (λ names. LeadTo is_other_name same_state (state_at cid m) names (state_at cid m))
+    (sym (named ∙ no_name cid new.facts.cid (name_of new.facts) other)) refl)
+    (subst (λ next. stage_at cid m ≤ stage_of (entry_at cid m) (nat_lt cid next)) (sym (ap (λ n. n.next_id) same)) (given_later (entry_at cid m) cid m.next_id)))
   where
     all_others : has_id cid new.facts ≡ true → All (λ e. has_id cid e.facts ≡ false) m.connections
     all_others own =
         let here : m.next_id ≡ cid = sym id ∙ eqb-true new.facts.cid.0 cid own in
         All-weaker (HasGivenId m.next_id) (λ e. has_id cid e.facts ≡ false)
         (λ e given. ne_eqb e.facts.cid.0 cid (λ is. let below = given.1 in omega (arith, here, below, is))) m.connections h.ids_given
-
-    by_id : (b : Bool) → has_id cid new.facts ≡ b → GoesOn cid m effect
-    by_id true own =
-        let none_before : entry_at cid m ≡ None = find-none_passes (λ x. has_id cid x.facts) m.connections (all_others own) in
-        let here : m.next_id ≡ cid = sym id ∙ eqb-true new.facts.cid.0 cid own in
-        let not_given : nat_lt cid m.next_id ≡ false = grind (arith, here) in
-        went_on cid m effect None (Some new) none_before
-        (ap (entry_at cid) same ∙ find-push_here (λ x. has_id cid x.facts) new m.connections none_before own) none tt
-        (subst (λ names. LeadTo is_other_name same_state Terminated names (name_of new.facts)) (sym named)
-        (one_name cid new.facts.cid Terminated (name_of new.facts) own (named-stands new.facts)))
-        (subst (λ b. (if b then 5 else 0) ≤ stage_of_phase new.facts.phase) (sym not_given) (omega arith))
-    by_id false other =
-        went_on cid m effect (entry_at cid m) (entry_at cid m) refl
-        (ap (entry_at cid) same ∙ find-push_other (λ x. has_id cid x.facts) new m.connections other) none (keeps_itself (entry_at cid m))
-        (subst (λ names. LeadTo is_other_name same_state (state_at cid m) names (state_at cid m))
-        (sym (named ∙ no_name cid new.facts.cid (name_of new.facts) other)) refl)
-        (subst (λ next. stage_at cid m ≤ stage_of (entry_at cid m) (nat_lt cid next)) (sym (ap (λ n. n.next_id) same)) (given_later (entry_at cid m) cid m.next_id))
 
 -- it is admitted
 -- and it has the address that is told
@@ -366,13 +338,11 @@ is_temp Hot Hot h = refl
 
 noted_temp : (t : Temp) → noted (note_of t) ≡ Some t
 noted_temp Cold = refl
-noted_temp Warm = refl
-noted_temp Hot = refl
+noted_temp other = refl
 
 changes_temp : (t u : Temp) → same_temp t u ≡ false → is_change (Some t) (note_of u) ≡ true
 changes_temp t Cold h = ap not h
-changes_temp t Warm h = ap not h
-changes_temp t Hot h = ap not h
+changes_temp t other h = ap not h
 
 one_note : (a other : Addr) (before after : Option Temp) (note : PeerNote) → same_address other a ≡ true → is_change before note ≡ true → noted note ≡ after →
     LeadTo is_change noted before (notes_in a (TellPeer other note ∷ [])) after
@@ -470,7 +440,9 @@ changes-told a change m same =
 -- ---- a peer comes and goes
 
 pub peer_comes-told : (big : Bool) (a : Addr) (m : Machine) → IsTold m (peer_comes big a m)
-peer_comes-told big a m = by_there (is_some (peer_at a m)) refl
+peer_comes-told big a m = by_bool (is_some (peer_at a m))
+    (λ b. IsTold m (came (if b then Present else if nat_le most_peers (length m.peers) then Full else New)))
+    (λ is. stays) (λ is. by_room (none_there (peer_at a m) is) (nat_le most_peers (length m.peers)))
   where
     new : Peer
     new = new_peer big a
@@ -498,10 +470,6 @@ peer_comes-told big a m = by_there (is_some (peer_at a m)) refl
     by_room : peer_at a m ≡ None → (b : Bool) → IsTold m (came (if b then Full else New))
     by_room none true = told_unchanged m (came Full) mute-none refl (record { connections = refl; peers = refl; next_id = refl })
     by_room none false = comes none
-
-    by_there : (b : Bool) → is_some (peer_at a m) ≡ b → IsTold m (came (if b then Present else if nat_le most_peers (length m.peers) then Full else New))
-    by_there true is = stays
-    by_there false is = by_room (none_there (peer_at a m) is) (nat_le most_peers (length m.peers))
 
 -- of a peer that is there
 pub peer_goes-told : (a : Addr) (m : Machine) → is_some (peer_at a m) ≡ true → IsTold m (peer_goes a m)

@@ -17,7 +17,7 @@ use Rattle.accept_gate.specs.declared.prune.Candidate.{Candidate}
 use Rattle.conn_state.specs.Counted.{is_counted}
 use Rattle.conn_state.specs.Use.{has_id, is_live, live_phase, is_greeting, is_greeting_phase, is_negotiated, is_negotiated_phase, is_outbound}
 use Rattle.net_base.specs.declared.connection.Phase.{Phase}
-use Rattle.net_base.specs.declared.connection.Phase.TheVariants.{Dialing, Greeting, Negotiated, Closing}
+use Rattle.net_base.specs.declared.connection.Phase.TheVariants.{Closing}
 use Rattle.net_base.specs.Peer.{failed_peer}
 use Rattle.machine.specs.Machine.{Machine, Entry, counted_in, entry_at}
 use Rattle.machine.specs.Effect.{Effect, Happened, Move, nothing_more, then_do, as_move, for_each, on_entry}
@@ -38,6 +38,7 @@ use Rattle.laws.proofs.ToldMoves.{turns_at-connections}
 use Rattle.laws.proofs.Lawful.{Accounts, accounts_then, accounts_move, Obeys, obeys_nothing, ending-obeys}
 use Rattle.laws.proofs.Lists.{StandsAt, stands_next, find_only, all-weaker, all-appended, all-both}
 use Rattle.laws.proofs.WholeMoves.{IsLost, ending-keeps}
+use Rattle.laws.proofs.Cases.{by_bool, by_option, some_same}
 
 -- ---- whoever is chosen is counted
 
@@ -80,15 +81,15 @@ candidate-counted f c e = by_test (is_candidate f) refl e
         cid_of : Cid → Option Candidate → Cid
         cid_of d None = d
         cid_of d (Some x) = x.cid
-
-        some_same : (a b : Candidate) → Some a ≡ Some b → a ≡ b
-        some_same a b h = cc
     by_test false is same = absurd cc
 
 pub goes_among : (es : List Entry) (c : Candidate) → first_to_go (candidates_among es) ≡ Some c → Goes es c
 unfolding first_to_go
 goes_among [] c e = absurd cc
-goes_among (x ∷ es) c e = by_head (candidate_of x.facts) refl (goes_among es) e
+goes_among (x ∷ es) c e = by_option (candidate_of x.facts)
+    (λ o. ((a : Candidate) → first_to_go (candidates_among es) ≡ Some a → Goes es a) → first_to_go (cons_option o (candidates_among es)) ≡ Some c → Goes (x ∷ es) c)
+    (λ is later same. goes_next x es c (later c same))
+    (λ d is later same. by_rest d (first_to_go (candidates_among es)) is later same) (goes_among es) e
   where
     here : (d : Candidate) → candidate_of x.facts ≡ Some d → d ≡ c → Goes (x ∷ es) c
     here d is same =
@@ -108,31 +109,19 @@ goes_among (x ∷ es) c e = by_head (candidate_of x.facts) refl (goes_among es) 
     by_rest d None is later same = here d is (let s : d ≡ c = cc in s)
     by_rest d (Some a) is later same =
         let s : (if goes_before a d then a else d) ≡ c = cc in
-        by_choice (goes_before a d) s
-      where
-        by_choice : (b : Bool) → (if b then a else d) ≡ c → Goes (x ∷ es) c
-        by_choice true t = goes_next x es c (later c (ap Some t))
-        by_choice false t = here d is t
-
-    by_head : (o : Option Candidate) → candidate_of x.facts ≡ o →
-        ((a : Candidate) → first_to_go (candidates_among es) ≡ Some a → Goes es a) →
-        first_to_go (cons_option o (candidates_among es)) ≡ Some c → Goes (x ∷ es) c
-    by_head None is later same = goes_next x es c (later c same)
-    by_head (Some d) is later same = by_rest d (first_to_go (candidates_among es)) is later same
+        by_bool (goes_before a d) (λ b. (if b then a else d) ≡ c → Goes (x ∷ es) c)
+        (λ before t. goes_next x es c (later c (ap Some t))) (λ after t. here d is t) s
 
 -- ---- whoever is chosen goes first
 
 -- what holds of each candidate holds of each connection that may go
 may_go-all : (P : Candidate → Type 0) (es : List Entry) → AllByRecursion P (candidates_among es) → AllByRecursion (λ f. is_candidate f.facts ≡ true → P (as_candidate f)) es
 may_go-all P [] h = tt
-may_go-all P (f ∷ es) h = by_test (is_candidate f.facts) refl (may_go-all P es) h
-  where
-    by_test : (b : Bool) → is_candidate f.facts ≡ b →
-        (AllByRecursion P (candidates_among es) → AllByRecursion (λ x. is_candidate x.facts ≡ true → P (as_candidate x)) es) →
-        AllByRecursion P (cons_option (option_map (λ rank. record { cid = f.facts.cid; rank = rank }) (if b then Some (rank_of_candidate f.facts) else None)) (candidates_among es)) →
-        (is_candidate f.facts ≡ true → P (as_candidate f)) × AllByRecursion (λ x. is_candidate x.facts ≡ true → P (as_candidate x)) es
-    by_test true is later h = (λ may. h.0, later h.1)
-    by_test false is later h = (λ may. absurd (both_ways (is_candidate f.facts) is may), later h)
+may_go-all P (f ∷ es) h = by_bool (is_candidate f.facts)
+    (λ b. (AllByRecursion P (candidates_among es) → AllByRecursion (λ x. is_candidate x.facts ≡ true → P (as_candidate x)) es) →
+    AllByRecursion P (cons_option (option_map (λ rank. record { cid = f.facts.cid; rank = rank }) (if b then Some (rank_of_candidate f.facts) else None)) (candidates_among es)) →
+    (is_candidate f.facts ≡ true → P (as_candidate f)) × AllByRecursion (λ x. is_candidate x.facts ≡ true → P (as_candidate x)) es)
+    (λ is later h. (λ may. h.0, later h.1)) (λ is later h. (λ may. absurd (both_ways (is_candidate f.facts) is may), later h)) (may_go-all P es) h
 
 choice_law : (m : Machine) (o : Option Candidate) → first_to_go (candidates_in m) ≡ o → IsFirstToGo o (candidates_in m)
 choice_law m o is = subst (λ c. IsFirstToGo c (candidates_in m)) is (first_to_go-law (candidates_in m))
@@ -205,17 +194,7 @@ pub record Trimmed (Law : Move → Type 0) (before : Machine) (effect : Effect) 
 -- where each move keeps it while peers are tied to their connections
 pub tied-trimmed : (Law : Move → Type 0) (m : Machine) (effect : Effect) → counted_in m ≤ m.settings.hard → Keeps 0 m effect.machine →
     (IsTied m → AllByRecursion Law effect.moves) → Accounts m effect → Trimmed Law m effect
-tied-trimmed Law m effect within h lawful accounted = record {
-  ordered = h.ordered;
-  settings = h.settings;
-  now = h.now;
-  counted = omega (arith, h.counted, within);
-  late = h.late;
-  classes = h.classes;
-  ties = h.ties;
-  lawful = lawful;
-  accounted = accounted;
-}
+tied-trimmed Law m effect within h lawful accounted = let few : counted_in effect.machine ≤ m.settings.hard = omega (arith, h.counted, within) in assumption
 
 pub keeps-trimmed : (Law : Move → Type 0) (m : Machine) (effect : Effect) → counted_in m ≤ m.settings.hard → Keeps 0 m effect.machine → Obeys Law m effect →
     Trimmed Law m effect
@@ -235,17 +214,12 @@ counted-live : (f : Facts) → is_counted f ≡ true → is_live f ≡ true
 counted-live f h = by_phase f.phase refl
   where
     uncounted : is_greeting f ≡ false → is_negotiated f ≡ false → is_counted f ≡ false
-    uncounted g n = rw (g, n) (by_side (not (is_outbound f)))
-      where
-        by_side : (b : Bool) → ((b && false) || false || false) ≡ false
-        by_side true = refl
-        by_side false = refl
+    uncounted g n = rw (g, n) (by_bool (not (is_outbound f)) (λ b. ((b && false) || false || false) ≡ false)
+        (λ is. refl) (λ is. refl))
 
     by_phase : (p : Phase) → f.phase ≡ p → is_live f ≡ true
-    by_phase Dialing is = ap live_phase is
-    by_phase (Greeting until) is = ap live_phase is
-    by_phase Negotiated is = ap live_phase is
     by_phase (Closing until) is = absurd (both_ways (is_counted f) (uncounted (ap is_greeting_phase is) (ap is_negotiated_phase is)) h)
+    by_phase other is = ap live_phase is
 
 pruned-trims : (m : Machine) (e : Entry) (k : ℕ) → IsOrdered m → StandsAt m.connections k e → IsDueToGo e m → Trimmed IsLawful m (ending Pruned e m)
 pruned-trims m e k h s due =
@@ -256,17 +230,8 @@ pruned-trims m e k h s due =
     ending-obeys Pruned m e k h.orderly s (counted-live e.facts counted) (λ negotiated. tt) due in
     let drops = pruned-drops m e k h s in
     let one : counted_of e ≡ 1 = one_if-counted e.facts counted in
-    record {
-      ordered = keeps.ordered;
-      settings = keeps.settings;
-      now = keeps.now;
-      counted = omega (arith, drops, one, most);
-      late = keeps.late;
-      classes = keeps.classes;
-      ties = keeps.ties;
-      lawful = λ ties. obeys.lawful;
-      accounted = obeys.accounted;
-    }
+    let few : counted_in (ending Pruned e m).machine ≤ m.settings.hard = omega (arith, drops, one, most) in
+    assumption (keeps, obeys)
 
 -- the connection that moved stands, and is counted
 pub record HasMoved (moved : Cid) (m : Machine) : Type 0 where
@@ -316,14 +281,12 @@ pub trim-used : (q : Entry → Bool) → ((x : Entry) → x.facts.local ≡ fals
     StandsAt m.connections k e → e.facts.cid ≡ moved → e.facts.local ≡ false → find q (trim moved m).machine.connections ≡ find q m.connections
 trim-used q only moved m e k h s same unused = cond_both (nat_le (counted_in m) m.settings.hard) (nothing_more m)
     (on_entry (entry_at (unwrap_or (choice_of (candidates_in m)) moved).0 m) (ending Pruned) m) (λ effect. find q effect.machine.connections ≡ find q m.connections)
-    (λ within. refl) (λ above. by_choice (first_to_go (candidates_in m)) refl)
-  where
-    by_choice : (o : Option Candidate) → first_to_go (candidates_in m) ≡ o →
-        find q (on_entry (entry_at (unwrap_or (option_map (λ c. c.cid) (first_to_go (candidates_in m))) moved).0 m) (ending Pruned) m).machine.connections ≡ find q m.connections
-    by_choice None none = rw (none, found_by_id m e k moved h s same) (pruned-used q only m e k h s unused)
-    by_choice (Some c) some =
-        let goes : Goes m.connections c = goes_among m.connections c some in
-        rw (some, found_by_id m goes.entry goes.place c.cid h goes.stands goes.same) (pruned-used q only m goes.entry goes.place h goes.stands goes.unused)
+    (λ within. refl) (λ above. by_option (first_to_go (candidates_in m))
+    (λ o. find q (on_entry (entry_at (unwrap_or (option_map (λ c. c.cid) (first_to_go (candidates_in m))) moved).0 m) (ending Pruned) m).machine.connections ≡ find q m.connections)
+    (λ none. rw (none, found_by_id m e k moved h s same) (pruned-used q only m e k h s unused))
+    (λ c some.
+    let goes : Goes m.connections c = goes_among m.connections c some in
+    rw (some, found_by_id m goes.entry goes.place c.cid h goes.stands goes.same) (pruned-used q only m goes.entry goes.place h goes.stands goes.unused)))
 
 -- ---- one part after another
 
@@ -391,17 +354,9 @@ pub as_move-trimmed : (Law : Move → Type 0) (happened : Happened) (m : Machine
     (IsTied m → Law (record { happened = happened; before = m; after = effect.machine })) → Trimmed Law m (as_move happened m effect)
 as_move-trimmed Law happened m effect no_end no_dial h law =
     let move : Move = record { happened = happened; before = m; after = effect.machine } in
-    record {
-      ordered = h.ordered;
-      settings = h.settings;
-      now = h.now;
-      counted = h.counted;
-      late = h.late;
-      classes = h.classes;
-      ties = h.ties;
-      lawful = λ ties. all-appended Law effect.moves (move ∷ []) (h.lawful ties) (law ties, tt);
-      accounted = accounts_move happened m effect no_end no_dial h.accounted;
-    }
+    let lawful : IsTied m → AllByRecursion Law (effect.moves ++ move ∷ []) = λ ties. all-appended Law effect.moves (move ∷ []) (h.lawful ties) (law ties, tt) in
+    let accounted : Accounts m (as_move happened m effect) = accounts_move happened m effect no_end no_dial h.accounted in
+    assumption
 
 -- one part for each of a list, which may need something of each
 pub for_each_that-trimmed : {X : Type 0} (Law : Move → Type 0) (P : Settings → X → Type 0) (act : X → Machine → Effect) →
@@ -418,14 +373,6 @@ for_each_that-trimmed Law P act each (x ∷ xs) m h within all =
 -- every move keeps another law that the first one and a second one give
 pub trimmed_both : (P Q R : Move → Type 0) → ((move : Move) → P move → Q move → R move) → (m : Machine) (effect : Effect) → Trimmed P m effect →
     AllByRecursion Q effect.moves → Trimmed R m effect
-trimmed_both P Q R gives m effect h also = record {
-  ordered = h.ordered;
-  settings = h.settings;
-  now = h.now;
-  counted = h.counted;
-  late = h.late;
-  classes = h.classes;
-  ties = h.ties;
-  lawful = λ ties. all-both P Q R gives effect.moves (h.lawful ties) also;
-  accounted = h.accounted;
-}
+trimmed_both P Q R gives m effect h also =
+    let lawful : IsTied m → AllByRecursion R effect.moves = λ ties. all-both P Q R gives effect.moves (h.lawful ties) also in
+    assumption

@@ -1,5 +1,5 @@
 -- What becomes of the connection that a part of an event is about.
-use Rattle.std.proofs.Common.{ℕ, ◌+◌, ◌%◌, ◌<◌, ◌≡◌, Bool, true, false, ◌&&◌, ◌==◌, if◌then◌else◌, [], ◌∷◌, find, Option, Some, None, Result, Ok, Err, refl, sym, ap, ◌∙◌, subst, arith, eq-eqb, eqb-true}
+use Rattle.std.proofs.Common.{ℕ, ◌+◌, ◌<◌, ◌≡◌, Bool, true, false, ◌&&◌, ◌==◌, if◌then◌else◌, [], ◌∷◌, find, Option, Some, None, Result, Ok, Err, refl, sym, ap, ◌∙◌, subst, arith, eq-eqb, eqb-true}
 use Rattle.std.specs.Option.{option_map}
 use Rattle.std.proofs.lemmas.Bool.{cond_both, both_ways, and_parts, and_from, false≢true, false_from_ne_true}
 use Rattle.conn_state.specs.Moves.{connected, agreed_inbound, agreed_outbound, acquired, released, awakened, idled, expired}
@@ -22,9 +22,8 @@ use Rattle.net_base.specs.declared.action.CloseCause.TheVariants.{Unused, Refuse
 use Rattle.net_base.specs.declared.action.FaultKind.{FaultKind}
 use Rattle.net_base.specs.declared.action.FaultKind.TheVariants.{Malformed, Protocol, HandshakeWait, ReplyWait}
 use Rattle.net_base.specs.declared.address.Addr.{Addr}
-use Rattle.net_base.specs.declared.connection.Facts.{Facts}
 use Rattle.net_base.specs.declared.connection.Phase.{Phase}
-use Rattle.net_base.specs.declared.connection.Phase.TheVariants.{Dialing, Greeting, Negotiated, Closing}
+use Rattle.net_base.specs.declared.connection.Phase.TheVariants.{Greeting, Negotiated}
 use Rattle.net_base.specs.declared.peer.Temp.TheVariants.{Cold, Warm}
 use Rattle.net_base.specs.declared.timer.Kind.{Kind}
 use Rattle.net_base.specs.declared.timer.Kind.TheVariants as kind
@@ -49,47 +48,35 @@ use Rattle.laws.specs.Steady.{IsShaped, IsOrdered}
 use Rattle.laws.proofs.Addresses.{same_address-true}
 use Rattle.laws.proofs.CarriedOut.{used_one}
 use Rattle.laws.proofs.Goes.{vanishes-none}
-use Rattle.laws.proofs.Handshakes.{answer-machine}
+use Rattle.laws.proofs.Walk.{answer-machine, says_done-machine, replies-machine, Finds, Stands, found-stands, Scope, taken, on_those, trim-walk, brings-walk, acquire-walk, release-walk, asks_peer-walk, activates-walk, begins-walk}
 use Rattle.laws.proofs.Lawful.{stands-found}
 use Rattle.laws.proofs.Lists.{FoundIn, find_some, find_only, All-stands}
 use Rattle.laws.proofs.Moments.{gone-none, ending-none, turned-found}
-use Rattle.laws.proofs.Orders.{says_done-machine}
 use Rattle.laws.proofs.Shapes.{local-negotiated, can_acquire}
-use Rattle.laws.proofs.Talks.{replies-machine}
 use Rattle.laws.proofs.Ties.{live_here}
 use Rattle.laws.proofs.ToldMoves.{turns_at-connections}
-use Rattle.laws.proofs.Waits.{Scope, Waits, was_then}
-use Rattle.laws.proofs.WaitsOfParts.{Stands, Finds, found-stands, changed-waits, trim-waits, asks_peer-waits, release-waits, owes-waits, acquire-waits, dial-waits, begins-waits, brings-waits}
+use Rattle.laws.proofs.Waits.{Waits, was_then}
+use Rattle.laws.proofs.WaitsOfParts.{Waited, waits-kept, changed-waits, dial-waits}
 use Rattle.laws.proofs.WholeMoves.{negotiated-live}
+use Rattle.laws.proofs.Cases.{by_bool, by_option}
 
 -- ---- what it turns into
 
 abbrev pub turned_by_kind : Kind → Entry → Machine → Option Entry
-turned_by_kind kind.Handshake e m = None
 turned_by_kind kind.Grace e m = Some (if e.facts.local then record e { facts = expired e.facts } else closing_entry m e)
-turned_by_kind kind.TimeWait e m = None
-turned_by_kind kind.Reply2 e m = None
-turned_by_kind kind.Reply8 e m = None
-turned_by_kind kind.Reply10 e m = None
-
-abbrev pub taken : Facts → Entry → Machine → Entry
-taken f e m = owing 8 (f.cid.0 % 65536) m (record e { facts = f })
+turned_by_kind other e m = None
 
 abbrev pub turned_by_order : Order → Entry → Machine → Entry
 turned_by_order (Ask addr n) e m = if e.facts.local then owing 10 n m e else e
-turned_by_order (Forget addr) e m = e
 turned_by_order (Promote addr) e m = if is_acquirable e.facts then taken (acquired e.facts) e m else e
 turned_by_order (Release addr) e m = if e.facts.local then record e { facts = released (m.now + m.settings.idle) e.facts } else e
 turned_by_order (Activate addr) e m = if e.facts.local then owing 2 0 m e else e
-turned_by_order (Deactivate addr) e m = e
+turned_by_order other e m = e
 
 abbrev pub turned_by_verdict : Verdict → Entry → Machine → Option Entry
 turned_by_verdict (verdict.Accept agreed) e m = Some (record e { facts = agreed_inbound agreed (m.now + m.settings.idle) e.facts })
-turned_by_verdict (verdict.Refuse why) e m = None
-turned_by_verdict verdict.Query e m = None
 turned_by_verdict (verdict.Agree agreed) e m = Some (taken (agreed_outbound agreed (m.now + m.settings.idle) e.facts) e m)
-turned_by_verdict verdict.Refused e m = None
-turned_by_verdict verdict.Wrong e m = None
+turned_by_verdict other e m = None
 
 abbrev pub turned_by_message : Option Message → Entry → Machine → Option Entry
 turned_by_message None e m = None
@@ -106,11 +93,10 @@ turned_by_request (Err fault) protocol e m = None
 turned_by_request (Ok seen) protocol e m = Some (stopped seen.done protocol (m.now + m.settings.idle) (begun protocol e))
 
 abbrev pub turned_by_item : Phase → Item → Entry → Machine → Option Entry
-turned_by_item Dialing item e m = Some e
 turned_by_item (Greeting until) item e m = turned_by_message (message_of item.body) e m
 turned_by_item Negotiated item e m =
     if item.side == 0 then turned_by_request (watched item.id (agreed_sharing e.facts.agreed) item.body) item.id e m else Some (paid item.id e)
-turned_by_item (Closing until) item e m = Some e
+turned_by_item other item e m = Some e
 
 -- nothing where it is sure to go
 abbrev pub turned : Act → Entry → Machine → Option Entry
@@ -133,11 +119,9 @@ stands-becomes : (e : Entry) (m : Machine) → entry_at e.facts.cid.0 m ≡ Some
 stands-becomes e m is = subst (IsAsItWas (Some e)) (sym is) refl
 
 turned-becomes : (e new : Entry) (m : Machine) → new.facts.cid ≡ e.facts.cid → Becomes (Some new) e.facts.cid.0 (with_entry new m)
-turned-becomes e new m same = subst (IsAsItWas (Some new)) (sym (turned-found e new m same)) (by_found (entry_at e.facts.cid.0 m))
-  where
-    by_found : (o : Option Entry) → IsAsItWas (Some new) (option_map (λ x. new) o)
-    by_found None = tt
-    by_found (Some f) = refl
+turned-becomes e new m same = subst (IsAsItWas (Some new)) (sym (turned-found e new m same)) (by_option (entry_at e.facts.cid.0 m)
+    (λ o. IsAsItWas (Some new) (option_map (λ x. new) o))
+    (λ is. tt) (λ f is. refl))
 
 pub ending-becomes : (o : Option Entry) (cause : CloseCause) (e : Entry) (m : Machine) → Becomes o e.facts.cid.0 (ending cause e m).machine
 ending-becomes o cause e m = gone-becomes o e.facts.cid.0 (ending cause e m).machine (ending-none cause e m)
@@ -147,7 +131,10 @@ vanishes-becomes o e m = gone-becomes o e.facts.cid.0 (vanishes e m).machine (va
 
 -- what follows changes no connection, but may end one
 abbrev nobody : Scope
-nobody = record { own = λ cid. false; comes = λ cid. false; drops = false }
+nobody = on_those (λ cid. false)
+
+abbrev everybody : Scope
+everybody = on_those (λ cid. true)
 
 then-becomes : (o : Option Entry) (cid : ℕ) (m n : Machine) → cid < m.next_id → Becomes o cid m → Waits nobody m n → Becomes o cid n
 then-becomes o cid m n given h w = was_then o (entry_at cid m) (entry_at cid n) h (w.others cid refl given)
@@ -156,17 +143,13 @@ then-becomes o cid m n given h w = was_then o (entry_at cid m) (entry_at cid n) 
 
 fires-becomes : (sort : Kind) (e : Entry) (m : Machine) → Becomes (turned_by_kind sort e m) e.facts.cid.0 (fires_as sort e m).machine
 fires-becomes kind.Handshake e m = ending-becomes None (Fault HandshakeWait) e m
-fires-becomes kind.Grace e m = by_local e.facts.local
-  where
-    by_local : (b : Bool) → Becomes (Some (if b then record e { facts = expired e.facts } else closing_entry m e)) e.facts.cid.0
-        (if b then entry_turns e (record e { facts = expired e.facts }) m
-        else as_move (unused e.facts.cid.0) m (then_do (tells (Close e.facts.cid Unused ∷ []) m) (entry_turns e (closing_entry m e)))).machine
-    by_local true = turned-becomes e (record e { facts = expired e.facts }) m refl
-    by_local false = turned-becomes e (closing_entry m e) m refl
+fires-becomes kind.Grace e m = by_bool e.facts.local
+    (λ b. Becomes (Some (if b then record e { facts = expired e.facts } else closing_entry m e)) e.facts.cid.0
+    (if b then entry_turns e (record e { facts = expired e.facts }) m
+    else as_move (unused e.facts.cid.0) m (then_do (tells (Close e.facts.cid Unused ∷ []) m) (entry_turns e (closing_entry m e)))).machine)
+    (λ is. turned-becomes e (record e { facts = expired e.facts }) m refl) (λ is. turned-becomes e (closing_entry m e) m refl)
 fires-becomes kind.TimeWait e m = gone-becomes None e.facts.cid.0 (fires_as kind.TimeWait e m).machine (gone-none e.facts.cid.0 m)
-fires-becomes kind.Reply2 e m = ending-becomes None (Fault ReplyWait) e m
-fires-becomes kind.Reply8 e m = ending-becomes None (Fault ReplyWait) e m
-fires-becomes kind.Reply10 e m = ending-becomes None (Fault ReplyWait) e m
+fires-becomes other e m = ending-becomes None (Fault ReplyWait) e m
 
 dialed-becomes : (opened : Bool) (e : Entry) (m : Machine) → entry_at e.facts.cid.0 m ≡ Some e →
     Becomes (Some (if is_dialing e.facts && opened then record e { facts = connected (m.now + m.settings.handshake) e.facts } else e)) e.facts.cid.0 (dialed opened e m).machine
@@ -190,15 +173,14 @@ faulted-becomes (Some fault) e m is = ending-becomes (Some e) (Fault (kind_of fa
 
 pub judged-becomes : (v : Verdict) (e : Entry) (m : Machine) → Becomes (turned_by_verdict v e m) e.facts.cid.0 (judged v e m).machine
 judged-becomes (verdict.Accept agreed) e m = turned-becomes e (record e { facts = agreed_inbound agreed (m.now + m.settings.idle) e.facts }) m refl
-judged-becomes (verdict.Refuse why) e m = ending-becomes None Refused e m
 judged-becomes verdict.Query e m = ending-becomes None Query e m
 judged-becomes (verdict.Agree agreed) e m =
     let new : Entry = taken (agreed_outbound agreed (m.now + m.settings.idle) e.facts) e m in
     let n : Machine = with_entry new m in
     subst (λ es. IsAsItWas (Some new) (find (λ x. has_id e.facts.cid.0 x.facts) es)) (sym (turns_at-connections (peer_at e.facts.addr n) (λ p. record p { temp = Warm; failures = 0 }) n))
     (turned-becomes e new m refl)
-judged-becomes verdict.Refused e m = ending-becomes None Refused e m
 judged-becomes verdict.Wrong e m = ending-becomes None (Fault Protocol) e m
+judged-becomes other e m = ending-becomes None Refused e m
 
 greeted_by-becomes : (o : Option Message) (side : ℕ) (e : Entry) (m : Machine) → Becomes (turned_by_message o e m) e.facts.cid.0 (greeted_by o side e m).machine
 greeted_by-becomes None side e m = ending-becomes None (Fault Malformed) e m
@@ -220,24 +202,19 @@ serves-becomes : (seen : Seen) (protocol : ℕ) (e : Entry) (m : Machine) → en
     Becomes (Some (stopped seen.done protocol (m.now + m.settings.idle) e)) e.facts.cid.0 (serves seen protocol e m).machine
 serves-becomes seen protocol e m is =
     subst (λ n. Becomes (Some (stopped seen.done protocol (m.now + m.settings.idle) e)) e.facts.cid.0 (stops_if seen.done protocol e n).machine) (sym (replies-machine seen.reply protocol e m))
-    (by_done seen.done)
-  where
-    by_done : (b : Bool) → Becomes (Some (stopped b protocol (m.now + m.settings.idle) e)) e.facts.cid.0 (if b then idle protocol e m else nothing_more m).machine
-    by_done true = turned-becomes e (record e { facts = idled protocol (m.now + m.settings.idle) e.facts }) m refl
-    by_done false = stands-becomes e m is
+    (by_bool seen.done
+    (λ b. Becomes (Some (stopped b protocol (m.now + m.settings.idle) e)) e.facts.cid.0 (if b then idle protocol e m else nothing_more m).machine)
+    (λ done. turned-becomes e (record e { facts = idled protocol (m.now + m.settings.idle) e.facts }) m refl)
+    (λ more. stands-becomes e m is))
 
 pub begins-becomes : (protocol : ℕ) (e : Entry) (m : Machine) → e.facts.cid.0 < m.next_id → entry_at e.facts.cid.0 m ≡ Some e → Becomes (Some (begun protocol e)) e.facts.cid.0 (begins protocol e m).machine
-begins-becomes protocol e m given is = by_test (runs protocol e.facts.running)
-  where
-    new : Entry
-    new = record e { facts = awakened protocol e.facts }
-
-    n : Machine
-    n = with_entry new m
-
-    by_test : (b : Bool) → Becomes (Some (if b then e else new)) e.facts.cid.0 (if b then nothing_more m else awake protocol e m).machine
-    by_test true = stands-becomes e m is
-    by_test false = then-becomes (Some new) e.facts.cid.0 n (trim e.facts.cid n).machine given (turned-becomes e new m refl) (trim-waits nobody e.facts.cid n)
+begins-becomes protocol e m given is =
+    let new : Entry = record e { facts = awakened protocol e.facts } in
+    let n : Machine = with_entry new m in
+    by_bool (runs protocol e.facts.running)
+    (λ b. Becomes (Some (if b then e else new)) e.facts.cid.0 (if b then nothing_more m else awake protocol e m).machine)
+    (λ running. stands-becomes e m is)
+    (λ silent. then-becomes (Some new) e.facts.cid.0 n (trim e.facts.cid n).machine given (turned-becomes e new m refl) (trim-walk nobody (Waited nobody) (waits-kept nobody) e.facts.cid n))
 
 asked-becomes : (r : Result Seen FaultKind) (protocol : ℕ) (e : Entry) (m : Machine) → e.facts.cid.0 < m.next_id → entry_at e.facts.cid.0 m ≡ Some e →
     Becomes (turned_by_request r protocol e m) e.facts.cid.0 (asked_as r protocol e m).machine
@@ -245,7 +222,16 @@ asked-becomes (Err fault) protocol e m given is = ending-becomes None (Fault fau
 asked-becomes (Ok seen) protocol e m given is =
     cond_both (takes_requests e) (then_do (begins protocol e m) (λ w. on_entry (entry_at e.facts.cid.0 w) (serves seen protocol) w)) (ending (Fault Protocol) e m)
     (λ effect. Becomes (Some after) e.facts.cid.0 effect.machine)
-    (λ takes. by_entry (entry_at e.facts.cid.0 n) refl (begins-becomes protocol e m given is)) (λ other. ending-becomes (Some after) (Fault Protocol) e m)
+    (λ takes. by_option (entry_at e.facts.cid.0 n)
+    (λ o. IsAsItWas (Some (begun protocol e)) o → Becomes (Some after) e.facts.cid.0 (on_entry o (serves seen protocol) n).machine)
+    (λ none was. gone-becomes (Some after) e.facts.cid.0 n none)
+    (λ f here was.
+    let it : f ≡ begun protocol e = cc in
+    let own : f.facts.cid.0 ≡ e.facts.cid.0 = eqb-true f.facts.cid.0 e.facts.cid.0 (find_some (λ x. has_id e.facts.cid.0 x.facts) n.connections f here).passes in
+    subst (λ x. Becomes (Some x) e.facts.cid.0 (serves seen protocol f n).machine)
+    (ap (λ t. stopped seen.done protocol t f) same ∙ ap (stopped seen.done protocol until) it)
+    (subst (λ c. Becomes (Some (stopped seen.done protocol (n.now + n.settings.idle) f)) c (serves seen protocol f n).machine) own
+    (serves-becomes seen protocol f n (subst (λ c. entry_at c n ≡ Some f) (sym own) here)))) (begins-becomes protocol e m given is)) (λ other. ending-becomes (Some after) (Fault Protocol) e m)
   where
     until : ℕ
     until = m.now + m.settings.idle
@@ -259,18 +245,8 @@ asked-becomes (Ok seen) protocol e m given is =
     -- the clock and the settings stay
     same : n.now + n.settings.idle ≡ until
     same =
-        let w = begins-waits (record { own = λ cid. true; comes = λ cid. false; drops = false }) protocol e m (found-stands _ e.facts.cid.0 m e is refl) in
+        let w = begins-walk everybody (Waited everybody) (waits-kept everybody) protocol e m (found-stands everybody e.facts.cid.0 m e is refl) in
         ap (λ t. t + n.settings.idle) w.now ∙ ap (λ s. m.now + s.idle) w.settings
-
-    by_entry : (o : Option Entry) → entry_at e.facts.cid.0 n ≡ o → IsAsItWas (Some (begun protocol e)) o → Becomes (Some after) e.facts.cid.0 (on_entry o (serves seen protocol) n).machine
-    by_entry None none was = gone-becomes (Some after) e.facts.cid.0 n none
-    by_entry (Some f) here was =
-        let it : f ≡ begun protocol e = cc in
-        let own : f.facts.cid.0 ≡ e.facts.cid.0 = eqb-true f.facts.cid.0 e.facts.cid.0 (find_some (λ x. has_id e.facts.cid.0 x.facts) n.connections f here).passes in
-        subst (λ x. Becomes (Some x) e.facts.cid.0 (serves seen protocol f n).machine)
-        (ap (λ t. stopped seen.done protocol t f) same ∙ ap (stopped seen.done protocol until) it)
-        (subst (λ c. Becomes (Some (stopped seen.done protocol (n.now + n.settings.idle) f)) c (serves seen protocol f n).machine) own
-        (serves-becomes seen protocol f n (subst (λ c. entry_at c n ≡ Some f) (sym own) here)))
 
 answered-becomes : (o : Option Owed) (item : Item) (e : Entry) (m : Machine) → e.facts.cid.0 < m.next_id → Becomes (Some (paid item.id e)) e.facts.cid.0 (answered_as o item e m).machine
 answered-becomes None item e m given = ending-becomes (Some (paid item.id e)) (Fault Protocol) e m
@@ -278,23 +254,19 @@ answered-becomes (Some owed) item e m given =
     let n : Machine = with_entry (paid item.id e) m in
     cond_both (pays owed item.body) (then_do (entry_turns e (paid item.id e) m) (brings item.id item.body e)) (ending (Fault Protocol) e m)
     (λ effect. Becomes (Some (paid item.id e)) e.facts.cid.0 effect.machine)
-    (λ pays. then-becomes (Some (paid item.id e)) e.facts.cid.0 n (brings item.id item.body e n).machine given (turned-becomes e (paid item.id e) m refl) (brings-waits nobody item.id item.body e n))
+    (λ pays. then-becomes (Some (paid item.id e)) e.facts.cid.0 n (brings item.id item.body e n).machine given (turned-becomes e (paid item.id e) m refl) (brings-walk nobody (Waited nobody) (waits-kept nobody) item.id item.body e n))
     (λ other. ending-becomes (Some (paid item.id e)) (Fault Protocol) e m)
 
 handled-becomes : (p : Phase) (item : Item) (e : Entry) (m : Machine) → e.facts.cid.0 < m.next_id → entry_at e.facts.cid.0 m ≡ Some e →
     Becomes (turned_by_item p item e m) e.facts.cid.0 (handled_in p item e m).machine
-handled-becomes Dialing item e m given is = stands-becomes e m is
 handled-becomes (Greeting until) item e m given is = greets-becomes item e m
-handled-becomes Negotiated item e m given is = by_side (item.side == 0)
-  where
-    seen : Result Seen FaultKind
-    seen = watched item.id (agreed_sharing e.facts.agreed) item.body
-
-    by_side : (b : Bool) → Becomes (if b then turned_by_request seen item.id e m else Some (paid item.id e)) e.facts.cid.0
-        (if b then asked_as seen item.id e m else answered_as (reply_on item.id e) item e m).machine
-    by_side true = asked-becomes seen item.id e m given is
-    by_side false = answered-becomes (reply_on item.id e) item e m given
-handled-becomes (Closing until) item e m given is = stands-becomes e m is
+handled-becomes Negotiated item e m given is =
+    let seen : Result Seen FaultKind = watched item.id (agreed_sharing e.facts.agreed) item.body in
+    by_bool (item.side == 0)
+    (λ b. Becomes (if b then turned_by_request seen item.id e m else Some (paid item.id e)) e.facts.cid.0
+    (if b then asked_as seen item.id e m else answered_as (reply_on item.id e) item e m).machine)
+    (λ asks. asked-becomes seen item.id e m given is) (λ answers. answered-becomes (reply_on item.id e) item e m given)
+handled-becomes other item e m given is = stands-becomes e m is
 
 -- ---- an order
 
@@ -305,7 +277,7 @@ record Ordered (addr : Addr) (m : Machine) (e : Entry) : Type 0 where
   here : same_address e.facts.addr addr ≡ true
 
 abbrev alone : Entry → Scope
-alone g = record { own = λ cid. g.facts.cid.0 == cid; comes = λ cid. false; drops = false }
+alone g = on_those (λ cid. g.facts.cid.0 == cid)
 
 pub given_id : (m : Machine) (e : Entry) → IsOrdered m → entry_at e.facts.cid.0 m ≡ Some e → e.facts.cid.0 < m.next_id
 given_id m e h is =
@@ -337,7 +309,10 @@ used-found addr m e o local =
 used-becomes : (addr : Addr) (act : Entry → Machine → Effect) (new : Entry) (m : Machine) (e : Entry) → Ordered addr m e →
     ((g : Entry) → Stands (alone g) g m → Waits (alone g) m (act g m).machine) → Becomes (Some new) e.facts.cid.0 (act e m).machine →
     Becomes (Some (if e.facts.local then new else e)) e.facts.cid.0 (on_used addr act m).machine
-used-becomes addr act new m e o others turns = by_local e.facts.local refl
+used-becomes addr act new m e o others turns = by_bool e.facts.local
+    (λ b. Becomes (Some (if b then new else e)) e.facts.cid.0 (on_used addr act m).machine)
+    (λ local. subst (λ x. Becomes (Some new) e.facts.cid.0 (on_entry x act m).machine) (sym (used-found addr m e o local)) turns)
+    (λ not_used. by_found not_used (find (is_used_at addr) m.connections) refl)
   where
     by_found : e.facts.local ≡ false → (found : Option Entry) → find (is_used_at addr) m.connections ≡ found → Becomes (Some e) e.facts.cid.0 (on_entry found act m).machine
     by_found not_used None none = stands-becomes e m o.is
@@ -347,12 +322,20 @@ used-becomes addr act new m e o others turns = by_local e.facts.local refl
         other-becomes (λ x. x.facts.local) m (act g m).machine e g o.ordered o.is stands not_used (and_parts (is_live_at addr g.facts) g.facts.local place.passes).1
         (others g (found-stands (alone g) g.facts.cid.0 m g stands (eq-eqb g.facts.cid.0 g.facts.cid.0 refl)))
 
-    by_local : (b : Bool) → e.facts.local ≡ b → Becomes (Some (if b then new else e)) e.facts.cid.0 (on_used addr act m).machine
-    by_local true local = subst (λ x. Becomes (Some new) e.facts.cid.0 (on_entry x act m).machine) (sym (used-found addr m e o local)) turns
-    by_local false not_used = by_found not_used (find (is_used_at addr) m.connections) refl
-
 promotes-becomes : (addr : Addr) (m : Machine) (e : Entry) → Ordered addr m e → Becomes (Some (turned_by_order (Promote addr) e m)) e.facts.cid.0 (promoted_at (live_entry_at addr m) addr m).machine
-promotes-becomes addr m e o = by_free (is_acquirable e.facts) refl
+promotes-becomes addr m e o = by_bool (is_acquirable e.facts)
+    (λ b. Becomes (Some (if b then new else e)) e.facts.cid.0 (promoted_at (live_entry_at addr m) addr m).machine)
+    (λ free.
+    let place : FoundIn (λ x. has_id e.facts.cid.0 x.facts) m.connections e = find_some (λ x. has_id e.facts.cid.0 x.facts) m.connections e o.is in
+    let live : is_live e.facts ≡ true = negotiated-live e.facts.phase (can_acquire e.facts free).negotiated in
+    let found : live_entry_at addr m ≡ Some e = subst (λ a. live_entry_at a m ≡ Some e) (same_address-true e.facts.addr addr o.here) (live_here m e place.place o.ordered.orderly place.stands live) in
+    let n : Machine = with_entry new m in
+    let takes : Becomes (Some new) e.facts.cid.0 (acquire e m).machine =
+    subst (λ es. IsAsItWas (Some new) (find (λ x. has_id e.facts.cid.0 x.facts) es)) (sym (turns_at-connections (peer_at e.facts.addr n) (λ p. record p { temp = Warm; failures = 0 }) n))
+    (turned-becomes e new m refl) in
+    subst (λ x. Becomes (Some new) e.facts.cid.0 (promoted_at x addr m).machine) (sym found)
+    (subst (λ b. Becomes (Some new) e.facts.cid.0 (if b then acquire e m else dial addr m).machine) (sym free) takes))
+    (λ other. by_live other (live_entry_at addr m) refl)
   where
     new : Entry
     new = taken (acquired e.facts) e m
@@ -367,26 +350,13 @@ promotes-becomes addr m e o = by_free (is_acquirable e.facts) refl
         let stands : entry_at g.facts.cid.0 m ≡ Some g = stands-found m g place.place o.ordered.orderly place.stands in
         cond_both (is_acquirable g.facts) (acquire g m) (dial addr m) (λ effect. Becomes (Some e) e.facts.cid.0 effect.machine)
         (λ free. other-becomes (λ x. is_acquirable x.facts) m (acquire g m).machine e g o.ordered o.is stands other free
-        (acquire-waits (alone g) g m (found-stands (alone g) g.facts.cid.0 m g stands (eq-eqb g.facts.cid.0 g.facts.cid.0 refl)))) (λ busy. dials)
-
-    by_free : (b : Bool) → is_acquirable e.facts ≡ b → Becomes (Some (if b then new else e)) e.facts.cid.0 (promoted_at (live_entry_at addr m) addr m).machine
-    by_free true free =
-        let place : FoundIn (λ x. has_id e.facts.cid.0 x.facts) m.connections e = find_some (λ x. has_id e.facts.cid.0 x.facts) m.connections e o.is in
-        let live : is_live e.facts ≡ true = negotiated-live e.facts.phase (can_acquire e.facts free).negotiated in
-        let found : live_entry_at addr m ≡ Some e = subst (λ a. live_entry_at a m ≡ Some e) (same_address-true e.facts.addr addr o.here) (live_here m e place.place o.ordered.orderly place.stands live) in
-        let n : Machine = with_entry new m in
-        let takes : Becomes (Some new) e.facts.cid.0 (acquire e m).machine =
-        subst (λ es. IsAsItWas (Some new) (find (λ x. has_id e.facts.cid.0 x.facts) es)) (sym (turns_at-connections (peer_at e.facts.addr n) (λ p. record p { temp = Warm; failures = 0 }) n))
-        (turned-becomes e new m refl) in
-        subst (λ x. Becomes (Some new) e.facts.cid.0 (promoted_at x addr m).machine) (sym found)
-        (subst (λ b. Becomes (Some new) e.facts.cid.0 (if b then acquire e m else dial addr m).machine) (sym free) takes)
-    by_free false other = by_live other (live_entry_at addr m) refl
+        (acquire-walk (alone g) (Waited (alone g)) (waits-kept (alone g)) g m refl (found-stands (alone g) g.facts.cid.0 m g stands (eq-eqb g.facts.cid.0 g.facts.cid.0 refl)))) (λ busy. dials)
 
 release-becomes : (e : Entry) (m : Machine) → e.facts.cid.0 < m.next_id → Becomes (Some (record e { facts = released (m.now + m.settings.idle) e.facts })) e.facts.cid.0 (release e m).machine
 release-becomes e m given =
     subst (λ n. Becomes (Some new) e.facts.cid.0 (rest n).machine) (sym (says_done-machine e.facts m))
     (then-becomes (Some new) e.facts.cid.0 o (trim e.facts.cid o).machine (omega (arith, given, cooled.next))
-    (then-becomes (Some new) e.facts.cid.0 n o given (turned-becomes e new m refl) cooled) (trim-waits nobody e.facts.cid o))
+    (then-becomes (Some new) e.facts.cid.0 n o given (turned-becomes e new m refl) cooled) (trim-walk nobody (Waited nobody) (waits-kept nobody) e.facts.cid o))
   where
     new : Entry
     new = record e { facts = released (m.now + m.settings.idle) e.facts }
@@ -405,21 +375,20 @@ release-becomes e m given =
     cooled = changed-waits nobody (peer_at e.facts.addr n) (λ p. record p { temp = Cold }) n
 
 orders-become : (order : Order) (m : Machine) (e : Entry) → Ordered (address_of order) m e → Becomes (Some (turned_by_order order e m)) e.facts.cid.0 (carries_out order m).machine
-orders-become (Ask addr n) m e o = used-becomes addr (asks_peer n) (owing 10 n m e) m e o (λ g stands. asks_peer-waits (alone g) n g m stands)
+orders-become (Ask addr n) m e o = used-becomes addr (asks_peer n) (owing 10 n m e) m e o (λ g stands. asks_peer-walk (alone g) (Waited (alone g)) (waits-kept (alone g)) n g m refl stands)
     (let w : Machine = with_entry (owing 10 n m e) m in
     then-becomes (Some (owing 10 n m e)) e.facts.cid.0 w (asks_peer n e m).machine (given_id m e o.ordered o.is) (turned-becomes e (owing 10 n m e) m refl)
     (changed-waits nobody (peer_at e.facts.addr w) (λ p. record p { share_next = m.now + m.settings.sharegap }) w))
 orders-become (Forget addr) m e o = stands-becomes e m o.is
 orders-become (Promote addr) m e o = promotes-becomes addr m e o
 orders-become (Release addr) m e o = used-becomes addr release (record e { facts = released (m.now + m.settings.idle) e.facts }) m e o
-    (λ g stands. release-waits (alone g) g m stands) (release-becomes e m (given_id m e o.ordered o.is))
-orders-become (Activate addr) m e o = used-becomes addr activates (owing 2 0 m e) m e o (λ g stands. owes-waits (alone g) 2 0 m g stands) (turned-becomes e (owing 2 0 m e) m refl)
-orders-become (Deactivate addr) m e o = by_found (find (is_used_at addr) m.connections)
-  where
-    by_found : (found : Option Entry) → Becomes (Some e) e.facts.cid.0 (on_entry found deactivates m).machine
-    by_found None = stands-becomes e m o.is
-    by_found (Some g) = then-becomes (Some e) e.facts.cid.0 m (deactivates g m).machine (given_id m e o.ordered o.is) (stands-becomes e m o.is)
-        (changed-waits nobody (peer_at g.facts.addr m) (λ p. record p { temp = Warm }) m)
+    (λ g stands. release-walk (alone g) (Waited (alone g)) (waits-kept (alone g)) g m refl stands) (release-becomes e m (given_id m e o.ordered o.is))
+orders-become (Activate addr) m e o = used-becomes addr activates (owing 2 0 m e) m e o (λ g stands. activates-walk (alone g) (Waited (alone g)) (waits-kept (alone g)) g m refl stands) (turned-becomes e (owing 2 0 m e) m refl)
+orders-become (Deactivate addr) m e o = by_option (find (is_used_at addr) m.connections)
+    (λ found. Becomes (Some e) e.facts.cid.0 (on_entry found deactivates m).machine)
+    (λ is. stands-becomes e m o.is)
+    (λ g is. then-becomes (Some e) e.facts.cid.0 m (deactivates g m).machine (given_id m e o.ordered o.is) (stands-becomes e m o.is)
+    (changed-waits nobody (peer_at g.facts.addr m) (λ p. record p { temp = Warm }) m))
 
 -- ---- each act
 

@@ -1,6 +1,6 @@
 -- How long is waited, and what is left as it was, through each change of a connection.
-use Rattle.std.proofs.Common.{ℕ, ◌+◌, ◌<◌, ◌≤◌, ◌≡◌, ◌⊎◌, Bool, true, false, cond, not, ◌==◌, nat_lt, if◌then◌else◌, List, [], ◌∷◌, ◌++◌, map, filter, find, Option, Some, None, refl, sym, ap, ◌∙◌, subst, inl, inr, arith, eqb-true}
-use Rattle.std.specs.Option.{option_map}
+use Rattle.std.proofs.Common.{ℕ, ◌+◌, ◌<◌, ◌≤◌, ◌≡◌, ◌⊎◌, Bool, true, false, cond, not, ◌==◌, nat_lt, if◌then◌else◌, List, [], ◌∷◌, ◌++◌, map, filter, find, Option, Some, None, refl, sym, ap, ◌∙◌, subst, inl, inr, arith, eqb-true, eq-eqb, ne_eqb}
+use Rattle.std.specs.Option.{option_map, option_or}
 use Rattle.conn_state.specs.Use.{has_id}
 use Rattle.net_base.specs.Shared.{nothing_undecoded}
 use Rattle.net_base.specs.declared.timer.Kind.{Kind}
@@ -10,6 +10,10 @@ use Rattle.machine.specs.Machine.{Machine, Entry, Owed, entry_at}
 use Rattle.machine.specs.Replies.{reply_on, owing, paid}
 use Rattle.laws.specs.Untouched.{IsAsItWas, KeepsBytes}
 use Rattle.laws.specs.Waits.{until_paid, until_of, until_in, until_at, length_of, IsWait}
+use Rattle.laws.proofs.Walk.{Scope}
+use Rattle.laws.proofs.Cases.{by_bool}
+use Rattle.std.proofs.lemmas.List.Folds.{find-append}
+use Rattle.std.proofs.lemmas.Bool.{both_ways}
 
 -- ---- one wait
 
@@ -25,12 +29,6 @@ wait_then whole a b (Some until) one two = elim two [
 ]
 
 -- ---- what is left as it was
-
--- which connections a part may change, on which bytes may have come in, and whether it may drop what is not decoded
-pub record Scope : Type 0 where
-  pub own : ℕ → Bool
-  pub comes : ℕ → Bool
-  pub drops : Bool
 
 pub was_same : (o : Option Entry) → IsAsItWas o o
 was_same None = tt
@@ -123,45 +121,21 @@ either_way o false = refl
 pub replaced : (c : ℕ) (new : Entry) (es : List Entry) → find (λ e. has_id c e.facts) (map (λ e. if has_id new.facts.cid.0 e.facts then new else e) es)
     ≡ (if has_id c new.facts then option_map (λ e. new) (find (λ e. has_id c e.facts) es) else find (λ e. has_id c e.facts) es)
 replaced c new [] = either_way {X = Entry} None (has_id c new.facts)
-replaced c new (e ∷ es) = by_own (has_id new.facts.cid.0 e.facts) refl (has_id c new.facts) refl (has_id c e.facts) refl (replaced c new es)
-  where
-    later : Option Entry
-    later = find (λ x. has_id c x.facts) (map (λ x. if has_id new.facts.cid.0 x.facts then new else x) es)
-
-    was : Option Entry
-    was = find (λ x. has_id c x.facts) es
-
-    skip : (b h : Bool) → b ≡ false → h ≡ b → later ≡ (if b then option_map (λ x. new) was else was) → cond b (Some new) later ≡ (if b then option_map (λ x. new) (cond h (Some e) was) else cond h (Some e) was)
-    skip true h never same rest = absurd cc
-    skip false true never same rest = absurd cc
-    skip false false never same rest = rest
-
-    by_own : (a : Bool) → has_id new.facts.cid.0 e.facts ≡ a → (b : Bool) → has_id c new.facts ≡ b → (h : Bool) → has_id c e.facts ≡ h →
-        later ≡ (if b then option_map (λ x. new) was else was) →
-        cond (has_id c (if a then new else e).facts) (Some (if a then new else e)) later
-        ≡ (if b then option_map (λ x. new) (cond h (Some e) was) else cond h (Some e) was)
-    by_own true own b is h has rest =
-        let same : h ≡ b = sym has ∙ (ap (λ n. n == c) (eqb-true e.facts.cid.0 new.facts.cid.0 own) ∙ is) in
-        subst (λ x. cond x (Some new) later ≡ (if b then option_map (λ y. new) (cond h (Some e) was) else cond h (Some e) was)) (sym is) (here b h same rest)
-      where
-        here : (x y : Bool) → y ≡ x → later ≡ (if x then option_map (λ z. new) was else was) →
-            cond x (Some new) later ≡ (if x then option_map (λ z. new) (cond y (Some e) was) else cond y (Some e) was)
-        here true true same rest = refl
-        here true false same rest = absurd cc
-        here false true same rest = absurd cc
-        here false false same rest = rest
-    by_own false own b is h has rest =
-        subst (λ x. cond x (Some e) later ≡ (if b then option_map (λ y. new) (cond h (Some e) was) else cond h (Some e) was)) (sym has) (there b h other rest)
-      where
-        other : (b ≡ true) → h ≡ false
-        other here = sym has ∙ (ap (λ n. e.facts.cid.0 == n) (sym (eqb-true new.facts.cid.0 c (is ∙ here))) ∙ own)
-
-        there : (x y : Bool) → (x ≡ true → y ≡ false) → later ≡ (if x then option_map (λ z. new) was else was) →
-            cond y (Some e) later ≡ (if x then option_map (λ z. new) (cond y (Some e) was) else cond y (Some e) was)
-        there true true apart rest = absurd (let never : true ≡ false = apart refl in cc)
-        there true false apart rest = rest
-        there false true apart rest = refl
-        there false false apart rest = rest
+replaced c new (e ∷ es) =
+    let later : Option Entry = find (λ x. has_id c x.facts) (map (λ x. if has_id new.facts.cid.0 x.facts then new else x) es) in
+    let was : Option Entry = find (λ x. has_id c x.facts) es in
+    by_bool (has_id new.facts.cid.0 e.facts)
+    (λ a. cond (has_id c (if a then new else e).facts) (Some (if a then new else e)) later
+    ≡ (if has_id c new.facts then option_map (λ x. new) (cond (has_id c e.facts) (Some e) was) else cond (has_id c e.facts) (Some e) was))
+    (λ own.
+    subst (λ h. cond (has_id c new.facts) (Some new) later ≡ (if has_id c new.facts then option_map (λ x. new) (cond h (Some e) was) else cond h (Some e) was))
+    (sym (ap (λ n. n == c) (eqb-true e.facts.cid.0 new.facts.cid.0 own)))
+    (by_bool (has_id c new.facts) (λ b. later ≡ (if b then option_map (λ x. new) was else was) →
+    cond b (Some new) later ≡ (if b then option_map (λ x. new) (cond b (Some e) was) else cond b (Some e) was)) (λ is rest. refl) (λ is rest. rest) (replaced c new es)))
+    (λ apart. by_bool (has_id c new.facts) (λ b. later ≡ (if b then option_map (λ x. new) was else was) →
+    cond (has_id c e.facts) (Some e) later ≡ (if b then option_map (λ x. new) (cond (has_id c e.facts) (Some e) was) else cond (has_id c e.facts) (Some e) was))
+    (λ is rest. rw (ap (λ n. e.facts.cid.0 == n) (sym (eqb-true new.facts.cid.0 c is)) ∙ apart) rest)
+    (λ is rest. ap (λ o. cond (has_id c e.facts) (Some e) o) rest) (replaced c new es))
 
 -- what one turns into waits as it did, or for a whole length
 abbrev pub TurnsRight : Machine → Entry → Entry → Type 0
@@ -211,29 +185,33 @@ waits_turned scope m e new found mine same right stay = record {
         subst (λ o. KeepsBytes scope.drops o (option_map (λ x. new) o)) (sym at) (stay (ap scope.comes (id_is cid is) ∙ none))
     bytes_by_id cid none false is = bytes_same scope.drops (entry_at cid m)
 
+-- where all that pass one test pass another, or none does
+found-filter : {X : Type 0} (q r : X → Bool) (b : Bool) → ((x : X) → q x ≡ true → r x ≡ b) → (xs : List X) → find q (filter r xs) ≡ (if b then find q xs else None)
+found-filter {X} q r b each [] = either_way {X = X} None b
+found-filter {X} q r b each (x ∷ xs) = by_tests (q x) refl (r x) refl b (each x) (found-filter q r b each xs)
+  where
+    by_tests : (c : Bool) → q x ≡ c → (d : Bool) → r x ≡ d → (e : Bool) → (q x ≡ true → r x ≡ e) → find q (filter r xs) ≡ (if e then find q xs else None) →
+        find q (cond d (x ∷ filter r xs) (filter r xs)) ≡ (if e then cond c (Some x) (find q xs) else None)
+    by_tests true passes true keeps true same rest = ap (λ y. cond y (Some x) (find q (filter r xs))) passes
+    by_tests true passes true keeps false same rest = absurd (let never : true ≡ false = sym keeps ∙ same passes in cc)
+    by_tests true passes false keeps true same rest = absurd (let never : false ≡ true = sym keeps ∙ same passes in cc)
+    by_tests true passes false keeps false same rest = rest
+    by_tests false fails true keeps true same rest = ap (λ y. cond y (Some x) (find q (filter r xs))) fails ∙ rest
+    by_tests false fails true keeps false same rest = ap (λ y. cond y (Some x) (find q (filter r xs))) fails ∙ rest
+    by_tests false fails false keeps true same rest = rest
+    by_tests false fails false keeps false same rest = rest
+
 -- one goes
 pub gone-found : (c cid : ℕ) (es : List Entry) → find (λ e. has_id c e.facts) (filter (λ e. not (has_id cid e.facts)) es)
     ≡ (if cid == c then None else find (λ e. has_id c e.facts) es)
-gone-found c cid [] = either_way {X = Entry} None (cid == c)
-gone-found c cid (e ∷ es) = by_own (has_id cid e.facts) refl (has_id c e.facts) refl (cid == c) refl (gone-found c cid es)
+gone-found c cid es =
+    found-filter (λ e. has_id c e.facts) (λ e. not (has_id cid e.facts)) (not (cid == c))
+    (λ e own. ap not (ap (λ n. n == cid) (eqb-true e.facts.cid.0 c own) ∙ same_turned)) es
+    ∙ by_bool (cid == c) (λ b. (if not b then find (λ e. has_id c e.facts) es else None) ≡ (if b then None else find (λ e. has_id c e.facts) es)) (λ is. refl) (λ is. refl)
   where
-    later : Option Entry
-    later = find (λ x. has_id c x.facts) (filter (λ x. not (has_id cid x.facts)) es)
-
-    was : Option Entry
-    was = find (λ x. has_id c x.facts) es
-
-    by_own : (a : Bool) → has_id cid e.facts ≡ a → (h : Bool) → has_id c e.facts ≡ h → (b : Bool) → (cid == c) ≡ b → later ≡ (if b then None else was) →
-        find (λ x. has_id c x.facts) (cond (not a) (e ∷ filter (λ x. not (has_id cid x.facts)) es) (filter (λ x. not (has_id cid x.facts)) es))
-        ≡ (if b then None else cond h (Some e) was)
-    by_own true own true has true is rest = rest
-    by_own true own true has false is rest =
-        let same : (cid == c) ≡ true = ap (λ n. n == c) (sym (eqb-true e.facts.cid.0 cid own)) ∙ has in absurd cc
-    by_own true own false has b is rest = rest
-    by_own false own true has true is rest =
-        let same : has_id cid e.facts ≡ true = ap (λ n. e.facts.cid.0 == n) (eqb-true cid c is) ∙ has in absurd cc
-    by_own false own true has false is rest = ap (λ b. cond b (Some e) later) has
-    by_own false own false has b is rest = ap (λ x. cond x (Some e) later) has ∙ rest
+    same_turned : (c == cid) ≡ (cid == c)
+    same_turned = by_bool (cid == c) (λ b. (c == cid) ≡ b) (λ is. eq-eqb c cid (sym (eqb-true cid c is)))
+        (λ other. ne_eqb c cid (λ same. both_ways (cid == c) other (eq-eqb cid c (sym same))))
 
 pub waits_gone : (scope : Scope) (m : Machine) (cid : ℕ) → Waits scope m (without_entry cid m)
 waits_gone scope m cid = record {
@@ -262,22 +240,6 @@ waits_gone scope m cid = record {
     bytes_by_id c true = tt
     bytes_by_id c false = bytes_same scope.drops (entry_at c m)
 
--- one comes
-abbrev pub first_of_two : Option Entry → Option Entry → Option Entry
-first_of_two None o = o
-first_of_two (Some e) o = Some e
-
-pub pushed-found : (c : ℕ) (new : Entry) (es : List Entry) →
-    find (λ e. has_id c e.facts) (es ++ new ∷ []) ≡ first_of_two (find (λ e. has_id c e.facts) es) (cond (has_id c new.facts) (Some new) None)
-pushed-found c new [] = refl
-pushed-found c new (e ∷ es) = by_test (has_id c e.facts) (pushed-found c new es)
-  where
-    by_test : (b : Bool) → find (λ x. has_id c x.facts) (es ++ new ∷ []) ≡ first_of_two (find (λ x. has_id c x.facts) es) (cond (has_id c new.facts) (Some new) None) →
-        cond b (Some e) (find (λ x. has_id c x.facts) (es ++ new ∷ []))
-        ≡ first_of_two (cond b (Some e) (find (λ x. has_id c x.facts) es)) (cond (has_id c new.facts) (Some new) None)
-    by_test true rest = refl
-    by_test false rest = rest
-
 pub waits_come : (scope : Scope) (m : Machine) (new : Entry) → new.facts.cid.0 ≡ m.next_id →
     ((kind : Kind) → IsWait (m.now + length_of kind m.settings) None (until_of kind new)) →
     Waits scope m (record m { connections = m.connections ++ new ∷ []; next_id = m.next_id + 1 })
@@ -288,7 +250,7 @@ waits_come scope m new id right = record {
   big_targets = refl;
   groups = refl;
   roots = refl;
-  each = λ kind c. subst (λ o. IsWait (whole kind) (until_at kind c m) (until_in kind o)) (sym (pushed-found c new m.connections)) (by_found kind (entry_at c m) (has_id c new.facts));
+  each = λ kind c. subst (λ o. IsWait (whole kind) (until_at kind c m) (until_in kind o)) (sym (find-append (λ e. has_id c e.facts) m.connections (new ∷ []))) (by_found kind (entry_at c m) (has_id c new.facts));
   next = omega arith;
   others = λ c own given. subst (IsAsItWas (entry_at c m)) (sym (stays c given)) (was_same (entry_at c m));
   bytes = λ c none given. subst (KeepsBytes scope.drops (entry_at c m)) (sym (stays c given)) (bytes_same scope.drops (entry_at c m));
@@ -297,12 +259,12 @@ waits_come scope m new id right = record {
     whole : Kind → ℕ
     whole kind = m.now + length_of kind m.settings
 
-    by_found : (kind : Kind) (o : Option Entry) (b : Bool) → IsWait (whole kind) (until_in kind o) (until_in kind (first_of_two o (cond b (Some new) None)))
+    by_found : (kind : Kind) (o : Option Entry) (b : Bool) → IsWait (whole kind) (until_in kind o) (until_in kind (option_or o (cond b (Some new) None)))
     by_found kind None true = right kind
     by_found kind None false = tt
     by_found kind (Some e) b = kept (whole kind) (until_of kind e)
 
-    only : (o : Option Entry) → first_of_two o None ≡ o
+    only : (o : Option Entry) → option_or o None ≡ o
     only None = refl
     only (Some e) = refl
 
@@ -313,39 +275,10 @@ waits_come scope m new id right = record {
     -- an id that was given before finds what it did
     stays : (c : ℕ) → c < m.next_id → find (λ e. has_id c e.facts) (m.connections ++ new ∷ []) ≡ entry_at c m
     stays c given =
-        pushed-found c new m.connections
-        ∙ (ap (λ b. first_of_two (entry_at c m) (cond b (Some new) None)) (is_other c (has_id c new.facts) refl given) ∙ only (entry_at c m))
+        find-append (λ e. has_id c e.facts) m.connections (new ∷ [])
+        ∙ (ap (λ b. option_or (entry_at c m) (cond b (Some new) None)) (is_other c (has_id c new.facts) refl given) ∙ only (entry_at c m))
 
 -- ---- what is owed
-
-first_or : Option Owed → Option Owed → Option Owed
-first_or None o = o
-first_or (Some e) o = Some e
-
-found-append : (q : Owed → Bool) (xs ys : List Owed) → find q (xs ++ ys) ≡ first_or (find q xs) (find q ys)
-unfolding first_or
-found-append q [] ys = refl
-found-append q (x ∷ xs) ys = by_test (q x) (found-append q xs ys)
-  where
-    by_test : (b : Bool) → find q (xs ++ ys) ≡ first_or (find q xs) (find q ys) → cond b (Some x) (find q (xs ++ ys)) ≡ first_or (cond b (Some x) (find q xs)) (find q ys)
-    by_test true rest = refl
-    by_test false rest = rest
-
--- where all that pass one test pass another, or none does
-found-filter : (q r : Owed → Bool) (b : Bool) → ((o : Owed) → q o ≡ true → r o ≡ b) → (xs : List Owed) → find q (filter r xs) ≡ (if b then find q xs else None)
-found-filter q r b each [] = either_way {X = Owed} None b
-found-filter q r b each (x ∷ xs) = by_tests (q x) refl (r x) refl b (each x) (found-filter q r b each xs)
-  where
-    by_tests : (c : Bool) → q x ≡ c → (d : Bool) → r x ≡ d → (e : Bool) → (q x ≡ true → r x ≡ e) → find q (filter r xs) ≡ (if e then find q xs else None) →
-        find q (cond d (x ∷ filter r xs) (filter r xs)) ≡ (if e then cond c (Some x) (find q xs) else None)
-    by_tests true passes true keeps true same rest = ap (λ y. cond y (Some x) (find q (filter r xs))) passes
-    by_tests true passes true keeps false same rest = absurd (let never : true ≡ false = sym keeps ∙ same passes in cc)
-    by_tests true passes false keeps true same rest = absurd (let never : false ≡ true = sym keeps ∙ same passes in cc)
-    by_tests true passes false keeps false same rest = rest
-    by_tests false fails true keeps true same rest = ap (λ y. cond y (Some x) (find q (filter r xs))) fails ∙ rest
-    by_tests false fails true keeps false same rest = ap (λ y. cond y (Some x) (find q (filter r xs))) fails ∙ rest
-    by_tests false fails false keeps true same rest = rest
-    by_tests false fails false keeps false same rest = rest
 
 -- a reply comes to be owed
 not_below : (n : ℕ) → nat_lt n n ≡ false
@@ -353,7 +286,6 @@ not_below n = grind arith
 
 pub owing-until : (p protocol asked : ℕ) (m : Machine) (e : Entry) →
     until_paid (reply_on p (owing protocol asked m e)) ≡ (if protocol == p then Some (m.now + m.settings.reply) else until_paid (reply_on p e))
-unfolding first_or
 owing-until p protocol asked m e = ap until_paid found ∙ by_tests (protocol == p) refl (nat_lt p protocol) refl (nat_lt protocol p) refl was
   where
     new : Owed
@@ -363,16 +295,16 @@ owing-until p protocol asked m e = ap until_paid found ∙ by_tests (protocol ==
     was = reply_on p e
 
     found : reply_on p (owing protocol asked m e)
-        ≡ first_or (if nat_lt p protocol then was else None) (cond (protocol == p) (Some new) (if nat_lt protocol p then was else None))
+        ≡ option_or (if nat_lt p protocol then was else None) (cond (protocol == p) (Some new) (if nat_lt protocol p then was else None))
     found =
-        found-append (λ o. o.protocol == p) (filter (λ o. nat_lt o.protocol protocol) e.owed) (new ∷ filter (λ o. nat_lt protocol o.protocol) e.owed)
-        ∙ (ap (λ o. first_or o (cond (protocol == p) (Some new) (find (λ x. x.protocol == p) (filter (λ x. nat_lt protocol x.protocol) e.owed))))
+        find-append (λ o. o.protocol == p) (filter (λ o. nat_lt o.protocol protocol) e.owed) (new ∷ filter (λ o. nat_lt protocol o.protocol) e.owed)
+        ∙ (ap (λ o. option_or o (cond (protocol == p) (Some new) (find (λ x. x.protocol == p) (filter (λ x. nat_lt protocol x.protocol) e.owed))))
         (found-filter (λ o. o.protocol == p) (λ o. nat_lt o.protocol protocol) (nat_lt p protocol) (λ o is. ap (λ n. nat_lt n protocol) (eqb-true o.protocol p is)) e.owed)
-        ∙ ap (λ o. first_or (if nat_lt p protocol then was else None) (cond (protocol == p) (Some new) o))
+        ∙ ap (λ o. option_or (if nat_lt p protocol then was else None) (cond (protocol == p) (Some new) o))
         (found-filter (λ o. o.protocol == p) (λ o. nat_lt protocol o.protocol) (nat_lt protocol p) (λ o is. ap (λ n. nat_lt protocol n) (eqb-true o.protocol p is)) e.owed))
 
     by_tests : (b : Bool) → (protocol == p) ≡ b → (a : Bool) → nat_lt p protocol ≡ a → (c : Bool) → nat_lt protocol p ≡ c → (o : Option Owed) →
-        until_paid (first_or (if a then o else None) (cond b (Some new) (if c then o else None))) ≡ (if b then Some (m.now + m.settings.reply) else until_paid o)
+        until_paid (option_or (if a then o else None) (cond b (Some new) (if c then o else None))) ≡ (if b then Some (m.now + m.settings.reply) else until_paid o)
     by_tests true same true lower c upper o =
         let never : true ≡ false = sym lower ∙ (ap (nat_lt p) (eqb-true protocol p same) ∙ not_below p) in absurd cc
     by_tests true same false lower c upper o = refl
@@ -385,11 +317,9 @@ owing-until p protocol asked m e = ap until_paid found ∙ by_tests (protocol ==
 
 pub owing-right : (p protocol asked : ℕ) (m : Machine) (e : Entry) →
     IsWait (m.now + m.settings.reply) (until_paid (reply_on p e)) (until_paid (reply_on p (owing protocol asked m e)))
-owing-right p protocol asked m e = subst (IsWait (m.now + m.settings.reply) (until_paid (reply_on p e))) (sym (owing-until p protocol asked m e)) (by_test (protocol == p))
-  where
-    by_test : (b : Bool) → IsWait (m.now + m.settings.reply) (until_paid (reply_on p e)) (if b then Some (m.now + m.settings.reply) else until_paid (reply_on p e))
-    by_test true = inr refl
-    by_test false = kept (m.now + m.settings.reply) (until_paid (reply_on p e))
+owing-right p protocol asked m e = subst (IsWait (m.now + m.settings.reply) (until_paid (reply_on p e))) (sym (owing-until p protocol asked m e)) (by_bool (protocol == p)
+    (λ b. IsWait (m.now + m.settings.reply) (until_paid (reply_on p e)) (if b then Some (m.now + m.settings.reply) else until_paid (reply_on p e)))
+    (λ is. inr refl) (λ is. kept (m.now + m.settings.reply) (until_paid (reply_on p e))))
 
 -- it is paid
 pub paid-until : (p protocol : ℕ) (e : Entry) → until_paid (reply_on p (paid protocol e)) ≡ (if protocol == p then None else until_paid (reply_on p e))
@@ -405,8 +335,6 @@ paid-until p protocol e =
     by_tests false false same = refl
 
 pub paid-right : (p protocol : ℕ) (whole : ℕ) (e : Entry) → IsWait whole (until_paid (reply_on p e)) (until_paid (reply_on p (paid protocol e)))
-paid-right p protocol whole e = subst (IsWait whole (until_paid (reply_on p e))) (sym (paid-until p protocol e)) (by_test (protocol == p))
-  where
-    by_test : (b : Bool) → IsWait whole (until_paid (reply_on p e)) (if b then None else until_paid (reply_on p e))
-    by_test true = tt
-    by_test false = kept whole (until_paid (reply_on p e))
+paid-right p protocol whole e = subst (IsWait whole (until_paid (reply_on p e))) (sym (paid-until p protocol e)) (by_bool (protocol == p)
+    (λ b. IsWait whole (until_paid (reply_on p e)) (if b then None else until_paid (reply_on p e)))
+    (λ is. tt) (λ is. kept whole (until_paid (reply_on p e))))

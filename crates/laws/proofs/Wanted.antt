@@ -2,7 +2,7 @@
 use Rattle.std.proofs.Common.{ℕ, ◌+◌, ◌-◌, ◌%◌, ◌≤◌, ◌≡◌, Bool, true, false, cond, not, ◌&&◌, ◌||◌, List, [], ◌∷◌, ◌++◌, length, map, filter, find, flat_map, count_by, Option, Some, None, is_some, refl, sym, ap, ◌∙◌, subst, arith}
 use Rattle.std.specs.List.{list_any, AllByRecursion}
 use Rattle.std.specs.Option.{option_map}
-use Rattle.std.proofs.lemmas.Bool.{cond_both, both_ways, and_parts, false_from_ne_true, false≢true, not-true}
+use Rattle.std.proofs.lemmas.Bool.{cond_both, both_ways, and_parts, false_from_ne_true, not-true}
 use Rattle.std.proofs.lemmas.List.Elements.{All-from_recursion, All-weaker}
 use Rattle.std.proofs.lemmas.List.Sums.{sum_by-cons, sum_by-append, count_by-le-length}
 use Rattle.net_base.specs.Address.{same_address}
@@ -26,34 +26,32 @@ use Rattle.peer_book.specs.Book.{is_of, is_established, is_active, same_temp, es
 use Rattle.pick_policy.proofs.LeastLaws.{count_none}
 use Rattle.pick_policy.proofs.PickFacts.{length-picked, length-ranked}
 use Rattle.root_groups.specs.Cleaned.{is_listed, members_of}
-use Rattle.machine.specs.Machine.{Machine, Entry, counted_in, live_entry_at}
-use Rattle.machine.specs.Effect.{Effect, promoted, activated, for_each, on_entry}
+use Rattle.machine.specs.Machine.{Machine, Entry, live_entry_at}
+use Rattle.machine.specs.Effect.{promoted, activated, for_each, on_entry}
 use Rattle.machine.specs.Replies.{reply_on, owing}
-use Rattle.machine.specs.Peers.{turns_at, peer_at}
+use Rattle.machine.specs.Peers.{peer_at}
 use Rattle.machine.specs.Connections.{with_entry, acquire, dial}
 use Rattle.machine.specs.Govern.{link_of, view_of, promoted_at, is_used_at, on_used, activates, carries_out}
 use Rattle.laws.specs.AtMoves.{some_connection, is_established_or_pending, is_active_or_asked, number_with, members_with, established_wanted, active_wanted, IsWanted}
 use Rattle.laws.specs.Laws.{is_local}
 use Rattle.laws.specs.Steady.{ArePeersApart, AreApart, IsOrdered}
-use Rattle.laws.proofs.Chosen.{chosen, chosen-apart, chosen-all, PicksMembers, picks-listed, groups_picks-apart, groups_picks-all, apart-behind, front-not_behind, map-groups}
+use Rattle.laws.proofs.Chosen.{chosen, chosen-all, PicksMembers, picks-listed, groups_picks-all, apart-behind, front-not_behind, map-groups, group_picks}
 use Rattle.laws.proofs.GroupsApart.{unlisted_append}
 use Rattle.laws.proofs.KnownWanted.{move-within}
-use Rattle.laws.proofs.Lawful.{IsAllowed, Within}
+use Rattle.laws.proofs.Lawful.{Within}
 use Rattle.laws.proofs.Lists.{all-weaker, all-appended, all-both}
 use Rattle.laws.proofs.Locals.{no_member-unlisted}
-use Rattle.laws.proofs.Orders.{Carries, still_may, MayActivate, activate-carried}
+use Rattle.laws.proofs.Orders.{EachAccounted}
 use Rattle.laws.proofs.PeersApart.{all-found}
 use Rattle.laws.proofs.Picks.{filter-all, filter-passing, picks-all}
-use Rattle.laws.proofs.Promotions.{MayPromote, promotes-carried, eligible-may}
 use Rattle.laws.proofs.Spending.{ChangesAt, IsLocalTest, established_or_pending-same, active_or_asked-same, class_at, same_but-class, number-one, members-one, members-none, promote-changes, activate-changes}
-use Rattle.laws.proofs.Trims.{trimmed-within}
-use Rattle.laws.proofs.WholeMoves.{IsWarm}
+use Rattle.laws.proofs.Cases.{by_bool, by_option, some_same}
+use Rattle.laws.proofs.ToldMoves.{turns_at-moves}
 
 -- ---- an order that uses up what is wanted
 
 -- a promotion, or an activation: it changes one address, and is within what is wanted where its move is
-record Uses (counts : Machine → Peer → Bool) (wanted : Bool → Machine → ℕ) (valency : Group → ℕ) (May : Machine → Addr → Type 0) (order : Addr → Order) : Type 0 where
-  carried : Carries IsAllowed May order
+record Uses (counts : Machine → Peer → Bool) (wanted : Bool → Machine → ℕ) (valency : Group → ℕ) (order : Addr → Order) : Type 0 where
   changes : (addr : Addr) (m : Machine) → IsOrdered m → ChangesAt addr m (carries_out (order addr) m).machine
   local : IsLocalTest counts
   within : (addr : Addr) (m : Machine) → IsWanted counts wanted valency addr m (carries_out (order addr) m).machine →
@@ -69,12 +67,9 @@ active-stays false addr m n h = λ i. (effective_of (h.targets i) (h.now i)).act
 active-stays true addr m n h = λ i. (effective_big_of (h.big_targets i) (h.now i)).active
 
 acquire-moves : (e : Entry) (m : Machine) → (acquire e m).moves ≡ []
-acquire-moves e m = by_peer (peer_at e.facts.addr m)
-  where
-    by_peer : (o : Option Peer) →
-        (turns_at o (λ p. record p { temp = Warm; failures = 0 }) (with_entry (owing 8 (e.facts.cid.0 % 65536) m (record e { facts = acquired e.facts })) m)).moves ++ [] ≡ []
-    by_peer None = refl
-    by_peer (Some p) = refl
+acquire-moves e m =
+    let n : Machine = with_entry (owing 8 (e.facts.cid.0 % 65536) m (record e { facts = acquired e.facts })) m in
+    ap (λ ms. ms ++ []) (turns_at-moves (peer_at e.facts.addr n) (λ p. record p { temp = Warm; failures = 0 }) n)
 
 promoted_at-moves : (o : Option Entry) (addr : Addr) (m : Machine) → (promoted_at o addr m).moves ≡ []
 promoted_at-moves None addr m = refl
@@ -82,15 +77,11 @@ promoted_at-moves (Some e) addr m = cond_both (is_acquirable e.facts) (acquire e
     (λ may. acquire-moves e m) (λ other. refl)
 
 on_used-moves : (addr : Addr) (m : Machine) → (on_used addr activates m).moves ≡ []
-on_used-moves addr m = by_entry (find (is_used_at addr) m.connections)
-  where
-    by_entry : (o : Option Entry) → (on_entry o activates m).moves ≡ []
-    by_entry None = refl
-    by_entry (Some e) = refl
+on_used-moves addr m = by_option (find (is_used_at addr) m.connections) (λ o. (on_entry o activates m).moves ≡ [])
+    (λ is. refl) (λ e is. refl)
 
-promotes-use : Uses is_established_or_pending established_wanted (λ group. group.warm) MayPromote Promote
+promotes-use : Uses is_established_or_pending established_wanted (λ group. group.warm) Promote
 promotes-use = record {
-  carried = promotes-carried;
   changes = promote-changes;
   local = established_or_pending-same;
   within = λ addr m wanted.
@@ -98,9 +89,8 @@ promotes-use = record {
   stays = established-stays;
 }
 
-activates-use : Uses is_active_or_asked active_wanted (λ group. group.hot) MayActivate Activate
+activates-use : Uses is_active_or_asked active_wanted (λ group. group.hot) Activate
 activates-use = record {
-  carried = activate-carried;
   changes = activate-changes;
   local = active_or_asked-same;
   within = λ addr m wanted. move-within (activated addr) m (on_used addr activates m) (on_used-moves addr m) wanted;
@@ -113,9 +103,6 @@ class-is : (a : Addr) (ps : List Peer) (p : Peer) (big : Bool) → peer_in a ps 
 class-is a ps p big found class =
     let same : Some p.big ≡ Some big = sym (ap (option_map (λ q. q.big)) found) ∙ class in
     some_same p.big big same
-  where
-    some_same : (b c : Bool) → Some b ≡ Some c → b ≡ c
-    some_same b c e = cc
 
 -- ---- who is picked
 
@@ -175,27 +162,27 @@ own_picks pick (g ∷ groups) h apart =
           (own_picks pick groups h (apart-behind g.members rest apart)),
     )
 
+pub one-of : (b : Bool) → b ≡ true → cond {A = ℕ} b 1 0 ≡ 1
+one-of b is = ap (λ c. cond {A = ℕ} c 1 0) is
+
 -- ---- one order after the other
 
-module _ {counts : Machine → Peer → Bool} {wanted : Bool → Machine → ℕ} {valency : Group → ℕ} {May : Machine → Addr → Type 0} {order : Addr → Order}
-    (uses : Uses counts wanted valency May order) where
+module _ {counts : Machine → Peer → Bool} {wanted : Bool → Machine → ℕ} {valency : Group → ℕ} {order : Addr → Order}
+    (uses : Uses counts wanted valency order) where
   -- what is left for the orders that are still to come lets the first of them through, and is left for the rest
   abbrev Lets : (List Addr → Machine → Type 0) → Type 0
   Lets Left = (a : Addr) (addrs : List Addr) (m n : Machine) → IsOrdered m → ChangesAt a m n → Left (a ∷ addrs) m →
       IsWanted counts wanted valency a m n × Left addrs n
 
-  orders-within : (Left : List Addr → Machine → Type 0) → Lets Left → (addrs : List Addr) (m : Machine) → IsOrdered m → counted_in m ≤ m.settings.hard →
-      AreApart addrs → AllByRecursion (May m) addrs → Left addrs m → AllByRecursion Within (for_each carries_out (map order addrs) m).moves
-  unfolding for_each Carries
-  orders-within Left lets [] m h within apart may left = tt
-  orders-within Left lets (a ∷ addrs) m h within apart may left =
-      let effect : Effect = carries_out (order a) m in
-      let n : Machine = effect.machine in
-      let first = uses.carried a m h within may.0 in
-      let step = lets a addrs m n h (uses.changes a m h) left in
+  orders-within : (Left : List Addr → Machine → Type 0) → Lets Left → (addrs : List Addr) (m : Machine) → EachAccounted (map order addrs) m → Left addrs m →
+      AllByRecursion Within (for_each carries_out (map order addrs) m).moves
+  unfolding for_each
+  orders-within Left lets [] m each left = tt
+  orders-within Left lets (a ∷ addrs) m each left =
+      let n : Machine = (carries_out (order a) m).machine in
+      let step = lets a addrs m n each.0.ordered (uses.changes a m each.0.ordered) left in
       all-appended Within (carries_out (order a) m).moves (for_each carries_out (map order addrs) n).moves (uses.within a m step.0)
-      (orders-within Left lets addrs n first.trimmed.ordered (trimmed-within IsAllowed m effect first.trimmed) apart.1
-      (still_may May m n a addrs first.elsewhere apart.0 may.1) step.1)
+      (orders-within Left lets addrs n each.1 step.1)
 
   -- ---- by the targets of a class
 
@@ -230,16 +217,13 @@ module _ {counts : Machine → Peer → Bool} {wanted : Bool → Machine → ℕ
       class_of : (p : Peer) → peer_at a m ≡ Some p → p.big ≡ big
       class_of p found = class-is a m.peers p big found left.class.0
 
-  class-within : (big : Bool) (word number : ℕ) (test : Peer → Bool) (m : Machine) → IsOrdered m → counted_in m ≤ m.settings.hard →
-      number ≤ wanted big m - number_with counts big m →
-      ((p : Peer) → test p ≡ true → peer_at p.addr m ≡ Some p → May m p.addr) → ((p : Peer) → test p ≡ true → (big || not (is_local m.groups p.addr)) ≡ true) →
+  class-within : (big : Bool) (word number : ℕ) (test : Peer → Bool) (m : Machine) → IsOrdered m → EachAccounted (orders_for big word order number test m.peers) m →
+      number ≤ wanted big m - number_with counts big m → ((p : Peer) → test p ≡ true → (big || not (is_local m.groups p.addr)) ≡ true) →
       AllByRecursion Within (for_each carries_out (orders_for big word order number test m.peers) m).moves
-  class-within big word number test m h within few may among =
+  class-within big word number test m h each few among =
       let picks : List Addr = chosen big word number test m.peers in
       let most = picks-most big word number (filter (λ p. is_of big p && test p) m.peers) in
-      orders-within (ClassLeft big) (class-lets big) picks m h within (chosen-apart big word number test m.peers h.formed.peers)
-      (chosen-all (May m) big word number test m.peers h.formed.peers may)
-      (record {
+      orders-within (ClassLeft big) (class-lets big) picks m each (record {
         number = omega (arith, most, few);
         class = chosen-class big word number test m.peers h.formed.peers;
         among = chosen-all (λ a. (big || not (is_local m.groups a)) ≡ true) big word number test m.peers h.formed.peers (λ p passes found. among p passes);
@@ -280,9 +264,6 @@ module _ {counts : Machine → Peer → Bool} {wanted : Bool → Machine → ℕ
       class_of : (p : Peer) → peer_at a m ≡ Some p → p.big ≡ false
       class_of p found = class-is a m.peers p false found left.class.0
 
-      one-of : (b : Bool) → b ≡ true → cond {A = ℕ} b 1 0 ≡ 1
-      one-of b is = ap (λ c. cond {A = ℕ} c 1 0) is
-
       listed-within : (group : Group) → HasLeft (a ∷ addrs) m group → is_listed a group.members ≡ true → members_with counts group n ≤ valency group
       listed-within group number listed =
           let first = sum_by-cons (λ b. cond {A = ℕ} (is_listed b group.members) 1 0) a addrs in
@@ -297,22 +278,15 @@ module _ {counts : Machine → Peer → Bool} {wanted : Bool → Machine → ℕ
           omega (arith, number, first, members-none counts uses.local group a m n unlisted changes)
 
   groups-within : (word : ℕ) (count : Group → ℕ) (test : Peer → Bool) (m : Machine) → ((group : Group) → count group ≡ members_with counts group m) →
-      IsOrdered m → counted_in m ≤ m.settings.hard → ((p : Peer) → test p ≡ true → peer_at p.addr m ≡ Some p → May m p.addr) →
+      IsOrdered m → EachAccounted (flat_map (λ g. orders_for false word order (valency g - count g) (is_member_and g test) m.peers) m.groups) m →
       AllByRecursion Within (for_each carries_out
       (flat_map (λ g. orders_for false word order (valency g - count g) (is_member_and g test) m.peers) m.groups) m).moves
-  groups-within word count test m same h within may =
+  groups-within word count test m same h each =
       let number : Group → ℕ = λ g. valency g - count g in
       let pick : Group → List Addr = λ g. chosen false word (number g) (is_member_and g test) m.peers in
-      let picks : PicksMembers pick = record {
-        apart = λ g. chosen-apart false word (number g) (is_member_and g test) m.peers h.formed.peers;
-        members = λ g. chosen-all (λ a. is_listed a g.members ≡ true) false word (number g) (is_member_and g test) m.peers h.formed.peers
-            (λ p passes found. (and_parts (is_listed p.addr g.members) (test p) passes).0);
-      } in
+      let picks : PicksMembers pick = group_picks word number test m.peers h.formed.peers in
       subst (λ orders. AllByRecursion Within (for_each carries_out orders m).moves) (sym (map-groups order pick m.groups))
-      (orders-within GroupsLeft groups-lets (flat_map pick m.groups) m h within (groups_picks-apart pick m.groups picks h.formed.groups)
-      (groups_picks-all (May m) pick m.groups (λ g. chosen-all (May m) false word (number g) (is_member_and g test) m.peers h.formed.peers
-      (λ p passes found. may p (and_parts (is_listed p.addr g.members) (test p) passes).1 found)))
-      (record {
+      (orders-within GroupsLeft groups-lets (flat_map pick m.groups) m (subst (λ orders. EachAccounted orders m) (map-groups order pick m.groups) each) (record {
         numbers = all-weaker (λ g. count_by (λ a. is_listed a g.members) (flat_map pick m.groups) ≤ length (pick g)) (HasLeft (flat_map pick m.groups) m)
             (λ g own. let most = picks-most false word (number g) (filter (λ p. is_of false p && is_member_and g test p) m.peers) in let number = same g in omega (arith, own, most, number))
             m.groups (own_picks pick m.groups picks h.formed.groups);
@@ -357,17 +331,14 @@ promotes-number big word m =
     let split = count_by-either (is_of big) (λ p. is_established p.temp) (λ p. some_connection (λ e. is_pending e.facts) p.addr m) m.peers in
     let pending : count_of big (is_pending_link (map link_of m.connections)) m.peers ≡ count_by (λ p. is_of big p && some_connection (λ e. is_pending e.facts) p.addr m) m.peers =
     λ i. count_by (λ p. is_of big p && pending-seen p.addr m i) m.peers in
-    let same : established_target big (view_of word m) ≡ established_wanted big m = by_class big in
+    let same : established_target big (view_of word m) ≡ established_wanted big m = by_bool big
+    (λ b. established_target b (view_of word m) ≡ established_wanted b m)
+    (λ is. refl) (λ is. refl) in
     omega (arith, split, pending, same)
-  where
-    by_class : (b : Bool) → established_target b (view_of word m) ≡ established_wanted b m
-    by_class true = refl
-    by_class false = refl
 
 pub hot-active : (t : Temp) → same_temp t Hot ≡ is_active t
 hot-active Cold = refl
-hot-active Warm = refl
-hot-active Hot = refl
+hot-active other = refl
 
 activates-number : (big : Bool) (word : ℕ) (m : Machine) →
     active_target big (view_of word m) - active_of big m.peers - count_of big (owes_on_2 (map link_of m.connections)) m.peers
@@ -376,63 +347,43 @@ activates-number big word m =
     let split = count_by-either (is_of big) (λ p. is_active p.temp) (λ p. some_connection (λ e. is_some (reply_on 2 e)) p.addr m) m.peers in
     let asked : count_of big (owes_on_2 (map link_of m.connections)) m.peers ≡ count_by (λ p. is_of big p && some_connection (λ e. is_some (reply_on 2 e)) p.addr m) m.peers =
     λ i. count_by (λ p. is_of big p && asked-seen p.addr m i) m.peers in
-    let same : active_target big (view_of word m) ≡ active_wanted big m = by_class big in
+    let same : active_target big (view_of word m) ≡ active_wanted big m = by_bool big (λ b. active_target b (view_of word m) ≡ active_wanted b m)
+    (λ is. refl) (λ is. refl) in
     omega (arith, split, asked, same)
-  where
-    by_class : (b : Bool) → active_target b (view_of word m) ≡ active_wanted b m
-    by_class true = refl
-    by_class false = refl
-
--- ---- who may be activated
-
-activate-may : (p : Peer) (m : Machine) → may_be_activated (map link_of m.connections) p ≡ true → peer_at p.addr m ≡ Some p → MayActivate m p.addr
-activate-may p m passes found =
-    subst IsWarm (sym found) (is_warm p.temp (and_parts (same_temp p.temp Warm) (not (owes_on_2 (map link_of m.connections) p.addr)) passes).0)
-  where
-    is_warm : (t : Temp) → same_temp t Warm ≡ true → t ≡ Warm
-    is_warm Cold h = absurd (false≢true h)
-    is_warm Warm h = refl
-    is_warm Hot h = absurd (false≢true h)
 
 -- ---- rules by the targets
 
 -- of big ledger peers, or of ordinary ones among those that are no local peers
 pub promotes-within : (big : Bool) (among : Addr → Bool) (word : ℕ) (m : Machine) →
-    ((a : Addr) → among a ≡ true → (big || not (is_local m.groups a)) ≡ true) → IsOrdered m → counted_in m ≤ m.settings.hard →
+    ((a : Addr) → among a ≡ true → (big || not (is_local m.groups a)) ≡ true) → IsOrdered m → EachAccounted (promotes big among (view_of word m) m.peers) m →
     AllByRecursion Within (for_each carries_out (promotes big among (view_of word m) m.peers) m).moves
-promotes-within big among word m only h within =
+promotes-within big among word m only h each =
     let eligible : Peer → Bool = is_eligible m.now (map link_of m.connections) in
     class-within promotes-use big word
     (established_target big (view_of word m) - established_of big m.peers - count_of big (is_pending_link (map link_of m.connections)) m.peers)
-    (λ p. among p.addr && eligible p) m h within (promotes-number big word m)
-    (λ p passes found. eligible-may p m h (and_parts (among p.addr) (eligible p) passes).1 found)
-    (λ p passes. only p.addr (and_parts (among p.addr) (eligible p) passes).0)
+    (λ p. among p.addr && eligible p) m h each (promotes-number big word m) (λ p passes. only p.addr (and_parts (among p.addr) (eligible p) passes).0)
 
 pub activates-within : (big : Bool) (among : Addr → Bool) (word : ℕ) (m : Machine) →
-    ((a : Addr) → among a ≡ true → (big || not (is_local m.groups a)) ≡ true) → IsOrdered m → counted_in m ≤ m.settings.hard →
+    ((a : Addr) → among a ≡ true → (big || not (is_local m.groups a)) ≡ true) → IsOrdered m → EachAccounted (activates_class big among (view_of word m) m.peers) m →
     AllByRecursion Within (for_each carries_out (activates_class big among (view_of word m) m.peers) m).moves
-activates-within big among word m only h within =
+activates-within big among word m only h each =
     let warm : Peer → Bool = may_be_activated (map link_of m.connections) in
     class-within activates-use big word
     (active_target big (view_of word m) - active_of big m.peers - count_of big (owes_on_2 (map link_of m.connections)) m.peers)
-    (λ p. among p.addr && warm p) m h within (activates-number big word m)
-    (λ p passes found. activate-may p m (and_parts (among p.addr) (warm p) passes).1 found)
-    (λ p passes. only p.addr (and_parts (among p.addr) (warm p) passes).0)
+    (λ p. among p.addr && warm p) m h each (activates-number big word m) (λ p passes. only p.addr (and_parts (among p.addr) (warm p) passes).0)
 
 -- ---- rules by the valencies
 
-pub groups_promotes-within : (word : ℕ) (m : Machine) → IsOrdered m → counted_in m ≤ m.settings.hard →
+pub groups_promotes-within : (word : ℕ) (m : Machine) → IsOrdered m → EachAccounted (g4_orders (view_of word m) m.peers m.groups) m →
     AllByRecursion Within (for_each carries_out (g4_orders (view_of word m) m.peers m.groups) m).moves
-groups_promotes-within word m h within =
+groups_promotes-within word m h each =
     groups-within promotes-use word (λ g. members_count g (λ p. is_established p.temp || is_pending_link (map link_of m.connections) p.addr) m.peers)
     (is_eligible m.now (map link_of m.connections)) m
-    (λ g i. count_by (λ p. is_of false p && (is_listed p.addr g.members && (is_established p.temp || pending-seen p.addr m i))) m.peers)
-    h within (λ p passes found. eligible-may p m h passes found)
+    (λ g i. count_by (λ p. is_of false p && (is_listed p.addr g.members && (is_established p.temp || pending-seen p.addr m i))) m.peers) h each
 
-pub groups_activates-within : (word : ℕ) (m : Machine) → IsOrdered m → counted_in m ≤ m.settings.hard →
+pub groups_activates-within : (word : ℕ) (m : Machine) → IsOrdered m → EachAccounted (g7_orders (view_of word m) m.peers m.groups) m →
     AllByRecursion Within (for_each carries_out (g7_orders (view_of word m) m.peers m.groups) m).moves
-groups_activates-within word m h within =
+groups_activates-within word m h each =
     groups-within activates-use word (λ g. members_count g (λ p. same_temp p.temp Hot || owes_on_2 (map link_of m.connections) p.addr) m.peers)
     (may_be_activated (map link_of m.connections)) m
-    (λ g i. count_by (λ p. is_of false p && (is_listed p.addr g.members && (hot-active p.temp i || asked-seen p.addr m i))) m.peers)
-    h within (λ p passes found. activate-may p m passes found)
+    (λ g i. count_by (λ p. is_of false p && (is_listed p.addr g.members && (hot-active p.temp i || asked-seen p.addr m i))) m.peers) h each

@@ -2,8 +2,7 @@
 use Rattle.std.proofs.Common.{ℕ, zero, suc, ◌+◌, ◌≤◌, ◌≡◌, Bool, true, false, cond, nat_le, if◌then◌else◌, List, [], ◌∷◌, length, All, Option, Some, None, refl, sym, ap, ◌∙◌, subst, arith, leb-false}
 use Rattle.std.proofs.lemmas.Bool.{cond_both, both_ways, and_parts, false≢true}
 use Rattle.std.proofs.lemmas.List.Elements.{All-push}
-use Rattle.net_base.specs.Address.{same_address, address_below}
-use Rattle.net_base.specs.declared.action.Away.TheVariants.{OwnAddr, Crossed, Present, Full}
+use Rattle.net_base.specs.Address.{same_address}
 use Rattle.net_base.specs.declared.action.Action.TheVariants.{Close}
 use Rattle.net_base.specs.declared.action.CloseCause.TheVariants.{Unused, Overwritten, Fault}
 use Rattle.net_base.specs.declared.action.FaultKind.TheVariants.{HandshakeWait, ReplyWait}
@@ -18,17 +17,17 @@ use Rattle.net_base.specs.declared.event.RootAnswer.TheVariants.{Found, Failed}
 use Rattle.net_base.specs.declared.peer.Peer.{Peer}
 use Rattle.net_base.specs.declared.timer.Deadline.{Deadline}
 use Rattle.net_base.specs.declared.timer.Kind.{Kind}
-use Rattle.net_base.specs.declared.timer.Kind.TheVariants.{Handshake, Grace as GraceKind, TimeWait, Reply2, Reply8, Reply10}
+use Rattle.net_base.specs.declared.timer.Kind.TheVariants.{Handshake, Grace as GraceKind, TimeWait}
 use Rattle.conn_state.specs.Moves.{expired}
-use Rattle.conn_state.specs.Use.{is_live, is_live_at, is_pending, is_dialing, has_id}
+use Rattle.conn_state.specs.Use.{is_live, is_live_at}
 use Rattle.root_groups.specs.Cleaned.{cleaned, members_of}
 use Rattle.root_groups.specs.RootAsk.{awaits, publics_of, found, failed}
-use Rattle.machine.specs.Machine.{Machine, Entry, counted_in, entry_at, live_entry_at}
+use Rattle.machine.specs.Machine.{Machine, Entry, counted_in, live_entry_at}
 use Rattle.machine.specs.Effect.{Effect, Move, shared, unused, nothing_more, tells, then_do, as_move, for_each, on_entry}
 use Rattle.machine.specs.Peers.{peer_at, peer_is_ordinary, peer_comes}
-use Rattle.machine.specs.Connections.{with_entry, without_entry, entry_turns, closing_entry, grace_over, ending, vanishes, dial_opens, dial_fails}
+use Rattle.machine.specs.Connections.{with_entry, without_entry, entry_turns, closing_entry, grace_over, ending}
 use Rattle.machine.specs.Deadlines.{deadlines, due, fires_as, fires, fires_some, fire_due, fire_all}
-use Rattle.machine.specs.Events.{clock_shows, turned_away, admitted, crossed, accepted_beside, peer_connects, closes, peer_closes, dialed, dial_ends}
+use Rattle.machine.specs.Events.{clock_shows, admitted, peer_connects, peer_closes, dial_ends}
 use Rattle.machine.specs.Govern.{govern}
 use Rattle.machine.specs.Provided.{targets_are, big_targets_are, comes_ordinary, locals_are, is_wanted_big, comes_big, bigs_are, roots_say, roots_answer}
 use Rattle.machine.specs.Stream.{bytes_come_in}
@@ -47,7 +46,7 @@ use Rattle.laws.proofs.Effects.{one_if-not_counted}
 use Rattle.laws.proofs.Events.{StaysSound, admitted_entry, at_moment, at_moment-orderly, ahead-none_late, none_late-ahead, peer_connects-sound, clock_shows-sound}
 use Rattle.laws.proofs.Keeping.{Keeps, keeps_nothing, keeps_then, moves-keeps, turns-moves, goes-moves, elsewhere-keeps, changes-keeps, peer_comes-keeps, for_each-keeps, for_each_that-keeps}
 use Rattle.laws.proofs.Lists.{StandsAt, find_some}
-use Rattle.laws.proofs.Ordinary.{members-classes, connects-classes}
+use Rattle.laws.proofs.Ordinary.{members-classes}
 use Rattle.laws.proofs.Owing.{nothing-owing, alike-owing}
 use Rattle.laws.proofs.OwnAddress.{IsOther, members-other, publics-other, wanted-other, wanted-not_local}
 use Rattle.laws.proofs.Settings.{timewait-positive}
@@ -55,6 +54,8 @@ use Rattle.laws.proofs.Shapes.{accepted-shaped, expired-shaped, closing-shaped}
 use Rattle.laws.proofs.Streams.{bytes_come_in-trimmed}
 use Rattle.laws.proofs.Trims.{Trimmed}
 use Rattle.laws.proofs.WholeMoves.{ending-keeps, overwritten-keeps, vanishes-keeps, connects-keeps, stands-shaped, alike-ties, stands-owing}
+use Rattle.laws.proofs.Cases.{by_bool, by_option}
+use Rattle.laws.proofs.Connects.{connects-cases, dialed-cases, closes-cases}
 
 -- ---- what is set and provided
 
@@ -70,25 +71,7 @@ ordinary-keeps addr m h = changes-keeps addr (λ p. record p { big = false }) m 
 
 -- the groups alone are set
 grouped-ordered : (groups : List Group) (m : Machine) → IsOrdered m → AreApart (members_of groups) → IsOrdered (record m { groups = groups })
-grouped-ordered groups m h apart = record {
-  orderly = record {
-    settings = h.orderly.settings;
-    next_id = h.orderly.next_id;
-    ids_given = h.orderly.ids_given;
-    ids_rise = h.orderly.ids_rise;
-    addresses = h.orderly.addresses;
-  };
-  formed = record {
-    shaped = h.formed.shaped;
-    owing = h.formed.owing;
-    peers = h.formed.peers;
-    groups = apart;
-    other_peers = h.formed.other_peers;
-    other_connections = h.formed.other_connections;
-    room = h.formed.room;
-    pending_job = h.formed.pending_job;
-  };
-}
+grouped-ordered groups m h apart = assumption
 
 locals-keeps : (groups : List Group) (m : Machine) → IsOrdered m → Keeps 0 m (locals_are groups m).machine
 locals-keeps groups m h =
@@ -101,23 +84,15 @@ locals-keeps groups m h =
     let second : Keeps 0 o p = for_each_that-keeps IsOther comes_ordinary comes_ordinary-keeps (members_of kept) o first.ordered
     (subst (λ s. All (IsOther s) (members_of kept)) (sym first.settings) (members-other m.settings groups)) in
     let both : Keeps 0 n p = keeps_then 0 0 n o p first second in
-    record {
-      ordered = both.ordered;
-      settings = both.settings;
-      now = both.now;
-      counted = both.counted;
-      late = both.late;
-      classes = λ before. second.classes (members-classes n);
-      ties = both.ties;
-    }
+    let classes : LocalsAreOrdinary m → LocalsAreOrdinary p = λ before. second.classes (members-classes n) in
+    assumption (classes, both)
 
 comes_big-keeps : (addr : Addr) (m : Machine) → IsOrdered m → Keeps 0 m (comes_big addr m).machine
-comes_big-keeps addr m h = by_test (is_wanted_big addr m) refl
-  where
-    by_test : (b : Bool) → is_wanted_big addr m ≡ b → Keeps 0 m (if b then as_move (shared addr) m (peer_comes true addr m) else nothing_more m).machine
-    by_test true wanted = peer_comes-keeps true addr m h (wanted-other addr m wanted)
-        (λ local. absurd (both_ways (is_local m.groups addr) (wanted-not_local addr m wanted) local))
-    by_test false unwanted = keeps_nothing m h
+comes_big-keeps addr m h = by_bool (is_wanted_big addr m)
+    (λ b. Keeps 0 m (if b then as_move (shared addr) m (peer_comes true addr m) else nothing_more m).machine)
+    (λ wanted. peer_comes-keeps true addr m h (wanted-other addr m wanted)
+    (λ local. absurd (both_ways (is_local m.groups addr) (wanted-not_local addr m wanted) local)))
+    (λ unwanted. keeps_nothing m h)
 
 roots_say-keeps : (answer : RootAnswer) (m : Machine) → IsOrdered m → Keeps 0 m (roots_say answer m).machine
 roots_say-keeps (Found ttl addrs) m h =
@@ -135,108 +110,31 @@ roots-keeps job answer m h = cond_both (awaits job.0 m.roots) (roots_say answer 
 -- ---- dials and ends
 
 dial_ends-keeps : (cid : Cid) (opened : Bool) (m : Machine) → IsOrdered m → Keeps 0 m (dial_ends cid opened m).machine
-dial_ends-keeps cid opened m h = by_entry (entry_at cid.0 m) refl opened
-  where
-    by_entry : (o : Option Entry) → entry_at cid.0 m ≡ o → (b : Bool) → Keeps 0 m (on_entry o (dialed b) m).machine
-    by_entry None is b = keeps_nothing m h
-    by_entry (Some e) is b =
-        let at = find_some (λ y. has_id cid.0 y.facts) m.connections e is in
-        cond_both (is_dialing e.facts) (if b then dial_opens e m else dial_fails e m) (nothing_more m) (λ effect. Keeps 0 m effect.machine)
-        (λ dials. by_end e at.place at.stands dials b) (λ other. keeps_nothing m h)
-      where
-        by_end : (e : Entry) (k : ℕ) → StandsAt m.connections k e → is_dialing e.facts ≡ true → (b : Bool) →
-            Keeps 0 m (if b then dial_opens e m else dial_fails e m).machine
-        by_end e k s dials true = connects-keeps m e k h s dials
-        by_end e k s dials false = vanishes-keeps m e k h s
+dial_ends-keeps cid opened m h = dialed-cases cid opened m (λ effect. Keeps 0 m effect.machine) (keeps_nothing m h)
+    (λ e k s dials. connects-keeps m e k h s dials) (λ e k s dials. vanishes-keeps m e k h s)
 
 closes-keeps : (cid : Cid) (m : Machine) → IsOrdered m → Keeps 0 m (peer_closes cid m).machine
-closes-keeps cid m h = by_entry (entry_at cid.0 m) refl
-  where
-    by_entry : (o : Option Entry) → entry_at cid.0 m ≡ o → Keeps 0 m (on_entry o closes m).machine
-    by_entry None is = keeps_nothing m h
-    by_entry (Some e) is =
-        let at = find_some (λ y. has_id cid.0 y.facts) m.connections e is in
-        cond_both (is_live e.facts) (vanishes e m) (nothing_more m) (λ effect. Keeps 0 m effect.machine)
-        (λ live. vanishes-keeps m e at.place h at.stands) (λ closed. keeps_nothing m h)
+closes-keeps cid m h = closes-cases cid m (λ effect. Keeps 0 m effect.machine) (keeps_nothing m h) (λ e k s own. vanishes-keeps m e k h s)
 
 -- ---- a peer connects
 
 admitted-formed : (addr : Addr) (m : Machine) → IsOther m.settings addr → IsFormed m → IsFormed (admitted addr m).machine
-admitted-formed addr m other h = record {
-  shaped = All-push (λ e. IsShaped e.facts) m.connections (admitted_entry addr m) h.shaped
-      (accepted-shaped m.next_id addr (m.now + m.settings.handshake));
-  owing = All-push IsOwing m.connections (admitted_entry addr m) h.owing (nothing-owing (admitted_entry addr m) refl);
-  peers = h.peers;
-  groups = h.groups;
-  other_peers = h.other_peers;
-  other_connections = All-push (λ e. same_address e.facts.addr m.settings.own ≡ false) m.connections (admitted_entry addr m) h.other_connections other;
-  room = h.room;
-  pending_job = h.pending_job;
-}
-
-crossed-formed : (addr : Addr) (m : Machine) (e : Entry) (k : ℕ) → IsOther m.settings addr → IsOrdered m → StandsAt m.connections k e → is_pending e.facts ≡ true →
-    IsFormed (crossed addr e m).machine
-crossed-formed addr m e k other h s pending = cond_both (address_below addr m.settings.own) (then_do (ending Overwritten e m) (admitted addr)) (turned_away Crossed m)
-    (λ effect. IsFormed effect.machine)
-    (λ below. admitted-formed addr (ending Overwritten e m).machine other (overwritten-keeps m e k h s pending).ordered.formed) (λ above. h.formed)
+admitted-formed addr m other h = assumption (
+  All-push (λ e. IsShaped e.facts) m.connections (admitted_entry addr m) h.shaped (accepted-shaped m.next_id addr (m.now + m.settings.handshake)),
+  All-push IsOwing m.connections (admitted_entry addr m) h.owing (nothing-owing (admitted_entry addr m) refl),
+  All-push (λ e. same_address e.facts.addr m.settings.own ≡ false) m.connections (admitted_entry addr m) h.other_connections other,
+)
 
 admitted-ties : (addr : Addr) (m : Machine) → live_entry_at addr m ≡ None → IsTied m → IsTied (admitted addr m).machine
-admitted-ties addr m none ties = come-ties m (admitted_entry addr m) refl none (step (peer_at addr m)) ties
-  where
-    step : (o : Option Peer) → TiedBy m.now o None → TiedBy m.now o (Some (admitted_entry addr m))
-    step None tie = record { unused = refl; not_dialed = refl; not_asked = refl }
-    step (Some p) tie = record {
+admitted-ties addr m none ties = come-ties m (admitted_entry addr m) refl none (by_option (peer_at addr m)
+    (λ o. TiedBy m.now o None → TiedBy m.now o (Some (admitted_entry addr m)))
+    (λ is tie. record { unused = refl; not_dialed = refl; not_asked = refl })
+    (λ p is tie. record {
       established = tie;
       in_use = λ local. absurd (false≢true local);
       on_its_way = λ pending. absurd (false≢true pending);
       asked = λ asked. absurd (false≢true asked);
-    }
-
-crossed-ties : (addr : Addr) (m : Machine) (e : Entry) (k : ℕ) → IsOrdered m → StandsAt m.connections k e → is_pending e.facts ≡ true →
-    is_live_at addr e.facts ≡ true → IsTied m → IsTied (crossed addr e m).machine
-crossed-ties addr m e k h s pending at ties =
-    let n : Machine = (ending Overwritten e m).machine in
-    let parts = and_parts (same_address e.facts.addr addr) (is_live e.facts) at in
-    cond_both (address_below addr m.settings.own) (then_do (ending Overwritten e m) (admitted addr)) (turned_away Crossed m)
-    (λ effect. IsTied effect.machine)
-    (λ below. admitted-ties addr n
-    (subst (λ a. live_entry_at a n ≡ None) (same_address-true e.facts.addr addr parts.0) (gone_here m e k h.orderly s parts.1))
-    ((overwritten-keeps m e k h s pending).ties ties))
-    (λ above. ties)
-
-beside-formed : (addr : Addr) (m : Machine) → IsOther m.settings addr → IsOrdered m → IsFormed (accepted_beside (live_entry_at addr m) addr m).machine
-beside-formed addr m other h = by_live (live_entry_at addr m) refl
-  where
-    by_live : (o : Option Entry) → live_entry_at addr m ≡ o → IsFormed (accepted_beside o addr m).machine
-    by_live None is = admitted-formed addr m other h.formed
-    by_live (Some e) is =
-        let at = find_some (λ y. is_live_at addr y.facts) m.connections e is in
-        cond_both (is_pending e.facts) (crossed addr e m) (turned_away Present m) (λ effect. IsFormed effect.machine)
-        (λ pending. crossed-formed addr m e at.place other h at.stands pending) (λ there. h.formed)
-
-beside-ties : (addr : Addr) (m : Machine) → IsOrdered m → IsTied m → IsTied (accepted_beside (live_entry_at addr m) addr m).machine
-beside-ties addr m h ties = by_live (live_entry_at addr m) refl
-  where
-    by_live : (o : Option Entry) → live_entry_at addr m ≡ o → IsTied (accepted_beside o addr m).machine
-    by_live None is = admitted-ties addr m is ties
-    by_live (Some e) is =
-        let at = find_some (λ y. is_live_at addr y.facts) m.connections e is in
-        cond_both (is_pending e.facts) (crossed addr e m) (turned_away Present m) (λ effect. IsTied effect.machine)
-        (λ pending. crossed-ties addr m e at.place h at.stands pending at.passes ties) (λ other. ties)
-
-connects-formed : (addr : Addr) (m : Machine) → IsOrdered m → IsFormed (peer_connects addr m).machine
-connects-formed addr m h = cond_both (same_address addr m.settings.own) (turned_away OwnAddr m)
-    (if nat_le m.settings.hard (counted_in m) then turned_away Full m else accepted_beside (live_entry_at addr m) addr m) (λ effect. IsFormed effect.machine)
-    (λ own. h.formed)
-    (λ other. cond_both (nat_le m.settings.hard (counted_in m)) (turned_away Full m) (accepted_beside (live_entry_at addr m) addr m)
-    (λ effect. IsFormed effect.machine) (λ full. h.formed) (λ room. beside-formed addr m other h))
-
-connects-ties : (addr : Addr) (m : Machine) → IsOrdered m → IsTied m → IsTied (peer_connects addr m).machine
-connects-ties addr m h ties = cond_both (same_address addr m.settings.own) (turned_away OwnAddr m)
-    (if nat_le m.settings.hard (counted_in m) then turned_away Full m else accepted_beside (live_entry_at addr m) addr m) (λ effect. IsTied effect.machine)
-    (λ own. ties)
-    (λ other. cond_both (nat_le m.settings.hard (counted_in m)) (turned_away Full m) (accepted_beside (live_entry_at addr m) addr m)
-    (λ effect. IsTied effect.machine) (λ full. ties) (λ room. beside-ties addr m h ties))
+    })) ties
 
 -- ---- the clock
 
@@ -262,11 +160,8 @@ closes_entry-keeps m e k h s idle =
     moves-keeps 0 m (with_entry (closing_entry m e) m)
     (turns-moves 0 m e (closing_entry m e) k h s turns (closing-shaped until e.facts)
     (nothing-owing (closing_entry m e) ((stands-owing m e k h s).used idle)) (omega arith) (omega (arith, late)))
-    (turned-ties m e (closing_entry m e) k h.orderly s turns (λ live o tie. gone o tie))
-  where
-    gone : (o : Option Peer) → TiedBy m.now o (Some e) → TiedBy m.now o None
-    gone None tie = tt
-    gone (Some p) tie = tie.established ∙ idle
+    (turned-ties m e (closing_entry m e) k h.orderly s turns (λ live o tie. by_option o (λ o. TiedBy m.now o (Some e) → TiedBy m.now o None)
+    (λ is tie. tt) (λ p is tie. tie.established ∙ idle) tie))
 
 grace_over-keeps : (m : Machine) (e : Entry) (k : ℕ) → IsOrdered m → StandsAt m.connections k e → Keeps 0 m (grace_over e m).machine
 grace_over-keeps m e k h s = cond_both e.facts.local (entry_turns e (record e { facts = expired e.facts }) m) closed
@@ -288,9 +183,7 @@ fires_as-keeps : (kind : Kind) (m : Machine) (e : Entry) (k : ℕ) → IsOrdered
 fires_as-keeps Handshake m e k h s waits = ending-keeps (Fault HandshakeWait) refl m e k h s
 fires_as-keeps GraceKind m e k h s waits = grace_over-keeps m e k h s
 fires_as-keeps TimeWait m e k h s waits = waits-keeps m e k h s (waits refl)
-fires_as-keeps Reply2 m e k h s waits = ending-keeps (Fault ReplyWait) refl m e k h s
-fires_as-keeps Reply8 m e k h s waits = ending-keeps (Fault ReplyWait) refl m e k h s
-fires_as-keeps Reply10 m e k h s waits = ending-keeps (Fault ReplyWait) refl m e k h s
+fires_as-keeps other m e k h s waits = ending-keeps (Fault ReplyWait) refl m e k h s
 
 pub fires-keeps : (d : Deadline) (m : Machine) → IsOrdered m → due m ≡ Some d → Keeps 0 m (fires d m).machine
 fires-keeps d m h is =
@@ -301,32 +194,15 @@ fires-keeps d m h is =
 fire_due-keeps : (n : ℕ) (m : Machine) → IsOrdered m → Keeps 0 m (fire_due n m).machine
 unfolding fire_due
 fire_due-keeps zero m h = keeps_nothing m h
-fire_due-keeps (suc n) m h = by_due (due m) refl (fire_due-keeps n)
-  where
-    by_due : (o : Option Deadline) → due m ≡ o → ((w : Machine) → IsOrdered w → Keeps 0 w (fire_due n w).machine) →
-        Keeps 0 m (fires_some o (fire_due n) m).machine
-    by_due None is later = keeps_nothing m h
-    by_due (Some d) is later =
-        let first : Keeps 0 m (fires d m).machine = fires-keeps d m h is in
-        keeps_then 0 0 m (fires d m).machine (fire_due n (fires d m).machine).machine first (later (fires d m).machine first.ordered)
+fire_due-keeps (suc n) m h = by_option (due m)
+    (λ o. ((w : Machine) → IsOrdered w → Keeps 0 w (fire_due n w).machine) → Keeps 0 m (fires_some o (fire_due n) m).machine)
+    (λ is later. keeps_nothing m h)
+    (λ d is later.
+    let first : Keeps 0 m (fires d m).machine = fires-keeps d m h is in
+    keeps_then 0 0 m (fires d m).machine (fire_due n (fires d m).machine).machine first (later (fires d m).machine first.ordered)) (fire_due-keeps n)
 
 pub formed_at_moment : (t : ℕ) (m : Machine) → IsFormed m → IsFormed (at_moment t m)
-formed_at_moment t m h = record {
-  shaped = h.shaped;
-  owing = h.owing;
-  peers = h.peers;
-  groups = h.groups;
-  other_peers = h.other_peers;
-  other_connections = h.other_connections;
-  room = h.room;
-  pending_job = h.pending_job;
-}
-
-clock-formed : (t : ℕ) (m : Machine) → IsOrdered m → IsFormed (clock_shows t m).machine
-clock-formed t m h =
-    let n : Machine = at_moment t m in
-    cond_both (nat_le t m.now) (nothing_more m) (fire_all n) (λ effect. IsFormed effect.machine) (λ past. h.formed)
-    (λ later. (fire_due-keeps (length (deadlines n)) n (record { orderly = at_moment-orderly t m h.orderly; formed = formed_at_moment t m h.formed })).ordered.formed)
+formed_at_moment t m h = assumption
 
 later-tied : (now t : ℕ) (o : Option Peer) (e : Option Entry) → now ≤ t → TiedBy now o e → TiedBy t o e
 later-tied now t None None past tie = tt
@@ -338,19 +214,6 @@ later-tied now t (Some p) (Some e) past tie = record {
   on_its_way = λ pending. let ready = tie.on_its_way pending in omega (arith, ready, past);
   asked = tie.asked;
 }
-
-clock-ties : (t : ℕ) (m : Machine) → IsOrdered m → IsTied m → IsTied (clock_shows t m).machine
-clock-ties t m h ties =
-    let n : Machine = at_moment t m in
-    cond_both (nat_le t m.now) (nothing_more m) (fire_all n) (λ effect. IsTied effect.machine) (λ past. ties)
-    (λ later. (fire_due-keeps (length (deadlines n)) n (record { orderly = at_moment-orderly t m h.orderly; formed = formed_at_moment t m h.formed })).ties
-    (λ b. later-tied m.now t (peer_at b m) (live_entry_at b m) (let above = leb-false t m.now later in omega (arith, above)) (ties b)))
-
-clock-classes : (t : ℕ) (m : Machine) → IsOrdered m → LocalsAreOrdinary m → LocalsAreOrdinary (clock_shows t m).machine
-clock-classes t m h locals =
-    let n : Machine = at_moment t m in
-    cond_both (nat_le t m.now) (nothing_more m) (fire_all n) (λ effect. LocalsAreOrdinary effect.machine) (λ past. locals)
-    (λ later. (fire_due-keeps (length (deadlines n)) n (record { orderly = at_moment-orderly t m h.orderly; formed = formed_at_moment t m h.formed })).classes locals)
 
 -- ---- each event
 
@@ -366,19 +229,7 @@ steady_after : (m n : Machine) → IsSteady m → IsOrdered n → n.settings ≡
     LocalsAreOrdinary n → StaysSteady m n
 steady_after m n h ordered settings counted late tied locals =
     let none : late_in m ≡ 0 = ahead-none_late m h.sound.deadlines in
-    record {
-      steady = record {
-        sound = record {
-          orderly = ordered.orderly;
-          counted = subst (λ s. counted_in n ≤ s.hard) (sym settings) counted;
-          deadlines = none_late-ahead n (omega (arith, late, none));
-        };
-        formed = ordered.formed;
-        tied = tied;
-        locals = locals;
-      };
-      settings = settings;
-    }
+    assumption (ordered, subst (λ s. counted_in n ≤ s.hard) (sym settings) counted, none_late-ahead n (omega (arith, late, none)))
 
 trimmed-steady : (Law : Move → Type 0) (m : Machine) (effect : Effect) → IsSteady m → Trimmed Law m effect → StaysSteady m effect.machine
 trimmed-steady Law m effect h t = steady_after m effect.machine h t.ordered t.settings t.counted t.late (t.ties h.tied) (t.classes h.locals)
@@ -389,12 +240,38 @@ kept-steady m n h k = steady_after m n h k.ordered k.settings (omega (arith, k.c
 stays-steady : (m n : Machine) → StaysSound m n → IsFormed n → IsTied n → LocalsAreOrdinary n → StaysSteady m n
 stays-steady m n sound formed tied locals = record { steady = record { sound = sound.sound; formed = formed; tied = tied; locals = locals }; settings = sound.settings }
 
+abbrev IsWhole : Effect → Type 0
+IsWhole effect = IsFormed effect.machine × IsTied effect.machine × LocalsAreOrdinary effect.machine
+
+clock-steady : (t : ℕ) (m : Machine) → IsSteady m → StaysSteady m (clock_shows t m).machine
+clock-steady t m h =
+    let n : Machine = at_moment t m in
+    let whole : IsWhole (clock_shows t m) = cond_both (nat_le t m.now) (nothing_more m) (fire_all n) IsWhole (λ past. (h.formed, h.tied, h.locals))
+    (λ later.
+    let fired = fire_due-keeps (length (deadlines n)) n (record { orderly = at_moment-orderly t m h.sound.orderly; formed = formed_at_moment t m h.formed }) in
+    let above = leb-false t m.now later in
+    (fired.ordered.formed, fired.ties (λ b. later-tied m.now t (peer_at b m) (live_entry_at b m) (omega (arith, above)) (h.tied b)), fired.classes h.locals)) in
+    stays-steady m (clock_shows t m).machine (clock_shows-sound t m h.sound) whole.0 whole.1 whole.2
+
+connects-steady : (addr : Addr) (m : Machine) → IsSteady m → StaysSteady m (peer_connects addr m).machine
+connects-steady addr m h =
+    let whole : IsWhole (peer_connects addr m) = connects-cases addr m IsWhole (λ cause. (h.formed, h.tied, h.locals))
+    (λ room none. (admitted-formed addr m room.other h.formed, admitted-ties addr m none h.tied, h.locals))
+    (λ room e is pending.
+    let at = find_some (λ y. is_live_at addr y.facts) m.connections e is in
+    let parts = and_parts (same_address e.facts.addr addr) (is_live e.facts) at.passes in
+    let n : Machine = (ending Overwritten e m).machine in
+    let ends = overwritten-keeps m e at.place (ordered_of m h) at.stands pending in (
+      admitted-formed addr n room.other ends.ordered.formed,
+      admitted-ties addr n (subst (λ a. live_entry_at a n ≡ None) (same_address-true e.facts.addr addr parts.0) (gone_here m e at.place h.sound.orderly at.stands parts.1)) (ends.ties h.tied),
+      h.locals,
+    )) in
+    stays-steady m (peer_connects addr m).machine (peer_connects-sound addr m h.sound) whole.0 whole.1 whole.2
+
 pub step-steady : (m : Machine) (event : Event) → IsSteady m → StaysSteady m (step m event).machine
-step-steady m (Now t) h = stays-steady m (clock_shows t m).machine (clock_shows-sound t m h.sound) (clock-formed t m (ordered_of m h)) (clock-ties t m (ordered_of m h) h.tied)
-    (clock-classes t m (ordered_of m h) h.locals)
+step-steady m (Now t) h = clock-steady t m h
 step-steady m (Govern word) h = trimmed-steady IsLawful m (govern word m) h (govern-trimmed word m (ordered_of m h) h.sound.counted)
-step-steady m (Accepted addr) h = stays-steady m (peer_connects addr m).machine (peer_connects-sound addr m h.sound) (connects-formed addr m (ordered_of m h)) (connects-ties addr m (ordered_of m h) h.tied)
-    (connects-classes addr m h.locals)
+step-steady m (Accepted addr) h = connects-steady addr m h
 step-steady m (Dialed cid opened) h = kept-steady m (dial_ends cid opened m).machine h (dial_ends-keeps cid opened m (ordered_of m h))
 step-steady m (Bytes cid bytes) h = trimmed-steady IsLawful m (bytes_come_in cid bytes m) h (bytes_come_in-trimmed cid bytes m (ordered_of m h) h.sound.counted)
 step-steady m (Closed cid) h = kept-steady m (peer_closes cid m).machine h (closes-keeps cid m (ordered_of m h))

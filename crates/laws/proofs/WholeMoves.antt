@@ -36,6 +36,7 @@ use Rattle.laws.proofs.Owing.{OwesNothing, nothing-owing, nothing_owed, alike-ow
 use Rattle.laws.proofs.Ties.{turned-ties, gone-ties, changed-ties, gone_here, gone_elsewhere, tied_but, turned_here, turned_elsewhere, turned_dead, live_here}
 use Rattle.laws.proofs.Settings.{first_failing-none, interval-positive, handshake-positive}
 use Rattle.laws.proofs.Shapes.{connected-shaped, agreed_inbound-shaped, agreed_outbound-shaped, acquired-shaped, released-shaped, awakened-shaped, idled-shaped, running-negotiated, greeting-unnegotiated, serves_remote, can_acquire}
+use Rattle.laws.proofs.Cases.{by_bool}
 
 -- ---- intervals
 
@@ -59,10 +60,8 @@ pub pending-unnegotiated : (f : Facts) → is_pending f ≡ true → is_negotiat
 pending-unnegotiated f h = by_phase f.phase refl (and_parts (is_outbound f) (opening_phase f.phase) h).1
   where
     by_phase : (p : Phase) → f.phase ≡ p → opening_phase f.phase ≡ true → is_negotiated f ≡ false
-    by_phase Dialing is opening = ap is_negotiated_phase is
-    by_phase (Greeting until) is opening = ap is_negotiated_phase is
     by_phase Negotiated is opening = absurd (both_ways (opening_phase f.phase) (ap opening_phase is) opening)
-    by_phase (Closing until) is opening = ap is_negotiated_phase is
+    by_phase other is opening = ap is_negotiated_phase is
 
 -- ---- a connection goes
 
@@ -73,19 +72,14 @@ missed-live f shape missed = by_phase f.phase refl
     dead unused idle = rw ((shape.unused unused).local, idle) refl
 
     by_phase : (p : Phase) → f.phase ≡ p → is_live f ≡ true
-    by_phase Dialing is = ap live_phase is
-    by_phase (Greeting until) is = ap live_phase is
-    by_phase Negotiated is = ap live_phase is
     by_phase (Closing until) is =
         absurd (both_ways (is_missed f)
         (dead (ap is_negotiated_phase is) (and_right (is_outbound f) (opening_phase f.phase) (ap opening_phase is))) missed)
+    by_phase other is = ap live_phase is
 
 not_missed-unused : (f : Facts) → is_missed f ≡ false → f.local ≡ false
-not_missed-unused f h = by_local f.local h
-  where
-    by_local : (b : Bool) → (b || is_pending f) ≡ false → b ≡ false
-    by_local true h = absurd (false≢true (sym h))
-    by_local false h = refl
+not_missed-unused f h = by_bool f.local (λ b. (b || is_pending f) ≡ false → b ≡ false)
+    (λ is h. absurd (false≢true (sym h))) (λ is h. refl) h
 
 pub lost-moves : (f : Facts) (m : Machine) → IsOrdered m → Moves 0 m (lost f m).machine
 lost-moves f m h = cond_both (is_missed f) (peer_fails f.addr m) (nothing_more m) (λ effect. Moves 0 m effect.machine)
@@ -162,27 +156,19 @@ alike-ties m e new k h s t a ties = turned-ties m e new k h.orderly s t
 
 pub dialing-live : (p : Phase) → is_dialing_phase p ≡ true → live_phase p ≡ true
 dialing-live Dialing h = refl
-dialing-live (Greeting until) h = absurd (false≢true h)
-dialing-live Negotiated h = absurd (false≢true h)
-dialing-live (Closing until) h = absurd (false≢true h)
+dialing-live other h = absurd (false≢true h)
 
 pub greeting-live : (p : Phase) → is_greeting_phase p ≡ true → live_phase p ≡ true
-greeting-live Dialing h = absurd (false≢true h)
 greeting-live (Greeting until) h = refl
-greeting-live Negotiated h = absurd (false≢true h)
-greeting-live (Closing until) h = absurd (false≢true h)
+greeting-live other h = absurd (false≢true h)
 
 pub negotiated-live : (p : Phase) → is_negotiated_phase p ≡ true → live_phase p ≡ true
-negotiated-live Dialing h = absurd (false≢true h)
-negotiated-live (Greeting until) h = absurd (false≢true h)
 negotiated-live Negotiated h = refl
-negotiated-live (Closing until) h = absurd (false≢true h)
+negotiated-live other h = absurd (false≢true h)
 
 pub dialing-opening : (p : Phase) → is_dialing_phase p ≡ true → opening_phase p ≡ true
 dialing-opening Dialing h = refl
-dialing-opening (Greeting until) h = absurd (false≢true h)
-dialing-opening Negotiated h = absurd (false≢true h)
-dialing-opening (Closing until) h = absurd (false≢true h)
+dialing-opening other h = absurd (false≢true h)
 
 -- the dialed socket is open
 pub connects-keeps : (m : Machine) (e : Entry) (k : ℕ) → IsOrdered m → StandsAt m.connections k e → is_dialing e.facts ≡ true →
@@ -295,6 +281,10 @@ outbound_grace-late : (now until : ℕ) (cid : Cid) (uni : Bool) → nat_le unti
 outbound_grace-late now until cid true later = refl
 outbound_grace-late now until cid false later = remote-ahead now until cid later
 
+pub greeting-opening : (p : Phase) → is_greeting_phase p ≡ true → opening_phase p ≡ true
+greeting-opening (Greeting until) h = refl
+greeting-opening other h = absurd (false≢true h)
+
 -- the handshake of a peer that was dialed is done
 pub agrees_outbound-keeps : (agreed : Agreed) (m : Machine) (e : Entry) (k : ℕ) → IsOrdered m → StandsAt m.connections k e →
     is_greeting e.facts ≡ true → is_outbound e.facts ≡ true → Keeps 0 m (is_agreed_outbound agreed e m).machine
@@ -322,12 +312,6 @@ agrees_outbound-keeps agreed m e k h s greets outbound =
       ready = λ o is tie. on_its_way pending o tie;
     })
   where
-    greeting-opening : (p : Phase) → is_greeting_phase p ≡ true → opening_phase p ≡ true
-    greeting-opening Dialing h = absurd (false≢true h)
-    greeting-opening (Greeting until) h = refl
-    greeting-opening Negotiated h = absurd (false≢true h)
-    greeting-opening (Closing until) h = absurd (false≢true h)
-
     on_its_way : is_pending e.facts ≡ true → (o : Option Peer) → TiedBy m.now o (Some e) → IsReady m.now o
     on_its_way pending None tie = absurd (both_ways (is_pending e.facts) tie.not_dialed pending)
     on_its_way pending (Some p) tie = tie.on_its_way pending

@@ -1,0 +1,58 @@
+-- What comes of it where a peer connects, where a dial ends, and where the other side closes.
+use Rattle.std.proofs.Common.{ℕ, ◌≡◌, Bool, true, false, nat_le, if◌then◌else◌, Some, None, eqb-true}
+use Rattle.std.proofs.lemmas.Bool.{cond_both}
+use Rattle.conn_state.specs.Use.{has_id, is_dialing, is_live, is_pending}
+use Rattle.net_base.specs.Address.{same_address, address_below}
+use Rattle.net_base.specs.declared.action.Away.{Away}
+use Rattle.net_base.specs.declared.action.Away.TheVariants.{Full, OwnAddr, Crossed, Present}
+use Rattle.net_base.specs.declared.action.CloseCause.TheVariants.{Overwritten}
+use Rattle.net_base.specs.declared.address.Addr.{Addr}
+use Rattle.net_base.specs.declared.connection.Cid.{Cid}
+use Rattle.machine.specs.Connections.{ending, vanishes, dial_opens, dial_fails}
+use Rattle.machine.specs.Effect.{Effect, nothing_more, then_do, on_entry}
+use Rattle.machine.specs.Events.{turned_away, admitted, crossed, accepted_beside, peer_connects, closes, peer_closes, dialed, dial_ends}
+use Rattle.machine.specs.Machine.{Machine, Entry, counted_in, entry_at, live_entry_at}
+use Rattle.laws.proofs.Cases.{by_option}
+use Rattle.laws.proofs.Lists.{StandsAt, find_some}
+
+-- not this node itself, and there is room
+pub record HasRoom (addr : Addr) (m : Machine) : Type 0 where
+  pub other : same_address addr m.settings.own ≡ false
+  pub below : nat_le m.settings.hard (counted_in m) ≡ false
+
+-- whoever connects is turned away, let in where nobody is live there, or let in where this node's own dial gives way
+pub connects-cases : (addr : Addr) (m : Machine) (P : Effect → Type 0) → ((cause : Away) → P (turned_away cause m)) →
+    (HasRoom addr m → live_entry_at addr m ≡ None → P (admitted addr m)) →
+    (HasRoom addr m → (e : Entry) → live_entry_at addr m ≡ Some e → is_pending e.facts ≡ true → P (then_do (ending Overwritten e m) (admitted addr))) →
+    P (peer_connects addr m)
+connects-cases addr m P away alone crosses = cond_both (same_address addr m.settings.own) (turned_away OwnAddr m)
+    (if nat_le m.settings.hard (counted_in m) then turned_away Full m else accepted_beside (live_entry_at addr m) addr m) P
+    (λ own. away OwnAddr)
+    (λ other. cond_both (nat_le m.settings.hard (counted_in m)) (turned_away Full m) (accepted_beside (live_entry_at addr m) addr m) P
+    (λ full. away Full)
+    (λ below. by_option (live_entry_at addr m) (λ o. P (accepted_beside o addr m)) (alone (record { other = other; below = below }))
+    (λ e is. cond_both (is_pending e.facts) (crossed addr e m) (turned_away Present m) P
+    (λ pending. cond_both (address_below addr m.settings.own) (then_do (ending Overwritten e m) (admitted addr)) (turned_away Crossed m) P
+    (λ lower. crosses (record { other = other; below = below }) e is pending) (λ above. away Crossed))
+    (λ there. away Present))))
+
+-- a connection is there or not
+pub stood-cases : (cid : Cid) (act : Entry → Machine → Effect) (m : Machine) (P : Effect → Type 0) → P (nothing_more m) →
+    ((e : Entry) (k : ℕ) → StandsAt m.connections k e → e.facts.cid.0 ≡ cid.0 → P (act e m)) → P (on_entry (entry_at cid.0 m) act m)
+stood-cases cid act m P none each = by_option (entry_at cid.0 m) (λ o. P (on_entry o act m)) (λ is. none)
+    (λ e is. let at = find_some (λ x. has_id cid.0 x.facts) m.connections e is in each e at.place at.stands (eqb-true e.facts.cid.0 cid.0 at.passes))
+
+-- a dial opens a connection or fails
+pub dialed-cases : (cid : Cid) (opened : Bool) (m : Machine) (P : Effect → Type 0) → P (nothing_more m) →
+    ((e : Entry) (k : ℕ) → StandsAt m.connections k e → is_dialing e.facts ≡ true → P (dial_opens e m)) →
+    ((e : Entry) (k : ℕ) → StandsAt m.connections k e → is_dialing e.facts ≡ true → P (dial_fails e m)) → P (dial_ends cid opened m)
+dialed-cases cid true m P none opens fails = stood-cases cid (dialed true) m P none
+    (λ e k s own. cond_both (is_dialing e.facts) (dial_opens e m) (nothing_more m) P (opens e k s) (λ other. none))
+dialed-cases cid false m P none opens fails = stood-cases cid (dialed false) m P none
+    (λ e k s own. cond_both (is_dialing e.facts) (dial_fails e m) (nothing_more m) P (fails e k s) (λ other. none))
+
+-- one that the other side closes goes
+pub closes-cases : (cid : Cid) (m : Machine) (P : Effect → Type 0) → P (nothing_more m) →
+    ((e : Entry) (k : ℕ) → StandsAt m.connections k e → e.facts.cid.0 ≡ cid.0 → P (vanishes e m)) → P (peer_closes cid m)
+closes-cases cid m P none each = stood-cases cid closes m P none
+    (λ e k s own. cond_both (is_live e.facts) (vanishes e m) (nothing_more m) P (λ live. each e k s own) (λ closed. none))

@@ -1,0 +1,546 @@
+-- What each part of an event is made of: a connection turns, comes or goes, a peer does, and something is sent. A relation between
+-- what stood before and what came of it that holds of each of these, and of one after the other, holds of the part.
+use Rattle.std.proofs.Common.{ℕ, ◌+◌, ◌%◌, ◌≡◌, Bool, true, false, ◌&&◌, ◌==◌, nat_le, if◌then◌else◌, List, [], ◌∷◌, find, Option, Some, None, Result, Ok, Err, refl, sym, ap, ◌∙◌, subst, eqb-true, eq-eqb}
+use Rattle.std.specs.Option.{unwrap_or}
+use Rattle.std.proofs.lemmas.Bool.{cond_both, and_parts}
+use Rattle.accept_gate.specs.Prune.{choice_of}
+use Rattle.conn_state.specs.Moves.{connected, agreed_inbound, agreed_outbound, acquired, released, awakened, idled, expired}
+use Rattle.conn_state.specs.Use.{has_id, is_acquirable, is_dialing, is_live, is_live_at, live_phase, runs, agreed_sharing}
+use Rattle.govern_rules.specs.declared.order.Order.{Order}
+use Rattle.govern_rules.specs.declared.order.Order.TheVariants.{Ask, Forget, Promote, Release, Activate, Deactivate}
+use Rattle.hs_decide.specs.Agreement.{verdict_of}
+use Rattle.hs_decide.specs.Answers.{answer_of, proposal_of}
+use Rattle.hs_decide.specs.declared.verdict.Verdict.{Verdict}
+use Rattle.hs_decide.specs.declared.verdict.Verdict.TheVariants as verdict
+use Rattle.hs_message.specs.Reading.{message_of}
+use Rattle.hs_message.specs.declared.message.Message.{Message}
+use Rattle.hs_receive.specs.Receiving.{is_awaited, fits_side, kind_of}
+use Rattle.mux_segment.specs.Frame.{frame_of}
+use Rattle.mux_segment.specs.declared.fault.CutFault.{CutFault}
+use Rattle.mux_segment.specs.declared.item.Item.{Item}
+use Rattle.net_base.specs.Address.{same_address}
+use Rattle.net_base.specs.Shared.{Undecoded}
+use Rattle.net_base.specs.declared.action.Action.TheVariants.{Close, Send}
+use Rattle.net_base.specs.declared.action.Away.{Away}
+use Rattle.net_base.specs.declared.action.CloseCause.{CloseCause}
+use Rattle.net_base.specs.declared.action.CloseCause.TheVariants.{Unused, Pruned, Overwritten, Refused, Query, Fault}
+use Rattle.net_base.specs.declared.action.FaultKind.{FaultKind}
+use Rattle.net_base.specs.declared.action.FaultKind.TheVariants.{Malformed, Protocol, HandshakeWait, ReplyWait}
+use Rattle.net_base.specs.declared.address.Addr.{Addr}
+use Rattle.net_base.specs.declared.connection.Agreed.{Agreed}
+use Rattle.net_base.specs.declared.connection.Cid.{Cid}
+use Rattle.net_base.specs.declared.connection.Facts.{Facts}
+use Rattle.net_base.specs.declared.connection.Phase.{Phase}
+use Rattle.net_base.specs.declared.connection.Phase.TheVariants.{Greeting, Negotiated, Closing}
+use Rattle.net_base.specs.declared.peer.Peer.{Peer}
+use Rattle.net_base.specs.declared.peer.Temp.TheVariants.{Cold, Warm, Hot}
+use Rattle.net_base.specs.declared.timer.Kind.{Kind}
+use Rattle.net_base.specs.declared.timer.Kind.TheVariants as kind
+use Rattle.remote_watch.specs.Watch.{watched}
+use Rattle.remote_watch.specs.declared.reply.Reply.{Reply}
+use Rattle.remote_watch.specs.declared.reply.Reply.TheVariants as reply
+use Rattle.remote_watch.specs.declared.seen.Seen.{Seen}
+use Rattle.warm_messages.specs.Reading.{share_of}
+use Rattle.warm_messages.specs.Writing.{written_alive, written_request}
+use Rattle.warm_messages.specs.declared.alive.Alive.TheVariants.{Ask as AskAlive, Done}
+use Rattle.warm_messages.specs.declared.share.Share.{Share}
+use Rattle.warm_messages.specs.declared.share.Share.TheVariants as share
+use Rattle.machine.specs.Connections.{with_entry, entry_turns, entry_goes, ending, vanishes, closing_entry, is_used, acquire, candidates_in, trim, says_done, release, awake, dial, dial_opens, dial_fails}
+use Rattle.machine.specs.Deadlines.{fires_as}
+use Rattle.machine.specs.Effect.{Effect, Happened, promoted, activated, shared, unused, gone, nothing_more, tells, then_do, as_move, on_entry, on_connection, for_each}
+use Rattle.machine.specs.Events.{turned_away, admitted, peer_connects, closes, dialed}
+use Rattle.machine.specs.Govern.{promoted_at, is_used_at, on_used, asks_peer, activates, deactivates, carries_out}
+use Rattle.machine.specs.Greeting.{role_of, sends_answer, judged, decided, greeted_by, greets}
+use Rattle.machine.specs.Machine.{Machine, Entry, Owed, counted_in, entry_at, live_entry_at}
+use Rattle.machine.specs.Own.{own_info}
+use Rattle.machine.specs.Peers.{peer_changes, peer_succeeds, peer_becomes, peer_was_asked, peer_comes, peer_goes}
+use Rattle.machine.specs.Provided.{is_wanted_big, comes_big}
+use Rattle.machine.specs.Replies.{reply_on, owing, paid, sends_as_initiator, find_intersect, chain_sync_done, peer_sharing_done}
+use Rattle.machine.specs.Stream.{handled_in, handled, faulted}
+use Rattle.machine.specs.Talking.{replies, stops_if, serves, begins, takes_requests, asked_as, shares_address, taken_of, takes_addresses, pays, brings, answered_as, talks}
+use Rattle.laws.specs.Acts.{Act, shows, fires_one, asks_for_roots, carries, connects, ends_dial, stores, handles_item, ends_stream, is_closed, sets_targets, sets_big_targets, sets_groups, sets_roots, makes_ordinary, provides, provides_big, does}
+use Rattle.laws.specs.InActions.{ended_by}
+use Rattle.laws.specs.OpenEnds.{goes_by_itself}
+use Rattle.laws.specs.Parts.{IsNext}
+use Rattle.laws.specs.Sound.{IsOrderly}
+use Rattle.laws.specs.Steady.{IsOrdered}
+use Rattle.laws.specs.Untouched.{address_of, is_with, is_about, has_bytes, may_close}
+use Rattle.laws.specs.Waits.{until_gone, until_in, until_at}
+use Rattle.laws.proofs.Lawful.{stands-found}
+use Rattle.laws.proofs.Lists.{find_some}
+use Rattle.laws.proofs.Cases.{by_option}
+use Rattle.laws.proofs.Connects.{connects-cases}
+
+-- ---- what a connection turns into
+
+pub data Turn : Type 0 where
+  opens : Turn
+  agrees_inbound : Agreed → Turn
+  agrees_outbound : Agreed → Turn
+  is_acquired : Turn
+  is_released : Turn
+  awakes : ℕ → Turn
+  idles : ℕ → Turn
+  expires : Turn
+  owes : ℕ → ℕ → Turn
+  is_paid : ℕ → Turn
+
+-- one that comes into use owes a reply on 8
+abbrev pub taken : Facts → Entry → Machine → Entry
+taken f e m = owing 8 (f.cid.0 % 65536) m (record e { facts = f })
+
+abbrev pub turned_by : Turn → Entry → Machine → Entry
+turned_by opens e m = record e { facts = connected (m.now + m.settings.handshake) e.facts }
+turned_by (agrees_inbound agreed) e m = record e { facts = agreed_inbound agreed (m.now + m.settings.idle) e.facts }
+turned_by (agrees_outbound agreed) e m = taken (agreed_outbound agreed (m.now + m.settings.idle) e.facts) e m
+turned_by is_acquired e m = taken (acquired e.facts) e m
+turned_by is_released e m = record e { facts = released (m.now + m.settings.idle) e.facts }
+turned_by (awakes protocol) e m = record e { facts = awakened protocol e.facts }
+turned_by (idles protocol) e m = record e { facts = idled protocol (m.now + m.settings.idle) e.facts }
+turned_by expires e m = record e { facts = expired e.facts }
+turned_by (owes protocol asked) e m = owing protocol asked m e
+turned_by (is_paid protocol) e m = paid protocol e
+
+-- it keeps its id, and what is not decoded
+pub turned-cid : (turn : Turn) (e : Entry) (m : Machine) → (turned_by turn e m).facts.cid ≡ e.facts.cid
+turned-cid opens e m = refl
+turned-cid other e m = refl
+
+pub turned-undecoded : (turn : Turn) (e : Entry) (m : Machine) → (turned_by turn e m).undecoded ≡ e.undecoded
+turned-undecoded opens e m = refl
+turned-undecoded other e m = refl
+
+-- and is live still where it was
+pub turned-live : (turn : Turn) (e : Entry) (m : Machine) → is_live e.facts ≡ true → is_live (turned_by turn e m).facts ≡ true
+turned-live opens e m live = refl
+turned-live (agrees_inbound agreed) e m live = refl
+turned-live (agrees_outbound agreed) e m live = refl
+turned-live other e m live = live
+
+-- one that nobody uses is closed
+abbrev pub shuts : Entry → Machine → Effect
+shuts e m = as_move (unused e.facts.cid.0) m (then_do (tells (Close e.facts.cid Unused ∷ []) m) (entry_turns e (closing_entry m e)))
+
+-- ---- what is only sent
+
+pub answer-machine : (o : Option (List ℕ)) (cid : Cid) (m : Machine) → (sends_answer o cid m).machine ≡ m
+answer-machine None cid m = refl
+answer-machine (Some bytes) cid m = refl
+
+pub says_done-machine : (f : Facts) (m : Machine) → (says_done f m).machine ≡ m
+says_done-machine f m = cond_both (agreed_sharing f.agreed) (sends_as_initiator f.cid 10 peer_sharing_done m) (nothing_more m) (λ effect. effect.machine ≡ m)
+    (λ sharing. refl) (λ other. refl)
+
+pub replies-machine : (r : Reply) (protocol : ℕ) (e : Entry) (m : Machine) → (replies r protocol e m).machine ≡ m
+replies-machine reply.Nothing protocol e m = refl
+replies-machine other protocol e m = refl
+
+-- ---- what a part may do
+
+pub record Scope : Type 0 where
+  -- which connections it is about, and on which of them bytes may have come in
+  pub own : ℕ → Bool
+  pub comes : ℕ → Bool
+  -- whether it may close one that nobody uses, and which may go by themselves
+  pub drops : Bool
+  pub goes : ℕ → Bool
+  -- whether its deadline is known to be over
+  pub timely : Bool
+  -- whether it may send, dial, and let in or turn away
+  pub sends : Bool
+  pub dials : Bool
+  pub lets_in : Bool
+
+-- about some connections, and nothing more than to send
+abbrev pub on_those : (ℕ → Bool) → Scope
+on_those own = record { own = own; comes = λ cid. false; drops = false; goes = λ cid. false; timely = false; sends = true; dials = false; lets_in = false }
+
+-- a connection that is found by its own id, and is one that the part is about
+pub record Stands (scope : Scope) (e : Entry) (m : Machine) : Type 0 where
+  pub found : entry_at e.facts.cid.0 m ≡ Some e
+  pub own : scope.own e.facts.cid.0 ≡ true
+
+pub found-stands : (scope : Scope) (cid : ℕ) (m : Machine) (e : Entry) → entry_at cid m ≡ Some e → scope.own cid ≡ true → Stands scope e m
+found-stands scope cid m e is own =
+    let same : cid ≡ e.facts.cid.0 = sym (eqb-true e.facts.cid.0 cid (find_some (λ x. has_id cid x.facts) m.connections e is).passes) in
+    record { found = subst (λ c. entry_at c m ≡ Some e) same is; own = subst (λ c. scope.own c ≡ true) same own }
+
+-- whoever is found is the one that its id finds, and what has an address is the part's own
+pub record FindsOwn (scope : Scope) (addr : Addr) (m : Machine) : Type 0 where
+  pub found : (q : Entry → Bool) (e : Entry) → find q m.connections ≡ Some e → entry_at e.facts.cid.0 m ≡ Some e
+  pub own : (e : Entry) → entry_at e.facts.cid.0 m ≡ Some e → same_address e.facts.addr addr ≡ true → scope.own e.facts.cid.0 ≡ true
+
+-- ---- a relation that each change keeps
+
+pub record Kept (scope : Scope) (R : Machine → Effect → Type 0) : Type 0 where
+  pub when_nothing : (m : Machine) → R m (nothing_more m)
+  pub when_both : (m : Machine) (first : Effect) (next : Machine → Effect) → R m first → R first.machine (next first.machine) → R m (then_do first next)
+  -- a move that ends nothing
+  pub when_moved : (happened : Happened) (m : Machine) (effect : Effect) → ended_by happened ≡ [] → R m effect → R m (as_move happened m effect)
+  pub when_sent : (cid : Cid) (bytes : List ℕ) (m : Machine) → scope.sends ≡ true → R m (tells (Send cid bytes ∷ []) m)
+  -- a connection turns, or keeps other bytes
+  pub when_turned : (turn : Turn) (e : Entry) (m : Machine) → Stands scope e m → R m (entry_turns e (turned_by turn e m) m)
+  pub when_stored : (undecoded : Undecoded) (e : Entry) (m : Machine) → Stands scope e m → scope.comes e.facts.cid.0 ≡ true →
+      R m (entry_turns e (record e { undecoded = undecoded }) m)
+  -- it is closed or ended, goes by itself, or its time-wait is over
+  pub when_shut : (e : Entry) (m : Machine) → Stands scope e m → scope.drops ≡ true → R m (shuts e m)
+  pub when_ended : (cause : CloseCause) (e : Entry) (m : Machine) → R m (ending cause e m)
+  pub when_gone : (e : Entry) (m : Machine) → scope.goes e.facts.cid.0 ≡ true → R m (vanishes e m)
+  pub when_over : (e : Entry) (m : Machine) → Stands scope e m → (scope.timely ≡ true → is_live e.facts ≡ false) → R m (entry_goes e m)
+  -- one comes, or is turned away
+  pub when_dialed : (addr : Addr) (m : Machine) → scope.dials ≡ true → R m (dial addr m)
+  pub when_admitted : (addr : Addr) (m : Machine) → scope.lets_in ≡ true → R m (admitted addr m)
+  pub when_turned_away : (away : Away) (m : Machine) → scope.lets_in ≡ true → R m (turned_away away m)
+  -- a peer changes, comes or goes
+  pub when_changed : (addr : Addr) (change : Peer → Peer) (m : Machine) → ((p : Peer) → (change p).addr ≡ p.addr) → R m (peer_changes addr change m)
+  pub when_known : (big : Bool) (addr : Addr) (m : Machine) → R m (peer_comes big addr m)
+  pub when_forgotten : (addr : Addr) (m : Machine) → R m (peer_goes addr m)
+
+module _ (scope : Scope) (R : Machine → Effect → Type 0) (kept : Kept scope R) where
+  -- ---- what is sent
+
+  says-walk : (cid : Cid) (protocol : ℕ) (message : List ℕ) (m : Machine) → scope.sends ≡ true → R m (sends_as_initiator cid protocol message m)
+  says-walk cid protocol message m may = kept.when_sent cid (frame_of 0 protocol m.now message) m may
+
+  answers-walk : (o : Option (List ℕ)) (cid : Cid) (m : Machine) → scope.sends ≡ true → R m (sends_answer o cid m)
+  answers-walk None cid m may = kept.when_nothing m
+  answers-walk (Some bytes) cid m may = kept.when_sent cid (frame_of 1 0 m.now bytes) m may
+
+  replies-walk : (r : Reply) (protocol : ℕ) (e : Entry) (m : Machine) → scope.sends ≡ true → R m (replies r protocol e m)
+  replies-walk reply.Nothing protocol e m may = kept.when_nothing m
+  replies-walk other protocol e m may = kept.when_sent e.facts.cid _ m may
+
+  -- ---- a connection that is found
+
+  pub on_found : (cid : ℕ) (act : Entry → Machine → Effect) (m : Machine) → ((e : Entry) → entry_at cid m ≡ Some e → R m (act e m)) → R m (on_entry (entry_at cid m) act m)
+  on_found cid act m each = by_option (entry_at cid m) (λ o. R m (on_entry o act m))
+      (λ is. kept.when_nothing m) (λ e is. each e is)
+
+  pub trim-walk : (moved : Cid) (m : Machine) → R m (trim moved m)
+  trim-walk moved m = cond_both (nat_le (counted_in m) m.settings.hard) (nothing_more m)
+      (on_connection (unwrap_or (choice_of (candidates_in m)) moved) (ending Pruned) m) (R m) (λ within. kept.when_nothing m)
+      (λ above. on_found (unwrap_or (choice_of (candidates_in m)) moved).0 (ending Pruned) m (λ e is. kept.when_ended Pruned e m))
+
+  -- ---- a deadline
+
+  pub fires-walk : (sort : Kind) (e : Entry) (m : Machine) → scope.drops ≡ true → Stands scope e m → (sort ≡ kind.TimeWait → scope.timely ≡ true → is_live e.facts ≡ false) → R m (fires_as sort e m)
+  fires-walk kind.Handshake e m drops stands over = kept.when_ended (Fault HandshakeWait) e m
+  fires-walk kind.Grace e m drops stands over = cond_both e.facts.local (entry_turns e (turned_by expires e m) m) (shuts e m) (R m)
+      (λ local. kept.when_turned expires e m stands) (λ other. kept.when_shut e m stands drops)
+  fires-walk kind.TimeWait e m drops stands over = kept.when_moved (gone e.facts.cid.0) m (entry_goes e m) refl (kept.when_over e m stands (over refl))
+  fires-walk rest e m drops stands over = kept.when_ended (Fault ReplyWait) e m
+
+  -- ---- the governor
+
+  uses-walk : (f : Facts) (e : Entry) (m : Machine) → scope.sends ≡ true → R m (entry_turns e (taken f e m) m) → R m (is_used f e m)
+  uses-walk f e m may turned =
+      let n : Machine = with_entry (taken f e m) m in
+      let alive : Machine → Effect = sends_as_initiator f.cid 8 (written_alive (AskAlive (f.cid.0 % 65536))) in
+      kept.when_both m (entry_turns e (taken f e m) m) (λ x. then_do (peer_succeeds f.addr x) alive) turned
+      (kept.when_both n (peer_succeeds f.addr n) alive (kept.when_changed f.addr (λ p. record p { temp = Warm; failures = 0 }) n (λ p. refl))
+      (says-walk f.cid 8 (written_alive (AskAlive (f.cid.0 % 65536))) (peer_succeeds f.addr n).machine may))
+
+  pub acquire-walk : (e : Entry) (m : Machine) → scope.sends ≡ true → Stands scope e m → R m (acquire e m)
+  acquire-walk e m may stands = uses-walk (acquired e.facts) e m may (kept.when_turned is_acquired e m stands)
+
+  says_done-walk : (f : Facts) (m : Machine) → scope.sends ≡ true → R m (says_done f m)
+  says_done-walk f m may =
+      let first : Effect = if agreed_sharing f.agreed then sends_as_initiator f.cid 10 peer_sharing_done m else nothing_more m in
+      kept.when_both m first (sends_as_initiator f.cid 8 (written_alive Done))
+      (cond_both (agreed_sharing f.agreed) (sends_as_initiator f.cid 10 peer_sharing_done m) (nothing_more m) (R m)
+      (λ sharing. says-walk f.cid 10 peer_sharing_done m may) (λ other. kept.when_nothing m))
+      (says-walk f.cid 8 (written_alive Done) first.machine may)
+
+  pub release-walk : (e : Entry) (m : Machine) → scope.sends ≡ true → Stands scope e m → R m (release e m)
+  release-walk e m may stands =
+      kept.when_both m (says_done e.facts m) rest (says_done-walk e.facts m may)
+      (subst (λ w. R w (rest w)) (sym (says_done-machine e.facts m))
+      (kept.when_both m (entry_turns e (turned_by is_released e m) m) cools (kept.when_turned is_released e m stands)
+      (kept.when_both n (peer_becomes Cold e.facts.addr n) (trim e.facts.cid) (kept.when_changed e.facts.addr (λ p. record p { temp = Cold }) n (λ p. refl))
+      (trim-walk e.facts.cid (peer_becomes Cold e.facts.addr n).machine))))
+    where
+      cools : Machine → Effect
+      cools w = then_do (peer_becomes Cold e.facts.addr w) (trim e.facts.cid)
+
+      rest : Machine → Effect
+      rest w = then_do (entry_turns e (turned_by is_released e w) w) cools
+
+      n : Machine
+      n = with_entry (turned_by is_released e m) m
+
+  pub asks_peer-walk : (number : ℕ) (e : Entry) (m : Machine) → scope.sends ≡ true → Stands scope e m → R m (asks_peer number e m)
+  asks_peer-walk number e m may stands =
+      let n : Machine = with_entry (owing 10 number m e) m in
+      let alone : Machine → Effect = λ w. peer_was_asked (w.now + w.settings.sharegap) e.facts.addr w in
+      kept.when_both m (sends_as_initiator e.facts.cid 10 (written_request number) m) (λ w. then_do (entry_turns e (owing 10 number w e) w) alone)
+      (says-walk e.facts.cid 10 (written_request number) m may)
+      (kept.when_both m (entry_turns e (owing 10 number m e) m) alone (kept.when_turned (owes 10 number) e m stands)
+      (kept.when_changed e.facts.addr (λ p. record p { share_next = n.now + n.settings.sharegap }) n (λ p. refl)))
+
+  pub activates-walk : (e : Entry) (m : Machine) → scope.sends ≡ true → Stands scope e m → R m (activates e m)
+  activates-walk e m may stands =
+      kept.when_both m (sends_as_initiator e.facts.cid 2 find_intersect m) (λ w. entry_turns e (owing 2 0 w e) w)
+      (says-walk e.facts.cid 2 find_intersect m may) (kept.when_turned (owes 2 0) e m stands)
+
+  pub deactivates-walk : (e : Entry) (m : Machine) → scope.sends ≡ true → R m (deactivates e m)
+  deactivates-walk e m may =
+      kept.when_both m (sends_as_initiator e.facts.cid 2 chain_sync_done m) (peer_becomes Warm e.facts.addr)
+      (says-walk e.facts.cid 2 chain_sync_done m may) (kept.when_changed e.facts.addr (λ p. record p { temp = Warm }) m (λ p. refl))
+
+  stands-own : (addr : Addr) (m : Machine) (q : Entry → Bool) (e : Entry) → FindsOwn scope addr m → find q m.connections ≡ Some e → same_address e.facts.addr addr ≡ true → Stands scope e m
+  stands-own addr m q e finds is at = let found = finds.found q e is in record { found = found; own = finds.own e found at }
+
+  on_used-walk : (addr : Addr) (act : Entry → Machine → Effect) (m : Machine) → FindsOwn scope addr m → ((e : Entry) → Stands scope e m → R m (act e m)) → R m (on_used addr act m)
+  on_used-walk addr act m finds each = by_option (find (is_used_at addr) m.connections) (λ o. R m (on_entry o act m))
+      (λ is. kept.when_nothing m)
+      (λ e is.
+      let used = and_parts (is_live_at addr e.facts) e.facts.local (find_some (is_used_at addr) m.connections e is).passes in
+      each e (stands-own addr m (is_used_at addr) e finds is (and_parts (same_address e.facts.addr addr) (is_live e.facts) used.0).0))
+
+  promoted_at-walk : (addr : Addr) (m : Machine) → scope.sends ≡ true → scope.dials ≡ true → FindsOwn scope addr m → R m (promoted_at (live_entry_at addr m) addr m)
+  promoted_at-walk addr m may may_dial finds = by_option (live_entry_at addr m) (λ o. R m (promoted_at o addr m))
+      (λ is. kept.when_dialed addr m may_dial)
+      (λ e is.
+      let live = find_some (λ x. is_live_at addr x.facts) m.connections e is in
+      let at = (and_parts (same_address e.facts.addr addr) (is_live e.facts) live.passes).0 in
+      cond_both (is_acquirable e.facts) (acquire e m) (dial addr m) (R m)
+      (λ free. acquire-walk e m may (stands-own addr m (λ x. is_live_at addr x.facts) e finds is at)) (λ other. kept.when_dialed addr m may_dial))
+
+  pub orders-walk : (order : Order) (m : Machine) → scope.sends ≡ true → scope.dials ≡ true → FindsOwn scope (address_of order) m → R m (carries_out order m)
+  orders-walk (Ask addr number) m may may_dial own = on_used-walk addr (asks_peer number) m own (λ e stands. asks_peer-walk number e m may stands)
+  orders-walk (Forget addr) m may may_dial own = kept.when_forgotten addr m
+  orders-walk (Promote addr) m may may_dial own = kept.when_moved (promoted addr) m (promoted_at (live_entry_at addr m) addr m) refl (promoted_at-walk addr m may may_dial own)
+  orders-walk (Release addr) m may may_dial own = on_used-walk addr release m own (λ e stands. release-walk e m may stands)
+  orders-walk (Activate addr) m may may_dial own = kept.when_moved (activated addr) m (on_used addr activates m) refl (on_used-walk addr activates m own (λ e stands. activates-walk e m may stands))
+  orders-walk (Deactivate addr) m may may_dial own = on_used-walk addr deactivates m own (λ e stands. deactivates-walk e m may)
+
+  -- ---- a peer connects, a dial ends, or the other side closes
+
+  pub connects-walk : (addr : Addr) (m : Machine) → scope.lets_in ≡ true → R m (peer_connects addr m)
+  connects-walk addr m may = connects-cases addr m (R m) (λ cause. kept.when_turned_away cause m may) (λ room alone. kept.when_admitted addr m may)
+      (λ room e is pending. kept.when_both m (ending Overwritten e m) (admitted addr) (kept.when_ended Overwritten e m)
+      (kept.when_admitted addr (ending Overwritten e m).machine may))
+
+  opens-walk : (e : Entry) (m : Machine) → scope.sends ≡ true → Stands scope e m → R m (dial_opens e m)
+  opens-walk e m may stands =
+      kept.when_both m (entry_turns e (turned_by opens e m) m) (λ w. sends_as_initiator e.facts.cid 0 (proposal_of (own_info m.settings)) w) (kept.when_turned opens e m stands)
+      (says-walk e.facts.cid 0 (proposal_of (own_info m.settings)) (with_entry (turned_by opens e m) m) may)
+
+  -- it goes by itself where the dial has failed
+  pub dialed-walk : (opened : Bool) (e : Entry) (m : Machine) → scope.sends ≡ true → Stands scope e m →
+      (is_dialing e.facts ≡ true → opened ≡ false → scope.goes e.facts.cid.0 ≡ true) → R m (dialed opened e m)
+  dialed-walk opened e m may stands itself = by_tests (is_dialing e.facts) refl opened refl
+    where
+      by_tests : (b : Bool) → is_dialing e.facts ≡ b → (c : Bool) → opened ≡ c → R m (if b then (if c then dial_opens e m else dial_fails e m) else nothing_more m)
+      by_tests true dials true open_ = opens-walk e m may stands
+      by_tests true dials false fails = kept.when_moved (gone e.facts.cid.0) m (vanishes e m) refl (kept.when_gone e m (itself dials fails))
+      by_tests false other c is = kept.when_nothing m
+
+  closes-walk : (e : Entry) (m : Machine) → scope.goes e.facts.cid.0 ≡ true → R m (closes e m)
+  closes-walk e m itself = cond_both (is_live e.facts) (vanishes e m) (nothing_more m) (R m) (λ live. kept.when_gone e m itself) (λ closed. kept.when_nothing m)
+
+  -- ---- an item in the handshake
+
+  judged-walk : (v : Verdict) (e : Entry) (m : Machine) → scope.sends ≡ true → Stands scope e m → R m (judged v e m)
+  judged-walk (verdict.Accept agreed) e m may stands = kept.when_turned (agrees_inbound agreed) e m stands
+  judged-walk verdict.Query e m may stands = kept.when_ended Query e m
+  judged-walk (verdict.Agree agreed) e m may stands =
+      uses-walk (agreed_outbound agreed (m.now + m.settings.idle) e.facts) e m may (kept.when_turned (agrees_outbound agreed) e m stands)
+  judged-walk verdict.Wrong e m may stands = kept.when_ended (Fault Protocol) e m
+  judged-walk other e m may stands = kept.when_ended Refused e m
+
+  greeted_by-walk : (o : Option Message) (side : ℕ) (e : Entry) (m : Machine) → scope.sends ≡ true → Stands scope e m → R m (greeted_by o side e m)
+  greeted_by-walk None side e m may stands = kept.when_ended (Fault Malformed) e m
+  greeted_by-walk (Some msg) side e m may stands =
+      let v : Verdict = verdict_of (role_of e.facts.provenance) (own_info m.settings) msg in
+      let answer : Option (List ℕ) = answer_of v (own_info m.settings) in
+      cond_both (fits_side (role_of e.facts.provenance) side msg) (decided v e m) (ending (Fault Protocol) e m) (R m)
+      (λ fits. kept.when_both m (sends_answer answer e.facts.cid m) (judged v e) (answers-walk answer e.facts.cid m may)
+      (subst (λ w. R w (judged v e w)) (sym (answer-machine answer e.facts.cid m)) (judged-walk v e m may stands)))
+      (λ other. kept.when_ended (Fault Protocol) e m)
+
+  greets-walk : (item : Item) (e : Entry) (m : Machine) → scope.sends ≡ true → Stands scope e m → R m (greets item e m)
+  greets-walk item e m may stands = cond_both (item.id == 0 && is_awaited (role_of e.facts.provenance) item.side) (greeted_by (message_of item.body) item.side e m)
+      (ending (Fault Protocol) e m) (R m) (λ heard. greeted_by-walk (message_of item.body) item.side e m may stands) (λ other. kept.when_ended (Fault Protocol) e m)
+
+  -- ---- an item once the handshake is done
+
+  pub stops-walk : (done : Bool) (protocol : ℕ) (e : Entry) (m : Machine) → Stands scope e m → R m (stops_if done protocol e m)
+  stops-walk true protocol e m stands = kept.when_turned (idles protocol) e m stands
+  stops-walk false protocol e m stands = kept.when_nothing m
+
+  serves-walk : (seen : Seen) (protocol : ℕ) (e : Entry) (m : Machine) → scope.sends ≡ true → Stands scope e m → R m (serves seen protocol e m)
+  serves-walk seen protocol e m may stands =
+      kept.when_both m (replies seen.reply protocol e m) (stops_if seen.done protocol e) (replies-walk seen.reply protocol e m may)
+      (subst (λ w. R w (stops_if seen.done protocol e w)) (sym (replies-machine seen.reply protocol e m)) (stops-walk seen.done protocol e m stands))
+
+  pub begins-walk : (protocol : ℕ) (e : Entry) (m : Machine) → Stands scope e m → R m (begins protocol e m)
+  begins-walk protocol e m stands = cond_both (runs protocol e.facts.running) (nothing_more m) (awake protocol e m) (R m) (λ running. kept.when_nothing m)
+      (λ silent. kept.when_both m (entry_turns e (turned_by (awakes protocol) e m) m) (trim e.facts.cid) (kept.when_turned (awakes protocol) e m stands)
+      (trim-walk e.facts.cid (with_entry (turned_by (awakes protocol) e m) m)))
+
+  asked_as-walk : (r : Result Seen FaultKind) (protocol : ℕ) (e : Entry) (m : Machine) → scope.sends ≡ true → Stands scope e m → R m (asked_as r protocol e m)
+  asked_as-walk (Err fault) protocol e m may stands = kept.when_ended (Fault fault) e m
+  asked_as-walk (Ok seen) protocol e m may stands =
+      let first : Effect = begins protocol e m in
+      cond_both (takes_requests e) (then_do first (on_connection e.facts.cid (serves seen protocol))) (ending (Fault Protocol) e m) (R m)
+      (λ takes. kept.when_both m first (on_connection e.facts.cid (serves seen protocol)) (begins-walk protocol e m stands)
+      (on_found e.facts.cid.0 (serves seen protocol) first.machine
+      (λ f is. serves-walk seen protocol f first.machine may (found-stands scope e.facts.cid.0 first.machine f is stands.own))))
+      (λ other. kept.when_ended (Fault Protocol) e m)
+
+  comes-walk : (big : Bool) (addr : Addr) (m : Machine) → R m (as_move (shared addr) m (peer_comes big addr m))
+  comes-walk big addr m = kept.when_moved (shared addr) m (peer_comes big addr m) refl (kept.when_known big addr m)
+
+  shares-walk : (addrs : List Addr) (m : Machine) → R m (for_each shares_address addrs m)
+  unfolding for_each
+  shares-walk [] m = kept.when_nothing m
+  shares-walk (a ∷ addrs) m = kept.when_both m (shares_address a m) (for_each shares_address addrs) (comes-walk false a m) (shares-walk addrs (shares_address a m).machine)
+
+  takes-walk : (o : Option Share) (m : Machine) → R m (takes_addresses o m)
+  takes-walk None m = kept.when_nothing m
+  takes-walk (Some (share.Request n)) m = kept.when_nothing m
+  takes-walk (Some (share.Peers told)) m = shares-walk (taken_of told m) m
+  takes-walk (Some share.Done) m = kept.when_nothing m
+
+  pub brings-walk : (protocol : ℕ) (body : List ℕ) (e : Entry) (m : Machine) → R m (brings protocol body e m)
+  brings-walk protocol body e m =
+      cond_both (protocol == 2) (peer_becomes Hot e.facts.addr m) (if protocol == 8 then nothing_more m else takes_addresses (share_of body) m) (R m)
+      (λ on_2. kept.when_changed e.facts.addr (λ p. record p { temp = Hot }) m (λ p. refl))
+      (λ not_2. cond_both (protocol == 8) (nothing_more m) (takes_addresses (share_of body) m) (R m) (λ on_8. kept.when_nothing m)
+      (λ not_8. takes-walk (share_of body) m))
+
+  pub answered_as-walk : (o : Option Owed) (item : Item) (e : Entry) (m : Machine) → Stands scope e m → R m (answered_as o item e m)
+  answered_as-walk None item e m stands = kept.when_ended (Fault Protocol) e m
+  answered_as-walk (Some owed) item e m stands =
+      cond_both (pays owed item.body) (then_do (entry_turns e (paid item.id e) m) (brings item.id item.body e)) (ending (Fault Protocol) e m) (R m)
+      (λ pays. kept.when_both m (entry_turns e (paid item.id e) m) (brings item.id item.body e) (kept.when_turned (is_paid item.id) e m stands)
+      (brings-walk item.id item.body e (with_entry (paid item.id e) m)))
+      (λ other. kept.when_ended (Fault Protocol) e m)
+
+  talks-walk : (item : Item) (e : Entry) (m : Machine) → scope.sends ≡ true → Stands scope e m → R m (talks item e m)
+  talks-walk item e m may stands =
+      let seen : Result Seen FaultKind = watched item.id (agreed_sharing e.facts.agreed) item.body in
+      cond_both (item.side == 0) (asked_as seen item.id e m) (answered_as (reply_on item.id e) item e m) (R m)
+      (λ asks. asked_as-walk seen item.id e m may stands) (λ answers. answered_as-walk (reply_on item.id e) item e m stands)
+
+  pub handled-walk : (p : Phase) (item : Item) (e : Entry) (m : Machine) → scope.sends ≡ true → Stands scope e m → R m (handled_in p item e m)
+  handled-walk (Greeting until) item e m may stands = greets-walk item e m may stands
+  handled-walk Negotiated item e m may stands = talks-walk item e m may stands
+  handled-walk other item e m may stands = kept.when_nothing m
+
+  pub faulted-walk : (fault : Option CutFault) (e : Entry) (m : Machine) → R m (faulted fault e m)
+  faulted-walk None e m = kept.when_nothing m
+  faulted-walk (Some fault) e m = kept.when_ended (Fault (kind_of fault)) e m
+
+  pub big-walk : (addr : Addr) (m : Machine) → R m (comes_big addr m)
+  big-walk addr m = cond_both (is_wanted_big addr m) (as_move (shared addr) m (peer_comes true addr m)) (nothing_more m) (R m)
+      (λ wanted. comes-walk true addr m) (λ other. kept.when_nothing m)
+
+-- ---- each act
+
+-- what is stored is of a connection that stands; and the record is in order where a part finds a connection otherwise, or where
+-- what it does hangs on how the facts of one go together
+abbrev pub Finds : Act → Machine → Type 0
+Finds (stores entry undecoded) m = entry_at entry.facts.cid.0 m ≡ Some entry
+Finds (fires_one d) m = IsOrdered m
+Finds (carries order) m = IsOrdered m
+Finds (handles_item cid item) m = IsOrdered m
+Finds (connects addr) m = IsOrderly m
+Finds other m = Unit {0}
+
+-- it changes connections and peers, and sets nothing
+abbrev pub IsChange : Act → Type 0
+IsChange (shows t) = ⊥
+IsChange asks_for_roots = ⊥
+IsChange (sets_targets targets) = ⊥
+IsChange (sets_big_targets targets) = ⊥
+IsChange (sets_groups groups) = ⊥
+IsChange (sets_roots roots) = ⊥
+IsChange other = Unit {0}
+
+abbrev pub may_send : Act → Bool
+may_send (carries order) = true
+may_send (ends_dial cid opened) = true
+may_send (handles_item cid item) = true
+may_send other = false
+
+abbrev pub may_dial : Act → Bool
+may_dial (carries order) = true
+may_dial other = false
+
+abbrev pub may_let_in : Act → Bool
+may_let_in (connects addr) = true
+may_let_in other = false
+
+-- what each act may do
+abbrev pub scope_of : Act → Machine → Scope
+scope_of act m = record {
+  own = is_about act m;
+  comes = has_bytes act;
+  drops = may_close act;
+  goes = goes_by_itself act m;
+  timely = true;
+  sends = may_send act;
+  dials = may_dial act;
+  lets_in = may_let_in act;
+}
+
+-- what waits its time is live no more
+waiting-closed : (cid at : ℕ) (m : Machine) (e : Entry) → entry_at cid m ≡ Some e → until_at kind.TimeWait cid m ≡ Some at → is_live e.facts ≡ false
+waiting-closed cid at m e is waits = by_phase e.facts.phase (sym (ap (until_in kind.TimeWait) is) ∙ waits)
+  where
+    by_phase : (p : Phase) → until_gone p ≡ Some at → live_phase p ≡ false
+    by_phase (Closing until) h = refl
+    by_phase other h = absurd cc
+
+pub orderly-finds : (order : Order) (m : Machine) → IsOrderly m → FindsOwn (scope_of (carries order) m) (address_of order) m
+orderly-finds order m h = record {
+  found = λ q e is. let at = find_some q m.connections e is in stands-found m e at.place h at.stands;
+  own = λ e is at. subst (λ o. is_with (address_of order) o ≡ true) (sym is) at;
+}
+
+own_id : (cid : ℕ) → (cid == cid) ≡ true
+own_id cid = eq-eqb cid cid refl
+
+module _ (act : Act) (m : Machine) (R : Machine → Effect → Type 0) (kept : Kept (scope_of act m) R) where
+  -- the connection that an act names
+  named-walk : (cid : ℕ) (does_it : Entry → Machine → Effect) → is_about act m cid ≡ true →
+      ((e : Entry) → entry_at cid m ≡ Some e → cid ≡ e.facts.cid.0 → Stands (scope_of act m) e m → R m (does_it e m)) → R m (on_entry (entry_at cid m) does_it m)
+  named-walk cid does_it own each =
+      on_found (scope_of act m) R kept cid does_it m
+      (λ e is. each e is (sym (eqb-true e.facts.cid.0 cid (find_some (λ x. has_id cid x.facts) m.connections e is).passes)) (found-stands (scope_of act m) cid m e is own))
+
+-- Whatever each change keeps holds of each part that sets nothing.
+pub walk : (act : Act) (m : Machine) (R : Machine → Effect → Type 0) → IsChange act → IsNext act m → Finds act m → Kept (scope_of act m) R → R m (does act m)
+walk (shows t) m R sets next found kept = elim sets [ ]
+walk (fires_one d) m R change next found kept =
+    named-walk (fires_one d) m R kept d.cid.0 (fires_as d.kind) (own_id d.cid.0)
+    (λ e is same stands. fires-walk (scope_of (fires_one d) m) R kept d.kind e m refl stands
+    (λ sort timely. waiting-closed d.cid.0 d.at m e is (subst (λ k. until_at k d.cid.0 m ≡ Some d.at) sort next.waited)))
+walk asks_for_roots m R sets next found kept = elim sets [ ]
+walk (carries order) m R change next found kept = orders-walk (scope_of (carries order) m) R kept order m refl refl (orderly-finds order m found.orderly)
+walk (connects addr) m R change next found kept = connects-walk (scope_of (connects addr) m) R kept addr m refl
+walk (ends_dial cid opened) m R change next found kept =
+    named-walk (ends_dial cid opened) m R kept cid.0 (dialed opened) (own_id cid.0)
+    (λ e is same stands. dialed-walk (scope_of (ends_dial cid opened) m) R kept opened e m refl stands (itself e is same))
+  where
+    itself : (e : Entry) → entry_at cid.0 m ≡ Some e → cid.0 ≡ e.facts.cid.0 → is_dialing e.facts ≡ true → opened ≡ false → goes_by_itself (ends_dial cid opened) m e.facts.cid.0 ≡ true
+    itself e is same dials failed = subst (λ c. goes_by_itself (ends_dial cid opened) m c ≡ true) same (rw (own_id cid.0, failed, is) dials)
+walk (stores e undecoded) m R change next found kept =
+    kept.when_stored undecoded e m (record { found = found; own = own_id e.facts.cid.0 }) (own_id e.facts.cid.0)
+walk (handles_item cid item) m R change next found kept =
+    named-walk (handles_item cid item) m R kept cid.0 (handled item) (own_id cid.0)
+    (λ e is same stands. handled-walk (scope_of (handles_item cid item) m) R kept e.facts.phase item e m refl stands)
+walk (ends_stream cid fault) m R change next found kept =
+    named-walk (ends_stream cid fault) m R kept cid.0 (faulted fault) (own_id cid.0) (λ e is same stands. faulted-walk (scope_of (ends_stream cid fault) m) R kept fault e m)
+walk (is_closed cid) m R change next found kept =
+    named-walk (is_closed cid) m R kept cid.0 closes (own_id cid.0)
+    (λ e is same stands. closes-walk (scope_of (is_closed cid) m) R kept e m (eq-eqb cid.0 e.facts.cid.0 same))
+walk (sets_targets targets) m R sets next found kept = elim sets [ ]
+walk (sets_big_targets targets) m R sets next found kept = elim sets [ ]
+walk (sets_groups groups) m R sets next found kept = elim sets [ ]
+walk (sets_roots roots) m R sets next found kept = elim sets [ ]
+walk (makes_ordinary addr) m R change next found kept = kept.when_changed addr (λ p. record p { big = false }) m (λ p. refl)
+walk (provides addr) m R change next found kept = kept.when_known false addr m
+walk (provides_big addr) m R change next found kept = big-walk (scope_of (provides_big addr) m) R kept addr m
