@@ -4,3 +4,4 @@ mod groups;
 mod picks;
 mod rules;
 mod shares;
+mod steps;

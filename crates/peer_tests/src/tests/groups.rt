@@ -1,57 +1,80 @@
-use net_base::{Addr, AddrList, Group, GroupList, Ip, Job, OutOfMemory};
+use super::steps::addresses::{A1, A2, A3, A4, A5};
+use super::steps::scene::{Members, groups};
+use net_base::{Addr, AddrList, Group, Job, OutOfMemory};
 use root_groups::{Groups, Roots, each_address_stays_in_its_first_group};
 use std::alloc::Global;
-use std::test::Fail;
+use std::process::Abort;
 
-fn loopback(port: u16) -> Addr {
-    Addr {
-        ip: Ip::V4(0x7f00_0001),
-        port,
+fn is(group: &Group, want: &Members) -> bool {
+    group.hot == want.hot
+        && group.warm == want.warm
+        && group.advertise == want.advertise
+        && group.members.as_slice() == want.addrs
+}
+
+fn are(groups: &[Group], want: &[Members; 2]) -> bool {
+    let [first, second] = want;
+    match groups {
+        [group, other] => is(group, first) && is(other, second),
+        _ => false,
     }
 }
 
-fn addresses(alloc: Global, ports: &[u16]) -> Result<AddrList, OutOfMemory> {
-    let mut list = AddrList::new(alloc);
-    for port in ports {
-        list.push(loopback(*port))?;
+// Each of these addresses is in the group of that place.
+fn stand_in(rt: &impl Abort, groups: &Groups, places: &[(Addr, Option<usize>)]) {
+    for (addr, place) in places {
+        assert!(rt; groups.group_of(*addr) == *place, "of {}", addr.port);
     }
-    Ok(list)
 }
 
-#[test]
-fn an_address_keeps_its_first_place(rt: HostRuntime) -> Result<(), Fail> {
-    let own = loopback(3001);
-    let mut given = GroupList::new(rt.alloc());
-    given.push(Group {
+fn is_in_no_group(alloc: Global, addr: Addr) -> bool {
+    Groups::new(alloc).group_of(addr) == None
+}
+
+const GIVEN: [Members; 2] = [
+    Members {
         hot: 1,
         warm: 2,
         advertise: true,
-        members: addresses(rt.alloc(), &[3002, 3003, 3001, 3002])?,
-    })?;
-    given.push(Group {
+        addrs: &[A2, A3, A1, A2],
+    },
+    Members {
         hot: 0,
         warm: 1,
         advertise: false,
-        members: addresses(rt.alloc(), &[3002, 3004])?,
-    })?;
-    let groups = Groups::replace(rt.alloc(), &given, own)?;
-    let [first, second] = groups.list().as_slice() else {
-        return Err("not two groups")?;
-    };
-    assert!(rt; first.members.as_slice() == [loopback(3002), loopback(3003)].as_slice());
-    assert!(rt; second.members.as_slice() == [loopback(3004)].as_slice());
-    assert!(rt; (first.hot, first.warm, first.advertise) == (1, 2, true));
-    assert!(rt; (second.hot, second.warm, second.advertise) == (0, 1, false));
-    for (port, place) in [
-        (3001, None),
-        (3002, Some(0)),
-        (3003, Some(0)),
-        (3004, Some(1)),
-        (3005, None),
-    ] {
-        assert!(rt; groups.group_of(loopback(port)) == place, "of {port}");
-    }
-    assert!(rt; Groups::new(rt.alloc()).group_of(loopback(3002)) == None);
+        addrs: &[A2, A4],
+    },
+];
+
+const KEPT: [Members; 2] = [
+    Members {
+        hot: 1,
+        warm: 2,
+        advertise: true,
+        addrs: &[A2, A3],
+    },
+    Members {
+        hot: 0,
+        warm: 1,
+        advertise: false,
+        addrs: &[A4],
+    },
+];
+
+const PLACES: [(Addr, Option<usize>); 5] = [
+    (A1, None),
+    (A2, Some(0)),
+    (A3, Some(0)),
+    (A4, Some(1)),
+    (A5, None),
+];
+
+#[test]
+fn an_address_keeps_its_first_place(rt: HostRuntime) -> Result<(), OutOfMemory> {
+    let groups = groups(rt.alloc(), &GIVEN)?;
+    assert!(rt; are(groups.list().as_slice(), &KEPT));
+    stand_in(&rt, &groups, &PLACES);
+    assert!(rt; is_in_no_group(rt.alloc(), A2));
     each_address_stays_in_its_first_group();
     Ok(())
 }
@@ -66,26 +89,35 @@ fn a_failed_ask_is_asked_again_after_the_back_off(rt: HostRuntime) {
     let nobody = AddrList::new(rt.alloc());
     assert!(rt;
         !roots
-            .found(Job(1), 1000, &nobody, loopback(3001), 1, 5000)
+            .found(Job(1), 1000, &nobody, A1, 1, 5000)
             .expect(&rt, "no memory is asked for")
     );
     assert!(rt; roots.ask(10_000, 1) == None);
 }
 
-#[test]
-fn the_first_distinct_addresses_are_the_public_roots(rt: HostRuntime) -> Result<(), Fail> {
-    let own = loopback(3001);
-    let mut roots = Roots::new(rt.alloc());
-    let answer = addresses(rt.alloc(), &[3002, 3001, 3002, 3003, 3004])?;
-    assert!(rt; roots.ask(0, 2) == Some(Job(1)));
-    assert!(rt; roots.found(Job(1), 1000, &answer, own, 2, 7)?);
-    assert!(rt; roots.publics().as_slice() == [loopback(3002), loopback(3003)].as_slice());
-    for (port, public) in [(3001, false), (3002, true), (3003, true), (3004, false)] {
-        assert!(rt; roots.is_public(loopback(port)) == public, "{port}");
+fn the_first_are_public(rt: &impl Abort, roots: &Roots) {
+    assert!(rt; roots.publics().as_slice() == [A2, A3].as_slice());
+    for (addr, public) in [(A1, false), (A2, true), (A3, true), (A4, false)] {
+        assert!(rt; roots.is_public(addr) == public, "{}", addr.port);
     }
+}
+
+#[test]
+fn the_first_distinct_addresses_are_the_public_roots(rt: HostRuntime) {
+    let answer = AddrList::from_slice(rt.alloc(), &[A2, A1, A2, A3, A4]).expect(
+        &rt,
+        "memory is left",
+    );
+    let mut roots = Roots::new(rt.alloc());
+    assert!(rt; roots.ask(0, 2) == Some(Job(1)));
+    assert!(rt;
+        roots
+            .found(Job(1), 1000, &answer, A1, 2, 7)
+            .expect(&rt, "memory is left")
+    );
+    the_first_are_public(&rt, &roots);
     // as many as are wanted; more are wanted, but not yet; and then they are asked for
     assert!(rt; roots.ask(5000, 2) == None);
     assert!(rt; roots.ask(1006, 3) == None);
     assert!(rt; roots.ask(1007, 3) == Some(Job(2)));
-    Ok(())
 }

@@ -1,6 +1,6 @@
 use Rattle.std.proofs.Common.{rules}
 use Rattle.std.specs.List.{IsDistinct}
-use Rattle.peer_tests.proofs.tests.picks.of_one_key_the_lower_address_is_picked.Goals as goal
+use Rattle.peer_tests.proofs.tests.picks.ranks.Goals as goal
 
 pub pick-requires : goal.pick-requires
 unfolding IsDistinct
