@@ -1,9 +1,7 @@
-use net_base::{
-    Addr, AddrList, BigTargets, Cid, Event, Group, GroupList, Ip, Job, Octets, OutOfMemory,
-    RootAnswer, Targets,
-};
+use super::{expect, is_text, long_line};
+use net_base::{Addr, BigTargets, Event, Group, Ip, RootAnswer, Targets};
 use std::alloc::Global;
-use std::test::Fail;
+use std::process::Abort;
 use trace_text::{Line, LineRefusal, Stage, print_event, read_line};
 
 const LOCAL: Addr = Addr {
@@ -41,54 +39,6 @@ const NUMBER_3: LineRefusal = LineRefusal::BadNumber(3);
 
 const NUMBER_4: LineRefusal = LineRefusal::BadNumber(4);
 
-fn read(alloc: Global, version: u64, line: &[u8]) -> Result<Line, LineRefusal> {
-    let stage = Stage {
-        version,
-        seen: 2,
-        ..Stage::first()
-    };
-    read_line(alloc, &stage, line)
-}
-
-fn reads_as(alloc: Global, version: u64, line: &str, want: &Event) -> bool {
-    match read(alloc, version, line.as_bytes()) {
-        Ok(Line::Happen(event)) => event == *want,
-        _ => false,
-    }
-}
-
-fn prints_as(alloc: Global, event: &Event, want: &str) -> bool {
-    match print_event(alloc, event) {
-        Ok(line) => line.as_slice() == want.as_bytes(),
-        Err(OutOfMemory) => false,
-    }
-}
-
-// A line is read as the event, which is printed as that line.
-fn is_spelled(alloc: Global, line: &str, event: Event) -> bool {
-    reads_as(alloc, 2, line, &event) && prints_as(alloc, &event, line)
-}
-
-// The place of the first line that is taken, or refused in another way.
-fn first_taken(alloc: Global, version: u64, rows: &[(&str, LineRefusal)]) -> Option<usize> {
-    for (index, (line, want)) in rows.iter().enumerate() {
-        match read(alloc, version, line.as_bytes()) {
-            Err(refusal) if refusal == *want => {}
-            _ => return Some(index),
-        }
-    }
-    None
-}
-
-fn group(hot: u64, warm: u64, advertise: bool, members: AddrList) -> Group {
-    Group {
-        hot,
-        warm,
-        advertise,
-        members,
-    }
-}
-
 const AIMS: Targets = Targets {
     root: 0,
     known: 10_000,
@@ -102,72 +52,163 @@ const BIG_AIMS: BigTargets = BigTargets {
     active: 1,
 };
 
+// What an event says.
+#[derive(Clone, Copy)]
+enum Said<'a> {
+    Now(u64),
+    Govern(u64),
+    Accepted(Addr),
+    Dialed(u64, bool),
+    Bytes(u64, &'a [u8]),
+    Closed(u64),
+    Aims(Targets),
+    BigAims(BigTargets),
+    Locals(&'a [Gathered<'a>]),
+    Roots(u64, Found<'a>),
+    Bigs(&'a [Addr]),
+}
+
+// The valencies of a group, hot and warm, whether it is advertised, and its members.
+type Gathered<'a> = (u64, u64, bool, &'a [Addr]);
+
+// For how long an answer of roots serves, and the roots.
+type Found<'a> = Option<(u64, &'a [Addr])>;
+
+fn is_group(group: &Group, (hot, warm, advertise, members): Gathered) -> bool {
+    group.hot == hot
+        && group.warm == warm
+        && group.advertise == advertise
+        && group.members.as_slice() == members
+}
+
+fn are_groups(groups: &[Group], wanted: &[Gathered]) -> bool {
+    for (group, gathered) in groups.iter().zip(wanted) {
+        if !is_group(group, *gathered) {
+            return false;
+        }
+    }
+    groups.len() == wanted.len()
+}
+
+fn is_answer(answer: &RootAnswer, found: Found) -> bool {
+    match (answer, found) {
+        (RootAnswer::Found(time, addresses), Some((wanted, roots))) => {
+            *time == wanted && addresses.as_slice() == roots
+        }
+        (RootAnswer::Failed, None) => true,
+        _ => false,
+    }
+}
+
+fn is_said(event: &Event, said: Said) -> bool {
+    match (event, said) {
+        (Event::Now(moment), Said::Now(wanted)) => *moment == wanted,
+        (Event::Govern(word), Said::Govern(wanted)) => *word == wanted,
+        (Event::Accepted(address), Said::Accepted(wanted)) => *address == wanted,
+        (Event::Dialed(cid, open), Said::Dialed(id, wanted)) => cid.0 == id && *open == wanted,
+        (Event::Bytes(cid, bytes), Said::Bytes(id, wanted)) => {
+            cid.0 == id && bytes.as_slice() == wanted
+        }
+        (Event::Closed(cid), Said::Closed(id)) => cid.0 == id,
+        (Event::Aims(targets), Said::Aims(wanted)) => *targets == wanted,
+        (Event::BigAims(targets), Said::BigAims(wanted)) => *targets == wanted,
+        (Event::Locals(groups), Said::Locals(wanted)) => are_groups(groups.as_slice(), wanted),
+        (Event::Roots(job, answer), Said::Roots(id, found)) => {
+            job.0 == id && is_answer(answer, found)
+        }
+        (Event::Bigs(addresses), Said::Bigs(wanted)) => addresses.as_slice() == wanted,
+        _ => false,
+    }
+}
+
+fn read(alloc: Global, version: u64, line: &[u8]) -> Result<Line, LineRefusal> {
+    let stage = Stage {
+        version,
+        seen: 2,
+        ..Stage::first()
+    };
+    read_line(alloc, &stage, line)
+}
+
+// Whether this was read, which is printed as that line.
+fn is_spelled(alloc: Global, read: Result<Line, LineRefusal>, said: Said, line: &str) -> bool {
+    match &read {
+        Ok(Line::Happen(event)) => is_said(event, said) && is_text(print_event(alloc, event), line),
+        _ => false,
+    }
+}
+
+// Each line is read as an event, which is printed as that line.
+fn expect_spelled(rt: &impl Abort, alloc: Global, rows: &[(&str, Said)]) {
+    for (line, said) in rows {
+        let read = read(alloc, 2, line.as_bytes());
+        expect(rt, is_spelled(alloc, read, *said, *line), *line);
+    }
+}
+
+// Whether a line was refused so.
+fn is_refused(read: Result<Line, LineRefusal>, wanted: LineRefusal) -> bool {
+    match &read {
+        Ok(_) => false,
+        Err(refusal) => *refusal == wanted,
+    }
+}
+
+fn expect_refused(rt: &impl Abort, alloc: Global, version: u64, rows: &[(&str, LineRefusal)]) {
+    for (line, refusal) in rows {
+        let read = read(alloc, version, line.as_bytes());
+        expect(rt, is_refused(read, *refusal), *line);
+    }
+}
+
+const NUMBERS: &[(&str, Said)] = &[
+    ("now 281474976710656", Said::Now(281_474_976_710_656)),
+    ("govern 18446744073709551615", Said::Govern(u64::MAX)),
+    ("dialed 7 ok", Said::Dialed(7, true)),
+    ("dialed 0 failed", Said::Dialed(0, false)),
+    ("closed 12", Said::Closed(12)),
+    ("targets 0 10000 1000 100", Said::Aims(AIMS)),
+    ("bigtargets 3 2 1", Said::BigAims(BIG_AIMS)),
+    ("roots 1 failed", Said::Roots(1, None)),
+    ("accepted 10.0.0.2:3002", Said::Accepted(OTHER)),
+    ("accepted [fd00:0:0:0:0:0:0:7]:1", Said::Accepted(LONG)),
+];
+
 #[test]
 fn events_of_numbers(rt: HostRuntime) {
-    let alloc = rt.alloc();
-    assert!(rt;
-        is_spelled(
-            alloc,
-            "now 281474976710656",
-            Event::Now(281_474_976_710_656)
-        )
-    );
-    assert!(rt;
-        is_spelled(
-            alloc,
-            "govern 18446744073709551615",
-            Event::Govern(u64::MAX)
-        )
-    );
-    assert!(rt; is_spelled(alloc, "dialed 7 ok", Event::Dialed(Cid(7), true)));
-    assert!(rt; is_spelled(alloc, "dialed 0 failed", Event::Dialed(Cid(0), false)));
-    assert!(rt; is_spelled(alloc, "closed 12", Event::Closed(Cid(12))));
-    assert!(rt; is_spelled(alloc, "targets 0 10000 1000 100", Event::Aims(AIMS)));
-    assert!(rt; is_spelled(alloc, "bigtargets 3 2 1", Event::BigAims(BIG_AIMS)));
-    let failed = Event::Roots(Job(1), RootAnswer::Failed);
-    assert!(rt; is_spelled(alloc, "roots 1 failed", failed));
-    assert!(rt; is_spelled(alloc, "accepted 10.0.0.2:3002", Event::Accepted(OTHER)));
-    assert!(rt;
-        is_spelled(
-            alloc,
-            "accepted [fd00:0:0:0:0:0:0:7]:1",
-            Event::Accepted(LONG)
-        )
-    );
+    expect_spelled(&rt, rt.alloc(), NUMBERS);
 }
 
-fn two_groups(alloc: Global) -> Result<GroupList, OutOfMemory> {
-    let members = AddrList::from_slice(alloc, &[LOCAL, LONG])?;
-    let mut groups = GroupList::new(alloc);
-    groups.push(group(1, 2, true, members))?;
-    groups.push(group(0, 10_000, false, AddrList::new(alloc)))?;
-    Ok(groups)
-}
+const LISTS: &[(&str, Said)] = &[
+    ("bytes 1 00ff09af", Said::Bytes(1, &[0, 255, 9, 0xaf])),
+    ("locals", Said::Locals(&[])),
+    (
+        "locals / 1 2 + 10.0.0.1:3001 [fd00:0:0:0:0:0:0:7]:1 / 0 10000 -",
+        Said::Locals(&[(1, 2, true, &[LOCAL, LONG]), (0, 10_000, false, &[])]),
+    ),
+];
 
 #[test]
-fn events_of_lists(rt: HostRuntime) -> Result<(), Fail> {
-    let alloc = rt.alloc();
-    let bytes = Octets::from_slice(alloc, &[0, 255, 9, 0xaf])?;
-    assert!(rt; is_spelled(alloc, "bytes 1 00ff09af", Event::Bytes(Cid(1), bytes)));
-    assert!(rt; is_spelled(alloc, "locals", Event::Locals(GroupList::new(alloc))));
-    let two = Event::Locals(two_groups(alloc)?);
-    let line = "locals / 1 2 + 10.0.0.1:3001 [fd00:0:0:0:0:0:0:7]:1 / 0 10000 -";
-    assert!(rt; is_spelled(alloc, line, two));
-    Ok(())
+fn events_of_lists(rt: HostRuntime) {
+    expect_spelled(&rt, rt.alloc(), LISTS);
 }
 
+const ADDRESSES: &[(&str, Said)] = &[
+    (
+        "roots 3 ok 86400000 10.0.0.2:3002",
+        Said::Roots(3, Some((86_400_000, &[OTHER]))),
+    ),
+    ("roots 0 ok 1", Said::Roots(0, Some((1, &[])))),
+    ("bigs", Said::Bigs(&[])),
+    (
+        "bigs 10.0.0.1:3001 10.0.0.1:3001",
+        Said::Bigs(&[LOCAL, LOCAL]),
+    ),
+];
+
 #[test]
-fn events_of_addresses(rt: HostRuntime) -> Result<(), Fail> {
-    let alloc = rt.alloc();
-    let found = RootAnswer::Found(86_400_000, AddrList::from_slice(alloc, &[OTHER])?);
-    let line = "roots 3 ok 86400000 10.0.0.2:3002";
-    assert!(rt; is_spelled(alloc, line, Event::Roots(Job(3), found)));
-    let none = RootAnswer::Found(1, AddrList::new(alloc));
-    assert!(rt; is_spelled(alloc, "roots 0 ok 1", Event::Roots(Job(0), none)));
-    assert!(rt; is_spelled(alloc, "bigs", Event::Bigs(AddrList::new(alloc))));
-    let twice = Event::Bigs(AddrList::from_slice(alloc, &[LOCAL, LOCAL])?);
-    assert!(rt; is_spelled(alloc, "bigs 10.0.0.1:3001 10.0.0.1:3001", twice));
-    Ok(())
+fn events_of_addresses(rt: HostRuntime) {
+    expect_spelled(&rt, rt.alloc(), ADDRESSES);
 }
 
 const REFUSED_EVENTS: &[(&str, LineRefusal)] = &[
@@ -221,8 +262,8 @@ const REFUSED_EVENTS: &[(&str, LineRefusal)] = &[
 
 #[test]
 fn refused_events(rt: HostRuntime) {
-    assert!(rt; first_taken(rt.alloc(), 2, REFUSED_EVENTS) == None);
-    assert!(rt; first_taken(rt.alloc(), 1, REFUSED_EVENTS) == None);
+    expect_refused(&rt, rt.alloc(), 2, REFUSED_EVENTS);
+    expect_refused(&rt, rt.alloc(), 1, REFUSED_EVENTS);
 }
 
 const REFUSED_IN_VERSION_2: &[(&str, LineRefusal)] = &[
@@ -244,26 +285,29 @@ const REFUSED_IN_VERSION_1: &[(&str, LineRefusal)] = &[
 
 #[test]
 fn events_of_version_2_alone(rt: HostRuntime) {
-    assert!(rt; first_taken(rt.alloc(), 2, REFUSED_IN_VERSION_2) == None);
-    assert!(rt; first_taken(rt.alloc(), 1, REFUSED_IN_VERSION_1) == None);
+    expect_refused(&rt, rt.alloc(), 2, REFUSED_IN_VERSION_2);
+    expect_refused(&rt, rt.alloc(), 1, REFUSED_IN_VERSION_1);
 }
 
-// How many bytes are read of a line of so many bytes, of which all behind the id are zeros.
-fn length_of_zeros(alloc: Global, length: usize) -> Option<usize> {
-    let front = "bytes 1 ";
-    let mut line = vec![in alloc; b'0'; length].ok()?;
-    for (place, first) in line.iter_mut().zip(front.bytes()) {
-        *place = first;
+// Whether so many bytes were read of a socket, or the line was refused so.
+fn has_bytes(read: Result<Line, LineRefusal>, wanted: Result<usize, LineRefusal>) -> bool {
+    match (&read, wanted) {
+        (Ok(Line::Happen(Event::Bytes(_, bytes))), Ok(count)) => bytes.as_slice().len() == count,
+        (Err(refusal), Err(wanted)) => *refusal == wanted,
+        _ => false,
     }
-    match read(alloc, 1, &line) {
-        Ok(Line::Happen(Event::Bytes(_, bytes))) => Some(bytes.as_slice().len()),
-        Err(LineRefusal::BadWord(3)) => Some(0),
-        _ => None,
+}
+
+// The same, of a line of so many bytes, of which all behind the id are zeros.
+fn has_zeros(alloc: Global, length: usize, wanted: Result<usize, LineRefusal>) -> bool {
+    match long_line(alloc, length, "bytes 1 ", b'0') {
+        Ok(line) => has_bytes(read(alloc, 1, &line), wanted),
+        Err(_) => false,
     }
 }
 
 #[test]
 fn a_read_of_a_socket_has_its_limit(rt: HostRuntime) {
-    assert!(rt; length_of_zeros(rt.alloc(), 131_080) == Some(65_536));
-    assert!(rt; length_of_zeros(rt.alloc(), 131_082) == Some(0));
+    assert!(rt; has_zeros(rt.alloc(), 131_080, Ok(65_536)));
+    assert!(rt; has_zeros(rt.alloc(), 131_082, Err(WORD_3)));
 }

@@ -1,10 +1,12 @@
+ghost use Rattle.std.specs.Prelude.{◌≡◌, false};
+
 use hs_decide::Role;
 use hs_message::VersionInfo;
-use net_base::{Agreed, Octets, OutOfMemory};
+use net_base::{Agreed, OutOfMemory};
 use pair_net::*;
 use std::alloc::Global;
+use std::mem;
 use std::process::Abort;
-use std::test::Fail;
 
 mod lines;
 
@@ -36,93 +38,146 @@ const AGREED: Agreed = Agreed {
     sharing: true,
 };
 
-// A step, of which these notes are told.
-fn take(rt: &impl Abort, pair: Pair, step: PairStep, notes: &[PairNote]) -> Result<Pair, Fail> {
-    let (pair, told) = pair.step(step)?;
-    assert!(rt; told.as_slice() == notes);
-    Ok(pair)
+// A step and what is told of it, or what is seen behind the steps.
+#[derive(Clone, Copy)]
+enum Turn<'a> {
+    Takes(PairStep, &'a [Told<'a>]),
+    Stands(End, EndPhase),
+    IsFresh(End),
 }
 
-fn sent(alloc: Global, end: End, bytes: &[u8]) -> Result<PairNote, OutOfMemory> {
-    Ok(PairNote::Sent(end, Octets::from_slice(alloc, bytes)?))
+#[derive(Clone, Copy)]
+enum Told<'a> {
+    Waits(End, Role),
+    Sent(End, &'a [u8]),
+    Agrees(End, Agreed),
+    Ends(End, EndCause),
 }
 
-// The left end dials, and the right one waits.
-fn met(alloc: Global) -> Result<[PairNote; 3], OutOfMemory> {
-    let proposal = sent(alloc, End::Left, DUPLEX_PROPOSAL)?;
-    Ok([
-        PairNote::Waits(End::Left, Role::Dialer),
-        proposal,
-        PairNote::Waits(End::Right, Role::Acceptor),
-    ])
+fn is_told(note: &PairNote, told: Told) -> bool {
+    match (note, told) {
+        (PairNote::Waits(end, role), Told::Waits(of, wanted)) => *end == of && *role == wanted,
+        (PairNote::Sent(end, bytes), Told::Sent(of, wanted)) => {
+            *end == of && bytes.as_slice() == wanted
+        }
+        (PairNote::Agrees(end, agreed), Told::Agrees(of, wanted)) => {
+            *end == of && *agreed == wanted
+        }
+        (PairNote::Ends(end, cause), Told::Ends(of, wanted)) => *end == of && *cause == wanted,
+        _ => false,
+    }
 }
 
-fn meet(rt: &impl Abort, alloc: Global) -> Result<Pair, Fail> {
-    let met = met(alloc)?;
-    let pair = Pair::new(alloc, DUPLEX, DUPLEX);
-    take(rt, pair, PairStep::Meet(End::Left), &met)
+fn are_told(notes: &[PairNote], wanted: &[Told]) -> bool {
+    for (note, told) in notes.iter().zip(wanted) {
+        if !is_told(note, *told) {
+            return false;
+        }
+    }
+    notes.len() == wanted.len()
 }
 
-fn accepted(alloc: Global) -> Result<[PairNote; 2], OutOfMemory> {
-    let acceptance = sent(alloc, End::Right, ACCEPTANCE)?;
-    Ok([acceptance, PairNote::Agrees(End::Right, AGREED)])
+// Whether these notes alone are told of a step.
+fn takes(alloc: Global, pair: &mut Pair, step: PairStep, wanted: &[Told]) -> bool {
+    match mem::replace(pair, Pair::new(alloc, DUPLEX, DUPLEX)).step(step) {
+        Ok((next, notes)) => {
+            *pair = next;
+            are_told(notes.as_slice(), wanted)
+        }
+        Err(OutOfMemory) => false,
+    }
 }
 
-fn accept(rt: &impl Abort, pair: Pair, alloc: Global) -> Result<Pair, Fail> {
-    let accepted = accepted(alloc)?;
-    take(rt, pair, PairStep::Deliver(End::Right, 25), &accepted)
+fn goes(alloc: Global, pair: &mut Pair, turn: Turn) -> bool {
+    match turn {
+        Turn::Takes(step, wanted) => takes(alloc, pair, step, wanted),
+        Turn::Stands(end, phase) => pair.phase(end) == phase,
+        Turn::IsFresh(end) => pair.phase(end).is_fresh(),
+    }
 }
+
+// All turns of a pair whose right end says this of itself go as they say.
+fn run(rt: &impl Abort, alloc: Global, right: VersionInfo, turns: &[Turn])
+    requires { right.query ≡ false }
+{
+    let mut pair = Pair::new(alloc, DUPLEX, right);
+    for (n, turn) in turns.iter().enumerate() {
+        assert!(rt; goes(alloc, &mut pair, *turn), "at turn {n}");
+    }
+}
+
+const MEETING: [Turn; 5] = [
+    // the left end dials, and the right one waits
+    Turn::Takes(
+        PairStep::Meet(End::Left),
+        &[
+            Told::Waits(End::Left, Role::Dialer),
+            Told::Sent(End::Left, DUPLEX_PROPOSAL),
+            Told::Waits(End::Right, Role::Acceptor),
+        ],
+    ),
+    Turn::Takes(
+        PairStep::Deliver(End::Right, 25),
+        &[
+            Told::Sent(End::Right, ACCEPTANCE),
+            Told::Agrees(End::Right, AGREED),
+        ],
+    ),
+    Turn::Takes(
+        PairStep::Deliver(End::Left, 17),
+        &[Told::Agrees(End::Left, AGREED)],
+    ),
+    Turn::Stands(End::Left, EndPhase::Agreed(AGREED)),
+    Turn::Stands(End::Right, EndPhase::Agreed(AGREED)),
+];
 
 #[test]
-fn a_meeting_agrees(rt: HostRuntime) -> Result<(), Fail> {
-    let pair = meet(&rt, rt.alloc())?;
-    let pair = accept(&rt, pair, rt.alloc())?;
-    let agreed = [PairNote::Agrees(End::Left, AGREED)];
-    let pair = take(&rt, pair, PairStep::Deliver(End::Left, 17), &agreed)?;
-    assert!(rt; pair.phase(End::Left) == EndPhase::Agreed(AGREED));
-    assert!(rt; pair.phase(End::Right) == EndPhase::Agreed(AGREED));
-    Ok(())
+fn a_meeting_agrees(rt: HostRuntime) {
+    run(&rt, rt.alloc(), DUPLEX, &MEETING);
 }
 
-// Both ends dial.
-fn crossed(alloc: Global) -> Result<[PairNote; 4], OutOfMemory> {
-    let left = sent(alloc, End::Left, DUPLEX_PROPOSAL)?;
-    let right = sent(alloc, End::Right, DIALS_ONLY_PROPOSAL)?;
-    Ok([
-        PairNote::Waits(End::Left, Role::Dialer),
-        left,
-        PairNote::Waits(End::Right, Role::Dialer),
-        right,
-    ])
-}
-
-fn cross(rt: &impl Abort, alloc: Global) -> Result<Pair, Fail> {
-    let crossed = crossed(alloc)?;
-    let pair = Pair::new(alloc, DUPLEX, DIALS_ONLY);
-    take(rt, pair, PairStep::Cross, &crossed)
-}
+const CROSSING: [Turn; 4] = [
+    // both ends dial
+    Turn::Takes(
+        PairStep::Cross,
+        &[
+            Told::Waits(End::Left, Role::Dialer),
+            Told::Sent(End::Left, DUPLEX_PROPOSAL),
+            Told::Waits(End::Right, Role::Dialer),
+            Told::Sent(End::Right, DIALS_ONLY_PROPOSAL),
+        ],
+    ),
+    Turn::Takes(
+        PairStep::Deliver(End::Left, 25),
+        &[Told::Ends(End::Left, EndCause::Refused)],
+    ),
+    Turn::Takes(
+        PairStep::Deliver(End::Right, 100),
+        &[Told::Ends(End::Right, EndCause::Refused)],
+    ),
+    Turn::Stands(End::Left, EndPhase::Ended(EndCause::Refused)),
+];
 
 #[test]
-fn a_crossing_with_an_initiator_only_is_refused(rt: HostRuntime) -> Result<(), Fail> {
-    let pair = cross(&rt, rt.alloc())?;
-    let left = [PairNote::Ends(End::Left, EndCause::Refused)];
-    let pair = take(&rt, pair, PairStep::Deliver(End::Left, 25), &left)?;
-    let right = [PairNote::Ends(End::Right, EndCause::Refused)];
-    let pair = take(&rt, pair, PairStep::Deliver(End::Right, 100), &right)?;
-    assert!(rt; pair.phase(End::Left) == EndPhase::Ended(EndCause::Refused));
-    Ok(())
+fn a_crossing_with_an_initiator_only_is_refused(rt: HostRuntime) {
+    run(&rt, rt.alloc(), DIALS_ONLY, &CROSSING);
 }
 
-#[test]
-fn ends_end(rt: HostRuntime) -> Result<(), Fail> {
-    let pair = Pair::new(rt.alloc(), DUPLEX, DUPLEX);
-    let pair = take(&rt, pair, PairStep::Timeout(End::Left), &[])?;
-    assert!(rt; pair.phase(End::Left).is_fresh());
-    let closed = [PairNote::Ends(End::Left, EndCause::Closed)];
-    let pair = take(&rt, pair, PairStep::Close(End::Left), &closed)?;
+const ENDING: [Turn; 6] = [
+    Turn::Takes(PairStep::Timeout(End::Left), &[]),
+    Turn::IsFresh(End::Left),
+    Turn::Takes(
+        PairStep::Close(End::Left),
+        &[Told::Ends(End::Left, EndCause::Closed)],
+    ),
     // an end that was closed bars meetings and crossings
-    let pair = take(&rt, pair, PairStep::Meet(End::Left.other()), &[])?;
-    let pair = take(&rt, pair, PairStep::Cross, &[])?;
-    assert!(rt; pair.phase(End::Right).is_fresh());
-    Ok(())
+    Turn::Takes(PairStep::Meet(End::Right), &[]),
+    Turn::Takes(PairStep::Cross, &[]),
+    Turn::IsFresh(End::Right),
+];
+
+#[test]
+fn ends_end(rt: HostRuntime) {
+    assert!(rt; End::Left.other() == End::Right);
+    run(&rt, rt.alloc(), DUPLEX, &ENDING);
 }

@@ -1,13 +1,14 @@
+use super::{expect, is_text, long_line};
 use net_base::{
-    Action, Addr, Away, Cid, CloseCause, Event, FaultKind, Ip, Job, Octets, PeerNote, Settings,
-    StateName,
+    Action, Addr, Away, Cid, CloseCause, Event, FaultKind, Ip, Job, Octets, OutOfMemory, PeerNote,
+    Settings, StateName,
 };
 use std::alloc::Global;
-use std::test::Fail;
+use std::process::Abort;
 use trace_text::*;
 
-// What a line was read as, to be compared.
-#[derive(Clone, Copy, PartialEq, Eq)]
+// What a line says.
+#[derive(Clone, Copy)]
 enum Said {
     Trace(u64),
     Own(Addr),
@@ -21,29 +22,49 @@ enum Said {
     Refused(LineRefusal),
 }
 
-fn line_said(line: &Line) -> Said {
-    match line {
-        Line::Head(head) => head_said(*head),
-        Line::Happen(event) => event_said(event),
-        Line::Acted => Said::Acted,
-        Line::End => Said::End,
+fn is_head(head: HeadLine, said: Said) -> bool {
+    match (head, said) {
+        (HeadLine::Trace(version), Said::Trace(wanted)) => version == wanted,
+        (HeadLine::Own(address), Said::Own(wanted)) => address == wanted,
+        (HeadLine::Set(place, value), Said::Set(at, wanted)) => place == at && value == wanted,
+        _ => false,
     }
 }
 
-fn head_said(head: HeadLine) -> Said {
-    match head {
-        HeadLine::Trace(version) => Said::Trace(version),
-        HeadLine::Own(address) => Said::Own(address),
-        HeadLine::Set(place, value) => Said::Set(place, value),
-    }
-}
-
-fn event_said(event: &Event) -> Said {
+fn is_event(event: &Event, said: Said) -> bool {
     match event {
-        Event::Now(moment) => Said::Now(*moment),
-        Event::Accepted(address) => Said::Accepted(*address),
-        Event::Closed(cid) => Said::Closed(cid.0),
-        _ => Said::Other,
+        Event::Now(moment) => matches!(said, Said::Now(wanted) if *moment == wanted),
+        Event::Accepted(address) => matches!(said, Said::Accepted(wanted) if *address == wanted),
+        Event::Closed(cid) => matches!(said, Said::Closed(id) if cid.0 == id),
+        _ => matches!(said, Said::Other),
+    }
+}
+
+fn is_line(line: &Line, said: Said) -> bool {
+    match line {
+        Line::Head(head) => is_head(*head, said),
+        Line::Happen(event) => is_event(event, said),
+        Line::Acted => matches!(said, Said::Acted),
+        Line::End => matches!(said, Said::End),
+    }
+}
+
+// Whether the next line says this. A refused line is passed over.
+fn says(alloc: Global, stage: &mut Stage, line: &[u8], said: Said) -> bool {
+    match &read_line(alloc, stage, line) {
+        Ok(line) => {
+            *stage = stage.after(line);
+            is_line(line, said)
+        }
+        Err(refusal) => matches!(said, Said::Refused(wanted) if *refusal == wanted),
+    }
+}
+
+// What each line says, one after another.
+fn expect_said(rt: &impl Abort, alloc: Global, rows: &[(&str, Said)]) {
+    let mut stage = Stage::first();
+    for (line, said) in rows {
+        expect(rt, says(alloc, &mut stage, line.as_bytes(), *said), *line);
     }
 }
 
@@ -106,24 +127,6 @@ const FULL: Addr = Addr {
 
 const ORDER: Said = Said::Refused(LineRefusal::OutOfOrder);
 
-// The place of the first line that says something else than is wanted. A refused line is passed over.
-fn first_wrong(alloc: Global, rows: &[(&str, Said)]) -> Option<usize> {
-    let mut stage = Stage::first();
-    for (index, (line, want)) in rows.iter().enumerate() {
-        let said = match read_line(alloc, &stage, line.as_bytes()) {
-            Ok(line) => {
-                stage = stage.after(&line);
-                line_said(&line)
-            }
-            Err(refusal) => Said::Refused(refusal),
-        };
-        if said != *want {
-            return Some(index);
-        }
-    }
-    None
-}
-
 const THE_FIRST_TWO_LINES: &[(&str, Said)] = &[
     ("", WORD_1),
     ("now 5", WORD_1),
@@ -148,7 +151,7 @@ const THE_FIRST_TWO_LINES: &[(&str, Said)] = &[
 
 #[test]
 fn the_first_two_lines(rt: HostRuntime) {
-    assert!(rt; first_wrong(rt.alloc(), THE_FIRST_TWO_LINES) == None);
+    expect_said(&rt, rt.alloc(), THE_FIRST_TWO_LINES);
 }
 
 const LINES_BEHIND_THE_HEAD: &[(&str, Said)] = &[
@@ -181,7 +184,7 @@ const LINES_BEHIND_THE_HEAD: &[(&str, Said)] = &[
 
 #[test]
 fn lines_behind_the_head(rt: HostRuntime) {
-    assert!(rt; first_wrong(rt.alloc(), LINES_BEHIND_THE_HEAD) == None);
+    expect_said(&rt, rt.alloc(), LINES_BEHIND_THE_HEAD);
 }
 
 const EVENTS_OF_VERSION_1: &[(&str, Said)] = &[
@@ -207,8 +210,8 @@ const EVENTS_OF_VERSION_2: &[(&str, Said)] = &[
 
 #[test]
 fn every_event_is_read(rt: HostRuntime) {
-    assert!(rt; first_wrong(rt.alloc(), EVENTS_OF_VERSION_1) == None);
-    assert!(rt; first_wrong(rt.alloc(), EVENTS_OF_VERSION_2) == None);
+    expect_said(&rt, rt.alloc(), EVENTS_OF_VERSION_1);
+    expect_said(&rt, rt.alloc(), EVENTS_OF_VERSION_2);
 }
 
 const ADDRESSES_OF_VERSION_1: &[(&str, Said)] = &[
@@ -233,7 +236,7 @@ const ADDRESSES_OF_VERSION_1: &[(&str, Said)] = &[
 
 #[test]
 fn addresses_of_version_1(rt: HostRuntime) {
-    assert!(rt; first_wrong(rt.alloc(), ADDRESSES_OF_VERSION_1) == None);
+    expect_said(&rt, rt.alloc(), ADDRESSES_OF_VERSION_1);
 }
 
 const ADDRESSES_OF_VERSION_2: &[(&str, Said)] = &[
@@ -261,7 +264,7 @@ const ADDRESSES_OF_VERSION_2: &[(&str, Said)] = &[
 
 #[test]
 fn addresses_of_version_2(rt: HostRuntime) {
-    assert!(rt; first_wrong(rt.alloc(), ADDRESSES_OF_VERSION_2) == None);
+    expect_said(&rt, rt.alloc(), ADDRESSES_OF_VERSION_2);
 }
 
 const SETTINGS_IN_THEIR_ORDER: &[(&str, Said)] = &[
@@ -303,92 +306,135 @@ const SETTINGS_IN_THEIR_ORDER: &[(&str, Said)] = &[
 
 #[test]
 fn settings_in_their_order(rt: HostRuntime) {
-    assert!(rt; first_wrong(rt.alloc(), SETTINGS_IN_THEIR_ORDER) == None);
+    expect_said(&rt, rt.alloc(), SETTINGS_IN_THEIR_ORDER);
 }
 
-// What a long line says that begins with a text and goes on with one byte.
-fn long_said(alloc: Global, front: &str, byte: u8) -> Option<Said> {
-    let stage = Stage {
+// Whether a long line behind the first two says this, which begins with a text and goes on with one byte.
+fn says_at_length(alloc: Global, front: &str, byte: u8, said: Said) -> bool {
+    let mut stage = Stage {
         version: 2,
         seen: 2,
         ..Stage::first()
     };
-    let mut line = vec![in alloc; byte; 139_000].ok()?;
-    for (place, first) in line.iter_mut().zip(front.bytes()) {
-        *place = first;
-    }
-    match read_line(alloc, &stage, &line) {
-        Ok(line) => Some(line_said(&line)),
-        Err(refusal) => Some(Said::Refused(refusal)),
+    match long_line(alloc, 139_000, front, byte) {
+        Ok(line) => says(alloc, &mut stage, &line, said),
+        Err(_) => false,
     }
 }
+
+const LONG_LINES: &[(&str, u8, Said)] = &[
+    ("", 0xff, WORD_1),
+    ("", b' ', WORD_1),
+    ("> ", 0xff, Said::Acted),
+    ("now ", b'9', NUMBER_2),
+    ("now 5 ", b' ', WORD_3),
+    ("accepted [", b':', WORD_2),
+    ("accepted 1", b'.', WORD_2),
+];
 
 #[test]
 fn any_bytes_are_a_line(rt: HostRuntime) {
-    assert!(rt; long_said(rt.alloc(), "", 0xff) == Some(WORD_1));
-    assert!(rt; long_said(rt.alloc(), "", b' ') == Some(WORD_1));
-    assert!(rt; long_said(rt.alloc(), "> ", 0xff) == Some(Said::Acted));
-    assert!(rt; long_said(rt.alloc(), "now ", b'9') == Some(NUMBER_2));
-    assert!(rt; long_said(rt.alloc(), "now 5 ", b' ') == Some(WORD_3));
-    assert!(rt; long_said(rt.alloc(), "accepted [", b':') == Some(WORD_2));
-    assert!(rt; long_said(rt.alloc(), "accepted 1", b'.') == Some(WORD_2));
+    for (front, byte, said) in LONG_LINES {
+        let holds = says_at_length(rt.alloc(), *front, *byte, *said);
+        expect(&rt, holds, *front);
+    }
+}
+
+// Whether a line is read as one of an action.
+fn is_acted(alloc: Global, line: &str) -> bool {
+    let mut stage = Stage::first();
+    says(alloc, &mut stage, b"trace 1", Said::Trace(1))
+        && says(alloc, &mut stage, b"own 0.0.0.0:0", Said::Own(NOWHERE))
+        && says(alloc, &mut stage, line.as_bytes(), Said::Acted)
 }
 
 // An action is printed so, and what is printed is read as an action line.
-fn is_printed(alloc: Global, action: Action, want: &str) -> bool {
-    let Ok(line) = print_action(alloc, &action) else {
-        return false;
-    };
-    let acted = [
-        ("trace 1", Said::Trace(1)),
-        ("own 0.0.0.0:0", Said::Own(NOWHERE)),
-        (want, Said::Acted),
-    ];
-    line.as_slice() == want.as_bytes() && first_wrong(alloc, &acted).is_none()
+fn is_printed(alloc: Global, action: &Action, line: &str) -> bool {
+    is_text(print_action(alloc, action), line) && is_acted(alloc, line)
+}
+
+fn expect_printed(rt: &impl Abort, alloc: Global, rows: &[(Action, &str)]) {
+    for (action, line) in rows {
+        expect(rt, is_printed(alloc, action, *line), *line);
+    }
 }
 
 #[test]
 fn actions_of_connections_are_printed(rt: HostRuntime) {
-    let alloc = rt.alloc();
-    let admit = Action::Admit(Cid(1), LOCAL_2);
-    assert!(rt; is_printed(alloc, admit, "> admit 1 127.0.0.1:3002"));
-    let full = Action::Turnaway(Away::Full);
-    assert!(rt; is_printed(alloc, full, "> turnaway full"));
-    let itself = Action::Turnaway(Away::OwnAddr);
-    assert!(rt; is_printed(alloc, itself, "> turnaway self"));
-    let dial = Action::Dial(Cid(18_446_744_073_709_551_615), LOCAL_2);
-    assert!(rt; is_printed(alloc, dial, "> dial 18446744073709551615 127.0.0.1:3002"));
-    let dial = Action::Dial(Cid(3), FULL);
-    assert!(rt; is_printed(alloc, dial, "> dial 3 [fe80:10:200:3000:a:bc:def:9f0e]:1"));
-    let overwritten = Action::Close(Cid(2), CloseCause::Overwritten);
-    assert!(rt; is_printed(alloc, overwritten, "> close 2 overwritten"));
-    let late = Action::Close(Cid(2), CloseCause::Fault(FaultKind::HandshakeWait));
-    assert!(rt; is_printed(alloc, late, "> close 2 fault handshakewait"));
+    let rows = [
+        (Action::Admit(Cid(1), LOCAL_2), "> admit 1 127.0.0.1:3002"),
+        (Action::Turnaway(Away::Full), "> turnaway full"),
+        (Action::Turnaway(Away::OwnAddr), "> turnaway self"),
+        (
+            Action::Dial(Cid(18_446_744_073_709_551_615), LOCAL_2),
+            "> dial 18446744073709551615 127.0.0.1:3002",
+        ),
+        (
+            Action::Dial(Cid(3), FULL),
+            "> dial 3 [fe80:10:200:3000:a:bc:def:9f0e]:1",
+        ),
+        (
+            Action::Close(Cid(2), CloseCause::Overwritten),
+            "> close 2 overwritten",
+        ),
+        (
+            Action::Close(Cid(2), CloseCause::Fault(FaultKind::HandshakeWait)),
+            "> close 2 fault handshakewait",
+        ),
+    ];
+    expect_printed(&rt, rt.alloc(), &rows);
 }
 
 #[test]
 fn other_actions_are_printed(rt: HostRuntime) {
-    let alloc = rt.alloc();
-    assert!(rt; is_printed(alloc, Action::Pause(5000), "> pause 5000"));
-    assert!(rt; is_printed(alloc, Action::AskRoots(Job(1)), "> askroots 1"));
-    let greets = Action::State(Cid(1), StateName::UnnegotiatedInbound);
-    assert!(rt; is_printed(alloc, greets, "> state 1 UnnegotiatedInbound"));
-    let forgotten = Action::Peer(LOCAL_2, PeerNote::Forgotten);
-    assert!(rt; is_printed(alloc, forgotten, "> peer 127.0.0.1:3002 forgotten"));
-    let known = Action::Peer(LOOPBACK, PeerNote::Known);
-    assert!(rt; is_printed(alloc, known, "> peer [0:0:0:0:0:0:0:1]:3001 known"));
+    let rows = [
+        (Action::Pause(5000), "> pause 5000"),
+        (Action::AskRoots(Job(1)), "> askroots 1"),
+        (
+            Action::State(Cid(1), StateName::UnnegotiatedInbound),
+            "> state 1 UnnegotiatedInbound",
+        ),
+        (
+            Action::Peer(LOCAL_2, PeerNote::Forgotten),
+            "> peer 127.0.0.1:3002 forgotten",
+        ),
+        (
+            Action::Peer(LOOPBACK, PeerNote::Known),
+            "> peer [0:0:0:0:0:0:0:1]:3001 known",
+        ),
+    ];
+    expect_printed(&rt, rt.alloc(), &rows);
+}
+
+fn is_sent(alloc: Global, bytes: &[u8], line: &str) -> bool {
+    match Octets::from_slice(alloc, bytes) {
+        Ok(octets) => is_printed(alloc, &Action::Send(Cid(1), octets), line),
+        Err(OutOfMemory) => false,
+    }
 }
 
 #[test]
-fn bytes_are_printed(rt: HostRuntime) -> Result<(), Fail> {
-    let bytes = Octets::from_slice(
-        rt.alloc(),
-        &[0, 0, 0, 0, 0, 8, 0, 3, 0x82, 0, 1, 0xab, 0xff],
-    )?;
-    let send = Action::Send(Cid(1), bytes);
-    assert!(rt; is_printed(rt.alloc(), send, "> send 1 0000000000080003820001abff"));
-    Ok(())
+fn bytes_are_printed(rt: HostRuntime) {
+    let bytes = [0, 0, 0, 0, 0, 8, 0, 3, 0x82, 0, 1, 0xab, 0xff];
+    assert!(rt; is_sent(rt.alloc(), &bytes, "> send 1 0000000000080003820001abff"));
 }
+
+const HEAD: &str = "trace 2
+own [0:0:0:0:0:0:0:1]:3001
+set magic 4294967295
+set initiatoronly 0
+set sharing 1
+set hard 512
+set soft 384
+set delay 5000
+set idle 5000
+set timewait 60000
+set handshake 10000
+set reply 10000
+set backoff 5000
+set sharegap 900000
+set shares 2
+";
 
 #[test]
 fn a_head_is_printed(rt: HostRuntime) {
@@ -396,20 +442,5 @@ fn a_head_is_printed(rt: HostRuntime) {
         magic: 4_294_967_295,
         ..Settings::usual(LOOPBACK)
     };
-    let lines = [
-        "trace 2\nown [0:0:0:0:0:0:0:1]:3001\nset magic 4294967295\nset initiatoronly 0\n",
-        "set sharing 1\nset hard 512\nset soft 384\nset delay 5000\nset idle 5000\n",
-        "set timewait 60000\nset handshake 10000\nset reply 10000\nset backoff 5000\n",
-        "set sharegap 900000\nset shares 2\n",
-    ];
-    assert!(rt; prints_head(rt.alloc(), &settings, &lines) == Some(true));
-}
-
-fn prints_head(alloc: Global, settings: &Settings, lines: &[&str]) -> Option<bool> {
-    let head = print_head(alloc, settings).ok()?;
-    let mut want = String::new(alloc);
-    for line in lines {
-        want.push_str(line).ok()?;
-    }
-    Some(head.as_slice() == want.as_bytes())
+    assert!(rt; is_text(print_head(rt.alloc(), &settings), HEAD));
 }

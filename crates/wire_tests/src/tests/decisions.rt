@@ -1,11 +1,11 @@
 ghost use Rattle.hs_decide.specs.Answers.{CanAnswer};
 
+use super::{expect, is_written};
 use hs_decide::{Role, Verdict, Why, answer, decide, proposal};
 use hs_message::{Info, Message, Offer, Reason, Table, VersionInfo};
-use net_base::{Agreed, NumberList, OutOfMemory};
+use net_base::{Agreed, NumberList, Octets, OutOfMemory};
 use std::alloc::Global;
 use std::process::Abort;
-use std::test::Fail;
 
 const OWN: VersionInfo = VersionInfo {
     magic: 42,
@@ -77,32 +77,41 @@ fn agreed(version: u64, initiator_only: bool, sharing: bool) -> Agreed {
     }
 }
 
-// The verdict of an own info on a proposal of these offers.
-fn on_proposal(
-    alloc: Global,
-    role: Role,
-    own: &VersionInfo,
-    offers: &[Offer],
-) -> Result<Verdict, OutOfMemory> {
-    let proposal = Message::Propose(Table::from_slice(alloc, offers)?);
-    Ok(decide(role, own, &proposal))
+// What is said to a node.
+#[derive(Clone, Copy)]
+enum Said<'a> {
+    Propose(&'a [Offer]),
+    Accept(Offer),
+    Refuse,
+    QueryReply(&'a [Offer]),
+}
+
+fn message(alloc: Global, said: Said) -> Result<Message, OutOfMemory> {
+    Ok(match said {
+        Said::Propose(offers) => Message::Propose(Table::from_slice(alloc, offers)?),
+        Said::Accept(offer) => Message::Accept(offer.version, offer.info),
+        Said::Refuse => Message::Refuse(Reason::NoCommon(NumberList::new(alloc))),
+        Said::QueryReply(offers) => Message::QueryReply(Table::from_slice(alloc, offers)?),
+    })
+}
+
+// Whether a node that says this of itself comes to a verdict.
+fn is_decided(alloc: Global, role: Role, own: &VersionInfo, said: Said, want: Verdict) -> bool {
+    match message(alloc, said) {
+        Ok(message) => decide(role, own, &message) == want,
+        Err(OutOfMemory) => false,
+    }
 }
 
 // Each of these offers comes to its verdict.
-fn expect_verdicts(
-    rt: &impl Abort,
-    alloc: Global,
-    role: Role,
-    cases: &[(&[Offer], Verdict)],
-) -> Result<(), OutOfMemory> {
+fn expect_verdicts(rt: &impl Abort, alloc: Global, role: Role, cases: &[(&[Offer], Verdict)]) {
     for (n, (offers, want)) in cases.iter().enumerate() {
-        let got = on_proposal(alloc, role, &OWN, *offers)?;
-        assert!(rt; got == *want, "at case {n}");
+        let decided = is_decided(alloc, role, &OWN, Said::Propose(*offers), *want);
+        assert!(rt; decided, "at case {n}");
     }
-    Ok(())
 }
 
-fn refuses_what_it_does_not_know(rt: &impl Abort, alloc: Global) -> Result<(), OutOfMemory> {
+fn refuses_what_it_does_not_know(rt: &impl Abort, alloc: Global) {
     let cases: [(&[Offer], Verdict); 5] = [
         (&[], Verdict::Refuse(Why::NoCommon)),
         (
@@ -116,10 +125,10 @@ fn refuses_what_it_does_not_know(rt: &impl Abort, alloc: Global) -> Result<(), O
             Verdict::Refuse(Why::NotDecoded(14)),
         ),
     ];
-    expect_verdicts(rt, alloc, Role::Acceptor, &cases)
+    expect_verdicts(rt, alloc, Role::Acceptor, &cases);
 }
 
-fn refuses_other_networks(rt: &impl Abort, alloc: Global) -> Result<(), OutOfMemory> {
+fn refuses_other_networks(rt: &impl Abort, alloc: Global) {
     let cases: [(&[Offer], Verdict); 4] = [
         (&[known(14, ELSEWHERE)], Verdict::Refuse(Why::Magic(14))),
         (&[known(13, ELSEWHERE)], Verdict::Refuse(Why::Magic(13))),
@@ -132,10 +141,10 @@ fn refuses_other_networks(rt: &impl Abort, alloc: Global) -> Result<(), OutOfMem
             Verdict::Refuse(Why::Magic(14)),
         ),
     ];
-    expect_verdicts(rt, alloc, Role::Acceptor, &cases)
+    expect_verdicts(rt, alloc, Role::Acceptor, &cases);
 }
 
-fn takes_the_greatest_version(rt: &impl Abort, alloc: Global) -> Result<(), OutOfMemory> {
+fn takes_the_greatest_version(rt: &impl Abort, alloc: Global) {
     let duplex = Verdict::Accept(agreed(14, false, true));
     let cases: [(&[Offer], Verdict); 4] = [
         (&[foreign(13), known(14, OWN)], duplex),
@@ -143,10 +152,10 @@ fn takes_the_greatest_version(rt: &impl Abort, alloc: Global) -> Result<(), OutO
         (&[known(13, ASKS), known(14, OWN)], duplex),
         (&[known(13, OWN), known(14, OWN)], duplex),
     ];
-    expect_verdicts(rt, alloc, Role::Acceptor, &cases)
+    expect_verdicts(rt, alloc, Role::Acceptor, &cases);
 }
 
-fn takes_what_is_offered(rt: &impl Abort, alloc: Global) -> Result<(), OutOfMemory> {
+fn takes_what_is_offered(rt: &impl Abort, alloc: Global) {
     let cases: [(&[Offer], Verdict); 5] = [
         (&[known(13, OWN)], Verdict::Accept(agreed(13, false, true))),
         (
@@ -166,25 +175,24 @@ fn takes_what_is_offered(rt: &impl Abort, alloc: Global) -> Result<(), OutOfMemo
             Verdict::Accept(agreed(14, true, true)),
         ),
     ];
-    expect_verdicts(rt, alloc, Role::Acceptor, &cases)
+    expect_verdicts(rt, alloc, Role::Acceptor, &cases);
 }
 
 #[test]
-fn an_acceptor_decides_on_a_proposal(rt: HostRuntime) -> Result<(), Fail> {
+fn an_acceptor_decides_on_a_proposal(rt: HostRuntime) {
     let alloc = rt.alloc();
-    refuses_what_it_does_not_know(&rt, alloc)?;
-    refuses_other_networks(&rt, alloc)?;
-    takes_the_greatest_version(&rt, alloc)?;
-    takes_what_is_offered(&rt, alloc)?;
-    let both = [known(13, OWN), known(14, OWN)];
-    let got = on_proposal(alloc, Role::Acceptor, &DIALS_ONLY, &both)?;
-    assert!(rt; got == Verdict::Accept(agreed(14, true, true)));
-    let got = on_proposal(alloc, Role::Acceptor, &SHARES_NOTHING, &both)?;
-    assert!(rt; got == Verdict::Accept(agreed(14, false, false)));
-    Ok(())
+    refuses_what_it_does_not_know(&rt, alloc);
+    refuses_other_networks(&rt, alloc);
+    takes_the_greatest_version(&rt, alloc);
+    takes_what_is_offered(&rt, alloc);
+    let both = Said::Propose(&[known(13, OWN), known(14, OWN)]);
+    let want = Verdict::Accept(agreed(14, true, true));
+    assert!(rt; is_decided(alloc, Role::Acceptor, &DIALS_ONLY, both, want));
+    let want = Verdict::Accept(agreed(14, false, false));
+    assert!(rt; is_decided(alloc, Role::Acceptor, &SHARES_NOTHING, both, want));
 }
 
-fn dialer_does_not_agree(rt: &impl Abort, alloc: Global) -> Result<(), OutOfMemory> {
+fn dialer_does_not_agree(rt: &impl Abort, alloc: Global) {
     let cases: [(&[Offer], Verdict); 8] = [
         (&[], Verdict::Refused),
         (&[known(12, OWN), known(15, OWN)], Verdict::Refused),
@@ -195,10 +203,10 @@ fn dialer_does_not_agree(rt: &impl Abort, alloc: Global) -> Result<(), OutOfMemo
         (&[known(14, ASKS)], Verdict::Wrong),
         (&[known(14, DIALS_ONLY)], Verdict::Refused),
     ];
-    expect_verdicts(rt, alloc, Role::Dialer, &cases)
+    expect_verdicts(rt, alloc, Role::Dialer, &cases);
 }
 
-fn dialer_agrees(rt: &impl Abort, alloc: Global) -> Result<(), OutOfMemory> {
+fn dialer_agrees(rt: &impl Abort, alloc: Global) {
     let cases: [(&[Offer], Verdict); 4] = [
         (
             &[known(14, SHARES_NOTHING)],
@@ -214,98 +222,79 @@ fn dialer_agrees(rt: &impl Abort, alloc: Global) -> Result<(), OutOfMemory> {
             Verdict::Agree(agreed(14, false, true)),
         ),
     ];
-    expect_verdicts(rt, alloc, Role::Dialer, &cases)
+    expect_verdicts(rt, alloc, Role::Dialer, &cases);
 }
 
 #[test]
-fn a_dialer_decides_on_a_proposal(rt: HostRuntime) -> Result<(), Fail> {
+fn a_dialer_decides_on_a_proposal(rt: HostRuntime) {
     let alloc = rt.alloc();
-    dialer_does_not_agree(&rt, alloc)?;
-    dialer_agrees(&rt, alloc)?;
-    let both = [known(13, OWN), known(14, OWN)];
-    let got = on_proposal(alloc, Role::Dialer, &DIALS_ONLY, &both)?;
-    assert!(rt; got == Verdict::Refused);
-    Ok(())
+    dialer_does_not_agree(&rt, alloc);
+    dialer_agrees(&rt, alloc);
+    let both = Said::Propose(&[known(13, OWN), known(14, OWN)]);
+    assert!(rt; is_decided(alloc, Role::Dialer, &DIALS_ONLY, both, Verdict::Refused));
 }
 
 // Whether a dialer comes to this verdict, and an acceptor takes the message for a wrong one.
-fn is_decided(message: &Message, want: Verdict) -> bool {
-    decide(Role::Dialer, &OWN, message) == want
-        && decide(Role::Acceptor, &OWN, message) == Verdict::Wrong
+fn is_for_a_dialer(alloc: Global, said: Said, want: Verdict) -> bool {
+    is_decided(alloc, Role::Dialer, &OWN, said, want)
+        && is_decided(alloc, Role::Acceptor, &OWN, said, Verdict::Wrong)
 }
 
-// The same, of the accept of an offer.
-fn is_accept_decided(offer: Offer, want: Verdict) -> bool {
-    is_decided(&Message::Accept(offer.version, offer.info), want)
-}
-
-fn is_refusal_decided(alloc: Global, want: Verdict) -> bool {
-    let refuse = Message::Refuse(Reason::NoCommon(NumberList::new(alloc)));
-    is_decided(&refuse, want)
-}
-
-// A query reply of the version 14.
-fn reply(alloc: Global) -> Result<Message, OutOfMemory> {
-    Ok(Message::QueryReply(Table::from_slice(alloc, &[known(14, OWN)])?))
-}
-
-fn is_reply_decided(alloc: Global, want: Verdict) -> Result<bool, OutOfMemory> {
-    let reply = reply(alloc)?;
-    Ok(is_decided(&reply, want))
+fn expect_for_a_dialer(rt: &impl Abort, alloc: Global, cases: &[(Said, Verdict)]) {
+    for (n, (said, want)) in cases.iter().enumerate() {
+        assert!(rt; is_for_a_dialer(alloc, *said, *want), "at case {n}");
+    }
 }
 
 #[test]
-fn other_messages_are_decided(rt: HostRuntime) -> Result<(), Fail> {
-    let cases = [
-        (known(14, OWN), Verdict::Agree(agreed(14, false, true))),
-        (known(13, OWN), Verdict::Agree(agreed(13, false, true))),
+fn other_messages_are_decided(rt: HostRuntime) {
+    let both_ways = Verdict::Agree(agreed(14, false, true));
+    let one_way = Verdict::Agree(agreed(14, true, true));
+    let cases: [(Said, Verdict); 11] = [
+        (Said::Accept(known(14, OWN)), both_ways),
         (
-            known(14, DIALS_ONLY),
-            Verdict::Agree(agreed(14, true, true)),
+            Said::Accept(known(13, OWN)),
+            Verdict::Agree(agreed(13, false, true)),
         ),
+        (Said::Accept(known(14, DIALS_ONLY)), one_way),
         (
-            known(14, SHARES_NOTHING),
+            Said::Accept(known(14, SHARES_NOTHING)),
             Verdict::Agree(agreed(14, false, false)),
         ),
         // the query flag of an accept is not looked at
-        (known(14, ASKS), Verdict::Agree(agreed(14, true, true))),
-        (known(12, OWN), Verdict::Wrong),
-        (known(15, OWN), Verdict::Wrong),
-        (foreign(14), Verdict::Wrong),
-        (known(14, ELSEWHERE), Verdict::Wrong),
+        (Said::Accept(known(14, ASKS)), one_way),
+        (Said::Accept(known(12, OWN)), Verdict::Wrong),
+        (Said::Accept(known(15, OWN)), Verdict::Wrong),
+        (Said::Accept(foreign(14)), Verdict::Wrong),
+        (Said::Accept(known(14, ELSEWHERE)), Verdict::Wrong),
+        (Said::Refuse, Verdict::Refused),
+        (Said::QueryReply(&[known(14, OWN)]), Verdict::Wrong),
     ];
-    for (n, (offer, want)) in cases.into_iter().enumerate() {
-        assert!(rt; is_accept_decided(offer, want), "at case {n}");
-    }
-    assert!(rt; is_refusal_decided(rt.alloc(), Verdict::Refused));
-    assert!(rt; is_reply_decided(rt.alloc(), Verdict::Wrong)?);
-    Ok(())
+    expect_for_a_dialer(&rt, rt.alloc(), &cases);
 }
 
-// Whether a verdict is answered with these bytes, or with none.
-fn is_answered(alloc: Global, verdict: Verdict, bytes: Option<&[u8]>) -> Result<bool, OutOfMemory>
+// Whether these bytes are an answer, or none is.
+fn is_answer(answered: Result<Option<Octets>, OutOfMemory>, bytes: Option<&[u8]>) -> bool {
+    match (&answered, bytes) {
+        (Ok(Some(octets)), Some(bytes)) => octets.as_slice() == bytes,
+        (Ok(None), None) => true,
+        _ => false,
+    }
+}
+
+fn is_answered(alloc: Global, verdict: Verdict, bytes: Option<&[u8]>) -> bool
     requires { CanAnswer verdict }
 {
-    let answered = answer(alloc, &verdict, &OWN)?;
-    Ok(match (&answered, bytes) {
-        (Some(octets), Some(bytes)) => octets.as_slice() == bytes,
-        (None, None) => true,
-        _ => false,
-    })
-}
-
-fn is_proposed(alloc: Global, bytes: &[u8]) -> Result<bool, OutOfMemory> {
-    let proposed = proposal(alloc, &OWN)?;
-    Ok(proposed.as_slice() == bytes)
+    is_answer(answer(alloc, &verdict, &OWN), bytes)
 }
 
 #[test]
-fn the_vectors_are_answered(rt: HostRuntime) -> Result<(), Fail> {
+fn the_vectors_are_answered(rt: HostRuntime) {
     let alloc = rt.alloc();
     let bytes = b"\x82\x00\xa2\x0d\x84\x18\x2a\xf4\x01\xf4\x0e\x84\x18\x2a\xf4\x01\xf4";
-    assert!(rt; is_proposed(alloc, bytes)?);
+    assert!(rt; is_written(proposal(alloc, &OWN), bytes));
     let bytes = b"\x83\x01\x0e\x84\x18\x2a\xf4\x01\xf4";
-    assert!(rt; is_answered(alloc, Verdict::Accept(DUPLEX), Some(bytes))?);
+    assert!(rt; is_answered(alloc, Verdict::Accept(DUPLEX), Some(bytes)));
     let rows: [(Why, &[u8]); 3] = [
         (Why::NoCommon, b"\x82\x02\x82\x00\x82\x0d\x0e"),
         (
@@ -317,16 +306,13 @@ fn the_vectors_are_answered(rt: HostRuntime) -> Result<(), Fail> {
             b"\x82\x02\x83\x02\x0e\x75network magic differs",
         ),
     ];
-    for (n, (why, bytes)) in rows.into_iter().enumerate() {
-        assert!(rt;
-            is_answered(alloc, Verdict::Refuse(why), Some(bytes))?,
-            "at row {n}"
-        );
+    for (why, bytes) in rows {
+        let holds = is_answered(alloc, Verdict::Refuse(why), Some(bytes));
+        expect(&rt, holds, bytes);
     }
     let bytes = b"\x82\x03\xa2\x0d\x84\x18\x2a\xf4\x01\xf4\x0e\x84\x18\x2a\xf4\x01\xf4";
-    assert!(rt; is_answered(alloc, Verdict::Query, Some(bytes))?);
-    assert!(rt; is_answered(alloc, Verdict::Agree(DUPLEX), None)?);
-    assert!(rt; is_answered(alloc, Verdict::Refused, None)?);
-    assert!(rt; is_answered(alloc, Verdict::Wrong, None)?);
-    Ok(())
+    assert!(rt; is_answered(alloc, Verdict::Query, Some(bytes)));
+    assert!(rt; is_answered(alloc, Verdict::Agree(DUPLEX), None));
+    assert!(rt; is_answered(alloc, Verdict::Refused, None));
+    assert!(rt; is_answered(alloc, Verdict::Wrong, None));
 }

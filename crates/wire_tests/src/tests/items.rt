@@ -1,43 +1,42 @@
-ghost use Rattle.std.specs.Prelude.{◌≡◌, ◌<◌, ◌≤◌, length, take, IfOk};
-ghost use Rattle.cbor_items.specs.Scan.{scan_of};
+ghost use Rattle.std.specs.Prelude.{◌≡◌, ◌<◌, ◌≤◌, length};
 
-use super::nest;
+use super::{expect, filled};
 use cbor_items::{
     ARRAY, Absent, Head, ItemScan, Scan, TEXT, first_item, read_head, split_definite, split_number,
     write_head,
 };
-use net_base::{Octets, OutOfMemory};
-use std::alloc::{AllocError, Global};
+use net_base::Octets;
+use std::alloc::Global;
 use std::process::Abort;
-use std::test::Fail;
 
-// Every proper front of an item goes on.
-fn expect_fronts_go_on(rt: &impl Abort, item: &[u8]) {
+// Whether this is found at the front of the bytes.
+fn is_found(bytes: &[u8], found: Scan) -> bool {
+    first_item(bytes) == found
+}
+
+// Whether every proper front of an item goes on.
+fn fronts_go_on(item: &[u8]) -> bool {
     for n in 0..item.len() {
-        assert!(rt;
-            first_item(&item[..n]) == Scan::More,
-            "at {n} bytes of {item:?}"
-        );
+        if !is_found(&item[..n], Scan::More) {
+            return false;
+        }
     }
+    true
 }
 
 // Each is an item, and no front of it is.
-fn expect_whole(rt: &impl Abort, items: &[&[u8]]) {
-    for item in items {
-        assert!(rt; first_item(*item) == Scan::Whole(item.len()), "at {item:?}");
-        expect_fronts_go_on(rt, *item);
-    }
-}
-
 #[test]
 fn every_whole_item_is_found(rt: HostRuntime) {
-    expect_whole(&rt, &WHOLE_ITEMS);
+    for item in WHOLE_ITEMS {
+        expect(&rt, is_found(item, Scan::Whole(item.len())), item);
+        expect(&rt, fronts_go_on(item), item);
+    }
 }
 
 // This is found at the front of each.
 fn expect_each(rt: &impl Abort, items: &[&[u8]], found: Scan) {
     for bytes in items {
-        assert!(rt; first_item(*bytes) == found, "at {bytes:?}");
+        expect(rt, is_found(*bytes, found), *bytes);
     }
 }
 
@@ -54,227 +53,244 @@ fn what_is_not_well_formed_is_bad(rt: HostRuntime) {
 // What is found at the front of each.
 fn expect_found(rt: &impl Abort, rows: &[(&[u8], Scan)]) {
     for (bytes, found) in rows {
-        assert!(rt; first_item(*bytes) == *found, "at {bytes:?}");
+        expect(rt, is_found(*bytes, *found), *bytes);
     }
 }
+
+const FOLLOWED: [(&[u8], Scan); 7] = [
+    (b"", Scan::More),
+    (b"\x82\x00", Scan::More),
+    (b"\x82\x00\x05\xff", Scan::Whole(3)),
+    (b"\x5f\x41\x00\x41\x61\xff", Scan::Whole(6)),
+    (b"\xbf\x00\x01\xff", Scan::Whole(4)),
+    (b"\xf8\x20", Scan::Whole(2)),
+    (b"\x5f\x61\x61\xff", Scan::Bad),
+];
 
 #[test]
 fn what_follows_an_item_is_not_looked_at(rt: HostRuntime) {
-    let rows: [(&[u8], Scan); 7] = [
-        (b"", Scan::More),
-        (b"\x82\x00", Scan::More),
-        (b"\x82\x00\x05\xff", Scan::Whole(3)),
-        (b"\x5f\x41\x00\x41\x61\xff", Scan::Whole(6)),
-        (b"\xbf\x00\x01\xff", Scan::Whole(4)),
-        (b"\xf8\x20", Scan::Whole(2)),
-        (b"\x5f\x61\x61\xff", Scan::Bad),
-    ];
-    expect_found(&rt, &rows);
+    expect_found(&rt, &FOLLOWED);
 }
 
 // What is seen at the first byte of a head decides there.
+const FIRST_BYTES: [(&[u8], Scan); 3] = [
+    (b"\x5f\x19", Scan::Bad),
+    (b"\x5f\x5f", Scan::Bad),
+    (b"\xf8", Scan::More),
+];
+
 #[test]
 fn the_first_byte_of_a_head_decides(rt: HostRuntime) {
-    let rows: [(&[u8], Scan); 3] = [
-        (b"\x5f\x19", Scan::Bad),
-        (b"\x5f\x5f", Scan::Bad),
-        (b"\xf8", Scan::More),
-    ];
-    expect_found(&rt, &rows);
-}
-
-// What is found at the first bytes, and then at all of them.
-fn scanned_twice(alloc: Global, bytes: &[u8], first: usize) -> Result<(Scan, Scan), OutOfMemory>
-    requires { first ≤ length bytes.now }
-    ensures { IfOk result (λ found. (found.0 ≡ scan_of (take first bytes.now)) × (found.1 ≡ scan_of bytes.now)) }
-{
-    let mut scan = ItemScan::new(alloc);
-    let before = scan.resume(&bytes[..first])?;
-    let after = scan.resume(bytes)?;
-    Ok((before, after))
-}
-
-#[test]
-fn a_scan_goes_on(rt: HostRuntime) -> Result<(), Fail> {
-    let rows: [(&[u8], usize, Scan); 8] = [
-        (b"\x82\x01\x82\x02\x03", 3, Scan::Whole(5)),
-        (b"\xa2\x01\x02\x03\xc1\x05", 3, Scan::Whole(6)),
-        (b"\xbf\x61a\x01\xff", 3, Scan::Whole(5)),
-        (b"\xbf\x61a\xff", 3, Scan::Bad),
-        (b"\x9f\x19\x01\x02\xff", 3, Scan::Whole(5)),
-        (b"\x5f\x42\x01\x02\x41\x03\xff", 5, Scan::Whole(7)),
-        (b"\x7f\x61a\x41\x03\xff", 3, Scan::Bad),
-        (b"\x43\x01\x02\x03", 2, Scan::Whole(4)),
-    ];
-    for (bytes, first, found) in rows {
-        assert!(rt; first <= bytes.len());
-        let (before, after) = scanned_twice(rt.alloc(), bytes, first)?;
-        assert!(rt; before == Scan::More && after == found, "at {bytes:?}");
-    }
-    Ok(())
-}
-
-// What is found at the front of so many arrays inside each other around some bytes.
-fn found_in_levels(alloc: Global, levels: usize, inner: &[u8]) -> Result<Scan, AllocError> {
-    let item = nest(alloc, levels, inner)?;
-    Ok(first_item(&item))
-}
-
-#[test]
-fn sixty_four_levels_are_the_most(rt: HostRuntime) -> Result<(), Fail> {
-    let rows: [(usize, &[u8], Scan); 8] = [
-        (64, b"\x00", Scan::Whole(65)),
-        (65, b"", Scan::Deep),
-        // an empty array, and the first byte of one of many elements
-        (64, b"\x80", Scan::Deep),
-        (64, b"\x9b", Scan::Deep),
-        (64, b"\xc0", Scan::Deep),
-        // what is no head, before what is too deep
-        (64, b"\x9c", Scan::Bad),
-        // an indefinite string is no level
-        (64, b"\x5f\x41\x00\xff", Scan::Whole(68)),
-        (1000, b"\x00", Scan::Deep),
-    ];
-    for (levels, inner, found) in rows {
-        assert!(rt;
-            found_in_levels(rt.alloc(), levels, inner)? == found,
-            "at {levels} levels around {inner:?}"
-        );
-    }
-    Ok(())
+    expect_found(&rt, &FIRST_BYTES);
 }
 
 // An array that announces 2^63 elements, a map of 2^64 - 1 entries and a string of as many bytes, of which few
 // are there.
+const ANNOUNCED: [(&[u8], Scan); 4] = [
+    (b"\x9b\x80\x00\x00\x00\x00\x00\x00\x00\x01\x02", Scan::More),
+    (
+        b"\xbb\xff\xff\xff\xff\xff\xff\xff\xff\x01\x02\x03",
+        Scan::More,
+    ),
+    (b"\x5b\xff\xff\xff\xff\xff\xff\xff\xff\x01", Scan::More),
+    (b"\x9b\x80\x00\x00\x00\x00\x00\x00\x00\x01\xff", Scan::Bad),
+];
+
 #[test]
 fn what_is_announced_need_not_come(rt: HostRuntime) {
-    let rows: [(&[u8], Scan); 4] = [
-        (b"\x9b\x80\x00\x00\x00\x00\x00\x00\x00\x01\x02", Scan::More),
-        (
-            b"\xbb\xff\xff\xff\xff\xff\xff\xff\xff\x01\x02\x03",
-            Scan::More,
-        ),
-        (b"\x5b\xff\xff\xff\xff\xff\xff\xff\xff\x01", Scan::More),
-        (b"\x9b\x80\x00\x00\x00\x00\x00\x00\x00\x01\xff", Scan::Bad),
-    ];
-    expect_found(&rt, &rows);
+    expect_found(&rt, &ANNOUNCED);
 }
 
-fn definite(major: u8, value: u64, size: usize) -> Option<Head> {
-    Some(Head {
+// Whether the first bytes go on, and this is found at all of them then.
+fn goes_on_to(alloc: Global, bytes: &[u8], first: usize, found: Scan) -> bool
+    requires { first ≤ length bytes.now }
+{
+    let mut scan = ItemScan::new(alloc);
+    let before = scan.resume(&bytes[..first]);
+    let after = scan.resume(bytes);
+    before == Ok(Scan::More) && after == Ok(found)
+}
+
+const RESUMED: [(&[u8], usize, Scan); 8] = [
+    (b"\x82\x01\x82\x02\x03", 3, Scan::Whole(5)),
+    (b"\xa2\x01\x02\x03\xc1\x05", 3, Scan::Whole(6)),
+    (b"\xbf\x61a\x01\xff", 3, Scan::Whole(5)),
+    (b"\xbf\x61a\xff", 3, Scan::Bad),
+    (b"\x9f\x19\x01\x02\xff", 3, Scan::Whole(5)),
+    (b"\x5f\x42\x01\x02\x41\x03\xff", 5, Scan::Whole(7)),
+    (b"\x7f\x61a\x41\x03\xff", 3, Scan::Bad),
+    (b"\x43\x01\x02\x03", 2, Scan::Whole(4)),
+];
+
+#[test]
+fn a_scan_goes_on(rt: HostRuntime) {
+    for (bytes, first, found) in RESUMED {
+        assert!(rt; first <= bytes.len());
+        expect(&rt, goes_on_to(rt.alloc(), bytes, first, found), bytes);
+    }
+}
+
+// Whether this is found at the front of so many arrays inside each other around some bytes.
+fn is_found_in_levels(alloc: Global, levels: usize, inner: &[u8], found: Scan) -> bool {
+    match filled(alloc, b"", (levels, 0x81), inner) {
+        Ok(item) => is_found(&item, found),
+        Err(_) => false,
+    }
+}
+
+const LEVELS: [(usize, &[u8], Scan); 8] = [
+    (64, b"\x00", Scan::Whole(65)),
+    (65, b"", Scan::Deep),
+    // an empty array, and the first byte of one of many elements
+    (64, b"\x80", Scan::Deep),
+    (64, b"\x9b", Scan::Deep),
+    (64, b"\xc0", Scan::Deep),
+    // what is no head, before what is too deep
+    (64, b"\x9c", Scan::Bad),
+    // an indefinite string is no level
+    (64, b"\x5f\x41\x00\xff", Scan::Whole(68)),
+    (1000, b"\x00", Scan::Deep),
+];
+
+#[test]
+fn sixty_four_levels_are_the_most(rt: HostRuntime) {
+    for (levels, inner, found) in LEVELS {
+        let holds = is_found_in_levels(rt.alloc(), levels, inner, found);
+        expect(&rt, holds, inner);
+    }
+}
+
+fn is_head(bytes: &[u8], head: Option<Head>) -> bool {
+    read_head(bytes) == head
+}
+
+// Whether this head stands at the front of the bytes.
+fn is_definite(bytes: &[u8], major: u8, value: u64, size: usize) -> bool {
+    let head = Head {
         major,
         value,
         indefinite: false,
         size,
-    })
+    };
+    is_head(bytes, Some(head))
 }
 
-fn indefinite(major: u8) -> Option<Head> {
-    Some(Head {
+fn is_indefinite(initial: u8, major: u8) -> bool {
+    let head = Head {
         major,
         value: 0,
         indefinite: true,
         size: 1,
-    })
+    };
+    is_head(&[initial, 0], Some(head))
 }
+
+// Heads as major type, value and size.
+const HEADS: [(&[u8], u8, u64, usize); 7] = [
+    (b"\x17", 0, 23, 1),
+    (b"\x18\x18\x00", 0, 24, 2),
+    (b"\x39\x03\xe7", 1, 999, 3),
+    (b"\x9a\x00\x0f\x42\x40\xff", 4, 1_000_000, 5),
+    (
+        b"\x1b\x00\x00\x00\xe8\xd4\xa5\x10\x00",
+        0,
+        1_000_000_000_000,
+        9,
+    ),
+    // wider than need be
+    (b"\x59\x00\x01\x07", 2, 1, 3),
+    (b"\xf8\x20", 7, 32, 2),
+];
+
+const INDEFINITE_HEADS: [(u8, u8); 5] = [(0x5f, 2), (0x7f, 3), (0x9f, 4), (0xbf, 5), (0xff, 7)];
 
 #[test]
 fn heads_of_every_width_are_read(rt: HostRuntime) {
-    let rows: [(&[u8], Option<Head>); 7] = [
-        (b"\x17", definite(0, 23, 1)),
-        (b"\x18\x18\x00", definite(0, 24, 2)),
-        (b"\x39\x03\xe7", definite(1, 999, 3)),
-        (b"\x9a\x00\x0f\x42\x40\xff", definite(4, 1_000_000, 5)),
-        (
-            b"\x1b\x00\x00\x00\xe8\xd4\xa5\x10\x00",
-            definite(0, 1_000_000_000_000, 9),
-        ),
-        // wider than need be
-        (b"\x59\x00\x01\x07", definite(2, 1, 3)),
-        (b"\xf8\x20", definite(7, 32, 2)),
-    ];
-    for (bytes, head) in rows {
-        assert!(rt; read_head(bytes) == head, "at {bytes:?}");
+    for (bytes, major, value, size) in HEADS {
+        expect(&rt, is_definite(bytes, major, value, size), bytes);
     }
-    for (initial, major) in [(0x5f, 2), (0x7f, 3), (0x9f, 4), (0xbf, 5), (0xff, 7)] {
-        assert!(rt;
-            read_head(&[initial, 0]) == indefinite(major),
-            "at {initial}"
-        );
+    for (initial, major) in INDEFINITE_HEADS {
+        expect(&rt, is_indefinite(initial, major), &[initial]);
     }
+}
+
+const NO_HEADS: [&[u8]; 12] = [
+    b"",
+    b"\x18",
+    b"\x19\x01",
+    b"\x1a\x01\x02\x03",
+    b"\x1b\x01\x02\x03\x04\x05\x06\x07",
+    b"\x1c\x00",
+    b"\x3d\x00",
+    b"\xfe\x00",
+    b"\x1f\x00",
+    b"\x3f\x00",
+    b"\xdf\x00",
+    b"\xf8\x1f",
+];
+
+#[test]
+fn no_head_is_read_where_none_is_whole(rt: HostRuntime) {
+    for bytes in NO_HEADS {
+        expect(&rt, is_head(bytes, None), bytes);
+    }
+}
+
+// Whether this number is split off the bytes.
+fn is_number(bytes: &[u8], wanted: Result<(u64, &[u8]), Absent>) -> bool {
+    split_number(bytes) == wanted
+}
+
+// Whether this length of such an item is split off the bytes.
+fn is_length(major: u8, bytes: &[u8], wanted: Result<(u64, &[u8]), Absent>) -> bool {
+    split_definite(major, bytes) == wanted
 }
 
 // Examples of RFC 8949, appendix A.
 #[test]
 fn numbers_and_lengths_stand_at_the_front(rt: HostRuntime) {
-    let number = split_number(b"\x1a\x00\x0f\x42\x40\x01");
-    assert!(rt; number == Ok((1_000_000, b"\x01".as_slice())));
-    assert!(rt; split_number(b"\x38\x63") == Err(Absent));
-    let text = split_definite(TEXT, b"\x64IETF");
-    assert!(rt; text == Ok((4, b"IETF".as_slice())));
-    assert!(rt; split_definite(ARRAY, b"\x9f\xff") == Err(Absent));
+    assert!(rt; is_number(b"\x1a\x00\x0f\x42\x40\x01", Ok((1_000_000, b"\x01"))));
+    assert!(rt; is_number(b"\x38\x63", Err(Absent)));
+    assert!(rt; is_length(TEXT, b"\x64IETF", Ok((4, b"IETF"))));
+    assert!(rt; is_length(ARRAY, b"\x9f\xff", Err(Absent)));
 }
 
-#[test]
-fn no_head_is_read_where_none_is_whole(rt: HostRuntime) {
-    let none: [&[u8]; 12] = [
-        b"",
-        b"\x18",
-        b"\x19\x01",
-        b"\x1a\x01\x02\x03",
-        b"\x1b\x01\x02\x03\x04\x05\x06\x07",
-        b"\x1c\x00",
-        b"\x3d\x00",
-        b"\xfe\x00",
-        b"\x1f\x00",
-        b"\x3f\x00",
-        b"\xdf\x00",
-        b"\xf8\x1f",
-    ];
-    for bytes in none {
-        assert!(rt; read_head(bytes).is_none(), "at {bytes:?}");
-    }
-}
-
-// A byte, and the head that is written behind it.
-fn written(alloc: Global, major: u8, value: u64) -> Result<Octets, OutOfMemory>
+// Whether this is the head that is written behind a byte.
+fn is_written_behind(alloc: Global, major: u8, value: u64, spelled: &[u8]) -> bool
     requires major { major ≤ 7 }
     requires simple { major ≡ 7 → value < 24 }
 {
-    let mut out = Octets::from_slice(alloc, &[0xaa])?;
-    write_head(&mut out, major, value)?;
-    Ok(out)
+    let Ok(mut out) = Octets::from_slice(alloc, &[0xaa]) else {
+        return false;
+    };
+    write_head(&mut out, major, value).is_ok()
+        && out.as_slice().split_first() == Some((&0xaa, spelled))
 }
 
+const SHORTEST: [(u8, u64, &[u8]); 12] = [
+    (0, 0, b"\x00"),
+    (0, 23, b"\x17"),
+    (0, 24, b"\x18\x18"),
+    (1, 255, b"\x38\xff"),
+    (2, 256, b"\x59\x01\x00"),
+    (3, 65_535, b"\x79\xff\xff"),
+    (4, 65_536, b"\x9a\x00\x01\x00\x00"),
+    (5, 0xffff_ffff, b"\xba\xff\xff\xff\xff"),
+    (6, 0x1_0000_0000, b"\xdb\x00\x00\x00\x01\x00\x00\x00\x00"),
+    (0, u64::MAX, b"\x1b\xff\xff\xff\xff\xff\xff\xff\xff"),
+    (7, 20, b"\xf4"),
+    (7, 23, b"\xf7"),
+];
+
 #[test]
-fn the_shortest_head_is_written(rt: HostRuntime) -> Result<(), Fail> {
-    let rows: [(u8, u64, &[u8]); 12] = [
-        (0, 0, b"\x00"),
-        (0, 23, b"\x17"),
-        (0, 24, b"\x18\x18"),
-        (1, 255, b"\x38\xff"),
-        (2, 256, b"\x59\x01\x00"),
-        (3, 65_535, b"\x79\xff\xff"),
-        (4, 65_536, b"\x9a\x00\x01\x00\x00"),
-        (5, 0xffff_ffff, b"\xba\xff\xff\xff\xff"),
-        (6, 0x1_0000_0000, b"\xdb\x00\x00\x00\x01\x00\x00\x00\x00"),
-        (0, u64::MAX, b"\x1b\xff\xff\xff\xff\xff\xff\xff\xff"),
-        (7, 20, b"\xf4"),
-        (7, 23, b"\xf7"),
-    ];
-    for (major, value, spelled) in rows {
+fn the_shortest_head_is_written(rt: HostRuntime) {
+    for (major, value, spelled) in SHORTEST {
         assert!(rt; major <= 7 && (major != 7 || value < 24));
-        let out = written(rt.alloc(), major, value)?;
-        assert!(rt;
-            out.as_slice().split_first() == Some((&0xaa, spelled)),
-            "at {spelled:?}"
-        );
-        assert!(rt;
-            read_head(spelled) == definite(major, value, spelled.len()),
-            "at {spelled:?}"
-        );
+        let holds = is_written_behind(rt.alloc(), major, value, spelled);
+        expect(&rt, holds, spelled);
+        let holds = is_definite(spelled, major, value, spelled.len());
+        expect(&rt, holds, spelled);
     }
-    Ok(())
 }
 
 // RFC 8949, appendix A: well-formed items.

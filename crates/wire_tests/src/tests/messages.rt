@@ -1,15 +1,98 @@
 ghost use Rattle.std.specs.Prelude.{IfOk};
-ghost use Rattle.hs_message.specs.Canonical.{IsOwnTableBy, IsNodeOwn, CanWrite, CanWriteToClient};
+ghost use Rattle.hs_message.specs.Canonical.{IsOwnTableBy, IsNodeOwn, CanWrite};
 
+use super::{expect, filled, is_written};
 use hs_message::{
     Info, Message, Offer, ReadRefusal, Reason, Table, VersionInfo, read_message, write_message,
 };
 use net_base::{NumberList, Octets, OutOfMemory};
-use std::alloc::{AllocError, Global};
+use std::alloc::Global;
 use std::process::Abort;
-use std::test::Fail;
 
 mod clients;
+
+// What a message says.
+#[derive(Clone, Copy)]
+enum Said<'a> {
+    Propose(&'a [Offer]),
+    Accept(u64, Info),
+    Refuse(Why<'a>),
+    QueryReply(&'a [Offer]),
+    // there is no message
+    Nothing,
+}
+
+#[derive(Clone, Copy)]
+enum Why<'a> {
+    NoCommon(&'a [u64]),
+    NotDecoded(u64, &'a [u8]),
+    Declined(u64, &'a [u8]),
+}
+
+fn is_reason(reason: &Reason, why: Why) -> bool {
+    match (reason, why) {
+        (Reason::NoCommon(listed), Why::NoCommon(versions)) => listed.as_slice() == versions,
+        (Reason::NotDecoded(of, said), Why::NotDecoded(version, text))
+        | (Reason::Declined(of, said), Why::Declined(version, text)) => {
+            *of == version && said.as_slice() == text
+        }
+        _ => false,
+    }
+}
+
+fn is_said(message: &Message, said: Said) -> bool {
+    match (message, said) {
+        (Message::Propose(table), Said::Propose(offers))
+        | (Message::QueryReply(table), Said::QueryReply(offers)) => table.as_slice() == offers,
+        (Message::Accept(of, found), Said::Accept(version, info)) => {
+            *of == version && *found == info
+        }
+        (Message::Refuse(reason), Said::Refuse(why)) => is_reason(reason, why),
+        _ => false,
+    }
+}
+
+// Whether this was read.
+fn is_read(read: Result<Message, ReadRefusal>, said: Said) -> bool {
+    match &read {
+        Ok(message) => is_said(message, said),
+        Err(refusal) => *refusal == ReadRefusal::NotAMessage && matches!(said, Said::Nothing),
+    }
+}
+
+fn reads(alloc: Global, bytes: &[u8], said: Said) -> bool {
+    is_read(read_message(alloc, bytes), said)
+}
+
+fn expect_read(rt: &impl Abort, alloc: Global, rows: &[(&[u8], Said)]) {
+    for (bytes, said) in rows {
+        expect(rt, reads(alloc, *bytes, *said), *bytes);
+    }
+}
+
+fn reason(alloc: Global, why: Why) -> Result<Reason, OutOfMemory> {
+    Ok(match why {
+        Why::NoCommon(versions) => Reason::NoCommon(NumberList::from_slice(alloc, versions)?),
+        Why::NotDecoded(version, text) => {
+            Reason::NotDecoded(version, Octets::from_slice(alloc, text)?)
+        }
+        Why::Declined(version, text) => Reason::Declined(version, Octets::from_slice(alloc, text)?),
+    })
+}
+
+// Whether a message is written so.
+fn writes(alloc: Global, message: &Message, bytes: &[u8]) -> bool
+    requires { CanWrite message.now }
+{
+    is_written(write_message(alloc, message), bytes)
+}
+
+fn writes_refusal(alloc: Global, why: Why, bytes: &[u8]) -> bool {
+    match reason(alloc, why) {
+        Ok(reason) => writes(alloc, &Message::Refuse(reason), bytes),
+        Err(OutOfMemory) => false,
+    }
+}
 
 const OWN: VersionInfo = VersionInfo {
     magic: 42,
@@ -19,12 +102,21 @@ const OWN: VersionInfo = VersionInfo {
 };
 
 // 13 and 14 with the own info.
+const BOTH: [Offer; 2] = [
+    Offer {
+        version: 13,
+        info: Info::Known(OWN),
+    },
+    Offer {
+        version: 14,
+        info: Info::Known(OWN),
+    },
+];
+
 fn both(alloc: Global) -> Result<Table, OutOfMemory>
     ensures { IfOk result (λ table. IsOwnTableBy IsNodeOwn table) }
 {
-    let info = Info::Known(OWN);
-    let offers = [Offer { version: 13, info }, Offer { version: 14, info }];
-    Table::from_slice(alloc, &offers)
+    Table::from_slice(alloc, &BOTH)
 }
 
 const PROPOSAL: &[u8] = b"\x82\x00\xa2\x0d\x84\x18\x2a\xf4\x01\xf4\x0e\x84\x18\x2a\xf4\x01\xf4";
@@ -39,352 +131,269 @@ const DECLINED: &[u8] = b"\x82\x02\x83\x02\x0e\x75network magic differs";
 
 const QUERY_REPLY: &[u8] = b"\x82\x03\xa2\x0d\x84\x18\x2a\xf4\x01\xf4\x0e\x84\x18\x2a\xf4\x01\xf4";
 
-// Whether a message is written so.
-fn writes(alloc: Global, message: &Message, bytes: &[u8]) -> Result<bool, OutOfMemory>
-    requires { CanWrite message.now }
-{
-    let written = write_message(alloc, message)?;
-    Ok(written.as_slice() == bytes)
+// Whether a proposal and a query reply of both versions are written.
+fn writes_both(alloc: Global) -> Result<bool, OutOfMemory> {
+    let proposal = Message::Propose(both(alloc)?);
+    let reply = Message::QueryReply(both(alloc)?);
+    Ok(writes(alloc, &proposal, PROPOSAL) && writes(alloc, &reply, QUERY_REPLY))
 }
 
-// A message is written so.
-fn expect_written(
-    rt: &impl Abort,
-    alloc: Global,
-    message: Message,
-    bytes: &[u8],
-) -> Result<(), Fail>
-    requires { CanWrite message }
-{
-    let same = writes(alloc, &message, bytes)?;
-    assert!(rt; same, "at {bytes:?}");
-    Ok(())
-}
+const REFUSALS: [(Why, &[u8]); 3] = [
+    (Why::NoCommon(&[13, 14]), NO_COMMON),
+    (
+        Why::NotDecoded(14, b"version data not understood"),
+        NOT_DECODED,
+    ),
+    (Why::Declined(14, b"network magic differs"), DECLINED),
+];
 
 #[test]
-fn the_vectors_are_written(rt: HostRuntime) -> Result<(), Fail> {
-    let alloc = rt.alloc();
-    expect_written(&rt, alloc, Message::Propose(both(alloc)?), PROPOSAL)?;
+fn the_vectors_are_written(rt: HostRuntime) {
+    assert!(rt; matches!(writes_both(rt.alloc()), Ok(true)));
     let accept = Message::Accept(14, Info::Known(OWN));
-    expect_written(&rt, alloc, accept, ACCEPT)?;
-    expect_written(&rt, alloc, no_common(alloc, &[13, 14])?, NO_COMMON)?;
-    let refusal = not_decoded(alloc, 14, b"version data not understood")?;
-    expect_written(&rt, alloc, refusal, NOT_DECODED)?;
-    let refusal = declined(alloc, 14, b"network magic differs")?;
-    expect_written(&rt, alloc, refusal, DECLINED)?;
-    expect_written(&rt, alloc, Message::QueryReply(both(alloc)?), QUERY_REPLY)
-}
-
-fn known(version: u64, magic: u32, initiator_only: bool, sharing: bool, query: bool) -> Offer {
-    Offer {
-        version,
-        info: Info::Known(VersionInfo {
-            magic,
-            initiator_only,
-            sharing,
-            query,
-        }),
+    assert!(rt; writes(rt.alloc(), &accept, ACCEPT));
+    for (why, bytes) in REFUSALS {
+        expect(&rt, writes_refusal(rt.alloc(), why, bytes), bytes);
     }
 }
 
-fn foreign(version: u64) -> Offer {
-    Offer {
-        version,
-        info: Info::Foreign,
-    }
+const OFFERS: [(&[u8], Said); 5] = [
+    (PROPOSAL, Said::Propose(&BOTH)),
+    // heads of every width
+    (
+        b"\x98\x02\x19\x00\x00\xba\x00\x00\x00\x01\x1b\x00\x00\x00\x00\x00\x00\x00\x0e\x98\x04\x1a\x00\x00\x00\x2a\xf5\x18\x01\xf5",
+        Said::Propose(&[Offer {
+            version: 14,
+            info: Info::Known(VersionInfo {
+                magic: 42,
+                initiator_only: true,
+                sharing: true,
+                query: true,
+            }),
+        }]),
+    ),
+    // nothing in it
+    (b"\x82\x00\xa0", Said::Propose(&[])),
+    (QUERY_REPLY, Said::QueryReply(&BOTH)),
+    (b"\x82\x03\xa0", Said::QueryReply(&[])),
+];
+
+#[test]
+fn offers_are_read(rt: HostRuntime) {
+    expect_read(&rt, rt.alloc(), &OFFERS);
 }
 
-fn proposal(alloc: Global, offers: &[Offer]) -> Result<Message, OutOfMemory> {
-    Ok(Message::Propose(Table::from_slice(alloc, offers)?))
+const ACCEPTS: [(&[u8], Said); 3] = [
+    (ACCEPT, Said::Accept(14, Info::Known(OWN))),
+    // peer sharing as a flag, and the greatest magic
+    (
+        b"\x83\x01\x0d\x84\x1a\xff\xff\xff\xff\xf4\xf5\xf4",
+        Said::Accept(
+            13,
+            Info::Known(VersionInfo {
+                magic: 4_294_967_295,
+                initiator_only: false,
+                sharing: true,
+                query: false,
+            }),
+        ),
+    ),
+    (
+        b"\x83\x01\x0d\x84\x00\xf4\xf4\xf4",
+        Said::Accept(
+            13,
+            Info::Known(VersionInfo {
+                magic: 0,
+                initiator_only: false,
+                sharing: false,
+                query: false,
+            }),
+        ),
+    ),
+];
+
+#[test]
+fn accepts_are_read(rt: HostRuntime) {
+    expect_read(&rt, rt.alloc(), &ACCEPTS);
 }
 
-fn query_reply(alloc: Global, offers: &[Offer]) -> Result<Message, OutOfMemory> {
-    Ok(Message::QueryReply(Table::from_slice(alloc, offers)?))
+const LISTS: [(&[u8], Said); 4] = [
+    (NO_COMMON, Said::Refuse(Why::NoCommon(&[13, 14]))),
+    // an indefinite list of versions
+    (
+        b"\x82\x02\x82\x00\x9f\x0d\x18\x0e\xff",
+        Said::Refuse(Why::NoCommon(&[13, 14])),
+    ),
+    (
+        b"\x82\x02\x82\x00\x9f\xff",
+        Said::Refuse(Why::NoCommon(&[])),
+    ),
+    // nothing in it
+    (b"\x82\x02\x82\x00\x80", Said::Refuse(Why::NoCommon(&[]))),
+];
+
+#[test]
+fn lists_of_versions_are_read(rt: HostRuntime) {
+    expect_read(&rt, rt.alloc(), &LISTS);
 }
 
-fn accepted(offer: Offer) -> Message {
-    Message::Accept(offer.version, offer.info)
+const TEXTS: [(&[u8], Said); 5] = [
+    (
+        b"\x82\x02\x83\x01\x0e\x62no",
+        Said::Refuse(Why::NotDecoded(14, &[110, 111])),
+    ),
+    // heads of every width
+    (
+        b"\x9b\x00\x00\x00\x00\x00\x00\x00\x02\x18\x02\x99\x00\x03\x1a\x00\x00\x00\x01\x19\x00\x0e\x78\x01\x79",
+        Said::Refuse(Why::NotDecoded(14, &[121])),
+    ),
+    // nothing in it
+    (
+        b"\x82\x02\x83\x01\x00\x60",
+        Said::Refuse(Why::NotDecoded(0, &[])),
+    ),
+    (
+        b"\x82\x02\x83\x02\x0d\x61\x78",
+        Said::Refuse(Why::Declined(13, &[120])),
+    ),
+    // a text that is not UTF-8, and the greatest version
+    (
+        b"\x82\x02\x83\x02\x1b\xff\xff\xff\xff\xff\xff\xff\xff\x62\xff\xfe",
+        Said::Refuse(Why::Declined(18_446_744_073_709_551_615, &[255, 254])),
+    ),
+];
+
+#[test]
+fn texts_are_read(rt: HostRuntime) {
+    expect_read(&rt, rt.alloc(), &TEXTS);
 }
 
-fn no_common(alloc: Global, versions: &[u64]) -> Result<Message, OutOfMemory>
-    ensures node { IfOk result CanWrite }
-    ensures client { IfOk result CanWriteToClient }
-{
-    let versions = NumberList::from_slice(alloc, versions)?;
-    Ok(Message::Refuse(Reason::NoCommon(versions)))
-}
-
-fn not_decoded(alloc: Global, version: u64, text: &[u8]) -> Result<Message, OutOfMemory>
-    ensures node { IfOk result CanWrite }
-    ensures client { IfOk result CanWriteToClient }
-{
-    let text = Octets::from_slice(alloc, text)?;
-    Ok(Message::Refuse(Reason::NotDecoded(version, text)))
-}
-
-fn declined(alloc: Global, version: u64, text: &[u8]) -> Result<Message, OutOfMemory>
-    ensures node { IfOk result CanWrite }
-    ensures client { IfOk result CanWriteToClient }
-{
-    let text = Octets::from_slice(alloc, text)?;
-    Ok(Message::Refuse(Reason::Declined(version, text)))
-}
-
-// Whether bytes are read as a message.
-fn reads(alloc: Global, bytes: &[u8], want: &Message) -> bool {
-    match &read_message(alloc, bytes) {
-        Ok(read) => *read == *want,
+// Whether the accept of a version is read so, with so many levels around some bytes for its info.
+fn reads_accept(alloc: Global, version: u8, levels: usize, inner: &[u8], said: Said) -> bool {
+    match filled(alloc, &[0x83, 0x01, version], (levels, 0x81), inner) {
+        Ok(bytes) => reads(alloc, &bytes, said),
         Err(_) => false,
     }
 }
 
-// Whether bytes are read as the accept of an offer.
-fn reads_accept(alloc: Global, bytes: &[u8], offer: Offer) -> bool {
-    reads(alloc, bytes, &accepted(offer))
-}
-
-// The bytes are read as a message.
-fn assert_read(
-    rt: &impl Abort,
-    alloc: Global,
-    bytes: &[u8],
-    want: Result<Message, OutOfMemory>,
-) -> Result<(), Fail> {
-    let same = reads(alloc, bytes, &want?);
-    assert!(rt; same, "at {bytes:?}");
-    Ok(())
-}
+const FOREIGN: Said = Said::Accept(14, Info::Foreign);
 
 #[test]
-fn offers_are_read(rt: HostRuntime) -> Result<(), Fail> {
-    let alloc = rt.alloc();
-    let own = [
-        known(13, 42, false, true, false),
-        known(14, 42, false, true, false),
-    ];
-    let wide = [known(14, 42, true, true, true)];
-    let proposals: [(&[u8], &[Offer]); 3] = [
-        (PROPOSAL, &own),
-        // heads of every width
-        (
-            b"\x98\x02\x19\x00\x00\xba\x00\x00\x00\x01\x1b\x00\x00\x00\x00\x00\x00\x00\x0e\x98\x04\x1a\x00\x00\x00\x2a\xf5\x18\x01\xf5",
-            &wide,
-        ),
-        // nothing in it
-        (b"\x82\x00\xa0", &[]),
-    ];
-    for (bytes, offers) in proposals {
-        assert_read(&rt, alloc, bytes, proposal(alloc, offers))?;
-    }
-    assert_read(&rt, alloc, QUERY_REPLY, query_reply(alloc, &own))?;
-    assert_read(&rt, alloc, b"\x82\x03\xa0", query_reply(alloc, &[]))
-}
-
-#[test]
-fn accepts_are_read(rt: HostRuntime) {
-    let cases: [(&[u8], Offer); 3] = [
-        (ACCEPT, known(14, 42, false, true, false)),
-        // peer sharing as a flag, and the greatest magic
-        (
-            b"\x83\x01\x0d\x84\x1a\xff\xff\xff\xff\xf4\xf5\xf4",
-            known(13, 4_294_967_295, false, true, false),
-        ),
-        (
-            b"\x83\x01\x0d\x84\x00\xf4\xf4\xf4",
-            known(13, 0, false, false, false),
-        ),
-    ];
-    for (bytes, offer) in cases {
-        assert!(rt; reads_accept(rt.alloc(), bytes, offer), "at {bytes:?}");
-    }
-}
-
-#[test]
-fn lists_of_versions_are_read(rt: HostRuntime) -> Result<(), Fail> {
-    let alloc = rt.alloc();
-    let cases: [(&[u8], &[u64]); 4] = [
-        (NO_COMMON, &[13, 14]),
-        // an indefinite list of versions
-        (b"\x82\x02\x82\x00\x9f\x0d\x18\x0e\xff", &[13, 14]),
-        (b"\x82\x02\x82\x00\x9f\xff", &[]),
-        // nothing in it
-        (b"\x82\x02\x82\x00\x80", &[]),
-    ];
-    for (bytes, versions) in cases {
-        assert_read(&rt, alloc, bytes, no_common(alloc, versions))?;
-    }
-    Ok(())
-}
-
-#[test]
-fn texts_are_read(rt: HostRuntime) -> Result<(), Fail> {
-    let alloc = rt.alloc();
-    let undecoded: [(&[u8], u64, &[u8]); 3] = [
-        (b"\x82\x02\x83\x01\x0e\x62no", 14, &[110, 111]),
-        // heads of every width
-        (
-            b"\x9b\x00\x00\x00\x00\x00\x00\x00\x02\x18\x02\x99\x00\x03\x1a\x00\x00\x00\x01\x19\x00\x0e\x78\x01\x79",
-            14,
-            &[121],
-        ),
-        // nothing in it
-        (b"\x82\x02\x83\x01\x00\x60", 0, &[]),
-    ];
-    for (bytes, version, text) in undecoded {
-        assert_read(&rt, alloc, bytes, not_decoded(alloc, version, text))?;
-    }
-    let refused: [(&[u8], u64, &[u8]); 2] = [
-        (b"\x82\x02\x83\x02\x0d\x61\x78", 13, &[120]),
-        // a text that is not UTF-8, and the greatest version
-        (
-            b"\x82\x02\x83\x02\x1b\xff\xff\xff\xff\xff\xff\xff\xff\x62\xff\xfe",
-            18_446_744_073_709_551_615,
-            &[255, 254],
-        ),
-    ];
-    for (bytes, version, text) in refused {
-        assert_read(&rt, alloc, bytes, declined(alloc, version, text))?;
-    }
-    Ok(())
-}
-
-// An accept of a version with these bytes for its info.
-fn accept(alloc: Global, version: u8, info: &[u8]) -> Result<Vec<u8>, AllocError> {
-    let mut bytes = Vec::new(alloc);
-    bytes.extend_from_slice(&[0x83, 0x01, version])?;
-    bytes.extend_from_slice(info)?;
-    Ok(bytes)
-}
-
-// An accept of a version with these bytes for its info is read as one with a foreign info.
-fn expect_foreign(
-    rt: &impl Abort,
-    alloc: Global,
-    version: u8,
-    info: &[u8],
-) -> Result<(), AllocError> {
-    let bytes = accept(alloc, version, info)?;
-    let same = reads_accept(alloc, &bytes, foreign(u64::from(version)));
-    assert!(rt; same, "at version {version} and {info:?}");
-    Ok(())
-}
-
-#[test]
-fn every_other_info_is_foreign(rt: HostRuntime) -> Result<(), Fail> {
-    let alloc = rt.alloc();
-    let infos: [&[u8]; 19] = [
-        // too few, and too many
-        b"\x83\x18\x2a\xf4\x01",
-        b"\x85\x18\x2a\xf4\x01\xf4\x00",
-        // the magic: too large, negative, a text, a flag
-        b"\x84\x1b\x00\x00\x00\x01\x00\x00\x00\x00\xf4\x01\xf4",
-        b"\x84\x20\xf4\x01\xf4",
-        b"\x84\x61\x2a\xf4\x01\xf4",
-        b"\x84\xf4\xf4\x01\xf4",
-        // initiator only, peer sharing and query
-        b"\x84\x18\x2a\x00\x01\xf4",
-        b"\x84\x18\x2a\xf6\x01\xf4",
-        b"\x84\x18\x2a\xf4\x02\xf4",
-        b"\x84\x18\x2a\xf4\xf7\xf4",
-        b"\x84\x18\x2a\xf4\x01\x00",
-        // no definite array
-        b"\x9f\x18\x2a\xf4\x01\xf4\xff",
-        b"\x84\x18\x2a\xf4\x9f\xff\xf4",
-        b"\xc1\x84\x18\x2a\xf4\x01\xf4",
-        b"\xbf\xff",
-        b"\xa0",
-        b"\x80",
-        b"\x18\x2a",
-        b"\x60",
-    ];
-    for info in infos {
-        expect_foreign(&rt, alloc, 14, info)?;
+fn every_other_info_is_foreign(rt: HostRuntime) {
+    for info in INFOS {
+        expect(&rt, reads_accept(rt.alloc(), 14, 0, info, FOREIGN), info);
     }
     // other versions
     for version in [12, 15, 0] {
-        expect_foreign(&rt, alloc, version, b"\x84\x18\x2a\xf4\x01\xf4")?;
+        let said = Said::Accept(u64::from(version), Info::Foreign);
+        let info = b"\x84\x18\x2a\xf4\x01\xf4";
+        let holds = reads_accept(rt.alloc(), version, 0, info, said);
+        expect(&rt, holds, &[version]);
     }
-    let offers = [foreign(12), known(13, 42, false, false, false), foreign(14)];
-    let bytes = b"\x82\x00\xa3\x0c\x00\x0d\x84\x18\x2a\xf4\x00\xf4\x0e\x9f\xff";
-    assert_read(&rt, alloc, bytes, proposal(alloc, &offers))
+    expect_read(&rt, rt.alloc(), &FOREIGN_OFFERS);
 }
 
-fn is_no_message(alloc: Global, bytes: &[u8]) -> bool {
-    read_message(alloc, bytes) == Err(ReadRefusal::NotAMessage)
-}
+const FOREIGN_OFFERS: [(&[u8], Said); 1] = [(
+    b"\x82\x00\xa3\x0c\x00\x0d\x84\x18\x2a\xf4\x00\xf4\x0e\x9f\xff",
+    Said::Propose(&[
+        Offer {
+            version: 12,
+            info: Info::Foreign,
+        },
+        Offer {
+            version: 13,
+            info: Info::Known(VersionInfo {
+                magic: 42,
+                initiator_only: false,
+                sharing: false,
+                query: false,
+            }),
+        },
+        Offer {
+            version: 14,
+            info: Info::Foreign,
+        },
+    ]),
+)];
+
+const INFOS: [&[u8]; 19] = [
+    // too few, and too many
+    b"\x83\x18\x2a\xf4\x01",
+    b"\x85\x18\x2a\xf4\x01\xf4\x00",
+    // the magic: too large, negative, a text, a flag
+    b"\x84\x1b\x00\x00\x00\x01\x00\x00\x00\x00\xf4\x01\xf4",
+    b"\x84\x20\xf4\x01\xf4",
+    b"\x84\x61\x2a\xf4\x01\xf4",
+    b"\x84\xf4\xf4\x01\xf4",
+    // initiator only, peer sharing and query
+    b"\x84\x18\x2a\x00\x01\xf4",
+    b"\x84\x18\x2a\xf6\x01\xf4",
+    b"\x84\x18\x2a\xf4\x02\xf4",
+    b"\x84\x18\x2a\xf4\xf7\xf4",
+    b"\x84\x18\x2a\xf4\x01\x00",
+    // no definite array
+    b"\x9f\x18\x2a\xf4\x01\xf4\xff",
+    b"\x84\x18\x2a\xf4\x9f\xff\xf4",
+    b"\xc1\x84\x18\x2a\xf4\x01\xf4",
+    b"\xbf\xff",
+    b"\xa0",
+    b"\x80",
+    b"\x18\x2a",
+    b"\x60",
+];
 
 #[test]
 fn what_breaks_a_rule_is_no_message(rt: HostRuntime) {
-    let cases: [&[u8]; 31] = [
-        b"",
-        b"\x00",
-        b"\xff",
-        b"\x82\x00",
-        b"\x82\x00\xa0\x00",
-        b"\x80",
-        b"\x81\x00",
-        b"\x82\x04\xa0",
-        b"\x82\x20\xa0",
-        b"\x83\x00\xa0\x00",
-        b"\x82\x01\x0e",
-        b"\x84\x01\x0e\x00\x00",
-        // the message itself is definite
-        b"\x9f\x00\xa0\xff",
-        b"\x82\x00\xbf\xff",
-        b"\x82\x00\xbf\x0e\x00\xff",
-        b"\x82\x02\x9f\x00\x80\xff",
-        b"\x82\x02\x83\x01\x0e\x7f\xff",
-        // keys that do not rise, or are no numbers
-        b"\x82\x00\xa2\x0e\x00\x0e\x00",
-        b"\x82\x00\xa2\x0e\x00\x0d\x00",
-        b"\x82\x03\xa3\x0c\x00\x0e\x00\x0d\x00",
-        b"\x82\x00\xa1\x20\x00",
-        b"\x82\x00\xa1\x60\x00",
-        b"\x82\x00\x80",
-        // other reasons
-        b"\x82\x02\x82\x01\x80",
-        b"\x82\x02\x82\x00\xa0",
-        b"\x82\x02\x82\x00\x81\x20",
-        b"\x82\x02\x83\x03\x0e\x60",
-        b"\x82\x02\x83\x01\x0e\x40",
-        b"\x82\x02\x83\x01\x0e\x61",
-        // 2^63 entries and 2^64 - 1 versions are announced
-        b"\x82\x00\xbb\x80\x00\x00\x00\x00\x00\x00\x00\x0d\x00",
-        b"\x82\x02\x82\x00\x9b\xff\xff\xff\xff\xff\xff\xff\xff\x0d\x0e",
-    ];
-    for bytes in cases {
-        assert!(rt; is_no_message(rt.alloc(), bytes), "at {bytes:?}");
+    for bytes in NO_MESSAGES {
+        expect(&rt, reads(rt.alloc(), bytes, Said::Nothing), bytes);
     }
     // every proper front of a message
     for n in 0..PROPOSAL.len() {
-        assert!(rt; is_no_message(rt.alloc(), &PROPOSAL[..n]), "at {n} bytes");
+        let front = &PROPOSAL[..n];
+        expect(&rt, reads(rt.alloc(), front, Said::Nothing), front);
     }
 }
 
-// So many arrays of one element inside each other, and in them a number.
-fn nested(alloc: Global, levels: usize) -> Result<Vec<u8>, AllocError> {
-    let mut bytes = vec![in alloc; 0x81u8; levels]?;
-    bytes.push(0)?;
-    Ok(bytes)
-}
-
-// An accept with so many levels in its info is read as one with a foreign info.
-fn expect_foreign_levels(rt: &impl Abort, alloc: Global, levels: usize) -> Result<(), AllocError> {
-    let info = nested(alloc, levels)?;
-    expect_foreign(rt, alloc, 14, &info)
-}
-
-// An accept with so many levels in its info.
-fn accept_of_levels(alloc: Global, levels: usize) -> Result<Vec<u8>, AllocError> {
-    let info = nested(alloc, levels)?;
-    accept(alloc, 14, &info)
-}
+const NO_MESSAGES: [&[u8]; 31] = [
+    b"",
+    b"\x00",
+    b"\xff",
+    b"\x82\x00",
+    b"\x82\x00\xa0\x00",
+    b"\x80",
+    b"\x81\x00",
+    b"\x82\x04\xa0",
+    b"\x82\x20\xa0",
+    b"\x83\x00\xa0\x00",
+    b"\x82\x01\x0e",
+    b"\x84\x01\x0e\x00\x00",
+    // the message itself is definite
+    b"\x9f\x00\xa0\xff",
+    b"\x82\x00\xbf\xff",
+    b"\x82\x00\xbf\x0e\x00\xff",
+    b"\x82\x02\x9f\x00\x80\xff",
+    b"\x82\x02\x83\x01\x0e\x7f\xff",
+    // keys that do not rise, or are no numbers
+    b"\x82\x00\xa2\x0e\x00\x0e\x00",
+    b"\x82\x00\xa2\x0e\x00\x0d\x00",
+    b"\x82\x03\xa3\x0c\x00\x0e\x00\x0d\x00",
+    b"\x82\x00\xa1\x20\x00",
+    b"\x82\x00\xa1\x60\x00",
+    b"\x82\x00\x80",
+    // other reasons
+    b"\x82\x02\x82\x01\x80",
+    b"\x82\x02\x82\x00\xa0",
+    b"\x82\x02\x82\x00\x81\x20",
+    b"\x82\x02\x83\x03\x0e\x60",
+    b"\x82\x02\x83\x01\x0e\x40",
+    b"\x82\x02\x83\x01\x0e\x61",
+    // 2^63 entries and 2^64 - 1 versions are announced
+    b"\x82\x00\xbb\x80\x00\x00\x00\x00\x00\x00\x00\x0d\x00",
+    b"\x82\x02\x82\x00\x9b\xff\xff\xff\xff\xff\xff\xff\xff\x0d\x0e",
+];
 
 #[test]
-fn a_message_has_sixty_four_levels_at_most(rt: HostRuntime) -> Result<(), Fail> {
-    let alloc = rt.alloc();
-    expect_foreign_levels(&rt, alloc, 63)?;
-    let deeper = accept_of_levels(alloc, 64)?;
-    assert!(rt; is_no_message(alloc, &deeper));
-    Ok(())
+fn a_message_has_sixty_four_levels_at_most(rt: HostRuntime) {
+    assert!(rt; reads_accept(rt.alloc(), 14, 63, b"\0", FOREIGN));
+    assert!(rt; reads_accept(rt.alloc(), 14, 64, b"\0", Said::Nothing));
 }

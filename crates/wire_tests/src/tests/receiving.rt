@@ -1,10 +1,10 @@
+use super::expect;
 use hs_decide::{Role, Verdict};
 use hs_message::VersionInfo;
 use hs_receive::{Received, kind_of, receive};
 use mux_segment::{CutFault, LentItem};
-use net_base::{Agreed, FaultKind, OutOfMemory};
+use net_base::{Agreed, FaultKind};
 use std::alloc::Global;
-use std::test::Fail;
 
 const OWN: VersionInfo = VersionInfo {
     magic: 42,
@@ -23,19 +23,20 @@ const DUPLEX: Agreed = Agreed {
     sharing: true,
 };
 
-// What these bytes come to.
-fn on_item(
+// Whether these bytes come to this.
+fn is_received(
     alloc: Global,
     role: Role,
     side: u8,
     id: u16,
     body: &[u8],
-) -> Result<Received, OutOfMemory> {
-    receive(alloc, role, &OWN, &LentItem { side, id, body })
+    wanted: Received,
+) -> bool {
+    receive(alloc, role, &OWN, &LentItem { side, id, body }) == Ok(wanted)
 }
 
 #[test]
-fn items_are_received(rt: HostRuntime) -> Result<(), Fail> {
+fn items_are_received(rt: HostRuntime) {
     let agrees = Received::Decided(Verdict::Agree(DUPLEX));
     let protocol = Received::Fault(FaultKind::Protocol);
     let malformed = Received::Fault(FaultKind::Malformed);
@@ -63,11 +64,10 @@ fn items_are_received(rt: HostRuntime) -> Result<(), Fail> {
         (Role::Dialer, 1, 0, PROPOSAL, protocol),
         (Role::Dialer, 1, 0, b"\x81\x09", malformed),
     ];
-    for (n, (role, side, id, body, want)) in cases.into_iter().enumerate() {
-        let got = on_item(rt.alloc(), role, side, id, body)?;
-        assert!(rt; got == want, "at case {n}");
+    for (role, side, id, body, wanted) in cases {
+        let holds = is_received(rt.alloc(), role, side, id, body, wanted);
+        expect(&rt, holds, body);
     }
-    Ok(())
 }
 
 #[test]

@@ -1,33 +1,32 @@
-use net_base::{
-    Addr, Agreed, Cid, Facts, FaultKind, Grace, Ip, OutOfMemory, Phase, Provenance, Responders,
-};
+use super::{expect, is_written};
+use net_base::{Addr, Agreed, Cid, Facts, FaultKind, Grace, Ip, Phase, Provenance, Responders};
 use remote_watch::{RemoteTemp, Reply, Seen, WatchRefusal, remote_temp, reply_bytes, watch};
 use std::alloc::Global;
-use std::test::Fail;
+use std::process::Abort;
 
 const GOES_ON: bool = false;
 
 const DONE: bool = true;
 
 // Whether an item is seen so.
-fn is_seen(alloc: Global, id: u16, item: &[u8], seen: Seen) -> bool {
-    watch(alloc, id, true, item) == Ok(seen)
+fn is_seen(
+    alloc: Global,
+    id: u16,
+    sharing: bool,
+    item: &[u8],
+    wanted: Result<Seen, WatchRefusal>,
+) -> bool {
+    watch(alloc, id, sharing, item) == wanted
 }
 
 // Whether a reply, to be told of these peers, has these bytes.
-fn has_bytes(
-    alloc: Global,
-    reply: &Reply,
-    peers: &[Addr],
-    bytes: &[u8],
-) -> Result<bool, OutOfMemory> {
-    let out = reply_bytes(alloc, reply, peers)?;
-    Ok(out.as_slice() == bytes)
+fn has_bytes(alloc: Global, reply: Reply, peers: &[Addr], bytes: &[u8]) -> bool {
+    is_written(reply_bytes(alloc, &reply, peers), bytes)
 }
 
 // What side 0 may send, line by line, and what it is answered.
 #[test]
-fn what_an_initiator_may_send(rt: HostRuntime) -> Result<(), Fail> {
+fn what_an_initiator_may_send(rt: HostRuntime) {
     let rows: [(u16, &[u8], bool, Reply, &[u8]); 14] = [
         (
             2,
@@ -69,18 +68,16 @@ fn what_an_initiator_may_send(rt: HostRuntime) -> Result<(), Fail> {
         (2, b"\x98\x01\x19\x00\x07", DONE, Reply::Nothing, b""),
     ];
     for (id, item, done, reply, bytes) in rows {
-        let same = is_seen(rt.alloc(), id, item, Seen { done, reply });
-        assert!(rt; same, "on {id} at {item:?}");
-        let same = has_bytes(rt.alloc(), &reply, &[], bytes)?;
-        assert!(rt; same, "on {id} at {item:?}");
+        let seen = Ok(Seen { done, reply });
+        expect(&rt, is_seen(rt.alloc(), id, true, item, seen), item);
+        expect(&rt, has_bytes(rt.alloc(), reply, &[], bytes), item);
     }
     let peer = Addr {
         ip: Ip::V4(0x7f00_0001),
         port: 3003,
     };
     let wanted = b"\x82\x01\x81\x83\x00\x1a\x7f\x00\x00\x01\x19\x0b\xbb";
-    assert!(rt; has_bytes(rt.alloc(), &Reply::Share(5), &[peer], wanted)?);
-    Ok(())
+    assert!(rt; has_bytes(rt.alloc(), Reply::Share(5), &[peer], wanted));
 }
 
 #[test]
@@ -115,11 +112,8 @@ fn what_is_a_fault(rt: HostRuntime) {
         (65_535, true, b"", FaultKind::UnknownId),
     ];
     for (id, sharing, item, kind) in rows {
-        let seen = watch(rt.alloc(), id, sharing, item);
-        assert!(rt;
-            seen == Err(WatchRefusal::Fault(kind)),
-            "on {id} at {item:?}"
-        );
+        let fault = Err(WatchRefusal::Fault(kind));
+        expect(&rt, is_seen(rt.alloc(), id, sharing, item, fault), item);
     }
 }
 
@@ -140,6 +134,16 @@ fn facts(phase: Phase, running: Responders) -> Facts {
         local: false,
         running,
         grace: Grace::Off,
+    }
+}
+
+fn is_temp(phase: Phase, running: Responders, temp: RemoteTemp) -> bool {
+    remote_temp(&facts(phase, running)) == temp
+}
+
+fn expect_temps(rt: &impl Abort, rows: &[(Phase, Responders, RemoteTemp)]) {
+    for (n, (phase, running, temp)) in rows.iter().enumerate() {
+        assert!(rt; is_temp(*phase, *running, *temp), "at row {n}");
     }
 }
 
@@ -199,7 +203,5 @@ fn how_far_the_other_side_uses_a_connection(rt: HostRuntime) {
             RemoteTemp::Hot,
         ),
     ];
-    for (n, (phase, running, temp)) in rows.into_iter().enumerate() {
-        assert!(rt; remote_temp(&facts(phase, running)) == temp, "at row {n}");
-    }
+    expect_temps(&rt, &rows);
 }

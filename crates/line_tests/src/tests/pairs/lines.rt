@@ -1,6 +1,7 @@
-use super::*;
 use io_edge::{MemSink, MemSource};
-use net_base::{NumberList, RefusalKind};
+use net_base::{NumberList, Octets, OutOfMemory, RefusalKind};
+use pair_net::{PairOutcome, pair_run};
+use std::alloc::Global;
 
 const MEETING: &[u8] =
     b"pair 1\nleft 42 0 1\nright 42 0 1\nmeet left\n> any note\ndeliver right 25\ndeliver left 17\nend\n";
@@ -47,88 +48,64 @@ fn sink(alloc: Global) -> Result<MemSink, OutOfMemory> {
     MemSink::new(alloc, 1000, NumberList::new(alloc))
 }
 
-// A run comes to an outcome and writes a text.
-fn expect_run<R: Abort>(
-    rt: &R,
-    alloc: Global,
-    src: &mut MemSource,
-    out: &mut MemSink,
-    outcome: PairOutcome,
-    text: &[u8],
-) {
-    let came = pair_run(alloc, src, out);
-    assert!(rt; came == outcome);
-    assert!(rt; out.bytes() == text);
+fn is_told(out: &MemSink, text: Option<&[u8]>) -> bool {
+    match text {
+        Some(text) => out.bytes() == text,
+        None => true,
+    }
 }
 
-// An input is refused so.
-fn expect_refused<R: Abort>(
-    rt: &R,
+// Whether an input comes to this, and this text is written, where one is asked for.
+fn comes_to(
     alloc: Global,
     input: &[u8],
-    line: u64,
-    kind: RefusalKind,
-) -> Result<(), Fail> {
+    outcome: PairOutcome,
+    text: Option<&[u8]>,
+) -> Result<bool, OutOfMemory> {
     let mut src = source(alloc, input)?;
     let mut out = sink(alloc)?;
     let came = pair_run(alloc, &mut src, &mut out);
-    assert!(rt; came == PairOutcome::Refused { line, kind });
-    Ok(())
+    Ok(came == outcome && is_told(&out, text))
 }
 
-#[test]
-fn the_lines_of_a_meeting(rt: HostRuntime) -> Result<(), Fail> {
-    let alloc = rt.alloc();
-    let mut src = source(alloc, MEETING)?;
-    let mut out = sink(alloc)?;
-    expect_run(
-        &rt,
-        alloc,
-        &mut src,
-        &mut out,
-        PairOutcome::Done,
-        MEETING_TOLD,
-    );
-    Ok(())
-}
-
-#[test]
-fn the_lines_of_a_crossing(rt: HostRuntime) -> Result<(), Fail> {
-    let alloc = rt.alloc();
-    let mut src = source(alloc, CROSSING)?;
-    let mut out = sink(alloc)?;
-    expect_run(
-        &rt,
-        alloc,
-        &mut src,
-        &mut out,
-        PairOutcome::Done,
-        CROSSING_TOLD,
-    );
-    Ok(())
-}
-
-#[test]
-fn heads_that_are_refused(rt: HostRuntime) -> Result<(), Fail> {
-    let alloc = rt.alloc();
-    expect_refused(&rt, alloc, b"pair 2\n", 1, RefusalKind::Word(2))?;
-    expect_refused(&rt, alloc, b"pair 1\n> \n", 2, RefusalKind::Word(1))?;
-    expect_refused(
-        &rt,
-        alloc,
-        b"pair 1\nleft 4294967296 0 0\n",
-        2,
-        RefusalKind::Number(2),
+fn is_whole(alloc: Global, input: &[u8], text: &[u8]) -> bool {
+    matches!(
+        comes_to(alloc, input, PairOutcome::Done, Some(text)),
+        Ok(true)
     )
 }
 
+fn is_refused(alloc: Global, input: &[u8], line: u64, kind: RefusalKind) -> bool {
+    let refused = PairOutcome::Refused { line, kind };
+    matches!(comes_to(alloc, input, refused, None), Ok(true))
+}
+
 #[test]
-fn steps_that_are_refused(rt: HostRuntime) -> Result<(), Fail> {
+fn the_lines_of_a_meeting(rt: HostRuntime) {
+    assert!(rt; is_whole(rt.alloc(), MEETING, MEETING_TOLD));
+}
+
+#[test]
+fn the_lines_of_a_crossing(rt: HostRuntime) {
+    assert!(rt; is_whole(rt.alloc(), CROSSING, CROSSING_TOLD));
+}
+
+#[test]
+fn heads_that_are_refused(rt: HostRuntime) {
+    let alloc = rt.alloc();
+    assert!(rt; is_refused(alloc, b"pair 2\n", 1, RefusalKind::Word(2)));
+    assert!(rt; is_refused(alloc, b"pair 1\n> \n", 2, RefusalKind::Word(1)));
+    let left = b"pair 1\nleft 4294967296 0 0\n";
+    assert!(rt; is_refused(alloc, left, 2, RefusalKind::Number(2)));
+}
+
+#[test]
+fn steps_that_are_refused(rt: HostRuntime) {
     let alloc = rt.alloc();
     let head = b"pair 1\nleft 0 0 0\nright 0 0 2\n";
-    expect_refused(&rt, alloc, head, 3, RefusalKind::Number(4))?;
+    assert!(rt; is_refused(alloc, head, 3, RefusalKind::Number(4)));
     let step = b"pair 1\nleft 0 0 0\nright 0 0 0\ndeliver left 0 x\n";
-    expect_refused(&rt, alloc, step, 4, RefusalKind::Number(3))?;
+    assert!(rt; is_refused(alloc, step, 4, RefusalKind::Number(3)));
     let end = b"pair 1\nleft 0 0 0\nright 0 0 0\n> \nmeet left";
-    expect_refused(&rt, alloc, end, 5, RefusalKind::NoEnd)
+    assert!(rt; is_refused(alloc, end, 5, RefusalKind::NoEnd));
 }

@@ -1,6 +1,9 @@
-use super::*;
+use super::super::expect;
+use super::RULES;
 use io_edge::{MemSink, MemSource};
-use net_base::{NumberList, RefusalKind};
+use local_clients::{ClientOutcome, clients_run};
+use net_base::{NumberList, Octets, OutOfMemory, RefusalKind};
+use std::alloc::Global;
 
 const OPENED: &[u8] = b"joined
 joined
@@ -48,62 +51,50 @@ fn sink(alloc: Global) -> Result<MemSink, OutOfMemory> {
     MemSink::new(alloc, 1000, NumberList::new(alloc))
 }
 
-// What a run comes to.
-fn outcome(alloc: Global, src: &mut MemSource, out: &mut MemSink) -> ClientOutcome {
-    clients_run(alloc, RULES, src, out)
+fn is_told(out: &MemSink, text: Option<&[u8]>) -> bool {
+    match text {
+        Some(text) => out.bytes() == text,
+        None => true,
+    }
 }
 
-// A run comes to the end of its input, and a text is written.
-fn comes_to_its_end(
-    rt: &impl Abort,
-    alloc: Global,
-    src: &mut MemSource,
-    out: &mut MemSink,
-    text: &[u8],
-) {
-    assert!(rt; outcome(alloc, src, out) == ClientOutcome::Done);
-    assert!(rt; out.bytes() == text);
-}
-
-// An input comes to its end, and a text is written.
-fn expect_told(
-    rt: &impl Abort,
+// Whether an input comes to this, and this text is written, where one is asked for.
+fn comes_to(
     alloc: Global,
     input: &[u8],
-    text: &[u8],
-) -> Result<(), OutOfMemory> {
-    let mut src = source(alloc, input)?;
-    let mut out = sink(alloc)?;
-    comes_to_its_end(rt, alloc, &mut src, &mut out, text);
-    Ok(())
-}
-
-// Whether an input is refused so.
-fn is_refused(
-    alloc: Global,
-    input: &[u8],
-    line: u64,
-    kind: RefusalKind,
+    outcome: ClientOutcome,
+    text: Option<&[u8]>,
 ) -> Result<bool, OutOfMemory> {
     let mut src = source(alloc, input)?;
     let mut out = sink(alloc)?;
-    Ok(outcome(alloc, &mut src, &mut out) == ClientOutcome::Refused { line, kind })
+    let came = clients_run(alloc, RULES, &mut src, &mut out);
+    Ok(came == outcome && is_told(&out, text))
+}
+
+fn is_whole(alloc: Global, input: &[u8], text: &[u8]) -> bool {
+    matches!(
+        comes_to(alloc, input, ClientOutcome::Done, Some(text)),
+        Ok(true)
+    )
+}
+
+fn is_refused(alloc: Global, input: &[u8], line: u64, kind: RefusalKind) -> bool {
+    let refused = ClientOutcome::Refused { line, kind };
+    matches!(comes_to(alloc, input, refused, None), Ok(true))
 }
 
 #[test]
-fn the_lines_of_a_client_that_opens(rt: HostRuntime) -> Result<(), Fail> {
-    expect_told(&rt, rt.alloc(), OPENED, OPENED_TOLD)?;
-    Ok(())
+fn the_lines_of_a_client_that_opens(rt: HostRuntime) {
+    assert!(rt; is_whole(rt.alloc(), OPENED, OPENED_TOLD));
 }
 
 #[test]
-fn the_lines_of_a_client_that_is_refused(rt: HostRuntime) -> Result<(), Fail> {
-    expect_told(&rt, rt.alloc(), REFUSED_CLIENT, REFUSED_CLIENT_TOLD)?;
-    Ok(())
+fn the_lines_of_a_client_that_is_refused(rt: HostRuntime) {
+    assert!(rt; is_whole(rt.alloc(), REFUSED_CLIENT, REFUSED_CLIENT_TOLD));
 }
 
 #[test]
-fn lines_that_are_refused(rt: HostRuntime) -> Result<(), Fail> {
+fn lines_that_are_refused(rt: HostRuntime) {
     let cases: [(&[u8], u64, RefusalKind); 8] = [
         (b"joined 1\nend\n", 1, RefusalKind::Word(2)),
         (b"> \nnow\nend\n", 2, RefusalKind::Word(2)),
@@ -114,9 +105,7 @@ fn lines_that_are_refused(rt: HostRuntime) -> Result<(), Fail> {
         (b"closed 1\n", 1, RefusalKind::Word(1)),
         (b"joined\nend", 2, RefusalKind::NoEnd),
     ];
-    let alloc = rt.alloc();
     for (input, line, kind) in cases {
-        assert!(rt; is_refused(alloc, input, line, kind)?, "at {input:?}");
+        expect(&rt, is_refused(rt.alloc(), input, line, kind), input);
     }
-    Ok(())
 }
