@@ -1,11 +1,18 @@
 ghost use Rattle.std.specs.Prelude.{◌≡◌, ◌<◌, ◌++◌, ◌∷◌, [], OnOk};
 
-use net_base::{Cid, OutOfMemory};
+use net_base::Cid;
 use prune_order::PruneOrder;
+use std::process::Abort;
 use std::test::Fail;
 
+const ONE: Cid = Cid(1);
+
+const TWO: Cid = Cid(2);
+
+const THREE: Cid = Cid(3);
+
 // One more connection comes.
-fn come(order: &mut PruneOrder, cid: Cid, rank: Option<u8>) -> Result<(), OutOfMemory>
+fn come(order: &mut PruneOrder, cid: Cid, rank: Option<u8>) -> Result<(), Fail>
     requires { order.old.last.0 < cid.0 }
     ensures rows { OnOk result (order.new.rows ≡ order.old.rows ++ record { cid = cid; rank = rank } ∷ []) }
     ensures last { OnOk result (order.new.last ≡ cid) }
@@ -15,20 +22,30 @@ fn come(order: &mut PruneOrder, cid: Cid, rank: Option<u8>) -> Result<(), OutOfM
     Ok(())
 }
 
+fn goes_first(rt: &impl Abort, order: &PruneOrder, cid: Option<Cid>) {
+    assert!(rt; order.choice() == cid);
+}
+
+fn come_and_go(rt: &impl Abort, order: &mut PruneOrder) -> Result<(), Fail>
+    requires none { order.old.rows ≡ [] }
+    requires new { order.old.last.0 ≡ 0 }
+{
+    goes_first(rt, order, None);
+    come(order, ONE, Some(2))?;
+    come(order, TWO, Some(1))?;
+    come(order, THREE, Some(1))?;
+    goes_first(rt, order, Some(THREE));
+    order.leave(THREE);
+    goes_first(rt, order, Some(TWO));
+    order.turn(TWO, None);
+    goes_first(rt, order, Some(ONE));
+    order.turn(TWO, Some(0));
+    goes_first(rt, order, Some(TWO));
+    Ok(())
+}
+
 #[test]
 fn who_goes_first(rt: HostRuntime) -> Result<(), Fail> {
-    let (one, two, three) = (Cid(1), Cid(2), Cid(3));
     let mut order = PruneOrder::new(rt.alloc());
-    assert!(rt; order.choice().is_none());
-    come(&mut order, one, Some(2))?;
-    come(&mut order, two, Some(1))?;
-    come(&mut order, three, Some(1))?;
-    assert!(rt; order.choice() == Some(three));
-    order.leave(three);
-    assert!(rt; order.choice() == Some(two));
-    order.turn(two, None);
-    assert!(rt; order.choice() == Some(one));
-    order.turn(two, Some(0));
-    assert!(rt; order.choice() == Some(two));
-    Ok(())
+    come_and_go(&rt, &mut order)
 }

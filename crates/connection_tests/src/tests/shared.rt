@@ -1,12 +1,11 @@
-ghost use Rattle.std.specs.Prelude.{◌≡◌, ◌+◌, ◌<◌, ◌≤◌, ◌^◌, [], length, OnOk};
+ghost use Rattle.std.specs.Prelude.{◌≡◌, ◌+◌, ◌<◌, ◌≤◌, ◌^◌, [], length, IfOk, OnOk};
 ghost use Rattle.net_base.specs.Bounds.{AreSound};
-ghost use Rattle.shared_table.specs.Entries.{entry_of};
-ghost use Rattle.shared_table.specs.Seats.{IsAt};
-ghost use Rattle.shared_table.specs.declared.call.TableCall.TheVariants as calls;
+ghost use Rattle.shared_table.specs.Seats.{IsAt, new_seat_at};
 
-use super::{BOTH_WAYS, local, settings};
+use super::table::answers;
+use super::{AT_3002, AT_3003, BOTH_WAYS, settings};
 use conn_state::names::name_of;
-use conn_table::GraceEnd;
+use conn_table::{ConnTable, GraceEnd};
 use net_base::{Cid, Settings, StateName};
 use shared_table::{
     Entry, Gate, Gathered, InCall, InCallList, InSeat, Noted, OutCall, OutCallList, OutSeat,
@@ -22,77 +21,130 @@ use std::test::Fail;
 use std::thread;
 use std::thread::Threads;
 
+// A call of the outbound governor with its reply.
+macro_rules! out {
+    ($call:expr, $reply:expr) => {
+        Entry {
+            who: Who::Out,
+            call: TableCall::Out($call),
+            reply: $reply,
+        }
+    };
+}
+
+// One of the inbound governor.
+macro_rules! inn {
+    ($call:expr, $reply:expr) => {
+        Entry {
+            who: Who::In,
+            call: TableCall::In($call),
+            reply: $reply,
+        }
+    };
+}
+
 mod every_call;
 
 const FIRST: Cid = Cid(1);
 
 // Seven calls of both governors on one connection, with their replies.
-fn talk() -> [Entry; 7] {
-    [
-        inn(InCall::Admit(local(3002), 0), TableReply::Made(FIRST)),
-        out(
-            OutCall::Acquire(local(3002)),
-            TableReply::NotReusable(StateName::UnnegotiatedInbound),
-        ),
-        inn(InCall::Agreed(FIRST, BOTH_WAYS, 0), TableReply::Done),
-        out(OutCall::Acquire(local(3002)), TableReply::Leased(FIRST)),
-        inn(InCall::GraceOver(FIRST, 4999), TableReply::Unmet),
-        inn(
-            InCall::GraceOver(FIRST, 5000),
-            TableReply::Grace(GraceEnd::Expired),
-        ),
-        out(OutCall::Release(FIRST, 5000), TableReply::Done),
-    ]
+const TALK: [Entry; 7] = [
+    inn!(InCall::Admit(AT_3002, 0), TableReply::Made(FIRST)),
+    out!(
+        OutCall::Acquire(AT_3002),
+        TableReply::NotReusable(StateName::UnnegotiatedInbound)
+    ),
+    inn!(InCall::Agreed(FIRST, BOTH_WAYS, 0), TableReply::Done),
+    out!(OutCall::Acquire(AT_3002), TableReply::Leased(FIRST)),
+    inn!(InCall::GraceOver(FIRST, 4999), TableReply::Unmet),
+    inn!(
+        InCall::GraceOver(FIRST, 5000),
+        TableReply::Grace(GraceEnd::Expired)
+    ),
+    out!(OutCall::Release(FIRST, 5000), TableReply::Done),
+];
+
+fn are_answered(rt: &impl Abort, shared: &mut Shared, entries: &[Entry]) -> Result<(), Fail> {
+    for entry in entries {
+        answers(rt, shared, entry.call, entry.reply)?;
+    }
+    assert!(rt; shared.history().as_slice() == entries);
+    Ok(())
 }
 
-fn out(call: OutCall, reply: TableReply) -> Entry
-    ensures { result ≡ entry_of (calls.Out call) reply }
-{
-    Entry {
-        who: Who::Out,
-        call: TableCall::Out(call),
-        reply,
-    }
-}
-
-fn inn(call: InCall, reply: TableReply) -> Entry
-    ensures { result ≡ entry_of (calls.In call) reply }
-{
-    Entry {
-        who: Who::In,
-        call: TableCall::In(call),
-        reply,
-    }
+fn is_kept_for_this_side(rt: &impl Abort, table: &ConnTable) {
+    let facts = table.facts(FIRST);
+    assert!(rt; matches!(facts, Some(facts) if name_of(&facts) == StateName::OutboundIdle));
 }
 
 #[test]
 fn calls_of_both_are_answered_in_turn(rt: HostRuntime) -> Result<(), Fail> {
     let mut shared = Shared::new(rt.alloc(), &settings());
-    for entry in &talk() {
-        let reply = shared.apply(entry.call)?;
-        let calls = shared.history().as_slice().len();
-        assert!(rt; reply == entry.reply, "at call {calls}");
-    }
-    assert!(rt; shared.history().as_slice() == talk().as_slice());
-    let facts = shared.table().facts(FIRST).ok_or("it stands")?;
-    assert!(rt; name_of(&facts) == StateName::OutboundIdle);
+    are_answered(&rt, &mut shared, &TALK)?;
+    is_kept_for_this_side(&rt, shared.table());
     Ok(())
+}
+
+fn is_talk(rt: &impl Abort, gathered: &Gathered) {
+    assert!(rt; gathered.history.as_slice() == TALK.as_slice());
+    assert!(rt; gathered.made_out == 3 && gathered.made_in == 4);
+    assert!(rt; gathered.table.given() == 1);
 }
 
 #[test]
 fn calls_of_both_seats_are_gathered(rt: HostRuntime) -> Result<(), Fail> {
-    let gathered = gathered_after::<Brand, Brand, _>(
-        &rt,
-        rt.alloc(),
-        &settings(),
-        talk().as_slice(),
-        Blank::new(1),
-        Blank::new(1),
-    )?;
-    assert!(rt; gathered.history.as_slice() == talk().as_slice());
-    assert!(rt; gathered.made_out == 3 && gathered.made_in == 4);
-    assert!(rt; gathered.table.given() == 1);
+    let gathered = gathered(&rt, rt.alloc(), &settings(), &TALK)?;
+    is_talk(&rt, &gathered);
     Ok(())
+}
+
+// Makes calls through their governors' seats at a table of their own.
+fn gathered<R: Wait + Abort>(
+    rt: &R,
+    alloc: Global,
+    settings: &Settings,
+    entries: &[Entry],
+) -> Result<Gathered, Fail>
+    requires settings { AreSound settings.now }
+    requires few { length entries.now < 2 ^ 32 }
+{
+    let (outs, ins) = (Blank::new(1), Blank::new(1));
+    gathered_after::<Brand, Brand, _>(rt, alloc, settings, entries, outs, ins)
+}
+
+// A table with no connection and no call, and its two seats.
+fn opened<L: Ledger, M: Ledger>(
+    alloc: Global,
+    settings: &Settings,
+    outs: Blank,
+    ins: Blank,
+) -> Result<(SharedTable<L, M>, OutSeat<L>, InSeat<M>), Fail>
+    requires settings { AreSound settings.now }
+    requires outs { (outs.name ≡ L.name) × (outs.parts ≡ L.parts) × (0 < L.parts) }
+    requires ins { (ins.name ≡ M.name) × (ins.parts ≡ M.parts) × (0 < M.parts) }
+    ensures out { IfOk result (λ made. made.1 ≡ new_seat_at L.parts made.0) }
+    ensures inn { IfOk result (λ made. made.2 ≡ new_seat_at M.parts made.0) }
+{
+    let (out_book, out_share) = outs.open::<L>();
+    let (in_book, in_share) = ins.open::<M>();
+    Ok(SharedTable::new(alloc, settings, out_book, out_share, in_book, in_share)?)
+}
+
+// Both seats are back.
+fn gather<L: Ledger, M: Ledger>(
+    rt: &impl Abort,
+    table: SharedTable<L, M>,
+    out: OutSeat<L>,
+    inn: InSeat<M>,
+) -> Result<Gathered, Fail>
+    requires { IsAt L.parts table out × IsAt M.parts table inn }
+{
+    let (outs, ins) = (out.made(), inn.made());
+    let Ok(gathered) = table.gather(out, inn) else {
+        return Err("it is torn".into());
+    };
+    assert!(rt; gathered.made_out == outs && gathered.made_in == ins);
+    Ok(gathered)
 }
 
 // Makes calls through their governors' seats, compares each reply with the one that stands beside it, and gathers.
@@ -109,18 +161,15 @@ fn gathered_after<L: Ledger, M: Ledger, R: Wait + Abort>(
     requires outs { (outs.name ≡ L.name) × (outs.parts ≡ L.parts) × (0 < L.parts) }
     requires ins { (ins.name ≡ M.name) × (ins.parts ≡ M.parts) × (0 < M.parts) }
 {
-    let (out_book, out_share) = outs.open::<L>();
-    let (in_book, in_share) = ins.open::<M>();
-    let (table, mut out, mut inn) = SharedTable::new(
-        alloc, settings, out_book, out_share, in_book, in_share,
-    )?;
+    let (table, mut out, mut inn) = opened::<L, M>(alloc, settings, outs, ins)?;
     ask_all(rt, &table, &mut out, &mut inn, entries)?;
-    let (outs, ins) = (out.made(), inn.made());
-    assert!(rt; out.noted().as_slice().len() as u64 == outs);
-    assert!(rt; inn.noted().as_slice().len() as u64 == ins);
-    let gathered = table.gather(out, inn).ok().ok_or("nothing is torn")?;
-    assert!(rt; gathered.made_out == outs && gathered.made_in == ins);
-    Ok(gathered)
+    has_noted(rt, &out, &inn);
+    gather(rt, table, out, inn)
+}
+
+fn has_noted<L: Ledger, M: Ledger>(rt: &impl Abort, out: &OutSeat<L>, inn: &InSeat<M>) {
+    assert!(rt; out.noted().as_slice().len() as u64 == out.made());
+    assert!(rt; inn.noted().as_slice().len() as u64 == inn.made());
 }
 
 // Makes calls through seats at which none was made yet, one after another, and compares each reply.
@@ -173,10 +222,10 @@ fn noted(entry: &Entry) -> Noted {
 
 #[test]
 fn the_first_call_that_differs_is_told(rt: HostRuntime) {
-    let kept = out(OutCall::Dial(local(3002)), TableReply::Unmet);
-    let found = out(OutCall::Dial(local(3002)), TableReply::Made(FIRST));
+    let kept = out!(OutCall::Dial(AT_3002), TableReply::Unmet);
+    let found = out!(OutCall::Dial(AT_3002), TableReply::Made(FIRST));
     let torn = first_torn(
-        &[inn(InCall::DropIn(FIRST), TableReply::Unmet), found],
+        &[inn!(InCall::DropIn(FIRST), TableReply::Unmet), found],
         &[noted(&kept)],
         &[Noted {
             call: TableCall::In(InCall::DropIn(FIRST)),
@@ -230,7 +279,6 @@ fn two_governors_at_once(rt: HostRuntime) -> Result<(), Fail> {
     Ok(())
 }
 
-// Each worker waits for the other one, so they end only where they run at once.
 fn at_once<L: Ledger + Send + Sync, M: Ledger + Send + Sync, R: Threads + Wait + Abort + Sync>(
     rt: &R,
     alloc: Global,
@@ -240,20 +288,30 @@ fn at_once<L: Ledger + Send + Sync, M: Ledger + Send + Sync, R: Threads + Wait +
     requires outs { (outs.name ≡ L.name) × (outs.parts ≡ L.parts) × (0 < L.parts) }
     requires ins { (ins.name ≡ M.name) × (ins.parts ≡ M.parts) × (0 < M.parts) }
 {
-    let out_calls = [OutCall::Dial(local(3002)), OutCall::Acquire(local(3003))];
+    let out_calls = [OutCall::Dial(AT_3002), OutCall::Acquire(AT_3003)];
     let out_calls = OutCallList::from_slice(alloc, &out_calls)?;
-    let in_calls = [InCall::Admit(local(3003), 0), InCall::DropIn(Cid(9))];
+    let in_calls = [InCall::Admit(AT_3003, 0), InCall::DropIn(Cid(9))];
     let in_calls = InCallList::from_slice(alloc, &in_calls)?;
-    let (out_book, out_share) = outs.open::<L>();
-    let (in_book, in_share) = ins.open::<M>();
-    let (table, out, inn) = SharedTable::new(
-        alloc,
-        &settings(),
-        out_book,
-        out_share,
-        in_book,
-        in_share,
-    )?;
+    let (table, out, inn) = opened::<L, M>(alloc, &settings(), outs, ins)?;
+    let (out, inn) = worked(rt, &table, out, &out_calls, inn, &in_calls);
+    let gathered = gather(rt, table, out, inn)?;
+    assert!(rt; gathered.made_out == 2 && gathered.made_in == 2);
+    Ok(())
+}
+
+// Each worker waits for the other one, so they end only where they run at once.
+fn worked<L: Ledger + Send + Sync, M: Ledger + Send + Sync, R: Threads + Wait + Abort + Sync>(
+    rt: &R,
+    table: &SharedTable<L, M>,
+    out: OutSeat<L>,
+    outs: &OutCallList,
+    inn: InSeat<M>,
+    ins: &InCallList,
+) -> (OutSeat<L>, InSeat<M>)
+    requires out { IsAt L.parts table.now out × (length out.noted + length outs.now ≤ 2 ^ 32) }
+    requires inn { IsAt M.parts table.now inn × (length inn.noted + length ins.now ≤ 2 ^ 32) }
+    ensures { IsAt L.parts table.now result.0 × IsAt M.parts table.now result.1 }
+{
     let (out_asked, in_asked) = (AtomicBool::new(false), AtomicBool::new(false));
     let out_gate = FlagGate {
         sets: &out_asked,
@@ -269,14 +327,7 @@ fn at_once<L: Ledger + Send + Sync, M: Ledger + Send + Sync, R: Threads + Wait +
         held: 2,
         noes: 0,
     };
-    let worked = run_two(
-        rt, &table, out, &out_calls, inn, &in_calls, out_gate, in_gate,
-    );
+    let worked = run_two(rt, table, out, outs, inn, ins, out_gate, in_gate);
     assert!(rt; worked.out_end == WorkEnd::All && worked.in_end == WorkEnd::All);
-    let gathered = table
-        .gather(worked.out, worked.inn)
-        .ok()
-        .ok_or("nothing is torn")?;
-    assert!(rt; gathered.made_out == 2 && gathered.made_in == 2);
-    Ok(())
+    (worked.out, worked.inn)
 }

@@ -1,9 +1,11 @@
 ghost use Rattle.std.specs.Prelude.{◌≡◌, true, IfOk};
 ghost use Rattle.net_base.specs.Limits.{IsWithinLimits};
 
+use super::{EVENTS_MOST, advance, local};
 use loop_world::LoopWorld;
 use net_base::{
-    Action, Addr, AddrList, Cid, Event, Group, GroupList, Ip, OutOfMemory, Phase, Settings, Targets,
+    Action, Addr, AddrList, Cid, Event, Facts, Group, GroupList, OutOfMemory, Phase, Settings,
+    Targets,
 };
 use node_engine::Engine;
 use node_settings::Config;
@@ -14,18 +16,6 @@ use std::net::{SocketAddr, TcpListener};
 use std::test::Fail;
 
 mod sockets;
-
-const LOOPBACK: u32 = 0x7f00_0001;
-
-// As many events each node takes at most.
-const EVENTS_MOST: u64 = 20_000;
-
-fn local(port: u16) -> Addr {
-    Addr {
-        ip: Ip::V4(LOOPBACK),
-        port,
-    }
-}
 
 // A listener at a port that the system picks.
 fn listener(rt: &HostRuntime) -> Result<TcpListener, Fail> {
@@ -98,13 +88,23 @@ struct Node {
     other: Addr,
 }
 
-// A connection to the other one is negotiated and in local use.
-fn has_met(node: &Node) -> bool {
-    (1..=64).any(|id| {
-        node.engine.facts(Cid(id)).is_some_and(|facts| {
-            facts.addr == node.other && facts.phase == Phase::Negotiated && facts.local
-        })
-    })
+impl Node {
+    // A connection to the other one is negotiated and in local use.
+    fn has_met(&self) -> bool {
+        for id in 1..65 {
+            if is_met(self.engine.facts(Cid(id)), self.other) {
+                return true;
+            }
+        }
+        false
+    }
+}
+
+fn is_met(facts: Option<Facts>, other: Addr) -> bool {
+    match facts {
+        Some(facts) => facts.addr == other && facts.phase == Phase::Negotiated && facts.local,
+        None => false,
+    }
 }
 
 fn do_all<W: World>(world: &mut W, actions: &[Action]) -> Result<(), Fail>
@@ -120,22 +120,17 @@ fn do_all<W: World>(world: &mut W, actions: &[Action]) -> Result<(), Fail>
 }
 
 // The step of an event, and what it asks of the world.
-fn step<W: World>(node: Node, event: &Event, world: &mut W) -> Result<Node, Fail>
+fn step<W: World>(node: &mut Node, event: &Event, world: &mut W) -> Result<(), Fail>
     requires open { W.is_open world.old ≡ true }
     requires within { IsWithinLimits event.now }
     ensures { W.is_open world.new ≡ true }
 {
-    let Node { engine, other } = node;
-    if engine.taken() >= EVENTS_MOST {
-        return Err("too many events".into());
-    }
-    let (engine, actions) = engine.step_on(event)?;
-    do_all(world, actions.as_slice())?;
-    Ok(Node { engine, other })
+    let actions = advance(&mut node.engine, event)?;
+    do_all(world, actions.as_slice())
 }
 
 // What happens next in its world.
-fn turn<W: World>(node: Node, world: &mut W) -> Result<Node, Fail>
+fn turn<W: World>(node: &mut Node, world: &mut W) -> Result<(), Fail>
     requires { W.is_open world.old ≡ true }
     ensures { W.is_open world.new ≡ true }
 {
@@ -146,86 +141,78 @@ fn turn<W: World>(node: Node, world: &mut W) -> Result<Node, Fail>
     }
 }
 
+// A node hears of the other one.
+fn begin<W: World>(alloc: Global, node: &mut Node, world: &mut W) -> Result<(), Fail>
+    requires { W.is_open world.old ≡ true }
+    ensures { W.is_open world.new ≡ true }
+{
+    let event = is_local(alloc, node.other)?;
+    step(node, &event, world)
+}
+
 // Each node in turn, until each has met the other.
 fn meet<W: World>(
-    left: Node,
+    left: &mut Node,
     left_world: &mut W,
-    right: Node,
+    right: &mut Node,
     right_world: &mut W,
 ) -> Result<bool, Fail>
     requires left { W.is_open left_world.old ≡ true }
     requires right { W.is_open right_world.old ≡ true }
 {
-    let mut left = left;
-    let mut right = right;
     for _ in 1..EVENTS_MOST {
-        left = turn(left, left_world)?;
-        right = turn(right, right_world)?;
-        if has_met(&left) && has_met(&right) {
+        turn(left, left_world)?;
+        turn(right, right_world)?;
+        if left.has_met() && right.has_met() {
             return Ok(true);
         }
     }
     Ok(false)
 }
 
-// A node that has heard of the other one.
-fn begun<W: World>(alloc: Global, engine: Engine, other: Addr, world: &mut W) -> Result<Node, Fail>
-    requires { W.is_open world.old ≡ true }
-    ensures { W.is_open world.new ≡ true }
-{
-    let event = is_local(alloc, other)?;
-    step(Node { engine, other }, &event, world)
-}
-
 // Two nodes in two worlds, each of which has the other as a local root peer.
 fn meet_in<W: World>(
     alloc: Global,
-    left: (Engine, Addr),
+    left: &mut Node,
     left_world: &mut W,
-    right: (Engine, Addr),
+    right: &mut Node,
     right_world: &mut W,
 ) -> Result<bool, Fail>
     requires left { W.is_open left_world.old ≡ true }
     requires right { W.is_open right_world.old ≡ true }
 {
-    let (left, left_addr) = left;
-    let (right, right_addr) = right;
-    let left = begun(alloc, left, right_addr, left_world)?;
-    let right = begun(alloc, right, left_addr, right_world)?;
+    begin(alloc, left, left_world)?;
+    begin(alloc, right, right_world)?;
     meet(left, left_world, right, right_world)
 }
 
-fn do_meet(rt: &HostRuntime, left: (Engine, Addr), right: (Engine, Addr)) -> Result<bool, Fail> {
-    let mut left_world = opened(rt, left.1)?;
-    let mut right_world = opened(rt, right.1)?;
+fn do_meet(rt: &HostRuntime, left: &mut Node, right: &mut Node) -> Result<bool, Fail> {
+    let mut left_world = opened(rt, right.other)?;
+    let mut right_world = opened(rt, left.other)?;
     meet_in(rt.alloc(), left, &mut left_world, right, &mut right_world)
 }
 
 #[test]
 fn two_nodes_meet(rt: HostRuntime) -> Result<(), Fail> {
     let alloc = rt.alloc();
-    let (left_addr, right_addr) = free_addresses(&rt)?;
-    let picker = Picker::new(Box::new(alloc, |addr: Addr, word: u64| {
-        addr.key().wrapping_add(word)
-    })?);
-    let ranked = RankedPicker::new(Box::new(alloc, |addr: Addr, failures: u64, word: u64| {
-        failures.min(65_535) * 281_474_976_710_656
-            + addr.key().wrapping_add(word) % 281_474_976_710_656
-    })?);
-    let Ok(left) = Engine::new(alloc, settings_of(left_addr), picker, ranked) else {
-        return Err("no engine".into());
+    let (left, right) = free_addresses(&rt)?;
+    let mut nodes = Vec::new(alloc);
+    for (own, other) in [(left, right), (right, left)] {
+        let picker = Picker::new(Box::new(alloc, |addr: Addr, word: u64| {
+            addr.key().wrapping_add(word)
+        })?);
+        let ranked = RankedPicker::new(Box::new(alloc, |addr: Addr, failures: u64, word: u64| {
+            failures.min(65_535) * 281_474_976_710_656
+                + addr.key().wrapping_add(word) % 281_474_976_710_656
+        })?);
+        let Ok(engine) = Engine::new(alloc, settings_of(own), picker, ranked) else {
+            return Err("no engine".into());
+        };
+        nodes.push(Node { engine, other })?;
+    }
+    let (Some(mut right), Some(mut left)) = (nodes.pop(), nodes.pop()) else {
+        return Err("no pair".into());
     };
-    let picker = Picker::new(Box::new(alloc, |addr: Addr, word: u64| {
-        addr.key().wrapping_add(word)
-    })?);
-    let ranked = RankedPicker::new(Box::new(alloc, |addr: Addr, failures: u64, word: u64| {
-        failures.min(65_535) * 281_474_976_710_656
-            + addr.key().wrapping_add(word) % 281_474_976_710_656
-    })?);
-    let Ok(right) = Engine::new(alloc, settings_of(right_addr), picker, ranked) else {
-        return Err("no engine".into());
-    };
-    let met = do_meet(&rt, (left, left_addr), (right, right_addr))?;
-    assert!(rt; met);
+    assert!(rt; do_meet(&rt, &mut left, &mut right)?);
     Ok(())
 }

@@ -1,6 +1,7 @@
 ghost use Rattle.std.specs.Prelude.{◌≡◌, true};
 
-use super::{config_of, listener, local, opened};
+use super::super::local;
+use super::{config_of, listener, opened};
 use loop_world::LoopWorld;
 use net_base::{Addr, AddrList, Event};
 use node_world::{Next, World, WorldRefusal};

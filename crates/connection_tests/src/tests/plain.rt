@@ -1,8 +1,8 @@
-use super::super::NONE_RUNNING;
-use net_base::{
-    Addr, Agreed, Cid, Facts, Grace, OutOfMemory, Phase, Provenance, Responders, Settings,
-};
+use super::NONE_RUNNING;
+use net_base::{Addr, Cid, Facts, Grace, OutOfMemory, Phase, Provenance, Responders, Settings};
 use std::alloc::Global;
+
+pub(super) mod calls;
 
 // The table as a plain list, through which every look-up goes.
 #[derive(Drop)]
@@ -97,7 +97,7 @@ impl PlainTable {
     }
 }
 
-pub fn is_live(facts: &Facts) -> bool {
+fn is_live(facts: &Facts) -> bool {
     !matches!(facts.phase, Phase::Closing(_))
 }
 
@@ -110,87 +110,6 @@ fn is_counted(facts: &Facts) -> bool {
     }
 }
 
-pub fn some_runs(running: Responders) -> bool {
+fn some_runs(running: Responders) -> bool {
     running != NONE_RUNNING
-}
-
-pub fn negotiated(facts: Facts, agreed: Agreed, until: u64) -> Facts {
-    let outbound = facts.provenance == Provenance::FromLocal;
-    Facts {
-        phase: Phase::Negotiated,
-        agreed: Some(agreed),
-        local: outbound,
-        grace: if outbound && agreed.initiator_only {
-            Grace::Off
-        } else {
-            Grace::ForRemote(until)
-        },
-        ..facts
-    }
-}
-
-pub fn released(facts: Facts, until: u64) -> Facts {
-    let stays = some_runs(facts.running) || matches!(facts.grace, Grace::ForRemote(_));
-    Facts {
-        local: false,
-        grace: if stays {
-            facts.grace
-        } else {
-            Grace::ForLocal(until)
-        },
-        ..facts
-    }
-}
-
-// The keep-alive responder starts.
-pub fn awakened(facts: Facts) -> Facts {
-    Facts {
-        running: Responders {
-            keep_alive: true,
-            ..facts.running
-        },
-        grace: Grace::Off,
-        ..facts
-    }
-}
-
-// The keep-alive responder stops.
-pub fn idled(facts: Facts, until: u64) -> Facts {
-    let running = Responders {
-        keep_alive: false,
-        ..facts.running
-    };
-    Facts {
-        running,
-        grace: if some_runs(running) {
-            facts.grace
-        } else {
-            Grace::ForRemote(until)
-        },
-        ..facts
-    }
-}
-
-pub fn grace_ended(facts: Facts, until: u64) -> Facts {
-    if facts.local {
-        return Facts {
-            grace: Grace::Off,
-            ..facts
-        };
-    }
-    Facts {
-        phase: Phase::Closing(until),
-        agreed: None,
-        running: NONE_RUNNING,
-        grace: Grace::Off,
-        ..facts
-    }
-}
-
-pub fn is_acquirable(facts: &Facts) -> bool {
-    let duplex = matches!(facts.agreed, Some(agreed) if !agreed.initiator_only);
-    facts.phase == Phase::Negotiated
-        && duplex
-        && !facts.local
-        && !matches!(facts.grace, Grace::ForLocal(_))
 }

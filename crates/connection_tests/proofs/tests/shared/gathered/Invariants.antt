@@ -1,4 +1,4 @@
-use Rattle.connection_tests.proofs.tests.shared.calls_of_both_seats_are_gathered.Given as goal
+use Rattle.connection_tests.proofs.tests.shared.gathered.Given as goal
 
 abbrev pub ghosts-gathered_after-L-Ledger : goal.ghosts-gathered_after-L-Ledger
 ghosts-gathered_after-L-Ledger g a = record { name = a.outs.name; parts = a.outs.parts }
