@@ -4,5 +4,6 @@ mod flows;
 mod hosts;
 mod scripts;
 mod settings_files;
+mod sockets;
 mod topology_files;
 mod worlds;

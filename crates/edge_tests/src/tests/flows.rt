@@ -1,26 +1,20 @@
 //! Sockets in memory, whose peers do what random words say, and a node that answers them. What a peer says and hears, and
 //! what the node is told and sends, are bytes that count up from a number of the connection's own.
 
-use net_base::{Action, Addr, AddrList, Away, Cid, Event, Ip, Octets, OutOfMemory};
+use super::sockets::{Happening, accepts, comes, does, happens, local, new_flow, next_ask};
+use net_base::{Action, Addr, Away, Cid, Event, Octets, OutOfMemory};
 use rand_core::SeedableRng;
 use rand_core::utils::NextWord;
 use rand_pcg::Pcg64;
 use socket_flow::{Ask, SocketFlow, Terms};
 use std::alloc::Global;
-use std::collections::HashMap;
+use std::process::Abort;
 use std::test::Fail;
 
 // As many asks are answered.
 const ASKS: u64 = 15_000;
 
 const PEERS: u64 = 50;
-
-fn local(port: u16) -> Addr {
-    Addr {
-        ip: Ip::V4(0x7f00_0001),
-        port,
-    }
-}
 
 // The other end of a socket.
 #[derive(Drop)]
@@ -78,12 +72,34 @@ fn counts_up(bytes: &[u8], from: u8) -> (bool, u8) {
     (holds, next)
 }
 
+// Whether what goes out to a peer goes on where the last ended.
+fn hears(peer: &mut Peer, bytes: &[u8]) -> bool {
+    let (holds, next) = counts_up(bytes, peer.hears);
+    peer.hears = next;
+    holds
+}
+
+// Whether what the node is told of a peer goes on where the last ended.
+fn is_told(peer: &mut Peer, bytes: &[u8]) -> bool {
+    let (holds, next) = counts_up(bytes, peer.told);
+    peer.told = next;
+    holds && !peer.is_over
+}
+
+// Whether a connection ends once, when all was told that its peer said.
+fn ends(peer: &mut Peer) -> bool {
+    let holds = !peer.is_over && peer.left == 0 && peer.told == peer.says;
+    peer.is_over = true;
+    holds
+}
+
 #[derive(Drop)]
 struct FlowWorld {
     alloc: Global,
     flow: SocketFlow,
     words: Pcg64,
-    peers: HashMap<usize, Peer>,
+    // By the keys of their sockets.
+    peers: Vec<Peer>,
     announces: bool,
     coming: u64,
     moment: u64,
@@ -107,18 +123,13 @@ fn terms(announce: bool) -> Terms {
     }
 }
 
-fn new_flow(alloc: Global, terms: Terms, publics: &AddrList) -> Result<SocketFlow, OutOfMemory> {
-    SocketFlow::new(alloc, terms, publics)
-}
-
 fn opened(alloc: Global, seed: u64, announce: bool) -> Result<FlowWorld, OutOfMemory> {
-    let publics = AddrList::new(alloc);
-    let flow = new_flow(alloc, terms(announce), &publics)?;
+    let flow = new_flow(alloc, terms(announce))?;
     Ok(FlowWorld {
         alloc,
         flow,
         words: Pcg64::seed_from_u64(seed),
-        peers: HashMap::new(alloc),
+        peers: Vec::new(alloc),
         announces: announce,
         coming: PEERS,
         moment: 0,
@@ -142,17 +153,15 @@ fn expect(world: &mut FlowWorld, holds: bool) {
 
 fn accept(world: &mut FlowWorld) -> Result<(), OutOfMemory> {
     if world.coming == 0 || below(world, 4) == 0 {
-        world.flow.nobody_waits();
-        return Ok(());
+        return happens(&mut world.flow, Happening::NobodyWaits);
     }
     let port = u16::try_from(PEERS.saturating_sub(world.coming)).unwrap_or(0);
     world.coming = world.coming.saturating_sub(1);
     let left = below(world, 2000);
-    let announces = world.announces;
-    let key = world.flow.accepted(local(port))?;
+    world.peers.push(new_peer(port, left, world.announces))?;
+    let key = accepts(&mut world.flow, local(port))?;
     // Keys count up, so the port of each is its key.
     expect(world, key == usize::from(port));
-    world.peers.insert(key, new_peer(port, left, announces))?;
     Ok(())
 }
 
@@ -171,17 +180,23 @@ fn say(peer: &mut Peer, count: usize, bytes: &mut Vec<u8>) -> Result<(), OutOfMe
 fn said(world: &mut FlowWorld, key: usize, most: usize) -> Result<Vec<u8>, OutOfMemory> {
     let count = most.min(1 + (below(world, 200) % 200) as usize);
     let mut bytes = Vec::new(world.alloc);
-    if let Some(peer) = world.peers.get_mut(&key) {
+    if let Some(peer) = world.peers.get_mut(key) {
         say(peer, count, &mut bytes)?;
     }
     Ok(bytes)
 }
 
-// The socket fails: its peer says no more.
-fn is_lost(world: &mut FlowWorld, key: usize) {
-    if let Some(peer) = world.peers.get_mut(&key) {
+// A peer says no more.
+fn fall_silent(peers: &mut Vec<Peer>, key: usize) {
+    if let Some(peer) = peers.get_mut(key) {
         peer.left = 0;
     }
+}
+
+// The socket fails.
+fn is_lost(world: &mut FlowWorld, key: usize) -> Result<(), OutOfMemory> {
+    fall_silent(&mut world.peers, key);
+    happens(&mut world.flow, Happening::Ends(key))
 }
 
 fn read(world: &mut FlowWorld, key: usize, most: usize) -> Result<(), OutOfMemory> {
@@ -189,56 +204,58 @@ fn read(world: &mut FlowWorld, key: usize, most: usize) -> Result<(), OutOfMemor
         return Ok(());
     }
     if below(world, 500) == 0 {
-        is_lost(world, key);
-        return world.flow.ended(key);
+        return is_lost(world, key);
     }
     let bytes = said(world, key, most)?;
-    hear(world, key, &bytes)
-}
-
-// These bytes come, or none and the socket has ended.
-fn hear(world: &mut FlowWorld, key: usize, bytes: &[u8]) -> Result<(), OutOfMemory> {
-    if bytes.is_empty() || bytes.len() > 65_536 {
-        return world.flow.ended(key);
-    }
-    match world.flow.came(key, bytes)? {
+    match comes(&mut world.flow, key, &bytes)? {
         Some(event) => tell(world, &event),
         None => Ok(()),
     }
 }
 
-fn write(world: &mut FlowWorld, key: usize) -> Result<(), OutOfMemory> {
-    if below(world, 5) == 0 {
-        return world.flow.is_full(key);
-    }
-    let count = (below(world, 60) % 60) as usize;
+// What goes out at once, at most so many bytes.
+fn goes_out(world: &mut FlowWorld, key: usize, most: usize) -> usize {
     let bytes = world.flow.outgoing(key);
-    let count = bytes.len().min(1 + count);
-    let Some(peer) = world.peers.get_mut(&key) else {
-        return world.flow.ended(key);
+    let count = bytes.len().min(most);
+    let Some(peer) = world.peers.get_mut(key) else {
+        return 0;
     };
-    let (holds, next) = counts_up(&bytes[..count], peer.hears);
-    peer.hears = next;
+    let holds = hears(peer, &bytes[..count]);
     world.went = world.went.saturating_add(count as u64);
     expect(world, holds);
-    world.flow.went(key, count)
+    count
+}
+
+fn write(world: &mut FlowWorld, key: usize) -> Result<(), OutOfMemory> {
+    if below(world, 5) == 0 {
+        return happens(&mut world.flow, Happening::TakesNoMore(key));
+    }
+    let most = 1 + (below(world, 60) % 60) as usize;
+    let count = goes_out(world, key, most);
+    happens(&mut world.flow, Happening::Takes(key, count))
 }
 
 fn tell(world: &mut FlowWorld, event: &Event) -> Result<(), OutOfMemory> {
     match event {
-        Event::Accepted(addr) if below(world, 8) == 0 => {
-            world.flow.act(&Action::Turnaway(Away::Full))?;
-            expect(world, addr.ip == local(0).ip);
+        Event::Accepted(addr) => meet(world, *addr),
+        Event::Bytes(cid, bytes) => hear(world, *cid, bytes.as_slice()),
+        Event::Closed(cid) => {
+            is_over(world, *cid);
             Ok(())
         }
-        Event::Accepted(addr) => {
-            let cid = Cid(1 + u64::from(addr.port));
-            world.flow.act(&Action::Admit(cid, *addr))
-        }
-        Event::Bytes(cid, bytes) => heard(world, *cid, bytes.as_slice()),
-        Event::Closed(cid) => over(world, *cid),
         _ => Ok(()),
     }
+}
+
+// A peer is turned away now and then, and else let in.
+fn meet(world: &mut FlowWorld, addr: Addr) -> Result<(), OutOfMemory> {
+    expect(world, addr.ip == local(0).ip);
+    let action = if below(world, 8) == 0 {
+        Action::Turnaway(Away::Full)
+    } else {
+        Action::Admit(Cid(1 + u64::from(addr.port)), addr)
+    };
+    does(&mut world.flow, &action)
 }
 
 // The key of the socket that is a connection.
@@ -256,77 +273,93 @@ fn next_answer(alloc: Global, peer: &mut Peer, count: usize) -> Result<Octets, O
     Ok(answer)
 }
 
-// Bytes that the node is told go on where the last ended, and it answers with bytes that do.
-fn heard(world: &mut FlowWorld, cid: Cid, bytes: &[u8]) -> Result<(), OutOfMemory> {
-    let count = (below(world, 300) % 300) as usize;
-    let Some(peer) = world.peers.get_mut(&key_of(cid)) else {
+// What the node answers to bytes that it is told, which are judged.
+fn answer_to(
+    world: &mut FlowWorld,
+    cid: Cid,
+    bytes: &[u8],
+    count: usize,
+) -> Result<Octets, OutOfMemory> {
+    let Some(peer) = world.peers.get_mut(key_of(cid)) else {
         expect(world, false);
-        return Ok(());
+        return Ok(Octets::new(world.alloc));
     };
-    let (holds, next) = counts_up(bytes, peer.told);
-    let holds = holds && !peer.is_over;
-    peer.told = next;
+    let holds = is_told(peer, bytes);
     let answer = next_answer(world.alloc, peer, count)?;
-    world.told = world.told.saturating_add(bytes.len() as u64);
     expect(world, holds);
-    world.flow.act(&Action::Send(cid, answer))
+    Ok(answer)
 }
 
-// A connection ends once, when all was told that its peer said.
-fn over(world: &mut FlowWorld, cid: Cid) -> Result<(), OutOfMemory> {
-    let Some(peer) = world.peers.get_mut(&key_of(cid)) else {
-        expect(world, false);
-        return Ok(());
+// Bytes that the node is told go on where the last ended, and it answers with bytes that do.
+fn hear(world: &mut FlowWorld, cid: Cid, bytes: &[u8]) -> Result<(), OutOfMemory> {
+    let count = (below(world, 300) % 300) as usize;
+    world.told = world.told.saturating_add(bytes.len() as u64);
+    let answer = answer_to(world, cid, bytes, count)?;
+    does(&mut world.flow, &Action::Send(cid, answer))
+}
+
+fn is_over(world: &mut FlowWorld, cid: Cid) {
+    let holds = match world.peers.get_mut(key_of(cid)) {
+        Some(peer) => ends(peer),
+        None => false,
     };
-    let holds = !peer.is_over && peer.left == 0 && peer.told == peer.says;
-    peer.is_over = true;
     world.ended = world.ended.saturating_add(1);
     expect(world, holds);
+}
+
+// Some sockets may have become ready, for bytes to be read or written.
+fn wake(world: &mut FlowWorld) -> Result<(), OutOfMemory> {
+    for key in 0..PEERS as usize {
+        let word = below(world, 4);
+        if word < 2 {
+            happens(&mut world.flow, Happening::MayBeReady(key, word == 0))?;
+        }
+    }
     Ok(())
 }
 
 fn wait(world: &mut FlowWorld) -> Result<(), OutOfMemory> {
-    for key in 0..PEERS as usize {
-        let word = below(world, 4);
-        if word < 2 {
-            world.flow.is_ready(key, word == 0)?;
-        }
-    }
-    world.flow.is_called();
+    wake(world)?;
+    happens(&mut world.flow, Happening::PeerWaits)?;
     let passed = below(world, 50);
     world.moment = world.moment.saturating_add(passed);
-    world.flow.begin_round(world.moment)
+    happens(&mut world.flow, Happening::RoundBegins(world.moment))
 }
 
-fn answer(world: &mut FlowWorld, ask: Ask) -> Result<(), OutOfMemory> {
+fn answer(world: &mut FlowWorld, ask: &Ask) -> Result<(), OutOfMemory> {
     match ask {
         Ask::Accept => accept(world),
-        Ask::Read(key, most) => read(world, key, most),
-        Ask::Write(key) => write(world, key),
-        Ask::Give(event) => tell(world, &event),
+        Ask::Read(key, most) => read(world, *key, *most),
+        Ask::Write(key) => write(world, *key),
+        Ask::Give(event) => tell(world, event),
         Ask::Wait(_) => wait(world),
-        Ask::Connect(key, _) | Ask::Check(key) => world.flow.ended(key),
+        Ask::Connect(key, _) | Ask::Check(key) => happens(&mut world.flow, Happening::Ends(*key)),
         Ask::Close(_) | Ask::Govern => Ok(()),
     }
 }
 
-fn run(alloc: Global, seed: u64, announce: bool) -> Result<FlowWorld, OutOfMemory> {
-    let mut world = opened(alloc, seed, announce)?;
+fn run(world: &mut FlowWorld) -> Result<(), OutOfMemory> {
     for _ in 0..ASKS {
-        let ask = world.flow.ask()?;
-        answer(&mut world, ask)?;
+        let ask = next_ask(&mut world.flow)?;
+        answer(world, &ask)?;
     }
-    Ok(world)
+    Ok(())
+}
+
+fn expect_order(rt: &impl Abort, alloc: Global, seed: u64, announce: bool) -> Result<(), Fail> {
+    let mut world = opened(alloc, seed, announce)?;
+    run(&mut world)?;
+    assert!(rt; world.wrong == 0);
+    assert!(rt; world.ended > 30);
+    assert!(rt; world.told > 10_000);
+    assert!(rt; world.went > 10_000);
+    Ok(())
 }
 
 #[test]
 fn bytes_come_and_go_in_their_order(rt: HostRuntime) -> Result<(), Fail> {
     for seed in 0..2 {
-        let world = run(rt.alloc(), seed, seed % 2 == 0)?;
-        assert!(rt; world.wrong == 0);
-        assert!(rt; world.ended > 30);
-        assert!(rt; world.told > 10_000);
-        assert!(rt; world.went > 10_000);
+        expect_order(&rt, rt.alloc(), seed, seed % 2 == 0)?;
     }
     Ok(())
 }

@@ -1,17 +1,7 @@
+use super::topology_files::{Wanted, is_read};
 use net_base::{Addr, Ip};
-use node_settings::{Topology, read_topology};
 use std::alloc::Global;
 use std::test::Fail;
-
-fn topology(alloc: Global, text: &str) -> Result<Topology, Fail> {
-    Ok(read_topology(alloc, text.as_bytes())?)
-}
-
-// Whether a topology has these public roots, or none and one that is counted.
-fn has(found: &Topology, addresses: &[Addr]) -> bool {
-    let counted = if addresses.is_empty() { 1 } else { 0 };
-    found.publics.as_slice() == addresses && found.unresolved == counted
-}
 
 // Whether a host stands for these addresses, at port 3001, in a file that has it as its one access point. Without an
 // address it is counted.
@@ -19,8 +9,12 @@ fn stands_for(alloc: Global, host: &str, addresses: &[Addr]) -> Result<bool, Fai
     let text = format!(in alloc;
         "{{\"publicRoots\":[{{\"accessPoints\":[{{\"address\":\"{host}\",\"port\":3001}}]}}]}}"
     )?;
-    let found = topology(alloc, text.as_str())?;
-    Ok(has(&found, addresses))
+    let wanted = Wanted {
+        roots: &[],
+        publics: addresses,
+        unresolved: if addresses.is_empty() { 1 } else { 0 },
+    };
+    Ok(is_read(alloc, text.as_str(), wanted))
 }
 
 #[test]

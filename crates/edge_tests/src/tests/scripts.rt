@@ -1,8 +1,10 @@
 //! A flow over sockets of a script: what it is told, one thing after another, and what it is to ask for next.
 
-use net_base::{Action, Addr, AddrList, Away, Cid, CloseCause, Event, Ip, Octets, OutOfMemory};
+use super::sockets::{Happening, accepts, comes, does, happens, local, new_flow, next_ask};
+use net_base::{Action, Away, Cid, CloseCause, Event, Octets, OutOfMemory};
 use socket_flow::{Ask, Dialed, SocketFlow, Terms};
 use std::alloc::Global;
+use std::process::Abort;
 use std::test::Fail;
 
 // One thing that happens on the sockets, by key, or that the node does, by id.
@@ -46,13 +48,6 @@ enum Sought {
     Wait,
 }
 
-fn local(port: u16) -> Addr {
-    Addr {
-        ip: Ip::V4(0x7f00_0001),
-        port,
-    }
-}
-
 fn terms(announce: bool) -> Terms {
     Terms {
         own: local(3001),
@@ -63,10 +58,6 @@ fn terms(announce: bool) -> Terms {
         tick: 10_000,
         rootttl: 1000,
     }
-}
-
-fn octets(alloc: Global, bytes: &[u8]) -> Result<Octets, OutOfMemory> {
-    Octets::from_slice(alloc, bytes)
 }
 
 // Whether an event is the one that is sought.
@@ -94,37 +85,21 @@ fn is_sought(flow: &SocketFlow, ask: &Ask, sought: &Sought) -> bool {
     }
 }
 
-// Bytes come, and are told of this connection, or of none.
-fn comes(
-    flow: &mut SocketFlow,
-    key: usize,
-    id: Option<u64>,
-    bytes: &[u8],
-) -> Result<bool, OutOfMemory> {
-    if bytes.is_empty() || bytes.len() > 65_536 {
-        return Ok(false);
-    }
-    let event = flow.came(key, bytes)?;
-    Ok(match (event, id) {
-        (Some(Event::Bytes(cid, told)), Some(id)) => cid.0 == id && told.as_slice() == bytes,
-        (None, None) => true,
-        _ => false,
+// What happens on the sockets, if something does.
+fn happening(step: &Step) -> Option<Happening> {
+    Some(match step {
+        Step::RoundBegins(moment) => Happening::RoundBegins(*moment),
+        Step::PeerWaits => Happening::PeerWaits,
+        Step::NobodyWaits => Happening::NobodyWaits,
+        Step::MayBeRead(key) => Happening::MayBeReady(*key, false),
+        Step::MayBeWritten(key) => Happening::MayBeReady(*key, true),
+        Step::Takes(key, count) => Happening::Takes(*key, *count),
+        Step::TakesNoMore(key) => Happening::TakesNoMore(*key),
+        Step::Ends(key) => Happening::Ends(*key),
+        Step::Connects(key) => Happening::DialComesTo(*key, Dialed::Connected),
+        Step::Fails(key) => Happening::DialComesTo(*key, Dialed::Failed),
+        _ => return None,
     })
-}
-
-// Something happens on the sockets.
-fn happens(flow: &mut SocketFlow, step: &Step) -> Result<(), OutOfMemory> {
-    match step {
-        Step::RoundBegins(moment) => flow.begin_round(*moment),
-        Step::MayBeRead(key) => flow.is_ready(*key, false),
-        Step::MayBeWritten(key) => flow.is_ready(*key, true),
-        Step::Takes(key, count) => flow.went(*key, *count),
-        Step::TakesNoMore(key) => flow.is_full(*key),
-        Step::Ends(key) => flow.ended(*key),
-        Step::Connects(key) => flow.dialed(*key, Dialed::Connected),
-        Step::Fails(key) => flow.dialed(*key, Dialed::Failed),
-        _ => Ok(()),
-    }
 }
 
 // What the node does, if it does something.
@@ -133,48 +108,79 @@ fn action(alloc: Global, step: &Step) -> Result<Option<Action>, OutOfMemory> {
         Step::Admits(id) => Some(Action::Admit(Cid(*id), local(1))),
         Step::TurnsAway => Some(Action::Turnaway(Away::Full)),
         Step::Dials(id, port) => Some(Action::Dial(Cid(*id), local(*port))),
-        Step::Sends(id, bytes) => Some(Action::Send(Cid(*id), octets(alloc, bytes)?)),
+        Step::Sends(id, bytes) => {
+            let bytes = Octets::from_slice(alloc, bytes)?;
+            Some(Action::Send(Cid(*id), bytes))
+        }
         Step::Closes(id) => Some(Action::Close(Cid(*id), CloseCause::Unused)),
         _ => None,
     })
 }
 
+// Whether what is told are these bytes of this connection, or nothing where there is none.
+fn is_told(event: &Option<Event>, id: Option<u64>, bytes: &[u8]) -> bool {
+    match (event, id) {
+        (Some(Event::Bytes(cid, told)), Some(id)) => cid.0 == id && told.as_slice() == bytes,
+        (None, None) => true,
+        _ => false,
+    }
+}
+
+fn tells(
+    flow: &mut SocketFlow,
+    key: usize,
+    id: Option<u64>,
+    bytes: &[u8],
+) -> Result<bool, OutOfMemory> {
+    let event = comes(flow, key, bytes)?;
+    Ok(is_told(&event, id, bytes))
+}
+
 // Whether what is asked for next is what is sought.
 fn asks(flow: &mut SocketFlow, sought: &Sought) -> Result<bool, OutOfMemory> {
-    let ask = flow.ask()?;
+    let ask = next_ask(flow)?;
     Ok(is_sought(flow, &ask, sought))
+}
+
+fn acts(alloc: Global, flow: &mut SocketFlow, step: &Step) -> Result<(), OutOfMemory> {
+    match action(alloc, step)? {
+        Some(action) => does(flow, &action),
+        None => Ok(()),
+    }
 }
 
 // A step is done. Answers whether it came to what it is to come to.
 fn holds(alloc: Global, flow: &mut SocketFlow, step: &Step) -> Result<bool, OutOfMemory> {
     match step {
         Step::Asks(sought) => return asks(flow, sought),
-        Step::Comes(key, id, bytes) => return comes(flow, *key, Some(*id), bytes),
-        Step::Says(key, bytes) => return comes(flow, *key, None, bytes),
-        Step::PeerWaits => flow.is_called(),
-        Step::NobodyWaits => flow.nobody_waits(),
+        Step::Comes(key, id, bytes) => return tells(flow, *key, Some(*id), bytes),
+        Step::Says(key, bytes) => return tells(flow, *key, None, bytes),
         Step::PeerCame(port) => {
-            flow.accepted(local(*port))?;
+            accepts(flow, local(*port))?;
         }
-        _ => happens(flow, step)?,
-    }
-    if let Some(action) = action(alloc, step)? {
-        flow.act(&action)?;
+        _ => match happening(step) {
+            Some(happening) => happens(flow, happening)?,
+            None => acts(alloc, flow, step)?,
+        },
     }
     Ok(true)
 }
 
-// How many steps came to what they are to come to, up to the first that did not.
-fn played(alloc: Global, announce: bool, steps: &[Step]) -> Result<usize, OutOfMemory> {
-    let mut flow = SocketFlow::new(alloc, terms(announce), &AddrList::new(alloc))?;
-    let mut count: usize = 0;
-    for step in steps {
-        if !holds(alloc, &mut flow, step)? {
-            break;
-        }
-        count = count.saturating_add(1);
+fn take_all(
+    rt: &impl Abort,
+    alloc: Global,
+    flow: &mut SocketFlow,
+    steps: &[Step],
+) -> Result<(), Fail> {
+    for (n, step) in steps.iter().enumerate() {
+        assert!(rt; holds(alloc, flow, step)?, "at step {n}");
     }
-    Ok(count)
+    Ok(())
+}
+
+fn play(rt: &impl Abort, alloc: Global, announce: bool, steps: &[Step]) -> Result<(), Fail> {
+    let mut flow = new_flow(alloc, terms(announce))?;
+    take_all(rt, alloc, &mut flow, steps)
 }
 
 // A peer takes what is sent in parts, then nothing for a while, and then the rest, and says no more: a half-closed end.
@@ -410,8 +416,7 @@ fn sockets_of_a_script_are_asked_for_as_it_says(rt: HostRuntime) -> Result<(), F
         (false, UNANSWERED),
         (false, TURNS),
     ] {
-        let count = played(rt.alloc(), announce, steps)?;
-        assert_eq!(rt; count, steps.len());
+        play(&rt, rt.alloc(), announce, steps)?;
     }
     Ok(())
 }

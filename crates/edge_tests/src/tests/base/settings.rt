@@ -24,10 +24,14 @@ const USUAL: Settings = Settings {
 
 const DAY: u64 = 86_400_000;
 
+fn is_judged(settings: &Settings, field: Field) -> bool {
+    settings.check() == Some(field)
+}
+
 // Each is judged so.
 fn expect_judged(rt: &impl Abort, rows: &[(Settings, Field)]) {
     for (n, (settings, field)) in rows.iter().enumerate() {
-        assert!(rt; settings.check() == Some(*field), "at {field:?} of row {n}");
+        assert!(rt; is_judged(settings, *field), "at row {n}");
     }
 }
 
