@@ -1,7 +1,7 @@
 use net_base::{Settings, Targets};
 
 /// What a node of a kind does.
-#[derive(Clone, Copy, PartialEq, Eq)]
+#[derive(Clone, Copy)]
 pub enum Role {
     /// It is an engine.
     Honest,
@@ -12,7 +12,7 @@ pub enum Role {
 }
 
 /// The local roots of a node: some of a kind.
-#[derive(Clone, Copy, PartialEq, Eq)]
+#[derive(Clone, Copy)]
 pub struct Friends {
     /// How many each node draws.
     pub count: u64,

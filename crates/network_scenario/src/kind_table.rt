@@ -8,14 +8,17 @@ const NODES_MOST: u64 = 100_000;
 
 const DAY: u64 = 86_400_000;
 
-pub(crate) fn read_kinds(alloc: Global, table: &Table) -> Result<Vec<Kind>, ScenarioRefusal> {
+pub(crate) fn read_kinds(
+    alloc: Global,
+    table: &Table,
+    kinds: &mut Vec<Kind>,
+) -> Result<(), ScenarioRefusal> {
     let values = tables_at(table, Name::Kind)?;
-    let mut kinds = Vec::new(alloc);
     for value in values {
         let kind = read_kind(alloc, value, values)?;
-        keep(&mut kinds, kind)?;
+        keep(kinds, kind)?;
     }
-    Ok(kinds)
+    Ok(())
 }
 
 fn keep(kinds: &mut Vec<Kind>, kind: Kind) -> Result<(), OutOfMemory> {
@@ -26,13 +29,13 @@ fn keep(kinds: &mut Vec<Kind>, kind: Kind) -> Result<(), OutOfMemory> {
 fn read_kind(alloc: Global, value: &Value, all: &[Value]) -> Result<Kind, ScenarioRefusal> {
     let table = as_table(value, Name::Kind)?;
     check_kind(table)?;
-    let name = read_name(alloc, table)?;
+    let name = read_name(table)?;
     let settings = read_settings(table)?;
     let targets = read_targets(table)?;
     let friends = read_friends(table, all)?;
     let count = whole_of(table, Name::Count, 0, NODES_MOST)?;
+    // The name comes last, so that nothing is owned where a number is refused.
     Ok(Kind {
-        name,
         role: read_role(table)?,
         count,
         within: whole_or(table, Name::Within, 1, DAY, 10_000)?,
@@ -43,6 +46,7 @@ fn read_kind(alloc: Global, value: &Value, all: &[Value]) -> Result<Kind, Scenar
         settings,
         targets,
         friends,
+        name: owned(alloc, name)?,
     })
 }
 
@@ -81,9 +85,9 @@ fn check_kind(table: &Table) -> Result<(), ScenarioRefusal> {
     check_names(table, Name::Kind, &names)
 }
 
-fn read_name(alloc: Global, table: &Table) -> Result<String, ScenarioRefusal> {
+fn read_name(table: &Table) -> Result<&str, ScenarioRefusal> {
     match name_in(table) {
-        Some(text) => owned(alloc, text),
+        Some(text) => Ok(text),
         None => Err(wrong(Name::Title, Due::Text)),
     }
 }
@@ -212,8 +216,12 @@ fn place_of(table: &Table, name: Name, all: &[Value]) -> Option<usize> {
 }
 
 fn is_named(kind: &Value, name: &str) -> bool {
-    match kind.as_table() {
-        Some(table) => name_in(table) == Some(name),
+    match title_of(kind) {
+        Some(title) => title == name,
         None => false,
     }
+}
+
+fn title_of(kind: &Value) -> Option<&str> {
+    name_in(kind.as_table()?)
 }

@@ -1,5 +1,5 @@
 /// The network falls apart in two for a time. Times are milliseconds, and shares are of a thousand.
-#[derive(Clone, Copy, PartialEq, Eq)]
+#[derive(Clone, Copy)]
 pub struct Parting {
     pub from: u64,
     pub to: u64,
@@ -10,7 +10,7 @@ pub struct Parting {
 }
 
 /// Who is in one of two parts.
-#[derive(Clone, Copy, PartialEq, Eq)]
+#[derive(Clone, Copy)]
 pub enum Apart {
     /// Every node of the kind at this place.
     Kind(usize),
@@ -19,7 +19,7 @@ pub enum Apart {
 }
 
 /// Nodes leave at once.
-#[derive(Clone, Copy, PartialEq, Eq)]
+#[derive(Clone, Copy)]
 pub struct Leaving {
     pub at: u64,
     pub share: u64,

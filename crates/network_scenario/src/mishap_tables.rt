@@ -2,30 +2,31 @@ use crate::kind_table::kind_named;
 use crate::values::{as_table, check_names, share_or, tables_at, whole_of, whole_or, wrong};
 use crate::{Apart, Due, Leaving, Name, Parting, ScenarioRefusal};
 use net_base::OutOfMemory;
-use std::alloc::Global;
 use toml::{Table, Value};
 
 const SECONDS_MOST: u64 = 86_400;
 
 const SECOND: u64 = 1_000;
 
-pub(crate) fn read_partings(alloc: Global, table: &Table) -> Result<Vec<Parting>, ScenarioRefusal> {
+pub(crate) fn read_partings(
+    table: &Table,
+    partings: &mut Vec<Parting>,
+) -> Result<(), ScenarioRefusal> {
     let kinds = tables_at(table, Name::Kind)?;
-    let mut partings = Vec::new(alloc);
     for value in tables_at(table, Name::Parting)? {
-        let parting = read_parting(value, kinds)?;
-        keep(&mut partings, parting)?;
+        keep(partings, read_parting(value, kinds)?)?;
     }
-    Ok(partings)
+    Ok(())
 }
 
-pub(crate) fn read_leavings(alloc: Global, table: &Table) -> Result<Vec<Leaving>, ScenarioRefusal> {
-    let mut leavings = Vec::new(alloc);
+pub(crate) fn read_leavings(
+    table: &Table,
+    leavings: &mut Vec<Leaving>,
+) -> Result<(), ScenarioRefusal> {
     for value in tables_at(table, Name::Leaving)? {
-        let leaving = read_leaving(value)?;
-        keep(&mut leavings, leaving)?;
+        keep(leavings, read_leaving(value)?)?;
     }
-    Ok(leavings)
+    Ok(())
 }
 
 fn keep<T: Drop>(list: &mut Vec<T>, item: T) -> Result<(), OutOfMemory> {

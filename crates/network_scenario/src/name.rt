@@ -1,5 +1,5 @@
 /// A name of the scenario file.
-#[derive(Clone, Copy, Debug, PartialEq, Eq)]
+#[derive(Clone, Copy)]
 pub enum Name {
     Scenario,
     Seconds,

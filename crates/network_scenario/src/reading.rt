@@ -35,18 +35,27 @@ fn read_table(alloc: Global, table: &Table) -> Result<Scenario, ScenarioRefusal>
     let words = read_words(table)?;
     let links = read_links(table)?;
     let provider = read_provider(table)?;
-    let kinds = read_kinds(alloc, table)?;
-    let partings = read_partings(alloc, table)?;
-    let leavings = read_leavings(alloc, table)?;
-    Ok(Scenario {
+    let mut scenario = Scenario {
         seconds,
         words,
         links,
         provider,
-        kinds,
-        partings,
-        leavings,
-    })
+        kinds: Vec::new(alloc),
+        partings: Vec::new(alloc),
+        leavings: Vec::new(alloc),
+    };
+    read_lists(alloc, table, &mut scenario)?;
+    Ok(scenario)
+}
+
+fn read_lists(
+    alloc: Global,
+    table: &Table,
+    scenario: &mut Scenario,
+) -> Result<(), ScenarioRefusal> {
+    read_kinds(alloc, table, &mut scenario.kinds)?;
+    read_partings(table, &mut scenario.partings)?;
+    read_leavings(table, &mut scenario.leavings)
 }
 
 fn read_words(table: &Table) -> Result<Words, ScenarioRefusal> {

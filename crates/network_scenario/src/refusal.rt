@@ -3,7 +3,7 @@ use net_base::{Field, OutOfMemory};
 use std::fmt;
 
 /// What a value of the scenario file was to be.
-#[derive(Clone, Copy, Debug, PartialEq, Eq)]
+#[derive(Clone, Copy)]
 pub enum Due {
     /// A whole number, at least and at most so much.
     Whole(u64, u64),
@@ -44,7 +44,7 @@ impl fmt::Display for Due {
 }
 
 /// Why bytes are no scenario.
-#[derive(Clone, Copy, Debug, PartialEq, Eq)]
+#[derive(Clone, Copy)]
 pub enum ScenarioRefusal {
     /// They are no UTF-8, or no TOML document.
     BadToml,

@@ -1,7 +1,7 @@
 use crate::{Kind, Leaving, Parting};
 
 /// Which words the governors are given.
-#[derive(Clone, Copy, PartialEq, Eq)]
+#[derive(Clone, Copy)]
 pub enum Words {
     /// Any 64 bits.
     Wide,
@@ -10,7 +10,7 @@ pub enum Words {
 }
 
 /// What all links are like. Times are milliseconds, and shares are of a thousand.
-#[derive(Clone, Copy, PartialEq, Eq)]
+#[derive(Clone, Copy)]
 pub struct Links {
     /// How long bytes are on their way, at least and at most. A link keeps what was drawn for it.
     pub latency_least: u64,
@@ -27,7 +27,7 @@ pub struct Links {
 }
 
 /// Who tells public root peers.
-#[derive(Clone, Copy, PartialEq, Eq)]
+#[derive(Clone, Copy)]
 pub struct Provider {
     /// How many addresses an answer has, at most.
     pub told: u64,

@@ -1,5 +1,5 @@
 /// What is wanted of a run.
-#[derive(Clone, Copy, PartialEq, Eq)]
+#[derive(Clone, Copy)]
 pub struct Asked {
     pub seed: u64,
     /// The time between two reports, in milliseconds.
@@ -9,7 +9,7 @@ pub struct Asked {
 }
 
 /// How a run ended.
-#[derive(Clone, Copy, Debug, PartialEq, Eq)]
+#[derive(Clone, Copy)]
 pub enum RunEnd {
     /// It was simulated to its end.
     Done,

@@ -3,8 +3,8 @@
 ghost use Rattle.std.specs.Prelude.{◌<◌, ◌^◌};
 
 use crate::addresses::address_of;
+use crate::ground::Ground;
 use crate::link::Side;
-use crate::network::Network;
 use crate::segments::{
     ACCEPTANCE, ALIVE_WITH_FIVE, INITIATOR, NO_INTERSECTION, PROPOSAL, RESPONDER, heard, spoken,
 };
@@ -12,31 +12,28 @@ use mux_segment::Header;
 use net_base::protocol::{CHAIN_SYNC, HANDSHAKE, KEEP_ALIVE, PEER_SHARING};
 use net_base::{AddrList, Octets, OutOfMemory};
 use network_scenario::Role;
-use stepper::Stepper;
+use std::alloc::Global;
 use warm_messages::write_peers;
 
 // At most so many addresses may be asked for.
 const PEERS_MOST: u8 = 10;
 
-impl<S: Stepper> Network<S> {
+impl Ground {
     /// An attacker's node takes one more slot, where it holds fewer than it wants.
     pub(crate) fn attack(&mut self, index: usize) -> Result<(), OutOfMemory> {
         if !self.wants_slots(index) {
             return Ok(());
         }
         match self.draws.place(self.nodes.len()) {
-            Some(to) if self.is_honest(to) => self.dial(index, None, to),
+            Some(to) if self.nodes.is_honest(to) => self.dial(index, None, to),
             _ => Ok(()),
         }
     }
 
     fn wants_slots(&self, index: usize) -> bool {
-        let Some(node) = self.nodes.get(index) else {
-            return false;
-        };
-        match self.kind_of(node) {
-            Some(kind) => node.dialed() < kind.holds,
-            None => false,
+        match (self.nodes.get(index), self.kind_of(index)) {
+            (Some(node), Some(kind)) => node.dialed() < kind.holds,
+            _ => false,
         }
     }
 
@@ -70,63 +67,67 @@ impl<S: Stepper> Network<S> {
         payload: &[u8],
     ) -> Result<Option<Octets>, OutOfMemory> {
         if header.id == HANDSHAKE {
-            return self.answer_in_handshake(header);
+            return answer_in_handshake(self.alloc, header);
         }
         if header.side != INITIATOR || !self.answers(node) {
             return Ok(None);
         }
         match (header.id, payload) {
-            (KEEP_ALIVE, [0x82, 0x00, cookie @ ..]) => self.say_alive(cookie),
-            (CHAIN_SYNC, [0x82, 0x04, 0x80]) => self.said(CHAIN_SYNC, &NO_INTERSECTION),
+            (KEEP_ALIVE, [0x82, 0x00, cookie @ ..]) => say_alive(self.alloc, cookie),
+            (CHAIN_SYNC, [0x82, 0x04, 0x80]) => said(self.alloc, CHAIN_SYNC, &NO_INTERSECTION),
             (PEER_SHARING, [0x82, 0x00, count]) => self.tell_attackers(*count),
             _ => Ok(None),
         }
     }
 
-    // It agrees, and where it was agreed with it holds its slot.
-    fn answer_in_handshake(&self, header: Header) -> Result<Option<Octets>, OutOfMemory> {
-        if header.side == INITIATOR {
-            self.said(HANDSHAKE, &ACCEPTANCE)
-        } else {
-            let bytes = spoken(self.alloc, INITIATOR, KEEP_ALIVE, &ALIVE_WITH_FIVE)?;
-            Ok(Some(bytes))
-        }
-    }
-
     fn answers(&self, node: usize) -> bool {
         match self.nodes.get(node) {
-            Some(node) => node.role == Role::Answering,
+            Some(node) => matches!(node.role, Role::Answering),
             None => false,
         }
-    }
-
-    fn said(&self, id: u16, payload: &[u8]) -> Result<Option<Octets>, OutOfMemory>
-        requires { id < 2 ^ 15 }
-    {
-        let bytes = spoken(self.alloc, RESPONDER, id, payload)?;
-        Ok(Some(bytes))
-    }
-
-    fn say_alive(&self, cookie: &[u8]) -> Result<Option<Octets>, OutOfMemory> {
-        let mut reply = Octets::from_slice(self.alloc, &[0x82, 0x01])?;
-        reply.extend_from_slice(cookie)?;
-        self.said(KEEP_ALIVE, reply.as_slice())
     }
 
     // Some of the attacker's own addresses, as many as were asked for.
     fn tell_attackers(&mut self, count: u8) -> Result<Option<Octets>, OutOfMemory> {
         let mut told = AddrList::new(self.alloc);
+        self.draw_attackers(count, &mut told)?;
+        let message = write_peers(self.alloc, told.as_slice())?;
+        said(self.alloc, PEER_SHARING, message.as_slice())
+    }
+
+    fn draw_attackers(&mut self, count: u8, told: &mut AddrList) -> Result<(), OutOfMemory> {
         for _ in 0..count.min(PEERS_MOST) {
             if let Some(attacker) = self.some_attacker() {
                 told.push(address_of(attacker))?;
             }
         }
-        let message = write_peers(self.alloc, told.as_slice())?;
-        self.said(PEER_SHARING, message.as_slice())
+        Ok(())
     }
 
     fn some_attacker(&mut self) -> Option<usize> {
         let place = self.draws.place(self.attackers.len())?;
         self.attackers.get(place).copied()
     }
+}
+
+// It agrees, and where it was agreed with it holds its slot.
+fn answer_in_handshake(alloc: Global, header: Header) -> Result<Option<Octets>, OutOfMemory> {
+    if header.side == INITIATOR {
+        return said(alloc, HANDSHAKE, &ACCEPTANCE);
+    }
+    let bytes = spoken(alloc, INITIATOR, KEEP_ALIVE, &ALIVE_WITH_FIVE)?;
+    Ok(Some(bytes))
+}
+
+fn said(alloc: Global, id: u16, payload: &[u8]) -> Result<Option<Octets>, OutOfMemory>
+    requires { id < 2 ^ 15 }
+{
+    let bytes = spoken(alloc, RESPONDER, id, payload)?;
+    Ok(Some(bytes))
+}
+
+fn say_alive(alloc: Global, cookie: &[u8]) -> Result<Option<Octets>, OutOfMemory> {
+    let mut reply = Octets::from_slice(alloc, &[0x82, 0x01])?;
+    reply.extend_from_slice(cookie)?;
+    said(alloc, KEEP_ALIVE, reply.as_slice())
 }

@@ -1,9 +1,10 @@
 use crate::peers::Counts;
 use net_base::OutOfMemory;
-use std::alloc::{AllocError, Global};
+use std::alloc::Global;
+use std::fmt;
 
 /// The least, the median and the greatest of some numbers. All are 0 of none.
-#[derive(Clone, Copy, PartialEq, Eq)]
+#[derive(Clone, Copy)]
 pub(crate) struct Spread {
     pub least: u64,
     pub median: u64,
@@ -20,9 +21,11 @@ impl Spread {
             greatest: numbers.last().copied().unwrap_or(0),
         })
     }
+}
 
-    pub(crate) fn text(&self, alloc: Global) -> Result<String, AllocError> {
-        format!(in alloc; "{} {} {}", self.least, self.median, self.greatest)
+impl fmt::Display for Spread {
+    fn fmt<W: fmt::Write>(&self, f: &mut fmt::Formatter<W>) -> fmt::Result {
+        write!(f, "{} {} {}", self.least, self.median, self.greatest)
     }
 }
 

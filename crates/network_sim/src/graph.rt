@@ -13,7 +13,7 @@ pub(crate) struct Graph {
 }
 
 /// Into how many pieces a graph falls.
-#[derive(Clone, Copy, PartialEq, Eq)]
+#[derive(Clone, Copy)]
 pub(crate) struct Pieces {
     /// Pieces of two nodes and more.
     pub pieces: u64,
@@ -24,7 +24,7 @@ pub(crate) struct Pieces {
 }
 
 /// How far a walk came.
-#[derive(Clone, Copy, PartialEq, Eq)]
+#[derive(Clone, Copy)]
 pub(crate) struct Walk {
     pub met: u64,
     pub depth: u64,

@@ -2,32 +2,39 @@
 //! on the scenario and the seed alone.
 #![tactic(auto)]
 
+mod acting;
+mod active;
 mod addresses;
+mod agenda;
 mod asked;
 mod attacking;
 mod census;
 mod draws;
 mod fits;
-mod giving;
+mod given;
+mod goal;
 mod graph;
+mod ground;
 mod happening;
 mod keeping;
 mod kept;
 mod link;
 mod linking;
+mod links;
 mod living;
 mod mishaps;
 mod network;
 mod node;
+mod nodes;
 mod peers;
 mod putting;
-mod queue;
 mod reached;
-mod reporting;
+mod reporter;
+mod roots;
 mod running;
 mod seat;
+mod seats;
 mod segments;
-mod telling_roots;
 mod trace;
 
 pub use asked::{Asked, RunEnd};

@@ -1,9 +1,9 @@
-use net_base::{Cid, Octets};
+use net_base::{Cid, Octets, OutOfMemory};
 use std::alloc::Global;
 use std::collections::VecDeque;
 
 /// An end of a link, by who dialed.
-#[derive(Clone, Copy, PartialEq, Eq)]
+#[derive(Clone, Copy)]
 pub(crate) enum Side {
     Dialer,
     Acceptor,
@@ -19,7 +19,7 @@ impl Side {
 }
 
 /// Which end of which link a node's connection is.
-#[derive(Clone, Copy, PartialEq, Eq)]
+#[derive(Clone, Copy)]
 pub(crate) struct Hold {
     pub link: u64,
     pub side: Side,
@@ -33,9 +33,9 @@ pub(crate) struct End {
     pub cid: Option<Cid>,
     pub is_open: bool,
     /// The moment before which nothing that is sent now comes here: bytes stay in order.
-    pub ready: u64,
+    ready: u64,
     /// What came before it was admitted.
-    pub early: VecDeque<Octets>,
+    early: VecDeque<Octets>,
 }
 
 impl End {
@@ -47,6 +47,23 @@ impl End {
             ready: 0,
             early: VecDeque::new(alloc),
         }
+    }
+
+    /// When what would come at a moment does come. None where it never does.
+    fn arrival(&mut self, moment: u64) -> Option<u64> {
+        if !self.is_open {
+            return None;
+        }
+        self.ready = self.ready.max(moment);
+        Some(self.ready)
+    }
+
+    /// Takes out what came first before it was admitted, where it is by now.
+    fn take_early(&mut self) -> Option<Octets> {
+        if self.cid.is_none() || !self.is_open {
+            return None;
+        }
+        self.early.pop_front()
     }
 }
 
@@ -84,5 +101,22 @@ impl Link {
 
     pub(crate) fn is_over(&self) -> bool {
         !self.dialer.is_open && !self.acceptor.is_open
+    }
+
+    /// When what is sent at a moment comes to an end. None where it never does.
+    pub(crate) fn arrival(&mut self, side: Side, sent: u64) -> Option<u64> {
+        let moment = sent.saturating_add(self.latency);
+        self.end_mut(side).arrival(moment)
+    }
+
+    /// Bytes wait at an end until it is admitted.
+    pub(crate) fn keep(&mut self, side: Side, bytes: Octets) -> Result<(), OutOfMemory> {
+        self.end_mut(side).early.push_back(bytes)?;
+        Ok(())
+    }
+
+    /// Takes out what waits at the acceptor's end, where it doesn't have to any more.
+    pub(crate) fn take_early(&mut self) -> Option<Octets> {
+        self.acceptor.take_early()
     }
 }

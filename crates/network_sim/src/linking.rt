@@ -1,10 +1,10 @@
 //! How links come, carry bytes and go.
 
+use crate::given::Given;
+use crate::ground::Ground;
 use crate::happening::Happening;
 use crate::link::{Hold, Link, Side};
-use crate::network::Network;
-use net_base::{Cid, Event, Octets, OutOfMemory};
-use stepper::Stepper;
+use net_base::{Addr, Cid, Event, Octets, OutOfMemory};
 
 // How a dial is answered.
 enum Answer {
@@ -13,7 +13,7 @@ enum Answer {
     Nothing,
 }
 
-impl<S: Stepper> Network<S> {
+impl Ground {
     /// A node dials another one. An attacker calls a link by the link's own number.
     pub(crate) fn dial(
         &mut self,
@@ -21,26 +21,22 @@ impl<S: Stepper> Network<S> {
         cid: Option<Cid>,
         to: usize,
     ) -> Result<(), OutOfMemory> {
-        let id = self.next_link;
-        self.next_link = id.saturating_add(1);
+        let id = self.links.take_number();
         let cid = cid.unwrap_or(Cid(id));
         let links = self.scenario.links;
         let latency = self.draws.between(links.latency_least, links.latency_most);
         self.links
-            .insert(id, Link::new(self.alloc, from, cid, to, latency))?;
-        self.hold(from, cid, id, Side::Dialer)?;
+            .put(id, Link::new(self.alloc, from, cid, to, latency))?;
+        self.hold(id, Side::Dialer, from, cid)?;
         if self.draws.chance(links.lost) {
-            self.later(links.wait, Happening::Dialed(id, false))
+            self.agenda.later(links.wait, Happening::Dialed(id, false))
         } else {
-            self.later(latency, Happening::Connect(id))
+            self.agenda.later(latency, Happening::Connect(id))
         }
     }
 
-    fn hold(&mut self, node: usize, cid: Cid, link: u64, side: Side) -> Result<(), OutOfMemory> {
-        if let Some(node) = self.nodes.get_mut(node) {
-            node.links.insert(cid.0, Hold { link, side })?;
-        }
-        Ok(())
+    fn hold(&mut self, link: u64, side: Side, node: usize, cid: Cid) -> Result<(), OutOfMemory> {
+        self.nodes.hold(node, cid, Hold { link, side })
     }
 
     /// The end of a link is a node's connection of this id from now on.
@@ -51,199 +47,106 @@ impl<S: Stepper> Network<S> {
         node: usize,
         cid: Cid,
     ) -> Result<(), OutOfMemory> {
-        if let Some(found) = self.links.get_mut(&link) {
-            found.end_mut(side).cid = Some(cid);
-        }
-        self.hold(node, cid, link, side)
+        self.links.name(link, side, cid);
+        self.hold(link, side, node, cid)
     }
 
-    /// A dial reaches the other side.
-    pub(crate) fn connect(&mut self, id: u64) -> Result<(), OutOfMemory> {
-        let Some((from, to, latency)) = self.ends_of(id) else {
-            return Ok(());
+    /// A dial reaches the other side. Some node, where somebody waits to be accepted by it.
+    pub(crate) fn connect(&mut self, id: u64) -> Result<Option<usize>, OutOfMemory> {
+        let Some((from, to, latency)) = self.links.ends_of(id) else {
+            return Ok(None);
         };
         match self.answer_to(from, to) {
             Answer::Open => self.open(id, to, latency),
-            Answer::Refused => self.later(latency, Happening::Dialed(id, false)),
-            Answer::Nothing => {
-                let wait = self.scenario.links.wait;
-                self.later(wait, Happening::Dialed(id, false))
-            }
+            Answer::Refused => self.fail(id, latency),
+            Answer::Nothing => self.fail(id, self.scenario.links.wait),
         }
     }
 
-    fn ends_of(&self, id: u64) -> Option<(usize, usize, u64)> {
-        let link = self.links.get(&id)?;
-        let from = link.end(Side::Dialer).node;
-        let to = link.end(Side::Acceptor).node;
-        Some((from, to, link.latency))
-    }
-
     fn answer_to(&self, from: usize, to: usize) -> Answer {
-        let (Some(from), Some(to)) = (self.nodes.get(from), self.nodes.get(to)) else {
-            return Answer::Nothing;
-        };
         let is_hidden = match self.kind_of(to) {
             Some(kind) => kind.hidden,
             None => true,
         };
-        if is_hidden || (self.is_parted && from.is_apart != to.is_apart) {
+        if is_hidden || self.nodes.are_apart(from, to) {
             Answer::Nothing
-        } else if to.is_up {
+        } else if self.nodes.is_up(to) {
             Answer::Open
         } else {
             Answer::Refused
         }
     }
 
+    fn fail(&mut self, id: u64, time: u64) -> Result<Option<usize>, OutOfMemory> {
+        self.agenda.later(time, Happening::Dialed(id, false))?;
+        Ok(None)
+    }
+
     // The socket is open. An attacker accepts at once; a node once it accepts.
-    fn open(&mut self, id: u64, to: usize, latency: u64) -> Result<(), OutOfMemory> {
-        if let Some(link) = self.links.get_mut(&id) {
-            link.end_mut(Side::Acceptor).is_open = true;
-        }
-        self.later(latency, Happening::Dialed(id, true))?;
-        if self.is_honest(to) {
-            self.wait_to_be_accepted(id, to)?;
-            self.welcome(to)
+    fn open(&mut self, id: u64, to: usize, latency: u64) -> Result<Option<usize>, OutOfMemory> {
+        self.links.open(id);
+        self.agenda.later(latency, Happening::Dialed(id, true))?;
+        if self.nodes.is_honest(to) {
+            self.wait(id, to)?;
+            Ok(Some(to))
         } else {
-            self.name_end(id, Side::Acceptor, to, Cid(id))
+            self.name_end(id, Side::Acceptor, to, Cid(id))?;
+            Ok(None)
         }
     }
 
-    fn wait_to_be_accepted(&mut self, id: u64, to: usize) -> Result<(), OutOfMemory> {
-        if let Some(node) = self.nodes.get_mut(to) {
-            node.callers.push_back(id)?;
-        }
-        Ok(())
-    }
-
-    /// A node accepts again.
-    pub(crate) fn resume(&mut self, index: usize, life: u64) -> Result<(), OutOfMemory> {
-        match self.nodes.get(index) {
-            Some(node) if node.lives(life) => self.welcome(index),
-            _ => Ok(()),
+    fn wait(&mut self, id: u64, to: usize) -> Result<(), OutOfMemory> {
+        match self.nodes.get_mut(to) {
+            Some(node) => node.wait(id),
+            None => Ok(()),
         }
     }
 
-    // Accepts those that wait, until accepting pauses.
-    fn welcome(&mut self, index: usize) -> Result<(), OutOfMemory> {
-        for _ in 0..u64::MAX {
-            match self.next_caller(index) {
-                Some(link) => self.accept(index, link)?,
-                None => return Ok(()),
-            }
-        }
-        Ok(())
+    /// The link of the next one to be accepted by a node, unless accepting pauses.
+    pub(crate) fn next_caller(&mut self, index: usize) -> Option<u64> {
+        let now = self.agenda.now;
+        self.nodes.get_mut(index)?.next_caller(now)
     }
 
-    fn next_caller(&mut self, index: usize) -> Option<u64> {
-        let node = self.nodes.get_mut(index)?;
-        if self.clock < node.paused_until {
-            return None;
-        }
-        node.callers.pop_front()
-    }
-
-    fn accept(&mut self, index: usize, id: u64) -> Result<(), OutOfMemory> {
-        let Some(from) = self.caller_of(id) else {
-            return Ok(());
-        };
+    /// The address of who asks to be accepted, where it does still.
+    pub(crate) fn call(&mut self, id: u64) -> Option<Addr> {
+        self.links.open_end(id, Side::Acceptor)?;
+        let (from, _, _) = self.links.ends_of(id)?;
+        let addr = self.nodes.get(from)?.addr;
         self.caller = Some(id);
-        self.give(index, &Event::Accepted(from))?;
-        if self.caller.is_some() {
-            self.turn_away_unanswered(id)?;
-        }
-        self.deliver_early(id)
-    }
-
-    // The address of who waits, where it does still.
-    fn caller_of(&self, id: u64) -> Option<net_base::Addr> {
-        let link = self.links.get(&id)?;
-        if !link.end(Side::Acceptor).is_open {
-            return None;
-        }
-        let node = self.nodes.get(link.end(Side::Dialer).node)?;
-        Some(node.addr)
-    }
-
-    // A node that takes no more events answers nobody.
-    fn turn_away_unanswered(&mut self, id: u64) -> Result<(), OutOfMemory> {
-        self.caller = None;
-        self.shut(id, Side::Acceptor)
-    }
-
-    // What came before the node accepted.
-    fn deliver_early(&mut self, id: u64) -> Result<(), OutOfMemory> {
-        for _ in 0..u64::MAX {
-            match self.next_early(id) {
-                Some(bytes) => self.arrive(id, Side::Acceptor, bytes)?,
-                None => return Ok(()),
-            }
-        }
-        Ok(())
-    }
-
-    fn next_early(&mut self, id: u64) -> Option<Octets> {
-        let link = self.links.get_mut(&id)?;
-        let end = link.end_mut(Side::Acceptor);
-        if end.cid.is_none() || !end.is_open {
-            return None;
-        }
-        end.early.pop_front()
+        Some(addr)
     }
 
     /// A dial has ended.
-    pub(crate) fn dial_ends(&mut self, id: u64, is_open: bool) -> Result<(), OutOfMemory> {
-        let Some((node, cid)) = self.dialer_of(id) else {
-            return Ok(());
+    pub(crate) fn dial_ends(
+        &mut self,
+        id: u64,
+        is_open: bool,
+    ) -> Result<Option<Given>, OutOfMemory> {
+        let Some((node, Some(cid))) = self.links.open_end(id, Side::Dialer) else {
+            return Ok(None);
         };
         if !is_open {
-            self.links.remove(&id);
-            self.let_go(node, cid);
+            self.links.remove(id);
+            self.nodes.let_go(node, cid);
+        } else if !self.nodes.is_honest(node) {
+            self.propose(id)?;
         }
-        if self.is_honest(node) {
-            self.give(node, &Event::Dialed(cid, is_open))
-        } else if is_open {
-            self.propose(id)
-        } else {
-            Ok(())
-        }
-    }
-
-    // Who dialed, where it waits still.
-    fn dialer_of(&self, id: u64) -> Option<(usize, Cid)> {
-        let link = self.links.get(&id)?;
-        let end = link.end(Side::Dialer);
-        if !end.is_open {
-            return None;
-        }
-        Some((end.node, end.cid?))
-    }
-
-    fn let_go(&mut self, node: usize, cid: Cid) {
-        if let Some(node) = self.nodes.get_mut(node) {
-            node.links.remove(&cid.0);
-        }
+        Ok(self.heard(node, Event::Dialed(cid, is_open)))
     }
 
     /// Bytes that a node sends on a connection.
     pub(crate) fn send(&mut self, index: usize, cid: Cid, bytes: &[u8]) -> Result<(), OutOfMemory> {
-        match self.hold_of(index, cid) {
+        match self.nodes.hold_of(index, cid) {
             Some(hold) => self.deliver(hold.link, hold.side.other(), bytes),
             None => Ok(()),
         }
     }
 
-    fn hold_of(&self, index: usize, cid: Cid) -> Option<Hold> {
-        let node = self.nodes.get(index)?;
-        node.links.get(&cid.0).copied()
-    }
-
     /// Puts bytes on their way to an end, in one piece or two.
     pub(crate) fn deliver(&mut self, id: u64, side: Side, bytes: &[u8]) -> Result<(), OutOfMemory> {
-        self.bytes = self.bytes.saturating_add(bytes.len() as u64);
-        let links = self.scenario.links;
-        if bytes.len() >= 2 && self.draws.chance(links.cut) {
+        self.reporter.count_bytes(bytes.len());
+        if bytes.len() >= 2 && self.draws.chance(self.scenario.links.cut) {
             let (front, behind) = bytes.split_at(bytes.len() / 2);
             self.deliver_piece(id, side, front)?;
             self.deliver_piece(id, side, behind)
@@ -253,76 +156,70 @@ impl<S: Stepper> Network<S> {
     }
 
     fn deliver_piece(&mut self, id: u64, side: Side, bytes: &[u8]) -> Result<(), OutOfMemory> {
-        let links = self.scenario.links;
-        let delay = if self.draws.chance(links.late) {
-            links.again
-        } else {
-            0
-        };
+        let delay = self.draw_delay();
         match self.arrival(id, side, delay) {
             Some(moment) => {
                 let bytes = Octets::from_slice(self.alloc, bytes)?;
-                self.queue.push(moment, Happening::Arrive(id, side, bytes))
+                self.agenda.put(moment, Happening::Arrive(id, side, bytes))
             }
             None => Ok(()),
         }
     }
 
-    // When what is sent now comes to an end. None where it never does.
-    fn arrival(&mut self, id: u64, side: Side, delay: u64) -> Option<u64> {
-        let clock = self.clock;
-        if self.is_across(self.links.get(&id)?) {
-            return None;
+    fn draw_delay(&mut self) -> u64 {
+        if self.draws.chance(self.scenario.links.late) {
+            self.scenario.links.again
+        } else {
+            0
         }
-        let link = self.links.get_mut(&id)?;
-        let latency = link.latency;
-        let end = link.end_mut(side);
-        if !end.is_open {
-            return None;
-        }
-        let moment = clock.saturating_add(latency).saturating_add(delay);
-        end.ready = end.ready.max(moment);
-        Some(end.ready)
     }
 
-    /// The ends of a link are in different parts of a network that is in two.
-    pub(crate) fn is_across(&self, link: &Link) -> bool {
-        let ends = (
-            self.nodes.get(link.end(Side::Dialer).node),
-            self.nodes.get(link.end(Side::Acceptor).node),
-        );
-        match ends {
-            (Some(one), Some(other)) => self.is_parted && one.is_apart != other.is_apart,
-            _ => false,
+    // When what is sent now comes to an end. None where it never does.
+    fn arrival(&mut self, id: u64, side: Side, delay: u64) -> Option<u64> {
+        let sent = self.agenda.now.saturating_add(delay);
+        let link = self.links.get_mut(id)?;
+        if self.nodes.parts(link) {
+            return None;
         }
+        link.arrival(side, sent)
     }
 
     /// Bytes come to an end. Before it is admitted they wait.
-    pub(crate) fn arrive(&mut self, id: u64, side: Side, bytes: Octets) -> Result<(), OutOfMemory> {
-        let Some(link) = self.links.get_mut(&id) else {
-            return Ok(());
-        };
-        let end = link.end_mut(side);
-        if !end.is_open {
-            return Ok(());
+    pub(crate) fn arrive(
+        &mut self,
+        id: u64,
+        side: Side,
+        bytes: Octets,
+    ) -> Result<Option<Given>, OutOfMemory> {
+        match self.links.open_end(id, side) {
+            Some((node, Some(cid))) => self.read(id, side, node, cid, bytes),
+            Some((_, None)) => {
+                self.links.keep(id, side, bytes)?;
+                Ok(None)
+            }
+            None => Ok(None),
         }
-        let node = end.node;
-        let Some(cid) = end.cid else {
-            end.early.push_back(bytes)?;
-            return Ok(());
-        };
-        if self.is_honest(node) {
-            self.give(node, &Event::Bytes(cid, bytes))
-        } else {
-            self.answer(id, side, node, bytes.as_slice())
+    }
+
+    fn read(
+        &mut self,
+        id: u64,
+        side: Side,
+        node: usize,
+        cid: Cid,
+        bytes: Octets,
+    ) -> Result<Option<Given>, OutOfMemory> {
+        if !self.nodes.is_honest(node) {
+            self.answer(id, side, node, bytes.as_slice())?;
         }
+        Ok(self.heard(node, Event::Bytes(cid, bytes)))
     }
 
     /// A node closes a connection.
     pub(crate) fn hang_up(&mut self, index: usize, cid: Cid) -> Result<(), OutOfMemory> {
-        match self.hold_of(index, cid) {
+        match self.nodes.hold_of(index, cid) {
             Some(hold) => {
-                self.let_go(index, cid);
+                self.nodes.let_go(index, cid);
                 self.shut(hold.link, hold.side)
             }
             None => Ok(()),
@@ -331,58 +228,55 @@ impl<S: Stepper> Network<S> {
 
     /// An end closes. The other one hears it later.
     pub(crate) fn shut(&mut self, id: u64, side: Side) -> Result<(), OutOfMemory> {
-        let arrival = self.arrival(id, side.other(), 0);
-        let Some(link) = self.links.get_mut(&id) else {
-            return Ok(());
-        };
-        link.end_mut(side).is_open = false;
-        if link.is_over() {
-            self.links.remove(&id);
-        }
+        let other = side.other();
+        let arrival = self.arrival(id, other, 0);
+        self.links.close(id, side);
         match arrival {
-            Some(moment) => self.queue.push(moment, Happening::Closed(id, side.other())),
+            Some(moment) => self.agenda.put(moment, Happening::Closed(id, other)),
             None => Ok(()),
         }
     }
 
     /// An end hears that the other one has closed.
-    pub(crate) fn end_closed(&mut self, id: u64, side: Side) -> Result<(), OutOfMemory> {
-        let Some(link) = self.links.get_mut(&id) else {
-            return Ok(());
-        };
-        let end = link.end_mut(side);
-        if !end.is_open {
-            return Ok(());
-        }
-        end.is_open = false;
-        let (node, cid) = (end.node, end.cid);
-        if link.is_over() {
-            self.links.remove(&id);
-        }
-        let Some(cid) = cid else {
-            return Ok(());
-        };
-        self.let_go(node, cid);
-        if self.is_honest(node) {
-            self.give(node, &Event::Closed(cid))
-        } else {
-            Ok(())
-        }
+    pub(crate) fn end_closed(&mut self, id: u64, side: Side) -> Option<Given> {
+        let (node, cid) = self.links.open_end(id, side)?;
+        self.links.close(id, side);
+        let cid = cid?;
+        self.nodes.let_go(node, cid);
+        self.heard(node, Event::Closed(cid))
     }
 
-    /// Who waits for a node is refused.
-    pub(crate) fn drop_callers(&mut self, index: usize) -> Result<(), OutOfMemory> {
+    /// A node's links end, and who waits for it is refused.
+    pub(crate) fn drop_all(&mut self, index: usize) -> Result<(), OutOfMemory> {
+        self.drop_callers(index)?;
+        self.drop_links(index)
+    }
+
+    fn drop_callers(&mut self, index: usize) -> Result<(), OutOfMemory> {
         for _ in 0..u64::MAX {
-            let Some(link) = self.any_caller(index) else {
-                return Ok(());
-            };
-            self.shut(link, Side::Acceptor)?;
+            match self.take_caller(index) {
+                Some(link) => self.shut(link, Side::Acceptor)?,
+                None => return Ok(()),
+            }
         }
         Ok(())
     }
 
-    fn any_caller(&mut self, index: usize) -> Option<u64> {
-        let node = self.nodes.get_mut(index)?;
-        node.callers.pop_front()
+    fn take_caller(&mut self, index: usize) -> Option<u64> {
+        self.nodes.get_mut(index)?.take_caller()
+    }
+
+    fn drop_links(&mut self, index: usize) -> Result<(), OutOfMemory> {
+        for _ in 0..u64::MAX {
+            match self.take_hold(index) {
+                Some(hold) => self.shut(hold.link, hold.side)?,
+                None => return Ok(()),
+            }
+        }
+        Ok(())
+    }
+
+    fn take_hold(&mut self, index: usize) -> Option<Hold> {
+        self.nodes.get_mut(index)?.take_hold()
     }
 }

@@ -1,82 +1,58 @@
-//! How nodes begin, look at their targets, and leave.
+//! How nodes begin and look at their targets.
 
 use crate::addresses::address_of;
+use crate::given::Given;
+use crate::ground::Ground;
 use crate::happening::Happening;
-use crate::link::Hold;
-use crate::network::Network;
-use crate::seat::Seat;
-use crate::trace::Trace;
-use net_base::{AddrList, Event, Group, GroupList, OutOfMemory, Settings, Targets};
+use net_base::{AddrList, Event, Group, GroupList, Job, OutOfMemory, Settings, Targets};
 use network_scenario::{Friends, Words};
-use stepper::Stepper;
 
-impl<S: Stepper> Network<S> {
-    /// A node begins, where it is not up.
-    pub(crate) fn begin(&mut self, index: usize) -> Result<(), OutOfMemory> {
-        let Some(node) = self.nodes.get_mut(index) else {
-            return Ok(());
-        };
-        if node.is_up {
-            return Ok(());
-        }
-        node.begin(self.alloc, self.clock);
-        if node.is_honest() {
-            self.begin_engine(index)?;
-        }
-        self.tick_first(index)
-    }
-
-    fn begin_engine(&mut self, index: usize) -> Result<(), OutOfMemory> {
-        let Some((settings, targets, friends)) = self.terms_of(index) else {
-            return Ok(());
-        };
-        self.seat(index, settings)?;
-        self.hand(index, &Event::Aims(targets))?;
-        match friends {
-            Some(friends) => self.befriend(index, &friends),
-            None => Ok(()),
+impl Ground {
+    /// A node begins. False where it is up already.
+    pub(crate) fn begin(&mut self, index: usize) -> bool {
+        match self.nodes.get_mut(index) {
+            Some(node) if !node.is_up => {
+                node.begin(self.alloc, self.agenda.now);
+                true
+            }
+            _ => false,
         }
     }
 
-    fn terms_of(&self, index: usize) -> Option<(Settings, Targets, Option<Friends>)> {
+    /// The settings of a node that isn't an attacker's, and which of its lives it is in.
+    pub(crate) fn settings_of(&self, index: usize) -> Option<(Settings, u64)> {
         let node = self.nodes.get(index)?;
-        let kind = self.kind_of(node)?;
+        if !node.is_honest() {
+            return None;
+        }
+        let kind = self.scenario.kinds.get(node.kind)?;
         let settings = Settings {
             own: node.addr,
             ..kind.settings
         };
-        Some((settings, kind.targets, kind.friends))
+        Some((settings, node.life))
     }
 
-    fn seat(&mut self, index: usize, settings: Settings) -> Result<(), OutOfMemory> {
-        let Some(means) = self.stock.pop() else {
-            return Ok(());
-        };
-        let is_traced = self.traces(index);
-        let seat = Seat::begin(self.alloc, settings, means, is_traced)?;
-        if let Some(node) = self.nodes.get_mut(index) {
-            node.seat = seat;
-        }
-        Ok(())
+    pub(crate) fn targets_of(&self, index: usize) -> Option<Targets> {
+        let kind = self.kind_of(index)?;
+        Some(kind.targets)
     }
 
-    // The trace of the one that was asked for is kept, in its first life.
-    fn traces(&self, index: usize) -> bool {
-        match self.nodes.get(index) {
-            Some(node) => self.asked.traced == Some(index) && node.life == 1,
-            None => false,
+    /// The local roots of a node, which it draws, where it has any.
+    pub(crate) fn befriend(&mut self, index: usize) -> Result<Option<Event>, OutOfMemory> {
+        match self.friends_of(index) {
+            Some(friends) => self.draw_group(&friends),
+            None => Ok(None),
         }
     }
 
-    /// The trace that was asked for, where one was begun.
-    pub(crate) fn take_trace(&mut self, index: usize) -> Result<Option<Trace>, OutOfMemory> {
-        self.unseat(index)?;
-        Ok(self.trace.take())
+    fn friends_of(&self, index: usize) -> Option<Friends> {
+        self.kind_of(index)?.friends
     }
 
-    // Sets its local roots, which it draws.
-    fn befriend(&mut self, index: usize, friends: &Friends) -> Result<(), OutOfMemory> {
-        let members = self.draw_friends(friends)?;
+    fn draw_group(&mut self, friends: &Friends) -> Result<Option<Event>, OutOfMemory> {
+        let mut members = AddrList::new(self.alloc);
+        self.draw_friends(friends, &mut members)?;
         let mut groups = GroupList::new(self.alloc);
         groups.push(Group {
             hot: friends.hot,
@@ -84,18 +60,21 @@ impl<S: Stepper> Network<S> {
             advertise: friends.advertise,
             members,
         })?;
-        self.hand(index, &Event::Locals(groups))
+        Ok(Some(Event::Locals(groups)))
     }
 
-    fn draw_friends(&mut self, friends: &Friends) -> Result<AddrList, OutOfMemory> {
-        let mut members = AddrList::new(self.alloc);
+    fn draw_friends(
+        &mut self,
+        friends: &Friends,
+        members: &mut AddrList,
+    ) -> Result<(), OutOfMemory> {
         let (first, count) = self.range_of(friends.kind);
         for _ in 0..friends.count {
             if let Some(place) = self.draws.place(count) {
                 members.push(address_of(first.saturating_add(place)))?;
             }
         }
-        Ok(members)
+        Ok(())
     }
 
     // The first node of a kind, and how many they are.
@@ -110,45 +89,31 @@ impl<S: Stepper> Network<S> {
         (0, 0)
     }
 
-    // The first look comes within the time between two.
-    fn tick_first(&mut self, index: usize) -> Result<(), OutOfMemory> {
+    /// The first look comes within the time between two.
+    pub(crate) fn tick_first(&mut self, index: usize) -> Result<(), OutOfMemory> {
         let Some((time, life)) = self.tick_of(index) else {
             return Ok(());
         };
         let first = self.draws.between(1, time);
-        self.later(first, Happening::Tick(index, life))
+        self.agenda.later(first, Happening::Tick(index, life))
     }
 
-    fn tick_of(&self, index: usize) -> Option<(u64, u64)> {
-        let node = self.nodes.get(index)?;
-        let kind = self.kind_of(node)?;
-        Some((kind.tick, node.life))
-    }
-
-    /// A node looks at its targets, and an attacker at its slots.
-    pub(crate) fn tick(&mut self, index: usize, life: u64) -> Result<(), OutOfMemory> {
-        let (lives, is_honest) = match self.nodes.get(index) {
-            Some(node) => (node.lives(life), node.is_honest()),
-            None => (false, false),
-        };
-        if !lives {
-            return Ok(());
-        }
-        if is_honest {
-            let word = self.govern_word();
-            self.give(index, &Event::Govern(word))?;
-            self.look(index);
-        } else {
-            self.attack(index)?;
-        }
+    /// The next look comes after the time between two.
+    pub(crate) fn tick_again(&mut self, index: usize) -> Result<(), OutOfMemory> {
         match self.tick_of(index) {
-            Some((time, life)) => self.later(time, Happening::Tick(index, life)),
+            Some((time, life)) => self.agenda.later(time, Happening::Tick(index, life)),
             None => Ok(()),
         }
     }
 
-    // The word that decides between peers that are as good.
-    fn govern_word(&mut self) -> u64 {
+    fn tick_of(&self, index: usize) -> Option<(u64, u64)> {
+        let node = self.nodes.get(index)?;
+        let kind = self.scenario.kinds.get(node.kind)?;
+        Some((kind.tick, node.life))
+    }
+
+    /// The word that decides between peers that are as good.
+    pub(crate) fn govern_word(&mut self) -> u64 {
         match self.scenario.words {
             Words::Wide => self.draws.word(),
             Words::Near => match self.draws.place(self.nodes.len()) {
@@ -158,56 +123,36 @@ impl<S: Stepper> Network<S> {
         }
     }
 
-    // Notes what of its targets a node has reached.
-    fn look(&mut self, index: usize) {
-        let Some(node) = self.nodes.get_mut(index) else {
+    /// Notes what of its targets a node has reached.
+    pub(crate) fn look(&mut self, index: usize) {
+        let Some(targets) = self.targets_of(index) else {
             return;
         };
-        if node.reached.is_whole() {
-            return;
+        if let Some(node) = self.nodes.get_mut(index) {
+            node.look(self.agenda.now, &targets);
         }
-        let Some(kind) = self.scenario.kinds.get(node.kind) else {
-            return;
-        };
-        let age = node.age(self.clock);
-        node.reached = node.reached.with(age, &node.peers.counts(), &kind.targets);
     }
 
-    /// A node leaves: its links end, and who waits for it is refused.
-    pub(crate) fn leave(&mut self, index: usize) -> Result<(), OutOfMemory> {
-        self.unseat(index)?;
-        self.drop_callers(index)?;
-        self.drop_links(index)
+    /// The moment that a node's engine is to be shown, where it is a later one than that shown last.
+    pub(crate) fn moment_to_show(&mut self, index: usize) -> Option<u64> {
+        let now = self.agenda.now;
+        self.nodes.get_mut(index)?.moment_to_show(now)
     }
 
-    // Nothing steps for it any more. Its trace stays, where it was kept.
-    fn unseat(&mut self, index: usize) -> Result<(), OutOfMemory> {
-        let Some(node) = self.nodes.get_mut(index) else {
-            return Ok(());
-        };
-        node.is_up = false;
-        let Some(seat) = node.seat.take() else {
-            return Ok(());
-        };
-        if let Some(trace) = seat.into_trace()? {
-            self.trace = Some(trace);
+    /// The provider of root peers answers a question, where it was asked in this life of the node.
+    pub(crate) fn answer_roots(
+        &mut self,
+        node: usize,
+        life: u64,
+        job: Job,
+    ) -> Result<Option<Given>, OutOfMemory> {
+        if !self.nodes.lives(node, life) {
+            return Ok(None);
         }
-        Ok(())
-    }
-
-    fn drop_links(&mut self, index: usize) -> Result<(), OutOfMemory> {
-        for _ in 0..u64::MAX {
-            match self.next_hold(index) {
-                Some(hold) => self.shut(hold.link, hold.side)?,
-                None => return Ok(()),
-            }
-        }
-        Ok(())
-    }
-
-    fn next_hold(&mut self, index: usize) -> Option<Hold> {
-        let node = self.nodes.get_mut(index)?;
-        let (_, hold) = node.links.pop_first()?;
-        Some(hold)
+        let answer = self.roots.answer(&mut self.draws)?;
+        Ok(Some(Given {
+            node,
+            event: Event::Roots(job, answer),
+        }))
     }
 }

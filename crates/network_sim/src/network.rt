@@ -1,46 +1,19 @@
 use crate::asked::Asked;
-use crate::draws::Draws;
+use crate::given::Given;
+use crate::ground::Ground;
 use crate::happening::Happening;
-use crate::link::Link;
-use crate::node::Node;
-use crate::queue::Queue;
-use crate::trace::Trace;
-use io_edge::PieceWriter;
-use net_base::OutOfMemory;
-use network_scenario::{Kind, Role, Scenario};
+use crate::link::Side;
+use crate::seats::Seats;
+use net_base::{Event, Job, Octets, OutOfMemory};
+use network_scenario::Scenario;
 use std::alloc::Global;
-use std::collections::BTreeMap;
 use stepper::Stepper;
 
 /// A network, in the middle of what happens to it.
 #[derive(Drop)]
 pub(crate) struct Network<S: Stepper> {
-    pub alloc: Global,
-    pub scenario: Scenario,
-    pub asked: Asked,
-    pub draws: Draws,
-    /// What a report leaves to chance, apart, so that reports change nothing.
-    pub samples: Draws,
-    pub clock: u64,
-    pub queue: Queue,
-    pub nodes: Vec<Node<S>>,
-    /// The places of the attackers, and of the nodes that the root provider knows.
-    pub attackers: Vec<usize>,
-    pub publics: Vec<usize>,
-    pub links: BTreeMap<u64, Link>,
-    pub next_link: u64,
-    /// What those that begin pick by.
-    pub stock: Vec<S::Means>,
-    pub is_parted: bool,
-    /// The link of the one that asks to be accepted.
-    pub caller: Option<u64>,
-    /// The trace that was asked for, once its node has left.
-    pub trace: Option<Trace>,
-    /// What is reported next.
-    pub pieces: PieceWriter,
-    /// How many events and bytes there were since the last report.
-    pub events: u64,
-    pub bytes: u64,
+    pub seats: Seats<S>,
+    pub ground: Ground,
 }
 
 impl<S: Stepper> Network<S> {
@@ -51,42 +24,13 @@ impl<S: Stepper> Network<S> {
         asked: Asked,
         stock: Vec<S::Means>,
     ) -> Result<Network<S>, OutOfMemory> {
-        let mut nodes = Vec::new(alloc);
-        let mut attackers = Vec::new(alloc);
-        let mut publics = Vec::new(alloc);
-        settle_all(
-            alloc,
-            &scenario.kinds,
-            &mut nodes,
-            &mut attackers,
-            &mut publics,
-        )?;
-        Ok(Network {
-            alloc,
-            scenario,
-            asked,
-            draws: Draws::new(asked.seed),
-            samples: Draws::new(asked.seed.wrapping_add(1)),
-            clock: 0,
-            queue: Queue::new(alloc),
-            nodes,
-            attackers,
-            publics,
-            links: BTreeMap::new(alloc),
-            next_link: 1,
-            stock,
-            is_parted: false,
-            caller: None,
-            trace: None,
-            pieces: PieceWriter::new(alloc)?,
-            events: 0,
-            bytes: 0,
-        })
+        let ground = Ground::new(alloc, scenario, asked)?;
+        let seats = Seats::new(alloc, ground.nodes.len(), stock, asked.traced)?;
+        Ok(Network { seats, ground })
     }
 
-    /// What happens at a moment.
-    pub(crate) fn happen(&mut self, moment: u64, happening: Happening) -> Result<(), OutOfMemory> {
-        self.clock = moment;
+    /// Something happens.
+    pub(crate) fn happen(&mut self, happening: Happening) -> Result<(), OutOfMemory> {
         match happening {
             Happening::Begin(node) => self.begin(node),
             Happening::Tick(node, life) => self.tick(node, life),
@@ -96,55 +40,158 @@ impl<S: Stepper> Network<S> {
             Happening::Closed(link, side) => self.end_closed(link, side),
             Happening::Roots(node, life, job) => self.tell_roots(node, life, job),
             Happening::Resume(node, life) => self.resume(node, life),
-            Happening::Part(place) => self.part(place),
-            Happening::Heal => self.heal(),
+            Happening::Part(place) => self.ground.part(place),
+            Happening::Heal => self.ground.heal(),
             Happening::Leave(place) => self.leave_some(place),
-            Happening::Report => self.report_and_go_on(),
+            Happening::Report => self.ground.report_and_go_on(),
         }
     }
 
-    /// Has something happen after a time.
-    pub(crate) fn later(&mut self, time: u64, happening: Happening) -> Result<(), OutOfMemory> {
-        self.queue.push(self.clock.saturating_add(time), happening)
-    }
-
-    pub(crate) fn kind_of(&self, node: &Node<S>) -> Option<&Kind> {
-        self.scenario.kinds.get(node.kind)
-    }
-
-    pub(crate) fn is_up(&self, node: usize) -> bool {
-        match self.nodes.get(node) {
-            Some(node) => node.is_up,
-            None => false,
+    fn connect(&mut self, link: u64) -> Result<(), OutOfMemory> {
+        match self.ground.connect(link)? {
+            Some(node) => self.welcome(node),
+            None => Ok(()),
         }
     }
 
-    pub(crate) fn is_honest(&self, node: usize) -> bool {
-        match self.nodes.get(node) {
-            Some(node) => node.is_honest(),
-            None => false,
+    fn dial_ends(&mut self, link: u64, is_open: bool) -> Result<(), OutOfMemory> {
+        let given = self.ground.dial_ends(link, is_open)?;
+        self.give_some(given)
+    }
+
+    fn arrive(&mut self, link: u64, side: Side, bytes: Octets) -> Result<(), OutOfMemory> {
+        let given = self.ground.arrive(link, side, bytes)?;
+        self.give_some(given)
+    }
+
+    fn end_closed(&mut self, link: u64, side: Side) -> Result<(), OutOfMemory> {
+        let given = self.ground.end_closed(link, side);
+        self.give_some(given)
+    }
+
+    fn tell_roots(&mut self, node: usize, life: u64, job: Job) -> Result<(), OutOfMemory> {
+        let given = self.ground.answer_roots(node, life, job)?;
+        self.give_some(given)
+    }
+
+    fn give_some(&mut self, given: Option<Given>) -> Result<(), OutOfMemory> {
+        match given {
+            Some(given) => self.give(given.node, &given.event),
+            None => Ok(()),
         }
     }
-}
 
-// The nodes of all kinds.
-fn settle_all<S: Stepper>(
-    alloc: Global,
-    kinds: &[Kind],
-    nodes: &mut Vec<Node<S>>,
-    attackers: &mut Vec<usize>,
-    publics: &mut Vec<usize>,
-) -> Result<(), OutOfMemory> {
-    for (place, kind) in kinds.iter().enumerate() {
-        for number in 0..kind.count {
-            if kind.role != Role::Honest {
-                attackers.push(nodes.len())?;
+    // Has a node take an event, after the moment where it is a later one, and does what it asks for.
+    fn give(&mut self, index: usize, event: &Event) -> Result<(), OutOfMemory> {
+        if let Some(moment) = self.ground.moment_to_show(index) {
+            self.hand(index, &Event::Now(moment))?;
+        }
+        self.hand(index, event)
+    }
+
+    // Has a node take an event, and does what it asks for.
+    fn hand(&mut self, index: usize, event: &Event) -> Result<(), OutOfMemory> {
+        match self.seats.take(index, event)? {
+            Some(actions) => self.ground.act_all(index, actions.as_slice()),
+            None => Ok(()),
+        }
+    }
+
+    // A node begins, where it is not up.
+    fn begin(&mut self, index: usize) -> Result<(), OutOfMemory> {
+        if !self.ground.begin(index) {
+            return Ok(());
+        }
+        if let Some((settings, life)) = self.ground.settings_of(index) {
+            self.seats.begin(index, settings, life)?;
+            self.tell_terms(index)?;
+        }
+        self.ground.tick_first(index)
+    }
+
+    // A node hears its targets, and then its local roots.
+    fn tell_terms(&mut self, index: usize) -> Result<(), OutOfMemory> {
+        if let Some(targets) = self.ground.targets_of(index) {
+            self.hand(index, &Event::Aims(targets))?;
+        }
+        match self.ground.befriend(index)? {
+            Some(event) => self.hand(index, &event),
+            None => Ok(()),
+        }
+    }
+
+    // A node looks at its targets, and an attacker at its slots.
+    fn tick(&mut self, index: usize, life: u64) -> Result<(), OutOfMemory> {
+        if !self.ground.nodes.lives(index, life) {
+            return Ok(());
+        }
+        if self.ground.nodes.is_honest(index) {
+            self.govern(index)?;
+        } else {
+            self.ground.attack(index)?;
+        }
+        self.ground.tick_again(index)
+    }
+
+    fn govern(&mut self, index: usize) -> Result<(), OutOfMemory> {
+        let word = self.ground.govern_word();
+        self.give(index, &Event::Govern(word))?;
+        self.ground.look(index);
+        Ok(())
+    }
+
+    // A node accepts again.
+    fn resume(&mut self, index: usize, life: u64) -> Result<(), OutOfMemory> {
+        if self.ground.nodes.lives(index, life) {
+            self.welcome(index)
+        } else {
+            Ok(())
+        }
+    }
+
+    // Accepts those that wait, until accepting pauses.
+    fn welcome(&mut self, index: usize) -> Result<(), OutOfMemory> {
+        for _ in 0..u64::MAX {
+            match self.ground.next_caller(index) {
+                Some(link) => self.accept(index, link)?,
+                None => return Ok(()),
             }
-            if number < kind.public {
-                publics.push(nodes.len())?;
-            }
-            nodes.push(Node::new(alloc, nodes.len(), place, kind.role))?;
         }
+        Ok(())
     }
-    Ok(())
+
+    // A node that takes no more events answers nobody.
+    fn accept(&mut self, index: usize, link: u64) -> Result<(), OutOfMemory> {
+        let Some(from) = self.ground.call(link) else {
+            return Ok(());
+        };
+        self.give(index, &Event::Accepted(from))?;
+        self.ground.turn_away()?;
+        self.deliver_early(link)
+    }
+
+    // What came before the node accepted.
+    fn deliver_early(&mut self, link: u64) -> Result<(), OutOfMemory> {
+        for _ in 0..u64::MAX {
+            match self.ground.links.take_early(link) {
+                Some(bytes) => self.arrive(link, Side::Acceptor, bytes)?,
+                None => return Ok(()),
+            }
+        }
+        Ok(())
+    }
+
+    // Some nodes leave, and may come back.
+    fn leave_some(&mut self, place: usize) -> Result<(), OutOfMemory> {
+        let Some(leaving) = self.ground.leaving(place) else {
+            return Ok(());
+        };
+        for index in 0..self.ground.nodes.len() {
+            if self.ground.is_to_leave(index, &leaving) {
+                self.seats.end(index)?;
+                self.ground.leave(index, &leaving)?;
+            }
+        }
+        Ok(())
+    }
 }

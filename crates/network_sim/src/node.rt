@@ -2,16 +2,14 @@ use crate::addresses::address_of;
 use crate::link::{Hold, Side};
 use crate::peers::Peers;
 use crate::reached::Reached;
-use crate::seat::Seat;
-use net_base::Addr;
+use net_base::{Addr, Cid, OutOfMemory, Targets};
 use network_scenario::Role;
 use std::alloc::Global;
 use std::collections::{BTreeMap, VecDeque};
-use stepper::Stepper;
 
-/// A node of the network.
+/// A node of the network, but for what steps for it.
 #[derive(Drop)]
-pub(crate) struct Node<S: Stepper> {
+pub(crate) struct Node {
     /// The place of its kind.
     pub kind: usize,
     pub role: Role,
@@ -19,24 +17,22 @@ pub(crate) struct Node<S: Stepper> {
     pub is_up: bool,
     /// How often it began. What was meant for an earlier life of it comes to nothing.
     pub life: u64,
-    pub begun: u64,
-    /// What steps for it, where it is up and no attacker's.
-    pub seat: Option<Seat<S>>,
+    begun: u64,
     /// The moment that its engine was shown last.
-    pub shown: u64,
+    shown: u64,
     /// Its links by what it calls them.
-    pub links: BTreeMap<u64, Hold>,
+    links: BTreeMap<u64, Hold>,
     /// The links of those that wait to be accepted.
-    pub callers: VecDeque<u64>,
-    pub paused_until: u64,
+    callers: VecDeque<u64>,
+    paused_until: u64,
     /// It is in the smaller part while the network is in two.
     pub is_apart: bool,
     pub peers: Peers,
     pub reached: Reached,
 }
 
-impl<S: Stepper> Node<S> {
-    pub(crate) fn new(alloc: Global, place: usize, kind: usize, role: Role) -> Node<S> {
+impl Node {
+    pub(crate) fn new(alloc: Global, place: usize, kind: usize, role: Role) -> Node {
         Node {
             kind,
             role,
@@ -44,7 +40,6 @@ impl<S: Stepper> Node<S> {
             is_up: false,
             life: 0,
             begun: 0,
-            seat: None,
             shown: 0,
             links: BTreeMap::new(alloc),
             callers: VecDeque::new(alloc),
@@ -56,7 +51,7 @@ impl<S: Stepper> Node<S> {
     }
 
     pub(crate) fn is_honest(&self) -> bool {
-        self.role == Role::Honest
+        matches!(self.role, Role::Honest)
     }
 
     /// It is up, and in this life.
@@ -75,19 +70,81 @@ impl<S: Stepper> Node<S> {
         self.reached = Reached::none();
     }
 
+    // How long it is up.
+    fn age(&self, moment: u64) -> u64 {
+        moment.saturating_sub(self.begun)
+    }
+
+    /// The moment that its engine is to be shown, where it is a later one than that shown last.
+    pub(crate) fn moment_to_show(&mut self, now: u64) -> Option<u64> {
+        let moment = self.age(now);
+        if moment <= self.shown {
+            return None;
+        }
+        self.shown = moment;
+        Some(moment)
+    }
+
+    /// Notes what of its targets it has reached.
+    pub(crate) fn look(&mut self, now: u64, targets: &Targets) {
+        if !self.reached.is_whole() {
+            let counts = self.peers.counts();
+            self.reached = self.reached.with(self.age(now), &counts, targets);
+        }
+    }
+
+    /// The end of a link is its connection of this id from now on.
+    pub(crate) fn hold(&mut self, cid: Cid, hold: Hold) -> Result<(), OutOfMemory> {
+        self.links.insert(cid.0, hold)?;
+        Ok(())
+    }
+
+    pub(crate) fn hold_of(&self, cid: Cid) -> Option<Hold> {
+        self.links.get(&cid.0).copied()
+    }
+
+    pub(crate) fn let_go(&mut self, cid: Cid) {
+        self.links.remove(&cid.0);
+    }
+
+    /// Takes out one of its links.
+    pub(crate) fn take_hold(&mut self) -> Option<Hold> {
+        let (_, hold) = self.links.pop_first()?;
+        Some(hold)
+    }
+
     /// How many of its links it dialed.
     pub(crate) fn dialed(&self) -> u64 {
         let mut dialed: u64 = 0;
         for hold in self.links.values() {
-            if hold.side == Side::Dialer {
+            if matches!(hold.side, Side::Dialer) {
                 dialed = dialed.saturating_add(1);
             }
         }
         dialed
     }
 
-    /// How long it is up.
-    pub(crate) fn age(&self, moment: u64) -> u64 {
-        moment.saturating_sub(self.begun)
+    /// Somebody waits to be accepted.
+    pub(crate) fn wait(&mut self, link: u64) -> Result<(), OutOfMemory> {
+        self.callers.push_back(link)?;
+        Ok(())
+    }
+
+    /// Takes out the link of who waits longest.
+    pub(crate) fn take_caller(&mut self) -> Option<u64> {
+        self.callers.pop_front()
+    }
+
+    /// The same, where accepting doesn't pause.
+    pub(crate) fn next_caller(&mut self, now: u64) -> Option<u64> {
+        if now < self.paused_until {
+            return None;
+        }
+        self.take_caller()
+    }
+
+    /// It accepts nobody before this moment.
+    pub(crate) fn pause(&mut self, until: u64) {
+        self.paused_until = self.paused_until.max(until);
     }
 }

@@ -4,7 +4,7 @@ use std::alloc::Global;
 use std::collections::BTreeSet;
 
 /// How many peers a node has, and how many connections that its limits count.
-#[derive(Clone, Copy, PartialEq, Eq)]
+#[derive(Clone, Copy)]
 pub(crate) struct Counts {
     pub known: u64,
     pub established: u64,

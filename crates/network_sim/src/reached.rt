@@ -2,7 +2,7 @@ use crate::peers::Counts;
 use net_base::Targets;
 
 /// When a node had as many peers as wanted for the first time, each in milliseconds since it began.
-#[derive(Clone, Copy, PartialEq, Eq)]
+#[derive(Clone, Copy)]
 pub(crate) struct Reached {
     pub known: Option<u64>,
     pub established: Option<u64>,

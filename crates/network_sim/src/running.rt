@@ -4,6 +4,7 @@ ghost use Rattle.network_sim.specs.declared.asked.RunEnd.{RunEnd};
 ghost use Rattle.trace_compare.specs.Written.{TakesAgreeing};
 
 use crate::asked::{Asked, RunEnd};
+use crate::ground::Ground;
 use crate::network::Network;
 use crate::putting::put_trace;
 use crate::trace::Trace;
@@ -38,8 +39,8 @@ fn run<S: Stepper, K: Sink>(network: &mut Network<S>, traced: Option<usize>, out
     ensures agrees { IsSome traced → result ≡ RunEnd.Done → ∥ TakesAgreeing (K.taken out.old) (K.taken out.new) ∥₁ }
     ensures faults { HasFaultCount (K.faults out.old) (K.faults out.new) result }
 {
-    let end = network.scenario.seconds.saturating_mul(SECOND);
-    if network.foresee().is_err() {
+    let end = network.ground.scenario.seconds.saturating_mul(SECOND);
+    if network.ground.foresee().is_err() {
         return RunEnd::OutOfMemory;
     }
     match traced {
@@ -76,7 +77,7 @@ fn trace_at<S: Stepper>(
             break;
         }
     }
-    network.take_trace(node)
+    network.seats.take_trace(node)
 }
 
 // Writes reports.
@@ -86,7 +87,7 @@ fn run_to_reports<S: Stepper, K: Sink>(network: &mut Network<S>, end: u64, out: 
     for _ in 0..u64::MAX {
         match go_on(network, end, out) {
             Ok(true) => {}
-            Ok(false) => return finish(network, out),
+            Ok(false) => return finish(&mut network.ground, out),
             Err(why) => return why,
         }
     }
@@ -103,7 +104,7 @@ fn go_on<S: Stepper, K: Sink>(
     ensures cause { IfErr result (HasFaultCount (K.faults out.old) (K.faults out.new)) }
 {
     match network.turn(end) {
-        Ok(true) => put_full(&mut network.pieces, out),
+        Ok(true) => put_full(&mut network.ground.reporter.pieces, out),
         Ok(false) => Ok(false),
         Err(OutOfMemory) => Err(RunEnd::OutOfMemory),
     }
@@ -124,13 +125,13 @@ fn put_full<K: Sink>(pieces: &mut PieceWriter, out: &mut K) -> Result<bool, RunE
 }
 
 // The last lines.
-fn finish<S: Stepper, K: Sink>(network: &mut Network<S>, out: &mut K) -> RunEnd
+fn finish<K: Sink>(ground: &mut Ground, out: &mut K) -> RunEnd
     ensures faults { HasFaultCount (K.faults out.old) (K.faults out.new) result }
 {
-    if network.report_reached().is_err() {
+    if ground.report_reached().is_err() {
         return RunEnd::OutOfMemory;
     }
-    match network.pieces.put(out) {
+    match ground.reporter.pieces.put(out) {
         Ok(()) => RunEnd::Done,
         Err(_) => RunEnd::WriteFault,
     }
@@ -139,13 +140,12 @@ fn finish<S: Stepper, K: Sink>(network: &mut Network<S>, out: &mut K) -> RunEnd
 impl<S: Stepper> Network<S> {
     // The next thing happens, and true, where one does before the end.
     fn turn(&mut self, end: u64) -> Result<bool, OutOfMemory> {
-        let Some((moment, happening)) = self.queue.pop() else {
-            return Ok(false);
-        };
-        if moment > end {
-            return Ok(false);
+        match self.ground.agenda.next(end) {
+            Some(happening) => {
+                self.happen(happening)?;
+                Ok(true)
+            }
+            None => Ok(false),
         }
-        self.happen(moment, happening)?;
-        Ok(true)
     }
 }

@@ -3,7 +3,7 @@ use network_sim::RunEnd;
 use std::fmt;
 
 /// How the program ended.
-#[derive(Clone, Copy, PartialEq, Eq)]
+#[derive(Clone, Copy)]
 pub(crate) enum Ending {
     Ran(RunEnd),
     Usage,

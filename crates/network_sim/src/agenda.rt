@@ -1,0 +1,45 @@
+use crate::happening::Happening;
+use net_base::OutOfMemory;
+use std::alloc::Global;
+use std::collections::BTreeMap;
+
+/// The clock, and what is going to happen, in order of moment, and of one moment as it was put in.
+#[derive(Drop)]
+pub(crate) struct Agenda {
+    pub now: u64,
+    waiting: BTreeMap<(u64, u64), Happening>,
+    number: u64,
+}
+
+impl Agenda {
+    pub(crate) fn new(alloc: Global) -> Agenda {
+        Agenda {
+            now: 0,
+            waiting: BTreeMap::new(alloc),
+            number: 0,
+        }
+    }
+
+    /// Has something happen at a moment.
+    pub(crate) fn put(&mut self, moment: u64, happening: Happening) -> Result<(), OutOfMemory> {
+        self.waiting.insert((moment, self.number), happening)?;
+        self.number = self.number.saturating_add(1);
+        Ok(())
+    }
+
+    /// Has something happen after a time.
+    pub(crate) fn later(&mut self, time: u64, happening: Happening) -> Result<(), OutOfMemory> {
+        let moment = self.now.saturating_add(time);
+        self.put(moment, happening)
+    }
+
+    /// Takes out what happens next, and turns the clock to it. None where nothing happens up to the end.
+    pub(crate) fn next(&mut self, end: u64) -> Option<Happening> {
+        let ((moment, _), happening) = self.waiting.pop_first()?;
+        if moment > end {
+            return None;
+        }
+        self.now = moment;
+        Some(happening)
+    }
+}

@@ -1,0 +1,112 @@
+use crate::link::{Link, Side};
+use crate::nodes::Nodes;
+use net_base::{Cid, Octets, OutOfMemory};
+use std::alloc::Global;
+use std::collections::BTreeMap;
+
+/// The links of a network, by their numbers.
+#[derive(Drop)]
+pub(crate) struct Links {
+    all: BTreeMap<u64, Link>,
+    next: u64,
+}
+
+impl Links {
+    pub(crate) fn new(alloc: Global) -> Links {
+        Links {
+            all: BTreeMap::new(alloc),
+            next: 1,
+        }
+    }
+
+    /// The number of the next link.
+    pub(crate) fn take_number(&mut self) -> u64 {
+        let id = self.next;
+        self.next = id.saturating_add(1);
+        id
+    }
+
+    pub(crate) fn put(&mut self, id: u64, link: Link) -> Result<(), OutOfMemory> {
+        self.all.insert(id, link)?;
+        Ok(())
+    }
+
+    pub(crate) fn get(&self, id: u64) -> Option<&Link> {
+        self.all.get(&id)
+    }
+
+    pub(crate) fn get_mut(&mut self, id: u64) -> Option<&mut Link> {
+        self.all.get_mut(&id)
+    }
+
+    pub(crate) fn remove(&mut self, id: u64) {
+        self.all.remove(&id);
+    }
+
+    /// Whose an end is and what that node calls it, where it is open.
+    pub(crate) fn open_end(&self, id: u64, side: Side) -> Option<(usize, Option<Cid>)> {
+        let end = self.get(id)?.end(side);
+        if end.is_open {
+            Some((end.node, end.cid))
+        } else {
+            None
+        }
+    }
+
+    /// Who dials whom, and how long bytes are on their way.
+    pub(crate) fn ends_of(&self, id: u64) -> Option<(usize, usize, u64)> {
+        let link = self.get(id)?;
+        let from = link.end(Side::Dialer).node;
+        let to = link.end(Side::Acceptor).node;
+        Some((from, to, link.latency))
+    }
+
+    /// What a node calls an end from now on.
+    pub(crate) fn name(&mut self, id: u64, side: Side, cid: Cid) {
+        if let Some(link) = self.get_mut(id) {
+            link.end_mut(side).cid = Some(cid);
+        }
+    }
+
+    /// The acceptor's end opens.
+    pub(crate) fn open(&mut self, id: u64) {
+        if let Some(link) = self.get_mut(id) {
+            link.end_mut(Side::Acceptor).is_open = true;
+        }
+    }
+
+    /// An end closes. A link with no open end is gone.
+    pub(crate) fn close(&mut self, id: u64, side: Side) {
+        let is_over = match self.get_mut(id) {
+            Some(link) => {
+                link.end_mut(side).is_open = false;
+                link.is_over()
+            }
+            None => false,
+        };
+        if is_over {
+            self.remove(id);
+        }
+    }
+
+    pub(crate) fn keep(&mut self, id: u64, side: Side, bytes: Octets) -> Result<(), OutOfMemory> {
+        match self.get_mut(id) {
+            Some(link) => link.keep(side, bytes),
+            None => Ok(()),
+        }
+    }
+
+    pub(crate) fn take_early(&mut self, id: u64) -> Option<Octets> {
+        self.get_mut(id)?.take_early()
+    }
+
+    /// Adds the numbers of those whose ends are in different parts of the network.
+    pub(crate) fn across(&self, nodes: &Nodes, across: &mut Vec<u64>) -> Result<(), OutOfMemory> {
+        for (id, link) in self.all.iter() {
+            if nodes.parts(link) {
+                across.push(*id)?;
+            }
+        }
+        Ok(())
+    }
+}
