@@ -1,7 +1,6 @@
-use super::{done, expect_run, run_on};
+use super::running::{End, expect_again, expect_each};
 use net_base::RefusalKind;
 use std::test::Fail;
-use tool_status::Status;
 
 const OPENED: &str = "joined
 joined
@@ -29,21 +28,44 @@ now 10000
 end
 ";
 
-// Each input with a refusal of its last line, and what was written before.
-const REFUSED: [(&str, u64, RefusalKind, &str); 4] = [
-    ("", 1, RefusalKind::NoEnd, ""),
-    ("now 01\nend\n", 1, RefusalKind::Number(2), ""),
+const LED: [(&str, &str); 3] = [
+    (OPENED, OPENED_TOLD),
+    (
+        "joined\nbytes 1 00000000000000068200a1186380\nend\n",
+        "joined\n> admit 1\nbytes 1 00000000000000068200a1186380\n> send 1 000000008000000b8202820082198010198011\n> close 1 refused\nend\n",
+    ),
+    (
+        "joined\nbytes 1 0000000000020000\nend\n",
+        "joined\n> admit 1\nbytes 1 0000000000020000\n> close 1 fault unknownid\nend\n",
+    ),
+];
+
+const REFUSED: [(&str, End); 4] = [
+    (
+        "",
+        End::Refused(1, RefusalKind::NoEnd, "", "line 1 refused: no end\n"),
+    ),
+    (
+        "now 01\nend\n",
+        End::Refused(1, RefusalKind::Number(2), "", "line 1 refused: number 2\n"),
+    ),
     (
         "> \njoined\nbytes 1 0\nend\n",
-        3,
-        RefusalKind::Word(3),
-        "joined\n> admit 1\n",
+        End::Refused(
+            3,
+            RefusalKind::Word(3),
+            "joined\n> admit 1\n",
+            "line 3 refused: word 3\n",
+        ),
     ),
     (
         "joined\naccepted 1\n",
-        2,
-        RefusalKind::Word(1),
-        "joined\n> admit 1\n",
+        End::Refused(
+            2,
+            RefusalKind::Word(1),
+            "joined\n> admit 1\n",
+            "line 2 refused: word 1\n",
+        ),
     ),
 ];
 
@@ -51,30 +73,10 @@ const WORDS: [&str; 4] = ["clients", "42", "1", "10000"];
 
 #[test]
 fn clients_are_led(rt: HostRuntime) -> Result<(), Fail> {
-    for (input, output) in [
-        (OPENED, OPENED_TOLD),
-        (
-            "joined\nbytes 1 00000000000000068200a1186380\nend\n",
-            "joined\n> admit 1\nbytes 1 00000000000000068200a1186380\n> send 1 000000008000000b8202820082198010198011\n> close 1 refused\nend\n",
-        ),
-        (
-            "joined\nbytes 1 0000000000020000\nend\n",
-            "joined\n> admit 1\nbytes 1 0000000000020000\n> close 1 fault unknownid\nend\n",
-        ),
-    ] {
-        expect_run(&rt, rt.alloc(), &WORDS, input, 7, done(output))?;
-        // the actions of an output are passed over, and come out again
-        expect_run(&rt, rt.alloc(), &WORDS, output, 64, done(output))?;
-    }
-    Ok(())
+    expect_again(&rt, rt.alloc(), &WORDS, 7, &LED)
 }
 
 #[test]
 fn lines_of_clients_are_refused(rt: HostRuntime) -> Result<(), Fail> {
-    for (input, line, kind, output) in REFUSED {
-        let left = run_on(rt.alloc(), &WORDS, input, 64)?;
-        assert!(rt; left.status == Status::Refused { line, kind }, "{input:?}");
-        assert!(rt; left.out.bytes() == output.as_bytes(), "{input:?}");
-    }
-    Ok(())
+    expect_each(&rt, rt.alloc(), &WORDS, 64, &REFUSED)
 }

@@ -1,4 +1,5 @@
-use super::{done, expect_run};
+use super::REPLAY;
+use super::running::{End, expect_each};
 use std::alloc::Global;
 use std::process::Abort;
 use std::test::Fail;
@@ -65,7 +66,8 @@ fn expect_line<'a>(
 ) -> Result<(), Fail> {
     let input = format!(in alloc; "{}{line}end\n", before.read)?;
     let output = format!(in alloc; "{}{line}{answer}end\n", before.written)?;
-    expect_run(rt, alloc, &["replay"], &input, 64, done(&output))
+    let row = (input.as_str(), End::Done(output.as_str()));
+    expect_each(rt, alloc, &REPLAY, 64, &[row])
 }
 
 // Bytes come in behind the trace, and this is written of them.

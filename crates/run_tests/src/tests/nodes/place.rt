@@ -6,13 +6,12 @@ use net_base::{Action, Addr, Cid, Event, EventList, Ip, NumberList, Octets, Peer
 use node_run::run_node;
 use node_world::ScriptWorld;
 use std::alloc::Global;
-use std::process::Abort;
 use std::test::Fail;
 use tool_status::Status;
 
 // What is around a node: its files, the world, and where it writes.
 #[derive(Drop)]
-pub(super) struct Place {
+struct Place {
     shelf: MemShelf,
     world: ScriptWorld,
     out: MemSink,
@@ -29,6 +28,16 @@ pub(super) struct Given<'a> {
     pub(super) world: &'a [u64],
     pub(super) writings: &'a [u64],
     pub(super) tellings: &'a [u64],
+}
+
+// How a node is to end: the parts that were written, what was told, and where so many actions are given, they are the
+// first of a whole run's.
+#[derive(Clone, Copy)]
+pub(super) struct Wanted<'a> {
+    pub(super) status: Status,
+    pub(super) parts: &'a [&'a str],
+    pub(super) told: &'a str,
+    pub(super) done: Option<usize>,
 }
 
 fn octets(alloc: Global, text: &str) -> Result<Octets, Fail> {
@@ -101,7 +110,7 @@ pub(super) fn failing_sink(alloc: Global, failing: &[u64]) -> Result<MemSink, Fa
     Ok(MemSink::new(alloc, 4096, failing)?)
 }
 
-pub(super) fn make_place(alloc: Global, given: Given<'_>) -> Result<Place, Fail>
+fn make_place(alloc: Global, given: Given<'_>) -> Result<Place, Fail>
     ensures { IfOk result (λ place. is_some place.world.opening ≡ false) }
 {
     let shelf = shelf(alloc, given.settings, given.topology, given.readings)?;
@@ -130,43 +139,20 @@ fn run_in(alloc: Global, words: &[String], place: &mut Place) -> Status
     )
 }
 
-impl Place {
-    // Runs a node with these words to its end.
-    pub(super) fn run(&mut self, alloc: Global, words: &[&str]) -> Result<Status, Fail>
-        requires { is_some self.old.world.opening ≡ false }
-    {
-        let words = strings(alloc, words)?;
-        Ok(run_in(alloc, &words, self))
-    }
-
-    // These parts were written and this was told; and where so many actions are given, they are the first of a whole run's.
-    pub(super) fn expect_left(
-        &self,
-        rt: &impl Abort,
-        parts: &[&str],
-        told: &str,
-        done: Option<usize>,
-    ) {
-        expect_parts(rt, self.out.bytes(), parts);
-        assert!(rt; self.err.bytes() == told.as_bytes());
-        if let Some(done) = done {
-            expect_done(rt, self.world.done().as_slice(), done);
-        }
-    }
-}
-
-// These parts were written, one behind the other, and nothing else.
-fn expect_parts(rt: &impl Abort, written: &[u8], parts: &[&str]) {
+// Whether these parts were written, one behind the other, and nothing else.
+fn are_written(written: &[u8], parts: &[&str]) -> bool {
     let mut rest = written;
     for part in parts {
-        assert!(rt; rest.starts_with(part.as_bytes()));
+        if !rest.starts_with(part.as_bytes()) {
+            return false;
+        }
         rest = rest.get(part.len()..).unwrap_or(b"");
     }
-    assert!(rt; rest.is_empty());
+    rest.is_empty()
 }
 
-// The first so many of the actions of a whole run were done, in their order.
-fn expect_done(rt: &impl Abort, done: &[Action], count: usize) {
+// Whether the first so many of the actions of a whole run were done, in their order.
+fn are_done(done: &[Action], count: Option<usize>) -> bool {
     let actions = [
         Action::Peer(local(3002), PeerNote::Known),
         Action::Peer(local(3003), PeerNote::Known),
@@ -174,5 +160,22 @@ fn expect_done(rt: &impl Abort, done: &[Action], count: usize) {
         Action::Admit(Cid(1), local(3005)),
         Action::State(Cid(1), StateName::UnnegotiatedInbound),
     ];
-    assert!(rt; Some(done) == actions.get(..count));
+    match count {
+        Some(count) => Some(done) == actions.get(..count),
+        None => true,
+    }
+}
+
+fn is_left(place: &Place, wanted: Wanted<'_>) -> bool {
+    are_written(place.out.bytes(), wanted.parts)
+        && place.err.bytes() == wanted.told.as_bytes()
+        && are_done(place.world.done().as_slice(), wanted.done)
+}
+
+// Whether a node ends so.
+pub(super) fn ends(alloc: Global, given: Given<'_>, wanted: Wanted<'_>) -> Result<bool, Fail> {
+    let words = strings(alloc, given.words)?;
+    let mut place = make_place(alloc, given)?;
+    let status = run_in(alloc, &words, &mut place);
+    Ok(status == wanted.status && is_left(&place, wanted))
 }
