@@ -1,10 +1,7 @@
 -- Addresses that a test finds the same are the same.
 use Rattle.std.proofs.Common.{◌≡◌, true, ◌==◌, refl, ap, eqb-true, eq-eqb}
-use Rattle.std.proofs.lemmas.Bool.{and_parts, and_from}
-use Rattle.net_base.specs.declared.address.Ip.{Ip}
-use Rattle.net_base.specs.declared.address.Ip.TheVariants.{V4, V6}
-use Rattle.net_base.specs.declared.address.Addr.{Addr}
-use Rattle.net_base.specs.Address.{same_ip, same_address}
+use Rattle.laws.proofs.Words.{and_parts, and_from}
+use Rattle.laws.specs.Words.{Ip, V4, V6, Addr, same_ip, same_address}
 
 same_ip-self : (ip : Ip) → same_ip ip ip ≡ true
 same_ip-self (V4 n) = eq-eqb n n refl

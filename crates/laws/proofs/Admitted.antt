@@ -1,24 +1,8 @@
 -- Who connects is let in, or turned away for the first cause that stands.
 use Rattle.std.proofs.Common.{ℕ, ◌+◌, ◌≡◌, Bool, true, false, ◌&&◌, ◌||◌, nat_le, nat_lt, if◌then◌else◌, List, [], ◌∷◌, ◌++◌, find, cond, Option, Some, None, All, refl, sym, ap, ◌∙◌, subst, arith, eq-eqb, eqb-true}
-use Rattle.std.specs.List.{list_any}
-use Rattle.std.proofs.lemmas.Bool.{both_ways, and_parts, and_from, false_from_ne_true}
-use Rattle.std.proofs.lemmas.List.Elements.{All-head, All-tail, All-weaker}
-use Rattle.accept_gate.specs.Gate.{pause_of}
-use Rattle.conn_state.specs.Moves.{accepted}
-use Rattle.conn_state.specs.Use.{has_id, is_live, is_live_at, is_outbound, is_pending, opening_phase, live_phase}
-use Rattle.net_base.specs.Address.{same_address, address_below}
-use Rattle.net_base.specs.declared.action.Action.TheVariants.{Pause}
-use Rattle.net_base.specs.declared.action.Away.{Away}
-use Rattle.net_base.specs.declared.action.Away.TheVariants.{Full, OwnAddr, Crossed, Present}
-use Rattle.net_base.specs.declared.action.CloseCause.TheVariants.{Overwritten}
-use Rattle.net_base.specs.declared.address.Addr.{Addr}
-use Rattle.net_base.specs.declared.connection.Facts.{Facts}
-use Rattle.net_base.specs.declared.connection.Phase.{Phase}
-use Rattle.net_base.specs.declared.connection.Phase.TheVariants.{Closing}
-use Rattle.machine.specs.Connections.{ending}
-use Rattle.machine.specs.Effect.{then_do}
-use Rattle.machine.specs.Events.{turned_away, admitted, crossed, accepted_beside, peer_connects}
-use Rattle.machine.specs.Machine.{Machine, Entry, fresh_entry, counted_in, live_entry_at}
+use Rattle.laws.proofs.Words.{both_ways, and_parts, and_from, false_from_ne_true, All-head, All-tail, All-weaker}
+use Rattle.laws.specs.Words.{list_any, pause_of, accepted, has_id, is_live, is_live_at, is_outbound, is_pending, opening_phase, live_phase, same_address, address_below, Pause, Away, OwnAddr, Crossed, Overwritten, Addr, Facts, Phase, Closing, ending, then_do, turned_away, admitted, crossed, accepted_beside, peer_connects, Machine, Entry, fresh_entry, counted_in, live_entry_at}
+use Rattle.net_base.specs.declared.action.Away.TheVariants.{Full, Present}
 use Rattle.laws.specs.Acts.{Act, asks_for_roots, connects, does}
 use Rattle.laws.specs.Admitted.{admitted_by, admitted_in, turned_away_by, turned_away_in, is_crossing, is_present, cause_against, IsTurnedAway, IsNew, IsLetIn, ByCause, AdmitsNobody, AdmitsRight}
 use Rattle.laws.specs.AtMoves.{OnEntry}

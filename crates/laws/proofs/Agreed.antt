@@ -1,24 +1,8 @@
 -- What is agreed on in a handshake.
 use Rattle.std.proofs.Common.{◌+◌, ◌≡◌, true, if◌then◌else◌, Option, Some, None, refl, sym, ap, ◌∙◌, eq-eqb}
-use Rattle.std.specs.Option.{option_and_then}
-use Rattle.std.proofs.lemmas.Bool.{false≢true}
-use Rattle.conn_state.specs.Moves.{agreed_inbound, agreed_outbound}
-use Rattle.conn_state.specs.Use.{is_greeting_phase, is_outbound_by}
-use Rattle.hs_decide.specs.Agreement.{verdict_of}
-use Rattle.hs_decide.specs.declared.role.Role.TheVariants.{Acceptor, Dialer}
-use Rattle.hs_decide.specs.declared.verdict.Verdict.{Verdict}
-use Rattle.hs_decide.specs.declared.verdict.Verdict.TheVariants as verdict
-use Rattle.hs_message.specs.Reading.{message_of}
-use Rattle.hs_message.specs.declared.message.Message.{Message}
-use Rattle.mux_segment.specs.declared.item.Item.{Item}
-use Rattle.net_base.specs.declared.connection.Cid.{Cid}
-use Rattle.net_base.specs.declared.connection.Phase.{Phase}
-use Rattle.net_base.specs.declared.connection.Phase.TheVariants.{Greeting}
-use Rattle.net_base.specs.declared.connection.Provenance.{Provenance}
-use Rattle.net_base.specs.declared.connection.Provenance.TheVariants.{FromRemote, FromLocal}
-use Rattle.machine.specs.Greeting.{role_of}
-use Rattle.machine.specs.Machine.{Machine, Entry, entry_at}
-use Rattle.machine.specs.Own.{own_info}
+use Rattle.laws.proofs.Words.{false≢true}
+use Rattle.laws.specs.Words.{option_and_then, agreed_inbound, agreed_outbound, is_greeting_phase, is_outbound_by, verdict_of, Acceptor, Dialer, Verdict, message_of, Message, Item, Cid, Phase, Greeting, Provenance, FromRemote, FromLocal, role_of, Machine, Entry, entry_at, own_info}
+use Rattle.laws.specs.Words.verdict
 use Rattle.laws.specs.Acts.{Act, handles_item, does}
 use Rattle.laws.specs.Agreed.{agreement_of, agreement_in, WhereNegotiated, AgreesRight}
 use Rattle.laws.specs.CarriedOut.{WhereGreeting}

@@ -1,14 +1,7 @@
 -- Whom an event provides: only addresses that it names come into the book.
 use Rattle.std.proofs.Common.{ℕ, zero, suc, ◌≡◌, true, false, ◌||◌, if◌then◌else◌, List, [], ◌∷◌, ◌++◌, take, refl, sym, ◌∙◌, subst}
-use Rattle.std.proofs.lemmas.Bool.{false≢true, or_left, or_right}
-use Rattle.std.proofs.lemmas.List.Folds.{list_any-append}
-use Rattle.net_base.specs.Address.{same_address}
-use Rattle.net_base.specs.declared.address.Addr.{Addr}
-use Rattle.net_base.specs.declared.event.Group.{Group}
-use Rattle.root_groups.specs.Cleaned.{is_listed, first_places, cleaned_after, members_of}
-use Rattle.root_groups.specs.RootAsk.{publics_of}
-use Rattle.machine.specs.Machine.{Machine}
-use Rattle.machine.specs.Provided.{comes_ordinary}
+use Rattle.laws.proofs.Words.{false≢true, or_left, or_right, list_any-append}
+use Rattle.laws.specs.Words.{same_address, Addr, Group, is_listed, first_places, cleaned_after, members_of, publics_of, Machine, comes_ordinary}
 use Rattle.laws.specs.AtMoves.{is_known}
 use Rattle.laws.proofs.Lawful.{comes-machine}
 use Rattle.laws.proofs.PeersApart.{same_turned}

@@ -1,59 +1,10 @@
 -- What is remembered of peers, through each part of an event.
 use Rattle.std.proofs.Common.{ℕ, ◌+◌, ◌%◌, ◌≡◌, ◌⊎◌, Bool, true, false, not, ◌&&◌, ◌||◌, ◌==◌, nat_le, if◌then◌else◌, List, [], ◌∷◌, find, length, is_some, is_none, Option, Some, None, Result, Ok, Err, refl, sym, ap, ◌∙◌, subst, inl, inr, arith, eqb-true}
-use Rattle.std.specs.Option.{option_map, unwrap_or}
-use Rattle.std.proofs.lemmas.Bool.{cond_both, both_ways, false≢true, and_parts, and_from}
-use Rattle.accept_gate.specs.Prune.{choice_of, is_candidate}
-use Rattle.conn_state.specs.Counted.{is_counted}
-use Rattle.conn_state.specs.Moves.{acquired, agreed_outbound, awakened, expired, released}
-use Rattle.conn_state.specs.Use.{has_id, is_acquirable, is_dialing, is_live, is_live_at, is_negotiated, is_outbound, is_pending, opening_phase, runs, agreed_sharing}
-use Rattle.govern_rules.specs.declared.order.Order.{Order}
-use Rattle.govern_rules.specs.declared.order.Order.TheVariants.{Ask, Forget, Promote, Release, Activate, Deactivate}
-use Rattle.hs_decide.specs.Agreement.{verdict_of}
-use Rattle.hs_decide.specs.Answers.{answer_of}
-use Rattle.hs_decide.specs.declared.verdict.Verdict.{Verdict}
-use Rattle.hs_decide.specs.declared.verdict.Verdict.TheVariants as verdict
-use Rattle.hs_message.specs.Reading.{message_of}
-use Rattle.hs_message.specs.declared.message.Message.{Message}
-use Rattle.hs_receive.specs.Receiving.{is_awaited, fits_side, kind_of}
-use Rattle.mux_segment.specs.declared.fault.CutFault.{CutFault}
-use Rattle.mux_segment.specs.declared.item.Item.{Item}
-use Rattle.net_base.specs.Address.{same_address}
-use Rattle.net_base.specs.Peer.{failed_peer}
-use Rattle.net_base.specs.declared.action.Action.TheVariants.{Close}
-use Rattle.net_base.specs.declared.action.CloseCause.{CloseCause}
-use Rattle.net_base.specs.declared.action.CloseCause.TheVariants.{Unused, Pruned, Overwritten, Refused, Query, Fault}
-use Rattle.net_base.specs.declared.action.FaultKind.{FaultKind}
-use Rattle.net_base.specs.declared.action.FaultKind.TheVariants.{Malformed, Protocol, HandshakeWait, ReplyWait}
-use Rattle.net_base.specs.declared.address.Addr.{Addr}
-use Rattle.net_base.specs.declared.connection.Cid.{Cid}
-use Rattle.net_base.specs.declared.connection.Facts.{Facts}
-use Rattle.net_base.specs.declared.connection.Phase.{Phase}
-use Rattle.net_base.specs.declared.connection.Phase.TheVariants.{Greeting, Negotiated}
-use Rattle.net_base.specs.declared.peer.Peer.{Peer}
-use Rattle.net_base.specs.declared.peer.Temp.TheVariants.{Cold, Warm, Hot}
-use Rattle.net_base.specs.declared.timer.Deadline.{Deadline}
-use Rattle.net_base.specs.declared.timer.Kind.{Kind}
-use Rattle.net_base.specs.declared.timer.Kind.TheVariants as kind
-use Rattle.peer_book.specs.Book.{entry_of, entered, entered_by, new_peer, most_peers}
-use Rattle.peer_book.specs.declared.added.Added.TheVariants.{New, Present, Full}
-use Rattle.remote_watch.specs.Watch.{watched}
-use Rattle.remote_watch.specs.declared.seen.Seen.{Seen}
-use Rattle.warm_messages.specs.Reading.{share_of}
-use Rattle.warm_messages.specs.declared.share.Share.{Share}
-use Rattle.warm_messages.specs.declared.share.Share.TheVariants as share
-use Rattle.machine.specs.Connections.{with_entry, without_entry, entry_turns, is_missed, lost, lost_by, ending, vanishes, closing_entry, grace_over, acquire, candidates_in, trim, release, awake, idle, dial, dial_opens, dial_fails}
-use Rattle.machine.specs.Deadlines.{fires_as}
-use Rattle.machine.specs.Effect.{Effect, shared, unused, tells, nothing_more, then_do, as_move, on_entry, on_connection, for_each}
-use Rattle.machine.specs.Events.{closes, dialed}
-use Rattle.machine.specs.Govern.{promoted_at, is_used_at, on_used, asks_peer, activates, deactivates, carries_out}
-use Rattle.machine.specs.Greeting.{role_of, judged, decided, greeted_by, greets}
-use Rattle.machine.specs.Machine.{Machine, Entry, Owed, counted_in, entry_at, live_entry_at}
-use Rattle.machine.specs.Own.{own_info}
-use Rattle.machine.specs.Peers.{peer_at, peer_changes, peer_fails, peer_becomes, peer_goes, peer_comes}
-use Rattle.machine.specs.Provided.{is_wanted_big, comes_big}
-use Rattle.machine.specs.Replies.{reply_on, owing, paid}
-use Rattle.machine.specs.Stream.{handled_in, handled, faulted}
-use Rattle.machine.specs.Talking.{stops_if, serves, begins, takes_requests, asked_as, shares_address, taken_of, takes_addresses, pays, brings, answered_as, talks}
+use Rattle.laws.proofs.Words.{cond_both, both_ways, false≢true, and_parts, and_from}
+use Rattle.laws.specs.Words.{option_map, unwrap_or, choice_of, is_candidate, is_counted, acquired, agreed_outbound, awakened, expired, released, has_id, is_acquirable, is_dialing, is_live, is_live_at, is_negotiated, is_outbound, is_pending, opening_phase, runs, agreed_sharing, Order, Ask, Forget, Promote, Release, Activate, Deactivate, verdict_of, answer_of, Verdict, message_of, Message, is_awaited, fits_side, kind_of, CutFault, Item, same_address, failed_peer, Close, CloseCause, Unused, Pruned, Overwritten, Refused, Query, Fault, FaultKind, Malformed, Protocol, HandshakeWait, ReplyWait, Addr, Cid, Facts, Phase, Greeting, Negotiated, Peer, Cold, Warm, Hot, Deadline, Kind, entry_of, entered, entered_by, new_peer, most_peers, New, Present, Full, watched, Seen, share_of, Share, with_entry, without_entry, entry_turns, is_missed, lost, lost_by, ending, vanishes, closing_entry, grace_over, acquire, candidates_in, trim, release, awake, idle, dial, dial_opens, dial_fails, fires_as, Effect, shared, unused, tells, nothing_more, then_do, as_move, on_entry, on_connection, for_each, closes, dialed, promoted_at, is_used_at, on_used, asks_peer, activates, deactivates, carries_out, role_of, judged, decided, greeted_by, greets, Machine, Entry, Owed, counted_in, entry_at, live_entry_at, own_info, peer_at, peer_changes, peer_fails, peer_becomes, peer_goes, peer_comes, is_wanted_big, comes_big, reply_on, owing, paid, handled_in, handled, faulted, stops_if, serves, begins, takes_requests, asked_as, shares_address, taken_of, takes_addresses, pays, brings, answered_as, talks}
+use Rattle.laws.specs.Words.verdict
+use Rattle.laws.specs.Words.kind
+use Rattle.laws.specs.Words.share
 use Rattle.laws.specs.Acts.{Act, fires_one, carries, ends_dial, handles_item, ends_stream, is_closed, makes_ordinary, provides, provides_big, does}
 use Rattle.laws.specs.AtMoves.{some_connection, is_failure, FailsWhere}
 use Rattle.laws.specs.BackOff.{IsRemembered, WhereBoth, AllRemembered, OthersRemembered, IsAsked, IsTaken, RemembersByOrder, RemembersBeside, Remembers, IsSpared, FailsOnly}

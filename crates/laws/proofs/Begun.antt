@@ -1,34 +1,9 @@
 -- On the connection that a part is about a wait begins, goes on and ends exactly where it is to.
 use Rattle.std.proofs.Common.{ℕ, ◌+◌, ◌%◌, ◌≡◌, Bool, true, false, not, ◌&&◌, ◌||◌, ◌==◌, if◌then◌else◌, find, Option, Some, None, Result, Ok, Err, refl, sym, ap, ◌∙◌, subst, eq-eqb, eqb-true, []}
-use Rattle.std.proofs.lemmas.Bool.{false≢true}
-use Rattle.conn_state.specs.Moves.{agreed_inbound, agreed_outbound, awakened, connected, expired, released}
-use Rattle.conn_state.specs.Use.{has_id, is_acquirable, is_dialing_phase, is_for_remote, is_greeting_phase, is_live, is_negotiated, runs, some_runs, with_responder, agreed_sharing}
-use Rattle.govern_rules.specs.declared.order.Order.{Order}
-use Rattle.govern_rules.specs.declared.order.Order.TheVariants.{Ask, Promote, Release, Activate}
-use Rattle.hs_decide.specs.Agreement.{verdict_of}
-use Rattle.hs_decide.specs.declared.verdict.Verdict.{Verdict}
-use Rattle.hs_decide.specs.declared.verdict.Verdict.TheVariants as verdict
-use Rattle.hs_message.specs.Reading.{message_of}
-use Rattle.hs_message.specs.declared.message.Message.{Message}
-use Rattle.mux_segment.specs.declared.item.Item.{Item}
-use Rattle.net_base.specs.declared.action.FaultKind.{FaultKind}
-use Rattle.net_base.specs.declared.connection.Agreed.{Agreed}
-use Rattle.net_base.specs.declared.connection.Grace.{Grace}
-use Rattle.net_base.specs.declared.connection.Grace.TheVariants.{Off, ForRemote, ForLocal}
-use Rattle.net_base.specs.declared.connection.Phase.{Phase}
-use Rattle.net_base.specs.declared.connection.Phase.TheVariants.{Dialing, Greeting, Negotiated}
-use Rattle.net_base.specs.declared.timer.Deadline.{Deadline}
-use Rattle.net_base.specs.declared.timer.Kind.{Kind}
-use Rattle.net_base.specs.declared.timer.Kind.TheVariants as kind
-use Rattle.remote_watch.specs.Watch.{watched}
-use Rattle.remote_watch.specs.declared.seen.Seen.{Seen}
-use Rattle.machine.specs.Connections.{closing_entry}
-use Rattle.machine.specs.Deadlines.{fires_as, fires}
-use Rattle.machine.specs.Effect.{on_entry}
-use Rattle.machine.specs.Greeting.{role_of}
-use Rattle.machine.specs.Machine.{Machine, Entry, entry_at}
-use Rattle.machine.specs.Own.{own_info}
-use Rattle.machine.specs.Replies.{owing, paid}
+use Rattle.laws.proofs.Words.{false≢true}
+use Rattle.laws.specs.Words.{agreed_inbound, agreed_outbound, awakened, connected, expired, released, has_id, is_acquirable, is_dialing_phase, is_for_remote, is_greeting_phase, is_live, is_negotiated, runs, some_runs, with_responder, agreed_sharing, Order, Ask, Promote, Release, Activate, verdict_of, Verdict, message_of, Message, Item, FaultKind, Agreed, Grace, Off, ForRemote, ForLocal, Phase, Dialing, Greeting, Negotiated, Deadline, Kind, watched, Seen, closing_entry, fires_as, fires, on_entry, role_of, Machine, Entry, entry_at, own_info, owing, paid}
+use Rattle.laws.specs.Words.verdict
+use Rattle.laws.specs.Words.kind
 use Rattle.laws.specs.Acts.{Act, fires_one, carries, ends_dial, stores, handles_item, ends_stream, is_closed, does}
 use Rattle.laws.specs.Begun.{is_kind, is_reply_on, begun_where, ended_where, wait_fired, wait_ordered, wait_agreed, wait_asked, wait_handled, wait_after, WhereStays, WaitsBegin}
 use Rattle.laws.specs.Moments.{IsOverAfter}

@@ -1,15 +1,8 @@
 -- What holds of the book of peers, through each change of it.
 use Rattle.std.proofs.Common.{◌+◌, ◌≤◌, ◌≡◌, Bool, false, cond, nat_le, List, [], ◌∷◌, length, filter, Some, is_some, if◌then◌else◌, refl, subst, arith, leb-false}
-use Rattle.std.specs.List.{AllByRecursion}
-use Rattle.std.proofs.lemmas.Bool.{cond_both}
-use Rattle.std.proofs.lemmas.List.{length-map}
-use Rattle.net_base.specs.Address.{same_address, address_below}
-use Rattle.net_base.specs.declared.address.Addr.{Addr}
-use Rattle.net_base.specs.declared.peer.Peer.{Peer}
-use Rattle.peer_book.specs.Book.{has_address, peer_at, with_peer, with_new, entered_by, entered, most_peers}
-use Rattle.peer_book.specs.declared.added.Added.TheVariants.{New, Present, Full}
-use Rattle.peer_book.proofs.Edits.{filter-within}
-use Rattle.machine.specs.Machine.{Machine}
+use Rattle.laws.proofs.Words.{cond_both, length-map, filter-within}
+use Rattle.laws.specs.Words.{AllByRecursion, same_address, address_below, Addr, Peer, has_address, with_peer, with_new, entered_by, entered, most_peers, New, Present, Full, Machine}
+use Rattle.peer_book.specs.Book.{peer_at}
 use Rattle.laws.specs.Steady.{ArePeersApart, IsFormed}
 use Rattle.laws.proofs.Addresses.{same_address-true}
 use Rattle.laws.proofs.PeersApart.{with_peer-others, with_peer-apart, put_in-others, entered-apart, others-filter, filter-apart}

@@ -1,31 +1,7 @@
 -- Each order does what it says, the book changes only where it is to, and accepting pauses where it must.
 use Rattle.std.proofs.Common.{ℕ, ◌+◌, ◌%◌, ◌≡◌, Bool, true, false, ◌&&◌, nat_le, nat_lt, if◌then◌else◌, [], ◌∷◌, find, get_or, set, Option, Some, None, is_some, refl, sym, ap, ◌∙◌, subst, arith}
-use Rattle.std.specs.Option.{option_map, unwrap_or}
-use Rattle.std.proofs.lemmas.Bool.{cond_both, and_parts, and_from}
-use Rattle.std.proofs.lemmas.List.Elements.{All-weaker}
-use Rattle.accept_gate.specs.Gate.{pause_of}
-use Rattle.accept_gate.specs.Prune.{choice_of}
-use Rattle.conn_state.specs.Moves.{acquired, released}
-use Rattle.conn_state.specs.Use.{has_id, is_live, is_live_at}
-use Rattle.govern_rules.specs.declared.order.Order.{Order}
-use Rattle.govern_rules.specs.declared.order.Order.TheVariants.{Ask, Forget, Promote, Release, Activate, Deactivate}
-use Rattle.net_base.specs.declared.address.Addr.{Addr}
-use Rattle.net_base.specs.declared.peer.Peer.{Peer}
-use Rattle.net_base.specs.declared.peer.Temp.TheVariants.{Cold, Warm}
-use Rattle.net_base.specs.Address.{same_address}
-use Rattle.net_base.specs.Peer.{failed_peer}
-use Rattle.net_base.specs.declared.connection.Cid.{Cid}
-use Rattle.net_base.specs.declared.connection.Facts.{Facts}
-use Rattle.net_base.specs.declared.action.Action.TheVariants.{AskRoots, Pause}
-use Rattle.net_base.specs.declared.action.CloseCause.TheVariants.{Pruned, Overwritten}
-use Rattle.root_groups.specs.RootAsk.{may_ask, asked}
-use Rattle.machine.specs.Connections.{with_entry, without_entry, entry_turns, lost, ending, candidates_in, acquire, trim, release}
-use Rattle.machine.specs.Effect.{nothing_more, tells, then_do, on_entry, on_connection}
-use Rattle.machine.specs.Events.{admitted, peer_connects, closes}
-use Rattle.machine.specs.Govern.{promote, is_used_at, on_used, asks_peer, deactivates, carries_out, asks_roots}
-use Rattle.machine.specs.Machine.{Machine, Entry, counted_in, entry_at, live_entry_at}
-use Rattle.machine.specs.Peers.{peer_at, turns_at, peer_changes, peer_fails, peer_becomes, peer_goes}
-use Rattle.machine.specs.Replies.{owing}
+use Rattle.laws.proofs.Words.{cond_both, and_parts, and_from, All-weaker}
+use Rattle.laws.specs.Words.{option_map, unwrap_or, pause_of, choice_of, acquired, released, has_id, is_live, is_live_at, Order, Ask, Forget, Promote, Release, Activate, Deactivate, Addr, Peer, Cold, Warm, same_address, failed_peer, Cid, Facts, AskRoots, Pause, Pruned, Overwritten, may_ask, asked, with_entry, without_entry, entry_turns, lost, ending, candidates_in, acquire, trim, release, nothing_more, tells, then_do, on_entry, on_connection, admitted, peer_connects, closes, promote, is_used_at, on_used, asks_peer, deactivates, carries_out, asks_roots, Machine, Entry, counted_in, entry_at, live_entry_at, peer_at, turns_at, peer_changes, peer_fails, peer_becomes, peer_goes, owing}
 use Rattle.laws.specs.AtMoves.{is_missed, FailsWhere, OnEntry, is_known}
 use Rattle.laws.specs.CarriedOut.{WhereLive, OnPeer, IsReused, Reuses, LeavesAlone, IsUsedByNobody, Comes, IsCarriedOut, TreatsBook, pauses_by, pauses_in, pauses_due, PausesRight}
 use Rattle.laws.specs.Sound.{IsOrderly}

@@ -1,6 +1,6 @@
 -- A split by cases that keeps what is split on.
 use Rattle.std.proofs.Common.{◌≡◌, Bool, true, false, Option, Some, None, refl, ap}
-use Rattle.std.specs.Option.{unwrap_or}
+use Rattle.laws.specs.Words.{unwrap_or}
 
 pub by_bool : (b : Bool) (P : Bool → Type 0) → (b ≡ true → P true) → (b ≡ false → P false) → P b
 by_bool true P holds fails = holds refl

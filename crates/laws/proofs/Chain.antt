@@ -1,28 +1,7 @@
 -- An event is its parts, one after the other.
 use Rattle.std.proofs.Common.{ℕ, zero, suc, ◌||◌, ◌≡◌, Bool, true, false, nat_le, if◌then◌else◌, List, [], ◌∷◌, ◌++◌, map, length, Option, Some, None, refl, sym, ap, ◌∙◌}
-use Rattle.std.proofs.lemmas.List.{append-nil, append_assoc}
-use Rattle.conn_state.specs.Use.{is_greeting, is_negotiated}
-use Rattle.govern_rules.specs.declared.order.Order.{Order}
-use Rattle.mux_segment.specs.Stream.{FedBy}
-use Rattle.net_base.specs.declared.action.Action.{Action}
-use Rattle.net_base.specs.declared.address.Addr.{Addr}
-use Rattle.net_base.specs.declared.connection.Cid.{Cid}
-use Rattle.net_base.specs.declared.event.Event.{Event}
-use Rattle.net_base.specs.declared.event.Event.TheVariants.{Now, Govern, Accepted, Dialed, Bytes, Closed, Aims, Locals, Roots, BigAims, Bigs}
-use Rattle.net_base.specs.declared.event.Group.{Group}
-use Rattle.net_base.specs.declared.event.RootAnswer.{RootAnswer}
-use Rattle.net_base.specs.declared.event.RootAnswer.TheVariants.{Found, Failed}
-use Rattle.root_groups.specs.Cleaned.{cleaned, members_of}
-use Rattle.root_groups.specs.RootAsk.{awaits, publics_of, found}
-use Rattle.machine.specs.Deadlines.{deadlines, due, fires, fires_some, fire_due, fire_all}
-use Rattle.machine.specs.Effect.{Effect, Move, nothing_more, on_entry, then_do, for_each}
-use Rattle.machine.specs.Events.{clock_shows}
-use Rattle.machine.specs.Govern.{carries_out, asks_roots, ordinary_rules, big_rules, rules, govern}
-use Rattle.machine.specs.Machine.{Machine, Entry, entry_at}
-use Rattle.machine.specs.Peers.{peer_is_ordinary}
-use Rattle.machine.specs.Provided.{comes_ordinary, comes_big, roots_say}
-use Rattle.machine.specs.Stream.{handles, fed_with, feeds, comes_in}
-use Rattle.machine.specs.Step.{step}
+use Rattle.laws.proofs.Words.{append-nil, append_assoc}
+use Rattle.laws.specs.Words.{is_greeting, is_negotiated, Order, FedBy, Action, Addr, Cid, Event, Now, Govern, Accepted, Dialed, Bytes, Closed, Aims, Locals, Roots, BigAims, Bigs, Group, RootAnswer, Found, Failed, cleaned, members_of, awaits, publics_of, found, deadlines, due, fires, fires_some, fire_due, fire_all, Effect, Move, nothing_more, on_entry, then_do, for_each, clock_shows, carries_out, asks_roots, ordinary_rules, big_rules, rules, govern, Machine, Entry, entry_at, peer_is_ordinary, comes_ordinary, comes_big, roots_say, handles, fed_with, feeds, comes_in, step}
 use Rattle.laws.specs.Acts.{Act, fires_one, carries, connects, ends_dial, stores, handles_item, ends_stream, is_closed, sets_targets, sets_big_targets, makes_ordinary, provides, provides_big, does, fired_from, fired, orders_of, acts_at_moment, acts_fed, acts_of_bytes, acts_of_groups, acts_of_answer, acts}
 use Rattle.laws.specs.AtMoves.{fed_on}
 use Rattle.laws.proofs.Cases.{by_bool, by_option}

@@ -1,15 +1,8 @@
 -- The peers that orders go to: no address twice, and of a group members only.
 use Rattle.std.proofs.Common.{ℕ, ◌≡◌, Bool, true, false, ◌&&◌, ◌||◌, List, [], ◌∷◌, ◌++◌, map, filter, flat_map, Some, refl, sym, ap, subst}
-use Rattle.std.specs.List.{AllByRecursion}
-use Rattle.std.proofs.lemmas.Bool.{both_ways, and_parts, false_from_ne_true, or_right, or_from}
-use Rattle.net_base.specs.Address.{same_address}
-use Rattle.net_base.specs.declared.address.Addr.{Addr}
-use Rattle.net_base.specs.declared.event.Group.{Group}
-use Rattle.net_base.specs.declared.peer.Peer.{Peer}
-use Rattle.peer_book.specs.Book.{is_of, peer_at}
-use Rattle.root_groups.specs.Cleaned.{is_listed, members_of}
-use Rattle.govern_rules.specs.Orders.{picks_of}
-use Rattle.govern_rules.specs.declared.order.Order.{Order}
+use Rattle.laws.proofs.Words.{both_ways, and_parts, false_from_ne_true, or_right, or_from}
+use Rattle.laws.specs.Words.{AllByRecursion, same_address, Addr, Group, Peer, is_of, is_listed, members_of, picks_of, Order, is_member_and}
+use Rattle.peer_book.specs.Book.{peer_at}
 use Rattle.laws.specs.Steady.{ArePeersApart, AreApart}
 use Rattle.laws.proofs.Addresses.{same_address-true}
 use Rattle.laws.proofs.GroupsApart.{append-apart}
@@ -17,7 +10,6 @@ use Rattle.laws.proofs.Lists.{all-weaker, all-appended, all-both}
 use Rattle.laws.proofs.PeersApart.{all-found, same_turned, filter-apart}
 use Rattle.laws.proofs.Picks.{filter-all, filter-passing, picks-apart, picks-all}
 use Rattle.laws.proofs.Cases.{by_bool}
-use Rattle.govern_rules.specs.Rules.{is_member_and}
 
 -- ---- of all peers
 

@@ -1,26 +1,8 @@
 -- The moves of the clock: a reply is late, a grace is over, a handshake was not done in time, a time-wait is over.
 use Rattle.std.proofs.Common.{ℕ, zero, suc, ◌≡◌, ◌≤◌, ◌<◌, arith, Bool, true, false, ◌&&◌, ◌||◌, ◌==◌, if◌then◌else◌, [], ◌∷◌, List, length, Some, All, Contains, refl, sym, ap, ◌∙◌, subst, eq-eqb, leb-true}
-use Rattle.std.proofs.lemmas.Bool.{cond_both, both_ways, false≢true, and_right, or_from}
-use Rattle.std.proofs.lemmas.List.Elements.{All-nil, All-weaker, All-contains, All-contains_itself}
-use Rattle.net_base.specs.declared.action.Action.TheVariants.{Close}
-use Rattle.net_base.specs.declared.action.CloseCause.TheVariants.{Unused, Fault}
-use Rattle.net_base.specs.declared.action.FaultKind.TheVariants.{HandshakeWait, ReplyWait}
-use Rattle.net_base.specs.declared.connection.Facts.{Facts}
-use Rattle.net_base.specs.declared.connection.Grace.{Grace}
-use Rattle.net_base.specs.declared.connection.Grace.TheVariants.{Off, ForRemote, ForLocal}
-use Rattle.net_base.specs.declared.connection.Phase.{Phase}
-use Rattle.net_base.specs.declared.connection.Phase.TheVariants.{Greeting, Closing}
-use Rattle.net_base.specs.declared.timer.Deadline.{Deadline}
-use Rattle.net_base.specs.declared.timer.Kind.{Kind}
-use Rattle.net_base.specs.declared.timer.Kind.TheVariants.{Handshake, Grace as GraceKind, TimeWait, Reply2, Reply8, Reply10}
-use Rattle.conn_state.specs.Moves.{expired}
-use Rattle.conn_state.specs.Use.{is_live, live_phase, is_pending, opening_phase, is_greeting, is_greeting_phase, is_negotiated, is_outbound, some_runs}
-use Rattle.machine.specs.Machine.{Machine, Entry, Owed}
-use Rattle.machine.specs.Effect.{Effect, unused, gone, tells, then_do, as_move, on_entry}
-use Rattle.machine.specs.Peers.{peer_at}
-use Rattle.machine.specs.Connections.{entry_turns, entry_goes, closing_entry, grace_over, wait_over}
-use Rattle.machine.specs.Deadlines.{deadlines_of, phase_deadlines, grace_deadlines, reply_deadline, due, fires_as, fires, fires_some, fire_due}
-use Rattle.timer_queue.specs.Timers.{timer}
+use Rattle.laws.proofs.Words.{cond_both, both_ways, false≢true, and_right, or_from, All-nil, All-weaker, All-contains, All-contains_itself}
+use Rattle.laws.specs.Words.{Close, Unused, Fault, HandshakeWait, ReplyWait, Facts, Grace, Off, ForRemote, ForLocal, Phase, Greeting, Closing, Deadline, Kind, Handshake, TimeWait, Reply2, Reply8, Reply10, expired, is_live, live_phase, is_pending, opening_phase, is_greeting, is_greeting_phase, is_negotiated, is_outbound, some_runs, Machine, Entry, Owed, Effect, unused, gone, tells, then_do, as_move, on_entry, peer_at, entry_turns, entry_goes, closing_entry, grace_over, wait_over, deadlines_of, phase_deadlines, grace_deadlines, reply_deadline, due, fires_as, fires, fires_some, fire_due, timer}
+use Rattle.net_base.specs.declared.timer.Kind.TheVariants.{Grace as GraceKind}
 use Rattle.laws.specs.AtMoves.{is_missed, failed_where, FailsWhere, IsPast, IsOver, IsLawful}
 use Rattle.laws.specs.Sound.{IsOrderly}
 use Rattle.laws.specs.Stages.{stage_of_phase, stage_at}

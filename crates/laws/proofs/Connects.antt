@@ -1,17 +1,8 @@
 -- What comes of it where a peer connects, where a dial ends, and where the other side closes.
 use Rattle.std.proofs.Common.{ℕ, ◌≡◌, Bool, true, false, nat_le, if◌then◌else◌, Some, None, eqb-true}
-use Rattle.std.proofs.lemmas.Bool.{cond_both}
-use Rattle.conn_state.specs.Use.{has_id, is_dialing, is_live, is_pending}
-use Rattle.net_base.specs.Address.{same_address, address_below}
-use Rattle.net_base.specs.declared.action.Away.{Away}
-use Rattle.net_base.specs.declared.action.Away.TheVariants.{Full, OwnAddr, Crossed, Present}
-use Rattle.net_base.specs.declared.action.CloseCause.TheVariants.{Overwritten}
-use Rattle.net_base.specs.declared.address.Addr.{Addr}
-use Rattle.net_base.specs.declared.connection.Cid.{Cid}
-use Rattle.machine.specs.Connections.{ending, vanishes, dial_opens, dial_fails}
-use Rattle.machine.specs.Effect.{Effect, nothing_more, then_do, on_entry}
-use Rattle.machine.specs.Events.{turned_away, admitted, crossed, accepted_beside, peer_connects, closes, peer_closes, dialed, dial_ends}
-use Rattle.machine.specs.Machine.{Machine, Entry, counted_in, entry_at, live_entry_at}
+use Rattle.laws.proofs.Words.{cond_both}
+use Rattle.laws.specs.Words.{has_id, is_dialing, is_live, is_pending, same_address, address_below, Away, OwnAddr, Crossed, Overwritten, Addr, Cid, ending, vanishes, dial_opens, dial_fails, Effect, nothing_more, then_do, on_entry, turned_away, admitted, crossed, accepted_beside, peer_connects, closes, peer_closes, dialed, dial_ends, Machine, Entry, counted_in, entry_at, live_entry_at}
+use Rattle.net_base.specs.declared.action.Away.TheVariants.{Full, Present}
 use Rattle.laws.proofs.Cases.{by_option}
 use Rattle.laws.proofs.Lists.{StandsAt, find_some}
 

@@ -1,17 +1,8 @@
 -- What a connection adds to the counts of the record: whether the limits count it, and how many of its deadlines
 -- are late.
 use Rattle.std.proofs.Common.{ℕ, ◌+◌, ◌≤◌, ◌≡◌, Bool, true, false, cond, ◌++◌, map, sum_by, count_by, nat_le, ◌&&◌, ◌||◌, not, refl, ap, ◌∙◌, arith}
-use Rattle.std.proofs.lemmas.Bool.{lt-leb}
-use Rattle.std.proofs.lemmas.List.Sums.{sum_by-append}
-use Rattle.net_base.specs.declared.connection.Facts.{Facts}
-use Rattle.net_base.specs.declared.connection.Phase.TheVariants.{Closing}
-use Rattle.net_base.specs.declared.timer.Deadline.{Deadline}
-use Rattle.conn_state.specs.Counted.{is_counted}
-use Rattle.conn_state.specs.Moves.{expired, closing}
-use Rattle.conn_state.specs.Use.{is_outbound, is_greeting, is_negotiated, some_runs, is_for_remote}
-use Rattle.machine.specs.Machine.{Machine, Entry, counted_in}
-use Rattle.machine.specs.Connections.{closing_entry}
-use Rattle.machine.specs.Deadlines.{deadlines, deadlines_of, phase_deadlines, grace_deadlines, reply_deadline}
+use Rattle.laws.proofs.Words.{lt-leb, sum_by-append}
+use Rattle.laws.specs.Words.{Facts, Closing, Deadline, is_counted, expired, closing, is_outbound, is_greeting, is_negotiated, some_runs, is_for_remote, Machine, Entry, counted_in, closing_entry, deadlines, deadlines_of, phase_deadlines, grace_deadlines, reply_deadline}
 use Rattle.laws.proofs.Lists.{sum_by-map, sum_by-flat_map}
 
 -- 1 where the limits count it

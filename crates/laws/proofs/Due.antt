@@ -1,66 +1,15 @@
 -- Whom each part of an event ends: whom it must, and nobody else but by pruning; and whom it prunes.
 use Rattle.std.proofs.Common.{ℕ, ◌+◌, ◌%◌, ◌≡◌, Bool, true, false, not, ◌&&◌, ◌==◌, nat_le, if◌then◌else◌, List, [], ◌∷◌, ◌++◌, map, filter, find, Option, Some, None, Result, Ok, Err, refl, sym, ap, ◌∙◌, subst}
-use Rattle.std.specs.List.{AllByRecursion}
-use Rattle.std.specs.Option.{unwrap_or}
-use Rattle.std.proofs.lemmas.Bool.{cond_both}
-use Rattle.std.proofs.lemmas.Grind.{flat_map-append}
-use Rattle.std.proofs.lemmas.List.Elements.{filter-append}
-use Rattle.accept_gate.specs.Prune.{choice_of}
-use Rattle.conn_state.specs.Use.{is_acquirable, is_outbound_by, is_dialing, is_live, is_pending, runs, agreed_sharing}
-use Rattle.govern_rules.specs.declared.order.Order.{Order}
-use Rattle.govern_rules.specs.declared.order.Order.TheVariants.{Ask, Forget, Promote, Release, Activate, Deactivate}
-use Rattle.hs_decide.specs.Agreement.{verdict_of}
-use Rattle.hs_decide.specs.Answers.{answer_of}
-use Rattle.hs_decide.specs.declared.role.Role.{Role}
-use Rattle.hs_decide.specs.declared.role.Role.TheVariants.{Acceptor, Dialer}
-use Rattle.hs_decide.specs.declared.verdict.Verdict.{Verdict}
-use Rattle.hs_decide.specs.declared.verdict.Verdict.TheVariants as verdict
-use Rattle.hs_message.specs.Reading.{message_of}
-use Rattle.hs_message.specs.declared.message.Message.{Message}
-use Rattle.hs_message.specs.declared.message.Message.TheVariants as message
-use Rattle.mux_segment.specs.declared.fault.CutFault.{CutFault}
-use Rattle.mux_segment.specs.declared.fault.CutFault.TheVariants as cut
-use Rattle.mux_segment.specs.declared.item.Item.{Item}
-use Rattle.net_base.specs.Address.{same_address, address_below}
-use Rattle.net_base.specs.declared.action.CloseCause.{CloseCause}
-use Rattle.net_base.specs.declared.action.CloseCause.TheVariants as cause
-use Rattle.net_base.specs.declared.action.Away.TheVariants.{Full, OwnAddr, Crossed, Present}
-use Rattle.net_base.specs.declared.action.FaultKind.{FaultKind}
-use Rattle.net_base.specs.declared.action.FaultKind.TheVariants.{Malformed, Protocol, HandshakeWait, ReplyWait}
-use Rattle.net_base.specs.declared.action.Action.TheVariants.{Close, AskRoots}
-use Rattle.conn_state.specs.Moves.{expired, acquired, awakened, released}
-use Rattle.net_base.specs.declared.address.Addr.{Addr}
-use Rattle.net_base.specs.declared.connection.Cid.{Cid}
-use Rattle.net_base.specs.declared.connection.Provenance.{Provenance}
-use Rattle.net_base.specs.declared.connection.Provenance.TheVariants.{FromRemote, FromLocal}
-use Rattle.net_base.specs.declared.connection.Phase.{Phase}
-use Rattle.net_base.specs.declared.connection.Phase.TheVariants.{Greeting, Negotiated}
-use Rattle.net_base.specs.declared.peer.Temp.TheVariants.{Cold, Warm, Hot}
-use Rattle.net_base.specs.declared.timer.Kind.{Kind}
-use Rattle.net_base.specs.declared.timer.Kind.TheVariants.{Handshake, Grace, TimeWait}
-use Rattle.remote_watch.specs.Watch.{watched}
-use Rattle.remote_watch.specs.declared.seen.Seen.{Seen}
-use Rattle.root_groups.specs.RootAsk.{may_ask, asked}
-use Rattle.warm_messages.specs.First.{item_number_of}
-use Rattle.warm_messages.specs.Reading.{alive_of, share_of}
-use Rattle.warm_messages.specs.declared.alive.Alive.{Alive}
-use Rattle.warm_messages.specs.declared.alive.Alive.TheVariants as alive
-use Rattle.warm_messages.specs.declared.share.Share.{Share}
-use Rattle.warm_messages.specs.declared.share.Share.TheVariants as share
-use Rattle.hs_receive.specs.Receiving.{is_awaited, fits_side, kind_of}
-use Rattle.machine.specs.Connections.{with_entry, without_entry, entry_turns, ending, vanishes, acquire, candidates_in, trim, says_done, release, awake, dial, dial_opens, dial_fails, closing_entry}
-use Rattle.machine.specs.Deadlines.{fires_as}
-use Rattle.machine.specs.Effect.{Effect, Happened, Move, promoted, activated, shared, ended, unused, gone, on_entry, on_connection, nothing_more, tells, then_do, as_move, for_each}
-use Rattle.machine.specs.Events.{turned_away, admitted, accepted_beside, peer_connects, closes, dialed}
-use Rattle.machine.specs.Govern.{promoted_at, promote, is_used_at, on_used, asks_peer, activates, activate, deactivates, carries_out, asks_roots}
-use Rattle.machine.specs.Greeting.{role_of, sends_answer, judged, decided, greeted_by, greets}
-use Rattle.machine.specs.Machine.{Machine, Entry, Owed, counted_in, entry_at, live_entry_at}
-use Rattle.machine.specs.Own.{own_info}
-use Rattle.machine.specs.Peers.{peer_at, peer_becomes, peer_is_ordinary, peer_comes}
-use Rattle.machine.specs.Provided.{comes_ordinary, is_wanted_big, comes_big}
-use Rattle.machine.specs.Replies.{reply_on, owing, paid}
-use Rattle.machine.specs.Stream.{handled_in, handled, faulted}
-use Rattle.machine.specs.Talking.{replies, stops_if, serves, begins, takes_requests, asked_as, shares_address, taken_of, takes_addresses, pays_chain_sync, pays_keep_alive, pays_peer_sharing, pays, brings, answered_as, talks}
+use Rattle.laws.proofs.Words.{cond_both, flat_map-append, filter-append}
+use Rattle.laws.specs.Words.{AllByRecursion, unwrap_or, choice_of, is_acquirable, is_outbound_by, is_dialing, is_live, is_pending, runs, agreed_sharing, Order, Ask, Forget, Promote, Release, Activate, Deactivate, verdict_of, answer_of, Role, Acceptor, Dialer, Verdict, message_of, Message, CutFault, Item, same_address, address_below, CloseCause, OwnAddr, Crossed, FaultKind, Malformed, Protocol, HandshakeWait, ReplyWait, Close, AskRoots, expired, acquired, awakened, released, Addr, Cid, Provenance, FromRemote, FromLocal, Phase, Greeting, Negotiated, Cold, Warm, Hot, Kind, Handshake, TimeWait, watched, Seen, may_ask, asked, item_number_of, alive_of, share_of, Alive, Share, is_awaited, fits_side, kind_of, with_entry, without_entry, entry_turns, ending, vanishes, acquire, candidates_in, trim, says_done, release, awake, dial, dial_opens, dial_fails, closing_entry, fires_as, Effect, Happened, Move, promoted, activated, shared, ended, unused, gone, on_entry, on_connection, nothing_more, tells, then_do, as_move, for_each, turned_away, admitted, accepted_beside, peer_connects, closes, dialed, promoted_at, promote, is_used_at, on_used, asks_peer, activates, activate, deactivates, carries_out, asks_roots, role_of, sends_answer, judged, decided, greeted_by, greets, Machine, Entry, Owed, counted_in, entry_at, live_entry_at, own_info, peer_at, peer_becomes, peer_is_ordinary, peer_comes, comes_ordinary, is_wanted_big, comes_big, reply_on, owing, paid, handled_in, handled, faulted, replies, stops_if, serves, begins, takes_requests, asked_as, shares_address, taken_of, takes_addresses, pays_chain_sync, pays_keep_alive, pays_peer_sharing, pays, brings, answered_as, talks}
+use Rattle.laws.specs.Words.verdict
+use Rattle.laws.specs.Words.message
+use Rattle.laws.specs.Words.cut
+use Rattle.laws.specs.Words.cause
+use Rattle.net_base.specs.declared.action.Away.TheVariants.{Full, Present}
+use Rattle.net_base.specs.declared.timer.Kind.TheVariants.{Grace}
+use Rattle.laws.specs.Words.alive
+use Rattle.laws.specs.Words.share
 use Rattle.laws.specs.Acts.{Act, fires_one, asks_for_roots, carries, connects, ends_dial, handles_item, ends_stream, is_closed, makes_ordinary, provides, provides_big, does}
 use Rattle.laws.specs.Ends.{protocol_fault, causes_of_verdict, offered, causes_of_message, causes_to_acceptor, side_of, causes_to_dialer, causes_of_greeting, fault_of_request, is_intersection, is_cookie, are_so_many, is_answer, fault_of_answer, fault_of, causes_of_fault, causes_of_item, kind_of_cut, causes_of_cut, causes_of_kind, causes_of_crossing, ends_on, ends_due, is_pruned, but_pruned, pruned_in}
 use Rattle.laws.specs.CarriedOut.{IsOneMove}

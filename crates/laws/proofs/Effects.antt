@@ -1,19 +1,7 @@
 -- What each move adds to the counts of the record: counted connections and late deadlines.
 use Rattle.std.proofs.Common.{ℕ, ◌+◌, ◌≤◌, ◌≡◌, Bool, true, false, cond, not, ◌&&◌, ◌||◌, ◌==◌, nat_le, nat_lt, List, [], ◌∷◌, ◌++◌, map, filter, count_by, refl, ap, ◌∙◌, arith}
-use Rattle.std.proofs.lemmas.Bool.{cond_both, both_ways, false≢true, lt-leb}
-use Rattle.std.proofs.lemmas.List.{map-append}
-use Rattle.std.proofs.lemmas.List.Sums.{sum_by-append, sum_by-cons}
-use Rattle.net_base.specs.declared.connection.Agreed.{Agreed}
-use Rattle.net_base.specs.declared.connection.Cid.{Cid}
-use Rattle.net_base.specs.declared.connection.Facts.{Facts}
-use Rattle.net_base.specs.declared.connection.Grace.TheVariants.{ForRemote, ForLocal}
-use Rattle.net_base.specs.declared.connection.Phase.TheVariants.{Greeting}
-use Rattle.conn_state.specs.Counted.{is_counted}
-use Rattle.conn_state.specs.Moves.{connected, agreed_outbound, acquired}
-use Rattle.conn_state.specs.Use.{is_outbound, is_greeting, is_negotiated, is_for_remote, some_runs}
-use Rattle.machine.specs.Deadlines.{phase_deadlines, grace_deadlines, reply_deadline}
-use Rattle.machine.specs.Machine.{Entry, Owed}
-use Rattle.machine.specs.Replies.{with_reply, without_reply}
+use Rattle.laws.proofs.Words.{cond_both, both_ways, false≢true, lt-leb, map-append, sum_by-append, sum_by-cons}
+use Rattle.laws.specs.Words.{Agreed, Cid, Facts, ForRemote, ForLocal, Greeting, is_counted, connected, agreed_outbound, acquired, is_outbound, is_greeting, is_negotiated, is_for_remote, some_runs, phase_deadlines, grace_deadlines, reply_deadline, Entry, Owed, with_reply, without_reply}
 use Rattle.laws.proofs.Counts.{one_if_counted, is_late, late_of, late_of-parts, grace_late_of}
 use Rattle.laws.proofs.Cases.{by_bool}
 

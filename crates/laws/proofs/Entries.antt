@@ -1,12 +1,8 @@
 -- A connection of the record changes, goes or comes.
 use Rattle.std.proofs.Common.{ℕ, ◌+◌, ◌≡◌, true, List, [], ◌∷◌, ◌++◌, get_or, set, remove, All, AllPairs, sum_by, IsTrue, refl, sym, ap, ◌∙◌, subst, arith, eqb-true, ne_eqb, eq-eqb}
-use Rattle.std.proofs.lemmas.List.Elements.{All-set, All-push, All-filter, All-weaker}
-use Rattle.std.proofs.lemmas.List.Kept.{AllPairs-filter}
-use Rattle.std.proofs.lemmas.List.Quantifiers.{all_pairs_push}
+use Rattle.laws.proofs.Words.{All-set, All-push, All-filter, All-weaker, AllPairs-filter, all_pairs_push}
+use Rattle.laws.specs.Words.{has_id, is_live, Machine, Entry, with_entry, without_entry}
 use Rattle.std.specs.Prelude.{not}
-use Rattle.conn_state.specs.Use.{has_id, is_live}
-use Rattle.machine.specs.Machine.{Machine, Entry}
-use Rattle.machine.specs.Connections.{with_entry, without_entry}
 use Rattle.laws.specs.Laws.{DifferInAddress}
 use Rattle.laws.specs.Sound.{HasLowerId, HasGivenId, IsOrderly}
 use Rattle.laws.proofs.Lists.{StandsAt, All-stands, OnePasses, AllPairs-set, replaced_at, without_at, sum_by-replaced, sum_by-without}

@@ -1,35 +1,7 @@
 -- The moves of each event.
 use Rattle.std.proofs.Common.{ℕ, ◌+◌, ◌≡◌, ◌≤◌, arith, Bool, true, false, ◌&&◌, ◌||◌, ◌==◌, nat_le, nat_lt, List, [], ◌∷◌, ◌++◌, length, find, Some, refl, sym, ap, ◌∙◌, eqb-true, eq-eqb}
-use Rattle.std.specs.List.{AllByRecursion}
-use Rattle.std.proofs.lemmas.Bool.{cond_both, both_ways, false≢true, and_from, or_left, or_right}
-use Rattle.conn_state.specs.Moves.{connected}
-use Rattle.conn_state.specs.Use.{has_id, is_live_at, is_negotiated, is_outbound, is_pending, is_dialing, is_dialing_phase, opening_phase}
-use Rattle.net_base.specs.declared.action.Action.TheVariants.{Admit, Pause}
-use Rattle.accept_gate.specs.Gate.{pause_of}
-use Rattle.net_base.specs.declared.connection.Phase.{Phase}
-use Rattle.net_base.specs.declared.connection.Phase.TheVariants.{Negotiated, Closing}
-use Rattle.net_base.specs.declared.action.CloseCause.TheVariants.{Overwritten}
-use Rattle.net_base.specs.declared.address.Addr.{Addr}
-use Rattle.net_base.specs.declared.connection.Cid.{Cid}
-use Rattle.net_base.specs.declared.event.Event.{Event}
-use Rattle.net_base.specs.declared.event.Event.TheVariants.{Now, Govern, Accepted, Dialed, Bytes, Closed, Locals, Roots, Bigs}
-use Rattle.net_base.specs.declared.event.Group.{Group}
-use Rattle.net_base.specs.declared.event.Job.{Job}
-use Rattle.net_base.specs.declared.event.RootAnswer.{RootAnswer}
-use Rattle.net_base.specs.declared.event.RootAnswer.TheVariants.{Found, Failed}
-use Rattle.root_groups.specs.Cleaned.{cleaned, members_of}
-use Rattle.root_groups.specs.RootAsk.{awaits, publics_of, found}
-use Rattle.hs_decide.specs.Answers.{proposal_of}
-use Rattle.machine.specs.Machine.{Machine, Entry, counted_in}
-use Rattle.machine.specs.Effect.{Effect, Move, shared, gone, nothing_more, tells, as_move, for_each}
-use Rattle.machine.specs.Own.{own_info}
-use Rattle.machine.specs.Peers.{peer_comes, peer_is_ordinary, peer_at}
-use Rattle.machine.specs.Replies.{sends_as_initiator}
-use Rattle.machine.specs.Connections.{with_entry, without_entry, entry_goes, entry_comes, lost, ending, vanishes, dial_opens, dial_fails}
-use Rattle.machine.specs.Deadlines.{deadlines, fire_all}
-use Rattle.machine.specs.Events.{clock_shows, turned_away, pause_notice, admitted, peer_connects, peer_closes, dial_ends}
-use Rattle.machine.specs.Provided.{comes_ordinary, locals_are, is_wanted_big, comes_big, bigs_are, roots_say, roots_answer}
-use Rattle.machine.specs.Step.{step}
+use Rattle.laws.proofs.Words.{cond_both, both_ways, false≢true, and_from, or_left, or_right}
+use Rattle.laws.specs.Words.{AllByRecursion, connected, has_id, is_live_at, is_negotiated, is_outbound, is_pending, is_dialing, is_dialing_phase, opening_phase, Admit, Pause, pause_of, Phase, Negotiated, Closing, Overwritten, Addr, Cid, Event, Now, Govern, Accepted, Dialed, Bytes, Closed, Locals, Roots, Bigs, Group, Job, RootAnswer, Found, Failed, cleaned, members_of, awaits, publics_of, found, proposal_of, Machine, Entry, counted_in, Effect, Move, shared, gone, nothing_more, tells, as_move, for_each, own_info, peer_comes, peer_is_ordinary, peer_at, sends_as_initiator, with_entry, without_entry, entry_goes, entry_comes, lost, ending, vanishes, dial_opens, dial_fails, deadlines, fire_all, clock_shows, turned_away, pause_notice, admitted, peer_connects, peer_closes, dial_ends, comes_ordinary, locals_are, is_wanted_big, comes_big, bigs_are, roots_say, roots_answer, step}
 use Rattle.laws.specs.AtMoves.{is_missed, FailsWhere, IsLawful, is_negotiated_entry, is_negotiated_at, is_ended_in, MovesAreLawful, is_up_connection, is_known, is_shared_in, is_provided_by}
 use Rattle.laws.specs.Sound.{IsOrderly}
 use Rattle.laws.specs.Stages.{stage_of_phase}

@@ -1,18 +1,7 @@
 -- Each event keeps what is sound.
 use Rattle.std.proofs.Common.{ℕ, ◌+◌, ◌<◌, ◌≤◌, ◌≡◌, ◌≢◌, true, false, remove, None, All, IsTrue, nat_le, sum_by, refl, sym, ap, ◌∙◌, subst, arith, leb-false}
-use Rattle.std.proofs.lemmas.Bool.{cond_both, and_parts, and_from, both_ways, lt-leb}
-use Rattle.std.proofs.lemmas.List.Elements.{All-weaker}
-use Rattle.std.proofs.lemmas.List.Sums.{sum_by_push}
-use Rattle.net_base.specs.Address.{same_address}
-use Rattle.net_base.specs.declared.action.CloseCause.TheVariants.{Overwritten}
-use Rattle.net_base.specs.declared.address.Addr.{Addr}
-use Rattle.conn_state.specs.Moves.{accepted}
-use Rattle.conn_state.specs.Use.{is_live, is_live_at}
-use Rattle.machine.specs.Machine.{Machine, Entry, fresh_entry, counted_in, live_entry_at}
-use Rattle.machine.specs.Effect.{nothing_more, then_do}
-use Rattle.machine.specs.Connections.{without_entry, ending}
-use Rattle.machine.specs.Deadlines.{deadlines, fire_all}
-use Rattle.machine.specs.Events.{clock_shows, admitted, peer_connects}
+use Rattle.laws.proofs.Words.{cond_both, and_parts, and_from, both_ways, lt-leb, All-weaker, sum_by_push}
+use Rattle.laws.specs.Words.{same_address, Overwritten, Addr, accepted, is_live, is_live_at, Machine, Entry, fresh_entry, counted_in, live_entry_at, nothing_more, then_do, without_entry, ending, deadlines, fire_all, clock_shows, admitted, peer_connects}
 use Rattle.laws.specs.Laws.{DifferInAddress, WithinHardLimit, DeadlinesAhead}
 use Rattle.laws.specs.Sound.{IsOrderly, IsSound}
 use Rattle.laws.proofs.Addresses.{same_address-self, same_address-true}

@@ -1,17 +1,7 @@
 -- Whose peer fails: that of a connection which goes and is missed.
 use Rattle.std.proofs.Common.{◌≡◌, if◌then◌else◌, Some, refl, sym, ◌∙◌, subst}
-use Rattle.std.specs.Option.{option_map}
-use Rattle.net_base.specs.Peer.{failed_peer}
-use Rattle.net_base.specs.declared.action.CloseCause.{CloseCause}
-use Rattle.net_base.specs.declared.action.CloseCause.TheVariants.{Overwritten}
-use Rattle.net_base.specs.declared.address.Addr.{Addr}
-use Rattle.net_base.specs.declared.connection.Facts.{Facts}
-use Rattle.net_base.specs.declared.peer.Peer.{Peer}
+use Rattle.laws.specs.Words.{option_map, failed_peer, CloseCause, Overwritten, Addr, Facts, Peer, without_entry, lost, lost_by, ending, vanishes, nothing_more, Machine, Entry, peer_at, turns_at, peer_changes, peer_fails}
 use Rattle.peer_book.specs.Book.{peer_at as peer_in, with_peer as with_peer_in}
-use Rattle.machine.specs.Connections.{without_entry, lost, lost_by, ending, vanishes}
-use Rattle.machine.specs.Effect.{nothing_more}
-use Rattle.machine.specs.Machine.{Machine, Entry}
-use Rattle.machine.specs.Peers.{peer_at, turns_at, peer_changes, peer_fails}
 use Rattle.laws.specs.AtMoves.{is_missed, is_failure, failed_where, FailsWhere}
 use Rattle.laws.proofs.Ties.{found-addr, peer_here}
 use Rattle.laws.proofs.Cases.{by_bool, by_option}

@@ -1,25 +1,8 @@
 -- An order at one address lowers what is counted by one at most, and leaves other addresses as they were.
 use Rattle.std.proofs.Common.{ℕ, ◌+◌, ◌≤◌, ◌≡◌, Bool, true, false, cond, not, ◌&&◌, ◌||◌, nat_le, List, [], ◌∷◌, filter, find, count_by, Some, refl, sym, ap, ◌∙◌, subst, arith}
-use Rattle.std.specs.List.{list_any, AllByRecursion}
-use Rattle.std.specs.Option.{unwrap_or}
-use Rattle.std.proofs.lemmas.Bool.{cond_both, and_parts}
-use Rattle.std.proofs.lemmas.List.Sums.{sum_by-cons}
-use Rattle.accept_gate.specs.Prune.{choice_of}
-use Rattle.conn_state.specs.Moves.{released}
-use Rattle.conn_state.specs.Use.{has_id, is_live, is_live_at}
-use Rattle.net_base.specs.Address.{same_address}
-use Rattle.net_base.specs.declared.action.CloseCause.TheVariants.{Pruned}
-use Rattle.net_base.specs.declared.address.Addr.{Addr}
-use Rattle.net_base.specs.declared.connection.Cid.{Cid}
-use Rattle.net_base.specs.declared.peer.Peer.{Peer}
-use Rattle.net_base.specs.declared.peer.Temp.TheVariants.{Cold, Warm}
-use Rattle.peer_book.specs.Book.{has_address, is_of, known_of, peer_at as peer_in, with_peer, without_peer}
-use Rattle.machine.specs.Connections.{with_entry, without_entry, entry_turns, is_missed, ending, candidates_in, trim, release}
-use Rattle.machine.specs.Effect.{nothing_more, then_do, on_entry, on_connection}
-use Rattle.machine.specs.Govern.{is_used_at, on_used, asks_peer, deactivates}
-use Rattle.machine.specs.Machine.{Machine, Entry, counted_in, entry_at}
-use Rattle.machine.specs.Peers.{peer_at, turns_at, peer_changes, peer_becomes}
-use Rattle.machine.specs.Replies.{owing}
+use Rattle.laws.proofs.Words.{cond_both, and_parts, sum_by-cons}
+use Rattle.laws.specs.Words.{list_any, AllByRecursion, unwrap_or, choice_of, released, has_id, is_live, is_live_at, same_address, Pruned, Addr, Cid, Peer, Cold, Warm, has_address, is_of, known_of, with_peer, without_peer, with_entry, without_entry, entry_turns, is_missed, ending, candidates_in, trim, release, nothing_more, then_do, on_entry, on_connection, is_used_at, on_used, asks_peer, deactivates, Machine, Entry, counted_in, entry_at, peer_at, turns_at, peer_changes, peer_becomes, owing}
+use Rattle.peer_book.specs.Book.{peer_at as peer_in}
 use Rattle.laws.specs.AtMoves.{some_connection}
 use Rattle.laws.specs.Steady.{IsShaped, ArePeersApart, IsOrdered}
 use Rattle.laws.proofs.Addresses.{same_address-true}

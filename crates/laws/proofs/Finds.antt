@@ -1,8 +1,7 @@
 -- What a search finds once one element of a list has changed or gone, where at most one passes.
 use Rattle.std.proofs.Common.{ℕ, zero, suc, ◌≡◌, Bool, true, false, cond, List, [], ◌∷◌, find, set, remove, Some, None, All, refl, ap, ◌∙◌, arith}
 use Rattle.laws.proofs.Lists.{StandsAt, stands_before, OnePasses, OnePasses-none_after, OnePasses-not_before, OnePasses-tail}
-use Rattle.std.proofs.lemmas.List.Elements.{All-head, All-tail}
-use Rattle.std.proofs.lemmas.List.Folds.{find_past}
+use Rattle.laws.proofs.Words.{All-head, All-tail, find_past}
 
 pub find-none_passes : {X : Type 0} (p : X → Bool) (xs : List X) → All (λ x. p x ≡ false) xs → find p xs ≡ None
 find-none_passes p [] h = refl

@@ -1,30 +1,13 @@
 -- The deadlines that are due fire, and none is left.
 use Rattle.std.proofs.Common.{ℕ, zero, suc, ◌≤◌, ◌≡◌, ◌≢◌, true, false, cond, List, [], ◌∷◌, ◌++◌, length, get_or, map, filter, flat_map, count_by, Some, None, All, Contains, ◌==◌, if◌then◌else◌, refl, sym, ap, ◌∙◌, subst, ⊎_elim, arith, eq-eqb}
-use Rattle.std.proofs.lemmas.Bool.{cond_both}
-use Rattle.std.proofs.lemmas.List.{nil_from_length}
-use Rattle.std.proofs.lemmas.List.Elements.{All-nil, All-cons, All-append, All-map, All-filter, All-contains, All-contains_itself, filter_passes, Contains-append_cases, Contains-append_right}
-use Rattle.std.proofs.lemmas.List.Sums.{length-filter, get_or-le-sum_by, count_by-le-length}
-use Rattle.net_base.specs.declared.connection.Cid.{Cid}
-use Rattle.net_base.specs.declared.connection.Grace.{Grace}
-use Rattle.net_base.specs.declared.connection.Grace.TheVariants.{Off, ForRemote, ForLocal}
-use Rattle.net_base.specs.declared.connection.Phase.{Phase}
-use Rattle.net_base.specs.declared.connection.Phase.TheVariants.{Greeting, Closing}
-use Rattle.net_base.specs.declared.action.CloseCause.TheVariants.{Fault}
-use Rattle.net_base.specs.declared.action.FaultKind.TheVariants.{HandshakeWait, ReplyWait}
-use Rattle.net_base.specs.declared.timer.Deadline.{Deadline}
-use Rattle.net_base.specs.declared.timer.Kind.{Kind}
-use Rattle.net_base.specs.declared.timer.Kind.TheVariants.{Handshake, Grace as GraceKind, TimeWait, Reply2, Reply8, Reply10}
-use Rattle.net_base.specs.Timer.{deadline_before}
-use Rattle.conn_state.specs.Use.{is_live, live_phase, has_id}
-use Rattle.machine.specs.Machine.{Machine, Entry, entry_at}
-use Rattle.machine.specs.Deadlines.{deadlines, deadlines_of, phase_deadlines, grace_deadlines, reply_kind, reply_deadline, due, fires_as, fires, fires_some, fire_due, fire_all}
-use Rattle.timer_queue.specs.Timers.{timer, earlier, least}
+use Rattle.laws.proofs.Words.{cond_both, nil_from_length, All-nil, All-cons, All-append, All-map, All-filter, All-contains, All-contains_itself, filter_passes, Contains-append_cases, Contains-append_right, length-filter, get_or-le-sum_by, count_by-le-length}
+use Rattle.laws.specs.Words.{Cid, Grace, Off, ForRemote, ForLocal, Phase, Greeting, Closing, Fault, HandshakeWait, ReplyWait, Deadline, Kind, Handshake, TimeWait, Reply2, Reply8, Reply10, deadline_before, is_live, live_phase, has_id, Machine, Entry, entry_at, deadlines, deadlines_of, phase_deadlines, grace_deadlines, reply_kind, reply_deadline, due, fires_as, fires, fires_some, fire_due, fire_all, timer, earlier, least, on_entry}
+use Rattle.net_base.specs.declared.timer.Kind.TheVariants.{Grace as GraceKind}
 use Rattle.laws.specs.Sound.{IsOrderly}
 use Rattle.laws.proofs.Lists.{StandsAt, stands_next, FoundIn, find_some, find_only}
 use Rattle.laws.proofs.Entries.{one_has_id}
 use Rattle.laws.proofs.Counts.{is_late, late_of, late_in, grace_late_of}
 use Rattle.laws.proofs.Moves.{Lowers, lowers_nothing, lowers_then, lowers_less, ending-lowers, grace_over-lowers, wait_over-lowers}
-use Rattle.machine.specs.Effect.{on_entry}
 use Rattle.laws.proofs.Cases.{by_option}
 
 -- how many late deadlines of a connection are gone once one of a kind has fired

@@ -1,31 +1,8 @@
 -- A peer whose handshake ends in use has no failures.
 use Rattle.std.proofs.Common.{ℕ, ◌+◌, ◌%◌, ◌≡◌, true, false, ◌&&◌, ◌==◌, Option, Some, None, refl, sym, ap, ◌∙◌, subst, eqb-true}
-use Rattle.std.proofs.lemmas.Bool.{cond_both, both_ways, false≢true}
-use Rattle.conn_state.specs.Moves.{agreed_outbound}
-use Rattle.conn_state.specs.Use.{has_id, is_greeting_phase}
-use Rattle.hs_decide.specs.Agreement.{verdict_of}
-use Rattle.hs_decide.specs.Answers.{answer_of}
-use Rattle.hs_decide.specs.declared.verdict.Verdict.{Verdict}
-use Rattle.hs_decide.specs.declared.verdict.Verdict.TheVariants as verdict
-use Rattle.hs_message.specs.Reading.{message_of}
-use Rattle.hs_message.specs.declared.message.Message.{Message}
-use Rattle.mux_segment.specs.declared.item.Item.{Item}
-use Rattle.net_base.specs.declared.action.CloseCause.{CloseCause}
-use Rattle.net_base.specs.declared.action.CloseCause.TheVariants.{Refused, Query, Fault}
-use Rattle.net_base.specs.declared.action.FaultKind.TheVariants.{Malformed, Protocol}
-use Rattle.net_base.specs.declared.connection.Cid.{Cid}
-use Rattle.net_base.specs.declared.connection.Phase.{Phase}
-use Rattle.net_base.specs.declared.connection.Phase.TheVariants.{Greeting}
-use Rattle.net_base.specs.declared.peer.Temp.TheVariants.{Warm}
-use Rattle.hs_receive.specs.Receiving.{is_awaited, fits_side}
-use Rattle.machine.specs.Connections.{with_entry, ending}
-use Rattle.machine.specs.Effect.{on_entry}
-use Rattle.machine.specs.Greeting.{role_of, judged, decided, greeted_by, greets}
-use Rattle.machine.specs.Machine.{Machine, Entry, entry_at}
-use Rattle.machine.specs.Own.{own_info}
-use Rattle.machine.specs.Peers.{peer_at}
-use Rattle.machine.specs.Replies.{owing}
-use Rattle.machine.specs.Stream.{handled_in, handled}
+use Rattle.laws.proofs.Words.{cond_both, both_ways, false≢true}
+use Rattle.laws.specs.Words.{agreed_outbound, has_id, is_greeting_phase, verdict_of, answer_of, Verdict, message_of, Message, Item, CloseCause, Refused, Query, Fault, Malformed, Protocol, Cid, Phase, Greeting, Warm, is_awaited, fits_side, with_entry, ending, on_entry, role_of, judged, decided, greeted_by, greets, Machine, Entry, entry_at, own_info, peer_at, owing, handled_in, handled}
+use Rattle.laws.specs.Words.verdict
 use Rattle.laws.specs.Acts.{Act, handles_item, does}
 use Rattle.laws.specs.CarriedOut.{OnPeer, WhereGreeting, is_in_use, Forgives}
 use Rattle.laws.specs.Untouched.{IsAsItWas}

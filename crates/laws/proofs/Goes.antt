@@ -1,22 +1,9 @@
 -- Who goes without this node's doing.
 use Rattle.std.proofs.Common.{ℕ, ◌≡◌, Bool, false, if◌then◌else◌, List, [], ◌∷◌, ◌++◌, find, flat_map, Option, Some, None, refl, ap, ◌∙◌, subst, eq-eqb, eqb-true}
-use Rattle.std.proofs.lemmas.Bool.{cond_both}
-use Rattle.conn_state.specs.Use.{has_id}
-use Rattle.net_base.specs.Peer.{failed_peer}
-use Rattle.net_base.specs.declared.action.Action.{Action}
-use Rattle.net_base.specs.declared.address.Addr.{Addr}
+use Rattle.laws.proofs.Words.{cond_both}
+use Rattle.laws.specs.Words.{has_id, failed_peer, Action, Addr, Terminated, Cid, Facts, Cold, same_temp, is_missed, lost, vanishes, without_entry, nothing_more, on_entry, closes, dialed, Machine, Entry, entry_at, peer_at, turns_at, peer_fails}
 use Rattle.net_base.specs.declared.action.Action.TheVariants.{Peer as TellPeer}
-use Rattle.net_base.specs.declared.action.PeerNote.TheVariants as note
-use Rattle.net_base.specs.declared.action.StateName.TheVariants.{Terminated}
-use Rattle.net_base.specs.declared.connection.Cid.{Cid}
-use Rattle.net_base.specs.declared.connection.Facts.{Facts}
-use Rattle.net_base.specs.declared.peer.Temp.TheVariants.{Cold}
-use Rattle.peer_book.specs.Book.{same_temp}
-use Rattle.machine.specs.Connections.{is_missed, lost, vanishes, without_entry}
-use Rattle.machine.specs.Effect.{nothing_more, on_entry}
-use Rattle.machine.specs.Events.{closes, dialed}
-use Rattle.machine.specs.Machine.{Machine, Entry, entry_at}
-use Rattle.machine.specs.Peers.{peer_at, turns_at, peer_fails}
+use Rattle.laws.specs.Words.note
 use Rattle.laws.specs.Acts.{Act, ends_dial, is_closed, does}
 use Rattle.laws.specs.CarriedOut.{WhereLive}
 use Rattle.laws.specs.Goes.{IsGone, WhereDialing, GoesWhere}

@@ -1,11 +1,7 @@
 -- Cleaned groups have no address twice.
 use Rattle.std.proofs.Common.{◌≡◌, false, ◌||◌, List, [], ◌∷◌, ◌++◌, if◌then◌else◌, refl, sym, subst}
-use Rattle.std.specs.List.{AllByRecursion}
-use Rattle.std.proofs.lemmas.Bool.{or_parts, or_from}
-use Rattle.net_base.specs.Address.{same_address}
-use Rattle.net_base.specs.declared.address.Addr.{Addr}
-use Rattle.net_base.specs.declared.event.Group.{Group}
-use Rattle.root_groups.specs.Cleaned.{is_listed, first_places, cleaned_after, cleaned, members_of}
+use Rattle.laws.proofs.Words.{or_parts, or_from}
+use Rattle.laws.specs.Words.{AllByRecursion, same_address, Addr, Group, is_listed, first_places, cleaned_after, cleaned, members_of}
 use Rattle.laws.specs.Steady.{AreApart}
 use Rattle.laws.proofs.Lists.{all-weaker, all-appended}
 use Rattle.laws.proofs.Cases.{by_bool}

@@ -1,39 +1,11 @@
 -- A connection in its handshake: whatever comes in, the connections stay in order and within the limit.
 use Rattle.std.proofs.Common.{ℕ, ◌+◌, ◌≤◌, ◌≡◌, Bool, true, false, not, ◌&&◌, ◌==◌, if◌then◌else◌, List, [], Option, Some, None, refl, sym, subst}
-use Rattle.std.proofs.lemmas.Bool.{cond_both, both_ways, and_from, and_right, or_from, or_right}
-use Rattle.hs_decide.specs.Agreement.{accepts_info, accepts_offer, agrees_info, agrees_on, meets_joined, meets_info, meets_offer, verdict_of, common_in, joined, same_magic}
-use Rattle.hs_decide.specs.Answers.{answer_of}
-use Rattle.hs_decide.specs.declared.role.Role.{Role}
-use Rattle.hs_decide.specs.declared.role.Role.TheVariants.{Acceptor, Dialer}
-use Rattle.hs_decide.specs.declared.verdict.Verdict.{Verdict}
-use Rattle.hs_decide.specs.declared.verdict.Verdict.TheVariants as verdict
-use Rattle.hs_decide.specs.declared.verdict.Why.TheVariants as why
-use Rattle.hs_message.specs.Info.{is_node_version}
-use Rattle.hs_message.specs.declared.info.VersionInfo.{VersionInfo}
-use Rattle.hs_message.specs.declared.info.Info.{Info}
-use Rattle.hs_message.specs.declared.info.Info.TheVariants.{Known, Foreign}
-use Rattle.hs_message.specs.declared.message.Message.{Message}
-use Rattle.hs_message.specs.declared.message.Message.TheVariants as message
-use Rattle.hs_message.specs.declared.offer.Offer.{Offer}
-use Rattle.hs_message.specs.Reading.{message_of}
-use Rattle.mux_segment.specs.declared.item.Item.{Item}
-use Rattle.net_base.specs.declared.action.CloseCause.{CloseCause}
-use Rattle.net_base.specs.declared.action.CloseCause.TheVariants as cause
-use Rattle.net_base.specs.declared.action.FaultKind.TheVariants.{Malformed, Protocol}
-use Rattle.net_base.specs.declared.connection.Agreed.{Agreed}
-use Rattle.net_base.specs.declared.connection.Cid.{Cid}
-use Rattle.net_base.specs.declared.connection.Phase.TheVariants.{Negotiated}
-use Rattle.net_base.specs.declared.connection.Provenance.{Provenance}
-use Rattle.net_base.specs.declared.connection.Provenance.TheVariants.{FromRemote, FromLocal}
-use Rattle.conn_state.specs.Moves.{agreed_inbound, agreed_outbound}
-use Rattle.conn_state.specs.Use.{is_greeting, is_negotiated, opening_phase, is_outbound, is_outbound_by, is_pending}
-use Rattle.hs_receive.specs.Receiving.{is_awaited, fits_side}
-use Rattle.machine.specs.Machine.{Machine, Entry, counted_in}
-use Rattle.machine.specs.Replies.{sends_as_responder}
-use Rattle.machine.specs.Effect.{Effect}
-use Rattle.machine.specs.Own.{own_info}
-use Rattle.machine.specs.Connections.{ending}
-use Rattle.machine.specs.Greeting.{role_of, sends_answer, judged, decided, greeted_by, greets}
+use Rattle.laws.proofs.Words.{cond_both, both_ways, and_from, and_right, or_from, or_right}
+use Rattle.laws.specs.Words.{accepts_info, accepts_offer, agrees_info, agrees_on, meets_joined, meets_info, meets_offer, verdict_of, common_in, joined, same_magic, answer_of, Role, Acceptor, Dialer, Verdict, is_node_version, VersionInfo, Info, Known, Foreign, Message, Offer, message_of, Item, CloseCause, Malformed, Protocol, Agreed, Cid, Negotiated, Provenance, FromRemote, FromLocal, agreed_inbound, agreed_outbound, is_greeting, is_negotiated, opening_phase, is_outbound, is_outbound_by, is_pending, is_awaited, fits_side, Machine, Entry, counted_in, sends_as_responder, Effect, own_info, ending, role_of, sends_answer, judged, decided, greeted_by, greets}
+use Rattle.laws.specs.Words.verdict
+use Rattle.laws.specs.Words.why
+use Rattle.laws.specs.Words.message
+use Rattle.laws.specs.Words.cause
 use Rattle.laws.specs.AtMoves.{IsPrunedRightly, IsLawful, is_up_connection}
 use Rattle.laws.specs.Steady.{IsShaped, IsOrdered}
 use Rattle.laws.proofs.Keeping.{Keeps, keeps_nothing}

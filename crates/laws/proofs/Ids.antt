@@ -1,12 +1,6 @@
 -- How many ids and jobs an event gives out.
 use Rattle.std.proofs.Common.{ℕ, ◌≤◌, refl, arith}
-use Rattle.net_base.specs.declared.event.Event.{Event}
-use Rattle.net_base.specs.declared.event.Event.TheVariants.{Now, Govern, Accepted, Dialed, Bytes, Closed, Aims, Locals, Roots, BigAims, Bigs}
-use Rattle.machine.specs.Machine.{Machine, entry_at}
-use Rattle.machine.specs.Events.{clock_shows, peer_connects, closes, peer_closes, dial_ends}
-use Rattle.machine.specs.Provided.{targets_are, big_targets_are, locals_are, comes_big, bigs_are, roots_answer}
-use Rattle.machine.specs.Stream.{comes_in, bytes_come_in}
-use Rattle.machine.specs.Step.{step}
+use Rattle.laws.specs.Words.{Event, Now, Govern, Accepted, Dialed, Bytes, Closed, Aims, Locals, Roots, BigAims, Bigs, Machine, entry_at, clock_shows, peer_connects, closes, peer_closes, dial_ends, targets_are, big_targets_are, locals_are, comes_big, bigs_are, roots_answer, comes_in, bytes_come_in, step}
 use Rattle.laws.specs.Steady.{IsFormed, GivesFew}
 use Rattle.laws.proofs.Numbers.{Gains, GivesNone, closes-none, for_each-none, numbers_of, on_entry-none, unchanged}
 use Rattle.laws.proofs.NumbersOfEvents.{clock_shows-none, comes_big-none, comes_in-none, dial_ends-none, locals_are-none, peer_connects-one, roots_answer-none}

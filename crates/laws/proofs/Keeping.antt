@@ -1,21 +1,8 @@
 -- A part of a step of the whole machine: what it keeps, and by how much it may raise the counted connections.
 use Rattle.std.proofs.Common.{ℕ, ◌+◌, ◌<◌, ◌≤◌, ◌≡◌, Bool, true, false, not, List, [], ◌∷◌, set, All, sum_by, Some, refl, sym, ◌∙◌, subst, arith}
-use Rattle.std.proofs.lemmas.List.Elements.{All-head, All-tail, All-set, All-filter}
-use Rattle.net_base.specs.Address.{same_address}
-use Rattle.net_base.specs.declared.peer.Peer.{Peer}
-use Rattle.machine.specs.Connections.{with_entry, without_entry}
-use Rattle.machine.specs.Machine.{Machine, Entry, counted_in, live_entry_at}
-use Rattle.machine.specs.Effect.{Effect, for_each}
-use Rattle.machine.specs.Peers.{turns_at, peer_at, peer_changes, note_of_coming, peer_comes}
-use Rattle.net_base.specs.Shared.{RootState}
-use Rattle.net_base.specs.declared.address.Addr.{Addr}
-use Rattle.net_base.specs.declared.settings.Settings.{Settings}
-use Rattle.net_base.specs.declared.targets.BigTargets.{BigTargets}
-use Rattle.net_base.specs.declared.targets.Targets.{Targets}
-use Rattle.peer_book.specs.Book.{with_peer as with_peer_in, new_peer, entry_of, entered}
-use Rattle.peer_book.specs.declared.added.Added.{Added}
-use Rattle.peer_book.specs.declared.added.Added.TheVariants.{New}
-use Rattle.conn_state.specs.Use.{has_id}
+use Rattle.laws.proofs.Words.{All-head, All-tail, All-set, All-filter}
+use Rattle.laws.specs.Words.{same_address, Peer, with_entry, without_entry, Machine, Entry, counted_in, live_entry_at, Effect, for_each, turns_at, peer_at, peer_changes, note_of_coming, peer_comes, RootState, Addr, Settings, BigTargets, Targets, new_peer, entry_of, entered, Added, New, has_id}
+use Rattle.peer_book.specs.Book.{with_peer as with_peer_in}
 use Rattle.laws.specs.Laws.{is_local, LocalsAreOrdinary}
 use Rattle.laws.specs.Sound.{IsOrderly}
 use Rattle.laws.specs.Steady.{IsShaped, IsOwing, IsOrdered, TiedBy, IsTied}

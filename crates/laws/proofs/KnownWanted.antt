@@ -1,25 +1,9 @@
 -- No more addresses come into the book than are wanted.
 use Rattle.std.proofs.Common.{ℕ, ◌+◌, ◌-◌, ◌≤◌, ◌<◌, ◌≡◌, Bool, true, false, cond, not, ◌&&◌, nat_lt, if◌then◌else◌, List, [], ◌∷◌, ◌++◌, length, take, Option, Some, None, is_some, refl, sym, ap, ◌∙◌, subst, arith, ltb-true}
-use Rattle.std.specs.List.{AllByRecursion}
-use Rattle.std.proofs.lemmas.Bool.{and_parts}
-use Rattle.std.proofs.lemmas.List.{length-take}
-use Rattle.net_base.specs.Address.{same_address}
-use Rattle.net_base.specs.declared.address.Addr.{Addr}
-use Rattle.net_base.specs.declared.peer.Peer.{Peer}
-use Rattle.churn_clock.specs.Windows.{effective_big_of}
-use Rattle.peer_book.specs.Book.{is_of, known_of, peer_at as peer_in, new_peer, entry_of, entered_by, entered}
-use Rattle.peer_book.specs.declared.added.Added.{Added}
-use Rattle.peer_book.specs.declared.added.Added.TheVariants.{New}
-use Rattle.peer_book.proofs.Edits.{count_by-put_in}
-use Rattle.root_groups.specs.Cleaned.{group_of}
-use Rattle.share_rounds.specs.Rounds.{room_for, is_new, taken_after}
-use Rattle.warm_messages.specs.declared.share.Share.{Share}
-use Rattle.warm_messages.specs.declared.share.Share.TheVariants.{Request, Peers, Done}
-use Rattle.machine.specs.Machine.{Machine}
-use Rattle.machine.specs.Effect.{Effect, Happened, shared, nothing_more, as_move, for_each}
-use Rattle.machine.specs.Peers.{peer_at, peer_comes}
-use Rattle.machine.specs.Provided.{is_wanted_big, comes_big, bigs_are}
-use Rattle.machine.specs.Talking.{shares_address, taken_of, takes_addresses}
+use Rattle.laws.proofs.Words.{and_parts, length-take, count_by-put_in}
+use Rattle.laws.specs.Words.{AllByRecursion, same_address, Addr, Peer, effective_big_of, is_of, known_of, new_peer, entry_of, entered_by, entered, Added, New, group_of, room_for, is_new, taken_after, Share, Request, Peers, Machine, Effect, Happened, shared, nothing_more, as_move, for_each, peer_at, peer_comes, is_wanted_big, comes_big, bigs_are, shares_address, taken_of, takes_addresses}
+use Rattle.peer_book.specs.Book.{peer_at as peer_in}
+use Rattle.warm_messages.specs.declared.share.Share.TheVariants.{Done}
 use Rattle.laws.specs.AtMoves.{known_wanted, IsWantedNew, WithinTargets}
 use Rattle.laws.proofs.Lawful.{comes-machine, comes-providing, Within}
 use Rattle.laws.proofs.Lists.{all-appended}

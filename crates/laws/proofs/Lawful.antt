@@ -1,31 +1,10 @@
 -- The moves of a part of a step: each keeps a law, no connection whose handshake is done is gone without one, and nobody
 -- comes up without one.
 use Rattle.std.proofs.Common.{ℕ, ◌+◌, ◌%◌, ◌≡◌, ◌≤◌, Bool, true, false, ◌||◌, ◌==◌, nat_lt, if◌then◌else◌, arith, List, [], ◌∷◌, ◌++◌, find, set, remove, Some, is_some, refl, sym, ap, ◌∙◌, subst, eqb-true, eq-eqb}
-use Rattle.std.specs.List.{AllByRecursion, list_any}
-use Rattle.std.proofs.lemmas.Bool.{cond_both, false≢true, or_left, or_right}
-use Rattle.std.proofs.lemmas.List.Folds.{list_any-append, find-append}
-use Rattle.net_base.specs.Address.{same_address}
-use Rattle.net_base.specs.declared.action.Action.{Action}
-use Rattle.net_base.specs.declared.action.CloseCause.{CloseCause}
-use Rattle.net_base.specs.declared.action.CloseCause.TheVariants.{Unused, Overwritten}
-use Rattle.net_base.specs.declared.connection.Facts.{Facts}
-use Rattle.net_base.specs.declared.connection.Phase.{Phase}
-use Rattle.net_base.specs.declared.connection.Phase.TheVariants.{Negotiated, Closing}
-use Rattle.net_base.specs.declared.peer.Peer.{Peer}
-use Rattle.conn_state.specs.Use.{has_id, is_live, live_phase, is_negotiated, is_negotiated_phase}
-use Rattle.machine.specs.Machine.{Machine, Entry, entry_at}
-use Rattle.machine.specs.Effect.{Effect, Happened, Move, promoted, shared, ended, nothing_more, tells, then_do, as_move}
-use Rattle.machine.specs.Peers.{peer_at, peer_changes, peer_fails, peer_succeeds, note_of_coming, peer_comes}
-use Rattle.net_base.specs.declared.address.Addr.{Addr}
-use Rattle.peer_book.specs.Book.{peer_at as peer_in, new_peer, entry_of, entered}
-use Rattle.peer_book.specs.declared.added.Added.{Added}
-use Rattle.peer_book.specs.declared.added.Added.TheVariants.{New}
-use Rattle.machine.specs.Replies.{owing, sends_as_initiator}
-use Rattle.machine.specs.Connections.{with_entry, without_entry, entry_turns, entry_goes, is_missed, lost, lost_by, ending, is_used}
-use Rattle.net_base.specs.declared.peer.Temp.TheVariants.{Warm}
-use Rattle.warm_messages.specs.Writing.{written_alive}
+use Rattle.laws.proofs.Words.{cond_both, false≢true, or_left, or_right, list_any-append, find-append}
+use Rattle.laws.specs.Words.{AllByRecursion, list_any, same_address, Action, CloseCause, Unused, Overwritten, Facts, Phase, Negotiated, Closing, Peer, has_id, is_live, live_phase, is_negotiated, is_negotiated_phase, Machine, Entry, entry_at, Effect, Happened, Move, promoted, shared, ended, nothing_more, tells, then_do, as_move, peer_at, peer_changes, peer_fails, peer_succeeds, note_of_coming, peer_comes, Addr, new_peer, entry_of, entered, Added, New, owing, sends_as_initiator, with_entry, without_entry, entry_turns, entry_goes, is_missed, lost, lost_by, ending, is_used, Warm, written_alive, failed_peer, option_or}
+use Rattle.peer_book.specs.Book.{peer_at as peer_in}
 use Rattle.warm_messages.specs.declared.alive.Alive.TheVariants.{Ask}
-use Rattle.net_base.specs.Peer.{failed_peer}
 use Rattle.laws.specs.AtMoves.{OutOfBackOff, WithinTargets, IsPrunedRightly, is_failure, FailsWhere, OnEntry, ForCause, IsLawful, is_negotiated_entry, is_negotiated_at, ends, is_ended_in, is_up_connection, is_up, is_hot_peer, is_asked_connection, is_hot_or_asked, is_known, promotes, activates, shares}
 use Rattle.laws.specs.Sound.{IsOrderly}
 use Rattle.laws.specs.Stages.{stage_of_phase, stage_of, stage_at, stage_ended, IsLateCause}
@@ -43,7 +22,6 @@ use Rattle.laws.proofs.Telling.{are_mute, mute, told_unchanged, told_then, told_
 use Rattle.laws.proofs.Ties.{turned_elsewhere}
 use Rattle.laws.proofs.ToldMoves.{turned-told, goes-told, goes-stage, ended-told, changes-told, turns_at-next, peer_comes-told, turns_at-moves, turns_at-connections}
 use Rattle.laws.proofs.Cases.{by_bool, by_option}
-use Rattle.std.specs.Option.{option_or}
 
 -- ---- no connection is gone without a move
 

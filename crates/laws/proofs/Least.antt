@@ -1,12 +1,7 @@
 -- The deadline that fires is the least of all.
 use Rattle.std.proofs.Common.{ℕ, ◌≤◌, ◌<◌, ◌≡◌, Bool, true, false, ◌&&◌, ◌||◌, ◌==◌, nat_lt, nat_le, if◌then◌else◌, cond, List, [], ◌∷◌, filter, Option, Some, None, refl, sym, subst, arith, leb-true, leb-false}
-use Rattle.std.specs.List.{AllByRecursion}
-use Rattle.std.proofs.lemmas.Bool.{or_parts, or_from, false≢true}
-use Rattle.net_base.specs.Timer.{deadline_before, kind_place}
-use Rattle.net_base.specs.declared.timer.Deadline.{Deadline}
-use Rattle.machine.specs.Deadlines.{deadlines, due}
-use Rattle.timer_queue.specs.Timers.{earlier, least}
-use Rattle.machine.specs.Machine.{Machine}
+use Rattle.laws.proofs.Words.{or_parts, or_from, false≢true}
+use Rattle.laws.specs.Words.{AllByRecursion, deadline_before, kind_place, Deadline, deadlines, due, earlier, least, Machine}
 use Rattle.laws.specs.Parts.{IsLeastDue}
 use Rattle.laws.proofs.Firing.{least-none, due-contains}
 use Rattle.laws.specs.Steady.{IsOrdered}

@@ -81,3 +81,4 @@ mod Pruning
 mod Forgiven
 mod Walk
 mod Cases
+pub mod Words

@@ -1,10 +1,7 @@
 -- One element of a list: what is found, what takes its place, and the list without it.
 use Rattle.std.proofs.Common.{ℕ, zero, suc, ◌+◌, ◌<◌, ◌≤◌, ◌≡◌, Bool, true, false, cond, not, List, [], ◌∷◌, ◌++◌, length, map, filter, find, set, remove, get_or, Some, None, All, AllPairs, sum_by, count_by, flat_map, if◌then◌else◌, refl, sym, ap, ◌∙◌, subst, arith}
-use Rattle.std.specs.List.{AllByRecursion, list_any}
-use Rattle.std.proofs.lemmas.Bool.{false_from_ne_true, both_ways, or_left, or_right}
-use Rattle.std.proofs.lemmas.List.Elements.{All-head, All-tail, All-cons, All-nil, All-set, All-weaker}
-use Rattle.std.proofs.lemmas.List.Kept.{AllPairs-cons}
-use Rattle.std.proofs.lemmas.List.Sums.{sum_by-cons, sum_by-append, sum_by-set, sum_by-remove, get_or-le-sum_by}
+use Rattle.laws.proofs.Words.{false_from_ne_true, both_ways, or_left, or_right, All-head, All-tail, All-cons, All-nil, All-set, All-weaker, AllPairs-cons, sum_by-cons, sum_by-append, sum_by-set, sum_by-remove, get_or-le-sum_by}
+use Rattle.laws.specs.Words.{AllByRecursion, list_any}
 use Rattle.laws.proofs.Cases.{by_bool}
 
 pub AllPairs-tail : {X : Type 0} (R : X → X → Type 0) (x : X) (xs : List X) → AllPairs R (x ∷ xs) → AllPairs R xs

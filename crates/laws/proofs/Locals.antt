@@ -1,14 +1,7 @@
 -- Local peers: the members of the groups, taken together and group by group.
 use Rattle.std.proofs.Common.{◌≡◌, Bool, true, false, nat_lt, List, [], ◌∷◌, ◌++◌, length, All, is_some, refl, inl, inr, arith}
-use Rattle.std.specs.List.{AllByRecursion, position, position_or_len}
-use Rattle.std.proofs.lemmas.Bool.{or_parts, or_from, not-true, cases_Bool, ltb-false}
-use Rattle.std.proofs.lemmas.List.Elements.{All-from_recursion, recursion_from_All}
-use Rattle.std.proofs.lemmas.List.Sums.{fails_before_first}
-use Rattle.net_base.specs.Address.{same_address}
-use Rattle.net_base.specs.declared.address.Addr.{Addr}
-use Rattle.net_base.specs.declared.event.Group.{Group}
-use Rattle.govern_rules.specs.Rules.{is_not_local}
-use Rattle.root_groups.specs.Cleaned.{is_listed, members_of, group_of}
+use Rattle.laws.proofs.Words.{or_parts, or_from, not-true, cases_Bool, ltb-false, All-from_recursion, recursion_from_All, fails_before_first}
+use Rattle.laws.specs.Words.{AllByRecursion, position, position_or_len, same_address, Addr, Group, is_not_local, is_listed, members_of, group_of}
 use Rattle.laws.specs.Laws.{is_local}
 use Rattle.laws.proofs.GroupsApart.{unlisted_append}
 

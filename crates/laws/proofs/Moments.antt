@@ -1,23 +1,8 @@
 -- Whatever is waited for is ahead, what fires is waited for, and is over then.
 use Rattle.std.proofs.Common.{ℕ, zero, suc, ◌<◌, ◌≡◌, Bool, true, false, ◌||◌, ◌==◌, if◌then◌else◌, List, [], ◌∷◌, ◌++◌, map, flat_map, find, get_or, Option, Some, None, All, Contains, refl, sym, ap, ◌∙◌, subst, arith, eq-eqb, eqb-true, ne_eqb}
-use Rattle.std.specs.Option.{option_map}
-use Rattle.std.proofs.lemmas.Bool.{cond_both}
-use Rattle.std.proofs.lemmas.List.Elements.{All-nil, All-contains, Contains-append_left, Contains-append_right}
-use Rattle.conn_state.specs.Use.{has_id}
-use Rattle.net_base.specs.declared.action.CloseCause.{CloseCause}
-use Rattle.net_base.specs.declared.connection.Grace.{Grace}
-use Rattle.net_base.specs.declared.connection.Grace.TheVariants.{Off, ForRemote, ForLocal}
-use Rattle.net_base.specs.declared.connection.Phase.{Phase}
-use Rattle.net_base.specs.declared.connection.Phase.TheVariants.{Greeting, Closing}
-use Rattle.net_base.specs.declared.timer.Deadline.{Deadline}
-use Rattle.net_base.specs.declared.timer.Kind.{Kind}
-use Rattle.net_base.specs.declared.timer.Kind.TheVariants as kind
-use Rattle.timer_queue.specs.Timers.{timer}
-use Rattle.machine.specs.Connections.{with_entry, without_entry, ending}
-use Rattle.machine.specs.Deadlines.{deadlines, deadlines_of, phase_deadlines, grace_deadlines, reply_deadline, due}
-use Rattle.machine.specs.Effect.{unused}
-use Rattle.machine.specs.Machine.{Machine, Entry, Owed, entry_at}
-use Rattle.machine.specs.Replies.{reply_on, is_owed_on}
+use Rattle.laws.proofs.Words.{cond_both, All-nil, All-contains, Contains-append_left, Contains-append_right}
+use Rattle.laws.specs.Words.{option_map, has_id, CloseCause, Grace, Off, ForRemote, ForLocal, Phase, Greeting, Closing, Deadline, Kind, timer, with_entry, without_entry, ending, deadlines, deadlines_of, phase_deadlines, grace_deadlines, reply_deadline, due, unused, Machine, Entry, Owed, entry_at, reply_on, is_owed_on}
+use Rattle.laws.specs.Words.kind
 use Rattle.laws.specs.Laws.{DeadlinesAhead}
 use Rattle.laws.specs.Moments.{WaitsAhead}
 use Rattle.laws.specs.Waits.{until_greeted, until_gone, until_unused, until_paid, until_of, until_in, until_at}

@@ -1,17 +1,8 @@
 -- A part of a step in which no connection comes.
 use Rattle.std.proofs.Common.{ℕ, ◌+◌, ◌≤◌, ◌≡◌, true, cond, [], ◌∷◌, sum_by, Option, Some, None, refl, ap, ◌∙◌, arith}
-use Rattle.std.proofs.lemmas.Bool.{cond_both, false≢true}
-use Rattle.net_base.specs.declared.action.Action.TheVariants.{Close}
-use Rattle.net_base.specs.declared.action.CloseCause.{CloseCause}
-use Rattle.net_base.specs.declared.action.CloseCause.TheVariants.{Unused, Overwritten}
-use Rattle.net_base.specs.declared.connection.Facts.{Facts}
-use Rattle.net_base.specs.declared.peer.Peer.{Peer}
-use Rattle.net_base.specs.Peer.{failed_peer}
-use Rattle.conn_state.specs.Moves.{expired}
-use Rattle.machine.specs.Machine.{Machine, Entry, counted_in}
-use Rattle.machine.specs.Effect.{Effect, nothing_more, then_do, tells, as_move, unused}
-use Rattle.machine.specs.Peers.{with_peer, turns_at, peer_fails, peer_at}
-use Rattle.machine.specs.Connections.{with_entry, without_entry, entry_turns, is_missed, lost, lost_by, ending, closing_entry, grace_over, wait_over}
+use Rattle.laws.proofs.Words.{cond_both, false≢true}
+use Rattle.laws.specs.Words.{Close, CloseCause, Unused, Overwritten, Facts, Peer, failed_peer, expired, Machine, Entry, counted_in, Effect, nothing_more, then_do, tells, as_move, unused, turns_at, peer_fails, peer_at, with_entry, without_entry, entry_turns, is_missed, lost, lost_by, ending, closing_entry, grace_over, wait_over}
+use Rattle.machine.specs.Peers.{with_peer}
 use Rattle.laws.specs.Sound.{IsOrderly}
 use Rattle.laws.proofs.Lists.{StandsAt}
 use Rattle.laws.proofs.Entries.{TurnsInto, turned-orderly, turned-sum, gone-orderly, gone-sum}

@@ -1,25 +1,8 @@
 -- Ids and jobs: how many a part of a step gives out.
 use Rattle.std.proofs.Common.{ℕ, ◌+◌, ◌%◌, ◌≤◌, ◌≡◌, Bool, cond, nat_le, List, [], ◌∷◌, count_by, Option, Some, None, refl, sym, ap, ◌∙◌, subst, arith}
-use Rattle.std.specs.Option.{unwrap_or}
-use Rattle.std.proofs.lemmas.Bool.{cond_both}
-use Rattle.std.proofs.lemmas.List.Sums.{sum_by-cons}
-use Rattle.accept_gate.specs.Prune.{choice_of}
-use Rattle.conn_state.specs.Use.{is_live}
-use Rattle.net_base.specs.Peer.{failed_peer}
-use Rattle.net_base.specs.declared.action.CloseCause.{CloseCause}
-use Rattle.net_base.specs.declared.action.CloseCause.TheVariants.{Pruned, Overwritten}
-use Rattle.net_base.specs.declared.address.Addr.{Addr}
-use Rattle.net_base.specs.declared.connection.Cid.{Cid}
-use Rattle.net_base.specs.declared.connection.Facts.{Facts}
-use Rattle.net_base.specs.declared.peer.Peer.{Peer}
-use Rattle.net_base.specs.declared.peer.Temp.TheVariants.{Warm}
-use Rattle.peer_book.specs.Book.{peer_at as peer_in, new_peer, entry_of, entered, with_peer as with_peer_in}
-use Rattle.machine.specs.Machine.{Machine, Entry, counted_in, entry_at}
-use Rattle.machine.specs.Effect.{Effect, nothing_more, for_each, on_entry}
-use Rattle.machine.specs.Peers.{turns_at, peer_at, peer_changes, peer_fails, peer_succeeds, peer_comes}
-use Rattle.machine.specs.Connections.{with_entry, without_entry, is_missed, lost, lost_by, ending, vanishes, is_used, candidates_in, trim}
-use Rattle.machine.specs.Events.{closes}
-use Rattle.machine.specs.Replies.{owing}
+use Rattle.laws.proofs.Words.{cond_both, sum_by-cons}
+use Rattle.laws.specs.Words.{unwrap_or, choice_of, is_live, failed_peer, CloseCause, Pruned, Overwritten, Addr, Cid, Facts, Peer, Warm, new_peer, entry_of, entered, Machine, Entry, counted_in, entry_at, Effect, nothing_more, for_each, on_entry, turns_at, peer_at, peer_changes, peer_fails, peer_succeeds, peer_comes, with_entry, without_entry, is_missed, lost, lost_by, ending, vanishes, is_used, candidates_in, trim, closes, owing}
+use Rattle.peer_book.specs.Book.{peer_at as peer_in, with_peer as with_peer_in}
 use Rattle.laws.specs.Steady.{ArePeersApart}
 use Rattle.laws.proofs.Keeping.{note-machine}
 use Rattle.laws.proofs.PeersApart.{with_peer-apart}

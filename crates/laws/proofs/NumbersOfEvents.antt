@@ -1,27 +1,7 @@
 -- How many ids and jobs each event but the governor's gives out.
 use Rattle.std.proofs.Common.{ℕ, zero, suc, Bool, true, false, ◌||◌, nat_le, List, Option, Some, None, refl}
-use Rattle.std.proofs.lemmas.Bool.{cond_both, false≢true}
-use Rattle.conn_state.specs.Use.{is_greeting, is_negotiated}
-use Rattle.mux_segment.specs.Stream.{FedBy}
-use Rattle.mux_segment.specs.declared.item.Item.{Item}
-use Rattle.net_base.specs.declared.action.CloseCause.TheVariants.{Overwritten}
-use Rattle.net_base.specs.declared.address.Addr.{Addr}
-use Rattle.net_base.specs.declared.connection.Cid.{Cid}
-use Rattle.net_base.specs.declared.event.Group.{Group}
-use Rattle.net_base.specs.declared.event.Job.{Job}
-use Rattle.net_base.specs.declared.event.RootAnswer.{RootAnswer}
-use Rattle.net_base.specs.declared.event.RootAnswer.TheVariants.{Found, Failed}
-use Rattle.net_base.specs.declared.timer.Deadline.{Deadline}
-use Rattle.root_groups.specs.Cleaned.{cleaned, members_of}
-use Rattle.root_groups.specs.RootAsk.{awaits}
-use Rattle.machine.specs.Machine.{Machine, Entry, entry_at}
-use Rattle.machine.specs.Effect.{Effect, nothing_more, on_entry, for_each}
-use Rattle.machine.specs.Peers.{peer_at, peer_is_ordinary}
-use Rattle.machine.specs.Connections.{with_entry, ending}
-use Rattle.machine.specs.Deadlines.{due, fires_as, fires, fires_some, fire_due, fire_all}
-use Rattle.machine.specs.Events.{clock_shows, peer_connects, dialed, dial_ends}
-use Rattle.machine.specs.Provided.{comes_ordinary, locals_are, comes_big, roots_say, roots_answer}
-use Rattle.machine.specs.Stream.{handled, handles, faulted, fed_with, feeds, comes_in}
+use Rattle.laws.proofs.Words.{cond_both, false≢true}
+use Rattle.laws.specs.Words.{is_greeting, is_negotiated, FedBy, Item, Overwritten, Addr, Cid, Group, Job, RootAnswer, Found, Failed, Deadline, cleaned, members_of, awaits, Machine, Entry, entry_at, Effect, nothing_more, on_entry, for_each, peer_at, peer_is_ordinary, with_entry, ending, due, fires_as, fires, fires_some, fire_due, fire_all, clock_shows, peer_connects, dialed, dial_ends, comes_ordinary, locals_are, comes_big, roots_say, roots_answer, handled, handles, faulted, fed_with, feeds, comes_in}
 use Rattle.laws.proofs.Walk.{Scope, Stands, found-stands, Kept, on_found, fires-walk, dialed-walk, big-walk, handled-walk, faulted-walk}
 use Rattle.laws.proofs.Numbers.{GivesNone, GivesOne, ending-none, for_each-none, gains_then, none_then, numbers_of, one_more, peer_comes-none, turns_at-none, unchanged, vanishes-none}
 use Rattle.laws.proofs.Connects.{connects-cases}

@@ -1,21 +1,7 @@
 -- How many ids the governor's orders give out: each promotion one at most.
 use Rattle.std.proofs.Common.{ℕ, ◌+◌, ◌≤◌, ◌≡◌, Bool, cond, not, List, [], ◌∷◌, length, map, filter, find, count_by, refl, sym, subst, arith}
-use Rattle.std.proofs.lemmas.Bool.{cond_both}
-use Rattle.std.proofs.lemmas.List.Sums.{sum_by-cons}
-use Rattle.conn_state.specs.Moves.{released, acquired}
-use Rattle.conn_state.specs.Use.{is_acquirable}
-use Rattle.govern_rules.specs.declared.order.Order.{Order}
-use Rattle.govern_rules.specs.declared.order.Order.TheVariants.{Promote}
-use Rattle.net_base.specs.Address.{same_address}
-use Rattle.net_base.specs.declared.address.Addr.{Addr}
-use Rattle.net_base.specs.declared.peer.Peer.{Peer}
-use Rattle.net_base.specs.declared.peer.Temp.TheVariants.{Cold, Warm}
-use Rattle.machine.specs.Machine.{Machine, Entry, live_entry_at}
-use Rattle.machine.specs.Effect.{Effect, for_each}
-use Rattle.machine.specs.Peers.{peer_becomes, peer_was_asked, peer_goes}
-use Rattle.machine.specs.Connections.{with_entry, trim, acquire, release, dial}
-use Rattle.machine.specs.Govern.{promoted_at, promote, is_used_at, on_used, asks_peer, activates, deactivates, carries_out}
-use Rattle.machine.specs.Replies.{owing}
+use Rattle.laws.proofs.Words.{cond_both, sum_by-cons}
+use Rattle.laws.specs.Words.{released, acquired, is_acquirable, Order, Promote, same_address, Addr, Peer, Cold, Warm, Machine, Entry, live_entry_at, Effect, for_each, peer_becomes, peer_was_asked, peer_goes, with_entry, trim, acquire, release, dial, promoted_at, promote, is_used_at, on_used, asks_peer, activates, deactivates, carries_out, owing}
 use Rattle.laws.proofs.Walk.{says_done-machine}
 use Rattle.laws.proofs.PeersApart.{filter-apart}
 use Rattle.laws.proofs.Numbers.{Gives, changes-gives, connections-gives, gives_more, gives_nothing, gives_then, is_used-gives, numbers_of, on_entry-gives, one_more, trim-gives, unchanged}

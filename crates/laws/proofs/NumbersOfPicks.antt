@@ -1,14 +1,8 @@
 -- Distinct addresses of the book are no more than its peers, and so no more are picked in all.
 use Rattle.std.proofs.Common.{ℕ, ◌+◌, ◌≤◌, ◌≡◌, Bool, true, false, cond, not, ◌&&◌, List, [], ◌∷◌, length, filter, Some, ap, ◌∙◌, arith}
-use Rattle.std.specs.List.{AllByRecursion}
-use Rattle.std.proofs.lemmas.Bool.{and_from, and_right}
-use Rattle.std.proofs.lemmas.List.Sums.{sum_by-cons}
-use Rattle.net_base.specs.Address.{same_address}
-use Rattle.net_base.specs.declared.address.Addr.{Addr}
-use Rattle.net_base.specs.declared.event.Group.{Group}
-use Rattle.net_base.specs.declared.peer.Peer.{Peer}
-use Rattle.peer_book.specs.Book.{is_of, peer_at as peer_in}
-use Rattle.root_groups.specs.Cleaned.{is_listed, members_of}
+use Rattle.laws.proofs.Words.{and_from, and_right, sum_by-cons}
+use Rattle.laws.specs.Words.{AllByRecursion, same_address, Addr, Group, Peer, is_of, is_listed, members_of}
+use Rattle.peer_book.specs.Book.{peer_at as peer_in}
 use Rattle.laws.specs.Steady.{ArePeersApart, AreApart}
 use Rattle.laws.proofs.Chosen.{chosen}
 use Rattle.laws.proofs.Lists.{all-both}

@@ -1,28 +1,8 @@
 -- How many ids the rules give out: each peer is dialed once at most.
 use Rattle.std.proofs.Common.{ℕ, ◌+◌, ◌-◌, ◌≡◌, Bool, true, false, not, ◌&&◌, ◌||◌, List, [], ◌∷◌, ◌++◌, length, map, flat_map, sym, ap, ◌∙◌, subst, arith}
-use Rattle.std.specs.List.{AllByRecursion}
-use Rattle.std.proofs.lemmas.Bool.{cond_both, and_parts, and_from}
-use Rattle.std.proofs.lemmas.List.{map-append}
-use Rattle.govern_rules.specs.BigRules.{big_orders}
-use Rattle.govern_rules.specs.Candidates.{is_eligible, may_be_deactivated}
-use Rattle.govern_rules.specs.ClassRules.{active_target}
+use Rattle.laws.proofs.Words.{cond_both, and_parts, and_from, map-append}
+use Rattle.laws.specs.Words.{AllByRecursion, big_orders, is_eligible, may_be_deactivated, active_target, orders_for, is_not_local, is_member_and, members_count, g4_orders, g5_orders, g9_orders, B5, Order, Ask, Forget, Promote, Release, Activate, Deactivate, AskRoots, Addr, Group, Peer, active_of, is_of, is_established, is_listed, members_of, may_ask, asked, Machine, Effect, nothing_more, tells, then_do, for_each, release, link_of, view_of, asks_peer, activates, deactivates, carries_out, ordinary_rules, big_rules, rules, govern}
 use Rattle.govern_rules.specs.Links.{is_pending as is_pending_link}
-use Rattle.govern_rules.specs.Orders.{orders_for}
-use Rattle.govern_rules.specs.Rules.{is_not_local, is_member_and, members_count, g4_orders, g5_orders, g9_orders}
-use Rattle.govern_rules.specs.declared.big_rule.BigRule.TheVariants.{B5}
-use Rattle.govern_rules.specs.declared.order.Order.{Order}
-use Rattle.govern_rules.specs.declared.order.Order.TheVariants.{Ask, Forget, Promote, Release, Activate, Deactivate}
-use Rattle.net_base.specs.declared.action.Action.TheVariants.{AskRoots}
-use Rattle.net_base.specs.declared.address.Addr.{Addr}
-use Rattle.net_base.specs.declared.event.Group.{Group}
-use Rattle.net_base.specs.declared.peer.Peer.{Peer}
-use Rattle.peer_book.specs.Book.{active_of, is_of, is_established}
-use Rattle.root_groups.specs.Cleaned.{is_listed, members_of}
-use Rattle.root_groups.specs.RootAsk.{may_ask, asked}
-use Rattle.machine.specs.Machine.{Machine}
-use Rattle.machine.specs.Effect.{Effect, nothing_more, tells, then_do, for_each}
-use Rattle.machine.specs.Connections.{release}
-use Rattle.machine.specs.Govern.{link_of, view_of, asks_peer, activates, deactivates, carries_out, ordinary_rules, big_rules, rules, govern}
 use Rattle.laws.specs.Steady.{IsFormed, GivesFew, ArePeersApart, AreApart}
 use Rattle.laws.proofs.Chosen.{chosen, chosen-apart, PicksMembers, picks-listed, groups_picks-apart, groups_picks-all, map-groups, group_picks}
 use Rattle.laws.proofs.Lists.{all-both}

@@ -1,26 +1,7 @@
 -- No item closes a connection for its time-wait: what still stands stands open.
 use Rattle.std.proofs.Common.{ℕ, ◌+◌, ◌≡◌, Bool, true, false, ◌==◌, if◌then◌else◌, Option, Some, None, Result, Ok, Err, refl, sym, ap, ◌∙◌, subst, eq-eqb}
-use Rattle.conn_state.specs.Moves.{agreed_inbound, agreed_outbound, awakened}
-use Rattle.conn_state.specs.Use.{is_live, runs, agreed_sharing}
-use Rattle.hs_decide.specs.Agreement.{verdict_of}
-use Rattle.hs_decide.specs.declared.verdict.Verdict.{Verdict}
-use Rattle.hs_decide.specs.declared.verdict.Verdict.TheVariants as verdict
-use Rattle.hs_message.specs.Reading.{message_of}
-use Rattle.hs_message.specs.declared.message.Message.{Message}
-use Rattle.mux_segment.specs.declared.item.Item.{Item}
-use Rattle.net_base.specs.declared.action.FaultKind.{FaultKind}
-use Rattle.net_base.specs.declared.connection.Cid.{Cid}
-use Rattle.net_base.specs.declared.connection.Phase.{Phase}
-use Rattle.net_base.specs.declared.connection.Phase.TheVariants.{Greeting, Negotiated}
-use Rattle.remote_watch.specs.Watch.{watched}
-use Rattle.remote_watch.specs.declared.seen.Seen.{Seen}
-use Rattle.machine.specs.Connections.{with_entry}
-use Rattle.machine.specs.Effect.{on_entry}
-use Rattle.machine.specs.Greeting.{role_of}
-use Rattle.machine.specs.Machine.{Machine, Entry, entry_at}
-use Rattle.machine.specs.Own.{own_info}
-use Rattle.machine.specs.Replies.{paid}
-use Rattle.machine.specs.Stream.{handled, handles}
+use Rattle.laws.specs.Words.{agreed_inbound, agreed_outbound, awakened, is_live, runs, agreed_sharing, verdict_of, Verdict, message_of, Message, Item, FaultKind, Cid, Phase, Greeting, Negotiated, watched, Seen, with_entry, on_entry, role_of, Machine, Entry, entry_at, own_info, paid, handled, handles}
+use Rattle.laws.specs.Words.verdict
 use Rattle.laws.specs.Acts.{handles_item}
 use Rattle.laws.specs.Untouched.{IsAsItWas}
 use Rattle.laws.specs.Steady.{IsOrdered}

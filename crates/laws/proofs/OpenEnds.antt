@@ -1,20 +1,7 @@
 -- A connection that stands open stays so or ends once, in each part of an event.
 use Rattle.std.proofs.Common.{ℕ, ◌+◌, ◌≤◌, ◌≡◌, Bool, true, false, ◌||◌, ◌==◌, nat_lt, if◌then◌else◌, cond, flat_map, List, [], ◌∷◌, ◌++◌, find, Option, Some, None, refl, sym, ap, ◌∙◌, subst, arith, eqb-true, eq-eqb}
-use Rattle.std.specs.List.{list_any}
-use Rattle.std.specs.Option.{option_map, option_or}
-use Rattle.std.proofs.lemmas.Bool.{both_ways, false≢true, or_left, or_right}
-use Rattle.std.proofs.lemmas.List.Folds.{list_any-append, find-append}
-use Rattle.conn_state.specs.Moves.{dialing, accepted}
-use Rattle.conn_state.specs.Use.{has_id, is_live, live_phase}
-use Rattle.net_base.specs.declared.action.Action.TheVariants.{Send}
-use Rattle.net_base.specs.declared.action.CloseCause.{CloseCause}
-use Rattle.net_base.specs.declared.connection.Phase.{Phase}
-use Rattle.net_base.specs.declared.connection.Phase.TheVariants.{Closing}
-use Rattle.machine.specs.Connections.{entry_goes, with_entry, without_entry, entry_turns, lost_by, ending, vanishes, closing_entry, dial}
-use Rattle.machine.specs.Effect.{Effect, Happened, Move, ended, unused, nothing_more, tells, then_do, as_move}
-use Rattle.machine.specs.Events.{turned_away, admitted}
-use Rattle.machine.specs.Machine.{Machine, Entry, fresh_entry, entry_at}
-use Rattle.machine.specs.Peers.{peer_changes, peer_goes, peer_at, peer_comes}
+use Rattle.laws.proofs.Words.{both_ways, false≢true, or_left, or_right, list_any-append, find-append}
+use Rattle.laws.specs.Words.{list_any, option_map, option_or, dialing, accepted, has_id, is_live, live_phase, Send, CloseCause, Phase, Closing, entry_goes, with_entry, without_entry, entry_turns, lost_by, ending, vanishes, closing_entry, dial, Effect, Happened, Move, ended, unused, nothing_more, tells, then_do, as_move, turned_away, admitted, Machine, Entry, fresh_entry, entry_at, peer_changes, peer_goes, peer_at, peer_comes}
 use Rattle.laws.specs.Acts.{Act, shows, sets_targets, sets_big_targets, sets_groups, sets_roots, asks_for_roots, does}
 use Rattle.laws.specs.AtMoves.{ends, is_ended_in}
 use Rattle.laws.specs.OpenEnds.{is_open_entry, is_open_at, goes_by_itself, IsOpenEnd, OpenEndsOnce}

@@ -1,17 +1,8 @@
 -- The orders of each rule may be carried out, one after the other: each is due, and there are ids left, since all of them together
 -- give out few.
 use Rattle.std.proofs.Common.{ℕ, ◌+◌, ◌^◌, ◌≤◌, ◌≡◌, true, not, ◌||◌, List, [], ◌∷◌, ◌++◌, IsSomeAnd, refl, sym, subst, arith}
-use Rattle.std.proofs.lemmas.Bool.{cond_both}
-use Rattle.net_base.specs.declared.action.Action.TheVariants.{AskRoots}
-use Rattle.net_base.specs.declared.peer.Temp.TheVariants.{Cold}
-use Rattle.conn_state.specs.Use.{is_acquirable}
-use Rattle.root_groups.specs.RootAsk.{may_ask, asked}
-use Rattle.govern_rules.specs.declared.order.Order.{Order}
-use Rattle.govern_rules.specs.declared.order.Order.TheVariants.{Ask, Forget, Promote, Release}
-use Rattle.machine.specs.Machine.{Machine, counted_in}
-use Rattle.machine.specs.Effect.{nothing_more, tells, for_each}
-use Rattle.machine.specs.Peers.{peer_at}
-use Rattle.machine.specs.Govern.{carries_out, asks_roots, ordinary_rules, big_rules, rules}
+use Rattle.laws.proofs.Words.{cond_both}
+use Rattle.laws.specs.Words.{AskRoots, Cold, is_acquirable, may_ask, asked, Order, Ask, Forget, Promote, Release, Machine, counted_in, nothing_more, tells, for_each, peer_at, carries_out, asks_roots, ordinary_rules, big_rules, rules}
 use Rattle.laws.specs.Acts.{orders_of}
 use Rattle.laws.specs.AtMoves.{some_connection}
 use Rattle.laws.specs.OrderNeeds.{MayGovern, MayCarry, MayAll, MayFollow}

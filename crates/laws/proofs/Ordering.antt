@@ -1,33 +1,8 @@
 -- Each order of the governor is due: whom a rule picks is one that it may be for, and it picks as many as are too few or too many.
 use Rattle.std.proofs.Common.{ℕ, ◌+◌, ◌-◌, ◌≤◌, ◌<◌, ◌≡◌, Bool, true, false, cond, not, ◌&&◌, ◌||◌, nat_le, nat_lt, min, if◌then◌else◌, List, [], ◌∷◌, ◌++◌, length, map, filter, flat_map, count_by, Option, Some, refl, sym, ap, ◌∙◌, subst, arith, leb-true, find, is_some, None}
-use Rattle.std.specs.List.{AllByRecursion}
-use Rattle.std.proofs.lemmas.Bool.{both_ways, and_parts, not-true, false≢true, or_parts}
-use Rattle.std.proofs.lemmas.List.Elements.{All-from_recursion}
-use Rattle.std.proofs.lemmas.List.Sums.{sum_by-cons, sum_by-append, count_by-le-length}
-use Rattle.net_base.specs.Address.{same_address}
-use Rattle.net_base.specs.declared.address.Addr.{Addr}
-use Rattle.net_base.specs.declared.event.Group.{Group}
-use Rattle.net_base.specs.declared.peer.Peer.{Peer}
-use Rattle.net_base.specs.declared.peer.Temp.TheVariants.{Cold, Warm, Hot}
-use Rattle.churn_clock.specs.Windows.{effective_of, effective_big_of}
-use Rattle.conn_state.specs.Use.{is_acquirable, is_pending, is_live, is_live_at}
-use Rattle.govern_rules.specs.BigRules.{everybody, big_orders}
-use Rattle.govern_rules.specs.Candidates.{may_be_asked, is_eligible, may_be_forgotten, may_be_released, may_be_activated, may_be_deactivated}
-use Rattle.govern_rules.specs.ClassRules.{count_of}
-use Rattle.govern_rules.specs.Links.{is_linked, is_pending as is_pending_link, is_acquirable as is_acquirable_link, owes_on_2, owes_on_10, owes_a_reply, can_share, some_link}
-use Rattle.govern_rules.specs.Orders.{orders_for}
-use Rattle.govern_rules.specs.Rules.{is_not_local, may_be_dropped, is_member_and, members_count, missing_of, g2_orders, g3_orders, g4_orders, g5_orders, g6_orders, g7_orders, g8_orders, g9_orders}
-use Rattle.govern_rules.specs.declared.big_rule.BigRule.TheVariants.{B3, B5, B6, B8, B9}
-use Rattle.govern_rules.specs.declared.link.Link.{Link}
-use Rattle.govern_rules.specs.declared.order.Order.{Order}
-use Rattle.govern_rules.specs.declared.order.Order.TheVariants.{Ask, Forget, Promote, Release, Activate, Deactivate}
-use Rattle.peer_book.specs.Book.{is_of, is_established, same_temp, known_of, established_of, active_of}
-use Rattle.pick_policy.proofs.LeastLaws.{count_none}
-use Rattle.root_groups.specs.Cleaned.{is_listed}
-use Rattle.machine.specs.Effect.{for_each, Effect, Move}
-use Rattle.machine.specs.Govern.{link_of, view_of, carries_out, ordinary_rules, big_rules, is_used_at}
-use Rattle.machine.specs.Machine.{Machine, Entry, counted_in, live_entry_at}
-use Rattle.machine.specs.Peers.{peer_at}
+use Rattle.laws.proofs.Words.{both_ways, and_parts, not-true, false≢true, or_parts, All-from_recursion, sum_by-cons, sum_by-append, count_by-le-length, count_none}
+use Rattle.laws.specs.Words.{AllByRecursion, same_address, Addr, Group, Peer, Cold, Warm, Hot, effective_of, effective_big_of, is_acquirable, is_pending, is_live, is_live_at, everybody, big_orders, may_be_asked, is_eligible, may_be_forgotten, may_be_released, may_be_activated, may_be_deactivated, count_of, is_linked, owes_on_2, owes_on_10, owes_a_reply, can_share, some_link, orders_for, is_not_local, may_be_dropped, is_member_and, members_count, missing_of, g2_orders, g3_orders, g4_orders, g5_orders, g6_orders, g7_orders, g8_orders, g9_orders, B3, B5, B6, B8, B9, Link, Order, Ask, Forget, Promote, Release, Activate, Deactivate, is_of, is_established, same_temp, known_of, established_of, active_of, is_listed, for_each, Effect, Move, link_of, view_of, carries_out, ordinary_rules, big_rules, is_used_at, Machine, Entry, counted_in, live_entry_at, peer_at, reply_on}
+use Rattle.govern_rules.specs.Links.{is_pending as is_pending_link, is_acquirable as is_acquirable_link}
 use Rattle.laws.specs.AtMoves.{some_connection, number_with, members_with, known_wanted, established_wanted, active_wanted, IsLawful, IsReady}
 use Rattle.laws.specs.CarriedOut.{IsUnset}
 use Rattle.laws.specs.Laws.{is_local}
@@ -54,7 +29,6 @@ use Rattle.laws.proofs.Trims.{Trimmed, trimmed_both, trimmed-within}
 use Rattle.laws.proofs.Lawful.{IsAllowed, Within, allowed_within}
 use Rattle.laws.specs.OrderNeeds.{IsFree}
 use Rattle.laws.proofs.WholeMoves.{IsWarm}
-use Rattle.machine.specs.Replies.{reply_on}
 
 -- ---- one order after the other
 

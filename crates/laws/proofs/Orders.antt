@@ -1,26 +1,7 @@
 -- The governor's orders, one by one: the connections stay in order and within the limit, and peers tied to them.
 use Rattle.std.proofs.Common.{ℕ, ◌+◌, ◌≤◌, ◌≡◌, Bool, true, false, ◌&&◌, not, ◌||◌, ◌==◌, if◌then◌else◌, List, [], ◌∷◌, find, set, sum_by, Option, Some, None, is_some, refl, sym, ap, ◌∙◌, subst, arith}
-use Rattle.std.specs.List.{AllByRecursion}
-use Rattle.std.proofs.lemmas.Bool.{cond_both, both_ways, false≢true, and_parts, or_left, or_right}
-use Rattle.net_base.specs.Address.{same_address}
-use Rattle.net_base.specs.declared.address.Addr.{Addr}
-use Rattle.net_base.specs.declared.connection.Facts.{Facts}
-use Rattle.net_base.specs.declared.peer.Peer.{Peer}
-use Rattle.net_base.specs.declared.peer.Temp.TheVariants.{Cold, Warm}
-use Rattle.conn_state.specs.Counted.{is_counted}
-use Rattle.conn_state.specs.Moves.{released}
-use Rattle.conn_state.specs.Use.{agreed_sharing, is_live, is_live_at, is_negotiated, is_pending}
-use Rattle.govern_rules.specs.declared.order.Order.{Order}
-use Rattle.govern_rules.specs.declared.order.Order.TheVariants.{Ask, Forget, Release, Activate, Deactivate}
-use Rattle.peer_book.specs.Book.{is_established}
-use Rattle.machine.specs.Machine.{Machine, Entry, counted_in, live_entry_at}
-use Rattle.machine.specs.Effect.{Effect, Move, activated, nothing_more, then_do, as_move, for_each, on_entry}
-use Rattle.machine.specs.Peers.{peer_at, peer_becomes, peer_was_asked, peer_goes}
-use Rattle.machine.specs.Replies.{sends_as_initiator, owing, reply_on, peer_sharing_done, chain_sync_done, find_intersect}
-use Rattle.machine.specs.Connections.{with_entry, entry_turns, says_done, trim, release}
-use Rattle.machine.specs.Govern.{is_used_at, on_used, asks_peer, activates, deactivates, carries_out}
-use Rattle.warm_messages.specs.Writing.{written_alive, written_request}
-use Rattle.warm_messages.specs.declared.alive.Alive.TheVariants.{Done}
+use Rattle.laws.proofs.Words.{cond_both, both_ways, false≢true, and_parts, or_left, or_right}
+use Rattle.laws.specs.Words.{AllByRecursion, same_address, Addr, Facts, Peer, Cold, Warm, is_counted, released, agreed_sharing, is_live, is_live_at, is_negotiated, is_pending, Order, Ask, Forget, Release, Activate, Deactivate, is_established, Machine, Entry, counted_in, live_entry_at, Effect, Move, activated, nothing_more, then_do, as_move, for_each, on_entry, peer_at, peer_becomes, peer_was_asked, peer_goes, sends_as_initiator, owing, reply_on, peer_sharing_done, chain_sync_done, find_intersect, with_entry, entry_turns, says_done, trim, release, is_used_at, on_used, asks_peer, activates, deactivates, carries_out, written_alive, written_request, Done}
 use Rattle.laws.specs.AtMoves.{IsReady, IsLawful, is_up_connection, is_up, is_hot_peer, is_asked_connection, is_hot_or_asked, is_known, promotes, activates as activation, shares}
 use Rattle.laws.specs.Steady.{AreTied, IsAlone, TiedBy, IsTied, IsOrdered}
 use Rattle.laws.proofs.Addresses.{same_address-true}

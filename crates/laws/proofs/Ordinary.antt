@@ -1,16 +1,9 @@
 -- Local peers are ordinary ones, through each change of the book.
 use Rattle.std.proofs.Common.{◌≡◌, Bool, true, false, nat_le, ◌||◌, List, [], ◌∷◌, length, Option, Some, None, is_some, if◌then◌else◌, refl, sym, ◌∙◌, subst}
-use Rattle.std.proofs.lemmas.Bool.{cond_both}
-use Rattle.net_base.specs.Address.{same_address}
+use Rattle.laws.proofs.Words.{cond_both}
+use Rattle.laws.specs.Words.{same_address, Addr, Peer, without_peer, new_peer, entered_by, entered, most_peers, New, Present, Full, is_listed, members_of, Machine, for_each, peer_at, turns_at, peer_is_ordinary}
 use Rattle.net_base.specs.declared.action.Away.TheVariants.{Present, Full}
-use Rattle.net_base.specs.declared.address.Addr.{Addr}
-use Rattle.net_base.specs.declared.peer.Peer.{Peer}
-use Rattle.peer_book.specs.Book.{peer_at as peer_in, with_peer as with_peer_in, with_new as with_new_in, without_peer, new_peer, entered_by, entered, most_peers}
-use Rattle.peer_book.specs.declared.added.Added.TheVariants.{New, Present, Full}
-use Rattle.root_groups.specs.Cleaned.{is_listed, members_of}
-use Rattle.machine.specs.Machine.{Machine}
-use Rattle.machine.specs.Effect.{for_each}
-use Rattle.machine.specs.Peers.{peer_at, turns_at, peer_is_ordinary}
+use Rattle.peer_book.specs.Book.{peer_at as peer_in, with_peer as with_peer_in, with_new as with_new_in}
 use Rattle.laws.specs.Laws.{is_local, LocalsAreOrdinary}
 use Rattle.laws.proofs.Addresses.{same_address-true}
 use Rattle.laws.proofs.Ties.{found-addr, peer_elsewhere, peer_here, put_in-elsewhere, put_in-here, none_there, taken-elsewhere, taken-here}

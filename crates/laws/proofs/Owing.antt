@@ -1,11 +1,7 @@
 -- What is owed on a connection, through each change of it.
 use Rattle.std.proofs.Common.{ℕ, ◌+◌, ◌<◌, ◌≡◌, Bool, true, false, cond, not, ◌||◌, ◌==◌, nat_lt, List, [], ◌∷◌, ◌++◌, filter, find, is_some, Some, All, AllPairs, refl, sym, ap, ◌∙◌, subst, arith, ltb-true}
-use Rattle.std.proofs.lemmas.Bool.{both_ways, false≢true}
-use Rattle.std.proofs.lemmas.List.Elements.{All-nil, All-head, All-tail, All-cons, All-filter, All-append, All-weaker, filter_passes}
-use Rattle.std.proofs.lemmas.List.Kept.{AllPairs-cons, AllPairs-filter}
-use Rattle.conn_state.specs.Use.{agreed_sharing}
-use Rattle.machine.specs.Machine.{Machine, Entry, Owed}
-use Rattle.machine.specs.Replies.{with_reply, without_reply, reply_on, owing, paid, is_owed_on}
+use Rattle.laws.proofs.Words.{both_ways, false≢true, All-nil, All-head, All-tail, All-cons, All-filter, All-append, All-weaker, filter_passes, AllPairs-cons, AllPairs-filter}
+use Rattle.laws.specs.Words.{agreed_sharing, Machine, Entry, Owed, with_reply, without_reply, reply_on, owing, paid, is_owed_on}
 use Rattle.laws.specs.Steady.{IsOwing}
 use Rattle.laws.proofs.Lists.{AllPairs-head, AllPairs-tail}
 use Rattle.laws.proofs.Cases.{by_bool}

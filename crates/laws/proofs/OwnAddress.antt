@@ -1,23 +1,9 @@
 -- The own address is neither a member of the groups, nor a public root peer, nor taken of what a peer told, nor wanted
 -- as that of a big ledger peer.
 use Rattle.std.proofs.Common.{ℕ, ◌≡◌, Bool, true, false, ◌&&◌, not, nat_lt, is_some, List, [], ◌∷◌, All}
-use Rattle.std.proofs.lemmas.Bool.{and_parts, or_parts, not-true}
-use Rattle.std.proofs.lemmas.List.Elements.{All-weaker, All-take, All-from_recursion}
-use Rattle.net_base.specs.Address.{same_address}
-use Rattle.net_base.specs.declared.address.Addr.{Addr}
-use Rattle.net_base.specs.declared.event.Group.{Group}
-use Rattle.net_base.specs.declared.peer.Peer.{Peer}
-use Rattle.net_base.specs.declared.settings.Settings.{Settings}
-use Rattle.govern_rules.specs.Rules.{is_not_local}
-use Rattle.peer_book.specs.Book.{peer_at as peer_in, known_of}
-use Rattle.machine.specs.Machine.{Machine}
-use Rattle.machine.specs.Peers.{peer_at}
-use Rattle.machine.specs.Provided.{is_wanted_big}
-use Rattle.churn_clock.specs.Windows.{effective_big_of}
-use Rattle.root_groups.specs.Cleaned.{is_listed, first_places, cleaned, members_of}
-use Rattle.root_groups.specs.RootAsk.{publics_of}
-use Rattle.share_rounds.specs.Rounds.{fits_version, is_new, fresh_of}
-use Rattle.share_rounds.proofs.Rules.{taken_are_new}
+use Rattle.laws.proofs.Words.{and_parts, or_parts, not-true, All-weaker, All-take, All-from_recursion, taken_are_new}
+use Rattle.laws.specs.Words.{same_address, Addr, Group, Peer, Settings, is_not_local, known_of, Machine, peer_at, is_wanted_big, effective_big_of, is_listed, first_places, cleaned, members_of, publics_of, fits_version, is_new, fresh_of}
+use Rattle.peer_book.specs.Book.{peer_at as peer_in}
 use Rattle.laws.specs.Laws.{is_local}
 use Rattle.laws.proofs.GroupsApart.{NoneListed, first_places-none, cleaned-none}
 use Rattle.laws.proofs.Locals.{not_local-no_member}

@@ -1,29 +1,7 @@
 -- The parts of each event are lawful.
 use Rattle.std.proofs.Common.{ℕ, zero, suc, ◌≤◌, ◌≡◌, Bool, true, false, ◌||◌, nat_le, if◌then◌else◌, List, [], ◌∷◌, ◌++◌, map, length, refl, sym, ap, subst, arith}
-use Rattle.std.specs.List.{AllByRecursion}
-use Rattle.std.proofs.lemmas.Bool.{or_left, or_right, false≢true}
-use Rattle.conn_state.specs.Use.{has_id, is_live, is_greeting, is_negotiated}
-use Rattle.govern_rules.specs.declared.order.Order.{Order}
-use Rattle.mux_segment.specs.Stream.{FedBy}
-use Rattle.mux_segment.specs.declared.item.Item.{Item}
-use Rattle.net_base.specs.Address.{same_address}
-use Rattle.net_base.specs.declared.address.Addr.{Addr}
-use Rattle.net_base.specs.declared.connection.Cid.{Cid}
-use Rattle.net_base.specs.declared.event.Event.{Event}
-use Rattle.net_base.specs.declared.event.Event.TheVariants.{Now, Govern, Accepted, Dialed, Bytes, Closed, Aims, Locals, Roots, BigAims, Bigs}
-use Rattle.net_base.specs.declared.event.Group.{Group}
-use Rattle.net_base.specs.declared.event.RootAnswer.{RootAnswer}
-use Rattle.net_base.specs.declared.event.RootAnswer.TheVariants.{Found, Failed}
-use Rattle.root_groups.specs.Cleaned.{is_listed, cleaned, members_of}
-use Rattle.root_groups.specs.RootAsk.{awaits, publics_of, found}
-use Rattle.machine.specs.Connections.{with_entry, entry_turns}
-use Rattle.machine.specs.Deadlines.{deadlines, due, fires}
-use Rattle.machine.specs.Effect.{Effect, for_each}
-use Rattle.machine.specs.Govern.{carries_out, asks_roots, ordinary_rules, big_rules, rules}
-use Rattle.machine.specs.Machine.{Machine, Entry, counted_in, entry_at}
-use Rattle.machine.specs.Peers.{peer_is_ordinary}
-use Rattle.machine.specs.Provided.{comes_ordinary, comes_big}
-use Rattle.machine.specs.Stream.{handles}
+use Rattle.laws.proofs.Words.{or_left, or_right, false≢true}
+use Rattle.laws.specs.Words.{AllByRecursion, has_id, is_live, is_greeting, is_negotiated, Order, FedBy, Item, same_address, Addr, Cid, Event, Now, Govern, Accepted, Dialed, Bytes, Closed, Aims, Locals, Roots, BigAims, Bigs, Group, RootAnswer, Found, Failed, is_listed, cleaned, members_of, awaits, publics_of, found, with_entry, entry_turns, deadlines, due, fires, Effect, for_each, carries_out, asks_roots, ordinary_rules, big_rules, rules, Machine, Entry, counted_in, entry_at, peer_is_ordinary, comes_ordinary, comes_big, handles, step}
 use Rattle.laws.specs.Acts.{Act, shows, fires_one, asks_for_roots, carries, connects, ends_dial, stores, handles_item, ends_stream, is_closed, sets_targets, sets_big_targets, sets_groups, sets_roots, makes_ordinary, provides, provides_big, does, fired_from, fired, orders_of, acts_at_moment, acts_fed, acts_of_bytes, acts_of_answer, acts, parts_of}
 use Rattle.laws.specs.AtMoves.{IsLawful, is_known, is_provided_by, fed_on}
 use Rattle.laws.specs.Parts.{IsLawfulEvent, IsLawfulPart}
@@ -50,7 +28,6 @@ use Rattle.laws.proofs.Trims.{Trimmed, trimmed-within}
 use Rattle.laws.proofs.WholeEvents.{ordered_of, formed_at_moment, fires-keeps}
 use Rattle.laws.proofs.WholeMoves.{decodes-keeps}
 use Rattle.laws.proofs.Cases.{by_bool, by_option}
-use Rattle.machine.specs.Step.{step}
 
 -- ---- the clock
 

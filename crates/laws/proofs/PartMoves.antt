@@ -1,14 +1,7 @@
 -- Each part of an event is lawful.
 use Rattle.std.proofs.Common.{ℕ, ◌≡◌, Bool, true, false, ◌||◌, List, [], ◌∷◌, ◌++◌, Option, Some, None, refl, sym, subst, arith, nat_lt}
-use Rattle.std.specs.List.{AllByRecursion}
-use Rattle.std.proofs.lemmas.Bool.{false≢true, or_left}
-use Rattle.net_base.specs.declared.address.Addr.{Addr}
-use Rattle.net_base.specs.declared.connection.Phase.{Phase}
-use Rattle.net_base.specs.declared.connection.Phase.TheVariants.{Negotiated}
-use Rattle.net_base.specs.declared.event.Event.{Event}
-use Rattle.conn_state.specs.Use.{is_negotiated_phase}
-use Rattle.machine.specs.Effect.{Effect, for_each, nothing_more, then_do}
-use Rattle.machine.specs.Machine.{Machine, Entry, entry_at}
+use Rattle.laws.proofs.Words.{false≢true, or_left, list_any-append}
+use Rattle.laws.specs.Words.{AllByRecursion, Addr, Phase, Negotiated, Event, is_negotiated_phase, Effect, for_each, nothing_more, then_do, Machine, Entry, entry_at}
 use Rattle.laws.specs.Acts.{Act, does, parts_from}
 use Rattle.laws.specs.AtMoves.{is_negotiated_entry, is_negotiated_at, is_ended_in, is_closed_by, is_up, is_hot_or_asked, is_known, promotes, activates, is_shared_in, is_provided_by, shares, ends}
 use Rattle.laws.specs.CarriedOut.{IsDoneByOrder}
@@ -34,7 +27,6 @@ use Rattle.laws.proofs.Walk.{Finds}
 use Rattle.laws.proofs.WaitsOfParts.{waits-right, leaves-rest, is-set}
 use Rattle.laws.proofs.Rises.{NoneConnected, or_each, hot_or_asked-down, rises_nowhere, same-connected, rises_by_then}
 use Rattle.laws.proofs.Chain.{each_appended}
-use Rattle.std.proofs.lemmas.List.Folds.{list_any-append}
 
 -- ---- who was negotiated before it
 

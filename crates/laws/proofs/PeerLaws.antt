@@ -1,14 +1,7 @@
 -- The laws on peers, from what ties them to connections.
 use Rattle.std.proofs.Common.{ℕ, ◌≤◌, ◌≡◌, true, false, ◌&&◌, ◌||◌, Option, Some, None, refl, sym, ap, ◌∙◌, subst}
-use Rattle.std.proofs.lemmas.Bool.{both_ways, false≢true, and_parts, and_from}
-use Rattle.net_base.specs.declared.address.Addr.{Addr}
-use Rattle.net_base.specs.declared.peer.Peer.{Peer}
-use Rattle.net_base.specs.declared.peer.Temp.{Temp}
-use Rattle.net_base.specs.declared.peer.Temp.TheVariants.{Cold, Hot}
-use Rattle.conn_state.specs.Use.{is_negotiated, is_pending, is_live_at}
-use Rattle.peer_book.specs.Book.{is_active, is_established, same_temp}
-use Rattle.machine.specs.Machine.{Machine, Entry, live_entry_at}
-use Rattle.machine.specs.Peers.{peer_at}
+use Rattle.laws.proofs.Words.{both_ways, false≢true, and_parts, and_from}
+use Rattle.laws.specs.Words.{Addr, Peer, Temp, Cold, Hot, is_negotiated, is_pending, is_live_at, is_active, is_established, same_temp, Machine, Entry, live_entry_at, peer_at}
 use Rattle.laws.specs.Laws.{is_established_peer, is_cold_peer, is_used_connection, is_pending_connection, EstablishedAreUsed, PendingAreCold, UsedAreOutOfBackOff}
 use Rattle.laws.specs.AtMoves.{is_hot_peer}
 use Rattle.laws.specs.Records.{LocalsAreEstablished, HotAreUsed, IsLawfulRecord}

@@ -1,12 +1,8 @@
 -- Peers keep apart in each change of the book.
 use Rattle.std.proofs.Common.{◌≡◌, Bool, true, false, cond, nat_le, List, [], ◌∷◌, length, filter, Some, is_some, if◌then◌else◌, refl, sym, subst}
-use Rattle.std.specs.List.{AllByRecursion}
-use Rattle.std.proofs.lemmas.Bool.{cond_both, both_ways, false≢true}
-use Rattle.net_base.specs.Address.{same_address, address_below}
-use Rattle.net_base.specs.declared.address.Addr.{Addr}
-use Rattle.net_base.specs.declared.peer.Peer.{Peer}
-use Rattle.peer_book.specs.Book.{has_address, peer_at, with_peer, with_new, entered_by, entered, most_peers}
-use Rattle.peer_book.specs.declared.added.Added.TheVariants.{New, Present, Full}
+use Rattle.laws.proofs.Words.{cond_both, both_ways, false≢true}
+use Rattle.laws.specs.Words.{AllByRecursion, same_address, address_below, Addr, Peer, has_address, with_peer, with_new, entered_by, entered, most_peers, New, Present, Full}
+use Rattle.peer_book.specs.Book.{peer_at}
 use Rattle.laws.specs.Steady.{ArePeersApart}
 use Rattle.laws.proofs.Addresses.{same_address-self, same_address-true}
 use Rattle.laws.proofs.Cases.{by_bool}

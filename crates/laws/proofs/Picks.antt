@@ -1,17 +1,8 @@
 -- Picks are of the candidates, and no address is picked twice.
 use Rattle.std.proofs.Common.{ℕ, zero, suc, ◌≡◌, Bool, true, false, cond, ◌&&◌, ◌==◌, nat_lt, List, [], ◌∷◌, map, filter, Some, refl, sym, ap, ◌∙◌, subst, arith}
-use Rattle.std.specs.List.{AllByRecursion, best_of}
-use Rattle.std.proofs.lemmas.Bool.{both_ways, false_from_ne_true, and_right, or_from}
-use Rattle.net_base.specs.Address.{address_below, ip_below, same_ip, same_address}
-use Rattle.net_base.specs.declared.address.Ip.{Ip}
-use Rattle.net_base.specs.declared.address.Ip.TheVariants.{V4, V6}
-use Rattle.net_base.specs.declared.address.Addr.{Addr}
-use Rattle.net_base.specs.declared.peer.Peer.{Peer}
-use Rattle.pick_policy.specs.Least.{least_by}
-use Rattle.pick_policy.specs.Scores.{pair_below, score_of, ranked_score_of, scores_below, rates_below}
-use Rattle.pick_policy.specs.declared.rated.Rated.{Rated}
-use Rattle.govern_rules.specs.Orders.{rated_of, picks_of}
-use Rattle.peer_book.specs.Book.{peer_at, addresses_of}
+use Rattle.laws.proofs.Words.{both_ways, false_from_ne_true, and_right, or_from}
+use Rattle.laws.specs.Words.{AllByRecursion, best_of, address_below, ip_below, same_ip, same_address, Ip, V4, V6, Addr, Peer, least_by, pair_below, score_of, ranked_score_of, scores_below, rates_below, Rated, rated_of, picks_of, addresses_of}
+use Rattle.peer_book.specs.Book.{peer_at}
 use Rattle.laws.specs.Steady.{ArePeersApart, AreApart}
 use Rattle.laws.proofs.Addresses.{same_address-true}
 use Rattle.laws.proofs.Lists.{all-weaker}

@@ -1,21 +1,8 @@
 -- Peers are promoted: a connection that stands comes into use, or an address without one is dialed.
 use Rattle.std.proofs.Common.{ℕ, suc, ◌+◌, ◌≡◌, true, false, not, ◌&&◌, ◌||◌, List, [], ◌∷◌, map, find, sum_by, All, Option, Some, None, refl, sym, ap, ◌∙◌, subst, arith, is_some, cond}
-use Rattle.std.proofs.lemmas.Bool.{both_ways, false≢true, and_parts, and_from}
-use Rattle.std.proofs.lemmas.List.Elements.{All-push, All-weaker}
-use Rattle.std.proofs.lemmas.List.Sums.{sum_by_push}
-use Rattle.net_base.specs.Address.{same_address}
-use Rattle.net_base.specs.declared.address.Addr.{Addr}
-use Rattle.net_base.specs.declared.peer.Peer.{Peer}
-use Rattle.conn_state.specs.Moves.{dialing, acquired}
-use Rattle.conn_state.specs.Use.{is_live, is_live_at, is_acquirable, is_negotiated}
-use Rattle.govern_rules.specs.Links.{is_linked, is_acquirable as acquirable_link}
-use Rattle.govern_rules.specs.declared.order.Order.TheVariants.{Promote}
-use Rattle.machine.specs.Machine.{Machine, Entry, fresh_entry, live_entry_at}
-use Rattle.machine.specs.Peers.{peer_at}
-use Rattle.machine.specs.Replies.{owing}
-use Rattle.machine.specs.Connections.{acquire, dial}
-use Rattle.machine.specs.Effect.{Effect, Move, promoted, as_move}
-use Rattle.machine.specs.Govern.{link_of, promoted_at}
+use Rattle.laws.proofs.Words.{both_ways, false≢true, and_parts, and_from, All-push, All-weaker, sum_by_push}
+use Rattle.laws.specs.Words.{same_address, Addr, Peer, dialing, acquired, is_live, is_live_at, is_acquirable, is_negotiated, is_linked, Promote, Machine, Entry, fresh_entry, live_entry_at, peer_at, owing, acquire, dial, Effect, Move, promoted, as_move, link_of, promoted_at, list_any}
+use Rattle.govern_rules.specs.Links.{is_acquirable as acquirable_link}
 use Rattle.laws.specs.AtMoves.{IsReady, is_up_connection, is_up, is_asked_connection, is_hot_or_asked, is_known, promotes, activates, shares, some_connection}
 use Rattle.laws.specs.Laws.{DifferInAddress}
 use Rattle.laws.specs.Steady.{IsShaped, IsOwing, TiedBy, IsOrdered}
@@ -38,7 +25,6 @@ use Rattle.laws.proofs.WholeMoves.{negotiated-live, acquire-keeps}
 use Rattle.laws.proofs.Cases.{by_bool, by_option}
 use Rattle.laws.specs.OrderNeeds.{IsFree}
 use Rattle.laws.specs.Ordered.{is_any}
-use Rattle.std.specs.List.{list_any}
 use Rattle.laws.proofs.Wanted.{linked}
 
 -- ---- a dial

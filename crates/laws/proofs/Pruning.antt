@@ -1,22 +1,8 @@
 -- Who is pruned in a part of an event: one that might go, or the one that moved.
 use Rattle.std.proofs.Common.{ℕ, ◌+◌, ◌≡◌, true, false, ◌||◌, ◌==◌, if◌then◌else◌, find, Some, refl, sym, ap, ◌∙◌, subst, arith, eqb-true}
-use Rattle.std.specs.Option.{option_map, unwrap_or}
-use Rattle.std.proofs.lemmas.Bool.{or_left, or_right}
-use Rattle.accept_gate.specs.Prune.{is_candidate, first_to_go, choice_of}
-use Rattle.conn_state.specs.Moves.{awakened, released}
-use Rattle.conn_state.specs.Use.{has_id}
-use Rattle.govern_rules.specs.declared.order.Order.{Order}
-use Rattle.govern_rules.specs.declared.order.Order.TheVariants.{Release}
-use Rattle.mux_segment.specs.declared.item.Item.{Item}
-use Rattle.net_base.specs.declared.action.CloseCause.TheVariants as cause
-use Rattle.net_base.specs.declared.address.Addr.{Addr}
-use Rattle.net_base.specs.declared.connection.Cid.{Cid}
-use Rattle.net_base.specs.declared.peer.Peer.{Peer}
-use Rattle.net_base.specs.declared.peer.Temp.TheVariants.{Cold}
-use Rattle.machine.specs.Connections.{with_entry, candidates_in}
-use Rattle.machine.specs.Govern.{is_used_at}
-use Rattle.machine.specs.Machine.{Machine, Entry, entry_at}
-use Rattle.machine.specs.Peers.{peer_at}
+use Rattle.laws.proofs.Words.{or_left, or_right}
+use Rattle.laws.specs.Words.{option_map, unwrap_or, is_candidate, first_to_go, choice_of, awakened, released, has_id, Order, Release, Item, Addr, Cid, Peer, Cold, with_entry, candidates_in, is_used_at, Machine, Entry, entry_at, peer_at}
+use Rattle.laws.specs.Words.cause
 use Rattle.laws.specs.Acts.{Act, carries, handles_item, does}
 use Rattle.laws.specs.Ends.{is_candidate_entry, was_used_at, ends_due, IsPrunedByOrder, IsPrunedIn}
 use Rattle.laws.specs.Sound.{IsOrderly}

@@ -1,19 +1,8 @@
 -- What is found by an id after a trim was found before, and a responder that started runs.
 use Rattle.std.proofs.Common.{ℕ, ◌≡◌, Bool, true, false, ◌||◌, ◌==◌, cond, not, nat_le, if◌then◌else◌, List, [], ◌∷◌, map, filter, find, Option, Some, None, refl, sym, ap, ◌∙◌, eqb-true, eq-eqb}
-use Rattle.std.specs.Option.{unwrap_or}
-use Rattle.std.proofs.lemmas.Bool.{cond_both, false≢true}
-use Rattle.net_base.specs.declared.connection.Cid.{Cid}
-use Rattle.net_base.specs.declared.connection.Facts.{Facts}
-use Rattle.net_base.specs.declared.connection.Responders.{Responders}
-use Rattle.accept_gate.specs.Prune.{choice_of}
-use Rattle.conn_state.specs.Moves.{awakened}
-use Rattle.conn_state.specs.Protocols.{has_responder}
-use Rattle.conn_state.specs.Use.{has_id, runs}
-use Rattle.machine.specs.Connections.{with_entry, without_entry, candidates_in, trim, awake, ending}
-use Rattle.machine.specs.Effect.{nothing_more, on_entry}
-use Rattle.machine.specs.Machine.{Machine, Entry, counted_in, entry_at}
+use Rattle.laws.proofs.Words.{cond_both, false≢true}
+use Rattle.laws.specs.Words.{unwrap_or, Cid, Facts, Responders, choice_of, awakened, has_responder, has_id, runs, with_entry, without_entry, candidates_in, trim, awake, ending, nothing_more, on_entry, Machine, Entry, counted_in, entry_at, Pruned}
 use Rattle.laws.proofs.Trims.{lost-connections}
-use Rattle.net_base.specs.declared.action.CloseCause.TheVariants.{Pruned}
 use Rattle.laws.proofs.Cases.{by_bool, some_same}
 
 nothing_found : {Z : Type 0} (x : Entry) → None ≡ Some x → Z

@@ -1,18 +1,7 @@
 -- Which protocols the other side runs after an item of its half.
 use Rattle.std.proofs.Common.{ℕ, ◌+◌, ◌≡◌, Bool, true, false, not, ◌==◌, if◌then◌else◌, Option, Some, None, Result, Ok, Err, refl, sym, ap, ◌∙◌, subst, eq-eqb}
-use Rattle.std.proofs.lemmas.Bool.{false≢true}
-use Rattle.conn_state.specs.Moves.{awakened}
-use Rattle.conn_state.specs.Use.{is_negotiated_phase, agreed_sharing, runs, with_responder}
-use Rattle.mux_segment.specs.declared.item.Item.{Item}
-use Rattle.net_base.specs.declared.action.FaultKind.{FaultKind}
-use Rattle.net_base.specs.declared.connection.Cid.{Cid}
-use Rattle.net_base.specs.declared.connection.Phase.{Phase}
-use Rattle.net_base.specs.declared.connection.Phase.TheVariants.{Negotiated}
-use Rattle.net_base.specs.declared.connection.Responders.{Responders}
-use Rattle.remote_watch.specs.Watch.{watched}
-use Rattle.remote_watch.specs.declared.seen.Seen.{Seen}
-use Rattle.machine.specs.Machine.{Machine, Entry, entry_at}
-use Rattle.machine.specs.Replies.{paid}
+use Rattle.laws.proofs.Words.{false≢true}
+use Rattle.laws.specs.Words.{awakened, is_negotiated_phase, agreed_sharing, runs, with_responder, Item, FaultKind, Cid, Phase, Negotiated, Responders, watched, Seen, Machine, Entry, entry_at, paid}
 use Rattle.laws.specs.Acts.{Act, handles_item, does}
 use Rattle.laws.specs.Responders.{WhereSeen, WhereAsked, WhereThere, RespondsRight}
 use Rattle.laws.specs.Untouched.{IsAsItWas}

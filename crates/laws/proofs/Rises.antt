@@ -1,18 +1,8 @@
 -- Who comes up in a part of a step: one is used or on its way to it, is hot or asked to become so, or is known.
 use Rattle.std.proofs.Common.{ℕ, ◌≡◌, Bool, true, false, cond, ◌||◌, if◌then◌else◌, nat_le, List, [], ◌∷◌, ◌++◌, length, find, Option, Some, None, is_some, refl, sym, ap, ◌∙◌, subst}
-use Rattle.std.specs.List.{list_any}
-use Rattle.std.proofs.lemmas.Bool.{cond_both, both_ways, false≢true, or_left, or_right}
-use Rattle.std.proofs.lemmas.List.Folds.{list_any-append}
-use Rattle.net_base.specs.Address.{same_address}
-use Rattle.net_base.specs.declared.address.Addr.{Addr}
-use Rattle.net_base.specs.declared.peer.Peer.{Peer}
-use Rattle.conn_state.specs.Use.{is_live, is_live_at}
-use Rattle.peer_book.specs.Book.{peer_at as peer_in, with_peer as with_peer_in, with_new as with_new_in, without_peer, new_peer, entered_by, entered, most_peers}
-use Rattle.peer_book.specs.declared.added.Added.TheVariants.{New, Present, Full}
-use Rattle.machine.specs.Machine.{Machine, Entry, live_entry_at}
-use Rattle.machine.specs.Effect.{Effect, Happened, Move, then_do, as_move}
-use Rattle.machine.specs.Peers.{peer_at, turns_at, peer_changes}
-use Rattle.machine.specs.Connections.{with_entry, without_entry}
+use Rattle.laws.proofs.Words.{cond_both, both_ways, false≢true, or_left, or_right, list_any-append}
+use Rattle.laws.specs.Words.{list_any, same_address, Addr, Peer, is_live, is_live_at, without_peer, new_peer, entered_by, entered, most_peers, New, Present, Full, Machine, Entry, live_entry_at, Effect, Happened, Move, then_do, as_move, peer_at, turns_at, peer_changes, with_entry, without_entry}
+use Rattle.peer_book.specs.Book.{peer_at as peer_in, with_peer as with_peer_in, with_new as with_new_in}
 use Rattle.laws.specs.AtMoves.{is_up_connection, is_up, is_hot_peer, is_asked_connection, is_hot_or_asked, is_known, promotes, activates, shares}
 use Rattle.laws.specs.Parts.{RisesBy}
 use Rattle.laws.specs.Sound.{IsOrderly}

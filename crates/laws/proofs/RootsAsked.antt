@@ -1,10 +1,7 @@
 -- The public root peers are asked for where they are wanted.
 use Rattle.std.proofs.Common.{◌≡◌, [], ◌∷◌, if◌then◌else◌, refl}
 use Rattle.laws.specs.Acts.{Act, asks_for_roots, connects, does}
-use Rattle.net_base.specs.declared.action.Action.TheVariants.{AskRoots}
-use Rattle.root_groups.specs.RootAsk.{may_ask, asked}
-use Rattle.machine.specs.Effect.{nothing_more, tells}
-use Rattle.machine.specs.Machine.{Machine}
+use Rattle.laws.specs.Words.{AskRoots, may_ask, asked, nothing_more, tells, Machine}
 use Rattle.laws.specs.RootsAsked.{asked_by, asked_in, roots_asked, AsksRight}
 use Rattle.laws.specs.Parts.{IsNext}
 use Rattle.laws.proofs.Walk.{Finds}

@@ -1,9 +1,7 @@
 -- How a run begins, and how it goes on.
 use Rattle.std.proofs.Common.{◌<◌, arith}
-use Rattle.std.proofs.lemmas.List.Elements.{All-nil}
-use Rattle.net_base.specs.Bounds.{AreSound}
-use Rattle.net_base.specs.declared.settings.Settings.{Settings}
-use Rattle.machine.specs.Machine.{start_of}
+use Rattle.laws.proofs.Words.{All-nil}
+use Rattle.laws.specs.Words.{AreSound, Settings, start_of}
 use Rattle.laws.specs.Sound.{HasGivenId, IsSound}
 
 pub start-sound : (settings : Settings) → AreSound settings → IsSound (start_of settings)

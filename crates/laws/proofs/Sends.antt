@@ -1,50 +1,10 @@
 -- What is due is sent, and nothing else.
 use Rattle.std.proofs.Common.{ℕ, ◌+◌, ◌%◌, ◌≡◌, Bool, true, false, ◌&&◌, ◌==◌, if◌then◌else◌, List, [], ◌++◌, Option, Some, None, Result, Ok, Err, refl, sym, ap, ◌∙◌, subst, eqb-true, append-nil}
-use Rattle.std.specs.Option.{option_map}
-use Rattle.std.proofs.lemmas.Bool.{cond_both, false≢true}
-use Rattle.std.proofs.lemmas.Grind.{flat_map-append}
-use Rattle.conn_state.specs.Moves.{acquired, agreed_inbound, agreed_outbound, connected, idled, released}
-use Rattle.conn_state.specs.Use.{agreed_sharing, has_id, is_acquirable, is_dialing}
-use Rattle.govern_rules.specs.declared.order.Order.{Order}
-use Rattle.govern_rules.specs.declared.order.Order.TheVariants.{Ask, Forget, Promote, Release, Activate, Deactivate}
-use Rattle.hs_decide.specs.Agreement.{verdict_of}
-use Rattle.hs_decide.specs.Answers.{answer_of, proposal_of}
-use Rattle.hs_decide.specs.declared.role.Role.{Role}
-use Rattle.hs_decide.specs.declared.role.Role.TheVariants.{Acceptor, Dialer}
-use Rattle.hs_decide.specs.declared.verdict.Verdict.{Verdict}
-use Rattle.hs_decide.specs.declared.verdict.Verdict.TheVariants as verdict
-use Rattle.hs_message.specs.Reading.{message_of}
-use Rattle.hs_message.specs.declared.message.Message.{Message}
-use Rattle.hs_message.specs.declared.message.Message.TheVariants as message
-use Rattle.hs_receive.specs.Receiving.{fits_side, receives, receives_message}
-use Rattle.mux_segment.specs.declared.item.Item.{Item}
-use Rattle.net_base.specs.declared.action.CloseCause.TheVariants.{Refused, Query, Fault}
-use Rattle.net_base.specs.declared.action.FaultKind.{FaultKind}
-use Rattle.net_base.specs.declared.action.FaultKind.TheVariants.{Malformed, Protocol}
-use Rattle.net_base.specs.declared.address.Addr.{Addr}
-use Rattle.net_base.specs.declared.connection.Cid.{Cid}
-use Rattle.net_base.specs.declared.connection.Facts.{Facts}
-use Rattle.net_base.specs.declared.connection.Phase.{Phase}
-use Rattle.net_base.specs.declared.connection.Phase.TheVariants.{Greeting, Negotiated}
-use Rattle.net_base.specs.declared.connection.Provenance.{Provenance}
-use Rattle.net_base.specs.declared.connection.Provenance.TheVariants.{FromRemote, FromLocal}
-use Rattle.net_base.specs.declared.peer.Peer.{Peer}
-use Rattle.net_base.specs.declared.peer.Temp.TheVariants.{Cold, Warm}
-use Rattle.remote_watch.specs.Watch.{watched}
-use Rattle.remote_watch.specs.declared.seen.Seen.{Seen}
-use Rattle.warm_messages.specs.Writing.{written_alive, written_request}
-use Rattle.warm_messages.specs.declared.alive.Alive.TheVariants.{Ask as AskAlive, Done}
-use Rattle.machine.specs.Connections.{with_entry, entry_turns, ending, is_used, acquire, trim, says_done, release, dial, dial_opens, dial_fails}
-use Rattle.machine.specs.Effect.{Effect, nothing_more, then_do, on_entry}
-use Rattle.machine.specs.Events.{dialed}
-use Rattle.machine.specs.Govern.{promoted_at, asks_peer, activates, deactivates, carries_out}
-use Rattle.machine.specs.Greeting.{role_of, judged, decided, greets, sends_answer}
-use Rattle.machine.specs.Machine.{Machine, Entry, entry_at, live_entry_at}
-use Rattle.machine.specs.Own.{own_info}
-use Rattle.machine.specs.Peers.{peer_at, turns_at, peer_becomes, peer_succeeds, peer_was_asked}
-use Rattle.machine.specs.Replies.{owing, reply_on, sends_as_initiator, peer_sharing_done, find_intersect, chain_sync_done}
-use Rattle.machine.specs.Stream.{handled_in, handled}
-use Rattle.machine.specs.Talking.{stops_if, serves, begins, takes_requests, asked_as, answered_as, talks}
+use Rattle.laws.proofs.Words.{cond_both, false≢true, flat_map-append}
+use Rattle.laws.specs.Words.{option_map, acquired, agreed_inbound, agreed_outbound, connected, idled, released, agreed_sharing, has_id, is_acquirable, is_dialing, Order, Ask, Forget, Promote, Release, Activate, Deactivate, verdict_of, answer_of, proposal_of, Role, Acceptor, Dialer, Verdict, message_of, Message, fits_side, receives, receives_message, Item, Refused, Query, Fault, FaultKind, Malformed, Protocol, Addr, Cid, Facts, Phase, Greeting, Negotiated, Provenance, FromRemote, FromLocal, Peer, Cold, Warm, watched, Seen, written_alive, written_request, Done, with_entry, entry_turns, ending, is_used, acquire, trim, says_done, release, dial, dial_opens, dial_fails, Effect, nothing_more, then_do, on_entry, dialed, promoted_at, asks_peer, activates, deactivates, carries_out, role_of, judged, decided, greets, sends_answer, Machine, Entry, entry_at, live_entry_at, own_info, peer_at, turns_at, peer_becomes, peer_succeeds, peer_was_asked, owing, reply_on, sends_as_initiator, peer_sharing_done, find_intersect, chain_sync_done, handled_in, handled, stops_if, serves, begins, takes_requests, asked_as, answered_as, talks}
+use Rattle.laws.specs.Words.verdict
+use Rattle.laws.specs.Words.message
+use Rattle.warm_messages.specs.declared.alive.Alive.TheVariants.{Ask as AskAlive}
 use Rattle.laws.specs.Acts.{Act, asks_for_roots, carries, connects, ends_dial, handles_item, does}
 use Rattle.laws.specs.Ends.{offered, side_of}
 use Rattle.laws.specs.Sends.{says, keeps_alive, on_one, used_with, due_by_order, answers, comes_into_use, due_by_verdict, by_message, due_of_dialer, due_in_greeting, SendsInUse, SendsByPhase, SendsOnItem, SendsRight}

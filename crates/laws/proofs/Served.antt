@@ -1,38 +1,9 @@
 -- What is answered to what the other side asks.
 use Rattle.std.proofs.Common.{ℕ, ◌+◌, ◌<◌, ◌≤◌, ◌≡◌, Bool, true, false, not, ◌&&◌, ◌||◌, ◌==◌, min, if◌then◌else◌, cond, List, [], ◌∷◌, ◌++◌, length, map, filter, get_or, is_some, Option, Some, None, Result, Ok, Err, refl, sym, ap, ◌∙◌, subst, arith, eqb-true, append-nil}
-use Rattle.std.specs.List.{AllByRecursion, list_any}
-use Rattle.std.proofs.lemmas.Bool.{cond_both, and_parts, and_from, or_left, or_right, false≢true, not-true}
-use Rattle.std.proofs.lemmas.Grind.{flat_map-append}
-use Rattle.std.proofs.lemmas.List.Quantifiers.{position-Some}
-use Rattle.conn_state.specs.Moves.{awakened}
-use Rattle.conn_state.specs.Use.{has_id, is_negotiated_phase, agreed_sharing, runs}
-use Rattle.mux_segment.specs.Frame.{frame_of}
-use Rattle.mux_segment.specs.declared.item.Item.{Item}
-use Rattle.net_base.specs.Address.{same_address}
-use Rattle.net_base.specs.declared.action.CloseCause.TheVariants.{Fault}
-use Rattle.net_base.specs.declared.action.FaultKind.{FaultKind}
-use Rattle.net_base.specs.declared.action.FaultKind.TheVariants.{Protocol}
-use Rattle.net_base.specs.declared.address.Addr.{Addr}
-use Rattle.net_base.specs.declared.connection.Cid.{Cid}
-use Rattle.net_base.specs.declared.connection.Phase.{Phase}
-use Rattle.net_base.specs.declared.connection.Phase.TheVariants.{Negotiated}
-use Rattle.net_base.specs.declared.event.Group.{Group}
-use Rattle.net_base.specs.declared.peer.Peer.{Peer}
-use Rattle.peer_book.specs.Book.{has_address, addresses_of, peer_at as peer_in}
-use Rattle.remote_watch.specs.Watch.{watched}
-use Rattle.remote_watch.specs.declared.reply.Reply.{Reply}
-use Rattle.remote_watch.specs.declared.reply.Reply.TheVariants as reply
-use Rattle.remote_watch.specs.declared.seen.Seen.{Seen}
-use Rattle.root_groups.specs.Cleaned.{is_listed, group_of}
-use Rattle.share_rounds.specs.Rounds.{is_advertised, most_told, served_to}
-use Rattle.share_rounds.proofs.Homes.{told_by_group, told_by_roots}
-use Rattle.share_rounds.proofs.Rules.{each_of_front, told_are_few}
-use Rattle.machine.specs.Connections.{ending, idle}
-use Rattle.machine.specs.Effect.{Effect, then_do, on_entry, on_connection}
-use Rattle.machine.specs.Machine.{Machine, Entry, entry_at}
-use Rattle.machine.specs.Replies.{reply_on}
-use Rattle.machine.specs.Stream.{handled_in, handled}
-use Rattle.machine.specs.Talking.{replies, stops_if, serves, begins, takes_requests, asked_as, answered_as, talks}
+use Rattle.laws.proofs.Words.{cond_both, and_parts, and_from, or_left, or_right, false≢true, not-true, flat_map-append, position-Some, told_by_group, told_by_roots, each_of_front, told_are_few}
+use Rattle.laws.specs.Words.{AllByRecursion, list_any, awakened, has_id, is_negotiated_phase, agreed_sharing, runs, frame_of, Item, same_address, Fault, FaultKind, Protocol, Addr, Cid, Phase, Negotiated, Group, Peer, has_address, addresses_of, watched, Reply, Seen, is_listed, group_of, is_advertised, most_told, served_to, ending, idle, Effect, then_do, on_entry, on_connection, Machine, Entry, entry_at, reply_on, handled_in, handled, replies, stops_if, serves, begins, takes_requests, asked_as, answered_as, talks}
+use Rattle.peer_book.specs.Book.{peer_at as peer_in}
+use Rattle.laws.specs.Words.reply
 use Rattle.laws.specs.Acts.{Act, handles_item, does}
 use Rattle.laws.specs.Laws.{is_local}
 use Rattle.laws.specs.Responders.{WhereSeen, WhereAsked, WhereThere}

@@ -1,11 +1,7 @@
 -- What sound settings say.
 use Rattle.std.proofs.Common.{ℕ, ◌≤◌, ◌≡◌, Bool, true, cond, List, [], ◌∷◌, Some, None, All, nat_le, arith, leb-true}
-use Rattle.std.proofs.lemmas.Bool.{and_parts}
-use Rattle.std.proofs.lemmas.List.Elements.{All-nil, All-cons}
-use Rattle.net_base.specs.declared.settings.Settings.{Settings}
-use Rattle.net_base.specs.declared.settings.Field.{Field}
-use Rattle.net_base.specs.declared.settings.Field.TheVariants.{Version}
-use Rattle.net_base.specs.Bounds.{AreSound, first_failing, settings_tests, is_interval}
+use Rattle.laws.proofs.Words.{and_parts, All-nil, All-cons}
+use Rattle.laws.specs.Words.{Settings, Field, Version, AreSound, first_failing, settings_tests, is_interval}
 use Rattle.laws.proofs.Cases.{by_bool}
 
 pub first_failing-none : (tests : List (Field × Bool)) → first_failing tests ≡ None → All (λ test. test.1 ≡ true) tests

@@ -1,15 +1,7 @@
 -- Each move keeps the facts of a connection in shape.
 use Rattle.std.proofs.Common.{ℕ, ◌≡◌, Bool, true, false, not, ◌||◌, ◌&&◌, if◌then◌else◌, refl, sym, ap, ◌∙◌}
-use Rattle.std.proofs.lemmas.Bool.{false≢true, both_ways, and_parts, not-true, or_right, or_left}
-use Rattle.net_base.specs.declared.address.Addr.{Addr}
-use Rattle.net_base.specs.declared.connection.Agreed.{Agreed}
-use Rattle.net_base.specs.declared.connection.Facts.{Facts}
-use Rattle.net_base.specs.declared.connection.Grace.{Grace}
-use Rattle.net_base.specs.declared.connection.Grace.TheVariants.{Off, ForRemote, ForLocal}
-use Rattle.net_base.specs.declared.connection.Phase.{Phase}
-use Rattle.net_base.specs.declared.connection.Phase.TheVariants.{Negotiated}
-use Rattle.conn_state.specs.Moves.{accepted, dialing, connected, agreed_inbound, agreed_outbound, acquired, released, awakened, idled, expired, closing}
-use Rattle.conn_state.specs.Use.{is_negotiated, is_negotiated_phase, is_dialing, is_dialing_phase, is_greeting, is_greeting_phase, is_outbound, is_duplex, is_for_remote, is_for_local, some_runs, is_acquirable}
+use Rattle.laws.proofs.Words.{false≢true, both_ways, and_parts, not-true, or_right, or_left}
+use Rattle.laws.specs.Words.{Addr, Agreed, Facts, Grace, Off, ForRemote, ForLocal, Phase, Negotiated, accepted, dialing, connected, agreed_inbound, agreed_outbound, acquired, released, awakened, idled, expired, closing, is_negotiated, is_negotiated_phase, is_dialing, is_dialing_phase, is_greeting, is_greeting_phase, is_outbound, is_duplex, is_for_remote, is_for_local, some_runs, is_acquirable}
 use Rattle.laws.specs.Steady.{IsShaped, IsUnused}
 use Rattle.laws.proofs.Cases.{by_bool}
 

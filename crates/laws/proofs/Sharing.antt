@@ -1,13 +1,7 @@
 -- Who can share is found among the links: its connection in use has agreed on it.
 use Rattle.std.proofs.Common.{ℕ, suc, ◌≡◌, Bool, true, not, ◌&&◌, ◌||◌, List, [], ◌∷◌, map, find, get_or, Some, is_some, refl, sym, ◌∙◌, subst, arith}
-use Rattle.std.proofs.lemmas.Bool.{both_ways, and_parts, and_from, false≢true, false_from_ne_true}
-use Rattle.net_base.specs.Address.{same_address}
-use Rattle.net_base.specs.declared.address.Addr.{Addr}
-use Rattle.conn_state.specs.Use.{agreed_sharing, is_live, is_live_at, is_negotiated}
-use Rattle.govern_rules.specs.Links.{can_share}
-use Rattle.machine.specs.Machine.{Machine, Entry}
-use Rattle.machine.specs.Replies.{reply_on}
-use Rattle.machine.specs.Govern.{link_of, is_used_at}
+use Rattle.laws.proofs.Words.{both_ways, and_parts, and_from, false≢true, false_from_ne_true}
+use Rattle.laws.specs.Words.{same_address, Addr, agreed_sharing, is_live, is_live_at, is_negotiated, can_share, Machine, Entry, reply_on, link_of, is_used_at}
 use Rattle.laws.specs.Steady.{IsOrdered}
 use Rattle.laws.proofs.Lists.{StandsAt, OnePasses, stands_next, find_only}
 use Rattle.laws.proofs.Orders.{MayAsk}

@@ -1,39 +1,10 @@
 -- What is told of a sort by no part but those that are to.
 use Rattle.std.proofs.Common.{ℕ, ◌+◌, ◌≡◌, Bool, true, false, nat_lt, List, [], ◌∷◌, ◌++◌, flat_map, Option, Some, None, refl, ap, ◌∙◌}
-use Rattle.std.proofs.lemmas.Bool.{cond_both, both_ways, false≢true}
-use Rattle.std.proofs.lemmas.Grind.{flat_map-append}
-use Rattle.accept_gate.specs.Gate.{pause_of}
-use Rattle.conn_state.specs.Moves.{accepted, dialing}
-use Rattle.conn_state.specs.Names.{name_of, same_name}
-use Rattle.conn_state.specs.Use.{runs}
-use Rattle.mux_segment.specs.declared.item.Item.{Item}
-use Rattle.net_base.specs.declared.action.Action.{Action}
-use Rattle.net_base.specs.declared.action.Action.TheVariants.{Admit, Turnaway, Dial, Send, Close, Pause, AskRoots, State, Peer as TellPeer}
-use Rattle.net_base.specs.declared.action.Away.{Away}
-use Rattle.net_base.specs.declared.action.CloseCause.{CloseCause}
-use Rattle.net_base.specs.declared.action.CloseCause.TheVariants.{Unused, Overwritten, Fault}
-use Rattle.net_base.specs.declared.action.FaultKind.TheVariants.{Protocol}
-use Rattle.net_base.specs.declared.action.PeerNote.{PeerNote}
-use Rattle.net_base.specs.declared.action.PeerNote.TheVariants as note
-use Rattle.net_base.specs.declared.action.StateName.{StateName}
-use Rattle.net_base.specs.declared.action.StateName.TheVariants.{Terminated}
-use Rattle.net_base.specs.declared.address.Addr.{Addr}
-use Rattle.net_base.specs.declared.connection.Cid.{Cid}
-use Rattle.net_base.specs.declared.event.Job.{Job}
-use Rattle.net_base.specs.declared.peer.Peer.{Peer}
-use Rattle.net_base.specs.declared.peer.Temp.TheVariants.{Cold}
-use Rattle.peer_book.specs.Book.{entry_of, entered, new_peer, same_temp}
-use Rattle.peer_book.specs.declared.added.Added.{Added}
-use Rattle.peer_book.specs.declared.added.Added.TheVariants.{New, Present as Known}
-use Rattle.root_groups.specs.RootAsk.{asked, may_ask}
-use Rattle.machine.specs.Connections.{with_entry, without_entry, entry_turns, lost, ending, vanishes, closing_entry, trim, awake, dial}
-use Rattle.machine.specs.Effect.{Effect, nothing_more, tells, then_do}
-use Rattle.machine.specs.Events.{pause_notice, admitted, peer_connects}
-use Rattle.machine.specs.Govern.{asks_roots}
-use Rattle.machine.specs.Machine.{Machine, Entry, Owed, counted_in, next_cid}
-use Rattle.machine.specs.Peers.{peer_at, turns_at, note_of, peer_comes, note_of_coming}
-use Rattle.machine.specs.Replies.{paid}
-use Rattle.machine.specs.Talking.{stops_if, begins, pays, brings, answered_as}
+use Rattle.laws.proofs.Words.{cond_both, both_ways, false≢true, flat_map-append}
+use Rattle.laws.specs.Words.{pause_of, accepted, dialing, name_of, same_name, runs, Item, Action, Admit, Turnaway, Dial, Send, Close, Pause, AskRoots, State, Away, CloseCause, Unused, Overwritten, Fault, Protocol, PeerNote, StateName, Terminated, Addr, Cid, Job, Peer, Cold, entry_of, entered, new_peer, same_temp, Added, New, asked, may_ask, with_entry, without_entry, entry_turns, lost, ending, vanishes, closing_entry, trim, awake, dial, Effect, nothing_more, tells, then_do, pause_notice, admitted, peer_connects, asks_roots, Machine, Entry, Owed, counted_in, next_cid, peer_at, turns_at, note_of, peer_comes, note_of_coming, paid, stops_if, begins, pays, brings, answered_as}
+use Rattle.net_base.specs.declared.action.Action.TheVariants.{Peer as TellPeer}
+use Rattle.laws.specs.Words.note
+use Rattle.peer_book.specs.declared.added.Added.TheVariants.{Present as Known}
 use Rattle.laws.specs.Acts.{Act, shows, asks_for_roots, connects, sets_targets, sets_big_targets, sets_groups, sets_roots, does}
 use Rattle.laws.specs.Admitted.{admitted_by, turned_away_by}
 use Rattle.laws.specs.CarriedOut.{pauses_by}

@@ -1,30 +1,14 @@
 -- A move at one address raises what is counted by one at most.
 use Rattle.std.proofs.Common.{ℕ, zero, suc, ◌+◌, ◌%◌, ◌≤◌, ◌≡◌, Bool, true, false, cond, ◌&&◌, ◌||◌, if◌then◌else◌, set, List, [], ◌∷◌, ◌++◌, find, count_by, Option, Some, None, is_some, refl, sym, ap, ◌∙◌, subst, arith}
-use Rattle.std.specs.List.{list_any, AllByRecursion}
-use Rattle.std.specs.Option.{option_map}
-use Rattle.std.proofs.lemmas.Bool.{and_parts}
-use Rattle.std.proofs.lemmas.List.Sums.{sum_by-cons}
-use Rattle.net_base.specs.Address.{same_address}
-use Rattle.net_base.specs.declared.address.Addr.{Addr}
-use Rattle.net_base.specs.declared.event.Group.{Group}
-use Rattle.net_base.specs.declared.peer.Peer.{Peer}
-use Rattle.net_base.specs.declared.peer.Temp.TheVariants.{Warm}
-use Rattle.conn_state.specs.Moves.{dialing, acquired}
-use Rattle.conn_state.specs.Use.{is_live, is_live_at, is_acquirable, is_pending}
-use Rattle.peer_book.specs.Book.{has_address, is_of, is_established, is_active, peer_at as peer_in, with_peer}
-use Rattle.root_groups.specs.Cleaned.{is_listed}
-use Rattle.machine.specs.Machine.{Machine, Entry, fresh_entry, live_entry_at}
-use Rattle.machine.specs.Replies.{reply_on, owing}
-use Rattle.machine.specs.Peers.{turns_at, peer_at}
-use Rattle.machine.specs.Connections.{with_entry, acquire, dial}
-use Rattle.machine.specs.Govern.{promoted_at, promote, is_used_at, activates, activate}
+use Rattle.laws.proofs.Words.{and_parts, sum_by-cons}
+use Rattle.laws.specs.Words.{list_any, AllByRecursion, option_map, same_address, Addr, Group, Peer, Warm, dialing, acquired, is_live, is_live_at, is_acquirable, is_pending, has_address, is_of, is_established, is_active, with_peer, is_listed, Machine, Entry, fresh_entry, live_entry_at, reply_on, owing, turns_at, peer_at, with_entry, acquire, dial, promoted_at, promote, is_used_at, activates, activate, on_entry}
+use Rattle.peer_book.specs.Book.{peer_at as peer_in}
 use Rattle.laws.specs.AtMoves.{some_connection, is_established_or_pending, is_active_or_asked, number_with, members_with}
 use Rattle.laws.specs.Steady.{ArePeersApart, IsOrdered}
 use Rattle.laws.proofs.Addresses.{same_address-true}
 use Rattle.laws.proofs.Entries.{TurnsInto, turned-connections}
 use Rattle.laws.proofs.Lists.{StandsAt, stands_before, FoundIn, find_some}
 use Rattle.laws.proofs.PeersApart.{same_turned}
-use Rattle.machine.specs.Effect.{on_entry}
 use Rattle.laws.proofs.Cases.{by_bool, by_option}
 
 none_unlisted : (a b c : Bool) → b ≡ false → (a && (b && c)) ≡ false

@@ -1,19 +1,7 @@
 -- Bytes come in on a connection.
 use Rattle.std.proofs.Common.{ℕ, ◌≤◌, ◌≡◌, true, arith, List, [], ◌∷◌, Option, Some, None, refl, ap, eqb-true, ◌||◌}
-use Rattle.std.proofs.lemmas.Bool.{cond_both, false≢true}
-use Rattle.mux_segment.specs.Stream.{FedBy}
-use Rattle.mux_segment.specs.declared.fault.CutFault.{CutFault}
-use Rattle.mux_segment.specs.declared.item.Item.{Item}
-use Rattle.net_base.specs.declared.action.CloseCause.TheVariants.{Fault}
-use Rattle.net_base.specs.declared.connection.Cid.{Cid}
-use Rattle.net_base.specs.declared.connection.Phase.{Phase}
-use Rattle.net_base.specs.declared.connection.Phase.TheVariants.{Greeting, Negotiated}
-use Rattle.conn_state.specs.Use.{has_id, is_live, live_phase, is_greeting_phase, is_negotiated_phase, is_greeting, is_negotiated}
-use Rattle.hs_receive.specs.Receiving.{kind_of}
-use Rattle.machine.specs.Machine.{Machine, Entry, counted_in, entry_at}
-use Rattle.machine.specs.Effect.{Effect, then_do, for_each, on_entry, on_connection, nothing_more}
-use Rattle.machine.specs.Connections.{entry_turns}
-use Rattle.machine.specs.Stream.{handled_in, handled, handles, faulted, fed_with, feeds, comes_in, bytes_come_in}
+use Rattle.laws.proofs.Words.{cond_both, false≢true}
+use Rattle.laws.specs.Words.{FedBy, CutFault, Item, Fault, Cid, Phase, Greeting, Negotiated, has_id, is_live, live_phase, is_greeting_phase, is_negotiated_phase, is_greeting, is_negotiated, kind_of, Machine, Entry, counted_in, entry_at, Effect, then_do, for_each, on_entry, on_connection, nothing_more, entry_turns, handled_in, handled, handles, faulted, fed_with, feeds, comes_in, bytes_come_in}
 use Rattle.laws.specs.AtMoves.{fed_on, IsLawful}
 use Rattle.laws.specs.Steady.{IsOrdered}
 use Rattle.laws.proofs.Handshakes.{greets-trimmed}

@@ -1,35 +1,9 @@
 -- A connection whose handshake is done: whatever comes in, the connections stay in order and within the limit.
 use Rattle.std.proofs.Common.{ℕ, ◌+◌, [], ◌∷◌, cond, not, is_some, ◌≤◌, ◌≡◌, Bool, true, false, ◌||◌, ◌==◌, if◌then◌else◌, List, find, set, Option, Some, None, Result, Ok, Err, refl, sym, ap, ◌∙◌, subst, arith, eqb-true, eq-eqb}
-use Rattle.std.proofs.lemmas.Bool.{cond_both, both_ways, false≢true, or_left, or_right}
-use Rattle.net_base.specs.Address.{same_address}
-use Rattle.net_base.specs.declared.action.CloseCause.TheVariants.{Fault}
-use Rattle.net_base.specs.declared.action.FaultKind.{FaultKind}
-use Rattle.net_base.specs.declared.action.FaultKind.TheVariants.{Protocol, UnknownId}
-use Rattle.net_base.specs.declared.address.Addr.{Addr}
-use Rattle.net_base.specs.declared.connection.Facts.{Facts}
-use Rattle.net_base.specs.declared.connection.Responders.{Responders}
-use Rattle.net_base.specs.declared.peer.Peer.{Peer}
-use Rattle.net_base.specs.declared.peer.Temp.TheVariants.{Hot}
-use Rattle.conn_state.specs.Moves.{awakened, idled}
-use Rattle.churn_clock.specs.Windows.{effective_of}
-use Rattle.conn_state.specs.Protocols.{has_responder}
-use Rattle.conn_state.specs.Use.{is_live, agreed_sharing, has_id, is_negotiated, runs, some_runs}
-use Rattle.mux_segment.specs.declared.item.Item.{Item}
-use Rattle.remote_watch.specs.Watch.{watched, seen_by_number, chain_sync_seen, block_fetch_seen, tx_submission_seen, keep_alive_seen, peer_sharing_seen}
-use Rattle.remote_watch.specs.declared.reply.Reply.{Reply}
-use Rattle.remote_watch.specs.declared.reply.Reply.TheVariants as reply
-use Rattle.remote_watch.specs.declared.seen.Seen.{Seen}
-use Rattle.warm_messages.specs.First.{item_number_of}
-use Rattle.warm_messages.specs.Reading.{alive_of, share_of}
-use Rattle.warm_messages.specs.declared.share.Share.{Share}
-use Rattle.warm_messages.specs.declared.share.Share.TheVariants as share
-use Rattle.peer_book.specs.Book.{is_established}
-use Rattle.machine.specs.Machine.{Machine, Entry, Owed, counted_in, entry_at, live_entry_at}
-use Rattle.machine.specs.Effect.{Effect, Move, shared, nothing_more, then_do, on_entry, on_connection}
-use Rattle.machine.specs.Peers.{peer_at, peer_becomes, peer_comes}
-use Rattle.machine.specs.Connections.{with_entry, entry_turns, ending, trim, awake, idle}
-use Rattle.machine.specs.Talking.{replies, stops_if, serves, begins, takes_requests, asked_as, shares_address, taken_of, takes_addresses, pays, brings, answered_as, talks}
-use Rattle.machine.specs.Replies.{reply_on, without_reply, paid}
+use Rattle.laws.proofs.Words.{cond_both, both_ways, false≢true, or_left, or_right}
+use Rattle.laws.specs.Words.{same_address, Fault, FaultKind, Protocol, UnknownId, Addr, Facts, Responders, Peer, Hot, awakened, idled, effective_of, has_responder, is_live, agreed_sharing, has_id, is_negotiated, runs, some_runs, Item, watched, seen_by_number, chain_sync_seen, block_fetch_seen, tx_submission_seen, keep_alive_seen, peer_sharing_seen, Reply, Seen, item_number_of, alive_of, share_of, Share, is_established, Machine, Entry, Owed, counted_in, entry_at, live_entry_at, Effect, Move, shared, nothing_more, then_do, on_entry, on_connection, peer_at, peer_becomes, peer_comes, with_entry, entry_turns, ending, trim, awake, idle, replies, stops_if, serves, begins, takes_requests, asked_as, shares_address, taken_of, takes_addresses, pays, brings, answered_as, talks, reply_on, without_reply, paid, Cid}
+use Rattle.laws.specs.Words.reply
+use Rattle.laws.specs.Words.share
 use Rattle.laws.proofs.Effects.{counted-running}
 use Rattle.laws.proofs.Entries.{TurnsInto, one_has_id, turned-connections}
 use Rattle.laws.specs.AtMoves.{IsLawful, is_up, is_hot_peer, is_asked_connection, is_hot_or_asked, is_known, promotes, activates, shares}
@@ -48,7 +22,6 @@ use Rattle.laws.proofs.Trims.{Trimmed, HasMoved, keeps-trimmed, ending-trimmed, 
 use Rattle.laws.proofs.WholeMoves.{negotiated-live, awakes-keeps, idles-keeps, pays-keeps}
 use Rattle.laws.proofs.OwnAddress.{IsOther, taken-other}
 use Rattle.laws.proofs.Remains.{trim-found}
-use Rattle.net_base.specs.declared.connection.Cid.{Cid}
 use Rattle.laws.proofs.Walk.{replies-machine}
 use Rattle.laws.proofs.Cases.{by_bool, by_option, some_same}
 

@@ -1,19 +1,8 @@
 -- What the actions of a part tell: one part after another, and what tells nothing.
 use Rattle.std.proofs.Common.{ℕ, nat_lt, find, Option, Some, None, ◌+◌, ◌≡◌, ◌≤◌, Bool, true, false, ◌&&◌, List, [], ◌∷◌, ◌++◌, flat_map, refl, sym, ap, ◌∙◌, subst, arith}
-use Rattle.std.proofs.lemmas.Bool.{and_parts, false≢true}
-use Rattle.std.proofs.lemmas.Grind.{flat_map-append}
-use Rattle.std.proofs.lemmas.List.{append-nil}
-use Rattle.net_base.specs.declared.action.Action.{Action}
-use Rattle.net_base.specs.declared.action.Action.TheVariants.{Turnaway, Send, Pause, AskRoots}
-use Rattle.net_base.specs.declared.action.CloseCause.{CloseCause}
-use Rattle.net_base.specs.declared.action.CloseCause.TheVariants.{Unused}
-use Rattle.net_base.specs.declared.address.Addr.{Addr}
-use Rattle.net_base.specs.declared.connection.Phase.{Phase}
-use Rattle.net_base.specs.declared.connection.Phase.TheVariants.{Dialing}
-use Rattle.conn_state.specs.Use.{has_id}
+use Rattle.laws.proofs.Words.{and_parts, false≢true, flat_map-append, append-nil}
+use Rattle.laws.specs.Words.{Action, Turnaway, Send, Pause, AskRoots, CloseCause, Unused, Addr, Phase, Dialing, has_id, Effect, Happened, Move, then_do, as_move, Machine, Entry, entry_at}
 use Rattle.peer_book.specs.Book.{peer_at as peer_in}
-use Rattle.machine.specs.Effect.{Effect, Happened, Move, then_do, as_move}
-use Rattle.machine.specs.Machine.{Machine, Entry, entry_at}
 use Rattle.laws.specs.Stages.{stage_of_phase, stage_of, stage_at, stage_ended, causes_by, causes_in, IsOneEnd}
 use Rattle.laws.specs.Telling.{KeepsAddress, GoesOn, IsTold}
 use Rattle.laws.specs.InActions.{End, Given, closed_by, closes_in, ended_by, ends_in, dialed_by, dials_in, promoted_by_dial, dial_promotions_in, given_by, given_in, CountUp, HasAddress, AreAt, LeadTo, temp_of, temp_at, notes_by, notes_in, noted, is_change, state_at, names_by, names_in, is_other_name, same_state}

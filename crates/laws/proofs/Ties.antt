@@ -1,17 +1,8 @@
 -- What ties a peer to the live connection of its address, through each change of either.
 use Rattle.std.proofs.Common.{ℕ, ◌≡◌, Bool, true, false, cond, not, ◌&&◌, if◌then◌else◌, nat_le, List, [], ◌∷◌, ◌++◌, length, get_or, find, set, Option, Some, None, is_some, refl, sym, ap, ◌∙◌, subst}
-use Rattle.std.proofs.lemmas.Bool.{cond_both, both_ways, false≢true, and_parts, and_from, false_from_ne_true}
-use Rattle.net_base.specs.Address.{same_address, address_below}
-use Rattle.net_base.specs.declared.address.Addr.{Addr}
-use Rattle.net_base.specs.declared.connection.Facts.{Facts}
-use Rattle.net_base.specs.declared.peer.Peer.{Peer}
-use Rattle.conn_state.specs.Use.{is_live, is_live_at, is_pending}
-use Rattle.peer_book.specs.Book.{has_address, peer_at as peer_in, with_peer as with_peer_in, with_new as with_new_in, without_peer, new_peer, entered_by, entered, most_peers}
-use Rattle.peer_book.specs.declared.added.Added.TheVariants.{New, Present, Full}
-use Rattle.machine.specs.Machine.{Machine, Entry, live_entry_at}
-use Rattle.machine.specs.Peers.{peer_at, turns_at, peer_changes}
-use Rattle.machine.specs.Replies.{reply_on}
-use Rattle.machine.specs.Connections.{with_entry, without_entry}
+use Rattle.laws.proofs.Words.{cond_both, both_ways, false≢true, and_parts, and_from, false_from_ne_true, find-append}
+use Rattle.laws.specs.Words.{same_address, address_below, Addr, Facts, Peer, is_live, is_live_at, is_pending, has_address, without_peer, new_peer, entered_by, entered, most_peers, New, Present, Full, Machine, Entry, live_entry_at, peer_at, turns_at, peer_changes, reply_on, with_entry, without_entry, option_or}
+use Rattle.peer_book.specs.Book.{peer_at as peer_in, with_peer as with_peer_in, with_new as with_new_in}
 use Rattle.laws.specs.Laws.{LiveAddressesDistinct}
 use Rattle.laws.specs.Sound.{IsOrderly}
 use Rattle.laws.specs.Steady.{TiedBy, IsTied}
@@ -21,8 +12,6 @@ use Rattle.laws.proofs.Finds.{find-set_other, find-set_here, find-set_gone, find
 use Rattle.laws.proofs.Lists.{StandsAt, OnePasses, FoundIn, find_some, find_only}
 use Rattle.laws.proofs.PeersApart.{same_turned}
 use Rattle.laws.proofs.Cases.{by_bool, by_option}
-use Rattle.std.proofs.lemmas.List.Folds.{find-append}
-use Rattle.std.specs.Option.{option_or}
 
 -- ---- all but one address stay
 

@@ -1,36 +1,10 @@
 -- What each change of a connection or a peer tells.
 use Rattle.std.proofs.Common.{ℕ, ◌+◌, ◌≡◌, ◌≤◌, Bool, true, false, not, ◌==◌, nat_lt, nat_le, if◌then◌else◌, List, [], ◌∷◌, ◌++◌, All, find, get_or, set, remove, length, flat_map, Option, Some, None, is_some, refl, sym, ap, ◌∙◌, subst, arith, eqb-true, eq-eqb, ne_eqb}
-use Rattle.std.proofs.lemmas.Bool.{cond_both, both_ways, false≢true}
-use Rattle.std.proofs.lemmas.List.Elements.{All-weaker}
-use Rattle.conn_state.specs.Names.{name_of, name_in_phase, name_in_use, name_place, same_name}
-use Rattle.conn_state.specs.Use.{has_id, is_duplex, some_runs}
-use Rattle.net_base.specs.Address.{same_address}
-use Rattle.net_base.specs.declared.action.Action.{Action}
-use Rattle.net_base.specs.declared.action.Action.TheVariants.{Admit, Dial, Close, State, Peer as TellPeer}
-use Rattle.net_base.specs.declared.action.CloseCause.{CloseCause}
-use Rattle.net_base.specs.declared.action.PeerNote.{PeerNote}
-use Rattle.net_base.specs.declared.action.PeerNote.TheVariants as note
-use Rattle.net_base.specs.declared.action.StateName.{StateName}
-use Rattle.net_base.specs.declared.action.StateName.TheVariants.{ReservedOutbound, UnnegotiatedInbound, UnnegotiatedOutbound, Duplex, OutboundUni, OutboundDupTicking, OutboundDupExpired, Inbound, InboundIdle, OutboundIdle, Terminating, Terminated}
-use Rattle.net_base.specs.declared.address.Addr.{Addr}
-use Rattle.net_base.specs.declared.connection.Cid.{Cid}
-use Rattle.net_base.specs.declared.connection.Facts.{Facts}
-use Rattle.net_base.specs.declared.connection.Grace.{Grace}
-use Rattle.net_base.specs.declared.connection.Grace.TheVariants.{Off, ForRemote, ForLocal}
-use Rattle.net_base.specs.declared.connection.Phase.{Phase}
-use Rattle.net_base.specs.declared.connection.Phase.TheVariants.{Greeting, Negotiated}
-use Rattle.net_base.specs.declared.connection.Provenance.{Provenance}
-use Rattle.net_base.specs.declared.connection.Provenance.TheVariants.{FromRemote, FromLocal}
-use Rattle.net_base.specs.declared.peer.Peer.{Peer}
-use Rattle.net_base.specs.declared.peer.Temp.{Temp}
-use Rattle.net_base.specs.declared.peer.Temp.TheVariants.{Cold, Warm, Hot}
-use Rattle.peer_book.specs.Book.{peer_at as peer_in, with_peer as with_peer_in, new_peer, entered_by, most_peers, same_temp}
-use Rattle.peer_book.specs.declared.added.Added.{Added}
-use Rattle.peer_book.specs.declared.added.Added.TheVariants.{New, Present, Full}
-use Rattle.machine.specs.Connections.{with_entry, without_entry, entry_turns, entry_comes, entry_goes}
-use Rattle.machine.specs.Effect.{Effect, Happened, Move, promoted, as_move}
-use Rattle.machine.specs.Machine.{Machine, Entry, entry_at}
-use Rattle.machine.specs.Peers.{peer_at, note_of, turns_at, peer_changes, note_of_coming, peer_comes, peer_goes}
+use Rattle.laws.proofs.Words.{cond_both, both_ways, false≢true, All-weaker}
+use Rattle.laws.specs.Words.{name_of, name_in_phase, name_in_use, name_place, same_name, has_id, is_duplex, some_runs, same_address, Action, Admit, Dial, Close, State, CloseCause, PeerNote, StateName, ReservedOutbound, UnnegotiatedInbound, UnnegotiatedOutbound, Duplex, OutboundUni, OutboundDupTicking, OutboundDupExpired, Inbound, InboundIdle, OutboundIdle, Terminating, Terminated, Addr, Cid, Facts, Grace, Off, ForRemote, ForLocal, Phase, Greeting, Negotiated, Provenance, FromRemote, FromLocal, Peer, Temp, Cold, Warm, Hot, new_peer, entered_by, most_peers, same_temp, Added, New, Present, Full, with_entry, without_entry, entry_turns, entry_comes, entry_goes, Effect, Happened, Move, promoted, as_move, Machine, Entry, entry_at, peer_at, note_of, turns_at, peer_changes, note_of_coming, peer_comes, peer_goes}
+use Rattle.net_base.specs.declared.action.Action.TheVariants.{Peer as TellPeer}
+use Rattle.laws.specs.Words.note
+use Rattle.peer_book.specs.Book.{peer_at as peer_in, with_peer as with_peer_in}
 use Rattle.laws.specs.Sound.{HasGivenId, IsOrderly}
 use Rattle.laws.specs.Stages.{stage_of_phase, stage_of, stage_at, stage_ended, causes_by, causes_in, IsLateCause, IsOneEnd}
 use Rattle.laws.specs.Telling.{KeepsAddress, GoesOn, IsTold}

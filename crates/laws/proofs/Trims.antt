@@ -1,28 +1,7 @@
 -- Where more connections are counted than the hard limit, one of them goes.
 use Rattle.std.proofs.Common.{ℕ, suc, ◌+◌, ◌≤◌, ◌<◌, ◌≡◌, Bool, true, false, not, ◌&&◌, ◌||◌, nat_le, if◌then◌else◌, List, [], ◌∷◌, ◌++◌, map, filter_map, find, sum_by, Option, Some, None, refl, sym, ap, ◌∙◌, subst, arith, eq-eqb, leb-true, leb-false, All}
-use Rattle.std.specs.List.{AllByRecursion, cons_option}
-use Rattle.std.specs.Option.{option_map, unwrap_or}
-use Rattle.std.proofs.lemmas.Bool.{cond_both, both_ways, and_parts, not-true}
-use Rattle.std.proofs.lemmas.List.Elements.{All-head, All-tail, All-from_recursion, recursion_from_All}
-use Rattle.net_base.specs.declared.settings.Settings.{Settings}
-use Rattle.net_base.specs.declared.action.CloseCause.{CloseCause}
-use Rattle.net_base.specs.declared.action.CloseCause.TheVariants.{Pruned}
-use Rattle.net_base.specs.declared.connection.Cid.{Cid}
-use Rattle.net_base.specs.declared.connection.Facts.{Facts}
-use Rattle.net_base.specs.declared.peer.Peer.{Peer}
-use Rattle.accept_gate.proofs.Choices.{first_to_go-law}
-use Rattle.accept_gate.specs.Law.{IsFirstToGo}
-use Rattle.accept_gate.specs.Prune.{is_candidate, rank_of_candidate, goes_before, first_of, first_to_go, choice_of}
-use Rattle.accept_gate.specs.declared.prune.Candidate.{Candidate}
-use Rattle.conn_state.specs.Counted.{is_counted}
-use Rattle.conn_state.specs.Use.{has_id, is_live, live_phase, is_greeting, is_greeting_phase, is_negotiated, is_negotiated_phase, is_outbound}
-use Rattle.net_base.specs.declared.connection.Phase.{Phase}
-use Rattle.net_base.specs.declared.connection.Phase.TheVariants.{Closing}
-use Rattle.net_base.specs.Peer.{failed_peer}
-use Rattle.machine.specs.Machine.{Machine, Entry, counted_in, entry_at}
-use Rattle.machine.specs.Effect.{Effect, Happened, Move, nothing_more, then_do, as_move, for_each, on_entry}
-use Rattle.machine.specs.Peers.{turns_at, peer_at, peer_fails}
-use Rattle.machine.specs.Connections.{without_entry, is_missed, lost, ending, candidate_of, candidates_in, trim}
+use Rattle.laws.proofs.Words.{cond_both, both_ways, and_parts, not-true, All-head, All-tail, All-from_recursion, recursion_from_All, first_to_go-law}
+use Rattle.laws.specs.Words.{AllByRecursion, cons_option, option_map, unwrap_or, Settings, CloseCause, Pruned, Cid, Facts, Peer, IsFirstToGo, is_candidate, rank_of_candidate, goes_before, first_of, first_to_go, choice_of, Candidate, is_counted, has_id, is_live, live_phase, is_greeting, is_greeting_phase, is_negotiated, is_negotiated_phase, is_outbound, Phase, Closing, failed_peer, Machine, Entry, counted_in, entry_at, Effect, Happened, Move, nothing_more, then_do, as_move, for_each, on_entry, turns_at, peer_at, peer_fails, without_entry, is_missed, lost, ending, candidate_of, candidates_in, trim}
 use Rattle.laws.specs.AtMoves.{as_candidate, IsDueToGo, IsPrunedRightly, IsLawful}
 use Rattle.laws.specs.Laws.{LocalsAreOrdinary}
 use Rattle.laws.specs.Sound.{IsOrderly}

@@ -1,46 +1,9 @@
 -- What becomes of the connection that a part of an event is about.
 use Rattle.std.proofs.Common.{ℕ, ◌+◌, ◌<◌, ◌≡◌, Bool, true, false, ◌&&◌, ◌==◌, if◌then◌else◌, [], ◌∷◌, find, Option, Some, None, Result, Ok, Err, refl, sym, ap, ◌∙◌, subst, arith, eq-eqb, eqb-true}
-use Rattle.std.specs.Option.{option_map}
-use Rattle.std.proofs.lemmas.Bool.{cond_both, both_ways, and_parts, and_from, false≢true, false_from_ne_true}
-use Rattle.conn_state.specs.Moves.{connected, agreed_inbound, agreed_outbound, acquired, released, awakened, idled, expired}
-use Rattle.conn_state.specs.Use.{has_id, is_acquirable, is_dialing, is_live, is_live_at, agreed_sharing, runs}
-use Rattle.govern_rules.specs.declared.order.Order.{Order}
-use Rattle.govern_rules.specs.declared.order.Order.TheVariants.{Ask, Forget, Promote, Release, Activate, Deactivate}
-use Rattle.hs_decide.specs.Agreement.{verdict_of}
-use Rattle.hs_decide.specs.Answers.{answer_of}
-use Rattle.hs_decide.specs.declared.verdict.Verdict.{Verdict}
-use Rattle.hs_decide.specs.declared.verdict.Verdict.TheVariants as verdict
-use Rattle.hs_message.specs.Reading.{message_of}
-use Rattle.hs_message.specs.declared.message.Message.{Message}
-use Rattle.hs_receive.specs.Receiving.{is_awaited, fits_side, kind_of}
-use Rattle.mux_segment.specs.declared.fault.CutFault.{CutFault}
-use Rattle.mux_segment.specs.declared.item.Item.{Item}
-use Rattle.net_base.specs.Address.{same_address}
-use Rattle.net_base.specs.declared.action.Action.TheVariants.{Close}
-use Rattle.net_base.specs.declared.action.CloseCause.{CloseCause}
-use Rattle.net_base.specs.declared.action.CloseCause.TheVariants.{Unused, Refused, Query, Fault}
-use Rattle.net_base.specs.declared.action.FaultKind.{FaultKind}
-use Rattle.net_base.specs.declared.action.FaultKind.TheVariants.{Malformed, Protocol, HandshakeWait, ReplyWait}
-use Rattle.net_base.specs.declared.address.Addr.{Addr}
-use Rattle.net_base.specs.declared.connection.Phase.{Phase}
-use Rattle.net_base.specs.declared.connection.Phase.TheVariants.{Greeting, Negotiated}
-use Rattle.net_base.specs.declared.peer.Temp.TheVariants.{Cold, Warm}
-use Rattle.net_base.specs.declared.timer.Kind.{Kind}
-use Rattle.net_base.specs.declared.timer.Kind.TheVariants as kind
-use Rattle.remote_watch.specs.Watch.{watched}
-use Rattle.remote_watch.specs.declared.seen.Seen.{Seen}
-use Rattle.machine.specs.Connections.{with_entry, entry_turns, ending, vanishes, closing_entry, acquire, trim, release, awake, idle, dial, dial_opens, dial_fails}
-use Rattle.machine.specs.Deadlines.{fires_as}
-use Rattle.machine.specs.Effect.{Effect, unused, nothing_more, tells, then_do, as_move, on_entry}
-use Rattle.machine.specs.Events.{closes, dialed}
-use Rattle.machine.specs.Govern.{promoted_at, is_used_at, on_used, asks_peer, activates, deactivates, carries_out}
-use Rattle.machine.specs.Greeting.{role_of, judged, decided, greeted_by, greets}
-use Rattle.machine.specs.Machine.{Machine, Entry, Owed, entry_at, live_entry_at}
-use Rattle.machine.specs.Own.{own_info}
-use Rattle.machine.specs.Peers.{peer_at, peer_becomes}
-use Rattle.machine.specs.Replies.{reply_on, owing, paid}
-use Rattle.machine.specs.Stream.{handled_in, handled, faulted}
-use Rattle.machine.specs.Talking.{stops_if, serves, begins, takes_requests, asked_as, pays, brings, answered_as}
+use Rattle.laws.proofs.Words.{cond_both, both_ways, and_parts, and_from, false≢true, false_from_ne_true}
+use Rattle.laws.specs.Words.{option_map, connected, agreed_inbound, agreed_outbound, acquired, released, awakened, idled, expired, has_id, is_acquirable, is_dialing, is_live, is_live_at, agreed_sharing, runs, Order, Ask, Forget, Promote, Release, Activate, Deactivate, verdict_of, answer_of, Verdict, message_of, Message, is_awaited, fits_side, kind_of, CutFault, Item, same_address, Close, CloseCause, Unused, Refused, Query, Fault, FaultKind, Malformed, Protocol, HandshakeWait, ReplyWait, Addr, Phase, Greeting, Negotiated, Cold, Warm, Kind, watched, Seen, with_entry, entry_turns, ending, vanishes, closing_entry, acquire, trim, release, awake, idle, dial, dial_opens, dial_fails, fires_as, Effect, unused, nothing_more, tells, then_do, as_move, on_entry, closes, dialed, promoted_at, is_used_at, on_used, asks_peer, activates, deactivates, carries_out, role_of, judged, decided, greeted_by, greets, Machine, Entry, Owed, entry_at, live_entry_at, own_info, peer_at, peer_becomes, reply_on, owing, paid, handled_in, handled, faulted, stops_if, serves, begins, takes_requests, asked_as, pays, brings, answered_as}
+use Rattle.laws.specs.Words.verdict
+use Rattle.laws.specs.Words.kind
 use Rattle.laws.specs.Acts.{Act, fires_one, carries, ends_dial, stores, handles_item, ends_stream, is_closed, does}
 use Rattle.laws.specs.Sound.{HasGivenId}
 use Rattle.laws.specs.Untouched.{address_of, is_with, is_about, IsAsItWas}

@@ -1,19 +1,11 @@
 -- How long is waited, and what is left as it was, through each change of a connection.
 use Rattle.std.proofs.Common.{ℕ, ◌+◌, ◌<◌, ◌≤◌, ◌≡◌, ◌⊎◌, Bool, true, false, cond, not, ◌==◌, nat_lt, if◌then◌else◌, List, [], ◌∷◌, ◌++◌, map, filter, find, Option, Some, None, refl, sym, ap, ◌∙◌, subst, inl, inr, arith, eqb-true, eq-eqb, ne_eqb}
-use Rattle.std.specs.Option.{option_map, option_or}
-use Rattle.conn_state.specs.Use.{has_id}
-use Rattle.net_base.specs.Shared.{nothing_undecoded}
-use Rattle.net_base.specs.declared.timer.Kind.{Kind}
-use Rattle.machine.specs.Connections.{with_entry, without_entry}
-use Rattle.machine.specs.Effect.{Effect, then_do}
-use Rattle.machine.specs.Machine.{Machine, Entry, Owed, entry_at}
-use Rattle.machine.specs.Replies.{reply_on, owing, paid}
+use Rattle.laws.proofs.Words.{find-append, both_ways}
+use Rattle.laws.specs.Words.{option_map, option_or, has_id, nothing_undecoded, Kind, with_entry, without_entry, Effect, then_do, Machine, Entry, Owed, entry_at, reply_on, owing, paid}
 use Rattle.laws.specs.Untouched.{IsAsItWas, KeepsBytes}
 use Rattle.laws.specs.Waits.{until_paid, until_of, until_in, until_at, length_of, IsWait}
 use Rattle.laws.proofs.Walk.{Scope}
 use Rattle.laws.proofs.Cases.{by_bool}
-use Rattle.std.proofs.lemmas.List.Folds.{find-append}
-use Rattle.std.proofs.lemmas.Bool.{both_ways}
 
 -- ---- one wait
 

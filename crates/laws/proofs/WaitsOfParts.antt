@@ -1,33 +1,14 @@
 -- How long is waited, what is set, and what is left as it was, in each part of an event.
 use Rattle.std.proofs.Common.{ℕ, ◌+◌, ◌%◌, ◌≡◌, ◌⊎◌, Bool, false, ◌||◌, find, Option, Some, None, refl, sym, ap, subst, inl, inr}
-use Rattle.std.proofs.lemmas.Bool.{cond_both, both_ways}
-use Rattle.conn_state.specs.Moves.{dialing, accepted, agreed_inbound, agreed_outbound, acquired, released, awakened, idled, expired}
-use Rattle.conn_state.specs.Use.{has_id, is_for_remote, some_runs, with_responder}
-use Rattle.net_base.specs.Peer.{failed_peer}
-use Rattle.net_base.specs.Shared.{Undecoded}
-use Rattle.net_base.specs.declared.action.CloseCause.{CloseCause}
-use Rattle.net_base.specs.declared.action.CloseCause.TheVariants.{Overwritten}
-use Rattle.net_base.specs.declared.address.Addr.{Addr}
-use Rattle.net_base.specs.declared.connection.Facts.{Facts}
-use Rattle.net_base.specs.declared.connection.Grace.TheVariants.{Off, ForRemote, ForLocal}
-use Rattle.net_base.specs.declared.connection.Phase.TheVariants.{Negotiated}
-use Rattle.net_base.specs.declared.peer.Peer.{Peer}
-use Rattle.net_base.specs.declared.timer.Kind.{Kind}
-use Rattle.net_base.specs.declared.timer.Kind.TheVariants as kind
-use Rattle.peer_book.specs.Book.{entry_of, entered, new_peer}
-use Rattle.machine.specs.Connections.{without_entry, is_missed, lost, lost_by, ending, vanishes, closing_entry, dial}
-use Rattle.machine.specs.Effect.{Effect, nothing_more}
-use Rattle.machine.specs.Events.{admitted}
-use Rattle.machine.specs.Machine.{Machine, Entry, fresh_entry, entry_at}
-use Rattle.machine.specs.Peers.{peer_at, turns_at, peer_fails, peer_comes, peer_goes}
-use Rattle.machine.specs.Replies.{owing, paid}
+use Rattle.laws.proofs.Words.{cond_both, both_ways}
+use Rattle.laws.specs.Words.{dialing, accepted, agreed_inbound, agreed_outbound, acquired, released, awakened, idled, expired, has_id, is_for_remote, some_runs, with_responder, failed_peer, Undecoded, CloseCause, Overwritten, Addr, Facts, Off, ForRemote, ForLocal, Negotiated, Peer, Kind, entry_of, entered, new_peer, without_entry, is_missed, lost, lost_by, ending, vanishes, closing_entry, dial, Effect, nothing_more, admitted, Machine, Entry, fresh_entry, entry_at, peer_at, turns_at, peer_fails, peer_comes, peer_goes, owing, paid, Order}
+use Rattle.laws.specs.Words.kind
 use Rattle.laws.specs.Acts.{Act, shows, asks_for_roots, carries, sets_targets, sets_big_targets, sets_groups, sets_roots, does}
 use Rattle.laws.specs.CarriedOut.{IsUnset, IsSet}
 use Rattle.laws.specs.Parts.{IsNext}
 use Rattle.laws.specs.Steady.{IsOrdered}
 use Rattle.laws.specs.Untouched.{may_close, IsAsItWas, KeepsBytes, LeavesRest}
 use Rattle.laws.specs.Waits.{until_of, until_in, until_at, until_unused, length_of, IsWait, WaitsRight}
-use Rattle.govern_rules.specs.declared.order.Order.{Order}
 use Rattle.laws.proofs.Keeping.{note-machine}
 use Rattle.laws.proofs.RootsAsked.{roots-set}
 use Rattle.laws.proofs.Waits.{Waits, TurnsRight, kept, waits_both, waits_then, waits_same, waits_nothing, waits_turned, waits_gone, waits_come, owing-right, paid-right, was_same, bytes_same}

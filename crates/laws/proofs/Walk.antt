@@ -1,63 +1,13 @@
 -- What each part of an event is made of: a connection turns, comes or goes, a peer does, and something is sent. A relation between
 -- what stood before and what came of it that holds of each of these, and of one after the other, holds of the part.
 use Rattle.std.proofs.Common.{ℕ, ◌+◌, ◌%◌, ◌≡◌, Bool, true, false, ◌&&◌, ◌==◌, nat_le, if◌then◌else◌, List, [], ◌∷◌, find, Option, Some, None, Result, Ok, Err, refl, sym, ap, ◌∙◌, subst, eqb-true, eq-eqb}
-use Rattle.std.specs.Option.{unwrap_or}
-use Rattle.std.proofs.lemmas.Bool.{cond_both, and_parts}
-use Rattle.accept_gate.specs.Prune.{choice_of}
-use Rattle.conn_state.specs.Moves.{connected, agreed_inbound, agreed_outbound, acquired, released, awakened, idled, expired}
-use Rattle.conn_state.specs.Use.{has_id, is_acquirable, is_dialing, is_live, is_live_at, live_phase, runs, agreed_sharing}
-use Rattle.govern_rules.specs.declared.order.Order.{Order}
-use Rattle.govern_rules.specs.declared.order.Order.TheVariants.{Ask, Forget, Promote, Release, Activate, Deactivate}
-use Rattle.hs_decide.specs.Agreement.{verdict_of}
-use Rattle.hs_decide.specs.Answers.{answer_of, proposal_of}
-use Rattle.hs_decide.specs.declared.verdict.Verdict.{Verdict}
-use Rattle.hs_decide.specs.declared.verdict.Verdict.TheVariants as verdict
-use Rattle.hs_message.specs.Reading.{message_of}
-use Rattle.hs_message.specs.declared.message.Message.{Message}
-use Rattle.hs_receive.specs.Receiving.{is_awaited, fits_side, kind_of}
-use Rattle.mux_segment.specs.Frame.{frame_of}
-use Rattle.mux_segment.specs.declared.fault.CutFault.{CutFault}
-use Rattle.mux_segment.specs.declared.item.Item.{Item}
-use Rattle.net_base.specs.Address.{same_address}
-use Rattle.net_base.specs.Shared.{Undecoded}
-use Rattle.net_base.specs.declared.action.Action.TheVariants.{Close, Send}
-use Rattle.net_base.specs.declared.action.Away.{Away}
-use Rattle.net_base.specs.declared.action.CloseCause.{CloseCause}
-use Rattle.net_base.specs.declared.action.CloseCause.TheVariants.{Unused, Pruned, Overwritten, Refused, Query, Fault}
-use Rattle.net_base.specs.declared.action.FaultKind.{FaultKind}
-use Rattle.net_base.specs.declared.action.FaultKind.TheVariants.{Malformed, Protocol, HandshakeWait, ReplyWait}
-use Rattle.net_base.specs.declared.address.Addr.{Addr}
-use Rattle.net_base.specs.declared.connection.Agreed.{Agreed}
-use Rattle.net_base.specs.declared.connection.Cid.{Cid}
-use Rattle.net_base.specs.declared.connection.Facts.{Facts}
-use Rattle.net_base.specs.declared.connection.Phase.{Phase}
-use Rattle.net_base.specs.declared.connection.Phase.TheVariants.{Greeting, Negotiated, Closing}
-use Rattle.net_base.specs.declared.peer.Peer.{Peer}
-use Rattle.net_base.specs.declared.peer.Temp.TheVariants.{Cold, Warm, Hot}
-use Rattle.net_base.specs.declared.timer.Kind.{Kind}
-use Rattle.net_base.specs.declared.timer.Kind.TheVariants as kind
-use Rattle.remote_watch.specs.Watch.{watched}
-use Rattle.remote_watch.specs.declared.reply.Reply.{Reply}
-use Rattle.remote_watch.specs.declared.reply.Reply.TheVariants as reply
-use Rattle.remote_watch.specs.declared.seen.Seen.{Seen}
-use Rattle.warm_messages.specs.Reading.{share_of}
-use Rattle.warm_messages.specs.Writing.{written_alive, written_request}
-use Rattle.warm_messages.specs.declared.alive.Alive.TheVariants.{Ask as AskAlive, Done}
-use Rattle.warm_messages.specs.declared.share.Share.{Share}
-use Rattle.warm_messages.specs.declared.share.Share.TheVariants as share
-use Rattle.machine.specs.Connections.{with_entry, entry_turns, entry_goes, ending, vanishes, closing_entry, is_used, acquire, candidates_in, trim, says_done, release, awake, dial, dial_opens, dial_fails}
-use Rattle.machine.specs.Deadlines.{fires_as}
-use Rattle.machine.specs.Effect.{Effect, Happened, promoted, activated, shared, unused, gone, nothing_more, tells, then_do, as_move, on_entry, on_connection, for_each}
-use Rattle.machine.specs.Events.{turned_away, admitted, peer_connects, closes, dialed}
-use Rattle.machine.specs.Govern.{promoted_at, is_used_at, on_used, asks_peer, activates, deactivates, carries_out}
-use Rattle.machine.specs.Greeting.{role_of, sends_answer, judged, decided, greeted_by, greets}
-use Rattle.machine.specs.Machine.{Machine, Entry, Owed, counted_in, entry_at, live_entry_at}
-use Rattle.machine.specs.Own.{own_info}
-use Rattle.machine.specs.Peers.{peer_changes, peer_succeeds, peer_becomes, peer_was_asked, peer_comes, peer_goes}
-use Rattle.machine.specs.Provided.{is_wanted_big, comes_big}
-use Rattle.machine.specs.Replies.{reply_on, owing, paid, sends_as_initiator, find_intersect, chain_sync_done, peer_sharing_done}
-use Rattle.machine.specs.Stream.{handled_in, handled, faulted}
-use Rattle.machine.specs.Talking.{replies, stops_if, serves, begins, takes_requests, asked_as, shares_address, taken_of, takes_addresses, pays, brings, answered_as, talks}
+use Rattle.laws.proofs.Words.{cond_both, and_parts}
+use Rattle.laws.specs.Words.{unwrap_or, choice_of, connected, agreed_inbound, agreed_outbound, acquired, released, awakened, idled, expired, has_id, is_acquirable, is_dialing, is_live, is_live_at, live_phase, runs, agreed_sharing, Order, Ask, Forget, Promote, Release, Activate, Deactivate, verdict_of, answer_of, proposal_of, Verdict, message_of, Message, is_awaited, fits_side, kind_of, frame_of, CutFault, Item, same_address, Undecoded, Close, Send, Away, CloseCause, Unused, Pruned, Overwritten, Refused, Query, Fault, FaultKind, Malformed, Protocol, HandshakeWait, ReplyWait, Addr, Agreed, Cid, Facts, Phase, Greeting, Negotiated, Closing, Peer, Cold, Warm, Hot, Kind, watched, Reply, Seen, share_of, written_alive, written_request, Done, Share, with_entry, entry_turns, entry_goes, ending, vanishes, closing_entry, is_used, acquire, candidates_in, trim, says_done, release, awake, dial, dial_opens, dial_fails, fires_as, Effect, Happened, promoted, activated, shared, unused, gone, nothing_more, tells, then_do, as_move, on_entry, on_connection, for_each, turned_away, admitted, peer_connects, closes, dialed, promoted_at, is_used_at, on_used, asks_peer, activates, deactivates, carries_out, role_of, sends_answer, judged, decided, greeted_by, greets, Machine, Entry, Owed, counted_in, entry_at, live_entry_at, own_info, peer_changes, peer_succeeds, peer_becomes, peer_was_asked, peer_comes, peer_goes, is_wanted_big, comes_big, reply_on, owing, paid, sends_as_initiator, find_intersect, chain_sync_done, peer_sharing_done, handled_in, handled, faulted, replies, stops_if, serves, begins, takes_requests, asked_as, shares_address, taken_of, takes_addresses, pays, brings, answered_as, talks}
+use Rattle.laws.specs.Words.verdict
+use Rattle.laws.specs.Words.kind
+use Rattle.laws.specs.Words.reply
+use Rattle.warm_messages.specs.declared.alive.Alive.TheVariants.{Ask as AskAlive}
+use Rattle.laws.specs.Words.share
 use Rattle.laws.specs.Acts.{Act, shows, fires_one, asks_for_roots, carries, connects, ends_dial, stores, handles_item, ends_stream, is_closed, sets_targets, sets_big_targets, sets_groups, sets_roots, makes_ordinary, provides, provides_big, does}
 use Rattle.laws.specs.InActions.{ended_by}
 use Rattle.laws.specs.OpenEnds.{goes_by_itself}

@@ -1,37 +1,10 @@
 -- Nobody is promoted or activated beyond what is wanted: the numbers of a rule are what its orders use up.
 use Rattle.std.proofs.Common.{ℕ, ◌+◌, ◌-◌, ◌%◌, ◌≤◌, ◌≡◌, Bool, true, false, cond, not, ◌&&◌, ◌||◌, List, [], ◌∷◌, ◌++◌, length, map, filter, find, flat_map, count_by, Option, Some, None, is_some, refl, sym, ap, ◌∙◌, subst, arith}
-use Rattle.std.specs.List.{list_any, AllByRecursion}
-use Rattle.std.specs.Option.{option_map}
-use Rattle.std.proofs.lemmas.Bool.{cond_both, both_ways, and_parts, false_from_ne_true, not-true}
-use Rattle.std.proofs.lemmas.List.Elements.{All-from_recursion, All-weaker}
-use Rattle.std.proofs.lemmas.List.Sums.{sum_by-cons, sum_by-append, count_by-le-length}
-use Rattle.net_base.specs.Address.{same_address}
-use Rattle.net_base.specs.declared.address.Addr.{Addr}
-use Rattle.net_base.specs.declared.event.Group.{Group}
-use Rattle.net_base.specs.declared.peer.Peer.{Peer}
-use Rattle.net_base.specs.declared.peer.Temp.{Temp}
-use Rattle.net_base.specs.declared.peer.Temp.TheVariants.{Cold, Warm, Hot}
-use Rattle.churn_clock.specs.Windows.{effective_of, effective_big_of}
-use Rattle.conn_state.specs.Moves.{acquired}
-use Rattle.conn_state.specs.Use.{is_acquirable, is_pending}
-use Rattle.govern_rules.specs.Candidates.{is_eligible, may_be_activated}
-use Rattle.govern_rules.specs.ClassRules.{established_target, active_target, count_of, promotes, activates as activates_class}
-use Rattle.govern_rules.specs.Links.{some_link, is_pending as is_pending_link, owes_on_2}
-use Rattle.govern_rules.specs.Orders.{rated_of, picks_of, orders_for}
-use Rattle.govern_rules.specs.Rules.{is_member_and, members_count, g4_orders, g7_orders}
-use Rattle.govern_rules.specs.declared.link.Link.{Link}
-use Rattle.govern_rules.specs.declared.order.Order.{Order}
-use Rattle.govern_rules.specs.declared.order.Order.TheVariants.{Promote, Activate}
-use Rattle.peer_book.specs.Book.{is_of, is_established, is_active, same_temp, established_of, active_of, addresses_of, peer_at as peer_in}
-use Rattle.pick_policy.proofs.LeastLaws.{count_none}
-use Rattle.pick_policy.proofs.PickFacts.{length-picked, length-ranked}
-use Rattle.root_groups.specs.Cleaned.{is_listed, members_of}
-use Rattle.machine.specs.Machine.{Machine, Entry, live_entry_at}
-use Rattle.machine.specs.Effect.{promoted, activated, for_each, on_entry}
-use Rattle.machine.specs.Replies.{reply_on, owing}
-use Rattle.machine.specs.Peers.{peer_at}
-use Rattle.machine.specs.Connections.{with_entry, acquire, dial}
-use Rattle.machine.specs.Govern.{link_of, view_of, promoted_at, is_used_at, on_used, activates, carries_out}
+use Rattle.laws.proofs.Words.{cond_both, both_ways, and_parts, false_from_ne_true, not-true, All-from_recursion, All-weaker, sum_by-cons, sum_by-append, count_by-le-length, count_none, length-picked, length-ranked}
+use Rattle.laws.specs.Words.{list_any, AllByRecursion, option_map, same_address, Addr, Group, Peer, Temp, Cold, Warm, Hot, effective_of, effective_big_of, acquired, is_acquirable, is_pending, is_eligible, may_be_activated, established_target, active_target, count_of, promotes, some_link, owes_on_2, rated_of, picks_of, orders_for, is_member_and, members_count, g4_orders, g7_orders, Link, Order, Promote, Activate, is_of, is_established, is_active, same_temp, established_of, active_of, addresses_of, is_listed, members_of, Machine, Entry, live_entry_at, promoted, activated, for_each, on_entry, reply_on, owing, peer_at, with_entry, acquire, dial, link_of, view_of, promoted_at, is_used_at, on_used, activates, carries_out}
+use Rattle.govern_rules.specs.ClassRules.{activates as activates_class}
+use Rattle.govern_rules.specs.Links.{is_pending as is_pending_link}
+use Rattle.peer_book.specs.Book.{peer_at as peer_in}
 use Rattle.laws.specs.AtMoves.{some_connection, is_established_or_pending, is_active_or_asked, number_with, members_with, established_wanted, active_wanted, IsWanted}
 use Rattle.laws.specs.Laws.{is_local}
 use Rattle.laws.specs.Steady.{ArePeersApart, AreApart, IsOrdered}

@@ -1,37 +1,8 @@
 -- Each event of the whole machine.
 use Rattle.std.proofs.Common.{ℕ, zero, suc, ◌+◌, ◌≤◌, ◌≡◌, Bool, true, false, cond, nat_le, if◌then◌else◌, List, [], ◌∷◌, length, All, Option, Some, None, refl, sym, ap, ◌∙◌, subst, arith, leb-false}
-use Rattle.std.proofs.lemmas.Bool.{cond_both, both_ways, and_parts, false≢true}
-use Rattle.std.proofs.lemmas.List.Elements.{All-push}
-use Rattle.net_base.specs.Address.{same_address}
-use Rattle.net_base.specs.declared.action.Action.TheVariants.{Close}
-use Rattle.net_base.specs.declared.action.CloseCause.TheVariants.{Unused, Overwritten, Fault}
-use Rattle.net_base.specs.declared.action.FaultKind.TheVariants.{HandshakeWait, ReplyWait}
-use Rattle.net_base.specs.declared.address.Addr.{Addr}
-use Rattle.net_base.specs.declared.connection.Cid.{Cid}
-use Rattle.net_base.specs.declared.event.Event.{Event}
-use Rattle.net_base.specs.declared.event.Event.TheVariants.{Now, Govern, Accepted, Dialed, Bytes, Closed, Aims, Locals, Roots, BigAims, Bigs}
-use Rattle.net_base.specs.declared.event.Group.{Group}
-use Rattle.net_base.specs.declared.event.Job.{Job}
-use Rattle.net_base.specs.declared.event.RootAnswer.{RootAnswer}
-use Rattle.net_base.specs.declared.event.RootAnswer.TheVariants.{Found, Failed}
-use Rattle.net_base.specs.declared.peer.Peer.{Peer}
-use Rattle.net_base.specs.declared.timer.Deadline.{Deadline}
-use Rattle.net_base.specs.declared.timer.Kind.{Kind}
-use Rattle.net_base.specs.declared.timer.Kind.TheVariants.{Handshake, Grace as GraceKind, TimeWait}
-use Rattle.conn_state.specs.Moves.{expired}
-use Rattle.conn_state.specs.Use.{is_live, is_live_at}
-use Rattle.root_groups.specs.Cleaned.{cleaned, members_of}
-use Rattle.root_groups.specs.RootAsk.{awaits, publics_of, found, failed}
-use Rattle.machine.specs.Machine.{Machine, Entry, counted_in, live_entry_at}
-use Rattle.machine.specs.Effect.{Effect, Move, shared, unused, nothing_more, tells, then_do, as_move, for_each, on_entry}
-use Rattle.machine.specs.Peers.{peer_at, peer_is_ordinary, peer_comes}
-use Rattle.machine.specs.Connections.{with_entry, without_entry, entry_turns, closing_entry, grace_over, ending}
-use Rattle.machine.specs.Deadlines.{deadlines, due, fires_as, fires, fires_some, fire_due, fire_all}
-use Rattle.machine.specs.Events.{clock_shows, admitted, peer_connects, peer_closes, dial_ends}
-use Rattle.machine.specs.Govern.{govern}
-use Rattle.machine.specs.Provided.{targets_are, big_targets_are, comes_ordinary, locals_are, is_wanted_big, comes_big, bigs_are, roots_say, roots_answer}
-use Rattle.machine.specs.Stream.{bytes_come_in}
-use Rattle.machine.specs.Step.{step}
+use Rattle.laws.proofs.Words.{cond_both, both_ways, and_parts, false≢true, All-push}
+use Rattle.laws.specs.Words.{same_address, Close, Unused, Overwritten, Fault, HandshakeWait, ReplyWait, Addr, Cid, Event, Now, Govern, Accepted, Dialed, Bytes, Closed, Aims, Locals, Roots, BigAims, Bigs, Group, Job, RootAnswer, Found, Failed, Peer, Deadline, Kind, Handshake, TimeWait, expired, is_live, is_live_at, cleaned, members_of, awaits, publics_of, found, failed, Machine, Entry, counted_in, live_entry_at, Effect, Move, shared, unused, nothing_more, tells, then_do, as_move, for_each, on_entry, peer_at, peer_is_ordinary, peer_comes, with_entry, without_entry, entry_turns, closing_entry, grace_over, ending, deadlines, due, fires_as, fires, fires_some, fire_due, fire_all, clock_shows, admitted, peer_connects, peer_closes, dial_ends, govern, targets_are, big_targets_are, comes_ordinary, locals_are, is_wanted_big, comes_big, bigs_are, roots_say, roots_answer, bytes_come_in, step}
+use Rattle.net_base.specs.declared.timer.Kind.TheVariants.{Grace as GraceKind}
 use Rattle.laws.specs.AtMoves.{IsLawful}
 use Rattle.laws.specs.Steady.{IsShaped, IsFormed, IsSteady, TiedBy, IsTied, AreApart, IsOwing, IsOrdered}
 use Rattle.laws.specs.Laws.{is_local, LocalsAreOrdinary}

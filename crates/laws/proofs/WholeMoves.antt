@@ -1,32 +1,9 @@
 -- The moves of connections in the whole machine: what each keeps, and by how much it may raise the counted ones.
 use Rattle.std.proofs.Common.{ℕ, ◌+◌, ◌%◌, ◌≤◌, ◌≡◌, Bool, true, false, ◌&&◌, ◌||◌, nat_le, ◌==◌, if◌then◌else◌, count_by, Option, Some, None, is_some, subst, refl, sym, ap, ◌∙◌, arith}
-use Rattle.std.proofs.lemmas.Bool.{cond_both, both_ways, and_parts, and_from, false≢true, false_from_ne_true, and_right}
-use Rattle.net_base.specs.declared.action.CloseCause.{CloseCause}
-use Rattle.net_base.specs.declared.action.CloseCause.TheVariants.{Overwritten}
-use Rattle.net_base.specs.declared.connection.Agreed.{Agreed}
-use Rattle.net_base.specs.declared.connection.Cid.{Cid}
-use Rattle.net_base.specs.declared.connection.Facts.{Facts}
-use Rattle.net_base.specs.Shared.{Undecoded}
-use Rattle.net_base.specs.declared.connection.Grace.{Grace}
-use Rattle.net_base.specs.declared.connection.Grace.TheVariants.{Off, ForRemote, ForLocal}
-use Rattle.net_base.specs.declared.connection.Phase.{Phase}
-use Rattle.net_base.specs.declared.connection.Phase.TheVariants.{Dialing, Greeting, Negotiated, Closing}
-use Rattle.net_base.specs.declared.peer.Peer.{Peer}
-use Rattle.net_base.specs.declared.peer.Temp.TheVariants.{Warm}
-use Rattle.net_base.specs.declared.settings.Settings.{Settings}
-use Rattle.net_base.specs.declared.settings.Field.TheVariants.{Version}
-use Rattle.net_base.specs.Bounds.{AreSound, settings_tests}
-use Rattle.net_base.specs.Peer.{failed_peer}
-use Rattle.conn_state.specs.Moves.{connected, agreed_inbound, agreed_outbound, acquired, released, awakened, idled}
-use Rattle.conn_state.specs.Use.{agreed_sharing, is_pending, opening_phase, is_negotiated, is_negotiated_phase, is_dialing, is_dialing_phase, is_greeting, is_greeting_phase, live_phase, is_outbound, is_for_remote, some_runs, is_acquirable, is_live}
-use Rattle.machine.specs.Machine.{Machine, Entry, live_entry_at}
-use Rattle.machine.specs.Effect.{nothing_more}
-use Rattle.machine.specs.Peers.{peer_at, peer_fails, peer_succeeds}
-use Rattle.machine.specs.Replies.{reply_on, owing, paid, is_owed_on}
-use Rattle.machine.specs.Connections.{with_entry, without_entry, is_missed, lost, lost_by, ending, vanishes, is_used, is_agreed_inbound, is_agreed_outbound, acquire, idle}
+use Rattle.laws.proofs.Words.{cond_both, both_ways, and_parts, and_from, false≢true, false_from_ne_true, and_right}
+use Rattle.laws.specs.Words.{CloseCause, Overwritten, Agreed, Cid, Facts, Undecoded, Grace, Off, ForRemote, ForLocal, Phase, Dialing, Greeting, Negotiated, Closing, Peer, Warm, Settings, Version, AreSound, settings_tests, failed_peer, connected, agreed_inbound, agreed_outbound, acquired, released, awakened, idled, agreed_sharing, is_pending, opening_phase, is_negotiated, is_negotiated_phase, is_dialing, is_dialing_phase, is_greeting, is_greeting_phase, live_phase, is_outbound, is_for_remote, some_runs, is_acquirable, is_live, Machine, Entry, live_entry_at, nothing_more, peer_at, peer_fails, peer_succeeds, reply_on, owing, paid, is_owed_on, with_entry, without_entry, is_missed, lost, lost_by, ending, vanishes, is_used, is_agreed_inbound, is_agreed_outbound, acquire, idle, grace_deadlines}
 use Rattle.laws.specs.AtMoves.{IsReady}
 use Rattle.laws.specs.Steady.{IsShaped, IsUnused, AreTied, TiedBy, IsTied, IsOwing, IsOrdered}
-use Rattle.machine.specs.Deadlines.{grace_deadlines}
 use Rattle.laws.proofs.Counts.{counted_of, one_if_counted, is_late, grace_late_of}
 use Rattle.laws.proofs.Effects.{at_most_one, one_if-counted, one_if-not_counted, counted-connected, counted-greeting, counted-agreed_outbound, fewer-acquired, counted-running, phase_late_of, owed_late, late-fewer, ahead, phase-ahead, remote-ahead, local-ahead, owing-fewer, paid-fewer}
 use Rattle.laws.proofs.Entries.{TurnsInto}

@@ -1,14 +1,8 @@
 -- Every run of the whole machine.
 use Rattle.std.proofs.Common.{◌≡◌, false, arith, List, [], ◌∷◌, refl, ◌∙◌}
-use Rattle.std.proofs.lemmas.List.Elements.{All-nil}
-use Rattle.net_base.specs.Address.{same_address}
-use Rattle.net_base.specs.Bounds.{AreSound}
-use Rattle.net_base.specs.declared.event.Event.{Event}
-use Rattle.net_base.specs.declared.settings.Settings.{Settings}
-use Rattle.machine.specs.Machine.{Machine, start_of}
-use Rattle.machine.specs.Step.{step}
+use Rattle.laws.proofs.Words.{All-nil}
+use Rattle.laws.specs.Words.{same_address, AreSound, Event, Settings, Machine, start_of, step, after_all}
 use Rattle.laws.specs.Steady.{IsShaped, IsOwing, IsSteady}
-use Rattle.machine.specs.Run.{after_all}
 use Rattle.laws.proofs.Runs.{start-sound}
 use Rattle.laws.proofs.WholeEvents.{StaysSteady, step-steady}
 

@@ -1,32 +1,6 @@
 -- The parts of an event: what is done, one thing after the other.
 use Rattle.std.specs.Prelude.{ℕ, zero, suc, Bool, nat_le, List, [], ◌∷◌, ◌++◌, ◌||◌, map, length, if◌then◌else◌, Option, Some, None}
-use Rattle.conn_state.specs.Use.{is_greeting, is_negotiated}
-use Rattle.govern_rules.specs.declared.order.Order.{Order}
-use Rattle.mux_segment.specs.Stream.{FedBy}
-use Rattle.mux_segment.specs.declared.fault.CutFault.{CutFault}
-use Rattle.mux_segment.specs.declared.item.Item.{Item}
-use Rattle.net_base.specs.Shared.{Undecoded, RootState}
-use Rattle.net_base.specs.declared.address.Addr.{Addr}
-use Rattle.net_base.specs.declared.connection.Cid.{Cid}
-use Rattle.net_base.specs.declared.event.Event.{Event}
-use Rattle.net_base.specs.declared.event.Event.TheVariants.{Now, Govern, Accepted, Dialed, Bytes, Closed, Aims, Locals, Roots, BigAims, Bigs}
-use Rattle.net_base.specs.declared.event.Group.{Group}
-use Rattle.net_base.specs.declared.event.RootAnswer.{RootAnswer}
-use Rattle.net_base.specs.declared.event.RootAnswer.TheVariants.{Found, Failed}
-use Rattle.net_base.specs.declared.targets.BigTargets.{BigTargets}
-use Rattle.net_base.specs.declared.targets.Targets.{Targets}
-use Rattle.net_base.specs.declared.timer.Deadline.{Deadline}
-use Rattle.root_groups.specs.Cleaned.{cleaned, members_of}
-use Rattle.root_groups.specs.RootAsk.{awaits, publics_of, found, failed}
-use Rattle.machine.specs.Connections.{entry_turns}
-use Rattle.machine.specs.Deadlines.{deadlines, due, fires}
-use Rattle.machine.specs.Effect.{Effect, tells, on_connection, for_each}
-use Rattle.machine.specs.Events.{peer_connects, peer_closes, dial_ends}
-use Rattle.machine.specs.Govern.{carries_out, asks_roots, ordinary_rules, big_rules, rules}
-use Rattle.machine.specs.Machine.{Machine, Entry, entry_at}
-use Rattle.machine.specs.Peers.{peer_is_ordinary}
-use Rattle.machine.specs.Provided.{targets_are, big_targets_are, comes_ordinary, comes_big}
-use Rattle.machine.specs.Stream.{handles, faulted}
+use Rattle.laws.specs.Words.{is_greeting, is_negotiated, Order, FedBy, CutFault, Item, Undecoded, RootState, Addr, Cid, Event, Now, Govern, Accepted, Dialed, Bytes, Closed, Aims, Locals, Roots, BigAims, Bigs, Group, RootAnswer, Found, Failed, BigTargets, Targets, Deadline, cleaned, members_of, awaits, publics_of, found, failed, entry_turns, deadlines, due, fires, Effect, tells, on_connection, for_each, peer_connects, peer_closes, dial_ends, carries_out, asks_roots, ordinary_rules, big_rules, rules, Machine, Entry, entry_at, peer_is_ordinary, targets_are, big_targets_are, comes_ordinary, comes_big, handles, faulted}
 use Rattle.laws.specs.AtMoves.{fed_on}
 
 pub data Act : Type 0 where

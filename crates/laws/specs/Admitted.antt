@@ -1,16 +1,7 @@
 -- Who is let in where a peer connects, and for which cause one is turned away.
 use Rattle.std.specs.Prelude.{◌≡◌, Bool, true, false, nat_le, List, [], ◌∷◌, if◌then◌else◌, Option, Some, None}
-use Rattle.std.specs.List.{flat_map}
-use Rattle.conn_state.specs.Use.{is_greeting, is_live, is_outbound, is_pending}
-use Rattle.net_base.specs.Address.{same_address, address_below}
-use Rattle.net_base.specs.Shared.{nothing_undecoded}
-use Rattle.net_base.specs.declared.action.Action.{Action}
-use Rattle.net_base.specs.declared.action.Action.TheVariants.{Admit, Turnaway}
-use Rattle.net_base.specs.declared.action.Away.{Away}
-use Rattle.net_base.specs.declared.action.Away.TheVariants.{Full, OwnAddr, Crossed, Present}
-use Rattle.net_base.specs.declared.address.Addr.{Addr}
-use Rattle.machine.specs.Effect.{Effect}
-use Rattle.machine.specs.Machine.{Machine, Entry, counted_in, entry_at}
+use Rattle.laws.specs.Words.{flat_map, is_greeting, is_live, is_outbound, is_pending, same_address, address_below, nothing_undecoded, Action, Admit, Turnaway, Away, OwnAddr, Crossed, Addr, Effect, Machine, Entry, counted_in, entry_at}
+use Rattle.net_base.specs.declared.action.Away.TheVariants.{Full, Present}
 use Rattle.laws.specs.Acts.{Act, connects}
 use Rattle.laws.specs.AtMoves.{some_connection, OnEntry}
 use Rattle.laws.specs.InActions.{Given}

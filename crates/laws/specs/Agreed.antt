@@ -1,17 +1,7 @@
 -- What is agreed on in a handshake.
 use Rattle.std.specs.Prelude.{◌≡◌, true, if◌then◌else◌, Option, Some, None}
-use Rattle.std.specs.Option.{option_and_then}
-use Rattle.conn_state.specs.Use.{is_negotiated, is_outbound}
-use Rattle.hs_decide.specs.Agreement.{verdict_of}
-use Rattle.hs_decide.specs.declared.role.Role.TheVariants.{Acceptor, Dialer}
-use Rattle.hs_decide.specs.declared.verdict.Verdict.{Verdict}
-use Rattle.hs_decide.specs.declared.verdict.Verdict.TheVariants as verdict
-use Rattle.hs_message.specs.Reading.{message_of}
-use Rattle.mux_segment.specs.declared.item.Item.{Item}
-use Rattle.net_base.specs.declared.connection.Agreed.{Agreed}
-use Rattle.net_base.specs.declared.connection.Facts.{Facts}
-use Rattle.net_base.specs.declared.settings.Settings.{Settings}
-use Rattle.machine.specs.Machine.{Machine, Entry, entry_at}
+use Rattle.laws.specs.Words.{option_and_then, is_negotiated, is_outbound, verdict_of, Acceptor, Dialer, Verdict, message_of, Item, Agreed, Facts, Settings, Machine, Entry, entry_at}
+use Rattle.laws.specs.Words.verdict
 use Rattle.laws.specs.Acts.{Act, handles_item}
 use Rattle.laws.specs.CarriedOut.{WhereGreeting}
 use Rattle.laws.specs.Ends.{offered}

@@ -1,35 +1,6 @@
 -- What an operator counts on at each move of an event: in the record just before it and in the one just after it.
 use Rattle.std.specs.Prelude.{ℕ, ◌+◌, ◌≡◌, ◌≤◌, Bool, true, false, not, ◌&&◌, ◌||◌, ◌==◌, List, count_by, All, Option, Some, None, is_some}
-use Rattle.std.specs.List.{list_any}
-use Rattle.std.specs.Option.{option_map}
-use Rattle.accept_gate.specs.Prune.{is_candidate, rank_of_candidate, goes_before}
-use Rattle.accept_gate.specs.declared.prune.Candidate.{Candidate}
-use Rattle.churn_clock.specs.Windows.{effective_of, effective_big_of}
-use Rattle.conn_state.specs.Counted.{is_counted}
-use Rattle.conn_state.specs.Use.{is_negotiated, is_pending, some_runs}
-use Rattle.mux_segment.specs.Protocols.{node_limits}
-use Rattle.mux_segment.specs.Stream.{FedBy, fed_by}
-use Rattle.net_base.specs.Address.{same_address}
-use Rattle.net_base.specs.Peer.{failed_peer}
-use Rattle.net_base.specs.declared.action.CloseCause.{CloseCause}
-use Rattle.net_base.specs.declared.action.CloseCause.TheVariants.{Unused, Pruned, Overwritten, Refused, Query, Fault}
-use Rattle.net_base.specs.declared.address.Addr.{Addr}
-use Rattle.net_base.specs.declared.connection.Facts.{Facts}
-use Rattle.net_base.specs.declared.connection.Grace.{Grace}
-use Rattle.net_base.specs.declared.connection.Grace.TheVariants.{Off, ForRemote, ForLocal}
-use Rattle.net_base.specs.declared.event.Event.{Event}
-use Rattle.net_base.specs.declared.event.Event.TheVariants.{Now, Govern, Accepted, Dialed, Bytes, Closed, Aims, Locals, Roots, BigAims, Bigs}
-use Rattle.net_base.specs.declared.event.Group.{Group}
-use Rattle.net_base.specs.declared.event.RootAnswer.{RootAnswer}
-use Rattle.net_base.specs.declared.event.RootAnswer.TheVariants.{Found, Failed}
-use Rattle.net_base.specs.declared.peer.Peer.{Peer}
-use Rattle.peer_book.specs.Book.{is_of, is_established, is_active, known_of}
-use Rattle.root_groups.specs.Cleaned.{is_listed, members_of}
-use Rattle.machine.specs.Effect.{Happened, Move, promoted, activated, shared, ended, unused, gone}
-use Rattle.machine.specs.Machine.{Machine, Entry, counted_in, entry_at, live_entry_at}
-use Rattle.machine.specs.Peers.{peer_at}
-use Rattle.machine.specs.Replies.{reply_on}
-use Rattle.machine.specs.Step.{step}
+use Rattle.laws.specs.Words.{list_any, option_map, is_candidate, rank_of_candidate, goes_before, Candidate, effective_of, effective_big_of, is_counted, is_negotiated, is_pending, some_runs, node_limits, FedBy, fed_by, same_address, failed_peer, CloseCause, Unused, Pruned, Overwritten, Refused, Query, Fault, Addr, Facts, Grace, Off, ForRemote, ForLocal, Event, Now, Govern, Accepted, Dialed, Bytes, Closed, Aims, Locals, Roots, BigAims, Bigs, Group, RootAnswer, Found, Failed, Peer, is_of, is_established, is_active, known_of, is_listed, members_of, Happened, Move, promoted, activated, shared, ended, unused, gone, Machine, Entry, counted_in, entry_at, live_entry_at, peer_at, reply_on, step}
 use Rattle.laws.specs.Stages.{IsLateCause}
 use Rattle.laws.specs.Laws.{is_local, is_used_connection, is_pending_connection}
 

@@ -1,12 +1,6 @@
 -- What is remembered of a peer: how often it failed, until when it is left alone, and when it may be asked for addresses again.
 use Rattle.std.specs.Prelude.{◌≡◌, ◌≤◌, Bool, false, ◌&&◌, Option, Some, None, is_none}
-use Rattle.govern_rules.specs.declared.order.Order.{Order}
-use Rattle.govern_rules.specs.declared.order.Order.TheVariants.{Ask, Forget, Promote, Release, Activate, Deactivate}
-use Rattle.net_base.specs.Address.{same_address}
-use Rattle.net_base.specs.declared.address.Addr.{Addr}
-use Rattle.net_base.specs.declared.peer.Peer.{Peer}
-use Rattle.machine.specs.Machine.{Machine, Entry, entry_at}
-use Rattle.machine.specs.Peers.{peer_at}
+use Rattle.laws.specs.Words.{Order, Ask, Forget, Promote, Release, Activate, Deactivate, same_address, Addr, Peer, Machine, Entry, entry_at, peer_at}
 use Rattle.laws.specs.Acts.{Act, fires_one, carries, ends_dial, handles_item, ends_stream, is_closed}
 use Rattle.laws.specs.AtMoves.{some_connection, is_missed}
 

@@ -1,15 +1,7 @@
 -- When a wait begins and when it ends, on the connection that a part of an event is about.
 use Rattle.std.specs.Prelude.{ℕ, ◌≡◌, Bool, true, false, not, ◌&&◌, ◌||◌, ◌==◌, if◌then◌else◌, Option, Some, None, ◌+◌}
-use Rattle.conn_state.specs.Use.{is_acquirable, is_dialing, is_duplex, is_for_remote, is_live, some_runs}
-use Rattle.govern_rules.specs.declared.order.Order.{Order}
-use Rattle.govern_rules.specs.declared.order.Order.TheVariants.{Ask, Forget, Promote, Release, Activate, Deactivate}
-use Rattle.mux_segment.specs.declared.item.Item.{Item}
-use Rattle.net_base.specs.Timer.{kind_place}
-use Rattle.net_base.specs.declared.connection.Phase.{Phase}
-use Rattle.net_base.specs.declared.connection.Phase.TheVariants.{Dialing, Greeting, Negotiated, Closing}
-use Rattle.net_base.specs.declared.timer.Kind.{Kind}
-use Rattle.net_base.specs.declared.timer.Kind.TheVariants as kind
-use Rattle.machine.specs.Machine.{Machine, Entry, entry_at}
+use Rattle.laws.specs.Words.{is_acquirable, is_dialing, is_duplex, is_for_remote, is_live, some_runs, Order, Ask, Forget, Promote, Release, Activate, Deactivate, Item, kind_place, Phase, Dialing, Greeting, Negotiated, Closing, Kind, Machine, Entry, entry_at}
+use Rattle.laws.specs.Words.kind
 use Rattle.laws.specs.Acts.{Act, fires_one, carries, ends_dial, handles_item}
 use Rattle.laws.specs.Untouched.{is_about}
 use Rattle.laws.specs.Waits.{until_of, length_of}

@@ -1,43 +1,14 @@
 -- Whom a part of an event ends, and for what cause, from the record before it.
 use Rattle.std.specs.Prelude.{ℕ, ◌≡◌, Bool, true, false, not, nat_le, ◌&&◌, ◌||◌, ◌==◌, List, [], ◌∷◌, length, map, filter, if◌then◌else◌, Option, Some, None, Result, Ok, Err}
-use Rattle.accept_gate.specs.Prune.{is_candidate}
-use Rattle.conn_state.specs.Use.{is_outbound, is_duplex, is_live_at, is_pending, agreed_sharing}
-use Rattle.govern_rules.specs.declared.order.Order.{Order}
-use Rattle.govern_rules.specs.declared.order.Order.TheVariants.{Release}
-use Rattle.hs_decide.specs.Agreement.{verdict_of}
-use Rattle.hs_decide.specs.declared.role.Role.TheVariants.{Acceptor, Dialer}
-use Rattle.hs_decide.specs.declared.verdict.Verdict.{Verdict}
-use Rattle.hs_decide.specs.declared.verdict.Verdict.TheVariants as verdict
-use Rattle.hs_message.specs.Reading.{message_of}
-use Rattle.hs_message.specs.declared.info.VersionInfo.{VersionInfo}
-use Rattle.hs_message.specs.declared.message.Message.{Message}
-use Rattle.hs_message.specs.declared.message.Message.TheVariants as message
-use Rattle.mux_segment.specs.declared.fault.CutFault.{CutFault}
-use Rattle.mux_segment.specs.declared.fault.CutFault.TheVariants as cut
-use Rattle.mux_segment.specs.declared.item.Item.{Item}
-use Rattle.net_base.specs.Address.{same_address, address_below}
-use Rattle.net_base.specs.declared.action.CloseCause.{CloseCause}
-use Rattle.net_base.specs.declared.action.CloseCause.TheVariants as cause
-use Rattle.net_base.specs.declared.action.FaultKind.{FaultKind}
-use Rattle.net_base.specs.declared.action.FaultKind.TheVariants as fault
-use Rattle.net_base.specs.declared.address.Addr.{Addr}
-use Rattle.net_base.specs.declared.connection.Facts.{Facts}
-use Rattle.net_base.specs.declared.connection.Phase.{Phase}
-use Rattle.net_base.specs.declared.connection.Phase.TheVariants.{Dialing, Greeting, Negotiated, Closing}
-use Rattle.net_base.specs.declared.settings.Settings.{Settings}
-use Rattle.net_base.specs.declared.timer.Kind.{Kind}
-use Rattle.net_base.specs.declared.timer.Kind.TheVariants.{Handshake, Grace, TimeWait, Reply2, Reply8, Reply10}
-use Rattle.remote_watch.specs.Watch.{watched}
-use Rattle.remote_watch.specs.declared.seen.Seen.{Seen}
-use Rattle.warm_messages.specs.First.{item_number_of}
-use Rattle.warm_messages.specs.Reading.{alive_of, share_of}
-use Rattle.warm_messages.specs.declared.alive.Alive.{Alive}
-use Rattle.warm_messages.specs.declared.alive.Alive.TheVariants as alive
-use Rattle.warm_messages.specs.declared.share.Share.{Share}
-use Rattle.warm_messages.specs.declared.share.Share.TheVariants as share
-use Rattle.machine.specs.Effect.{Move}
-use Rattle.machine.specs.Machine.{Machine, Entry, Owed, counted_in, entry_at, live_entry_at}
-use Rattle.machine.specs.Replies.{reply_on}
+use Rattle.laws.specs.Words.{is_candidate, is_outbound, is_duplex, is_live_at, is_pending, agreed_sharing, Order, Release, verdict_of, Acceptor, Dialer, Verdict, message_of, VersionInfo, Message, CutFault, Item, same_address, address_below, CloseCause, FaultKind, Addr, Facts, Phase, Dialing, Greeting, Negotiated, Closing, Settings, Kind, Handshake, TimeWait, Reply2, Reply8, Reply10, watched, Seen, item_number_of, alive_of, share_of, Alive, Share, Move, Machine, Entry, Owed, counted_in, entry_at, live_entry_at, reply_on}
+use Rattle.laws.specs.Words.verdict
+use Rattle.laws.specs.Words.message
+use Rattle.laws.specs.Words.cut
+use Rattle.laws.specs.Words.cause
+use Rattle.laws.specs.Words.fault
+use Rattle.net_base.specs.declared.timer.Kind.TheVariants.{Grace}
+use Rattle.laws.specs.Words.alive
+use Rattle.laws.specs.Words.share
 use Rattle.laws.specs.Acts.{Act, fires_one, carries, connects, handles_item, ends_stream}
 use Rattle.laws.specs.InActions.{End, ends_in}
 

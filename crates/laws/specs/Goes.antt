@@ -1,9 +1,6 @@
 -- Who goes without this node's doing: whose other side has closed, and whose dial has failed.
 use Rattle.std.specs.Prelude.{ℕ, ◌≡◌, false, true, [], ◌∷◌, Option, Some, None}
-use Rattle.conn_state.specs.Use.{is_dialing}
-use Rattle.net_base.specs.declared.action.StateName.TheVariants.{Terminated}
-use Rattle.machine.specs.Effect.{Effect}
-use Rattle.machine.specs.Machine.{Machine, Entry, entry_at}
+use Rattle.laws.specs.Words.{is_dialing, Terminated, Effect, Machine, Entry, entry_at}
 use Rattle.laws.specs.Acts.{Act, ends_dial, is_closed}
 use Rattle.laws.specs.CarriedOut.{WhereLive}
 use Rattle.laws.specs.InActions.{names_in}

@@ -1,24 +1,8 @@
 -- What actions tell: who is closed and dialed, which ids come, and what connections and peers turn into.
 use Rattle.std.specs.Prelude.{ℕ, ◌+◌, ◌≡◌, Bool, true, false, not, ◌==◌, nat_lt, if◌then◌else◌, List, [], ◌∷◌, Option, Some, None}
-use Rattle.std.specs.List.{flat_map}
-use Rattle.conn_state.specs.Names.{name_of, same_name}
-use Rattle.net_base.specs.Address.{same_address}
-use Rattle.net_base.specs.declared.action.Action.{Action}
-use Rattle.net_base.specs.declared.action.Action.TheVariants.{Admit, Dial, Close, State, Peer as TellPeer}
-use Rattle.net_base.specs.declared.action.CloseCause.{CloseCause}
-use Rattle.net_base.specs.declared.action.CloseCause.TheVariants.{Unused}
-use Rattle.net_base.specs.declared.action.PeerNote.{PeerNote}
-use Rattle.net_base.specs.declared.action.PeerNote.TheVariants as note
-use Rattle.net_base.specs.declared.action.StateName.{StateName}
-use Rattle.net_base.specs.declared.action.StateName.TheVariants.{Terminated}
-use Rattle.net_base.specs.declared.address.Addr.{Addr}
-use Rattle.net_base.specs.declared.peer.Peer.{Peer}
-use Rattle.net_base.specs.declared.peer.Temp.{Temp}
-use Rattle.net_base.specs.declared.peer.Temp.TheVariants.{Cold, Warm, Hot}
-use Rattle.peer_book.specs.Book.{same_temp}
-use Rattle.machine.specs.Effect.{Happened, Move, promoted, ended, unused}
-use Rattle.machine.specs.Machine.{Machine, Entry, entry_at}
-use Rattle.machine.specs.Peers.{peer_at}
+use Rattle.laws.specs.Words.{flat_map, name_of, same_name, same_address, Action, Admit, Dial, Close, State, CloseCause, Unused, PeerNote, StateName, Terminated, Addr, Peer, Temp, Cold, Warm, Hot, same_temp, Happened, Move, promoted, ended, unused, Machine, Entry, entry_at, peer_at}
+use Rattle.net_base.specs.declared.action.Action.TheVariants.{Peer as TellPeer}
+use Rattle.laws.specs.Words.note
 
 -- ---- who is closed
 

@@ -1,15 +1,6 @@
 -- What an operator counts on after each event.
 use Rattle.std.specs.Prelude.{◌≡◌, ◌<◌, ◌≤◌, ◌≢◌, Bool, true, false, ◌&&◌, ◌||◌, IsTrue, List, All, AllPairs, Option, Some, None}
-use Rattle.conn_state.specs.Use.{is_live, is_negotiated, is_pending}
-use Rattle.machine.specs.Deadlines.{deadlines}
-use Rattle.machine.specs.Machine.{Machine, Entry, counted_in, live_entry_at}
-use Rattle.machine.specs.Peers.{peer_at}
-use Rattle.net_base.specs.declared.address.Addr.{Addr}
-use Rattle.net_base.specs.declared.event.Group.{Group}
-use Rattle.net_base.specs.declared.peer.Peer.{Peer}
-use Rattle.net_base.specs.declared.peer.Temp.TheVariants.{Cold}
-use Rattle.peer_book.specs.Book.{is_established, same_temp}
-use Rattle.root_groups.specs.Cleaned.{is_listed, members_of}
+use Rattle.laws.specs.Words.{is_live, is_negotiated, is_pending, deadlines, Machine, Entry, counted_in, live_entry_at, peer_at, Addr, Group, Peer, Cold, is_established, same_temp, is_listed, members_of}
 
 -- if both are live
 abbrev pub DifferInAddress : Entry → Entry → Type 0

@@ -27,3 +27,4 @@ pub mod Telling
 pub mod Untouched
 pub mod Waits
 pub mod Steady
+pub mod Words

@@ -1,7 +1,6 @@
 -- Whatever is waited for is still ahead, and what is over is waited for no more.
 use Rattle.std.specs.Prelude.{ℕ, ◌≡◌, ◌<◌, Some, None}
-use Rattle.net_base.specs.declared.timer.Kind.{Kind}
-use Rattle.machine.specs.Machine.{Machine}
+use Rattle.laws.specs.Words.{Kind, Machine}
 use Rattle.laws.specs.Acts.{Act, fires_one}
 use Rattle.laws.specs.Waits.{until_at}
 

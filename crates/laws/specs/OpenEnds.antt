@@ -1,9 +1,6 @@
 -- That a connection which stands open, however far it has come, stays so or ends once.
 use Rattle.std.specs.Prelude.{ℕ, ◌≡◌, Bool, true, false, not, ◌&&◌, ◌||◌, ◌==◌, List, [], ◌∷◌, Option, Some, None}
-use Rattle.conn_state.specs.Use.{is_dialing, is_live}
-use Rattle.net_base.specs.declared.action.CloseCause.{CloseCause}
-use Rattle.machine.specs.Effect.{Effect}
-use Rattle.machine.specs.Machine.{Machine, Entry, entry_at}
+use Rattle.laws.specs.Words.{is_dialing, is_live, CloseCause, Effect, Machine, Entry, entry_at}
 use Rattle.laws.specs.Acts.{Act, ends_dial, is_closed}
 use Rattle.laws.specs.Stages.{causes_in}
 

@@ -1,15 +1,6 @@
 -- What the governor's orders need where they are carried out.
 use Rattle.std.specs.Prelude.{ℕ, ◌≡◌, ◌≤◌, ◌^◌, true, false, List, [], ◌∷◌, find, Option, Some, None, is_some, IsSomeAnd}
-use Rattle.net_base.specs.Address.{same_address}
-use Rattle.net_base.specs.declared.address.Addr.{Addr}
-use Rattle.net_base.specs.declared.peer.Temp.TheVariants.{Cold}
-use Rattle.conn_state.specs.Use.{is_acquirable}
-use Rattle.govern_rules.specs.declared.order.Order.{Order}
-use Rattle.govern_rules.specs.declared.order.Order.TheVariants.{Ask, Forget, Promote, Release, Activate, Deactivate}
-use Rattle.machine.specs.Effect.{for_each}
-use Rattle.machine.specs.Govern.{carries_out, asks_roots, ordinary_rules, big_rules, rules}
-use Rattle.machine.specs.Machine.{Machine, Entry, facts_of, live_entry_at}
-use Rattle.machine.specs.Peers.{peer_at}
+use Rattle.laws.specs.Words.{same_address, Addr, Cold, is_acquirable, Order, Ask, Forget, Promote, Release, Activate, Deactivate, for_each, carries_out, asks_roots, ordinary_rules, big_rules, rules, Machine, Entry, facts_of, live_entry_at, peer_at}
 
 -- the live connection of an address may be taken into use, or the address has no connection, be it a closed one
 abbrev pub IsFree : Option Entry → Addr → Machine → Type 0

@@ -1,16 +1,6 @@
 -- Whom the governor may order what for: who is one too few or one too many, and whose turn it can be.
 use Rattle.std.specs.Prelude.{ℕ, ◌-◌, ◌≡◌, ◌<◌, ◌≤◌, min, Bool, true, false, not, ◌&&◌, ◌||◌, All, Option, Some, None, is_some}
-use Rattle.conn_state.specs.Use.{agreed_sharing, is_acquirable, is_pending}
-use Rattle.govern_rules.specs.declared.order.Order.{Order}
-use Rattle.govern_rules.specs.declared.order.Order.TheVariants.{Ask, Forget, Promote, Release, Activate, Deactivate}
-use Rattle.net_base.specs.declared.address.Addr.{Addr}
-use Rattle.net_base.specs.declared.peer.Peer.{Peer}
-use Rattle.net_base.specs.declared.peer.Temp.TheVariants.{Cold, Warm, Hot}
-use Rattle.peer_book.specs.Book.{is_established, is_active, known_of, established_of, active_of}
-use Rattle.root_groups.specs.Cleaned.{is_listed}
-use Rattle.machine.specs.Machine.{Machine, Entry}
-use Rattle.machine.specs.Peers.{peer_at}
-use Rattle.machine.specs.Replies.{reply_on}
+use Rattle.laws.specs.Words.{agreed_sharing, is_acquirable, is_pending, Order, Ask, Forget, Promote, Release, Activate, Deactivate, Addr, Peer, Cold, Warm, Hot, is_established, is_active, known_of, established_of, active_of, is_listed, Machine, Entry, peer_at, reply_on}
 use Rattle.laws.specs.AtMoves.{some_connection, number_with, members_with, known_wanted, established_wanted, active_wanted}
 use Rattle.laws.specs.Laws.{is_local}
 

@@ -1,15 +1,6 @@
 -- What an operator counts on in each part of an event, between the records that it really reaches.
 use Rattle.std.specs.Prelude.{ℕ, ◌≡◌, ◌≤◌, Bool, true, false, ◌||◌, List, [], ◌∷◌, All, Contains, Some}
-use Rattle.std.specs.List.{AllByRecursion, list_any}
-use Rattle.net_base.specs.declared.action.CloseCause.{CloseCause}
-use Rattle.net_base.specs.declared.address.Addr.{Addr}
-use Rattle.net_base.specs.declared.event.Event.{Event}
-use Rattle.net_base.specs.Timer.{deadline_before}
-use Rattle.net_base.specs.declared.timer.Deadline.{Deadline}
-use Rattle.machine.specs.Deadlines.{deadlines}
-use Rattle.machine.specs.Effect.{Effect, Happened, for_each}
-use Rattle.machine.specs.Machine.{Machine}
-use Rattle.machine.specs.Step.{step}
+use Rattle.laws.specs.Words.{AllByRecursion, list_any, CloseCause, Addr, Event, deadline_before, Deadline, deadlines, Effect, Happened, for_each, Machine, step}
 use Rattle.laws.specs.Admitted.{AdmitsRight}
 use Rattle.laws.specs.Agreed.{AgreesRight}
 use Rattle.laws.specs.BackOff.{Remembers, FailsOnly}

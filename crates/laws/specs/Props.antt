@@ -1,10 +1,7 @@
 -- That a record is steady has one proof at most, so a struct may keep it.
 use Rattle.std.specs.Prelude.{ℕ, List, [], ◌∷◌, Option, Some, None}
-use Rattle.std.specs.Coded.{×_prop, Unit-prop}
+use Rattle.laws.specs.Words.{×_prop, Unit-prop, Addr, Peer, Machine, Entry}
 use Rattle.std.proofs.Props.{props}
-use Rattle.net_base.specs.declared.address.Addr.{Addr}
-use Rattle.net_base.specs.declared.peer.Peer.{Peer}
-use Rattle.machine.specs.Machine.{Machine, Entry}
 use Rattle.laws.specs.Steady.{ArePeersApart, AreApart, TiedBy, IsSteady}
 
 ArePeersApart-prop : (peers : List Peer) → IsProp (ArePeersApart peers)

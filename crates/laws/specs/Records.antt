@@ -1,8 +1,6 @@
 -- What an operator counts on in every record that a run reaches.
 use Rattle.std.specs.Prelude.{◌≡◌, true, All}
-use Rattle.net_base.specs.declared.address.Addr.{Addr}
-use Rattle.machine.specs.Machine.{Machine, live_entry_at}
-use Rattle.machine.specs.Peers.{peer_at}
+use Rattle.laws.specs.Words.{Addr, Machine, live_entry_at, peer_at}
 use Rattle.laws.specs.AtMoves.{is_hot_peer}
 use Rattle.laws.specs.Laws.{LiveAddressesDistinct, WithinHardLimit, DeadlinesAhead, EstablishedAreUsed, PendingAreCold, UsedAreOutOfBackOff, LocalsAreOrdinary, is_established_peer, is_used_connection}
 use Rattle.laws.specs.Moments.{WaitsAhead}

@@ -1,11 +1,6 @@
 -- Which protocols the other side runs.
 use Rattle.std.specs.Prelude.{◌≡◌, ◌==◌, true, not, Option, Some, None, Result, Ok, Err}
-use Rattle.conn_state.specs.Use.{is_negotiated, agreed_sharing, with_responder}
-use Rattle.mux_segment.specs.declared.item.Item.{Item}
-use Rattle.net_base.specs.declared.action.FaultKind.{FaultKind}
-use Rattle.machine.specs.Machine.{Machine, Entry, entry_at}
-use Rattle.remote_watch.specs.Watch.{watched}
-use Rattle.remote_watch.specs.declared.seen.Seen.{Seen}
+use Rattle.laws.specs.Words.{is_negotiated, agreed_sharing, with_responder, Item, FaultKind, Machine, Entry, entry_at, watched, Seen}
 use Rattle.laws.specs.Acts.{Act, handles_item}
 
 abbrev pub WhereSeen : Result Seen FaultKind → (Seen → Type 0) → Type 0

@@ -1,11 +1,6 @@
 -- When the public root peers are asked for.
 use Rattle.std.specs.Prelude.{ℕ, ◌+◌, ◌≡◌, Bool, true, false, ◌&&◌, nat_le, nat_lt, List, [], ◌∷◌, length, if◌then◌else◌, Some, is_none}
-use Rattle.std.specs.List.{flat_map}
-use Rattle.net_base.specs.Shared.{RootState}
-use Rattle.net_base.specs.declared.action.Action.{Action}
-use Rattle.net_base.specs.declared.action.Action.TheVariants.{AskRoots}
-use Rattle.machine.specs.Effect.{Effect}
-use Rattle.machine.specs.Machine.{Machine}
+use Rattle.laws.specs.Words.{flat_map, RootState, Action, AskRoots, Effect, Machine}
 use Rattle.laws.specs.Acts.{Act, asks_for_roots}
 
 -- fewer public roots are known than wanted, no answer is awaited, and the moment before which none is asked for has come

@@ -2,10 +2,7 @@
 use Rattle.std.specs.Prelude.{◌≡◌, List, ◌∷◌, ◌++◌}
 use Rattle.laws.specs.Parts.{IsLawfulEvent}
 use Rattle.laws.specs.Records.{IsLawfulRecord}
-use Rattle.machine.specs.Machine.{start_of}
-use Rattle.machine.specs.Run.{after_all}
-use Rattle.net_base.specs.declared.event.Event.{Event}
-use Rattle.net_base.specs.declared.settings.Settings.{Settings}
+use Rattle.laws.specs.Words.{start_of, after_all, Event, Settings}
 
 -- Every law holds in each record that the events reach, one after another, and at each event there.
 pub record IsLawfulRun (settings : Settings) (events : List Event) : Type 0 where

@@ -1,25 +1,8 @@
 -- What is sent: what is due by each part of an event, and nothing else.
 use Rattle.std.specs.Prelude.{ℕ, ◌%◌, ◌≡◌, Bool, true, false, ◌&&◌, ◌==◌, List, [], ◌∷◌, ◌++◌, find, if◌then◌else◌, Option, Some, None}
-use Rattle.conn_state.specs.Use.{agreed_sharing, is_acquirable, is_dialing, is_live_at, is_outbound}
-use Rattle.govern_rules.specs.declared.order.Order.{Order}
-use Rattle.govern_rules.specs.declared.order.Order.TheVariants.{Ask, Forget, Promote, Release, Activate, Deactivate}
-use Rattle.hs_decide.specs.Agreement.{verdict_of}
-use Rattle.hs_decide.specs.Answers.{answer_of, proposal_of}
-use Rattle.hs_decide.specs.declared.role.Role.TheVariants.{Acceptor, Dialer}
-use Rattle.hs_decide.specs.declared.verdict.Verdict.{Verdict}
-use Rattle.hs_decide.specs.declared.verdict.Verdict.TheVariants as verdict
-use Rattle.hs_message.specs.Reading.{message_of}
-use Rattle.hs_message.specs.declared.message.Message.{Message}
-use Rattle.mux_segment.specs.Frame.{frame_of}
-use Rattle.mux_segment.specs.declared.item.Item.{Item}
-use Rattle.net_base.specs.declared.address.Addr.{Addr}
-use Rattle.net_base.specs.declared.connection.Facts.{Facts}
-use Rattle.net_base.specs.declared.connection.Phase.{Phase}
-use Rattle.net_base.specs.declared.connection.Phase.TheVariants.{Dialing, Greeting, Negotiated, Closing}
-use Rattle.warm_messages.specs.Writing.{written_alive, written_request}
-use Rattle.warm_messages.specs.declared.alive.Alive.TheVariants as alive
-use Rattle.machine.specs.Effect.{Effect}
-use Rattle.machine.specs.Machine.{Machine, Entry, entry_at, live_entry_at}
+use Rattle.laws.specs.Words.{agreed_sharing, is_acquirable, is_dialing, is_live_at, is_outbound, Order, Ask, Forget, Promote, Release, Activate, Deactivate, verdict_of, answer_of, proposal_of, Acceptor, Dialer, Verdict, message_of, Message, frame_of, Item, Addr, Facts, Phase, Dialing, Greeting, Negotiated, Closing, written_alive, written_request, Effect, Machine, Entry, entry_at, live_entry_at}
+use Rattle.laws.specs.Words.verdict
+use Rattle.laws.specs.Words.alive
 use Rattle.laws.specs.Acts.{Act, carries, ends_dial, handles_item}
 use Rattle.laws.specs.Ends.{offered, side_of}
 use Rattle.laws.specs.Served.{Sent, sent_in}

@@ -1,19 +1,7 @@
 -- What is answered to what the other side asks, and who is told of to one that asks for addresses.
 use Rattle.std.specs.Prelude.{ℕ, ◌≡◌, ◌≤◌, Bool, true, false, not, ◌&&◌, ◌||◌, List, [], ◌∷◌, length, map}
-use Rattle.std.specs.List.{AllByRecursion, flat_map, list_any}
-use Rattle.mux_segment.specs.Frame.{frame_of}
-use Rattle.mux_segment.specs.declared.item.Item.{Item}
-use Rattle.net_base.specs.Address.{same_address}
-use Rattle.net_base.specs.declared.action.Action.{Action}
-use Rattle.net_base.specs.declared.action.Action.TheVariants.{Send}
-use Rattle.net_base.specs.declared.address.Addr.{Addr}
-use Rattle.remote_watch.specs.Replies.{reply_bytes_of}
-use Rattle.remote_watch.specs.declared.reply.Reply.{Reply}
-use Rattle.remote_watch.specs.declared.reply.Reply.TheVariants as reply
-use Rattle.remote_watch.specs.declared.seen.Seen.{Seen}
-use Rattle.root_groups.specs.Cleaned.{is_listed}
-use Rattle.machine.specs.Effect.{Effect}
-use Rattle.machine.specs.Machine.{Machine, Entry, entry_at}
+use Rattle.laws.specs.Words.{AllByRecursion, flat_map, list_any, frame_of, Item, same_address, Action, Send, Addr, reply_bytes_of, Reply, Seen, is_listed, Effect, Machine, Entry, entry_at}
+use Rattle.laws.specs.Words.reply
 use Rattle.laws.specs.Acts.{Act, handles_item}
 use Rattle.laws.specs.AtMoves.{is_known}
 use Rattle.laws.specs.Laws.{is_local}

@@ -1,7 +1,6 @@
 -- The whole that carries the laws: the start has it, and each event keeps it.
 use Rattle.std.specs.Prelude.{ℕ, ◌<◌, ◌≤◌, All, AllPairs}
-use Rattle.net_base.specs.Bounds.{AreSound}
-use Rattle.machine.specs.Machine.{Machine, Entry}
+use Rattle.laws.specs.Words.{AreSound, Machine, Entry}
 use Rattle.laws.specs.Laws.{LiveAddressesDistinct, WithinHardLimit, DeadlinesAhead}
 
 abbrev pub HasLowerId : Entry → Entry → Type 0

@@ -1,12 +1,6 @@
 -- How far a connection has come, and that it ends once.
 use Rattle.std.specs.Prelude.{ℕ, ◌≡◌, ◌≤◌, Bool, ◌==◌, nat_lt, if◌then◌else◌, List, [], ◌∷◌, Option, Some, None}
-use Rattle.std.specs.List.{flat_map}
-use Rattle.net_base.specs.declared.action.CloseCause.{CloseCause}
-use Rattle.net_base.specs.declared.action.CloseCause.TheVariants.{Unused, Pruned, Overwritten, Refused, Query, Fault}
-use Rattle.net_base.specs.declared.connection.Phase.{Phase}
-use Rattle.net_base.specs.declared.connection.Phase.TheVariants.{Dialing, Greeting, Negotiated, Closing}
-use Rattle.machine.specs.Effect.{Move}
-use Rattle.machine.specs.Machine.{Machine, Entry, entry_at}
+use Rattle.laws.specs.Words.{flat_map, CloseCause, Unused, Pruned, Overwritten, Refused, Query, Fault, Phase, Dialing, Greeting, Negotiated, Closing, Move, Machine, Entry, entry_at}
 use Rattle.laws.specs.InActions.{End, ends_in}
 
 abbrev pub stage_of_phase : Phase → ℕ

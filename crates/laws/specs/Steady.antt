@@ -1,18 +1,6 @@
 -- What holds in every record that a run of the whole machine reaches.
 use Rattle.std.specs.Prelude.{ℕ, ◌+◌, ◌≡◌, ◌<◌, ◌≤◌, true, false, not, ◌||◌, List, [], ◌∷◌, length, All, AllPairs, Option, Some, None, is_some}
-use Rattle.std.specs.List.{AllByRecursion}
-use Rattle.net_base.specs.Address.{same_address}
-use Rattle.net_base.specs.declared.address.Addr.{Addr}
-use Rattle.net_base.specs.declared.peer.Peer.{Peer}
-use Rattle.root_groups.specs.Cleaned.{members_of}
-use Rattle.net_base.specs.declared.connection.Facts.{Facts}
-use Rattle.net_base.specs.declared.connection.Grace.TheVariants.{Off}
-use Rattle.net_base.specs.declared.peer.Temp.TheVariants.{Warm}
-use Rattle.peer_book.specs.Book.{is_established, most_peers}
-use Rattle.conn_state.specs.Use.{agreed_sharing, is_dialing, is_duplex, is_for_local, is_for_remote, is_negotiated, is_outbound, is_pending, some_runs}
-use Rattle.machine.specs.Machine.{Machine, Entry, live_entry_at}
-use Rattle.machine.specs.Peers.{peer_at}
-use Rattle.machine.specs.Replies.{reply_on, is_owed_on}
+use Rattle.laws.specs.Words.{AllByRecursion, same_address, Addr, Peer, members_of, Facts, Off, Warm, is_established, most_peers, agreed_sharing, is_dialing, is_duplex, is_for_local, is_for_remote, is_negotiated, is_outbound, is_pending, some_runs, Machine, Entry, live_entry_at, peer_at, reply_on, is_owed_on}
 use Rattle.laws.specs.Laws.{LocalsAreOrdinary}
 use Rattle.laws.specs.Sound.{IsOrderly, IsSound}
 

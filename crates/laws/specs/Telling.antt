@@ -1,8 +1,6 @@
 -- Whether the actions of a part tell what it does, all of it and nothing else.
 use Rattle.std.specs.Prelude.{ℕ, ◌≡◌, ◌≤◌, Option, Some, None}
-use Rattle.net_base.specs.declared.address.Addr.{Addr}
-use Rattle.machine.specs.Effect.{Effect}
-use Rattle.machine.specs.Machine.{Machine, Entry, entry_at}
+use Rattle.laws.specs.Words.{Addr, Effect, Machine, Entry, entry_at}
 use Rattle.laws.specs.Stages.{stage_at, causes_in, IsOneEnd}
 use Rattle.laws.specs.InActions.{closes_in, ends_in, dials_in, dial_promotions_in, given_in, CountUp, AreAt, LeadTo, temp_at, notes_in, noted, is_change, state_at, names_in, is_other_name, same_state}
 

@@ -1,11 +1,6 @@
 -- What a part of an event leaves as it was: every connection but the one that it is about.
 use Rattle.std.specs.Prelude.{ℕ, ◌<◌, ◌≡◌, ◌⊎◌, Bool, true, false, ◌==◌, Option, Some, None}
-use Rattle.govern_rules.specs.declared.order.Order.{Order}
-use Rattle.govern_rules.specs.declared.order.Order.TheVariants.{Ask, Forget, Promote, Release, Activate, Deactivate}
-use Rattle.net_base.specs.Address.{same_address}
-use Rattle.net_base.specs.Shared.{nothing_undecoded}
-use Rattle.net_base.specs.declared.address.Addr.{Addr}
-use Rattle.machine.specs.Machine.{Machine, Entry, entry_at}
+use Rattle.laws.specs.Words.{Order, Ask, Forget, Promote, Release, Activate, Deactivate, same_address, nothing_undecoded, Addr, Machine, Entry, entry_at}
 use Rattle.laws.specs.Acts.{Act, fires_one, carries, ends_dial, stores, handles_item, ends_stream, is_closed}
 
 -- ---- which connection a part is about

@@ -1,15 +1,7 @@
 -- How long is waited: whatever a connection comes to wait for, it does so for as long as the setting of that name says.
 use Rattle.std.specs.Prelude.{ℕ, ◌+◌, ◌≡◌, ◌⊎◌, Option, Some, None}
-use Rattle.std.specs.Option.{option_map}
-use Rattle.net_base.specs.declared.connection.Grace.{Grace}
-use Rattle.net_base.specs.declared.connection.Grace.TheVariants.{Off, ForRemote, ForLocal}
-use Rattle.net_base.specs.declared.connection.Phase.{Phase}
-use Rattle.net_base.specs.declared.connection.Phase.TheVariants.{Dialing, Greeting, Negotiated, Closing}
-use Rattle.net_base.specs.declared.settings.Settings.{Settings}
-use Rattle.net_base.specs.declared.timer.Kind.{Kind}
-use Rattle.net_base.specs.declared.timer.Kind.TheVariants as kind
-use Rattle.machine.specs.Machine.{Machine, Entry, Owed, entry_at}
-use Rattle.machine.specs.Replies.{reply_on}
+use Rattle.laws.specs.Words.{option_map, Grace, Off, ForRemote, ForLocal, Phase, Dialing, Greeting, Negotiated, Closing, Settings, Kind, Machine, Entry, Owed, entry_at, reply_on}
+use Rattle.laws.specs.Words.kind
 
 -- ---- until when a connection waits
 

@@ -1,7 +1,5 @@
 use Rattle.std.proofs.Common.{List}
-use Rattle.net_base.specs.Bounds.{AreSound}
-use Rattle.net_base.specs.declared.event.Event.{Event}
-use Rattle.net_base.specs.declared.settings.Settings.{Settings}
+use Rattle.laws.specs.Words.{AreSound, Event, Settings}
 use Rattle.laws.specs.Runs.{IsLawfulRun}
 use Rattle.laws.proofs.lawful_runs.runs_are_lawful.Goals as goal
 

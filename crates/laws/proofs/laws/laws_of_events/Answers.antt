@@ -1,5 +1,4 @@
-use Rattle.machine.specs.Machine.{start_of}
-use Rattle.machine.specs.Run.{after_all}
+use Rattle.laws.specs.Words.{start_of, after_all}
 use Rattle.laws.proofs.Ids.{step-few}
 use Rattle.laws.proofs.PartEvents.{event-lawful}
 use Rattle.laws.proofs.WholeRuns.{after_all-steady}

@@ -1,5 +1,4 @@
-use Rattle.machine.specs.Machine.{start_of}
-use Rattle.machine.specs.Run.{after_all}
+use Rattle.laws.specs.Words.{start_of, after_all}
 use Rattle.laws.proofs.PeerLaws.{steady-lawful}
 use Rattle.laws.proofs.WholeEvents.{step-steady}
 use Rattle.laws.proofs.WholeRuns.{start-steady, after_all-steady}
