@@ -1,5 +1,5 @@
 -- The moves of the clock: a reply is late, a grace is over, a handshake was not done in time, a time-wait is over.
-use Rattle.std.proofs.Common.{ℕ, zero, suc, ◌≡◌, ◌≤◌, ◌<◌, arith, Bool, true, false, ◌&&◌, ◌||◌, ◌==◌, if◌then◌else◌, [], ◌∷◌, List, length, Some, All, Contains, refl, sym, ap, ◌∙◌, subst, eq-eqb, leb-true}
+use Rattle.std.proofs.Common.{ℕ, zero, suc, ◌≡◌, ◌≤◌, ◌<◌, arith, Bool, true, false, ◌&&◌, ◌==◌, if◌then◌else◌, [], ◌∷◌, List, length, Some, All, Contains, refl, sym, ap, ◌∙◌, subst, leb-true}
 use Rattle.laws.proofs.Words.{cond_both, both_ways, false≢true, and_right, or_from, All-nil, All-weaker, All-contains, All-contains_itself}
 use Rattle.laws.specs.Words.{Close, Unused, Fault, HandshakeWait, ReplyWait, Facts, Grace, Off, ForRemote, ForLocal, Phase, Greeting, Closing, Deadline, Kind, Handshake, TimeWait, Reply2, Reply8, Reply10, expired, is_live, live_phase, is_pending, opening_phase, is_greeting, is_greeting_phase, is_negotiated, is_outbound, some_runs, Machine, Entry, Owed, Effect, unused, gone, tells, then_do, as_move, on_entry, peer_at, entry_turns, entry_goes, closing_entry, grace_over, wait_over, deadlines_of, phase_deadlines, grace_deadlines, reply_deadline, due, fires_as, fires, fires_some, fire_due, timer}
 use Rattle.net_base.specs.declared.timer.Kind.TheVariants.{Grace as GraceKind}
@@ -95,7 +95,7 @@ grace_over-obeys m e k h s past =
     let closed : Effect = as_move (unused e.facts.cid.0) m closes in
     cond_both e.facts.local (entry_turns e (record e { facts = expired e.facts }) m) closed (Obeys IsLawful m)
     (λ local. turns-obeys IsLawful m e (record e { facts = expired e.facts }) k h.orderly s
-    (record { same_id = refl; same_addr = refl; live = λ l. l }) (record { up = λ up. up; asked = λ asked. asked }) (λ negotiated. negotiated) (omega arith))
+    (record { same_id = refl; same_addr = refl; live = λ l. l }) (record { up = λ up. up; asked = λ asked. asked }) (omega arith))
     (λ idle. as_move-obeys IsLawful (unused e.facts.cid.0) m closes refl
     (record {
       back_off = tt;
@@ -104,7 +104,6 @@ grace_over-obeys m e k h s past =
     })
     (accounts_turned m e (closing_entry m e) k closed h.orderly s (record { same_id = refl; same_addr = refl; live = λ l. absurd (false≢true l) })
     (record { up = λ up. absurd (both_ways (is_outbound e.facts && false) (and_right (is_outbound e.facts) false refl) up); asked = λ asked. asked }) refl
-    (λ negotiated. ap (λ b. b || false) (eq-eqb e.facts.cid.0 e.facts.cid.0 refl))
     (grace_over-told m e k h.orderly s (negotiated-live e.facts.phase (past-negotiated m.now e.facts (stands-shaped m e k h s) past)))))
 
 live-negotiated : (f : Facts) → is_live f ≡ false → is_negotiated f ≡ false
@@ -129,7 +128,7 @@ wait_over-obeys m e k h s dead =
     subst (λ b. peer_at e.facts.addr m ≡ failed_where b m.now m.settings.backoff (peer_at e.facts.addr m)) (sym (dead-unmissed e.facts (stands-shaped m e k h s) dead)) refl in
     as_move-obeys IsLawful (gone e.facts.cid.0) m (entry_goes e m) refl
     (record { back_off = tt; targets = tt; cause = on_stands (λ x. (is_negotiated x.facts ≡ false) × FailsWhere (is_missed x.facts) x m (wait_over e m).machine) m e k h.orderly s (closed, stays) })
-    (accounts_gone m e k (wait_over e m) h.orderly s refl (λ addr hot. hot) (λ addr known. known) (λ negotiated. absurd (both_ways (is_negotiated e.facts) closed negotiated))
+    (accounts_gone m e k (wait_over e m) h.orderly s refl (λ addr hot. hot) (λ addr known. known)
     (told_move (gone e.facts.cid.0) m (entry_goes e m) refl refl (goes-told m e k h.orderly s)))
 
 -- a reply is owed only while the connection is used

@@ -1,8 +1,8 @@
 -- The moves of each event.
-use Rattle.std.proofs.Common.{ℕ, ◌+◌, ◌≡◌, ◌≤◌, arith, Bool, true, false, ◌&&◌, ◌||◌, ◌==◌, nat_le, nat_lt, List, [], ◌∷◌, ◌++◌, length, find, Some, refl, sym, ap, ◌∙◌, eqb-true, eq-eqb}
-use Rattle.laws.proofs.Words.{cond_both, both_ways, false≢true, and_from, or_left, or_right}
-use Rattle.laws.specs.Words.{AllByRecursion, connected, has_id, is_live_at, is_negotiated, is_outbound, is_pending, is_dialing, is_dialing_phase, opening_phase, Admit, Pause, pause_of, Phase, Negotiated, Closing, Overwritten, Addr, Cid, Event, Now, Govern, Accepted, Dialed, Bytes, Closed, Locals, Roots, Bigs, Group, Job, RootAnswer, Found, Failed, cleaned, members_of, awaits, publics_of, found, proposal_of, Machine, Entry, counted_in, Effect, Move, shared, gone, nothing_more, tells, as_move, for_each, own_info, peer_comes, peer_is_ordinary, peer_at, sends_as_initiator, with_entry, without_entry, entry_goes, entry_comes, lost, ending, vanishes, dial_opens, dial_fails, deadlines, fire_all, clock_shows, turned_away, pause_notice, admitted, peer_connects, peer_closes, dial_ends, comes_ordinary, locals_are, is_wanted_big, comes_big, bigs_are, roots_say, roots_answer, step}
-use Rattle.laws.specs.AtMoves.{is_missed, FailsWhere, IsLawful, is_negotiated_entry, is_negotiated_at, is_ended_in, MovesAreLawful, is_up_connection, is_known, is_shared_in, is_provided_by}
+use Rattle.std.proofs.Common.{ℕ, ◌+◌, ◌≡◌, ◌≤◌, arith, Bool, true, false, ◌&&◌, nat_le, nat_lt, List, [], ◌∷◌, ◌++◌, length, Some, refl, ap, ◌∙◌}
+use Rattle.laws.proofs.Words.{cond_both, both_ways, false≢true, and_from, or_right}
+use Rattle.laws.specs.Words.{AllByRecursion, connected, is_live_at, is_negotiated, is_outbound, is_pending, is_dialing, is_dialing_phase, opening_phase, Admit, Pause, pause_of, Phase, Negotiated, Closing, Overwritten, Addr, Cid, Event, Now, Govern, Accepted, Dialed, Bytes, Closed, Locals, Roots, Bigs, Group, Job, RootAnswer, Found, Failed, cleaned, members_of, awaits, publics_of, found, proposal_of, Machine, Entry, counted_in, Effect, Move, shared, gone, nothing_more, tells, as_move, for_each, own_info, peer_comes, peer_is_ordinary, peer_at, sends_as_initiator, with_entry, without_entry, entry_goes, entry_comes, lost, ending, vanishes, dial_opens, dial_fails, deadlines, fire_all, clock_shows, turned_away, pause_notice, admitted, peer_connects, peer_closes, dial_ends, comes_ordinary, locals_are, is_wanted_big, comes_big, bigs_are, roots_say, roots_answer, step}
+use Rattle.laws.specs.AtMoves.{is_missed, FailsWhere, IsLawful, MovesAreLawful, is_up_connection}
 use Rattle.laws.specs.Sound.{IsOrderly}
 use Rattle.laws.specs.Stages.{stage_of_phase}
 use Rattle.laws.specs.Telling.{IsTold}
@@ -10,23 +10,18 @@ use Rattle.laws.specs.InActions.{promoted_by_dial}
 use Rattle.laws.specs.Steady.{IsSteady, IsOrdered}
 use Rattle.laws.proofs.Admitted.{pending-live}
 use Rattle.laws.proofs.Clock.{fire_due-obeys}
-use Rattle.laws.proofs.Entries.{gone-connections}
 use Rattle.laws.proofs.Events.{admitted_entry, at_moment, at_moment-orderly}
-use Rattle.laws.proofs.Finds.{find-remove_other}
 use Rattle.laws.proofs.Governing.{govern-trimmed}
 use Rattle.laws.proofs.KnownWanted.{bigs-within}
 use Rattle.laws.proofs.Failures.{vanishes-failed}
-use Rattle.laws.proofs.Lawful.{accounts_come, accounts_gone, Obeys, obeys_then, obeys_nothing, IsQuiet, quiet-lawful, quiet-obeys, tells-quiet, lost-quiet, comes-providing, shared-accounts, ending-obeys, on_stands, turned_then-obeys, as_move-obeys, IsAllowed, Within, allowed_within}
+use Rattle.laws.proofs.Lawful.{Accounts, accounts_come, accounts_gone, Obeys, obeys_then, obeys_nothing, IsQuiet, quiet-lawful, quiet-obeys, tells-quiet, lost-quiet, comes-providing, shared-accounts, ending-obeys, on_stands, turned_then-obeys, as_move-obeys, IsAllowed, Within, allowed_within}
 use Rattle.laws.proofs.Lists.{StandsAt, find_some, all-both, all-placed}
-use Rattle.laws.proofs.PartMoves.{accounted-part, Tells}
-use Rattle.laws.proofs.Rises.{Rises, rises_none, same-connected, connected_then, gone-connected}
 use Rattle.laws.proofs.Shapes.{dialing-unnegotiated}
 use Rattle.laws.proofs.Streams.{bytes_come_in-trimmed}
 use Rattle.laws.proofs.Telling.{told_then, told_move}
 use Rattle.laws.proofs.ToldMoves.{goes-told, admits-told, turns_at-moves}
 use Rattle.laws.proofs.WholeEvents.{ordered_of, formed_at_moment}
 use Rattle.laws.proofs.WholeMoves.{stands-shaped, dialing-live, dialing-opening, pending-unnegotiated, overwritten-keeps}
-use Rattle.laws.proofs.Cases.{by_bool}
 use Rattle.laws.proofs.Connects.{connects-cases, dialed-cases, closes-cases}
 
 -- ---- one part for each of a list
@@ -95,13 +90,12 @@ vanishes-told m e k h s =
 
 opens-obeys : (Law : Move → Type 0) (m : Machine) (e : Entry) (k : ℕ) → IsOrdered m → StandsAt m.connections k e → is_dialing e.facts ≡ true → Obeys Law m (dial_opens e m)
 opens-obeys Law m e k h s dials =
-    let unnegotiated : is_negotiated e.facts ≡ false = dialing-unnegotiated e.facts.phase dials in
     let new : Entry = record e { facts = connected (m.now + m.settings.handshake) e.facts } in
     let proposal : Machine → Effect = λ n. sends_as_initiator e.facts.cid 0 (proposal_of (own_info n.settings)) n in
     turned_then-obeys Law m e new k proposal h.orderly s
     (record { same_id = refl; same_addr = refl; live = λ l. dialing-live e.facts.phase dials })
     (record { up = λ up. dialing-up m e k h s dials; asked = λ asked. asked })
-    (λ negotiated. absurd (both_ways (is_negotiated e.facts) unnegotiated negotiated)) (dialing-stage e.facts.phase dials)
+    (dialing-stage e.facts.phase dials)
     (tells-quiet (proposal (with_entry new m)).actions (with_entry new m) refl)
 
 fails-obeys : (m : Machine) (e : Entry) (k : ℕ) → IsOrdered m → StandsAt m.connections k e → is_dialing e.facts ≡ true →
@@ -112,7 +106,6 @@ fails-obeys m e k h s dials =
     as_move-obeys IsLawful (gone e.facts.cid.0) m (vanishes e m) lost.moves
     (record { back_off = tt; targets = tt; cause = on_stands (λ x. (is_negotiated x.facts ≡ false) × FailsWhere (is_missed x.facts) x m (vanishes e m).machine) m e k h.orderly s (unnegotiated, vanishes-failed e m) })
     (accounts_gone m e k (dial_fails e m) h.orderly s lost.connections lost.hot lost.known
-    (λ negotiated. absurd (both_ways (is_negotiated e.facts) unnegotiated negotiated))
     (told_move (gone e.facts.cid.0) m (vanishes e m) refl (no_dial (vanishes e m)) (vanishes-told m e k h s)))
   where
     no_dial : (effect : Effect) → promoted_by_dial (gone e.facts.cid.0) m.next_id effect.machine.next_id ≡ []
@@ -165,30 +158,11 @@ closes-lawful : (Law : Move → Type 0) (cid : Cid) (m : Machine) → AllByRecur
 closes-lawful Law cid m = closes-cases cid m (λ effect. AllByRecursion Law effect.moves) tt
     (λ e k s own. quiet-lawful Law (vanishes e m) (lost-quiet e.facts (without_entry e.facts.cid.0 m)).moves)
 
-pub closes-accounted : (cid : Cid) (m : Machine) → IsOrdered m → Tells (Closed cid) m (peer_closes cid m)
-closes-accounted cid m h = closes-cases cid m (Tells (Closed cid) m) (accounted-part (Closed cid) m (nothing_more m) (obeys_nothing (λ move. Unit {0}) m).accounted) vanished
-  where
-    vanished : (e : Entry) (k : ℕ) → StandsAt m.connections k e → e.facts.cid.0 ≡ cid.0 → Tells (Closed cid) m (vanishes e m)
-    vanished e k s own =
-        let n : Machine = without_entry e.facts.cid.0 m in
-        let effect : Effect = vanishes e m in
-        let lost : IsQuiet n (lost e.facts n) = lost-quiet e.facts n in
-        let told : IsTold m effect = vanishes-told m e k h s in
-        let rises : Rises m effect = rises_none m effect
-        (connected_then m n effect.machine (gone-connected m e k h.orderly s) (same-connected n effect.machine lost.connections)) lost.hot lost.known in
-        record {
-          told = told;
-          ends = λ id before. by_bool (has_id id e.facts)
-              (λ b. (is_negotiated_at id effect.machine || is_ended_in id effect.moves || (cid.0 == id)) ≡ true)
-              (λ is. or_right (is_negotiated_at id effect.machine || is_ended_in id effect.moves) (cid.0 == id) (eq-eqb cid.0 id (sym own ∙ eqb-true e.facts.cid.0 id is)))
-              (λ other. or_left (is_negotiated_at id effect.machine || is_ended_in id effect.moves) (cid.0 == id)
-              (or_left (is_negotiated_at id effect.machine) (is_ended_in id effect.moves)
-              (ap is_negotiated_entry (ap (find (λ x. has_id id x.facts)) (lost.connections ∙ gone-connections m e k h.orderly s)
-              ∙ find-remove_other (λ x. has_id id x.facts) e m.connections k s other) ∙ before)));
-          promotions = rises.promotions;
-          activations = rises.activations;
-          arrivals = λ addr known. or_left (is_known addr m || is_shared_in addr effect.moves) (is_provided_by addr (Closed cid)) (rises.arrivals addr known);
-        }
+pub closes-accounted : (cid : Cid) (m : Machine) → IsOrdered m → Accounts m (peer_closes cid m)
+closes-accounted cid m h = closes-cases cid m (Accounts m) (obeys_nothing (λ move. Unit {0}) m).accounted
+    (λ e k s own.
+    let lost : IsQuiet (without_entry e.facts.cid.0 m) (lost e.facts (without_entry e.facts.cid.0 m)) = lost-quiet e.facts (without_entry e.facts.cid.0 m) in
+    accounts_gone m e k (vanishes e m) h.orderly s lost.connections lost.hot lost.known (vanishes-told m e k h s))
 
 -- ---- each event
 

@@ -108,7 +108,7 @@ judged-trimmed (verdict.Accept agreed) m e k g accepts agrees =
     keeps-trimmed IsLawful m (judged (verdict.Accept agreed) e m) g.within (agrees_inbound-keeps agreed m e k g.ordered g.stands g.greeting (accepts refl))
     (turns-obeys IsLawful m e (record e { facts = agreed_inbound agreed (m.now + m.settings.idle) e.facts }) k g.ordered.orderly g.stands
     (record { same_id = refl; same_addr = refl; live = λ l. greeting-live e.facts.phase g.greeting })
-    (record { up = agreed_inbound-down agreed (m.now + m.settings.idle) e g.greeting (stands-shaped m e k g.ordered g.stands); asked = λ asked. asked }) (λ was. refl)
+    (record { up = agreed_inbound-down agreed (m.now + m.settings.idle) e g.greeting (stands-shaped m e k g.ordered g.stands); asked = λ asked. asked })
     (negotiated-forward e.facts.phase Negotiated (greeting-live e.facts.phase g.greeting) refl))
 judged-trimmed verdict.Query m e k g accepts agrees = ends cause.Query refl m e k g tt
 judged-trimmed (verdict.Agree agreed) m e k g accepts agrees =

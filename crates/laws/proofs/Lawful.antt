@@ -1,120 +1,35 @@
 -- The moves of a part of a step: each keeps a law, no connection whose handshake is done is gone without one, and nobody
 -- comes up without one.
-use Rattle.std.proofs.Common.{ℕ, ◌+◌, ◌%◌, ◌≡◌, ◌≤◌, Bool, true, false, ◌||◌, ◌==◌, nat_lt, if◌then◌else◌, arith, List, [], ◌∷◌, ◌++◌, find, set, remove, Some, is_some, refl, sym, ap, ◌∙◌, subst, eqb-true, eq-eqb}
-use Rattle.laws.proofs.Words.{cond_both, false≢true, or_left, or_right, list_any-append, find-append}
-use Rattle.laws.specs.Words.{AllByRecursion, list_any, same_address, Action, CloseCause, Unused, Overwritten, Facts, Phase, Negotiated, Closing, Peer, has_id, is_live, live_phase, is_negotiated, is_negotiated_phase, Machine, Entry, entry_at, Effect, Happened, Move, promoted, shared, ended, nothing_more, tells, then_do, as_move, peer_at, peer_changes, peer_fails, peer_succeeds, note_of_coming, peer_comes, Addr, new_peer, entry_of, entered, Added, New, owing, sends_as_initiator, with_entry, without_entry, entry_turns, entry_goes, is_missed, lost, lost_by, ending, is_used, Warm, written_alive, failed_peer, option_or}
+use Rattle.std.proofs.Common.{ℕ, ◌+◌, ◌%◌, ◌≡◌, ◌≤◌, Bool, true, false, ◌==◌, nat_lt, if◌then◌else◌, arith, List, [], ◌∷◌, ◌++◌, Some, is_some, refl, sym, ap, ◌∙◌, subst}
+use Rattle.laws.proofs.Words.{cond_both, false≢true}
+use Rattle.laws.specs.Words.{AllByRecursion, same_address, Action, CloseCause, Unused, Overwritten, Facts, Phase, Negotiated, Closing, Peer, has_id, is_live, live_phase, is_negotiated, is_negotiated_phase, Machine, Entry, entry_at, Effect, Happened, Move, promoted, shared, ended, nothing_more, tells, then_do, as_move, peer_at, peer_changes, peer_fails, peer_succeeds, note_of_coming, peer_comes, Addr, new_peer, entry_of, entered, Added, New, owing, sends_as_initiator, with_entry, without_entry, entry_turns, entry_goes, is_missed, lost, lost_by, ending, is_used, Warm, written_alive, failed_peer}
 use Rattle.peer_book.specs.Book.{peer_at as peer_in}
 use Rattle.warm_messages.specs.declared.alive.Alive.TheVariants.{Ask}
-use Rattle.laws.specs.AtMoves.{OutOfBackOff, WithinTargets, IsPrunedRightly, is_failure, FailsWhere, OnEntry, ForCause, IsLawful, is_negotiated_entry, is_negotiated_at, ends, is_ended_in, is_up_connection, is_up, is_hot_peer, is_asked_connection, is_hot_or_asked, is_known, promotes, activates, shares}
+use Rattle.laws.specs.AtMoves.{OutOfBackOff, WithinTargets, IsPrunedRightly, is_failure, FailsWhere, OnEntry, ForCause, IsLawful, is_up_connection, is_up, is_hot_peer, is_asked_connection, is_hot_or_asked, is_known, promotes, activates, shares}
 use Rattle.laws.specs.Sound.{IsOrderly}
 use Rattle.laws.specs.Stages.{stage_of_phase, stage_of, stage_at, stage_ended, IsLateCause}
 use Rattle.laws.specs.Telling.{IsTold}
 use Rattle.laws.specs.InActions.{Given, ended_by, promoted_by_dial}
-use Rattle.laws.proofs.Entries.{TurnsInto, turned-connections, gone-connections, one_has_id, has_own_id, with_new}
+use Rattle.laws.proofs.Entries.{TurnsInto, one_has_id, has_own_id, with_new}
 use Rattle.laws.proofs.Failures.{ending-failed}
-use Rattle.laws.proofs.Finds.{find-set_other, find-set_here, find-remove_other}
 use Rattle.laws.proofs.Keeping.{note-machine}
 use Rattle.laws.proofs.Lists.{StandsAt, find_only, all-appended}
 use Rattle.laws.proofs.Owing.{with_reply-some}
 use Rattle.laws.proofs.PeersApart.{same_turned}
-use Rattle.laws.proofs.Rises.{Rises, rises_then, rises_move, rises_said, StaysDown, is_hot, NoneConnected, hot_or_asked-down, rises_nowhere, rises_none, same-connected, connected_then, IsNoHigher, turned-down, turned-connected, gone-connected, come-down, IsCooling, changed-hot, changed-known, entered-hot, entered-known, more}
+use Rattle.laws.proofs.Rises.{Rises, rises_then, rises_move, rises_said, StaysDown, is_hot, NoneConnected, hot_or_asked-down, rises_nowhere, rises_none, same-connected, connected_then, IsNoHigher, turned-down, turned-connected, gone-connected, come-down, IsCooling, changed-hot, changed-known, entered-hot, entered-known}
 use Rattle.laws.proofs.Telling.{are_mute, mute, told_unchanged, told_then, told_move}
 use Rattle.laws.proofs.Ties.{turned_elsewhere}
 use Rattle.laws.proofs.ToldMoves.{turned-told, goes-told, goes-stage, ended-told, changes-told, turns_at-next, peer_comes-told, turns_at-moves, turns_at-connections}
-use Rattle.laws.proofs.Cases.{by_bool, by_option}
+use Rattle.laws.proofs.Cases.{by_bool}
 
--- ---- no connection is gone without a move
-
-abbrev pub EndsBy : Machine → Effect → Type 0
-EndsBy before effect = (cid : ℕ) → is_negotiated_at cid before ≡ true → (is_negotiated_at cid effect.machine || is_ended_in cid effect.moves) ≡ true
-
-pub ends_then : (m : Machine) (first : Effect) (next : Machine → Effect) → EndsBy m first → EndsBy first.machine (next first.machine) → EndsBy m (then_do first next)
-ends_then m first next one two cid h =
-    let second : Effect = next first.machine in
-    subst (λ b. (is_negotiated_at cid second.machine || b) ≡ true) (sym (list_any-append (λ move. ends cid move.happened) first.moves second.moves))
-    (by_first (is_negotiated_at cid first.machine) refl (is_negotiated_at cid second.machine) (is_ended_in cid second.moves) (two cid) (one cid h))
-  where
-    by_first : (b : Bool) → is_negotiated_at cid first.machine ≡ b → (c d : Bool) → (is_negotiated_at cid first.machine ≡ true → (c || d) ≡ true) →
-        (b || is_ended_in cid first.moves) ≡ true → (c || (is_ended_in cid first.moves || d)) ≡ true
-    by_first true is c d later here = by_bool c (λ x. (x || d) ≡ true → (x || (is_ended_in cid first.moves || d)) ≡ true)
-        (λ is e. refl) (λ is e. or_right (is_ended_in cid first.moves) d e) (later is)
-    by_first false is c d later here = or_right c (is_ended_in cid first.moves || d) (or_left (is_ended_in cid first.moves) d here)
-
--- more moves account for more
-pub ends_move : (happened : Happened) (m : Machine) (effect : Effect) → EndsBy m effect → EndsBy m (as_move happened m effect)
-ends_move happened m effect h cid before =
-    let move : Move = record { happened = happened; before = m; after = effect.machine } in
-    subst (λ b. (is_negotiated_at cid effect.machine || b) ≡ true) (sym (list_any-append (λ x. ends cid x.happened) effect.moves (move ∷ [])))
-    (more (is_negotiated_at cid effect.machine) (is_ended_in cid effect.moves) (list_any (λ x. ends cid x.happened) (move ∷ [])) (h cid before))
-
-pub ends_same : (m : Machine) (effect : Effect) → effect.machine.connections ≡ m.connections → EndsBy m effect
-ends_same m effect same cid h =
-    or_left (is_negotiated_at cid effect.machine) (is_ended_in cid effect.moves)
-    (ap (λ es. is_negotiated_entry (find (λ e. has_id cid e.facts) es)) same ∙ h)
-
--- a connection turns, and is still negotiated where it was
-pub ends_turned : (m : Machine) (e new : Entry) (k : ℕ) (effect : Effect) → IsOrderly m → StandsAt m.connections k e → TurnsInto e new →
-    effect.machine.connections ≡ (with_entry new m).connections →
-    (is_negotiated e.facts ≡ true → (is_negotiated new.facts || is_ended_in e.facts.cid.0 effect.moves) ≡ true) → EndsBy m effect
-ends_turned m e new k effect h s t same still cid before =
-    let list : effect.machine.connections ≡ set m.connections k new = same ∙ turned-connections m e new k h s t in
-    by_bool (has_id cid e.facts)
-    (λ b. effect.machine.connections ≡ set m.connections k new → (is_negotiated_at cid effect.machine || is_ended_in cid effect.moves) ≡ true)
-    (λ is list.
-    let own : e.facts.cid.0 ≡ cid = eqb-true e.facts.cid.0 cid is in
-    let new_is : has_id cid new.facts ≡ true = eq-eqb new.facts.cid.0 cid (ap (λ c. c.0) t.same_id ∙ own) in
-    let was : entry_at cid m ≡ Some e = find_only (λ x. has_id cid x.facts) e m.connections k (one_has_id cid m.connections h.ids_rise) s is in
-    let now : entry_at cid effect.machine ≡ Some new =
-    ap (find (λ x. has_id cid x.facts)) list
-    ∙ find-set_here (λ x. has_id cid x.facts) new e m.connections k (one_has_id cid m.connections h.ids_rise) s is new_is in
-    subst (λ o. (is_negotiated_entry o || is_ended_in cid effect.moves) ≡ true) (sym now)
-    (subst (λ c. (is_negotiated new.facts || is_ended_in c effect.moves) ≡ true) own (still (ap is_negotiated_entry (sym was) ∙ before))))
-    (λ is list.
-    let new_is : has_id cid new.facts ≡ false = ap (λ c. c.0 == cid) t.same_id ∙ is in
-    let now : entry_at cid effect.machine ≡ entry_at cid m =
-    ap (find (λ x. has_id cid x.facts)) list ∙ find-set_other (λ x. has_id cid x.facts) new e m.connections k s is new_is in
-    or_left (is_negotiated_at cid effect.machine) (is_ended_in cid effect.moves) (ap is_negotiated_entry now ∙ before)) list
-
--- a connection goes, which a move tells where it is negotiated
-ends_gone : (m : Machine) (e : Entry) (k : ℕ) (effect : Effect) → IsOrderly m → StandsAt m.connections k e →
-    effect.machine.connections ≡ (without_entry e.facts.cid.0 m).connections →
-    (is_negotiated e.facts ≡ true → is_ended_in e.facts.cid.0 effect.moves ≡ true) → EndsBy m effect
-ends_gone m e k effect h s same told cid before =
-    by_bool (has_id cid e.facts)
-    (λ b. effect.machine.connections ≡ remove m.connections k → (is_negotiated_at cid effect.machine || is_ended_in cid effect.moves) ≡ true)
-    (λ is list.
-    let own : e.facts.cid.0 ≡ cid = eqb-true e.facts.cid.0 cid is in
-    let was : entry_at cid m ≡ Some e = find_only (λ x. has_id cid x.facts) e m.connections k (one_has_id cid m.connections h.ids_rise) s is in
-    or_right (is_negotiated_at cid effect.machine) (is_ended_in cid effect.moves)
-    (subst (λ c. is_ended_in c effect.moves ≡ true) own (told (ap is_negotiated_entry (sym was) ∙ before))))
-    (λ is list.
-    let now : entry_at cid effect.machine ≡ entry_at cid m =
-    ap (find (λ x. has_id cid x.facts)) list ∙ find-remove_other (λ x. has_id cid x.facts) e m.connections k s is in
-    or_left (is_negotiated_at cid effect.machine) (is_ended_in cid effect.moves) (ap is_negotiated_entry now ∙ before)) (same ∙ gone-connections m e k h s)
-
--- a connection comes
-find-front : {X : Type 0} (p : X → Bool) (xs ys : List X) (x : X) → find p xs ≡ Some x → find p (xs ++ ys) ≡ Some x
-find-front p xs ys x h = find-append p xs ys ∙ ap (λ o. option_or o (find p ys)) h
-
-pub ends_come : (m : Machine) (new : Entry) (effect : Effect) → effect.machine.connections ≡ (with_new new m).connections → EndsBy m effect
-ends_come m new effect same cid before = by_option (entry_at cid m)
-    (λ o. is_negotiated_entry o ≡ true → (is_negotiated_at cid effect.machine || is_ended_in cid effect.moves) ≡ true)
-    (λ is h. absurd (false≢true h))
-    (λ e is h.
-    let now : entry_at cid effect.machine ≡ Some e =
-    ap (find (λ x. has_id cid x.facts)) same ∙ find-front (λ x. has_id cid x.facts) m.connections (new ∷ []) e is in
-    or_left (is_negotiated_at cid effect.machine) (is_ended_in cid effect.moves) (ap is_negotiated_entry now ∙ h)) before
-
--- ---- nor does anybody come up without one
+-- ---- nobody comes up without a move
 
 pub record Accounts (before : Machine) (effect : Effect) : Type 0 where
-  pub ends : EndsBy before effect
   pub rises : Rises before effect
   pub told : IsTold before effect
 
 pub accounts_then : (m : Machine) (first : Effect) (next : Machine → Effect) → Accounts m first → Accounts first.machine (next first.machine) → Accounts m (then_do first next)
 accounts_then m first next one two = record {
-  ends = ends_then m first next one.ends two.ends;
   rises = rises_then m first next one.rises two.rises;
   told = told_then m first next one.told two.told;
 }
@@ -123,17 +38,14 @@ accounts_then m first next one two = record {
 pub accounts_move : (happened : Happened) (m : Machine) (effect : Effect) → ended_by happened ≡ [] → promoted_by_dial happened m.next_id effect.machine.next_id ≡ [] →
     Accounts m effect → Accounts m (as_move happened m effect)
 accounts_move happened m effect no_end no_dial h = record {
-  ends = ends_move happened m effect h.ends;
   rises = rises_move happened m effect h.rises;
   told = told_move happened m effect no_end no_dial h.told;
 }
 
 -- a connection turns
 pub accounts_turned : (m : Machine) (e new : Entry) (k : ℕ) (effect : Effect) → IsOrderly m → StandsAt m.connections k e → TurnsInto e new → IsNoHigher e new →
-    effect.machine ≡ with_entry new m → (is_negotiated e.facts ≡ true → (is_negotiated new.facts || is_ended_in e.facts.cid.0 effect.moves) ≡ true) → IsTold m effect →
-    Accounts m effect
-accounts_turned m e new k effect h s t lower same still told = record {
-  ends = ends_turned m e new k effect h s t (ap (λ n. n.connections) same) still;
+    effect.machine ≡ with_entry new m → IsTold m effect → Accounts m effect
+accounts_turned m e new k effect h s t lower same told = record {
   rises = rises_none m effect (subst (NoneConnected m) (sym same) (turned-connected m e new k h s t lower))
       (subst (StaysDown is_hot m) (sym same) (λ addr hot. hot)) (subst (StaysDown is_known m) (sym same) (λ addr known. known));
   told = told;
@@ -142,9 +54,8 @@ accounts_turned m e new k effect h s t lower same still told = record {
 -- a connection goes, and nobody comes up by what follows
 pub accounts_gone : (m : Machine) (e : Entry) (k : ℕ) (effect : Effect) → IsOrderly m → StandsAt m.connections k e →
     effect.machine.connections ≡ (without_entry e.facts.cid.0 m).connections → StaysDown is_hot m effect.machine → StaysDown is_known m effect.machine →
-    (is_negotiated e.facts ≡ true → is_ended_in e.facts.cid.0 effect.moves ≡ true) → IsTold m effect → Accounts m effect
-accounts_gone m e k effect h s same hot known by_move told = record {
-  ends = ends_gone m e k effect h s same by_move;
+    IsTold m effect → Accounts m effect
+accounts_gone m e k effect h s same hot known told = record {
   rises = rises_none m effect (connected_then m (without_entry e.facts.cid.0 m) effect.machine (gone-connected m e k h s)
       (same-connected (without_entry e.facts.cid.0 m) effect.machine same)) hot known;
   told = told;
@@ -154,7 +65,6 @@ accounts_gone m e k effect h s same hot known by_move told = record {
 pub accounts_come : (m : Machine) (new : Entry) (effect : Effect) → is_up_connection (Some new) ≡ false → is_asked_connection (Some new) ≡ false →
     effect.machine ≡ with_new new m → IsTold m effect → Accounts m effect
 accounts_come m new effect up asked same told = record {
-  ends = ends_come m new effect (ap (λ n. n.connections) same);
   rises = rises_none m effect
       (subst (NoneConnected m) (sym same) (record { up = come-down is_up_connection refl m new up; asked = come-down is_asked_connection refl m new asked }))
       (subst (StaysDown is_hot m) (sym same) (λ addr hot. hot)) (subst (StaysDown is_known m) (sym same) (λ addr known. known));
@@ -184,7 +94,6 @@ pub record IsQuiet (before : Machine) (effect : Effect) : Type 0 where
 
 quiet-accounts : (m : Machine) (effect : Effect) → IsQuiet m effect → Accounts m effect
 quiet-accounts m effect q = record {
-  ends = ends_same m effect q.connections;
   rises = rises_none m effect (same-connected m effect.machine q.connections) q.hot q.known;
   told = q.told;
 }
@@ -272,7 +181,6 @@ shared-accounts big addr m =
     let provides : IsProviding m effect = comes-providing big addr m in
     let connected : NoneConnected m effect.machine = same-connected m effect.machine provides.connections in
     record {
-      ends = ends_same m (as_move (shared addr) m effect) provides.connections;
       rises = record {
         promotions = rises_nowhere is_up promotes m (as_move (shared addr) m effect) connected.up;
         activations = rises_nowhere is_hot_or_asked activates m (as_move (shared addr) m effect) (hot_or_asked-down m effect.machine provides.hot connected.asked);
@@ -340,27 +248,21 @@ ending-obeys cause m e k h s live may crowded =
     let moves : (ending cause e m).moves ≡ move ∷ [] = ap (λ ms. ms ++ move ∷ []) q.moves in
     record {
       lawful = subst (AllByRecursion IsLawful) (sym moves) (ended-lawful cause m (ending cause e m).machine e k h s may crowded (ending-failed cause e m), tt);
-      accounted = accounts_gone m e k (ending cause e m) h s q.connections q.hot q.known
-          (λ negotiated. subst (λ ms. is_ended_in e.facts.cid.0 ms ≡ true) (sym moves)
-          (ap (λ b. b || false) (eq-eqb e.facts.cid.0 e.facts.cid.0 refl)))
-          (ending-told cause m e k h s live may);
+      accounted = accounts_gone m e k (ending cause e m) h s q.connections q.hot q.known (ending-told cause m e k h s live may);
     }
 
--- a connection turns, and is still negotiated where it was
+-- a connection turns
 pub turns-obeys : (Law : Move → Type 0) (m : Machine) (e new : Entry) (k : ℕ) → IsOrderly m → StandsAt m.connections k e → TurnsInto e new → IsNoHigher e new →
-    (is_negotiated e.facts ≡ true → is_negotiated new.facts ≡ true) → stage_of_phase e.facts.phase ≤ stage_of_phase new.facts.phase → Obeys Law m (entry_turns e new m)
-turns-obeys Law m e new k h s t lower still forward = record {
-  lawful = tt;
-  accounted = accounts_turned m e new k (entry_turns e new m) h s t lower refl (λ negotiated. or_left (is_negotiated new.facts) false (still negotiated))
-      (turned-told m e new k h s t forward);
-}
+    stage_of_phase e.facts.phase ≤ stage_of_phase new.facts.phase → Obeys Law m (entry_turns e new m)
+turns-obeys Law m e new k h s t lower forward =
+    record { lawful = tt; accounted = accounts_turned m e new k (entry_turns e new m) h s t lower refl (turned-told m e new k h s t forward) }
 
 -- and then something that is quiet
 pub turned_then-obeys : (Law : Move → Type 0) (m : Machine) (e new : Entry) (k : ℕ) (next : Machine → Effect) → IsOrderly m → StandsAt m.connections k e → TurnsInto e new →
-    IsNoHigher e new → (is_negotiated e.facts ≡ true → is_negotiated new.facts ≡ true) → stage_of_phase e.facts.phase ≤ stage_of_phase new.facts.phase →
-    IsQuiet (with_entry new m) (next (with_entry new m)) → Obeys Law m (then_do (entry_turns e new m) next)
-turned_then-obeys Law m e new k next h s t lower still forward quiet =
-    obeys_then Law m (entry_turns e new m) next (turns-obeys Law m e new k h s t lower still forward) (quiet-obeys Law (with_entry new m) (next (with_entry new m)) quiet)
+    IsNoHigher e new → stage_of_phase e.facts.phase ≤ stage_of_phase new.facts.phase → IsQuiet (with_entry new m) (next (with_entry new m)) →
+    Obeys Law m (then_do (entry_turns e new m) next)
+turned_then-obeys Law m e new k next h s t lower forward quiet =
+    obeys_then Law m (entry_turns e new m) next (turns-obeys Law m e new k h s t lower forward) (quiet-obeys Law (with_entry new m) (next (with_entry new m)) quiet)
 
 -- ---- a connection comes into use
 
@@ -387,7 +289,7 @@ pub used-obeys : (Law : Move → Type 0) (f : Facts) (m : Machine) (e : Entry) (
 used-obeys Law f m e k h s cid addr live negotiated up =
     let new : Entry = owing 8 (f.cid.0 % 65536) m (record e { facts = f }) in
     turned_then-obeys Law m e new k (λ m. then_do (peer_succeeds f.addr m) (sends_as_initiator f.cid 8 (written_alive (Ask (f.cid.0 % 65536))))) h s
-    (record { same_id = cid; same_addr = addr; live = λ l. live }) (record { up = λ rises. up; asked = asked-before m e f }) (λ was. negotiated)
+    (record { same_id = cid; same_addr = addr; live = λ l. live }) (record { up = λ rises. up; asked = asked-before m e f })
     (negotiated-forward e.facts.phase f.phase live negotiated) (succeeds-quiet f (with_entry new m))
 
 -- ---- targets aside
@@ -435,9 +337,6 @@ promoted-obeys Law f m e k a h s cid addr here live negotiated law =
     let turns : TurnsInto e new = record { same_id = cid; same_addr = addr; live = λ l. live } in
     let after : NoneConnected n effect.machine = same-connected n effect.machine quiet.connections in
     as_move-obeys Law (promoted a) m effect quiet.moves law (record {
-      ends = ends_move (promoted a) m effect
-          (ends_then m (entry_turns e new m) next
-          (ends_turned m e new k (entry_turns e new m) h s turns refl (λ was. or_left (is_negotiated f) false negotiated)) (ends_same n (next n) quiet.connections));
       rises = record {
         promotions = rises_said is_up promotes (promoted a) m effect
             (λ b other up. ap is_up_connection (sym (turned_elsewhere m e new k h s turns b

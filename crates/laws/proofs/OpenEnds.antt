@@ -17,26 +17,29 @@ use Rattle.laws.proofs.ToldMoves.{turns_at-connections}
 use Rattle.laws.proofs.Waits.{replaced, gone-found}
 use Rattle.laws.proofs.Cases.{by_bool, by_option}
 
+-- whoever is so stays so, or a move ends it, or it goes by itself
+abbrev pub StaysOr : (ℕ → Machine → Bool) → (ℕ → Bool) → Machine → Effect → Type 0
+StaysOr is goes m effect = (cid : ℕ) → is cid m ≡ true → (is cid effect.machine || (is_ended_in cid effect.moves || goes cid)) ≡ true
+
+pub stays_then : (is : ℕ → Machine → Bool) (goes : ℕ → Bool) (m : Machine) (first : Effect) (next : Machine → Effect) → StaysOr is goes m first →
+    StaysOr is goes first.machine (next first.machine) → StaysOr is goes m (then_do first next)
+stays_then is goes m first next one two cid was =
+    subst (λ b. (is cid second.machine || (b || goes cid)) ≡ true) (sym (list_any-append (λ x. ends cid x.happened) first.moves second.moves))
+    (by_first (is cid first.machine) (is_ended_in cid first.moves) (goes cid) (one cid was) (two cid))
+  where
+    second : Effect
+    second = next first.machine
+
+    by_first : (a b c : Bool) → (a || (b || c)) ≡ true → (a ≡ true → (is cid second.machine || (is_ended_in cid second.moves || c)) ≡ true) →
+        (is cid second.machine || ((b || is_ended_in cid second.moves) || c)) ≡ true
+    by_first a true c h later = or_right (is cid second.machine) true refl
+    by_first true false c h later = later refl
+    by_first false false true h later = or_right (is cid second.machine) (is_ended_in cid second.moves || true) (or_right (is_ended_in cid second.moves) true refl)
+    by_first false false false h later = absurd (false≢true h)
+
 module _ (scope : Scope) where
-  -- whoever is open stays so, or a move ends it, or it goes by itself
   abbrev Stays : Machine → Effect → Type 0
-  Stays m effect = (cid : ℕ) → is_open_at cid m ≡ true → (is_open_at cid effect.machine || (is_ended_in cid effect.moves || scope.goes cid)) ≡ true
-
-  stays_then : (m : Machine) (first : Effect) (next : Machine → Effect) → Stays m first → Stays first.machine (next first.machine) → Stays m (then_do first next)
-  stays_then m first next one two cid was =
-      subst (λ b. (is_open_at cid second.machine || (b || scope.goes cid)) ≡ true) (sym (list_any-append (λ x. ends cid x.happened) first.moves second.moves))
-      (by_first (is_open_at cid first.machine) (is_ended_in cid first.moves) (scope.goes cid) (one cid was) (λ there. two cid there))
-    where
-      second : Effect
-      second = next first.machine
-
-      by_first : (a b c : Bool) → (a || (b || c)) ≡ true → (a ≡ true → (is_open_at cid second.machine || (is_ended_in cid second.moves || c)) ≡ true) →
-          (is_open_at cid second.machine || ((b || is_ended_in cid second.moves) || c)) ≡ true
-      by_first true true c h later = or_right (is_open_at cid second.machine) true refl
-      by_first true false c h later = later refl
-      by_first false true c h later = or_right (is_open_at cid second.machine) true refl
-      by_first false false true h later = or_right (is_open_at cid second.machine) (is_ended_in cid second.moves || true) (or_right (is_ended_in cid second.moves) true refl)
-      by_first false false false h later = absurd (false≢true h)
+  Stays m effect = StaysOr is_open_at scope.goes m effect
 
   stays_same : (m : Machine) (effect : Effect) → effect.machine.connections ≡ m.connections → Stays m effect
   stays_same m effect same cid was =
@@ -137,7 +140,7 @@ module _ (scope : Scope) where
   stays-kept : scope.timely ≡ true → Kept scope Stays
   stays-kept timely = record {
     when_nothing = λ m. nothing-stays m;
-    when_both = λ m first next one two. stays_then m first next one two;
+    when_both = stays_then is_open_at scope.goes;
     when_moved = λ happened m effect none h. moved-stays happened m effect h;
     when_sent = λ cid bytes m may. stays_same m (tells (Send cid bytes ∷ []) m) refl;
     when_turned = λ turn e m stands. turned-stays m e (turned_by turn e m) stands.found (turned-cid turn e m) (turned-live turn e m);
@@ -156,7 +159,8 @@ module _ (scope : Scope) where
 
 -- ---- each act
 
-stays-of : (act : Act) (m : Machine) → IsNext act m → Finds act m → Stays (scope_of act m) m (does act m)
+-- whoever is open stays so, or a move ends it, or it goes by itself
+pub stays-of : (act : Act) (m : Machine) → IsNext act m → Finds act m → Stays (scope_of act m) m (does act m)
 stays-of (shows t) m next found = stays_same (scope_of (shows t) m) m (does (shows t) m) refl
 stays-of asks_for_roots m next found = stays_same (scope_of asks_for_roots m) m (does asks_for_roots m) (ap (λ n. n.connections) (roots-set m))
 stays-of (sets_targets targets) m next found = stays_same (scope_of (sets_targets targets) m) m (does (sets_targets targets) m) refl

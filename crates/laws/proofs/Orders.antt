@@ -1,6 +1,6 @@
 -- The governor's orders, one by one: the connections stay in order and within the limit, and peers tied to them.
 use Rattle.std.proofs.Common.{ℕ, ◌+◌, ◌≤◌, ◌≡◌, Bool, true, false, ◌&&◌, not, ◌||◌, ◌==◌, if◌then◌else◌, List, [], ◌∷◌, find, set, sum_by, Option, Some, None, is_some, refl, sym, ap, ◌∙◌, subst, arith}
-use Rattle.laws.proofs.Words.{cond_both, both_ways, false≢true, and_parts, or_left, or_right}
+use Rattle.laws.proofs.Words.{cond_both, both_ways, false≢true, and_parts, or_right}
 use Rattle.laws.specs.Words.{AllByRecursion, same_address, Addr, Facts, Peer, Cold, Warm, is_counted, released, agreed_sharing, is_live, is_live_at, is_negotiated, is_pending, Order, Ask, Forget, Release, Activate, Deactivate, is_established, Machine, Entry, counted_in, live_entry_at, Effect, Move, activated, nothing_more, then_do, as_move, for_each, on_entry, peer_at, peer_becomes, peer_was_asked, peer_goes, sends_as_initiator, owing, reply_on, peer_sharing_done, chain_sync_done, find_intersect, with_entry, entry_turns, says_done, trim, release, is_used_at, on_used, asks_peer, activates, deactivates, carries_out, written_alive, written_request, Done}
 use Rattle.laws.specs.AtMoves.{IsReady, IsLawful, is_up_connection, is_up, is_hot_peer, is_asked_connection, is_hot_or_asked, is_known, promotes, activates as activation, shares}
 use Rattle.laws.specs.Steady.{AreTied, IsAlone, TiedBy, IsTied, IsOrdered}
@@ -10,7 +10,7 @@ use Rattle.laws.proofs.Counts.{counted_of, counted_in-sum}
 use Rattle.laws.proofs.Effects.{one_if-not_counted}
 use Rattle.laws.proofs.Entries.{TurnsInto, turned-connections, turned-sum}
 use Rattle.laws.proofs.Keeping.{Moves, Keeps, keeps_nothing, keeps_then, moves_then, moves-keeps, peers-moves, changes-moves, changes-keeps}
-use Rattle.laws.proofs.Lawful.{ends_move, ends_turned, Accounts, Obeys, obeys_then, IsQuiet, quiet-obeys, tells-quiet, quiet_then, changes-quiet, turns-obeys, turned_then-obeys, IsAllowed}
+use Rattle.laws.proofs.Lawful.{Accounts, Obeys, obeys_then, IsQuiet, quiet-obeys, tells-quiet, quiet_then, changes-quiet, turns-obeys, turned_then-obeys, IsAllowed}
 use Rattle.laws.proofs.Lists.{StandsAt, FoundIn, stands-set, find_some}
 use Rattle.laws.proofs.Ordinary.{taken-classes}
 use Rattle.laws.proofs.Owing.{OwesNothing, with_reply-some}
@@ -109,7 +109,7 @@ asked-obeys Law n m e k h s =
       up = λ up. up;
       asked = with_reply-some (λ o. o.protocol == 2) (record { protocol = 10; until = m.now + m.settings.reply; asked = n }) e.owed refl;
     })
-    (λ negotiated. negotiated) (omega arith)
+    (omega arith)
     (changes-quiet e.facts.addr (λ p. record p { share_next = m.now + m.settings.sharegap }) (with_entry new m) (record { addr = λ p. refl; hot = λ p hot. hot })))
 
 -- the connection in use has agreed on peer sharing
@@ -158,7 +158,6 @@ activates-accounts addr m e k u =
     let request : Effect = sends_as_initiator e.facts.cid 2 find_intersect m in
     let turns : TurnsInto e new = record { same_id = refl; same_addr = refl; live = λ l. l } in
     record {
-      ends = ends_move (activated addr) m effect (ends_turned m e new k effect u.ordered.orderly u.stands turns refl (λ was. or_left (is_negotiated e.facts) false was));
       rises = record {
         promotions = rises_nowhere is_up promotes m (as_move (activated addr) m effect)
             (turned-down is_up_connection refl m e new k u.ordered.orderly u.stands turns (λ up. up));
@@ -325,8 +324,7 @@ releasing-carried addr m e k u may =
           absurd (omega (arith, over, alike, counts, before, after, limit, within, zero)));
     }) in
     raised_twice_then_trimmed IsLawful m (entry_turns e new m) (peer_becomes Cold e.facts.addr) (trim e.facts.cid) raised
-    (turns-obeys IsLawful m e new k h.orderly s t (record { up = released-down (m.now + m.settings.idle) e; asked = λ asked. asked }) (λ negotiated. negotiated)
-    (omega arith))
+    (turns-obeys IsLawful m e new k h.orderly s t (record { up = released-down (m.now + m.settings.idle) e; asked = λ asked. asked }) (omega arith))
     (quiet-obeys IsLawful n (peer_becomes Cold e.facts.addr n)
     (changes-quiet e.facts.addr cold n (record { addr = λ p. refl; hot = λ p hot. absurd (false≢true hot) }))) trimmed
   where

@@ -1,10 +1,10 @@
 -- The parts of each event are lawful.
 use Rattle.std.proofs.Common.{ℕ, zero, suc, ◌≤◌, ◌≡◌, Bool, true, false, ◌||◌, nat_le, if◌then◌else◌, List, [], ◌∷◌, ◌++◌, map, length, refl, sym, ap, subst, arith}
 use Rattle.laws.proofs.Words.{or_left, or_right, false≢true}
-use Rattle.laws.specs.Words.{AllByRecursion, has_id, is_live, is_greeting, is_negotiated, Order, FedBy, Item, same_address, Addr, Cid, Event, Now, Govern, Accepted, Dialed, Bytes, Closed, Aims, Locals, Roots, BigAims, Bigs, Group, RootAnswer, Found, Failed, is_listed, cleaned, members_of, awaits, publics_of, found, with_entry, entry_turns, deadlines, due, fires, Effect, for_each, carries_out, asks_roots, ordinary_rules, big_rules, rules, Machine, Entry, counted_in, entry_at, peer_is_ordinary, comes_ordinary, comes_big, handles, step}
+use Rattle.laws.specs.Words.{AllByRecursion, has_id, is_live, is_greeting, is_negotiated, Order, FedBy, Item, same_address, Addr, Cid, Event, Now, Govern, Accepted, Dialed, Bytes, Closed, Aims, Locals, Roots, BigAims, Bigs, Group, RootAnswer, Found, Failed, is_listed, cleaned, members_of, awaits, publics_of, found, with_entry, entry_turns, deadlines, due, fires, Effect, for_each, carries_out, asks_roots, ordinary_rules, big_rules, rules, Machine, Entry, counted_in, entry_at, peer_is_ordinary, comes_ordinary, comes_big, handles}
 use Rattle.laws.specs.Acts.{Act, shows, fires_one, asks_for_roots, carries, connects, ends_dial, stores, handles_item, ends_stream, is_closed, sets_targets, sets_big_targets, sets_groups, sets_roots, makes_ordinary, provides, provides_big, does, fired_from, fired, orders_of, acts_at_moment, acts_fed, acts_of_bytes, acts_of_answer, acts, parts_of}
 use Rattle.laws.specs.AtMoves.{IsLawful, is_known, is_provided_by, fed_on}
-use Rattle.laws.specs.Parts.{IsLawfulEvent, IsLawfulPart}
+use Rattle.laws.specs.Parts.{IsAccounted, IsLawfulEvent, IsLawfulPart}
 use Rattle.laws.specs.Steady.{IsSteady, IsOrdered}
 use Rattle.laws.proofs.Addresses.{same_address-self, same_address-true}
 use Rattle.laws.proofs.CarriedOut.{carried-out}
@@ -39,7 +39,7 @@ fired-parts event (suc n) m h = by_option (due m)
     (λ is later. no_part event m)
     (λ d is later.
     let keeps : Keeps 0 m (fires d m).machine = fires-keeps d m h is in
-    first_part event (fires_one d) (map fires_one (fired n (fires d m).machine)) m (least-due m d h is) tt h
+    first_part event (fires_one d) (map fires_one (fired n (fires d m).machine)) m tt (least-due m d h is) tt h
     (accounted-part event m (fires d m) (fires-obeys d m h is).accounted) (later (fires d m).machine keeps.ordered)) (fired-parts event n)
 
 -- what is neither a connection nor a peer is set
@@ -56,7 +56,7 @@ clock-parts t m h =
     by_bool (nat_le t m.now) (λ b. AreLawful (Now t) (if b then [] else acts_at_moment t m) m)
     (λ is. no_part (Now t) m)
     (λ is.
-    first_part (Now t) (shows t) (map fires_one (fired (length (deadlines n)) n)) m tt tt tt (set-part (Now t) (shows t) m refl refl refl refl refl)
+    first_part (Now t) (shows t) (map fires_one (fired (length (deadlines n)) n)) m tt tt tt tt (set-part (Now t) (shows t) m refl refl refl refl refl)
     (fired-parts (Now t) (length (deadlines n)) n ordered))
 
 -- ---- the governor
@@ -64,7 +64,7 @@ clock-parts t m h =
 orders-parts : (event : Event) (orders : List Order) (m : Machine) → EachAccounted orders m → EachDue orders m → AreLawful event (map carries orders) m
 orders-parts event [] m h due = no_part event m
 orders-parts event (o ∷ orders) m h due =
-    first_part event (carries o) (map carries orders) m due.0 (carried-out o m h.0.ordered.orderly) h.0.ordered
+    first_part event (carries o) (map carries orders) m tt due.0 (carried-out o m h.0.ordered.orderly) h.0.ordered
     (accounted-part event m (carries_out o m) h.0.accounts) (orders-parts event orders (carries_out o m).machine h.1 due.1)
 
 govern-parts : (word : ℕ) (m : Machine) → IsOrdered m → counted_in m ≤ m.settings.hard → AreLawful (Govern word) (acts m (Govern word)) m
@@ -74,7 +74,7 @@ govern-parts word m h within =
     let o : Machine = (for_each rules (ordinary_rules word) n).machine in
     let ordinary : List Act = map carries (orders_of (ordinary_rules word) n) in
     let big : List Act = map carries (orders_of (big_rules word) o) in
-    first_part (Govern word) asks_for_roots (ordinary ++ big) m tt tt tt (accounted-part (Govern word) m (asks_roots m) g.asked)
+    first_part (Govern word) asks_for_roots (ordinary ++ big) m tt tt tt tt (accounted-part (Govern word) m (asks_roots m) g.asked)
     (more_parts (Govern word) ordinary big n (orders-parts (Govern word) (orders_of (ordinary_rules word) n) n g.ordinary g.ordinary_due)
     (subst (λ effect. AreLawful (Govern word) big effect.machine) (orders-chain (ordinary_rules word) n)
     (orders-parts (Govern word) (orders_of (big_rules word) o) o g.big g.big_due)))
@@ -88,7 +88,7 @@ record Feeding (cid : Cid) (m : Machine) : Type 0 where
 
 stream-part : (event : Event) (cid : Cid) (fed : FedBy) (m : Machine) → Feeding cid m → AreLawful event (ends_stream cid fed.state.fault ∷ []) m
 stream-part event cid fed m f =
-    one_part event (ends_stream cid fed.state.fault) m tt tt tt
+    one_part event (ends_stream cid fed.state.fault) m tt tt tt tt
     (accounted-part event m (does (ends_stream cid fed.state.fault) m)
     (faulted-trimmed cid fed.state.fault m f.ordered f.within f.open_).accounted)
 
@@ -98,7 +98,7 @@ items-parts event cid fed [] m f = stream-part event cid fed m f
 items-parts event cid fed (item ∷ items) m f =
     let effect : Effect = handles cid item m in
     let t : Trimmed IsLawful m effect = handles-trimmed cid item m f.ordered f.within in
-    first_part event (handles_item cid item) (map (handles_item cid) items ++ ends_stream cid fed.state.fault ∷ []) m tt tt f.ordered
+    first_part event (handles_item cid item) (map (handles_item cid) items ++ ends_stream cid fed.state.fault ∷ []) m tt tt tt f.ordered
     (accounted-part event m effect t.accounted)
     (items-parts event cid fed items effect.machine
     (record { ordered = t.ordered; within = trimmed-within IsLawful m effect t; open_ = handles-open cid item m f.ordered f.open_ }))
@@ -110,10 +110,10 @@ fed-parts event fed m e k h within s live =
     let n : Machine = with_entry new m in
     let keeps : Keeps 0 m n = decodes-keeps fed.state.undecoded m e k h s in
     let hard : n.settings.hard ≡ m.settings.hard = ap (λ x. x.hard) keeps.settings in
-    first_part event (stores e fed.state.undecoded) (map (handles_item e.facts.cid) fed.items ++ ends_stream e.facts.cid fed.state.fault ∷ []) m tt tt (stands-found m e k h.orderly s)
+    first_part event (stores e fed.state.undecoded) (map (handles_item e.facts.cid) fed.items ++ ends_stream e.facts.cid fed.state.fault ∷ []) m tt tt tt (stands-found m e k h.orderly s)
     (accounted-part event m (entry_turns e new m)
     (turns-obeys (λ move. Unit {0}) m e new k h.orderly s (record { same_id = refl; same_addr = refl; live = λ l. l }) (record { up = λ up. up; asked = λ asked. asked })
-    (λ negotiated. negotiated) (omega arith)).accounted)
+    (omega arith)).accounted)
     (items-parts event e.facts.cid fed fed.items n
     (record { ordered = keeps.ordered; within = omega (arith, keeps.counted, hard, within); open_ = turned-open new m live }))
 
@@ -139,13 +139,13 @@ ordinary-accounts a m =
 ordinary-parts : (event : Event) (addrs : List Addr) (m : Machine) → AreLawful event (map makes_ordinary addrs) m
 ordinary-parts event [] m = no_part event m
 ordinary-parts event (a ∷ addrs) m =
-    first_part event (makes_ordinary a) (map makes_ordinary addrs) m tt tt tt (accounted-part event m (peer_is_ordinary a m) (ordinary-accounts a m))
+    first_part event (makes_ordinary a) (map makes_ordinary addrs) m tt tt tt tt (accounted-part event m (peer_is_ordinary a m) (ordinary-accounts a m))
     (ordinary-parts event addrs (peer_is_ordinary a m).machine)
 
 provided-parts : (event : Event) (addrs : List Addr) (m : Machine) → AllByRecursion (λ a. is_provided_by a event ≡ true) addrs → AreLawful event (map provides addrs) m
 provided-parts event [] m named = no_part event m
 provided-parts event (a ∷ addrs) m named =
-    first_part event (provides a) (map provides addrs) m tt tt tt (providing-part event m (comes_ordinary a m) (comes-providing false a m) one)
+    first_part event (provides a) (map provides addrs) m tt tt tt tt (providing-part event m (comes_ordinary a m) (comes-providing false a m) one)
     (provided-parts event addrs (comes_ordinary a m).machine named.1)
   where
     one : (b : Addr) → is_known b (comes_ordinary a m).machine ≡ true → (is_known b m || is_provided_by b event) ≡ true
@@ -168,7 +168,7 @@ locals-parts groups m =
     let kept : List Group = cleaned m.settings.own groups in
     let members : List Addr = members_of kept in
     let n : Machine = record m { groups = kept } in
-    first_part (Locals groups) (sets_groups kept) (map makes_ordinary members ++ map provides members) m tt tt tt
+    first_part (Locals groups) (sets_groups kept) (map makes_ordinary members ++ map provides members) m tt tt tt tt
     (set-part (Locals groups) (sets_groups kept) m refl refl refl refl refl)
     (more_parts (Locals groups) (map makes_ordinary members) (map provides members) n (ordinary-parts (Locals groups) members n)
     (provided-parts (Locals groups) members (for_each does (map makes_ordinary members) n).machine
@@ -178,7 +178,7 @@ roots-parts : (event : Event) (answer : RootAnswer) (m : Machine) → ((a : Addr
     AreLawful event (acts_of_answer answer m) m
 roots-parts event (Found ttl addrs) m named =
     let publics : List Addr = publics_of m.settings.own m.targets.root addrs in
-    first_part event (sets_roots (found m.now ttl publics m.roots)) (map provides publics) m tt tt tt
+    first_part event (sets_roots (found m.now ttl publics m.roots)) (map provides publics) m tt tt tt tt
     (set-part event (sets_roots (found m.now ttl publics m.roots)) m refl refl refl refl refl)
     (provided-parts event publics (record m { roots = found m.now ttl publics m.roots })
     (all-named publics (all-listed addrs publics (λ a. publics-listed a m.settings.own m.targets.root addrs))))
@@ -186,12 +186,12 @@ roots-parts event (Found ttl addrs) m named =
     all-named : (xs : List Addr) → AllByRecursion (λ a. is_listed a addrs ≡ true) xs → AllByRecursion (λ a. is_provided_by a event ≡ true) xs
     all-named [] h = tt
     all-named (a ∷ xs) h = (named a ttl addrs refl h.0, all-named xs h.1)
-roots-parts event Failed m named = one_part event (sets_roots _) m tt tt tt (set-part event (sets_roots _) m refl refl refl refl refl)
+roots-parts event Failed m named = one_part event (sets_roots _) m tt tt tt tt (set-part event (sets_roots _) m refl refl refl refl refl)
 
 bigs-parts : (event : Event) (addrs : List Addr) (m : Machine) → AreLawful event (map provides_big addrs) m
 bigs-parts event [] m = no_part event m
 bigs-parts event (a ∷ addrs) m =
-    first_part event (provides_big a) (map provides_big addrs) m tt tt tt (accounted-part event m (comes_big a m) (comes_big-allowed a m).accounted)
+    first_part event (provides_big a) (map provides_big addrs) m tt tt tt tt (accounted-part event m (comes_big a m) (comes_big-allowed a m).accounted)
     (bigs-parts event addrs (comes_big a m).machine)
 
 -- ---- each event
@@ -200,13 +200,13 @@ parts-lawful : (m : Machine) (event : Event) → IsSteady m → AreLawful event 
 parts-lawful m (Now t) h = clock-parts t m (ordered_of m h)
 parts-lawful m (Govern word) h = govern-parts word m (ordered_of m h) h.sound.counted
 parts-lawful m (Accepted addr) h =
-    one_part (Accepted addr) (connects addr) m tt tt (ordered_of m h).orderly (accounted-part (Accepted addr) m (does (connects addr) m) (connects-obeys addr m (ordered_of m h)).accounted)
+    one_part (Accepted addr) (connects addr) m tt tt tt (ordered_of m h).orderly (accounted-part (Accepted addr) m (does (connects addr) m) (connects-obeys addr m (ordered_of m h)).accounted)
 parts-lawful m (Dialed cid opened) h =
-    one_part (Dialed cid opened) (ends_dial cid opened) m tt tt tt
+    one_part (Dialed cid opened) (ends_dial cid opened) m tt tt tt tt
     (accounted-part (Dialed cid opened) m (does (ends_dial cid opened) m) (dial_ends-obeys cid opened m (ordered_of m h)).accounted)
 parts-lawful m (Bytes cid bytes) h = bytes-parts cid bytes m (ordered_of m h) h.sound.counted
-parts-lawful m (Closed cid) h = one_part (Closed cid) (is_closed cid) m tt tt tt (closes-accounted cid m (ordered_of m h))
-parts-lawful m (Aims targets) h = one_part (Aims targets) (sets_targets targets) m tt tt tt (set-part (Aims targets) (sets_targets targets) m refl refl refl refl refl)
+parts-lawful m (Closed cid) h = one_part (Closed cid) (is_closed cid) m (λ id is. is) tt tt tt (accounted-part (Closed cid) m (does (is_closed cid) m) (closes-accounted cid m (ordered_of m h)))
+parts-lawful m (Aims targets) h = one_part (Aims targets) (sets_targets targets) m tt tt tt tt (set-part (Aims targets) (sets_targets targets) m refl refl refl refl refl)
 parts-lawful m (Locals groups) h = locals-parts groups m
 parts-lawful m (Roots job answer) h = by_bool (awaits job.0 m.roots) (λ b. AreLawful (Roots job answer) (if b then acts_of_answer answer m else []) m)
     (λ is. roots-parts (Roots job answer) answer m named) (λ is. no_part (Roots job answer) m)
@@ -214,7 +214,7 @@ parts-lawful m (Roots job answer) h = by_bool (awaits job.0 m.roots) (λ b. AreL
     named : (a : Addr) (ttl : ℕ) (addrs : List Addr) → answer ≡ Found ttl addrs → is_listed a addrs ≡ true → is_provided_by a (Roots job answer) ≡ true
     named a ttl addrs is listed = subst (λ x. is_provided_by a (Roots job x) ≡ true) (sym is) listed
 parts-lawful m (BigAims targets) h =
-    one_part (BigAims targets) (sets_big_targets targets) m tt tt tt (set-part (BigAims targets) (sets_big_targets targets) m refl refl refl refl refl)
+    one_part (BigAims targets) (sets_big_targets targets) m tt tt tt tt (set-part (BigAims targets) (sets_big_targets targets) m refl refl refl refl refl)
 parts-lawful m (Bigs addrs) h = bigs-parts (Bigs addrs) addrs m
 
 pub event-lawful : (m : Machine) (event : Event) → IsSteady m → IsLawfulEvent m event
@@ -223,6 +223,6 @@ event-lawful m event h =
     record {
       parts = parts-chain m event;
       each = all-placed (IsLawfulPart event) (parts_of m event) all.each;
-      accounted = accounted_by event m (step m event) (subst (Tells event m) (sym (parts-chain m event)) all.tells);
+      accounted = subst (IsAccounted event m) (sym (parts-chain m event)) (accounted_by event m (for_each does (acts m event) m) all.tells all.ends);
       moves = moves-lawful m event h;
     }

@@ -1,29 +1,32 @@
 -- Each part of an event is lawful.
-use Rattle.std.proofs.Common.{ℕ, ◌≡◌, Bool, true, false, ◌||◌, List, [], ◌∷◌, ◌++◌, Option, Some, None, refl, sym, subst, arith, nat_lt}
-use Rattle.laws.proofs.Words.{false≢true, or_left, list_any-append}
-use Rattle.laws.specs.Words.{AllByRecursion, Addr, Phase, Negotiated, Event, is_negotiated_phase, Effect, for_each, nothing_more, then_do, Machine, Entry, entry_at}
-use Rattle.laws.specs.Acts.{Act, does, parts_from}
-use Rattle.laws.specs.AtMoves.{is_negotiated_entry, is_negotiated_at, is_ended_in, is_closed_by, is_up, is_hot_or_asked, is_known, promotes, activates, is_shared_in, is_provided_by, shares, ends}
+use Rattle.std.proofs.Common.{ℕ, ◌≡◌, ◌≤◌, Bool, true, false, not, ◌&&◌, ◌||◌, ◌==◌, List, [], ◌∷◌, ◌++◌, Option, Some, None, refl, sym, subst, arith, nat_lt}
+use Rattle.laws.proofs.Words.{false≢true, both_ways, and_parts, or_left, or_right, list_any-append}
+use Rattle.laws.specs.Words.{AllByRecursion, Addr, Phase, Negotiated, Closing, Event, is_negotiated_phase, live_phase, Effect, for_each, nothing_more, then_do, Machine, Entry, entry_at}
+use Rattle.laws.specs.Acts.{Act, ends_dial, is_closed, does, parts_from}
+use Rattle.laws.specs.AtMoves.{is_negotiated_entry, is_negotiated_at, is_ended_in, is_closed_by, is_up, is_hot_or_asked, is_known, promotes, activates, is_shared_in, is_provided_by, shares}
+use Rattle.laws.specs.OpenEnds.{is_open_entry, is_open_at, is_dialing_entry, goes_by_itself}
 use Rattle.laws.specs.CarriedOut.{IsDoneByOrder}
 use Rattle.laws.specs.Parts.{IsNext, IsDone, EndsOnce, IsAccounted, IsLawfulPart, RisesBy, Arrives}
 use Rattle.laws.specs.Stages.{stage_of_phase, stage_of, stage_at}
 use Rattle.laws.specs.Telling.{IsTold}
 use Rattle.laws.proofs.CarriedOut.{treats-book, pauses-right}
 use Rattle.laws.proofs.Forgiven.{forgives}
-use Rattle.laws.proofs.Lawful.{Accounts, IsProviding, ends_same, obeys_nothing}
+use Rattle.laws.proofs.Lawful.{Accounts, IsProviding, obeys_nothing}
 use Rattle.laws.proofs.Admitted.{admits-right}
 use Rattle.laws.proofs.Agreed.{agrees-right}
 use Rattle.laws.proofs.BackOff.{fails-only, remembers}
 use Rattle.laws.proofs.Begun.{over-after, waits-begin}
 use Rattle.laws.proofs.Goes.{goes-where}
 use Rattle.laws.proofs.Responders.{responds-right}
-use Rattle.laws.proofs.OpenEnds.{opens-once, ended_once}
+use Rattle.laws.proofs.OpenEnds.{StaysOr, stays_then, stays-of, opens-once, ended_once}
 use Rattle.laws.proofs.RootsAsked.{asks-right}
 use Rattle.laws.proofs.Sends.{sends-right}
 use Rattle.laws.proofs.Served.{answers-right}
 use Rattle.laws.proofs.Telling.{told_then}
 use Rattle.laws.proofs.Pruning.{ends-rightly}
 use Rattle.laws.proofs.Walk.{Finds}
+use Rattle.laws.proofs.Shapes.{dialing-unnegotiated}
+use Rattle.laws.proofs.WholeMoves.{negotiated-live}
 use Rattle.laws.proofs.WaitsOfParts.{waits-right, leaves-rest, is-set}
 use Rattle.laws.proofs.Rises.{NoneConnected, or_each, hot_or_asked-down, rises_nowhere, same-connected, rises_by_then}
 use Rattle.laws.proofs.Chain.{each_appended}
@@ -38,43 +41,79 @@ negotiated-stage (Some e) given h = by_phase e.facts.phase h
     by_phase Negotiated h = refl
     by_phase other h = absurd (false≢true h)
 
+still-negotiated : (o : Option Entry) (given : Bool) → is_open_entry o ≡ true → 3 ≤ stage_of o given → is_negotiated_entry o ≡ true
+still-negotiated None given there far = absurd (false≢true there)
+still-negotiated (Some e) given there far = by_phase e.facts.phase there far
+  where
+    by_phase : (p : Phase) → live_phase p ≡ true → 3 ≤ stage_of_phase p → is_negotiated_phase p ≡ true
+    by_phase Negotiated live far = refl
+    by_phase (Closing until) live far = absurd (false≢true live)
+    by_phase other live far = absurd (omega (arith, far))
+
+negotiated-open : (o : Option Entry) → is_negotiated_entry o ≡ true → is_open_entry o ≡ true
+negotiated-open None h = h
+negotiated-open (Some e) h = negotiated-live e.facts.phase h
+
+undone-dial : (o : Option Entry) → is_dialing_entry o ≡ true → is_negotiated_entry o ≡ false
+undone-dial None h = refl
+undone-dial (Some e) h = dialing-unnegotiated e.facts.phase h
+
 -- whoever was negotiated stays so, or is ended or closed
 abbrev pub EndsKnown : Event → Machine → Effect → Type 0
-EndsKnown event m effect = (cid : ℕ) → is_negotiated_at cid m ≡ true →
-    (is_negotiated_at cid effect.machine || is_ended_in cid effect.moves || is_closed_by cid event) ≡ true
+EndsKnown event m effect = StaysOr is_negotiated_at (λ cid. is_closed_by cid event) m effect
 
-pub ends-once : (event : Event) (m : Machine) (effect : Effect) → IsTold m effect → EndsKnown event m effect → EndsOnce event m effect
+-- the other side closes a connection only by the event that says so
+abbrev pub ClosesBy : Act → Event → Type 0
+ClosesBy (is_closed own) event = (cid : ℕ) → (own.0 == cid) ≡ true → is_closed_by cid event ≡ true
+ClosesBy other event = Unit {0}
+
+-- Whatever stands open stays so, and comes no less far.
+ends-known : (event : Event) (act : Act) (m : Machine) → ClosesBy act event → IsNext act m → Finds act m → IsTold m (does act m) → EndsKnown event m (does act m)
+ends-known event act m closes next found told cid before =
+    let effect : Effect = does act m in
+    let stage : stage_at cid m ≡ 3 = negotiated-stage (entry_at cid m) (nat_lt cid m.next_id) before in
+    let forward = (told.connections cid).forward in
+    by_open (is_open_at cid effect.machine) (is_ended_in cid effect.moves) (goes_by_itself act m cid)
+    (λ there. still-negotiated (entry_at cid effect.machine) (nat_lt cid effect.machine.next_id) there (omega (arith, stage, forward)))
+    (itself act closes) (stays-of act m next found cid (negotiated-open (entry_at cid m) before))
+  where
+    itself : (a : Act) → ClosesBy a event → goes_by_itself a m cid ≡ true → is_closed_by cid event ≡ true
+    itself (is_closed own) closes goes = closes cid goes
+    itself (ends_dial own opened) closes goes =
+        let fails = and_parts (own.0 == cid) (not opened && is_dialing_entry (entry_at cid m)) goes in
+        let dials = and_parts (not opened) (is_dialing_entry (entry_at cid m)) fails.1 in
+        absurd (both_ways (is_negotiated_at cid m) (undone-dial (entry_at cid m) dials.1) before)
+    itself other closes goes = absurd (false≢true goes)
+
+    by_open : (there ended goes : Bool) → (there ≡ true → is_negotiated_at cid (does act m).machine ≡ true) → (goes ≡ true → is_closed_by cid event ≡ true) →
+        (there || (ended || goes)) ≡ true → (is_negotiated_at cid (does act m).machine || (ended || is_closed_by cid event)) ≡ true
+    by_open true ended goes still closed h = or_left (is_negotiated_at cid (does act m).machine) (ended || is_closed_by cid event) (still refl)
+    by_open false ended goes still closed h =
+        or_right (is_negotiated_at cid (does act m).machine) (ended || is_closed_by cid event) (or_each ended goes ended (is_closed_by cid event) (λ is. is) closed h)
+
+ends-once : (event : Event) (m : Machine) (effect : Effect) → IsTold m effect → EndsKnown event m effect → EndsOnce event m effect
 ends-once event m effect told accounted cid before =
     ended_once cid m effect (is_negotiated_at cid effect.machine) (is_closed_by cid event) (λ cs. IsDone cs (is_negotiated_at cid effect.machine) (is_closed_by cid event)) told
-    (regroup (is_negotiated_at cid effect.machine) (is_ended_in cid effect.moves) (is_closed_by cid event) (accounted cid before))
+    (accounted cid before)
     (λ is. let stage : stage_at cid effect.machine ≡ 3 = negotiated-stage (entry_at cid effect.machine) (nat_lt cid effect.machine.next_id) is in omega (arith, stage))
     (λ h. h) (λ cause gone late. (gone, late (negotiated-stage (entry_at cid m) (nat_lt cid m.next_id) before)))
-  where
-    regroup : (a b c : Bool) → (a || b || c) ≡ true → (a || (b || c)) ≡ true
-    regroup true b c h = refl
-    regroup false b c h = h
 
 -- ---- what a part keeps
 
 -- what a part tells, and who is ended and comes up by it; and so what follows of several parts
 pub record Tells (event : Event) (m : Machine) (effect : Effect) : Type 0 where
   pub told : IsTold m effect
-  pub ends : EndsKnown event m effect
   pub promotions : RisesBy is_up promotes m effect
   pub activations : RisesBy is_hot_or_asked activates m effect
   pub arrivals : Arrives event m effect
 
-pub accounted_by : (event : Event) (m : Machine) (effect : Effect) → Tells event m effect → IsAccounted event m effect
-accounted_by event m effect h = assumption (ends-once event m effect h.told h.ends, h)
+pub accounted_by : (event : Event) (m : Machine) (effect : Effect) → Tells event m effect → EndsKnown event m effect → IsAccounted event m effect
+accounted_by event m effect h ends = assumption (ends-once event m effect h.told ends, h)
 
 tells_then : (event : Event) (m : Machine) (first : Effect) (next : Machine → Effect) → Tells event m first → Tells event first.machine (next first.machine) →
     Tells event m (then_do first next)
 tells_then event m first next one two = record {
   told = told_then m first next one.told two.told;
-  ends = λ cid before. subst (λ b. (is_negotiated_at cid second.machine || b || is_closed_by cid event) ≡ true)
-      (sym (list_any-append (λ move. ends cid move.happened) first.moves second.moves))
-      (ended (is_negotiated_at cid first.machine) (is_ended_in cid first.moves) (is_closed_by cid event) (is_negotiated_at cid second.machine) (is_ended_in cid second.moves)
-      (one.ends cid before) (two.ends cid));
   promotions = rises_by_then is_up promotes m first next one.promotions two.promotions;
   activations = rises_by_then is_hot_or_asked activates m first next one.activations two.activations;
   arrivals = λ addr known. subst (λ b. (is_known addr m || b || is_provided_by addr event) ≡ true)
@@ -85,14 +124,6 @@ tells_then event m first next one two = record {
   where
     second : Effect
     second = next first.machine
-
-    ended : (there early closed after late : Bool) → (there || early || closed) ≡ true → (there ≡ true → (after || late || closed) ≡ true) → (after || (early || late) || closed) ≡ true
-    ended there early closed true late one two = refl
-    ended there true closed false late one two = refl
-    ended there false true false true one two = refl
-    ended there false true false false one two = refl
-    ended true false false false late one two = two refl
-    ended false false false false late one two = absurd (false≢true one)
 
     arrived : (before early named there late : Bool) → (there ≡ true → (before || early || named) ≡ true) → (there || late || named) ≡ true → (before || (early || late) || named) ≡ true
     arrived true early named there late one two = refl
@@ -105,7 +136,6 @@ tells_then event m first next one two = record {
 pub accounted-part : (event : Event) (m : Machine) (effect : Effect) → Accounts m effect → Tells event m effect
 accounted-part event m effect h = record {
   told = h.told;
-  ends = λ cid before. or_left (is_negotiated_at cid effect.machine || is_ended_in cid effect.moves) (is_closed_by cid event) (h.ends cid before);
   promotions = h.rises.promotions;
   activations = h.rises.activations;
   arrivals = λ addr known. or_left (is_known addr m || is_shared_in addr effect.moves) (is_provided_by addr event) (h.rises.arrivals addr known);
@@ -118,16 +148,15 @@ providing-part event m effect p named =
     let connected : NoneConnected m effect.machine = same-connected m effect.machine p.connections in
     record {
       told = p.told;
-      ends = λ cid before. or_left (is_negotiated_at cid effect.machine || is_ended_in cid effect.moves) (is_closed_by cid event) (ends_same m effect p.connections cid before);
       promotions = rises_nowhere is_up promotes m effect connected.up;
       activations = rises_nowhere is_hot_or_asked activates m effect (hot_or_asked-down m effect.machine p.hot connected.asked);
       arrivals = λ addr known. or_each (is_known addr m) (is_provided_by addr event) (is_known addr m || is_shared_in addr effect.moves) (is_provided_by addr event)
           (λ before. or_left (is_known addr m) (is_shared_in addr effect.moves) before) (λ is. is) (named addr known);
     }
 
-pub lawful-part : (event : Event) (act : Act) (m : Machine) → IsNext act m → IsDoneByOrder act m (does act m) → Finds act m → Tells event m (does act m) → IsLawfulPart event (record { act = act; before = m })
-lawful-part event act m next order found h = record {
-  accounted = accounted_by event m (does act m) h;
+lawful-part : (event : Event) (act : Act) (m : Machine) → ClosesBy act event → IsNext act m → IsDoneByOrder act m (does act m) → Finds act m → Tells event m (does act m) → IsLawfulPart event (record { act = act; before = m })
+lawful-part event act m closes next order found h = record {
+  accounted = accounted_by event m (does act m) h (ends-known event act m closes next found h.told);
   next = next;
   order = order;
   book = treats-book act m;
@@ -157,21 +186,27 @@ lawful-part event act m next order found h = record {
 pub record AreLawful (event : Event) (acts : List Act) (m : Machine) : Type 0 where
   pub each : AllByRecursion (IsLawfulPart event) (parts_from acts m)
   pub tells : Tells event m (for_each does acts m)
+  pub ends : EndsKnown event m (for_each does acts m)
 
 pub no_part : (event : Event) (m : Machine) → AreLawful event [] m
 unfolding parts_from for_each
-no_part event m = record { each = tt; tells = accounted-part event m (nothing_more m) (obeys_nothing (λ move. Unit {0}) m).accounted }
-
-pub first_part : (event : Event) (act : Act) (acts : List Act) (m : Machine) → IsNext act m → IsDoneByOrder act m (does act m) → Finds act m → Tells event m (does act m) →
-    AreLawful event acts (does act m).machine → AreLawful event (act ∷ acts) m
-unfolding parts_from for_each
-first_part event act acts m next order found h rest = record {
-  each = (lawful-part event act m next order found h, rest.each);
-  tells = tells_then event m (does act m) (for_each does acts) h rest.tells;
+no_part event m = record {
+  each = tt;
+  tells = accounted-part event m (nothing_more m) (obeys_nothing (λ move. Unit {0}) m).accounted;
+  ends = λ cid before. or_left (is_negotiated_at cid m) (false || is_closed_by cid event) before;
 }
 
-pub one_part : (event : Event) (act : Act) (m : Machine) → IsNext act m → IsDoneByOrder act m (does act m) → Finds act m → Tells event m (does act m) → AreLawful event (act ∷ []) m
-one_part event act m next order found h = first_part event act [] m next order found h (no_part event (does act m).machine)
+pub first_part : (event : Event) (act : Act) (acts : List Act) (m : Machine) → ClosesBy act event → IsNext act m → IsDoneByOrder act m (does act m) → Finds act m → Tells event m (does act m) →
+    AreLawful event acts (does act m).machine → AreLawful event (act ∷ acts) m
+unfolding parts_from for_each
+first_part event act acts m closes next order found h rest = record {
+  each = (lawful-part event act m closes next order found h, rest.each);
+  tells = tells_then event m (does act m) (for_each does acts) h rest.tells;
+  ends = stays_then is_negotiated_at (λ cid. is_closed_by cid event) m (does act m) (for_each does acts) (ends-known event act m closes next found h.told) rest.ends;
+}
+
+pub one_part : (event : Event) (act : Act) (m : Machine) → ClosesBy act event → IsNext act m → IsDoneByOrder act m (does act m) → Finds act m → Tells event m (does act m) → AreLawful event (act ∷ []) m
+one_part event act m closes next order found h = first_part event act [] m closes next order found h (no_part event (does act m).machine)
 
 each_more : (event : Event) (xs ys : List Act) (m : Machine) → AllByRecursion (IsLawfulPart event) (parts_from xs m) →
     AllByRecursion (IsLawfulPart event) (parts_from ys (for_each does xs m).machine) → AllByRecursion (IsLawfulPart event) (parts_from (xs ++ ys) m)
@@ -183,4 +218,6 @@ pub more_parts : (event : Event) (xs ys : List Act) (m : Machine) → AreLawful 
 more_parts event xs ys m one two = record {
   each = each_more event xs ys m one.each two.each;
   tells = subst (Tells event m) (sym (each_appended does xs ys m)) (tells_then event m (for_each does xs m) (for_each does ys) one.tells two.tells);
+  ends = subst (EndsKnown event m) (sym (each_appended does xs ys m))
+      (stays_then is_negotiated_at (λ cid. is_closed_by cid event) m (for_each does xs m) (for_each does ys) one.ends two.ends);
 }

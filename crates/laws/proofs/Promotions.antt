@@ -11,7 +11,7 @@ use Rattle.laws.proofs.Books.{found-other}
 use Rattle.laws.proofs.Counts.{counted_of, counted_in-sum, late_of, late_in-sum}
 use Rattle.laws.proofs.Entries.{with_new, come-orderly}
 use Rattle.laws.proofs.Keeping.{Keeps}
-use Rattle.laws.proofs.Lawful.{ends_move, ends_come, Accounts, Obeys, IsAllowed, as_move-obeys, promoted-obeys}
+use Rattle.laws.proofs.Lawful.{Accounts, Obeys, IsAllowed, as_move-obeys, promoted-obeys}
 use Rattle.laws.proofs.Lists.{StandsAt, stands_next, FoundIn, find_some, find_none, find_only}
 use Rattle.laws.proofs.Owing.{nothing-owing}
 use Rattle.laws.proofs.Shapes.{dialing-shaped, can_acquire}
@@ -86,7 +86,6 @@ dial-accounts addr m h =
     let new : Entry = fresh_entry (dialing m.next_id addr) in
     let effect : Effect = dial addr m in
     record {
-      ends = ends_move (promoted addr) m effect (ends_come m new effect refl);
       rises = record {
         promotions = rises_said is_up promotes (promoted addr) m effect
             (λ b other up. ap is_up_connection (sym (dial-elsewhere addr b m (same_turned addr b other))) ∙ up);

@@ -1,5 +1,5 @@
 -- What is answered to what the other side asks.
-use Rattle.std.proofs.Common.{ℕ, ◌+◌, ◌<◌, ◌≤◌, ◌≡◌, Bool, true, false, not, ◌&&◌, ◌||◌, ◌==◌, min, if◌then◌else◌, cond, List, [], ◌∷◌, ◌++◌, length, map, filter, get_or, is_some, Option, Some, None, Result, Ok, Err, refl, sym, ap, ◌∙◌, subst, arith, eqb-true, append-nil}
+use Rattle.std.proofs.Common.{ℕ, ◌<◌, ◌≤◌, ◌≡◌, Bool, true, false, not, ◌&&◌, ◌||◌, ◌==◌, min, if◌then◌else◌, cond, List, [], ◌∷◌, ◌++◌, length, map, filter, get_or, is_some, Option, Some, None, Result, Ok, Err, refl, sym, ap, ◌∙◌, subst, arith, eqb-true, append-nil}
 use Rattle.laws.proofs.Words.{cond_both, and_parts, and_from, or_left, or_right, false≢true, not-true, flat_map-append, position-Some, told_by_group, told_by_roots, each_of_front, told_are_few}
 use Rattle.laws.specs.Words.{AllByRecursion, list_any, awakened, has_id, is_negotiated_phase, agreed_sharing, runs, frame_of, Item, same_address, Fault, FaultKind, Protocol, Addr, Cid, Phase, Negotiated, Group, Peer, has_address, addresses_of, watched, Reply, Seen, is_listed, group_of, is_advertised, most_told, served_to, ending, idle, Effect, then_do, on_entry, on_connection, Machine, Entry, entry_at, reply_on, handled_in, handled, replies, stops_if, serves, begins, takes_requests, asked_as, answered_as, talks}
 use Rattle.peer_book.specs.Book.{peer_at as peer_in}

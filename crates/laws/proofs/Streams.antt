@@ -62,8 +62,7 @@ fed_with-trimmed fed m e k h within s live =
     let first : Effect = entry_turns e new m in
     let fault : Machine → Effect = on_connection e.facts.cid (faulted fed.state.fault) in
     let one : Trimmed IsLawful m first = keeps-trimmed IsLawful m first within (decodes-keeps fed.state.undecoded m e k h s)
-    (turns-obeys IsLawful m e new k h.orderly s (record { same_id = refl; same_addr = refl; live = λ l. l }) (record { up = λ up. up; asked = λ asked. asked }) (λ negotiated. negotiated)
-    (omega arith)) in
+    (turns-obeys IsLawful m e new k h.orderly s (record { same_id = refl; same_addr = refl; live = λ l. l }) (record { up = λ up. up; asked = λ asked. asked }) (omega arith)) in
     let n : Machine = first.machine in
     let second : Effect = for_each (handles e.facts.cid) fed.items n in
     let two : Trimmed IsLawful n second =

@@ -1,6 +1,6 @@
 -- A connection whose handshake is done: whatever comes in, the connections stay in order and within the limit.
 use Rattle.std.proofs.Common.{ℕ, ◌+◌, [], ◌∷◌, cond, not, is_some, ◌≤◌, ◌≡◌, Bool, true, false, ◌||◌, ◌==◌, if◌then◌else◌, List, find, set, Option, Some, None, Result, Ok, Err, refl, sym, ap, ◌∙◌, subst, arith, eqb-true, eq-eqb}
-use Rattle.laws.proofs.Words.{cond_both, both_ways, false≢true, or_left, or_right}
+use Rattle.laws.proofs.Words.{cond_both, both_ways, false≢true, or_right}
 use Rattle.laws.specs.Words.{same_address, Fault, FaultKind, Protocol, UnknownId, Addr, Facts, Responders, Peer, Hot, awakened, idled, effective_of, has_responder, is_live, agreed_sharing, has_id, is_negotiated, runs, some_runs, Item, watched, seen_by_number, chain_sync_seen, block_fetch_seen, tx_submission_seen, keep_alive_seen, peer_sharing_seen, Reply, Seen, item_number_of, alive_of, share_of, Share, is_established, Machine, Entry, Owed, counted_in, entry_at, live_entry_at, Effect, Move, shared, nothing_more, then_do, on_entry, on_connection, peer_at, peer_becomes, peer_comes, with_entry, entry_turns, ending, trim, awake, idle, replies, stops_if, serves, begins, takes_requests, asked_as, shares_address, taken_of, takes_addresses, pays, brings, answered_as, talks, reply_on, without_reply, paid, Cid}
 use Rattle.laws.specs.Words.reply
 use Rattle.laws.specs.Words.share
@@ -8,7 +8,7 @@ use Rattle.laws.proofs.Effects.{counted-running}
 use Rattle.laws.proofs.Entries.{TurnsInto, one_has_id, turned-connections}
 use Rattle.laws.specs.AtMoves.{IsLawful, is_up, is_hot_peer, is_asked_connection, is_hot_or_asked, is_known, promotes, activates, shares}
 use Rattle.laws.proofs.KnownWanted.{takes-within}
-use Rattle.laws.proofs.Lawful.{ends_then, ends_same, ends_turned, Accounts, Obeys, IsQuiet, quiet-lawful, quiet-obeys, tells-quiet, comes-providing, shared-accounts, turns-obeys, IsAllowed, Within, allowed_within, as_move-obeys}
+use Rattle.laws.proofs.Lawful.{Accounts, Obeys, IsQuiet, quiet-lawful, quiet-obeys, tells-quiet, comes-providing, shared-accounts, turns-obeys, IsAllowed, Within, allowed_within, as_move-obeys}
 use Rattle.laws.proofs.Keeping.{Keeps, keeps_nothing, moves_then, moves-keeps, keeps-moves, changes-moves, peer_comes-keeps}
 use Rattle.laws.proofs.Lists.{StandsAt, stands-set, find_some, find_only}
 use Rattle.laws.specs.Steady.{AreTied, IsAlone, TiedBy, IsOrdered}
@@ -116,7 +116,7 @@ awake-begun protocol m e k t serves known =
     trim-trims e.facts.cid n raised.ordered (omega (arith, raised.counted, t.within)) (λ over. moved) in
     record {
       trimmed = raised_then_trimmed IsLawful m (entry_turns e new m) (trim e.facts.cid) raised
-          (turns-obeys IsLawful m e new k t.ordered.orderly t.stands turns (record { up = λ up. up; asked = λ asked. asked }) (λ negotiated. negotiated) (omega arith)) trimmed;
+          (turns-obeys IsLawful m e new k t.ordered.orderly t.stands turns (record { up = λ up. up; asked = λ asked. asked }) (omega arith)) trimmed;
       runs = λ x found.
           let was : entry_at e.facts.cid.0 n ≡ Some x = trim-found e.facts.cid e.facts.cid.0 x n found in
           ap (λ y. some_runs y.facts.running) (found_is n new x k raised.ordered here was) ∙ runs;
@@ -143,7 +143,7 @@ stops_if-trimmed false protocol m e k h within s running = nothing-trimmed IsLaw
 stops_if-trimmed true protocol m e k h within s running =
     keeps-trimmed IsLawful m (idle protocol e m) within (idles-keeps protocol m e k h s running)
     (turns-obeys IsLawful m e (record e { facts = idled protocol (m.now + m.settings.idle) e.facts }) k h.orderly s
-    (record { same_id = refl; same_addr = refl; live = λ l. l }) (record { up = λ up. up; asked = λ asked. asked }) (λ negotiated. negotiated) (omega arith))
+    (record { same_id = refl; same_addr = refl; live = λ l. l }) (record { up = λ up. up; asked = λ asked. asked }) (omega arith))
 
 serves-trimmed : (seen : Seen) (protocol : ℕ) (cid : Cid) (m : Machine) → IsOrdered m → counted_in m ≤ m.settings.hard →
     ((x : Entry) → entry_at cid.0 m ≡ Some x → some_runs x.facts.running ≡ true) →
@@ -254,8 +254,6 @@ hot-accounts m e k h s live asked =
     let connected : NoneConnected m effect.machine =
     connected_then m n effect.machine (turned-connected m e new k h.orderly s turns (paid-lower 2 e)) (same-connected n effect.machine same) in
     record {
-      ends = ends_then m (entry_turns e new m) last
-          (ends_turned m e new k (entry_turns e new m) h.orderly s turns refl (λ was. or_left (is_negotiated e.facts) false was)) (ends_same n (last n) same);
       rises = record {
         promotions = rises_nowhere is_up promotes m effect connected.up;
         activations = rises_nowhere is_hot_or_asked activates m effect (λ b. by_address b effect.machine
@@ -277,7 +275,7 @@ hot-accounts m e k h s live asked =
 paid-obeys : (Law : Move → Type 0) (protocol : ℕ) (m : Machine) (e : Entry) (k : ℕ) → IsOrdered m → StandsAt m.connections k e →
     Obeys Law m (entry_turns e (paid protocol e) m)
 paid-obeys Law protocol m e k h s =
-    turns-obeys Law m e (paid protocol e) k h.orderly s (record { same_id = refl; same_addr = refl; live = λ l. l }) (paid-lower protocol e) (λ negotiated. negotiated) (omega arith)
+    turns-obeys Law m e (paid protocol e) k h.orderly s (record { same_id = refl; same_addr = refl; live = λ l. l }) (paid-lower protocol e) (omega arith)
 
 answered_as-trimmed : (o : Option Owed) (item : Item) (m : Machine) (e : Entry) (k : ℕ) → reply_on item.id e ≡ o → Talking m e k →
     Trimmed IsLawful m (answered_as o item e m)
