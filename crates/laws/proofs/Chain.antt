@@ -16,7 +16,7 @@ then_nothing effect =
     ap (λ actions. with_actions actions (effect.moves ++ []) effect.machine) (append-nil effect.actions)
     ∙ ap (λ moves. with_actions effect.actions moves effect.machine) (append-nil effect.moves)
 
-then_assoc : (effect : Effect) (f g : Machine → Effect) → then_do (then_do effect f) g ≡ then_do effect (λ m. then_do (f m) g)
+pub then_assoc : (effect : Effect) (f g : Machine → Effect) → then_do (then_do effect f) g ≡ then_do effect (λ m. then_do (f m) g)
 then_assoc effect f g =
     let second : Effect = f effect.machine in
     let third : Effect = g second.machine in

@@ -6,11 +6,12 @@ use Rattle.laws.specs.AtMoves.{IsReady, IsLawful, is_up_connection, is_up, is_ho
 use Rattle.laws.specs.Steady.{AreTied, IsAlone, TiedBy, IsTied, IsOrdered}
 use Rattle.laws.proofs.Addresses.{same_address-true}
 use Rattle.laws.proofs.Books.{book_of, filter-book}
+use Rattle.laws.proofs.Chain.{then_assoc}
 use Rattle.laws.proofs.Counts.{counted_of, counted_in-sum}
 use Rattle.laws.proofs.Effects.{one_if-not_counted}
 use Rattle.laws.proofs.Entries.{TurnsInto, turned-connections, turned-sum}
 use Rattle.laws.proofs.Keeping.{Moves, Keeps, keeps_nothing, keeps_then, moves_then, moves-keeps, peers-moves, changes-moves, changes-keeps}
-use Rattle.laws.proofs.Lawful.{Accounts, Obeys, obeys_then, IsQuiet, quiet-obeys, tells-quiet, quiet_then, changes-quiet, turns-obeys, turned_then-obeys, IsAllowed}
+use Rattle.laws.proofs.Lawful.{Accounts, Obeys, obeys_then, IsQuiet, quiet-obeys, tells-quiet, quiet_then, changes-quiet, turned_then-obeys, IsAllowed}
 use Rattle.laws.proofs.Lists.{StandsAt, FoundIn, stands-set, find_some}
 use Rattle.laws.proofs.Ordinary.{taken-classes}
 use Rattle.laws.proofs.Owing.{OwesNothing, with_reply-some}
@@ -19,7 +20,7 @@ use Rattle.laws.proofs.Rises.{rises_said, rises_nowhere, turned-down, taken-hot,
 use Rattle.laws.proofs.Telling.{told_then, told_move}
 use Rattle.laws.proofs.ToldMoves.{turned-told, peer_goes-told, turns_at-connections}
 use Rattle.laws.proofs.Ties.{live_here, turned_here, turned_elsewhere, changed-ties, taken-ties}
-use Rattle.laws.proofs.Trims.{Trimmed, tied-trimmed, keeps-trimmed, nothing-trimmed, trimmed_then, as_move-trimmed, raised_twice_then_trimmed, trim-trims, turns_at-counted}
+use Rattle.laws.proofs.Trims.{Trimmed, tied-trimmed, keeps-trimmed, nothing-trimmed, trimmed_then, as_move-trimmed, raised_then_trimmed, trim-trims, turns_at-counted}
 use Rattle.laws.proofs.WholeMoves.{owes-keeps, IsWarm, asks_warm-keeps, releases-moves}
 use Rattle.laws.proofs.Walk.{says_done-machine}
 use Rattle.laws.proofs.Cases.{by_bool, by_option}
@@ -323,10 +324,10 @@ releasing-carried addr m e k u may =
           (λ none. let zero : counted_of new ≡ 0 = one_if-not_counted new.facts none in
           absurd (omega (arith, over, alike, counts, before, after, limit, within, zero)));
     }) in
-    raised_twice_then_trimmed IsLawful m (entry_turns e new m) (peer_becomes Cold e.facts.addr) (trim e.facts.cid) raised
-    (turns-obeys IsLawful m e new k h.orderly s t (record { up = released-down (m.now + m.settings.idle) e; asked = λ asked. asked }) (omega arith))
-    (quiet-obeys IsLawful n (peer_becomes Cold e.facts.addr n)
-    (changes-quiet e.facts.addr cold n (record { addr = λ p. refl; hot = λ p hot. absurd (false≢true hot) }))) trimmed
+    subst (Trimmed IsLawful m) (then_assoc (entry_turns e new m) (peer_becomes Cold e.facts.addr) (trim e.facts.cid))
+    (raised_then_trimmed IsLawful m (then_do (entry_turns e new m) (peer_becomes Cold e.facts.addr)) (trim e.facts.cid) raised
+    (turned_then-obeys IsLawful m e new k (peer_becomes Cold e.facts.addr) h.orderly s t (record { up = released-down (m.now + m.settings.idle) e; asked = λ asked. asked }) (omega arith)
+    (changes-quiet e.facts.addr cold n (record { addr = λ p. refl; hot = λ p hot. absurd (false≢true hot) }))) trimmed)
   where
     used_by_none : {Z : Type 0} → IsAlone e → Z
     used_by_none alone = absurd (both_ways e.facts.local alone.unused u.local)

@@ -273,59 +273,33 @@ trim-used q only moved m e k h s same unused = cond_both (nat_le (counted_in m) 
 pub trimmed-within : (Law : Move → Type 0) (m : Machine) (effect : Effect) → Trimmed Law m effect → counted_in effect.machine ≤ effect.machine.settings.hard
 trimmed-within Law m effect h = subst (λ s. counted_in effect.machine ≤ s.hard) (sym h.settings) h.counted
 
+-- what keeps the rest, and what is trimmed after it
+keeps_then_trimmed : (raised : ℕ) (Law : Move → Type 0) (m : Machine) (first : Effect) (next : Machine → Effect) → Keeps raised m first.machine →
+    (IsTied m → AllByRecursion Law first.moves) → Accounts m first → Trimmed Law first.machine (next first.machine) → Trimmed Law m (then_do first next)
+keeps_then_trimmed raised Law m first next kept lawful accounted trimmed =
+    let second : Effect = next first.machine in
+    record {
+      ordered = trimmed.ordered;
+      settings = trimmed.settings ∙ kept.settings;
+      now = trimmed.now ∙ kept.now;
+      counted = subst (λ s. counted_in second.machine ≤ s.hard) kept.settings trimmed.counted;
+      late = omega (arith, trimmed.late, kept.late);
+      classes = λ h. trimmed.classes (kept.classes h);
+      ties = λ h. trimmed.ties (kept.ties h);
+      lawful = λ h. all-appended Law first.moves second.moves (lawful h) (trimmed.lawful (kept.ties h));
+      accounted = accounts_then m first next accounted trimmed.accounted;
+    }
+
 pub trimmed_then : (Law : Move → Type 0) (m : Machine) (first : Effect) (next : Machine → Effect) → Trimmed Law m first →
     Trimmed Law first.machine (next first.machine) → Trimmed Law m (then_do first next)
 trimmed_then Law m first next one two =
-    let second : Effect = next first.machine in
-    record {
-      ordered = two.ordered;
-      settings = two.settings ∙ one.settings;
-      now = two.now ∙ one.now;
-      counted = subst (λ s. counted_in second.machine ≤ s.hard) one.settings two.counted;
-      late = omega (arith, one.late, two.late);
-      classes = λ h. two.classes (one.classes h);
-      ties = λ h. two.ties (one.ties h);
-      lawful = λ h. all-appended Law first.moves second.moves (one.lawful h) (two.lawful (one.ties h));
-      accounted = accounts_then m first next one.accounted two.accounted;
-    }
+    let few : counted_in first.machine ≤ counted_in m + m.settings.hard = omega (arith, one.counted) in
+    keeps_then_trimmed m.settings.hard Law m first next (assumption) one.lawful one.accounted two
 
 -- one more may be counted, and is trimmed
 pub raised_then_trimmed : (Law : Move → Type 0) (m : Machine) (first : Effect) (next : Machine → Effect) → Keeps 1 m first.machine → Obeys Law m first →
     Trimmed Law first.machine (next first.machine) → Trimmed Law m (then_do first next)
-raised_then_trimmed Law m first next raised obeys trimmed =
-    let second : Effect = next first.machine in
-    record {
-      ordered = trimmed.ordered;
-      settings = trimmed.settings ∙ raised.settings;
-      now = trimmed.now ∙ raised.now;
-      counted = subst (λ s. counted_in second.machine ≤ s.hard) raised.settings trimmed.counted;
-      late = omega (arith, trimmed.late, raised.late);
-      classes = λ h. trimmed.classes (raised.classes h);
-      ties = λ h. trimmed.ties (raised.ties h);
-      lawful = λ h. all-appended Law first.moves second.moves obeys.lawful (trimmed.lawful (raised.ties h));
-      accounted = accounts_then m first next obeys.accounted trimmed.accounted;
-    }
-
--- and so where two parts together raise it
-pub raised_twice_then_trimmed : (Law : Move → Type 0) (m : Machine) (first : Effect) (next last : Machine → Effect) → Keeps 1 m (next first.machine).machine →
-    Obeys Law m first → Obeys Law first.machine (next first.machine) → Trimmed Law (next first.machine).machine (last (next first.machine).machine) →
-    Trimmed Law m (then_do first (λ n. then_do (next n) last))
-raised_twice_then_trimmed Law m first next last raised one two trimmed =
-    let second : Effect = next first.machine in
-    let third : Effect = last second.machine in
-    record {
-      ordered = trimmed.ordered;
-      settings = trimmed.settings ∙ raised.settings;
-      now = trimmed.now ∙ raised.now;
-      counted = subst (λ s. counted_in third.machine ≤ s.hard) raised.settings trimmed.counted;
-      late = omega (arith, trimmed.late, raised.late);
-      classes = λ h. trimmed.classes (raised.classes h);
-      ties = λ h. trimmed.ties (raised.ties h);
-      lawful = λ h. all-appended Law first.moves (second.moves ++ third.moves) one.lawful
-          (all-appended Law second.moves third.moves two.lawful (trimmed.lawful (raised.ties h)));
-      accounted = accounts_then m first (λ n. then_do (next n) last) one.accounted
-          (accounts_then first.machine second last two.accounted trimmed.accounted);
-    }
+raised_then_trimmed Law m first next raised obeys trimmed = keeps_then_trimmed 1 Law m first next raised (λ ties. obeys.lawful) obeys.accounted trimmed
 
 -- the part as a whole is a move
 pub as_move-trimmed : (Law : Move → Type 0) (happened : Happened) (m : Machine) (effect : Effect) → ended_by happened ≡ [] →
