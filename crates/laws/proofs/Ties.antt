@@ -130,12 +130,12 @@ found-addr a ps p found =
 
 -- a connection changes
 pub turned-ties : (m : Machine) (e new : Entry) (k : ℕ) → IsOrderly m → StandsAt m.connections k e → TurnsInto e new →
-    (is_live e.facts ≡ true → (o : Option Peer) → TiedBy m.now o (Some e) → TiedBy m.now o (live_of new)) → IsTied m → IsTied (with_entry new m)
+    (is_live e.facts ≡ true → (o : Option Peer) → peer_at e.facts.addr m ≡ o → TiedBy m.now o (Some e) → TiedBy m.now o (live_of new)) → IsTied m → IsTied (with_entry new m)
 turned-ties m e new k h s t step ties = by_bool (is_live e.facts) (λ b. IsTied (with_entry new m))
     (λ live.
     tied_but e.facts.addr m (with_entry new m) refl (λ b other. refl) (turned_elsewhere m e new k h s t)
     (subst (λ o. TiedBy m.now (peer_at e.facts.addr m) o) (sym (turned_here m e new k h s t live))
-    (step live (peer_at e.facts.addr m) (subst (λ o. TiedBy m.now (peer_at e.facts.addr m) o) (live_here m e k h s live) (ties e.facts.addr)))) ties)
+    (step live (peer_at e.facts.addr m) refl (subst (λ o. TiedBy m.now (peer_at e.facts.addr m) o) (live_here m e k h s live) (ties e.facts.addr)))) ties)
     (λ dead.
     λ b. subst (λ o. TiedBy m.now (peer_at b m) o) (sym (turned_dead m e new k h s t dead b)) (ties b))
 

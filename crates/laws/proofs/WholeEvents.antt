@@ -24,7 +24,7 @@ use Rattle.laws.proofs.Settings.{timewait-positive}
 use Rattle.laws.proofs.Shapes.{accepted-shaped, expired-shaped, closing-shaped}
 use Rattle.laws.proofs.Streams.{bytes_come_in-trimmed}
 use Rattle.laws.proofs.Trims.{Trimmed}
-use Rattle.laws.proofs.WholeMoves.{ending-keeps, overwritten-keeps, vanishes-keeps, connects-keeps, stands-shaped, alike-ties, stands-owing}
+use Rattle.laws.proofs.WholeMoves.{ending-keeps, overwritten-keeps, vanishes-keeps, connects-keeps, stands-shaped, alike-keeps, stands-owing}
 use Rattle.laws.proofs.Cases.{by_bool, by_option}
 use Rattle.laws.proofs.Connects.{connects-cases, dialed-cases, closes-cases}
 
@@ -115,11 +115,8 @@ expires-keeps m e k h s local =
     let new : Entry = record e { facts = expired e.facts } in
     let same : counted_of new ≡ counted_of e = ap (λ b. cond b 1 0) (counted-expired e.facts local) in
     let late = late-expired m.now e in
-    let turns : TurnsInto e new = record { same_id = refl; same_addr = refl; live = λ l. l } in
-    moves-keeps 0 m (with_entry new m)
-    (turns-moves 0 m e new k h s turns (expired-shaped e.facts (stands-shaped m e k h s) local)
-    (alike-owing e new refl refl refl (stands-owing m e k h s)) (omega arith) (omega (arith, late)))
-    (alike-ties m e new k h s turns (record { local = refl; pending = refl; live = refl; asked = λ asked. asked }))
+    alike-keeps 0 m e new k h s (record { same_id = refl; same_addr = refl; live = λ l. l }) (record { local = refl; pending = refl; live = refl; asked = λ asked. asked })
+    (expired-shaped e.facts (stands-shaped m e k h s) local) (alike-owing e new refl refl refl (stands-owing m e k h s)) (omega arith) (omega (arith, late))
 
 closes_entry-keeps : (m : Machine) (e : Entry) (k : ℕ) → IsOrdered m → StandsAt m.connections k e → e.facts.local ≡ false →
     Keeps 0 m (entry_turns e (closing_entry m e) m).machine
@@ -131,7 +128,7 @@ closes_entry-keeps m e k h s idle =
     moves-keeps 0 m (with_entry (closing_entry m e) m)
     (turns-moves 0 m e (closing_entry m e) k h s turns (closing-shaped until e.facts)
     (nothing-owing (closing_entry m e) ((stands-owing m e k h s).used idle)) (omega arith) (omega (arith, late)))
-    (turned-ties m e (closing_entry m e) k h.orderly s turns (λ live o tie. by_option o (λ o. TiedBy m.now o (Some e) → TiedBy m.now o None)
+    (turned-ties m e (closing_entry m e) k h.orderly s turns (λ live o is tie. by_option o (λ o. TiedBy m.now o (Some e) → TiedBy m.now o None)
     (λ is tie. tt) (λ p is tie. tie.established ∙ idle) tie))
 
 grace_over-keeps : (m : Machine) (e : Entry) (k : ℕ) → IsOrdered m → StandsAt m.connections k e → Keeps 0 m (grace_over e m).machine

@@ -1,27 +1,33 @@
 -- The moves of connections in the whole machine: what each keeps, and by how much it may raise the counted ones.
 use Rattle.std.proofs.Common.{ℕ, ◌+◌, ◌%◌, ◌≤◌, ◌≡◌, Bool, true, false, ◌&&◌, ◌||◌, nat_le, ◌==◌, if◌then◌else◌, count_by, Option, Some, None, is_some, subst, refl, sym, ap, ◌∙◌, arith}
 use Rattle.laws.proofs.Words.{cond_both, both_ways, and_parts, and_from, false≢true, false_from_ne_true, and_right}
-use Rattle.laws.specs.Words.{CloseCause, Overwritten, Agreed, Cid, Facts, Undecoded, Grace, Off, ForRemote, ForLocal, Phase, Dialing, Greeting, Negotiated, Closing, Peer, Warm, Settings, Version, AreSound, settings_tests, failed_peer, connected, agreed_inbound, agreed_outbound, acquired, released, awakened, idled, agreed_sharing, is_pending, opening_phase, is_negotiated, is_negotiated_phase, is_dialing, is_dialing_phase, is_greeting, is_greeting_phase, live_phase, is_outbound, is_for_remote, some_runs, is_acquirable, is_live, Machine, Entry, live_entry_at, nothing_more, peer_at, peer_fails, peer_succeeds, reply_on, owing, paid, is_owed_on, with_entry, without_entry, is_missed, lost, lost_by, ending, vanishes, is_used, is_agreed_inbound, is_agreed_outbound, acquire, idle, grace_deadlines}
+use Rattle.laws.specs.Words.{CloseCause, Overwritten, Agreed, Cid, Facts, Undecoded, Grace, Off, ForRemote, ForLocal, Phase, Dialing, Greeting, Negotiated, Closing, Peer, Warm, Version, settings_tests, failed_peer, connected, agreed_inbound, agreed_outbound, acquired, released, awakened, idled, agreed_sharing, is_pending, opening_phase, is_negotiated, is_negotiated_phase, is_dialing, is_dialing_phase, is_greeting, is_greeting_phase, live_phase, is_outbound, is_for_remote, some_runs, is_acquirable, is_live, Machine, Entry, live_entry_at, nothing_more, peer_at, peer_fails, peer_succeeds, reply_on, owing, paid, is_owed_on, with_entry, without_entry, is_missed, lost, lost_by, ending, vanishes, is_used, is_agreed_inbound, is_agreed_outbound, acquire, idle, grace_deadlines}
 use Rattle.laws.specs.AtMoves.{IsReady}
 use Rattle.laws.specs.Steady.{IsShaped, IsUnused, AreTied, TiedBy, IsTied, IsOwing, IsOrdered}
-use Rattle.laws.proofs.Counts.{counted_of, one_if_counted, is_late, grace_late_of}
+use Rattle.laws.proofs.Counts.{counted_of, late_of, one_if_counted, is_late, grace_late_of}
 use Rattle.laws.proofs.Effects.{at_most_one, one_if-counted, one_if-not_counted, counted-connected, counted-greeting, counted-agreed_outbound, fewer-acquired, counted-running, phase_late_of, owed_late, late-fewer, ahead, phase-ahead, remote-ahead, local-ahead, owing-fewer, paid-fewer}
 use Rattle.laws.proofs.Entries.{TurnsInto}
 use Rattle.laws.proofs.Keeping.{Moves, Keeps, moves_nothing, moves_then, moves-keeps, turns-moves, goes-moves, changes-moves}
 use Rattle.laws.proofs.Lists.{StandsAt, All-stands}
 use Rattle.laws.proofs.Owing.{OwesNothing, nothing-owing, nothing_owed, alike-owing, paid-owing, owing-owing, with_reply-some, paid-some}
-use Rattle.laws.proofs.Ties.{turned-ties, gone-ties, changed-ties, gone_here, gone_elsewhere, tied_but, turned_here, turned_elsewhere, turned_dead, live_here}
+use Rattle.laws.proofs.Ties.{turned-ties, gone-ties, changed-ties, gone_here, gone_elsewhere, turned_here, turned_elsewhere, live_here}
 use Rattle.laws.proofs.Settings.{first_failing-none, interval-positive, handshake-positive}
 use Rattle.laws.proofs.Shapes.{connected-shaped, agreed_inbound-shaped, agreed_outbound-shaped, acquired-shaped, released-shaped, awakened-shaped, idled-shaped, running-negotiated, greeting-unnegotiated, serves_remote, can_acquire}
 use Rattle.laws.proofs.Cases.{by_bool}
 
 -- ---- intervals
 
-pub idle-positive : (s : Settings) → AreSound s → 1 ≤ s.idle
-idle-positive s h = interval-positive s.idle (first_failing-none (settings_tests s) h 7 (Version, true) (omega arith))
+idle-ahead : (m : Machine) → IsOrdered m → nat_le (m.now + m.settings.idle) m.now ≡ false
+idle-ahead m h = ahead m.now m.settings.idle (interval-positive m.settings.idle (first_failing-none (settings_tests m.settings) h.orderly.settings 7 (Version, true) (omega arith)))
 
-pub reply-positive : (s : Settings) → AreSound s → 1 ≤ s.reply
-reply-positive s h = interval-positive s.reply (first_failing-none (settings_tests s) h 10 (Version, true) (omega arith))
+reply-ahead : (m : Machine) → IsOrdered m → nat_le (m.now + m.settings.reply) m.now ≡ false
+reply-ahead m h = ahead m.now m.settings.reply (interval-positive m.settings.reply (first_failing-none (settings_tests m.settings) h.orderly.settings 10 (Version, true) (omega arith)))
+
+-- a grace that goes on, or one that begins and is not late
+grace-fewer : (now : ℕ) (cid : Cid) (stays : Bool) (grace new : Grace) → count_by (is_late now) (grace_deadlines cid new) ≡ 0 →
+    count_by (is_late now) (grace_deadlines cid (if stays then grace else new)) ≤ count_by (is_late now) (grace_deadlines cid grace)
+grace-fewer now cid true grace new none = omega arith
+grace-fewer now cid false grace new none = omega (arith, none)
 
 -- ---- one connection
 
@@ -126,10 +132,13 @@ alike-tied now (Some p) old new a tie = record {
   asked = λ asked. tie.asked (a.asked asked);
 }
 
-pub alike-ties : (m : Machine) (e new : Entry) (k : ℕ) → IsOrdered m → StandsAt m.connections k e → TurnsInto e new → IsAlike e new →
-    IsTied m → IsTied (with_entry new m)
-alike-ties m e new k h s t a ties = turned-ties m e new k h.orderly s t
-    (λ live o tie. subst (λ b. TiedBy m.now o (if b then Some new else None)) (sym (a.live ∙ live)) (alike-tied m.now o e new a tie)) ties
+-- one that turns into what is as it was for its peer
+pub alike-keeps : (raised : ℕ) (m : Machine) (e new : Entry) (k : ℕ) → IsOrdered m → StandsAt m.connections k e → TurnsInto e new → IsAlike e new →
+    IsShaped new.facts → IsOwing new → counted_of new ≤ counted_of e + raised → late_of m.now new ≤ late_of m.now e → Keeps raised m (with_entry new m)
+alike-keeps raised m e new k h s t a shaped owes more later =
+    moves-keeps raised m (with_entry new m) (turns-moves raised m e new k h s t shaped owes more later)
+    (turned-ties m e new k h.orderly s t
+    (λ live o is tie. subst (λ b. TiedBy m.now o (if b then Some new else None)) (sym (a.live ∙ live)) (alike-tied m.now o e new a tie)))
 
 pub dialing-live : (p : Phase) → is_dialing_phase p ≡ true → live_phase p ≡ true
 dialing-live Dialing h = refl
@@ -160,11 +169,9 @@ connects-keeps m e k h s dials =
     let turns : TurnsInto e new = record { same_id = refl; same_addr = refl; live = λ l. live } in
     let pending : is_pending e.facts ≡ true = and_from (is_outbound e.facts) (opening_phase e.facts.phase) (shape.dialing dials) (dialing-opening e.facts.phase dials) in
     let still : is_pending new.facts ≡ true = and_from (is_outbound e.facts) true (shape.dialing dials) refl in
-    moves-keeps 0 m (with_entry new m)
-    (turns-moves 0 m e new k h s turns (connected-shaped until e.facts shape dials)
-    (alike-owing e new refl refl refl (stands-owing m e k h s)) (omega arith)
-    (late-fewer m.now e new (omega arith) (omega arith) (omega arith)))
-    (alike-ties m e new k h s turns (record { local = refl; pending = still ∙ sym pending; live = sym live; asked = λ asked. asked }))
+    alike-keeps 0 m e new k h s turns (record { local = refl; pending = still ∙ sym pending; live = sym live; asked = λ asked. asked })
+    (connected-shaped until e.facts shape dials) (alike-owing e new refl refl refl (stands-owing m e k h s)) (omega arith)
+    (late-fewer m.now e new (omega arith) (omega arith) (omega arith))
 
 -- the handshake of a peer that connected is done
 pub agrees_inbound-keeps : (agreed : Agreed) (m : Machine) (e : Entry) (k : ℕ) → IsOrdered m → StandsAt m.connections k e →
@@ -175,16 +182,15 @@ agrees_inbound-keeps agreed m e k h s greets inbound =
     let shape : IsShaped e.facts = stands-shaped m e k h s in
     let before : counted_of e ≡ 1 = one_if-counted e.facts (counted-greeting e.facts greets inbound) in
     let after : counted_of new ≤ 1 = at_most_one new.facts in
-    let later : grace_late_of m.now new ≡ 0 = remote-ahead m.now until e.facts.cid (ahead m.now m.settings.idle (idle-positive m.settings h.orderly.settings)) in
+    let later : grace_late_of m.now new ≡ 0 = remote-ahead m.now until e.facts.cid (idle-ahead m h) in
     let live : is_live e.facts ≡ true = greeting-live e.facts.phase greets in
     let turns : TurnsInto e new = record { same_id = refl; same_addr = refl; live = λ l. live } in
     let idle : is_pending e.facts ≡ false = ap (λ b. b && opening_phase e.facts.phase) inbound in
     let still : is_pending new.facts ≡ false = ap (λ b. b && false) inbound in
-    moves-keeps 0 m (with_entry new m)
-    (turns-moves 0 m e new k h s turns (agreed_inbound-shaped agreed until e.facts shape greets inbound)
+    alike-keeps 0 m e new k h s turns (record { local = refl; pending = still ∙ sym idle; live = sym live; asked = λ asked. asked })
+    (agreed_inbound-shaped agreed until e.facts shape greets inbound)
     (nothing-owing new ((stands-owing m e k h s).used (shape.unused (greeting-unnegotiated e.facts.phase greets)).local)) (omega arith)
-    (late-fewer m.now e new (omega arith) (omega arith) (omega arith)))
-    (alike-ties m e new k h s turns (record { local = refl; pending = still ∙ sym idle; live = sym live; asked = λ asked. asked }))
+    (late-fewer m.now e new (omega arith) (omega arith) (omega arith))
 
 -- a connection comes into use, with facts that are in shape and raise nothing
 record Uses (m : Machine) (e : Entry) (f : Facts) : Type 0 where
@@ -205,9 +211,8 @@ used-keeps f m e k h s u =
     let cookie : ℕ = f.cid.0 % 65536 in
     let new : Entry = owing 8 cookie m (record e { facts = f }) in
     let n : Machine = with_entry new m in
-    let later : nat_le (m.now + m.settings.reply) m.now ≡ false = ahead m.now m.settings.reply (reply-positive m.settings h.orderly.settings) in
     let owed : owed_late m.now f.cid new.owed ≤ owed_late m.now f.cid e.owed =
-    owing-fewer m.now f.cid (record { protocol = 8; until = m.now + m.settings.reply; asked = cookie }) e.owed later in
+    owing-fewer m.now f.cid (record { protocol = 8; until = m.now + m.settings.reply; asked = cookie }) e.owed (reply-ahead m h) in
     let same : owed_late m.now f.cid e.owed ≡ owed_late m.now e.facts.cid e.owed = ap (λ c. owed_late m.now c e.owed) u.cid in
     let fewer = u.fewer in
     let turns : TurnsInto e new = record { same_id = u.cid; same_addr = u.addr; live = λ l. u.was_live } in
@@ -223,13 +228,10 @@ used-keeps f m e k h s u =
     (moves-keeps 0 m (peer_succeeds e.facts.addr n).machine
     (moves_then 0 0 m n (peer_succeeds e.facts.addr n).machine turned (changes-moves e.facts.addr warm n (λ p. refl) (λ p ordinary. ordinary) turned.ordered))
     (changed-ties e.facts.addr warm m n (λ p. refl) refl refl (turned_elsewhere m e new k h.orderly s turns)
-    (λ none alone. nobody (u.ready None none (subst (λ o. TiedBy m.now None o) was alone)))
+    (λ none alone. absurd (u.ready None none (subst (λ o. TiedBy m.now None o) was alone)))
     (λ p found tie. subst (λ o. TiedBy m.now (Some (warm p)) o) (sym here)
     (in_use new p u.local (u.ready (Some p) found (subst (λ o. TiedBy m.now (Some p) o) was tie))))))
   where
-    nobody : {Z : Type 0} → ⊥ → Z
-    nobody never = elim never [ ]
-
     in_use : (new : Entry) (p : Peer) → new.facts.local ≡ true → p.not_before ≤ m.now → AreTied m.now (record p { temp = Warm; failures = 0 }) new
     in_use new p local ready = record { established = sym local; in_use = λ l. ready; on_its_way = λ w. ready; asked = λ a. refl }
 
@@ -253,11 +255,6 @@ acquire-keeps m e k h s may ready =
       ready = λ o is tie. subst (IsReady m.now) is ready;
     })
 
-outbound_grace-late : (now until : ℕ) (cid : Cid) (uni : Bool) → nat_le until now ≡ false →
-    count_by (is_late now) (grace_deadlines cid (if uni then Off else ForRemote until)) ≡ 0
-outbound_grace-late now until cid true later = refl
-outbound_grace-late now until cid false later = remote-ahead now until cid later
-
 pub greeting-opening : (p : Phase) → is_greeting_phase p ≡ true → opening_phase p ≡ true
 greeting-opening (Greeting until) h = refl
 greeting-opening other h = absurd (false≢true h)
@@ -271,8 +268,8 @@ agrees_outbound-keeps agreed m e k h s greets outbound =
     let shape : IsShaped e.facts = stands-shaped m e k h s in
     let unused : IsUnused e.facts = shape.unused (greeting-unnegotiated e.facts.phase greets) in
     let none : one_if_counted f ≡ 0 = one_if-not_counted f (counted-agreed_outbound agreed until e.facts outbound unused.running) in
-    let later : grace_late_of m.now (record e { facts = f }) ≡ 0 =
-    outbound_grace-late m.now until e.facts.cid agreed.initiator_only (ahead m.now m.settings.idle (idle-positive m.settings h.orderly.settings)) in
+    let later : grace_late_of m.now (record e { facts = f }) ≤ 0 =
+    grace-fewer m.now e.facts.cid agreed.initiator_only Off (ForRemote until) (remote-ahead m.now until e.facts.cid (idle-ahead m h)) in
     let live : is_live e.facts ≡ true = greeting-live e.facts.phase greets in
     let pending : is_pending e.facts ≡ true = and_from (is_outbound e.facts) (opening_phase e.facts.phase) outbound (greeting-opening e.facts.phase greets) in
     used-keeps f m e k h s (record {
@@ -300,17 +297,9 @@ pub awakes-keeps : (protocol : ℕ) (m : Machine) (e : Entry) (k : ℕ) → IsOr
 awakes-keeps protocol m e k h s negotiated serves runs =
     let new : Entry = record e { facts = awakened protocol e.facts } in
     let after : counted_of new ≤ 1 = at_most_one new.facts in
-    moves-keeps 1 m (with_entry new m)
-    (turns-moves 1 m e new k h s (record { same_id = refl; same_addr = refl; live = λ l. l })
-    (awakened-shaped protocol e.facts (stands-shaped m e k h s) negotiated serves runs)
-    (alike-owing e new refl refl refl (stands-owing m e k h s)) (omega arith)
-    (late-fewer m.now e new (omega arith) (omega arith) (omega arith)))
-    (alike-ties m e new k h s (record { same_id = refl; same_addr = refl; live = λ l. l }) (record { local = refl; pending = refl; live = refl; asked = λ asked. asked }))
-
-idled_grace-late : (now until : ℕ) (cid : Cid) (still : Bool) (grace : Grace) → nat_le until now ≡ false →
-    count_by (is_late now) (grace_deadlines cid (if still then grace else ForRemote until)) ≤ count_by (is_late now) (grace_deadlines cid grace)
-idled_grace-late now until cid true grace later = omega arith
-idled_grace-late now until cid false grace later = let none = remote-ahead now until cid later in omega (arith, none)
+    alike-keeps 1 m e new k h s (record { same_id = refl; same_addr = refl; live = λ l. l }) (record { local = refl; pending = refl; live = refl; asked = λ asked. asked })
+    (awakened-shaped protocol e.facts (stands-shaped m e k h s) negotiated serves runs) (alike-owing e new refl refl refl (stands-owing m e k h s)) (omega arith)
+    (late-fewer m.now e new (omega arith) (omega arith) (omega arith))
 
 -- a responder stops, while one runs
 pub idles-keeps : (protocol : ℕ) (m : Machine) (e : Entry) (k : ℕ) → IsOrdered m → StandsAt m.connections k e →
@@ -322,17 +311,10 @@ idles-keeps protocol m e k h s runs =
     let before : counted_of e ≡ 1 = one_if-counted e.facts (counted-running e.facts (running-negotiated e.facts shape runs) runs) in
     let after : counted_of new ≤ 1 = at_most_one new.facts in
     let grace : grace_late_of m.now new ≤ grace_late_of m.now e =
-    idled_grace-late m.now until e.facts.cid (some_runs new.facts.running) e.facts.grace (ahead m.now m.settings.idle (idle-positive m.settings h.orderly.settings)) in
-    moves-keeps 0 m (with_entry new m)
-    (turns-moves 0 m e new k h s (record { same_id = refl; same_addr = refl; live = λ l. l })
+    grace-fewer m.now e.facts.cid (some_runs new.facts.running) e.facts.grace (ForRemote until) (remote-ahead m.now until e.facts.cid (idle-ahead m h)) in
+    alike-keeps 0 m e new k h s (record { same_id = refl; same_addr = refl; live = λ l. l }) (record { local = refl; pending = refl; live = refl; asked = λ asked. asked })
     (idled-shaped protocol until e.facts shape runs) (alike-owing e new refl refl refl (stands-owing m e k h s)) (omega arith)
-    (late-fewer m.now e new (omega arith) grace (omega arith)))
-    (alike-ties m e new k h s (record { same_id = refl; same_addr = refl; live = λ l. l }) (record { local = refl; pending = refl; live = refl; asked = λ asked. asked }))
-
-released_grace-late : (now until : ℕ) (cid : Cid) (stays : Bool) (grace : Grace) → nat_le until now ≡ false →
-    count_by (is_late now) (grace_deadlines cid (if stays then grace else ForLocal until)) ≤ count_by (is_late now) (grace_deadlines cid grace)
-released_grace-late now until cid true grace later = omega arith
-released_grace-late now until cid false grace later = let none = local-ahead now until cid later in omega (arith, none)
+    (late-fewer m.now e new (omega arith) grace (omega arith))
 
 -- this node gives a connection out of its use, where nothing is owed: one more may be counted
 pub releases-moves : (m : Machine) (e : Entry) (k : ℕ) → IsOrdered m → StandsAt m.connections k e → e.facts.local ≡ true → OwesNothing e →
@@ -342,7 +324,8 @@ releases-moves m e k h s local owes =
     let new : Entry = record e { facts = released until e.facts } in
     let after : counted_of new ≤ 1 = at_most_one new.facts in
     let grace : grace_late_of m.now new ≤ grace_late_of m.now e =
-    released_grace-late m.now until e.facts.cid (some_runs e.facts.running || is_for_remote e.facts.grace) e.facts.grace (ahead m.now m.settings.idle (idle-positive m.settings h.orderly.settings)) in
+    grace-fewer m.now e.facts.cid (some_runs e.facts.running || is_for_remote e.facts.grace) e.facts.grace (ForLocal until)
+    (local-ahead m.now until e.facts.cid (idle-ahead m h)) in
     turns-moves 1 m e new k h s (record { same_id = refl; same_addr = refl; live = λ l. l })
     (released-shaped until e.facts (stands-shaped m e k h s) local)
     (nothing-owing new (nothing_owed e (stands-owing m e k h s) owes)) (omega arith)
@@ -352,12 +335,10 @@ releases-moves m e k h s local owes =
 pub pays-keeps : (protocol : ℕ) (m : Machine) (e : Entry) (k : ℕ) → IsOrdered m → StandsAt m.connections k e →
     Keeps 0 m (with_entry (paid protocol e) m)
 pays-keeps protocol m e k h s =
-    moves-keeps 0 m (with_entry (paid protocol e) m)
-    (turns-moves 0 m e (paid protocol e) k h s (record { same_id = refl; same_addr = refl; live = λ l. l })
+    alike-keeps 0 m e (paid protocol e) k h s (record { same_id = refl; same_addr = refl; live = λ l. l })
+    (record { local = refl; pending = refl; live = refl; asked = paid-some (λ o. o.protocol == 2) protocol e.owed })
     (stands-shaped m e k h s) (paid-owing protocol e (stands-owing m e k h s)) (omega arith)
-    (late-fewer m.now e (paid protocol e) (omega arith) (omega arith) (paid-fewer m.now protocol e.facts.cid e.owed)))
-    (alike-ties m e (paid protocol e) k h s (record { same_id = refl; same_addr = refl; live = λ l. l })
-    (record { local = refl; pending = refl; live = refl; asked = paid-some (λ o. o.protocol == 2) protocol e.owed }))
+    (late-fewer m.now e (paid protocol e) (omega arith) (omega arith) (paid-fewer m.now protocol e.facts.cid e.owed))
 
 -- what may be asked on a protocol, and where
 pub record MayOwe (protocol : ℕ) (e : Entry) : Type 0 where
@@ -366,27 +347,32 @@ pub record MayOwe (protocol : ℕ) (e : Entry) : Type 0 where
   pub sharing : (protocol == 10) ≡ true → agreed_sharing e.facts.agreed ≡ true
 
 -- a reply comes to be owed
-pub owes-moves : (protocol asked : ℕ) (m : Machine) (e : Entry) (k : ℕ) → IsOrdered m → StandsAt m.connections k e → MayOwe protocol e →
+owes-moves : (protocol asked : ℕ) (m : Machine) (e : Entry) (k : ℕ) → IsOrdered m → StandsAt m.connections k e → MayOwe protocol e →
     Moves 0 m (with_entry (owing protocol asked m e) m)
 owes-moves protocol asked m e k h s may =
-    let later : nat_le (m.now + m.settings.reply) m.now ≡ false = ahead m.now m.settings.reply (reply-positive m.settings h.orderly.settings) in
     turns-moves 0 m e (owing protocol asked m e) k h s (record { same_id = refl; same_addr = refl; live = λ l. l })
     (stands-shaped m e k h s) (owing-owing protocol asked m e may.known may.local may.sharing (stands-owing m e k h s)) (omega arith)
     (late-fewer m.now e (owing protocol asked m e) (omega arith) (omega arith)
-    (owing-fewer m.now e.facts.cid (record { protocol = protocol; until = m.now + m.settings.reply; asked = asked }) e.owed later))
+    (owing-fewer m.now e.facts.cid (record { protocol = protocol; until = m.now + m.settings.reply; asked = asked }) e.owed (reply-ahead m h)))
+
+-- where that leaves its peer tied to it
+owed-keeps : (protocol asked : ℕ) (m : Machine) (e : Entry) (k : ℕ) → IsOrdered m → StandsAt m.connections k e → MayOwe protocol e →
+    ((o : Option Peer) → peer_at e.facts.addr m ≡ o → TiedBy m.now o (Some e) → TiedBy m.now o (Some (owing protocol asked m e))) →
+    Keeps 0 m (with_entry (owing protocol asked m e) m)
+owed-keeps protocol asked m e k h s may tied =
+    moves-keeps 0 m (with_entry (owing protocol asked m e) m) (owes-moves protocol asked m e k h s may)
+    (turned-ties m e (owing protocol asked m e) k h.orderly s (record { same_id = refl; same_addr = refl; live = λ l. l }) (λ live o is tie. rw live (tied o is tie)))
 
 -- but on chain-sync
 pub owes-keeps : (protocol asked : ℕ) (m : Machine) (e : Entry) (k : ℕ) → IsOrdered m → StandsAt m.connections k e → MayOwe protocol e → (protocol == 2) ≡ false →
     Keeps 0 m (with_entry (owing protocol asked m e) m)
-owes-keeps protocol asked m e k h s may other =
-    moves-keeps 0 m (with_entry (owing protocol asked m e) m) (owes-moves protocol asked m e k h s may)
-    (alike-ties m e (owing protocol asked m e) k h s (record { same_id = refl; same_addr = refl; live = λ l. l })
-    (record {
+owes-keeps protocol asked m e k h s may other = owed-keeps protocol asked m e k h s may
+    (λ o is tie. alike-tied m.now o e (owing protocol asked m e) (record {
       local = refl;
       pending = refl;
       live = refl;
       asked = with_reply-some (λ o. o.protocol == 2) (record { protocol = protocol; until = m.now + m.settings.reply; asked = asked }) e.owed other;
-    }))
+    }) tie)
 
 -- On chain-sync only a peer that is warm is asked.
 abbrev pub IsWarm : Option Peer → Type 0
@@ -396,39 +382,18 @@ IsWarm (Some p) = p.temp ≡ Warm
 pub asks_warm-keeps : (asked : ℕ) (m : Machine) (e : Entry) (k : ℕ) → IsOrdered m → StandsAt m.connections k e → e.facts.local ≡ true →
     IsWarm (peer_at e.facts.addr m) → Keeps 0 m (with_entry (owing 2 asked m e) m)
 asks_warm-keeps asked m e k h s local warm =
-    let new : Entry = owing 2 asked m e in
-    let n : Machine = with_entry new m in
-    let turns : TurnsInto e new = record { same_id = refl; same_addr = refl; live = λ l. l } in
-    moves-keeps 0 m n (owes-moves 2 asked m e k h s (record { known = refl; local = local; sharing = λ on_10. absurd (false≢true on_10) }))
-    (λ ties. by_live turns (is_live e.facts) refl ties)
+    owed-keeps 2 asked m e k h s (record { known = refl; local = local; sharing = λ on_10. absurd (false≢true on_10) })
+    (λ o is tie. by_peer o (subst IsWarm is warm) tie)
   where
-    step : (new : Entry) → new.facts ≡ e.facts → (o : Option Peer) → IsWarm o → TiedBy m.now o (Some e) → TiedBy m.now o (Some new)
-    step new same None warm tie = elim warm [ ]
-    step new same (Some p) warm tie = record {
-      established = tie.established ∙ ap (λ f. f.local) (sym same);
-      in_use = λ local. tie.in_use (ap (λ f. f.local) (sym same) ∙ local);
-      on_its_way = λ pending. tie.on_its_way (ap is_pending (sym same) ∙ pending);
-      asked = λ a. warm;
-    }
-
-    by_live : TurnsInto e (owing 2 asked m e) → (b : Bool) → is_live e.facts ≡ b → IsTied m → IsTied (with_entry (owing 2 asked m e) m)
-    by_live turns true live ties =
-        let new : Entry = owing 2 asked m e in
-        let n : Machine = with_entry new m in
-        tied_but e.facts.addr m n refl (λ b other. refl) (turned_elsewhere m e new k h.orderly s turns)
-        (subst (λ o. TiedBy m.now (peer_at e.facts.addr m) o)
-        (sym (turned_here m e new k h.orderly s turns live ∙ ap (λ b. if b then Some new else None) live))
-        (step new refl (peer_at e.facts.addr m) warm
-        (subst (λ o. TiedBy m.now (peer_at e.facts.addr m) o) (live_here m e k h.orderly s live) (ties e.facts.addr)))) ties
-    by_live turns false dead ties = λ b. subst (λ o. TiedBy m.now (peer_at b m) o) (sym (turned_dead m e (owing 2 asked m e) k h.orderly s turns dead b)) (ties b)
+    by_peer : (o : Option Peer) → IsWarm o → TiedBy m.now o (Some e) → TiedBy m.now o (Some (owing 2 asked m e))
+    by_peer None warm tie = elim warm [ ]
+    by_peer (Some p) warm tie = record { established = tie.established; in_use = tie.in_use; on_its_way = tie.on_its_way; asked = λ a. warm }
 
 -- what is not decoded is no matter of the counts
 pub decodes-keeps : (undecoded : Undecoded) (m : Machine) (e : Entry) (k : ℕ) → IsOrdered m → StandsAt m.connections k e →
     Keeps 0 m (with_entry (record e { undecoded = undecoded }) m)
 decodes-keeps undecoded m e k h s =
-    moves-keeps 0 m (with_entry (record e { undecoded = undecoded }) m)
-    (turns-moves 0 m e (record e { undecoded = undecoded }) k h s (record { same_id = refl; same_addr = refl; live = λ l. l })
-    (stands-shaped m e k h s) (alike-owing e (record e { undecoded = undecoded }) refl refl refl (stands-owing m e k h s)) (omega arith)
-    (late-fewer m.now e (record e { undecoded = undecoded }) (omega arith) (omega arith) (omega arith)))
-    (alike-ties m e (record e { undecoded = undecoded }) k h s (record { same_id = refl; same_addr = refl; live = λ l. l })
-    (record { local = refl; pending = refl; live = refl; asked = λ asked. asked }))
+    let new : Entry = record e { undecoded = undecoded } in
+    alike-keeps 0 m e new k h s (record { same_id = refl; same_addr = refl; live = λ l. l }) (record { local = refl; pending = refl; live = refl; asked = λ asked. asked })
+    (stands-shaped m e k h s) (alike-owing e new refl refl refl (stands-owing m e k h s)) (omega arith)
+    (late-fewer m.now e new (omega arith) (omega arith) (omega arith))
