@@ -139,7 +139,7 @@ asked-answer seen item e m given stands =
     now : first.machine.now ≡ m.now
     now =
         let everything : Scope = on_those (λ cid. true) in
-        (begins-walk everything (Waited everything) (waits-kept everything) item.id e m (found-stands everything e.facts.cid.0 m e stands refl)).now
+        (begins-walk everything (Waited everything) (waits-kept everything) item.id e m (found-stands everything e.facts.cid.0 m e stands refl)).unset.now
 
     begun-there : (o : Option Entry) → IsAsItWas (Some (begun item.id e)) o → WhereThere o (λ f. f.facts.addr ≡ e.facts.addr)
     begun-there None becomes = tt

@@ -100,7 +100,7 @@ abbrev everybody : Scope
 everybody = on_those (λ cid. true)
 
 then-becomes : (o : Option Entry) (cid : ℕ) (m n : Machine) → cid < m.next_id → Becomes o cid m → Waits nobody m n → Becomes o cid n
-then-becomes o cid m n given h w = was_then o (entry_at cid m) (entry_at cid n) h (w.others cid refl given)
+then-becomes o cid m n given h w = was_then o (entry_at cid m) (entry_at cid n) h ((w.each cid).others refl given)
 
 -- ---- a deadline
 
@@ -209,7 +209,7 @@ asked-becomes (Ok seen) protocol e m given is =
     same : n.now + n.settings.idle ≡ until
     same =
         let w = begins-walk everybody (Waited everybody) (waits-kept everybody) protocol e m (found-stands everybody e.facts.cid.0 m e is refl) in
-        ap (λ t. t + n.settings.idle) w.now ∙ ap (λ s. m.now + s.idle) w.settings
+        ap (λ t. t + n.settings.idle) w.unset.now ∙ ap (λ s. m.now + s.idle) w.unset.settings
 
 answered-becomes : (o : Option Owed) (item : Item) (e : Entry) (m : Machine) → e.facts.cid.0 < m.next_id → Becomes (Some (paid item.id e)) e.facts.cid.0 (answered_as o item e m).machine
 answered-becomes None item e m given = ending-becomes (Some (paid item.id e)) (Fault Protocol) e m
@@ -252,7 +252,7 @@ other-becomes : (test : Entry → Bool) (m n : Machine) (e g : Entry) → IsOrde
     Waits (alone g) m n → Becomes (Some e) e.facts.cid.0 n
 other-becomes test m n e g h is at fails passes w =
     was_then (Some e) (entry_at e.facts.cid.0 m) (entry_at e.facts.cid.0 n) (stands-becomes e m is)
-    (w.others e.facts.cid.0 (false_from_ne_true (g.facts.cid.0 == e.facts.cid.0) apart) (given_id m e h is))
+    ((w.each e.facts.cid.0).others (false_from_ne_true (g.facts.cid.0 == e.facts.cid.0) apart) (given_id m e h is))
   where
     apart : (g.facts.cid.0 == e.facts.cid.0) ≡ true → ⊥
     apart same =

@@ -1,7 +1,8 @@
 -- How long is waited, and what is left as it was, through each change of a connection.
 use Rattle.std.proofs.Common.{ℕ, ◌+◌, ◌<◌, ◌≤◌, ◌≡◌, ◌⊎◌, Bool, true, false, cond, not, ◌==◌, nat_lt, if◌then◌else◌, List, [], ◌∷◌, ◌++◌, map, filter, find, Option, Some, None, refl, sym, ap, ◌∙◌, subst, inl, inr, arith, eqb-true, eq-eqb, ne_eqb}
 use Rattle.laws.proofs.Words.{find-append, both_ways}
-use Rattle.laws.specs.Words.{option_map, option_or, has_id, nothing_undecoded, Kind, with_entry, without_entry, Effect, then_do, Machine, Entry, Owed, entry_at, reply_on, owing, paid}
+use Rattle.laws.specs.Words.{option_map, option_or, has_id, nothing_undecoded, Peer, Kind, with_entry, without_entry, Machine, Entry, Owed, entry_at, reply_on, owing, paid}
+use Rattle.laws.specs.CarriedOut.{IsUnset}
 use Rattle.laws.specs.Untouched.{IsAsItWas, KeepsBytes}
 use Rattle.laws.specs.Waits.{until_paid, until_of, until_in, until_at, length_of, IsWait}
 use Rattle.laws.proofs.Walk.{Scope}
@@ -48,60 +49,57 @@ bytes_then drops (Some e) (Some g) (Some f) one two = elim two [
 
 -- ---- a part of a step
 
+-- how long one connection waits, and what of it is left as it was
+pub record GoesOn (scope : Scope) (m : Machine) (cid : ℕ) (before after : Option Entry) : Type 0 where
+  pub waits : (kind : Kind) → IsWait (m.now + length_of kind m.settings) (until_in kind before) (until_in kind after)
+  pub others : scope.own cid ≡ false → cid < m.next_id → IsAsItWas before after
+  pub bytes : scope.comes cid ≡ false → cid < m.next_id → KeepsBytes scope.drops before after
+
+on_same : (scope : Scope) (m : Machine) (cid : ℕ) (o : Option Entry) → GoesOn scope m cid o o
+on_same scope m cid o = record {
+  waits = λ kind. kept (m.now + length_of kind m.settings) (until_in kind o);
+  others = λ own given. was_same o;
+  bytes = λ none given. bytes_same scope.drops o;
+}
+
 -- where nothing is set
 pub record Waits (scope : Scope) (before after : Machine) : Type 0 where
-  pub now : after.now ≡ before.now
-  pub settings : after.settings ≡ before.settings
-  pub targets : after.targets ≡ before.targets
-  pub big_targets : after.big_targets ≡ before.big_targets
-  pub groups : after.groups ≡ before.groups
-  pub roots : after.roots ≡ before.roots
-  pub each : (kind : Kind) (cid : ℕ) → IsWait (before.now + length_of kind before.settings) (until_at kind cid before) (until_at kind cid after)
+  pub unset : IsUnset before after
   pub next : before.next_id ≤ after.next_id
-  pub others : (cid : ℕ) → scope.own cid ≡ false → cid < before.next_id → IsAsItWas (entry_at cid before) (entry_at cid after)
-  pub bytes : (cid : ℕ) → scope.comes cid ≡ false → cid < before.next_id → KeepsBytes scope.drops (entry_at cid before) (entry_at cid after)
+  pub each : (cid : ℕ) → GoesOn scope before cid (entry_at cid before) (entry_at cid after)
 
 pub waits_then : (scope : Scope) (m n o : Machine) → Waits scope m n → Waits scope n o → Waits scope m o
 waits_then scope m n o one two = record {
-  now = two.now ∙ one.now;
-  settings = two.settings ∙ one.settings;
-  targets = two.targets ∙ one.targets;
-  big_targets = two.big_targets ∙ one.big_targets;
-  groups = two.groups ∙ one.groups;
-  roots = two.roots ∙ one.roots;
-  each = λ kind cid. wait_then (m.now + length_of kind m.settings) (until_at kind cid m) (until_at kind cid n) (until_at kind cid o) (one.each kind cid)
-      (subst (λ s. IsWait (m.now + length_of kind s) (until_at kind cid n) (until_at kind cid o)) one.settings
-      (subst (λ t. IsWait (t + length_of kind n.settings) (until_at kind cid n) (until_at kind cid o)) one.now (two.each kind cid)));
+  unset = record {
+    now = two.unset.now ∙ one.unset.now;
+    settings = two.unset.settings ∙ one.unset.settings;
+    targets = two.unset.targets ∙ one.unset.targets;
+    big_targets = two.unset.big_targets ∙ one.unset.big_targets;
+    groups = two.unset.groups ∙ one.unset.groups;
+    roots = two.unset.roots ∙ one.unset.roots;
+  };
   next = omega (arith, one.next, two.next);
-  others = λ cid own given. was_then (entry_at cid m) (entry_at cid n) (entry_at cid o) (one.others cid own given)
-      (two.others cid own (omega (arith, given, one.next)));
-  bytes = λ cid none given. bytes_then scope.drops (entry_at cid m) (entry_at cid n) (entry_at cid o) (one.bytes cid none given)
-      (two.bytes cid none (omega (arith, given, one.next)));
+  each = λ cid. record {
+    waits = λ kind. wait_then (m.now + length_of kind m.settings) (until_at kind cid m) (until_at kind cid n) (until_at kind cid o) ((one.each cid).waits kind)
+        (subst (λ s. IsWait (m.now + length_of kind s) (until_at kind cid n) (until_at kind cid o)) one.unset.settings
+        (subst (λ t. IsWait (t + length_of kind n.settings) (until_at kind cid n) (until_at kind cid o)) one.unset.now ((two.each cid).waits kind)));
+    others = λ own given. was_then (entry_at cid m) (entry_at cid n) (entry_at cid o) ((one.each cid).others own given)
+        ((two.each cid).others own (omega (arith, given, one.next)));
+    bytes = λ none given. bytes_then scope.drops (entry_at cid m) (entry_at cid n) (entry_at cid o) ((one.each cid).bytes none given)
+        ((two.each cid).bytes none (omega (arith, given, one.next)));
+  };
 }
 
-pub waits_both : (scope : Scope) (m : Machine) (first : Effect) (next : Machine → Effect) → Waits scope m first.machine →
-    Waits scope first.machine (next first.machine).machine → Waits scope m (then_do first next).machine
-waits_both scope m first next one two = waits_then scope m first.machine (next first.machine).machine one two
+-- connections and peers may be others
+unchanged : (es : List Entry) (ps : List Peer) (next : ℕ) (m : Machine) → IsUnset m (record m { connections = es; peers = ps; next_id = next })
+unchanged es ps next m = record { now = refl; settings = refl; targets = refl; big_targets = refl; groups = refl; roots = refl }
 
 -- no connection changes
-pub waits_same : (scope : Scope) (m n : Machine) → n.now ≡ m.now → n.settings ≡ m.settings → n.targets ≡ m.targets → n.big_targets ≡ m.big_targets →
-    n.groups ≡ m.groups → n.roots ≡ m.roots → n.connections ≡ m.connections → n.next_id ≡ m.next_id → Waits scope m n
-waits_same scope m n now settings targets big_targets groups roots same next_id = record {
-  now = now;
-  settings = settings;
-  targets = targets;
-  big_targets = big_targets;
-  groups = groups;
-  roots = roots;
-  each = λ kind cid. subst (λ es. IsWait (m.now + length_of kind m.settings) (until_at kind cid m) (until_in kind (find (λ e. has_id cid e.facts) es))) (sym same)
-      (kept (m.now + length_of kind m.settings) (until_at kind cid m));
-  next = omega (arith, next_id);
-  others = λ cid own given. subst (λ es. IsAsItWas (entry_at cid m) (find (λ e. has_id cid e.facts) es)) (sym same) (was_same (entry_at cid m));
-  bytes = λ cid none given. subst (λ es. KeepsBytes scope.drops (entry_at cid m) (find (λ e. has_id cid e.facts) es)) (sym same) (bytes_same scope.drops (entry_at cid m));
-}
+pub waits_peers : (scope : Scope) (ps : List Peer) (m : Machine) → Waits scope m (record m { peers = ps })
+waits_peers scope ps m = record { unset = unchanged m.connections ps m.next_id m; next = omega arith; each = λ cid. on_same scope m cid (entry_at cid m) }
 
 pub waits_nothing : (scope : Scope) (m : Machine) → Waits scope m m
-waits_nothing scope m = waits_same scope m m refl refl refl refl refl refl refl refl
+waits_nothing scope m = waits_peers scope m.peers m
 
 -- ---- a connection that comes, goes or turns
 
@@ -140,42 +138,19 @@ BytesStay drops e new = (new.undecoded ≡ e.undecoded) ⊎ ((drops ≡ true) ×
 pub waits_turned : (scope : Scope) (m : Machine) (e new : Entry) → entry_at e.facts.cid.0 m ≡ Some e → scope.own e.facts.cid.0 ≡ true → new.facts.cid ≡ e.facts.cid →
     TurnsRight m e new → (scope.comes e.facts.cid.0 ≡ false → BytesStay scope.drops e new) → Waits scope m (with_entry new m)
 waits_turned scope m e new found mine same right stay = record {
-  now = refl;
-  settings = refl;
-  targets = refl;
-  big_targets = refl;
-  groups = refl;
-  roots = refl;
-  each = λ kind cid. subst (λ o. IsWait (whole kind) (until_at kind cid m) (until_in kind o)) (sym (replaced cid new m.connections)) (by_id kind cid (has_id cid new.facts) refl);
+  unset = unchanged (with_entry new m).connections m.peers m.next_id m;
   next = omega arith;
-  others = λ cid own given. subst (IsAsItWas (entry_at cid m)) (sym (replaced cid new m.connections)) (other_by_id cid own (has_id cid new.facts) refl);
-  bytes = λ cid none given. subst (KeepsBytes scope.drops (entry_at cid m)) (sym (replaced cid new m.connections)) (bytes_by_id cid none (has_id cid new.facts) refl);
+  each = λ cid. subst (GoesOn scope m cid (entry_at cid m)) (sym (replaced cid new m.connections)) (by_bool (has_id cid new.facts)
+      (λ b. GoesOn scope m cid (entry_at cid m) (if b then option_map (λ x. new) (entry_at cid m) else entry_at cid m))
+      (λ is. by_id cid (ap (λ c. c.0) (sym same) ∙ eqb-true new.facts.cid.0 cid is)) (λ is. on_same scope m cid (entry_at cid m)));
 }
   where
-    whole : Kind → ℕ
-    whole kind = m.now + length_of kind m.settings
-
-    id_is : (cid : ℕ) → has_id cid new.facts ≡ true → e.facts.cid.0 ≡ cid
-    id_is cid is = ap (λ c. c.0) (sym same) ∙ eqb-true new.facts.cid.0 cid is
-
-    by_id : (kind : Kind) (cid : ℕ) (b : Bool) → has_id cid new.facts ≡ b →
-        IsWait (whole kind) (until_at kind cid m) (until_in kind (if b then option_map (λ x. new) (entry_at cid m) else entry_at cid m))
-    by_id kind cid true is =
-        let at : entry_at cid m ≡ Some e = subst (λ c. entry_at c m ≡ Some e) (id_is cid is) found in
-        subst (λ o. IsWait (whole kind) (until_in kind o) (until_in kind (option_map (λ x. new) o))) (sym at) (right kind)
-    by_id kind cid false is = kept (whole kind) (until_at kind cid m)
-
-    other_by_id : (cid : ℕ) → scope.own cid ≡ false → (b : Bool) → has_id cid new.facts ≡ b →
-        IsAsItWas (entry_at cid m) (if b then option_map (λ x. new) (entry_at cid m) else entry_at cid m)
-    other_by_id cid own true is = let never : true ≡ false = sym mine ∙ (ap scope.own (id_is cid is) ∙ own) in absurd cc
-    other_by_id cid own false is = was_same (entry_at cid m)
-
-    bytes_by_id : (cid : ℕ) → scope.comes cid ≡ false → (b : Bool) → has_id cid new.facts ≡ b →
-        KeepsBytes scope.drops (entry_at cid m) (if b then option_map (λ x. new) (entry_at cid m) else entry_at cid m)
-    bytes_by_id cid none true is =
-        let at : entry_at cid m ≡ Some e = subst (λ c. entry_at c m ≡ Some e) (id_is cid is) found in
-        subst (λ o. KeepsBytes scope.drops o (option_map (λ x. new) o)) (sym at) (stay (ap scope.comes (id_is cid is) ∙ none))
-    bytes_by_id cid none false is = bytes_same scope.drops (entry_at cid m)
+    by_id : (cid : ℕ) → e.facts.cid.0 ≡ cid → GoesOn scope m cid (entry_at cid m) (option_map (λ x. new) (entry_at cid m))
+    by_id cid is = subst (λ c. GoesOn scope m c (entry_at c m) (option_map (λ x. new) (entry_at c m))) is (rw found (record {
+      waits = right;
+      others = λ own given. absurd (both_ways (scope.own e.facts.cid.0) own mine);
+      bytes = λ none given. stay none;
+    }))
 
 -- where all that pass one test pass another, or none does
 found-filter : {X : Type 0} (q r : X → Bool) (b : Bool) → ((x : X) → q x ≡ true → r x ≡ b) → (xs : List X) → find q (filter r xs) ≡ (if b then find q xs else None)
@@ -207,68 +182,30 @@ gone-found c cid es =
 
 pub waits_gone : (scope : Scope) (m : Machine) (cid : ℕ) → Waits scope m (without_entry cid m)
 waits_gone scope m cid = record {
-  now = refl;
-  settings = refl;
-  targets = refl;
-  big_targets = refl;
-  groups = refl;
-  roots = refl;
-  each = λ kind c. subst (λ o. IsWait (m.now + length_of kind m.settings) (until_at kind c m) (until_in kind o)) (sym (gone-found c cid m.connections))
-      (by_id kind c (cid == c));
+  unset = unchanged (without_entry cid m).connections m.peers m.next_id m;
   next = omega arith;
-  others = λ c own given. subst (IsAsItWas (entry_at c m)) (sym (gone-found c cid m.connections)) (other_by_id c (cid == c));
-  bytes = λ c none given. subst (KeepsBytes scope.drops (entry_at c m)) (sym (gone-found c cid m.connections)) (bytes_by_id c (cid == c));
+  each = λ c. subst (GoesOn scope m c (entry_at c m)) (sym (gone-found c cid m.connections)) (by_bool (cid == c)
+      (λ b. GoesOn scope m c (entry_at c m) (if b then None else entry_at c m))
+      (λ is. record { waits = λ kind. tt; others = λ own given. tt; bytes = λ none given. tt }) (λ is. on_same scope m c (entry_at c m)));
 }
-  where
-    by_id : (kind : Kind) (c : ℕ) (b : Bool) → IsWait (m.now + length_of kind m.settings) (until_at kind c m) (until_in kind (if b then None else entry_at c m))
-    by_id kind c true = tt
-    by_id kind c false = kept (m.now + length_of kind m.settings) (until_at kind c m)
-
-    other_by_id : (c : ℕ) (b : Bool) → IsAsItWas (entry_at c m) (if b then None else entry_at c m)
-    other_by_id c true = tt
-    other_by_id c false = was_same (entry_at c m)
-
-    bytes_by_id : (c : ℕ) (b : Bool) → KeepsBytes scope.drops (entry_at c m) (if b then None else entry_at c m)
-    bytes_by_id c true = tt
-    bytes_by_id c false = bytes_same scope.drops (entry_at c m)
 
 pub waits_come : (scope : Scope) (m : Machine) (new : Entry) → new.facts.cid.0 ≡ m.next_id →
     ((kind : Kind) → IsWait (m.now + length_of kind m.settings) None (until_of kind new)) →
     Waits scope m (record m { connections = m.connections ++ new ∷ []; next_id = m.next_id + 1 })
 waits_come scope m new id right = record {
-  now = refl;
-  settings = refl;
-  targets = refl;
-  big_targets = refl;
-  groups = refl;
-  roots = refl;
-  each = λ kind c. subst (λ o. IsWait (whole kind) (until_at kind c m) (until_in kind o)) (sym (find-append (λ e. has_id c e.facts) m.connections (new ∷ []))) (by_found kind (entry_at c m) (has_id c new.facts));
+  unset = unchanged (m.connections ++ new ∷ []) m.peers (m.next_id + 1) m;
   next = omega arith;
-  others = λ c own given. subst (IsAsItWas (entry_at c m)) (sym (stays c given)) (was_same (entry_at c m));
-  bytes = λ c none given. subst (KeepsBytes scope.drops (entry_at c m)) (sym (stays c given)) (bytes_same scope.drops (entry_at c m));
+  each = λ c. subst (GoesOn scope m c (entry_at c m)) (sym (find-append (λ e. has_id c e.facts) m.connections (new ∷ []))) (by_found c (entry_at c m) (has_id c new.facts) refl);
 }
   where
-    whole : Kind → ℕ
-    whole kind = m.now + length_of kind m.settings
-
-    by_found : (kind : Kind) (o : Option Entry) (b : Bool) → IsWait (whole kind) (until_in kind o) (until_in kind (option_or o (cond b (Some new) None)))
-    by_found kind None true = right kind
-    by_found kind None false = tt
-    by_found kind (Some e) b = kept (whole kind) (until_of kind e)
-
-    only : (o : Option Entry) → option_or o None ≡ o
-    only None = refl
-    only (Some e) = refl
-
-    is_other : (c : ℕ) (b : Bool) → has_id c new.facts ≡ b → c < m.next_id → b ≡ false
-    is_other c true is given = let same = eqb-true new.facts.cid.0 c is in absurd (omega (arith, same, id, given))
-    is_other c false is given = refl
-
     -- an id that was given before finds what it did
-    stays : (c : ℕ) → c < m.next_id → find (λ e. has_id c e.facts) (m.connections ++ new ∷ []) ≡ entry_at c m
-    stays c given =
-        find-append (λ e. has_id c e.facts) m.connections (new ∷ [])
-        ∙ (ap (λ b. option_or (entry_at c m) (cond b (Some new) None)) (is_other c (has_id c new.facts) refl given) ∙ only (entry_at c m))
+    not_given : (c : ℕ) → has_id c new.facts ≡ true → c < m.next_id → ⊥
+    not_given c is given = let same = eqb-true new.facts.cid.0 c is in omega (arith, same, id, given)
+
+    by_found : (c : ℕ) (o : Option Entry) (b : Bool) → has_id c new.facts ≡ b → GoesOn scope m c o (option_or o (cond b (Some new) None))
+    by_found c (Some e) b is = on_same scope m c (Some e)
+    by_found c None false is = on_same scope m c None
+    by_found c None true is = record { waits = right; others = λ own given. absurd (not_given c is given); bytes = λ none given. absurd (not_given c is given) }
 
 -- ---- what is owed
 

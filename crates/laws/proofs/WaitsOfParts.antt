@@ -11,7 +11,7 @@ use Rattle.laws.specs.Untouched.{may_close, IsAsItWas, KeepsBytes, LeavesRest}
 use Rattle.laws.specs.Waits.{until_of, until_in, until_at, until_unused, length_of, IsWait, WaitsRight}
 use Rattle.laws.proofs.Keeping.{note-machine}
 use Rattle.laws.proofs.RootsAsked.{roots-set}
-use Rattle.laws.proofs.Waits.{Waits, TurnsRight, kept, waits_both, waits_then, waits_same, waits_nothing, waits_turned, waits_gone, waits_come, owing-right, paid-right, was_same, bytes_same}
+use Rattle.laws.proofs.Waits.{Waits, TurnsRight, kept, waits_then, waits_peers, waits_nothing, waits_turned, waits_gone, waits_come, owing-right, paid-right, was_same, bytes_same}
 use Rattle.laws.proofs.Walk.{Scope, Turn, opens, agrees_inbound, agrees_outbound, is_acquired, is_released, awakes, idles, expires, owes, is_paid, turned_by, turned-cid, turned-undecoded, Kept, Finds, scope_of, orderly-finds, orders-walk, walk}
 
 -- ---- whatever a connection turns into waits as it did, or for a whole length
@@ -95,12 +95,12 @@ module _ (scope : Scope) where
 
   pub changed-waits : (o : Option Peer) (change : Peer → Peer) (m : Machine) → Waited m (turns_at o change m)
   changed-waits None change m = waits_nothing scope m
-  changed-waits (Some p) change m = waits_same scope m (turns_at (Some p) change m).machine refl refl refl refl refl refl refl refl
+  changed-waits (Some p) change m = waits_peers scope (turns_at (Some p) change m).machine.peers m
 
   comes-waits : (big : Bool) (addr : Addr) (m : Machine) → Waited m (peer_comes big addr m)
   comes-waits big addr m =
       let n : Machine = record m { peers = entered (new_peer big addr) m.peers } in
-      subst (Waits scope m) (sym (note-machine (entry_of addr m.peers) addr n)) (waits_same scope m n refl refl refl refl refl refl refl refl)
+      subst (Waits scope m) (sym (note-machine (entry_of addr m.peers) addr n)) (waits_peers scope n.peers m)
 
   lost-waits : (f : Facts) (m : Machine) → Waited m (lost f m)
   lost-waits f m = cond_both (is_missed f) (peer_fails f.addr m) (nothing_more m) (Waited m)
@@ -131,7 +131,7 @@ module _ (scope : Scope) where
   pub waits-kept : Kept scope Waited
   waits-kept = record {
     when_nothing = λ m. waits_nothing scope m;
-    when_both = λ m first next one two. waits_both scope m first next one two;
+    when_both = λ m first next one two. waits_then scope m first.machine (next first.machine).machine one two;
     when_moved = λ happened m effect none h. h;
     when_sent = λ cid bytes m may. waits_nothing scope m;
     when_turned = λ turn e m stands. waits_turned scope m e (turned_by turn e m) stands.found stands.own (turned-cid turn e m) (turned-right turn e m)
@@ -147,7 +147,7 @@ module _ (scope : Scope) where
     when_turned_away = λ away m may. waits_nothing scope m;
     when_changed = λ addr change m same. changed-waits (peer_at addr m) change m;
     when_known = λ big addr m. comes-waits big addr m;
-    when_forgotten = λ addr m. waits_same scope m (peer_goes addr m).machine refl refl refl refl refl refl refl refl;
+    when_forgotten = λ addr m. waits_peers scope (peer_goes addr m).machine.peers m;
   }
 
 -- ---- each act
@@ -166,11 +166,8 @@ sets_or_waits other m next found = inr (walk other m (Waited (scope_of other m))
 
 right : (scope : Scope) (m n : Machine) → Waits scope m n → WaitsRight m n
 right scope m n h kind cid =
-    subst (λ s. IsWait (n.now + length_of kind s) (until_at kind cid m) (until_at kind cid n)) (sym h.settings)
-    (subst (λ t. IsWait (t + length_of kind m.settings) (until_at kind cid m) (until_at kind cid n)) (sym h.now) (h.each kind cid))
-
-unset : (scope : Scope) (m n : Machine) → Waits scope m n → IsUnset m n
-unset scope m n h = record { now = h.now; settings = h.settings; targets = h.targets; big_targets = h.big_targets; groups = h.groups; roots = h.roots }
+    subst (λ s. IsWait (n.now + length_of kind s) (until_at kind cid m) (until_at kind cid n)) (sym h.unset.settings)
+    (subst (λ t. IsWait (t + length_of kind m.settings) (until_at kind cid m) (until_at kind cid n)) (sym h.unset.now) ((h.each cid).waits kind))
 
 -- no connection changes where something is set
 set-right : (m n : Machine) → n.connections ≡ m.connections → WaitsRight m n
@@ -190,7 +187,7 @@ leaves-rest act m next found = elim (sets_or_waits act m next found) [
     others = λ cid own given. subst (λ es. IsAsItWas (entry_at cid m) (find (λ e. has_id cid e.facts) es)) (sym same) (was_same (entry_at cid m));
     bytes = λ cid none given. subst (λ es. KeepsBytes (may_close act) (entry_at cid m) (find (λ e. has_id cid e.facts) es)) (sym same) (bytes_same (may_close act) (entry_at cid m));
   }
-  | inr h ↦ record { others = h.others; bytes = h.bytes }
+  | inr h ↦ record { others = λ cid. (h.each cid).others; bytes = λ cid. (h.each cid).bytes }
 ]
 
 -- nothing is set by an order
@@ -200,7 +197,7 @@ order-waits order m h =
     orders-walk scope (Waited scope) (waits-kept scope) order m refl refl (orderly-finds order m h.orderly)
 
 pub order-unset : (order : Order) (m : Machine) → IsOrdered m → IsUnset m (does (carries order) m).machine
-order-unset order m h = unset (scope_of (carries order) m) m (does (carries order) m).machine (order-waits order m h)
+order-unset order m h = (order-waits order m h).unset
 
 pub is-set : (act : Act) (m : Machine) → IsNext act m → Finds act m → IsSet act m (does act m).machine
 is-set (shows t) m next found = refl
@@ -209,4 +206,4 @@ is-set (sets_targets targets) m next found = refl
 is-set (sets_big_targets targets) m next found = refl
 is-set (sets_groups groups) m next found = refl
 is-set (sets_roots roots) m next found = refl
-is-set other m next found = unset (scope_of other m) m (does other m).machine (walk other m (Waited (scope_of other m)) tt next found (waits-kept (scope_of other m)))
+is-set other m next found = (walk other m (Waited (scope_of other m)) tt next found (waits-kept (scope_of other m))).unset
