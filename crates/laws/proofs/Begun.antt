@@ -1,6 +1,6 @@
 -- On the connection that a part is about a wait begins, goes on and ends exactly where it is to.
 use Rattle.std.proofs.Common.{ℕ, ◌+◌, ◌%◌, ◌≡◌, Bool, true, false, not, ◌&&◌, ◌||◌, ◌==◌, if◌then◌else◌, find, Option, Some, None, Result, Ok, Err, refl, sym, ap, ◌∙◌, subst, eq-eqb, eqb-true, []}
-use Rattle.laws.proofs.Words.{false≢true}
+use Rattle.laws.proofs.Words.{false≢true, and_right}
 use Rattle.laws.specs.Words.{agreed_inbound, agreed_outbound, awakened, connected, expired, released, has_id, is_acquirable, is_dialing_phase, is_for_remote, is_greeting_phase, is_live, is_negotiated, runs, some_runs, with_responder, agreed_sharing, Order, Ask, Promote, Release, Activate, verdict_of, Verdict, message_of, Message, Item, FaultKind, Agreed, Grace, Off, ForRemote, ForLocal, Phase, Dialing, Greeting, Negotiated, Deadline, Kind, watched, Seen, closing_entry, fires_as, fires, on_entry, role_of, Machine, Entry, entry_at, own_info, owing, paid}
 use Rattle.laws.specs.Words.verdict
 use Rattle.laws.specs.Words.kind
@@ -70,22 +70,9 @@ owes_where-waits false protocol asked e m sort = refl
 released-waits : (e : Entry) (m : Machine) (sort : Kind) →
     until_of sort (record e { facts = released (m.now + m.settings.idle) e.facts })
     ≡ begun_where (not (some_runs e.facts.running || is_for_remote e.facts.grace) && is_kind kind.Grace sort) sort e m
-released-waits e m sort = by_test (some_runs e.facts.running || is_for_remote e.facts.grace) sort
-  where
-    by_test : (b : Bool) (k : Kind) →
-        until_of k (record e { facts = record e.facts { local = false; grace = if b then e.facts.grace else ForLocal (m.now + m.settings.idle) } })
-        ≡ begun_where (not b && is_kind kind.Grace k) k e m
-    by_test true k = by_kind k
-      where
-        by_kind : (x : Kind) → until_of x (record e { facts = record e.facts { local = false } }) ≡ until_of x e
-        by_kind kind.Handshake = refl
-        by_kind other = refl
-    by_test false kind.Handshake = refl
-    by_test false kind.Grace = refl
-    by_test false kind.TimeWait = refl
-    by_test false kind.Reply2 = refl
-    by_test false kind.Reply8 = refl
-    by_test false kind.Reply10 = refl
+released-waits e m kind.Grace = by_bool (some_runs e.facts.running || is_for_remote e.facts.grace)
+    (λ b. until_unused (if b then e.facts.grace else ForLocal (m.now + m.settings.idle)) ≡ begun_where (not b && true) kind.Grace e m) (λ is. refl) (λ is. refl)
+released-waits e m other = rw (and_right (not (some_runs e.facts.running || is_for_remote e.facts.grace)) false refl) refl
 
 taken-waits : (e : Entry) (m : Machine) (sort : Kind) → until_of sort (taken (record e.facts { local = true }) e m) ≡ begun_where (is_reply_on 8 sort) sort e m
 taken-waits e m kind.Reply2 = owing-until 2 8 (e.facts.cid.0 % 65536) m e
@@ -197,13 +184,9 @@ asked-waits done protocol e m h wakes sort = by_kind sort
     graced false = ap until_unused (begun-off protocol e h) ∙ sym (ap (λ b. if b then None else Some until) (begun-runs protocol e wakes))
 
     same : (x : Kind) → is_kind kind.Grace x ≡ false → (b : Bool) → until_of x (stopped b protocol until g) ≡ until_of x g
-    same kind.Handshake other true = refl
-    same kind.Grace other true = absurd (false≢true (sym other))
-    same kind.TimeWait other true = refl
-    same kind.Reply2 other true = refl
-    same kind.Reply8 other true = refl
-    same kind.Reply10 other true = refl
     same x other false = refl
+    same kind.Grace other true = absurd (false≢true (sym other))
+    same x other true = refl
 
     by_kind : (x : Kind) → until_of x (stopped done protocol until g) ≡ wait_asked x e (stopped done protocol until g) m
     by_kind kind.Grace = graced done
@@ -286,15 +269,11 @@ waits-begin act m next found cid own = by_option (entry_at cid m)
 
 fired-over : (fired : Kind) (e : Entry) (m : Machine) (o : Option Entry) → IsAsItWas (turned_by_kind fired e m) o → until_in fired o ≡ None
 fired-over fired e m None becomes = refl
-fired-over kind.Handshake e m (Some f) becomes = absurd cc
 fired-over kind.Grace e m (Some f) becomes = by_bool e.facts.local
     (λ b. Some (if b then record e { facts = expired e.facts } else closing_entry m e) ≡ Some f → until_of kind.Grace f ≡ None)
     (λ is same. let it : record e { facts = expired e.facts } ≡ f = cc in ap (until_of kind.Grace) (sym it))
     (λ is same. let it : closing_entry m e ≡ f = cc in ap (until_of kind.Grace) (sym it)) becomes
-fired-over kind.TimeWait e m (Some f) becomes = absurd cc
-fired-over kind.Reply2 e m (Some f) becomes = absurd cc
-fired-over kind.Reply8 e m (Some f) becomes = absurd cc
-fired-over kind.Reply10 e m (Some f) becomes = absurd cc
+fired-over other e m (Some f) becomes = absurd cc
 
 fires-over : (d : Deadline) (m : Machine) → IsOrdered m → until_at d.kind d.cid.0 (fires d m).machine ≡ None
 fires-over d m h = by_option (entry_at d.cid.0 m) (λ o. until_at d.kind d.cid.0 (fires d m).machine ≡ None)

@@ -106,6 +106,12 @@ went_on cid m effect o p was now none address names forward =
       ends = subst (λ ms. IsOneEnd (causes_in cid ms) (stage_at cid m) (stage_at cid effect.machine)) (sym none) tt;
     }
 
+-- one of which nothing is told, as it was
+went_untold : (cid : ℕ) (m : Machine) (effect : Effect) → entry_at cid effect.machine ≡ entry_at cid m → effect.moves ≡ [] → names_in cid effect.actions ≡ [] →
+    stage_at cid m ≤ stage_of (entry_at cid m) (nat_lt cid effect.machine.next_id) → GoesOn cid m effect
+went_untold cid m effect same none untold forward =
+    went_on cid m effect (entry_at cid m) (entry_at cid m) refl same none (keeps_itself (entry_at cid m)) (rw untold refl) forward
+
 -- ---- a connection turns
 
 pub turned-told : (m : Machine) (e new : Entry) (k : ℕ) → IsOrderly m → StandsAt m.connections k e → TurnsInto e new →
@@ -135,11 +141,9 @@ turned-told m e new k h s t forward =
         (own_name cid own (same_name (name_of e.facts) (name_of new.facts)) refl) forward
     by_id cid false other =
         let new_other : has_id cid new.facts ≡ false = ap (λ c. c.0 == cid) t.same_id ∙ other in
-        went_on cid m (entry_turns e new m) (entry_at cid m) (entry_at cid m) refl
-        (ap (find (λ x. has_id cid x.facts)) list ∙ find-set_other (λ x. has_id cid x.facts) new e m.connections k s other new_other) refl (keeps_itself (entry_at cid m))
-        (subst (λ names. LeadTo is_other_name same_state (state_at cid m) names (state_at cid m))
-        (sym (other_name cid other (same_name (name_of e.facts) (name_of new.facts)))) refl)
-        (omega arith)
+        went_untold cid m (entry_turns e new m)
+        (ap (find (λ x. has_id cid x.facts)) list ∙ find-set_other (λ x. has_id cid x.facts) new e m.connections k s other new_other) refl
+        (other_name cid other (same_name (name_of e.facts) (name_of new.facts))) (omega arith)
 
 pub turned-stage : (m : Machine) (e new : Entry) (k : ℕ) → IsOrderly m → StandsAt m.connections k e → TurnsInto e new →
     stage_at e.facts.cid.0 (with_entry new m) ≡ stage_of_phase new.facts.phase
@@ -176,10 +180,8 @@ goes-told m e k h s =
         (one_name cid e.facts.cid (name_of e.facts) Terminated own (stands-named e.facts))
         (subst (λ b. stage_of_phase e.facts.phase ≤ (if b then 5 else 0)) (sym given) (omega (arith, most)))
     by_id cid false other =
-        went_on cid m (entry_goes e m) (entry_at cid m) (entry_at cid m) refl
-        (ap (find (λ x. has_id cid x.facts)) list ∙ find-remove_other (λ x. has_id cid x.facts) e m.connections k s other) refl (keeps_itself (entry_at cid m))
-        (subst (λ names. LeadTo is_other_name same_state (state_at cid m) names (state_at cid m)) (sym (no_name cid e.facts.cid Terminated other)) refl)
-        (omega arith)
+        went_untold cid m (entry_goes e m) (ap (find (λ x. has_id cid x.facts)) list ∙ find-remove_other (λ x. has_id cid x.facts) e m.connections k s other) refl
+        (no_name cid e.facts.cid Terminated other) (omega arith)
 
 pub goes-stage : (m : Machine) (e : Entry) (k : ℕ) → IsOrderly m → StandsAt m.connections k e → stage_at e.facts.cid.0 (without_entry e.facts.cid.0 m) ≡ 5
 goes-stage m e k h s =
@@ -246,10 +248,8 @@ came-goes_on m new effect cid h id same none named = by_bool (has_id cid new.fac
     (one_name cid new.facts.cid Terminated (name_of new.facts) own (named-stands new.facts)))
     (subst (λ b. (if b then 5 else 0) ≤ stage_of_phase new.facts.phase) (sym not_given) (omega arith)))
     (λ other.
-    went_on cid m effect (entry_at cid m) (entry_at cid m) refl
-    (ap (entry_at cid) same ∙ find-push_other (λ x. has_id cid x.facts) new m.connections other) none (keeps_itself (entry_at cid m))
-    (subst (λ names. LeadTo is_other_name same_state (state_at cid m) names (state_at cid m))
-    (sym (named ∙ no_name cid new.facts.cid (name_of new.facts) other)) refl)
+    went_untold cid m effect (ap (entry_at cid) same ∙ find-push_other (λ x. has_id cid x.facts) new m.connections other) none
+    (named ∙ no_name cid new.facts.cid (name_of new.facts) other)
     (subst (λ next. stage_at cid m ≤ stage_of (entry_at cid m) (nat_lt cid next)) (sym (ap (λ n. n.next_id) same)) (given_later (entry_at cid m) cid m.next_id)))
   where
     all_others : has_id cid new.facts ≡ true → All (λ e. has_id cid e.facts ≡ false) m.connections
@@ -301,14 +301,9 @@ dials-told m new addr h id here =
 
 pub is_temp : (t u : Temp) → same_temp t u ≡ true → t ≡ u
 is_temp Cold Cold h = refl
-is_temp Cold Warm h = absurd (false≢true h)
-is_temp Cold Hot h = absurd (false≢true h)
-is_temp Warm Cold h = absurd (false≢true h)
 is_temp Warm Warm h = refl
-is_temp Warm Hot h = absurd (false≢true h)
-is_temp Hot Cold h = absurd (false≢true h)
-is_temp Hot Warm h = absurd (false≢true h)
 is_temp Hot Hot h = refl
+is_temp t u h = absurd (false≢true h)
 
 noted_temp : (t : Temp) → noted (note_of t) ≡ Some t
 noted_temp Cold = refl
@@ -343,9 +338,7 @@ noting-told m effect noting none connections next_id each = record {
   addresses = subst (λ gs. AreAt gs effect.machine) (sym noting.given) tt;
   peers = each;
   connections = λ cid.
-      let same : entry_at cid effect.machine ≡ entry_at cid m = ap (find (λ e. has_id cid e.facts)) connections in
-      went_on cid m effect (entry_at cid m) (entry_at cid m) refl same none (keeps_itself (entry_at cid m))
-      (subst (λ names. LeadTo is_other_name same_state (state_at cid m) names (state_at cid m)) (sym (noting.names cid)) refl)
+      went_untold cid m effect (ap (find (λ e. has_id cid e.facts)) connections) none (noting.names cid)
       (subst (λ next. stage_at cid m ≤ stage_of (entry_at cid m) (nat_lt cid next)) (sym next_id) (omega arith));
 }
 
@@ -405,8 +398,7 @@ changes-told a change m same =
     by_address b true is =
         subst (λ x. LeadTo is_change noted (temp_at x m) (notes_in x (peer_changes a change m).actions) (temp_at x (peer_changes a change m).machine))
         (sym (same_address-true b a is))
-        (subst (λ o. LeadTo is_change noted (temp_of o) (notes_in a (peer_changes a change m).actions) (temp_at a (peer_changes a change m).machine)) refl
-        (by_peer (peer_at a m) refl))
+        (by_peer (peer_at a m) refl)
     by_address b false other =
         subst (λ notes. LeadTo is_change noted (temp_at b m) notes (temp_at b (peer_changes a change m).machine))
         (sym (other_note b other (peer_at a m) refl)) (ap temp_of (sym (turns_at-elsewhere a change m same b other)))

@@ -16,6 +16,9 @@ use Rattle.laws.proofs.Walk.{Scope, Turn, opens, agrees_inbound, agrees_outbound
 
 -- ---- whatever a connection turns into waits as it did, or for a whole length
 
+same-right : (m : Machine) (e : Entry) → TurnsRight m e e
+same-right m e kind = kept (m.now + length_of kind m.settings) (until_of kind e)
+
 -- the phase stays, and what is owed
 graced-right : (m : Machine) (e : Entry) (f : Facts) → f.phase ≡ e.facts.phase → IsWait (m.now + m.settings.idle) (until_unused e.facts.grace) (until_unused f.grace) →
     TurnsRight m e (record e { facts = f })
@@ -40,12 +43,10 @@ owing_too-right protocol asked m e f right kind.Reply10 = owing-right 10 protoco
 owing_too-right protocol asked m e f right other = right other
 
 paid_off-right : (protocol : ℕ) (m : Machine) (e : Entry) → TurnsRight m e (paid protocol e)
-paid_off-right protocol m e kind.Handshake = kept (m.now + m.settings.handshake) (until_of kind.Handshake e)
-paid_off-right protocol m e kind.Grace = kept (m.now + m.settings.idle) (until_of kind.Grace e)
-paid_off-right protocol m e kind.TimeWait = kept (m.now + m.settings.timewait) (until_of kind.TimeWait e)
 paid_off-right protocol m e kind.Reply2 = paid-right 2 protocol (m.now + m.settings.reply) e
 paid_off-right protocol m e kind.Reply8 = paid-right 8 protocol (m.now + m.settings.reply) e
 paid_off-right protocol m e kind.Reply10 = paid-right 10 protocol (m.now + m.settings.reply) e
+paid_off-right protocol m e other = same-right m e other
 
 opens-right : (m : Machine) (e : Entry) → TurnsRight m e (turned_by opens e m)
 opens-right m e kind.Handshake = inr refl
@@ -58,9 +59,6 @@ closing-right m e kind.Handshake = tt
 closing-right m e kind.Grace = tt
 closing-right m e kind.TimeWait = inr refl
 closing-right m e other = kept (m.now + m.settings.reply) (until_of other e)
-
-same-right : (m : Machine) (e : Entry) → TurnsRight m e e
-same-right m e kind = kept (m.now + length_of kind m.settings) (until_of kind e)
 
 decodes-right : (m : Machine) (e : Entry) (undecoded : Undecoded) → TurnsRight m e (record e { undecoded = undecoded })
 decodes-right m e undecoded kind.Handshake = same-right m e kind.Handshake
