@@ -34,9 +34,8 @@ served-live done protocol until e = by_tests done (runs protocol e.facts.running
   where
     by_tests : (b c : Bool) → is_live (stopped b protocol until (if c then e else record e { facts = awakened protocol e.facts })).facts ≡ is_live e.facts
     by_tests true true = refl
-    by_tests true false = refl
     by_tests false true = refl
-    by_tests false false = refl
+    by_tests b c = refl
 
 requested-live : (r : Result Seen FaultKind) (protocol : ℕ) (e x : Entry) (m : Machine) → is_live e.facts ≡ true → turned_by_request r protocol e m ≡ Some x → is_live x.facts ≡ true
 requested-live (Err fault) protocol e x m live is = absurd cc

@@ -1,8 +1,8 @@
 -- A connection that stands open stays so or ends once, in each part of an event.
-use Rattle.std.proofs.Common.{ℕ, ◌+◌, ◌≤◌, ◌≡◌, Bool, true, false, ◌||◌, ◌==◌, nat_lt, if◌then◌else◌, cond, flat_map, List, [], ◌∷◌, ◌++◌, find, Option, Some, None, refl, sym, ap, ◌∙◌, subst, arith, eqb-true, eq-eqb}
+use Rattle.std.proofs.Common.{ℕ, ◌+◌, ◌≤◌, ◌≡◌, Bool, true, false, ◌||◌, ◌==◌, nat_lt, if◌then◌else◌, cond, flat_map, List, [], ◌∷◌, ◌++◌, find, Option, Some, None, refl, sym, ap, ◌∙◌, subst, inl, inr, arith, eqb-true, eq-eqb}
 use Rattle.laws.proofs.Words.{both_ways, false≢true, or_left, or_right, list_any-append, find-append}
 use Rattle.laws.specs.Words.{list_any, option_map, option_or, dialing, accepted, has_id, is_live, live_phase, Send, CloseCause, Phase, Closing, entry_goes, with_entry, without_entry, entry_turns, lost_by, ending, vanishes, closing_entry, dial, Effect, Happened, Move, ended, unused, nothing_more, tells, then_do, as_move, turned_away, admitted, Machine, Entry, fresh_entry, entry_at, peer_changes, peer_goes, peer_at, peer_comes}
-use Rattle.laws.specs.Acts.{Act, shows, sets_targets, sets_big_targets, sets_groups, sets_roots, asks_for_roots, does}
+use Rattle.laws.specs.Acts.{Act, does}
 use Rattle.laws.specs.AtMoves.{ends, is_ended_in}
 use Rattle.laws.specs.OpenEnds.{is_open_entry, is_open_at, goes_by_itself, IsOpenEnd, OpenEndsOnce}
 use Rattle.laws.specs.Parts.{IsNext}
@@ -11,10 +11,10 @@ use Rattle.laws.specs.Telling.{IsTold}
 use Rattle.laws.specs.InActions.{ended_by, ends_in}
 use Rattle.laws.proofs.Walk.{Finds, Scope, turned_by, turned-cid, turned-live, shuts, Kept, scope_of, walk}
 use Rattle.laws.proofs.Lawful.{comes-machine, lost_by-quiet, lost-quiet}
-use Rattle.laws.proofs.RootsAsked.{roots-set}
 use Rattle.laws.proofs.Telling.{ended-over}
 use Rattle.laws.proofs.ToldMoves.{turns_at-connections}
 use Rattle.laws.proofs.Waits.{replaced, gone-found}
+use Rattle.laws.proofs.WaitsOfParts.{sets_or_changes}
 use Rattle.laws.proofs.Cases.{by_bool, by_option}
 
 -- whoever is so stays so, or a move ends it, or it goes by itself
@@ -132,10 +132,8 @@ module _ (scope : Scope) where
       (more (is_open_at cid effect.machine) (is_ended_in cid effect.moves) (ends cid happened || false) (scope.goes cid) (h cid was))
     where
       more : (a b c d : Bool) → (a || (b || d)) ≡ true → (a || ((b || c) || d)) ≡ true
-      more true b c d e = refl
-      more false true c d e = refl
-      more false false true d e = refl
       more false false false d e = e
+      more a b c d e = refl
 
   stays-kept : scope.timely ≡ true → Kept scope Stays
   stays-kept timely = record {
@@ -161,13 +159,10 @@ module _ (scope : Scope) where
 
 -- whoever is open stays so, or a move ends it, or it goes by itself
 pub stays-of : (act : Act) (m : Machine) → IsNext act m → Finds act m → Stays (scope_of act m) m (does act m)
-stays-of (shows t) m next found = stays_same (scope_of (shows t) m) m (does (shows t) m) refl
-stays-of asks_for_roots m next found = stays_same (scope_of asks_for_roots m) m (does asks_for_roots m) (ap (λ n. n.connections) (roots-set m))
-stays-of (sets_targets targets) m next found = stays_same (scope_of (sets_targets targets) m) m (does (sets_targets targets) m) refl
-stays-of (sets_big_targets targets) m next found = stays_same (scope_of (sets_big_targets targets) m) m (does (sets_big_targets targets) m) refl
-stays-of (sets_groups groups) m next found = stays_same (scope_of (sets_groups groups) m) m (does (sets_groups groups) m) refl
-stays-of (sets_roots roots) m next found = stays_same (scope_of (sets_roots roots) m) m (does (sets_roots roots) m) refl
-stays-of other m next found = walk other m (Stays (scope_of other m)) tt next found (stays-kept (scope_of other m) refl)
+stays-of act m next found = elim (sets_or_changes act m) [
+  | inl same ↦ stays_same (scope_of act m) m (does act m) same
+  | inr change ↦ walk act m (Stays (scope_of act m)) change next found (stays-kept (scope_of act m) refl)
+]
 
 -- ---- once
 

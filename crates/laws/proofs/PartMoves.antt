@@ -126,12 +126,10 @@ tells_then event m first next one two = record {
     second = next first.machine
 
     arrived : (before early named there late : Bool) → (there ≡ true → (before || early || named) ≡ true) → (there || late || named) ≡ true → (before || (early || late) || named) ≡ true
-    arrived true early named there late one two = refl
-    arrived false true named there late one two = refl
-    arrived false false true there true one two = refl
-    arrived false false true there false one two = refl
     arrived false false false true late one two = absurd (false≢true (one refl))
     arrived false false false false late one two = two
+    arrived false false true there true one two = refl
+    arrived before early named there late one two = refl
 
 pub accounted-part : (event : Event) (m : Machine) (effect : Effect) → Accounts m effect → Tells event m effect
 accounted-part event m effect h = record {

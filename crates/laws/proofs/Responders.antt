@@ -33,12 +33,8 @@ begun-stopped protocol r = by_tests (protocol == 2) (protocol == 3) (protocol ==
         else if d then record s { keep_alive = now } else if e then record s { peer_sharing = now } else s
 
     by_tests : (a b c d e : Bool) → with_tests a b c d e false (with_tests a b c d e true r) ≡ with_tests a b c d e false r
-    by_tests true b c d e = refl
-    by_tests false true c d e = refl
-    by_tests false false true d e = refl
-    by_tests false false false true e = refl
     by_tests false false false false true = refl
-    by_tests false false false false false = refl
+    by_tests a b c d e = refl
 
 begun-running : (protocol : ℕ) (e : Entry) → (begun protocol e).facts.running ≡ with_responder protocol true e.facts.running
 begun-running protocol e = by_bool (runs protocol e.facts.running)

@@ -142,8 +142,7 @@ released-idle : (runs : Bool) (grace : Grace) (until : ℕ) → runs ≡ false �
     || is_for_local (if runs || is_for_remote grace then grace else ForLocal until)) ≡ true
 released-idle true grace until none = absurd (false≢true (sym none))
 released-idle false Off until none = refl
-released-idle false (ForRemote at) until none = refl
-released-idle false (ForLocal at) until none = refl
+released-idle runs grace until none = refl
 
 released-serves : (runs : Bool) (grace : Grace) (until : ℕ) →
     (runs || is_for_remote (if runs || is_for_remote grace then grace else ForLocal until)) ≡ true →

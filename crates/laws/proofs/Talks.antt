@@ -31,12 +31,8 @@ known_of : {X E : Type 0} (p u : E) (x : X) (r2 r3 r4 r8 r10 : Result X E) (z a 
     (if z then Err p else if a then r2 else if b then r3 else if c then r4 else if d then r8 else if e then r10 else Err u) ≡ Ok x →
     (a || b || c || d || e) ≡ true
 known_of p u x r2 r3 r4 r8 r10 true a b c d e h = absurd cc
-known_of p u x r2 r3 r4 r8 r10 false true b c d e h = refl
-known_of p u x r2 r3 r4 r8 r10 false false true c d e h = refl
-known_of p u x r2 r3 r4 r8 r10 false false false true d e h = refl
-known_of p u x r2 r3 r4 r8 r10 false false false false true e h = refl
-known_of p u x r2 r3 r4 r8 r10 false false false false false true h = refl
 known_of p u x r2 r3 r4 r8 r10 false false false false false false h = absurd cc
+known_of p u x r2 r3 r4 r8 r10 z a b c d e h = refl
 
 pub seen-known : (id : ℕ) (sharing : Bool) (item : List ℕ) (seen : Seen) → watched id sharing item ≡ Ok seen → has_responder id ≡ true
 seen-known id sharing item seen h =

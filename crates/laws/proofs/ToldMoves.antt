@@ -1,7 +1,7 @@
 -- What each change of a connection or a peer tells.
 use Rattle.std.proofs.Common.{ℕ, ◌+◌, ◌≡◌, ◌≤◌, Bool, true, false, not, ◌==◌, nat_lt, nat_le, if◌then◌else◌, List, [], ◌∷◌, ◌++◌, All, find, get_or, set, remove, length, flat_map, Option, Some, None, is_some, refl, sym, ap, ◌∙◌, subst, arith, eqb-true, eq-eqb, ne_eqb}
 use Rattle.laws.proofs.Words.{cond_both, both_ways, false≢true, All-weaker}
-use Rattle.laws.specs.Words.{name_of, name_in_phase, name_in_use, name_place, same_name, has_id, is_duplex, some_runs, same_address, Action, Admit, Dial, Close, State, CloseCause, PeerNote, StateName, ReservedOutbound, UnnegotiatedInbound, UnnegotiatedOutbound, Duplex, OutboundUni, OutboundDupTicking, OutboundDupExpired, Inbound, InboundIdle, OutboundIdle, Terminating, Terminated, Addr, Cid, Facts, Grace, Off, ForRemote, ForLocal, Phase, Greeting, Negotiated, Provenance, FromRemote, FromLocal, Peer, Temp, Cold, Warm, Hot, new_peer, entered_by, most_peers, same_temp, Added, New, Present, Full, with_entry, without_entry, entry_turns, entry_comes, entry_goes, Effect, Happened, Move, promoted, as_move, Machine, Entry, entry_at, peer_at, note_of, turns_at, peer_changes, note_of_coming, peer_comes, peer_goes}
+use Rattle.laws.specs.Words.{name_of, name_in_phase, name_in_use, name_place, same_name, has_id, is_duplex, some_runs, same_address, Action, Admit, Dial, Close, State, CloseCause, PeerNote, StateName, ReservedOutbound, UnnegotiatedInbound, UnnegotiatedOutbound, Duplex, OutboundUni, OutboundDupTicking, OutboundDupExpired, Inbound, InboundIdle, OutboundIdle, Terminating, Terminated, Addr, Cid, Facts, Grace, Off, Phase, Greeting, Negotiated, Provenance, FromRemote, FromLocal, Peer, Temp, Cold, Warm, Hot, new_peer, entered_by, most_peers, same_temp, Added, New, Present, Full, with_entry, without_entry, entry_turns, entry_comes, entry_goes, Effect, Happened, Move, promoted, as_move, Machine, Entry, entry_at, peer_at, note_of, turns_at, peer_changes, note_of_coming, peer_comes, peer_goes}
 use Rattle.net_base.specs.declared.action.Action.TheVariants.{Peer as TellPeer}
 use Rattle.laws.specs.Words.note
 use Rattle.peer_book.specs.Book.{peer_at as peer_in, with_peer as with_peer_in}
@@ -36,15 +36,9 @@ stands-named : (f : Facts) → same_name (name_of f) Terminated ≡ false
 stands-named f = by_phase f.phase
   where
     by_grace : (l r d : Bool) (g : Grace) → same_name (name_in_use l r d g) Terminated ≡ false
-    by_grace true true d g = refl
     by_grace true false true Off = refl
-    by_grace true false true (ForRemote until) = refl
-    by_grace true false true (ForLocal until) = refl
-    by_grace true false false g = refl
-    by_grace false true d g = refl
     by_grace false false d Off = refl
-    by_grace false false d (ForRemote until) = refl
-    by_grace false false d (ForLocal until) = refl
+    by_grace l r d g = refl
 
     by_side : (p : Provenance) (until : ℕ) → same_name (name_in_phase (Greeting until) (record f { provenance = p })) Terminated ≡ false
     by_side FromRemote until = refl

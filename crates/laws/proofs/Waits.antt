@@ -163,10 +163,8 @@ found-filter {X} q r b each (x ∷ xs) = by_tests (q x) refl (r x) refl b (each 
     by_tests true passes true keeps false same rest = absurd (let never : true ≡ false = sym keeps ∙ same passes in cc)
     by_tests true passes false keeps true same rest = absurd (let never : false ≡ true = sym keeps ∙ same passes in cc)
     by_tests true passes false keeps false same rest = rest
-    by_tests false fails true keeps true same rest = ap (λ y. cond y (Some x) (find q (filter r xs))) fails ∙ rest
-    by_tests false fails true keeps false same rest = ap (λ y. cond y (Some x) (find q (filter r xs))) fails ∙ rest
-    by_tests false fails false keeps true same rest = rest
-    by_tests false fails false keeps false same rest = rest
+    by_tests false fails true keeps e same rest = ap (λ y. cond y (Some x) (find q (filter r xs))) fails ∙ rest
+    by_tests false fails false keeps e same rest = rest
 
 -- one goes
 pub gone-found : (c cid : ℕ) (es : List Entry) → find (λ e. has_id c e.facts) (filter (λ e. not (has_id cid e.facts)) es)
@@ -236,13 +234,11 @@ owing-until p protocol asked m e = ap until_paid found ∙ by_tests (protocol ==
         until_paid (option_or (if a then o else None) (cond b (Some new) (if c then o else None))) ≡ (if b then Some (m.now + m.settings.reply) else until_paid o)
     by_tests true same true lower c upper o =
         let never : true ≡ false = sym lower ∙ (ap (nat_lt p) (eqb-true protocol p same) ∙ not_below p) in absurd cc
-    by_tests true same false lower c upper o = refl
     by_tests false other true lower true upper None = refl
     by_tests false other true lower false upper None = refl
-    by_tests false other true lower c upper (Some x) = refl
-    by_tests false other false lower true upper o = refl
     by_tests false other false lower false upper o =
         let never : (protocol == p) ≡ true = grind (arith, lower, upper) in absurd (let wrong : true ≡ false = sym never ∙ other in cc)
+    by_tests b is a lower c upper o = refl
 
 pub owing-right : (p protocol asked : ℕ) (m : Machine) (e : Entry) →
     IsWait (m.now + m.settings.reply) (until_paid (reply_on p e)) (until_paid (reply_on p (owing protocol asked m e)))

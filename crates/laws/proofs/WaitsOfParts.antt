@@ -12,7 +12,7 @@ use Rattle.laws.specs.Waits.{until_of, until_in, until_at, until_unused, length_
 use Rattle.laws.proofs.Keeping.{note-machine}
 use Rattle.laws.proofs.RootsAsked.{roots-set}
 use Rattle.laws.proofs.Waits.{Waits, TurnsRight, kept, waits_then, waits_peers, waits_nothing, waits_turned, waits_gone, waits_come, owing-right, paid-right, was_same, bytes_same}
-use Rattle.laws.proofs.Walk.{Scope, Turn, opens, agrees_inbound, agrees_outbound, is_acquired, is_released, awakes, idles, expires, owes, is_paid, turned_by, turned-cid, turned-undecoded, Kept, Finds, scope_of, orderly-finds, orders-walk, walk}
+use Rattle.laws.proofs.Walk.{Scope, Turn, opens, agrees_inbound, agrees_outbound, is_acquired, is_released, awakes, idles, expires, owes, is_paid, turned_by, turned-cid, turned-undecoded, Kept, IsChange, Finds, scope_of, orderly-finds, orders-walk, walk}
 
 -- ---- whatever a connection turns into waits as it did, or for a whole length
 
@@ -151,14 +151,17 @@ module _ (scope : Scope) where
 -- ---- each act
 
 -- either no connection changes, or nothing is set
-sets_or_waits : (act : Act) (m : Machine) → IsNext act m → Finds act m → ((does act m).machine.connections ≡ m.connections) ⊎ Waits (scope_of act m) m (does act m).machine
-sets_or_waits (shows t) m next found = inl refl
-sets_or_waits asks_for_roots m next found = inl (ap (λ n. n.connections) (roots-set m))
-sets_or_waits (sets_targets targets) m next found = inl refl
-sets_or_waits (sets_big_targets targets) m next found = inl refl
-sets_or_waits (sets_groups groups) m next found = inl refl
-sets_or_waits (sets_roots roots) m next found = inl refl
-sets_or_waits other m next found = inr (walk other m (Waited (scope_of other m)) tt next found (waits-kept (scope_of other m)))
+pub sets_or_changes : (act : Act) (m : Machine) → ((does act m).machine.connections ≡ m.connections) ⊎ IsChange act
+sets_or_changes (shows t) m = inl refl
+sets_or_changes asks_for_roots m = inl (ap (λ n. n.connections) (roots-set m))
+sets_or_changes (sets_targets targets) m = inl refl
+sets_or_changes (sets_big_targets targets) m = inl refl
+sets_or_changes (sets_groups groups) m = inl refl
+sets_or_changes (sets_roots roots) m = inl refl
+sets_or_changes other m = inr tt
+
+act-waits : (act : Act) (m : Machine) → IsChange act → IsNext act m → Finds act m → Waits (scope_of act m) m (does act m).machine
+act-waits act m change next found = walk act m (Waited (scope_of act m)) change next found (waits-kept (scope_of act m))
 
 -- ---- what follows
 
@@ -174,18 +177,18 @@ set-right m n same kind cid =
     (kept (n.now + length_of kind n.settings) (until_at kind cid m))
 
 pub waits-right : (act : Act) (m : Machine) → IsNext act m → Finds act m → WaitsRight m (does act m).machine
-waits-right act m next found = elim (sets_or_waits act m next found) [
+waits-right act m next found = elim (sets_or_changes act m) [
   | inl same ↦ set-right m (does act m).machine same
-  | inr h ↦ right (scope_of act m) m (does act m).machine h
+  | inr change ↦ right (scope_of act m) m (does act m).machine (act-waits act m change next found)
 ]
 
 pub leaves-rest : (act : Act) (m : Machine) → IsNext act m → Finds act m → LeavesRest act m (does act m).machine
-leaves-rest act m next found = elim (sets_or_waits act m next found) [
+leaves-rest act m next found = elim (sets_or_changes act m) [
   | inl same ↦ record {
     others = λ cid own given. subst (λ es. IsAsItWas (entry_at cid m) (find (λ e. has_id cid e.facts) es)) (sym same) (was_same (entry_at cid m));
     bytes = λ cid none given. subst (λ es. KeepsBytes (may_close act) (entry_at cid m) (find (λ e. has_id cid e.facts) es)) (sym same) (bytes_same (may_close act) (entry_at cid m));
   }
-  | inr h ↦ record { others = λ cid. (h.each cid).others; bytes = λ cid. (h.each cid).bytes }
+  | inr change ↦ let h = act-waits act m change next found in record { others = λ cid. (h.each cid).others; bytes = λ cid. (h.each cid).bytes }
 ]
 
 -- nothing is set by an order
@@ -204,4 +207,4 @@ is-set (sets_targets targets) m next found = refl
 is-set (sets_big_targets targets) m next found = refl
 is-set (sets_groups groups) m next found = refl
 is-set (sets_roots roots) m next found = refl
-is-set other m next found = (walk other m (Waited (scope_of other m)) tt next found (waits-kept (scope_of other m))).unset
+is-set other m next found = (act-waits other m tt next found).unset
