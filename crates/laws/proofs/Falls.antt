@@ -12,7 +12,7 @@ use Rattle.laws.proofs.Entries.{TurnsInto, turned-orderly}
 use Rattle.laws.proofs.Lists.{StandsAt, FoundIn, find_some, All-stands}
 use Rattle.laws.proofs.Walk.{says_done-machine}
 use Rattle.laws.proofs.Shapes.{local-negotiated}
-use Rattle.laws.proofs.Spending.{IsSameBut, AreSameBut, all_same, with_peer-same_but, ChangesAt, turned-same}
+use Rattle.laws.proofs.Spending.{IsSameBut, AreSameBut, all_same, with_peer-same_but, one-most, ChangesAt, turned-same}
 use Rattle.laws.proofs.ToldMoves.{turns_at-connections}
 use Rattle.laws.proofs.Trims.{lost-connections}
 use Rattle.laws.proofs.Cases.{by_bool, by_option}
@@ -26,82 +26,60 @@ same-back a p q h = record {
   elsewhere = λ other. sym (h.elsewhere (subst (λ x. same_address x a ≡ false) h.same_addr other));
 }
 
-all-back : (a : Addr) (ps qs : List Peer) → AreSameBut a ps qs → AreSameBut a qs ps
+pub all-back : (a : Addr) (ps qs : List Peer) → AreSameBut a ps qs → AreSameBut a qs ps
 all-back a [] [] h = tt
-all-back a [] (q ∷ qs) h = elim h [ ]
-all-back a (p ∷ ps) [] h = elim h [ ]
 all-back a (p ∷ ps) (q ∷ qs) h = (same-back a p q h.0, all-back a ps qs h.1)
+all-back a ps qs h = elim h [ ]
 
 others-same : (a b : Addr) (ps qs : List Peer) → AreSameBut a ps qs → AllByRecursion (λ x. same_address x.addr b ≡ false) ps →
     AllByRecursion (λ x. same_address x.addr b ≡ false) qs
 others-same a b [] [] h all = tt
-others-same a b [] (q ∷ qs) h all = elim h [ ]
-others-same a b (p ∷ ps) [] h all = elim h [ ]
 others-same a b (p ∷ ps) (q ∷ qs) h all = (subst (λ x. same_address x b ≡ false) (sym h.0.same_addr) all.0, others-same a b ps qs h.1 all.1)
+others-same a b ps qs h all = elim h [ ]
 
-apart-same : (a : Addr) (ps qs : List Peer) → AreSameBut a ps qs → ArePeersApart ps → ArePeersApart qs
+pub apart-same : (a : Addr) (ps qs : List Peer) → AreSameBut a ps qs → ArePeersApart ps → ArePeersApart qs
 apart-same a [] [] h apart = tt
-apart-same a [] (q ∷ qs) h apart = elim h [ ]
-apart-same a (p ∷ ps) [] h apart = elim h [ ]
 apart-same a (p ∷ ps) (q ∷ qs) h apart = (
   subst (λ x. AllByRecursion (λ y. same_address y.addr x ≡ false) qs) (sym h.0.same_addr) (others-same a p.addr ps qs h.1 apart.0),
   apart-same a ps qs h.1 apart.1,
 )
+apart-same a ps qs h apart = elim h [ ]
 
-found-same : (a b : Addr) (ps qs : List Peer) → same_address b a ≡ false → AreSameBut a ps qs → peer_in b qs ≡ peer_in b ps
+pub found-same : (a b : Addr) (ps qs : List Peer) → same_address b a ≡ false → AreSameBut a ps qs → peer_in b qs ≡ peer_in b ps
 found-same a b [] [] other h = refl
-found-same a b [] (q ∷ qs) other h = elim h [ ]
-found-same a b (p ∷ ps) [] other h = elim h [ ]
 found-same a b (p ∷ ps) (q ∷ qs) other h = by_bool (same_address p.addr b)
     (λ c. peer_in b qs ≡ peer_in b ps → cond (same_address q.addr b) (Some q) (peer_in b qs) ≡ cond c (Some p) (peer_in b ps))
     (λ at rest.
     let apart : same_address p.addr a ≡ false = subst (λ x. same_address x a ≡ false) (sym (same_address-true p.addr b at)) other in
     rw (ap (λ x. same_address x b) h.0.same_addr ∙ at) (ap Some (h.0.elsewhere apart)))
     (λ away rest. rw (ap (λ x. same_address x b) h.0.same_addr ∙ away) rest) (found-same a b ps qs other h.1)
+found-same a b ps qs other h = elim h [ ]
 
 of-same : (big : Bool) (p q : Peer) → q.big ≡ p.big → is_of big q ≡ is_of big p
 of-same true p q same = same
 of-same false p q same = ap not same
 
-known-same : (big : Bool) (a : Addr) (ps qs : List Peer) → AreSameBut a ps qs → known_of big qs ≡ known_of big ps
+pub known-same : (big : Bool) (a : Addr) (ps qs : List Peer) → AreSameBut a ps qs → known_of big qs ≡ known_of big ps
 known-same big a [] [] h = refl
-known-same big a [] (q ∷ qs) h = elim h [ ]
-known-same big a (p ∷ ps) [] h = elim h [ ]
 known-same big a (p ∷ ps) (q ∷ qs) h =
     let here : cond {A = ℕ} (is_of big q) 1 0 ≡ cond {A = ℕ} (is_of big p) 1 0 = ap (λ b. cond {A = ℕ} b 1 0) (of-same big p q h.0.same_class) in
     let rest = known-same big a ps qs h.1 in
     let before = sum_by-cons (λ x. cond {A = ℕ} (is_of big x) 1 0) p ps in
     let after = sum_by-cons (λ x. cond {A = ℕ} (is_of big x) 1 0) q qs in
     omega (arith, here, rest, before, after)
+known-same big a ps qs h = elim h [ ]
 
 pub ChangesAt-back : (a : Addr) (m n : Machine) → ChangesAt a m n → ChangesAt a n m
 ChangesAt-back a m n h = record {
-  now = sym h.now;
-  targets = sym h.targets;
-  big_targets = sym h.big_targets;
-  groups = sym h.groups;
   peers = all-back a m.peers n.peers h.peers;
   connections = λ test b other. sym (h.connections test b other);
 }
-
-pub changes-apart : (a : Addr) (m n : Machine) → ArePeersApart m.peers → ChangesAt a m n → ArePeersApart n.peers
-changes-apart a m n apart h = apart-same a m.peers n.peers h.peers apart
-
-pub changes-found : (a b : Addr) (m n : Machine) → ChangesAt a m n → same_address b a ≡ false → peer_at b n ≡ peer_at b m
-changes-found a b m n h other = found-same a b m.peers n.peers other h.peers
-
-pub changes-known : (big : Bool) (a : Addr) (m n : Machine) → ChangesAt a m n → known_of big n.peers ≡ known_of big m.peers
-changes-known big a m n h = known-same big a m.peers n.peers h.peers
 
 -- ---- a peer is forgotten
 
 taken-none : (a : Addr) (ps : List Peer) → AllByRecursion (λ q. same_address q.addr a ≡ false) ps → without_peer a ps ≡ ps
 taken-none a [] h = refl
 taken-none a (p ∷ ps) h = rw h.0 (ap (λ qs. p ∷ qs) (taken-none a ps h.1))
-
-one-most : (b : Bool) → cond {A = ℕ} b 1 0 ≤ 1
-one-most true = omega arith
-one-most false = omega arith
 
 pub taken-count : (t : Peer → Bool) (a : Addr) (ps : List Peer) → ArePeersApart ps → count_by t ps ≤ count_by t (without_peer a ps) + 1
 taken-count t a [] apart = omega arith
@@ -134,7 +112,7 @@ changed-changes a change m n h same apart addr class = by_option (peer_at a n) (
     ))
 
 nothing-changes : (a : Addr) (m : Machine) → ChangesAt a m m
-nothing-changes a m = record { now = refl; targets = refl; big_targets = refl; groups = refl; peers = all_same a m.peers; connections = λ test b other. refl }
+nothing-changes a m = record { peers = all_same a m.peers; connections = λ test b other. refl }
 
 -- what stands in use of an address has it
 used-here : (a : Addr) (m : Machine) (e : Entry) → find (is_used_at a) m.connections ≡ Some e → e.facts.addr ≡ a
@@ -227,12 +205,3 @@ release-leaves a m h = by_option (find (is_used_at a) m.connections) (λ o. Leav
     (subst (λ w. LeavesOthers e.facts.addr m (then_do (entry_turns e (record e { facts = released (w.now + w.settings.idle) e.facts }) w)
     (λ x. then_do (peer_becomes Cold e.facts.addr x) (trim e.facts.cid))).machine) (sym (says_done-machine e.facts m))
     (releasing-leaves m e at.place h at.stands local)))
-
-pub leaves-found : (a b : Addr) (m n : Machine) → LeavesOthers a m n → same_address b a ≡ false → peer_at b n ≡ peer_at b m
-leaves-found a b m n h other = found-same a b m.peers n.peers other h.peers
-
-pub leaves-apart : (a : Addr) (m n : Machine) → ArePeersApart m.peers → LeavesOthers a m n → ArePeersApart n.peers
-leaves-apart a m n apart h = apart-same a m.peers n.peers h.peers apart
-
-pub leaves-back : (a : Addr) (m n : Machine) → LeavesOthers a m n → AreSameBut a n.peers m.peers
-leaves-back a m n h = all-back a m.peers n.peers h.peers

@@ -200,6 +200,10 @@ pub all-weaker : {X : Type 0} (P Q : X → Type 0) → ((x : X) → P x → Q x)
 all-weaker P Q gives [] h = tt
 all-weaker P Q gives (x ∷ xs) h = (gives x h.0, all-weaker P Q gives xs h.1)
 
+pub all-true : {X : Type 0} (P : X → Type 0) → ((x : X) → P x) → (xs : List X) → AllByRecursion P xs
+all-true P each [] = tt
+all-true P each (x ∷ xs) = (each x, all-true P each xs)
+
 pub all-appended : {X : Type 0} (P : X → Type 0) (xs ys : List X) → AllByRecursion P xs → AllByRecursion P ys → AllByRecursion P (xs ++ ys)
 all-appended P [] ys h k = k
 all-appended P (x ∷ xs) ys h k = (h.0, all-appended P xs ys h.1 k)

@@ -1,6 +1,6 @@
 -- Each order of the governor is due: whom a rule picks is one that it may be for, and it picks as many as are too few or too many.
 use Rattle.std.proofs.Common.{ℕ, ◌+◌, ◌-◌, ◌≤◌, ◌<◌, ◌≡◌, Bool, true, false, cond, not, ◌&&◌, ◌||◌, nat_le, nat_lt, min, if◌then◌else◌, List, [], ◌∷◌, ◌++◌, length, map, filter, flat_map, count_by, Option, Some, refl, sym, ap, ◌∙◌, subst, arith, leb-true, find, is_some, None}
-use Rattle.laws.proofs.Words.{both_ways, and_parts, not-true, false≢true, or_parts, All-from_recursion, sum_by-cons, sum_by-append, count_by-le-length, count_none}
+use Rattle.laws.proofs.Words.{both_ways, and_parts, not-true, false≢true, or_parts, All-from_recursion, sum_by-cons, sum_by-append, count_by-le-length, count_none, map-append}
 use Rattle.laws.specs.Words.{AllByRecursion, same_address, Addr, Group, Peer, Cold, Warm, Hot, effective_of, effective_big_of, is_acquirable, is_pending, is_live, is_live_at, everybody, big_orders, may_be_asked, is_eligible, may_be_forgotten, may_be_released, may_be_activated, may_be_deactivated, count_of, is_linked, owes_on_2, owes_on_10, owes_a_reply, can_share, some_link, orders_for, is_not_local, may_be_dropped, is_member_and, members_count, missing_of, g2_orders, g3_orders, g4_orders, g5_orders, g6_orders, g7_orders, g8_orders, g9_orders, B3, B5, B6, B8, B9, Link, Order, Ask, Forget, Promote, Release, Activate, Deactivate, is_of, is_established, same_temp, known_of, established_of, active_of, is_listed, for_each, Effect, Move, link_of, view_of, carries_out, ordinary_rules, big_rules, is_used_at, Machine, Entry, counted_in, live_entry_at, peer_at, reply_on}
 use Rattle.govern_rules.specs.Links.{is_pending as is_pending_link, is_acquirable as is_acquirable_link}
 use Rattle.laws.specs.AtMoves.{some_connection, number_with, members_with, known_wanted, established_wanted, active_wanted, IsLawful, IsReady}
@@ -10,7 +10,7 @@ use Rattle.laws.specs.Ordered.{is_any, is_to_answer, is_to_tell, is_awaited, can
 use Rattle.laws.specs.Steady.{ArePeersApart, AreApart, IsOrdered}
 use Rattle.laws.proofs.Chosen.{chosen, chosen-apart, PicksMembers, picks-listed, groups_picks-apart, groups_picks-all, map-groups, group_picks}
 use Rattle.laws.proofs.Addresses.{same_address-true}
-use Rattle.laws.proofs.Falls.{ChangesAt-back, changes-apart, changes-found, changes-known, taken-count, ask-changes, deactivate-changes, LeavesOthers, release-leaves, leaves-found, leaves-apart, leaves-back}
+use Rattle.laws.proofs.Falls.{all-back, apart-same, found-same, known-same, ChangesAt-back, taken-count, ask-changes, deactivate-changes, LeavesOthers, release-leaves}
 use Rattle.laws.proofs.GroupsApart.{append-apart}
 use Rattle.laws.proofs.Lists.{all-weaker, all-both, all-appended}
 use Rattle.laws.proofs.Locals.{not_local-no_member}
@@ -20,7 +20,7 @@ use Rattle.laws.proofs.Picks.{filter-all, filter-passing, picks-all}
 use Rattle.laws.proofs.Spending.{ChangesAt, IsLocalTest, counted-one, number-one, members-one, members-none, promote-changes, activate-changes}
 use Rattle.laws.proofs.Ties.{taken-elsewhere}
 use Rattle.laws.proofs.ToldMoves.{is_temp}
-use Rattle.laws.proofs.Wanted.{linked, of-class, picks-most, own_picks, none_in-each, hot-active, promotes-within, activates-within, groups_promotes-within, groups_activates-within, one-of}
+use Rattle.laws.proofs.Wanted.{linked, of-class, picks-most, own_picks, none_in-each, hot-active, promotes-within, activates-within, groups_promotes-within, groups_activates-within, one-of, established-stays, active-stays}
 use Rattle.laws.proofs.WaitsOfParts.{order-unset}
 use Rattle.laws.proofs.Cases.{by_bool, by_option}
 use Rattle.laws.proofs.Promotions.{MayBy, promotes-carried, free-may}
@@ -80,14 +80,6 @@ unlinked test addr q at (x ∷ es) e none found =
 known-stays : (big : Bool) (m n : Machine) → IsUnset m n → known_wanted big n ≡ known_wanted big m
 known-stays false m n u = λ i. (effective_of (u.targets i) (u.now i)).known
 known-stays true m n u = λ i. (effective_big_of (u.big_targets i) (u.now i)).known
-
-established-stays : (big : Bool) (m n : Machine) → IsUnset m n → established_wanted big n ≡ established_wanted big m
-established-stays false m n u = λ i. (effective_of (u.targets i) (u.now i)).established
-established-stays true m n u = λ i. (effective_big_of (u.big_targets i) (u.now i)).established
-
-active-stays : (big : Bool) (m n : Machine) → IsUnset m n → active_wanted big n ≡ active_wanted big m
-active-stays false m n u = λ i. (effective_of (u.targets i) (u.now i)).active
-active-stays true m n u = λ i. (effective_big_of (u.big_targets i) (u.now i)).active
 
 one-also : (law other : Peer → Type 0) (o : Option Peer) → ((p : Peer) → law p → other p) → IsOne o law → IsOne o other
 one-also law other None each is = is
@@ -159,7 +151,7 @@ release-others big a b m h other here =
     let leaves : LeavesOthers a m n = release-leaves a m h in
     let unset : IsUnset m n = order-unset (Release a) m h in
     record {
-      peer = subst (λ o. IsOne o (λ p. (p.big ≡ big) × (p.temp ≡ Warm))) (sym (leaves-found a b m n leaves other)) here.peer;
+      peer = subst (λ o. IsOne o (λ p. (p.big ≡ big) × (p.temp ≡ Warm))) (sym (found-same a b m.peers n.peers other leaves.peers)) here.peer;
       settled = leaves.connections is_awaited b other here.settled;
       spared = subst (λ groups. (big || not (is_local groups b)) ≡ true) (sym unset.groups) here.spared;
     }
@@ -171,7 +163,7 @@ release-left big a addrs m h left =
     let same = established-stays big m n (order-unset (Release a) m h) in
     let falls : established_of big m.peers ≤ established_of big n.peers + 1 =
     counted-one a (λ p. is_of big p && is_established p.temp) (λ p. is_of big p && is_established p.temp) n.peers m.peers
-    (leaves-apart a m n h.formed.peers leaves) (leaves-back a m n leaves) (λ p other. refl) in
+    (apart-same a m.peers n.peers leaves.peers h.formed.peers) (all-back a m.peers n.peers leaves.peers) (λ p other. refl) in
     omega (arith, falls, same, left)
 
 releases-spend : (big : Bool) → Spends IsLawful (Releasable big) (ReleasesLeft big) Release
@@ -228,8 +220,8 @@ asks-spend k = record {
         let n : Machine = (carries_out (Ask a k) m).machine in
         let changes : ChangesAt a m n = ask-changes a k m h in
         record {
-          peer = subst (λ now. IsOne (peer_at b n) (λ p. (p.big ≡ false) × (is_established p.temp ≡ true) × (p.share_next ≤ now))) (sym changes.now)
-              (subst (λ o. IsOne o (λ p. (p.big ≡ false) × (is_established p.temp ≡ true) × (p.share_next ≤ m.now))) (sym (changes-found a b m n changes other)) here.peer);
+          peer = subst (λ now. IsOne (peer_at b n) (λ p. (p.big ≡ false) × (is_established p.temp ≡ true) × (p.share_next ≤ now))) (sym (order-unset (Ask a k) m h).now)
+              (subst (λ o. IsOne o (λ p. (p.big ≡ false) × (is_established p.temp ≡ true) × (p.share_next ≤ m.now))) (sym (found-same a b m.peers n.peers other changes.peers)) here.peer);
           shares = changes.connections can_tell b other ∙ here.shares;
         }
 
@@ -239,7 +231,7 @@ asks-spend k = record {
         let changes : ChangesAt a m n = ask-changes a k m h in
         let unset : IsUnset m n = order-unset (Ask a k) m h in
         let wanted : known_wanted false n ≡ known_wanted false m = known-stays false m n unset in
-        let known : known_of false n.peers ≡ known_of false m.peers = changes-known false a m n changes in
+        let known : known_of false n.peers ≡ known_of false m.peers = known-same false a m.peers n.peers changes.peers in
         let more = number-one tells_soon tells-local false a m n h.formed.peers changes in
         let shares : n.settings.shares ≡ m.settings.shares = ap (λ s. s.shares) unset.settings in
         let few = left.few in
@@ -269,10 +261,10 @@ promote-others a b m h other here =
     let n : Machine = (carries_out (Promote a) m).machine in
     let changes : ChangesAt a m n = promote-changes a m h in
     record {
-      peer = subst (λ o. IsOne o (λ p. p.temp ≡ Cold)) (sym (changes-found a b m n changes other)) here.peer;
+      peer = subst (λ o. IsOne o (λ p. p.temp ≡ Cold)) (sym (found-same a b m.peers n.peers other changes.peers)) here.peer;
       idle = changes.connections (λ e. is_pending e.facts) b other ∙ here.idle;
       free = (λ i. not (changes.connections is_any b other i) || changes.connections (λ e. is_acquirable e.facts) b other i) ∙ here.free;
-      ready = subst (λ t. IsReady t (peer_at b n)) (sym changes.now) (subst (IsReady m.now) (sym (changes-found a b m n changes other)) here.ready);
+      ready = subst (λ t. IsReady t (peer_at b n)) (sym (order-unset (Promote a) m h).now) (subst (IsReady m.now) (sym (found-same a b m.peers n.peers other changes.peers)) here.ready);
     }
 
 promotes-spend : Spends IsAllowed Promotable Enough Promote
@@ -300,7 +292,7 @@ activate-others a b m h other here =
     let n : Machine = (carries_out (Activate a) m).machine in
     let changes : ChangesAt a m n = activate-changes a m h in
     record {
-      peer = subst (λ o. IsOne o (λ p. p.temp ≡ Warm)) (sym (changes-found a b m n changes other)) here.peer;
+      peer = subst (λ o. IsOne o (λ p. p.temp ≡ Warm)) (sym (found-same a b m.peers n.peers other changes.peers)) here.peer;
       unasked = changes.connections is_to_answer b other ∙ here.unasked;
     }
 
@@ -325,14 +317,14 @@ deactivate-others : (big : Bool) (a b : Addr) (m : Machine) → IsOrdered m → 
     Deactivatable big (carries_out (Deactivate a) m).machine b
 deactivate-others big a b m h other here =
     let n : Machine = (carries_out (Deactivate a) m).machine in
-    record { peer = subst (λ o. IsOne o (λ p. (p.big ≡ big) × (p.temp ≡ Hot))) (sym (changes-found a b m n (deactivate-changes a m h) other)) here.peer }
+    record { peer = subst (λ o. IsOne o (λ p. (p.big ≡ big) × (p.temp ≡ Hot))) (sym (found-same a b m.peers n.peers other (deactivate-changes a m h).peers)) here.peer }
 
 -- one less of a class at most
 hot-falls : (big : Bool) (a : Addr) (m : Machine) → IsOrdered m → active_of big m.peers ≤ active_of big (carries_out (Deactivate a) m).machine.peers + 1
 hot-falls big a m h =
     let n : Machine = (carries_out (Deactivate a) m).machine in
     let changes : ChangesAt a m n = deactivate-changes a m h in
-    number-one is_hot hot-local big a n m (changes-apart a m n h.formed.peers changes) (ChangesAt-back a m n changes)
+    number-one is_hot hot-local big a n m (apart-same a m.peers n.peers changes.peers h.formed.peers) (ChangesAt-back a m n changes)
 
 -- of big ledger peers, of which none is in a group
 abbrev BigHotLeft : List Addr → Machine → Type 0
@@ -422,7 +414,7 @@ hot-left a addrs m h left = record {
     back = ChangesAt-back a m n changes
 
     apart : ArePeersApart n.peers
-    apart = changes-apart a m n h.formed.peers changes
+    apart = apart-same a m.peers n.peers changes.peers h.formed.peers
 
     unset : IsUnset m n
     unset = order-unset (Deactivate a) m h
@@ -508,9 +500,6 @@ one-found law p o found holds = subst (λ x. IsOne x law) (sym found) holds
 abbrev links_of : Machine → List Link
 links_of m = map link_of m.connections
 
-unless : (b : Bool) → not b ≡ true → b ≡ false
-unless b h = not-true b h
-
 forget-gives : (big : Bool) (among : Addr → Bool) (m : Machine) →
     ((a : Addr) → among a ≡ true → (big || not (is_local m.groups a || is_listed a m.roots.publics)) ≡ true) →
     Gives (Forgettable big) big (λ p. among p.addr && may_be_forgotten (links_of m) p) m
@@ -519,7 +508,7 @@ forget-gives big among m spared p class passes found =
     let parts = and_parts (same_temp p.temp Cold) (not (is_pending_link (links_of m) p.addr)) both.1 in
     record {
       peer = one-found (λ q. (q.big ≡ big) × (q.temp ≡ Cold)) p (peer_at p.addr m) found (class, is_temp p.temp Cold parts.0);
-      idle = sym (linked (λ l. l.pending) p.addr m.connections) ∙ unless (is_pending_link (links_of m) p.addr) parts.1;
+      idle = sym (linked (λ l. l.pending) p.addr m.connections) ∙ not-true (is_pending_link (links_of m) p.addr) parts.1;
       spared = spared p.addr both.0;
     }
 
@@ -530,7 +519,7 @@ release-gives big among m spared p class passes found =
     let parts = and_parts (same_temp p.temp Warm) (not (owes_a_reply (links_of m) p.addr)) both.1 in
     record {
       peer = one-found (λ q. (q.big ≡ big) × (q.temp ≡ Warm)) p (peer_at p.addr m) found (class, is_temp p.temp Warm parts.0);
-      settled = sym (linked (λ l. l.owes2 || l.owes8 || l.owes10) p.addr m.connections) ∙ unless (owes_a_reply (links_of m) p.addr) parts.1;
+      settled = sym (linked (λ l. l.owes2 || l.owes8 || l.owes10) p.addr m.connections) ∙ not-true (owes_a_reply (links_of m) p.addr) parts.1;
       spared = spared p.addr both.0;
     }
 
@@ -553,7 +542,7 @@ promote-gives big m p class passes found =
     let parts = and_parts (same_temp p.temp Cold) (not (is_pending_link links p.addr)) middle.0 in
     record {
       peer = one-found (λ q. q.temp ≡ Cold) p (peer_at p.addr m) found (is_temp p.temp Cold parts.0);
-      idle = sym (linked (λ l. l.pending) p.addr m.connections) ∙ unless (is_pending_link links p.addr) parts.1;
+      idle = sym (linked (λ l. l.pending) p.addr m.connections) ∙ not-true (is_pending_link links p.addr) parts.1;
       free = sym (λ i. not (linked (λ l. true) p.addr m.connections i) || linked (λ l. l.acquirable) p.addr m.connections i) ∙ last.1;
       ready = subst (IsReady m.now) (sym found) (leb-true p.not_before m.now middle.1);
     }
@@ -563,7 +552,7 @@ activate-gives big m p class passes found =
     let parts = and_parts (same_temp p.temp Warm) (not (owes_on_2 (links_of m) p.addr)) passes in
     record {
       peer = one-found (λ q. q.temp ≡ Warm) p (peer_at p.addr m) found (is_temp p.temp Warm parts.0);
-      unasked = sym (linked (λ l. l.owes2) p.addr m.connections) ∙ unless (owes_on_2 (links_of m) p.addr) parts.1;
+      unasked = sym (linked (λ l. l.owes2) p.addr m.connections) ∙ not-true (owes_on_2 (links_of m) p.addr) parts.1;
     }
 
 deactivate-gives : (big : Bool) (m : Machine) → Gives (Deactivatable big) big may_be_deactivated m
@@ -688,10 +677,6 @@ apart_of-local m b [] free local = refl
 apart_of-local m b (x ∷ xs) free local = by_bool (same_address b x) (λ c. is_listed b xs ≡ false → (c || is_listed b xs) ≡ false)
     (λ is rest. absurd (both_ways (is_local m.groups b) (subst (λ y. is_local m.groups y ≡ false) (sym (same_address-true b x is)) free.0) local))
     (λ is rest. rest) (apart_of-local m b xs free.1 local)
-
-pub map-append : (order : Addr → Order) (xs ys : List Addr) → map order (xs ++ ys) ≡ map order xs ++ map order ys
-map-append order [] ys = refl
-map-append order (x ∷ xs) ys = ap (λ orders. order x ∷ orders) (map-append order xs ys)
 
 module _ (word : ℕ) (m : Machine) (h : IsOrdered m) where
   abbrev front : List Addr

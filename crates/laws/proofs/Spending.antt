@@ -1,13 +1,13 @@
 -- A move at one address raises what is counted by one at most.
 use Rattle.std.proofs.Common.{ℕ, zero, suc, ◌+◌, ◌%◌, ◌≤◌, ◌≡◌, Bool, true, false, cond, ◌&&◌, ◌||◌, if◌then◌else◌, set, List, [], ◌∷◌, ◌++◌, find, count_by, Option, Some, None, is_some, refl, sym, ap, ◌∙◌, subst, arith}
-use Rattle.laws.proofs.Words.{and_parts, sum_by-cons}
+use Rattle.laws.proofs.Words.{both_ways, and_parts, sum_by-cons}
 use Rattle.laws.specs.Words.{list_any, AllByRecursion, option_map, same_address, Addr, Group, Peer, Warm, dialing, acquired, is_live, is_live_at, is_acquirable, is_pending, has_address, is_of, is_established, is_active, with_peer, is_listed, Machine, Entry, fresh_entry, live_entry_at, reply_on, owing, turns_at, peer_at, with_entry, acquire, dial, promoted_at, promote, is_used_at, activates, activate, on_entry}
 use Rattle.peer_book.specs.Book.{peer_at as peer_in}
 use Rattle.laws.specs.AtMoves.{some_connection, is_established_or_pending, is_active_or_asked, number_with, members_with}
 use Rattle.laws.specs.Steady.{ArePeersApart, IsOrdered}
 use Rattle.laws.proofs.Addresses.{same_address-true}
 use Rattle.laws.proofs.Entries.{TurnsInto, turned-connections}
-use Rattle.laws.proofs.Lists.{StandsAt, stands_before, FoundIn, find_some}
+use Rattle.laws.proofs.Lists.{all-true, all-weaker, StandsAt, stands_before, FoundIn, find_some}
 use Rattle.laws.proofs.PeersApart.{same_turned}
 use Rattle.laws.proofs.Cases.{by_bool, by_option}
 
@@ -69,60 +69,38 @@ class_at addr ps = option_map (λ p. p.big) (peer_in addr ps)
 
 pub same_but-class : (addr b : Addr) (ps qs : List Peer) → AreSameBut addr ps qs → class_at b qs ≡ class_at b ps
 same_but-class addr b [] [] h = refl
-same_but-class addr b [] (q ∷ qs) h = elim h [ ]
-same_but-class addr b (p ∷ ps) [] h = elim h [ ]
 same_but-class addr b (p ∷ ps) (q ∷ qs) h =
     ap (λ a. option_map (λ x. x.big) (cond (same_address a b) (Some q) (peer_in b qs))) h.0.same_addr
     ∙ by_bool (same_address p.addr b)
     (λ c. class_at b qs ≡ class_at b ps → option_map (λ x. x.big) (cond c (Some q) (peer_in b qs)) ≡ option_map (λ x. x.big) (cond c (Some p) (peer_in b ps)))
     (λ is rest. ap Some h.0.same_class) (λ is rest. rest) (same_but-class addr b ps qs h.1)
+same_but-class addr b ps qs h = elim h [ ]
 
 -- ---- what is counted
 
-one-most : (b : Bool) → cond {A = ℕ} b 1 0 ≤ 1
+pub one-most : (b : Bool) → cond {A = ℕ} b 1 0 ≤ 1
 one-most true = omega arith
 one-most false = omega arith
 
 -- none is counted anew where whoever has the address fails
-pub counted-none : (addr : Addr) (s t : Peer → Bool) (ps qs : List Peer) → AreSameBut addr ps qs →
-    ((p : Peer) → same_address p.addr addr ≡ false → t p ≡ s p) → ((q : Peer) → same_address q.addr addr ≡ true → t q ≡ false) →
-    count_by t qs ≤ count_by s ps
+pub counted-none : (addr : Addr) (s t : Peer → Bool) (ps qs : List Peer) → AreSameBut addr ps qs → ((p : Peer) → same_address p.addr addr ≡ false → t p ≡ s p) →
+    AllByRecursion (λ p. (q : Peer) → q.addr ≡ p.addr → same_address p.addr addr ≡ true → t q ≡ false) ps → count_by t qs ≤ count_by s ps
 counted-none addr s t [] [] h other fails = omega arith
-counted-none addr s t [] (q ∷ qs) h other fails = elim h [ ]
-counted-none addr s t (p ∷ ps) [] h other fails = elim h [ ]
 counted-none addr s t (p ∷ ps) (q ∷ qs) h other fails =
     let here : cond {A = ℕ} (t q) 1 0 ≤ cond {A = ℕ} (s p) 1 0 = by_bool (same_address p.addr addr)
     (λ b. cond {A = ℕ} (t q) 1 0 ≤ cond {A = ℕ} (s p) 1 0)
-    (λ at.
-    let none : t q ≡ false = fails q (ap (λ a. same_address a addr) h.0.same_addr ∙ at) in
-    subst (λ b. cond {A = ℕ} b 1 0 ≤ cond {A = ℕ} (s p) 1 0) (sym none) (omega arith))
-    (λ elsewhere.
-    let same : t q ≡ s p = ap t (h.0.elsewhere elsewhere) ∙ other p elsewhere in
-    subst (λ b. cond {A = ℕ} b 1 0 ≤ cond {A = ℕ} (s p) 1 0) (sym same) (omega arith)) in
-    let rest = counted-none addr s t ps qs h.1 other fails in
+    (λ at. subst (λ b. cond {A = ℕ} b 1 0 ≤ cond {A = ℕ} (s p) 1 0) (sym (fails.0 q h.0.same_addr at)) (omega arith))
+    (λ elsewhere. subst (λ b. cond {A = ℕ} b 1 0 ≤ cond {A = ℕ} (s p) 1 0) (sym (ap t (h.0.elsewhere elsewhere) ∙ other p elsewhere)) (omega arith)) in
+    let rest = counted-none addr s t ps qs h.1 other fails.1 in
     let before = sum_by-cons (λ x. cond {A = ℕ} (s x) 1 0) p ps in
     let after = sum_by-cons (λ x. cond {A = ℕ} (t x) 1 0) q qs in
     omega (arith, here, rest, before, after)
-
-counted-others : (addr : Addr) (s t : Peer → Bool) (ps qs : List Peer) → AreSameBut addr ps qs →
-    ((p : Peer) → same_address p.addr addr ≡ false → t p ≡ s p) → AllByRecursion (λ p. same_address p.addr addr ≡ false) ps →
-    count_by t qs ≤ count_by s ps
-counted-others addr s t [] [] h other apart = omega arith
-counted-others addr s t [] (q ∷ qs) h other apart = elim h [ ]
-counted-others addr s t (p ∷ ps) [] h other apart = elim h [ ]
-counted-others addr s t (p ∷ ps) (q ∷ qs) h other apart =
-    let same : cond {A = ℕ} (t q) 1 0 ≡ cond {A = ℕ} (s p) 1 0 = ap (λ b. cond {A = ℕ} b 1 0) (ap t (h.0.elsewhere apart.0) ∙ other p apart.0) in
-    let rest = counted-others addr s t ps qs h.1 other apart.1 in
-    let before = sum_by-cons (λ x. cond {A = ℕ} (s x) 1 0) p ps in
-    let after = sum_by-cons (λ x. cond {A = ℕ} (t x) 1 0) q qs in
-    omega (arith, same, rest, before, after)
+counted-none addr s t ps qs h other fails = elim h [ ]
 
 -- at most one more, since no two peers have one address
 pub counted-one : (addr : Addr) (s t : Peer → Bool) (ps qs : List Peer) → ArePeersApart ps → AreSameBut addr ps qs →
     ((p : Peer) → same_address p.addr addr ≡ false → t p ≡ s p) → count_by t qs ≤ count_by s ps + 1
 counted-one addr s t [] [] apart h other = omega arith
-counted-one addr s t [] (q ∷ qs) apart h other = elim h [ ]
-counted-one addr s t (p ∷ ps) [] apart h other = elim h [ ]
 counted-one addr s t (p ∷ ps) (q ∷ qs) apart h other =
     let before = sum_by-cons (λ x. cond {A = ℕ} (s x) 1 0) p ps in
     let after = sum_by-cons (λ x. cond {A = ℕ} (t x) 1 0) q qs in
@@ -130,20 +108,18 @@ counted-one addr s t (p ∷ ps) (q ∷ qs) apart h other =
     (λ b. count_by s (p ∷ ps) ≡ cond {A = ℕ} (s p) 1 0 + count_by s ps →
     count_by t (q ∷ qs) ≡ cond {A = ℕ} (t q) 1 0 + count_by t qs → count_by t qs ≤ count_by s ps + 1 → count_by t (q ∷ qs) ≤ count_by s (p ∷ ps) + 1)
     (λ at before after later.
-    let rest = counted-others addr s t ps qs h.1 other
-    (subst (λ a. AllByRecursion (λ x. same_address x.addr a ≡ false) ps) (same_address-true p.addr addr at) apart.0) in
+    let rest = counted-none addr s t ps qs h.1 other (all-weaker (λ x. same_address x.addr p.addr ≡ false)
+    (λ x. (y : Peer) → y.addr ≡ x.addr → same_address x.addr addr ≡ true → t y ≡ false)
+    (λ x away y same there. absurd (both_ways (same_address x.addr addr) (subst (λ a. same_address x.addr a ≡ false) (same_address-true p.addr addr at) away) there)) ps apart.0) in
     omega (arith, one-most (t q), rest, before, after))
     (λ elsewhere before after later.
     let same : cond {A = ℕ} (t q) 1 0 ≡ cond {A = ℕ} (s p) 1 0 = ap (λ b. cond {A = ℕ} b 1 0) (ap t (h.0.elsewhere elsewhere) ∙ other p elsewhere) in
     omega (arith, same, later, before, after)) before after (counted-one addr s t ps qs apart.1 h.1 other)
+counted-one addr s t ps qs apart h other = elim h [ ]
 
 -- ---- records that differ at one address
 
 pub record ChangesAt (addr : Addr) (before after : Machine) : Type 0 where
-  pub now : after.now ≡ before.now
-  pub targets : after.targets ≡ before.targets
-  pub big_targets : after.big_targets ≡ before.big_targets
-  pub groups : after.groups ≡ before.groups
   pub peers : AreSameBut addr before.peers after.peers
   pub connections : (test : Entry → Bool) (b : Addr) → same_address b addr ≡ false → some_connection test b after ≡ some_connection test b before
 
@@ -184,8 +160,9 @@ module _ (test : Machine → Peer → Bool) (same : IsLocalTest test) where
       counted-none addr (λ p. is_of false p && (is_listed p.addr group.members && test m p))
       (λ p. is_of false p && (is_listed p.addr group.members && test n p)) m.peers n.peers h.peers
       (members-same group addr m n h)
-      (λ q at. none_unlisted (is_of false q) (is_listed q.addr group.members) (test n q)
-      (subst (λ a. is_listed a group.members ≡ false) (sym (same_address-true q.addr addr at)) unlisted))
+      (all-true (λ p. (q : Peer) → q.addr ≡ p.addr → same_address p.addr addr ≡ true → (is_of false q && (is_listed q.addr group.members && test n q)) ≡ false)
+      (λ p q same at. none_unlisted (is_of false q) (is_listed q.addr group.members) (test n q)
+      (subst (λ a. is_listed a group.members ≡ false) (sym (same ∙ same_address-true p.addr addr at)) unlisted)) m.peers)
 
 -- ---- what the connections of other addresses are
 
@@ -220,17 +197,13 @@ turned-same m e new k h s t test b other =
 
 dial-changes : (addr : Addr) (m : Machine) → ChangesAt addr m (dial addr m).machine
 dial-changes addr m = record {
-  now = refl;
-  targets = refl;
-  big_targets = refl;
-  groups = refl;
   peers = all_same addr m.peers;
   connections = λ test b other. pushed-same test b (fresh_entry (dialing m.next_id addr)) m.connections (same_turned b addr other);
 }
 
 acquire-changes : (m : Machine) (e : Entry) (k : ℕ) → IsOrdered m → StandsAt m.connections k e → ChangesAt e.facts.addr m (acquire e m).machine
 acquire-changes m e k h s = by_option (peer_at e.facts.addr m) (λ o. ChangesAt e.facts.addr m (turns_at o warm (with_entry new m)).machine)
-    (λ is. record { now = refl; targets = refl; big_targets = refl; groups = refl; peers = all_same e.facts.addr m.peers; connections = same })
+    (λ is. record { peers = all_same e.facts.addr m.peers; connections = same })
     (λ p is.
     let here : p.addr ≡ e.facts.addr = same_address-true p.addr e.facts.addr (find_some (has_address e.facts.addr) m.peers p is).passes in
     assumption (
@@ -264,16 +237,12 @@ promote-changes addr m h = by_live (live_entry_at addr m) refl
 
 pub activate-changes : (addr : Addr) (m : Machine) → IsOrdered m → ChangesAt addr m (activate addr m).machine
 activate-changes addr m h = by_option (find (is_used_at addr) m.connections) (λ o. ChangesAt addr m (on_entry o activates m).machine)
-    (λ is. record { now = refl; targets = refl; big_targets = refl; groups = refl; peers = all_same addr m.peers; connections = λ test b other. refl })
+    (λ is. record { peers = all_same addr m.peers; connections = λ test b other. refl })
     (λ e is.
     let at : FoundIn (is_used_at addr) m.connections e = find_some (is_used_at addr) m.connections e is in
     let lives = and_parts (same_address e.facts.addr addr) (is_live e.facts) (and_parts (is_live_at addr e.facts) e.facts.local at.passes).0 in
     let here : e.facts.addr ≡ addr = same_address-true e.facts.addr addr lives.0 in
     record {
-      now = refl;
-      targets = refl;
-      big_targets = refl;
-      groups = refl;
       peers = all_same addr m.peers;
       connections = λ test b other. turned-same m e (owing 2 0 m e) at.place h at.stands (record { same_id = refl; same_addr = refl; live = λ l. l }) test b
           (subst (λ a. same_address b a ≡ false) (sym here) other);

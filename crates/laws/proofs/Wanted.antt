@@ -6,6 +6,7 @@ use Rattle.govern_rules.specs.ClassRules.{activates as activates_class}
 use Rattle.govern_rules.specs.Links.{is_pending as is_pending_link}
 use Rattle.peer_book.specs.Book.{peer_at as peer_in}
 use Rattle.laws.specs.AtMoves.{some_connection, is_established_or_pending, is_active_or_asked, number_with, members_with, established_wanted, active_wanted, IsWanted}
+use Rattle.laws.specs.CarriedOut.{IsUnset}
 use Rattle.laws.specs.Laws.{is_local}
 use Rattle.laws.specs.Steady.{ArePeersApart, AreApart, IsOrdered}
 use Rattle.laws.proofs.Chosen.{chosen, chosen-all, PicksMembers, picks-listed, groups_picks-all, apart-behind, front-not_behind, map-groups, group_picks}
@@ -20,6 +21,7 @@ use Rattle.laws.proofs.Picks.{filter-all, filter-passing, picks-all}
 use Rattle.laws.proofs.Spending.{ChangesAt, IsLocalTest, established_or_pending-same, active_or_asked-same, class_at, same_but-class, number-one, members-one, members-none, promote-changes, activate-changes}
 use Rattle.laws.proofs.Cases.{by_bool, by_option, some_same}
 use Rattle.laws.proofs.ToldMoves.{turns_at-moves}
+use Rattle.laws.proofs.WaitsOfParts.{order-unset}
 
 -- ---- an order that uses up what is wanted
 
@@ -29,15 +31,15 @@ record Uses (counts : Machine → Peer → Bool) (wanted : Bool → Machine → 
   local : IsLocalTest counts
   within : (addr : Addr) (m : Machine) → IsWanted counts wanted valency addr m (carries_out (order addr) m).machine →
       AllByRecursion Within (carries_out (order addr) m).moves
-  stays : (big : Bool) (addr : Addr) (m n : Machine) → ChangesAt addr m n → wanted big n ≡ wanted big m
+  stays : (big : Bool) (m n : Machine) → IsUnset m n → wanted big n ≡ wanted big m
 
-established-stays : (big : Bool) (addr : Addr) (m n : Machine) → ChangesAt addr m n → established_wanted big n ≡ established_wanted big m
-established-stays false addr m n h = λ i. (effective_of (h.targets i) (h.now i)).established
-established-stays true addr m n h = λ i. (effective_big_of (h.big_targets i) (h.now i)).established
+pub established-stays : (big : Bool) (m n : Machine) → IsUnset m n → established_wanted big n ≡ established_wanted big m
+established-stays false m n h = λ i. (effective_of (h.targets i) (h.now i)).established
+established-stays true m n h = λ i. (effective_big_of (h.big_targets i) (h.now i)).established
 
-active-stays : (big : Bool) (addr : Addr) (m n : Machine) → ChangesAt addr m n → active_wanted big n ≡ active_wanted big m
-active-stays false addr m n h = λ i. (effective_of (h.targets i) (h.now i)).active
-active-stays true addr m n h = λ i. (effective_big_of (h.big_targets i) (h.now i)).active
+pub active-stays : (big : Bool) (m n : Machine) → IsUnset m n → active_wanted big n ≡ active_wanted big m
+active-stays false m n h = λ i. (effective_of (h.targets i) (h.now i)).active
+active-stays true m n h = λ i. (effective_big_of (h.big_targets i) (h.now i)).active
 
 acquire-moves : (e : Entry) (m : Machine) → (acquire e m).moves ≡ []
 acquire-moves e m =
@@ -144,7 +146,7 @@ module _ {counts : Machine → Peer → Bool} {wanted : Bool → Machine → ℕ
     (uses : Uses counts wanted valency order) where
   -- what is left for the orders that are still to come lets the first of them through, and is left for the rest
   abbrev Lets : (List Addr → Machine → Type 0) → Type 0
-  Lets Left = (a : Addr) (addrs : List Addr) (m n : Machine) → IsOrdered m → ChangesAt a m n → Left (a ∷ addrs) m →
+  Lets Left = (a : Addr) (addrs : List Addr) (m n : Machine) → IsOrdered m → IsUnset m n → ChangesAt a m n → Left (a ∷ addrs) m →
       IsWanted counts wanted valency a m n × Left addrs n
 
   orders-within : (Left : List Addr → Machine → Type 0) → Lets Left → (addrs : List Addr) (m : Machine) → EachAccounted (map order addrs) m → Left addrs m →
@@ -153,7 +155,7 @@ module _ {counts : Machine → Peer → Bool} {wanted : Bool → Machine → ℕ
   orders-within Left lets [] m each left = tt
   orders-within Left lets (a ∷ addrs) m each left =
       let n : Machine = (carries_out (order a) m).machine in
-      let step = lets a addrs m n each.0.ordered (uses.changes a m each.0.ordered) left in
+      let step = lets a addrs m n each.0.ordered (order-unset (order a) m each.0.ordered) (uses.changes a m each.0.ordered) left in
       all-appended Within (carries_out (order a) m).moves (for_each carries_out (map order addrs) n).moves (uses.within a m step.0)
       (orders-within Left lets addrs n each.1 step.1)
 
@@ -166,10 +168,10 @@ module _ {counts : Machine → Peer → Bool} {wanted : Bool → Machine → ℕ
     among : AllByRecursion (λ a. (big || not (is_local m.groups a)) ≡ true) addrs
 
   class-lets : (big : Bool) → Lets (ClassLeft big)
-  class-lets big a addrs m n h changes left =
+  class-lets big a addrs m n h unset changes left =
       let more = number-one counts uses.local big a m n h.formed.peers changes in
       let number = left.number in
-      let same = uses.stays big a m n changes in (
+      let same = uses.stays big m n unset in (
         record {
           by_target = λ p found either.
               subst (λ b. number_with counts b n ≤ wanted b n) (sym (class_of p found)) (omega (arith, more, number, same));
@@ -183,7 +185,7 @@ module _ {counts : Machine → Peer → Bool} {wanted : Bool → Machine → ℕ
           number = omega (arith, more, number, same);
           class = all-weaker (λ b. class_at b m.peers ≡ Some big) (λ b. class_at b n.peers ≡ Some big)
               (λ b is. same_but-class a b m.peers n.peers changes.peers ∙ is) addrs left.class.1;
-          among = subst (λ groups. AllByRecursion (λ b. (big || not (is_local groups b)) ≡ true) addrs) (sym changes.groups) left.among.1;
+          among = subst (λ groups. AllByRecursion (λ b. (big || not (is_local groups b)) ≡ true) addrs) (sym unset.groups) left.among.1;
         },
       )
     where
@@ -214,7 +216,7 @@ module _ {counts : Machine → Peer → Bool} {wanted : Bool → Machine → ℕ
     among : AllByRecursion (λ a. is_listed a (members_of m.groups) ≡ true) addrs
 
   groups-lets : Lets GroupsLeft
-  groups-lets a addrs m n h changes left = (
+  groups-lets a addrs m n h unset changes left = (
     record {
       by_target = λ p found either.
           let unlisted = not-true (is_local m.groups a) (subst (λ b. (b || not (is_local m.groups a)) ≡ true) (class_of p found) either) in
@@ -223,11 +225,11 @@ module _ {counts : Machine → Peer → Bool} {wanted : Bool → Machine → ℕ
           (all-weaker (HasLeft (a ∷ addrs) m) Within_valency (λ group left listed. listed-within group left listed) m.groups left.numbers);
     },
     record {
-      numbers = subst (AllByRecursion (HasLeft addrs n)) (sym changes.groups)
+      numbers = subst (AllByRecursion (HasLeft addrs n)) (sym unset.groups)
           (all-weaker (HasLeft (a ∷ addrs) m) (HasLeft addrs n) (λ group left. still_left group left (is_listed a group.members) refl) m.groups left.numbers);
       class = all-weaker (λ b. class_at b m.peers ≡ Some false) (λ b. class_at b n.peers ≡ Some false)
           (λ b is. same_but-class a b m.peers n.peers changes.peers ∙ is) addrs left.class.1;
-      among = subst (λ groups. AllByRecursion (λ b. is_listed b (members_of groups) ≡ true) addrs) (sym changes.groups) left.among.1;
+      among = subst (λ groups. AllByRecursion (λ b. is_listed b (members_of groups) ≡ true) addrs) (sym unset.groups) left.among.1;
     },
   )
     where
