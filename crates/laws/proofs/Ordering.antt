@@ -1,7 +1,7 @@
 -- Each order of the governor is due: whom a rule picks is one that it may be for, and it picks as many as are too few or too many.
 use Rattle.std.proofs.Common.{ℕ, ◌+◌, ◌-◌, ◌≤◌, ◌<◌, ◌≡◌, Bool, true, false, cond, not, ◌&&◌, ◌||◌, nat_le, nat_lt, min, if◌then◌else◌, List, [], ◌∷◌, ◌++◌, length, map, filter, flat_map, count_by, Option, Some, refl, sym, ap, ◌∙◌, subst, arith, leb-true, find, is_some, None}
 use Rattle.laws.proofs.Words.{both_ways, and_parts, not-true, false≢true, or_parts, All-from_recursion, sum_by-cons, sum_by-append, count_by-le-length, count_none, map-append}
-use Rattle.laws.specs.Words.{AllByRecursion, same_address, Addr, Group, Peer, Cold, Warm, Hot, effective_of, effective_big_of, is_acquirable, is_pending, is_live, is_live_at, everybody, big_orders, may_be_asked, is_eligible, may_be_forgotten, may_be_released, may_be_activated, may_be_deactivated, count_of, is_linked, owes_on_2, owes_on_10, owes_a_reply, can_share, some_link, orders_for, is_not_local, may_be_dropped, is_member_and, members_count, missing_of, g2_orders, g3_orders, g4_orders, g5_orders, g6_orders, g7_orders, g8_orders, g9_orders, B3, B5, B6, B8, B9, Link, Order, Ask, Forget, Promote, Release, Activate, Deactivate, is_of, is_established, same_temp, known_of, established_of, active_of, is_listed, for_each, Effect, Move, link_of, view_of, carries_out, ordinary_rules, big_rules, is_used_at, Machine, Entry, counted_in, live_entry_at, peer_at, reply_on}
+use Rattle.laws.specs.Words.{AllByRecursion, same_address, Addr, Group, Peer, Temp, Cold, Warm, Hot, effective_of, effective_big_of, is_acquirable, is_pending, is_live, is_live_at, everybody, big_orders, may_be_asked, is_eligible, may_be_forgotten, may_be_released, may_be_activated, may_be_deactivated, count_of, is_linked, owes_on_2, owes_on_10, owes_a_reply, can_share, some_link, orders_for, is_not_local, may_be_dropped, is_member_and, members_count, missing_of, g2_orders, g3_orders, g4_orders, g5_orders, g6_orders, g7_orders, g8_orders, g9_orders, B3, B5, B6, B8, B9, Link, Order, Ask, Forget, Promote, Release, Activate, Deactivate, is_of, is_established, same_temp, known_of, established_of, active_of, is_listed, for_each, Effect, Move, link_of, view_of, carries_out, ordinary_rules, big_rules, is_used_at, Machine, Entry, counted_in, live_entry_at, peer_at, reply_on}
 use Rattle.govern_rules.specs.Links.{is_pending as is_pending_link, is_acquirable as is_acquirable_link}
 use Rattle.laws.specs.AtMoves.{some_connection, number_with, members_with, known_wanted, established_wanted, active_wanted, IsLawful, IsReady}
 use Rattle.laws.specs.CarriedOut.{IsUnset}
@@ -81,6 +81,10 @@ known-stays : (big : Bool) (m n : Machine) → IsUnset m n → known_wanted big 
 known-stays false m n u = λ i. (effective_of (u.targets i) (u.now i)).known
 known-stays true m n u = λ i. (effective_big_of (u.big_targets i) (u.now i)).known
 
+-- its peer is of a class, and cold, warm or hot
+abbrev IsAt : Bool → Temp → Peer → Type 0
+IsAt big temp p = (p.big ≡ big) × (p.temp ≡ temp)
+
 one-also : (law other : Peer → Type 0) (o : Option Peer) → ((p : Peer) → law p → other p) → IsOne o law → IsOne o other
 one-also law other None each is = is
 one-also law other (Some p) each is = each p is
@@ -88,83 +92,47 @@ one-also law other (Some p) each is = each p is
 -- ---- a peer is forgotten
 
 record Forgettable (big : Bool) (m : Machine) (a : Addr) : Type 0 where
-  peer : IsOne (peer_at a m) (λ p. (p.big ≡ big) × (p.temp ≡ Cold))
+  peer : IsOne (peer_at a m) (IsAt big Cold)
   idle : some_connection (λ e. is_pending e.facts) a m ≡ false
   spared : (big || not (is_local m.groups a || is_listed a m.roots.publics)) ≡ true
 
 abbrev ForgetsLeft : Bool → List Addr → Machine → Type 0
 ForgetsLeft big addrs m = length addrs ≤ known_of big m.peers - known_wanted big m
 
-forget-due : (big : Bool) (a : Addr) (addrs : List Addr) (m : Machine) → Forgettable big m a → ForgetsLeft big (a ∷ addrs) m → IsDueOrder (Forget a) m
-forget-due big a addrs m may left = one-also (λ p. (p.big ≡ big) × (p.temp ≡ Cold)) (λ p. MayBeForgotten a p m) (peer_at a m) (λ p is. record {
-  cold = is.1;
-  idle = may.idle;
-  spared = subst (λ b. (b || not (is_local m.groups a || is_listed a m.roots.publics)) ≡ true) (sym is.0) may.spared;
-  surplus = subst (λ b. known_wanted b m < known_of b m.peers) (sym is.0) (omega (arith, left));
-}) may.peer
-
-forget-left : (big : Bool) (a : Addr) (addrs : List Addr) (m : Machine) → IsOrdered m → ForgetsLeft big (a ∷ addrs) m → ForgetsLeft big addrs (carries_out (Forget a) m).machine
-forget-left big a addrs m h left =
-    let n : Machine = (carries_out (Forget a) m).machine in
-    let falls : known_of big m.peers ≤ known_of big n.peers + 1 = taken-count (is_of big) a m.peers h.formed.peers in
-    let same = known-stays big m n (order-unset (Forget a) m h) in
-    omega (arith, falls, same, left)
-
 forgets-spend : (big : Bool) → Spends IsLawful (Forgettable big) (ForgetsLeft big) Forget
 forgets-spend big = record {
   carried = λ a m h within may. forget-carried IsLawful a m h within (record {
-    cold = by_option (peer_at a m) (λ o. IsOne o (λ p. (p.big ≡ big) × (p.temp ≡ Cold)) → IsCold o) (λ is never. never) (λ p is one. one.1) may.peer;
+    cold = by_option (peer_at a m) (λ o. IsOne o (IsAt big Cold) → IsCold o) (λ is never. never) (λ p is one. one.1) may.peer;
     idle = by_option (live_entry_at a m) (λ o. IsIdle o) (λ is. tt)
         (λ e is. unlinked (λ l. l.pending) a (λ x. is_live_at a x.facts) (λ x at. (and_parts (same_address x.facts.addr a) (is_live x.facts) at).0)
         m.connections e (linked (λ l. l.pending) a m.connections ∙ may.idle) is);
   });
-  due = forget-due big;
+  due = λ a addrs m may left. one-also (IsAt big Cold) (λ p. MayBeForgotten a p m) (peer_at a m) (λ p is. record {
+    cold = is.1;
+    idle = may.idle;
+    spared = rw is.0 may.spared;
+    surplus = rw is.0 (omega (arith, left));
+  }) may.peer;
   others = λ a b m h may other here. record {
-    peer = subst (λ o. IsOne o (λ p. (p.big ≡ big) × (p.temp ≡ Cold))) (sym (taken-elsewhere a b m.peers other)) here.peer;
+    peer = subst (λ o. IsOne o (IsAt big Cold)) (sym (taken-elsewhere a b m.peers other)) here.peer;
     idle = here.idle;
     spared = here.spared;
   };
-  left = λ a addrs m h may left. forget-left big a addrs m h left;
+  left = λ a addrs m h may left.
+      let falls : known_of big m.peers ≤ known_of big (carries_out (Forget a) m).machine.peers + 1 = taken-count (is_of big) a m.peers h.formed.peers in
+      let same = known-stays big m (carries_out (Forget a) m).machine (order-unset (Forget a) m h) in
+      omega (arith, falls, same, left);
 }
 
 -- ---- a peer is released
 
 record Releasable (big : Bool) (m : Machine) (a : Addr) : Type 0 where
-  peer : IsOne (peer_at a m) (λ p. (p.big ≡ big) × (p.temp ≡ Warm))
+  peer : IsOne (peer_at a m) (IsAt big Warm)
   settled : some_connection is_awaited a m ≡ false
   spared : (big || not (is_local m.groups a)) ≡ true
 
 abbrev ReleasesLeft : Bool → List Addr → Machine → Type 0
 ReleasesLeft big addrs m = length addrs ≤ established_of big m.peers - established_wanted big m
-
-release-due : (big : Bool) (a : Addr) (addrs : List Addr) (m : Machine) → Releasable big m a → ReleasesLeft big (a ∷ addrs) m → IsDueOrder (Release a) m
-release-due big a addrs m may left = one-also (λ p. (p.big ≡ big) × (p.temp ≡ Warm)) (λ p. MayBeReleased a p m) (peer_at a m) (λ p is. record {
-  warm = is.1;
-  settled = may.settled;
-  spared = subst (λ b. (b || not (is_local m.groups a)) ≡ true) (sym is.0) may.spared;
-  surplus = subst (λ b. established_wanted b m < established_of b m.peers) (sym is.0) (omega (arith, left));
-}) may.peer
-
-release-others : (big : Bool) (a b : Addr) (m : Machine) → IsOrdered m → same_address b a ≡ false → Releasable big m b → Releasable big (carries_out (Release a) m).machine b
-release-others big a b m h other here =
-    let n : Machine = (carries_out (Release a) m).machine in
-    let leaves : LeavesOthers a m n = release-leaves a m h in
-    let unset : IsUnset m n = order-unset (Release a) m h in
-    record {
-      peer = subst (λ o. IsOne o (λ p. (p.big ≡ big) × (p.temp ≡ Warm))) (sym (found-same a b m.peers n.peers other leaves.peers)) here.peer;
-      settled = leaves.connections is_awaited b other here.settled;
-      spared = subst (λ groups. (big || not (is_local groups b)) ≡ true) (sym unset.groups) here.spared;
-    }
-
-release-left : (big : Bool) (a : Addr) (addrs : List Addr) (m : Machine) → IsOrdered m → ReleasesLeft big (a ∷ addrs) m → ReleasesLeft big addrs (carries_out (Release a) m).machine
-release-left big a addrs m h left =
-    let n : Machine = (carries_out (Release a) m).machine in
-    let leaves : LeavesOthers a m n = release-leaves a m h in
-    let same = established-stays big m n (order-unset (Release a) m h) in
-    let falls : established_of big m.peers ≤ established_of big n.peers + 1 =
-    counted-one a (λ p. is_of big p && is_established p.temp) (λ p. is_of big p && is_established p.temp) n.peers m.peers
-    (apart-same a m.peers n.peers leaves.peers h.formed.peers) (all-back a m.peers n.peers leaves.peers) (λ p other. refl) in
-    omega (arith, falls, same, left)
 
 releases-spend : (big : Bool) → Spends IsLawful (Releasable big) (ReleasesLeft big) Release
 releases-spend big = record {
@@ -176,9 +144,25 @@ releases-spend big = record {
       let early = or_parts (is_some (reply_on 2 e) || is_some (reply_on 8 e)) (is_some (reply_on 10 e)) none in
       let two = or_parts (is_some (reply_on 2 e)) (is_some (reply_on 8 e)) early.0 in
       record { on_2 = two.0; on_8 = two.1; on_10 = early.1 });
-  due = release-due big;
-  others = λ a b m h may other here. release-others big a b m h other here;
-  left = λ a addrs m h may left. release-left big a addrs m h left;
+  due = λ a addrs m may left. one-also (IsAt big Warm) (λ p. MayBeReleased a p m) (peer_at a m) (λ p is. record {
+    warm = is.1;
+    settled = may.settled;
+    spared = rw is.0 may.spared;
+    surplus = rw is.0 (omega (arith, left));
+  }) may.peer;
+  others = λ a b m h may other here. record {
+    peer = subst (λ o. IsOne o (IsAt big Warm)) (sym (found-same a b m.peers (carries_out (Release a) m).machine.peers other (release-leaves a m h).peers)) here.peer;
+    settled = (release-leaves a m h).connections is_awaited b other here.settled;
+    spared = subst (λ groups. (big || not (is_local groups b)) ≡ true) (sym (order-unset (Release a) m h).groups) here.spared;
+  };
+  left = λ a addrs m h may left.
+      let n : Machine = (carries_out (Release a) m).machine in
+      let leaves : LeavesOthers a m n = release-leaves a m h in
+      let same = established-stays big m n (order-unset (Release a) m h) in
+      let falls : established_of big m.peers ≤ established_of big n.peers + 1 =
+      counted-one a (λ p. is_of big p && is_established p.temp) (λ p. is_of big p && is_established p.temp) n.peers m.peers
+      (apart-same a m.peers n.peers leaves.peers h.formed.peers) (all-back a m.peers n.peers leaves.peers) (λ p other. refl) in
+      omega (arith, falls, same, left);
 }
 
 -- ---- a peer is asked for addresses
@@ -186,8 +170,11 @@ releases-spend big = record {
 tells-local : IsLocalTest tells_soon
 tells-local addr m n h p other = h.connections is_to_tell p.addr other
 
+abbrev IsToAsk : ℕ → Peer → Type 0
+IsToAsk now p = (p.big ≡ false) × (is_established p.temp ≡ true) × (p.share_next ≤ now)
+
 record Askable (m : Machine) (a : Addr) : Type 0 where
-  peer : IsOne (peer_at a m) (λ p. (p.big ≡ false) × (is_established p.temp ≡ true) × (p.share_next ≤ m.now))
+  peer : IsOne (peer_at a m) (IsToAsk m.now)
   shares : some_connection can_tell a m ≡ true
 
 record AsksLeft (k : ℕ) (addrs : List Addr) (m : Machine) : Type 0 where
@@ -195,51 +182,42 @@ record AsksLeft (k : ℕ) (addrs : List Addr) (m : Machine) : Type 0 where
   missing : 1 ≤ length addrs → known_of false m.peers < known_wanted false m
   number : k ≡ min (known_wanted false m - known_of false m.peers) 10
 
-ask-due : (k : ℕ) (a : Addr) (addrs : List Addr) (m : Machine) → Askable m a → AsksLeft k (a ∷ addrs) m → IsDueOrder (Ask a k) m
-ask-due k a addrs m may left = one-also (λ p. (p.big ≡ false) × (is_established p.temp ≡ true) × (p.share_next ≤ m.now)) (λ p. MayBeAsked a k p m) (peer_at a m) (λ p is. record {
-  ordinary = is.0;
-  established = is.1;
-  shares = may.shares;
-  again = is.2;
-  missing = left.missing (omega arith);
-  number = left.number;
-  few = let few = left.few in omega (arith, few);
-}) may.peer
-
 asks-spend : (k : ℕ) → Spends IsLawful Askable (AsksLeft k) (λ a. Ask a k)
 asks-spend k = record {
   carried = λ a m h within may. ask-carried IsLawful k a m h within
       (shares-may m h a (linked (λ l. l.local && l.sharing && not l.owes10) a m.connections ∙ may.shares));
-  due = ask-due k;
-  others = λ a b m h may other here. others a b m h other here;
-  left = λ a addrs m h may left. after a addrs m h left;
+  due = λ a addrs m may left. one-also (IsToAsk m.now) (λ p. MayBeAsked a k p m) (peer_at a m) (λ p is. record {
+    ordinary = is.0;
+    established = is.1;
+    shares = may.shares;
+    again = is.2;
+    missing = left.missing (omega arith);
+    number = left.number;
+    few = let few = left.few in omega (arith, few);
+  }) may.peer;
+  others = λ a b m h may other here.
+      let n : Machine = (carries_out (Ask a k) m).machine in
+      let changes : ChangesAt a m n = ask-changes a k m h in
+      record {
+        peer = subst (λ now. IsOne (peer_at b n) (IsToAsk now)) (sym (order-unset (Ask a k) m h).now)
+            (subst (λ o. IsOne o (IsToAsk m.now)) (sym (found-same a b m.peers n.peers other changes.peers)) here.peer);
+        shares = changes.connections can_tell b other ∙ here.shares;
+      };
+  left = λ a addrs m h may left.
+      let n : Machine = (carries_out (Ask a k) m).machine in
+      let changes : ChangesAt a m n = ask-changes a k m h in
+      let unset : IsUnset m n = order-unset (Ask a k) m h in
+      let wanted : known_wanted false n ≡ known_wanted false m = known-stays false m n unset in
+      let known : known_of false n.peers ≡ known_of false m.peers = known-same false a m.peers n.peers changes.peers in
+      let more = number-one tells_soon tells-local false a m n h.formed.peers changes in
+      let shares : n.settings.shares ≡ m.settings.shares = ap (λ s. s.shares) unset.settings in
+      let few = left.few in
+      record {
+        few = omega (arith, more, shares, few);
+        missing = λ some. let short = left.missing (omega arith) in omega (arith, wanted, known, short);
+        number = left.number ∙ sym (λ i. min (wanted i - known i) 10);
+      };
 }
-  where
-    others : (a b : Addr) (m : Machine) → IsOrdered m → same_address b a ≡ false → Askable m b → Askable (carries_out (Ask a k) m).machine b
-    others a b m h other here =
-        let n : Machine = (carries_out (Ask a k) m).machine in
-        let changes : ChangesAt a m n = ask-changes a k m h in
-        record {
-          peer = subst (λ now. IsOne (peer_at b n) (λ p. (p.big ≡ false) × (is_established p.temp ≡ true) × (p.share_next ≤ now))) (sym (order-unset (Ask a k) m h).now)
-              (subst (λ o. IsOne o (λ p. (p.big ≡ false) × (is_established p.temp ≡ true) × (p.share_next ≤ m.now))) (sym (found-same a b m.peers n.peers other changes.peers)) here.peer);
-          shares = changes.connections can_tell b other ∙ here.shares;
-        }
-
-    after : (a : Addr) (addrs : List Addr) (m : Machine) → IsOrdered m → AsksLeft k (a ∷ addrs) m → AsksLeft k addrs (carries_out (Ask a k) m).machine
-    after a addrs m h left =
-        let n : Machine = (carries_out (Ask a k) m).machine in
-        let changes : ChangesAt a m n = ask-changes a k m h in
-        let unset : IsUnset m n = order-unset (Ask a k) m h in
-        let wanted : known_wanted false n ≡ known_wanted false m = known-stays false m n unset in
-        let known : known_of false n.peers ≡ known_of false m.peers = known-same false a m.peers n.peers changes.peers in
-        let more = number-one tells_soon tells-local false a m n h.formed.peers changes in
-        let shares : n.settings.shares ≡ m.settings.shares = ap (λ s. s.shares) unset.settings in
-        let few = left.few in
-        record {
-          few = omega (arith, more, shares, few);
-          missing = λ some. let short = left.missing (omega arith) in omega (arith, wanted, known, short);
-          number = left.number ∙ sym (λ i. min (wanted i - known i) 10);
-        }
 
 -- ---- a peer is promoted
 
@@ -253,28 +231,23 @@ record Promotable (m : Machine) (a : Addr) : Type 0 where
 abbrev Enough : List Addr → Machine → Type 0
 Enough addrs m = Unit {0}
 
-promote-due : (a : Addr) (m : Machine) → Promotable m a → IsDueOrder (Promote a) m
-promote-due a m may = one-also (λ p. p.temp ≡ Cold) (λ p. MayBePromoted a p m) (peer_at a m) (λ p is. record { cold = is; idle = may.idle; free = may.free }) may.peer
-
-promote-others : (a b : Addr) (m : Machine) → IsOrdered m → same_address b a ≡ false → Promotable m b → Promotable (carries_out (Promote a) m).machine b
-promote-others a b m h other here =
-    let n : Machine = (carries_out (Promote a) m).machine in
-    let changes : ChangesAt a m n = promote-changes a m h in
-    record {
-      peer = subst (λ o. IsOne o (λ p. p.temp ≡ Cold)) (sym (found-same a b m.peers n.peers other changes.peers)) here.peer;
-      idle = changes.connections (λ e. is_pending e.facts) b other ∙ here.idle;
-      free = (λ i. not (changes.connections is_any b other i) || changes.connections (λ e. is_acquirable e.facts) b other i) ∙ here.free;
-      ready = subst (λ t. IsReady t (peer_at b n)) (sym (order-unset (Promote a) m h).now) (subst (IsReady m.now) (sym (found-same a b m.peers n.peers other changes.peers)) here.ready);
-    }
-
 promotes-spend : Spends IsAllowed Promotable Enough Promote
 promotes-spend = record {
   carried = λ a m h within may. promotes-carried a m h within (record {
     free = by_option (live_entry_at a m) (λ o. IsFree o a m → MayBy o) (λ is free. tt) (λ e is free. free) (free-may a m h may.free);
     ready = may.ready;
   });
-  due = λ a addrs m may left. promote-due a m may;
-  others = λ a b m h may other here. promote-others a b m h other here;
+  due = λ a addrs m may left. one-also (λ p. p.temp ≡ Cold) (λ p. MayBePromoted a p m) (peer_at a m) (λ p is. record { cold = is; idle = may.idle; free = may.free }) may.peer;
+  others = λ a b m h may other here.
+      let n : Machine = (carries_out (Promote a) m).machine in
+      let changes : ChangesAt a m n = promote-changes a m h in
+      let found : peer_at b n ≡ peer_at b m = found-same a b m.peers n.peers other changes.peers in
+      record {
+        peer = subst (λ o. IsOne o (λ p. p.temp ≡ Cold)) (sym found) here.peer;
+        idle = changes.connections (λ e. is_pending e.facts) b other ∙ here.idle;
+        free = (λ i. not (changes.connections is_any b other i) || changes.connections (λ e. is_acquirable e.facts) b other i) ∙ here.free;
+        ready = subst (λ t. IsReady t (peer_at b n)) (sym (order-unset (Promote a) m h).now) (subst (IsReady m.now) (sym found) here.ready);
+      };
   left = λ a addrs m h may left. tt;
 }
 
@@ -284,24 +257,15 @@ record Activatable (m : Machine) (a : Addr) : Type 0 where
   peer : IsOne (peer_at a m) (λ p. p.temp ≡ Warm)
   unasked : some_connection is_to_answer a m ≡ false
 
-activate-due : (a : Addr) (m : Machine) → Activatable m a → IsDueOrder (Activate a) m
-activate-due a m may = one-also (λ p. p.temp ≡ Warm) (λ p. MayBeActivated a p m) (peer_at a m) (λ p is. record { warm = is; unasked = may.unasked }) may.peer
-
-activate-others : (a b : Addr) (m : Machine) → IsOrdered m → same_address b a ≡ false → Activatable m b → Activatable (carries_out (Activate a) m).machine b
-activate-others a b m h other here =
-    let n : Machine = (carries_out (Activate a) m).machine in
-    let changes : ChangesAt a m n = activate-changes a m h in
-    record {
-      peer = subst (λ o. IsOne o (λ p. p.temp ≡ Warm)) (sym (found-same a b m.peers n.peers other changes.peers)) here.peer;
-      unasked = changes.connections is_to_answer b other ∙ here.unasked;
-    }
-
 activates-spend : Spends IsAllowed Activatable Enough Activate
 activates-spend = record {
   carried = λ a m h within may. activate-carried a m h within
       (by_option (peer_at a m) (λ o. IsOne o (λ p. p.temp ≡ Warm) → IsWarm o) (λ is never. never) (λ p is one. one) may.peer);
-  due = λ a addrs m may left. activate-due a m may;
-  others = λ a b m h may other here. activate-others a b m h other here;
+  due = λ a addrs m may left. one-also (λ p. p.temp ≡ Warm) (λ p. MayBeActivated a p m) (peer_at a m) (λ p is. record { warm = is; unasked = may.unasked }) may.peer;
+  others = λ a b m h may other here. let changes : ChangesAt a m (carries_out (Activate a) m).machine = activate-changes a m h in record {
+    peer = subst (λ o. IsOne o (λ p. p.temp ≡ Warm)) (sym (found-same a b m.peers (carries_out (Activate a) m).machine.peers other changes.peers)) here.peer;
+    unasked = changes.connections is_to_answer b other ∙ here.unasked;
+  };
   left = λ a addrs m h may left. tt;
 }
 
@@ -311,13 +275,13 @@ hot-local : IsLocalTest is_hot
 hot-local addr m n h p other = refl
 
 record Deactivatable (big : Bool) (m : Machine) (a : Addr) : Type 0 where
-  peer : IsOne (peer_at a m) (λ p. (p.big ≡ big) × (p.temp ≡ Hot))
+  peer : IsOne (peer_at a m) (IsAt big Hot)
 
 deactivate-others : (big : Bool) (a b : Addr) (m : Machine) → IsOrdered m → same_address b a ≡ false → Deactivatable big m b →
     Deactivatable big (carries_out (Deactivate a) m).machine b
-deactivate-others big a b m h other here =
-    let n : Machine = (carries_out (Deactivate a) m).machine in
-    record { peer = subst (λ o. IsOne o (λ p. (p.big ≡ big) × (p.temp ≡ Hot))) (sym (found-same a b m.peers n.peers other (deactivate-changes a m h).peers)) here.peer }
+deactivate-others big a b m h other here = record {
+  peer = subst (λ o. IsOne o (IsAt big Hot)) (sym (found-same a b m.peers (carries_out (Deactivate a) m).machine.peers other (deactivate-changes a m h).peers)) here.peer;
+}
 
 -- one less of a class at most
 hot-falls : (big : Bool) (a : Addr) (m : Machine) → IsOrdered m → active_of big m.peers ≤ active_of big (carries_out (Deactivate a) m).machine.peers + 1
@@ -333,7 +297,11 @@ BigHotLeft addrs m = length addrs ≤ active_of true m.peers - active_wanted tru
 big_hot-spend : Spends IsLawful (Deactivatable true) BigHotLeft Deactivate
 big_hot-spend = record {
   carried = λ a m h within may. deactivate-carried IsLawful a m h within tt;
-  due = λ a addrs m may left. due a addrs m may left;
+  due = λ a addrs m may left. one-also (IsAt true Hot) (λ p. MayBeDeactivated a p m) (peer_at a m) (λ p is. record {
+    hot = is.1;
+    by_target = λ either. rw is.0 (omega (arith, left));
+    by_valency = λ ordinary. absurd (both_ways p.big ordinary is.0);
+  }) may.peer;
   others = λ a b m h may other here. deactivate-others true a b m h other here;
   left = λ a addrs m h may left.
       let falls = hot-falls true a m h in
@@ -341,34 +309,27 @@ big_hot-spend = record {
       let number = left in
       omega (arith, falls, same, number);
 }
-  where
-    due : (a : Addr) (addrs : List Addr) (m : Machine) → Deactivatable true m a → BigHotLeft (a ∷ addrs) m → IsDueOrder (Deactivate a) m
-    due a addrs m may left = one-also (λ p. (p.big ≡ true) × (p.temp ≡ Hot)) (λ p. MayBeDeactivated a p m) (peer_at a m) (λ p is. record {
-      hot = is.1;
-      by_target = λ either. subst (λ b. active_wanted b m < active_of b m.peers) (sym is.0) (omega (arith, left));
-      by_valency = λ ordinary. absurd (both_ways p.big ordinary is.0);
-    }) may.peer
 
 -- ---- of ordinary peers: by the target first, and then by the valencies
 
-abbrev is_free_of : Machine → Addr → Bool
-is_free_of m a = not (is_local m.groups a)
+abbrev is_free_of : List Group → Addr → Bool
+is_free_of groups a = not (is_local groups a)
 
 -- behind a local peer no other one comes
-abbrev TargetFirst : Machine → List Addr → Type 0
-TargetFirst m [] = Unit {0}
-TargetFirst m (a ∷ addrs) = (is_local m.groups a ≡ true → count_by (is_free_of m) addrs ≡ 0) × TargetFirst m addrs
+abbrev TargetFirst : List Group → List Addr → Type 0
+TargetFirst groups [] = Unit {0}
+TargetFirst groups (a ∷ addrs) = (is_local groups a ≡ true → count_by (is_free_of groups) addrs ≡ 0) × TargetFirst groups addrs
 
 abbrev HasHotLeft : List Addr → Machine → Group → Type 0
 HasHotLeft addrs m group = count_by (λ a. is_listed a group.members) addrs ≤ members_with is_hot group m - group.hot
 
 record HotLeft (addrs : List Addr) (m : Machine) : Type 0 where
-  first : TargetFirst m addrs
-  by_target : count_by (is_free_of m) addrs ≤ active_of false m.peers - active_wanted false m
+  first : TargetFirst m.groups addrs
+  by_target : count_by (is_free_of m.groups) addrs ≤ active_of false m.peers - active_wanted false m
   by_valency : AllByRecursion (HasHotLeft addrs m) m.groups
 
 hot-due : (a : Addr) (addrs : List Addr) (m : Machine) → Deactivatable false m a → HotLeft (a ∷ addrs) m → IsDueOrder (Deactivate a) m
-hot-due a addrs m may left = one-also (λ p. (p.big ≡ false) × (p.temp ≡ Hot)) (λ p. MayBeDeactivated a p m) (peer_at a m) (λ p is. record {
+hot-due a addrs m may left = one-also (IsAt false Hot) (λ p. MayBeDeactivated a p m) (peer_at a m) (λ p is. record {
   hot = is.1;
   by_target = λ either.
       subst (λ b. active_wanted b m < active_of b m.peers) (sym is.0) (free (subst (λ b. (b || not (is_local m.groups a)) ≡ true) is.0 either));
@@ -385,20 +346,13 @@ hot-due a addrs m may left = one-also (λ p. (p.big ≡ false) × (p.temp ≡ Ho
 
     free : not (is_local m.groups a) ≡ true → active_wanted false m < active_of false m.peers
     free other =
-        let first = sum_by-cons (λ b. cond {A = ℕ} (is_free_of m b) 1 0) a addrs in
+        let first = sum_by-cons (λ b. cond {A = ℕ} (is_free_of m.groups b) 1 0) a addrs in
         let number = left.by_target in
-        omega (arith, number, first, one-of (is_free_of m a) other)
-
-first-still : (m n : Machine) → n.groups ≡ m.groups → (addrs : List Addr) → TargetFirst m addrs → TargetFirst n addrs
-first-still m n same [] h = tt
-first-still m n same (a ∷ addrs) h = (
-  subst (λ groups. is_local groups a ≡ true → count_by (λ b. not (is_local groups b)) addrs ≡ 0) (sym same) h.0,
-  first-still m n same addrs h.1,
-)
+        omega (arith, number, first, one-of (is_free_of m.groups a) other)
 
 hot-left : (a : Addr) (addrs : List Addr) (m : Machine) → IsOrdered m → HotLeft (a ∷ addrs) m → HotLeft addrs (carries_out (Deactivate a) m).machine
 hot-left a addrs m h left = record {
-  first = first-still m n unset.groups addrs left.first.1;
+  first = subst (λ groups. TargetFirst groups addrs) (sym unset.groups) left.first.1;
   by_target = by_local (is_local m.groups a) refl;
   by_valency = subst (AllByRecursion (HasHotLeft addrs n)) (sym unset.groups)
       (all-weaker (HasHotLeft (a ∷ addrs) m) (HasHotLeft addrs n) (λ group number. still group number (is_listed a group.members) refl) m.groups left.by_valency);
@@ -419,18 +373,18 @@ hot-left a addrs m h left = record {
     unset : IsUnset m n
     unset = order-unset (Deactivate a) m h
 
-    alike : count_by (is_free_of n) addrs ≡ count_by (is_free_of m) addrs
-    alike = ap (λ groups. count_by (λ b. not (is_local groups b)) addrs) unset.groups
+    alike : count_by (is_free_of n.groups) addrs ≡ count_by (is_free_of m.groups) addrs
+    alike = ap (λ groups. count_by (is_free_of groups) addrs) unset.groups
 
     wanted : active_wanted false n ≡ active_wanted false m
     wanted = active-stays false m n unset
 
-    by_local : (c : Bool) → is_local m.groups a ≡ c → count_by (is_free_of n) addrs ≤ active_of false n.peers - active_wanted false n
+    by_local : (c : Bool) → is_local m.groups a ≡ c → count_by (is_free_of n.groups) addrs ≤ active_of false n.peers - active_wanted false n
     by_local true is = let none = left.first.0 is in omega (arith, alike, none)
     by_local false is =
-        let first = sum_by-cons (λ b. cond {A = ℕ} (is_free_of m b) 1 0) a addrs in
+        let first = sum_by-cons (λ b. cond {A = ℕ} (is_free_of m.groups b) 1 0) a addrs in
         let number = left.by_target in
-        omega (arith, alike, wanted, hot-falls false a m h, first, number, one-of (is_free_of m a) (ap not is))
+        omega (arith, alike, wanted, hot-falls false a m h, first, number, one-of (is_free_of m.groups a) (ap not is))
 
     still : (group : Group) → HasHotLeft (a ∷ addrs) m group → (c : Bool) → is_listed a group.members ≡ c → HasHotLeft addrs n group
     still group number true listed =
@@ -491,10 +445,6 @@ groups-done Law May order s word number test m h within gives =
     (each-done Law May Enough order s (flat_map pick m.groups) m h within
     (groups_picks-apart pick m.groups (group_picks word number test m.peers h.formed.peers) h.formed.groups) (groups_picks-may May word number test m h gives) tt)
 
--- a law holds of the peer that was found
-one-found : (law : Peer → Type 0) (p : Peer) (o : Option Peer) → o ≡ Some p → law p → IsOne o law
-one-found law p o found holds = subst (λ x. IsOne x law) (sym found) holds
-
 -- ---- the tests of the rules
 
 abbrev links_of : Machine → List Link
@@ -507,7 +457,7 @@ forget-gives big among m spared p class passes found =
     let both = and_parts (among p.addr) (may_be_forgotten (links_of m) p) passes in
     let parts = and_parts (same_temp p.temp Cold) (not (is_pending_link (links_of m) p.addr)) both.1 in
     record {
-      peer = one-found (λ q. (q.big ≡ big) × (q.temp ≡ Cold)) p (peer_at p.addr m) found (class, is_temp p.temp Cold parts.0);
+      peer = rw found (class, is_temp p.temp Cold parts.0);
       idle = sym (linked (λ l. l.pending) p.addr m.connections) ∙ not-true (is_pending_link (links_of m) p.addr) parts.1;
       spared = spared p.addr both.0;
     }
@@ -518,7 +468,7 @@ release-gives big among m spared p class passes found =
     let both = and_parts (among p.addr) (may_be_released (links_of m) p) passes in
     let parts = and_parts (same_temp p.temp Warm) (not (owes_a_reply (links_of m) p.addr)) both.1 in
     record {
-      peer = one-found (λ q. (q.big ≡ big) × (q.temp ≡ Warm)) p (peer_at p.addr m) found (class, is_temp p.temp Warm parts.0);
+      peer = rw found (class, is_temp p.temp Warm parts.0);
       settled = sym (linked (λ l. l.owes2 || l.owes8 || l.owes10) p.addr m.connections) ∙ not-true (owes_a_reply (links_of m) p.addr) parts.1;
       spared = spared p.addr both.0;
     }
@@ -528,8 +478,7 @@ ask-gives m p class passes found =
     let parts = and_parts (is_established p.temp && can_share (links_of m) p.addr) (nat_le p.share_next m.now) passes in
     let both = and_parts (is_established p.temp) (can_share (links_of m) p.addr) parts.0 in
     record {
-      peer = one-found (λ q. (q.big ≡ false) × (is_established q.temp ≡ true) × (q.share_next ≤ m.now)) p (peer_at p.addr m) found
-          (class, both.0, leb-true p.share_next m.now parts.1);
+      peer = rw found (class, both.0, leb-true p.share_next m.now parts.1);
       shares = sym (linked (λ l. l.local && l.sharing && not l.owes10) p.addr m.connections) ∙ both.1;
     }
 
@@ -541,23 +490,23 @@ promote-gives big m p class passes found =
     let middle = and_parts (same_temp p.temp Cold && not (is_pending_link links p.addr)) (nat_le p.not_before m.now) last.0 in
     let parts = and_parts (same_temp p.temp Cold) (not (is_pending_link links p.addr)) middle.0 in
     record {
-      peer = one-found (λ q. q.temp ≡ Cold) p (peer_at p.addr m) found (is_temp p.temp Cold parts.0);
+      peer = rw found (is_temp p.temp Cold parts.0);
       idle = sym (linked (λ l. l.pending) p.addr m.connections) ∙ not-true (is_pending_link links p.addr) parts.1;
       free = sym (λ i. not (linked (λ l. true) p.addr m.connections i) || linked (λ l. l.acquirable) p.addr m.connections i) ∙ last.1;
-      ready = subst (IsReady m.now) (sym found) (leb-true p.not_before m.now middle.1);
+      ready = rw found (leb-true p.not_before m.now middle.1);
     }
 
 activate-gives : (big : Bool) (m : Machine) → Gives Activatable big (may_be_activated (links_of m)) m
 activate-gives big m p class passes found =
     let parts = and_parts (same_temp p.temp Warm) (not (owes_on_2 (links_of m) p.addr)) passes in
     record {
-      peer = one-found (λ q. q.temp ≡ Warm) p (peer_at p.addr m) found (is_temp p.temp Warm parts.0);
+      peer = rw found (is_temp p.temp Warm parts.0);
       unasked = sym (linked (λ l. l.owes2) p.addr m.connections) ∙ not-true (owes_on_2 (links_of m) p.addr) parts.1;
     }
 
 deactivate-gives : (big : Bool) (m : Machine) → Gives (Deactivatable big) big may_be_deactivated m
 deactivate-gives big m p class passes found = record {
-  peer = one-found (λ q. (q.big ≡ big) × (q.temp ≡ Hot)) p (peer_at p.addr m) found (class, is_temp p.temp Hot passes);
+  peer = rw found (class, is_temp p.temp Hot passes);
 }
 
 -- a stricter test gives it too
@@ -658,14 +607,14 @@ beyond word m = chosen false word (active_of false m.peers - active_wanted false
 abbrev members_beyond : ℕ → Machine → Group → List Addr
 members_beyond word m = picks_of_group word (λ g. members_count g may_be_deactivated m.peers - g.hot) may_be_deactivated m
 
-first-local : (m : Machine) (addrs : List Addr) → AllByRecursion (λ a. is_local m.groups a ≡ true) addrs → TargetFirst m addrs
+first-local : (m : Machine) (addrs : List Addr) → AllByRecursion (λ a. is_local m.groups a ≡ true) addrs → TargetFirst m.groups addrs
 first-local m [] h = tt
 first-local m (a ∷ addrs) h = (
-  λ is. count_none (is_free_of m) addrs (all-weaker (λ b. is_local m.groups b ≡ true) (λ b. is_free_of m b ≡ false) (λ b here. ap not here) addrs h.1),
+  λ is. count_none (is_free_of m.groups) addrs (all-weaker (λ b. is_local m.groups b ≡ true) (λ b. is_free_of m.groups b ≡ false) (λ b here. ap not here) addrs h.1),
   first-local m addrs h.1,
 )
 
-first-append : (m : Machine) (xs ys : List Addr) → AllByRecursion (λ a. is_local m.groups a ≡ false) xs → TargetFirst m ys → TargetFirst m (xs ++ ys)
+first-append : (m : Machine) (xs ys : List Addr) → AllByRecursion (λ a. is_local m.groups a ≡ false) xs → TargetFirst m.groups ys → TargetFirst m.groups (xs ++ ys)
 first-append m [] ys free h = h
 first-append m (x ∷ xs) ys free h = (λ is. absurd (both_ways (is_local m.groups x) free.0 is), first-append m xs ys free.1 h)
 
@@ -708,14 +657,14 @@ module _ (word : ℕ) (m : Machine) (h : IsOrdered m) where
       (among-gives (Deactivatable false) false (λ p. is_not_local m.groups p.addr) may_be_deactivated m (deactivate-gives false m)))
       (groups_picks-may (Deactivatable false) word (λ g. members_count g may_be_deactivated m.peers - g.hot) may_be_deactivated m h (deactivate-gives false m))
 
-  few_free : count_by (is_free_of m) (front ++ behind) ≤ active_of false m.peers - active_wanted false m
+  few_free : count_by (is_free_of m.groups) (front ++ behind) ≤ active_of false m.peers - active_wanted false m
   few_free =
-      let both = sum_by-append (λ a. cond {A = ℕ} (is_free_of m a) 1 0) front behind in
+      let both = sum_by-append (λ a. cond {A = ℕ} (is_free_of m.groups a) 1 0) front behind in
       let most = picks-most false word (active_of false m.peers - active_wanted false m)
       (filter (λ p. is_of false p && (is_not_local m.groups p.addr && may_be_deactivated p)) m.peers) in
-      let all = count_by-le-length (is_free_of m) front in
-      let none = count_none (is_free_of m) behind
-      (all-weaker (λ b. is_local m.groups b ≡ true) (λ b. is_free_of m b ≡ false) (λ b here. ap not here) behind local_behind) in
+      let all = count_by-le-length (is_free_of m.groups) front in
+      let none = count_none (is_free_of m.groups) behind
+      (all-weaker (λ b. is_local m.groups b ≡ true) (λ b. is_free_of m.groups b ≡ false) (λ b here. ap not here) behind local_behind) in
       omega (arith, both, most, all, none)
 
   few_members : AllByRecursion (HasHotLeft (front ++ behind) m) m.groups
