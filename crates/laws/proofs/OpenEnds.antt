@@ -10,6 +10,7 @@ use Rattle.laws.specs.Stages.{stage_of_phase, stage_of, stage_at, causes_by, cau
 use Rattle.laws.specs.Telling.{IsTold}
 use Rattle.laws.specs.InActions.{ended_by, ends_in}
 use Rattle.laws.proofs.Walk.{Finds, Scope, turned_by, turned-cid, turned-live, shuts, Kept, scope_of, walk}
+use Rattle.laws.proofs.Moments.{turned-found}
 use Rattle.laws.proofs.Lawful.{comes-machine, lost_by-quiet, lost-quiet}
 use Rattle.laws.proofs.Telling.{ended-over}
 use Rattle.laws.proofs.ToldMoves.{turns_at-connections}
@@ -63,10 +64,7 @@ module _ (scope : Scope) where
       ∙ ap (λ b. if b then option_map (λ x. new) (entry_at cid m) else entry_at cid m) (ap (λ c. c.0 == cid) same ∙ other)
 
   turned-here : (m : Machine) (e new : Entry) → entry_at e.facts.cid.0 m ≡ Some e → new.facts.cid ≡ e.facts.cid → entry_at e.facts.cid.0 (with_entry new m) ≡ Some new
-  turned-here m e new stands same =
-      replaced e.facts.cid.0 new m.connections
-      ∙ (ap (λ b. if b then option_map (λ x. new) (entry_at e.facts.cid.0 m) else entry_at e.facts.cid.0 m)
-      (eq-eqb new.facts.cid.0 e.facts.cid.0 (ap (λ c. c.0) same)) ∙ ap (option_map (λ x. new)) stands)
+  turned-here m e new stands same = turned-found e new m same ∙ ap (option_map (λ x. new)) stands
 
   turned-stays : (m : Machine) (e new : Entry) → entry_at e.facts.cid.0 m ≡ Some e → new.facts.cid ≡ e.facts.cid → (is_live e.facts ≡ true → is_live new.facts ≡ true) → Stays m (entry_turns e new m)
   turned-stays m e new stands same live =

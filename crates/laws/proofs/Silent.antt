@@ -129,11 +129,8 @@ module _ {X : Type 0} (by : Action → List X) (deaf : Deaf by) where
   abbrev still : Scope
   still = record (on_those (λ cid. true)) { sends = false }
 
-  never : {Z : Type 0} → false ≡ true → Z
-  never h = absurd (false≢true h)
-
   still-mutes : Mutes still
-  still-mutes = record { sends = λ may. never may; admits = λ may. never may; turns_away = λ may. never may; pauses = λ may. never may }
+  still-mutes = record { sends = λ may. absurd (false≢true may); admits = λ may. absurd (false≢true may); turns_away = λ may. absurd (false≢true may); pauses = λ may. absurd (false≢true may) }
 
   pub trim-silent : (moved : Cid) (m : Machine) → flat_map by (trim moved m).actions ≡ []
   trim-silent moved m = trim-walk still Says (silent-kept still still-mutes) moved m
@@ -161,7 +158,7 @@ module _ {X : Type 0} (by : Action → List X) (deaf : Deaf by) where
       (addr : Addr) (m : Machine) → flat_map by (peer_connects addr m).actions ≡ []
   connects-silent admits turns pauses addr m =
       let door : Scope = record still { lets_in = true } in
-      connects-walk door Says (silent-kept door (record { sends = λ may. never may; admits = λ may. admits; turns_away = λ may. turns; pauses = λ may. pauses })) addr m refl
+      connects-walk door Says (silent-kept door (record { sends = λ may. absurd (false≢true may); admits = λ may. admits; turns_away = λ may. turns; pauses = λ may. pauses })) addr m refl
 
 -- neither does a peer connect nor are roots asked for
 abbrev pub IsOther : Act → Type 0

@@ -21,7 +21,7 @@ use Rattle.laws.proofs.Ties.{changed-ties, turned_here, turned_elsewhere, live_h
 use Rattle.laws.proofs.Trims.{Trimmed, HasMoved, keeps-trimmed, ending-trimmed, nothing-trimmed, trimmed_both, trimmed_then, trimmed-within, raised_then_trimmed, trim-trims, for_each_that-trimmed}
 use Rattle.laws.proofs.WholeMoves.{negotiated-live, awakes-keeps, idles-keeps, pays-keeps}
 use Rattle.laws.proofs.OwnAddress.{IsOther, taken-other}
-use Rattle.laws.proofs.Remains.{trim-found}
+use Rattle.laws.proofs.Remains.{trim-found, woken-runs as protocol-runs}
 use Rattle.laws.proofs.Walk.{replies-machine}
 use Rattle.laws.proofs.Cases.{by_bool, by_option, some_same}
 
@@ -45,21 +45,6 @@ seen-known id sharing item seen h =
 any_true : (x : Bool) → (x || true) ≡ true
 any_true x = or_right x true refl
 
-woken-runs_by : (r : Responders) (a b c d e : Bool) → (a || b || c || d || e) ≡ true →
-    some_runs (if a then record r { chain_sync = true } else if b then record r { block_fetch = true }
-    else if c then record r { tx_submission = true } else if d then record r { keep_alive = true }
-    else if e then record r { peer_sharing = true } else r) ≡ true
-woken-runs_by r true b c d e h = refl
-woken-runs_by r false true c d e h = rw (any_true r.chain_sync) refl
-woken-runs_by r false false true d e h = rw (any_true (r.chain_sync || r.block_fetch)) refl
-woken-runs_by r false false false true e h = rw (any_true (r.chain_sync || r.block_fetch || r.tx_submission)) refl
-woken-runs_by r false false false false true h = any_true (r.chain_sync || r.block_fetch || r.tx_submission || r.keep_alive)
-woken-runs_by r false false false false false h = absurd (false≢true h)
-
-pub woken-runs : (protocol : ℕ) (f : Facts) → has_responder protocol ≡ true → some_runs (awakened protocol f).running ≡ true
-woken-runs protocol f known =
-    woken-runs_by f.running (protocol == 2) (protocol == 3) (protocol == 4) (protocol == 8) (protocol == 10) known
-
 runs-some_by : (r : Responders) (a b c d e : Bool) →
     (if a then r.chain_sync else if b then r.block_fetch else if c then r.tx_submission else if d then r.keep_alive else if e then r.peer_sharing else false) ≡ true →
     some_runs r ≡ true
@@ -72,6 +57,9 @@ runs-some_by r false false false false false h = absurd (false≢true h)
 
 pub runs-some : (protocol : ℕ) (r : Responders) → runs protocol r ≡ true → some_runs r ≡ true
 runs-some protocol r h = runs-some_by r (protocol == 2) (protocol == 3) (protocol == 4) (protocol == 8) (protocol == 10) h
+
+pub woken-runs : (protocol : ℕ) (f : Facts) → has_responder protocol ≡ true → some_runs (awakened protocol f).running ≡ true
+woken-runs protocol f known = runs-some protocol (awakened protocol f).running (protocol-runs protocol f known)
 
 -- ---- the other side asks
 

@@ -293,19 +293,13 @@ pub linked : (test : Link → Bool) (addr : Addr) (es : List Entry) →
 linked test addr [] = refl
 linked test addr (e ∷ es) = ap (λ b. (same_address e.facts.addr addr && test (link_of e)) || b) (linked test addr es)
 
-pending-seen : (addr : Addr) (m : Machine) → is_pending_link (map link_of m.connections) addr ≡ some_connection (λ e. is_pending e.facts) addr m
-pending-seen addr m = linked (λ l. l.pending) addr m.connections
-
-asked-seen : (addr : Addr) (m : Machine) → owes_on_2 (map link_of m.connections) addr ≡ some_connection (λ e. is_some (reply_on 2 e)) addr m
-asked-seen addr m = linked (λ l. l.owes2) addr m.connections
-
 promotes-number : (big : Bool) (word : ℕ) (m : Machine) →
     established_target big (view_of word m) - established_of big m.peers - count_of big (is_pending_link (map link_of m.connections)) m.peers
     ≤ established_wanted big m - number_with is_established_or_pending big m
 promotes-number big word m =
     let split = count_by-either (is_of big) (λ p. is_established p.temp) (λ p. some_connection (λ e. is_pending e.facts) p.addr m) m.peers in
     let pending : count_of big (is_pending_link (map link_of m.connections)) m.peers ≡ count_by (λ p. is_of big p && some_connection (λ e. is_pending e.facts) p.addr m) m.peers =
-    λ i. count_by (λ p. is_of big p && pending-seen p.addr m i) m.peers in
+    λ i. count_by (λ p. is_of big p && linked (λ l. l.pending) p.addr m.connections i) m.peers in
     let same : established_target big (view_of word m) ≡ established_wanted big m = by_bool big
     (λ b. established_target b (view_of word m) ≡ established_wanted b m)
     (λ is. refl) (λ is. refl) in
@@ -321,7 +315,7 @@ activates-number : (big : Bool) (word : ℕ) (m : Machine) →
 activates-number big word m =
     let split = count_by-either (is_of big) (λ p. is_active p.temp) (λ p. some_connection (λ e. is_some (reply_on 2 e)) p.addr m) m.peers in
     let asked : count_of big (owes_on_2 (map link_of m.connections)) m.peers ≡ count_by (λ p. is_of big p && some_connection (λ e. is_some (reply_on 2 e)) p.addr m) m.peers =
-    λ i. count_by (λ p. is_of big p && asked-seen p.addr m i) m.peers in
+    λ i. count_by (λ p. is_of big p && linked (λ l. l.owes2) p.addr m.connections i) m.peers in
     let same : active_target big (view_of word m) ≡ active_wanted big m = by_bool big (λ b. active_target b (view_of word m) ≡ active_wanted b m)
     (λ is. refl) (λ is. refl) in
     omega (arith, split, asked, same)
@@ -354,11 +348,11 @@ pub groups_promotes-within : (word : ℕ) (m : Machine) → IsOrdered m → Each
 groups_promotes-within word m h each =
     groups-within promotes-use word (λ g. members_count g (λ p. is_established p.temp || is_pending_link (map link_of m.connections) p.addr) m.peers)
     (is_eligible m.now (map link_of m.connections)) m
-    (λ g i. count_by (λ p. is_of false p && (is_listed p.addr g.members && (is_established p.temp || pending-seen p.addr m i))) m.peers) h each
+    (λ g i. count_by (λ p. is_of false p && (is_listed p.addr g.members && (is_established p.temp || linked (λ l. l.pending) p.addr m.connections i))) m.peers) h each
 
 pub groups_activates-within : (word : ℕ) (m : Machine) → IsOrdered m → EachAccounted (g7_orders (view_of word m) m.peers m.groups) m →
     AllByRecursion Within (for_each carries_out (g7_orders (view_of word m) m.peers m.groups) m).moves
 groups_activates-within word m h each =
     groups-within activates-use word (λ g. members_count g (λ p. same_temp p.temp Hot || owes_on_2 (map link_of m.connections) p.addr) m.peers)
     (may_be_activated (map link_of m.connections)) m
-    (λ g i. count_by (λ p. is_of false p && (is_listed p.addr g.members && (hot-active p.temp i || asked-seen p.addr m i))) m.peers) h each
+    (λ g i. count_by (λ p. is_of false p && (is_listed p.addr g.members && (hot-active p.temp i || linked (λ l. l.owes2) p.addr m.connections i))) m.peers) h each
