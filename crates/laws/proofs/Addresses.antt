@@ -12,9 +12,8 @@ same_address-self a = and_from (same_ip a.ip a.ip) (a.port == a.port) (same_ip-s
 
 same_ip-true : (a b : Ip) → same_ip a b ≡ true → a ≡ b
 same_ip-true (V4 m) (V4 n) h = ap V4 (eqb-true m n h)
-same_ip-true (V4 m) (V6 n) h = absurd cc
-same_ip-true (V6 m) (V4 n) h = absurd cc
 same_ip-true (V6 m) (V6 n) h = ap V6 (eqb-true m n h)
+same_ip-true a b h = absurd cc
 
 pub same_address-true : (a b : Addr) → same_address a b ≡ true → a ≡ b
 same_address-true a b h =

@@ -5,7 +5,8 @@ use Rattle.laws.specs.Words.{AllByRecursion, same_address, address_below, Addr, 
 use Rattle.peer_book.specs.Book.{peer_at}
 use Rattle.laws.specs.Steady.{ArePeersApart, IsFormed}
 use Rattle.laws.proofs.Addresses.{same_address-true}
-use Rattle.laws.proofs.PeersApart.{with_peer-others, with_peer-apart, put_in-others, entered-apart, others-filter, filter-apart}
+use Rattle.laws.proofs.Lists.{filter-all}
+use Rattle.laws.proofs.PeersApart.{with_peer-others, with_peer-apart, put_in-others, entered-apart, filter-apart}
 use Rattle.laws.proofs.Cases.{by_bool}
 
 pub record IsBook (own : Addr) (peers : List Peer) : Type 0 where
@@ -70,6 +71,6 @@ filter-book own q ps h =
     let fewer = filter-within q ps in
     record {
       apart = filter-apart q ps h.apart;
-      others = others-filter own q ps h.others;
+      others = filter-all (λ x. same_address x.addr own ≡ false) q ps h.others;
       room = omega (arith, fewer, h.room);
     }

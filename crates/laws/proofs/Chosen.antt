@@ -1,14 +1,14 @@
 -- The peers that orders go to: no address twice, and of a group members only.
-use Rattle.std.proofs.Common.{ℕ, ◌≡◌, Bool, true, false, ◌&&◌, ◌||◌, List, [], ◌∷◌, ◌++◌, map, filter, flat_map, Some, refl, sym, ap, subst}
-use Rattle.laws.proofs.Words.{both_ways, and_parts, false_from_ne_true, or_right, or_from}
+use Rattle.std.proofs.Common.{ℕ, ◌≡◌, Bool, true, false, ◌&&◌, ◌||◌, List, [], ◌∷◌, ◌++◌, map, filter, flat_map, Some, refl, ◌∙◌, sym, ap, subst}
+use Rattle.laws.proofs.Words.{both_ways, and_parts, false_from_ne_true, or_right, or_from, or_left, list_any-append}
 use Rattle.laws.specs.Words.{AllByRecursion, same_address, Addr, Group, Peer, is_of, is_listed, members_of, picks_of, Order, is_member_and}
 use Rattle.peer_book.specs.Book.{peer_at}
 use Rattle.laws.specs.Steady.{ArePeersApart, AreApart}
 use Rattle.laws.proofs.Addresses.{same_address-true}
 use Rattle.laws.proofs.GroupsApart.{append-apart}
-use Rattle.laws.proofs.Lists.{all-weaker, all-appended, all-both}
+use Rattle.laws.proofs.Lists.{all-weaker, all-appended, all-both, filter-all}
 use Rattle.laws.proofs.PeersApart.{all-found, same_turned, filter-apart}
-use Rattle.laws.proofs.Picks.{filter-all, filter-passing, picks-apart, picks-all}
+use Rattle.laws.proofs.Picks.{filter-passing, picks-apart, picks-all}
 use Rattle.laws.proofs.Cases.{by_bool}
 
 -- ---- of all peers
@@ -23,25 +23,20 @@ chosen-apart big word number test peers h =
     picks-apart big word number (filter passes peers) (filter-apart passes peers h)
 
 pub chosen-all : (P : Addr → Type 0) (big : Bool) (word number : ℕ) (test : Peer → Bool) (peers : List Peer) → ArePeersApart peers →
-    ((p : Peer) → test p ≡ true → peer_at p.addr peers ≡ Some p → P p.addr) → AllByRecursion P (chosen big word number test peers)
+    ((p : Peer) → (is_of big p && test p) ≡ true → peer_at p.addr peers ≡ Some p → P p.addr) → AllByRecursion P (chosen big word number test peers)
 chosen-all P big word number test peers apart gives =
     let passes : Peer → Bool = λ p. is_of big p && test p in
     picks-all P big word number (filter passes peers)
-    (all-both (λ p. passes p ≡ true) (λ p. peer_at p.addr peers ≡ Some p) (λ p. P p.addr)
-    (λ p h found. gives p (and_parts (is_of big p) (test p) h).1 found) (filter passes peers) (filter-passing passes peers)
+    (all-both (λ p. passes p ≡ true) (λ p. peer_at p.addr peers ≡ Some p) (λ p. P p.addr) gives (filter passes peers) (filter-passing passes peers)
     (filter-all (λ p. peer_at p.addr peers ≡ Some p) passes peers (all-found peers apart)))
 
 -- ---- of each group
 
 listed_front : (a : Addr) (xs ys : List Addr) → is_listed a xs ≡ true → is_listed a (xs ++ ys) ≡ true
-listed_front a [] ys h = absurd cc
-listed_front a (x ∷ xs) ys h = by_bool (same_address a x)
-    (λ b. (b || is_listed a xs) ≡ true → (is_listed a xs ≡ true → is_listed a (xs ++ ys) ≡ true) → (b || is_listed a (xs ++ ys)) ≡ true)
-    (λ e here later. refl) (λ e there later. later there) h (listed_front a xs ys)
+listed_front a xs ys h = list_any-append (same_address a) xs ys ∙ or_left (is_listed a xs) (is_listed a ys) h
 
 listed_behind : (a : Addr) (xs ys : List Addr) → is_listed a ys ≡ true → is_listed a (xs ++ ys) ≡ true
-listed_behind a [] ys h = h
-listed_behind a (x ∷ xs) ys h = or_right (same_address a x) (is_listed a (xs ++ ys)) (listed_behind a xs ys h)
+listed_behind a xs ys h = list_any-append (same_address a) xs ys ∙ or_right (is_listed a xs) (is_listed a ys) h
 
 all-behind : (P : Addr → Type 0) (xs ys : List Addr) → AllByRecursion P (xs ++ ys) → AllByRecursion P ys
 all-behind P [] ys h = h
@@ -120,5 +115,5 @@ pub group_picks : (word : ℕ) (number : Group → ℕ) (test : Peer → Bool) (
 group_picks word number test ps apart = record {
   apart = λ g. chosen-apart false word (number g) (is_member_and g test) ps apart;
   members = λ g. chosen-all (λ a. is_listed a g.members ≡ true) false word (number g) (is_member_and g test) ps apart
-      (λ p passes found. (and_parts (is_listed p.addr g.members) (test p) passes).0);
+      (λ p passes found. (and_parts (is_listed p.addr g.members) (test p) (and_parts (is_of false p) (is_member_and g test p) passes).1).0);
 }

@@ -27,10 +27,9 @@ pub counted-agreed_outbound : (agreed : Agreed) (until : ℕ) (f : Facts) → is
 counted-agreed_outbound agreed until f outbound none = rw (outbound, none) refl
 
 fewer_when_local : (a n r l k : Bool) → (a || (n && r) || (n && false && k)) ≡ true → (a || (n && r) || (n && not l && k)) ≡ true
-fewer_when_local true n r l k e = refl
-fewer_when_local false true true l k e = refl
 fewer_when_local false true false l k e = absurd (false≢true e)
 fewer_when_local false false r l k e = absurd (false≢true e)
+fewer_when_local a n r l k e = refl
 
 pub counted-acquired : (f : Facts) → is_counted (acquired f) ≡ true → is_counted f ≡ true
 counted-acquired f h =

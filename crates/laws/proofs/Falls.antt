@@ -153,10 +153,9 @@ filter-none p q (e ∷ es) none = by_test (q e) (p e) refl none (filter-none p q
   where
     by_test : (stays : Bool) (c : Bool) → p e ≡ c → (c || list_any p es) ≡ false → (list_any p es ≡ false → list_any p (filter q es) ≡ false) →
         list_any p (cond stays (e ∷ filter q es) (filter q es)) ≡ false
-    by_test true true is none later = absurd cc
     by_test true false is none later = rw is (later none)
-    by_test false true is none later = absurd cc
     by_test false false is none later = later none
+    by_test stays c is none later = absurd cc
 
 trim-none : (test : Entry → Bool) (b : Addr) (moved : Cid) (m : Machine) → some_connection test b m ≡ false → some_connection test b (trim moved m).machine ≡ false
 trim-none test b moved m none = cond_both (nat_le (counted_in m) m.settings.hard) (nothing_more m) (on_connection goes (ending Pruned) m)

@@ -1,6 +1,6 @@
 -- Cleaned groups have no address twice.
-use Rattle.std.proofs.Common.{◌≡◌, false, ◌||◌, List, [], ◌∷◌, ◌++◌, if◌then◌else◌, refl, sym, subst}
-use Rattle.laws.proofs.Words.{or_parts, or_from}
+use Rattle.std.proofs.Common.{◌≡◌, false, List, [], ◌∷◌, ◌++◌, if◌then◌else◌, ◌∙◌, sym}
+use Rattle.laws.proofs.Words.{or_parts, list_any-append}
 use Rattle.laws.specs.Words.{AllByRecursion, same_address, Addr, Group, is_listed, first_places, cleaned_after, cleaned, members_of}
 use Rattle.laws.specs.Steady.{AreApart}
 use Rattle.laws.proofs.Lists.{all-weaker, all-appended}
@@ -10,21 +10,8 @@ use Rattle.laws.proofs.Cases.{by_bool}
 abbrev pub NoneListed : List Addr → List Addr → Type 0
 NoneListed before addrs = AllByRecursion (λ a. is_listed a before ≡ false) addrs
 
--- an address that is not listed in a longer list is not listed in its front, and is not its last
-unlisted_push : (a last : Addr) (before : List Addr) → is_listed a (before ++ last ∷ []) ≡ false →
-    (is_listed a before ≡ false) × (same_address a last ≡ false)
-unlisted_push a last [] h = (refl, (or_parts (same_address a last) false h).0)
-unlisted_push a last (x ∷ before) h =
-    let parts = or_parts (same_address a x) (is_listed a (before ++ last ∷ [])) h in
-    let rest = unlisted_push a last before parts.1 in
-    (or_from (same_address a x) (is_listed a before) parts.0 rest.0, rest.1)
-
 pub unlisted_append : (a : Addr) (before more : List Addr) → is_listed a (before ++ more) ≡ false → (is_listed a before ≡ false) × (is_listed a more ≡ false)
-unlisted_append a [] more h = (refl, h)
-unlisted_append a (x ∷ before) more h =
-    let parts = or_parts (same_address a x) (is_listed a (before ++ more)) h in
-    let rest = unlisted_append a before more parts.1 in
-    (subst (λ b. (b || is_listed a before) ≡ false) (sym parts.0) rest.0, rest.1)
+unlisted_append a before more h = or_parts (is_listed a before) (is_listed a more) (sym (list_any-append (same_address a) before more) ∙ h)
 
 -- ---- one list
 
@@ -39,7 +26,7 @@ first_places-none before (a ∷ addrs) = by_bool (is_listed a before)
     (λ e skipped kept. (
       e,
       all-weaker (λ x. is_listed x (before ++ a ∷ []) ≡ false) (λ x. is_listed x before ≡ false)
-          (λ x h. (unlisted_push x a before h).0) (first_places (before ++ a ∷ []) addrs) kept,
+          (λ x h. (unlisted_append x before (a ∷ []) h).0) (first_places (before ++ a ∷ []) addrs) kept,
     )) (first_places-none before addrs) (first_places-none (before ++ a ∷ []) addrs)
 
 first_places-apart : (before addrs : List Addr) → AreApart (first_places before addrs)
@@ -53,7 +40,7 @@ first_places-apart before (a ∷ addrs) = by_bool (is_listed a before)
     (λ is skipped none kept. skipped)
     (λ is skipped none kept. (
       all-weaker (λ x. is_listed x (before ++ a ∷ []) ≡ false) (λ x. same_address x a ≡ false)
-          (λ x h. (unlisted_push x a before h).1) (first_places (before ++ a ∷ []) addrs) none,
+          (λ x h. (or_parts (same_address x a) false (unlisted_append x before (a ∷ []) h).1).0) (first_places (before ++ a ∷ []) addrs) none,
       kept,
     )) (first_places-apart before addrs)
     (first_places-none (before ++ a ∷ []) addrs) (first_places-apart (before ++ a ∷ []) addrs)
@@ -66,12 +53,9 @@ cleaned-none before [] = tt
 cleaned-none before (g ∷ groups) =
     let here : List Addr = first_places before g.members in
     let rest : List Addr = members_of (cleaned_after (before ++ here) groups) in
-    all-appended (λ x. is_listed x before ≡ false) here rest (none_here before g.members)
+    all-appended (λ x. is_listed x before ≡ false) here rest (first_places-none before g.members)
     (all-weaker (λ x. is_listed x (before ++ here) ≡ false) (λ x. is_listed x before ≡ false)
     (λ x h. (unlisted_append x before here h).0) rest (cleaned-none (before ++ here) groups))
-  where
-    none_here : (before addrs : List Addr) → AllByRecursion (λ x. is_listed x before ≡ false) (first_places before addrs)
-    none_here before addrs = first_places-none before addrs
 
 listed_of : (y : Addr) (xs ys : List Addr) → AllByRecursion (λ z. is_listed z (y ∷ xs) ≡ false) ys →
     AllByRecursion (λ z. same_address z y ≡ false) ys × AllByRecursion (λ z. is_listed z xs ≡ false) ys

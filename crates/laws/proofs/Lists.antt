@@ -204,6 +204,11 @@ pub all-true : {X : Type 0} (P : X → Type 0) → ((x : X) → P x) → (xs : L
 all-true P each [] = tt
 all-true P each (x ∷ xs) = (each x, all-true P each xs)
 
+pub filter-all : {X : Type 0} (P : X → Type 0) (q : X → Bool) (xs : List X) → AllByRecursion P xs → AllByRecursion P (filter q xs)
+filter-all P q [] h = h
+filter-all {X} P q (x ∷ xs) h = by_bool (q x) (λ b. AllByRecursion P (filter q xs) → AllByRecursion P (cond b (x ∷ filter q xs) (filter q xs)))
+    (λ is rest. (h.0, rest)) (λ is rest. rest) (filter-all P q xs h.1)
+
 pub all-appended : {X : Type 0} (P : X → Type 0) (xs ys : List X) → AllByRecursion P xs → AllByRecursion P ys → AllByRecursion P (xs ++ ys)
 all-appended P [] ys h k = k
 all-appended P (x ∷ xs) ys h k = (h.0, all-appended P xs ys h.1 k)

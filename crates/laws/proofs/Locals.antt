@@ -1,6 +1,6 @@
 -- Local peers: the members of the groups, taken together and group by group.
-use Rattle.std.proofs.Common.{◌≡◌, Bool, true, false, nat_lt, List, [], ◌∷◌, ◌++◌, length, All, is_some, refl, inl, inr, arith}
-use Rattle.laws.proofs.Words.{or_parts, or_from, not-true, cases_Bool, ltb-false, All-from_recursion, recursion_from_All, fails_before_first}
+use Rattle.std.proofs.Common.{◌≡◌, Bool, true, false, nat_lt, List, [], ◌∷◌, ◌++◌, length, All, is_some, refl, ◌∙◌, inl, inr, arith}
+use Rattle.laws.proofs.Words.{or_from, not-true, cases_Bool, ltb-false, All-from_recursion, recursion_from_All, fails_before_first, list_any-append}
 use Rattle.laws.specs.Words.{AllByRecursion, position, position_or_len, same_address, Addr, Group, is_not_local, is_listed, members_of, group_of}
 use Rattle.laws.specs.Laws.{is_local}
 use Rattle.laws.proofs.GroupsApart.{unlisted_append}
@@ -16,10 +16,7 @@ pub no_member-unlisted : (a : Addr) (groups : List Group) → is_local groups a 
 no_member-unlisted a groups h = All-from_recursion (λ group. is_listed a group.members ≡ false) groups (no_member-each a groups h)
 
 not_in-both : (a : Addr) (xs ys : List Addr) → is_listed a xs ≡ false → is_listed a ys ≡ false → is_listed a (xs ++ ys) ≡ false
-not_in-both a [] ys h k = k
-not_in-both a (x ∷ xs) ys h k =
-    let parts = or_parts (same_address a x) (is_listed a xs) h in
-    or_from (same_address a x) (is_listed a (xs ++ ys)) parts.0 (not_in-both a xs ys parts.1 k)
+not_in-both a xs ys h k = list_any-append (same_address a) xs ys ∙ or_from (is_listed a xs) (is_listed a ys) h k
 
 not_in-all : (a : Addr) (groups : List Group) → AllByRecursion (λ group. is_listed a group.members ≡ false) groups → is_local groups a ≡ false
 not_in-all a [] h = refl

@@ -131,9 +131,8 @@ reply-waited e h k owed s =
     left not_2 not_8 = by_tests (owed.protocol == 2) (owed.protocol == 8) (owed.protocol == 10) not_2 not_8 (All-stands (λ o. is_owed_on o.protocol ≡ true) e.owed k owed s h.protocols)
       where
         by_tests : (a b c : Bool) → a ≡ false → b ≡ false → (a || b || c) ≡ true → c ≡ true
-        by_tests true b c never not_8 some = absurd cc
-        by_tests false true c not_2 never some = absurd cc
         by_tests false false c not_2 not_8 some = some
+        by_tests a b c not_2 not_8 some = absurd cc
 
 pub due-waited : (m : Machine) (d : Deadline) → IsOrdered m → due m ≡ Some d → until_at d.kind d.cid.0 m ≡ Some d.at
 due-waited m d h is =

@@ -68,8 +68,6 @@ connections-gives connections m = record { numbers = unchanged refl; groups = re
 
 same_but-number : (test : Addr → Bool → Bool) (addr : Addr) (ps qs : List Peer) → AreSameBut addr ps qs → number_of test qs ≡ number_of test ps
 same_but-number test addr [] [] h = refl
-same_but-number test addr [] (q ∷ qs) h = elim h [ ]
-same_but-number test addr (p ∷ ps) [] h = elim h [ ]
 same_but-number test addr (p ∷ ps) (q ∷ qs) h =
     let here : cond {A = ℕ} (test q.addr q.big) 1 0 ≡ cond {A = ℕ} (test p.addr p.big) 1 0 =
     ap (λ a. cond {A = ℕ} (test a q.big) 1 0) h.0.same_addr ∙ ap (λ b. cond {A = ℕ} (test p.addr b) 1 0) h.0.same_class in
@@ -77,6 +75,7 @@ same_but-number test addr (p ∷ ps) (q ∷ qs) h =
     let before = sum_by-cons (λ x. cond {A = ℕ} (test x.addr x.big) 1 0) p ps in
     let after = sum_by-cons (λ x. cond {A = ℕ} (test x.addr x.big) 1 0) q qs in
     omega (arith, here, rest, before, after)
+same_but-number test addr ps qs h = elim h [ ]
 
 -- a change that keeps addresses and classes
 pub changes-gives : (addr : Addr) (change : Peer → Peer) (m : Machine) → ((p : Peer) → (change p).addr ≡ p.addr) → ((p : Peer) → (change p).big ≡ p.big) →

@@ -1,13 +1,11 @@
 -- Distinct addresses of the book are no more than its peers, and so no more are picked in all.
-use Rattle.std.proofs.Common.{ℕ, ◌+◌, ◌≤◌, ◌≡◌, Bool, true, false, cond, not, ◌&&◌, List, [], ◌∷◌, length, filter, Some, ap, ◌∙◌, arith}
+use Rattle.std.proofs.Common.{ℕ, ◌+◌, ◌≤◌, ◌≡◌, Bool, true, false, cond, not, ◌&&◌, List, [], ◌∷◌, length, Some, ap, ◌∙◌, arith}
 use Rattle.laws.proofs.Words.{and_from, and_right, sum_by-cons}
 use Rattle.laws.specs.Words.{AllByRecursion, same_address, Addr, Group, Peer, is_of, is_listed, members_of}
 use Rattle.peer_book.specs.Book.{peer_at as peer_in}
 use Rattle.laws.specs.Steady.{ArePeersApart, AreApart}
-use Rattle.laws.proofs.Chosen.{chosen}
+use Rattle.laws.proofs.Chosen.{chosen, chosen-all}
 use Rattle.laws.proofs.Lists.{all-both}
-use Rattle.laws.proofs.PeersApart.{all-found}
-use Rattle.laws.proofs.Picks.{filter-all, filter-passing, picks-all}
 use Rattle.laws.proofs.Ties.{found-addr}
 use Rattle.laws.proofs.Numbers.{number_of}
 use Rattle.laws.proofs.Cases.{by_bool}
@@ -94,16 +92,11 @@ kinds-number groups (p ∷ ps) =
   where
     one : (b c : Bool) → cond {A = ℕ} (not b && c) 1 0 + cond {A = ℕ} (not b && not c) 1 0 + cond {A = ℕ} b 1 0 ≤ 1
     one true true = omega arith
-    one true false = omega arith
     one false true = omega arith
-    one false false = omega arith
+    one b c = omega arith
 
 -- whoever is picked is of a kind where the candidates are
 pub chosen-found : (kind : Addr → Bool → Bool) (big : Bool) (word number : ℕ) (test : Peer → Bool) (peers : List Peer) → ArePeersApart peers →
     ((p : Peer) → (is_of big p && test p) ≡ true → kind p.addr p.big ≡ true) → AllByRecursion (IsFoundWith kind peers) (chosen big word number test peers)
 chosen-found kind big word number test peers apart gives =
-    let candidate : Peer → Bool = λ p. is_of big p && test p in
-    picks-all (IsFoundWith kind peers) big word number (filter candidate peers)
-    (all-both (λ p. candidate p ≡ true) (λ p. peer_in p.addr peers ≡ Some p) (λ p. IsFoundWith kind peers p.addr)
-    (λ p h found. record { peer = p; found = found; passes = gives p h }) (filter candidate peers) (filter-passing candidate peers)
-    (filter-all (λ p. peer_in p.addr peers ≡ Some p) candidate peers (all-found peers apart)))
+    chosen-all (IsFoundWith kind peers) big word number test peers apart (λ p h found. record { peer = p; found = found; passes = gives p h })

@@ -8,15 +8,13 @@ use Rattle.laws.specs.CarriedOut.{IsUnset}
 use Rattle.laws.specs.Laws.{is_local}
 use Rattle.laws.specs.Ordered.{is_any, is_to_answer, is_to_tell, is_awaited, can_tell, tells_soon, is_hot, MayBeForgotten, MayBeReleased, MayBeDeactivated, MayBePromoted, MayBeActivated, MayBeAsked, IsOne, IsDueOrder}
 use Rattle.laws.specs.Steady.{ArePeersApart, AreApart, IsOrdered}
-use Rattle.laws.proofs.Chosen.{chosen, chosen-apart, PicksMembers, picks-listed, groups_picks-apart, groups_picks-all, map-groups, group_picks}
+use Rattle.laws.proofs.Chosen.{chosen, chosen-all, chosen-apart, PicksMembers, picks-listed, groups_picks-apart, groups_picks-all, map-groups, group_picks}
 use Rattle.laws.proofs.Addresses.{same_address-true}
 use Rattle.laws.proofs.Falls.{all-back, apart-same, found-same, known-same, ChangesAt-back, taken-count, ask-changes, deactivate-changes, LeavesOthers, release-leaves}
 use Rattle.laws.proofs.GroupsApart.{append-apart}
 use Rattle.laws.proofs.Lists.{all-weaker, all-both, all-appended}
 use Rattle.laws.proofs.Locals.{not_local-no_member}
 use Rattle.laws.proofs.Orders.{EachAccounted, still_may, Carries, Followed, nothing-followed, first-followed, ask-carried, IsCold, IsIdle, forget-carried, release-carried, activate-carried, deactivate-carried}
-use Rattle.laws.proofs.PeersApart.{all-found}
-use Rattle.laws.proofs.Picks.{filter-all, filter-passing, picks-all}
 use Rattle.laws.proofs.Spending.{ChangesAt, IsLocalTest, counted-one, number-one, members-one, members-none, promote-changes, activate-changes}
 use Rattle.laws.proofs.Ties.{taken-elsewhere}
 use Rattle.laws.proofs.ToldMoves.{is_temp}
@@ -410,12 +408,8 @@ Gives May big test m = (p : Peer) → p.big ≡ big → test p ≡ true → peer
 
 chosen-may : (May : Machine → Addr → Type 0) (big : Bool) (word number : ℕ) (test : Peer → Bool) (m : Machine) → ArePeersApart m.peers → Gives May big test m →
     AllByRecursion (May m) (chosen big word number test m.peers)
-chosen-may May big word number test m apart gives =
-    let passes : Peer → Bool = λ p. is_of big p && test p in
-    picks-all (May m) big word number (filter passes m.peers)
-    (all-both (λ p. passes p ≡ true) (λ p. peer_at p.addr m ≡ Some p) (λ p. May m p.addr)
-    (λ p h found. let parts = and_parts (is_of big p) (test p) h in gives p (of-class big p parts.0) parts.1 found) (filter passes m.peers)
-    (filter-passing passes m.peers) (filter-all (λ p. peer_at p.addr m ≡ Some p) passes m.peers (all-found m.peers apart)))
+chosen-may May big word number test m apart gives = chosen-all (May m) big word number test m.peers apart
+    (λ p h found. let parts = and_parts (is_of big p) (test p) h in gives p (of-class big p parts.0) parts.1 found)
 
 class-done : (Law : Move → Type 0) (May : Machine → Addr → Type 0) (Left : List Addr → Machine → Type 0) (order : Addr → Order) → Spends Law May Left order →
     (big : Bool) (word number : ℕ) (test : Peer → Bool) (m : Machine) → IsOrdered m → counted_in m ≤ m.settings.hard → Gives May big test m →

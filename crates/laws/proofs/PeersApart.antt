@@ -5,6 +5,7 @@ use Rattle.laws.specs.Words.{AllByRecursion, same_address, address_below, Addr, 
 use Rattle.peer_book.specs.Book.{peer_at}
 use Rattle.laws.specs.Steady.{ArePeersApart}
 use Rattle.laws.proofs.Addresses.{same_address-self, same_address-true}
+use Rattle.laws.proofs.Lists.{filter-all}
 use Rattle.laws.proofs.Cases.{by_bool}
 
 pub same_turned : (a b : Addr) → same_address a b ≡ false → same_address b a ≡ false
@@ -63,17 +64,10 @@ entered-apart new ps h = by_bool (is_some (peer_at new.addr ps))
     (λ full. h) (λ room. with_new-apart new ps (none_found new.addr ps e) h))
 
 -- one goes
-pub others-filter : (addr : Addr) (q : Peer → Bool) (ps : List Peer) → AllByRecursion (λ x. same_address x.addr addr ≡ false) ps →
-    AllByRecursion (λ x. same_address x.addr addr ≡ false) (filter q ps)
-others-filter addr q [] h = tt
-others-filter addr q (p ∷ ps) h = by_bool (q p)
-    (λ b. AllByRecursion (λ x. same_address x.addr addr ≡ false) (filter q ps) → AllByRecursion (λ x. same_address x.addr addr ≡ false) (cond b (p ∷ filter q ps) (filter q ps)))
-    (λ is rest. (h.0, rest)) (λ is rest. rest) (others-filter addr q ps h.1)
-
 pub filter-apart : (q : Peer → Bool) (ps : List Peer) → ArePeersApart ps → ArePeersApart (filter q ps)
 filter-apart q [] h = tt
 filter-apart q (p ∷ ps) h = by_bool (q p) (λ b. ArePeersApart (filter q ps) → ArePeersApart (cond b (p ∷ filter q ps) (filter q ps)))
-    (λ is rest. (others-filter p.addr q ps h.0, rest)) (λ is rest. rest) (filter-apart q ps h.1)
+    (λ is rest. (filter-all (λ x. same_address x.addr p.addr ≡ false) q ps h.0, rest)) (λ is rest. rest) (filter-apart q ps h.1)
 
 -- each is found under its address
 found_behind : (p : Peer) (ps qs : List Peer) → AllByRecursion (λ q. same_address q.addr p.addr ≡ false) qs →

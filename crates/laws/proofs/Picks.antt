@@ -5,7 +5,7 @@ use Rattle.laws.specs.Words.{AllByRecursion, best_of, address_below, ip_below, s
 use Rattle.peer_book.specs.Book.{peer_at}
 use Rattle.laws.specs.Steady.{ArePeersApart, AreApart}
 use Rattle.laws.proofs.Addresses.{same_address-true}
-use Rattle.laws.proofs.Lists.{all-weaker}
+use Rattle.laws.proofs.Lists.{all-weaker, filter-all}
 use Rattle.laws.proofs.PeersApart.{all-found}
 use Rattle.laws.proofs.Cases.{by_bool, some_same}
 
@@ -15,11 +15,6 @@ use Rattle.laws.proofs.Cases.{by_bool, some_same}
 pub RisesBy : {X : Type 0} → (X → X → Bool) → List X → Type 0
 RisesBy below [] = Unit {0}
 RisesBy below (x ∷ xs) = AllByRecursion (λ y. below x y ≡ true) xs × RisesBy below xs
-
-pub filter-all : {X : Type 0} (P : X → Type 0) (q : X → Bool) (xs : List X) → AllByRecursion P xs → AllByRecursion P (filter q xs)
-filter-all P q [] h = h
-filter-all {X} P q (x ∷ xs) h = by_bool (q x) (λ b. AllByRecursion P (filter q xs) → AllByRecursion P (cond b (x ∷ filter q xs) (filter q xs)))
-    (λ is rest. (h.0, rest)) (λ is rest. rest) (filter-all P q xs h.1)
 
 pub filter-passing : {X : Type 0} (q : X → Bool) (xs : List X) → AllByRecursion (λ y. q y ≡ true) (filter q xs)
 filter-passing q [] = tt

@@ -255,9 +255,8 @@ paid-until p protocol e =
   where
     by_tests : (b c : Bool) → c ≡ b → until_paid (if not c then reply_on p e else None) ≡ (if b then None else until_paid (reply_on p e))
     by_tests true true same = refl
-    by_tests true false same = absurd cc
-    by_tests false true same = absurd cc
     by_tests false false same = refl
+    by_tests b c same = absurd cc
 
 pub paid-right : (p protocol : ℕ) (whole : ℕ) (e : Entry) → IsWait whole (until_paid (reply_on p e)) (until_paid (reply_on p (paid protocol e)))
 paid-right p protocol whole e = subst (IsWait whole (until_paid (reply_on p e))) (sym (paid-until p protocol e)) (by_bool (protocol == p)

@@ -16,8 +16,6 @@ use Rattle.laws.proofs.Lawful.{Within}
 use Rattle.laws.proofs.Lists.{all-weaker, all-appended, all-both}
 use Rattle.laws.proofs.Locals.{no_member-unlisted}
 use Rattle.laws.proofs.Orders.{EachAccounted}
-use Rattle.laws.proofs.PeersApart.{all-found}
-use Rattle.laws.proofs.Picks.{filter-all, filter-passing, picks-all}
 use Rattle.laws.proofs.Spending.{ChangesAt, IsLocalTest, established_or_pending-same, active_or_asked-same, class_at, same_but-class, number-one, members-one, members-none, promote-changes, activate-changes}
 use Rattle.laws.proofs.Cases.{by_bool, by_option, some_same}
 use Rattle.laws.proofs.ToldMoves.{turns_at-moves}
@@ -91,12 +89,8 @@ of-class false p h = not-true p.big h
 
 chosen-class : (big : Bool) (word number : ℕ) (test : Peer → Bool) (ps : List Peer) → ArePeersApart ps →
     AllByRecursion (λ a. class_at a ps ≡ Some big) (chosen big word number test ps)
-chosen-class big word number test ps apart =
-    let passes : Peer → Bool = λ p. is_of big p && test p in
-    picks-all (λ a. class_at a ps ≡ Some big) big word number (filter passes ps)
-    (all-both (λ p. passes p ≡ true) (λ p. peer_in p.addr ps ≡ Some p) (λ p. class_at p.addr ps ≡ Some big)
-    (λ p h found. ap (option_map (λ q. q.big)) found ∙ ap Some (of-class big p (and_parts (is_of big p) (test p) h).0)) (filter passes ps)
-    (filter-passing passes ps) (filter-all (λ p. peer_in p.addr ps ≡ Some p) passes ps (all-found ps apart)))
+chosen-class big word number test ps apart = chosen-all (λ a. class_at a ps ≡ Some big) big word number test ps apart
+    (λ p h found. ap (option_map (λ q. q.big)) found ∙ ap Some (of-class big p (and_parts (is_of big p) (test p) h).0))
 
 -- ---- the picks of groups
 
@@ -201,7 +195,7 @@ module _ {counts : Machine → Peer → Bool} {wanted : Bool → Machine → ℕ
       orders-within (ClassLeft big) (class-lets big) picks m each (record {
         number = omega (arith, most, few);
         class = chosen-class big word number test m.peers h.formed.peers;
-        among = chosen-all (λ a. (big || not (is_local m.groups a)) ≡ true) big word number test m.peers h.formed.peers (λ p passes found. among p passes);
+        among = chosen-all (λ a. (big || not (is_local m.groups a)) ≡ true) big word number test m.peers h.formed.peers (λ p passes found. among p (and_parts (is_of big p) (test p) passes).1);
       })
 
   -- ---- by the valencies of groups
