@@ -1,5 +1,5 @@
 -- A part of a step of the whole machine: what it keeps, and by how much it may raise the counted connections.
-use Rattle.std.proofs.Common.{ℕ, ◌+◌, ◌<◌, ◌≤◌, ◌≡◌, Bool, true, false, not, List, [], ◌∷◌, set, All, sum_by, Some, refl, sym, ◌∙◌, subst, arith}
+use Rattle.std.proofs.Common.{ℕ, ◌+◌, ◌<◌, ◌≤◌, ◌≡◌, Bool, true, false, not, List, [], ◌∷◌, set, All, Some, refl, sym, ◌∙◌, subst, arith}
 use Rattle.laws.proofs.Words.{All-head, All-tail, All-set, All-filter}
 use Rattle.laws.specs.Words.{same_address, Peer, with_entry, without_entry, Machine, Entry, counted_in, live_entry_at, Effect, for_each, turns_at, peer_at, peer_changes, note_of_coming, peer_comes, RootState, Addr, Settings, BigTargets, Targets, new_peer, entry_of, entered, Added, New, has_id}
 use Rattle.peer_book.specs.Book.{with_peer as with_peer_in}
@@ -7,8 +7,9 @@ use Rattle.laws.specs.Laws.{is_local, LocalsAreOrdinary}
 use Rattle.laws.specs.Sound.{IsOrderly}
 use Rattle.laws.specs.Steady.{IsShaped, IsOwing, IsOrdered, TiedBy, IsTied}
 use Rattle.laws.proofs.Books.{IsBook, book_of, with_peer-book, entered-book}
-use Rattle.laws.proofs.Counts.{counted_of, counted_in-sum, late_of, late_in, late_in-sum}
-use Rattle.laws.proofs.Entries.{TurnsInto, turned-connections, turned-orderly, turned-sum, gone-orderly, gone-sum}
+use Rattle.laws.proofs.Counts.{counted_of, late_of, late_in}
+use Rattle.laws.proofs.Entries.{TurnsInto, turned-connections, turned-orderly, gone-orderly}
+use Rattle.laws.proofs.Moves.{gone-counts, turned-counts}
 use Rattle.laws.proofs.Lists.{StandsAt, All-stands}
 use Rattle.laws.proofs.Ordinary.{turned-classes, comes-classes}
 use Rattle.laws.proofs.Ties.{changed-ties, comes-ties}
@@ -80,15 +81,7 @@ turns-moves raised m old new k h s t shaped owes more later =
     let other : same_address new.facts.addr own ≡ false = subst (λ a. same_address a own ≡ false) (sym t.same_addr)
     (All-stands (λ e. same_address e.facts.addr own ≡ false) m.connections k old s h.formed.other_connections) in
     let list : set m.connections k new ≡ n.connections = sym (turned-connections m old new k o s t) in
-    let counts : sum_by counted_of n.connections + counted_of old ≡ sum_by counted_of m.connections + counted_of new =
-    turned-sum counted_of m old new k o s t in
-    let lates : sum_by (late_of m.now) n.connections + late_of m.now old
-    ≡ sum_by (late_of m.now) m.connections + late_of m.now new =
-    turned-sum (late_of m.now) m old new k o s t in
-    let counted_before : counted_in m ≡ sum_by counted_of m.connections = counted_in-sum m in
-    let counted_after : counted_in n ≡ sum_by counted_of n.connections = counted_in-sum n in
-    let late_before : late_in m ≡ sum_by (late_of m.now) m.connections = late_in-sum m in
-    let late_after : late_in n ≡ sum_by (late_of m.now) n.connections = late_in-sum n in
+    let counts = turned-counts m old new k o s t in
     record {
       ordered = assumption (
         turned-orderly m old new k o s t,
@@ -98,8 +91,8 @@ turns-moves raised m old new k h s t shaped owes more later =
       );
       settings = refl;
       now = refl;
-      counted = omega arith;
-      late = omega arith;
+      counted = omega (arith, counts.0, more);
+      late = omega (arith, counts.1, later);
       classes = λ locals. locals;
     }
 
@@ -107,15 +100,7 @@ turns-moves raised m old new k h s t shaped owes more later =
 pub goes-moves : (m : Machine) (e : Entry) (k : ℕ) → IsOrdered m → StandsAt m.connections k e →
     Moves 0 m (without_entry e.facts.cid.0 m)
 goes-moves m e k h s =
-    let n : Machine = without_entry e.facts.cid.0 m in
-    let counts : sum_by counted_of n.connections + counted_of e ≡ sum_by counted_of m.connections =
-    gone-sum counted_of m e k h.orderly s in
-    let lates : sum_by (late_of m.now) n.connections + late_of m.now e ≡ sum_by (late_of m.now) m.connections =
-    gone-sum (late_of m.now) m e k h.orderly s in
-    let counted_before : counted_in m ≡ sum_by counted_of m.connections = counted_in-sum m in
-    let counted_after : counted_in n ≡ sum_by counted_of n.connections = counted_in-sum n in
-    let late_before : late_in m ≡ sum_by (late_of m.now) m.connections = late_in-sum m in
-    let late_after : late_in n ≡ sum_by (late_of m.now) n.connections = late_in-sum n in
+    let counts = gone-counts m e k h.orderly s in
     record {
       ordered = assumption (
         gone-orderly m e.facts.cid.0 h.orderly,
@@ -125,8 +110,8 @@ goes-moves m e k h s =
       );
       settings = refl;
       now = refl;
-      counted = omega arith;
-      late = omega arith;
+      counted = omega (arith, counts.0);
+      late = omega (arith, counts.1);
       classes = λ locals. locals;
     }
 

@@ -1,5 +1,5 @@
 -- A part of a step in which no connection comes.
-use Rattle.std.proofs.Common.{ℕ, ◌+◌, ◌≤◌, ◌≡◌, true, cond, [], ◌∷◌, sum_by, Option, Some, None, refl, ap, ◌∙◌, arith}
+use Rattle.std.proofs.Common.{ℕ, ◌+◌, ◌≤◌, ◌≡◌, true, cond, [], ◌∷◌, Option, Some, None, refl, ap, ◌∙◌, arith}
 use Rattle.laws.proofs.Words.{cond_both, false≢true}
 use Rattle.laws.specs.Words.{Close, CloseCause, Unused, Overwritten, Facts, Peer, failed_peer, expired, Machine, Entry, counted_in, Effect, nothing_more, then_do, tells, as_move, unused, turns_at, peer_fails, peer_at, with_entry, without_entry, entry_turns, is_missed, lost, lost_by, ending, closing_entry, grace_over, wait_over}
 use Rattle.machine.specs.Peers.{with_peer}
@@ -46,49 +46,37 @@ lowers_less i j m n le h = record {
   late = omega arith;
 }
 
--- a connection goes
+-- a connection goes: what is counted and what is late, by what it added
+pub gone-counts : (m : Machine) (e : Entry) (k : ℕ) → IsOrderly m → StandsAt m.connections k e →
+    (counted_in (without_entry e.facts.cid.0 m) + counted_of e ≡ counted_in m) × (late_in (without_entry e.facts.cid.0 m) + late_of m.now e ≡ late_in m)
+gone-counts m e k h s =
+    let n : Machine = without_entry e.facts.cid.0 m in
+    let counts = gone-sum counted_of m e k h s in
+    let lates = gone-sum (late_of m.now) m e k h s in
+    (omega (arith, counts, counted_in-sum m, counted_in-sum n), omega (arith, lates, late_in-sum m, late_in-sum n))
+
 pub goes-lowers : (m : Machine) (e : Entry) (k : ℕ) → IsOrderly m → StandsAt m.connections k e →
     Lowers (late_of m.now e) m (without_entry e.facts.cid.0 m)
 goes-lowers m e k h s =
-    let n : Machine = without_entry e.facts.cid.0 m in
-    let counts : sum_by counted_of n.connections + counted_of e ≡ sum_by counted_of m.connections =
-    gone-sum counted_of m e k h s in
-    let lates : sum_by (late_of m.now) n.connections + late_of m.now e ≡ sum_by (late_of m.now) m.connections =
-    gone-sum (late_of m.now) m e k h s in
-    let counted_before : counted_in m ≡ sum_by counted_of m.connections = counted_in-sum m in
-    let counted_after : counted_in n ≡ sum_by counted_of n.connections = counted_in-sum n in
-    let late_before : late_in m ≡ sum_by (late_of m.now) m.connections = late_in-sum m in
-    let late_after : late_in n ≡ sum_by (late_of m.now) n.connections = late_in-sum n in
-    record {
-      orderly = gone-orderly m e.facts.cid.0 h;
-      settings = refl;
-      now = refl;
-      counted = omega arith;
-      late = omega arith;
-    }
+    let counts = gone-counts m e k h s in
+    record { orderly = gone-orderly m e.facts.cid.0 h; settings = refl; now = refl; counted = omega (arith, counts.0); late = omega (arith, counts.1) }
+
+-- and so where it turns
+pub turned-counts : (m : Machine) (old new : Entry) (k : ℕ) → IsOrderly m → StandsAt m.connections k old → TurnsInto old new →
+    (counted_in (with_entry new m) + counted_of old ≡ counted_in m + counted_of new) × (late_in (with_entry new m) + late_of m.now old ≡ late_in m + late_of m.now new)
+turned-counts m old new k h s t =
+    let n : Machine = with_entry new m in
+    let counts = turned-sum counted_of m old new k h s t in
+    let lates = turned-sum (late_of m.now) m old new k h s t in
+    (omega (arith, counts, counted_in-sum m, counted_in-sum n), omega (arith, lates, late_in-sum m, late_in-sum n))
 
 -- a connection turns into one that isn't counted where it wasn't, and has fewer late deadlines
 pub turns-lowers : (gone : ℕ) (m : Machine) (old new : Entry) (k : ℕ) → IsOrderly m → StandsAt m.connections k old →
     TurnsInto old new → counted_of new ≤ counted_of old → late_of m.now new + gone ≤ late_of m.now old →
     Lowers gone m (with_entry new m)
 turns-lowers gone m old new k h s t fewer earlier =
-    let n : Machine = with_entry new m in
-    let counts : sum_by counted_of n.connections + counted_of old ≡ sum_by counted_of m.connections + counted_of new =
-    turned-sum counted_of m old new k h s t in
-    let lates : sum_by (late_of m.now) n.connections + late_of m.now old
-    ≡ sum_by (late_of m.now) m.connections + late_of m.now new =
-    turned-sum (late_of m.now) m old new k h s t in
-    let counted_before : counted_in m ≡ sum_by counted_of m.connections = counted_in-sum m in
-    let counted_after : counted_in n ≡ sum_by counted_of n.connections = counted_in-sum n in
-    let late_before : late_in m ≡ sum_by (late_of m.now) m.connections = late_in-sum m in
-    let late_after : late_in n ≡ sum_by (late_of m.now) n.connections = late_in-sum n in
-    record {
-      orderly = turned-orderly m old new k h s t;
-      settings = refl;
-      now = refl;
-      counted = omega arith;
-      late = omega arith;
-    }
+    let counts = turned-counts m old new k h s t in
+    record { orderly = turned-orderly m old new k h s t; settings = refl; now = refl; counted = omega (arith, counts.0, fewer); late = omega (arith, counts.1, earlier) }
 
 -- the book is no matter of the connections
 pub with_peer-lowers : (m : Machine) (p : Peer) → IsOrderly m → Lowers 0 m (with_peer p m)

@@ -1,5 +1,5 @@
 -- The governor's orders, one by one: the connections stay in order and within the limit, and peers tied to them.
-use Rattle.std.proofs.Common.{ℕ, ◌+◌, ◌≤◌, ◌≡◌, Bool, true, false, ◌&&◌, not, ◌||◌, ◌==◌, if◌then◌else◌, List, [], ◌∷◌, find, set, sum_by, Option, Some, None, is_some, refl, sym, ap, ◌∙◌, subst, arith}
+use Rattle.std.proofs.Common.{ℕ, ◌+◌, ◌≤◌, ◌≡◌, Bool, true, false, ◌&&◌, not, ◌||◌, ◌==◌, if◌then◌else◌, List, [], ◌∷◌, find, set, Option, Some, None, is_some, refl, sym, ap, ◌∙◌, subst, arith}
 use Rattle.laws.proofs.Words.{cond_both, both_ways, false≢true, and_parts, or_right}
 use Rattle.laws.specs.Words.{AllByRecursion, same_address, Addr, Facts, Peer, Cold, Warm, is_counted, released, agreed_sharing, is_live, is_live_at, is_negotiated, is_pending, Order, Ask, Forget, Release, Activate, Deactivate, is_established, Machine, Entry, counted_in, live_entry_at, Effect, Move, activated, nothing_more, then_do, as_move, for_each, on_entry, peer_at, peer_becomes, peer_was_asked, peer_goes, sends_as_initiator, owing, reply_on, peer_sharing_done, chain_sync_done, find_intersect, with_entry, entry_turns, says_done, trim, release, is_used_at, on_used, asks_peer, activates, deactivates, carries_out, written_alive, written_request, Done}
 use Rattle.laws.specs.AtMoves.{IsReady, IsLawful, is_up_connection, is_up, is_hot_peer, is_asked_connection, is_hot_or_asked, is_known, promotes, activates as activation, shares}
@@ -7,11 +7,12 @@ use Rattle.laws.specs.Steady.{AreTied, IsAlone, TiedBy, IsTied, IsOrdered}
 use Rattle.laws.proofs.Addresses.{same_address-true}
 use Rattle.laws.proofs.Books.{book_of, filter-book}
 use Rattle.laws.proofs.Chain.{then_assoc}
-use Rattle.laws.proofs.Counts.{counted_of, counted_in-sum}
+use Rattle.laws.proofs.Counts.{counted_of}
 use Rattle.laws.proofs.Effects.{one_if-not_counted}
-use Rattle.laws.proofs.Entries.{TurnsInto, turned-connections, turned-sum}
+use Rattle.laws.proofs.Entries.{TurnsInto, turned-connections}
 use Rattle.laws.proofs.Keeping.{Moves, Keeps, keeps_nothing, keeps_then, moves_then, moves-keeps, peers-moves, changes-moves, changes-keeps}
 use Rattle.laws.proofs.Lawful.{Accounts, Obeys, obeys_then, IsQuiet, quiet-obeys, tells-quiet, quiet_then, changes-quiet, turned_then-obeys, IsAllowed}
+use Rattle.laws.proofs.Moves.{turned-counts}
 use Rattle.laws.proofs.Lists.{StandsAt, FoundIn, stands-set, find_some}
 use Rattle.laws.proofs.Ordinary.{taken-classes}
 use Rattle.laws.proofs.Owing.{OwesNothing, with_reply-some}
@@ -307,10 +308,7 @@ releasing-carried addr m e k u may =
     let same : o.connections ≡ set m.connections k new = turns_at-connections (peer_at e.facts.addr n) cold n ∙ list in
     let stands : StandsAt o.connections k new = subst (λ es. StandsAt es k new) (sym same) (stands-set m.connections k new e s) in
     let alike : counted_in o ≡ counted_in n = turns_at-counted (peer_at e.facts.addr n) cold n in
-    let counts : sum_by counted_of n.connections + counted_of e ≡ sum_by counted_of m.connections + counted_of new =
-    turned-sum counted_of m e new k h.orderly s t in
-    let before = counted_in-sum m in
-    let after = counted_in-sum n in
+    let counts = turned-counts m e new k h.orderly s t in
     let within = u.within in
     let limit : o.settings.hard ≡ m.settings.hard = ap (λ x. x.hard) raised.settings in
     let trimmed : Trimmed IsLawful o (trim e.facts.cid o) =
@@ -322,7 +320,7 @@ releasing-carried addr m e k u may =
       counted = by_bool (is_counted new.facts) (λ b. (b ≡ false → b ≡ true) → b ≡ true)
           (λ is gives. refl) (λ is gives. gives refl)
           (λ none. let zero : counted_of new ≡ 0 = one_if-not_counted new.facts none in
-          absurd (omega (arith, over, alike, counts, before, after, limit, within, zero)));
+          absurd (omega (arith, over, alike, counts.0, limit, within, zero)));
     }) in
     subst (Trimmed IsLawful m) (then_assoc (entry_turns e new m) (peer_becomes Cold e.facts.addr) (trim e.facts.cid))
     (raised_then_trimmed IsLawful m (then_do (entry_turns e new m) (peer_becomes Cold e.facts.addr)) (trim e.facts.cid) raised

@@ -1,5 +1,5 @@
 -- Where more connections are counted than the hard limit, one of them goes.
-use Rattle.std.proofs.Common.{ℕ, suc, ◌+◌, ◌≤◌, ◌<◌, ◌≡◌, Bool, true, false, not, ◌&&◌, ◌||◌, nat_le, if◌then◌else◌, List, [], ◌∷◌, ◌++◌, map, filter_map, find, sum_by, Option, Some, None, refl, sym, ap, ◌∙◌, subst, arith, eq-eqb, leb-true, leb-false, All}
+use Rattle.std.proofs.Common.{ℕ, suc, ◌+◌, ◌≤◌, ◌<◌, ◌≡◌, Bool, true, false, not, ◌&&◌, ◌||◌, nat_le, if◌then◌else◌, List, [], ◌∷◌, ◌++◌, map, filter_map, find, Option, Some, None, refl, sym, ap, ◌∙◌, subst, arith, eq-eqb, leb-true, leb-false, All}
 use Rattle.laws.proofs.Words.{cond_both, both_ways, and_parts, not-true, All-head, All-tail, All-from_recursion, recursion_from_All, first_to_go-law}
 use Rattle.laws.specs.Words.{AllByRecursion, cons_option, option_map, unwrap_or, Settings, CloseCause, Pruned, Cid, Facts, Peer, IsFirstToGo, is_candidate, rank_of_candidate, goes_before, first_of, first_to_go, choice_of, Candidate, is_counted, has_id, is_live, live_phase, is_greeting, is_greeting_phase, is_negotiated, is_negotiated_phase, is_outbound, Phase, Closing, failed_peer, Machine, Entry, counted_in, entry_at, Effect, Happened, Move, nothing_more, then_do, as_move, for_each, on_entry, turns_at, peer_at, peer_fails, without_entry, is_missed, lost, ending, candidate_of, candidates_in, trim}
 use Rattle.laws.specs.AtMoves.{as_candidate, IsDueToGo, IsPrunedRightly, IsLawful}
@@ -8,13 +8,14 @@ use Rattle.laws.specs.Sound.{IsOrderly}
 use Rattle.laws.specs.Stages.{IsLateCause}
 use Rattle.laws.specs.InActions.{ended_by, promoted_by_dial}
 use Rattle.laws.specs.Steady.{IsTied, IsOrdered}
-use Rattle.laws.proofs.Counts.{counted_of, counted_in-sum, late_in}
+use Rattle.laws.proofs.Counts.{counted_of, late_in}
 use Rattle.laws.proofs.Effects.{one_if-counted}
-use Rattle.laws.proofs.Entries.{gone-connections, gone-sum, one_has_id}
+use Rattle.laws.proofs.Entries.{gone-connections, one_has_id}
 use Rattle.laws.proofs.Finds.{find-remove_other}
 use Rattle.laws.proofs.Keeping.{Keeps, keeps_nothing}
 use Rattle.laws.proofs.ToldMoves.{turns_at-connections}
 use Rattle.laws.proofs.Lawful.{Accounts, accounts_then, accounts_move, Obeys, obeys_nothing, ending-obeys}
+use Rattle.laws.proofs.Moves.{gone-counts}
 use Rattle.laws.proofs.Lists.{StandsAt, stands_next, find_only, all-weaker, all-appended, all-both}
 use Rattle.laws.proofs.WholeMoves.{IsLost, ending-keeps}
 use Rattle.laws.proofs.Cases.{by_bool, by_option, some_same}
@@ -150,12 +151,8 @@ pruned-drops : (m : Machine) (e : Entry) (k : ℕ) → IsOrdered m → StandsAt 
     counted_in (ending Pruned e m).machine + counted_of e ≡ counted_in m
 pruned-drops m e k h s =
     let n : Machine = without_entry e.facts.cid.0 m in
-    let counts : sum_by counted_of n.connections + counted_of e ≡ sum_by counted_of m.connections =
-    gone-sum counted_of m e k h.orderly s in
-    let before : counted_in m ≡ sum_by counted_of m.connections = counted_in-sum m in
-    let gone : counted_in n ≡ sum_by counted_of n.connections = counted_in-sum n in
-    let after : counted_in (lost e.facts n).machine ≡ counted_in n = lost-counted e.facts n in
-    omega (arith, counts, before, gone, after)
+    let counts = gone-counts m e k h.orderly s in
+    omega (arith, counts.0, lost-counted e.facts n)
 
 -- no more are counted than the hard limit says, the rest is kept, and each move keeps a law
 pub record Trimmed (Law : Move → Type 0) (before : Machine) (effect : Effect) : Type 0 where
