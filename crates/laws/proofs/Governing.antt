@@ -40,17 +40,13 @@ all-rules (r ∷ rs) right m o within =
     }
 
 pub asks_roots-keeps : (m : Machine) → IsOrdered m → Keeps 0 m (asks_roots m).machine
-asks_roots-keeps m h = cond_both (may_ask m.now m.targets.root m.roots)
-    (tells (AskRoots (record { 0 = m.roots.next_job }) ∷ []) (record m { roots = asked m.roots })) (nothing_more m)
-    (λ effect. Keeps 0 m effect.machine)
+asks_roots-keeps m h = cond_both (may_ask m.now m.targets.root m.roots) _ _ (λ (effect : Effect). Keeps 0 m effect.machine)
     (λ too_few. elsewhere-keeps m.targets m.big_targets (asked m.roots) m h (λ job same. let is : m.roots.next_job ≡ job = cc in omega (arith, is)))
     (λ enough. keeps_nothing m h)
 
 asks_roots-quiet : (m : Machine) → IsQuiet m (asks_roots m)
-asks_roots-quiet m = cond_both (may_ask m.now m.targets.root m.roots)
-    (tells (AskRoots (record { 0 = m.roots.next_job }) ∷ []) (record m { roots = asked m.roots })) (nothing_more m) (IsQuiet m)
-    (λ too_few.
-    elsewhere-quiet m (tells (AskRoots (record { 0 = m.roots.next_job }) ∷ []) (record m { roots = asked m.roots })) refl refl refl refl refl)
+asks_roots-quiet m = cond_both (may_ask m.now m.targets.root m.roots) _ _ (IsQuiet m)
+    (λ too_few. elsewhere-quiet m (tells (AskRoots (record { 0 = m.roots.next_job }) ∷ []) (record m { roots = asked m.roots })) refl refl refl refl refl)
     (λ enough. tells-quiet [] m refl)
 
 -- what the governor does, and each of its orders

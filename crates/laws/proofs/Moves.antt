@@ -129,13 +129,8 @@ closes-lowers m e k h s =
 
 pub grace_over-lowers : (m : Machine) (e : Entry) (k : ℕ) → IsOrderly m → StandsAt m.connections k e →
     Lowers (grace_late_of m.now e) m (grace_over e m).machine
-grace_over-lowers m e k h s = cond_both e.facts.local (entry_turns e (record e { facts = expired e.facts }) m) closed
-    (λ effect. Lowers (grace_late_of m.now e) m effect.machine) (expires-lowers m e k h s)
+grace_over-lowers m e k h s = cond_both e.facts.local _ _ (λ (effect : Effect). Lowers (grace_late_of m.now e) m effect.machine) (expires-lowers m e k h s)
     (λ idle. closes-lowers m e k h s)
-  where
-    closed : Effect
-    closed = as_move (unused e.facts.cid.0) m
-        (then_do (tells (Close e.facts.cid Unused ∷ []) m) (entry_turns e (closing_entry m e)))
 
 pub wait_over-lowers : (m : Machine) (e : Entry) (k : ℕ) → IsOrderly m → StandsAt m.connections k e →
     Lowers (late_of m.now e) m (wait_over e m).machine

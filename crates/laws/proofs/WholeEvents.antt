@@ -132,12 +132,7 @@ closes_entry-keeps m e k h s idle =
     (λ is tie. tt) (λ p is tie. tie.established ∙ idle) tie))
 
 grace_over-keeps : (m : Machine) (e : Entry) (k : ℕ) → IsOrdered m → StandsAt m.connections k e → Keeps 0 m (grace_over e m).machine
-grace_over-keeps m e k h s = cond_both e.facts.local (entry_turns e (record e { facts = expired e.facts }) m) closed
-    (λ effect. Keeps 0 m effect.machine) (expires-keeps m e k h s) (closes_entry-keeps m e k h s)
-  where
-    closed : Effect
-    closed = as_move (unused e.facts.cid.0) m
-        (then_do (tells (Close e.facts.cid Unused ∷ []) m) (entry_turns e (closing_entry m e)))
+grace_over-keeps m e k h s = cond_both e.facts.local _ _ (λ (effect : Effect). Keeps 0 m effect.machine) (expires-keeps m e k h s) (closes_entry-keeps m e k h s)
 
 -- a time-wait is over
 waits-keeps : (m : Machine) (e : Entry) (k : ℕ) → IsOrdered m → StandsAt m.connections k e → is_live e.facts ≡ false →
