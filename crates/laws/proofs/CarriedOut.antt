@@ -1,7 +1,7 @@
 -- Each order does what it says, the book changes only where it is to, and accepting pauses where it must.
 use Rattle.std.proofs.Common.{ℕ, ◌+◌, ◌%◌, ◌≡◌, Bool, true, false, ◌&&◌, nat_le, nat_lt, if◌then◌else◌, [], ◌∷◌, find, get_or, set, Option, Some, None, is_some, refl, sym, ap, ◌∙◌, subst, arith}
 use Rattle.laws.proofs.Words.{cond_both, and_parts, and_from, All-weaker}
-use Rattle.laws.specs.Words.{option_map, unwrap_or, pause_of, choice_of, acquired, released, has_id, is_live, is_live_at, Order, Ask, Forget, Promote, Release, Activate, Deactivate, Addr, Peer, Cold, Warm, same_address, failed_peer, Cid, Facts, AskRoots, Pause, Pruned, Overwritten, may_ask, asked, with_entry, without_entry, entry_turns, lost, ending, candidates_in, acquire, trim, release, nothing_more, tells, then_do, on_entry, on_connection, admitted, peer_connects, closes, promote, is_used_at, on_used, asks_peer, deactivates, carries_out, asks_roots, Machine, Entry, counted_in, entry_at, live_entry_at, peer_at, turns_at, peer_changes, peer_fails, peer_becomes, peer_goes, owing}
+use Rattle.laws.specs.Words.{Effect, option_map, unwrap_or, pause_of, choice_of, acquired, released, has_id, is_live, is_live_at, Order, Ask, Forget, Promote, Release, Activate, Deactivate, Addr, Peer, Cold, Warm, same_address, failed_peer, Cid, Facts, Pause, Pruned, Overwritten, may_ask, with_entry, without_entry, entry_turns, lost, ending, candidates_in, acquire, trim, release, nothing_more, then_do, on_entry, on_connection, admitted, peer_connects, closes, promote, is_used_at, on_used, asks_peer, deactivates, carries_out, asks_roots, Machine, Entry, counted_in, entry_at, live_entry_at, peer_at, turns_at, peer_changes, peer_fails, peer_becomes, peer_goes, owing}
 use Rattle.laws.specs.AtMoves.{is_missed, FailsWhere, OnEntry, is_known}
 use Rattle.laws.specs.CarriedOut.{WhereLive, OnPeer, IsReused, Reuses, LeavesAlone, IsUsedByNobody, Comes, IsCarriedOut, TreatsBook, pauses_by, pauses_in, pauses_due, PausesRight}
 use Rattle.laws.specs.Sound.{IsOrderly}
@@ -159,8 +159,7 @@ connects-book : (addr : Addr) (m : Machine) → (peer_connects addr m).machine.p
 connects-book addr m = connects-cases addr m (λ effect. effect.machine.peers ≡ m.peers) (λ cause. refl) (λ room alone. refl) (λ room e is pending. refl)
 
 asks-book : (m : Machine) → (asks_roots m).machine.peers ≡ m.peers
-asks-book m = cond_both (may_ask m.now m.targets.root m.roots)
-    (tells (AskRoots (record { 0 = m.roots.next_job }) ∷ []) (record m { roots = asked m.roots })) (nothing_more m) (λ effect. effect.machine.peers ≡ m.peers)
+asks-book m = cond_both (may_ask m.now m.targets.root m.roots) _ _ (λ (effect : Effect). effect.machine.peers ≡ m.peers)
     (λ too_few. refl) (λ enough. refl)
 
 closed-book : (o : Option Entry) (m : Machine) → WhereLive o (λ e. FailsWhere (is_missed e.facts) e m (on_entry o closes m).machine)

@@ -1,5 +1,5 @@
 -- What comes of it where a peer connects, where a dial ends, and where the other side closes.
-use Rattle.std.proofs.Common.{ℕ, ◌≡◌, Bool, true, false, nat_le, if◌then◌else◌, Some, None, eqb-true}
+use Rattle.std.proofs.Common.{ℕ, ◌≡◌, Bool, true, false, nat_le, Some, None, eqb-true}
 use Rattle.laws.proofs.Words.{cond_both}
 use Rattle.laws.specs.Words.{has_id, is_dialing, is_live, is_pending, same_address, address_below, Away, OwnAddr, Crossed, Overwritten, Addr, Cid, ending, vanishes, dial_opens, dial_fails, Effect, nothing_more, then_do, on_entry, turned_away, admitted, crossed, accepted_beside, peer_connects, closes, peer_closes, dialed, dial_ends, Machine, Entry, counted_in, entry_at, live_entry_at}
 use Rattle.net_base.specs.declared.action.Away.TheVariants.{Full, Present}
@@ -16,8 +16,7 @@ pub connects-cases : (addr : Addr) (m : Machine) (P : Effect → Type 0) → ((c
     (HasRoom addr m → live_entry_at addr m ≡ None → P (admitted addr m)) →
     (HasRoom addr m → (e : Entry) → live_entry_at addr m ≡ Some e → is_pending e.facts ≡ true → P (then_do (ending Overwritten e m) (admitted addr))) →
     P (peer_connects addr m)
-connects-cases addr m P away alone crosses = cond_both (same_address addr m.settings.own) (turned_away OwnAddr m)
-    (if nat_le m.settings.hard (counted_in m) then turned_away Full m else accepted_beside (live_entry_at addr m) addr m) P
+connects-cases addr m P away alone crosses = cond_both (same_address addr m.settings.own) _ _ P
     (λ own. away OwnAddr)
     (λ other. cond_both (nat_le m.settings.hard (counted_in m)) (turned_away Full m) (accepted_beside (live_entry_at addr m) addr m) P
     (λ full. away Full)

@@ -1,7 +1,7 @@
 -- Each event keeps what is sound.
 use Rattle.std.proofs.Common.{ℕ, ◌+◌, ◌<◌, ◌≤◌, ◌≡◌, ◌≢◌, true, false, remove, None, All, IsTrue, nat_le, sum_by, refl, sym, ap, ◌∙◌, subst, arith, leb-false}
 use Rattle.laws.proofs.Words.{cond_both, and_parts, and_from, both_ways, lt-leb, All-weaker, sum_by_push}
-use Rattle.laws.specs.Words.{same_address, Overwritten, Addr, accepted, is_live, is_live_at, Machine, Entry, fresh_entry, counted_in, live_entry_at, nothing_more, then_do, without_entry, ending, deadlines, fire_all, clock_shows, admitted, peer_connects}
+use Rattle.laws.specs.Words.{Effect, same_address, Overwritten, Addr, accepted, is_live, is_live_at, Machine, Entry, fresh_entry, counted_in, live_entry_at, then_do, without_entry, ending, deadlines, fire_all, clock_shows, admitted, peer_connects}
 use Rattle.laws.specs.Laws.{DifferInAddress, WithinHardLimit, DeadlinesAhead}
 use Rattle.laws.specs.Sound.{IsOrderly, IsSound}
 use Rattle.laws.proofs.Addresses.{same_address-self, same_address-true}
@@ -58,8 +58,7 @@ fired_at-sound t m h =
     record { sound = all.sound; settings = all.settings }
 
 pub clock_shows-sound : (t : ℕ) (m : Machine) → IsSound m → StaysSound m (clock_shows t m).machine
-clock_shows-sound t m h = cond_both (nat_le t m.now) (nothing_more m) (fire_all (at_moment t m))
-    (λ effect. StaysSound m effect.machine) (λ past. stays_same m h) (λ later. fired_at-sound t m h)
+clock_shows-sound t m h = cond_both (nat_le t m.now) _ _ (λ (effect : Effect). StaysSound m effect.machine) (λ past. stays_same m h) (λ later. fired_at-sound t m h)
 
 -- the connection that is admitted
 abbrev pub admitted_entry : Addr → Machine → Entry

@@ -1,7 +1,7 @@
 -- The governor as a whole: each rule, and all of them.
 use Rattle.std.proofs.Common.{ℕ, ◌≤◌, ◌≡◌, List, [], ◌∷◌, ◌++◌, refl, arith}
 use Rattle.laws.proofs.Words.{cond_both}
-use Rattle.laws.specs.Words.{AllByRecursion, AskRoots, may_ask, asked, Order, Machine, counted_in, Effect, Move, nothing_more, tells, then_do, for_each, carries_out, asks_roots, ordinary_rules, big_rules, rules, govern}
+use Rattle.laws.specs.Words.{AllByRecursion, AskRoots, may_ask, asked, Order, Machine, counted_in, Effect, Move, tells, then_do, for_each, carries_out, asks_roots, ordinary_rules, big_rules, rules, govern}
 use Rattle.laws.specs.Acts.{orders_of}
 use Rattle.laws.specs.AtMoves.{IsLawful}
 use Rattle.laws.specs.Steady.{IsOrdered}

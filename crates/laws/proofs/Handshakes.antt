@@ -143,14 +143,12 @@ greeted_by-trimmed : (o : Option Message) (side : ℕ) (m : Machine) (e : Entry)
 greeted_by-trimmed None side m e k g = ends (cause.Fault Malformed) refl m e k g tt
 greeted_by-trimmed (Some msg) side m e k g =
     let role : Role = role_of e.facts.provenance in
-    cond_both (fits_side role side msg) (decided (verdict_of role (own_info m.settings) msg) e m) (ending (cause.Fault Protocol) e m)
-    (Trimmed IsLawful m) (λ fits. decided-trimmed msg m e k g) (λ other. ends (cause.Fault Protocol) refl m e k g tt)
+    cond_both (fits_side role side msg) _ _ (Trimmed IsLawful m) (λ fits. decided-trimmed msg m e k g) (λ other. ends (cause.Fault Protocol) refl m e k g tt)
 
 -- an item comes in
 pub greets-trimmed : (item : Item) (m : Machine) (e : Entry) (k : ℕ) → IsOrdered m → counted_in m ≤ m.settings.hard →
     StandsAt m.connections k e → is_greeting e.facts ≡ true → Trimmed IsLawful m (greets item e m)
 greets-trimmed item m e k h within s greeting =
     let g : Greets m e k = record { ordered = h; within = within; stands = s; greeting = greeting } in
-    cond_both (item.id == 0 && is_awaited (role_of e.facts.provenance) item.side) (greeted_by (message_of item.body) item.side e m)
-    (ending (cause.Fault Protocol) e m) (Trimmed IsLawful m)
+    cond_both (item.id == 0 && is_awaited (role_of e.facts.provenance) item.side) _ _ (Trimmed IsLawful m)
     (λ awaited. greeted_by-trimmed (message_of item.body) item.side m e k g) (λ other. ends (cause.Fault Protocol) refl m e k g tt)

@@ -1,7 +1,7 @@
 -- A part of a step in which no connection comes.
-use Rattle.std.proofs.Common.{ℕ, ◌+◌, ◌≤◌, ◌≡◌, true, cond, [], ◌∷◌, Option, Some, None, refl, ap, ◌∙◌, arith}
+use Rattle.std.proofs.Common.{ℕ, ◌+◌, ◌≤◌, ◌≡◌, true, cond, Option, Some, None, refl, ap, ◌∙◌, arith}
 use Rattle.laws.proofs.Words.{cond_both, false≢true}
-use Rattle.laws.specs.Words.{Close, CloseCause, Unused, Overwritten, Facts, Peer, failed_peer, expired, Machine, Entry, counted_in, Effect, nothing_more, then_do, tells, as_move, unused, turns_at, peer_fails, peer_at, with_entry, without_entry, entry_turns, is_missed, lost, lost_by, ending, closing_entry, grace_over, wait_over}
+use Rattle.laws.specs.Words.{CloseCause, Overwritten, Facts, Peer, failed_peer, expired, Machine, Entry, counted_in, Effect, nothing_more, turns_at, peer_fails, peer_at, with_entry, without_entry, entry_turns, is_missed, lost, lost_by, ending, closing_entry, grace_over, wait_over}
 use Rattle.machine.specs.Peers.{with_peer}
 use Rattle.laws.specs.Sound.{IsOrderly}
 use Rattle.laws.proofs.Lists.{StandsAt}

@@ -2,7 +2,7 @@
 -- give out few.
 use Rattle.std.proofs.Common.{ℕ, ◌+◌, ◌^◌, ◌≤◌, ◌≡◌, true, not, ◌||◌, List, [], ◌∷◌, ◌++◌, IsSomeAnd, refl, sym, subst, arith}
 use Rattle.laws.proofs.Words.{cond_both}
-use Rattle.laws.specs.Words.{AskRoots, Cold, is_acquirable, may_ask, asked, Order, Ask, Forget, Promote, Release, Machine, counted_in, nothing_more, tells, for_each, peer_at, carries_out, asks_roots, ordinary_rules, big_rules, rules}
+use Rattle.laws.specs.Words.{Effect, Cold, is_acquirable, may_ask, Order, Ask, Forget, Promote, Release, Machine, counted_in, for_each, peer_at, carries_out, asks_roots, ordinary_rules, big_rules, rules}
 use Rattle.laws.specs.Acts.{orders_of}
 use Rattle.laws.specs.AtMoves.{some_connection}
 use Rattle.laws.specs.OrderNeeds.{MayGovern, MayCarry, MayAll, MayFollow}
@@ -73,9 +73,7 @@ all-follow each m h due few = follow each m (all-may (orders_of each m) m h due 
 -- ---- the governor
 
 asks_roots-ids : (m : Machine) → (asks_roots m).machine.next_id ≡ m.next_id
-asks_roots-ids m = cond_both (may_ask m.now m.targets.root m.roots)
-    (tells (AskRoots (record { 0 = m.roots.next_job }) ∷ []) (record m { roots = asked m.roots })) (nothing_more m)
-    (λ effect. effect.machine.next_id ≡ m.next_id) (λ too_few. refl) (λ enough. refl)
+asks_roots-ids m = cond_both (may_ask m.now m.targets.root m.roots) _ _ (λ (effect : Effect). effect.machine.next_id ≡ m.next_id) (λ too_few. refl) (λ enough. refl)
 
 -- In order and within the limit, with ids left, all orders may be carried out.
 pub govern-may : (word : ℕ) (m : Machine) → IsOrdered m → counted_in m ≤ m.settings.hard → m.next_id + 60000 ≤ 2 ^ 48 → MayGovern word m

@@ -1,7 +1,7 @@
 -- What is found by an id after a trim was found before, and a responder that started runs.
 use Rattle.std.proofs.Common.{ℕ, ◌≡◌, Bool, true, false, ◌||◌, ◌==◌, nat_le, if◌then◌else◌, find, Option, Some, None, refl, sym, ap, ◌∙◌}
 use Rattle.laws.proofs.Words.{cond_both, false≢true}
-use Rattle.laws.specs.Words.{option_map, unwrap_or, Cid, Facts, Responders, choice_of, awakened, has_responder, has_id, runs, with_entry, without_entry, candidates_in, trim, awake, ending, nothing_more, on_entry, Machine, Entry, counted_in, entry_at, Pruned}
+use Rattle.laws.specs.Words.{Effect, option_map, unwrap_or, Cid, Facts, Responders, choice_of, awakened, has_responder, has_id, runs, with_entry, without_entry, candidates_in, trim, awake, ending, on_entry, Machine, Entry, counted_in, entry_at, Pruned}
 use Rattle.laws.proofs.Trims.{lost-connections}
 use Rattle.laws.proofs.Cases.{by_bool, by_option, some_same}
 use Rattle.laws.proofs.Moments.{turned-found as turned-into}
@@ -20,9 +20,7 @@ pruned-found cid x m (Some e) found =
     gone-found cid e.facts.cid.0 x m (ap (find (λ y. has_id cid y.facts)) (sym (lost-connections e.facts n)) ∙ found)
 
 pub trim-found : (moved : Cid) (cid : ℕ) (x : Entry) (m : Machine) → entry_at cid (trim moved m).machine ≡ Some x → entry_at cid m ≡ Some x
-trim-found moved cid x m = cond_both (nat_le (counted_in m) m.settings.hard) (nothing_more m)
-    (on_entry (entry_at (unwrap_or (choice_of (candidates_in m)) moved).0 m) (ending Pruned) m)
-    (λ effect. entry_at cid effect.machine ≡ Some x → entry_at cid m ≡ Some x)
+trim-found moved cid x m = cond_both (nat_le (counted_in m) m.settings.hard) _ _ (λ (effect : Effect). entry_at cid effect.machine ≡ Some x → entry_at cid m ≡ Some x)
     (λ within found. found)
     (λ above found. pruned-found cid x m (entry_at (unwrap_or (choice_of (candidates_in m)) moved).0 m) found)
 

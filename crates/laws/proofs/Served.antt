@@ -1,7 +1,7 @@
 -- What is answered to what the other side asks.
 use Rattle.std.proofs.Common.{ℕ, ◌<◌, ◌≤◌, ◌≡◌, Bool, true, false, not, ◌&&◌, ◌||◌, ◌==◌, min, if◌then◌else◌, cond, List, [], ◌∷◌, ◌++◌, length, map, filter, get_or, is_some, Option, Some, None, Result, Ok, Err, refl, sym, ap, ◌∙◌, subst, arith, eqb-true, append-nil}
 use Rattle.laws.proofs.Words.{cond_both, and_parts, and_from, or_left, or_right, false≢true, not-true, flat_map-append, position-Some, told_by_group, told_by_roots, each_of_front, told_are_few}
-use Rattle.laws.specs.Words.{AllByRecursion, list_any, awakened, has_id, is_negotiated_phase, agreed_sharing, runs, frame_of, Item, same_address, Fault, FaultKind, Protocol, Addr, Cid, Phase, Negotiated, Group, Peer, has_address, addresses_of, watched, Reply, Seen, is_listed, group_of, is_advertised, most_told, served_to, ending, idle, Effect, then_do, on_entry, on_connection, Machine, Entry, entry_at, reply_on, handled_in, handled, replies, stops_if, serves, begins, takes_requests, asked_as, answered_as, talks}
+use Rattle.laws.specs.Words.{AllByRecursion, list_any, awakened, has_id, is_negotiated_phase, agreed_sharing, runs, frame_of, Item, same_address, Fault, FaultKind, Protocol, Addr, Cid, Phase, Negotiated, Group, Peer, has_address, addresses_of, watched, Reply, Seen, is_listed, group_of, is_advertised, most_told, served_to, ending, idle, Effect, then_do, on_entry, Machine, Entry, entry_at, reply_on, handled_in, handled, replies, stops_if, serves, begins, takes_requests, asked_as, answered_as, talks}
 use Rattle.peer_book.specs.Book.{peer_at as peer_in}
 use Rattle.laws.specs.Words.reply
 use Rattle.laws.specs.Acts.{Act, handles_item, does}
@@ -111,8 +111,7 @@ serves-answer seen protocol f m =
 asked-answer : (seen : Seen) (item : Item) (e : Entry) (m : Machine) → e.facts.cid.0 < m.next_id → entry_at e.facts.cid.0 m ≡ Some e →
     WhereThere (entry_at e.facts.cid.0 (asked_as (Ok seen) item.id e m).machine) (λ f. IsAnswered item e seen m (asked_as (Ok seen) item.id e m))
 asked-answer seen item e m given stands =
-    cond_both (takes_requests e) (then_do first (on_connection e.facts.cid (serves seen item.id))) (ending (Fault Protocol) e m)
-    (λ effect. WhereThere (entry_at e.facts.cid.0 effect.machine) (λ f. IsAnswered item e seen m effect))
+    cond_both (takes_requests e) _ _ (λ (effect : Effect). WhereThere (entry_at e.facts.cid.0 effect.machine) (λ f. IsAnswered item e seen m effect))
     (λ takes. by_option (entry_at e.facts.cid.0 first.machine)
     (λ o. WhereThere o (λ f. f.facts.addr ≡ e.facts.addr) →
     WhereThere (entry_at e.facts.cid.0 (then_do first (on_entry o (serves seen item.id))).machine) (λ f. IsAnswered item e seen m (then_do first (on_entry o (serves seen item.id)))))

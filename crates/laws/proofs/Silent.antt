@@ -147,8 +147,7 @@ module _ {X : Type 0} (by : Action → List X) (deaf : Deaf by) where
   pub answered-silent : (o : Option Owed) (item : Item) (e : Entry) (m : Machine) → flat_map by (answered_as o item e m).actions ≡ []
   answered-silent None item e m = ending-silent (Fault Protocol) e m
   answered-silent (Some owed) item e m =
-      cond_both (pays owed item.body) (then_do (entry_turns e (paid item.id e) m) (brings item.id item.body e)) (ending (Fault Protocol) e m)
-      (λ effect. flat_map by effect.actions ≡ [])
+      cond_both (pays owed item.body) _ _ (λ (effect : Effect). flat_map by effect.actions ≡ [])
       (λ paid_. both-silent (entry_turns e (paid item.id e) m) (brings item.id item.body e) (turns-silent e (paid item.id e) m)
       (brings-walk still Says (silent-kept still still-mutes) item.id item.body e (with_entry (paid item.id e) m)))
       (λ other. ending-silent (Fault Protocol) e m)

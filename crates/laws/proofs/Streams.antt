@@ -1,7 +1,7 @@
 -- Bytes come in on a connection.
 use Rattle.std.proofs.Common.{ℕ, ◌≤◌, ◌≡◌, true, arith, List, [], ◌∷◌, Option, Some, None, refl, ap, eqb-true, ◌||◌}
 use Rattle.laws.proofs.Words.{cond_both, false≢true}
-use Rattle.laws.specs.Words.{FedBy, CutFault, Item, Fault, Cid, Phase, Greeting, Negotiated, has_id, is_live, live_phase, is_greeting_phase, is_negotiated_phase, is_greeting, is_negotiated, kind_of, Machine, Entry, counted_in, entry_at, Effect, then_do, for_each, on_entry, on_connection, nothing_more, entry_turns, handled_in, handled, handles, faulted, fed_with, feeds, comes_in, bytes_come_in}
+use Rattle.laws.specs.Words.{FedBy, CutFault, Item, Fault, Cid, Phase, Greeting, Negotiated, has_id, is_live, live_phase, is_greeting_phase, is_negotiated_phase, is_greeting, is_negotiated, kind_of, Machine, Entry, counted_in, entry_at, Effect, then_do, for_each, on_entry, on_connection, entry_turns, handled_in, handled, handles, faulted, fed_with, comes_in, bytes_come_in}
 use Rattle.laws.specs.AtMoves.{fed_on, IsLawful}
 use Rattle.laws.specs.Steady.{IsOrdered}
 use Rattle.laws.proofs.Handshakes.{greets-trimmed}
@@ -81,8 +81,7 @@ open-live other h = absurd (false≢true h)
 
 comes_in-trimmed : (bytes : List ℕ) (m : Machine) (e : Entry) (k : ℕ) → IsOrdered m → counted_in m ≤ m.settings.hard →
     StandsAt m.connections k e → Trimmed IsLawful m (comes_in bytes e m)
-comes_in-trimmed bytes m e k h within s = cond_both (is_greeting e.facts || is_negotiated e.facts) (feeds bytes e m) (nothing_more m)
-    (Trimmed IsLawful m)
+comes_in-trimmed bytes m e k h within s = cond_both (is_greeting e.facts || is_negotiated e.facts) _ _ (Trimmed IsLawful m)
     (λ open_now. fed_with-trimmed (fed_on e bytes) m e k h within s (open-live e.facts.phase open_now)) (λ other. nothing-trimmed IsLawful m within h)
 
 pub bytes_come_in-trimmed : (cid : Cid) (bytes : List ℕ) (m : Machine) → IsOrdered m → counted_in m ≤ m.settings.hard →

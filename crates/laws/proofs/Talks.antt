@@ -108,8 +108,7 @@ awake-begun protocol m e k t serves known =
 
 begins-begun : (protocol : ℕ) (m : Machine) (e : Entry) (k : ℕ) → Talking m e k → takes_requests e ≡ true → has_responder protocol ≡ true →
     Begun e.facts.cid.0 m (begins protocol e m)
-begins-begun protocol m e k t takes known = cond_both (runs protocol e.facts.running) (nothing_more m) (awake protocol e m)
-    (Begun e.facts.cid.0 m)
+begins-begun protocol m e k t takes known = cond_both (runs protocol e.facts.running) _ _ (Begun e.facts.cid.0 m)
     (λ running. record {
       trimmed = nothing-trimmed IsLawful m t.within t.ordered;
       runs = λ x found. ap (λ y. some_runs y.facts.running) (found_is m e x k t.ordered t.stands found) ∙ runs-some protocol e.facts.running running;
@@ -299,7 +298,6 @@ pub talks-trimmed : (item : Item) (m : Machine) (e : Entry) (k : ℕ) → Talkin
     Trimmed IsLawful m (talks item e m)
 talks-trimmed item m e k t =
     let sharing : Bool = agreed_sharing e.facts.agreed in
-    cond_both (item.side == 0) (asked_as (watched item.id sharing item.body) item.id e m) (answered_as (reply_on item.id e) item e m)
-    (Trimmed IsLawful m)
+    cond_both (item.side == 0) _ _ (Trimmed IsLawful m)
     (λ asks. asked_as-trimmed (watched item.id sharing item.body) item.body sharing item.id m e k refl t)
     (λ answers. answered_as-trimmed (reply_on item.id e) item m e k refl t)

@@ -1,7 +1,7 @@
 -- Where more connections are counted than the hard limit, one of them goes.
 use Rattle.std.proofs.Common.{ℕ, suc, ◌+◌, ◌≤◌, ◌<◌, ◌≡◌, Bool, true, false, not, ◌&&◌, ◌||◌, nat_le, if◌then◌else◌, List, [], ◌∷◌, ◌++◌, map, filter_map, find, Option, Some, None, refl, sym, ap, ◌∙◌, subst, arith, eq-eqb, leb-true, leb-false, All}
 use Rattle.laws.proofs.Words.{cond_both, both_ways, and_parts, not-true, All-head, All-tail, All-from_recursion, recursion_from_All, first_to_go-law}
-use Rattle.laws.specs.Words.{AllByRecursion, cons_option, option_map, unwrap_or, Settings, CloseCause, Pruned, Cid, Facts, Peer, IsFirstToGo, is_candidate, rank_of_candidate, goes_before, first_of, first_to_go, choice_of, Candidate, is_counted, has_id, is_live, live_phase, is_greeting, is_greeting_phase, is_negotiated, is_negotiated_phase, is_outbound, Phase, Closing, failed_peer, Machine, Entry, counted_in, entry_at, Effect, Happened, Move, nothing_more, then_do, as_move, for_each, on_entry, turns_at, peer_at, peer_fails, without_entry, is_missed, lost, ending, candidate_of, candidates_in, trim}
+use Rattle.laws.specs.Words.{AllByRecursion, cons_option, option_map, unwrap_or, Settings, CloseCause, Pruned, Cid, Facts, Peer, IsFirstToGo, is_candidate, rank_of_candidate, goes_before, first_of, first_to_go, Candidate, is_counted, has_id, is_live, live_phase, is_greeting, is_greeting_phase, is_negotiated, is_negotiated_phase, is_outbound, Phase, Closing, failed_peer, Machine, Entry, counted_in, entry_at, Effect, Happened, Move, nothing_more, then_do, as_move, for_each, on_entry, turns_at, peer_at, peer_fails, without_entry, is_missed, lost, ending, candidate_of, candidates_in, trim}
 use Rattle.laws.specs.AtMoves.{as_candidate, IsDueToGo, IsPrunedRightly, IsLawful}
 use Rattle.laws.specs.Laws.{LocalsAreOrdinary}
 use Rattle.laws.specs.Sound.{IsOrderly}
@@ -225,8 +225,7 @@ found_by_id m e k cid h s same =
 
 pub trim-trims : (moved : Cid) (m : Machine) → IsOrdered m → counted_in m ≤ m.settings.hard + 1 →
     (m.settings.hard < counted_in m → HasMoved moved m) → Trimmed IsLawful m (trim moved m)
-trim-trims moved m h most over = cond_both (nat_le (counted_in m) m.settings.hard) (nothing_more m)
-    (on_entry (entry_at (unwrap_or (choice_of (candidates_in m)) moved).0 m) (ending Pruned) m) (λ effect. Trimmed IsLawful m effect)
+trim-trims moved m h most over = cond_both (nat_le (counted_in m) m.settings.hard) _ _ (λ (effect : Effect). Trimmed IsLawful m effect)
     (λ within. nothing-trimmed IsLawful m (leb-true (counted_in m) m.settings.hard within) h)
     (λ above. let more : m.settings.hard < counted_in m = leb-false (counted_in m) m.settings.hard above in
     by_choice (omega (arith, most, more)) (first_to_go (candidates_in m)) refl (over more))
@@ -255,8 +254,7 @@ pruned-used q only m e k h s unused =
 
 pub trim-used : (q : Entry → Bool) → ((x : Entry) → x.facts.local ≡ false → q x ≡ false) → (moved : Cid) (m : Machine) (e : Entry) (k : ℕ) → IsOrderly m →
     StandsAt m.connections k e → e.facts.cid ≡ moved → e.facts.local ≡ false → find q (trim moved m).machine.connections ≡ find q m.connections
-trim-used q only moved m e k h s same unused = cond_both (nat_le (counted_in m) m.settings.hard) (nothing_more m)
-    (on_entry (entry_at (unwrap_or (choice_of (candidates_in m)) moved).0 m) (ending Pruned) m) (λ effect. find q effect.machine.connections ≡ find q m.connections)
+trim-used q only moved m e k h s same unused = cond_both (nat_le (counted_in m) m.settings.hard) _ _ (λ (effect : Effect). find q effect.machine.connections ≡ find q m.connections)
     (λ within. refl) (λ above. by_option (first_to_go (candidates_in m))
     (λ o. find q (on_entry (entry_at (unwrap_or (option_map (λ c. c.cid) (first_to_go (candidates_in m))) moved).0 m) (ending Pruned) m).machine.connections ≡ find q m.connections)
     (λ none. rw (none, found_by_id m e k moved h s same) (pruned-used q only m e k h s unused))
