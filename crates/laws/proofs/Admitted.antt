@@ -1,18 +1,18 @@
 -- Who connects is let in, or turned away for the first cause that stands.
-use Rattle.std.proofs.Common.{ℕ, ◌+◌, ◌≡◌, Bool, true, false, ◌&&◌, ◌||◌, nat_le, nat_lt, if◌then◌else◌, List, [], ◌∷◌, ◌++◌, find, cond, Option, Some, None, All, refl, sym, ap, ◌∙◌, subst, arith, eq-eqb, eqb-true}
-use Rattle.laws.proofs.Words.{both_ways, and_parts, and_from, false_from_ne_true, All-head, All-tail, All-weaker}
-use Rattle.laws.specs.Words.{list_any, pause_of, accepted, has_id, is_live, is_live_at, is_outbound, is_pending, opening_phase, live_phase, same_address, address_below, Pause, Away, OwnAddr, Crossed, Overwritten, Addr, Facts, Phase, Closing, ending, then_do, turned_away, admitted, crossed, accepted_beside, peer_connects, Machine, Entry, fresh_entry, counted_in, live_entry_at}
+use Rattle.std.proofs.Common.{ℕ, ◌+◌, ◌≡◌, Bool, true, false, ◌&&◌, ◌||◌, nat_le, nat_lt, if◌then◌else◌, List, [], ◌∷◌, find, cond, Option, Some, None, All, refl, sym, ap, ◌∙◌, subst}
+use Rattle.laws.proofs.Words.{both_ways, and_parts, and_from, false_from_ne_true, All-head, All-tail}
+use Rattle.laws.specs.Words.{list_any, pause_of, accepted, is_live, is_live_at, is_outbound, is_pending, opening_phase, live_phase, same_address, address_below, Pause, Away, OwnAddr, Crossed, Overwritten, Addr, Facts, Phase, Closing, ending, then_do, turned_away, admitted, crossed, accepted_beside, peer_connects, Machine, Entry, fresh_entry, counted_in, live_entry_at}
 use Rattle.net_base.specs.declared.action.Away.TheVariants.{Full, Present}
 use Rattle.laws.specs.Acts.{Act, asks_for_roots, connects, does}
 use Rattle.laws.specs.Admitted.{admitted_by, admitted_in, turned_away_by, turned_away_in, is_crossing, is_present, cause_against, IsTurnedAway, IsNew, IsLetIn, ByCause, AdmitsNobody, AdmitsRight}
 use Rattle.laws.specs.AtMoves.{OnEntry}
-use Rattle.laws.specs.Sound.{HasGivenId, IsOrderly}
+use Rattle.laws.specs.Sound.{IsOrderly}
 use Rattle.laws.specs.Parts.{IsNext}
 use Rattle.laws.proofs.Entries.{gone-orderly}
-use Rattle.laws.proofs.Finds.{find-none_passes}
 use Rattle.laws.proofs.Lists.{OnePasses, OnePasses-none_after, OnePasses-tail, find_some}
 use Rattle.laws.proofs.Silent.{IsOther, admitted-deaf, turned_away-deaf, part-silent, asks-silent}
-use Rattle.laws.proofs.Ties.{live_one, find-push_here}
+use Rattle.laws.proofs.ToldMoves.{new-found}
+use Rattle.laws.proofs.Ties.{live_one}
 use Rattle.laws.proofs.Walk.{Finds}
 use Rattle.laws.proofs.Cases.{by_bool}
 
@@ -58,14 +58,6 @@ present-found : (addr : Addr) (m : Machine) → IsOrderly m → is_present addr 
 present-found addr m h = any-found (λ e. is_live_at addr e.facts) (λ e. is_live_at addr e.facts) (λ e is. is) m.connections (live_one addr m h.addresses)
 
 -- ---- who is let in
-
-new-found : (m : Machine) (new : Entry) → IsOrderly m → new.facts.cid.0 ≡ m.next_id → find (λ e. has_id m.next_id e.facts) (m.connections ++ new ∷ []) ≡ Some new
-new-found m new h id =
-    find-push_here (λ e. has_id m.next_id e.facts) new m.connections
-    (find-none_passes (λ e. has_id m.next_id e.facts) m.connections
-    (All-weaker (HasGivenId m.next_id) (λ e. has_id m.next_id e.facts ≡ false) (λ e given. false_from_ne_true (has_id m.next_id e.facts) (λ is.
-    let same = eqb-true e.facts.cid.0 m.next_id is in absurd (omega (arith, same, given.1)))) m.connections h.ids_given))
-    (eq-eqb new.facts.cid.0 m.next_id id)
 
 pause-admits : (b : Bool) (length : ℕ) → admitted_in (if b then Pause length ∷ [] else []) ≡ []
 pause-admits true length = refl

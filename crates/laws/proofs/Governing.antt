@@ -7,8 +7,9 @@ use Rattle.laws.specs.AtMoves.{IsLawful}
 use Rattle.laws.specs.Steady.{IsOrdered}
 use Rattle.laws.proofs.Keeping.{Keeps, keeps_nothing, elsewhere-keeps}
 use Rattle.laws.proofs.Lawful.{Accounts, IsQuiet, quiet-obeys, elsewhere-quiet, tells-quiet}
-use Rattle.laws.proofs.Orders.{EachAccounted}
-use Rattle.laws.proofs.Ordering.{EachDue, ordinary-due, big-due, due_more, Done, DoesRight}
+use Rattle.laws.specs.Ordered.{IsDueOrder}
+use Rattle.laws.proofs.Orders.{EachOf, IsAccountedFor, EachAccounted}
+use Rattle.laws.proofs.Ordering.{EachDue, ordinary-due, big-due, Done, DoesRight}
 use Rattle.laws.proofs.Trims.{Trimmed, keeps-trimmed, nothing-trimmed, trimmed_then, trimmed-within}
 
 -- ---- all rules
@@ -19,10 +20,10 @@ pub record Governed (Law : Move → Type 0) (each : List (Machine → List Order
   pub orders : EachAccounted (orders_of each m) m
   pub due : EachDue (orders_of each m) m
 
-each_more : (xs ys : List Order) (m : Machine) → EachAccounted xs m → EachAccounted ys (for_each carries_out xs m).machine → EachAccounted (xs ++ ys) m
+each_more : (law : Order → Machine → Type 0) (xs ys : List Order) (m : Machine) → EachOf law xs m → EachOf law ys (for_each carries_out xs m).machine → EachOf law (xs ++ ys) m
 unfolding for_each
-each_more [] ys m one two = two
-each_more (x ∷ xs) ys m one two = (one.0, each_more xs ys (carries_out x m).machine one.1 two)
+each_more law [] ys m one two = two
+each_more law (x ∷ xs) ys m one two = (one.0, each_more law xs ys (carries_out x m).machine one.1 two)
 
 all-rules : (each : List (Machine → List Order)) → AllByRecursion (λ orders. DoesRight orders) each → (m : Machine) → IsOrdered m →
     counted_in m ≤ m.settings.hard → Governed IsLawful each m
@@ -35,8 +36,8 @@ all-rules (r ∷ rs) right m o within =
     let rest : Governed IsLawful rs effect.machine = all-rules rs right.1 effect.machine trimmed.ordered (trimmed-within IsLawful m effect trimmed) in
     record {
       trimmed = trimmed_then IsLawful m effect (for_each rules rs) trimmed rest.trimmed;
-      orders = each_more (r m) (orders_of rs effect.machine) m first.followed.each rest.orders;
-      due = due_more (r m) (orders_of rs effect.machine) m first.due rest.due;
+      orders = each_more IsAccountedFor (r m) (orders_of rs effect.machine) m first.followed.each rest.orders;
+      due = each_more IsDueOrder (r m) (orders_of rs effect.machine) m first.due rest.due;
     }
 
 pub asks_roots-keeps : (m : Machine) → IsOrdered m → Keeps 0 m (asks_roots m).machine

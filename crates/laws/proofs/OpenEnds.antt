@@ -106,9 +106,6 @@ module _ (scope : Scope) where
       or_left (is_open_at cid effect.machine) (is_ended_in cid effect.moves || scope.goes cid)
       (ap is_open_entry (found ∙ ap (λ o. option_or o (cond (has_id cid new.facts) (Some new) None)) is) ∙ h)) was
 
-  nothing-stays : (m : Machine) → Stays m (nothing_more m)
-  nothing-stays m = stays_same m (nothing_more m) refl
-
   shut-stays : (e : Entry) (m : Machine) → Stays m (shuts e m)
   shut-stays e m = stays_own m e (shuts e m) (turned-others m e (closing_entry m e) refl)
       (λ was. or_right (is_open_at cid (shuts e m).machine) (((cid == cid) || false) || scope.goes cid)
@@ -135,7 +132,7 @@ module _ (scope : Scope) where
 
   stays-kept : scope.timely ≡ true → Kept scope Stays
   stays-kept timely = record {
-    when_nothing = λ m. nothing-stays m;
+    when_nothing = λ m. stays_same m (nothing_more m) refl;
     when_both = stays_then is_open_at scope.goes;
     when_moved = λ happened m effect none h. moved-stays happened m effect h;
     when_sent = λ cid bytes m may. stays_same m (tells (Send cid bytes ∷ []) m) refl;

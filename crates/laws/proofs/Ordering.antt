@@ -14,7 +14,7 @@ use Rattle.laws.proofs.Falls.{all-back, apart-same, found-same, known-same, Chan
 use Rattle.laws.proofs.GroupsApart.{append-apart}
 use Rattle.laws.proofs.Lists.{all-weaker, all-both, all-appended}
 use Rattle.laws.proofs.Locals.{not_local-no_member}
-use Rattle.laws.proofs.Orders.{EachAccounted, still_may, Carries, Followed, nothing-followed, first-followed, ask-carried, IsCold, IsIdle, forget-carried, release-carried, activate-carried, deactivate-carried}
+use Rattle.laws.proofs.Orders.{EachOf, EachAccounted, still_may, Carries, Followed, nothing-followed, first-followed, ask-carried, IsCold, IsIdle, forget-carried, release-carried, activate-carried, deactivate-carried}
 use Rattle.laws.proofs.Spending.{ChangesAt, IsLocalTest, counted-one, number-one, members-one, members-none, promote-changes, activate-changes}
 use Rattle.laws.proofs.Ties.{taken-elsewhere}
 use Rattle.laws.proofs.ToldMoves.{is_temp}
@@ -31,8 +31,7 @@ use Rattle.laws.proofs.WholeMoves.{IsWarm}
 -- ---- one order after the other
 
 abbrev pub EachDue : List Order → Machine → Type 0
-EachDue [] m = Unit {0}
-EachDue (order ∷ orders) m = IsDueOrder order m × EachDue orders (carries_out order m).machine
+EachDue orders m = EachOf IsDueOrder orders m
 
 -- whom an order may be for, and what is left for the orders that are still to come
 record Spends (Law : Move → Type 0) (May : Machine → Addr → Type 0) (Left : List Addr → Machine → Type 0) (order : Addr → Order) : Type 0 where
@@ -719,10 +718,3 @@ b9-due word m h within =
 
 pub big-due : (word : ℕ) → AllByRecursion (λ orders. DoesRight orders) (big_rules word)
 big-due word = (b3-due word, (b5-due word, (b6-due word, (b8-due word, (b9-due word, tt)))))
-
--- ---- one rule after the other
-
-pub due_more : (xs ys : List Order) (m : Machine) → EachDue xs m → EachDue ys (for_each carries_out xs m).machine → EachDue (xs ++ ys) m
-unfolding for_each
-due_more [] ys m one two = two
-due_more (x ∷ xs) ys m one two = (one.0, due_more xs ys (carries_out x m).machine one.1 two)

@@ -3,7 +3,7 @@ use Rattle.std.proofs.Common.{ℕ, ◌+◌, ◌≤◌, ◌≡◌, Bool, true, fa
 use Rattle.laws.proofs.Words.{cond_both, both_ways, false≢true, and_parts, or_right}
 use Rattle.laws.specs.Words.{AllByRecursion, same_address, Addr, Facts, Peer, Cold, Warm, is_counted, released, agreed_sharing, is_live, is_live_at, is_negotiated, is_pending, Order, Ask, Forget, Release, Activate, Deactivate, is_established, Machine, Entry, counted_in, live_entry_at, Effect, Move, activated, nothing_more, then_do, as_move, for_each, on_entry, peer_at, peer_becomes, peer_was_asked, peer_goes, sends_as_initiator, owing, reply_on, peer_sharing_done, chain_sync_done, find_intersect, with_entry, entry_turns, says_done, trim, release, is_used_at, on_used, asks_peer, activates, deactivates, carries_out, written_alive, written_request, Done}
 use Rattle.laws.specs.AtMoves.{IsReady, IsLawful, is_up_connection, is_up, is_hot_peer, is_asked_connection, is_hot_or_asked, is_known, promotes, activates as activation, shares}
-use Rattle.laws.specs.Steady.{AreTied, IsAlone, TiedBy, IsTied, IsOrdered}
+use Rattle.laws.specs.Steady.{AreTied, TiedBy, IsTied, IsOrdered}
 use Rattle.laws.proofs.Addresses.{same_address-true}
 use Rattle.laws.proofs.Books.{book_of, filter-book}
 use Rattle.laws.proofs.Chain.{then_assoc}
@@ -43,9 +43,13 @@ pub record IsAccountedFor (order : Order) (m : Machine) : Type 0 where
   pub ordered : IsOrdered m
   pub accounts : Accounts m (carries_out order m)
 
+-- a law holds of each, where it is carried out
+abbrev pub EachOf : (Order → Machine → Type 0) → List Order → Machine → Type 0
+EachOf law [] m = Unit {0}
+EachOf law (order ∷ orders) m = law order m × EachOf law orders (carries_out order m).machine
+
 abbrev pub EachAccounted : List Order → Machine → Type 0
-EachAccounted [] m = Unit {0}
-EachAccounted (order ∷ orders) m = IsAccountedFor order m × EachAccounted orders (carries_out order m).machine
+EachAccounted orders m = EachOf IsAccountedFor orders m
 
 -- orders were carried out one after the other
 pub record Followed (Law : Move → Type 0) (orders : List Order) (m : Machine) : Type 0 where
@@ -302,7 +306,7 @@ releasing-carried addr m e k u may =
     let raised : Keeps 1 m o =
     moves-keeps 1 m o (moves_then 1 0 m n o turned (changes-moves e.facts.addr cold n (λ p. refl) (λ p ordinary. ordinary) turned.ordered))
     (changed-ties e.facts.addr cold m n (λ p. refl) refl refl (turned_elsewhere m e new k h.orderly s t)
-    (λ none alone. used_by_none (subst (λ x. TiedBy m.now None x) was alone))
+    (λ none alone. absurd (both_ways e.facts.local (subst (λ x. TiedBy m.now None x) was alone).unused u.local))
     (λ p found tie. subst (λ x. TiedBy m.now (Some (cold p)) x) (sym here) (is_cold new refl refl refl p (subst (λ x. TiedBy m.now (Some p) x) was tie)))) in
     let list : n.connections ≡ set m.connections k new = turned-connections m e new k h.orderly s t in
     let same : o.connections ≡ set m.connections k new = turns_at-connections (peer_at e.facts.addr n) cold n ∙ list in
@@ -327,9 +331,6 @@ releasing-carried addr m e k u may =
     (turned_then-obeys IsLawful m e new k (peer_becomes Cold e.facts.addr) h.orderly s t (record { up = released-down (m.now + m.settings.idle) e; asked = λ asked. asked }) (omega arith)
     (changes-quiet e.facts.addr cold n (record { addr = λ p. refl; hot = λ p hot. absurd (false≢true hot) }))) trimmed)
   where
-    used_by_none : {Z : Type 0} → IsAlone e → Z
-    used_by_none alone = absurd (both_ways e.facts.local alone.unused u.local)
-
     is_cold : (new : Entry) → new.facts.local ≡ false → is_pending new.facts ≡ is_pending e.facts → reply_on 2 new ≡ reply_on 2 e →
         (p : Peer) → AreTied m.now p e → AreTied m.now (record p { temp = Cold }) new
     is_cold new unused pending owed p tie = record {

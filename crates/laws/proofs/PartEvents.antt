@@ -16,8 +16,8 @@ use Rattle.laws.proofs.Least.{least-due}
 use Rattle.laws.proofs.Arrivals.{cleaned-listed, publics-listed, comes-known}
 use Rattle.laws.proofs.Governing.{Governs, governs}
 use Rattle.laws.proofs.Keeping.{Keeps}
-use Rattle.laws.proofs.Lawful.{Accounts, quiet-obeys, elsewhere-quiet, changes-quiet, comes-providing, stands-found, turns-obeys}
-use Rattle.laws.proofs.Lists.{StandsAt, find_some, all-placed}
+use Rattle.laws.proofs.Lawful.{quiet-obeys, elsewhere-quiet, changes-quiet, comes-providing, stands-found, turns-obeys}
+use Rattle.laws.proofs.Lists.{StandsAt, find_some, all-placed, all-weaker}
 use Rattle.laws.proofs.Open.{IsOpen, turned-open, handles-open}
 use Rattle.laws.proofs.Ordering.{EachDue}
 use Rattle.laws.proofs.Orders.{EachAccounted}
@@ -131,15 +131,11 @@ bytes-parts cid bytes m h within = by_option (entry_at cid.0 m) (λ o. AreLawful
 
 -- ---- what is set and provided
 
-ordinary-accounts : (a : Addr) (m : Machine) → Accounts m (peer_is_ordinary a m)
-ordinary-accounts a m =
-    (quiet-obeys (λ move. Unit {0}) m (peer_is_ordinary a m)
-    (changes-quiet a (λ p. record p { big = false }) m (record { addr = λ p. refl; hot = λ p hot. hot }))).accounted
-
 ordinary-parts : (event : Event) (addrs : List Addr) (m : Machine) → AreLawful event (map makes_ordinary addrs) m
 ordinary-parts event [] m = no_part event m
 ordinary-parts event (a ∷ addrs) m =
-    first_part event (makes_ordinary a) (map makes_ordinary addrs) m tt tt tt tt (accounted-part event m (peer_is_ordinary a m) (ordinary-accounts a m))
+    first_part event (makes_ordinary a) (map makes_ordinary addrs) m tt tt tt tt (accounted-part event m (peer_is_ordinary a m) (quiet-obeys (λ move. Unit {0}) m (peer_is_ordinary a m)
+    (changes-quiet a (λ p. record p { big = false }) m (record { addr = λ p. refl; hot = λ p hot. hot }))).accounted)
     (ordinary-parts event addrs (peer_is_ordinary a m).machine)
 
 provided-parts : (event : Event) (addrs : List Addr) (m : Machine) → AllByRecursion (λ a. is_provided_by a event ≡ true) addrs → AreLawful event (map provides addrs) m
@@ -181,11 +177,7 @@ roots-parts event (Found ttl addrs) m named =
     first_part event (sets_roots (found m.now ttl publics m.roots)) (map provides publics) m tt tt tt tt
     (set-part event (sets_roots (found m.now ttl publics m.roots)) m refl refl refl refl refl)
     (provided-parts event publics (record m { roots = found m.now ttl publics m.roots })
-    (all-named publics (all-listed addrs publics (λ a. publics-listed a m.settings.own m.targets.root addrs))))
-  where
-    all-named : (xs : List Addr) → AllByRecursion (λ a. is_listed a addrs ≡ true) xs → AllByRecursion (λ a. is_provided_by a event ≡ true) xs
-    all-named [] h = tt
-    all-named (a ∷ xs) h = (named a ttl addrs refl h.0, all-named xs h.1)
+    (all-weaker (λ a. is_listed a addrs ≡ true) (λ a. is_provided_by a event ≡ true) (λ a. named a ttl addrs refl) publics (all-listed addrs publics (λ a. publics-listed a m.settings.own m.targets.root addrs))))
 roots-parts event Failed m named = one_part event (sets_roots _) m tt tt tt tt (set-part event (sets_roots _) m refl refl refl refl refl)
 
 bigs-parts : (event : Event) (addrs : List Addr) (m : Machine) → AreLawful event (map provides_big addrs) m

@@ -28,8 +28,8 @@ chosen-goes moved m h e is = by_option (first_to_go (candidates_in m)) (λ o. (e
     (λ c some.
     let found : entry_at c.cid.0 m ≡ Some e = subst (λ o. entry_at (unwrap_or (option_map (λ x. x.cid) o) moved).0 m ≡ Some e) some is in
     let goes : Goes m.connections c = goes_among m.connections c some in
-    let same = same_entry goes.entry (sym (found_by_id m goes.entry goes.place c.cid h goes.stands goes.same) ∙ found) in
-    or_right (e.facts.cid.0 == moved.0) (is_candidate e.facts) (ap (λ x. is_candidate x.facts) (sym same) ∙ goes.may))
+    let same = same_entry goes.entry (sym (found_by_id m goes.entry goes.place c.cid h goes.stands goes.facts.same) ∙ found) in
+    or_right (e.facts.cid.0 == moved.0) (is_candidate e.facts) (ap (λ x. is_candidate x.facts) (sym same) ∙ goes.facts.may))
   where
     same_entry : (f : Entry) → Some f ≡ Some e → f ≡ e
     same_entry f same = cc

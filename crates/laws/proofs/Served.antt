@@ -11,14 +11,15 @@ use Rattle.laws.specs.Served.{Sent, sent_by, sent_in, is_tellable, MayBeTold, mo
 use Rattle.laws.specs.Untouched.{IsAsItWas}
 use Rattle.laws.specs.Steady.{IsOrdered}
 use Rattle.laws.proofs.Addresses.{same_address-self}
-use Rattle.laws.proofs.Lists.{find_some, any-at, all-weaker}
+use Rattle.laws.proofs.Lists.{find_some, any-at, all-weaker, all-both, filter-all}
+use Rattle.laws.proofs.Picks.{filter-passing}
 use Rattle.laws.proofs.Locals.{not_local-no_member}
 use Rattle.laws.proofs.Moments.{ending-none}
 use Rattle.laws.proofs.Silent.{sent-deaf, begins-silent, stops-silent}
 use Rattle.laws.proofs.Walk.{replies-machine, Finds, found-stands, Scope, on_those, begins-walk}
 use Rattle.laws.proofs.Turned.{begun, begins-becomes, given_id}
 use Rattle.laws.proofs.WaitsOfParts.{Waited, waits-kept}
-use Rattle.laws.proofs.Cases.{by_bool, by_option}
+use Rattle.laws.proofs.Cases.{by_option}
 
 -- ---- who is told of
 
@@ -48,19 +49,15 @@ book-known (p ∷ ps) = (
     by_test true o there = refl
     by_test false o there = there
 
-filtered-all : (P Q : Addr → Type 0) (test : Addr → Bool) → ((a : Addr) → P a → test a ≡ true → Q a) → (addrs : List Addr) → AllByRecursion P addrs → AllByRecursion Q (filter test addrs)
-filtered-all P Q test each [] h = tt
-filtered-all P Q test each (a ∷ addrs) h = by_bool (test a)
-    (λ b. AllByRecursion Q (filter test addrs) → AllByRecursion Q (cond b (a ∷ filter test addrs) (filter test addrs)))
-    (λ is rest. (each a h.0 is, rest)) (λ is rest. rest) (filtered-all P Q test each addrs h.1)
-
 served-each : (asker : Addr) (n : ℕ) (m : Machine) → AllByRecursion (MayBeTold asker m) (served_to asker n m.peers m.groups m.roots.publics)
 served-each asker n m =
     let test : Addr → Bool = λ addr. is_advertised m.groups m.roots.publics addr && not (same_address addr asker) in
     each_of_front (MayBeTold asker m) (min n most_told) (filter test (addresses_of m.peers))
-    (filtered-all (λ a. is_some (peer_in a m.peers) ≡ true) (MayBeTold asker m) test (λ a known passes.
+    (all-both (λ a. is_some (peer_in a m.peers) ≡ true) (λ a. test a ≡ true) (MayBeTold asker m) (λ a known passes.
     let parts = and_parts (is_advertised m.groups m.roots.publics a) (not (same_address a asker)) passes in
-    record { known = known; tellable = advertised-tellable m a parts.0; other = not-true (same_address a asker) parts.1 }) (addresses_of m.peers) (book-known m.peers))
+    record { known = known; tellable = advertised-tellable m a parts.0; other = not-true (same_address a asker) parts.1 })
+    (filter test (addresses_of m.peers)) (filter-all (λ a. is_some (peer_in a m.peers) ≡ true) test (addresses_of m.peers) (book-known m.peers))
+    (filter-passing test (addresses_of m.peers)))
 
 served-few : (asker : Addr) (n : ℕ) (m : Machine) → length (served_to asker n m.peers m.groups m.roots.publics) ≤ n
 served-few asker n m = let few = told_are_few asker n m.peers m.groups m.roots.publics in omega (arith, few)

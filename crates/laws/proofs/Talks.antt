@@ -11,7 +11,7 @@ use Rattle.laws.proofs.KnownWanted.{takes-within}
 use Rattle.laws.proofs.Lawful.{Accounts, Obeys, IsQuiet, quiet-lawful, quiet-obeys, tells-quiet, comes-providing, shared-accounts, turns-obeys, IsAllowed, Within, allowed_within, as_move-obeys}
 use Rattle.laws.proofs.Keeping.{Keeps, keeps_nothing, moves_then, moves-keeps, keeps-moves, changes-moves, peer_comes-keeps}
 use Rattle.laws.proofs.Lists.{StandsAt, stands-set, find_some, find_only}
-use Rattle.laws.specs.Steady.{AreTied, IsAlone, TiedBy, IsOrdered}
+use Rattle.laws.specs.Steady.{AreTied, TiedBy, IsOrdered}
 use Rattle.laws.proofs.Addresses.{same_address-true}
 use Rattle.laws.proofs.Owing.{paid-some}
 use Rattle.laws.proofs.Rises.{is_asked, is_hot, NoneConnected, or_each, rises_nowhere, same-connected, connected_then, IsNoHigher, turned-connected, changed-known}
@@ -199,12 +199,9 @@ hot-keeps m e k h s live asked =
     moves-keeps 0 m (peer_becomes Hot e.facts.addr n).machine
     (moves_then 0 0 m n (peer_becomes Hot e.facts.addr n).machine (keeps-moves 0 m n pays_it) (changes-moves e.facts.addr hot n (λ p. refl) (λ p ordinary. ordinary) pays_it.ordered))
     (changed-ties e.facts.addr hot m n (λ p. refl) refl refl (turned_elsewhere m e new k h.orderly s turns)
-    (λ none alone. asked_of_none (subst (λ o. TiedBy m.now None o) was alone))
+    (λ none alone. absurd (both_ways (is_some (reply_on 2 e)) (subst (λ o. TiedBy m.now None o) was alone).not_asked asked))
     (λ p found tie. subst (λ o. TiedBy m.now (Some (hot p)) o) (sym here) (is_hot p (subst (λ o. TiedBy m.now (Some p) o) was tie))))
   where
-    asked_of_none : {Z : Type 0} → IsAlone e → Z
-    asked_of_none alone = absurd (both_ways (is_some (reply_on 2 e)) alone.not_asked asked)
-
     is_hot : (p : Peer) → AreTied m.now p e → AreTied m.now (record p { temp = Hot }) (paid 2 e)
     is_hot p tie = record {
       established = sym (ap is_established (tie.asked asked)) ∙ tie.established;

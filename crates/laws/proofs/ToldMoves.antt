@@ -1,5 +1,5 @@
 -- What each change of a connection or a peer tells.
-use Rattle.std.proofs.Common.{ℕ, ◌+◌, ◌≡◌, ◌≤◌, Bool, true, false, not, ◌==◌, nat_lt, nat_le, if◌then◌else◌, List, [], ◌∷◌, ◌++◌, All, find, get_or, set, remove, length, flat_map, Option, Some, None, is_some, refl, sym, ap, ◌∙◌, subst, arith, eqb-true, eq-eqb, ne_eqb}
+use Rattle.std.proofs.Common.{ℕ, ◌+◌, ◌≡◌, ◌≤◌, Bool, true, false, not, ◌==◌, nat_lt, nat_le, if◌then◌else◌, List, [], ◌∷◌, ◌++◌, find, get_or, set, remove, length, flat_map, Option, Some, None, is_some, refl, sym, ap, ◌∙◌, subst, arith, eqb-true, eq-eqb, ne_eqb}
 use Rattle.laws.proofs.Words.{cond_both, both_ways, false≢true, All-weaker}
 use Rattle.laws.specs.Words.{name_of, name_in_phase, name_in_use, name_place, same_name, has_id, is_duplex, some_runs, same_address, Action, Admit, Dial, Close, State, CloseCause, PeerNote, StateName, ReservedOutbound, UnnegotiatedInbound, UnnegotiatedOutbound, Duplex, OutboundUni, OutboundDupTicking, OutboundDupExpired, Inbound, InboundIdle, OutboundIdle, Terminating, Terminated, Addr, Cid, Facts, Grace, Off, Phase, Greeting, Negotiated, Provenance, FromRemote, FromLocal, Peer, Temp, Cold, Warm, Hot, new_peer, entered_by, most_peers, same_temp, Added, New, Present, Full, with_entry, without_entry, entry_turns, entry_comes, entry_goes, Effect, Happened, Move, promoted, as_move, Machine, Entry, entry_at, peer_at, note_of, turns_at, peer_changes, note_of_coming, peer_comes, peer_goes}
 use Rattle.net_base.specs.declared.action.Action.TheVariants.{Peer as TellPeer}
@@ -228,13 +228,21 @@ given_later None cid next = by_bool (nat_lt cid next) (λ b. (if b then 5 else 0
     (λ is. omega arith)
 given_later (Some e) cid next = omega arith
 
+-- its id is nobody's yet
+none-yet : (m : Machine) → IsOrderly m → entry_at m.next_id m ≡ None
+none-yet m h = find-none_passes (λ x. has_id m.next_id x.facts) m.connections (All-weaker (HasGivenId m.next_id) (λ e. has_id m.next_id e.facts ≡ false)
+    (λ e given. ne_eqb e.facts.cid.0 m.next_id (λ is. let below = given.1 in omega (arith, below, is))) m.connections h.ids_given)
+
+pub new-found : (m : Machine) (new : Entry) → IsOrderly m → new.facts.cid.0 ≡ m.next_id → entry_at m.next_id (with_new new m) ≡ Some new
+new-found m new h id = find-push_here (λ x. has_id m.next_id x.facts) new m.connections (none-yet m h) (eq-eqb new.facts.cid.0 m.next_id id)
+
 -- what is told of it before its name is that it is admitted, or the dial
 pub came-goes_on : (m : Machine) (new : Entry) (effect : Effect) (cid : ℕ) → IsOrderly m → new.facts.cid.0 ≡ m.next_id → effect.machine ≡ with_new new m →
     effect.moves ≡ [] → names_in cid effect.actions ≡ names_in cid (State new.facts.cid (name_of new.facts) ∷ []) → GoesOn cid m effect
 came-goes_on m new effect cid h id same none named = by_bool (has_id cid new.facts) (λ b. GoesOn cid m effect)
     (λ own.
-    let none_before : entry_at cid m ≡ None = find-none_passes (λ x. has_id cid x.facts) m.connections (all_others own) in
     let here : m.next_id ≡ cid = sym id ∙ eqb-true new.facts.cid.0 cid own in
+    let none_before : entry_at cid m ≡ None = subst (λ c. entry_at c m ≡ None) here (none-yet m h) in
     let not_given : nat_lt cid m.next_id ≡ false = grind (arith, here) in
     went_on cid m effect None (Some new) none_before
     (ap (entry_at cid) same ∙ find-push_here (λ x. has_id cid x.facts) new m.connections none_before own) none tt
@@ -245,23 +253,12 @@ came-goes_on m new effect cid h id same none named = by_bool (has_id cid new.fac
     went_untold cid m effect (ap (entry_at cid) same ∙ find-push_other (λ x. has_id cid x.facts) new m.connections other) none
     (named ∙ no_name cid new.facts.cid (name_of new.facts) other)
     (subst (λ next. stage_at cid m ≤ stage_of (entry_at cid m) (nat_lt cid next)) (sym (ap (λ n. n.next_id) same)) (given_later (entry_at cid m) cid m.next_id)))
-  where
-    all_others : has_id cid new.facts ≡ true → All (λ e. has_id cid e.facts ≡ false) m.connections
-    all_others own =
-        let here : m.next_id ≡ cid = sym id ∙ eqb-true new.facts.cid.0 cid own in
-        All-weaker (HasGivenId m.next_id) (λ e. has_id cid e.facts ≡ false)
-        (λ e given. ne_eqb e.facts.cid.0 cid (λ is. let below = given.1 in omega (arith, here, below, is))) m.connections h.ids_given
+
+-- it has the address that is told
+came-at : (m : Machine) (new : Entry) (addr : Addr) → IsOrderly m → new.facts.cid.0 ≡ m.next_id → new.facts.addr ≡ addr → HasAddress addr (entry_at m.next_id (with_new new m))
+came-at m new addr h id here = subst (HasAddress addr) (sym (new-found m new h id)) here
 
 -- it is admitted
--- and it has the address that is told
-came-at : (m : Machine) (new : Entry) (addr : Addr) → IsOrderly m → new.facts.cid.0 ≡ m.next_id → new.facts.addr ≡ addr → HasAddress addr (entry_at m.next_id (with_new new m))
-came-at m new addr h id here =
-    let none : entry_at m.next_id m ≡ None =
-    find-none_passes (λ x. has_id m.next_id x.facts) m.connections
-    (All-weaker (HasGivenId m.next_id) (λ e. has_id m.next_id e.facts ≡ false)
-    (λ e given. ne_eqb e.facts.cid.0 m.next_id (λ is. let below = given.1 in omega (arith, below, is))) m.connections h.ids_given) in
-    subst (HasAddress addr) (sym (find-push_here (λ x. has_id m.next_id x.facts) new m.connections none (eq-eqb new.facts.cid.0 m.next_id id))) here
-
 pub admits-told : (m : Machine) (new : Entry) (addr : Addr) → IsOrderly m → new.facts.cid.0 ≡ m.next_id → new.facts.addr ≡ addr →
     IsTold m (entry_comes (Admit (record { 0 = m.next_id }) addr ∷ []) new m)
 admits-told m new addr h id here = record {

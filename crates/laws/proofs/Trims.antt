@@ -22,41 +22,39 @@ use Rattle.laws.proofs.Cases.{by_bool, by_option, some_same}
 
 -- ---- whoever is chosen is counted
 
+-- what its facts are where it may go
+pub record IsCandidateAs (f : Facts) (c : Candidate) : Type 0 where
+  pub same : f.cid ≡ c.cid
+  pub counted : is_counted f ≡ true
+  pub unused : f.local ≡ false
+  pub may : is_candidate f ≡ true
+  pub ranked : record { cid = f.cid; rank = rank_of_candidate f } ≡ c
+
 pub record Goes (es : List Entry) (c : Candidate) : Type 0 where
   pub entry : Entry
   pub place : ℕ
   pub stands : StandsAt es place entry
-  pub same : entry.facts.cid ≡ c.cid
-  pub counted : is_counted entry.facts ≡ true
-  pub unused : entry.facts.local ≡ false
-  pub may : is_candidate entry.facts ≡ true
-  pub ranked : as_candidate entry ≡ c
+  pub facts : IsCandidateAs entry.facts c
 
 goes_next : (e : Entry) (es : List Entry) (c : Candidate) → Goes es c → Goes (e ∷ es) c
 goes_next e es c g = record {
   entry = g.entry;
   place = suc g.place;
   stands = stands_next e g.entry es g.place g.stands;
-  same = g.same;
-  counted = g.counted;
-  unused = g.unused;
-  may = g.may;
-  ranked = g.ranked;
+  facts = g.facts;
 }
 
 abbrev candidates_among : List Entry → List Candidate
 candidates_among es = filter_map candidate_of (map (λ e. e.facts) es)
 
-candidate-counted : (f : Facts) (c : Candidate) → candidate_of f ≡ Some c →
-    (f.cid ≡ c.cid) × (is_counted f ≡ true) × (f.local ≡ false) × (is_candidate f ≡ true) × (record { cid = f.cid; rank = rank_of_candidate f } ≡ c)
+candidate-counted : (f : Facts) (c : Candidate) → candidate_of f ≡ Some c → IsCandidateAs f c
 candidate-counted f c e = by_test (is_candidate f) refl e
   where
     by_test : (b : Bool) → is_candidate f ≡ b →
-        option_map (λ rank. record { cid = f.cid; rank = rank }) (if b then Some (rank_of_candidate f) else None) ≡ Some c →
-        (f.cid ≡ c.cid) × (is_counted f ≡ true) × (f.local ≡ false) × (is_candidate f ≡ true) × (record { cid = f.cid; rank = rank_of_candidate f } ≡ c)
+        option_map (λ rank. record { cid = f.cid; rank = rank }) (if b then Some (rank_of_candidate f) else None) ≡ Some c → IsCandidateAs f c
     by_test true is same =
         let parts = and_parts (is_counted f) (not f.local) is in
-        (ap (λ o. cid_of f.cid o) same, parts.0, not-true f.local parts.1, is, some_same (record { cid = f.cid; rank = rank_of_candidate f }) c same)
+        record { same = ap (λ o. cid_of f.cid o) same; counted = parts.0; unused = not-true f.local parts.1; may = is; ranked = some_same _ c same }
       where
         cid_of : Cid → Option Candidate → Cid
         cid_of d None = d
@@ -73,16 +71,7 @@ goes_among (x ∷ es) c e = by_option (candidate_of x.facts)
   where
     here : (d : Candidate) → candidate_of x.facts ≡ Some d → d ≡ c → Goes (x ∷ es) c
     here d is same =
-        let facts = candidate-counted x.facts d is in record {
-          entry = x;
-          place = 0;
-          stands = record { inside = omega arith; is = refl };
-          same = facts.0 ∙ ap (λ a. a.cid) same;
-          counted = facts.1;
-          unused = facts.2;
-          may = facts.3;
-          ranked = facts.4 ∙ same;
-        }
+        record { entry = x; place = 0; stands = record { inside = omega arith; is = refl }; facts = subst (IsCandidateAs x.facts) same (candidate-counted x.facts d is) }
 
     by_rest : (d : Candidate) (o : Option Candidate) → candidate_of x.facts ≡ Some d →
         ((a : Candidate) → o ≡ Some a → Goes es a) → Some (first_of d o) ≡ Some c → Goes (x ∷ es) c
@@ -124,10 +113,10 @@ alone-due e m counted most none = record {
 chosen-due : (m : Machine) (c : Candidate) → counted_in m ≡ m.settings.hard + 1 → first_to_go (candidates_in m) ≡ Some c → (g : Goes m.connections c) → IsDueToGo g.entry m
 chosen-due m c most some g = record {
   crowded = most;
-  counted = g.counted;
+  counted = g.facts.counted;
   first = All-from_recursion IsBefore m.connections (may_go-all (λ d. Goes_after d) m.connections
       (all-weaker (λ d. goes_before d c ≡ false) Goes_after
-      (λ d after. (g.may, subst (λ x. goes_before d x ≡ false) (sym g.ranked) after)) (candidates_in m)
+      (λ d after. (g.facts.may, subst (λ x. goes_before d x ≡ false) (sym g.facts.ranked) after)) (candidates_in m)
       (recursion_from_All (λ d. goes_before d c ≡ false) (candidates_in m) (choice_law m (Some c) some).1)));
 }
   where
@@ -237,7 +226,7 @@ trim-trims moved m h most over = cond_both (nat_le (counted_in m) m.settings.har
         (pruned-trims m own.entry own.place h own.stands (alone-due own.entry m own.counted one_more none))
     by_choice one_more (Some c) some own =
         let goes : Goes m.connections c = goes_among m.connections c some in
-        rw (some, found_by_id m goes.entry goes.place c.cid h.orderly goes.stands goes.same)
+        rw (some, found_by_id m goes.entry goes.place c.cid h.orderly goes.stands goes.facts.same)
         (pruned-trims m goes.entry goes.place h goes.stands (chosen-due m c one_more some goes))
 
 -- ---- who is in local use stays
@@ -260,7 +249,7 @@ trim-used q only moved m e k h s same unused = cond_both (nat_le (counted_in m) 
     (λ none. rw (none, found_by_id m e k moved h s same) (pruned-used q only m e k h s unused))
     (λ c some.
     let goes : Goes m.connections c = goes_among m.connections c some in
-    rw (some, found_by_id m goes.entry goes.place c.cid h goes.stands goes.same) (pruned-used q only m goes.entry goes.place h goes.stands goes.unused)))
+    rw (some, found_by_id m goes.entry goes.place c.cid h goes.stands goes.facts.same) (pruned-used q only m goes.entry goes.place h goes.stands goes.facts.unused)))
 
 -- ---- one part after another
 
