@@ -1,5 +1,5 @@
 -- No more addresses come into the book than are wanted.
-use Rattle.std.proofs.Common.{ℕ, ◌+◌, ◌-◌, ◌≤◌, ◌<◌, ◌≡◌, Bool, true, false, cond, not, ◌&&◌, nat_lt, if◌then◌else◌, List, [], ◌∷◌, ◌++◌, length, take, Option, Some, None, is_some, refl, sym, ap, ◌∙◌, subst, arith, ltb-true}
+use Rattle.std.proofs.Common.{ℕ, ◌+◌, ◌-◌, ◌≤◌, ◌<◌, ◌≡◌, Bool, true, false, not, ◌&&◌, nat_lt, if◌then◌else◌, List, [], ◌∷◌, ◌++◌, length, take, Option, Some, None, is_some, refl, sym, ap, ◌∙◌, subst, arith, ltb-true}
 use Rattle.laws.proofs.Words.{and_parts, length-take, count_by-put_in}
 use Rattle.laws.specs.Words.{AllByRecursion, same_address, Addr, Peer, effective_big_of, is_of, known_of, new_peer, entry_of, entered_by, entered, Added, New, group_of, room_for, is_new, taken_after, Share, Request, Peers, Machine, Effect, Happened, shared, nothing_more, as_move, for_each, peer_at, peer_comes, is_wanted_big, comes_big, bigs_are, shares_address, taken_of, takes_addresses}
 use Rattle.peer_book.specs.Book.{peer_at as peer_in}
@@ -7,6 +7,7 @@ use Rattle.warm_messages.specs.declared.share.Share.TheVariants.{Done}
 use Rattle.laws.specs.AtMoves.{known_wanted, IsWantedNew, WithinTargets}
 use Rattle.laws.proofs.Lawful.{comes-machine, comes-providing, Within}
 use Rattle.laws.proofs.Lists.{all-appended}
+use Rattle.laws.proofs.Spending.{one-most}
 use Rattle.laws.proofs.Ties.{put_in-here}
 use Rattle.laws.proofs.Cases.{by_bool, some_same}
 
@@ -25,14 +26,10 @@ came big addr m = record m { peers = entered (new_peer big addr) m.peers }
 entered-known : (big : Bool) (addr : Addr) (ps : List Peer) → known_of big (entered (new_peer big addr) ps) ≤ known_of big ps + 1
 entered-known big addr ps = by_added (entry_of addr ps)
   where
-    one : (b : Bool) → cond {A = ℕ} b 1 0 ≤ 1
-    one true = omega arith
-    one false = omega arith
-
     by_added : (added : Added) → known_of big (entered_by added (new_peer big addr) ps) ≤ known_of big ps + 1
     by_added New =
         let count = count_by-put_in (λ p. p.addr) (is_of big) (new_peer big addr) ps in
-        omega (arith, count, one (is_of big (new_peer big addr)))
+        omega (arith, count, one-most (is_of big (new_peer big addr)))
     by_added other = omega arith
 
 -- whoever was not there and is found is of its class

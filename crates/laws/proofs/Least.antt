@@ -5,7 +5,7 @@ use Rattle.laws.specs.Words.{AllByRecursion, deadline_before, kind_place, Deadli
 use Rattle.laws.specs.Parts.{IsLeastDue}
 use Rattle.laws.proofs.Firing.{least-none, due-contains}
 use Rattle.laws.specs.Steady.{IsOrdered}
-use Rattle.laws.proofs.Lists.{all-placed}
+use Rattle.laws.proofs.Lists.{all-placed, all-weaker}
 use Rattle.laws.proofs.Moments.{due-waited}
 use Rattle.laws.proofs.Cases.{by_bool}
 
@@ -62,11 +62,6 @@ least-first (x ∷ xs) d e = by_least (least xs) (least-first xs) refl e
     none_left : least xs ≡ None → AllByRecursion (λ z. deadline_before z x ≡ false) xs
     none_left none = subst (AllByRecursion (λ z. deadline_before z x ≡ false)) (sym (least-none xs none)) tt
 
-    weaker : (y : Deadline) (zs : List Deadline) → deadline_before y x ≡ false → AllByRecursion (λ z. deadline_before z y ≡ false) zs →
-        AllByRecursion (λ z. deadline_before z x ≡ false) zs
-    weaker y [] after h = tt
-    weaker y (z ∷ zs) after h = (not_before z y x h.0 after, weaker y zs after h.1)
-
     by_least : (o : Option Deadline) → ((y : Deadline) → o ≡ Some y → AllByRecursion (λ z. deadline_before z y ≡ false) xs) → least xs ≡ o → Some (earlier x o) ≡ Some d →
         AllByRecursion (λ z. deadline_before z d ≡ false) (x ∷ xs)
     by_least None later is same =
@@ -74,7 +69,8 @@ least-first (x ∷ xs) d e = by_least (least xs) (least-first xs) refl e
     by_least (Some y) later is same =
         subst (λ w. AllByRecursion (λ z. deadline_before z w ≡ false) (x ∷ xs)) (let s : earlier x (Some y) ≡ d = cc in s) (by_bool (deadline_before y x)
         (λ b. AllByRecursion (λ z. deadline_before z (if b then y else x) ≡ false) (x ∷ xs))
-        (λ before. (before_other y x before, later y refl)) (λ after. (before_itself x, weaker y xs after (later y refl))))
+        (λ before. (before_other y x before, later y refl)) (λ after. (before_itself x,
+        all-weaker (λ z. deadline_before z y ≡ false) (λ z. deadline_before z x ≡ false) (λ z before. not_before z y x before after) xs (later y refl))))
 
 -- one that is not due yet is not before one that is
 later : (now : ℕ) (x d : Deadline) → d.at ≤ now → nat_le x.at now ≡ false → deadline_before x d ≡ false

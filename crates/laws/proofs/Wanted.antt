@@ -287,13 +287,16 @@ pub linked : (test : Link → Bool) (addr : Addr) (es : List Entry) →
 linked test addr [] = refl
 linked test addr (e ∷ es) = ap (λ b. (same_address e.facts.addr addr && test (link_of e)) || b) (linked test addr es)
 
+pending-seen : (addr : Addr) (m : Machine) → is_pending_link (map link_of m.connections) addr ≡ some_connection (λ e. is_pending e.facts) addr m
+pending-seen addr m = linked (λ l. l.pending) addr m.connections
+
 promotes-number : (big : Bool) (word : ℕ) (m : Machine) →
     established_target big (view_of word m) - established_of big m.peers - count_of big (is_pending_link (map link_of m.connections)) m.peers
     ≤ established_wanted big m - number_with is_established_or_pending big m
 promotes-number big word m =
     let split = count_by-either (is_of big) (λ p. is_established p.temp) (λ p. some_connection (λ e. is_pending e.facts) p.addr m) m.peers in
     let pending : count_of big (is_pending_link (map link_of m.connections)) m.peers ≡ count_by (λ p. is_of big p && some_connection (λ e. is_pending e.facts) p.addr m) m.peers =
-    λ i. count_by (λ p. is_of big p && linked (λ l. l.pending) p.addr m.connections i) m.peers in
+    λ i. count_by (λ p. is_of big p && pending-seen p.addr m i) m.peers in
     let same : established_target big (view_of word m) ≡ established_wanted big m = by_bool big
     (λ b. established_target b (view_of word m) ≡ established_wanted b m)
     (λ is. refl) (λ is. refl) in
@@ -342,7 +345,7 @@ pub groups_promotes-within : (word : ℕ) (m : Machine) → IsOrdered m → Each
 groups_promotes-within word m h each =
     groups-within promotes-use word (λ g. members_count g (λ p. is_established p.temp || is_pending_link (map link_of m.connections) p.addr) m.peers)
     (is_eligible m.now (map link_of m.connections)) m
-    (λ g i. count_by (λ p. is_of false p && (is_listed p.addr g.members && (is_established p.temp || linked (λ l. l.pending) p.addr m.connections i))) m.peers) h each
+    (λ g i. count_by (λ p. is_of false p && (is_listed p.addr g.members && (is_established p.temp || pending-seen p.addr m i))) m.peers) h each
 
 pub groups_activates-within : (word : ℕ) (m : Machine) → IsOrdered m → EachAccounted (g7_orders (view_of word m) m.peers m.groups) m →
     AllByRecursion Within (for_each carries_out (g7_orders (view_of word m) m.peers m.groups) m).moves
