@@ -1,12 +1,12 @@
 -- What holds of the book of peers, through each change of it.
-use Rattle.std.proofs.Common.{◌+◌, ◌≤◌, ◌≡◌, Bool, false, cond, nat_le, List, [], ◌∷◌, length, filter, Some, is_some, if◌then◌else◌, refl, subst, arith, leb-false}
-use Rattle.laws.proofs.Words.{cond_both, length-map, filter-within}
-use Rattle.laws.specs.Words.{AllByRecursion, same_address, address_below, Addr, Peer, has_address, with_peer, with_new, entered_by, entered, most_peers, New, Present, Full, Machine}
+use Rattle.std.proofs.Common.{◌+◌, ◌≤◌, ◌≡◌, Bool, false, cond, List, [], ◌∷◌, length, filter, Some, if◌then◌else◌, refl, subst, arith, leb-false}
+use Rattle.laws.proofs.Words.{length-map, filter-within}
+use Rattle.laws.specs.Words.{AllByRecursion, same_address, address_below, Addr, Peer, has_address, with_peer, with_new, entered, most_peers, Machine}
 use Rattle.peer_book.specs.Book.{peer_at}
 use Rattle.laws.specs.Steady.{ArePeersApart, IsFormed}
 use Rattle.laws.proofs.Addresses.{same_address-true}
 use Rattle.laws.proofs.Lists.{filter-all}
-use Rattle.laws.proofs.PeersApart.{with_peer-others, with_peer-apart, put_in-others, entered-apart, filter-apart}
+use Rattle.laws.proofs.PeersApart.{entered-cases, with_peer-others, with_peer-apart, put_in-others, entered-apart, filter-apart}
 use Rattle.laws.proofs.Cases.{by_bool}
 
 pub record IsBook (own : Addr) (peers : List Peer) : Type 0 where
@@ -44,19 +44,11 @@ with_new-longer new (p ∷ ps) = by_bool (address_below p.addr new.addr)
 
 entered-others : (own : Addr) (new : Peer) (ps : List Peer) → same_address new.addr own ≡ false → AllByRecursion (λ p. same_address p.addr own ≡ false) ps →
     AllByRecursion (λ p. same_address p.addr own ≡ false) (entered new ps)
-entered-others own new ps other h = cond_both (is_some (peer_at new.addr ps)) Present (if nat_le most_peers (length ps) then Full else New)
-    (λ added. AllByRecursion (λ p. same_address p.addr own ≡ false) (entered_by added new ps)) (λ there. h)
-    (λ none. cond_both (nat_le most_peers (length ps)) Full New
-    (λ added. AllByRecursion (λ p. same_address p.addr own ≡ false) (entered_by added new ps)) (λ full. h)
-    (λ room. put_in-others new own ps other h))
+entered-others own new ps other h = entered-cases new ps (AllByRecursion (λ p. same_address p.addr own ≡ false)) h (λ none room. put_in-others new own ps other h)
 
 entered-room : (new : Peer) (ps : List Peer) → length ps ≤ most_peers → length (entered new ps) ≤ most_peers
-entered-room new ps h = cond_both (is_some (peer_at new.addr ps)) Present (if nat_le most_peers (length ps) then Full else New)
-    (λ added. length (entered_by added new ps) ≤ most_peers) (λ there. h)
-    (λ none. cond_both (nat_le most_peers (length ps)) Full New (λ added. length (entered_by added new ps) ≤ most_peers) (λ full. h)
-    (λ room. let below = leb-false most_peers (length ps) room in
-    let longer = with_new-longer new ps in
-    omega (arith, below, longer)))
+entered-room new ps h = entered-cases new ps (λ qs. length qs ≤ most_peers) h
+    (λ none room. let below = leb-false most_peers (length ps) room in let longer = with_new-longer new ps in omega (arith, below, longer))
 
 pub entered-book : (own : Addr) (new : Peer) (ps : List Peer) → same_address new.addr own ≡ false → IsBook own ps → IsBook own (entered new ps)
 entered-book own new ps other h = record {

@@ -1,12 +1,11 @@
 -- Local peers are ordinary ones, through each change of the book.
-use Rattle.std.proofs.Common.{◌≡◌, Bool, true, false, nat_le, ◌||◌, List, [], ◌∷◌, length, Option, Some, None, is_some, if◌then◌else◌, refl, sym, ◌∙◌, subst}
-use Rattle.laws.proofs.Words.{cond_both}
-use Rattle.laws.specs.Words.{same_address, Addr, Peer, without_peer, new_peer, entered_by, entered, most_peers, New, Present, Full, is_listed, members_of, Machine, for_each, peer_at, turns_at, peer_is_ordinary}
-use Rattle.net_base.specs.declared.action.Away.TheVariants.{Present, Full}
+use Rattle.std.proofs.Common.{◌≡◌, Bool, true, false, ◌||◌, List, [], ◌∷◌, Option, Some, None, refl, sym, ◌∙◌, subst}
+use Rattle.laws.specs.Words.{same_address, Addr, Peer, without_peer, new_peer, entered, is_listed, members_of, Machine, for_each, peer_at, turns_at, peer_is_ordinary}
 use Rattle.peer_book.specs.Book.{peer_at as peer_in, with_peer as with_peer_in, with_new as with_new_in}
 use Rattle.laws.specs.Laws.{is_local, LocalsAreOrdinary}
 use Rattle.laws.proofs.Addresses.{same_address-true}
 use Rattle.laws.proofs.Ties.{found-addr, peer_elsewhere, peer_here, put_in-elsewhere, put_in-here, none_there, taken-elsewhere, taken-here}
+use Rattle.laws.proofs.PeersApart.{entered-cases}
 use Rattle.laws.proofs.Cases.{by_bool, by_option}
 
 -- ---- one peer
@@ -48,12 +47,8 @@ turned-classes a change m same keeps p is h b q found local =
 -- An ordinary peer comes, or a big ledger peer that is not local.
 pub comes-classes : (big : Bool) (addr : Addr) (m : Machine) → (is_local m.groups addr ≡ true → big ≡ false) →
     LocalsAreOrdinary m → LocalsAreOrdinary (record m { peers = entered (new_peer big addr) m.peers })
-comes-classes big addr m class h = by_bool (is_some (peer_in addr m.peers))
-    (λ c. LocalsAreOrdinary (record m { peers = entered_by (if c then Present else if nat_le most_peers (length m.peers) then Full else New) new m.peers }))
-    (λ e. h)
-    (λ e.
-    cond_both (nat_le most_peers (length m.peers)) Full New (λ added. LocalsAreOrdinary (record m { peers = entered_by added new m.peers }))
-    (λ full. h) (λ room. comes (none_there (peer_in addr m.peers) e)))
+comes-classes big addr m class h = entered-cases new m.peers (λ ps. LocalsAreOrdinary (record m { peers = ps })) h
+    (λ none room. comes (none_there (peer_in addr m.peers) none))
   where
     new : Peer
     new = new_peer big addr

@@ -56,12 +56,15 @@ none_found addr (p ∷ ps) h = by_bool (has_address addr p)
     AllByRecursion (λ q. same_address q.addr addr ≡ false) (p ∷ ps))
     (λ e none later. absurd (false≢true (sym none))) (λ e none later. (e, later none)) h (none_found addr ps)
 
+-- whoever comes into the book is put in where it is not there and there is room
+pub entered-cases : (new : Peer) (ps : List Peer) (P : List Peer → Type 0) → P ps →
+    (is_some (peer_at new.addr ps) ≡ false → nat_le most_peers (length ps) ≡ false → P (with_new new ps)) → P (entered new ps)
+entered-cases new ps P stays comes =
+    cond_both (is_some (peer_at new.addr ps)) Present (if nat_le most_peers (length ps) then Full else New) (λ added. P (entered_by added new ps)) (λ there. stays)
+    (λ none. cond_both (nat_le most_peers (length ps)) Full New (λ added. P (entered_by added new ps)) (λ full. stays) (comes none))
+
 pub entered-apart : (new : Peer) (ps : List Peer) → ArePeersApart ps → ArePeersApart (entered new ps)
-entered-apart new ps h = by_bool (is_some (peer_at new.addr ps))
-    (λ b. ArePeersApart (entered_by (if b then Present else if nat_le most_peers (length ps) then Full else New) new ps))
-    (λ e. h)
-    (λ e. cond_both (nat_le most_peers (length ps)) Full New (λ added. ArePeersApart (entered_by added new ps))
-    (λ full. h) (λ room. with_new-apart new ps (none_found new.addr ps e) h))
+entered-apart new ps h = entered-cases new ps ArePeersApart h (λ none room. with_new-apart new ps (none_found new.addr ps none) h)
 
 -- one goes
 pub filter-apart : (q : Peer → Bool) (ps : List Peer) → ArePeersApart ps → ArePeersApart (filter q ps)

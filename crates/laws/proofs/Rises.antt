@@ -1,7 +1,7 @@
 -- Who comes up in a part of a step: one is used or on its way to it, is hot or asked to become so, or is known.
-use Rattle.std.proofs.Common.{ℕ, ◌≡◌, Bool, true, false, cond, ◌||◌, if◌then◌else◌, nat_le, List, [], ◌∷◌, ◌++◌, length, find, Option, Some, None, is_some, refl, sym, ap, ◌∙◌, subst}
-use Rattle.laws.proofs.Words.{cond_both, both_ways, false≢true, or_left, or_right, list_any-append}
-use Rattle.laws.specs.Words.{list_any, same_address, Addr, Peer, is_live, is_live_at, without_peer, new_peer, entered_by, entered, most_peers, New, Present, Full, Machine, Entry, live_entry_at, Effect, Happened, Move, then_do, as_move, peer_at, turns_at, peer_changes, with_entry, without_entry}
+use Rattle.std.proofs.Common.{ℕ, ◌≡◌, Bool, true, false, cond, ◌||◌, if◌then◌else◌, List, [], ◌∷◌, ◌++◌, find, Option, Some, None, is_some, refl, sym, ap, ◌∙◌, subst}
+use Rattle.laws.proofs.Words.{both_ways, false≢true, or_left, or_right, list_any-append}
+use Rattle.laws.specs.Words.{list_any, same_address, Addr, Peer, is_live, is_live_at, without_peer, new_peer, entered, Machine, Entry, live_entry_at, Effect, Happened, Move, then_do, as_move, peer_at, turns_at, peer_changes, with_entry, without_entry}
 use Rattle.peer_book.specs.Book.{peer_at as peer_in, with_peer as with_peer_in, with_new as with_new_in}
 use Rattle.laws.specs.AtMoves.{is_up_connection, is_up, is_hot_peer, is_asked_connection, is_hot_or_asked, is_known, promotes, activates, shares}
 use Rattle.laws.specs.Parts.{RisesBy}
@@ -9,7 +9,7 @@ use Rattle.laws.specs.Sound.{IsOrderly}
 use Rattle.laws.proofs.Addresses.{same_address-true}
 use Rattle.laws.proofs.Entries.{TurnsInto, with_new}
 use Rattle.laws.proofs.Lists.{StandsAt}
-use Rattle.laws.proofs.PeersApart.{same_turned}
+use Rattle.laws.proofs.PeersApart.{same_turned, entered-cases}
 use Rattle.laws.proofs.Ties.{live_here, turned_here, turned_elsewhere, turned_dead, gone_here, gone_elsewhere, gone_dead, found-addr, peer_here, put_in-elsewhere, put_in-here, none_there, taken-elsewhere, taken-here, turns_at-elsewhere}
 use Rattle.laws.proofs.Cases.{by_bool, by_option}
 
@@ -227,12 +227,8 @@ changed-known a change m same = changed-down is_some a change m same (λ p known
 -- an address comes into the book: at all others nothing changes, and a peer that is new there is cold
 entered-down : (q : Option Peer → Bool) (new : Peer) (ps : List Peer) (b : Addr) → (same_address new.addr b ≡ true → q (Some new) ≡ false) →
     q (peer_in b (entered new ps)) ≡ true → q (peer_in b ps) ≡ true
-entered-down q new ps b lower = by_bool (is_some (peer_in new.addr ps))
-    (λ c. q (peer_in b (entered_by (if c then Present else if nat_le most_peers (length ps) then Full else New) new ps)) ≡ true → q (peer_in b ps) ≡ true)
-    (λ e is. is)
-    (λ e is.
-    cond_both (nat_le most_peers (length ps)) Full New (λ added. q (peer_in b (entered_by added new ps)) ≡ true → q (peer_in b ps) ≡ true)
-    (λ full there. there) (λ room. comes (none_there (peer_in new.addr ps) e) (same_address new.addr b) refl) is)
+entered-down q new ps b lower = entered-cases new ps (λ qs. q (peer_in b qs) ≡ true → q (peer_in b ps) ≡ true) (λ is. is)
+    (λ none room. comes (none_there (peer_in new.addr ps) none) (same_address new.addr b) refl)
   where
     comes : peer_in new.addr ps ≡ None → (c : Bool) → same_address new.addr b ≡ c → q (peer_in b (with_new_in new ps)) ≡ true → q (peer_in b ps) ≡ true
     comes none true e is =

@@ -1,7 +1,7 @@
 -- What ties a peer to the live connection of its address, through each change of either.
-use Rattle.std.proofs.Common.{ℕ, ◌≡◌, Bool, true, false, cond, not, ◌&&◌, if◌then◌else◌, nat_le, List, [], ◌∷◌, ◌++◌, length, get_or, find, set, Option, Some, None, is_some, refl, sym, ap, ◌∙◌, subst}
-use Rattle.laws.proofs.Words.{cond_both, both_ways, false≢true, and_parts, and_from, false_from_ne_true, find-append}
-use Rattle.laws.specs.Words.{same_address, address_below, Addr, Facts, Peer, is_live, is_live_at, is_pending, has_address, without_peer, new_peer, entered_by, entered, most_peers, New, Present, Full, Machine, Entry, live_entry_at, peer_at, turns_at, peer_changes, reply_on, with_entry, without_entry, option_or}
+use Rattle.std.proofs.Common.{ℕ, ◌≡◌, Bool, true, false, cond, not, ◌&&◌, if◌then◌else◌, List, [], ◌∷◌, ◌++◌, get_or, find, set, Option, Some, None, is_some, refl, sym, ap, ◌∙◌, subst}
+use Rattle.laws.proofs.Words.{both_ways, false≢true, and_parts, and_from, false_from_ne_true, find-append}
+use Rattle.laws.specs.Words.{same_address, address_below, Addr, Facts, Peer, is_live, is_live_at, is_pending, has_address, without_peer, new_peer, entered, Machine, Entry, live_entry_at, peer_at, turns_at, peer_changes, reply_on, with_entry, without_entry, option_or}
 use Rattle.peer_book.specs.Book.{peer_at as peer_in, with_peer as with_peer_in, with_new as with_new_in}
 use Rattle.laws.specs.Laws.{LiveAddressesDistinct}
 use Rattle.laws.specs.Sound.{IsOrderly}
@@ -10,7 +10,7 @@ use Rattle.laws.proofs.Addresses.{same_address-self, same_address-true}
 use Rattle.laws.proofs.Entries.{TurnsInto, turned-connections, gone-connections, with_new}
 use Rattle.laws.proofs.Finds.{find-set_other, find-set_here, find-set_gone, find-remove_other, find-remove_here}
 use Rattle.laws.proofs.Lists.{StandsAt, OnePasses, FoundIn, find_some, find_only}
-use Rattle.laws.proofs.PeersApart.{same_turned}
+use Rattle.laws.proofs.PeersApart.{same_turned, entered-cases}
 use Rattle.laws.proofs.Cases.{by_bool, by_option}
 
 -- ---- all but one address stay
@@ -217,12 +217,8 @@ new-tied big addr now (Some e) tie = record {
 }
 
 pub comes-ties : (big : Bool) (addr : Addr) (m : Machine) → IsTied m → IsTied (record m { peers = entered (new_peer big addr) m.peers })
-comes-ties big addr m ties = by_bool (is_some (peer_in addr m.peers))
-    (λ b. IsTied (record m { peers = entered_by (if b then Present else if nat_le most_peers (length m.peers) then Full else New) new m.peers }))
-    (λ e. ties)
-    (λ e.
-    cond_both (nat_le most_peers (length m.peers)) Full New (λ added. IsTied (record m { peers = entered_by added new m.peers }))
-    (λ full. ties) (λ room. comes (none_there (peer_in addr m.peers) e)))
+comes-ties big addr m ties = entered-cases new m.peers (λ ps. IsTied (record m { peers = ps })) ties
+    (λ none room. comes (none_there (peer_in addr m.peers) none))
   where
     new : Peer
     new = new_peer big addr
