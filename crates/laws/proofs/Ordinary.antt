@@ -1,12 +1,13 @@
 -- Local peers are ordinary ones, through each change of the book.
-use Rattle.std.proofs.Common.{◌≡◌, Bool, true, false, ◌||◌, List, [], ◌∷◌, Option, Some, None, refl, sym, ◌∙◌, subst}
-use Rattle.laws.specs.Words.{same_address, Addr, Peer, without_peer, new_peer, entered, is_listed, members_of, Machine, for_each, peer_at, turns_at, peer_is_ordinary}
+use Rattle.std.proofs.Common.{◌≡◌, Bool, true, false, ◌||◌, List, [], ◌∷◌, Option, Some, None, refl, ap, sym, ◌∙◌, subst}
+use Rattle.laws.specs.Words.{option_map, same_address, Addr, Peer, without_peer, new_peer, entered, is_listed, members_of, Machine, for_each, peer_at, turns_at, peer_is_ordinary}
 use Rattle.peer_book.specs.Book.{peer_at as peer_in, with_peer as with_peer_in, with_new as with_new_in}
 use Rattle.laws.specs.Laws.{is_local, LocalsAreOrdinary}
 use Rattle.laws.proofs.Addresses.{same_address-true}
+use Rattle.laws.proofs.Failures.{changed-found}
 use Rattle.laws.proofs.Ties.{found-addr, peer_elsewhere, peer_here, put_in-elsewhere, put_in-here, none_there, taken-elsewhere, taken-here}
 use Rattle.laws.proofs.PeersApart.{entered-cases}
-use Rattle.laws.proofs.Cases.{by_bool, by_option}
+use Rattle.laws.proofs.Cases.{by_bool, by_option, some_same}
 
 -- ---- one peer
 
@@ -14,16 +15,13 @@ use Rattle.laws.proofs.Cases.{by_bool, by_option}
 abbrev IsOrdinaryIn : List Peer → Addr → Type 0
 IsOrdinaryIn peers addr = (p : Peer) → peer_in addr peers ≡ Some p → p.big ≡ false
 
-same_peer : (p q : Peer) → Some p ≡ Some q → p ≡ q
-same_peer p q e = cc
-
 -- a peer that is put in place of another is ordinary where that was
 with_peer-ordinary : (new p : Peer) (ps : List Peer) → peer_in new.addr ps ≡ Some p → (p.big ≡ false → new.big ≡ false) → (b : Addr) →
     IsOrdinaryIn ps b → IsOrdinaryIn (with_peer_in new ps) b
 with_peer-ordinary new p ps found keeps b h q is = by_bool (same_address b new.addr) (λ c. q.big ≡ false)
     (λ e.
     let at : b ≡ new.addr = same_address-true b new.addr e in
-    let same : new ≡ q = same_peer new q (sym (peer_here new p ps found) ∙ subst (λ a. peer_in a (with_peer_in new ps) ≡ Some q) at is) in
+    let same : new ≡ q = some_same new q (sym (peer_here new p ps found) ∙ subst (λ a. peer_in a (with_peer_in new ps) ≡ Some q) at is) in
     subst (λ x. x.big ≡ false) same (keeps (h p (subst (λ a. peer_in a ps ≡ Some p) (sym at) found))))
     (λ e. h q (sym (peer_elsewhere new b ps e) ∙ is))
 
@@ -57,7 +55,7 @@ comes-classes big addr m class h = entered-cases new m.peers (λ ps. LocalsAreOr
     comes none b q is local = by_bool (same_address b addr) (λ c. q.big ≡ false)
         (λ e.
         let at : b ≡ addr = same_address-true b addr e in
-        let same : new ≡ q = same_peer new q (sym (put_in-here new m.peers none) ∙ subst (λ a. peer_in a (with_new_in new m.peers) ≡ Some q) at is) in
+        let same : new ≡ q = some_same new q (sym (put_in-here new m.peers none) ∙ subst (λ a. peer_in a (with_new_in new m.peers) ≡ Some q) at is) in
         subst (λ x. x.big ≡ false) same (class (subst (λ a. is_local m.groups a ≡ true) at local)))
         (λ e. h b q (sym (put_in-elsewhere new b m.peers e) ∙ is) local)
 
@@ -74,14 +72,9 @@ taken-classes addr m h b q is local = by_bool (same_address b addr) (λ c. q.big
 
 -- a peer that is made ordinary
 made-ordinary : (a : Addr) (m : Machine) → IsOrdinaryIn (peer_is_ordinary a m).machine.peers a
-made-ordinary a m q = by_option (peer_at a m) (λ o. peer_in a (turns_at o (λ p. record p { big = false }) m).machine.peers ≡ Some q → q.big ≡ false)
-    (λ is found. absurd (let never : None ≡ Some q = sym is ∙ found in cc))
-    (λ p is found.
-    let at : p.addr ≡ a = found-addr a m.peers p is in
-    let new : Peer = record p { big = false } in
-    let here : peer_in a (with_peer_in new m.peers) ≡ Some new =
-    subst (λ x. peer_in x (with_peer_in new m.peers) ≡ Some new) at (peer_here new p m.peers (subst (λ x. peer_in x m.peers ≡ Some p) (sym at) is)) in
-    subst (λ x. x.big ≡ false) (same_peer new q (sym here ∙ found)) refl)
+made-ordinary a m q found = by_option (peer_at a m) (λ o. option_map (λ (p : Peer). record p { big = false }) o ≡ Some q → q.big ≡ false)
+    (λ is none. absurd cc) (λ p is same. ap (λ x. x.big) (sym (some_same (record p { big = false }) q same)))
+    (sym (changed-found a (λ p. record p { big = false }) m (λ p. refl)) ∙ found)
 
 all-stay : (addrs : List Addr) (m : Machine) (b : Addr) → IsOrdinaryIn m.peers b → IsOrdinaryIn (for_each peer_is_ordinary addrs m).machine.peers b
 unfolding for_each

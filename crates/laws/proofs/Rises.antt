@@ -1,16 +1,17 @@
 -- Who comes up in a part of a step: one is used or on its way to it, is hot or asked to become so, or is known.
 use Rattle.std.proofs.Common.{ℕ, ◌≡◌, Bool, true, false, cond, ◌||◌, if◌then◌else◌, List, [], ◌∷◌, ◌++◌, find, Option, Some, None, is_some, refl, sym, ap, ◌∙◌, subst}
 use Rattle.laws.proofs.Words.{both_ways, false≢true, or_left, or_right, list_any-append}
-use Rattle.laws.specs.Words.{list_any, same_address, Addr, Peer, is_live, is_live_at, without_peer, new_peer, entered, Machine, Entry, live_entry_at, Effect, Happened, Move, then_do, as_move, peer_at, turns_at, peer_changes, with_entry, without_entry}
-use Rattle.peer_book.specs.Book.{peer_at as peer_in, with_peer as with_peer_in, with_new as with_new_in}
+use Rattle.laws.specs.Words.{option_map, list_any, same_address, Addr, Peer, is_live, is_live_at, without_peer, new_peer, entered, Machine, Entry, live_entry_at, Effect, Happened, Move, then_do, as_move, peer_at, peer_changes, with_entry, without_entry}
+use Rattle.peer_book.specs.Book.{peer_at as peer_in, with_new as with_new_in}
 use Rattle.laws.specs.AtMoves.{is_up_connection, is_up, is_hot_peer, is_asked_connection, is_hot_or_asked, is_known, promotes, activates, shares}
 use Rattle.laws.specs.Parts.{RisesBy}
 use Rattle.laws.specs.Sound.{IsOrderly}
 use Rattle.laws.proofs.Addresses.{same_address-true}
 use Rattle.laws.proofs.Entries.{TurnsInto, with_new}
+use Rattle.laws.proofs.Failures.{changed-found}
 use Rattle.laws.proofs.Lists.{StandsAt}
 use Rattle.laws.proofs.PeersApart.{same_turned, entered-cases}
-use Rattle.laws.proofs.Ties.{live_here, turned_here, turned_elsewhere, turned_dead, gone_here, gone_elsewhere, gone_dead, found-addr, peer_here, put_in-elsewhere, put_in-here, none_there, taken-elsewhere, taken-here, turns_at-elsewhere}
+use Rattle.laws.proofs.Ties.{live_here, turned_here, turned_elsewhere, turned_dead, gone_here, gone_elsewhere, gone_dead, put_in-elsewhere, put_in-here, none_there, taken-elsewhere, taken-here, turns_at-elsewhere}
 use Rattle.laws.proofs.Cases.{by_bool, by_option}
 
 -- ---- a move says so
@@ -206,16 +207,8 @@ changed-down : (q : Option Peer → Bool) (a : Addr) (change : Peer → Peer) (m
     ((p : Peer) → q (Some (change p)) ≡ true → q (Some p) ≡ true) → (b : Addr) → q (peer_at b (peer_changes a change m).machine) ≡ true → q (peer_at b m) ≡ true
 changed-down q a change m same lower b = by_bool (same_address b a)
     (λ c. q (peer_at b (peer_changes a change m).machine) ≡ true → q (peer_at b m) ≡ true)
-    (λ e h.
-    subst (λ x. q (peer_at x (peer_changes a change m).machine) ≡ true → q (peer_at x m) ≡ true) (sym (same_address-true b a e)) (by_option (peer_at a m)
-    (λ o. q (peer_at a (turns_at o change m).machine) ≡ true → q (peer_at a m) ≡ true)
-    (λ is h. h)
-    (λ p is h.
-    let new : Peer = change p in
-    let here : new.addr ≡ a = same p ∙ found-addr a m.peers p is in
-    let found : peer_in a (with_peer_in new m.peers) ≡ Some new =
-    subst (λ x. peer_in x (with_peer_in new m.peers) ≡ Some new) here (peer_here new p m.peers (subst (λ x. peer_in x m.peers ≡ Some p) (sym here) is)) in
-    ap q is ∙ lower p (ap q (sym found) ∙ h))) h)
+    (λ e. subst (λ x. q (peer_at x (peer_changes a change m).machine) ≡ true → q (peer_at x m) ≡ true) (sym (same_address-true b a e))
+    (λ h. by_option (peer_at a m) (λ o. q (option_map change o) ≡ true → q o ≡ true) (λ is h. h) (λ p is h. lower p h) (ap q (sym (changed-found a change m same)) ∙ h)))
     (λ e h. ap q (sym (turns_at-elsewhere a change m same b e)) ∙ h)
 
 pub changed-hot : (a : Addr) (change : Peer → Peer) (m : Machine) → IsCooling change → StaysDown is_hot m (peer_changes a change m).machine

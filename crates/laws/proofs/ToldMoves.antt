@@ -1,21 +1,22 @@
 -- What each change of a connection or a peer tells.
 use Rattle.std.proofs.Common.{ℕ, ◌+◌, ◌≡◌, ◌≤◌, Bool, true, false, not, ◌==◌, nat_lt, nat_le, if◌then◌else◌, List, [], ◌∷◌, ◌++◌, find, get_or, set, remove, length, flat_map, Option, Some, None, is_some, refl, sym, ap, ◌∙◌, subst, arith, eqb-true, eq-eqb, ne_eqb}
 use Rattle.laws.proofs.Words.{cond_both, both_ways, false≢true, All-weaker}
-use Rattle.laws.specs.Words.{name_of, name_in_phase, name_in_use, name_place, same_name, has_id, is_duplex, some_runs, same_address, Action, Admit, Dial, Close, State, CloseCause, PeerNote, StateName, ReservedOutbound, UnnegotiatedInbound, UnnegotiatedOutbound, Duplex, OutboundUni, OutboundDupTicking, OutboundDupExpired, Inbound, InboundIdle, OutboundIdle, Terminating, Terminated, Addr, Cid, Facts, Grace, Off, Phase, Greeting, Negotiated, Provenance, FromRemote, FromLocal, Peer, Temp, Cold, Warm, Hot, new_peer, entered_by, most_peers, same_temp, Added, New, Present, Full, with_entry, without_entry, entry_turns, entry_comes, entry_goes, Effect, Happened, Move, promoted, as_move, Machine, Entry, entry_at, peer_at, note_of, turns_at, peer_changes, note_of_coming, peer_comes, peer_goes}
+use Rattle.laws.specs.Words.{option_map, name_of, name_in_phase, name_in_use, name_place, same_name, has_id, is_duplex, some_runs, same_address, Action, Admit, Dial, Close, State, CloseCause, PeerNote, StateName, ReservedOutbound, UnnegotiatedInbound, UnnegotiatedOutbound, Duplex, OutboundUni, OutboundDupTicking, OutboundDupExpired, Inbound, InboundIdle, OutboundIdle, Terminating, Terminated, Addr, Cid, Facts, Grace, Off, Phase, Greeting, Negotiated, Provenance, FromRemote, FromLocal, Peer, Temp, Cold, Warm, Hot, new_peer, entered_by, most_peers, same_temp, Added, New, Present, Full, with_entry, without_entry, entry_turns, entry_comes, entry_goes, Effect, Happened, Move, promoted, as_move, Machine, Entry, entry_at, peer_at, note_of, turns_at, peer_changes, note_of_coming, peer_comes, peer_goes}
 use Rattle.net_base.specs.declared.action.Action.TheVariants.{Peer as TellPeer}
 use Rattle.laws.specs.Words.note
-use Rattle.peer_book.specs.Book.{peer_at as peer_in, with_peer as with_peer_in}
+use Rattle.peer_book.specs.Book.{peer_at as peer_in}
 use Rattle.laws.specs.Sound.{HasGivenId, IsOrderly}
 use Rattle.laws.specs.Stages.{stage_of_phase, stage_of, stage_at, stage_ended, causes_by, causes_in, IsLateCause, IsOneEnd}
 use Rattle.laws.specs.Telling.{KeepsAddress, GoesOn, IsTold}
 use Rattle.laws.specs.InActions.{End, Given, closes_in, ended_by, ends_in, dials_in, promoted_by_dial, dial_promotions_in, given_in, CountUp, HasAddress, AreAt, LeadTo, temp_of, temp_at, notes_in, noted, is_change, state_of, state_at, names_in, is_other_name, same_state}
 use Rattle.laws.proofs.Addresses.{same_address-self, same_address-true}
 use Rattle.laws.proofs.Entries.{TurnsInto, one_has_id, has_own_id, turned-connections, gone-connections, with_new}
+use Rattle.laws.proofs.Failures.{changed-found}
 use Rattle.laws.proofs.Finds.{find-none_passes, find-set_other, find-set_here, find-remove_other, find-remove_here}
 use Rattle.laws.proofs.Lists.{StandsAt, OnePasses, All-stands, find_only}
 use Rattle.laws.proofs.PeersApart.{same_turned}
 use Rattle.laws.proofs.Telling.{open_stage, keeps_itself, told_unchanged, mute-none}
-use Rattle.laws.proofs.Ties.{found-addr, peer_here, put_in-here, put_in-elsewhere, none_there, taken-here, taken-elsewhere, find-push_other, turns_at-elsewhere, find-push_here}
+use Rattle.laws.proofs.Ties.{found-addr, put_in-here, put_in-elsewhere, none_there, taken-here, taken-elsewhere, find-push_other, turns_at-elsewhere, find-push_here}
 use Rattle.laws.proofs.Cases.{by_bool}
 
 -- ---- names
@@ -367,15 +368,9 @@ changes-told a change m same =
         (subst (λ x. same_address p.addr x ≡ true) (found-addr a m.peers p is) (same_address-self p.addr))
         (changes_temp p.temp (change p).temp turns) (noted_temp (change p).temp)
 
-    by_peer : (o : Option Peer) → peer_at a m ≡ o → LeadTo is_change noted (temp_of o) (notes_in a (turns_at o change m).actions) (temp_at a (turns_at o change m).machine)
-    by_peer None is = ap temp_of (sym is)
-    by_peer (Some p) is =
-        let new : Peer = change p in
-        let here : new.addr ≡ a = same p ∙ found-addr a m.peers p is in
-        let found : peer_in a (with_peer_in new m.peers) ≡ Some new =
-        subst (λ x. peer_in x (with_peer_in new m.peers) ≡ Some new) here (peer_here new p m.peers (subst (λ x. peer_in x m.peers ≡ Some p) (sym here) is)) in
-        subst (λ o. LeadTo is_change noted (Some p.temp) (notes_in a (turns_at (Some p) change m).actions) (temp_of o)) (sym found)
-        (own_note p is (same_temp p.temp new.temp) refl)
+    by_peer : (o : Option Peer) → peer_at a m ≡ o → LeadTo is_change noted (temp_of o) (notes_in a (turns_at o change m).actions) (temp_of (option_map change o))
+    by_peer None is = refl
+    by_peer (Some p) is = own_note p is (same_temp p.temp (change p).temp) refl
 
     other_note : (b : Addr) → same_address b a ≡ false → (o : Option Peer) → peer_at a m ≡ o → notes_in b (turns_at o change m).actions ≡ []
     other_note b other None is = refl
@@ -389,7 +384,8 @@ changes-told a change m same =
     by_address b true is =
         subst (λ x. LeadTo is_change noted (temp_at x m) (notes_in x (peer_changes a change m).actions) (temp_at x (peer_changes a change m).machine))
         (sym (same_address-true b a is))
-        (by_peer (peer_at a m) refl)
+        (subst (λ o. LeadTo is_change noted (temp_at a m) (notes_in a (peer_changes a change m).actions) (temp_of o)) (sym (changed-found a change m same))
+        (by_peer (peer_at a m) refl))
     by_address b false other =
         subst (λ notes. LeadTo is_change noted (temp_at b m) notes (temp_at b (peer_changes a change m).machine))
         (sym (other_note b other (peer_at a m) refl)) (ap temp_of (sym (turns_at-elsewhere a change m same b other)))
