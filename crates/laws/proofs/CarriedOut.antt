@@ -12,7 +12,7 @@ use Rattle.laws.proofs.Due.{promote-move, activate-move}
 use Rattle.laws.proofs.Entries.{TurnsInto, turned-connections, turned-orderly, one_has_id, has_own_id}
 use Rattle.laws.proofs.Failures.{changed-found, vanishes-failed}
 use Rattle.laws.proofs.Finds.{find-set_here, find-set_gone}
-use Rattle.laws.proofs.Lists.{StandsAt, OnePasses, FoundIn, stands-set, find_some, find_only, find_none}
+use Rattle.laws.proofs.Lists.{StandsAt, OnePasses, FoundIn, stands-set, find_some, find_only, find_none, not_below}
 use Rattle.laws.proofs.Walk.{says_done-machine, Finds}
 use Rattle.laws.proofs.Orders.{unused_at}
 use Rattle.laws.proofs.Silent.{pauses-deaf, part-silent, asks-silent}
@@ -186,9 +186,6 @@ notice-pauses false length = refl
 
 is_below : (n : ℕ) → nat_lt n (n + 1) ≡ true
 is_below n = grind arith
-
-not_below : (n : ℕ) → nat_lt n n ≡ false
-not_below n = grind arith
 
 admitted-pauses : (addr : Addr) (m : Machine) → pauses_in (admitted addr m).actions ≡ pauses_due m (admitted addr m).machine
 admitted-pauses addr m =

@@ -52,16 +52,13 @@ phase_late_of now e = count_by (is_late now) (phase_deadlines e.facts.cid e.fact
 abbrev pub owed_late : ℕ → Cid → List Owed → ℕ
 owed_late now cid owed = count_by (is_late now) (map (reply_deadline cid) owed)
 
-pub late-parts : (now : ℕ) (e : Entry) → late_of now e ≡ phase_late_of now e + grace_late_of now e + owed_late now e.facts.cid e.owed
-late-parts = late_of-parts
-
 -- none is late more than before, where that is so of each part
 pub late-fewer : (now : ℕ) (old new : Entry) → phase_late_of now new ≤ phase_late_of now old →
     grace_late_of now new ≤ grace_late_of now old → owed_late now new.facts.cid new.owed ≤ owed_late now old.facts.cid old.owed →
     late_of now new ≤ late_of now old
 late-fewer now old new phase grace owed =
-    let after = late-parts now new in
-    let before = late-parts now old in
+    let after = late_of-parts now new in
+    let before = late_of-parts now old in
     omega (arith, after, before)
 
 pub ahead : (now wait : ℕ) → 1 ≤ wait → nat_le (now + wait) now ≡ false

@@ -1,7 +1,7 @@
 -- An order at one address lowers what is counted by one at most, and leaves other addresses as they were.
 use Rattle.std.proofs.Common.{ℕ, ◌+◌, ◌≤◌, ◌≡◌, Bool, true, false, cond, not, ◌&&◌, ◌||◌, nat_le, List, [], ◌∷◌, filter, find, count_by, Some, refl, sym, ap, ◌∙◌, subst, arith}
 use Rattle.laws.proofs.Words.{cond_both, and_parts, sum_by-cons}
-use Rattle.laws.specs.Words.{list_any, AllByRecursion, unwrap_or, choice_of, released, has_id, is_live, is_live_at, same_address, Pruned, Addr, Cid, Peer, Cold, Warm, has_address, is_of, known_of, with_peer, without_peer, with_entry, without_entry, entry_turns, is_missed, ending, candidates_in, trim, release, nothing_more, then_do, on_entry, on_connection, is_used_at, on_used, asks_peer, deactivates, Machine, Entry, counted_in, entry_at, peer_at, turns_at, peer_changes, peer_becomes, owing}
+use Rattle.laws.specs.Words.{list_any, AllByRecursion, unwrap_or, choice_of, released, has_id, is_live_at, same_address, Pruned, Addr, Cid, Peer, Cold, Warm, has_address, is_of, known_of, with_peer, without_peer, with_entry, without_entry, entry_turns, is_missed, ending, candidates_in, trim, release, nothing_more, then_do, on_entry, on_connection, is_used_at, on_used, asks_peer, deactivates, Machine, Entry, counted_in, entry_at, peer_at, turns_at, peer_changes, peer_becomes, owing}
 use Rattle.peer_book.specs.Book.{peer_at as peer_in}
 use Rattle.laws.specs.AtMoves.{some_connection}
 use Rattle.laws.specs.Steady.{IsShaped, ArePeersApart, IsOrdered}
@@ -12,7 +12,7 @@ use Rattle.laws.proofs.Entries.{TurnsInto, turned-orderly}
 use Rattle.laws.proofs.Lists.{StandsAt, FoundIn, find_some, All-stands}
 use Rattle.laws.proofs.Walk.{says_done-machine}
 use Rattle.laws.proofs.Shapes.{local-negotiated}
-use Rattle.laws.proofs.Spending.{IsSameBut, AreSameBut, all_same, with_peer-same_but, one-most, ChangesAt, turned-same}
+use Rattle.laws.proofs.Spending.{IsSameBut, AreSameBut, all_same, with_peer-same_but, one-most, ChangesAt, turned-same, used-here}
 use Rattle.laws.proofs.ToldMoves.{turns_at-connections}
 use Rattle.laws.proofs.Trims.{lost-connections}
 use Rattle.laws.proofs.Cases.{by_bool, by_option}
@@ -113,13 +113,6 @@ changed-changes a change m n h same apart addr class = by_option (peer_at a n) (
 
 nothing-changes : (a : Addr) (m : Machine) → ChangesAt a m m
 nothing-changes a m = record { peers = all_same a m.peers; connections = λ test b other. refl }
-
--- what stands in use of an address has it
-used-here : (a : Addr) (m : Machine) (e : Entry) → find (is_used_at a) m.connections ≡ Some e → e.facts.addr ≡ a
-used-here a m e is =
-    let at : FoundIn (is_used_at a) m.connections e = find_some (is_used_at a) m.connections e is in
-    let lives = and_parts (is_live_at a e.facts) e.facts.local at.passes in
-    same_address-true e.facts.addr a (and_parts (same_address e.facts.addr a) (is_live e.facts) lives.0).0
 
 pub ask-changes : (a : Addr) (k : ℕ) (m : Machine) → IsOrdered m → ChangesAt a m (on_used a (asks_peer k) m).machine
 ask-changes a k m h = by_option (find (is_used_at a) m.connections) (λ o. ChangesAt a m (on_entry o (asks_peer k) m).machine)

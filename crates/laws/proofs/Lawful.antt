@@ -13,7 +13,7 @@ use Rattle.laws.specs.InActions.{Given, ended_by, promoted_by_dial}
 use Rattle.laws.proofs.Entries.{TurnsInto, one_has_id, has_own_id, with_new}
 use Rattle.laws.proofs.Failures.{ending-failed}
 use Rattle.laws.proofs.Keeping.{note-machine}
-use Rattle.laws.proofs.Lists.{StandsAt, find_only, all-appended}
+use Rattle.laws.proofs.Lists.{StandsAt, find_only, all-appended, not_below}
 use Rattle.laws.proofs.Owing.{with_reply-some}
 use Rattle.laws.proofs.PeersApart.{same_turned}
 use Rattle.laws.proofs.Rises.{Rises, rises_then, rises_move, rises_said, StaysDown, is_hot, NoneConnected, hot_or_asked-down, rises_nowhere, rises_none, same-connected, connected_then, IsNoHigher, turned-down, turned-connected, gone-connected, come-down, IsCooling, changed-hot, changed-known, entered-hot, entered-known}
@@ -314,15 +314,12 @@ as_move-obeys Law happened m effect none law accounted =
     record { lawful = subst (AllByRecursion Law) (sym moves) (law, tt); accounted = accounted }
 
 -- a promotion that gives out no id is no dial
-not_lower : (n : ℕ) → nat_lt n n ≡ false
-not_lower n = grind arith
-
 reuse-told : (a : Addr) (m : Machine) (effect : Effect) → effect.machine.next_id ≡ m.next_id → IsTold m effect → IsTold m (as_move (promoted a) m effect)
 reuse-told a m effect same h =
     let dial : Given = record { cid = m.next_id; addr = a } in
     told_move (promoted a) m effect refl (subst (λ next. promoted_by_dial (promoted a) m.next_id next ≡ []) (sym same) (by_bool (nat_lt m.next_id m.next_id)
     (λ b. b ≡ false → (if b then dial ∷ [] else []) ≡ [])
-    (λ here is. absurd (false≢true (sym is))) (λ here is. refl) (not_lower m.next_id))) h
+    (λ here is. absurd (false≢true (sym is))) (λ here is. refl) (not_below m.next_id))) h
 
 -- a connection that stood comes into use, as a promotion of its address
 pub promoted-obeys : (Law : Move → Type 0) (f : Facts) (m : Machine) (e : Entry) (k : ℕ) (a : Addr) → IsOrderly m → StandsAt m.connections k e → f.cid ≡ e.facts.cid → f.addr ≡ e.facts.addr →

@@ -1,8 +1,12 @@
 -- One element of a list: what is found, what takes its place, and the list without it.
-use Rattle.std.proofs.Common.{ℕ, zero, suc, ◌+◌, ◌<◌, ◌≤◌, ◌≡◌, Bool, true, false, cond, not, List, [], ◌∷◌, ◌++◌, length, map, filter, find, set, remove, get_or, Some, None, All, AllPairs, sum_by, count_by, flat_map, if◌then◌else◌, refl, sym, ap, ◌∙◌, subst, arith}
+use Rattle.std.proofs.Common.{nat_lt, ℕ, zero, suc, ◌+◌, ◌<◌, ◌≤◌, ◌≡◌, Bool, true, false, cond, not, List, [], ◌∷◌, ◌++◌, length, map, filter, find, set, remove, get_or, Some, None, All, AllPairs, sum_by, count_by, flat_map, if◌then◌else◌, refl, sym, ap, ◌∙◌, subst, arith}
 use Rattle.laws.proofs.Words.{false_from_ne_true, both_ways, or_left, or_right, All-head, All-tail, All-cons, All-nil, All-set, All-weaker, AllPairs-cons, sum_by-cons, sum_by-append, sum_by-set, sum_by-remove, get_or-le-sum_by}
 use Rattle.laws.specs.Words.{AllByRecursion, list_any}
 use Rattle.laws.proofs.Cases.{by_bool}
+
+-- no number is below itself
+pub not_below : (n : ℕ) → nat_lt n n ≡ false
+not_below n = grind arith
 
 pub AllPairs-tail : {X : Type 0} (R : X → X → Type 0) (x : X) (xs : List X) → AllPairs R (x ∷ xs) → AllPairs R xs
 AllPairs-tail R x xs h i j d l k = h (suc i) (suc j) d (omega arith) (omega arith)

@@ -1,17 +1,17 @@
 -- A connection that stands open stays so or ends once, in each part of an event.
 use Rattle.std.proofs.Common.{ℕ, ◌+◌, ◌≤◌, ◌≡◌, Bool, true, false, ◌||◌, ◌==◌, nat_lt, if◌then◌else◌, cond, flat_map, List, [], ◌∷◌, ◌++◌, find, Option, Some, None, refl, sym, ap, ◌∙◌, subst, inl, inr, arith, eqb-true, eq-eqb}
 use Rattle.laws.proofs.Words.{both_ways, false≢true, or_left, or_right, list_any-append, find-append}
-use Rattle.laws.specs.Words.{list_any, option_map, option_or, dialing, accepted, has_id, is_live, live_phase, Send, CloseCause, Phase, Closing, entry_goes, with_entry, without_entry, entry_turns, lost_by, ending, vanishes, closing_entry, dial, Effect, Happened, Move, ended, unused, nothing_more, tells, then_do, as_move, turned_away, admitted, Machine, Entry, fresh_entry, entry_at, peer_changes, peer_goes, peer_at, peer_comes}
+use Rattle.laws.specs.Words.{list_any, option_map, option_or, dialing, accepted, has_id, is_live, Send, CloseCause, entry_goes, with_entry, without_entry, entry_turns, lost_by, ending, vanishes, closing_entry, dial, Effect, Happened, Move, ended, unused, nothing_more, tells, then_do, as_move, turned_away, admitted, Machine, Entry, fresh_entry, entry_at, peer_changes, peer_goes, peer_at, peer_comes}
 use Rattle.laws.specs.Acts.{Act, does}
 use Rattle.laws.specs.AtMoves.{ends, is_ended_in}
 use Rattle.laws.specs.OpenEnds.{is_open_entry, is_open_at, goes_by_itself, IsOpenEnd, OpenEndsOnce}
 use Rattle.laws.specs.Parts.{IsNext}
-use Rattle.laws.specs.Stages.{stage_of_phase, stage_of, stage_at, causes_by, causes_in, IsOneEnd, IsLateCause}
+use Rattle.laws.specs.Stages.{stage_of, stage_at, causes_by, causes_in, IsOneEnd, IsLateCause}
 use Rattle.laws.specs.Telling.{IsTold}
 use Rattle.laws.specs.InActions.{ended_by, ends_in}
 use Rattle.laws.proofs.Walk.{Finds, Scope, turned_by, turned-cid, turned-live, shuts, Kept, scope_of, walk}
 use Rattle.laws.proofs.Moments.{turned-found}
-use Rattle.laws.proofs.Lawful.{comes-machine, lost_by-quiet, lost-quiet}
+use Rattle.laws.proofs.Lawful.{comes-machine, lost_by-quiet, lost-quiet, live_stage}
 use Rattle.laws.proofs.Telling.{ended-over}
 use Rattle.laws.proofs.ToldMoves.{turns_at-connections}
 use Rattle.laws.proofs.Waits.{replaced, gone-found}
@@ -179,11 +179,7 @@ uncaused cid (move ∷ moves) h = by_happened move.happened h (uncaused cid move
 
 live-stage : (o : Option Entry) (given : Bool) → is_open_entry o ≡ true → stage_of o given ≤ 3
 live-stage None given h = absurd (false≢true h)
-live-stage (Some e) given h = by_phase e.facts.phase h
-  where
-    by_phase : (p : Phase) → live_phase p ≡ true → stage_of_phase p ≤ 3
-    by_phase (Closing until) h = absurd (false≢true h)
-    by_phase other h = omega arith
+live-stage (Some e) given h = live_stage e.facts.phase h
 
 -- whatever stood stays so, goes by itself, or has one end, for a late cause where its handshake was done
 pub ended_once : (cid : ℕ) (m : Machine) (effect : Effect) (stays itself : Bool) (law : List CloseCause → Type 0) → IsTold m effect →

@@ -1,11 +1,11 @@
 -- Picks are of the candidates, and no address is picked twice.
-use Rattle.std.proofs.Common.{ℕ, zero, suc, ◌≡◌, Bool, true, false, cond, ◌&&◌, ◌==◌, nat_lt, List, [], ◌∷◌, map, filter, Some, refl, sym, ap, ◌∙◌, subst, arith}
+use Rattle.std.proofs.Common.{ℕ, zero, suc, ◌≡◌, Bool, true, false, cond, ◌&&◌, ◌==◌, nat_lt, List, [], ◌∷◌, map, filter, Some, refl, sym, ap, ◌∙◌, subst}
 use Rattle.laws.proofs.Words.{both_ways, false_from_ne_true, and_right, or_from}
 use Rattle.laws.specs.Words.{AllByRecursion, best_of, address_below, ip_below, same_ip, same_address, Ip, V4, V6, Addr, Peer, least_by, pair_below, score_of, ranked_score_of, scores_below, rates_below, Rated, rated_of, picks_of, addresses_of}
 use Rattle.peer_book.specs.Book.{peer_at}
 use Rattle.laws.specs.Steady.{ArePeersApart, AreApart}
 use Rattle.laws.proofs.Addresses.{same_address-true}
-use Rattle.laws.proofs.Lists.{all-weaker, filter-all}
+use Rattle.laws.proofs.Lists.{all-weaker, filter-all, not_below}
 use Rattle.laws.proofs.PeersApart.{all-found}
 use Rattle.laws.proofs.Cases.{by_bool, some_same}
 
@@ -48,19 +48,16 @@ least-rises below (suc k) (x ∷ xs) =
 
 -- ---- no address is below itself
 
-lt-self : (n : ℕ) → nat_lt n n ≡ false
-lt-self n = grind arith
-
 ip_below-self : (ip : Ip) → ip_below ip ip ≡ false
-ip_below-self (V4 n) = lt-self n
-ip_below-self (V6 n) = lt-self n
+ip_below-self (V4 n) = not_below n
+ip_below-self (V6 n) = not_below n
 
 address_below-self : (a : Addr) → address_below a a ≡ false
 address_below-self a = or_from (ip_below a.ip a.ip) (same_ip a.ip a.ip && nat_lt a.port a.port) (ip_below-self a.ip)
-    (and_right (same_ip a.ip a.ip) (nat_lt a.port a.port) (lt-self a.port))
+    (and_right (same_ip a.ip a.ip) (nat_lt a.port a.port) (not_below a.port))
 
 pair_below-self : (n : ℕ) (a : Addr) → pair_below n a n a ≡ false
-pair_below-self n a = or_from (nat_lt n n) (n == n && address_below a a) (lt-self n)
+pair_below-self n a = or_from (nat_lt n n) (n == n && address_below a a) (not_below n)
     (and_right (n == n) (address_below a a) (address_below-self a))
 
 -- ---- picks of ordinary peers

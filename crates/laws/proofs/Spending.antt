@@ -235,15 +235,20 @@ promote-changes addr m h = by_live (live_entry_at addr m) refl
 
 -- ---- an activation
 
+-- what stands in use of an address has it
+pub used-here : (a : Addr) (m : Machine) (e : Entry) → find (is_used_at a) m.connections ≡ Some e → e.facts.addr ≡ a
+used-here a m e is =
+    let at : FoundIn (is_used_at a) m.connections e = find_some (is_used_at a) m.connections e is in
+    let lives = and_parts (is_live_at a e.facts) e.facts.local at.passes in
+    same_address-true e.facts.addr a (and_parts (same_address e.facts.addr a) (is_live e.facts) lives.0).0
+
 pub activate-changes : (addr : Addr) (m : Machine) → IsOrdered m → ChangesAt addr m (activate addr m).machine
 activate-changes addr m h = by_option (find (is_used_at addr) m.connections) (λ o. ChangesAt addr m (on_entry o activates m).machine)
     (λ is. record { peers = all_same addr m.peers; connections = λ test b other. refl })
     (λ e is.
     let at : FoundIn (is_used_at addr) m.connections e = find_some (is_used_at addr) m.connections e is in
-    let lives = and_parts (same_address e.facts.addr addr) (is_live e.facts) (and_parts (is_live_at addr e.facts) e.facts.local at.passes).0 in
-    let here : e.facts.addr ≡ addr = same_address-true e.facts.addr addr lives.0 in
     record {
       peers = all_same addr m.peers;
       connections = λ test b other. turned-same m e (owing 2 0 m e) at.place h at.stands (record { same_id = refl; same_addr = refl; live = λ l. l }) test b
-          (subst (λ a. same_address b a ≡ false) (sym here) other);
+          (subst (λ a. same_address b a ≡ false) (sym (used-here addr m e is)) other);
     })

@@ -6,6 +6,7 @@ use Rattle.laws.specs.CarriedOut.{IsUnset}
 use Rattle.laws.specs.Untouched.{IsAsItWas, KeepsBytes}
 use Rattle.laws.specs.Waits.{until_paid, until_of, until_in, until_at, length_of, IsWait}
 use Rattle.laws.proofs.Walk.{Scope}
+use Rattle.laws.proofs.Lists.{not_below}
 use Rattle.laws.proofs.Cases.{by_bool}
 
 -- ---- one wait
@@ -208,9 +209,6 @@ waits_come scope m new id right = record {
 -- ---- what is owed
 
 -- a reply comes to be owed
-not_below : (n : ℕ) → nat_lt n n ≡ false
-not_below n = grind arith
-
 pub owing-until : (p protocol asked : ℕ) (m : Machine) (e : Entry) →
     until_paid (reply_on p (owing protocol asked m e)) ≡ (if protocol == p then Some (m.now + m.settings.reply) else until_paid (reply_on p e))
 owing-until p protocol asked m e = ap until_paid found ∙ by_tests (protocol == p) refl (nat_lt p protocol) refl (nat_lt protocol p) refl was
