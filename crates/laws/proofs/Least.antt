@@ -69,8 +69,10 @@ least-first (x ∷ xs) d e = by_least (least xs) (least-first xs) refl e
     by_least (Some y) later is same =
         subst (λ w. AllByRecursion (λ z. deadline_before z w ≡ false) (x ∷ xs)) (let s : earlier x (Some y) ≡ d = cc in s) (by_bool (deadline_before y x)
         (λ b. AllByRecursion (λ z. deadline_before z (if b then y else x) ≡ false) (x ∷ xs))
-        (λ before. (before_other y x before, later y refl)) (λ after. (before_itself x,
-        all-weaker (λ z. deadline_before z y ≡ false) (λ z. deadline_before z x ≡ false) (λ z before. not_before z y x before after) xs (later y refl))))
+        (λ before. (before_other y x before, later y refl)) (λ after. (
+          before_itself x,
+          all-weaker (λ z. deadline_before z y ≡ false) (λ z. deadline_before z x ≡ false) (λ z before. not_before z y x before after) xs (later y refl),
+        )))
 
 -- one that is not due yet is not before one that is
 later : (now : ℕ) (x d : Deadline) → d.at ≤ now → nat_le x.at now ≡ false → deadline_before x d ≡ false
