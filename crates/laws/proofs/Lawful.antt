@@ -6,6 +6,7 @@ use Rattle.laws.specs.Words.{AllByRecursion, same_address, Action, CloseCause, U
 use Rattle.peer_book.specs.Book.{peer_at as peer_in}
 use Rattle.warm_messages.specs.declared.alive.Alive.TheVariants.{Ask}
 use Rattle.laws.specs.AtMoves.{OutOfBackOff, WithinTargets, IsPrunedRightly, is_failure, FailsWhere, OnEntry, ForCause, IsLawful, is_up_connection, is_up, is_hot_peer, is_asked_connection, is_hot_or_asked, is_known, promotes, activates, shares}
+use Rattle.laws.specs.Parts.{RisesBy}
 use Rattle.laws.specs.Sound.{IsOrderly}
 use Rattle.laws.specs.Stages.{stage_of_phase, stage_of, stage_at, stage_ended, IsLateCause}
 use Rattle.laws.specs.Telling.{IsTold}
@@ -16,7 +17,7 @@ use Rattle.laws.proofs.Keeping.{note-machine}
 use Rattle.laws.proofs.Lists.{StandsAt, find_only, all-appended, not_below}
 use Rattle.laws.proofs.Owing.{with_reply-some}
 use Rattle.laws.proofs.PeersApart.{same_turned}
-use Rattle.laws.proofs.Rises.{Rises, rises_then, rises_move, rises_said, StaysDown, is_hot, NoneConnected, hot_or_asked-down, rises_nowhere, rises_none, same-connected, connected_then, IsNoHigher, turned-down, turned-connected, gone-connected, come-down, IsCooling, changed-hot, changed-known, entered-hot, entered-known}
+use Rattle.laws.proofs.Rises.{rises_by_then, rises_by_move, rises_said, StaysDown, is_hot, NoneConnected, hot_or_asked-down, rises_nowhere, same-connected, connected_then, IsNoHigher, turned-down, turned-connected, gone-connected, come-down, IsCooling, changed-hot, changed-known, entered-hot, entered-known}
 use Rattle.laws.proofs.Telling.{are_mute, mute, told_unchanged, told_then, told_move}
 use Rattle.laws.proofs.Ties.{turned_elsewhere}
 use Rattle.laws.proofs.ToldMoves.{turned-told, goes-told, goes-stage, ended-told, changes-told, turns_at-next, peer_comes-told, turns_at-moves, turns_at-connections}
@@ -25,12 +26,16 @@ use Rattle.laws.proofs.Cases.{by_bool}
 -- ---- nobody comes up without a move
 
 pub record Accounts (before : Machine) (effect : Effect) : Type 0 where
-  pub rises : Rises before effect
+  pub promotions : RisesBy is_up promotes before effect
+  pub activations : RisesBy is_hot_or_asked activates before effect
+  pub arrivals : RisesBy is_known shares before effect
   pub told : IsTold before effect
 
 pub accounts_then : (m : Machine) (first : Effect) (next : Machine → Effect) → Accounts m first → Accounts first.machine (next first.machine) → Accounts m (then_do first next)
 accounts_then m first next one two = record {
-  rises = rises_then m first next one.rises two.rises;
+  promotions = rises_by_then is_up promotes m first next one.promotions two.promotions;
+  activations = rises_by_then is_hot_or_asked activates m first next one.activations two.activations;
+  arrivals = rises_by_then is_known shares m first next one.arrivals two.arrivals;
   told = told_then m first next one.told two.told;
 }
 
@@ -38,38 +43,44 @@ accounts_then m first next one two = record {
 pub accounts_move : (happened : Happened) (m : Machine) (effect : Effect) → ended_by happened ≡ [] → promoted_by_dial happened m.next_id effect.machine.next_id ≡ [] →
     Accounts m effect → Accounts m (as_move happened m effect)
 accounts_move happened m effect no_end no_dial h = record {
-  rises = rises_move happened m effect h.rises;
+  promotions = rises_by_move is_up promotes happened m effect h.promotions;
+  activations = rises_by_move is_hot_or_asked activates happened m effect h.activations;
+  arrivals = rises_by_move is_known shares happened m effect h.arrivals;
   told = told_move happened m effect no_end no_dial h.told;
+}
+
+-- nobody comes up
+accounts_none : (m : Machine) (effect : Effect) → NoneConnected m effect.machine → StaysDown is_hot m effect.machine → StaysDown is_known m effect.machine →
+    IsTold m effect → Accounts m effect
+accounts_none m effect connected hot known told = record {
+  promotions = rises_nowhere is_up promotes m effect connected.up;
+  activations = rises_nowhere is_hot_or_asked activates m effect (hot_or_asked-down m effect.machine hot connected.asked);
+  arrivals = rises_nowhere is_known shares m effect known;
+  told = told;
 }
 
 -- a connection turns
 pub accounts_turned : (m : Machine) (e new : Entry) (k : ℕ) (effect : Effect) → IsOrderly m → StandsAt m.connections k e → TurnsInto e new → IsNoHigher e new →
     effect.machine ≡ with_entry new m → IsTold m effect → Accounts m effect
-accounts_turned m e new k effect h s t lower same told = record {
-  rises = rises_none m effect (subst (NoneConnected m) (sym same) (turned-connected m e new k h s t lower))
-      (subst (StaysDown is_hot m) (sym same) (λ addr hot. hot)) (subst (StaysDown is_known m) (sym same) (λ addr known. known));
-  told = told;
-}
+accounts_turned m e new k effect h s t lower same told =
+    accounts_none m effect (subst (NoneConnected m) (sym same) (turned-connected m e new k h s t lower))
+    (subst (StaysDown is_hot m) (sym same) (λ addr hot. hot)) (subst (StaysDown is_known m) (sym same) (λ addr known. known)) told
 
 -- a connection goes, and nobody comes up by what follows
 pub accounts_gone : (m : Machine) (e : Entry) (k : ℕ) (effect : Effect) → IsOrderly m → StandsAt m.connections k e →
     effect.machine.connections ≡ (without_entry e.facts.cid.0 m).connections → StaysDown is_hot m effect.machine → StaysDown is_known m effect.machine →
     IsTold m effect → Accounts m effect
-accounts_gone m e k effect h s same hot known told = record {
-  rises = rises_none m effect (connected_then m (without_entry e.facts.cid.0 m) effect.machine (gone-connected m e k h s)
-      (same-connected (without_entry e.facts.cid.0 m) effect.machine same)) hot known;
-  told = told;
-}
+accounts_gone m e k effect h s same hot known told =
+    accounts_none m effect (connected_then m (without_entry e.facts.cid.0 m) effect.machine (gone-connected m e k h s)
+    (same-connected (without_entry e.facts.cid.0 m) effect.machine same)) hot known told
 
 -- a connection comes that is neither up nor asked
 pub accounts_come : (m : Machine) (new : Entry) (effect : Effect) → is_up_connection (Some new) ≡ false → is_asked_connection (Some new) ≡ false →
     effect.machine ≡ with_new new m → IsTold m effect → Accounts m effect
-accounts_come m new effect up asked same told = record {
-  rises = rises_none m effect
-      (subst (NoneConnected m) (sym same) (record { up = come-down is_up_connection refl m new up; asked = come-down is_asked_connection refl m new asked }))
-      (subst (StaysDown is_hot m) (sym same) (λ addr hot. hot)) (subst (StaysDown is_known m) (sym same) (λ addr known. known));
-  told = told;
-}
+accounts_come m new effect up asked same told =
+    accounts_none m effect
+    (subst (NoneConnected m) (sym same) (record { up = come-down is_up_connection refl m new up; asked = come-down is_asked_connection refl m new asked }))
+    (subst (StaysDown is_hot m) (sym same) (λ addr hot. hot)) (subst (StaysDown is_known m) (sym same) (λ addr known. known)) told
 
 -- ---- each move keeps a law
 
@@ -93,10 +104,7 @@ pub record IsQuiet (before : Machine) (effect : Effect) : Type 0 where
   pub told : IsTold before effect
 
 quiet-accounts : (m : Machine) (effect : Effect) → IsQuiet m effect → Accounts m effect
-quiet-accounts m effect q = record {
-  rises = rises_none m effect (same-connected m effect.machine q.connections) q.hot q.known;
-  told = q.told;
-}
+quiet-accounts m effect q = accounts_none m effect (same-connected m effect.machine q.connections) q.hot q.known q.told
 
 pub quiet-lawful : (Law : Move → Type 0) (effect : Effect) → effect.moves ≡ [] → AllByRecursion Law effect.moves
 quiet-lawful Law effect none = subst (AllByRecursion Law) (sym none) tt
@@ -181,12 +189,10 @@ shared-accounts big addr m =
     let provides : IsProviding m effect = comes-providing big addr m in
     let connected : NoneConnected m effect.machine = same-connected m effect.machine provides.connections in
     record {
-      rises = record {
-        promotions = rises_nowhere is_up promotes m (as_move (shared addr) m effect) connected.up;
-        activations = rises_nowhere is_hot_or_asked activates m (as_move (shared addr) m effect) (hot_or_asked-down m effect.machine provides.hot connected.asked);
-        arrivals = rises_said is_known shares (shared addr) m effect
-            (λ b other known. entered-known big addr b m other (subst (λ n. is_known b n ≡ true) (comes-machine big addr m) known));
-      };
+      promotions = rises_nowhere is_up promotes m (as_move (shared addr) m effect) connected.up;
+      activations = rises_nowhere is_hot_or_asked activates m (as_move (shared addr) m effect) (hot_or_asked-down m effect.machine provides.hot connected.asked);
+      arrivals = rises_said is_known shares (shared addr) m effect
+          (λ b other known. entered-known big addr b m other (subst (λ n. is_known b n ≡ true) (comes-machine big addr m) known));
       told = told_move (shared addr) m effect refl refl provides.told;
     }
 
@@ -334,15 +340,13 @@ promoted-obeys Law f m e k a h s cid addr here live negotiated law =
     let turns : TurnsInto e new = record { same_id = cid; same_addr = addr; live = λ l. live } in
     let after : NoneConnected n effect.machine = same-connected n effect.machine quiet.connections in
     as_move-obeys Law (promoted a) m effect quiet.moves law (record {
-      rises = record {
-        promotions = rises_said is_up promotes (promoted a) m effect
-            (λ b other up. ap is_up_connection (sym (turned_elsewhere m e new k h s turns b
-            (same_turned e.facts.addr b (subst (λ x. same_address x b ≡ false) (sym here) other)))) ∙ after.up b up);
-        activations = rises_nowhere is_hot_or_asked activates m (as_move (promoted a) m effect)
-            (hot_or_asked-down m effect.machine quiet.hot
-            (λ b asked. turned-down is_asked_connection refl m e new k h s turns (asked-before m e f) b (after.asked b asked)));
-        arrivals = rises_nowhere is_known shares m (as_move (promoted a) m effect) quiet.known;
-      };
+      promotions = rises_said is_up promotes (promoted a) m effect
+          (λ b other up. ap is_up_connection (sym (turned_elsewhere m e new k h s turns b
+          (same_turned e.facts.addr b (subst (λ x. same_address x b ≡ false) (sym here) other)))) ∙ after.up b up);
+      activations = rises_nowhere is_hot_or_asked activates m (as_move (promoted a) m effect)
+          (hot_or_asked-down m effect.machine quiet.hot
+          (λ b asked. turned-down is_asked_connection refl m e new k h s turns (asked-before m e f) b (after.asked b asked)));
+      arrivals = rises_nowhere is_known shares m (as_move (promoted a) m effect) quiet.known;
       told = reuse-told a m effect (turns_at-next (peer_at f.addr n) (λ p. record p { temp = Warm; failures = 0 }) n)
           (told_then m (entry_turns e new m) next (turned-told m e new k h s turns (negotiated-forward e.facts.phase f.phase live negotiated)) quiet.told);
     })

@@ -164,14 +164,12 @@ activates-accounts addr m e k u =
     let request : Effect = sends_as_initiator e.facts.cid 2 find_intersect m in
     let turns : TurnsInto e new = record { same_id = refl; same_addr = refl; live = λ l. l } in
     record {
-      rises = record {
-        promotions = rises_nowhere is_up promotes m (as_move (activated addr) m effect)
-            (turned-down is_up_connection refl m e new k u.ordered.orderly u.stands turns (λ up. up));
-        activations = rises_said is_hot_or_asked activation (activated addr) m effect
-            (λ b other h. subst (λ o. (is_hot_peer (peer_at b m) || is_asked_connection o) ≡ true)
-            (turned_elsewhere m e new k u.ordered.orderly u.stands turns b (same_turned e.facts.addr b (subst (λ x. same_address x b ≡ false) (sym u.here) other))) h);
-        arrivals = rises_nowhere is_known shares m (as_move (activated addr) m effect) (λ b known. known);
-      };
+      promotions = rises_nowhere is_up promotes m (as_move (activated addr) m effect)
+          (turned-down is_up_connection refl m e new k u.ordered.orderly u.stands turns (λ up. up));
+      activations = rises_said is_hot_or_asked activation (activated addr) m effect
+          (λ b other h. subst (λ o. (is_hot_peer (peer_at b m) || is_asked_connection o) ≡ true)
+          (turned_elsewhere m e new k u.ordered.orderly u.stands turns b (same_turned e.facts.addr b (subst (λ x. same_address x b ≡ false) (sym u.here) other))) h);
+      arrivals = rises_nowhere is_known shares m (as_move (activated addr) m effect) (λ b known. known);
       told = told_move (activated addr) m effect refl refl
           (told_then m request (λ n. entry_turns e (owing 2 0 n e) n) (tells-quiet request.actions m refl).told
           (turned-told m e new k u.ordered.orderly u.stands turns (omega arith)));

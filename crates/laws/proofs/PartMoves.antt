@@ -134,9 +134,9 @@ tells_then event m first next one two = record {
 pub accounted-part : (event : Event) (m : Machine) (effect : Effect) → Accounts m effect → Tells event m effect
 accounted-part event m effect h = record {
   told = h.told;
-  promotions = h.rises.promotions;
-  activations = h.rises.activations;
-  arrivals = λ addr known. or_left (is_known addr m || is_shared_in addr effect.moves) (is_provided_by addr event) (h.rises.arrivals addr known);
+  promotions = h.promotions;
+  activations = h.activations;
+  arrivals = λ addr known. or_left (is_known addr m || is_shared_in addr effect.moves) (is_provided_by addr event) (h.arrivals addr known);
 }
 
 -- it provides only whom the event names

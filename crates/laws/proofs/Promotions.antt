@@ -86,13 +86,11 @@ dial-accounts addr m h =
     let new : Entry = fresh_entry (dialing m.next_id addr) in
     let effect : Effect = dial addr m in
     record {
-      rises = record {
-        promotions = rises_said is_up promotes (promoted addr) m effect
-            (λ b other up. ap is_up_connection (sym (dial-elsewhere addr b m (same_turned addr b other))) ∙ up);
-        activations = rises_nowhere is_hot_or_asked activates m (as_move (promoted addr) m effect)
-            (hot_or_asked-down m effect.machine (λ b hot. hot) (come-down is_asked_connection refl m new refl));
-        arrivals = rises_nowhere is_known shares m (as_move (promoted addr) m effect) (λ b known. known);
-      };
+      promotions = rises_said is_up promotes (promoted addr) m effect
+          (λ b other up. ap is_up_connection (sym (dial-elsewhere addr b m (same_turned addr b other))) ∙ up);
+      activations = rises_nowhere is_hot_or_asked activates m (as_move (promoted addr) m effect)
+          (hot_or_asked-down m effect.machine (λ b hot. hot) (come-down is_asked_connection refl m new refl));
+      arrivals = rises_nowhere is_known shares m (as_move (promoted addr) m effect) (λ b known. known);
       told = dials-told m new addr h.orderly refl refl;
     }
 

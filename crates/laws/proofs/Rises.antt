@@ -3,7 +3,7 @@ use Rattle.std.proofs.Common.{ℕ, ◌≡◌, Bool, true, false, cond, ◌||◌,
 use Rattle.laws.proofs.Words.{both_ways, false≢true, or_left, or_right, list_any-append}
 use Rattle.laws.specs.Words.{option_map, list_any, same_address, Addr, Peer, is_live, is_live_at, without_peer, new_peer, entered, Machine, Entry, live_entry_at, Effect, Happened, Move, then_do, as_move, peer_at, peer_changes, with_entry, without_entry}
 use Rattle.peer_book.specs.Book.{peer_at as peer_in, with_new as with_new_in}
-use Rattle.laws.specs.AtMoves.{is_up_connection, is_up, is_hot_peer, is_asked_connection, is_hot_or_asked, is_known, promotes, activates, shares}
+use Rattle.laws.specs.AtMoves.{is_up_connection, is_up, is_hot_peer, is_asked_connection, is_hot_or_asked, is_known}
 use Rattle.laws.specs.Parts.{RisesBy}
 use Rattle.laws.specs.Sound.{IsOrderly}
 use Rattle.laws.proofs.Addresses.{same_address-true}
@@ -15,11 +15,6 @@ use Rattle.laws.proofs.Ties.{live_here, turned_here, turned_elsewhere, turned_de
 use Rattle.laws.proofs.Cases.{by_bool, by_option}
 
 -- ---- a move says so
-
-pub record Rises (before : Machine) (effect : Effect) : Type 0 where
-  pub promotions : RisesBy is_up promotes before effect
-  pub activations : RisesBy is_hot_or_asked activates before effect
-  pub arrivals : RisesBy is_known shares before effect
 
 pub rises_by_then : (is : Addr → Machine → Bool) (says : Addr → Happened → Bool) (m : Machine) (first : Effect) (next : Machine → Effect) → RisesBy is says m first →
     RisesBy is says first.machine (next first.machine) → RisesBy is says m (then_do first next)
@@ -41,26 +36,12 @@ more true b c is = refl
 more false b c is = or_left b c is
 
 -- more moves say more
-rises_by_move : (is : Addr → Machine → Bool) (says : Addr → Happened → Bool) (happened : Happened) (m : Machine) (effect : Effect) → RisesBy is says m effect →
+pub rises_by_move : (is : Addr → Machine → Bool) (says : Addr → Happened → Bool) (happened : Happened) (m : Machine) (effect : Effect) → RisesBy is says m effect →
     RisesBy is says m (as_move happened m effect)
 rises_by_move is says happened m effect rises addr h =
     let move : Move = record { happened = happened; before = m; after = effect.machine } in
     subst (λ b. (is addr m || b) ≡ true) (sym (list_any-append (λ x. says addr x.happened) effect.moves (move ∷ [])))
     (more (is addr m) (list_any (λ x. says addr x.happened) effect.moves) (list_any (λ x. says addr x.happened) (move ∷ [])) (rises addr h))
-
-pub rises_then : (m : Machine) (first : Effect) (next : Machine → Effect) → Rises m first → Rises first.machine (next first.machine) → Rises m (then_do first next)
-rises_then m first next one two = record {
-  promotions = rises_by_then is_up promotes m first next one.promotions two.promotions;
-  activations = rises_by_then is_hot_or_asked activates m first next one.activations two.activations;
-  arrivals = rises_by_then is_known shares m first next one.arrivals two.arrivals;
-}
-
-pub rises_move : (happened : Happened) (m : Machine) (effect : Effect) → Rises m effect → Rises m (as_move happened m effect)
-rises_move happened m effect h = record {
-  promotions = rises_by_move is_up promotes happened m effect h.promotions;
-  activations = rises_by_move is_hot_or_asked activates happened m effect h.activations;
-  arrivals = rises_by_move is_known shares happened m effect h.arrivals;
-}
 
 -- a move says of itself
 said : (says : Addr → Happened → Bool) (happened : Happened) (m : Machine) (effect : Effect) (addr : Addr) → says addr happened ≡ true →
@@ -105,14 +86,6 @@ hot_or_asked-down m n hot asked addr h = or_each (is_hot addr n) (is_asked addr 
 
 pub rises_nowhere : (is : Addr → Machine → Bool) (says : Addr → Happened → Bool) (m : Machine) (effect : Effect) → StaysDown is m effect.machine → RisesBy is says m effect
 rises_nowhere is says m effect down addr h = or_left (is addr m) (list_any (λ move. says addr move.happened) effect.moves) (down addr h)
-
-pub rises_none : (m : Machine) (effect : Effect) → NoneConnected m effect.machine → StaysDown is_hot m effect.machine → StaysDown is_known m effect.machine →
-    Rises m effect
-rises_none m effect connected hot known = record {
-  promotions = rises_nowhere is_up promotes m effect connected.up;
-  activations = rises_nowhere is_hot_or_asked activates m effect (hot_or_asked-down m effect.machine hot connected.asked);
-  arrivals = rises_nowhere is_known shares m effect known;
-}
 
 -- ---- connections
 

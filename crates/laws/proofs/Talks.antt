@@ -234,12 +234,10 @@ hot-accounts m e k h s live asked =
     let connected : NoneConnected m effect.machine =
     connected_then m n effect.machine (turned-connected m e new k h.orderly s turns (paid-lower 2 e)) (same-connected n effect.machine same) in
     record {
-      rises = record {
-        promotions = rises_nowhere is_up promotes m effect connected.up;
-        activations = rises_nowhere is_hot_or_asked activates m effect (λ b. by_address b effect.machine
-            (λ other. turns_at-elsewhere e.facts.addr hot n (λ p. refl) b other) connected (same_address b e.facts.addr) refl);
-        arrivals = rises_nowhere is_known shares m effect (changed-known e.facts.addr hot n (λ p. refl));
-      };
+      promotions = rises_nowhere is_up promotes m effect connected.up;
+      activations = rises_nowhere is_hot_or_asked activates m effect (λ b. by_address b effect.machine
+          (λ other. turns_at-elsewhere e.facts.addr hot n (λ p. refl) b other) connected (same_address b e.facts.addr) refl);
+      arrivals = rises_nowhere is_known shares m effect (changed-known e.facts.addr hot n (λ p. refl));
       told = told_then m (entry_turns e new m) last (turned-told m e new k h.orderly s turns (omega arith)) (changes-told e.facts.addr hot n (λ p. refl));
     }
   where
