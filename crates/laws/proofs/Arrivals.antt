@@ -33,14 +33,11 @@ cleaned-listed a before (g ∷ groups) h =
     (cleaned-listed a (before ++ kept) groups) (sym (list_any-append (same_address a) kept later) ∙ h)
 
 take-listed : (a : Addr) (n : ℕ) (addrs : List Addr) → is_listed a (take n addrs) ≡ true → is_listed a addrs ≡ true
-take-listed a n [] h = by_number n h
-  where
-    by_number : (k : ℕ) → is_listed a (take k []) ≡ true → is_listed a [] ≡ true
-    by_number zero h = h
-    by_number (suc k) h = h
 take-listed a zero (x ∷ addrs) h = absurd (false≢true h)
 take-listed a (suc n) (x ∷ addrs) h =
     or_each (same_address a x) (is_listed a (take n addrs)) (same_address a x) (is_listed a addrs) (λ here. here) (take-listed a n addrs) h
+take-listed a zero [] h = h
+take-listed a (suc n) [] h = h
 
 pub publics-listed : (a own : Addr) (most : ℕ) (addrs : List Addr) → is_listed a (publics_of own most addrs) ≡ true → is_listed a addrs ≡ true
 publics-listed a own most addrs listed = first_places-listed a (own ∷ []) addrs (take-listed a most (first_places (own ∷ []) addrs) listed)

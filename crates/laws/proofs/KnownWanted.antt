@@ -1,9 +1,8 @@
 -- No more addresses come into the book than are wanted.
 use Rattle.std.proofs.Common.{ℕ, ◌+◌, ◌-◌, ◌≤◌, ◌<◌, ◌≡◌, Bool, true, false, not, ◌&&◌, nat_lt, if◌then◌else◌, List, [], ◌∷◌, ◌++◌, length, take, Option, Some, None, is_some, refl, sym, ap, ◌∙◌, subst, arith, ltb-true}
 use Rattle.laws.proofs.Words.{and_parts, length-take, count_by-put_in}
-use Rattle.laws.specs.Words.{AllByRecursion, same_address, Addr, Peer, effective_big_of, is_of, known_of, new_peer, entry_of, entered_by, entered, Added, New, group_of, room_for, is_new, taken_after, Share, Request, Peers, Machine, Effect, Happened, shared, nothing_more, as_move, for_each, peer_at, peer_comes, is_wanted_big, comes_big, bigs_are, shares_address, taken_of, takes_addresses}
+use Rattle.laws.specs.Words.{AllByRecursion, same_address, Addr, Peer, effective_big_of, is_of, known_of, new_peer, entry_of, entered_by, entered, Added, New, group_of, room_for, is_new, taken_after, Share, Peers, Machine, Effect, Happened, shared, nothing_more, as_move, for_each, peer_at, peer_comes, is_wanted_big, comes_big, bigs_are, shares_address, taken_of, takes_addresses}
 use Rattle.peer_book.specs.Book.{peer_at as peer_in}
-use Rattle.warm_messages.specs.declared.share.Share.TheVariants.{Done}
 use Rattle.laws.specs.AtMoves.{known_wanted, IsWantedNew, WithinTargets}
 use Rattle.laws.proofs.Lawful.{comes-machine, comes-providing, Within}
 use Rattle.laws.proofs.Lists.{all-appended}
@@ -78,9 +77,6 @@ shares-within (a ∷ addrs) m h =
     (let most = entered-known false a m.peers in omega (arith, h, most))))
 
 pub takes-within : (o : Option Share) (m : Machine) → AllByRecursion Within (takes_addresses o m).moves
-takes-within None m = tt
-takes-within (Some (Request n)) m = tt
-takes-within (Some Done) m = tt
 takes-within (Some (Peers told)) m =
     shares-within (taken_of told m) m
     (few (room_for (known_wanted false m) m.peers) (taken_after [] (is_new m.settings.own m.settings.version m.peers) told) room)
@@ -90,6 +86,7 @@ takes-within (Some (Peers told)) m =
 
     room : room_for (known_wanted false m) m.peers ≤ known_wanted false m - known_of false m.peers
     room = omega arith
+takes-within other m = tt
 
 -- ---- big ledger peers that are set
 

@@ -26,10 +26,9 @@ rises_by_then is says m first next one two addr h =
     (by_first (is addr first.machine) (is addr m) early late (one addr) (two addr h))
   where
     by_first : (b before early late : Bool) → (b ≡ true → (before || early) ≡ true) → (b || late) ≡ true → (before || (early || late)) ≡ true
-    by_first b true early late one two = refl
-    by_first b false true late one two = refl
     by_first true false false late one two = absurd (false≢true (one refl))
     by_first false false false late one two = two
+    by_first b before early late one two = refl
 
 pub more : (a b c : Bool) → (a || b) ≡ true → (a || (b || c)) ≡ true
 more true b c is = refl

@@ -147,10 +147,9 @@ released-idle runs grace until none = refl
 released-serves : (runs : Bool) (grace : Grace) (until : ℕ) →
     (runs || is_for_remote (if runs || is_for_remote grace then grace else ForLocal until)) ≡ true →
     (runs || is_for_remote grace) ≡ true
-released-serves true grace until e = refl
 released-serves false Off until e = e
-released-serves false (ForRemote at) until e = refl
 released-serves false (ForLocal at) until e = e
+released-serves runs grace until e = refl
 
 pub released-shaped : (until : ℕ) (f : Facts) → IsShaped f → f.local ≡ true → IsShaped (released until f)
 released-shaped until f h local = record {

@@ -13,8 +13,7 @@ use Rattle.laws.proofs.Cases.{by_bool, by_option}
 
 none_unlisted : (a b c : Bool) → b ≡ false → (a && (b && c)) ≡ false
 none_unlisted true true c h = absurd cc
-none_unlisted true false c h = refl
-none_unlisted false b c h = refl
+none_unlisted a b c h = refl
 
 -- ---- books that differ at one address
 

@@ -171,12 +171,10 @@ takes-trimmed : (o : Option Share) (m : Machine) → IsOrdered m → counted_in 
 takes-trimmed o m h within = trimmed_both IsAllowed Within IsLawful (allowed_within) m (takes_addresses o m) (by_message o) (takes-within o m)
   where
     by_message : (o : Option Share) → Trimmed IsAllowed m (takes_addresses o m)
-    by_message None = nothing-trimmed IsAllowed m within h
-    by_message (Some (share.Request n)) = nothing-trimmed IsAllowed m within h
     by_message (Some (share.Peers told)) =
         for_each_that-trimmed IsAllowed IsOther shares_address (shared-trimmed) (taken_of told m) m h within
         (taken-other m.settings (effective_of m.targets m.now).known m.peers told)
-    by_message (Some share.Done) = nothing-trimmed IsAllowed m within h
+    by_message other = nothing-trimmed IsAllowed m within h
 
 -- what is asked of a peer is answered: it is hot
 paid-none : (owed : List Owed) → is_some (find (λ o. o.protocol == 2) (without_reply 2 owed)) ≡ false
