@@ -1,5 +1,5 @@
 -- Picks are of the candidates, and no address is picked twice.
-use Rattle.std.proofs.Common.{ℕ, zero, suc, ◌≡◌, Bool, true, false, cond, ◌&&◌, ◌==◌, nat_lt, List, [], ◌∷◌, map, filter, Some, refl, sym, ap, ◌∙◌, subst}
+use Rattle.std.proofs.Common.{ℕ, suc, ◌≡◌, Bool, true, false, cond, ◌&&◌, ◌==◌, nat_lt, List, [], ◌∷◌, map, filter, Some, refl, sym, ap, ◌∙◌, subst}
 use Rattle.laws.proofs.Words.{both_ways, false_from_ne_true, and_right, or_from}
 use Rattle.laws.specs.Words.{AllByRecursion, best_of, address_below, ip_below, same_ip, same_address, Ip, V4, V6, Addr, Peer, least_by, pair_below, score_of, ranked_score_of, scores_below, rates_below, Rated, rated_of, picks_of, addresses_of}
 use Rattle.peer_book.specs.Book.{peer_at}
@@ -29,22 +29,20 @@ best-all {X} P below a (x ∷ xs) h all = best-all P below (cond (below x a) x a
 
 pub least-all : {X : Type 0} (P : X → Type 0) (below : X → X → Bool) (k : ℕ) (xs : List X) → AllByRecursion P xs → AllByRecursion P (least_by below k xs)
 unfolding least_by
-least-all P below zero xs h = tt
-least-all P below (suc k) [] h = tt
 least-all P below (suc k) (x ∷ xs) h = (
   best-all P below x xs h.0 h.1,
   least-all P below k (filter (below (best_of below x xs)) (x ∷ xs)) (filter-all P (below (best_of below x xs)) (x ∷ xs) h),
 )
+least-all P below k xs h = tt
 
 pub least-rises : {X : Type 0} (below : X → X → Bool) (k : ℕ) (xs : List X) → RisesBy below (least_by below k xs)
 unfolding least_by RisesBy
-least-rises below zero xs = tt
-least-rises below (suc k) [] = tt
 least-rises below (suc k) (x ∷ xs) =
     let best = best_of below x xs in (
       least-all (λ y. below best y ≡ true) below k (filter (below best) (x ∷ xs)) (filter-passing (below best) (x ∷ xs)),
       least-rises below k (filter (below best) (x ∷ xs)),
     )
+least-rises below k xs = tt
 
 -- ---- no address is below itself
 

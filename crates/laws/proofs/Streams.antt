@@ -1,5 +1,5 @@
 -- Bytes come in on a connection.
-use Rattle.std.proofs.Common.{ℕ, ◌≤◌, ◌≡◌, true, arith, List, [], ◌∷◌, Option, Some, None, refl, ap, eqb-true, ◌||◌}
+use Rattle.std.proofs.Common.{ℕ, ◌≤◌, ◌≡◌, true, arith, List, [], ◌∷◌, Option, Some, refl, ap, eqb-true, ◌||◌}
 use Rattle.laws.proofs.Words.{cond_both, false≢true}
 use Rattle.laws.specs.Words.{FedBy, CutFault, Item, Fault, Cid, Phase, Greeting, Negotiated, has_id, is_live, live_phase, is_greeting_phase, is_negotiated_phase, is_greeting, is_negotiated, kind_of, Machine, Entry, counted_in, entry_at, Effect, then_do, for_each, on_entry, on_connection, entry_turns, handled_in, handled, handles, faulted, fed_with, comes_in, bytes_come_in}
 use Rattle.laws.specs.AtMoves.{fed_on, IsLawful}
@@ -49,11 +49,10 @@ pub faulted-trimmed : (cid : Cid) (fault : Option CutFault) → (m : Machine) �
 faulted-trimmed cid fault m h within open_ = by_entry (entry_at cid.0 m) refl fault
   where
     by_entry : (o : Option Entry) → entry_at cid.0 m ≡ o → (f : Option CutFault) → Trimmed IsLawful m (on_entry o (faulted f) m)
-    by_entry None is f = nothing-trimmed IsLawful m within h
-    by_entry (Some e) is None = nothing-trimmed IsLawful m within h
     by_entry (Some e) is (Some f) =
         let at = find_some (λ y. has_id cid.0 y.facts) m.connections e is in
         ending-trimmed (Fault (kind_of f)) refl m e at.place h within at.stands (open_ e is) (λ negotiated. tt) tt
+    by_entry o is f = nothing-trimmed IsLawful m within h
 
 fed_with-trimmed : (fed : FedBy) (m : Machine) (e : Entry) (k : ℕ) → IsOrdered m → counted_in m ≤ m.settings.hard → StandsAt m.connections k e → is_live e.facts ≡ true →
     Trimmed IsLawful m (fed_with fed e m)
