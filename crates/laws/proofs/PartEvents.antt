@@ -177,7 +177,8 @@ roots-parts event (Found ttl addrs) m named =
     first_part event (sets_roots (found m.now ttl publics m.roots)) (map provides publics) m tt tt tt tt
     (set-part event (sets_roots (found m.now ttl publics m.roots)) m refl refl refl refl refl)
     (provided-parts event publics (record m { roots = found m.now ttl publics m.roots })
-    (all-weaker (λ a. is_listed a addrs ≡ true) (λ a. is_provided_by a event ≡ true) (λ a. named a ttl addrs refl) publics (all-listed addrs publics (λ a. publics-listed a m.settings.own m.targets.root addrs))))
+    (all-weaker (λ a. is_listed a addrs ≡ true) (λ a. is_provided_by a event ≡ true) (λ a. named a ttl addrs refl) publics
+    (all-listed addrs publics (λ a. publics-listed a m.settings.own m.targets.root addrs))))
 roots-parts event Failed m named = one_part event (sets_roots _) m tt tt tt tt (set-part event (sets_roots _) m refl refl refl refl refl)
 
 bigs-parts : (event : Event) (addrs : List Addr) (m : Machine) → AreLawful event (map provides_big addrs) m

@@ -152,7 +152,8 @@ providing-part event m effect p named =
           (λ before. or_left (is_known addr m) (is_shared_in addr effect.moves) before) (λ is. is) (named addr known);
     }
 
-lawful-part : (event : Event) (act : Act) (m : Machine) → ClosesBy act event → IsNext act m → IsDoneByOrder act m (does act m) → Finds act m → Tells event m (does act m) → IsLawfulPart event (record { act = act; before = m })
+lawful-part : (event : Event) (act : Act) (m : Machine) → ClosesBy act event → IsNext act m → IsDoneByOrder act m (does act m) → Finds act m →
+    Tells event m (does act m) → IsLawfulPart event (record { act = act; before = m })
 lawful-part event act m closes next order found h = record {
   accounted = accounted_by event m (does act m) h (ends-known event act m closes next found h.told);
   next = next;
@@ -203,7 +204,8 @@ first_part event act acts m closes next order found h rest = record {
   ends = stays_then is_negotiated_at (λ cid. is_closed_by cid event) m (does act m) (for_each does acts) (ends-known event act m closes next found h.told) rest.ends;
 }
 
-pub one_part : (event : Event) (act : Act) (m : Machine) → ClosesBy act event → IsNext act m → IsDoneByOrder act m (does act m) → Finds act m → Tells event m (does act m) → AreLawful event (act ∷ []) m
+pub one_part : (event : Event) (act : Act) (m : Machine) → ClosesBy act event → IsNext act m → IsDoneByOrder act m (does act m) → Finds act m →
+    Tells event m (does act m) → AreLawful event (act ∷ []) m
 one_part event act m closes next order found h = first_part event act [] m closes next order found h (no_part event (does act m).machine)
 
 each_more : (event : Event) (xs ys : List Act) (m : Machine) → AllByRecursion (IsLawfulPart event) (parts_from xs m) →
