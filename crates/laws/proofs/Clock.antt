@@ -1,7 +1,7 @@
 -- The moves of the clock: a reply is late, a grace is over, a handshake was not done in time, a time-wait is over.
-use Rattle.std.proofs.Common.{ℕ, zero, suc, ◌≡◌, ◌≤◌, ◌<◌, arith, Bool, true, false, ◌&&◌, ◌==◌, if◌then◌else◌, [], ◌∷◌, List, length, Some, All, Contains, refl, sym, ap, ◌∙◌, subst, leb-true}
-use Rattle.laws.proofs.Words.{cond_both, both_ways, false≢true, and_right, or_from, All-nil, All-weaker, All-contains, All-contains_itself}
-use Rattle.laws.specs.Words.{Close, Unused, Fault, HandshakeWait, ReplyWait, Facts, Grace, Off, ForRemote, ForLocal, Phase, Greeting, Closing, Deadline, Kind, Handshake, TimeWait, Reply2, Reply8, Reply10, expired, is_live, live_phase, is_pending, opening_phase, is_greeting, is_greeting_phase, is_negotiated, is_outbound, some_runs, Machine, Entry, Owed, Effect, unused, gone, tells, then_do, as_move, on_entry, peer_at, entry_turns, entry_goes, closing_entry, grace_over, wait_over, deadlines_of, phase_deadlines, grace_deadlines, reply_deadline, due, fires_as, fires, fires_some, fire_due, timer}
+use Rattle.std.proofs.Common.{ℕ, zero, suc, ◌≡◌, ◌≤◌, ◌<◌, arith, Bool, true, false, ◌&&◌, [], ◌∷◌, List, length, Some, All, Contains, refl, sym, ap, ◌∙◌, subst, leb-true}
+use Rattle.laws.proofs.Words.{cond_both, both_ways, false≢true, and_right, or_from, All-weaker, All-contains, All-contains_itself}
+use Rattle.laws.specs.Words.{Close, Unused, Fault, HandshakeWait, ReplyWait, Facts, Phase, Closing, Deadline, Kind, Handshake, TimeWait, expired, is_live, live_phase, is_pending, opening_phase, is_greeting, is_greeting_phase, is_negotiated, is_outbound, some_runs, Machine, Entry, Owed, Effect, unused, gone, tells, then_do, as_move, on_entry, peer_at, entry_turns, entry_goes, closing_entry, grace_over, wait_over, deadlines_of, reply_deadline, due, fires_as, fires, fires_some, fire_due}
 use Rattle.net_base.specs.declared.timer.Kind.TheVariants.{Grace as GraceKind}
 use Rattle.laws.specs.AtMoves.{is_missed, failed_where, FailsWhere, IsPast, IsOver, IsLawful}
 use Rattle.laws.specs.Sound.{IsOrderly}
@@ -9,7 +9,7 @@ use Rattle.laws.specs.Stages.{stage_of_phase, stage_at}
 use Rattle.laws.specs.Telling.{IsTold}
 use Rattle.laws.specs.Steady.{IsShaped, IsOrdered}
 use Rattle.laws.proofs.Counts.{is_late}
-use Rattle.laws.proofs.Firing.{all_one, all-deadlines_of, Due, due_of}
+use Rattle.laws.proofs.Firing.{Due, due_of, deadlines-by, reply_kind-cases}
 use Rattle.laws.proofs.Keeping.{Keeps}
 use Rattle.laws.proofs.Lawful.{Obeys, obeys_then, obeys_nothing, accounts_turned, accounts_gone, live_stage, stands-stage, ending-obeys, on_stands, turns-obeys, as_move-obeys}
 use Rattle.laws.proofs.Entries.{TurnsInto}
@@ -39,27 +39,14 @@ LateAs now e other = IsLate now e
 abbrev MeansLate : ℕ → Entry → Deadline → Type 0
 MeansLate now e d = is_late now d ≡ true → LateAs now e d.kind
 
-phase-late : (now : ℕ) (e : Entry) (phase : Phase) → e.facts.phase ≡ phase → All (MeansLate now e) (phase_deadlines e.facts.cid phase)
-phase-late now e (Greeting until) is = all_one (MeansLate now e) (timer e.facts.cid Handshake until) (λ late. ap is_greeting_phase is)
-phase-late now e (Closing until) is = all_one (MeansLate now e) (timer e.facts.cid TimeWait until) (λ late. ap live_phase is)
-phase-late now e other is = All-nil (MeansLate now e)
-
-grace-late : (now : ℕ) (e : Entry) (grace : Grace) → e.facts.grace ≡ grace → All (MeansLate now e) (grace_deadlines e.facts.cid grace)
-grace-late now e Off is = All-nil (MeansLate now e)
-grace-late now e (ForRemote until) is =
-    all_one (MeansLate now e) (timer e.facts.cid GraceKind until) (λ late. subst (IsPast now) (sym is) (leb-true until now late))
-grace-late now e (ForLocal until) is =
-    all_one (MeansLate now e) (timer e.facts.cid GraceKind until) (λ late. subst (IsPast now) (sym is) (leb-true until now late))
-
 reply-late : (now : ℕ) (e : Entry) (owed : Owed) → Contains e.owed owed → MeansLate now e (reply_deadline e.facts.cid owed)
 reply-late now e owed among late =
     let waited : IsLate now e = record { owed = owed; among = among; late = leb-true owed.until now late } in
-    cond_both (owed.protocol == 2) Reply2 (if owed.protocol == 8 then Reply8 else Reply10) (LateAs now e) (λ on_2. waited)
-    (λ not_2. cond_both (owed.protocol == 8) Reply8 Reply10 (LateAs now e) (λ on_8. waited) (λ not_8. waited))
+    reply_kind-cases (LateAs now e) waited waited waited owed.protocol
 
 deadlines_of-late : (now : ℕ) (e : Entry) → All (MeansLate now e) (deadlines_of e)
-deadlines_of-late now e =
-    all-deadlines_of (MeansLate now e) e (phase-late now e e.facts.phase refl) (grace-late now e e.facts.grace refl)
+deadlines_of-late now e = deadlines-by (MeansLate now e) e (λ until is late. ap is_greeting_phase is) (λ until is late. ap live_phase is)
+    (λ until is late. subst (IsPast now) (sym is) (leb-true until now late)) (λ until is late. subst (IsPast now) (sym is) (leb-true until now late))
     (All-weaker (Contains e.owed) (λ owed. MeansLate now e (reply_deadline e.facts.cid owed)) (reply-late now e) e.owed (All-contains_itself e.owed))
 
 -- ---- one deadline

@@ -1,9 +1,8 @@
 -- Whom each part of an event ends: whom it must, and nobody else but by pruning; and whom it prunes.
 use Rattle.std.proofs.Common.{ℕ, ◌+◌, ◌%◌, ◌≡◌, Bool, true, false, not, ◌&&◌, ◌==◌, nat_le, if◌then◌else◌, List, [], ◌∷◌, ◌++◌, map, filter, find, Option, Some, None, Result, Ok, Err, refl, sym, ap, ◌∙◌, subst}
 use Rattle.laws.proofs.Words.{cond_both, flat_map-append, filter-append}
-use Rattle.laws.specs.Words.{AllByRecursion, unwrap_or, choice_of, is_acquirable, is_outbound_by, is_dialing, is_live, is_pending, runs, agreed_sharing, Order, Ask, Forget, Promote, Release, Activate, Deactivate, verdict_of, answer_of, Role, Acceptor, Dialer, Verdict, message_of, Message, CutFault, Item, same_address, address_below, CloseCause, OwnAddr, Crossed, FaultKind, Malformed, Protocol, HandshakeWait, ReplyWait, Close, AskRoots, expired, acquired, awakened, released, Addr, Cid, Provenance, FromRemote, FromLocal, Phase, Greeting, Negotiated, Cold, Warm, Hot, Kind, Handshake, TimeWait, watched, Seen, may_ask, asked, item_number_of, alive_of, share_of, Alive, Share, is_awaited, fits_side, kind_of, with_entry, without_entry, entry_turns, ending, vanishes, acquire, candidates_in, trim, says_done, release, awake, dial, dial_opens, dial_fails, closing_entry, fires_as, Effect, Happened, Move, promoted, activated, shared, ended, unused, gone, on_entry, on_connection, nothing_more, tells, then_do, as_move, for_each, turned_away, admitted, accepted_beside, peer_connects, closes, dialed, promoted_at, promote, is_used_at, on_used, asks_peer, activates, activate, deactivates, carries_out, asks_roots, role_of, sends_answer, judged, decided, greeted_by, greets, Machine, Entry, Owed, counted_in, entry_at, live_entry_at, own_info, peer_at, peer_becomes, peer_is_ordinary, peer_comes, comes_ordinary, is_wanted_big, comes_big, reply_on, owing, paid, handled_in, handled, faulted, replies, stops_if, serves, begins, takes_requests, asked_as, shares_address, taken_of, takes_addresses, pays_chain_sync, pays_keep_alive, pays_peer_sharing, pays, brings, answered_as, talks}
+use Rattle.laws.specs.Words.{AllByRecursion, unwrap_or, choice_of, is_acquirable, is_pending, runs, agreed_sharing, Order, Ask, Forget, Promote, Release, Activate, Deactivate, answer_of, Verdict, CutFault, Item, same_address, address_below, CloseCause, OwnAddr, Crossed, FaultKind, Malformed, Protocol, HandshakeWait, ReplyWait, Close, AskRoots, expired, acquired, awakened, Addr, Cid, Phase, Greeting, Negotiated, Cold, Warm, Hot, Kind, Handshake, TimeWait, watched, Seen, may_ask, asked, item_number_of, alive_of, share_of, Alive, Share, kind_of, with_entry, without_entry, entry_turns, ending, vanishes, acquire, candidates_in, trim, says_done, release, awake, idle, dial, dial_opens, closing_entry, fires_as, Effect, Happened, Move, promoted, activated, shared, ended, unused, gone, on_entry, on_connection, nothing_more, tells, then_do, as_move, turned_away, admitted, accepted_beside, peer_connects, promoted_at, promote, is_used_at, on_used, asks_peer, activates, activate, deactivates, carries_out, asks_roots, sends_answer, judged, decided, greets, Machine, Entry, Owed, counted_in, entry_at, live_entry_at, own_info, peer_at, peer_becomes, peer_is_ordinary, peer_comes, comes_ordinary, is_wanted_big, comes_big, reply_on, owing, paid, handled_in, handled, faulted, replies, stops_if, serves, begins, takes_requests, asked_as, pays_chain_sync, pays_keep_alive, pays_peer_sharing, pays, brings, answered_as, talks}
 use Rattle.laws.specs.Words.verdict
-use Rattle.laws.specs.Words.message
 use Rattle.laws.specs.Words.cut
 use Rattle.laws.specs.Words.cause
 use Rattle.net_base.specs.declared.action.Away.TheVariants.{Full, Present}
@@ -11,14 +10,16 @@ use Rattle.net_base.specs.declared.timer.Kind.TheVariants.{Grace}
 use Rattle.laws.specs.Words.alive
 use Rattle.laws.specs.Words.share
 use Rattle.laws.specs.Acts.{Act, fires_one, asks_for_roots, carries, connects, ends_dial, handles_item, ends_stream, is_closed, makes_ordinary, provides, provides_big, does}
-use Rattle.laws.specs.Ends.{protocol_fault, causes_of_verdict, offered, causes_of_message, causes_to_acceptor, side_of, causes_to_dialer, causes_of_greeting, fault_of_request, is_intersection, is_cookie, are_so_many, is_answer, fault_of_answer, fault_of, causes_of_fault, causes_of_item, kind_of_cut, causes_of_cut, causes_of_kind, causes_of_crossing, ends_on, ends_due, is_pruned, but_pruned, pruned_in}
+use Rattle.laws.specs.Ends.{protocol_fault, causes_of_verdict, causes_of_message, causes_of_greeting, fault_of_request, is_intersection, is_cookie, are_so_many, is_answer, fault_of_answer, fault_of, causes_of_fault, causes_of_item, kind_of_cut, causes_of_cut, causes_of_kind, causes_of_crossing, ends_on, ends_due, is_pruned, but_pruned, pruned_in}
 use Rattle.laws.specs.CarriedOut.{IsOneMove}
 use Rattle.laws.specs.InActions.{End, ended_by, ends_in}
 use Rattle.laws.proofs.ToldMoves.{turns_at-moves}
 use Rattle.laws.proofs.Lawful.{lost_by-quiet, lost-quiet, comes-providing}
+use Rattle.laws.proofs.ItemCases.{greets-due, brings-cases, trim-cases}
 use Rattle.laws.proofs.Handshakes.{answer-quiet}
 use Rattle.laws.proofs.Lists.{all-appended}
-use Rattle.laws.proofs.Walk.{says_done-machine}
+use Rattle.laws.proofs.Walk.{is_released, turned_by, cooled, release-parts}
+use Rattle.laws.proofs.Connects.{dialed-cases, closes-cases}
 use Rattle.laws.proofs.Orders.{says_done-quiet}
 use Rattle.laws.proofs.Talks.{replies-quiet}
 use Rattle.laws.proofs.Cases.{by_bool, by_option}
@@ -32,45 +33,9 @@ end_of e cause = record { cid = e.facts.cid.0; cause = cause }
 abbrev pub Chosen : (End → Type 0) → Cid → Machine → Type 0
 Chosen P moved m = (e : Entry) → entry_at (unwrap_or (choice_of (candidates_in m)) moved).0 m ≡ Some e → P (end_of e cause.Pruned)
 
--- where a protocol begins, and where a connection is released
+-- where a protocol begins
 abbrev pub woken : ℕ → Entry → Machine → Machine
 woken protocol e m = with_entry (record e { facts = awakened protocol e.facts }) m
-
-abbrev pub cooled : Entry → Machine → Machine
-cooled e m = (peer_becomes Cold e.facts.addr (with_entry (record e { facts = released (m.now + m.settings.idle) e.facts }) m)).machine
-
--- as the machine reads a message
-abbrev causes_heard : Option Message → Role → ℕ → Machine → List CloseCause
-causes_heard o role side m =
-    causes_of_message o (λ msg. if fits_side role side msg then causes_of_verdict (verdict_of role (own_info m.settings) msg) else protocol_fault)
-
--- The sides on which a message is awaited.
-heard-same : (p : Provenance) (item : Item) (m : Machine) →
-    (if item.id == 0 && is_awaited (role_of p) item.side then causes_heard (message_of item.body) (role_of p) item.side m else protocol_fault)
-    ≡ (if item.id == 0 then (if is_outbound_by p then causes_to_dialer item m else causes_to_acceptor item m) else protocol_fault)
-heard-same FromRemote item m = by_tests (item.id == 0) (item.side == 0)
-  where
-    heard : (o : Option Message) →
-        causes_heard o Acceptor item.side m ≡ causes_of_message o (λ msg. causes_of_verdict (verdict_of Acceptor (offered m.settings) msg))
-    heard None = refl
-    heard (Some msg) = refl
-
-    by_tests : (b c : Bool) → (if b && c then causes_heard (message_of item.body) Acceptor item.side m else protocol_fault)
-        ≡ (if b then (if c then causes_of_message (message_of item.body) (λ msg. causes_of_verdict (verdict_of Acceptor (offered m.settings) msg)) else protocol_fault) else protocol_fault)
-    by_tests true true = heard (message_of item.body)
-    by_tests true false = refl
-    by_tests false c = refl
-heard-same FromLocal item m = by_bool (item.id == 0)
-    (λ b. (if b && true then causes_heard (message_of item.body) Dialer item.side m else protocol_fault) ≡ (if b then causes_to_dialer item m else protocol_fault))
-    (λ is. heard (message_of item.body)) (λ is. refl)
-  where
-    heard : (o : Option Message) → causes_heard o Dialer item.side m
-        ≡ causes_of_message o (λ msg. if item.side == side_of msg then causes_of_verdict (verdict_of Dialer (offered m.settings) msg) else protocol_fault)
-    heard None = refl
-    heard (Some (message.Propose table)) = refl
-    heard (Some (message.Accept version info)) = refl
-    heard (Some (message.Refuse reason)) = refl
-    heard (Some (message.QueryReply table)) = refl
 
 -- What pays a reply.
 pays-same : (owed : Owed) (body : List ℕ) → pays owed body ≡ is_answer owed body
@@ -81,16 +46,12 @@ pays-same owed body = λ i. if owed.protocol == 2 then first (item_number_of bod
     first (Some n) = refl
 
     alive_is : (o : Option Alive) → pays_keep_alive owed.asked o ≡ is_cookie owed.asked o
-    alive_is None = refl
-    alive_is (Some (alive.Ask n)) = refl
     alive_is (Some (alive.Reply n)) = refl
-    alive_is (Some alive.Done) = refl
+    alive_is other = refl
 
     share_is : (o : Option Share) → pays_peer_sharing owed.asked o ≡ are_so_many owed.asked o
-    share_is None = refl
-    share_is (Some (share.Request n)) = refl
     share_is (Some (share.Peers addrs)) = refl
-    share_is (Some share.Done) = refl
+    share_is other = refl
 
 -- what a cutter's fault is
 kind-same : (f : CutFault) → kind_of f ≡ kind_of_cut f
@@ -102,13 +63,10 @@ pub promote-move : (addr : Addr) (m : Machine) → IsOneMove (promoted addr) m (
 promote-move addr m = by_option (live_entry_at addr m) (λ o. IsOneMove (promoted addr) m (as_move (promoted addr) m (promoted_at o addr m)))
     (λ is. refl)
     (λ e is. cond_both (is_acquirable e.facts) (acquire e m) (dial addr m) (λ effect. IsOneMove (promoted addr) m (as_move (promoted addr) m effect))
-    (λ free. reuses e) (λ other. refl))
-  where
-    reuses : (e : Entry) → IsOneMove (promoted addr) m (as_move (promoted addr) m (acquire e m))
-    reuses e =
-        let n : Machine = with_entry (owing 8 (e.facts.cid.0 % 65536) m (record e { facts = acquired e.facts })) m in
-        let move : Move = record { happened = promoted addr; before = m; after = (acquire e m).machine } in
-        ap (λ ms. (ms ++ []) ++ move ∷ []) (turns_at-moves (peer_at e.facts.addr n) (λ p. record p { temp = Warm; failures = 0 }) n)
+    (λ free.
+    let n : Machine = with_entry (owing 8 (e.facts.cid.0 % 65536) m (record e { facts = acquired e.facts })) m in
+    let move : Move = record { happened = promoted addr; before = m; after = (acquire e m).machine } in
+    ap (λ ms. (ms ++ []) ++ move ∷ []) (turns_at-moves (peer_at e.facts.addr n) (λ p. record p { temp = Warm; failures = 0 }) n)) (λ other. refl))
 
 pub activate-move : (addr : Addr) (m : Machine) → IsOneMove (activated addr) m (activate addr m)
 activate-move addr m = by_option (find (is_used_at addr) m.connections)
@@ -132,6 +90,11 @@ module _ (P : End → Type 0) where
 
   moves_nothing : (effect : Effect) → effect.moves ≡ [] → EndsAs effect []
   moves_nothing effect none = ends_nobody effect (ap ends_in none)
+
+  moved-ends : (happened : Happened) (m : Machine) (effect : Effect) → ended_by happened ≡ [] → effect.moves ≡ [] → EndsAs (as_move happened m effect) []
+  moved-ends happened m effect ends none =
+      let move : Move = record { happened = happened; before = m; after = effect.machine } in
+      ends_nobody (as_move happened m effect) (ap (λ ms. ends_in (ms ++ move ∷ [])) none ∙ ap (λ l. l ++ []) ends)
 
   ends_both : (first : Effect) (next : Machine → Effect) (xs ys : List End) → EndsAs first xs → EndsAs (next first.machine) ys → EndsAs (then_do first next) (xs ++ ys)
   ends_both first next xs ys one two =
@@ -160,11 +123,8 @@ module _ (P : End → Type 0) where
       (ap (λ b. if not b then end_of e c ∷ [] else []) other) (subst (λ b. AllByRecursion P (if b then end_of e c ∷ [] else [])) (sym other) tt)
 
   trim-ends : (moved : Cid) (m : Machine) → Chosen P moved m → EndsAs (trim moved m) []
-  trim-ends moved m chosen = cond_both (nat_le (counted_in m) m.settings.hard) (nothing_more m)
-      (on_connection (unwrap_or (choice_of (candidates_in m)) moved) (ending cause.Pruned) m) (λ effect. EndsAs effect []) (λ within. ends_nobody (nothing_more m) refl)
-      (λ above. by_option (entry_at (unwrap_or (choice_of (candidates_in m)) moved).0 m) (λ o. EndsAs (on_entry o (ending cause.Pruned) m) [])
-      (λ is. ends_nobody (nothing_more m) refl)
-      (λ e is. ends_as (ending cause.Pruned e m) (end_of e cause.Pruned ∷ []) [] (ended_is cause.Pruned e m) refl (chosen e is, tt)))
+  trim-ends moved m chosen = trim-cases moved m (λ effect. EndsAs effect []) (ends_nobody (nothing_more m) refl)
+      (λ e is. ends_as (ending cause.Pruned e m) (end_of e cause.Pruned ∷ []) [] (ended_is cause.Pruned e m) refl (chosen e is, tt))
 
   -- ---- an item
 
@@ -175,34 +135,23 @@ module _ (P : End → Type 0) where
   judged-ends verdict.Wrong e m = ending-ends (cause.Fault Protocol) e m refl
   judged-ends other e m = ending-ends cause.Refused e m refl
 
-  greeted_by-ends : (o : Option Message) (side : ℕ) (e : Entry) (m : Machine) → EndsAs (greeted_by o side e m) (map (end_of e) (causes_heard o (role_of e.facts.provenance) side m))
-  greeted_by-ends None side e m = ending-ends (cause.Fault Malformed) e m refl
-  greeted_by-ends (Some msg) side e m =
-      let v : Verdict = verdict_of (role_of e.facts.provenance) (own_info m.settings) msg in
-      by_bool (fits_side (role_of e.facts.provenance) side msg)
-      (λ b. EndsAs (if b then decided v e m else ending (cause.Fault Protocol) e m) (map (end_of e) (if b then causes_of_verdict v else cause.Fault Protocol ∷ [])))
-      (λ is.
+  decided-ends : (v : Verdict) (e : Entry) (m : Machine) → EndsAs (decided v e m) (map (end_of e) (causes_of_verdict v))
+  decided-ends v e m =
       let first : Effect = sends_answer (answer_of v (own_info m.settings)) e.facts.cid m in
       ends_then first (judged v e) (map (end_of e) (causes_of_verdict v))
-      (moves_nothing first (answer-quiet (answer_of v (own_info m.settings)) e.facts.cid m).moves) (judged-ends v e first.machine))
-      (λ is. ending-ends (cause.Fault Protocol) e m refl)
+      (moves_nothing first (answer-quiet (answer_of v (own_info m.settings)) e.facts.cid m).moves) (judged-ends v e first.machine)
 
   greets-ends : (item : Item) (e : Entry) (m : Machine) → EndsAs (greets item e m) (map (end_of e) (causes_of_greeting item e.facts m))
-  greets-ends item e m =
-      subst (λ causes. EndsAs (greets item e m) (map (end_of e) causes)) (heard-same e.facts.provenance item m) (by_bool (item.id == 0 && is_awaited (role_of e.facts.provenance) item.side)
-      (λ b. EndsAs (if b then greeted_by (message_of item.body) item.side e m else ending (cause.Fault Protocol) e m)
-      (map (end_of e) (if b then causes_heard (message_of item.body) (role_of e.facts.provenance) item.side m else protocol_fault)))
-      (λ is. greeted_by-ends (message_of item.body) item.side e m) (λ is. ending-ends (cause.Fault Protocol) e m refl))
-
-  stops_if-ends : (done : Bool) (protocol : ℕ) (e : Entry) (m : Machine) → EndsAs (stops_if done protocol e m) []
-  stops_if-ends true protocol e m = ends_nobody (stops_if true protocol e m) refl
-  stops_if-ends false protocol e m = ends_nobody (stops_if false protocol e m) refl
+  greets-ends item e m = greets-due causes_of_message protocol_fault causes_of_verdict item e m (λ effect causes. EndsAs effect (map (end_of e) causes))
+      (λ causes. ending-ends (cause.Fault Malformed) e m refl) (ending-ends (cause.Fault Protocol) e m refl) (λ effect msg causes h. h) (λ v. decided-ends v e m)
 
   serves-ends : (o : Option Entry) (seen : Seen) (protocol : ℕ) (m : Machine) → EndsAs (on_entry o (serves seen protocol) m) []
   serves-ends None seen protocol m = ends_nobody (nothing_more m) refl
   serves-ends (Some e) seen protocol m =
       let first : Effect = replies seen.reply protocol e m in
-      ends_then first (stops_if seen.done protocol e) [] (moves_nothing first (replies-quiet seen.reply protocol e m).moves) (stops_if-ends seen.done protocol e first.machine)
+      let n : Machine = first.machine in
+      ends_then first (stops_if seen.done protocol e) [] (moves_nothing first (replies-quiet seen.reply protocol e m).moves)
+      (cond_both seen.done (idle protocol e n) (nothing_more n) (λ effect. EndsAs effect []) (λ done. ends_nobody (idle protocol e n) refl) (λ more. ends_nobody (nothing_more n) refl))
 
   begins-ends : (protocol : ℕ) (e : Entry) (m : Machine) → Chosen P e.facts.cid (woken protocol e m) → EndsAs (begins protocol e m) []
   begins-ends protocol e m chosen = cond_both (runs protocol e.facts.running) (nothing_more m) (awake protocol e m) (λ effect. EndsAs effect [])
@@ -222,28 +171,11 @@ module _ (P : End → Type 0) where
       (λ is. ending-ends (cause.Fault Protocol) e m refl)
 
   comes-ends : (big : Bool) (a : Addr) (m : Machine) → EndsAs (as_move (shared a) m (peer_comes big a m)) []
-  comes-ends big a m =
-      let effect : Effect = peer_comes big a m in
-      let move : Move = record { happened = shared a; before = m; after = effect.machine } in
-      ends_nobody (as_move (shared a) m effect) (ap (λ ms. ends_in (ms ++ move ∷ [])) (comes-providing big a m).moves)
-
-  shares-ends : (addrs : List Addr) (m : Machine) → EndsAs (for_each shares_address addrs m) []
-  unfolding for_each
-  shares-ends [] m = ends_nobody (nothing_more m) refl
-  shares-ends (a ∷ addrs) m = ends_then (shares_address a m) (for_each shares_address addrs) [] (comes-ends false a m) (shares-ends addrs (shares_address a m).machine)
-
-  takes-ends : (o : Option Share) (m : Machine) → EndsAs (takes_addresses o m) []
-  takes-ends None m = ends_nobody (nothing_more m) refl
-  takes-ends (Some (share.Request n)) m = ends_nobody (nothing_more m) refl
-  takes-ends (Some (share.Peers told)) m = shares-ends (taken_of told m) m
-  takes-ends (Some share.Done) m = ends_nobody (nothing_more m) refl
+  comes-ends big a m = moved-ends (shared a) m (peer_comes big a m) refl (comes-providing big a m).moves
 
   brings-ends : (protocol : ℕ) (body : List ℕ) (e : Entry) (m : Machine) → EndsAs (brings protocol body e m) []
-  brings-ends protocol body e m =
-      cond_both (protocol == 2) (peer_becomes Hot e.facts.addr m) (if protocol == 8 then nothing_more m else takes_addresses (share_of body) m)
-      (λ effect. EndsAs effect []) (λ on_2. moves_nothing (peer_becomes Hot e.facts.addr m) (turns_at-moves (peer_at e.facts.addr m) (λ p. record p { temp = Hot }) m))
-      (λ not_2. cond_both (protocol == 8) (nothing_more m) (takes_addresses (share_of body) m) (λ effect. EndsAs effect []) (λ on_8. ends_nobody (nothing_more m) refl)
-      (λ not_8. takes-ends (share_of body) m))
+  brings-ends = brings-cases (λ m effect. EndsAs effect []) (λ m. ends_nobody (nothing_more m) refl) (λ m first next one two. ends_then first next [] one two) (comes-ends false)
+      (λ addr m. moves_nothing (peer_becomes Hot addr m) (turns_at-moves (peer_at addr m) (λ p. record p { temp = Hot }) m))
 
   answered_as-ends : (o : Option Owed) (item : Item) (e : Entry) (m : Machine) → EndsAs (answered_as o item e m) (map (end_of e) (causes_of_fault (fault_of_answer o item.body)))
   answered_as-ends None item e m = ending-ends (cause.Fault Protocol) e m refl
@@ -268,15 +200,15 @@ module _ (P : End → Type 0) where
   handled_in-ends Negotiated item e m chosen = talks-ends item e m chosen
   handled_in-ends other item e m chosen = ends_nobody (nothing_more m) refl
 
-  handled-ends : (o : Option Entry) (item : Item) (m : Machine) → ((e : Entry) → o ≡ Some e → Chosen P e.facts.cid (woken item.id e m)) →
-      EndsAs (on_entry o (handled item) m) (ends_on o (λ e. causes_of_item e.facts.phase item e m))
-  handled-ends None item m chosen = ends_nobody (nothing_more m) refl
-  handled-ends (Some e) item m chosen = handled_in-ends e.facts.phase item e m (chosen e refl)
+  -- on a connection, where it is there
+  on_ends : (o : Option Entry) (act : Entry → Machine → Effect) (m : Machine) (causes : Entry → List CloseCause) →
+      ((e : Entry) → o ≡ Some e → EndsAs (act e m) (map (end_of e) (causes e))) → EndsAs (on_entry o act m) (ends_on o causes)
+  on_ends None act m causes each = ends_nobody (nothing_more m) refl
+  on_ends (Some e) act m causes each = each e refl
 
-  stream-ends : (o : Option Entry) (fault : Option CutFault) (m : Machine) → EndsAs (on_entry o (faulted fault) m) (ends_on o (λ e. causes_of_cut fault))
-  stream-ends None fault m = ends_nobody (nothing_more m) refl
-  stream-ends (Some e) None m = ends_nobody (nothing_more m) refl
-  stream-ends (Some e) (Some fault) m =
+  faulted-ends : (fault : Option CutFault) (e : Entry) (m : Machine) → EndsAs (faulted fault e m) (map (end_of e) (causes_of_cut fault))
+  faulted-ends None e m = ends_nobody (nothing_more m) refl
+  faulted-ends (Some fault) e m =
       subst (λ kind. EndsAs (ending (cause.Fault (kind_of fault)) e m) (end_of e (cause.Fault kind) ∷ [])) (kind-same fault) (ending-ends (cause.Fault (kind_of fault)) e m refl)
 
   -- ---- a deadline
@@ -291,10 +223,6 @@ module _ (P : End → Type 0) where
       (λ is. ends_as closes_it (end_of e cause.Unused ∷ []) (end_of e cause.Unused ∷ []) refl refl tt)
   fires_as-ends TimeWait e m = ends_nobody (fires_as TimeWait e m) refl
   fires_as-ends other e m = ending-ends (cause.Fault ReplyWait) e m refl
-
-  fires-ends : (o : Option Entry) (kind : Kind) (m : Machine) → EndsAs (on_entry o (fires_as kind) m) (ends_on o (causes_of_kind kind))
-  fires-ends None kind m = ends_nobody (nothing_more m) refl
-  fires-ends (Some e) kind m = fires_as-ends kind e m
 
   -- ---- a peer connects
 
@@ -327,22 +255,10 @@ module _ (P : End → Type 0) where
 
   release-ends : (e : Entry) (m : Machine) → Chosen P e.facts.cid (cooled e m) → EndsAs (release e m) []
   release-ends e m chosen =
-      let first : Effect = says_done e.facts m in
-      ends_then first rest [] (moves_nothing first (says_done-quiet e.facts m).moves) (subst (λ n. EndsAs (rest n) []) (sym (says_done-machine e.facts m)) goes_on)
-    where
-      rest : Machine → Effect
-      rest n = then_do (entry_turns e (record e { facts = released (n.now + n.settings.idle) e.facts }) n) (λ w. then_do (peer_becomes Cold e.facts.addr w) (trim e.facts.cid))
-
-      new : Entry
-      new = record e { facts = released (m.now + m.settings.idle) e.facts }
-
-      n : Machine
-      n = with_entry new m
-
-      goes_on : EndsAs (rest m) []
-      goes_on = ends_then (entry_turns e new m) (λ w. then_do (peer_becomes Cold e.facts.addr w) (trim e.facts.cid)) [] (ends_nobody (entry_turns e new m) refl)
-          (ends_then (peer_becomes Cold e.facts.addr n) (trim e.facts.cid) []
-          (moves_nothing (peer_becomes Cold e.facts.addr n) (turns_at-moves (peer_at e.facts.addr n) (λ p. record p { temp = Cold }) n)) (trim-ends e.facts.cid (cooled e m) chosen))
+      let n : Machine = with_entry (turned_by is_released e m) m in
+      release-parts (λ w effect. EndsAs effect []) (λ w first next one two. ends_then first next [] one two) e m (moves_nothing (says_done e.facts m) (says_done-quiet e.facts m).moves)
+      (ends_nobody (entry_turns e (turned_by is_released e m) m) refl)
+      (moves_nothing (peer_becomes Cold e.facts.addr n) (turns_at-moves (peer_at e.facts.addr n) (λ p. record p { temp = Cold }) n)) (trim-ends e.facts.cid (cooled e m) chosen)
 
   on_used-ends : (addr : Addr) (act : Entry → Machine → Effect) (m : Machine) → ((e : Entry) → find (is_used_at addr) m.connections ≡ Some e → EndsAs (act e m) []) → EndsAs (on_used addr act m) []
   on_used-ends addr act m each = by_option (find (is_used_at addr) m.connections) (λ o. EndsAs (on_entry o act m) [])
@@ -371,27 +287,6 @@ module _ (P : End → Type 0) where
       (tells (AskRoots (record { 0 = m.roots.next_job }) ∷ []) (record m { roots = asked m.roots })) (nothing_more m) (λ effect. EndsAs effect [])
       (λ too_few. ends_nobody (tells (AskRoots (record { 0 = m.roots.next_job }) ∷ []) (record m { roots = asked m.roots })) refl) (λ enough. ends_nobody (nothing_more m) refl)
 
-  -- ---- dials and ends
-
-  dial_ends-ends : (o : Option Entry) (opened : Bool) (m : Machine) → EndsAs (on_entry o (dialed opened) m) []
-  dial_ends-ends None opened m = ends_nobody (nothing_more m) refl
-  dial_ends-ends (Some e) opened m = by_tests (is_dialing e.facts) opened
-    where
-      fails : EndsAs (dial_fails e m) []
-      fails =
-          let move : Move = record { happened = gone e.facts.cid.0; before = m; after = (vanishes e m).machine } in
-          ends_nobody (dial_fails e m) (ap (λ ms. ends_in (ms ++ move ∷ [])) (lost-quiet e.facts (without_entry e.facts.cid.0 m)).moves)
-
-      by_tests : (dials b : Bool) → EndsAs (if dials then (if b then dial_opens e m else dial_fails e m) else nothing_more m) []
-      by_tests true true = ends_nobody (dial_opens e m) refl
-      by_tests true false = fails
-      by_tests false b = ends_nobody (nothing_more m) refl
-
-  closed-ends : (o : Option Entry) (m : Machine) → EndsAs (on_entry o closes m) []
-  closed-ends None m = ends_nobody (nothing_more m) refl
-  closed-ends (Some e) m = cond_both (is_live e.facts) (vanishes e m) (nothing_more m) (λ effect. EndsAs effect [])
-      (λ live. moves_nothing (vanishes e m) (lost-quiet e.facts (without_entry e.facts.cid.0 m)).moves) (λ closed. ends_nobody (nothing_more m) refl)
-
   big-ends : (addr : Addr) (m : Machine) → EndsAs (comes_big addr m) []
   big-ends addr m = cond_both (is_wanted_big addr m) (as_move (shared addr) m (peer_comes true addr m)) (nothing_more m) (λ effect. EndsAs effect [])
       (λ wanted. comes-ends true addr m) (λ other. ends_nobody (nothing_more m) refl)
@@ -405,14 +300,16 @@ module _ (P : End → Type 0) where
   ChosenBy other m = Unit {0}
 
   pub part-ends : (act : Act) (m : Machine) → ChosenBy act m → EndsAs (does act m) (ends_due act m)
-  part-ends (fires_one d) m chosen = fires-ends (entry_at d.cid.0 m) d.kind m
+  part-ends (fires_one d) m chosen = on_ends (entry_at d.cid.0 m) (fires_as d.kind) m (causes_of_kind d.kind) (λ e is. fires_as-ends d.kind e m)
   part-ends asks_for_roots m chosen = roots-ends m
   part-ends (carries order) m chosen = carries-ends order m chosen
   part-ends (connects addr) m chosen = connects-ends addr m
-  part-ends (ends_dial cid opened) m chosen = dial_ends-ends (entry_at cid.0 m) opened m
-  part-ends (handles_item cid item) m chosen = handled-ends (entry_at cid.0 m) item m chosen
-  part-ends (ends_stream cid fault) m chosen = stream-ends (entry_at cid.0 m) fault m
-  part-ends (is_closed cid) m chosen = closed-ends (entry_at cid.0 m) m
+  part-ends (ends_dial cid opened) m chosen = dialed-cases cid opened m (λ effect. EndsAs effect []) (ends_nobody (nothing_more m) refl)
+      (λ e k s dials. ends_nobody (dial_opens e m) refl) (λ e k s dials. moved-ends (gone e.facts.cid.0) m (vanishes e m) refl (lost-quiet e.facts (without_entry e.facts.cid.0 m)).moves)
+  part-ends (handles_item cid item) m chosen = on_ends (entry_at cid.0 m) (handled item) m (λ e. causes_of_item e.facts.phase item e m) (λ e is. handled_in-ends e.facts.phase item e m (chosen e is))
+  part-ends (ends_stream cid fault) m chosen = on_ends (entry_at cid.0 m) (faulted fault) m (λ e. causes_of_cut fault) (λ e is. faulted-ends fault e m)
+  part-ends (is_closed cid) m chosen = closes-cases cid m (λ effect. EndsAs effect []) (ends_nobody (nothing_more m) refl)
+      (λ e k s own. moves_nothing (vanishes e m) (lost-quiet e.facts (without_entry e.facts.cid.0 m)).moves)
   part-ends (makes_ordinary addr) m chosen = moves_nothing (peer_is_ordinary addr m) (turns_at-moves (peer_at addr m) (λ p. record p { big = false }) m)
   part-ends (provides addr) m chosen = moves_nothing (comes_ordinary addr m) (comes-providing false addr m).moves
   part-ends (provides_big addr) m chosen = big-ends addr m

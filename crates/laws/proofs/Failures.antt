@@ -1,6 +1,6 @@
 -- Whose peer fails: that of a connection which goes and is missed.
 use Rattle.std.proofs.Common.{◌≡◌, if◌then◌else◌, Some, refl, sym, ◌∙◌, subst}
-use Rattle.laws.specs.Words.{option_map, failed_peer, CloseCause, Overwritten, Addr, Facts, Peer, without_entry, lost, lost_by, ending, vanishes, nothing_more, Machine, Entry, peer_at, turns_at, peer_changes, peer_fails}
+use Rattle.laws.specs.Words.{option_map, failed_peer, CloseCause, Overwritten, Addr, Facts, Peer, without_entry, lost, ending, vanishes, nothing_more, Machine, Entry, peer_at, turns_at, peer_changes, peer_fails}
 use Rattle.peer_book.specs.Book.{peer_at as peer_in, with_peer as with_peer_in}
 use Rattle.laws.specs.AtMoves.{is_missed, is_failure, failed_where, FailsWhere}
 use Rattle.laws.proofs.Ties.{found-addr, peer_here}
@@ -22,12 +22,9 @@ lost-failed f m = by_bool (is_missed f)
     (λ b. peer_at f.addr (if b then peer_fails f.addr m else nothing_more m).machine ≡ failed_where b m.now m.settings.backoff (peer_at f.addr m))
     (λ is. changed-found f.addr (failed_peer m.now m.settings.backoff) m (λ p. refl)) (λ is. refl)
 
-lost_by-failed : (cause : CloseCause) (f : Facts) (m : Machine) → peer_at f.addr (lost_by cause f m).machine ≡ failed_where (is_failure cause f) m.now m.settings.backoff (peer_at f.addr m)
-lost_by-failed Overwritten f m = refl
-lost_by-failed other f m = lost-failed f m
-
 pub ending-failed : (cause : CloseCause) (e : Entry) (m : Machine) → FailsWhere (is_failure cause e.facts) e m (ending cause e m).machine
-ending-failed cause e m = lost_by-failed cause e.facts (without_entry e.facts.cid.0 m)
+ending-failed Overwritten e m = refl
+ending-failed other e m = lost-failed e.facts (without_entry e.facts.cid.0 m)
 
 pub vanishes-failed : (e : Entry) (m : Machine) → FailsWhere (is_missed e.facts) e m (vanishes e m).machine
 vanishes-failed e m = lost-failed e.facts (without_entry e.facts.cid.0 m)

@@ -1,19 +1,15 @@
 -- An order at one address lowers what is counted by one at most, and leaves other addresses as they were.
 use Rattle.std.proofs.Common.{ℕ, ◌+◌, ◌≤◌, ◌≡◌, Bool, true, false, cond, not, ◌&&◌, ◌||◌, nat_le, List, [], ◌∷◌, filter, find, count_by, Some, refl, sym, ap, ◌∙◌, subst, arith}
 use Rattle.laws.proofs.Words.{cond_both, and_parts, sum_by-cons}
-use Rattle.laws.specs.Words.{list_any, AllByRecursion, unwrap_or, choice_of, released, has_id, is_live_at, same_address, Pruned, Addr, Cid, Peer, Cold, Warm, has_address, is_of, known_of, with_peer, without_peer, with_entry, without_entry, entry_turns, is_missed, ending, candidates_in, trim, release, nothing_more, then_do, on_entry, on_connection, is_used_at, on_used, asks_peer, deactivates, Machine, Entry, counted_in, entry_at, peer_at, turns_at, peer_changes, peer_becomes, owing}
+use Rattle.laws.specs.Words.{list_any, AllByRecursion, unwrap_or, choice_of, released, has_id, is_live_at, same_address, Pruned, Addr, Cid, Peer, Cold, Warm, has_address, is_of, known_of, with_peer, without_peer, with_entry, without_entry, ending, candidates_in, trim, release, nothing_more, on_entry, on_connection, is_used_at, on_used, asks_peer, deactivates, Machine, Entry, counted_in, entry_at, peer_at, turns_at, peer_changes, owing}
 use Rattle.peer_book.specs.Book.{peer_at as peer_in}
 use Rattle.laws.specs.AtMoves.{some_connection}
-use Rattle.laws.specs.Steady.{IsShaped, ArePeersApart, IsOrdered}
+use Rattle.laws.specs.Steady.{ArePeersApart, IsOrdered}
 use Rattle.laws.proofs.Addresses.{same_address-true}
-use Rattle.laws.proofs.BackOff.{trim-peers, idle-unmissed, turned-is}
-use Rattle.laws.proofs.CarriedOut.{changed-orderly}
-use Rattle.laws.proofs.Entries.{TurnsInto, turned-orderly}
-use Rattle.laws.proofs.Lists.{StandsAt, FoundIn, find_some, All-stands}
-use Rattle.laws.proofs.Walk.{says_done-machine}
-use Rattle.laws.proofs.Shapes.{local-negotiated}
+use Rattle.laws.proofs.BackOff.{released-peers}
+use Rattle.laws.proofs.Lists.{StandsAt, FoundIn, find_some}
+use Rattle.laws.proofs.Walk.{cooled, release-machine}
 use Rattle.laws.proofs.Spending.{IsSameBut, AreSameBut, all_same, with_peer-same_but, one-most, ChangesAt, turned-same, used-here}
-use Rattle.laws.proofs.ToldMoves.{turns_at-connections}
 use Rattle.laws.proofs.Trims.{lost-connections}
 use Rattle.laws.proofs.Cases.{by_bool, by_option}
 
@@ -166,25 +162,16 @@ trim-none test b moved m none = cond_both (nat_le (counted_in m) m.settings.hard
     passes = λ e. same_address e.facts.addr b && test e
 
 releasing-leaves : (m : Machine) (e : Entry) (k : ℕ) → IsOrdered m → StandsAt m.connections k e → e.facts.local ≡ true →
-    LeavesOthers e.facts.addr m (then_do (entry_turns e (record e { facts = released (m.now + m.settings.idle) e.facts }) m)
-    (λ x. then_do (peer_becomes Cold e.facts.addr x) (trim e.facts.cid))).machine
+    LeavesOthers e.facts.addr m (trim e.facts.cid (cooled e m)).machine
 releasing-leaves m e k h s local =
     let new : Entry = record e { facts = released (m.now + m.settings.idle) e.facts } in
-    let cold : Peer → Peer = λ p. record p { temp = Cold } in
     let n : Machine = with_entry new m in
-    let o : Machine = (peer_becomes Cold e.facts.addr n).machine in
-    let turns : TurnsInto e new = record { same_id = refl; same_addr = refl; live = λ l. l } in
-    let shape : IsShaped e.facts = All-stands (λ x. IsShaped x.facts) m.connections k e s h.formed.shaped in
-    let unpending : is_missed new.facts ≡ false = idle-unmissed new.facts (local-negotiated e.facts shape local) in
-    let list : o.connections ≡ n.connections = turns_at-connections (peer_at e.facts.addr n) cold n in
-    let turned : ChangesAt e.facts.addr m n = assumption (all_same e.facts.addr m.peers, turned-same m e new k h s turns) in
-    let changed : ChangesAt e.facts.addr m o = changed-changes e.facts.addr cold m n turned refl h.formed.peers (λ p. refl) (λ p. refl) in
+    let turned : ChangesAt e.facts.addr m n =
+    assumption (all_same e.facts.addr m.peers, turned-same m e new k h s (record { same_id = refl; same_addr = refl; live = λ l. l })) in
+    let changed : ChangesAt e.facts.addr m (cooled e m) = changed-changes e.facts.addr (λ p. record p { temp = Cold }) m n turned refl h.formed.peers (λ p. refl) (λ p. refl) in
     record {
-      peers = subst (AreSameBut e.facts.addr m.peers)
-          (sym (trim-peers new o (changed-orderly (peer_at e.facts.addr n) cold n (turned-orderly m e new k h.orderly s turns))
-          (λ f found. turned-is e new m refl (λ x. is_missed x.facts ≡ false) unpending f
-          (sym (ap (find (λ x. has_id e.facts.cid.0 x.facts)) list) ∙ found)))) changed.peers;
-      connections = λ test b other none. trim-none test b e.facts.cid o (changed.connections test b other ∙ none);
+      peers = subst (AreSameBut e.facts.addr m.peers) (sym (released-peers m e k h s local)) changed.peers;
+      connections = λ test b other none. trim-none test b e.facts.cid (cooled e m) (changed.connections test b other ∙ none);
     }
 
 pub release-leaves : (a : Addr) (m : Machine) → IsOrdered m → LeavesOthers a m (on_used a release m).machine
@@ -194,6 +181,4 @@ release-leaves a m h = by_option (find (is_used_at a) m.connections) (λ o. Leav
     let at : FoundIn (is_used_at a) m.connections e = find_some (is_used_at a) m.connections e is in
     let local : e.facts.local ≡ true = (and_parts (is_live_at a e.facts) e.facts.local at.passes).1 in
     subst (λ x. LeavesOthers x m (release e m).machine) (used-here a m e is)
-    (subst (λ w. LeavesOthers e.facts.addr m (then_do (entry_turns e (record e { facts = released (w.now + w.settings.idle) e.facts }) w)
-    (λ x. then_do (peer_becomes Cold e.facts.addr x) (trim e.facts.cid))).machine) (sym (says_done-machine e.facts m))
-    (releasing-leaves m e at.place h at.stands local)))
+    (subst (LeavesOthers e.facts.addr m) (sym (release-machine e m)) (releasing-leaves m e at.place h at.stands local)))

@@ -1,7 +1,7 @@
 -- The deadlines that are due fire, and none is left.
-use Rattle.std.proofs.Common.{ℕ, zero, suc, ◌≤◌, ◌≡◌, ◌≢◌, true, false, cond, List, [], ◌∷◌, ◌++◌, length, get_or, map, filter, flat_map, count_by, Some, None, All, Contains, ◌==◌, if◌then◌else◌, refl, sym, ap, ◌∙◌, subst, ⊎_elim, arith, eq-eqb}
+use Rattle.std.proofs.Common.{ℕ, zero, suc, ◌≤◌, ◌≡◌, true, false, cond, List, [], ◌∷◌, ◌++◌, length, get_or, map, filter, flat_map, count_by, Some, None, All, Contains, ◌==◌, if◌then◌else◌, refl, sym, ap, ◌∙◌, subst, ⊎_elim, arith, eq-eqb}
 use Rattle.laws.proofs.Words.{cond_both, nil_from_length, All-nil, All-cons, All-append, All-map, All-filter, All-contains, All-contains_itself, filter_passes, Contains-append_cases, Contains-append_right, length-filter, get_or-le-sum_by, count_by-le-length}
-use Rattle.laws.specs.Words.{Cid, Grace, Off, ForRemote, ForLocal, Phase, Greeting, Closing, Fault, HandshakeWait, ReplyWait, Deadline, Kind, Handshake, TimeWait, Reply2, Reply8, Reply10, deadline_before, is_live, live_phase, has_id, Machine, Entry, entry_at, deadlines, deadlines_of, phase_deadlines, grace_deadlines, reply_kind, reply_deadline, due, fires_as, fires, fires_some, fire_due, fire_all, timer, earlier, least, on_entry}
+use Rattle.laws.specs.Words.{Grace, Off, ForRemote, ForLocal, Phase, Greeting, Closing, Fault, HandshakeWait, ReplyWait, Deadline, Kind, Handshake, TimeWait, Reply2, Reply8, Reply10, deadline_before, is_live, live_phase, has_id, Machine, Entry, entry_at, deadlines, deadlines_of, phase_deadlines, grace_deadlines, reply_kind, reply_deadline, due, fires_as, fires, fires_some, fire_due, fire_all, timer, earlier, least, on_entry}
 use Rattle.net_base.specs.declared.timer.Kind.TheVariants.{Grace as GraceKind}
 use Rattle.laws.specs.Sound.{IsOrderly}
 use Rattle.laws.proofs.Lists.{StandsAt, stands_next, FoundIn, find_some, find_only}
@@ -56,11 +56,8 @@ least-contains (x ∷ xs) d e = by_option (least xs)
     (λ y is later same.
     let is : earlier x (Some y) ≡ d = cc in
     subst (Contains (x ∷ xs)) is
-    (cond_both (deadline_before y x) y x (Contains (x ∷ xs)) (λ before. in_tail y (later y refl))
+    (cond_both (deadline_before y x) y x (Contains (x ∷ xs)) (λ before. Contains-append_right (x ∷ []) xs y (later y refl))
     (λ after. contains_first x xs))) (least-contains xs) e
-  where
-    in_tail : (y : Deadline) → Contains xs y → Contains (x ∷ xs) y
-    in_tail y c = Contains-append_right (x ∷ []) xs y c
 
 pub least-none : (ds : List Deadline) → least ds ≡ None → ds ≡ []
 least-none [] e = refl
@@ -75,85 +72,57 @@ record Has (es : List Entry) (d : Deadline) : Type 0 where
 
 has-contains : (es : List Entry) (d : Deadline) → Contains (flat_map deadlines_of es) d → Has es d
 has-contains [] d c = absurd (omega (arith, c.1))
-has-contains (e ∷ es) d c =
-    ⊎_elim in_first (λ later. in_rest (has-contains es d later))
+has-contains (e ∷ es) d c = ⊎_elim
+    (λ among. record { owner = e; place = 0; stands = record { inside = omega arith; is = refl }; among = among })
+    (λ later. let h : Has es d = has-contains es d later in
+    record { owner = h.owner; place = suc h.place; stands = stands_next e h.owner es h.place h.stands; among = h.among })
     (Contains-append_cases (deadlines_of e) (flat_map deadlines_of es) d c)
-  where
-    in_first : Contains (deadlines_of e) d → Has (e ∷ es) d
-    in_first among = record { owner = e; place = 0; stands = record { inside = omega arith; is = refl }; among = among }
-
-    in_rest : Has es d → Has (e ∷ es) d
-    in_rest h = record {
-      owner = h.owner;
-      place = suc h.place;
-      stands = stands_next e h.owner es h.place h.stands;
-      among = h.among;
-    }
-
--- what every deadline of a connection has, in each of their three places
-pub all-deadlines_of : (P : Deadline → Type 0) (e : Entry) → All P (phase_deadlines e.facts.cid e.facts.phase) →
-    All P (grace_deadlines e.facts.cid e.facts.grace) → All (λ owed. P (reply_deadline e.facts.cid owed)) e.owed →
-    All P (deadlines_of e)
-all-deadlines_of P e phase grace owed =
-    let opening = phase_deadlines e.facts.cid e.facts.phase in
-    let unused = grace_deadlines e.facts.cid e.facts.grace in
-    All-append P (opening ++ unused) (map (reply_deadline e.facts.cid) e.owed) (All-append P opening unused phase grace)
-    (All-map P (reply_deadline e.facts.cid) e.owed owed)
 
 pub all_one : {X : Type 0} (P : X → Type 0) (x : X) → P x → All P (x ∷ [])
 all_one P x h = All-cons P x [] h (All-nil P)
 
-phase-cid : (cid : Cid) (phase : Phase) → All (λ d. d.cid ≡ cid) (phase_deadlines cid phase)
-phase-cid cid (Greeting until) = all_one (λ d. d.cid ≡ cid) (timer cid Handshake until) refl
-phase-cid cid (Closing until) = all_one (λ d. d.cid ≡ cid) (timer cid TimeWait until) refl
-phase-cid cid other = All-nil (λ d. d.cid ≡ cid)
+-- what every deadline of a connection has, by what it waits for
+pub deadlines-by : (P : Deadline → Type 0) (e : Entry) → ((until : ℕ) → e.facts.phase ≡ Greeting until → P (timer e.facts.cid Handshake until)) →
+    ((until : ℕ) → e.facts.phase ≡ Closing until → P (timer e.facts.cid TimeWait until)) →
+    ((until : ℕ) → e.facts.grace ≡ ForRemote until → P (timer e.facts.cid GraceKind until)) →
+    ((until : ℕ) → e.facts.grace ≡ ForLocal until → P (timer e.facts.cid GraceKind until)) →
+    All (λ owed. P (reply_deadline e.facts.cid owed)) e.owed → All P (deadlines_of e)
+deadlines-by P e greets closes for_remote for_local owed =
+    let opening = phase_deadlines e.facts.cid e.facts.phase in
+    let unused = grace_deadlines e.facts.cid e.facts.grace in
+    All-append P (opening ++ unused) (map (reply_deadline e.facts.cid) e.owed) (All-append P opening unused (by_phase e.facts.phase refl) (by_grace e.facts.grace refl))
+    (All-map P (reply_deadline e.facts.cid) e.owed owed)
+  where
+    by_phase : (p : Phase) → e.facts.phase ≡ p → All P (phase_deadlines e.facts.cid p)
+    by_phase (Greeting until) is = all_one P (timer e.facts.cid Handshake until) (greets until is)
+    by_phase (Closing until) is = all_one P (timer e.facts.cid TimeWait until) (closes until is)
+    by_phase other is = All-nil P
 
-grace-cid : (cid : Cid) (grace : Grace) → All (λ d. d.cid ≡ cid) (grace_deadlines cid grace)
-grace-cid cid Off = All-nil (λ d. d.cid ≡ cid)
-grace-cid cid (ForRemote until) = all_one (λ d. d.cid ≡ cid) (timer cid GraceKind until) refl
-grace-cid cid (ForLocal until) = all_one (λ d. d.cid ≡ cid) (timer cid GraceKind until) refl
+    by_grace : (g : Grace) → e.facts.grace ≡ g → All P (grace_deadlines e.facts.cid g)
+    by_grace Off is = All-nil P
+    by_grace (ForRemote until) is = all_one P (timer e.facts.cid GraceKind until) (for_remote until is)
+    by_grace (ForLocal until) is = all_one P (timer e.facts.cid GraceKind until) (for_local until is)
 
-pub deadlines_of-cid : (e : Entry) → All (λ d. d.cid ≡ e.facts.cid) (deadlines_of e)
-deadlines_of-cid e = all-deadlines_of (λ d. d.cid ≡ e.facts.cid) e (phase-cid e.facts.cid e.facts.phase)
-    (grace-cid e.facts.cid e.facts.grace) (λ k d inside. refl)
+-- one that is owed waits for a reply
+pub reply_kind-cases : (P : Kind → Type 0) → P Reply2 → P Reply8 → P Reply10 → (protocol : ℕ) → P (reply_kind protocol)
+reply_kind-cases P on_2 on_8 on_10 protocol = cond_both (protocol == 2) Reply2 (if protocol == 8 then Reply8 else Reply10) P (λ is. on_2)
+    (λ not_2. cond_both (protocol == 8) Reply8 Reply10 P (λ is. on_8) (λ not_8. on_10))
 
 -- Only a grace has a deadline of its kind.
-
-abbrev IsOther : Deadline → Type 0
-IsOther d = d.kind ≢ GraceKind
-
-phase-other : (cid : Cid) (phase : Phase) → All IsOther (phase_deadlines cid phase)
-phase-other cid (Greeting until) = all_one IsOther (timer cid Handshake until) (λ same. cc)
-phase-other cid (Closing until) = all_one IsOther (timer cid TimeWait until) (λ same. cc)
-phase-other cid other = All-nil IsOther
-
-reply-other : (protocol : ℕ) → reply_kind protocol ≢ GraceKind
-reply-other protocol = cond_both (protocol == 2) Reply2 (if protocol == 8 then Reply8 else Reply10)
-    (λ kind. kind ≢ GraceKind) (λ on_2 same. cc)
-    (λ not_2. cond_both (protocol == 8) Reply8 Reply10 (λ kind. kind ≢ GraceKind) (λ on_8 same. cc) (λ not_8 same. cc))
-
 pub grace-among : (e : Entry) (d : Deadline) → Contains (deadlines_of e) d → d.kind ≡ GraceKind →
     Contains (grace_deadlines e.facts.cid e.facts.grace) d
-grace-among e d c kind =
-    ⊎_elim in_front (λ on_reply. absurd (All-contains IsOther owed d replies on_reply kind))
-    (Contains-append_cases (opening ++ unused) owed d c)
+grace-among e d among = All-contains OfGrace (deadlines_of e) d (deadlines-by OfGrace e (λ until is same. absurd cc) (λ until is same. absurd cc)
+    (λ until is same. first (ForRemote until) until is (contains_first (timer e.facts.cid GraceKind until) []))
+    (λ until is same. first (ForLocal until) until is (contains_first (timer e.facts.cid GraceKind until) []))
+    (λ k owed inside. reply_kind-cases (λ kind. kind ≡ GraceKind → Contains (grace_deadlines e.facts.cid e.facts.grace) (reply_deadline e.facts.cid (get_or e.owed k owed)))
+    (λ same. absurd cc) (λ same. absurd cc) (λ same. absurd cc) (get_or e.owed k owed).protocol)) among
   where
-    opening : List Deadline
-    opening = phase_deadlines e.facts.cid e.facts.phase
+    OfGrace : Deadline → Type 0
+    OfGrace x = x.kind ≡ GraceKind → Contains (grace_deadlines e.facts.cid e.facts.grace) x
 
-    unused : List Deadline
-    unused = grace_deadlines e.facts.cid e.facts.grace
-
-    owed : List Deadline
-    owed = map (reply_deadline e.facts.cid) e.owed
-
-    replies : All IsOther owed
-    replies = All-map IsOther (reply_deadline e.facts.cid) e.owed (λ k w inside. reply-other (get_or e.owed k w).protocol)
-
-    in_front : Contains (opening ++ unused) d → Contains unused d
-    in_front front = ⊎_elim
-        (λ at_phase. absurd (All-contains IsOther opening d (phase-other e.facts.cid e.facts.phase) at_phase kind))
-        (λ at_grace. at_grace) (Contains-append_cases opening unused d front)
+    first : (g : Grace) (until : ℕ) → e.facts.grace ≡ g → Contains (grace_deadlines e.facts.cid g) (timer e.facts.cid GraceKind until) →
+        Contains (grace_deadlines e.facts.cid e.facts.grace) (timer e.facts.cid GraceKind until)
+    first g until is here = subst (λ x. Contains (grace_deadlines e.facts.cid x) (timer e.facts.cid GraceKind until)) (sym is) here
 
 -- a late one among some is counted
 late-counted : (now : ℕ) (ds : List Deadline) (d : Deadline) → Contains ds d → is_late now d ≡ true →
@@ -168,12 +137,9 @@ fired_of-positive : (now : ℕ) (e : Entry) (d : Deadline) → Contains (deadlin
     1 ≤ fired_of d.kind now e
 fired_of-positive now e d c late = by_kind d.kind refl
   where
-    any : 1 ≤ late_of now e
-    any = late-counted now (deadlines_of e) d c late
-
     by_kind : (kind : Kind) → d.kind ≡ kind → 1 ≤ fired_of kind now e
     by_kind GraceKind is = late-counted now (grace_deadlines e.facts.cid e.facts.grace) d (grace-among e d c is) late
-    by_kind other is = any
+    by_kind other is = late-counted now (deadlines_of e) d c late
 
 -- the deadline that fires next is late, and stands among those of the record
 pub due-contains : (m : Machine) (d : Deadline) → due m ≡ Some d → Contains (deadlines m) d × (is_late m.now d ≡ true)
@@ -185,25 +151,14 @@ due-contains m d e =
       All-contains (λ x. is_late m.now x ≡ true) late d (filter_passes (is_late m.now) (deadlines m)) among,
     )
 
+pub deadlines_of-cid : (e : Entry) → All (λ d. d.cid ≡ e.facts.cid) (deadlines_of e)
+deadlines_of-cid e = deadlines-by (λ d. d.cid ≡ e.facts.cid) e (λ until is. refl) (λ until is. refl) (λ until is. refl) (λ until is. refl) (λ k d inside. refl)
+
 -- Only a connection that this side has closed has a time-wait.
-phase-waits : (cid : Cid) (phase : Phase) → All (λ d. d.kind ≡ TimeWait → live_phase phase ≡ false) (phase_deadlines cid phase)
-phase-waits cid (Greeting until) = all_one (λ d. d.kind ≡ TimeWait → true ≡ false) (timer cid Handshake until) (λ same. absurd cc)
-phase-waits cid (Closing until) = all_one (λ d. d.kind ≡ TimeWait → false ≡ false) (timer cid TimeWait until) (λ same. refl)
-phase-waits cid other = All-nil (λ d. d.kind ≡ TimeWait → live_phase other ≡ false)
-
-grace-waits : (Z : Type 0) (cid : Cid) (grace : Grace) → All (λ d. d.kind ≡ TimeWait → Z) (grace_deadlines cid grace)
-grace-waits Z cid Off = All-nil (λ d. d.kind ≡ TimeWait → Z)
-grace-waits Z cid (ForRemote until) = all_one (λ d. d.kind ≡ TimeWait → Z) (timer cid GraceKind until) (λ same. absurd cc)
-grace-waits Z cid (ForLocal until) = all_one (λ d. d.kind ≡ TimeWait → Z) (timer cid GraceKind until) (λ same. absurd cc)
-
-reply-waits : (protocol : ℕ) → reply_kind protocol ≢ TimeWait
-reply-waits protocol = cond_both (protocol == 2) Reply2 (if protocol == 8 then Reply8 else Reply10)
-    (λ kind. kind ≢ TimeWait) (λ on_2 same. cc)
-    (λ not_2. cond_both (protocol == 8) Reply8 Reply10 (λ kind. kind ≢ TimeWait) (λ on_8 same. cc) (λ not_8 same. cc))
-
 deadlines_of-waits : (e : Entry) → All (λ d. d.kind ≡ TimeWait → is_live e.facts ≡ false) (deadlines_of e)
-deadlines_of-waits e = all-deadlines_of (λ d. d.kind ≡ TimeWait → is_live e.facts ≡ false) e (phase-waits e.facts.cid e.facts.phase)
-    (grace-waits (is_live e.facts ≡ false) e.facts.cid e.facts.grace) (λ k d inside same. absurd (reply-waits (get_or e.owed k d).protocol same))
+deadlines_of-waits e = deadlines-by (λ d. d.kind ≡ TimeWait → is_live e.facts ≡ false) e (λ until is same. absurd cc) (λ until is same. ap live_phase is)
+    (λ until is same. absurd cc) (λ until is same. absurd cc)
+    (λ k d inside. reply_kind-cases (λ kind. kind ≡ TimeWait → is_live e.facts ≡ false) (λ same. absurd cc) (λ same. absurd cc) (λ same. absurd cc) (get_or e.owed k d).protocol)
 
 -- the connection whose deadline fires next
 pub record Due (m : Machine) (d : Deadline) : Type 0 where

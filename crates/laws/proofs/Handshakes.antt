@@ -1,7 +1,7 @@
 -- A connection in its handshake: whatever comes in, the connections stay in order and within the limit.
-use Rattle.std.proofs.Common.{ℕ, ◌+◌, ◌≤◌, ◌≡◌, Bool, true, false, not, ◌&&◌, ◌==◌, if◌then◌else◌, List, [], Option, Some, None, refl, sym, subst}
+use Rattle.std.proofs.Common.{ℕ, ◌+◌, ◌≤◌, ◌≡◌, Bool, true, false, not, ◌&&◌, if◌then◌else◌, List, [], Option, Some, None, refl, sym, subst}
 use Rattle.laws.proofs.Words.{cond_both, both_ways, and_from, and_right, or_from, or_right}
-use Rattle.laws.specs.Words.{accepts_info, accepts_offer, agrees_info, agrees_on, meets_joined, meets_info, meets_offer, verdict_of, common_in, joined, same_magic, answer_of, Role, Acceptor, Dialer, Verdict, is_node_version, VersionInfo, Info, Known, Foreign, Message, Offer, message_of, Item, CloseCause, Malformed, Protocol, Agreed, Cid, Negotiated, Provenance, FromRemote, FromLocal, agreed_inbound, agreed_outbound, is_greeting, is_negotiated, opening_phase, is_outbound, is_outbound_by, is_pending, is_awaited, fits_side, Machine, Entry, counted_in, sends_as_responder, Effect, own_info, ending, role_of, sends_answer, judged, decided, greeted_by, greets}
+use Rattle.laws.specs.Words.{accepts_info, accepts_offer, agrees_info, agrees_on, meets_joined, meets_info, meets_offer, verdict_of, common_in, joined, same_magic, answer_of, Acceptor, Dialer, Verdict, is_node_version, VersionInfo, Info, Known, Foreign, Message, Offer, Item, CloseCause, Protocol, Agreed, Cid, Negotiated, Provenance, FromRemote, FromLocal, agreed_inbound, agreed_outbound, is_greeting, is_negotiated, opening_phase, is_outbound, is_outbound_by, is_pending, Machine, Entry, counted_in, sends_as_responder, Effect, own_info, ending, role_of, sends_answer, judged, decided, greets}
 use Rattle.laws.specs.Words.verdict
 use Rattle.laws.specs.Words.why
 use Rattle.laws.specs.Words.message
@@ -15,6 +15,7 @@ use Rattle.laws.proofs.Shapes.{greeting-unnegotiated}
 use Rattle.laws.proofs.Trims.{Trimmed, keeps-trimmed, ending-trimmed, trimmed_then}
 use Rattle.laws.proofs.WholeMoves.{stands-shaped, IsLost, greeting-live, agrees_inbound-keeps, agrees_outbound-keeps, greeting-opening}
 use Rattle.laws.proofs.Walk.{answer-machine}
+use Rattle.laws.proofs.ItemCases.{greets-cases}
 
 -- ---- who comes to which verdict
 
@@ -139,16 +140,9 @@ decided-trimmed msg m e k g =
     (subst (λ n. Trimmed IsLawful n (judged v e n)) same
     (judged-trimmed v m e k g (accepts-inbound own e.facts.provenance msg) (agrees-outbound own e.facts.provenance msg)))
 
-greeted_by-trimmed : (o : Option Message) (side : ℕ) (m : Machine) (e : Entry) (k : ℕ) → Greets m e k → Trimmed IsLawful m (greeted_by o side e m)
-greeted_by-trimmed None side m e k g = ends (cause.Fault Malformed) refl m e k g tt
-greeted_by-trimmed (Some msg) side m e k g =
-    let role : Role = role_of e.facts.provenance in
-    cond_both (fits_side role side msg) _ _ (Trimmed IsLawful m) (λ fits. decided-trimmed msg m e k g) (λ other. ends (cause.Fault Protocol) refl m e k g tt)
-
 -- an item comes in
 pub greets-trimmed : (item : Item) (m : Machine) (e : Entry) (k : ℕ) → IsOrdered m → counted_in m ≤ m.settings.hard →
     StandsAt m.connections k e → is_greeting e.facts ≡ true → Trimmed IsLawful m (greets item e m)
 greets-trimmed item m e k h within s greeting =
     let g : Greets m e k = record { ordered = h; within = within; stands = s; greeting = greeting } in
-    cond_both (item.id == 0 && is_awaited (role_of e.facts.provenance) item.side) _ _ (Trimmed IsLawful m)
-    (λ awaited. greeted_by-trimmed (message_of item.body) item.side m e k g) (λ other. ends (cause.Fault Protocol) refl m e k g tt)
+    greets-cases item e m (Trimmed IsLawful m) (λ fault. ends (cause.Fault fault) refl m e k g tt) (λ msg is. decided-trimmed msg m e k g)

@@ -15,6 +15,7 @@ pub mod Runs
 pub mod Settings
 mod Finds
 mod Connects
+mod ItemCases
 mod Failures
 mod Shapes
 mod Effects
@@ -22,6 +23,7 @@ pub mod OrderNeeds
 mod Chosen
 mod Admitted
 mod Sends
+mod ClosesLast
 mod Falls
 mod OpenEnds
 mod Ordering
@@ -78,7 +80,6 @@ mod Turned
 mod Waits
 mod WaitsOfParts
 mod Pruning
-mod Forgiven
 mod Walk
 mod Cases
 pub mod Words

@@ -1,7 +1,7 @@
 -- One element of a list: what is found, what takes its place, and the list without it.
 use Rattle.std.proofs.Common.{nat_lt, ℕ, zero, suc, ◌+◌, ◌<◌, ◌≤◌, ◌≡◌, Bool, true, false, cond, not, List, [], ◌∷◌, ◌++◌, length, map, filter, find, set, remove, get_or, Some, None, All, AllPairs, sum_by, count_by, flat_map, if◌then◌else◌, refl, sym, ap, ◌∙◌, subst, arith}
-use Rattle.laws.proofs.Words.{false_from_ne_true, both_ways, or_left, or_right, All-head, All-tail, All-cons, All-nil, All-set, All-weaker, AllPairs-cons, sum_by-cons, sum_by-append, sum_by-set, sum_by-remove, get_or-le-sum_by}
-use Rattle.laws.specs.Words.{AllByRecursion, list_any}
+use Rattle.laws.proofs.Words.{false_from_ne_true, both_ways, All-head, All-tail, All-cons, All-nil, All-set, All-weaker, AllPairs-cons, sum_by-cons, sum_by-append, sum_by-set, sum_by-remove, get_or-le-sum_by}
+use Rattle.laws.specs.Words.{AllByRecursion}
 use Rattle.laws.proofs.Cases.{by_bool}
 
 -- no number is below itself
@@ -225,9 +225,3 @@ all-both P Q R gives (x ∷ xs) h k = (gives x h.0 k.0, all-both P Q R gives xs 
 pub all-placed : {X : Type 0} (P : X → Type 0) (xs : List X) → AllByRecursion P xs → All P xs
 all-placed P [] h = All-nil P
 all-placed P (x ∷ xs) h = All-cons P x xs h.0 (all-placed P xs h.1)
-
--- where one that stands passes, some do
-pub any-at : {X : Type 0} (q : X → Bool) (xs : List X) (k : ℕ) (d : X) → k < length xs → q (get_or xs k d) ≡ true → list_any q xs ≡ true
-any-at q [] k d inside holds = absurd (omega (arith, inside))
-any-at q (x ∷ xs) zero d inside holds = or_left (q x) (list_any q xs) holds
-any-at q (x ∷ xs) (suc k) d inside holds = or_right (q x) (list_any q xs) (any-at q xs k d (omega (arith, inside)) holds)

@@ -1,13 +1,13 @@
 -- Whatever is waited for is ahead, what fires is waited for, and is over then.
 use Rattle.std.proofs.Common.{ℕ, zero, suc, ◌<◌, ◌≡◌, Bool, true, false, ◌||◌, ◌==◌, if◌then◌else◌, List, [], ◌∷◌, ◌++◌, map, flat_map, find, get_or, Option, Some, None, All, Contains, refl, sym, ap, ◌∙◌, subst, arith, eq-eqb, eqb-true, ne_eqb}
-use Rattle.laws.proofs.Words.{cond_both, All-nil, All-contains, Contains-append_left, Contains-append_right}
+use Rattle.laws.proofs.Words.{cond_both, All-contains, Contains-append_left, Contains-append_right}
 use Rattle.laws.specs.Words.{option_map, has_id, CloseCause, Grace, Off, ForRemote, ForLocal, Phase, Greeting, Closing, Deadline, Kind, timer, with_entry, without_entry, ending, deadlines, deadlines_of, phase_deadlines, grace_deadlines, reply_deadline, due, unused, Machine, Entry, Owed, entry_at, reply_on, is_owed_on}
 use Rattle.laws.specs.Words.kind
 use Rattle.laws.specs.Laws.{DeadlinesAhead}
 use Rattle.laws.specs.Moments.{WaitsAhead}
 use Rattle.laws.specs.Waits.{until_greeted, until_gone, until_unused, until_paid, until_of, until_in, until_at}
 use Rattle.laws.specs.Steady.{IsOwing, IsOrdered}
-use Rattle.laws.proofs.Firing.{all_one, all-deadlines_of, Due, due_of}
+use Rattle.laws.proofs.Firing.{Due, due_of, deadlines-by}
 use Rattle.laws.proofs.Lawful.{lost_by-quiet}
 use Rattle.laws.proofs.Lists.{StandsAt, stands_before, OnePasses, FoundIn, find_some, find_only, All-stands, all-standing}
 use Rattle.laws.proofs.Waits.{replaced, gone-found}
@@ -100,16 +100,6 @@ waits-ahead m h kind cid until is = by_option (entry_at cid m) (λ o. until_in k
 abbrev IsWaited : Entry → Deadline → Type 0
 IsWaited e d = until_of d.kind e ≡ Some d.at
 
-phase-waited : (e : Entry) (p : Phase) → e.facts.phase ≡ p → All (IsWaited e) (phase_deadlines e.facts.cid p)
-phase-waited e (Greeting until) is = all_one (IsWaited e) (timer e.facts.cid kind.Handshake until) (ap until_greeted is)
-phase-waited e (Closing until) is = all_one (IsWaited e) (timer e.facts.cid kind.TimeWait until) (ap until_gone is)
-phase-waited e other is = All-nil (IsWaited e)
-
-grace-waited : (e : Entry) (g : Grace) → e.facts.grace ≡ g → All (IsWaited e) (grace_deadlines e.facts.cid g)
-grace-waited e Off is = All-nil (IsWaited e)
-grace-waited e (ForRemote until) is = all_one (IsWaited e) (timer e.facts.cid kind.Grace until) (ap until_unused is)
-grace-waited e (ForLocal until) is = all_one (IsWaited e) (timer e.facts.cid kind.Grace until) (ap until_unused is)
-
 -- at most one reply is owed on a protocol
 one-owed : (e : Entry) → IsOwing e → (protocol : ℕ) → OnePasses (λ o. o.protocol == protocol) e.owed
 one-owed e h protocol i j d before inside here =
@@ -141,7 +131,7 @@ due-waited m d h is =
     let owing : IsOwing e = All-stands IsOwing m.connections next.place e next.stands h.formed.owing in
     ap (until_in d.kind) next.found
     ∙ All-contains (IsWaited e) (deadlines_of e) d
-    (all-deadlines_of (IsWaited e) e (phase-waited e e.facts.phase refl) (grace-waited e e.facts.grace refl)
+    (deadlines-by (IsWaited e) e (λ until is. ap until_greeted is) (λ until is. ap until_gone is) (λ until is. ap until_unused is) (λ until is. ap until_unused is)
     (all-standing (λ owed. IsWaited e (reply_deadline e.facts.cid owed)) e.owed (λ owed k s. reply-waited e owing k owed s))) next.among
 
 -- ---- what has fired is over

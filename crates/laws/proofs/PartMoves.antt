@@ -10,11 +10,10 @@ use Rattle.laws.specs.Parts.{IsNext, IsDone, EndsOnce, IsAccounted, IsLawfulPart
 use Rattle.laws.specs.Stages.{stage_of_phase, stage_of, stage_at}
 use Rattle.laws.specs.Telling.{IsTold}
 use Rattle.laws.proofs.CarriedOut.{treats-book, pauses-right}
-use Rattle.laws.proofs.Forgiven.{forgives}
 use Rattle.laws.proofs.Lawful.{Accounts, IsProviding, obeys_nothing}
 use Rattle.laws.proofs.Admitted.{admits-right}
 use Rattle.laws.proofs.Agreed.{agrees-right}
-use Rattle.laws.proofs.BackOff.{fails-only, remembers}
+use Rattle.laws.proofs.BackOff.{treats, forgives}
 use Rattle.laws.proofs.Begun.{over-after, waits-begin}
 use Rattle.laws.proofs.Goes.{goes-where}
 use Rattle.laws.proofs.Responders.{responds-right}
@@ -30,6 +29,7 @@ use Rattle.laws.proofs.WholeMoves.{negotiated-live}
 use Rattle.laws.proofs.WaitsOfParts.{waits-right, leaves-rest, is-set}
 use Rattle.laws.proofs.Rises.{NoneConnected, or_each, hot_or_asked-down, rises_nowhere, same-connected, rises_by_then}
 use Rattle.laws.proofs.Chain.{each_appended}
+use Rattle.laws.proofs.ClosesLast.{closes-last}
 
 -- ---- who was negotiated before it
 
@@ -176,8 +176,9 @@ lawful-part event act m closes next order found h = record {
   responds = responds-right act m found;
   answers = answers-right act m found;
   sends = sends-right act m next found;
-  remembers = remembers act m found;
-  fails = fails-only act m found;
+  closes_last = closes-last act m next found;
+  remembers = (treats act m found).remembered;
+  fails = (treats act m found).fails;
 }
 
 -- ---- one part after the other

@@ -1,8 +1,7 @@
 -- Peers are promoted: a connection that stands comes into use, or an address without one is dialed.
-use Rattle.std.proofs.Common.{ℕ, suc, ◌+◌, ◌≡◌, true, false, not, ◌&&◌, ◌||◌, List, [], ◌∷◌, map, find, sum_by, All, Option, Some, None, refl, sym, ap, ◌∙◌, subst, arith, is_some, cond}
-use Rattle.laws.proofs.Words.{both_ways, false≢true, and_parts, and_from, All-push, All-weaker, sum_by_push}
-use Rattle.laws.specs.Words.{same_address, Addr, Peer, dialing, acquired, is_live, is_live_at, is_acquirable, is_negotiated, is_linked, Promote, Machine, Entry, fresh_entry, live_entry_at, peer_at, owing, acquire, dial, Effect, Move, promoted, as_move, link_of, promoted_at, list_any}
-use Rattle.govern_rules.specs.Links.{is_acquirable as acquirable_link}
+use Rattle.std.proofs.Common.{ℕ, ◌+◌, ◌≡◌, true, false, not, ◌&&◌, ◌||◌, List, [], ◌∷◌, map, find, sum_by, All, Option, Some, None, refl, sym, ap, ◌∙◌, subst, arith, is_some, Bool}
+use Rattle.laws.proofs.Words.{both_ways, false≢true, and_parts, and_from, All-push, All-weaker, sum_by_push, list_any_none}
+use Rattle.laws.specs.Words.{same_address, Addr, Peer, dialing, acquired, is_live, is_live_at, is_acquirable, is_negotiated, Promote, Machine, Entry, fresh_entry, live_entry_at, peer_at, owing, acquire, dial, Effect, Move, promoted, as_move, promoted_at, list_any}
 use Rattle.laws.specs.AtMoves.{IsReady, is_up_connection, is_up, is_asked_connection, is_hot_or_asked, is_known, promotes, activates, shares, some_connection}
 use Rattle.laws.specs.Laws.{DifferInAddress}
 use Rattle.laws.specs.Steady.{IsShaped, IsOwing, TiedBy, IsOrdered}
@@ -12,7 +11,7 @@ use Rattle.laws.proofs.Counts.{counted_of, counted_in-sum, late_of, late_in-sum}
 use Rattle.laws.proofs.Entries.{with_new, come-orderly}
 use Rattle.laws.proofs.Keeping.{Keeps}
 use Rattle.laws.proofs.Lawful.{Accounts, Obeys, IsAllowed, as_move-obeys, promoted-obeys}
-use Rattle.laws.proofs.Lists.{StandsAt, stands_next, FoundIn, find_some, find_none, find_only}
+use Rattle.laws.proofs.Lists.{StandsAt, FoundIn, find_some, find_none, find_only}
 use Rattle.laws.proofs.Owing.{nothing-owing}
 use Rattle.laws.proofs.Shapes.{dialing-shaped, can_acquire}
 use Rattle.laws.proofs.Orders.{Carries}
@@ -25,7 +24,6 @@ use Rattle.laws.proofs.WholeMoves.{negotiated-live, acquire-keeps}
 use Rattle.laws.proofs.Cases.{by_bool, by_option}
 use Rattle.laws.specs.OrderNeeds.{IsFree}
 use Rattle.laws.specs.Ordered.{is_any}
-use Rattle.laws.proofs.Wanted.{linked}
 
 -- ---- a dial
 
@@ -126,64 +124,33 @@ promotes-carried addr m h within may = by_option (live_entry_at addr m)
 
 -- ---- who may be taken into use, or dialed
 
-pub unlinked-none : (addr : Addr) (es : List Entry) → is_linked (map link_of es) addr ≡ false → find (λ e. is_live_at addr e.facts) es ≡ None
-unlinked-none addr [] h = refl
-unlinked-none addr (e ∷ es) h = by_bool (same_address e.facts.addr addr)
-    (λ b. ((b && true) || is_linked (map link_of es) addr) ≡ false →
-    (is_linked (map link_of es) addr ≡ false → find (λ x. is_live_at addr x.facts) es ≡ None) →
-    find (λ x. is_live_at addr x.facts) (e ∷ es) ≡ None)
-    (λ is none later. absurd (false≢true (sym none))) (λ is none later. rw is (later none)) h (unlinked-none addr es)
-
-record AcquirableIn (addr : Addr) (es : List Entry) : Type 0 where
-  entry : Entry
-  place : ℕ
-  stands : StandsAt es place entry
-  at : same_address entry.facts.addr addr ≡ true
-  acquirable : is_acquirable entry.facts ≡ true
-
-acquirable_in : (addr : Addr) (es : List Entry) → acquirable_link (map link_of es) addr ≡ true → AcquirableIn addr es
-acquirable_in addr [] h = absurd (false≢true h)
-acquirable_in addr (e ∷ es) h = by_bool (same_address e.facts.addr addr && is_acquirable e.facts)
-    (λ b. (b || acquirable_link (map link_of es) addr) ≡ true → (acquirable_link (map link_of es) addr ≡ true → AcquirableIn addr es) → AcquirableIn addr (e ∷ es))
-    (λ is found later.
-    let parts = and_parts (same_address e.facts.addr addr) (is_acquirable e.facts) is in
-    record { entry = e; place = 0; stands = record { inside = omega arith; is = refl }; at = parts.0; acquirable = parts.1 })
-    (λ is found later.
-    let rest : AcquirableIn addr es = later found in
-    record { entry = rest.entry; place = suc rest.place; stands = stands_next e rest.entry es rest.place rest.stands; at = rest.at; acquirable = rest.acquirable }) h (acquirable_in addr es)
-
--- what the links call acquirable is the live connection of its address
-pub record TakesAt (addr : Addr) (m : Machine) : Type 0 where
-  pub entry : Entry
-  pub found : live_entry_at addr m ≡ Some entry
-  pub acquirable : is_acquirable entry.facts ≡ true
-
-pub acquirable-live : (addr : Addr) (m : Machine) → IsOrdered m → acquirable_link (map link_of m.connections) addr ≡ true → TakesAt addr m
-acquirable-live addr m h e =
-    let a : AcquirableIn addr m.connections = acquirable_in addr m.connections e in
-    let live : is_live a.entry.facts ≡ true = negotiated-live a.entry.facts.phase (can_acquire a.entry.facts a.acquirable).negotiated in
-    record {
-      entry = a.entry;
-      found = find_only (λ x. is_live_at addr x.facts) a.entry m.connections a.place (live_one addr m h.orderly.addresses) a.stands
-          (and_from (same_address a.entry.facts.addr addr) (is_live a.entry.facts) a.at live);
-      acquirable = a.acquirable;
-    }
-
+-- where no connection has the address, none is found by it, and none that is live
 unmet : (addr : Addr) (es : List Entry) → list_any (λ e. same_address e.facts.addr addr && is_any e) es ≡ false →
-    is_some (find (λ f. same_address f.addr addr) (map (λ e. e.facts) es)) ≡ false
-unmet addr [] h = refl
+    (find (λ e. is_live_at addr e.facts) es ≡ None) × (is_some (find (λ f. same_address f.addr addr) (map (λ e. e.facts) es)) ≡ false)
+unmet addr [] h = (refl, refl)
 unmet addr (e ∷ es) h = by_bool (same_address e.facts.addr addr)
     (λ b. ((b && true) || list_any (λ x. same_address x.facts.addr addr && is_any x) es) ≡ false →
-    (list_any (λ x. same_address x.facts.addr addr && is_any x) es ≡ false → is_some (find (λ f. same_address f.addr addr) (map (λ x. x.facts) es)) ≡ false) →
-    is_some (cond b (Some e.facts) (find (λ f. same_address f.addr addr) (map (λ x. x.facts) es))) ≡ false)
-    (λ is none later. absurd (false≢true (sym none))) (λ is none later. later none) h (unmet addr es)
+    (find (λ x. is_live_at addr x.facts) (e ∷ es) ≡ None) × (is_some (find (λ f. same_address f.addr addr) (map (λ x. x.facts) (e ∷ es))) ≡ false))
+    (λ is none. absurd (false≢true (sym none))) (λ is none. let later = unmet addr es none in (rw is later.0, rw is later.1)) h
+
+-- what can be taken into use is the live connection of its address
+acquirable-free : (addr : Addr) (m : Machine) → IsOrdered m → some_connection (λ e. is_acquirable e.facts) addr m ≡ true → IsFree (live_entry_at addr m) addr m
+acquirable-free addr m h takes = by_option (find takes_at m.connections) (λ o. IsFree (live_entry_at addr m) addr m)
+    (λ is. absurd (both_ways (list_any takes_at m.connections) (list_any_none takes_at m.connections (find_none takes_at m.connections is)) takes))
+    (λ e is.
+    let at : FoundIn takes_at m.connections e = find_some takes_at m.connections e is in
+    let parts = and_parts (same_address e.facts.addr addr) (is_acquirable e.facts) at.passes in
+    let live : is_live e.facts ≡ true = negotiated-live e.facts.phase (can_acquire e.facts parts.1).negotiated in
+    let found : live_entry_at addr m ≡ Some e = find_only (λ x. is_live_at addr x.facts) e m.connections at.place (live_one addr m h.orderly.addresses) at.stands
+    (and_from (same_address e.facts.addr addr) (is_live e.facts) parts.0 live) in
+    subst (λ o. IsFree o addr m) (sym found) parts.1)
+  where
+    takes_at : Entry → Bool
+    takes_at e = same_address e.facts.addr addr && is_acquirable e.facts
 
 pub free-may : (addr : Addr) (m : Machine) → IsOrdered m → (not (some_connection is_any addr m) || some_connection (λ e. is_acquirable e.facts) addr m) ≡ true →
     IsFree (live_entry_at addr m) addr m
 free-may addr m h either = by_bool (some_connection is_any addr m)
     (λ b. (not b || some_connection (λ e. is_acquirable e.facts) addr m) ≡ true → IsFree (live_entry_at addr m) addr m)
-    (λ any takes.
-    let a : TakesAt addr m = acquirable-live addr m h (linked (λ l. l.acquirable) addr m.connections ∙ takes) in
-    subst (λ o. IsFree o addr m) (sym a.found) a.acquirable)
-    (λ none free. subst (λ o. IsFree o addr m) (sym (unlinked-none addr m.connections (linked (λ l. true) addr m.connections ∙ none))) (unmet addr m.connections none))
-    either
+    (λ any takes. acquirable-free addr m h takes)
+    (λ none free. let nobody = unmet addr m.connections none in subst (λ o. IsFree o addr m) (sym nobody.0) nobody.1) either

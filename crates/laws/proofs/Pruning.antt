@@ -8,14 +8,14 @@ use Rattle.laws.specs.Ends.{is_candidate_entry, was_used_at, ends_due, IsPrunedB
 use Rattle.laws.specs.Sound.{IsOrderly}
 use Rattle.laws.specs.InActions.{End}
 use Rattle.laws.proofs.CarriedOut.{changed-orderly}
-use Rattle.laws.proofs.Due.{end_of, woken, cooled, EndsAs, ChosenByOrder, ChosenBy, part-ends}
+use Rattle.laws.proofs.Due.{end_of, woken, EndsAs, ChosenByOrder, ChosenBy, part-ends}
 use Rattle.laws.proofs.Entries.{turned-orderly}
 use Rattle.laws.proofs.Lawful.{stands-found}
 use Rattle.laws.proofs.Lists.{FoundIn, find_some}
 use Rattle.laws.proofs.ToldMoves.{turns_at-connections}
 use Rattle.laws.proofs.Trims.{Goes, goes_among, found_by_id}
 use Rattle.laws.proofs.Waits.{replaced}
-use Rattle.laws.proofs.Walk.{Finds}
+use Rattle.laws.proofs.Walk.{Finds, cooled}
 use Rattle.laws.proofs.Cases.{by_bool, by_option, some_same}
 
 -- whoever is chosen may go, or has moved

@@ -1,19 +1,19 @@
 -- What is due is sent, and nothing else.
 use Rattle.std.proofs.Common.{ℕ, ◌+◌, ◌%◌, ◌≡◌, Bool, true, false, ◌&&◌, ◌==◌, if◌then◌else◌, List, [], ◌++◌, Option, Some, None, Result, Ok, Err, refl, sym, ap, ◌∙◌, subst, eqb-true, append-nil}
 use Rattle.laws.proofs.Words.{cond_both, false≢true, flat_map-append}
-use Rattle.laws.specs.Words.{option_map, acquired, agreed_inbound, agreed_outbound, connected, idled, released, agreed_sharing, has_id, is_acquirable, is_dialing, Order, Ask, Forget, Promote, Release, Activate, Deactivate, verdict_of, answer_of, proposal_of, Role, Acceptor, Dialer, Verdict, message_of, Message, fits_side, receives, receives_message, Item, Refused, Query, Fault, FaultKind, Malformed, Protocol, Addr, Cid, Facts, Phase, Greeting, Negotiated, Provenance, FromRemote, FromLocal, Peer, Cold, Warm, watched, Seen, written_alive, written_request, Done, with_entry, entry_turns, ending, is_used, acquire, trim, says_done, release, dial, dial_opens, dial_fails, Effect, nothing_more, then_do, on_entry, dialed, promoted_at, asks_peer, activates, deactivates, carries_out, role_of, judged, decided, greets, sends_answer, Machine, Entry, entry_at, live_entry_at, own_info, peer_at, turns_at, peer_becomes, peer_succeeds, peer_was_asked, owing, reply_on, sends_as_initiator, peer_sharing_done, find_intersect, chain_sync_done, handled_in, handled, stops_if, serves, begins, takes_requests, asked_as, answered_as, talks}
+use Rattle.laws.specs.Words.{option_map, acquired, agreed_inbound, agreed_outbound, connected, idled, agreed_sharing, has_id, is_acquirable, is_dialing, Order, Ask, Forget, Promote, Release, Activate, Deactivate, answer_of, proposal_of, Verdict, Item, Refused, Query, Fault, FaultKind, Malformed, Protocol, Addr, Cid, Facts, Phase, Greeting, Negotiated, Cold, Warm, watched, Seen, written_alive, written_request, Done, with_entry, entry_turns, ending, is_used, acquire, trim, says_done, release, dial, dial_opens, dial_fails, Effect, nothing_more, then_do, on_entry, dialed, promoted_at, asks_peer, activates, deactivates, carries_out, judged, decided, greets, sends_answer, Machine, Entry, entry_at, live_entry_at, own_info, peer_at, peer_becomes, peer_succeeds, peer_was_asked, owing, reply_on, sends_as_initiator, peer_sharing_done, find_intersect, chain_sync_done, handled_in, handled, stops_if, serves, begins, takes_requests, asked_as, answered_as, talks}
 use Rattle.laws.specs.Words.verdict
-use Rattle.laws.specs.Words.message
 use Rattle.warm_messages.specs.declared.alive.Alive.TheVariants.{Ask as AskAlive}
 use Rattle.laws.specs.Acts.{Act, asks_for_roots, carries, connects, ends_dial, handles_item, does}
-use Rattle.laws.specs.Ends.{offered, side_of}
-use Rattle.laws.specs.Sends.{says, keeps_alive, on_one, used_with, due_by_order, answers, comes_into_use, due_by_verdict, by_message, due_of_dialer, due_in_greeting, SendsInUse, SendsByPhase, SendsOnItem, SendsRight}
+use Rattle.laws.specs.Sends.{says, keeps_alive, on_one, used_with, due_by_order, answers, comes_into_use, due_by_verdict, by_message, due_in_greeting, SendsInUse, SendsByPhase, SendsOnItem, SendsRight}
 use Rattle.laws.specs.Served.{Sent, sent_by, sent_in}
 use Rattle.laws.specs.Parts.{IsNext}
+use Rattle.laws.proofs.ItemCases.{greets-due}
 use Rattle.laws.proofs.Lists.{find_some}
 use Rattle.laws.proofs.Moments.{turned-found}
-use Rattle.laws.proofs.Walk.{says_done-machine, replies-machine, Finds, answer-machine}
+use Rattle.laws.proofs.Walk.{is_released, turned_by, cooled, on_those, says_done-machine, replies-machine, Finds, answer-machine}
 use Rattle.laws.proofs.Silent.{sent-deaf, turns-silent, changed-silent, ending-silent, vanishes-silent, trim-silent, connects-silent, begins-silent, answered-silent, asks-silent, quiet-silent}
+use Rattle.laws.proofs.WaitsOfParts.{changed-waits}
 use Rattle.laws.proofs.Cases.{by_bool, by_option}
 
 -- ---- one part after the other
@@ -45,51 +45,32 @@ used-sends : (f : Facts) (e : Entry) (m : Machine) → sent_in (is_used f e m).a
 used-sends f e m =
     let new : Entry = owing 8 (f.cid.0 % 65536) m (record e { facts = f }) in
     let n : Machine = with_entry new m in
-    let o : Machine = (turns_at (peer_at f.addr n) (λ p. record p { temp = Warm; failures = 0 }) n).machine in
-    let now : o.now ≡ m.now = turned-now (peer_at f.addr n) n in
     let sends : Machine → Effect = sends_as_initiator f.cid 8 (written_alive (AskAlive (f.cid.0 % 65536))) in
     then-silent (entry_turns e new m) (λ x. then_do (peer_succeeds f.addr x) sends) (keeps_alive f.cid.0 m) (turns-silent sent_by sent-deaf e new m)
     (then-silent (peer_succeeds f.addr n) sends (keeps_alive f.cid.0 m)
     (changed-silent sent_by sent-deaf (peer_at f.addr n) (λ p. record p { temp = Warm; failures = 0 }) n)
-    (ap (λ t. keeps_alive f.cid.0 (record m { now = t })) now))
-  where
-    turned-now : (x : Option Peer) (n : Machine) → (turns_at x (λ p. record p { temp = Warm; failures = 0 }) n).machine.now ≡ n.now
-    turned-now None n = refl
-    turned-now (Some p) n = refl
+    (ap (λ t. keeps_alive f.cid.0 (record m { now = t })) (changed-waits (on_those (λ cid. false)) (peer_at f.addr n) (λ p. record p { temp = Warm; failures = 0 }) n).unset.now))
+
+-- what a release does behind what it says
+abbrev pub gives_up : Entry → Machine → Effect
+gives_up e m = then_do (entry_turns e (turned_by is_released e m) m) (λ n. then_do (peer_becomes Cold e.facts.addr n) (trim e.facts.cid))
+
+pub gives_up-silent : (e : Entry) (m : Machine) → sent_in (gives_up e m).actions ≡ []
+gives_up-silent e m =
+    let n : Machine = with_entry (turned_by is_released e m) m in
+    then-silent (entry_turns e (turned_by is_released e m) m) (λ w. then_do (peer_becomes Cold e.facts.addr w) (trim e.facts.cid)) [] (turns-silent sent_by sent-deaf e (turned_by is_released e m) m)
+    (then-silent (peer_becomes Cold e.facts.addr n) (trim e.facts.cid) [] (changed-silent sent_by sent-deaf (peer_at e.facts.addr n) (λ p. record p { temp = Cold }) n)
+    (trim-silent sent_by sent-deaf e.facts.cid (cooled e m)))
 
 release-sends : (e : Entry) (m : Machine) → sent_in (release e m).actions
     ≡ (if agreed_sharing e.facts.agreed then says e.facts.cid.0 0 10 peer_sharing_done m else []) ++ says e.facts.cid.0 0 8 (written_alive Done) m
 release-sends e m =
-    then-sent (says_done e.facts m) rest ((if agreed_sharing e.facts.agreed then says e.facts.cid.0 0 10 peer_sharing_done m else []) ++ says e.facts.cid.0 0 8 (written_alive Done) m) done
-    (subst (λ n. sent_in (rest n).actions ≡ []) (sym (says_done-machine e.facts m)) silent)
-  where
-    rest : Machine → Effect
-    rest n = then_do (entry_turns e (record e { facts = released (n.now + n.settings.idle) e.facts }) n)
-        (λ o. then_do (peer_becomes Cold e.facts.addr o) (trim e.facts.cid))
-
-    silent : sent_in (rest m).actions ≡ []
-    silent =
-        let new : Entry = record e { facts = released (m.now + m.settings.idle) e.facts } in
-        let n : Machine = with_entry new m in
-        then-silent (entry_turns e new m) (λ o. then_do (peer_becomes Cold e.facts.addr o) (trim e.facts.cid)) [] (turns-silent sent_by sent-deaf e new m)
-        (then-silent (peer_becomes Cold e.facts.addr n) (trim e.facts.cid) [] (changed-silent sent_by sent-deaf (peer_at e.facts.addr n) (λ p. record p { temp = Cold }) n)
-        (trim-silent sent_by sent-deaf e.facts.cid (peer_becomes Cold e.facts.addr n).machine))
-
-    first : Effect
-    first = if agreed_sharing e.facts.agreed then sends_as_initiator e.facts.cid 10 peer_sharing_done m else nothing_more m
-
-    now : first.machine.now ≡ m.now
-    now = cond_both (agreed_sharing e.facts.agreed) (sends_as_initiator e.facts.cid 10 peer_sharing_done m) (nothing_more m) (λ effect. effect.machine.now ≡ m.now)
-        (λ sharing. refl) (λ other. refl)
-
-    by_sharing : (b : Bool) → sent_in (if b then sends_as_initiator e.facts.cid 10 peer_sharing_done m else nothing_more m).actions
-        ≡ (if b then says e.facts.cid.0 0 10 peer_sharing_done m else [])
-    by_sharing true = refl
-    by_sharing false = refl
-
-    done : sent_in (says_done e.facts m).actions ≡ (if agreed_sharing e.facts.agreed then says e.facts.cid.0 0 10 peer_sharing_done m else []) ++ says e.facts.cid.0 0 8 (written_alive Done) m
-    done = then-sends first (sends_as_initiator e.facts.cid 8 (written_alive Done))
-        (if agreed_sharing e.facts.agreed then says e.facts.cid.0 0 10 peer_sharing_done m else []) (says e.facts.cid.0 0 8 (written_alive Done) m) (by_sharing (agreed_sharing e.facts.agreed)) (λ i. says e.facts.cid.0 0 8 (written_alive Done) (record m { now = now i }))
+    then-sent (says_done e.facts m) (gives_up e) ((if agreed_sharing e.facts.agreed then says e.facts.cid.0 0 10 peer_sharing_done m else []) ++ says e.facts.cid.0 0 8 (written_alive Done) m)
+    (by_bool (agreed_sharing e.facts.agreed)
+    (λ b. sent_in (then_do (if b then sends_as_initiator e.facts.cid 10 peer_sharing_done m else nothing_more m) (sends_as_initiator e.facts.cid 8 (written_alive Done))).actions
+    ≡ (if b then says e.facts.cid.0 0 10 peer_sharing_done m else []) ++ says e.facts.cid.0 0 8 (written_alive Done) m)
+    (λ sharing. refl) (λ other. refl))
+    (subst (λ w. sent_in (gives_up e w).actions ≡ []) (sym (says_done-machine e.facts m)) (gives_up-silent e m))
 
 asks_peer-sends : (n : ℕ) (e : Entry) (m : Machine) → sent_in (asks_peer n e m).actions ≡ says e.facts.cid.0 0 10 (written_request n) m
 asks_peer-sends n e m =
@@ -150,48 +131,9 @@ decided-sends v e m =
     (answer-sends answer e.facts.cid m)
     (subst (λ n. sent_in (judged v e n).actions ≡ (if comes_into_use v then keeps_alive e.facts.cid.0 m else [])) (sym (answer-machine answer e.facts.cid m)) (judged-sends v e m))
 
--- what a message comes to, to whoever takes the part
-abbrev receives_by : Role → Option Message → Item → Entry → Machine → Effect
-receives_by role o item e m = receives_message (λ fault. ending (Fault fault) e m) (λ v. decided v e m) role (own_info m.settings) item.side o
-
-accepts-sends : (o : Option Message) (item : Item) (e : Entry) (m : Machine) →
-    sent_in (receives_by Acceptor o item e m).actions ≡ by_message o (λ msg. due_by_verdict (verdict_of Acceptor (offered m.settings) msg) e.facts.cid.0 m)
-accepts-sends None item e m = ending-silent sent_by sent-deaf (Fault Malformed) e m
-accepts-sends (Some msg) item e m = decided-sends (verdict_of Acceptor (own_info m.settings) msg) e m
-
-fits-side_of : (side : ℕ) (msg : Message) → fits_side Dialer side msg ≡ (side == side_of msg)
-fits-side_of side (message.Propose table) = refl
-fits-side_of side other = refl
-
-dials-sends : (o : Option Message) (item : Item) (e : Entry) (m : Machine) → sent_in (receives_by Dialer o item e m).actions
-    ≡ by_message o (λ msg. if item.side == side_of msg then due_by_verdict (verdict_of Dialer (offered m.settings) msg) e.facts.cid.0 m else [])
-dials-sends None item e m = ending-silent sent_by sent-deaf (Fault Malformed) e m
-dials-sends (Some msg) item e m =
-    subst (λ b. sent_in (if fits_side Dialer item.side msg then decided (verdict_of Dialer (own_info m.settings) msg) e m else ending (Fault Protocol) e m).actions
-    ≡ (if b then due_by_verdict (verdict_of Dialer (offered m.settings) msg) e.facts.cid.0 m else [])) (fits-side_of item.side msg) (by_bool (fits_side Dialer item.side msg)
-    (λ b. sent_in (if b then decided (verdict_of Dialer (own_info m.settings) msg) e m else ending (Fault Protocol) e m).actions
-    ≡ (if b then due_by_verdict (verdict_of Dialer (offered m.settings) msg) e.facts.cid.0 m else []))
-    (λ is. decided-sends (verdict_of Dialer (own_info m.settings) msg) e m)
-    (λ is. ending-silent sent_by sent-deaf (Fault Protocol) e m))
-
 greets-sends : (item : Item) (e : Entry) (m : Machine) → sent_in (greets item e m).actions ≡ due_in_greeting item e.facts m
-greets-sends item e m = by_provenance e.facts.provenance refl
-  where
-    Sends : Provenance → Type 0
-    Sends p = sent_in (receives (λ fault. ending (Fault fault) e m) (λ v. decided v e m) (role_of p) (own_info m.settings) item).actions
-        ≡ due_in_greeting item (record e.facts { provenance = p }) m
-
-    by_provenance : (p : Provenance) → e.facts.provenance ≡ p → sent_in (greets item e m).actions ≡ due_in_greeting item e.facts m
-    by_provenance FromRemote is = subst (λ p. Sends p) (sym is) (by_id (item.id == 0) (item.side == 0))
-      where
-        by_id : (b c : Bool) → sent_in (if b && c then receives_by Acceptor (message_of item.body) item e m else ending (Fault Protocol) e m).actions
-            ≡ (if b then (if c then by_message (message_of item.body) (λ msg. due_by_verdict (verdict_of Acceptor (offered m.settings) msg) e.facts.cid.0 m) else []) else [])
-        by_id true true = accepts-sends (message_of item.body) item e m
-        by_id true false = ending-silent sent_by sent-deaf (Fault Protocol) e m
-        by_id false c = ending-silent sent_by sent-deaf (Fault Protocol) e m
-    by_provenance FromLocal is = subst (λ p. Sends p) (sym is) (by_bool (item.id == 0)
-        (λ b. sent_in (if b && true then receives_by Dialer (message_of item.body) item e m else ending (Fault Protocol) e m).actions ≡ (if b then due_of_dialer item e.facts.cid.0 m else []))
-        (λ is. dials-sends (message_of item.body) item e m) (λ is. ending-silent sent_by sent-deaf (Fault Protocol) e m))
+greets-sends item e m = greets-due by_message [] (λ v. due_by_verdict v e.facts.cid.0 m) item e m (λ effect due. sent_in effect.actions ≡ due)
+    (λ due. ending-silent sent_by sent-deaf (Fault Malformed) e m) (ending-silent sent_by sent-deaf (Fault Protocol) e m) (λ effect msg due h. h) (λ v. decided-sends v e m)
 
 -- ---- once the handshake is done
 
@@ -222,18 +164,13 @@ asked-gone (Ok seen) protocol e m =
     (subst (λ c. entry_at c (serves seen protocol f first.machine).machine ≡ None) (sym same) gone)))) (λ other gone. ending-silent sent_by sent-deaf (Fault Protocol) e m)
 
 talks-sends : (item : Item) (e : Entry) (m : Machine) → SendsInUse item e (talks item e m)
-talks-sends item e m = record {
-  answer = λ other. by_side (item.side == 0) other;
-  gone = cond_both (item.side == 0) asks (answered_as (reply_on item.id e) item e m) (λ effect. entry_at e.facts.cid.0 effect.machine ≡ None → sent_in effect.actions ≡ [])
-      (λ first. asked-gone (watched item.id (agreed_sharing e.facts.agreed) item.body) item.id e m) (λ other gone. answered-silent sent_by sent-deaf (reply_on item.id e) item e m);
-}
-  where
-    asks : Effect
-    asks = asked_as (watched item.id (agreed_sharing e.facts.agreed) item.body) item.id e m
-
-    by_side : (b : Bool) → b ≡ false → sent_in (if b then asks else answered_as (reply_on item.id e) item e m).actions ≡ []
-    by_side true is = absurd (false≢true (sym is))
-    by_side false is = answered-silent sent_by sent-deaf (reply_on item.id e) item e m
+talks-sends item e m =
+    let asks : Effect = asked_as (watched item.id (agreed_sharing e.facts.agreed) item.body) item.id e m in
+    record {
+      answer = λ other. subst (λ b. sent_in (if b then asks else answered_as (reply_on item.id e) item e m).actions ≡ []) (sym other) (answered-silent sent_by sent-deaf (reply_on item.id e) item e m);
+      gone = cond_both (item.side == 0) asks (answered_as (reply_on item.id e) item e m) (λ effect. entry_at e.facts.cid.0 effect.machine ≡ None → sent_in effect.actions ≡ [])
+          (λ first. asked-gone (watched item.id (agreed_sharing e.facts.agreed) item.body) item.id e m) (λ other gone. answered-silent sent_by sent-deaf (reply_on item.id e) item e m);
+    }
 
 -- ---- each act
 

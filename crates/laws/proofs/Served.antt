@@ -1,6 +1,6 @@
 -- What is answered to what the other side asks.
 use Rattle.std.proofs.Common.{ℕ, ◌<◌, ◌≤◌, ◌≡◌, Bool, true, false, not, ◌&&◌, ◌||◌, ◌==◌, min, if◌then◌else◌, cond, List, [], ◌∷◌, ◌++◌, length, map, filter, get_or, is_some, Option, Some, None, Result, Ok, Err, refl, sym, ap, ◌∙◌, subst, arith, eqb-true, append-nil}
-use Rattle.laws.proofs.Words.{cond_both, and_parts, and_from, or_left, or_right, false≢true, not-true, flat_map-append, position-Some, told_by_group, told_by_roots, each_of_front, told_are_few}
+use Rattle.laws.proofs.Words.{cond_both, and_parts, and_from, or_left, or_right, false≢true, not-true, flat_map-append, position-Some, told_by_group, told_by_roots, each_of_front, told_are_few, list_any_at}
 use Rattle.laws.specs.Words.{AllByRecursion, list_any, awakened, has_id, is_negotiated_phase, agreed_sharing, runs, frame_of, Item, same_address, Fault, FaultKind, Protocol, Addr, Cid, Phase, Negotiated, Group, Peer, has_address, addresses_of, watched, Reply, Seen, is_listed, group_of, is_advertised, most_told, served_to, ending, idle, Effect, then_do, on_entry, Machine, Entry, entry_at, reply_on, handled_in, handled, replies, stops_if, serves, begins, takes_requests, asked_as, answered_as, talks}
 use Rattle.peer_book.specs.Book.{peer_at as peer_in}
 use Rattle.laws.specs.Words.reply
@@ -11,7 +11,7 @@ use Rattle.laws.specs.Served.{Sent, sent_by, sent_in, is_tellable, MayBeTold, mo
 use Rattle.laws.specs.Untouched.{IsAsItWas}
 use Rattle.laws.specs.Steady.{IsOrdered}
 use Rattle.laws.proofs.Addresses.{same_address-self}
-use Rattle.laws.proofs.Lists.{find_some, any-at, all-weaker, all-both, filter-all}
+use Rattle.laws.proofs.Lists.{find_some, all-weaker, all-both, filter-all}
 use Rattle.laws.proofs.Picks.{filter-passing}
 use Rattle.laws.proofs.Locals.{not_local-no_member}
 use Rattle.laws.proofs.Moments.{ending-none}
@@ -34,7 +34,7 @@ advertised-tellable m addr h =
     (ap not (not_local-no_member addr m.groups (ap (λ o. not (is_some o)) none))) (told_by_roots addr m.groups m.roots.publics none ∙ h)))
     (λ place some.
     let at = position-Some (λ group. is_listed addr group.members) m.groups place some_group some in
-    or_left grouped apart (any-at (λ group. group.advertise && is_listed addr group.members) m.groups place some_group at.0
+    or_left grouped apart (list_any_at (λ group. group.advertise && is_listed addr group.members) m.groups place some_group at.0
     (and_from (get_or m.groups place some_group).advertise (is_listed addr (get_or m.groups place some_group).members)
     (told_by_group addr m.groups m.roots.publics place some_group some ∙ h) at.1)))
 

@@ -1,7 +1,7 @@
 -- A connection whose handshake is done: whatever comes in, the connections stay in order and within the limit.
 use Rattle.std.proofs.Common.{ℕ, ◌+◌, [], ◌∷◌, cond, not, is_some, ◌≤◌, ◌≡◌, Bool, true, false, ◌||◌, ◌==◌, if◌then◌else◌, List, find, set, Option, Some, None, Result, Ok, Err, refl, sym, ap, ◌∙◌, subst, arith, eqb-true, eq-eqb}
 use Rattle.laws.proofs.Words.{cond_both, both_ways, false≢true, or_right}
-use Rattle.laws.specs.Words.{same_address, Fault, FaultKind, Protocol, UnknownId, Addr, Facts, Responders, Peer, Hot, awakened, idled, effective_of, has_responder, is_live, agreed_sharing, has_id, is_negotiated, runs, some_runs, Item, watched, seen_by_number, chain_sync_seen, block_fetch_seen, tx_submission_seen, keep_alive_seen, peer_sharing_seen, Reply, Seen, item_number_of, alive_of, share_of, Share, is_established, Machine, Entry, Owed, counted_in, entry_at, live_entry_at, Effect, Move, shared, nothing_more, then_do, on_entry, on_connection, peer_at, peer_becomes, peer_comes, with_entry, entry_turns, ending, trim, awake, idle, replies, stops_if, serves, begins, takes_requests, asked_as, shares_address, taken_of, takes_addresses, pays, brings, answered_as, talks, reply_on, without_reply, paid, Cid}
+use Rattle.laws.specs.Words.{same_address, Fault, FaultKind, Protocol, UnknownId, Addr, Facts, Responders, Peer, Hot, awakened, idled, effective_of, has_responder, is_live, agreed_sharing, has_id, is_negotiated, runs, some_runs, Item, watched, seen_by_number, chain_sync_seen, block_fetch_seen, tx_submission_seen, keep_alive_seen, peer_sharing_seen, Reply, Seen, item_number_of, alive_of, share_of, Share, is_established, Machine, Entry, Owed, counted_in, entry_at, live_entry_at, Effect, Move, shared, nothing_more, then_do, on_entry, on_connection, peer_at, peer_becomes, peer_comes, with_entry, entry_turns, ending, trim, awake, idle, replies, stops_if, serves, begins, takes_requests, shares_address, taken_of, takes_addresses, brings, talks, reply_on, without_reply, paid, Cid}
 use Rattle.laws.specs.Words.reply
 use Rattle.laws.specs.Words.share
 use Rattle.laws.proofs.Effects.{counted-running}
@@ -24,6 +24,7 @@ use Rattle.laws.proofs.OwnAddress.{IsOther, taken-other}
 use Rattle.laws.proofs.Remains.{trim-found, woken-runs as protocol-runs}
 use Rattle.laws.proofs.Walk.{replies-machine}
 use Rattle.laws.proofs.Cases.{by_bool, by_option, some_same}
+use Rattle.laws.proofs.ItemCases.{talks-cases}
 
 -- ---- only known protocols are answered
 
@@ -143,20 +144,13 @@ serves-trimmed seen protocol cid m h within running = by_option (entry_at cid.0 
     (subst (λ n. Trimmed IsLawful n (stops_if seen.done protocol e n)) same
     (stops_if-trimmed seen.done protocol m e at.place h within at.stands (running e is))))
 
-asked_as-trimmed : (r : Result Seen FaultKind) (item : List ℕ) (sharing : Bool) (protocol : ℕ) (m : Machine) (e : Entry) (k : ℕ) →
-    watched protocol sharing item ≡ r → Talking m e k →
-    Trimmed IsLawful m (asked_as r protocol e m)
-asked_as-trimmed (Err kind) item sharing protocol m e k is t = ends kind m e k t
-asked_as-trimmed (Ok seen) item sharing protocol m e k is t =
-    let known : has_responder protocol ≡ true = seen-known protocol sharing item seen is in
-    by_bool (takes_requests e)
-    (λ b. Trimmed IsLawful m (if b then then_do (begins protocol e m) (on_connection e.facts.cid (serves seen protocol)) else ending (Fault Protocol) e m))
-    (λ takes.
-    let first : Effect = begins protocol e m in
-    let begun : Begun e.facts.cid.0 m first = begins-begun protocol m e k t takes known in
-    trimmed_then IsLawful m first (on_connection e.facts.cid (serves seen protocol)) begun.trimmed
-    (serves-trimmed seen protocol e.facts.cid first.machine begun.trimmed.ordered (trimmed-within IsLawful m first begun.trimmed) begun.runs))
-    (λ takes. ends Protocol m e k t)
+asked-trimmed : (item : Item) (seen : Seen) (m : Machine) (e : Entry) (k : ℕ) → watched item.id (agreed_sharing e.facts.agreed) item.body ≡ Ok seen → takes_requests e ≡ true →
+    Talking m e k → Trimmed IsLawful m (then_do (begins item.id e m) (on_connection e.facts.cid (serves seen item.id)))
+asked-trimmed item seen m e k is takes t =
+    let first : Effect = begins item.id e m in
+    let begun : Begun e.facts.cid.0 m first = begins-begun item.id m e k t takes (seen-known item.id (agreed_sharing e.facts.agreed) item.body seen is) in
+    trimmed_then IsLawful m first (on_connection e.facts.cid (serves seen item.id)) begun.trimmed
+    (serves-trimmed seen item.id e.facts.cid first.machine begun.trimmed.ordered (trimmed-within IsLawful m first begun.trimmed) begun.runs)
 
 -- ---- the other side answers
 
@@ -253,10 +247,9 @@ paid-obeys : (Law : Move → Type 0) (protocol : ℕ) (m : Machine) (e : Entry) 
 paid-obeys Law protocol m e k h s =
     turns-obeys Law m e (paid protocol e) k h.orderly s (record { same_id = refl; same_addr = refl; live = λ l. l }) (paid-lower protocol e) (omega arith)
 
-answered_as-trimmed : (o : Option Owed) (item : Item) (m : Machine) (e : Entry) (k : ℕ) → reply_on item.id e ≡ o → Talking m e k →
-    Trimmed IsLawful m (answered_as o item e m)
-answered_as-trimmed None item m e k is t = ends Protocol m e k t
-answered_as-trimmed (Some owed) item m e k is t = by_test (pays owed item.body)
+answered_as-trimmed : (owed : Owed) (item : Item) (m : Machine) (e : Entry) (k : ℕ) → reply_on item.id e ≡ Some owed → Talking m e k →
+    Trimmed IsLawful m (then_do (entry_turns e (paid item.id e) m) (brings item.id item.body e))
+answered_as-trimmed owed item m e k is t = by_protocol (item.id == 2) refl
   where
     hot : item.id ≡ 2 → Trimmed IsLawful m (then_do (entry_turns e (paid item.id e) m) (peer_becomes Hot e.facts.addr))
     hot id =
@@ -281,16 +274,8 @@ answered_as-trimmed (Some owed) item m e k is t = by_test (pays owed item.body)
         trimmed_then IsLawful m first (λ n. if item.id == 8 then nothing_more n else takes_addresses (share_of item.body) n) one
         (brings-trimmed item.id item.body first.machine one.ordered (trimmed-within IsLawful m first one))
 
-    by_test : (b : Bool) →
-        Trimmed IsLawful m (if b then then_do (entry_turns e (paid item.id e) m) (brings item.id item.body e) else ending (Fault Protocol) e m)
-    by_test true = by_protocol (item.id == 2) refl
-    by_test false = ends Protocol m e k t
-
 -- an item comes in
 pub talks-trimmed : (item : Item) (m : Machine) (e : Entry) (k : ℕ) → Talking m e k →
     Trimmed IsLawful m (talks item e m)
-talks-trimmed item m e k t =
-    let sharing : Bool = agreed_sharing e.facts.agreed in
-    cond_both (item.side == 0) _ _ (Trimmed IsLawful m)
-    (λ asks. asked_as-trimmed (watched item.id sharing item.body) item.body sharing item.id m e k refl t)
-    (λ answers. answered_as-trimmed (reply_on item.id e) item m e k refl t)
+talks-trimmed item m e k t = talks-cases item e m (Trimmed IsLawful m) (λ fault. ends fault m e k t)
+    (λ first seen was takes. asked-trimmed item seen m e k was takes t) (λ second owed is. answered_as-trimmed owed item m e k is t)

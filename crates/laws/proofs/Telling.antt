@@ -146,14 +146,6 @@ pub record IsUnchanged (before after : Machine) : Type 0 where
   pub peers : after.peers ≡ before.peers
   pub next_id : after.next_id ≡ before.next_id
 
-unchanged-state : (cid : ℕ) (m n : Machine) → IsUnchanged m n → state_at cid m ≡ state_at cid n
-unchanged-state cid m n same = ap (λ es. state_at cid (record m { connections = es })) (sym same.connections)
-
-unchanged-stage : (cid : ℕ) (m n : Machine) → IsUnchanged m n → stage_at cid m ≡ stage_at cid n
-unchanged-stage cid m n same =
-    ap (λ es. stage_at cid (record m { connections = es })) (sym same.connections)
-    ∙ ap (λ next. stage_at cid (record m { connections = n.connections; next_id = next })) (sym same.next_id)
-
 pub told_unchanged : (m : Machine) (effect : Effect) → IsMute effect.actions → effect.moves ≡ [] → IsUnchanged m effect.machine → IsTold m effect
 told_unchanged m effect mute none same = record {
   closes = mute.closes ∙ sym (ap ends_in none);
@@ -163,10 +155,12 @@ told_unchanged m effect mute none same = record {
   peers = λ addr. subst (λ ns. LeadTo is_change noted (temp_at addr m) ns (temp_at addr effect.machine)) (sym (mute.notes addr))
       (ap (λ ps. temp_of (peer_in addr ps)) (sym same.peers));
   connections = λ cid.
-      let stage : stage_at cid m ≡ stage_at cid effect.machine = unchanged-stage cid m effect.machine same in
+      let stage : stage_at cid m ≡ stage_at cid effect.machine =
+      ap (λ es. stage_at cid (record m { connections = es })) (sym same.connections)
+      ∙ ap (λ next. stage_at cid (record m { connections = effect.machine.connections; next_id = next })) (sym same.next_id) in
       record {
         names = subst (λ ns. LeadTo is_other_name same_state (state_at cid m) ns (state_at cid effect.machine)) (sym (mute.names cid))
-            (unchanged-state cid m effect.machine same);
+            (ap (λ es. state_at cid (record m { connections = es })) (sym same.connections));
         address = subst (λ o. KeepsAddress (entry_at cid m) o) (ap (find (λ e. has_id cid e.facts)) (sym same.connections)) (keeps_itself (entry_at cid m));
         forward = omega (arith, stage);
         ends = subst (λ ms. IsOneEnd (causes_in cid ms) (stage_at cid m) (stage_at cid effect.machine)) (sym none) tt;

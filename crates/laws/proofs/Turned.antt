@@ -1,7 +1,7 @@
 -- What becomes of the connection that a part of an event is about.
-use Rattle.std.proofs.Common.{ℕ, ◌+◌, ◌<◌, ◌≡◌, Bool, true, false, ◌&&◌, ◌==◌, if◌then◌else◌, [], ◌∷◌, find, Option, Some, None, Result, Ok, Err, refl, sym, ap, ◌∙◌, subst, arith, eq-eqb, eqb-true}
+use Rattle.std.proofs.Common.{ℕ, ◌+◌, ◌<◌, ◌≡◌, Bool, true, false, ◌&&◌, ◌==◌, if◌then◌else◌, [], ◌∷◌, find, Option, Some, None, Result, Ok, Err, refl, sym, ap, ◌∙◌, subst, eq-eqb, eqb-true}
 use Rattle.laws.proofs.Words.{cond_both, both_ways, and_parts, and_from, false≢true, false_from_ne_true}
-use Rattle.laws.specs.Words.{option_map, connected, agreed_inbound, agreed_outbound, acquired, released, awakened, idled, expired, has_id, is_acquirable, is_dialing, is_live, is_live_at, agreed_sharing, runs, Order, Ask, Forget, Promote, Release, Activate, Deactivate, verdict_of, answer_of, Verdict, message_of, Message, is_awaited, fits_side, kind_of, CutFault, Item, same_address, Close, CloseCause, Unused, Refused, Query, Fault, FaultKind, Malformed, Protocol, HandshakeWait, ReplyWait, Addr, Phase, Greeting, Negotiated, Cold, Warm, Kind, watched, Seen, with_entry, entry_turns, ending, vanishes, closing_entry, acquire, trim, release, awake, idle, dial, dial_opens, dial_fails, fires_as, Effect, unused, nothing_more, tells, then_do, as_move, on_entry, closes, dialed, promoted_at, is_used_at, on_used, asks_peer, activates, deactivates, carries_out, role_of, judged, decided, greeted_by, greets, Machine, Entry, Owed, entry_at, live_entry_at, own_info, peer_at, peer_becomes, reply_on, owing, paid, handled_in, handled, faulted, stops_if, serves, begins, takes_requests, asked_as, pays, brings, answered_as}
+use Rattle.laws.specs.Words.{option_map, connected, agreed_inbound, agreed_outbound, acquired, released, awakened, idled, expired, has_id, is_acquirable, is_dialing, is_live, is_live_at, agreed_sharing, runs, Order, Ask, Forget, Promote, Release, Activate, Deactivate, verdict_of, answer_of, Verdict, message_of, Message, kind_of, CutFault, Item, same_address, Close, CloseCause, Unused, Refused, Query, Fault, FaultKind, Protocol, HandshakeWait, ReplyWait, Addr, Phase, Greeting, Negotiated, Cold, Warm, Kind, watched, Seen, with_entry, entry_turns, ending, vanishes, closing_entry, acquire, trim, release, awake, idle, dial, dial_opens, dial_fails, fires_as, Effect, unused, nothing_more, tells, then_do, as_move, on_entry, closes, dialed, promoted_at, is_used_at, on_used, asks_peer, activates, deactivates, carries_out, role_of, judged, decided, greets, Machine, Entry, entry_at, live_entry_at, own_info, peer_at, owing, paid, handled_in, handled, faulted, stops_if, serves, begins, brings, Facts, is_used, on_connection}
 use Rattle.laws.specs.Words.verdict
 use Rattle.laws.specs.Words.kind
 use Rattle.laws.specs.Acts.{Act, fires_one, carries, ends_dial, stores, handles_item, ends_stream, is_closed, does}
@@ -11,17 +11,18 @@ use Rattle.laws.specs.Steady.{IsShaped, IsOrdered}
 use Rattle.laws.proofs.Addresses.{same_address-true}
 use Rattle.laws.proofs.CarriedOut.{used_one}
 use Rattle.laws.proofs.Goes.{vanishes-none}
-use Rattle.laws.proofs.Walk.{answer-machine, says_done-machine, replies-machine, Finds, Stands, found-stands, Scope, taken, on_those, trim-walk, brings-walk, acquire-walk, release-walk, asks_peer-walk, activates-walk, begins-walk}
+use Rattle.laws.proofs.Walk.{answer-machine, replies-machine, Finds, Stands, found-stands, Scope, taken, on_those, trim-walk, brings-walk, acquire-walk, release-walk, asks_peer-walk, activates-walk, begins-walk, is_released, turned_by, cooled, release-machine}
 use Rattle.laws.proofs.Lawful.{stands-found}
 use Rattle.laws.proofs.Lists.{FoundIn, find_some, find_only, All-stands}
 use Rattle.laws.proofs.Moments.{gone-none, ending-none, turned-found}
 use Rattle.laws.proofs.Shapes.{local-negotiated, can_acquire}
 use Rattle.laws.proofs.Ties.{live_here}
 use Rattle.laws.proofs.ToldMoves.{turns_at-connections}
-use Rattle.laws.proofs.Waits.{Waits, was_then}
+use Rattle.laws.proofs.Waits.{Waits, was_then, waits_then}
 use Rattle.laws.proofs.WaitsOfParts.{Waited, waits-kept, changed-waits, dial-waits}
 use Rattle.laws.proofs.WholeMoves.{negotiated-live}
 use Rattle.laws.proofs.Cases.{by_bool, by_option}
+use Rattle.laws.proofs.ItemCases.{greets-cases, talks-cases}
 
 -- ---- what it turns into
 
@@ -96,11 +97,22 @@ vanishes-becomes o e m = gone-becomes o e.facts.cid.0 (vanishes e m).machine (va
 abbrev nobody : Scope
 nobody = on_those (λ cid. false)
 
-abbrev everybody : Scope
-everybody = on_those (λ cid. true)
-
 then-becomes : (o : Option Entry) (cid : ℕ) (m n : Machine) → cid < m.next_id → Becomes o cid m → Waits nobody m n → Becomes o cid n
 then-becomes o cid m n given h w = was_then o (entry_at cid m) (entry_at cid n) h ((w.each cid).others refl given)
+
+-- it comes into use
+used_so : (f : Facts) (e : Entry) (m : Machine) → f.cid ≡ e.facts.cid → Becomes (Some (taken f e m)) e.facts.cid.0 (is_used f e m).machine
+used_so f e m same =
+    let n : Machine = with_entry (taken f e m) m in
+    subst (λ es. IsAsItWas (Some (taken f e m)) (find (λ x. has_id e.facts.cid.0 x.facts) es))
+    (sym (turns_at-connections (peer_at f.addr n) (λ p. record p { temp = Warm; failures = 0 }) n)) (turned-becomes e (taken f e m) m same)
+
+-- what is done with this one alone
+abbrev alone : Entry → Scope
+alone g = on_those (λ cid. g.facts.cid.0 == cid)
+
+stands_alone : (e : Entry) (m : Machine) → entry_at e.facts.cid.0 m ≡ Some e → Stands (alone e) e m
+stands_alone e m is = found-stands (alone e) e.facts.cid.0 m e is (eq-eqb e.facts.cid.0 e.facts.cid.0 refl)
 
 -- ---- a deadline
 
@@ -137,27 +149,17 @@ faulted-becomes (Some fault) e m is = ending-becomes (Some e) (Fault (kind_of fa
 pub judged-becomes : (v : Verdict) (e : Entry) (m : Machine) → Becomes (turned_by_verdict v e m) e.facts.cid.0 (judged v e m).machine
 judged-becomes (verdict.Accept agreed) e m = turned-becomes e (record e { facts = agreed_inbound agreed (m.now + m.settings.idle) e.facts }) m refl
 judged-becomes verdict.Query e m = ending-becomes None Query e m
-judged-becomes (verdict.Agree agreed) e m =
-    let new : Entry = taken (agreed_outbound agreed (m.now + m.settings.idle) e.facts) e m in
-    let n : Machine = with_entry new m in
-    subst (λ es. IsAsItWas (Some new) (find (λ x. has_id e.facts.cid.0 x.facts) es)) (sym (turns_at-connections (peer_at e.facts.addr n) (λ p. record p { temp = Warm; failures = 0 }) n))
-    (turned-becomes e new m refl)
+judged-becomes (verdict.Agree agreed) e m = used_so (agreed_outbound agreed (m.now + m.settings.idle) e.facts) e m refl
 judged-becomes verdict.Wrong e m = ending-becomes None (Fault Protocol) e m
 judged-becomes other e m = ending-becomes None Refused e m
 
-greeted_by-becomes : (o : Option Message) (side : ℕ) (e : Entry) (m : Machine) → Becomes (turned_by_message o e m) e.facts.cid.0 (greeted_by o side e m).machine
-greeted_by-becomes None side e m = ending-becomes None (Fault Malformed) e m
-greeted_by-becomes (Some msg) side e m =
-    let v : Verdict = verdict_of (role_of e.facts.provenance) (own_info m.settings) msg in
-    cond_both (fits_side (role_of e.facts.provenance) side msg) (decided v e m) (ending (Fault Protocol) e m) (λ effect. Becomes (turned_by_verdict v e m) e.facts.cid.0 effect.machine)
-    (λ fits. subst (λ n. Becomes (turned_by_verdict v e m) e.facts.cid.0 (judged v e n).machine) (sym (answer-machine (answer_of v (own_info m.settings)) e.facts.cid m)) (judged-becomes v e m))
-    (λ other. ending-becomes (turned_by_verdict v e m) (Fault Protocol) e m)
-
 greets-becomes : (item : Item) (e : Entry) (m : Machine) → Becomes (turned_by_message (message_of item.body) e m) e.facts.cid.0 (greets item e m).machine
-greets-becomes item e m =
-    cond_both (item.id == 0 && is_awaited (role_of e.facts.provenance) item.side) (greeted_by (message_of item.body) item.side e m) (ending (Fault Protocol) e m)
-    (λ effect. Becomes (turned_by_message (message_of item.body) e m) e.facts.cid.0 effect.machine) (λ heard. greeted_by-becomes (message_of item.body) item.side e m)
-    (λ other. ending-becomes (turned_by_message (message_of item.body) e m) (Fault Protocol) e m)
+greets-becomes item e m = greets-cases item e m (λ effect. Becomes (turned_by_message (message_of item.body) e m) e.facts.cid.0 effect.machine)
+    (λ fault. ending-becomes (turned_by_message (message_of item.body) e m) (Fault fault) e m)
+    (λ msg is.
+    let v : Verdict = verdict_of (role_of e.facts.provenance) (own_info m.settings) msg in
+    subst (λ o. Becomes (turned_by_message o e m) e.facts.cid.0 (decided v e m).machine) (sym is)
+    (subst (λ n. Becomes (turned_by_verdict v e m) e.facts.cid.0 (judged v e n).machine) (sym (answer-machine (answer_of v (own_info m.settings)) e.facts.cid m)) (judged-becomes v e m)))
 
 -- ---- an item once the handshake is done
 
@@ -179,13 +181,16 @@ begins-becomes protocol e m given is =
     (λ running. stands-becomes e m is)
     (λ silent. then-becomes (Some new) e.facts.cid.0 n (trim e.facts.cid n).machine given (turned-becomes e new m refl) (trim-walk nobody (Waited nobody) (waits-kept nobody) e.facts.cid n))
 
-asked-becomes : (r : Result Seen FaultKind) (protocol : ℕ) (e : Entry) (m : Machine) → e.facts.cid.0 < m.next_id → entry_at e.facts.cid.0 m ≡ Some e →
-    Becomes (turned_by_request r protocol e m) e.facts.cid.0 (asked_as r protocol e m).machine
-asked-becomes (Err fault) protocol e m given is = ending-becomes None (Fault fault) e m
-asked-becomes (Ok seen) protocol e m given is =
-    cond_both (takes_requests e) (then_do (begins protocol e m) (λ w. on_entry (entry_at e.facts.cid.0 w) (serves seen protocol) w)) (ending (Fault Protocol) e m)
-    (λ effect. Becomes (Some after) e.facts.cid.0 effect.machine)
-    (λ takes. by_option (entry_at e.facts.cid.0 n)
+served-becomes : (seen : Seen) (protocol : ℕ) (e : Entry) (m : Machine) → e.facts.cid.0 < m.next_id → entry_at e.facts.cid.0 m ≡ Some e →
+    Becomes (Some (stopped seen.done protocol (m.now + m.settings.idle) (begun protocol e))) e.facts.cid.0 (then_do (begins protocol e m) (on_connection e.facts.cid (serves seen protocol))).machine
+served-becomes seen protocol e m given is =
+    let until : ℕ = m.now + m.settings.idle in
+    let after : Entry = stopped seen.done protocol until (begun protocol e) in
+    let n : Machine = (begins protocol e m).machine in
+    -- the clock and the settings stay
+    let w : Waits (alone e) m n = begins-walk (alone e) (Waited (alone e)) (waits-kept (alone e)) protocol e m (stands_alone e m is) in
+    let same : n.now + n.settings.idle ≡ until = ap (λ t. t + n.settings.idle) w.unset.now ∙ ap (λ s. m.now + s.idle) w.unset.settings in
+    by_option (entry_at e.facts.cid.0 n)
     (λ o. IsAsItWas (Some (begun protocol e)) o → Becomes (Some after) e.facts.cid.0 (on_entry o (serves seen protocol) n).machine)
     (λ none was. gone-becomes (Some after) e.facts.cid.0 n none)
     (λ f here was.
@@ -194,41 +199,18 @@ asked-becomes (Ok seen) protocol e m given is =
     subst (λ x. Becomes (Some x) e.facts.cid.0 (serves seen protocol f n).machine)
     (ap (λ t. stopped seen.done protocol t f) same ∙ ap (stopped seen.done protocol until) it)
     (subst (λ c. Becomes (Some (stopped seen.done protocol (n.now + n.settings.idle) f)) c (serves seen protocol f n).machine) own
-    (serves-becomes seen protocol f n (subst (λ c. entry_at c n ≡ Some f) (sym own) here)))) (begins-becomes protocol e m given is)) (λ other. ending-becomes (Some after) (Fault Protocol) e m)
-  where
-    until : ℕ
-    until = m.now + m.settings.idle
-
-    after : Entry
-    after = stopped seen.done protocol until (begun protocol e)
-
-    n : Machine
-    n = (begins protocol e m).machine
-
-    -- the clock and the settings stay
-    same : n.now + n.settings.idle ≡ until
-    same =
-        let w = begins-walk everybody (Waited everybody) (waits-kept everybody) protocol e m (found-stands everybody e.facts.cid.0 m e is refl) in
-        ap (λ t. t + n.settings.idle) w.unset.now ∙ ap (λ s. m.now + s.idle) w.unset.settings
-
-answered-becomes : (o : Option Owed) (item : Item) (e : Entry) (m : Machine) → e.facts.cid.0 < m.next_id → Becomes (Some (paid item.id e)) e.facts.cid.0 (answered_as o item e m).machine
-answered-becomes None item e m given = ending-becomes (Some (paid item.id e)) (Fault Protocol) e m
-answered-becomes (Some owed) item e m given =
-    let n : Machine = with_entry (paid item.id e) m in
-    cond_both (pays owed item.body) (then_do (entry_turns e (paid item.id e) m) (brings item.id item.body e)) (ending (Fault Protocol) e m)
-    (λ effect. Becomes (Some (paid item.id e)) e.facts.cid.0 effect.machine)
-    (λ pays. then-becomes (Some (paid item.id e)) e.facts.cid.0 n (brings item.id item.body e n).machine given (turned-becomes e (paid item.id e) m refl) (brings-walk nobody (Waited nobody) (waits-kept nobody) item.id item.body e n))
-    (λ other. ending-becomes (Some (paid item.id e)) (Fault Protocol) e m)
+    (serves-becomes seen protocol f n (subst (λ c. entry_at c n ≡ Some f) (sym own) here)))) (begins-becomes protocol e m given is)
 
 handled-becomes : (p : Phase) (item : Item) (e : Entry) (m : Machine) → e.facts.cid.0 < m.next_id → entry_at e.facts.cid.0 m ≡ Some e →
     Becomes (turned_by_item p item e m) e.facts.cid.0 (handled_in p item e m).machine
 handled-becomes (Greeting until) item e m given is = greets-becomes item e m
 handled-becomes Negotiated item e m given is =
-    let seen : Result Seen FaultKind = watched item.id (agreed_sharing e.facts.agreed) item.body in
-    by_bool (item.side == 0)
-    (λ b. Becomes (if b then turned_by_request seen item.id e m else Some (paid item.id e)) e.facts.cid.0
-    (if b then asked_as seen item.id e m else answered_as (reply_on item.id e) item e m).machine)
-    (λ asks. asked-becomes seen item.id e m given is) (λ answers. answered-becomes (reply_on item.id e) item e m given)
+    let n : Machine = with_entry (paid item.id e) m in
+    talks-cases item e m (λ effect. Becomes (turned_by_item Negotiated item e m) e.facts.cid.0 effect.machine)
+    (λ fault. ending-becomes (turned_by_item Negotiated item e m) (Fault fault) e m)
+    (λ first seen was takes. rw (first, was) (served-becomes seen item.id e m given is))
+    (λ second owed here. rw second (then-becomes (Some (paid item.id e)) e.facts.cid.0 n (brings item.id item.body e n).machine given (turned-becomes e (paid item.id e) m refl)
+    (brings-walk nobody (Waited nobody) (waits-kept nobody) item.id item.body e n)))
 handled-becomes other item e m given is = stands-becomes e m is
 
 -- ---- an order
@@ -238,9 +220,6 @@ record Ordered (addr : Addr) (m : Machine) (e : Entry) : Type 0 where
   ordered : IsOrdered m
   is : entry_at e.facts.cid.0 m ≡ Some e
   here : same_address e.facts.addr addr ≡ true
-
-abbrev alone : Entry → Scope
-alone g = on_those (λ cid. g.facts.cid.0 == cid)
 
 pub given_id : (m : Machine) (e : Entry) → IsOrdered m → entry_at e.facts.cid.0 m ≡ Some e → e.facts.cid.0 < m.next_id
 given_id m e h is =
@@ -275,67 +254,45 @@ used-becomes : (addr : Addr) (act : Entry → Machine → Effect) (new : Entry) 
 used-becomes addr act new m e o others turns = by_bool e.facts.local
     (λ b. Becomes (Some (if b then new else e)) e.facts.cid.0 (on_used addr act m).machine)
     (λ local. subst (λ x. Becomes (Some new) e.facts.cid.0 (on_entry x act m).machine) (sym (used-found addr m e o local)) turns)
-    (λ not_used. by_found not_used (find (is_used_at addr) m.connections) refl)
-  where
-    by_found : e.facts.local ≡ false → (found : Option Entry) → find (is_used_at addr) m.connections ≡ found → Becomes (Some e) e.facts.cid.0 (on_entry found act m).machine
-    by_found not_used None none = stands-becomes e m o.is
-    by_found not_used (Some g) at =
-        let place : FoundIn (is_used_at addr) m.connections g = find_some (is_used_at addr) m.connections g at in
-        let stands : entry_at g.facts.cid.0 m ≡ Some g = stands-found m g place.place o.ordered.orderly place.stands in
-        other-becomes (λ x. x.facts.local) m (act g m).machine e g o.ordered o.is stands not_used (and_parts (is_live_at addr g.facts) g.facts.local place.passes).1
-        (others g (found-stands (alone g) g.facts.cid.0 m g stands (eq-eqb g.facts.cid.0 g.facts.cid.0 refl)))
+    (λ not_used. by_option (find (is_used_at addr) m.connections) (λ found. Becomes (Some e) e.facts.cid.0 (on_entry found act m).machine)
+    (λ none. stands-becomes e m o.is)
+    (λ g at.
+    let place : FoundIn (is_used_at addr) m.connections g = find_some (is_used_at addr) m.connections g at in
+    let stands : entry_at g.facts.cid.0 m ≡ Some g = stands-found m g place.place o.ordered.orderly place.stands in
+    other-becomes (λ x. x.facts.local) m (act g m).machine e g o.ordered o.is stands not_used (and_parts (is_live_at addr g.facts) g.facts.local place.passes).1
+    (others g (stands_alone g m stands))))
 
 promotes-becomes : (addr : Addr) (m : Machine) (e : Entry) → Ordered addr m e → Becomes (Some (turned_by_order (Promote addr) e m)) e.facts.cid.0 (promoted_at (live_entry_at addr m) addr m).machine
-promotes-becomes addr m e o = by_bool (is_acquirable e.facts)
+promotes-becomes addr m e o =
+    let new : Entry = taken (acquired e.facts) e m in
+    let dials : Becomes (Some e) e.facts.cid.0 (dial addr m).machine =
+    then-becomes (Some e) e.facts.cid.0 m (dial addr m).machine (given_id m e o.ordered o.is) (stands-becomes e m o.is) (dial-waits nobody addr m) in
+    by_bool (is_acquirable e.facts)
     (λ b. Becomes (Some (if b then new else e)) e.facts.cid.0 (promoted_at (live_entry_at addr m) addr m).machine)
     (λ free.
     let place : FoundIn (λ x. has_id e.facts.cid.0 x.facts) m.connections e = find_some (λ x. has_id e.facts.cid.0 x.facts) m.connections e o.is in
     let live : is_live e.facts ≡ true = negotiated-live e.facts.phase (can_acquire e.facts free).negotiated in
     let found : live_entry_at addr m ≡ Some e = subst (λ a. live_entry_at a m ≡ Some e) (same_address-true e.facts.addr addr o.here) (live_here m e place.place o.ordered.orderly place.stands live) in
-    let n : Machine = with_entry new m in
-    let takes : Becomes (Some new) e.facts.cid.0 (acquire e m).machine =
-    subst (λ es. IsAsItWas (Some new) (find (λ x. has_id e.facts.cid.0 x.facts) es)) (sym (turns_at-connections (peer_at e.facts.addr n) (λ p. record p { temp = Warm; failures = 0 }) n))
-    (turned-becomes e new m refl) in
     subst (λ x. Becomes (Some new) e.facts.cid.0 (promoted_at x addr m).machine) (sym found)
-    (subst (λ b. Becomes (Some new) e.facts.cid.0 (if b then acquire e m else dial addr m).machine) (sym free) takes))
-    (λ other. by_live other (live_entry_at addr m) refl)
-  where
-    new : Entry
-    new = taken (acquired e.facts) e m
+    (subst (λ b. Becomes (Some new) e.facts.cid.0 (if b then acquire e m else dial addr m).machine) (sym free) (used_so (acquired e.facts) e m refl)))
+    (λ other. by_option (live_entry_at addr m) (λ found. Becomes (Some e) e.facts.cid.0 (promoted_at found addr m).machine)
+    (λ none. dials)
+    (λ g at.
+    let place : FoundIn (λ x. is_live_at addr x.facts) m.connections g = find_some (λ x. is_live_at addr x.facts) m.connections g at in
+    let stands : entry_at g.facts.cid.0 m ≡ Some g = stands-found m g place.place o.ordered.orderly place.stands in
+    cond_both (is_acquirable g.facts) (acquire g m) (dial addr m) (λ effect. Becomes (Some e) e.facts.cid.0 effect.machine)
+    (λ free. other-becomes (λ x. is_acquirable x.facts) m (acquire g m).machine e g o.ordered o.is stands other free
+    (acquire-walk (alone g) (Waited (alone g)) (waits-kept (alone g)) g m refl (stands_alone g m stands))) (λ busy. dials)))
 
-    dials : Becomes (Some e) e.facts.cid.0 (dial addr m).machine
-    dials = then-becomes (Some e) e.facts.cid.0 m (dial addr m).machine (given_id m e o.ordered o.is) (stands-becomes e m o.is) (dial-waits nobody addr m)
-
-    by_live : is_acquirable e.facts ≡ false → (found : Option Entry) → live_entry_at addr m ≡ found → Becomes (Some e) e.facts.cid.0 (promoted_at found addr m).machine
-    by_live other None none = dials
-    by_live other (Some g) at =
-        let place : FoundIn (λ x. is_live_at addr x.facts) m.connections g = find_some (λ x. is_live_at addr x.facts) m.connections g at in
-        let stands : entry_at g.facts.cid.0 m ≡ Some g = stands-found m g place.place o.ordered.orderly place.stands in
-        cond_both (is_acquirable g.facts) (acquire g m) (dial addr m) (λ effect. Becomes (Some e) e.facts.cid.0 effect.machine)
-        (λ free. other-becomes (λ x. is_acquirable x.facts) m (acquire g m).machine e g o.ordered o.is stands other free
-        (acquire-walk (alone g) (Waited (alone g)) (waits-kept (alone g)) g m refl (found-stands (alone g) g.facts.cid.0 m g stands (eq-eqb g.facts.cid.0 g.facts.cid.0 refl)))) (λ busy. dials)
-
-release-becomes : (e : Entry) (m : Machine) → e.facts.cid.0 < m.next_id → Becomes (Some (record e { facts = released (m.now + m.settings.idle) e.facts })) e.facts.cid.0 (release e m).machine
+release-becomes : (e : Entry) (m : Machine) → e.facts.cid.0 < m.next_id → Becomes (Some (turned_by is_released e m)) e.facts.cid.0 (release e m).machine
 release-becomes e m given =
-    subst (λ n. Becomes (Some new) e.facts.cid.0 (rest n).machine) (sym (says_done-machine e.facts m))
-    (then-becomes (Some new) e.facts.cid.0 o (trim e.facts.cid o).machine (omega (arith, given, cooled.next))
-    (then-becomes (Some new) e.facts.cid.0 n o given (turned-becomes e new m refl) cooled) (trim-walk nobody (Waited nobody) (waits-kept nobody) e.facts.cid o))
-  where
-    new : Entry
-    new = record e { facts = released (m.now + m.settings.idle) e.facts }
-
-    rest : Machine → Effect
-    rest w = then_do (entry_turns e (record e { facts = released (w.now + w.settings.idle) e.facts }) w)
-        (λ x. then_do (peer_becomes Cold e.facts.addr x) (trim e.facts.cid))
-
-    n : Machine
-    n = with_entry new m
-
-    o : Machine
-    o = (peer_becomes Cold e.facts.addr n).machine
-
-    cooled : Waits nobody n o
-    cooled = changed-waits nobody (peer_at e.facts.addr n) (λ p. record p { temp = Cold }) n
+    let new : Entry = turned_by is_released e m in
+    let n : Machine = with_entry new m in
+    let o : Machine = cooled e m in
+    let trims : Waits nobody o (trim e.facts.cid o).machine = trim-walk nobody (Waited nobody) (waits-kept nobody) e.facts.cid o in
+    subst (Becomes (Some new) e.facts.cid.0) (sym (release-machine e m))
+    (then-becomes (Some new) e.facts.cid.0 n (trim e.facts.cid o).machine given (turned-becomes e new m refl)
+    (waits_then nobody n o (trim e.facts.cid o).machine (changed-waits nobody (peer_at e.facts.addr n) (λ p. record p { temp = Cold }) n) trims))
 
 orders-become : (order : Order) (m : Machine) (e : Entry) → Ordered (address_of order) m e → Becomes (Some (turned_by_order order e m)) e.facts.cid.0 (carries_out order m).machine
 orders-become (Ask addr n) m e o = used-becomes addr (asks_peer n) (owing 10 n m e) m e o (λ g stands. asks_peer-walk (alone g) (Waited (alone g)) (waits-kept (alone g)) n g m refl stands)

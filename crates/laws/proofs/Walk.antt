@@ -1,13 +1,12 @@
 -- What each part of an event is made of: a connection turns, comes or goes, a peer does, and something is sent. A relation between
 -- what stood before and what came of it that holds of each of these, and of one after the other, holds of the part.
-use Rattle.std.proofs.Common.{ℕ, ◌+◌, ◌%◌, ◌≡◌, Bool, true, false, ◌&&◌, ◌==◌, nat_le, if◌then◌else◌, List, [], ◌∷◌, find, Option, Some, None, Result, Ok, Err, refl, sym, ap, ◌∙◌, subst, eqb-true, eq-eqb}
+use Rattle.std.proofs.Common.{ℕ, ◌+◌, ◌%◌, ◌≡◌, Bool, true, false, ◌==◌, if◌then◌else◌, List, [], ◌∷◌, find, Option, Some, None, refl, sym, ap, ◌∙◌, subst, eqb-true, eq-eqb}
 use Rattle.laws.proofs.Words.{cond_both, and_parts}
-use Rattle.laws.specs.Words.{unwrap_or, choice_of, connected, agreed_inbound, agreed_outbound, acquired, released, awakened, idled, expired, has_id, is_acquirable, is_dialing, is_live, is_live_at, live_phase, runs, agreed_sharing, Order, Ask, Forget, Promote, Release, Activate, Deactivate, verdict_of, answer_of, proposal_of, Verdict, message_of, Message, is_awaited, fits_side, kind_of, frame_of, CutFault, Item, same_address, Undecoded, Close, Send, Away, CloseCause, Unused, Pruned, Overwritten, Refused, Query, Fault, FaultKind, Malformed, Protocol, HandshakeWait, ReplyWait, Addr, Agreed, Cid, Facts, Phase, Greeting, Negotiated, Closing, Peer, Cold, Warm, Hot, Kind, watched, Reply, Seen, share_of, written_alive, written_request, Done, Share, with_entry, entry_turns, entry_goes, ending, vanishes, closing_entry, is_used, acquire, candidates_in, trim, says_done, release, awake, dial, dial_opens, dial_fails, fires_as, Effect, Happened, promoted, activated, shared, unused, gone, nothing_more, tells, then_do, as_move, on_entry, on_connection, for_each, turned_away, admitted, peer_connects, closes, dialed, promoted_at, is_used_at, on_used, asks_peer, activates, deactivates, carries_out, role_of, sends_answer, judged, decided, greeted_by, greets, Machine, Entry, Owed, counted_in, entry_at, live_entry_at, own_info, peer_changes, peer_succeeds, peer_becomes, peer_was_asked, peer_comes, peer_goes, is_wanted_big, comes_big, reply_on, owing, paid, sends_as_initiator, find_intersect, chain_sync_done, peer_sharing_done, handled_in, handled, faulted, replies, stops_if, serves, begins, takes_requests, asked_as, shares_address, taken_of, takes_addresses, pays, brings, answered_as, talks}
+use Rattle.laws.specs.Words.{connected, agreed_inbound, agreed_outbound, acquired, released, awakened, idled, expired, has_id, is_acquirable, is_dialing, is_live, is_live_at, live_phase, runs, agreed_sharing, Order, Ask, Forget, Promote, Release, Activate, Deactivate, verdict_of, answer_of, proposal_of, Verdict, kind_of, frame_of, CutFault, Item, same_address, Undecoded, Close, Send, Away, CloseCause, Unused, Pruned, Overwritten, Refused, Query, Fault, Protocol, HandshakeWait, ReplyWait, Addr, Agreed, Cid, Facts, Phase, Greeting, Negotiated, Closing, Peer, Cold, Warm, Hot, Kind, Reply, Seen, written_alive, written_request, Done, with_entry, entry_turns, entry_goes, ending, vanishes, closing_entry, is_used, acquire, trim, says_done, release, awake, dial, dial_opens, dial_fails, fires_as, Effect, Happened, promoted, activated, shared, unused, gone, nothing_more, tells, then_do, as_move, on_entry, on_connection, turned_away, admitted, peer_connects, closes, dialed, promoted_at, is_used_at, on_used, asks_peer, activates, deactivates, carries_out, role_of, sends_answer, judged, greets, Machine, Entry, entry_at, live_entry_at, own_info, peer_changes, peer_succeeds, peer_becomes, peer_was_asked, peer_comes, peer_goes, is_wanted_big, comes_big, owing, paid, sends_as_initiator, find_intersect, chain_sync_done, peer_sharing_done, handled_in, handled, faulted, replies, stops_if, serves, begins, brings, talks}
 use Rattle.laws.specs.Words.verdict
 use Rattle.laws.specs.Words.kind
 use Rattle.laws.specs.Words.reply
 use Rattle.warm_messages.specs.declared.alive.Alive.TheVariants.{Ask as AskAlive}
-use Rattle.laws.specs.Words.share
 use Rattle.laws.specs.Acts.{Act, shows, fires_one, asks_for_roots, carries, connects, ends_dial, stores, handles_item, ends_stream, is_closed, sets_targets, sets_big_targets, sets_groups, sets_roots, makes_ordinary, provides, provides_big, does}
 use Rattle.laws.specs.InActions.{ended_by}
 use Rattle.laws.specs.OpenEnds.{goes_by_itself}
@@ -20,6 +19,7 @@ use Rattle.laws.proofs.Lawful.{stands-found}
 use Rattle.laws.proofs.Lists.{find_some}
 use Rattle.laws.proofs.Cases.{by_option}
 use Rattle.laws.proofs.Connects.{connects-cases}
+use Rattle.laws.proofs.ItemCases.{greets-cases, talks-cases, brings-cases, trim-cases}
 
 -- ---- what a connection turns into
 
@@ -80,6 +80,26 @@ answer-machine (Some bytes) cid m = refl
 pub says_done-machine : (f : Facts) (m : Machine) → (says_done f m).machine ≡ m
 says_done-machine f m = cond_both (agreed_sharing f.agreed) (sends_as_initiator f.cid 10 peer_sharing_done m) (nothing_more m) (λ effect. effect.machine ≡ m)
     (λ sharing. refl) (λ other. refl)
+
+-- one that is released stands so before one too many is pruned
+abbrev pub cooled : Entry → Machine → Machine
+cooled e m = (peer_becomes Cold e.facts.addr (with_entry (turned_by is_released e m) m)).machine
+
+pub release-machine : (e : Entry) (m : Machine) → (release e m).machine ≡ (trim e.facts.cid (cooled e m)).machine
+release-machine e m = ap (λ n. (trim e.facts.cid (cooled e n)).machine) (says_done-machine e.facts m)
+
+-- what is said, what the connection turns into, its peer that is cold, and one too many
+pub release-parts : (R : Machine → Effect → Type 0) →
+    ((m : Machine) (first : Effect) (next : Machine → Effect) → R m first → R first.machine (next first.machine) → R m (then_do first next)) →
+    (e : Entry) (m : Machine) → R m (says_done e.facts m) → R m (entry_turns e (turned_by is_released e m) m) →
+    R (with_entry (turned_by is_released e m) m) (peer_becomes Cold e.facts.addr (with_entry (turned_by is_released e m) m)) → R (cooled e m) (trim e.facts.cid (cooled e m)) →
+    R m (release e m)
+release-parts R both e m says turns cold trims =
+    let cools : Machine → Effect = λ w. then_do (peer_becomes Cold e.facts.addr w) (trim e.facts.cid) in
+    let rest : Machine → Effect = λ w. then_do (entry_turns e (turned_by is_released e w) w) cools in
+    let n : Machine = with_entry (turned_by is_released e m) m in
+    both m (says_done e.facts m) rest says (subst (λ w. R w (rest w)) (sym (says_done-machine e.facts m))
+    (both m (entry_turns e (turned_by is_released e m) m) cools turns (both n (peer_becomes Cold e.facts.addr n) (trim e.facts.cid) cold trims)))
 
 pub replies-machine : (r : Reply) (protocol : ℕ) (e : Entry) (m : Machine) → (replies r protocol e m).machine ≡ m
 replies-machine reply.Nothing protocol e m = refl
@@ -167,9 +187,7 @@ module _ (scope : Scope) (R : Machine → Effect → Type 0) (kept : Kept scope 
       (λ is. kept.when_nothing m) (λ e is. each e is)
 
   pub trim-walk : (moved : Cid) (m : Machine) → R m (trim moved m)
-  trim-walk moved m = cond_both (nat_le (counted_in m) m.settings.hard) (nothing_more m)
-      (on_connection (unwrap_or (choice_of (candidates_in m)) moved) (ending Pruned) m) (R m) (λ within. kept.when_nothing m)
-      (λ above. on_found (unwrap_or (choice_of (candidates_in m)) moved).0 (ending Pruned) m (λ e is. kept.when_ended Pruned e m))
+  trim-walk moved m = trim-cases moved m (R m) (kept.when_nothing m) (λ e is. kept.when_ended Pruned e m)
 
   -- ---- a deadline
 
@@ -202,21 +220,8 @@ module _ (scope : Scope) (R : Machine → Effect → Type 0) (kept : Kept scope 
       (says-walk f.cid 8 (written_alive Done) first.machine may)
 
   pub release-walk : (e : Entry) (m : Machine) → scope.sends ≡ true → Stands scope e m → R m (release e m)
-  release-walk e m may stands =
-      kept.when_both m (says_done e.facts m) rest (says_done-walk e.facts m may)
-      (subst (λ w. R w (rest w)) (sym (says_done-machine e.facts m))
-      (kept.when_both m (entry_turns e (turned_by is_released e m) m) cools (kept.when_turned is_released e m stands)
-      (kept.when_both n (peer_becomes Cold e.facts.addr n) (trim e.facts.cid) (kept.when_changed e.facts.addr (λ p. record p { temp = Cold }) n (λ p. refl))
-      (trim-walk e.facts.cid (peer_becomes Cold e.facts.addr n).machine))))
-    where
-      cools : Machine → Effect
-      cools w = then_do (peer_becomes Cold e.facts.addr w) (trim e.facts.cid)
-
-      rest : Machine → Effect
-      rest w = then_do (entry_turns e (turned_by is_released e w) w) cools
-
-      n : Machine
-      n = with_entry (turned_by is_released e m) m
+  release-walk e m may stands = release-parts R kept.when_both e m (says_done-walk e.facts m may) (kept.when_turned is_released e m stands)
+      (kept.when_changed e.facts.addr (λ p. record p { temp = Cold }) (with_entry (turned_by is_released e m) m) (λ p. refl)) (trim-walk e.facts.cid (cooled e m))
 
   pub asks_peer-walk : (number : ℕ) (e : Entry) (m : Machine) → scope.sends ≡ true → Stands scope e m → R m (asks_peer number e m)
   asks_peer-walk number e m may stands =
@@ -279,12 +284,10 @@ module _ (scope : Scope) (R : Machine → Effect → Type 0) (kept : Kept scope 
   -- it goes by itself where the dial has failed
   pub dialed-walk : (opened : Bool) (e : Entry) (m : Machine) → scope.sends ≡ true → Stands scope e m →
       (is_dialing e.facts ≡ true → opened ≡ false → scope.goes e.facts.cid.0 ≡ true) → R m (dialed opened e m)
-  dialed-walk opened e m may stands itself = by_tests (is_dialing e.facts) refl opened refl
-    where
-      by_tests : (b : Bool) → is_dialing e.facts ≡ b → (c : Bool) → opened ≡ c → R m (if b then (if c then dial_opens e m else dial_fails e m) else nothing_more m)
-      by_tests true dials true open_ = opens-walk e m may stands
-      by_tests true dials false fails = kept.when_moved (gone e.facts.cid.0) m (vanishes e m) refl (kept.when_gone e m (itself dials fails))
-      by_tests false other c is = kept.when_nothing m
+  dialed-walk opened e m may stands itself = cond_both (is_dialing e.facts) (if opened then dial_opens e m else dial_fails e m) (nothing_more m) (R m)
+      (λ dials. cond_both opened (dial_opens e m) (dial_fails e m) (R m) (λ open_. opens-walk e m may stands)
+      (λ fails. kept.when_moved (gone e.facts.cid.0) m (vanishes e m) refl (kept.when_gone e m (itself dials fails))))
+      (λ other. kept.when_nothing m)
 
   closes-walk : (e : Entry) (m : Machine) → scope.goes e.facts.cid.0 ≡ true → R m (closes e m)
   closes-walk e m itself = cond_both (is_live e.facts) (vanishes e m) (nothing_more m) (R m) (λ live. kept.when_gone e m itself) (λ closed. kept.when_nothing m)
@@ -299,19 +302,13 @@ module _ (scope : Scope) (R : Machine → Effect → Type 0) (kept : Kept scope 
   judged-walk verdict.Wrong e m may stands = kept.when_ended (Fault Protocol) e m
   judged-walk other e m may stands = kept.when_ended Refused e m
 
-  greeted_by-walk : (o : Option Message) (side : ℕ) (e : Entry) (m : Machine) → scope.sends ≡ true → Stands scope e m → R m (greeted_by o side e m)
-  greeted_by-walk None side e m may stands = kept.when_ended (Fault Malformed) e m
-  greeted_by-walk (Some msg) side e m may stands =
+  greets-walk : (item : Item) (e : Entry) (m : Machine) → scope.sends ≡ true → Stands scope e m → R m (greets item e m)
+  greets-walk item e m may stands = greets-cases item e m (R m) (λ fault. kept.when_ended (Fault fault) e m)
+      (λ msg is.
       let v : Verdict = verdict_of (role_of e.facts.provenance) (own_info m.settings) msg in
       let answer : Option (List ℕ) = answer_of v (own_info m.settings) in
-      cond_both (fits_side (role_of e.facts.provenance) side msg) (decided v e m) (ending (Fault Protocol) e m) (R m)
-      (λ fits. kept.when_both m (sends_answer answer e.facts.cid m) (judged v e) (answers-walk answer e.facts.cid m may)
+      kept.when_both m (sends_answer answer e.facts.cid m) (judged v e) (answers-walk answer e.facts.cid m may)
       (subst (λ w. R w (judged v e w)) (sym (answer-machine answer e.facts.cid m)) (judged-walk v e m may stands)))
-      (λ other. kept.when_ended (Fault Protocol) e m)
-
-  greets-walk : (item : Item) (e : Entry) (m : Machine) → scope.sends ≡ true → Stands scope e m → R m (greets item e m)
-  greets-walk item e m may stands = cond_both (item.id == 0 && is_awaited (role_of e.facts.provenance) item.side) (greeted_by (message_of item.body) item.side e m)
-      (ending (Fault Protocol) e m) (R m) (λ heard. greeted_by-walk (message_of item.body) item.side e m may stands) (λ other. kept.when_ended (Fault Protocol) e m)
 
   -- ---- an item once the handshake is done
 
@@ -329,50 +326,20 @@ module _ (scope : Scope) (R : Machine → Effect → Type 0) (kept : Kept scope 
       (λ silent. kept.when_both m (entry_turns e (turned_by (awakes protocol) e m) m) (trim e.facts.cid) (kept.when_turned (awakes protocol) e m stands)
       (trim-walk e.facts.cid (with_entry (turned_by (awakes protocol) e m) m)))
 
-  asked_as-walk : (r : Result Seen FaultKind) (protocol : ℕ) (e : Entry) (m : Machine) → scope.sends ≡ true → Stands scope e m → R m (asked_as r protocol e m)
-  asked_as-walk (Err fault) protocol e m may stands = kept.when_ended (Fault fault) e m
-  asked_as-walk (Ok seen) protocol e m may stands =
-      let first : Effect = begins protocol e m in
-      cond_both (takes_requests e) (then_do first (on_connection e.facts.cid (serves seen protocol))) (ending (Fault Protocol) e m) (R m)
-      (λ takes. kept.when_both m first (on_connection e.facts.cid (serves seen protocol)) (begins-walk protocol e m stands)
-      (on_found e.facts.cid.0 (serves seen protocol) first.machine
-      (λ f is. serves-walk seen protocol f first.machine may (found-stands scope e.facts.cid.0 first.machine f is stands.own))))
-      (λ other. kept.when_ended (Fault Protocol) e m)
-
   comes-walk : (big : Bool) (addr : Addr) (m : Machine) → R m (as_move (shared addr) m (peer_comes big addr m))
   comes-walk big addr m = kept.when_moved (shared addr) m (peer_comes big addr m) refl (kept.when_known big addr m)
 
-  shares-walk : (addrs : List Addr) (m : Machine) → R m (for_each shares_address addrs m)
-  unfolding for_each
-  shares-walk [] m = kept.when_nothing m
-  shares-walk (a ∷ addrs) m = kept.when_both m (shares_address a m) (for_each shares_address addrs) (comes-walk false a m) (shares-walk addrs (shares_address a m).machine)
-
-  takes-walk : (o : Option Share) (m : Machine) → R m (takes_addresses o m)
-  takes-walk None m = kept.when_nothing m
-  takes-walk (Some (share.Request n)) m = kept.when_nothing m
-  takes-walk (Some (share.Peers told)) m = shares-walk (taken_of told m) m
-  takes-walk (Some share.Done) m = kept.when_nothing m
-
   pub brings-walk : (protocol : ℕ) (body : List ℕ) (e : Entry) (m : Machine) → R m (brings protocol body e m)
-  brings-walk protocol body e m =
-      cond_both (protocol == 2) (peer_becomes Hot e.facts.addr m) (if protocol == 8 then nothing_more m else takes_addresses (share_of body) m) (R m)
-      (λ on_2. kept.when_changed e.facts.addr (λ p. record p { temp = Hot }) m (λ p. refl))
-      (λ not_2. cond_both (protocol == 8) (nothing_more m) (takes_addresses (share_of body) m) (R m) (λ on_8. kept.when_nothing m)
-      (λ not_8. takes-walk (share_of body) m))
-
-  pub answered_as-walk : (o : Option Owed) (item : Item) (e : Entry) (m : Machine) → Stands scope e m → R m (answered_as o item e m)
-  answered_as-walk None item e m stands = kept.when_ended (Fault Protocol) e m
-  answered_as-walk (Some owed) item e m stands =
-      cond_both (pays owed item.body) (then_do (entry_turns e (paid item.id e) m) (brings item.id item.body e)) (ending (Fault Protocol) e m) (R m)
-      (λ pays. kept.when_both m (entry_turns e (paid item.id e) m) (brings item.id item.body e) (kept.when_turned (is_paid item.id) e m stands)
-      (brings-walk item.id item.body e (with_entry (paid item.id e) m)))
-      (λ other. kept.when_ended (Fault Protocol) e m)
+  brings-walk = brings-cases R kept.when_nothing kept.when_both (comes-walk false) (λ addr m. kept.when_changed addr (λ p. record p { temp = Hot }) m (λ p. refl))
 
   talks-walk : (item : Item) (e : Entry) (m : Machine) → scope.sends ≡ true → Stands scope e m → R m (talks item e m)
   talks-walk item e m may stands =
-      let seen : Result Seen FaultKind = watched item.id (agreed_sharing e.facts.agreed) item.body in
-      cond_both (item.side == 0) (asked_as seen item.id e m) (answered_as (reply_on item.id e) item e m) (R m)
-      (λ asks. asked_as-walk seen item.id e m may stands) (λ answers. answered_as-walk (reply_on item.id e) item e m stands)
+      let n : Machine = (begins item.id e m).machine in
+      talks-cases item e m (R m) (λ fault. kept.when_ended (Fault fault) e m)
+      (λ first seen was takes. kept.when_both m (begins item.id e m) (on_connection e.facts.cid (serves seen item.id)) (begins-walk item.id e m stands)
+      (on_found e.facts.cid.0 (serves seen item.id) n (λ f here. serves-walk seen item.id f n may (found-stands scope e.facts.cid.0 n f here stands.own))))
+      (λ second owed is. kept.when_both m (entry_turns e (paid item.id e) m) (brings item.id item.body e) (kept.when_turned (is_paid item.id) e m stands)
+      (brings-walk item.id item.body e (with_entry (paid item.id e) m)))
 
   pub handled-walk : (p : Phase) (item : Item) (e : Entry) (m : Machine) → scope.sends ≡ true → Stands scope e m → R m (handled_in p item e m)
   handled-walk (Greeting until) item e m may stands = greets-walk item e m may stands
@@ -463,12 +430,10 @@ module _ (act : Act) (m : Machine) (R : Machine → Effect → Type 0) (kept : K
 
 -- Whatever each change keeps holds of each part that sets nothing.
 pub walk : (act : Act) (m : Machine) (R : Machine → Effect → Type 0) → IsChange act → IsNext act m → Finds act m → Kept (scope_of act m) R → R m (does act m)
-walk (shows t) m R sets next found kept = elim sets [ ]
 walk (fires_one d) m R change next found kept =
     named-walk (fires_one d) m R kept d.cid.0 (fires_as d.kind) (own_id d.cid.0)
     (λ e is same stands. fires-walk (scope_of (fires_one d) m) R kept d.kind e m refl stands
     (λ sort timely. waiting-closed d.cid.0 d.at m e is (subst (λ k. until_at k d.cid.0 m ≡ Some d.at) sort next.waited)))
-walk asks_for_roots m R sets next found kept = elim sets [ ]
 walk (carries order) m R change next found kept = orders-walk (scope_of (carries order) m) R kept order m refl refl (orderly-finds order m found.orderly)
 walk (connects addr) m R change next found kept = connects-walk (scope_of (connects addr) m) R kept addr m refl
 walk (ends_dial cid opened) m R change next found kept =
@@ -487,10 +452,7 @@ walk (ends_stream cid fault) m R change next found kept =
 walk (is_closed cid) m R change next found kept =
     named-walk (is_closed cid) m R kept cid.0 closes (own_id cid.0)
     (λ e is same stands. closes-walk (scope_of (is_closed cid) m) R kept e m (eq-eqb cid.0 e.facts.cid.0 same))
-walk (sets_targets targets) m R sets next found kept = elim sets [ ]
-walk (sets_big_targets targets) m R sets next found kept = elim sets [ ]
-walk (sets_groups groups) m R sets next found kept = elim sets [ ]
-walk (sets_roots roots) m R sets next found kept = elim sets [ ]
 walk (makes_ordinary addr) m R change next found kept = kept.when_changed addr (λ p. record p { big = false }) m (λ p. refl)
 walk (provides addr) m R change next found kept = kept.when_known false addr m
 walk (provides_big addr) m R change next found kept = big-walk (scope_of (provides_big addr) m) R kept addr m
+walk other m R sets next found kept = elim sets [ ]

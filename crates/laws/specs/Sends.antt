@@ -1,6 +1,6 @@
 -- What is sent: what is due by each part of an event, and nothing else.
-use Rattle.std.specs.Prelude.{ℕ, ◌%◌, ◌≡◌, Bool, true, false, ◌&&◌, ◌==◌, List, [], ◌∷◌, ◌++◌, find, if◌then◌else◌, Option, Some, None}
-use Rattle.laws.specs.Words.{agreed_sharing, is_acquirable, is_dialing, is_live_at, is_outbound, Order, Ask, Forget, Promote, Release, Activate, Deactivate, verdict_of, answer_of, proposal_of, Acceptor, Dialer, Verdict, message_of, Message, frame_of, Item, Addr, Facts, Phase, Dialing, Greeting, Negotiated, Closing, written_alive, written_request, Effect, Machine, Entry, entry_at, live_entry_at}
+use Rattle.std.specs.Prelude.{ℕ, ◌%◌, ◌≡◌, Bool, true, false, ◌&&◌, ◌==◌, List, [], ◌∷◌, ◌++◌, find, filter, if◌then◌else◌, Option, Some, None}
+use Rattle.laws.specs.Words.{Action, Close, agreed_sharing, is_acquirable, is_dialing, is_live_at, is_outbound, Order, Ask, Forget, Promote, Release, Activate, Deactivate, verdict_of, answer_of, proposal_of, Acceptor, Dialer, Verdict, message_of, Message, frame_of, Item, Addr, Facts, Phase, Dialing, Greeting, Negotiated, Closing, written_alive, written_request, Effect, Machine, Entry, entry_at, live_entry_at}
 use Rattle.laws.specs.Words.verdict
 use Rattle.laws.specs.Words.alive
 use Rattle.laws.specs.Acts.{Act, carries, ends_dial, handles_item}
@@ -111,3 +111,15 @@ SendsRight (ends_dial cid opened) before effect =
 SendsRight (carries order) before effect = sent_in effect.actions ≡ due_by_order order before
 SendsRight (handles_item own item) before effect = SendsOnItem (entry_at own.0 before) item before effect
 SendsRight other before effect = sent_in effect.actions ≡ []
+
+-- ---- what is closed
+
+-- those that are sent on a connection
+abbrev pub sent_on : ℕ → List Sent → List Sent
+sent_on cid sent = filter (λ s. s.cid == cid) sent
+
+-- Behind the close of a connection nothing is sent on it.
+abbrev pub ClosesLast : List Action → Type 0
+ClosesLast [] = Unit {0}
+ClosesLast (Close cid cause ∷ actions) = (sent_on cid.0 (sent_in actions) ≡ []) × ClosesLast actions
+ClosesLast (other ∷ actions) = ClosesLast actions
