@@ -1,20 +1,25 @@
--- Behind the close of a connection nothing is sent on it.
-use Rattle.std.proofs.Common.{ℕ, ◌+◌, ◌%◌, ◌≡◌, if◌then◌else◌, Bool, true, false, ◌&&◌, ◌==◌, List, [], ◌∷◌, ◌++◌, filter, Option, Some, None, Result, Ok, Err, refl, sym, ap, ◌∙◌, subst, eqb-true, eq-eqb}
-use Rattle.laws.proofs.Words.{cond_both, both_ways, false≢true, flat_map-append, filter-append}
-use Rattle.laws.specs.Words.{AllByRecursion, FaultKind, Fault, Protocol, Malformed, Refused, Query, Pruned, Action, Close, Send, State, Addr, Cid, Facts, Peer, Cold, Warm, Phase, Greeting, Negotiated, agreed_sharing, is_acquirable, is_dialing, connected, agreed_inbound, agreed_outbound, acquired, runs, has_id, same_name, name_of, same_temp, Item, Message, Verdict, verdict_of, answer_of, proposal_of, written_alive, written_request, Done, lost, is_missed, without_entry, peer_fails, failed_peer, Order, Ask, Forget, Promote, Release, Activate, Deactivate, Seen, Reply, Effect, nothing_more, tells, then_do, on_entry, on_connection, entry_turns, with_entry, ending, dial, dial_opens, dial_fails, is_used, acquire, release, says_done, trim, awake, begins, serves, stops_if, replies, asked_as, answered_as, takes_requests, talks, handled, handled_in, greets, decided, judged, sends_answer, sends_as_initiator, peer_sharing_done, find_intersect, chain_sync_done, owing, peer_at, turns_at, note_of, peer_succeeds, peer_becomes, peer_was_asked, promoted_at, on_used, asks_peer, activates, deactivates, carries_out, dialed, own_info, role_of, Machine, Entry, entry_at, live_entry_at, reply_on, watched}
+-- What is said is said to who is open, and behind the close of a connection nothing.
+use Rattle.std.proofs.Common.{ℕ, ◌+◌, ◌%◌, ◌≤◌, ◌≡◌, nat_lt, find, arith, flat_map, if◌then◌else◌, Bool, true, false, ◌&&◌, ◌==◌, List, [], ◌∷◌, ◌++◌, filter, Option, Some, None, Result, Ok, Err, refl, sym, ap, ◌∙◌, subst, eqb-true, eq-eqb}
+use Rattle.laws.proofs.Words.{cond_both, and_parts, false≢true, flat_map-append, filter-append}
+use Rattle.laws.specs.Words.{AllByRecursion, FaultKind, Fault, Protocol, Malformed, Refused, Query, Pruned, Action, Close, Send, State, Addr, Cid, Facts, Peer, Cold, Warm, Phase, Dialing, Greeting, Negotiated, CloseCause, Unused, same_address, is_live, is_live_at, is_used_at, is_dialing_phase, agreed_sharing, is_acquirable, is_dialing, connected, agreed_inbound, agreed_outbound, acquired, runs, has_id, same_name, name_of, same_temp, Item, Message, Verdict, verdict_of, answer_of, proposal_of, written_alive, written_request, Done, lost, is_missed, without_entry, peer_fails, failed_peer, Order, Ask, Forget, Promote, Release, Activate, Deactivate, Seen, Reply, Effect, nothing_more, tells, then_do, on_entry, on_connection, entry_turns, with_entry, ending, dial, dial_opens, dial_fails, is_used, acquire, release, says_done, trim, awake, begins, serves, stops_if, replies, asked_as, answered_as, takes_requests, talks, handled, handled_in, greets, decided, judged, sends_answer, sends_as_initiator, peer_sharing_done, find_intersect, chain_sync_done, owing, peer_at, turns_at, note_of, peer_succeeds, peer_becomes, peer_was_asked, promoted_at, on_used, asks_peer, activates, deactivates, carries_out, dialed, own_info, role_of, Machine, Entry, entry_at, live_entry_at, reply_on, watched}
 use Rattle.net_base.specs.declared.action.Action.TheVariants.{Peer as TellPeer}
 use Rattle.laws.specs.Words.reply
 use Rattle.warm_messages.specs.declared.alive.Alive.TheVariants.{Ask as AskAlive}
 use Rattle.laws.specs.Words.verdict
 use Rattle.laws.specs.Acts.{Act, asks_for_roots, carries, connects, ends_dial, handles_item, does}
-use Rattle.laws.specs.InActions.{End, closes_in}
+use Rattle.laws.specs.Ends.{offered}
+use Rattle.laws.specs.InActions.{End, closes_in, ends_in}
 use Rattle.laws.specs.Parts.{IsNext}
-use Rattle.laws.specs.Sends.{sent_on, used_with, ClosesLast}
+use Rattle.laws.specs.Sends.{says, keeps_alive, asks_where_chains_meet, no_more_headers, no_more_addresses, on_one, used_with, due_by_order, answers, comes_into_use, due_by_verdict, sent_on, ClosesLast, Speaks}
 use Rattle.laws.specs.Served.{Sent, sent_by, sent_in}
+use Rattle.laws.specs.Stages.{stage_of_phase, stage_of, stage_at, causes_by, causes_in, stage_ended, IsOneEnd}
+use Rattle.laws.specs.Steady.{IsOrdered}
+use Rattle.laws.specs.Telling.{IsTold}
 use Rattle.laws.proofs.ItemCases.{greets-cases, trim-cases}
-use Rattle.laws.proofs.Lists.{find_some}
+use Rattle.laws.proofs.Lawful.{stands-found, live_stage}
+use Rattle.laws.proofs.Lists.{find_some, all-weaker, all-appended}
 use Rattle.laws.proofs.Moments.{ending-none}
-use Rattle.laws.proofs.Sends.{gives_up, gives_up-silent, sends-right}
+use Rattle.laws.proofs.Sends.{gives_up, gives_up-silent, decided-sends, sends-right}
 use Rattle.laws.proofs.Silent.{sent-deaf, turns-silent, ending-silent, vanishes-silent, stops-silent, begins-silent, answered-silent}
 use Rattle.laws.proofs.Walk.{Finds, turned_by, awakes, idles}
 use Rattle.laws.proofs.Cases.{by_bool, by_option}
@@ -226,8 +231,174 @@ dialed-last opened e m = cond_both (is_dialing e.facts) (if opened then dial_ope
     (λ dials. cond_both opened (dial_opens e m) (dial_fails e m) (λ effect. ClosesLast effect.actions)
     (λ is. opens-last e m) (λ failed. no_sends (dial_fails e m).actions (vanishes-silent sent_by sent-deaf e m))) (λ other. tt)
 
-pub closes-last : (act : Act) (m : Machine) → IsNext act m → Finds act m → ClosesLast (does act m).actions
+closes-last : (act : Act) (m : Machine) → IsNext act m → Finds act m → ClosesLast (does act m).actions
 closes-last (carries order) m next found = orders-last order m
 closes-last (ends_dial cid opened) m next found = on_one-last (entry_at cid.0 m) (dialed opened) m (λ e. dialed-last opened e m)
 closes-last (handles_item cid item) m next found = on_one-last (entry_at cid.0 m) (handled item) m (λ e. handled-last e.facts.phase item e m)
 closes-last other m next found = no_sends (does other m).actions (sends-right other m next found)
+
+-- ---- to whom
+
+-- all of it is sent on one connection
+abbrev IsOwn : ℕ → List Sent → Type 0
+IsOwn cid sent = AllByRecursion (λ s. s.cid ≡ cid) sent
+
+abbrev IsOpen : Machine → List Sent → Type 0
+IsOpen m sent = AllByRecursion (λ s. stage_at s.cid m ≤ 3) sent
+
+own-open : (e : Entry) (m : Machine) (sent : List Sent) → entry_at e.facts.cid.0 m ≡ Some e → stage_of_phase e.facts.phase ≤ 3 → IsOwn e.facts.cid.0 sent → IsOpen m sent
+own-open e m sent is early own =
+    let stage : stage_at e.facts.cid.0 m ≡ stage_of_phase e.facts.phase = ap (λ o. stage_of o (nat_lt e.facts.cid.0 m.next_id)) is in
+    all-weaker (λ s. s.cid ≡ e.facts.cid.0) (λ s. stage_at s.cid m ≤ 3)
+    (λ s same. subst (λ c. stage_at c m ≤ 3) (sym same) (omega (arith, stage, early))) sent own
+
+-- who is found by a test that only live ones pass
+live-open : (q : Entry → Bool) (messages : Entry → List Sent) (m : Machine) → IsOrdered m → ((e : Entry) → q e ≡ true → is_live e.facts ≡ true) →
+    ((e : Entry) → IsOwn e.facts.cid.0 (messages e)) → IsOpen m (on_one (find q m.connections) messages)
+live-open q messages m h lives own = by_option (find q m.connections) (λ o. IsOpen m (on_one o messages)) (λ is. tt)
+    (λ e is.
+    let at = find_some q m.connections e is in
+    own-open e m (messages e) (stands-found m e at.place h.orderly at.stands) (live_stage e.facts.phase (lives e at.passes)) (own e))
+
+live_at : (addr : Addr) (e : Entry) → is_live_at addr e.facts ≡ true → is_live e.facts ≡ true
+live_at addr e live = (and_parts (same_address e.facts.addr addr) (is_live e.facts) live).1
+
+used-live : (addr : Addr) (e : Entry) → is_used_at addr e ≡ true → is_live e.facts ≡ true
+used-live addr e used = live_at addr e (and_parts (is_live_at addr e.facts) e.facts.local used).0
+
+orders-open : (order : Order) (m : Machine) → IsOrdered m → IsOpen m (due_by_order order m)
+orders-open (Ask addr n) m h = live-open (is_used_at addr) (λ e. says e.facts.cid.0 0 10 (written_request n) m) m h (used-live addr) (λ e. (refl, tt))
+orders-open (Forget addr) m h = tt
+orders-open (Promote addr) m h = live-open (λ e. is_live_at addr e.facts) (λ e. if is_acquirable e.facts then keeps_alive e.facts.cid.0 m else []) m h (live_at addr)
+    (λ e. cond_both (is_acquirable e.facts) (keeps_alive e.facts.cid.0 m) [] (IsOwn e.facts.cid.0) (λ free. (refl, tt)) (λ other. tt))
+orders-open (Release addr) m h =
+    live-open (is_used_at addr) (λ e. (if agreed_sharing e.facts.agreed then says e.facts.cid.0 0 10 no_more_addresses m else []) ++ says e.facts.cid.0 0 8 (written_alive Done) m) m h (used-live addr)
+    (λ e. cond_both (agreed_sharing e.facts.agreed) (says e.facts.cid.0 0 10 no_more_addresses m) [] (λ sent. IsOwn e.facts.cid.0 (sent ++ says e.facts.cid.0 0 8 (written_alive Done) m))
+    (λ sharing. (refl, (refl, tt))) (λ other. (refl, tt)))
+orders-open (Activate addr) m h = live-open (is_used_at addr) (λ e. says e.facts.cid.0 0 2 asks_where_chains_meet m) m h (used-live addr) (λ e. (refl, tt))
+orders-open (Deactivate addr) m h = live-open (is_used_at addr) (λ e. says e.facts.cid.0 0 2 no_more_headers m) m h (used-live addr) (λ e. (refl, tt))
+
+decided-own : (v : Verdict) (e : Entry) (m : Machine) → IsOwn e.facts.cid.0 (due_by_verdict v e.facts.cid.0 m)
+decided-own v e m = by_answer (answer_of v (offered m.settings))
+  where
+    alive : IsOwn e.facts.cid.0 (if comes_into_use v then keeps_alive e.facts.cid.0 m else [])
+    alive = cond_both (comes_into_use v) (keeps_alive e.facts.cid.0 m) [] (IsOwn e.facts.cid.0) (λ used. (refl, tt)) (λ other. tt)
+
+    by_answer : (o : Option (List ℕ)) → IsOwn e.facts.cid.0 (answers o e.facts.cid.0 m ++ (if comes_into_use v then keeps_alive e.facts.cid.0 m else []))
+    by_answer None = alive
+    by_answer (Some bytes) = (refl, alive)
+
+greets-own : (item : Item) (e : Entry) (m : Machine) → IsOwn e.facts.cid.0 (sent_in (greets item e m).actions)
+greets-own item e m = greets-cases item e m (λ effect. IsOwn e.facts.cid.0 (sent_in effect.actions))
+    (λ fault. subst (IsOwn e.facts.cid.0) (sym (ending-silent sent_by sent-deaf (Fault fault) e m)) tt)
+    (λ msg is. subst (IsOwn e.facts.cid.0) (sym (decided-sends (verdict_of (role_of e.facts.provenance) (own_info m.settings) msg) e m))
+    (decided-own (verdict_of (role_of e.facts.provenance) (own_info m.settings) msg) e m))
+
+serves-own : (seen : Seen) (protocol : ℕ) (f : Entry) (m : Machine) → IsOwn f.facts.cid.0 (sent_in (serves seen protocol f m).actions)
+serves-own seen protocol f m = by_reply seen.reply
+  where
+    by_reply : (r : Reply) → IsOwn f.facts.cid.0 (sent_in (then_do (replies r protocol f m) (stops_if seen.done protocol f)).actions)
+    by_reply reply.Nothing = subst (IsOwn f.facts.cid.0) (sym (stops-silent sent_by sent-deaf seen.done protocol f m)) tt
+    by_reply some = (refl, subst (IsOwn f.facts.cid.0) (sym (stops-silent sent_by sent-deaf seen.done protocol f m)) tt)
+
+asked-own : (r : Result Seen FaultKind) (protocol : ℕ) (e : Entry) (m : Machine) → IsOwn e.facts.cid.0 (sent_in (asked_as r protocol e m).actions)
+asked-own (Err fault) protocol e m = subst (IsOwn e.facts.cid.0) (sym (ending-silent sent_by sent-deaf (Fault fault) e m)) tt
+asked-own (Ok seen) protocol e m =
+    let first : Effect = begins protocol e m in
+    cond_both (takes_requests e) (then_do first (on_entry (entry_at e.facts.cid.0 first.machine) (serves seen protocol))) (ending (Fault Protocol) e m)
+    (λ effect. IsOwn e.facts.cid.0 (sent_in effect.actions))
+    (λ takes. by_option (entry_at e.facts.cid.0 first.machine) (λ o. IsOwn e.facts.cid.0 (sent_in (then_do first (on_entry o (serves seen protocol))).actions))
+    (λ is. behind None tt)
+    (λ f is. behind (Some f) (subst (λ c. IsOwn c (sent_in (serves seen protocol f first.machine).actions))
+    (eqb-true f.facts.cid.0 e.facts.cid.0 (find_some (λ x. has_id e.facts.cid.0 x.facts) first.machine.connections f is).passes) (serves-own seen protocol f first.machine))))
+    (λ other. subst (IsOwn e.facts.cid.0) (sym (ending-silent sent_by sent-deaf (Fault Protocol) e m)) tt)
+  where
+    behind : (o : Option Entry) → IsOwn e.facts.cid.0 (sent_in (on_entry o (serves seen protocol) (begins protocol e m).machine).actions) →
+        IsOwn e.facts.cid.0 (sent_in (then_do (begins protocol e m) (on_entry o (serves seen protocol))).actions)
+    behind o own = subst (IsOwn e.facts.cid.0)
+        (sym (flat_map-append sent_by (begins protocol e m).actions (on_entry o (serves seen protocol) (begins protocol e m).machine).actions
+        ∙ ap (λ xs. xs ++ sent_in (on_entry o (serves seen protocol) (begins protocol e m).machine).actions) (begins-silent sent_by sent-deaf protocol e m))) own
+
+talks-own : (item : Item) (e : Entry) (m : Machine) → IsOwn e.facts.cid.0 (sent_in (talks item e m).actions)
+talks-own item e m =
+    let asked : Result Seen FaultKind = watched item.id (agreed_sharing e.facts.agreed) item.body in
+    cond_both (item.side == 0) (asked_as asked item.id e m) (answered_as (reply_on item.id e) item e m) (λ effect. IsOwn e.facts.cid.0 (sent_in effect.actions))
+    (λ first. asked-own asked item.id e m) (λ other. subst (IsOwn e.facts.cid.0) (sym (answered-silent sent_by sent-deaf (reply_on item.id e) item e m)) tt)
+
+item-open : (cid : Cid) (item : Item) (m : Machine) → IsOpen m (sent_in (on_entry (entry_at cid.0 m) (handled item) m).actions)
+item-open cid item m = by_option (entry_at cid.0 m) (λ o. IsOpen m (sent_in (on_entry o (handled item) m).actions)) (λ is. tt)
+    (λ e is. by_phase e (subst (λ c. entry_at c m ≡ Some e) (sym (eqb-true e.facts.cid.0 cid.0 (find_some (λ x. has_id cid.0 x.facts) m.connections e is).passes)) is) e.facts.phase refl)
+  where
+    by_phase : (e : Entry) → entry_at e.facts.cid.0 m ≡ Some e → (p : Phase) → e.facts.phase ≡ p → IsOpen m (sent_in (handled_in p item e m).actions)
+    by_phase e is (Greeting until) phase = own-open e m (sent_in (greets item e m).actions) is (rw phase (omega arith)) (greets-own item e m)
+    by_phase e is Negotiated phase = own-open e m (sent_in (talks item e m).actions) is (rw phase (omega arith)) (talks-own item e m)
+    by_phase e is other phase = tt
+
+dial-open : (cid : Cid) (opened : Bool) (m : Machine) →
+    IsOpen m (on_one (entry_at cid.0 m) (λ e. if is_dialing e.facts && opened then says e.facts.cid.0 0 0 (proposal_of (own_info m.settings)) m else []))
+dial-open cid opened m = by_option (entry_at cid.0 m)
+    (λ o. IsOpen m (on_one o (λ e. if is_dialing e.facts && opened then says e.facts.cid.0 0 0 (proposal_of (own_info m.settings)) m else []))) (λ is. tt)
+    (λ e is. cond_both (is_dialing e.facts && opened) (says e.facts.cid.0 0 0 (proposal_of (own_info m.settings)) m) [] (IsOpen m)
+    (λ dials. own-open e m (says e.facts.cid.0 0 0 (proposal_of (own_info m.settings)) m)
+    (subst (λ c. entry_at c m ≡ Some e) (sym (eqb-true e.facts.cid.0 cid.0 (find_some (λ x. has_id cid.0 x.facts) m.connections e is).passes)) is)
+    (by_phase e.facts.phase (and_parts (is_dialing e.facts) opened dials).0) (refl, tt)) (λ other. tt))
+  where
+    by_phase : (p : Phase) → is_dialing_phase p ≡ true → stage_of_phase p ≤ 3
+    by_phase Dialing h = omega arith
+    by_phase other h = absurd (false≢true h)
+
+sends-open : (act : Act) (m : Machine) → IsNext act m → Finds act m → IsOpen m (sent_in (does act m).actions)
+sends-open (carries order) m next found = subst (IsOpen m) (sym (sends-right (carries order) m next found)) (orders-open order m found)
+sends-open (ends_dial cid opened) m next found = subst (IsOpen m) (sym (sends-right (ends_dial cid opened) m next found)) (dial-open cid opened m)
+sends-open (handles_item cid item) m next found = item-open cid item m
+sends-open other m next found = subst (IsOpen m) (sym (sends-right other m next found)) tt
+
+pub speaks-right : (act : Act) (m : Machine) → IsNext act m → Finds act m → Speaks m (does act m)
+speaks-right act m next found = record { to_open = sends-open act m next found; closes_last = closes-last act m next found }
+
+-- ---- one part behind another
+
+-- whom this node ends is closed then
+late_ends : (n : Machine) (ends : List End) → ((cid : ℕ) → (flat_map (causes_by cid) ends ≡ [] → ⊥) → 4 ≤ stage_at cid n) → AllByRecursion (λ end. 4 ≤ stage_at end.cid n) ends
+late_ends n [] late = tt
+late_ends n (end ∷ ends) late =
+    (late end.cid (λ none. by_own (end.cid == end.cid) (eq-eqb end.cid end.cid refl) none), late_ends n ends (λ cid some. late cid (λ none. some (by_id cid (end.cid == cid) none))))
+  where
+    by_own : (b : Bool) → b ≡ true → (if b then end.cause ∷ [] else []) ++ flat_map (causes_by end.cid) ends ≡ [] → ⊥
+    by_own true own none = absurd cc
+    by_own false own none = absurd (false≢true own)
+
+    by_id : (cid : ℕ) (b : Bool) → (if b then end.cause ∷ [] else []) ++ flat_map (causes_by cid) ends ≡ [] → flat_map (causes_by cid) ends ≡ []
+    by_id cid true none = absurd cc
+    by_id cid false none = none
+
+closed-late : (causes : List CloseCause) (before after : ℕ) → IsOneEnd causes before after → (causes ≡ [] → ⊥) → 4 ≤ after
+closed-late [] before after one some = absurd (some refl)
+closed-late (cause ∷ []) before after one some = let ended = one.1 in let four : 4 ≤ stage_ended cause = by_cause cause in omega (arith, ended, four)
+  where
+    by_cause : (c : CloseCause) → 4 ≤ stage_ended c
+    by_cause Unused = omega arith
+    by_cause other = omega arith
+closed-late (cause ∷ other ∷ causes) before after one some = absurd one
+
+none_on : (cid : ℕ) (n : Machine) (sent : List Sent) → 4 ≤ stage_at cid n → IsOpen n sent → sent_on cid sent ≡ []
+none_on cid n [] late open_ = refl
+none_on cid n (s ∷ sent) late open_ = by_id (s.cid == cid) refl (none_on cid n sent late open_.1)
+  where
+    by_id : (b : Bool) → (s.cid == cid) ≡ b → sent_on cid sent ≡ [] → (if b then s ∷ sent_on cid sent else sent_on cid sent) ≡ []
+    by_id true same rest = let early : stage_at cid n ≤ 3 = subst (λ c. stage_at c n ≤ 3) (eqb-true s.cid cid same) open_.0 in absurd (omega (arith, late, early))
+    by_id false other rest = rest
+
+pub speaks_then : (m : Machine) (first : Effect) (next : Machine → Effect) → IsTold m first → Speaks m first → Speaks first.machine (next first.machine) → Speaks m (then_do first next)
+speaks_then m first next told one two =
+    let n : Machine = first.machine in
+    let more : List Action = (next n).actions in
+    let late : AllByRecursion (λ end. 4 ≤ stage_at end.cid n) (ends_in first.moves) =
+    late_ends n (ends_in first.moves) (λ cid some. let on = told.connections cid in closed-late (causes_in cid first.moves) (stage_at cid m) (stage_at cid n) on.ends some) in
+    record {
+      to_open = subst (IsOpen m) (sym (flat_map-append sent_by first.actions more)) (all-appended (λ s. stage_at s.cid m ≤ 3) (sent_in first.actions) (sent_in more) one.to_open
+          (all-weaker (λ s. stage_at s.cid n ≤ 3) (λ s. stage_at s.cid m ≤ 3) (λ s early. let on = (told.connections s.cid).forward in omega (arith, early, on)) (sent_in more) two.to_open));
+      closes_last = both-last first.actions more one.closes_last two.closes_last
+          (all-weaker (λ end. 4 ≤ stage_at end.cid n) (λ end. sent_on end.cid (sent_in more) ≡ []) (λ end closed. none_on end.cid n (sent_in more) closed two.to_open) (closes_in first.actions)
+          (subst (AllByRecursion (λ end. 4 ≤ stage_at end.cid n)) (sym told.closes) late));
+    }

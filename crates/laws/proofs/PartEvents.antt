@@ -5,6 +5,7 @@ use Rattle.laws.specs.Words.{AllByRecursion, has_id, is_live, is_greeting, is_ne
 use Rattle.laws.specs.Acts.{Act, shows, fires_one, asks_for_roots, carries, connects, ends_dial, stores, handles_item, ends_stream, is_closed, sets_targets, sets_big_targets, sets_groups, sets_roots, makes_ordinary, provides, provides_big, does, fired_from, fired, orders_of, acts_at_moment, acts_fed, acts_of_bytes, acts_of_answer, acts, parts_of}
 use Rattle.laws.specs.AtMoves.{IsLawful, is_known, is_provided_by, fed_on}
 use Rattle.laws.specs.Parts.{IsAccounted, IsLawfulEvent, IsLawfulPart}
+use Rattle.laws.specs.Sends.{Speaks}
 use Rattle.laws.specs.Steady.{IsSteady, IsOrdered}
 use Rattle.laws.proofs.Addresses.{same_address-self, same_address-true}
 use Rattle.laws.proofs.CarriedOut.{carried-out}
@@ -217,5 +218,6 @@ event-lawful m event h =
       parts = parts-chain m event;
       each = all-placed (IsLawfulPart event) (parts_of m event) all.each;
       accounted = subst (IsAccounted event m) (sym (parts-chain m event)) (accounted_by event m (for_each does (acts m event) m) all.tells all.ends);
+      speaks = subst (Speaks m) (sym (parts-chain m event)) all.speaks;
       moves = moves-lawful m event h;
     }

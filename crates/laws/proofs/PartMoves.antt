@@ -7,6 +7,7 @@ use Rattle.laws.specs.AtMoves.{is_negotiated_entry, is_negotiated_at, is_ended_i
 use Rattle.laws.specs.OpenEnds.{is_open_entry, is_open_at, is_dialing_entry, goes_by_itself}
 use Rattle.laws.specs.CarriedOut.{IsDoneByOrder}
 use Rattle.laws.specs.Parts.{IsNext, IsDone, EndsOnce, IsAccounted, IsLawfulPart, RisesBy, Arrives}
+use Rattle.laws.specs.Sends.{Speaks}
 use Rattle.laws.specs.Stages.{stage_of_phase, stage_of, stage_at}
 use Rattle.laws.specs.Telling.{IsTold}
 use Rattle.laws.proofs.CarriedOut.{treats-book, pauses-right}
@@ -29,7 +30,7 @@ use Rattle.laws.proofs.WholeMoves.{negotiated-live}
 use Rattle.laws.proofs.WaitsOfParts.{waits-right, leaves-rest, is-set}
 use Rattle.laws.proofs.Rises.{NoneConnected, or_each, hot_or_asked-down, rises_nowhere, same-connected, rises_by_then}
 use Rattle.laws.proofs.Chain.{each_appended}
-use Rattle.laws.proofs.ClosesLast.{closes-last}
+use Rattle.laws.proofs.ClosesLast.{speaks-right, speaks_then}
 
 -- ---- who was negotiated before it
 
@@ -176,7 +177,7 @@ lawful-part event act m closes next order found h = record {
   responds = responds-right act m found;
   answers = answers-right act m found;
   sends = sends-right act m next found;
-  closes_last = closes-last act m next found;
+  speaks = speaks-right act m next found;
   remembers = (treats act m found).remembered;
   fails = (treats act m found).fails;
 }
@@ -186,6 +187,7 @@ lawful-part event act m closes next order found h = record {
 pub record AreLawful (event : Event) (acts : List Act) (m : Machine) : Type 0 where
   pub each : AllByRecursion (IsLawfulPart event) (parts_from acts m)
   pub tells : Tells event m (for_each does acts m)
+  pub speaks : Speaks m (for_each does acts m)
   pub ends : EndsKnown event m (for_each does acts m)
 
 pub no_part : (event : Event) (m : Machine) → AreLawful event [] m
@@ -193,6 +195,7 @@ unfolding parts_from for_each
 no_part event m = record {
   each = tt;
   tells = accounted-part event m (nothing_more m) (obeys_nothing (λ move. Unit {0}) m).accounted;
+  speaks = record { to_open = tt; closes_last = tt };
   ends = λ cid before. or_left (is_negotiated_at cid m) (false || is_closed_by cid event) before;
 }
 
@@ -202,6 +205,7 @@ unfolding parts_from for_each
 first_part event act acts m closes next order found h rest = record {
   each = (lawful-part event act m closes next order found h, rest.each);
   tells = tells_then event m (does act m) (for_each does acts) h rest.tells;
+  speaks = speaks_then m (does act m) (for_each does acts) h.told (speaks-right act m next found) rest.speaks;
   ends = stays_then is_negotiated_at (λ cid. is_closed_by cid event) m (does act m) (for_each does acts) (ends-known event act m closes next found h.told) rest.ends;
 }
 
@@ -219,6 +223,7 @@ pub more_parts : (event : Event) (xs ys : List Act) (m : Machine) → AreLawful 
 more_parts event xs ys m one two = record {
   each = each_more event xs ys m one.each two.each;
   tells = subst (Tells event m) (sym (each_appended does xs ys m)) (tells_then event m (for_each does xs m) (for_each does ys) one.tells two.tells);
+  speaks = subst (Speaks m) (sym (each_appended does xs ys m)) (speaks_then m (for_each does xs m) (for_each does ys) one.tells.told one.speaks two.speaks);
   ends = subst (EndsKnown event m) (sym (each_appended does xs ys m))
       (stays_then is_negotiated_at (λ cid. is_closed_by cid event) m (for_each does xs m) (for_each does ys) one.ends two.ends);
 }

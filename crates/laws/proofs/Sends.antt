@@ -124,7 +124,7 @@ answer-sends : (o : Option (List ℕ)) (cid : Cid) (m : Machine) → sent_in (se
 answer-sends None cid m = refl
 answer-sends (Some bytes) cid m = refl
 
-decided-sends : (v : Verdict) (e : Entry) (m : Machine) → sent_in (decided v e m).actions ≡ due_by_verdict v e.facts.cid.0 m
+pub decided-sends : (v : Verdict) (e : Entry) (m : Machine) → sent_in (decided v e m).actions ≡ due_by_verdict v e.facts.cid.0 m
 decided-sends v e m =
     let answer : Option (List ℕ) = answer_of v (own_info m.settings) in
     then-sends (sends_answer answer e.facts.cid m) (judged v e) (answers answer e.facts.cid.0 m) (if comes_into_use v then keeps_alive e.facts.cid.0 m else [])

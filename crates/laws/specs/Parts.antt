@@ -8,7 +8,7 @@ use Rattle.laws.specs.Begun.{WaitsBegin}
 use Rattle.laws.specs.Goes.{GoesWhere}
 use Rattle.laws.specs.Responders.{RespondsRight}
 use Rattle.laws.specs.RootsAsked.{AsksRight}
-use Rattle.laws.specs.Sends.{SendsRight, ClosesLast}
+use Rattle.laws.specs.Sends.{SendsRight, Speaks}
 use Rattle.laws.specs.Served.{AnswersRight}
 use Rattle.laws.specs.Acts.{Act, fires_one, carries, does, acts, Part, effect_of, parts_of}
 use Rattle.laws.specs.AtMoves.{is_closed_by, is_negotiated_at, is_up, is_hot_or_asked, is_known, promotes, activates, is_shared_in, is_provided_by, MovesAreLawful}
@@ -116,8 +116,8 @@ pub record IsLawfulPart (event : Event) (part : Part) : Type 0 where
   pub answers : AnswersRight part.act part.before (effect_of part)
   -- what is due is sent, and nothing else
   pub sends : SendsRight part.act part.before (effect_of part)
-  -- behind the close of a connection nothing is sent on it
-  pub closes_last : ClosesLast (effect_of part).actions
+  -- it is said to who is open, and nothing is said behind a close
+  pub speaks : Speaks part.before (effect_of part)
   -- what is remembered of a peer changes only by what happens with it
   pub remembers : Remembers part.act part.before (effect_of part).machine
   -- a peer fails only where a connection with it in use, or its dial, went
@@ -128,5 +128,7 @@ pub record IsLawfulEvent (m : Machine) (event : Event) : Type 0 where
   pub parts : step m event ≡ for_each does (acts m event) m
   pub each : All (IsLawfulPart event) (parts_of m event)
   pub accounted : IsAccounted event m (step m event)
+  -- nothing is said to who is closed
+  pub speaks : Speaks m (step m event)
   -- each move keeps back-off and targets, and ends for cause
   pub moves : MovesAreLawful m event

@@ -1,11 +1,12 @@
 -- What is sent: what is due by each part of an event, and nothing else.
-use Rattle.std.specs.Prelude.{ℕ, ◌%◌, ◌≡◌, Bool, true, false, ◌&&◌, ◌==◌, List, [], ◌∷◌, ◌++◌, find, filter, if◌then◌else◌, Option, Some, None}
-use Rattle.laws.specs.Words.{Action, Close, agreed_sharing, is_acquirable, is_dialing, is_live_at, is_outbound, Order, Ask, Forget, Promote, Release, Activate, Deactivate, verdict_of, answer_of, proposal_of, Acceptor, Dialer, Verdict, message_of, Message, frame_of, Item, Addr, Facts, Phase, Dialing, Greeting, Negotiated, Closing, written_alive, written_request, Effect, Machine, Entry, entry_at, live_entry_at}
+use Rattle.std.specs.Prelude.{ℕ, ◌%◌, ◌≤◌, ◌≡◌, Bool, true, false, ◌&&◌, ◌==◌, List, [], ◌∷◌, ◌++◌, find, filter, if◌then◌else◌, Option, Some, None}
+use Rattle.laws.specs.Words.{AllByRecursion, Action, Close, agreed_sharing, is_acquirable, is_dialing, is_live_at, is_outbound, Order, Ask, Forget, Promote, Release, Activate, Deactivate, verdict_of, answer_of, proposal_of, Acceptor, Dialer, Verdict, message_of, Message, frame_of, Item, Addr, Facts, Phase, Dialing, Greeting, Negotiated, Closing, written_alive, written_request, Effect, Machine, Entry, entry_at, live_entry_at}
 use Rattle.laws.specs.Words.verdict
 use Rattle.laws.specs.Words.alive
 use Rattle.laws.specs.Acts.{Act, carries, ends_dial, handles_item}
 use Rattle.laws.specs.Ends.{offered, side_of}
 use Rattle.laws.specs.Served.{Sent, sent_in}
+use Rattle.laws.specs.Stages.{stage_at}
 
 -- ---- messages of this node
 
@@ -123,3 +124,9 @@ abbrev pub ClosesLast : List Action → Type 0
 ClosesLast [] = Unit {0}
 ClosesLast (Close cid cause ∷ actions) = (sent_on cid.0 (sent_in actions) ≡ []) × ClosesLast actions
 ClosesLast (other ∷ actions) = ClosesLast actions
+
+-- What is said between a record and the one after it.
+pub record Speaks (before : Machine) (effect : Effect) : Type 0 where
+  -- it is said on a connection that is open, or that comes between them
+  pub to_open : AllByRecursion (λ sent. stage_at sent.cid before ≤ 3) (sent_in effect.actions)
+  pub closes_last : ClosesLast effect.actions
