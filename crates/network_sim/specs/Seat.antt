@@ -1,9 +1,10 @@
 -- What a node does with an event, and what it has come to.
-use Rattle.std.specs.Prelude.{◌≡◌, ℕ, List, ◌++◌, length, All, Option, Some, None}
+use Rattle.std.specs.Prelude.{◌≡◌, ◌<◌, ℕ, Bool, false, List, ◌++◌, length, All, Option, Some, None}
 use Rattle.machine.specs.Machine.{Machine, start_of}
 use Rattle.machine.specs.Run.{after_all}
 use Rattle.machine.specs.Step.{step}
 use Rattle.net_base.specs.Bounds.{AreSound}
+use Rattle.net_base.specs.Limits.{IsWithinLimits}
 use Rattle.net_base.specs.declared.action.Action.{Action}
 use Rattle.net_base.specs.declared.event.Event.{Event}
 use Rattle.net_base.specs.declared.settings.Settings.{Settings}
@@ -18,6 +19,15 @@ use Rattle.trace_text.specs.HeadTexts.{printed_head}
 abbrev pub Takes : Machine → Event → Machine → Option (List Action) → Type 0
 Takes before event after None = after ≡ before
 Takes before event after (Some actions) = (after ≡ (step before event).machine) × (actions ≡ (step before event).actions)
+
+-- memory was never wanting, fewer than a million events were taken, and a trace may hold this one
+abbrev pub MayTake : Bool → ℕ → Event → Type 0
+MayTake is_lost count event = (is_lost ≡ false) × (count < 1000000) × IsWithinLimits event
+
+-- nothing is taken of it exactly where it may not be taken
+abbrev pub TakesWhereItMay : Bool → ℕ → Event → Option (List Action) → Type 0
+TakesWhereItMay is_lost count event None = ¬ (MayTake is_lost count event)
+TakesWhereItMay is_lost count event (Some actions) = MayTake is_lost count event
 
 -- what is kept is the trace of the run of these events, without its end
 pub record IsTraceOf (settings : Settings) (events : List Event) (kept : Kept) : Type 0 where

@@ -6,9 +6,10 @@ use net_base::{Cid, Event, Group, INTERVAL_MOST, NUMBER_MOST, RootAnswer};
 // One read of a socket brings at most so much.
 const PIECE_MOST: usize = 65_536;
 
-/// Whether a trace may hold an event. What a node is given does.
+/// Whether a trace may hold an event. Nodes are given no other.
 pub(crate) fn fits(event: &Event) -> bool
-    ensures { result ≡ true → IsWithinLimits event.now }
+    ensures only { result ≡ true → IsWithinLimits event.now }
+    ensures all { IsWithinLimits event.now → result ≡ true }
 {
     match event {
         Event::Now(moment) => *moment <= NUMBER_MOST,
@@ -23,19 +24,22 @@ pub(crate) fn fits(event: &Event) -> bool
 }
 
 fn is_bounded(cid: Cid) -> bool
-    ensures { result ≡ true → IsBounded cid.0 }
+    ensures only { result ≡ true → IsBounded cid.0 }
+    ensures all { IsBounded cid.0 → result ≡ true }
 {
     cid.0 <= NUMBER_MOST
 }
 
 fn is_piece(size: usize) -> bool
-    ensures { result ≡ true → (1 ≤ size) × (size ≤ 65536) }
+    ensures only { result ≡ true → (1 ≤ size) × (size ≤ 65536) }
+    ensures all { (1 ≤ size) × (size ≤ 65536) → result ≡ true }
 {
     1 <= size && size <= PIECE_MOST
 }
 
 fn have_valencies(groups: &[Group]) -> bool
-    ensures { result ≡ true → All HasValencies groups.now }
+    ensures only { result ≡ true → All HasValencies groups.now }
+    ensures all { All HasValencies groups.now → result ≡ true }
 {
     for group in groups {
         if !has_valencies(group) {
@@ -46,13 +50,15 @@ fn have_valencies(groups: &[Group]) -> bool
 }
 
 fn has_valencies(group: &Group) -> bool
-    ensures { result ≡ true → HasValencies group.now }
+    ensures only { result ≡ true → HasValencies group.now }
+    ensures all { HasValencies group.now → result ≡ true }
 {
     group.hot <= 10_000 && group.warm <= 10_000
 }
 
 fn serves(answer: &RootAnswer) -> bool
-    ensures { result ≡ true → ServesAnInterval answer.now }
+    ensures only { result ≡ true → ServesAnInterval answer.now }
+    ensures all { ServesAnInterval answer.now → result ≡ true }
 {
     match answer {
         RootAnswer::Found(time, _) => 1 <= *time && *time <= INTERVAL_MOST,

@@ -1,5 +1,5 @@
 ghost use Rattle.std.specs.Prelude.{◌≡◌, false, IfOk};
-ghost use Rattle.network_sim.specs.Seat.{Takes, HasRun};
+ghost use Rattle.network_sim.specs.Seat.{Takes, TakesWhereItMay, HasRun};
 
 use crate::fits::fits;
 use crate::keeping::{keep_first, keep_on, keep_whole};
@@ -51,7 +51,8 @@ impl<S: Stepper> Seat<S> {
         alloc: Global,
         event: &Event,
     ) -> Result<Option<ActionList>, OutOfMemory>
-        ensures { IfOk result (Takes (S.machine self.old.stepper) event.now (S.machine self.new.stepper)) }
+        ensures step { IfOk result (Takes (S.machine self.old.stepper) event.now (S.machine self.new.stepper)) }
+        ensures whole { IfOk result (TakesWhereItMay self.old.is_lost (S.events self.old.stepper) event.now) }
     {
         if self.is_lost || self.stepper.taken() >= EVENTS_MOST || !fits(event) {
             return Ok(None);
