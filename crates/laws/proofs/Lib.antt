@@ -23,7 +23,7 @@ pub mod OrderNeeds
 mod Chosen
 mod Admitted
 mod Sends
-mod ClosesLast
+mod Speaks
 mod Falls
 mod OpenEnds
 mod Ordering

@@ -30,7 +30,7 @@ use Rattle.laws.proofs.WholeMoves.{negotiated-live}
 use Rattle.laws.proofs.WaitsOfParts.{waits-right, leaves-rest, is-set}
 use Rattle.laws.proofs.Rises.{NoneConnected, or_each, hot_or_asked-down, rises_nowhere, same-connected, rises_by_then}
 use Rattle.laws.proofs.Chain.{each_appended}
-use Rattle.laws.proofs.ClosesLast.{speaks-right, speaks_then}
+use Rattle.laws.proofs.Speaks.{speaks-right, speaks_then}
 
 -- ---- who was negotiated before it
 
