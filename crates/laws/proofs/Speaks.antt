@@ -43,9 +43,10 @@ Apart xs ys = AllByRecursion (λ end. sent_on end.cid (sent_in ys) ≡ []) (clos
 
 both-last : (xs ys : List Action) → ClosesLast xs → ClosesLast ys → Apart xs ys → ClosesLast (xs ++ ys)
 both-last [] ys one two apart = two
-both-last (Close cid cause ∷ xs) ys one two apart =
-    (ap (sent_on cid.0) (flat_map-append sent_by xs ys) ∙ (filter-append (λ s. s.cid == cid.0) (sent_in xs) (sent_in ys) ∙ (λ i. one.0 i ++ apart.0 i)),
-    both-last xs ys one.1 two apart.1)
+both-last (Close cid cause ∷ xs) ys one two apart = (
+  ap (sent_on cid.0) (flat_map-append sent_by xs ys) ∙ (filter-append (λ s. s.cid == cid.0) (sent_in xs) (sent_in ys) ∙ (λ i. one.0 i ++ apart.0 i)),
+  both-last xs ys one.1 two apart.1,
+)
 both-last (other ∷ xs) ys one two apart = both-last xs ys one two apart
 
 each_end : (ends : List End) (sent : List Sent) → sent ≡ [] → AllByRecursion (λ end. sent_on end.cid sent ≡ []) ends
