@@ -1,7 +1,7 @@
 -- A connection that stands open stays so or ends once, in each part of an event.
 use Rattle.std.proofs.Common.{ℕ, ◌+◌, ◌≤◌, ◌≡◌, Bool, true, false, ◌||◌, ◌==◌, nat_lt, if◌then◌else◌, cond, flat_map, List, [], ◌∷◌, ◌++◌, find, Option, Some, None, refl, sym, ap, ◌∙◌, subst, inl, inr, arith, eqb-true, eq-eqb}
 use Rattle.laws.proofs.Words.{both_ways, false≢true, or_left, or_right, list_any-append, find-append}
-use Rattle.laws.specs.Words.{list_any, option_map, option_or, dialing, accepted, has_id, is_live, Send, CloseCause, entry_goes, with_entry, without_entry, entry_turns, lost_by, ending, vanishes, closing_entry, dial, Effect, Happened, Move, ended, unused, nothing_more, tells, then_do, as_move, turned_away, admitted, Machine, Entry, fresh_entry, entry_at, peer_changes, peer_goes, peer_at, peer_comes}
+use Rattle.laws.specs.Words.{Undecoded, list_any, option_map, option_or, dialing, accepted, has_id, is_live, Send, CloseCause, entry_goes, with_entry, without_entry, entry_turns, lost_by, ending, vanishes, closing_entry, dial, Effect, Happened, Move, ended, unused, nothing_more, tells, then_do, as_move, turned_away, admitted, Machine, Entry, fresh_entry, entry_at, peer_changes, peer_goes, peer_at, peer_comes}
 use Rattle.laws.specs.Acts.{Act, does}
 use Rattle.laws.specs.AtMoves.{ends, is_ended_in}
 use Rattle.laws.specs.OpenEnds.{is_open_entry, is_open_at, goes_by_itself, IsOpenEnd, OpenEndsOnce}
@@ -9,7 +9,7 @@ use Rattle.laws.specs.Parts.{IsNext}
 use Rattle.laws.specs.Stages.{stage_of, stage_at, causes_by, causes_in, IsOneEnd, IsLateCause}
 use Rattle.laws.specs.Telling.{IsTold}
 use Rattle.laws.specs.InActions.{ended_by, ends_in}
-use Rattle.laws.proofs.Walk.{Finds, Scope, turned_by, turned-cid, turned-live, shuts, Kept, scope_of, walk}
+use Rattle.laws.proofs.Walk.{Finds, Scope, Stands, Turn, turned_by, turned-cid, turned-live, shuts, Kept, scope_of, walk}
 use Rattle.laws.proofs.Moments.{turned-found}
 use Rattle.laws.proofs.Lawful.{comes-machine, lost_by-quiet, lost-quiet, live_stage}
 use Rattle.laws.proofs.Telling.{ended-over}
@@ -38,25 +38,33 @@ stays_then is goes m first next one two cid was =
     by_first false false true h later = or_right (is cid second.machine) (is_ended_in cid second.moves || true) (or_right (is_ended_in cid second.moves) true refl)
     by_first false false false h later = absurd (false≢true h)
 
-module _ (scope : Scope) where
+-- Who lasts, by a test of the connection: it does so while it turns, and where its time-wait is over it may go.
+pub record Lasts (scope : Scope) (test : Option Entry → Bool) (goes : ℕ → Bool) : Type 0 where
+  pub none : test None ≡ false
+  pub turns : (turn : Turn) (e : Entry) (m : Machine) → test (Some e) ≡ true → test (Some (turned_by turn e m)) ≡ true
+  pub stores : (undecoded : Undecoded) (e : Entry) → test (Some e) ≡ true → test (Some (record e { undecoded = undecoded })) ≡ true
+  pub itself : (cid : ℕ) → scope.goes cid ≡ true → goes cid ≡ true
+  pub over : (e : Entry) (m : Machine) → Stands scope e m → scope.drops ≡ true → (scope.timely ≡ true → is_live e.facts ≡ false) → test (Some e) ≡ true → goes e.facts.cid.0 ≡ true
+
+module _ (scope : Scope) (test : Option Entry → Bool) (goes : ℕ → Bool) (lasts : Lasts scope test goes) where
   abbrev Stays : Machine → Effect → Type 0
-  Stays m effect = StaysOr is_open_at scope.goes m effect
+  Stays m effect = StaysOr (λ cid n. test (entry_at cid n)) goes m effect
 
   stays_same : (m : Machine) (effect : Effect) → effect.machine.connections ≡ m.connections → Stays m effect
   stays_same m effect same cid was =
-      or_left (is_open_at cid effect.machine) (is_ended_in cid effect.moves || scope.goes cid)
-      (ap (λ es. is_open_entry (find (λ e. has_id cid e.facts) es)) same ∙ was)
+      or_left (test (entry_at cid effect.machine)) (is_ended_in cid effect.moves || goes cid)
+      (ap (λ es. test (find (λ e. has_id cid e.facts) es)) same ∙ was)
 
-  -- every other one is as it was, and its own stays open, or is ended by a move, or goes by itself
+  -- every other one is as it was, and its own stays so, or is ended by a move, or goes by itself
   stays_own : (m : Machine) (e : Entry) (effect : Effect) → ((cid : ℕ) → (e.facts.cid.0 == cid) ≡ false → entry_at cid effect.machine ≡ entry_at cid m) →
-      (is_open_at e.facts.cid.0 m ≡ true → (is_open_at e.facts.cid.0 effect.machine || (is_ended_in e.facts.cid.0 effect.moves || scope.goes e.facts.cid.0)) ≡ true) → Stays m effect
+      (test (entry_at e.facts.cid.0 m) ≡ true → (test (entry_at e.facts.cid.0 effect.machine) || (is_ended_in e.facts.cid.0 effect.moves || goes e.facts.cid.0)) ≡ true) → Stays m effect
   stays_own m e effect others own cid was = by_bool (e.facts.cid.0 == cid)
-      (λ b. (is_open_at cid effect.machine || (is_ended_in cid effect.moves || scope.goes cid)) ≡ true)
+      (λ b. (test (entry_at cid effect.machine) || (is_ended_in cid effect.moves || goes cid)) ≡ true)
       (λ is.
       let same : e.facts.cid.0 ≡ cid = eqb-true e.facts.cid.0 cid is in
-      subst (λ c. (is_open_at c effect.machine || (is_ended_in c effect.moves || scope.goes c)) ≡ true) same
-      (own (subst (λ c. is_open_at c m ≡ true) (sym same) was)))
-      (λ is. or_left (is_open_at cid effect.machine) (is_ended_in cid effect.moves || scope.goes cid) (ap is_open_entry (others cid is) ∙ was))
+      subst (λ c. (test (entry_at c effect.machine) || (is_ended_in c effect.moves || goes c)) ≡ true) same
+      (own (subst (λ c. test (entry_at c m) ≡ true) (sym same) was)))
+      (λ is. or_left (test (entry_at cid effect.machine)) (is_ended_in cid effect.moves || goes cid) (ap test (others cid is) ∙ was))
 
   turned-others : (m : Machine) (e new : Entry) → new.facts.cid ≡ e.facts.cid → (cid : ℕ) → (e.facts.cid.0 == cid) ≡ false → entry_at cid (with_entry new m) ≡ entry_at cid m
   turned-others m e new same cid other =
@@ -66,11 +74,11 @@ module _ (scope : Scope) where
   turned-here : (m : Machine) (e new : Entry) → entry_at e.facts.cid.0 m ≡ Some e → new.facts.cid ≡ e.facts.cid → entry_at e.facts.cid.0 (with_entry new m) ≡ Some new
   turned-here m e new stands same = turned-found e new m same ∙ ap (option_map (λ x. new)) stands
 
-  turned-stays : (m : Machine) (e new : Entry) → entry_at e.facts.cid.0 m ≡ Some e → new.facts.cid ≡ e.facts.cid → (is_live e.facts ≡ true → is_live new.facts ≡ true) → Stays m (entry_turns e new m)
-  turned-stays m e new stands same live =
+  turned-stays : (m : Machine) (e new : Entry) → entry_at e.facts.cid.0 m ≡ Some e → new.facts.cid ≡ e.facts.cid → (test (Some e) ≡ true → test (Some new) ≡ true) → Stays m (entry_turns e new m)
+  turned-stays m e new stands same still =
       stays_own m e (entry_turns e new m) (turned-others m e new same)
-      (λ was. or_left (is_open_at e.facts.cid.0 (with_entry new m)) (false || scope.goes e.facts.cid.0)
-      (ap is_open_entry (turned-here m e new stands same) ∙ live (sym (ap is_open_entry stands) ∙ was)))
+      (λ was. or_left (test (entry_at e.facts.cid.0 (with_entry new m))) (false || goes e.facts.cid.0)
+      (ap test (turned-here m e new stands same) ∙ still (sym (ap test stands) ∙ was)))
 
   gone-others : (m : Machine) (e : Entry) (effect : Effect) → effect.machine.connections ≡ (without_entry e.facts.cid.0 m).connections →
       (cid : ℕ) → (e.facts.cid.0 == cid) ≡ false → entry_at cid effect.machine ≡ entry_at cid m
@@ -85,63 +93,63 @@ module _ (scope : Scope) where
       let cid : ℕ = e.facts.cid.0 in
       let lost : Effect = lost_by cause e.facts (without_entry cid m) in
       stays_own m e (ending cause e m) (gone-others m e (ending cause e m) (lost_by-quiet cause e.facts (without_entry cid m)).connections)
-      (λ was. or_right (is_open_at cid (ending cause e m).machine) (is_ended_in cid (ending cause e m).moves || scope.goes cid)
-      (or_left (is_ended_in cid (ending cause e m).moves) (scope.goes cid)
+      (λ was. or_right (test (entry_at cid (ending cause e m).machine)) (is_ended_in cid (ending cause e m).moves || goes cid)
+      (or_left (is_ended_in cid (ending cause e m).moves) (goes cid)
       (list_any-append (λ x. ends cid x.happened) lost.moves (record { happened = ended cid cause; before = m; after = (ending cause e m).machine } ∷ [])
       ∙ or_right (list_any (λ x. ends cid x.happened) lost.moves) ((cid == cid) || false) (or_left (cid == cid) false (own_id cid)))))
 
-  vanishes-stays : (e : Entry) (m : Machine) → scope.goes e.facts.cid.0 ≡ true → Stays m (vanishes e m)
+  vanishes-stays : (e : Entry) (m : Machine) → goes e.facts.cid.0 ≡ true → Stays m (vanishes e m)
   vanishes-stays e m itself =
       let cid : ℕ = e.facts.cid.0 in
       stays_own m e (vanishes e m) (gone-others m e (vanishes e m) (lost-quiet e.facts (without_entry cid m)).connections)
-      (λ was. or_right (is_open_at cid (vanishes e m).machine) (is_ended_in cid (vanishes e m).moves || scope.goes cid) (or_right (is_ended_in cid (vanishes e m).moves) (scope.goes cid) itself))
+      (λ was. or_right (test (entry_at cid (vanishes e m).machine)) (is_ended_in cid (vanishes e m).moves || goes cid) (or_right (is_ended_in cid (vanishes e m).moves) (goes cid) itself))
 
   come-stays : (m : Machine) (new : Entry) (effect : Effect) → effect.machine.connections ≡ m.connections ++ new ∷ [] → Stays m effect
   come-stays m new effect same cid was =
       let found : entry_at cid effect.machine ≡ option_or (entry_at cid m) (cond (has_id cid new.facts) (Some new) None) = ap (find (λ x. has_id cid x.facts)) same ∙ find-append (λ x. has_id cid x.facts) m.connections (new ∷ []) in
       by_option (entry_at cid m)
-      (λ o. is_open_entry o ≡ true → (is_open_at cid effect.machine || (is_ended_in cid effect.moves || scope.goes cid)) ≡ true)
-      (λ is h. absurd (false≢true h))
+      (λ o. test o ≡ true → (test (entry_at cid effect.machine) || (is_ended_in cid effect.moves || goes cid)) ≡ true)
+      (λ is h. absurd (both_ways (test None) lasts.none h))
       (λ e is h.
-      or_left (is_open_at cid effect.machine) (is_ended_in cid effect.moves || scope.goes cid)
-      (ap is_open_entry (found ∙ ap (λ o. option_or o (cond (has_id cid new.facts) (Some new) None)) is) ∙ h)) was
+      or_left (test (entry_at cid effect.machine)) (is_ended_in cid effect.moves || goes cid)
+      (ap test (found ∙ ap (λ o. option_or o (cond (has_id cid new.facts) (Some new) None)) is) ∙ h)) was
 
   shut-stays : (e : Entry) (m : Machine) → Stays m (shuts e m)
   shut-stays e m = stays_own m e (shuts e m) (turned-others m e (closing_entry m e) refl)
-      (λ was. or_right (is_open_at cid (shuts e m).machine) (((cid == cid) || false) || scope.goes cid)
-      (or_left ((cid == cid) || false) (scope.goes cid) (or_left (cid == cid) false (own_id cid))))
+      (λ was. or_right (test (entry_at cid (shuts e m).machine)) (((cid == cid) || false) || goes cid)
+      (or_left ((cid == cid) || false) (goes cid) (or_left (cid == cid) false (own_id cid))))
     where
       cid : ℕ
       cid = e.facts.cid.0
 
-  over-stays : (e : Entry) (m : Machine) → entry_at e.facts.cid.0 m ≡ Some e → is_live e.facts ≡ false → Stays m (entry_goes e m)
-  over-stays e m stands closed =
+  over-stays : (e : Entry) (m : Machine) → Stands scope e m → scope.drops ≡ true → (scope.timely ≡ true → is_live e.facts ≡ false) → Stays m (entry_goes e m)
+  over-stays e m stands drops closed =
       stays_own m e (entry_goes e m) (gone-others m e (entry_goes e m) refl)
-      (λ was. absurd (both_ways (is_live e.facts) closed (sym (ap is_open_entry stands) ∙ was)))
+      (λ was. or_right (test (entry_at e.facts.cid.0 (entry_goes e m).machine)) (false || goes e.facts.cid.0) (lasts.over e m stands drops closed (sym (ap test stands.found) ∙ was)))
 
   -- a move that ends nothing
   moved-stays : (happened : Happened) (m : Machine) (effect : Effect) → Stays m effect → Stays m (as_move happened m effect)
   moved-stays happened m effect h cid was =
-      subst (λ b. (is_open_at cid effect.machine || (b || scope.goes cid)) ≡ true)
+      subst (λ b. (test (entry_at cid effect.machine) || (b || goes cid)) ≡ true)
       (sym (list_any-append (λ x. ends cid x.happened) effect.moves (record { happened = happened; before = m; after = effect.machine } ∷ [])))
-      (more (is_open_at cid effect.machine) (is_ended_in cid effect.moves) (ends cid happened || false) (scope.goes cid) (h cid was))
+      (more (test (entry_at cid effect.machine)) (is_ended_in cid effect.moves) (ends cid happened || false) (goes cid) (h cid was))
     where
       more : (a b c d : Bool) → (a || (b || d)) ≡ true → (a || ((b || c) || d)) ≡ true
       more false false false d e = e
       more a b c d e = refl
 
-  stays-kept : scope.timely ≡ true → Kept scope Stays
-  stays-kept timely = record {
+  stays-kept : Kept scope Stays
+  stays-kept = record {
     when_nothing = λ m. stays_same m (nothing_more m) refl;
-    when_both = stays_then is_open_at scope.goes;
+    when_both = stays_then (λ cid n. test (entry_at cid n)) goes;
     when_moved = λ happened m effect none h. moved-stays happened m effect h;
     when_sent = λ cid bytes m may. stays_same m (tells (Send cid bytes ∷ []) m) refl;
-    when_turned = λ turn e m stands. turned-stays m e (turned_by turn e m) stands.found (turned-cid turn e m) (turned-live turn e m);
-    when_stored = λ undecoded e m stands came. turned-stays m e (record e { undecoded = undecoded }) stands.found refl (λ live. live);
+    when_turned = λ turn e m stands. turned-stays m e (turned_by turn e m) stands.found (turned-cid turn e m) (lasts.turns turn e m);
+    when_stored = λ undecoded e m stands came. turned-stays m e (record e { undecoded = undecoded }) stands.found refl (lasts.stores undecoded e);
     when_shut = λ e m stands drops. shut-stays e m;
     when_ended = λ cause e m. ending-stays cause e m;
-    when_gone = λ e m itself. vanishes-stays e m itself;
-    when_over = λ e m stands closed. over-stays e m stands.found (closed timely);
+    when_gone = λ e m itself. vanishes-stays e m (lasts.itself e.facts.cid.0 itself);
+    when_over = λ e m stands drops closed. over-stays e m stands drops closed;
     when_dialed = λ addr m may. come-stays m (fresh_entry (dialing m.next_id addr)) (dial addr m) refl;
     when_admitted = λ addr m may. come-stays m (fresh_entry (accepted m.next_id addr (m.now + m.settings.handshake))) (admitted addr m) refl;
     when_turned_away = λ away m may. stays_same m (turned_away away m) refl;
@@ -152,12 +160,24 @@ module _ (scope : Scope) where
 
 -- ---- each act
 
--- whoever is open stays so, or a move ends it, or it goes by itself
-pub stays-of : (act : Act) (m : Machine) → IsNext act m → Finds act m → Stays (scope_of act m) m (does act m)
-stays-of act m next found = elim (sets_or_changes act m) [
-  | inl same ↦ stays_same (scope_of act m) m (does act m) same
-  | inr change ↦ walk act m (Stays (scope_of act m)) change next found (stays-kept (scope_of act m) refl)
+-- whoever lasts stays so, or a move ends it, or it goes by itself
+pub lasts-of : (test : Option Entry → Bool) (goes : ℕ → Bool) (act : Act) (m : Machine) → Lasts (scope_of act m) test goes → IsNext act m → Finds act m →
+    StaysOr (λ cid n. test (entry_at cid n)) goes m (does act m)
+lasts-of test goes act m lasts next found = elim (sets_or_changes act m) [
+  | inl same ↦ stays_same (scope_of act m) test goes lasts m (does act m) same
+  | inr change ↦ walk act m (Stays (scope_of act m) test goes lasts) change next found (stays-kept (scope_of act m) test goes lasts)
 ]
+
+-- so does whoever is open
+pub stays-of : (act : Act) (m : Machine) → IsNext act m → Finds act m → StaysOr is_open_at (scope_of act m).goes m (does act m)
+stays-of act m next found = lasts-of is_open_entry (scope_of act m).goes act m
+    (record {
+      none = refl;
+      turns = turned-live;
+      stores = λ undecoded e live. live;
+      itself = λ cid goes. goes;
+      over = λ e n stands drops closed live. absurd (both_ways (is_live e.facts) (closed refl) live);
+    }) next found
 
 -- ---- once
 

@@ -115,7 +115,7 @@ module _ {X : Type 0} (by : Action → List X) (deaf : Deaf by) where
         (turns-silent e (closing_entry m e) m);
     when_ended = λ cause e m. ending-silent cause e m;
     when_gone = λ e m itself. vanishes-silent e m;
-    when_over = λ e m stands closed. one-silent (State e.facts.cid Terminated) (deaf.state e.facts.cid Terminated);
+    when_over = λ e m stands drops closed. one-silent (State e.facts.cid Terminated) (deaf.state e.facts.cid Terminated);
     when_dialed = λ addr m may. dial-silent addr m;
     when_admitted = λ addr m may. admitted-silent (mutes.admits may) (mutes.pauses may) addr m;
     when_turned_away = λ away m may. one-silent (Turnaway away) (mutes.turns_away may away);

@@ -139,7 +139,7 @@ module _ (scope : Scope) where
     when_shut = λ e m stands drops. waits_turned scope m e (closing_entry m e) stands.found stands.own refl (closing-right m e) (λ none. inr (drops, refl));
     when_ended = λ cause e m. goes-waits e m (ending cause e m).machine (lost_by-waits cause e.facts (without_entry e.facts.cid.0 m));
     when_gone = λ e m itself. goes-waits e m (vanishes e m).machine (lost-waits e.facts (without_entry e.facts.cid.0 m));
-    when_over = λ e m stands closed. waits_gone scope m e.facts.cid.0;
+    when_over = λ e m stands drops closed. waits_gone scope m e.facts.cid.0;
     when_dialed = λ addr m may. dial-waits addr m;
     when_admitted = λ addr m may. admitted-waits addr m;
     when_turned_away = λ away m may. waits_nothing scope m;

@@ -156,7 +156,7 @@ pub record Kept (scope : Scope) (R : Machine → Effect → Type 0) : Type 0 whe
   pub when_shut : (e : Entry) (m : Machine) → Stands scope e m → scope.drops ≡ true → R m (shuts e m)
   pub when_ended : (cause : CloseCause) (e : Entry) (m : Machine) → R m (ending cause e m)
   pub when_gone : (e : Entry) (m : Machine) → scope.goes e.facts.cid.0 ≡ true → R m (vanishes e m)
-  pub when_over : (e : Entry) (m : Machine) → Stands scope e m → (scope.timely ≡ true → is_live e.facts ≡ false) → R m (entry_goes e m)
+  pub when_over : (e : Entry) (m : Machine) → Stands scope e m → scope.drops ≡ true → (scope.timely ≡ true → is_live e.facts ≡ false) → R m (entry_goes e m)
   -- one comes, or is turned away
   pub when_dialed : (addr : Addr) (m : Machine) → scope.dials ≡ true → R m (dial addr m)
   pub when_admitted : (addr : Addr) (m : Machine) → scope.lets_in ≡ true → R m (admitted addr m)
@@ -195,7 +195,7 @@ module _ (scope : Scope) (R : Machine → Effect → Type 0) (kept : Kept scope 
   fires-walk kind.Handshake e m drops stands over = kept.when_ended (Fault HandshakeWait) e m
   fires-walk kind.Grace e m drops stands over = cond_both e.facts.local (entry_turns e (turned_by expires e m) m) (shuts e m) (R m)
       (λ local. kept.when_turned expires e m stands) (λ other. kept.when_shut e m stands drops)
-  fires-walk kind.TimeWait e m drops stands over = kept.when_moved (gone e.facts.cid.0) m (entry_goes e m) refl (kept.when_over e m stands (over refl))
+  fires-walk kind.TimeWait e m drops stands over = kept.when_moved (gone e.facts.cid.0) m (entry_goes e m) refl (kept.when_over e m stands drops (over refl))
   fires-walk rest e m drops stands over = kept.when_ended (Fault ReplyWait) e m
 
   -- ---- the governor
