@@ -26,6 +26,7 @@ mod Sends
 mod Speaks
 mod Falls
 mod OpenEnds
+mod Lingers
 mod Ordering
 mod Governing
 mod GroupsApart

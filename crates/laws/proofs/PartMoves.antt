@@ -17,6 +17,7 @@ use Rattle.laws.proofs.Agreed.{agrees-right}
 use Rattle.laws.proofs.BackOff.{treats, forgives}
 use Rattle.laws.proofs.Begun.{over-after, waits-begin}
 use Rattle.laws.proofs.Goes.{goes-where}
+use Rattle.laws.proofs.Lingers.{lingers}
 use Rattle.laws.proofs.Responders.{responds-right}
 use Rattle.laws.proofs.OpenEnds.{StaysOr, stays_then, stays-of, opens-once, ended_once}
 use Rattle.laws.proofs.RootsAsked.{asks-right}
@@ -171,6 +172,7 @@ lawful-part event act m closes next order found h = record {
   sets = is-set act m next found;
   over = over-after act m found;
   goes = goes-where act m;
+  lingers = lingers act m next found h.told;
   asks = asks-right act m next found;
   admits = admits-right act m next found;
   agrees = agrees-right act m found;

@@ -5,7 +5,7 @@ use Rattle.laws.specs.Admitted.{AdmitsRight}
 use Rattle.laws.specs.Agreed.{AgreesRight}
 use Rattle.laws.specs.BackOff.{Remembers, FailsOnly}
 use Rattle.laws.specs.Begun.{WaitsBegin}
-use Rattle.laws.specs.Goes.{GoesWhere}
+use Rattle.laws.specs.Goes.{GoesWhere, Lingers}
 use Rattle.laws.specs.Responders.{RespondsRight}
 use Rattle.laws.specs.RootsAsked.{AsksRight}
 use Rattle.laws.specs.Sends.{SendsRight, Speaks}
@@ -104,6 +104,8 @@ pub record IsLawfulPart (event : Event) (part : Part) : Type 0 where
   pub over : IsOverAfter part.act (effect_of part).machine
   -- whom the other side closes is gone, and whose dial fails
   pub goes : GoesWhere part.act part.before (effect_of part)
+  -- one that waits its time stays until that is over
+  pub lingers : Lingers part.act part.before (effect_of part).machine
   -- who connects is let in, or turned away for the first cause that stands, and nobody else is
   pub admits : AdmitsRight part.act part.before (effect_of part)
   -- public roots are asked for exactly where they are wanted
