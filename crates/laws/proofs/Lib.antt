@@ -27,6 +27,7 @@ mod Speaks
 mod Falls
 mod OpenEnds
 mod Lingers
+mod Known
 mod Ordering
 mod Governing
 mod GroupsApart

@@ -9,7 +9,7 @@ use Rattle.laws.proofs.Connects.{connects-cases}
 -- ---- a part that dials nobody, and lets nobody in
 
 abbrev anything : Scope
-anything = record { own = λ cid. true; comes = λ cid. true; drops = true; goes = λ cid. true; timely = false; sends = true; dials = false; lets_in = false }
+anything = record { own = λ cid. true; comes = λ cid. true; drops = true; goes = λ cid. true; timely = false; sends = true; dials = false; lets_in = false; forgets = λ addr. true }
 
 abbrev Given : Machine → Effect → Type 0
 Given m effect = GivesNone m effect.machine
@@ -31,7 +31,7 @@ none-kept = record {
   when_turned_away = λ away m may. unchanged refl;
   when_changed = λ addr change m same. turns_at-none (peer_at addr m) change m;
   when_known = λ big addr m. peer_comes-none big addr m;
-  when_forgotten = λ addr m. unchanged refl;
+  when_forgotten = λ addr m may. unchanged refl;
 }
 
 found-none : (cid : ℕ) (act : Entry → Machine → Effect) (m : Machine) → ((e : Entry) → Stands anything e m → Given m (act e m)) → Given m (on_entry (entry_at cid m) act m)

@@ -155,7 +155,7 @@ module _ (scope : Scope) (test : Option Entry → Bool) (goes : ℕ → Bool) (l
     when_turned_away = λ away m may. stays_same m (turned_away away m) refl;
     when_changed = λ addr change m same. stays_same m (peer_changes addr change m) (turns_at-connections (peer_at addr m) change m);
     when_known = λ big addr m. stays_same m (peer_comes big addr m) (ap (λ n. n.connections) (comes-machine big addr m));
-    when_forgotten = λ addr m. stays_same m (peer_goes addr m) refl;
+    when_forgotten = λ addr m may. stays_same m (peer_goes addr m) refl;
   }
 
 -- ---- each act

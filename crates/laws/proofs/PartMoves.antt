@@ -17,6 +17,7 @@ use Rattle.laws.proofs.Agreed.{agrees-right}
 use Rattle.laws.proofs.BackOff.{treats, forgives}
 use Rattle.laws.proofs.Begun.{over-after, waits-begin}
 use Rattle.laws.proofs.Goes.{goes-where}
+use Rattle.laws.proofs.Known.{keeps-known}
 use Rattle.laws.proofs.Lingers.{lingers}
 use Rattle.laws.proofs.Responders.{responds-right}
 use Rattle.laws.proofs.OpenEnds.{StaysOr, stays_then, stays-of, opens-once, ended_once}
@@ -161,6 +162,7 @@ lawful-part event act m closes next order found h = record {
   next = next;
   order = order;
   book = treats-book act m;
+  known = keeps-known act m next found;
   forgiven = forgives act m;
   pauses = pauses-right act m next found;
   ends = (ends-rightly act m found).others;

@@ -121,7 +121,7 @@ module _ {X : Type 0} (by : Action → List X) (deaf : Deaf by) where
     when_turned_away = λ away m may. one-silent (Turnaway away) (mutes.turns_away may away);
     when_changed = λ addr change m same. changed-silent (peer_at addr m) change m;
     when_known = λ big addr m. comes-silent big addr m;
-    when_forgotten = λ addr m. one-silent (TellPeer addr note.Forgotten) (deaf.peer addr note.Forgotten);
+    when_forgotten = λ addr m may. one-silent (TellPeer addr note.Forgotten) (deaf.peer addr note.Forgotten);
   }
 
   -- ---- what tells nothing else by itself

@@ -8,6 +8,7 @@ use Rattle.laws.specs.Words.kind
 use Rattle.laws.specs.Words.reply
 use Rattle.warm_messages.specs.declared.alive.Alive.TheVariants.{Ask as AskAlive}
 use Rattle.laws.specs.Acts.{Act, shows, fires_one, asks_for_roots, carries, connects, ends_dial, stores, handles_item, ends_stream, is_closed, sets_targets, sets_big_targets, sets_groups, sets_roots, makes_ordinary, provides, provides_big, does}
+use Rattle.laws.specs.CarriedOut.{forgets}
 use Rattle.laws.specs.InActions.{ended_by}
 use Rattle.laws.specs.OpenEnds.{goes_by_itself}
 use Rattle.laws.specs.Parts.{IsNext}
@@ -15,6 +16,7 @@ use Rattle.laws.specs.Sound.{IsOrderly}
 use Rattle.laws.specs.Steady.{IsOrdered}
 use Rattle.laws.specs.Untouched.{address_of, is_with, is_about, has_bytes, may_close}
 use Rattle.laws.specs.Waits.{until_gone, until_in, until_at}
+use Rattle.laws.proofs.Addresses.{same_address-self}
 use Rattle.laws.proofs.Lawful.{stands-found}
 use Rattle.laws.proofs.Lists.{find_some}
 use Rattle.laws.proofs.Cases.{by_option}
@@ -120,10 +122,12 @@ pub record Scope : Type 0 where
   pub sends : Bool
   pub dials : Bool
   pub lets_in : Bool
+  -- which peers it may forget
+  pub forgets : Addr → Bool
 
 -- about some connections, and nothing more than to send
 abbrev pub on_those : (ℕ → Bool) → Scope
-on_those own = record { own = own; comes = λ cid. false; drops = false; goes = λ cid. false; timely = false; sends = true; dials = false; lets_in = false }
+on_those own = record { own = own; comes = λ cid. false; drops = false; goes = λ cid. false; timely = false; sends = true; dials = false; lets_in = false; forgets = λ addr. false }
 
 -- a connection that is found by its own id, and is one that the part is about
 pub record Stands (scope : Scope) (e : Entry) (m : Machine) : Type 0 where
@@ -164,7 +168,7 @@ pub record Kept (scope : Scope) (R : Machine → Effect → Type 0) : Type 0 whe
   -- a peer changes, comes or goes
   pub when_changed : (addr : Addr) (change : Peer → Peer) (m : Machine) → ((p : Peer) → (change p).addr ≡ p.addr) → R m (peer_changes addr change m)
   pub when_known : (big : Bool) (addr : Addr) (m : Machine) → R m (peer_comes big addr m)
-  pub when_forgotten : (addr : Addr) (m : Machine) → R m (peer_goes addr m)
+  pub when_forgotten : (addr : Addr) (m : Machine) → scope.forgets addr ≡ true → R m (peer_goes addr m)
 
 module _ (scope : Scope) (R : Machine → Effect → Type 0) (kept : Kept scope R) where
   -- ---- what is sent
@@ -261,13 +265,14 @@ module _ (scope : Scope) (R : Machine → Effect → Type 0) (kept : Kept scope 
       cond_both (is_acquirable e.facts) (acquire e m) (dial addr m) (R m)
       (λ free. acquire-walk e m may (stands-own addr m (λ x. is_live_at addr x.facts) e finds is at)) (λ other. kept.when_dialed addr m may_dial))
 
-  pub orders-walk : (order : Order) (m : Machine) → scope.sends ≡ true → scope.dials ≡ true → FindsOwn scope (address_of order) m → R m (carries_out order m)
-  orders-walk (Ask addr number) m may may_dial own = on_used-walk addr (asks_peer number) m own (λ e stands. asks_peer-walk number e m may stands)
-  orders-walk (Forget addr) m may may_dial own = kept.when_forgotten addr m
-  orders-walk (Promote addr) m may may_dial own = kept.when_moved (promoted addr) m (promoted_at (live_entry_at addr m) addr m) refl (promoted_at-walk addr m may may_dial own)
-  orders-walk (Release addr) m may may_dial own = on_used-walk addr release m own (λ e stands. release-walk e m may stands)
-  orders-walk (Activate addr) m may may_dial own = kept.when_moved (activated addr) m (on_used addr activates m) refl (on_used-walk addr activates m own (λ e stands. activates-walk e m may stands))
-  orders-walk (Deactivate addr) m may may_dial own = on_used-walk addr deactivates m own (λ e stands. deactivates-walk e m may)
+  pub orders-walk : (order : Order) (m : Machine) → scope.sends ≡ true → scope.dials ≡ true → ((addr : Addr) → order ≡ Forget addr → scope.forgets addr ≡ true) →
+      FindsOwn scope (address_of order) m → R m (carries_out order m)
+  orders-walk (Ask addr number) m may may_dial may_forget own = on_used-walk addr (asks_peer number) m own (λ e stands. asks_peer-walk number e m may stands)
+  orders-walk (Forget addr) m may may_dial may_forget own = kept.when_forgotten addr m (may_forget addr refl)
+  orders-walk (Promote addr) m may may_dial may_forget own = kept.when_moved (promoted addr) m (promoted_at (live_entry_at addr m) addr m) refl (promoted_at-walk addr m may may_dial own)
+  orders-walk (Release addr) m may may_dial may_forget own = on_used-walk addr release m own (λ e stands. release-walk e m may stands)
+  orders-walk (Activate addr) m may may_dial may_forget own = kept.when_moved (activated addr) m (on_used addr activates m) refl (on_used-walk addr activates m own (λ e stands. activates-walk e m may stands))
+  orders-walk (Deactivate addr) m may may_dial may_forget own = on_used-walk addr deactivates m own (λ e stands. deactivates-walk e m may)
 
   -- ---- a peer connects, a dial ends, or the other side closes
 
@@ -401,6 +406,7 @@ scope_of act m = record {
   sends = may_send act;
   dials = may_dial act;
   lets_in = may_let_in act;
+  forgets = forgets act;
 }
 
 -- what waits its time is live no more
@@ -416,6 +422,9 @@ orderly-finds order m h = record {
   found = λ q e is. let at = find_some q m.connections e is in stands-found m e at.place h at.stands;
   own = λ e is at. subst (λ o. is_with (address_of order) o ≡ true) (sym is) at;
 }
+
+pub forgets_own : (order : Order) (addr : Addr) → order ≡ Forget addr → forgets (carries order) addr ≡ true
+forgets_own order addr is = subst (λ o. forgets (carries o) addr ≡ true) (sym is) (same_address-self addr)
 
 own_id : (cid : ℕ) → (cid == cid) ≡ true
 own_id cid = eq-eqb cid cid refl
@@ -434,7 +443,7 @@ walk (fires_one d) m R change next found kept =
     named-walk (fires_one d) m R kept d.cid.0 (fires_as d.kind) (own_id d.cid.0)
     (λ e is same stands. fires-walk (scope_of (fires_one d) m) R kept d.kind e m refl stands
     (λ sort timely. waiting-closed d.cid.0 d.at m e is (subst (λ k. until_at k d.cid.0 m ≡ Some d.at) sort next.waited)))
-walk (carries order) m R change next found kept = orders-walk (scope_of (carries order) m) R kept order m refl refl (orderly-finds order m found.orderly)
+walk (carries order) m R change next found kept = orders-walk (scope_of (carries order) m) R kept order m refl refl (forgets_own order) (orderly-finds order m found.orderly)
 walk (connects addr) m R change next found kept = connects-walk (scope_of (connects addr) m) R kept addr m refl
 walk (ends_dial cid opened) m R change next found kept =
     named-walk (ends_dial cid opened) m R kept cid.0 (dialed opened) (own_id cid.0)

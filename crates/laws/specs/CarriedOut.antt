@@ -1,6 +1,6 @@
 -- What an act does by its kind: an order of the governor, what changes the book, when accepting pauses, and what is set.
-use Rattle.std.specs.Prelude.{ℕ, ◌+◌, ◌≡◌, Bool, true, false, ◌&&◌, nat_lt, List, [], ◌∷◌, All, if◌then◌else◌, Option, Some, None}
-use Rattle.laws.specs.Words.{flat_map, pause_of, is_acquirable, is_greeting, is_live, is_live_at, Order, Ask, Forget, Promote, Release, Activate, Deactivate, Action, Pause, Addr, Peer, Temp, Cold, Warm, Effect, Happened, promoted, activated, Machine, Entry, counted_in, entry_at, live_entry_at, peer_at}
+use Rattle.std.specs.Prelude.{ℕ, ◌+◌, ◌≡◌, Bool, true, false, ◌&&◌, ◌||◌, nat_lt, List, [], ◌∷◌, All, if◌then◌else◌, Option, Some, None}
+use Rattle.laws.specs.Words.{flat_map, pause_of, is_acquirable, is_greeting, is_live, is_live_at, same_address, Order, Ask, Forget, Promote, Release, Activate, Deactivate, Action, Pause, Addr, Peer, Temp, Cold, Warm, Effect, Happened, promoted, activated, Machine, Entry, counted_in, entry_at, live_entry_at, peer_at}
 use Rattle.laws.specs.Acts.{Act, shows, asks_for_roots, carries, connects, stores, handles_item, is_closed, sets_targets, sets_big_targets, sets_groups, sets_roots}
 use Rattle.laws.specs.RootsAsked.{are_roots_wanted, roots_asked}
 use Rattle.laws.specs.AtMoves.{is_missed, FailsWhere, OnEntry, is_known}
@@ -66,6 +66,20 @@ TreatsBook (sets_groups groups) before after = after.peers ≡ before.peers
 TreatsBook (sets_roots roots) before after = after.peers ≡ before.peers
 TreatsBook (is_closed cid) before after = WhereLive (entry_at cid.0 before) (λ e. FailsWhere (is_missed e.facts) e before after)
 TreatsBook other before after = Unit {0}
+
+-- ---- who stays in the book
+
+abbrev pub is_forgotten_by : Order → Addr → Bool
+is_forgotten_by (Forget addr) other = same_address addr other
+is_forgotten_by order other = false
+
+abbrev pub forgets : Act → Addr → Bool
+forgets (carries order) addr = is_forgotten_by order addr
+forgets other addr = false
+
+-- Whoever is in the book stays in it, unless an order forgets it.
+abbrev pub KeepsKnown : Act → Machine → Machine → Type 0
+KeepsKnown act before after = (addr : Addr) → is_known addr before ≡ true → (is_known addr after || forgets act addr) ≡ true
 
 -- ---- the pause
 
