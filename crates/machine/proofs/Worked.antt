@@ -33,6 +33,7 @@ all_run = record {
     asked_once_runs = refl;
     released_once_it_has_answered_runs = refl;
     let_in_beside_a_time_wait_runs = refl;
+    closed_in_its_time_wait_runs = refl;
     halves_on_two_connections_runs = refl;
     one_answer_leaves_the_other_wait_runs = refl;
     unused_end_is_no_failure_runs = refl;

@@ -163,6 +163,23 @@ let_in_beside_a_time_wait = record {
       ∷ [];
 }
 
+-- one that waits its time stays until that is over, though the other side closes it too
+abbrev pub closed_in_its_time_wait : Trace
+closed_in_its_time_wait = record {
+  settings = usual;
+  happenings =
+      brings (Accepted (node 3002)) (Admit (cid 1) (node 3002) ∷ State (cid 1) state.UnnegotiatedInbound ∷ [])
+      ∷ brings (Bytes (cid 1) (bytes_of (codes "00000000000000118200a20d84182af401f40e84182af401f4"))) (
+      Send (cid 1) (bytes_of (codes "000000008000000983010e84182af401f4"))
+      ∷ State (cid 1) state.InboundIdle
+      ∷ [])
+      ∷ brings (Now 5000) (Close (cid 1) Unused ∷ State (cid 1) state.Terminating ∷ [])
+      ∷ brings (Closed (cid 1)) []
+      ∷ brings (Now 64999) []
+      ∷ brings (Now 65000) (State (cid 1) state.Terminated ∷ [])
+      ∷ [];
+}
+
 -- what is not decoded yet of one connection is left by the bytes of another
 abbrev pub halves_on_two_connections : Trace
 halves_on_two_connections = record {

@@ -9,7 +9,7 @@ use Rattle.machine.specs.GovernorTraces.{targets_ask_roots_and_dial, release_lea
 use Rattle.machine.specs.SharingTraces.{share_answer_adds_peer, share_answer_too_many, share_request_of_one, share_answer_above_target, share_served_without_asker, share_answer_ipv6_taken, share_answer_ipv6_passed_over}
 use Rattle.machine.specs.BigPeerTraces.{big_fewer_failures_first, big_made_ordinary_by_locals, big_counted_apart, big_forgotten_apart}
 use Rattle.machine.specs.DistinctTraces.{pause_grows, inbound_waits, dial_answered_again, dialer_on_other_sides, inbound_unidirectional_served, reply_wait_and_back_off, release_trims, overwritten_is_no_failure}
-use Rattle.machine.specs.LastingTraces.{public_roots_stay, dialed_after_the_time_wait, turned_away_for_the_first_cause, one_grace_goes_on, greeting_closed_ends_once, asked_once, released_once_it_has_answered, let_in_beside_a_time_wait, halves_on_two_connections, one_answer_leaves_the_other_wait, unused_end_is_no_failure}
+use Rattle.machine.specs.LastingTraces.{public_roots_stay, dialed_after_the_time_wait, turned_away_for_the_first_cause, one_grace_goes_on, greeting_closed_ends_once, asked_once, released_once_it_has_answered, let_in_beside_a_time_wait, closed_in_its_time_wait, halves_on_two_connections, one_answer_leaves_the_other_wait, unused_end_is_no_failure}
 use Rattle.machine.specs.DistinctPeerTraces.{success_forgets_failures, asked_again_after_the_gap, roots_up_to_their_target, big_targets_lowered, bigs_below_the_lowered_target, answer_below_the_lowered_target}
 
 pub record HandshakesRun : Type 0 where
@@ -113,6 +113,7 @@ pub record LastingRun : Type 0 where
   pub asked_once_runs : IsRun asked_once
   pub released_once_it_has_answered_runs : IsRun released_once_it_has_answered
   pub let_in_beside_a_time_wait_runs : IsRun let_in_beside_a_time_wait
+  pub closed_in_its_time_wait_runs : IsRun closed_in_its_time_wait
   pub halves_on_two_connections_runs : IsRun halves_on_two_connections
   pub one_answer_leaves_the_other_wait_runs : IsRun one_answer_leaves_the_other_wait
   pub unused_end_is_no_failure_runs : IsRun unused_end_is_no_failure
