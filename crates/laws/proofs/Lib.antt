@@ -27,6 +27,7 @@ mod Speaks
 mod Falls
 mod OpenEnds
 mod Lingers
+mod Heats
 mod Known
 mod Ordering
 mod Governing

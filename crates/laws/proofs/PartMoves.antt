@@ -17,6 +17,7 @@ use Rattle.laws.proofs.Agreed.{agrees-right}
 use Rattle.laws.proofs.BackOff.{treats, forgives}
 use Rattle.laws.proofs.Begun.{over-after, waits-begin}
 use Rattle.laws.proofs.Goes.{goes-where}
+use Rattle.laws.proofs.Heats.{heats-up}
 use Rattle.laws.proofs.Known.{keeps-known}
 use Rattle.laws.proofs.Lingers.{lingers}
 use Rattle.laws.proofs.Responders.{responds-right}
@@ -163,6 +164,7 @@ lawful-part event act m closes next order found h = record {
   order = order;
   book = treats-book act m;
   known = keeps-known act m next found;
+  heats = heats-up act m;
   forgiven = forgives act m;
   pauses = pauses-right act m next found;
   ends = (ends-rightly act m found).others;

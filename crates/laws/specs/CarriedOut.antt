@@ -1,6 +1,6 @@
 -- What an act does by its kind: an order of the governor, what changes the book, when accepting pauses, and what is set.
-use Rattle.std.specs.Prelude.{ℕ, ◌+◌, ◌≡◌, Bool, true, false, ◌&&◌, ◌||◌, nat_lt, List, [], ◌∷◌, All, if◌then◌else◌, Option, Some, None}
-use Rattle.laws.specs.Words.{flat_map, pause_of, is_acquirable, is_greeting, is_live, is_live_at, same_address, Order, Ask, Forget, Promote, Release, Activate, Deactivate, Action, Pause, Addr, Peer, Temp, Cold, Warm, Effect, Happened, promoted, activated, Machine, Entry, counted_in, entry_at, live_entry_at, peer_at}
+use Rattle.std.specs.Prelude.{ℕ, ◌+◌, ◌≡◌, Bool, true, false, ◌&&◌, ◌||◌, nat_lt, List, [], ◌∷◌, All, is_some, ◌==◌, if◌then◌else◌, Option, Some, None}
+use Rattle.laws.specs.Words.{flat_map, pause_of, is_acquirable, is_greeting, is_live, is_live_at, same_address, Order, Ask, Forget, Promote, Release, Activate, Deactivate, Action, Pause, Addr, Peer, Temp, Cold, Warm, Hot, Item, is_negotiated, Effect, Happened, promoted, activated, Machine, Entry, counted_in, entry_at, live_entry_at, peer_at}
 use Rattle.laws.specs.Acts.{Act, shows, asks_for_roots, carries, connects, stores, handles_item, is_closed, sets_targets, sets_big_targets, sets_groups, sets_roots}
 use Rattle.laws.specs.RootsAsked.{are_roots_wanted, roots_asked}
 use Rattle.laws.specs.AtMoves.{is_missed, FailsWhere, OnEntry, is_known}
@@ -80,6 +80,18 @@ forgets other addr = false
 -- Whoever is in the book stays in it, unless an order forgets it.
 abbrev pub KeepsKnown : Act → Machine → Machine → Type 0
 KeepsKnown act before after = (addr : Addr) → is_known addr before ≡ true → (is_known addr after || forgets act addr) ≡ true
+
+-- ---- who becomes hot
+
+abbrev pub WhereAnswered : Item → Option Entry → (Entry → Type 0) → Type 0
+WhereAnswered item None law = Unit {0}
+WhereAnswered item (Some e) law = is_negotiated e.facts ≡ true → (item.side == 0) ≡ false → item.id ≡ 2 → law e
+
+-- A peer that has answered where the chains meet is hot, if its connection stands.
+abbrev pub HeatsUp : Act → Machine → Machine → Type 0
+HeatsUp (handles_item own item) before after =
+    WhereAnswered item (entry_at own.0 before) (λ e. is_some (entry_at own.0 after) ≡ true → OnPeer (peer_at e.facts.addr after) (λ p. p.temp ≡ Hot))
+HeatsUp other before after = Unit {0}
 
 -- ---- the pause
 
