@@ -4,18 +4,19 @@ use crate::addresses::address_of;
 use crate::given::Given;
 use crate::ground::Ground;
 use crate::happening::Happening;
+use crate::task::Task;
 use net_base::{AddrList, Event, Group, GroupList, Job, OutOfMemory, Settings, Targets};
 use network_scenario::{Friends, Words};
 
 impl Ground {
-    /// A node begins. False where it is up already.
-    pub(crate) fn begin(&mut self, index: usize) -> bool {
+    /// A node begins. Nothing is left to be done where it is up already.
+    pub(crate) fn begin(&mut self, index: usize) -> Option<Task> {
         match self.nodes.get_mut(index) {
             Some(node) if !node.is_up => {
                 node.begin(self.alloc, self.agenda.now);
-                true
+                Some(Task::Begin(index))
             }
-            _ => false,
+            _ => None,
         }
     }
 
