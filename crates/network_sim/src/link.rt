@@ -49,15 +49,6 @@ impl End {
         }
     }
 
-    /// When what would come at a moment does come. None where it never does.
-    fn arrival(&mut self, moment: u64) -> Option<u64> {
-        if !self.is_open {
-            return None;
-        }
-        self.ready = self.ready.max(moment);
-        Some(self.ready)
-    }
-
     /// Takes out what came first before it was admitted, where it is by now.
     pub(crate) fn take_early(&mut self) -> Option<Octets> {
         if self.cid.is_none() || !self.is_open {
@@ -106,6 +97,11 @@ impl Link {
     /// When what is sent at a moment comes to an end. None where it never does.
     pub(crate) fn arrival(&mut self, side: Side, sent: u64) -> Option<u64> {
         let moment = sent.saturating_add(self.latency);
-        self.end_mut(side).arrival(moment)
+        let end = self.end_mut(side);
+        if !end.is_open {
+            return None;
+        }
+        end.ready = end.ready.max(moment);
+        Some(end.ready)
     }
 }

@@ -48,7 +48,9 @@ impl Ground {
         node: usize,
         cid: Cid,
     ) -> Result<(), OutOfMemory> {
-        self.links.name(link, side, cid);
+        if let Some(end) = self.links.end_mut(link, side) {
+            end.cid = Some(cid);
+        }
         self.hold(link, side, node, cid)
     }
 
@@ -85,7 +87,9 @@ impl Ground {
 
     // The socket is open. An attacker accepts at once; a node once it accepts.
     fn open(&mut self, id: u64, to: usize, latency: u64) -> Result<Option<Task>, OutOfMemory> {
-        self.links.open(id);
+        if let Some(end) = self.links.end_mut(id, Side::Acceptor) {
+            end.is_open = true;
+        }
         self.agenda.later(latency, Happening::Dialed(id, true))?;
         if self.nodes.is_honest(to) {
             self.wait(id, to)?;

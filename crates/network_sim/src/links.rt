@@ -1,4 +1,4 @@
-use crate::link::{Link, Side};
+use crate::link::{End, Link, Side};
 use crate::nodes::Nodes;
 use net_base::{Cid, Octets, OutOfMemory};
 use std::alloc::Global;
@@ -57,18 +57,8 @@ impl Links {
         Some((from, to, link.latency))
     }
 
-    /// What a node calls an end from now on.
-    pub(crate) fn name(&mut self, id: u64, side: Side, cid: Cid) {
-        if let Some(link) = self.get_mut(id) {
-            link.end_mut(side).cid = Some(cid);
-        }
-    }
-
-    /// The acceptor's end opens.
-    pub(crate) fn open(&mut self, id: u64) {
-        if let Some(link) = self.get_mut(id) {
-            link.end_mut(Side::Acceptor).is_open = true;
-        }
+    pub(crate) fn end_mut(&mut self, id: u64, side: Side) -> Option<&mut End> {
+        Some(self.get_mut(id)?.end_mut(side))
     }
 
     /// An end closes. A link with no open end is gone.
@@ -87,15 +77,15 @@ impl Links {
 
     /// Bytes wait at an end until it is admitted.
     pub(crate) fn keep(&mut self, id: u64, side: Side, bytes: Octets) -> Result<(), OutOfMemory> {
-        if let Some(link) = self.get_mut(id) {
-            link.end_mut(side).early.push_back(bytes)?;
+        if let Some(end) = self.end_mut(id, side) {
+            end.early.push_back(bytes)?;
         }
         Ok(())
     }
 
     /// Takes out what waits at the acceptor's end, where it doesn't have to any more.
     pub(crate) fn take_early(&mut self, id: u64) -> Option<Octets> {
-        self.get_mut(id)?.end_mut(Side::Acceptor).take_early()
+        self.end_mut(id, Side::Acceptor)?.take_early()
     }
 
     /// Adds the numbers of those whose ends are in different parts of the network.

@@ -41,14 +41,13 @@ impl Ground {
 
     /// The local roots of a node, which it draws, where it has any.
     pub(crate) fn befriend(&mut self, index: usize) -> Result<Option<Event>, OutOfMemory> {
-        match self.friends_of(index) {
+        let Some(kind) = self.kind_of(index) else {
+            return Ok(None);
+        };
+        match kind.friends {
             Some(friends) => self.draw_group(&friends),
             None => Ok(None),
         }
-    }
-
-    fn friends_of(&self, index: usize) -> Option<Friends> {
-        self.kind_of(index)?.friends
     }
 
     fn draw_group(&mut self, friends: &Friends) -> Result<Option<Event>, OutOfMemory> {
