@@ -34,19 +34,26 @@ fn read_kind(alloc: Global, value: &Value, all: &[Value]) -> Result<Kind, Scenar
     let targets = read_targets(table)?;
     let friends = read_friends(table, all)?;
     let count = whole_of(table, Name::Count, 0, NODES_MOST)?;
+    let role = read_role(table)?;
+    let within = whole_or(table, Name::Within, 1, DAY, 10_000)?;
+    let hidden = flag_or(table, Name::Hidden, false)?;
+    let public = whole_or(table, Name::Public, 0, NODES_MOST, 0)?;
+    let tick = whole_or(table, Name::Tick, 1, DAY, 1_000)?;
+    let holds = whole_or(table, Name::Holds, 0, 10_000, 0)?;
     // The name comes last, so that nothing is owned where a number is refused.
+    let name = owned(alloc, name)?;
     Ok(Kind {
-        role: read_role(table)?,
+        name,
+        role,
         count,
-        within: whole_or(table, Name::Within, 1, DAY, 10_000)?,
-        hidden: flag_or(table, Name::Hidden, false)?,
-        public: whole_or(table, Name::Public, 0, NODES_MOST, 0)?,
-        tick: whole_or(table, Name::Tick, 1, DAY, 1_000)?,
-        holds: whole_or(table, Name::Holds, 0, 10_000, 0)?,
+        within,
+        hidden,
+        public,
+        tick,
+        holds,
         settings,
         targets,
         friends,
-        name: owned(alloc, name)?,
     })
 }
 
@@ -124,41 +131,47 @@ fn read_settings(table: &Table) -> Result<Settings, ScenarioRefusal> {
     let usual = Settings::usual(nobody);
     let hard = whole_or(table, Name::Hard, 0, 10_000, usual.hard)?;
     let soft = whole_or(table, Name::Soft, 0, 10_000, hard.min(384))?;
-    let settings = read_times(
-        table,
-        Settings {
-            hard,
-            soft,
-            ..usual
-        },
-    )?;
+    let [delay, idle, timewait, handshake, reply] = read_times(table, &usual)?;
+    let [backoff, sharegap, shares, sharing, initiator_only] = read_shares(table, &usual)?;
+    let settings = Settings {
+        hard,
+        soft,
+        delay,
+        idle,
+        timewait,
+        handshake,
+        reply,
+        backoff,
+        sharegap,
+        shares,
+        sharing,
+        initiator_only,
+        ..usual
+    };
     match settings.check() {
         None => Ok(settings),
         Some(field) => Err(wrong(Name::Kind, Due::Bounded(field))),
     }
 }
 
-fn read_times(table: &Table, usual: Settings) -> Result<Settings, ScenarioRefusal> {
-    let settings = Settings {
-        delay: interval(table, Name::Delay, usual.delay)?,
-        idle: interval(table, Name::Idle, usual.idle)?,
-        timewait: interval(table, Name::Timewait, usual.timewait)?,
-        handshake: interval(table, Name::Handshake, usual.handshake)?,
-        reply: interval(table, Name::Reply, usual.reply)?,
-        ..usual
-    };
-    read_shares(table, settings)
+fn read_times(table: &Table, usual: &Settings) -> Result<[u64; 5], ScenarioRefusal> {
+    Ok([
+        interval(table, Name::Delay, usual.delay)?,
+        interval(table, Name::Idle, usual.idle)?,
+        interval(table, Name::Timewait, usual.timewait)?,
+        interval(table, Name::Handshake, usual.handshake)?,
+        interval(table, Name::Reply, usual.reply)?,
+    ])
 }
 
-fn read_shares(table: &Table, usual: Settings) -> Result<Settings, ScenarioRefusal> {
-    Ok(Settings {
-        backoff: interval(table, Name::Backoff, usual.backoff)?,
-        sharegap: interval(table, Name::Sharegap, usual.sharegap)?,
-        shares: interval(table, Name::Shares, usual.shares)?,
-        sharing: interval(table, Name::Sharing, usual.sharing)?,
-        initiator_only: interval(table, Name::InitiatorOnly, usual.initiator_only)?,
-        ..usual
-    })
+fn read_shares(table: &Table, usual: &Settings) -> Result<[u64; 5], ScenarioRefusal> {
+    Ok([
+        interval(table, Name::Backoff, usual.backoff)?,
+        interval(table, Name::Sharegap, usual.sharegap)?,
+        interval(table, Name::Shares, usual.shares)?,
+        interval(table, Name::Sharing, usual.sharing)?,
+        interval(table, Name::InitiatorOnly, usual.initiator_only)?,
+    ])
 }
 
 // The bounds of each are tested with all of them.

@@ -25,20 +25,29 @@ pub enum Due {
     NotBelow(Name),
 }
 
+impl Due {
+    // What is said of one that has nothing in it.
+    fn text(self) -> &'static str {
+        match self {
+            Due::Text => "a text",
+            Due::Flag => "true or false",
+            Due::Table => "a table",
+            Due::Tables => "tables",
+            Due::KnownNames => "a table with no other names than docs/NETWORK.md has",
+            Due::SomeWords => "wide or near",
+            Due::SomeRole => "honest, answering or silent",
+            _ => "the name of a kind",
+        }
+    }
+}
+
 impl fmt::Display for Due {
     fn fmt<W: fmt::Write>(&self, f: &mut fmt::Formatter<W>) -> fmt::Result {
         match self {
             Due::Whole(least, most) => write!(f, "a whole number from {least} to {most}"),
-            Due::Text => write!(f, "a text"),
-            Due::Flag => write!(f, "true or false"),
-            Due::Table => write!(f, "a table"),
-            Due::Tables => write!(f, "tables"),
-            Due::KnownNames => write!(f, "a table with no other names than docs/NETWORK.md has"),
-            Due::SomeWords => write!(f, "wide or near"),
-            Due::SomeRole => write!(f, "honest, answering or silent"),
-            Due::SomeKind => write!(f, "the name of a kind"),
             Due::Bounded(field) => write!(f, "a table whose {field:?} is within its bounds"),
             Due::NotBelow(name) => write!(f, "at least {}", name.text()),
+            other => write!(f, "{}", other.text()),
         }
     }
 }

@@ -54,7 +54,7 @@ impl Ground {
         let until = self.agenda.now.saturating_add(time);
         match self.nodes.get_mut(index) {
             Some(node) => {
-                node.pause(until);
+                node.paused_until = node.paused_until.max(until);
                 self.agenda.later(time, Happening::Resume(index, node.life))
             }
             None => Ok(()),

@@ -79,7 +79,7 @@ impl Ground {
             self.attackers.push(index)?;
         }
         if is_public {
-            self.roots.know(index)?;
+            self.roots.publics.push(index)?;
         }
         self.nodes.push(node)
     }

@@ -8,6 +8,7 @@ mod addresses;
 mod agenda;
 mod asked;
 mod attacking;
+mod befalling;
 mod census;
 mod draws;
 mod fits;
@@ -35,6 +36,7 @@ mod running;
 mod seat;
 mod seats;
 mod segments;
+mod task;
 mod trace;
 
 pub use asked::{Asked, RunEnd};

@@ -1,4 +1,4 @@
-use net_base::{Cid, Octets, OutOfMemory};
+use net_base::{Cid, Octets};
 use std::alloc::Global;
 use std::collections::VecDeque;
 
@@ -35,7 +35,7 @@ pub(crate) struct End {
     /// The moment before which nothing that is sent now comes here: bytes stay in order.
     ready: u64,
     /// What came before it was admitted.
-    early: VecDeque<Octets>,
+    pub early: VecDeque<Octets>,
 }
 
 impl End {
@@ -49,17 +49,8 @@ impl End {
         }
     }
 
-    /// When what would come at a moment does come. None where it never does.
-    fn arrival(&mut self, moment: u64) -> Option<u64> {
-        if !self.is_open {
-            return None;
-        }
-        self.ready = self.ready.max(moment);
-        Some(self.ready)
-    }
-
     /// Takes out what came first before it was admitted, where it is by now.
-    fn take_early(&mut self) -> Option<Octets> {
+    pub(crate) fn take_early(&mut self) -> Option<Octets> {
         if self.cid.is_none() || !self.is_open {
             return None;
         }
@@ -106,17 +97,11 @@ impl Link {
     /// When what is sent at a moment comes to an end. None where it never does.
     pub(crate) fn arrival(&mut self, side: Side, sent: u64) -> Option<u64> {
         let moment = sent.saturating_add(self.latency);
-        self.end_mut(side).arrival(moment)
-    }
-
-    /// Bytes wait at an end until it is admitted.
-    pub(crate) fn keep(&mut self, side: Side, bytes: Octets) -> Result<(), OutOfMemory> {
-        self.end_mut(side).early.push_back(bytes)?;
-        Ok(())
-    }
-
-    /// Takes out what waits at the acceptor's end, where it doesn't have to any more.
-    pub(crate) fn take_early(&mut self) -> Option<Octets> {
-        self.acceptor.take_early()
+        let end = self.end_mut(side);
+        if !end.is_open {
+            return None;
+        }
+        end.ready = end.ready.max(moment);
+        Some(end.ready)
     }
 }

@@ -4,6 +4,7 @@ use crate::given::Given;
 use crate::ground::Ground;
 use crate::happening::Happening;
 use crate::link::{Hold, Link, Side};
+use crate::task::Task;
 use net_base::{Addr, Cid, Event, Octets, OutOfMemory};
 
 // How a dial is answered.
@@ -47,12 +48,14 @@ impl Ground {
         node: usize,
         cid: Cid,
     ) -> Result<(), OutOfMemory> {
-        self.links.name(link, side, cid);
+        if let Some(end) = self.links.end_mut(link, side) {
+            end.cid = Some(cid);
+        }
         self.hold(link, side, node, cid)
     }
 
-    /// A dial reaches the other side. Some node, where somebody waits to be accepted by it.
-    pub(crate) fn connect(&mut self, id: u64) -> Result<Option<usize>, OutOfMemory> {
+    /// A dial reaches the other side. Where somebody waits there to be accepted, that is left to be done.
+    pub(crate) fn connect(&mut self, id: u64) -> Result<Option<Task>, OutOfMemory> {
         let Some((from, to, latency)) = self.links.ends_of(id) else {
             return Ok(None);
         };
@@ -77,18 +80,20 @@ impl Ground {
         }
     }
 
-    fn fail(&mut self, id: u64, time: u64) -> Result<Option<usize>, OutOfMemory> {
+    fn fail(&mut self, id: u64, time: u64) -> Result<Option<Task>, OutOfMemory> {
         self.agenda.later(time, Happening::Dialed(id, false))?;
         Ok(None)
     }
 
     // The socket is open. An attacker accepts at once; a node once it accepts.
-    fn open(&mut self, id: u64, to: usize, latency: u64) -> Result<Option<usize>, OutOfMemory> {
-        self.links.open(id);
+    fn open(&mut self, id: u64, to: usize, latency: u64) -> Result<Option<Task>, OutOfMemory> {
+        if let Some(end) = self.links.end_mut(id, Side::Acceptor) {
+            end.is_open = true;
+        }
         self.agenda.later(latency, Happening::Dialed(id, true))?;
         if self.nodes.is_honest(to) {
             self.wait(id, to)?;
-            Ok(Some(to))
+            Ok(Some(Task::Welcome(to)))
         } else {
             self.name_end(id, Side::Acceptor, to, Cid(id))?;
             Ok(None)
@@ -97,7 +102,10 @@ impl Ground {
 
     fn wait(&mut self, id: u64, to: usize) -> Result<(), OutOfMemory> {
         match self.nodes.get_mut(to) {
-            Some(node) => node.wait(id),
+            Some(node) => {
+                node.callers.push_back(id)?;
+                Ok(())
+            }
             None => Ok(()),
         }
     }
@@ -201,6 +209,14 @@ impl Ground {
         }
     }
 
+    /// The first bytes that came before the acceptor's end was admitted come to it, where it is by now.
+    pub(crate) fn arrive_early(&mut self, id: u64) -> Result<Option<Given>, OutOfMemory> {
+        match self.links.take_early(id) {
+            Some(bytes) => self.arrive(id, Side::Acceptor, bytes),
+            None => Ok(None),
+        }
+    }
+
     fn read(
         &mut self,
         id: u64,
@@ -246,27 +262,8 @@ impl Ground {
         self.heard(node, Event::Closed(cid))
     }
 
-    /// A node's links end, and who waits for it is refused.
+    /// Who waits for a node is refused, and its links end.
     pub(crate) fn drop_all(&mut self, index: usize) -> Result<(), OutOfMemory> {
-        self.drop_callers(index)?;
-        self.drop_links(index)
-    }
-
-    fn drop_callers(&mut self, index: usize) -> Result<(), OutOfMemory> {
-        for _ in 0..u64::MAX {
-            match self.take_caller(index) {
-                Some(link) => self.shut(link, Side::Acceptor)?,
-                None => return Ok(()),
-            }
-        }
-        Ok(())
-    }
-
-    fn take_caller(&mut self, index: usize) -> Option<u64> {
-        self.nodes.get_mut(index)?.take_caller()
-    }
-
-    fn drop_links(&mut self, index: usize) -> Result<(), OutOfMemory> {
         for _ in 0..u64::MAX {
             match self.take_hold(index) {
                 Some(hold) => self.shut(hold.link, hold.side)?,

@@ -1,4 +1,4 @@
-use crate::link::{Link, Side};
+use crate::link::{End, Link, Side};
 use crate::nodes::Nodes;
 use net_base::{Cid, Octets, OutOfMemory};
 use std::alloc::Global;
@@ -31,10 +31,6 @@ impl Links {
         Ok(())
     }
 
-    pub(crate) fn get(&self, id: u64) -> Option<&Link> {
-        self.all.get(&id)
-    }
-
     pub(crate) fn get_mut(&mut self, id: u64) -> Option<&mut Link> {
         self.all.get_mut(&id)
     }
@@ -45,7 +41,7 @@ impl Links {
 
     /// Whose an end is and what that node calls it, where it is open.
     pub(crate) fn open_end(&self, id: u64, side: Side) -> Option<(usize, Option<Cid>)> {
-        let end = self.get(id)?.end(side);
+        let end = self.all.get(&id)?.end(side);
         if end.is_open {
             Some((end.node, end.cid))
         } else {
@@ -55,24 +51,14 @@ impl Links {
 
     /// Who dials whom, and how long bytes are on their way.
     pub(crate) fn ends_of(&self, id: u64) -> Option<(usize, usize, u64)> {
-        let link = self.get(id)?;
+        let link = self.all.get(&id)?;
         let from = link.end(Side::Dialer).node;
         let to = link.end(Side::Acceptor).node;
         Some((from, to, link.latency))
     }
 
-    /// What a node calls an end from now on.
-    pub(crate) fn name(&mut self, id: u64, side: Side, cid: Cid) {
-        if let Some(link) = self.get_mut(id) {
-            link.end_mut(side).cid = Some(cid);
-        }
-    }
-
-    /// The acceptor's end opens.
-    pub(crate) fn open(&mut self, id: u64) {
-        if let Some(link) = self.get_mut(id) {
-            link.end_mut(Side::Acceptor).is_open = true;
-        }
+    pub(crate) fn end_mut(&mut self, id: u64, side: Side) -> Option<&mut End> {
+        Some(self.get_mut(id)?.end_mut(side))
     }
 
     /// An end closes. A link with no open end is gone.
@@ -89,15 +75,17 @@ impl Links {
         }
     }
 
+    /// Bytes wait at an end until it is admitted.
     pub(crate) fn keep(&mut self, id: u64, side: Side, bytes: Octets) -> Result<(), OutOfMemory> {
-        match self.get_mut(id) {
-            Some(link) => link.keep(side, bytes),
-            None => Ok(()),
+        if let Some(end) = self.end_mut(id, side) {
+            end.early.push_back(bytes)?;
         }
+        Ok(())
     }
 
+    /// Takes out what waits at the acceptor's end, where it doesn't have to any more.
     pub(crate) fn take_early(&mut self, id: u64) -> Option<Octets> {
-        self.get_mut(id)?.take_early()
+        self.end_mut(id, Side::Acceptor)?.take_early()
     }
 
     /// Adds the numbers of those whose ends are in different parts of the network.

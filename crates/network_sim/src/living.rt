@@ -4,18 +4,19 @@ use crate::addresses::address_of;
 use crate::given::Given;
 use crate::ground::Ground;
 use crate::happening::Happening;
+use crate::task::Task;
 use net_base::{AddrList, Event, Group, GroupList, Job, OutOfMemory, Settings, Targets};
 use network_scenario::{Friends, Words};
 
 impl Ground {
-    /// A node begins. False where it is up already.
-    pub(crate) fn begin(&mut self, index: usize) -> bool {
+    /// A node begins. Nothing is left to be done where it is up already.
+    pub(crate) fn begin(&mut self, index: usize) -> Option<Task> {
         match self.nodes.get_mut(index) {
             Some(node) if !node.is_up => {
                 node.begin(self.alloc, self.agenda.now);
-                true
+                Some(Task::Begin(index))
             }
-            _ => false,
+            _ => None,
         }
     }
 
@@ -40,14 +41,13 @@ impl Ground {
 
     /// The local roots of a node, which it draws, where it has any.
     pub(crate) fn befriend(&mut self, index: usize) -> Result<Option<Event>, OutOfMemory> {
-        match self.friends_of(index) {
+        let Some(kind) = self.kind_of(index) else {
+            return Ok(None);
+        };
+        match kind.friends {
             Some(friends) => self.draw_group(&friends),
             None => Ok(None),
         }
-    }
-
-    fn friends_of(&self, index: usize) -> Option<Friends> {
-        self.kind_of(index)?.friends
     }
 
     fn draw_group(&mut self, friends: &Friends) -> Result<Option<Event>, OutOfMemory> {

@@ -4,7 +4,7 @@ use crate::ground::Ground;
 use crate::happening::Happening;
 use crate::link::Side;
 use net_base::OutOfMemory;
-use network_scenario::{Apart, Leaving, Parting};
+use network_scenario::{Apart, Leaving};
 
 impl Ground {
     /// Puts down all that the scenario has happen.
@@ -31,15 +31,11 @@ impl Ground {
     }
 
     fn foresee_parting(&mut self, place: usize) -> Result<(), OutOfMemory> {
-        let Some(parting) = self.parting(place) else {
+        let Some(parting) = self.scenario.partings.get(place).copied() else {
             return Ok(());
         };
         self.agenda.put(parting.from, Happening::Part(place))?;
         self.agenda.put(parting.to, Happening::Heal)
-    }
-
-    fn parting(&self, place: usize) -> Option<Parting> {
-        self.scenario.partings.get(place).copied()
     }
 
     fn foresee_leaving(&mut self, place: usize) -> Result<(), OutOfMemory> {
@@ -55,7 +51,7 @@ impl Ground {
 
     /// The network falls apart. The sockets across are found dead after a while.
     pub(crate) fn part(&mut self, place: usize) -> Result<(), OutOfMemory> {
-        let Some(parting) = self.parting(place) else {
+        let Some(parting) = self.scenario.partings.get(place).copied() else {
             return Ok(());
         };
         for index in 0..self.nodes.len() {
@@ -78,20 +74,11 @@ impl Ground {
 
     fn foresee_ends(&mut self, links: &[u64], notice: u64) -> Result<(), OutOfMemory> {
         for link in links {
-            self.foresee_end(*link, notice)?;
+            self.agenda
+                .later(notice, Happening::Closed(*link, Side::Dialer))?;
+            self.agenda
+                .later(notice, Happening::Closed(*link, Side::Acceptor))?;
         }
-        Ok(())
-    }
-
-    fn foresee_end(&mut self, link: u64, notice: u64) -> Result<(), OutOfMemory> {
-        self.agenda
-            .later(notice, Happening::Closed(link, Side::Dialer))?;
-        self.agenda
-            .later(notice, Happening::Closed(link, Side::Acceptor))
-    }
-
-    pub(crate) fn heal(&mut self) -> Result<(), OutOfMemory> {
-        self.nodes.is_parted = false;
         Ok(())
     }
 
@@ -102,15 +89,11 @@ impl Ground {
 
     /// A node leaves, and may come back: its links end, and who waits for it is refused.
     pub(crate) fn leave(&mut self, index: usize, leaving: &Leaving) -> Result<(), OutOfMemory> {
-        self.set_down(index);
-        self.drop_all(index)?;
-        self.foresee_return(index, leaving.back)
-    }
-
-    fn set_down(&mut self, index: usize) {
         if let Some(node) = self.nodes.get_mut(index) {
             node.is_up = false;
         }
+        self.drop_all(index)?;
+        self.foresee_return(index, leaving.back)
     }
 
     fn foresee_return(&mut self, index: usize, back: Option<u64>) -> Result<(), OutOfMemory> {

@@ -1,10 +1,8 @@
 use crate::asked::Asked;
-use crate::given::Given;
 use crate::ground::Ground;
-use crate::happening::Happening;
-use crate::link::Side;
 use crate::seats::Seats;
-use net_base::{Event, Job, Octets, OutOfMemory};
+use crate::task::Task;
+use net_base::{Event, OutOfMemory};
 use network_scenario::Scenario;
 use std::alloc::Global;
 use stepper::Stepper;
@@ -29,55 +27,24 @@ impl<S: Stepper> Network<S> {
         Ok(Network { seats, ground })
     }
 
-    /// Something happens.
-    pub(crate) fn happen(&mut self, happening: Happening) -> Result<(), OutOfMemory> {
-        match happening {
-            Happening::Begin(node) => self.begin(node),
-            Happening::Tick(node, life) => self.tick(node, life),
-            Happening::Connect(link) => self.connect(link),
-            Happening::Dialed(link, is_open) => self.dial_ends(link, is_open),
-            Happening::Arrive(link, side, bytes) => self.arrive(link, side, bytes),
-            Happening::Closed(link, side) => self.end_closed(link, side),
-            Happening::Roots(node, life, job) => self.tell_roots(node, life, job),
-            Happening::Resume(node, life) => self.resume(node, life),
-            Happening::Part(place) => self.ground.part(place),
-            Happening::Heal => self.ground.heal(),
-            Happening::Leave(place) => self.leave_some(place),
-            Happening::Report => self.ground.report_and_go_on(),
+    /// The next thing happens, and true, where one does before the end.
+    pub(crate) fn turn(&mut self, end: u64) -> Result<bool, OutOfMemory> {
+        let Some(happening) = self.ground.agenda.next(end) else {
+            return Ok(false);
+        };
+        if let Some(task) = self.ground.happen(happening)? {
+            self.fulfil(task)?;
         }
+        Ok(true)
     }
 
-    fn connect(&mut self, link: u64) -> Result<(), OutOfMemory> {
-        match self.ground.connect(link)? {
-            Some(node) => self.welcome(node),
-            None => Ok(()),
-        }
-    }
-
-    fn dial_ends(&mut self, link: u64, is_open: bool) -> Result<(), OutOfMemory> {
-        let given = self.ground.dial_ends(link, is_open)?;
-        self.give_some(given)
-    }
-
-    fn arrive(&mut self, link: u64, side: Side, bytes: Octets) -> Result<(), OutOfMemory> {
-        let given = self.ground.arrive(link, side, bytes)?;
-        self.give_some(given)
-    }
-
-    fn end_closed(&mut self, link: u64, side: Side) -> Result<(), OutOfMemory> {
-        let given = self.ground.end_closed(link, side);
-        self.give_some(given)
-    }
-
-    fn tell_roots(&mut self, node: usize, life: u64, job: Job) -> Result<(), OutOfMemory> {
-        let given = self.ground.answer_roots(node, life, job)?;
-        self.give_some(given)
-    }
-
-    fn give_some(&mut self, given: Option<Given>) -> Result<(), OutOfMemory> {
-        match given {
-            Some(given) => self.give(given.node, &given.event),
-            None => Ok(()),
+    fn fulfil(&mut self, task: Task) -> Result<(), OutOfMemory> {
+        match task {
+            Task::Give(given) => self.give(given.node, &given.event),
+            Task::Begin(node) => self.begin(node),
+            Task::Govern(node, word) => self.govern(node, word),
+            Task::Welcome(node) => self.welcome(node),
+            Task::Leave(place) => self.leave_some(place),
         }
     }
 
@@ -97,11 +64,7 @@ impl<S: Stepper> Network<S> {
         }
     }
 
-    // A node begins, where it is not up.
     fn begin(&mut self, index: usize) -> Result<(), OutOfMemory> {
-        if !self.ground.begin(index) {
-            return Ok(());
-        }
         if let Some((settings, life)) = self.ground.settings_of(index) {
             self.seats.begin(index, settings, life)?;
             self.tell_terms(index)?;
@@ -120,33 +83,10 @@ impl<S: Stepper> Network<S> {
         }
     }
 
-    // A node looks at its targets, and an attacker at its slots.
-    fn tick(&mut self, index: usize, life: u64) -> Result<(), OutOfMemory> {
-        if !self.ground.nodes.lives(index, life) {
-            return Ok(());
-        }
-        if self.ground.nodes.is_honest(index) {
-            self.govern(index)?;
-        } else {
-            self.ground.attack(index)?;
-        }
-        self.ground.tick_again(index)
-    }
-
-    fn govern(&mut self, index: usize) -> Result<(), OutOfMemory> {
-        let word = self.ground.govern_word();
+    fn govern(&mut self, index: usize, word: u64) -> Result<(), OutOfMemory> {
         self.give(index, &Event::Govern(word))?;
         self.ground.look(index);
-        Ok(())
-    }
-
-    // A node accepts again.
-    fn resume(&mut self, index: usize, life: u64) -> Result<(), OutOfMemory> {
-        if self.ground.nodes.lives(index, life) {
-            self.welcome(index)
-        } else {
-            Ok(())
-        }
+        self.ground.tick_again(index)
     }
 
     // Accepts those that wait, until accepting pauses.
@@ -173,8 +113,8 @@ impl<S: Stepper> Network<S> {
     // What came before the node accepted.
     fn deliver_early(&mut self, link: u64) -> Result<(), OutOfMemory> {
         for _ in 0..u64::MAX {
-            match self.ground.links.take_early(link) {
-                Some(bytes) => self.arrive(link, Side::Acceptor, bytes)?,
+            match self.ground.arrive_early(link)? {
+                Some(given) => self.give(given.node, &given.event)?,
                 None => return Ok(()),
             }
         }

@@ -2,7 +2,7 @@ use crate::addresses::address_of;
 use crate::link::{Hold, Side};
 use crate::peers::Peers;
 use crate::reached::Reached;
-use net_base::{Addr, Cid, OutOfMemory, Targets};
+use net_base::{Addr, Targets};
 use network_scenario::Role;
 use std::alloc::Global;
 use std::collections::{BTreeMap, VecDeque};
@@ -21,10 +21,11 @@ pub(crate) struct Node {
     /// The moment that its engine was shown last.
     shown: u64,
     /// Its links by what it calls them.
-    links: BTreeMap<u64, Hold>,
+    pub links: BTreeMap<u64, Hold>,
     /// The links of those that wait to be accepted.
-    callers: VecDeque<u64>,
-    paused_until: u64,
+    pub callers: VecDeque<u64>,
+    /// It accepts nobody before this moment.
+    pub paused_until: u64,
     /// It is in the smaller part while the network is in two.
     pub is_apart: bool,
     pub peers: Peers,
@@ -52,11 +53,6 @@ impl Node {
 
     pub(crate) fn is_honest(&self) -> bool {
         matches!(self.role, Role::Honest)
-    }
-
-    /// It is up, and in this life.
-    pub(crate) fn lives(&self, life: u64) -> bool {
-        self.is_up && self.life == life
     }
 
     /// It has just begun.
@@ -93,22 +89,14 @@ impl Node {
         }
     }
 
-    /// The end of a link is its connection of this id from now on.
-    pub(crate) fn hold(&mut self, cid: Cid, hold: Hold) -> Result<(), OutOfMemory> {
-        self.links.insert(cid.0, hold)?;
-        Ok(())
-    }
-
-    pub(crate) fn hold_of(&self, cid: Cid) -> Option<Hold> {
-        self.links.get(&cid.0).copied()
-    }
-
-    pub(crate) fn let_go(&mut self, cid: Cid) {
-        self.links.remove(&cid.0);
-    }
-
-    /// Takes out one of its links.
+    /// Takes out one of its links, first those of who waits to be accepted.
     pub(crate) fn take_hold(&mut self) -> Option<Hold> {
+        if let Some(link) = self.callers.pop_front() {
+            return Some(Hold {
+                link,
+                side: Side::Acceptor,
+            });
+        }
         let (_, hold) = self.links.pop_first()?;
         Some(hold)
     }
@@ -124,27 +112,11 @@ impl Node {
         dialed
     }
 
-    /// Somebody waits to be accepted.
-    pub(crate) fn wait(&mut self, link: u64) -> Result<(), OutOfMemory> {
-        self.callers.push_back(link)?;
-        Ok(())
-    }
-
-    /// Takes out the link of who waits longest.
-    pub(crate) fn take_caller(&mut self) -> Option<u64> {
-        self.callers.pop_front()
-    }
-
-    /// The same, where accepting doesn't pause.
+    /// Takes out the link of who waits longest to be accepted, where accepting doesn't pause.
     pub(crate) fn next_caller(&mut self, now: u64) -> Option<u64> {
         if now < self.paused_until {
             return None;
         }
-        self.take_caller()
-    }
-
-    /// It accepts nobody before this moment.
-    pub(crate) fn pause(&mut self, until: u64) {
-        self.paused_until = self.paused_until.max(until);
+        self.callers.pop_front()
     }
 }

@@ -56,7 +56,7 @@ impl Nodes {
     /// A node is up, and in this life.
     pub(crate) fn lives(&self, index: usize, life: u64) -> bool {
         match self.get(index) {
-            Some(node) => node.lives(life),
+            Some(node) => node.is_up && node.life == life,
             None => false,
         }
     }
@@ -76,20 +76,24 @@ impl Nodes {
         self.are_apart(from, to)
     }
 
+    /// The end of a link is a node's connection of this id from now on.
     pub(crate) fn hold(&mut self, index: usize, cid: Cid, hold: Hold) -> Result<(), OutOfMemory> {
         match self.get_mut(index) {
-            Some(node) => node.hold(cid, hold),
+            Some(node) => {
+                node.links.insert(cid.0, hold)?;
+                Ok(())
+            }
             None => Ok(()),
         }
     }
 
     pub(crate) fn hold_of(&self, index: usize, cid: Cid) -> Option<Hold> {
-        self.get(index)?.hold_of(cid)
+        self.get(index)?.links.get(&cid.0).copied()
     }
 
     pub(crate) fn let_go(&mut self, index: usize, cid: Cid) {
         if let Some(node) = self.get_mut(index) {
-            node.let_go(cid);
+            node.links.remove(&cid.0);
         }
     }
 }

@@ -277,15 +277,10 @@ fn take_times(
 ) -> Result<(), OutOfMemory> {
     for node in nodes.as_slice() {
         if node.kind == place {
-            put(goal.time(&node.reached), times)?;
+            if let Some(time) = goal.time(&node.reached) {
+                times.push(time)?;
+            }
         }
-    }
-    Ok(())
-}
-
-fn put(time: Option<u64>, times: &mut Vec<u64>) -> Result<(), OutOfMemory> {
-    if let Some(time) = time {
-        times.push(time)?;
     }
     Ok(())
 }

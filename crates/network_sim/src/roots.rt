@@ -10,7 +10,7 @@ pub(crate) struct Roots {
     alloc: Global,
     provider: Provider,
     /// The places of the nodes that it knows.
-    publics: Vec<usize>,
+    pub publics: Vec<usize>,
 }
 
 impl Roots {
@@ -20,12 +20,6 @@ impl Roots {
             provider,
             publics: Vec::new(alloc),
         }
-    }
-
-    /// It knows one node more.
-    pub(crate) fn know(&mut self, index: usize) -> Result<(), OutOfMemory> {
-        self.publics.push(index)?;
-        Ok(())
     }
 
     /// Answers a question: by as many of the addresses that it knows as it tells, drawn anew.

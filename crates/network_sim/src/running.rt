@@ -136,16 +136,3 @@ fn finish<K: Sink>(ground: &mut Ground, out: &mut K) -> RunEnd
         Err(_) => RunEnd::WriteFault,
     }
 }
-
-impl<S: Stepper> Network<S> {
-    // The next thing happens, and true, where one does before the end.
-    fn turn(&mut self, end: u64) -> Result<bool, OutOfMemory> {
-        match self.ground.agenda.next(end) {
-            Some(happening) => {
-                self.happen(happening)?;
-                Ok(true)
-            }
-            None => Ok(false),
-        }
-    }
-}

@@ -53,19 +53,12 @@ impl<S: Stepper> Seats<S> {
     ) -> Result<(), OutOfMemory> {
         match self.stock.pop() {
             Some(means) => {
-                let seat = Seat::begin(self.alloc, settings, means, self.traces(index, life))?;
+                let is_traced = traces(self.traced, index, life);
+                let seat = Seat::begin(self.alloc, settings, means, is_traced)?;
                 self.put(index, seat);
                 Ok(())
             }
             None => Ok(()),
-        }
-    }
-
-    // The trace of the one that was asked for is kept, in its first life.
-    fn traces(&self, index: usize, life: u64) -> bool {
-        match self.traced {
-            Some(traced) => traced == index && life == 1,
-            None => false,
         }
     }
 
@@ -89,17 +82,12 @@ impl<S: Stepper> Seats<S> {
 
     /// Nothing steps for a node any more. Its trace stays, where it was kept.
     pub(crate) fn end(&mut self, index: usize) -> Result<(), OutOfMemory> {
-        match self.take_seat(index) {
-            Some(seat) => self.keep(seat),
-            None => Ok(()),
-        }
-    }
-
-    fn take_seat(&mut self, index: usize) -> Option<Seat<S>> {
-        self.all.get_mut(index)?.take()
-    }
-
-    fn keep(&mut self, seat: Seat<S>) -> Result<(), OutOfMemory> {
+        let Some(place) = self.all.get_mut(index) else {
+            return Ok(());
+        };
+        let Some(seat) = place.take() else {
+            return Ok(());
+        };
         if let Some(trace) = seat.into_trace()? {
             self.trace = Some(trace);
         }
@@ -110,5 +98,13 @@ impl<S: Stepper> Seats<S> {
     pub(crate) fn take_trace(&mut self, index: usize) -> Result<Option<Trace>, OutOfMemory> {
         self.end(index)?;
         Ok(self.trace.take())
+    }
+}
+
+// The trace of the one that was asked for is kept, in its first life.
+fn traces(traced: Option<usize>, index: usize, life: u64) -> bool {
+    match traced {
+        Some(traced) => traced == index && life == 1,
+        None => false,
     }
 }
