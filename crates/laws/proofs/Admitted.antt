@@ -1,16 +1,16 @@
 -- Who connects is let in, or turned away for the first cause that stands.
-use Rattle.std.proofs.Common.{ℕ, ◌+◌, ◌≡◌, Bool, true, false, ◌&&◌, ◌||◌, nat_le, nat_lt, if◌then◌else◌, List, [], ◌∷◌, find, cond, Option, Some, None, All, refl, sym, ap, ◌∙◌, subst}
-use Rattle.laws.proofs.Words.{both_ways, and_parts, and_from, false_from_ne_true, All-head, All-tail}
-use Rattle.laws.specs.Words.{list_any, pause_of, accepted, is_live, is_live_at, is_outbound, is_pending, opening_phase, live_phase, same_address, address_below, Pause, Away, OwnAddr, Crossed, Overwritten, Addr, Facts, Phase, Closing, ending, then_do, turned_away, admitted, crossed, accepted_beside, peer_connects, Machine, Entry, fresh_entry, counted_in, live_entry_at}
+use Rattle.std.proofs.Common.{◌+◌, ◌≡◌, Bool, true, false, ◌&&◌, ◌||◌, if◌then◌else◌, List, [], ◌∷◌, find, cond, Option, Some, None, All, refl, sym, ap, ◌∙◌, subst, arith}
+use Rattle.laws.proofs.Words.{both_ways, and_parts, false_from_ne_true, list_any_none, All-weaker}
+use Rattle.laws.specs.Words.{list_any, accepted, is_live, is_live_at, is_pending, same_address, address_below, Away, OwnAddr, Crossed, Overwritten, Addr, Facts, ending, then_do, turned_away, admitted, accepted_beside, peer_connects, Machine, Entry, fresh_entry, live_entry_at}
 use Rattle.net_base.specs.declared.action.Away.TheVariants.{Full, Present}
 use Rattle.laws.specs.Acts.{Act, asks_for_roots, connects, does}
-use Rattle.laws.specs.Admitted.{admitted_by, admitted_in, turned_away_by, turned_away_in, is_crossing, is_present, cause_against, IsTurnedAway, IsNew, IsLetIn, ByCause, AdmitsNobody, AdmitsRight}
+use Rattle.laws.specs.Admitted.{admitted_by, turned_away_by, is_crossing, is_present, cause_against, IsTurnedAway, IsNew, IsLetIn, ByCause, AdmitsRight}
 use Rattle.laws.specs.AtMoves.{OnEntry}
 use Rattle.laws.specs.Sound.{IsOrderly}
 use Rattle.laws.specs.Parts.{IsNext}
 use Rattle.laws.proofs.Entries.{gone-orderly}
 use Rattle.laws.proofs.Lists.{OnePasses, OnePasses-none_after, OnePasses-tail, find_some}
-use Rattle.laws.proofs.Silent.{IsOther, admitted-deaf, turned_away-deaf, part-silent, asks-silent}
+use Rattle.laws.proofs.Silent.{admitted-deaf, turned_away-deaf, part-silent, asks-silent}
 use Rattle.laws.proofs.ToldMoves.{new-found}
 use Rattle.laws.proofs.Ties.{live_one}
 use Rattle.laws.proofs.Walk.{Finds}
@@ -22,33 +22,22 @@ abbrev passes_of : (Entry → Bool) → Option Entry → Bool
 passes_of q None = false
 passes_of q (Some e) = q e
 
-none-passes : (p q : Entry → Bool) → ((e : Entry) → q e ≡ true → p e ≡ true) → (es : List Entry) → All (λ e. p e ≡ false) es → list_any q es ≡ false
-none-passes p q only [] h = refl
-none-passes p q only (e ∷ es) h =
-    let here : q e ≡ false = false_from_ne_true (q e) (λ is. both_ways (p e) (All-head (λ x. p x ≡ false) e es h) (only e is)) in
-    rw here (none-passes p q only es (All-tail (λ x. p x ≡ false) e es h))
-
 -- where at most one passes a test, whatever passes a stricter one is it
 any-found : (p q : Entry → Bool) → ((e : Entry) → q e ≡ true → p e ≡ true) → (es : List Entry) → OnePasses p es → list_any q es ≡ passes_of q (find p es)
 any-found p q only [] one = refl
 any-found p q only (x ∷ es) one = by_bool (p x)
     (λ b. list_any q es ≡ passes_of q (find p es) → (q x || list_any q es) ≡ passes_of q (cond b (Some x) (find p es)))
-    (λ here rest. ap (λ b. q x || b) (none-passes p q only es (OnePasses-none_after p x es one here)) ∙ by_bool (q x) (λ b. (b || false) ≡ b)
-    (λ is. refl) (λ is. refl))
-    (λ other rest.
-    ap (λ b. b || list_any q es) (false_from_ne_true (q x) (λ is. both_ways (p x) other (only x is))) ∙ rest) (any-found p q only es (OnePasses-tail p x es one))
+    (λ here rest.
+    let none : All (λ e. q e ≡ false) es = All-weaker (λ e. p e ≡ false) (λ e. q e ≡ false) (λ e fails. false_from_ne_true (q e) (λ is. both_ways (p e) fails (only e is))) es
+    (OnePasses-none_after p x es one here) in
+    grind (arith, list_any_none q es none))
+    (λ other rest. grind (arith, rest, other, only x)) (any-found p q only es (OnePasses-tail p x es one))
 
 pub pending-live : (f : Facts) → is_pending f ≡ true → is_live f ≡ true
-pending-live f pending = by_phase f.phase (and_parts (is_outbound f) (opening_phase f.phase) pending).1
-  where
-    by_phase : (p : Phase) → opening_phase p ≡ true → live_phase p ≡ true
-    by_phase (Closing until) opening = opening
-    by_phase other opening = refl
+pending-live f pending = grind (arith, pending)
 
 pending-at : (addr : Addr) (e : Entry) → (same_address e.facts.addr addr && is_pending e.facts) ≡ true → is_live_at addr e.facts ≡ true
-pending-at addr e h =
-    let parts = and_parts (same_address e.facts.addr addr) (is_pending e.facts) h in
-    and_from (same_address e.facts.addr addr) (is_live e.facts) parts.0 (pending-live e.facts parts.1)
+pending-at addr e h = grind (arith, h, pending-live e.facts)
 
 crossing-found : (addr : Addr) (m : Machine) → IsOrderly m → is_crossing addr m ≡ passes_of (λ e. same_address e.facts.addr addr && is_pending e.facts) (live_entry_at addr m)
 crossing-found addr m h =
@@ -59,21 +48,13 @@ present-found addr m h = any-found (λ e. is_live_at addr e.facts) (λ e. is_liv
 
 -- ---- who is let in
 
-pause-admits : (b : Bool) (length : ℕ) → admitted_in (if b then Pause length ∷ [] else []) ≡ []
-pause-admits true length = refl
-pause-admits false length = refl
-
-pause-turns : (b : Bool) (length : ℕ) → turned_away_in (if b then Pause length ∷ [] else []) ≡ []
-pause-turns true length = refl
-pause-turns false length = refl
-
 let-in : (addr : Addr) (m : Machine) → IsOrderly m → IsLetIn addr m (admitted addr m)
 let-in addr m h =
     let new : Entry = fresh_entry (accepted m.next_id addr (m.now + m.settings.handshake)) in
     let n : Machine = (admitted addr m).machine in
     record {
-      told = ap (λ more. record { cid = m.next_id; addr = addr } ∷ more) (pause-admits (nat_lt n.settings.soft (counted_in n)) (pause_of n.settings (counted_in n)));
-      turned_away = pause-turns (nat_lt n.settings.soft (counted_in n)) (pause_of n.settings (counted_in n));
+      told = grind arith;
+      turned_away = grind arith;
       stands = subst (λ o. OnEntry o (IsNew addr)) (sym (new-found m new h refl))
           (record { address = refl; inbound = refl; greeting = refl; agreed = refl; undecoded = refl; owed = refl });
     }
@@ -96,44 +77,25 @@ by_live : (addr : Addr) (m : Machine) → IsOrderly m → (o : Option Entry) →
 by_live addr m h None is =
     let alone : is_crossing addr m ≡ false = crossing-found addr m h ∙ ap (passes_of (λ e. same_address e.facts.addr addr && is_pending e.facts)) is in
     let absent : is_present addr m ≡ false = present-found addr m h ∙ ap (passes_of (λ e. is_live_at addr e.facts)) is in
-    subst (λ c. ByCause (if c then (if address_below addr m.settings.own then None else Some Crossed) else (if is_present addr m then Some Present else None)) addr m (admitted addr m))
-    (sym alone)
-    (subst (λ c. ByCause (if c then Some Present else None) addr m (admitted addr m)) (sym absent) (let-in addr m h))
+    rw (alone, absent) (let-in addr m h)
 by_live addr m h (Some e) is =
     let at = find_some (λ x. is_live_at addr x.facts) m.connections e is in
     let here = (and_parts (same_address e.facts.addr addr) (is_live e.facts) at.passes).0 in
     let same : is_crossing addr m ≡ is_pending e.facts =
     crossing-found addr m h ∙ (ap (passes_of (λ x. same_address x.facts.addr addr && is_pending x.facts)) is ∙ ap (λ b. b && is_pending e.facts) here) in
     let there : is_present addr m ≡ true = present-found addr m h ∙ (ap (passes_of (λ x. is_live_at addr x.facts)) is ∙ at.passes) in
-    subst (λ c. ByCause (if c then (if address_below addr m.settings.own then None else Some Crossed) else (if is_present addr m then Some Present else None))
-    addr m (accepted_beside (Some e) addr m)) (sym same)
-    (subst (λ c. ByCause (if is_pending e.facts then (if address_below addr m.settings.own then None else Some Crossed) else (if c then Some Present else None))
-    addr m (accepted_beside (Some e) addr m)) (sym there) (by_bool (is_pending e.facts)
-    (λ b. ByCause (if b then (if address_below addr m.settings.own then None else Some Crossed) else Some Present) addr m (if b then crossed addr e m else turned_away Present m))
-    (λ is. by_bool (address_below addr m.settings.own)
-    (λ b. ByCause (if b then None else Some Crossed) addr m (if b then then_do (ending Overwritten e m) (admitted addr) else turned_away Crossed m))
-    (λ is. let-in_beside addr e m h) (λ is. away Crossed m)) (λ is. away Present m)))
+    rw (same, there) (grind (arith, let-in_beside addr e m h, away Crossed m, away Present m))
 
 connects-admits : (addr : Addr) (m : Machine) → IsOrderly m → ByCause (cause_against addr m) addr m (peer_connects addr m)
 connects-admits addr m h =
-    let against : Option Away = if is_crossing addr m then (if address_below addr m.settings.own then None else Some Crossed) else (if is_present addr m then Some Present else None) in
-    by_bool (same_address addr m.settings.own)
-    (λ b. ByCause (if b then Some OwnAddr else (if nat_le m.settings.hard (counted_in m) then Some Full else against)) addr m
-    (if b then turned_away OwnAddr m
-    else (if nat_le m.settings.hard (counted_in m) then turned_away Full m else accepted_beside (live_entry_at addr m) addr m)))
-    (λ is. away OwnAddr m) (λ is. by_bool (nat_le m.settings.hard (counted_in m))
-    (λ b. ByCause (if b then Some Full else against) addr m (if b then turned_away Full m else accepted_beside (live_entry_at addr m) addr m))
-    (λ is. away Full m) (λ is. by_live addr m h (live_entry_at addr m) refl))
+    grind (arith, away OwnAddr m, away Full m, by_live addr m h (live_entry_at addr m) refl)
 
 -- ---- nothing else
-
-admits-nobody : (act : Act) (m : Machine) → IsOther act → IsNext act m → Finds act m → AdmitsNobody (does act m)
-admits-nobody act m other next found = record {
-  admitted = part-silent admitted_by admitted-deaf (λ cid bytes. refl) act m other next found;
-  turned_away = part-silent turned_away_by turned_away-deaf (λ cid bytes. refl) act m other next found;
-}
 
 pub admits-right : (act : Act) (m : Machine) → IsNext act m → Finds act m → AdmitsRight act m (does act m)
 admits-right (connects addr) m next found = connects-admits addr m found
 admits-right asks_for_roots m next found = record { admitted = asks-silent admitted_by (λ job. refl) m; turned_away = asks-silent turned_away_by (λ job. refl) m }
-admits-right other m next found = admits-nobody other m tt next found
+admits-right other m next found = record {
+  admitted = part-silent admitted_by admitted-deaf (λ cid bytes. refl) other m tt next found;
+  turned_away = part-silent turned_away_by turned_away-deaf (λ cid bytes. refl) other m tt next found;
+}

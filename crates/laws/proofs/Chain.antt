@@ -1,10 +1,10 @@
 -- An event is its parts, one after the other.
-use Rattle.std.proofs.Common.{ℕ, zero, suc, ◌||◌, ◌≡◌, Bool, true, false, nat_le, if◌then◌else◌, List, [], ◌∷◌, ◌++◌, map, length, Option, Some, None, refl, sym, ap, ◌∙◌}
+use Rattle.std.proofs.Common.{ℕ, zero, suc, ◌≡◌, Bool, nat_le, if◌then◌else◌, List, [], ◌∷◌, ◌++◌, map, length, Option, Some, None, refl, sym, ap, ◌∙◌, arith}
 use Rattle.laws.proofs.Words.{append-nil, append_assoc}
-use Rattle.laws.specs.Words.{is_greeting, is_negotiated, Order, FedBy, Action, Addr, Cid, Event, Now, Govern, Accepted, Dialed, Bytes, Closed, Aims, Locals, Roots, BigAims, Bigs, Group, RootAnswer, Found, Failed, cleaned, members_of, awaits, publics_of, found, deadlines, due, fires, fires_some, fire_due, fire_all, Effect, Move, nothing_more, on_entry, then_do, for_each, clock_shows, carries_out, asks_roots, ordinary_rules, big_rules, rules, govern, Machine, Entry, entry_at, peer_is_ordinary, comes_ordinary, comes_big, roots_say, handles, fed_with, feeds, comes_in, step}
+use Rattle.laws.specs.Words.{Order, FedBy, Action, Addr, Cid, Event, Now, Govern, Accepted, Dialed, Bytes, Closed, Aims, Locals, Roots, BigAims, Bigs, Group, RootAnswer, Found, Failed, cleaned, members_of, awaits, publics_of, found, deadlines, due, fires, fires_some, fire_due, Effect, Move, nothing_more, on_entry, then_do, for_each, clock_shows, carries_out, asks_roots, ordinary_rules, big_rules, rules, govern, Machine, Entry, entry_at, peer_is_ordinary, comes_ordinary, comes_big, roots_say, handles, fed_with, comes_in, step}
 use Rattle.laws.specs.Acts.{Act, fires_one, carries, connects, ends_dial, stores, handles_item, ends_stream, is_closed, sets_targets, sets_big_targets, makes_ordinary, provides, provides_big, does, fired_from, fired, orders_of, acts_at_moment, acts_fed, acts_of_bytes, acts_of_groups, acts_of_answer, acts}
 use Rattle.laws.specs.AtMoves.{fed_on}
-use Rattle.laws.proofs.Cases.{by_bool, by_option}
+use Rattle.laws.proofs.Cases.{by_option}
 
 -- ---- one after the other
 
@@ -20,31 +20,24 @@ pub then_assoc : (effect : Effect) (f g : Machine → Effect) → then_do (then_
 then_assoc effect f g =
     let second : Effect = f effect.machine in
     let third : Effect = g second.machine in
-    ap (λ actions. with_actions actions (effect.moves ++ second.moves ++ third.moves) third.machine) (append_assoc effect.actions second.actions third.actions)
-    ∙ ap (λ moves. with_actions (effect.actions ++ (second.actions ++ third.actions)) moves third.machine) (append_assoc effect.moves second.moves third.moves)
+    cc (append_assoc effect.actions second.actions third.actions, append_assoc effect.moves second.moves third.moves)
 
 -- what follows is the same
 then_same : (effect : Effect) (f g : Machine → Effect) → f effect.machine ≡ g effect.machine → then_do effect f ≡ then_do effect g
-then_same effect f g same = ap (λ second. with_actions (effect.actions ++ second.actions) (effect.moves ++ second.moves) second.machine) same
-
-then_of : (one two : Effect) (f g : Machine → Effect) → one ≡ two → f two.machine ≡ g two.machine → then_do one f ≡ then_do two g
-then_of one two f g same later = ap (λ effect. then_do effect f) same ∙ then_same two f g later
+then_same effect f g same = cc
 
 pub each_appended : {X : Type 0} (act : X → Machine → Effect) (xs ys : List X) (m : Machine) →
     for_each act (xs ++ ys) m ≡ then_do (for_each act xs m) (for_each act ys)
 unfolding for_each
 each_appended act [] ys m = refl
-each_appended act (x ∷ xs) ys m =
-    then_same (act x m) (for_each act (xs ++ ys)) (λ n. then_do (for_each act xs n) (for_each act ys)) (each_appended act xs ys (act x m).machine)
-    ∙ sym (then_assoc (act x m) (for_each act xs) (for_each act ys))
+each_appended act (x ∷ xs) ys m = cc (each_appended act xs ys (act x m).machine, then_assoc (act x m) (for_each act xs) (for_each act ys))
 
 -- an act for each
 pub each_mapped : {X : Type 0} (name : X → Act) (act : X → Machine → Effect) → ((x : X) (m : Machine) → does (name x) m ≡ act x m) → (xs : List X) (m : Machine) →
     for_each does (map name xs) m ≡ for_each act xs m
 unfolding for_each
 each_mapped name act same [] m = refl
-each_mapped name act same (x ∷ xs) m =
-    then_of (does (name x) m) (act x m) (for_each does (map name xs)) (for_each act xs) (same x m) (each_mapped name act same xs (act x m).machine)
+each_mapped name act same (x ∷ xs) m = cc (same x m, each_mapped name act same xs (act x m).machine)
 
 alone : (act : Act) (m : Machine) → does act m ≡ for_each does (act ∷ []) m
 unfolding for_each
@@ -66,21 +59,16 @@ fired-chain (suc n) m = by_option (due m)
 
 clock-chain : (t : ℕ) (m : Machine) → clock_shows t m ≡ for_each does (if nat_le t m.now then [] else acts_at_moment t m) m
 unfolding for_each
-clock-chain t m = by_bool (nat_le t m.now)
-    (λ b. (if b then nothing_more m else fire_all (record m { now = t })) ≡ for_each does (if b then [] else acts_at_moment t m) m)
-    (λ is. refl)
-    (λ is.
+clock-chain t m =
     let n : Machine = record m { now = t } in
-    fired-chain (length (deadlines n)) n ∙ sym (each_mapped fires_one fires (λ d w. refl) (fired (length (deadlines n)) n) n))
+    grind (arith, fired-chain (length (deadlines n)) n, each_mapped fires_one fires (λ d w. refl) (fired (length (deadlines n)) n) n)
 
 -- ---- the governor
 
 pub rules-chain : (each : List (Machine → List Order)) (m : Machine) → for_each rules each m ≡ for_each carries_out (orders_of each m) m
 unfolding for_each orders_of
 rules-chain [] m = refl
-rules-chain (r ∷ each) m =
-    then_same (rules r m) (for_each rules each) (for_each carries_out (orders_of each (rules r m).machine)) (rules-chain each (rules r m).machine)
-    ∙ sym (each_appended carries_out (r m) (orders_of each (rules r m).machine) m)
+rules-chain (r ∷ each) m = cc (rules-chain each (rules r m).machine, each_appended carries_out (r m) (orders_of each (rules r m).machine) m)
 
 pub orders-chain : (each : List (Machine → List Order)) (m : Machine) → for_each rules each m ≡ for_each does (map carries (orders_of each m)) m
 orders-chain each m = rules-chain each m ∙ sym (each_mapped carries carries_out (λ o w. refl) (orders_of each m) m)
@@ -93,9 +81,7 @@ govern-chain word m =
     let ordinary : List Act = map carries (orders_of (ordinary_rules word) n) in
     let big : List Act = map carries (orders_of (big_rules word) o) in
     then_same (asks_roots m) (λ w. then_do (for_each rules (ordinary_rules word) w) (for_each rules (big_rules word))) (for_each does (ordinary ++ big))
-    (then_same (for_each rules (ordinary_rules word) n) (for_each rules (big_rules word)) (for_each does big) (orders-chain (big_rules word) o)
-    ∙ (ap (λ effect. then_do effect (for_each does big)) (orders-chain (ordinary_rules word) n)
-    ∙ sym (each_appended does ordinary big n)))
+    (cc (orders-chain (ordinary_rules word) n, orders-chain (big_rules word) o, each_appended does ordinary big n))
 
 -- ---- bytes
 
@@ -108,16 +94,11 @@ fed-chain fed e m =
     let items : List Act = map (handles_item cid) fed.items in
     let last : Act = ends_stream cid fed.state.fault in
     let second : Effect = for_each (handles cid) fed.items n in
-    then_same first (λ w. then_do (for_each (handles cid) fed.items w) (does last)) (for_each does (items ++ last ∷ []))
-    (then_same second (does last) (for_each does (last ∷ [])) (alone last second.machine)
-    ∙ (ap (λ effect. then_do effect (for_each does (last ∷ []))) (sym (each_mapped (handles_item cid) (handles cid) (λ item w. refl) fed.items n))
-    ∙ sym (each_appended does items (last ∷ []) n)))
+    cc (alone last second.machine, each_mapped (handles_item cid) (handles cid) (λ item w. refl) fed.items n, each_appended does items (last ∷ []) n)
 
 comes-chain : (o : Option Entry) (bytes : List ℕ) (m : Machine) → on_entry o (comes_in bytes) m ≡ for_each does (acts_of_bytes o bytes) m
 comes-chain None bytes m = no_act m
-comes-chain (Some e) bytes m = by_bool (is_greeting e.facts || is_negotiated e.facts)
-    (λ b. (if b then feeds bytes e m else nothing_more m) ≡ for_each does (if b then acts_fed (fed_on e bytes) e else []) m)
-    (λ is. fed-chain (fed_on e bytes) e m) (λ is. no_act m)
+comes-chain (Some e) bytes m = grind (arith, fed-chain (fed_on e bytes) e m, no_act m)
 
 -- ---- what is set and provided
 
@@ -130,10 +111,8 @@ locals-chain kept m =
     let ordinary : List Act = map makes_ordinary (members_of kept) in
     let provided : List Act = map provides (members_of kept) in
     let first : Effect = for_each peer_is_ordinary (members_of kept) n in
-    then_same first (for_each comes_ordinary (members_of kept)) (for_each does provided)
-    (sym (each_mapped provides comes_ordinary (λ a w. refl) (members_of kept) first.machine))
-    ∙ (ap (λ effect. then_do effect (for_each does provided)) (sym (each_mapped makes_ordinary peer_is_ordinary (λ a w. refl) (members_of kept) n))
-    ∙ sym (each_appended does ordinary provided n))
+    let second = each_mapped provides comes_ordinary (λ a w. refl) (members_of kept) first.machine in
+    cc (each_mapped makes_ordinary peer_is_ordinary (λ a w. refl) (members_of kept) n, second, each_appended does ordinary provided n)
 
 answer-chain : (answer : RootAnswer) (m : Machine) → roots_say answer m ≡ for_each does (acts_of_answer answer m) m
 unfolding for_each
@@ -144,8 +123,7 @@ answer-chain Failed m = refl
 
 roots-chain : (b : Bool) (answer : RootAnswer) (m : Machine) →
     (if b then roots_say answer m else nothing_more m) ≡ for_each does (if b then acts_of_answer answer m else []) m
-roots-chain true answer m = answer-chain answer m
-roots-chain false answer m = no_act m
+roots-chain b answer m = grind (arith, answer-chain answer m, no_act m)
 
 -- ---- each event
 

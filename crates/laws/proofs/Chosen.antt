@@ -1,15 +1,14 @@
 -- The peers that orders go to: no address twice, and of a group members only.
-use Rattle.std.proofs.Common.{ℕ, ◌≡◌, Bool, true, false, ◌&&◌, ◌||◌, List, [], ◌∷◌, ◌++◌, map, filter, flat_map, Some, refl, ◌∙◌, sym, ap, subst}
-use Rattle.laws.proofs.Words.{both_ways, and_parts, false_from_ne_true, or_right, or_from, or_left, list_any-append}
+use Rattle.std.proofs.Common.{ℕ, ◌≡◌, Bool, true, false, ◌&&◌, List, [], ◌∷◌, ◌++◌, map, filter, flat_map, Some, refl, ◌∙◌, sym, ap, arith}
+use Rattle.laws.proofs.Words.{or_from, list_any-append, map-append}
 use Rattle.laws.specs.Words.{AllByRecursion, same_address, Addr, Group, Peer, is_of, is_listed, members_of, picks_of, Order, is_member_and}
 use Rattle.peer_book.specs.Book.{peer_at}
 use Rattle.laws.specs.Steady.{ArePeersApart, AreApart}
 use Rattle.laws.proofs.Addresses.{same_address-true}
 use Rattle.laws.proofs.GroupsApart.{append-apart}
-use Rattle.laws.proofs.Lists.{all-weaker, all-appended, all-both, filter-all}
+use Rattle.laws.proofs.Lists.{all-weaker, all-appended, all-behind, all-both, filter-all, filter-passing}
 use Rattle.laws.proofs.PeersApart.{all-found, same_turned, filter-apart}
-use Rattle.laws.proofs.Picks.{filter-passing, picks-apart, picks-all}
-use Rattle.laws.proofs.Cases.{by_bool}
+use Rattle.laws.proofs.Picks.{picks-apart, picks-all}
 
 -- ---- of all peers
 
@@ -32,16 +31,6 @@ chosen-all P big word number test peers apart gives =
 
 -- ---- of each group
 
-listed_front : (a : Addr) (xs ys : List Addr) → is_listed a xs ≡ true → is_listed a (xs ++ ys) ≡ true
-listed_front a xs ys h = list_any-append (same_address a) xs ys ∙ or_left (is_listed a xs) (is_listed a ys) h
-
-listed_behind : (a : Addr) (xs ys : List Addr) → is_listed a ys ≡ true → is_listed a (xs ++ ys) ≡ true
-listed_behind a xs ys h = list_any-append (same_address a) xs ys ∙ or_right (is_listed a xs) (is_listed a ys) h
-
-all-behind : (P : Addr → Type 0) (xs ys : List Addr) → AllByRecursion P (xs ++ ys) → AllByRecursion P ys
-all-behind P [] ys h = h
-all-behind P (x ∷ xs) ys h = all-behind P xs ys h.1
-
 pub apart-behind : (xs ys : List Addr) → AreApart (xs ++ ys) → AreApart ys
 apart-behind [] ys h = h
 apart-behind (x ∷ xs) ys h = apart-behind xs ys h.1
@@ -54,17 +43,11 @@ not_among a (y ∷ ys) h = or_from (same_address a y) (is_listed a ys) (same_tur
 -- an address of the front is none behind it
 pub front-not_behind : (a : Addr) (xs ys : List Addr) → AreApart (xs ++ ys) → is_listed a xs ≡ true → is_listed a ys ≡ false
 front-not_behind a [] ys h listed = absurd cc
-front-not_behind a (x ∷ xs) ys h listed = by_bool (same_address a x)
-    (λ b. (b || is_listed a xs) ≡ true → (is_listed a xs ≡ true → is_listed a ys ≡ false) → is_listed a ys ≡ false)
-    (λ e here later.
-    subst (λ z. is_listed z ys ≡ false) (sym (same_address-true a x e))
-    (not_among x ys (all-behind (λ b. same_address b x ≡ false) xs ys h.0)))
-    (λ e there later. later there) listed (front-not_behind a xs ys h.1)
+front-not_behind a (x ∷ xs) ys h listed =
+    grind (arith, listed, same_address-true a x, not_among x ys (all-behind (λ b. same_address b x ≡ false) xs ys h.0), front-not_behind a xs ys h.1)
 
 others : (front behind : List Addr) (a b : Addr) → AreApart (front ++ behind) → is_listed a front ≡ true → is_listed b behind ≡ true → same_address b a ≡ false
-others front behind a b h one two = false_from_ne_true (same_address b a) (λ same.
-    both_ways (is_listed b behind)
-    (subst (λ z. is_listed z behind ≡ false) (sym (same_address-true b a same)) (front-not_behind a front behind h one)) two)
+others front behind a b h one two = grind (arith, two, same_address-true b a, front-not_behind a front behind h one)
 
 -- each group's picks are members of it, and apart
 pub record PicksMembers (pick : Group → List Addr) : Type 0 where
@@ -78,9 +61,9 @@ picks-listed pick (g ∷ groups) h =
     let rest : List Addr = members_of groups in
     all-appended (λ a. is_listed a (g.members ++ rest) ≡ true) (pick g) (flat_map pick groups)
     (all-weaker (λ a. is_listed a g.members ≡ true) (λ a. is_listed a (g.members ++ rest) ≡ true)
-    (λ a listed. listed_front a g.members rest listed) (pick g) (h.members g))
+    (λ a listed. grind (arith, listed, list_any-append (same_address a) g.members rest)) (pick g) (h.members g))
     (all-weaker (λ a. is_listed a rest ≡ true) (λ a. is_listed a (g.members ++ rest) ≡ true)
-    (λ a listed. listed_behind a g.members rest listed) (flat_map pick groups) (picks-listed pick groups h))
+    (λ a listed. grind (arith, listed, list_any-append (same_address a) g.members rest)) (flat_map pick groups) (picks-listed pick groups h))
 
 pub groups_picks-apart : (pick : Group → List Addr) (groups : List Group) → PicksMembers pick → AreApart (members_of groups) → AreApart (flat_map pick groups)
 groups_picks-apart pick [] h apart = tt
@@ -102,12 +85,8 @@ groups_picks-all P pick (g ∷ groups) each = all-appended P (pick g) (flat_map 
 pub map-groups : (order : Addr → Order) (pick : Group → List Addr) (groups : List Group) →
     flat_map (λ g. map order (pick g)) groups ≡ map order (flat_map pick groups)
 map-groups order pick [] = refl
-map-groups order pick (g ∷ groups) = by_picks (pick g) (map-groups order pick groups)
-  where
-    by_picks : (xs : List Addr) → flat_map (λ x. map order (pick x)) groups ≡ map order (flat_map pick groups) →
-        map order xs ++ flat_map (λ x. map order (pick x)) groups ≡ map order (xs ++ flat_map pick groups)
-    by_picks [] rest = rest
-    by_picks (x ∷ xs) rest = ap (λ orders. order x ∷ orders) (by_picks xs rest)
+map-groups order pick (g ∷ groups) =
+    ap (λ orders. map order (pick g) ++ orders) (map-groups order pick groups) ∙ sym (map-append order (pick g) (flat_map pick groups))
 
 -- the picks of each group
 pub group_picks : (word : ℕ) (number : Group → ℕ) (test : Peer → Bool) (ps : List Peer) → ArePeersApart ps →
@@ -115,5 +94,5 @@ pub group_picks : (word : ℕ) (number : Group → ℕ) (test : Peer → Bool) (
 group_picks word number test ps apart = record {
   apart = λ g. chosen-apart false word (number g) (is_member_and g test) ps apart;
   members = λ g. chosen-all (λ a. is_listed a g.members ≡ true) false word (number g) (is_member_and g test) ps apart
-      (λ p passes found. (and_parts (is_listed p.addr g.members) (test p) (and_parts (is_of false p) (is_member_and g test p) passes).1).0);
+      (λ p passes found. grind (arith, passes));
 }

@@ -1,7 +1,7 @@
 -- The moves of the clock: a reply is late, a grace is over, a handshake was not done in time, a time-wait is over.
-use Rattle.std.proofs.Common.{ℕ, zero, suc, ◌≡◌, ◌≤◌, ◌<◌, arith, Bool, true, false, ◌&&◌, [], ◌∷◌, List, length, Some, All, Contains, refl, sym, ap, ◌∙◌, subst, leb-true}
-use Rattle.laws.proofs.Words.{cond_both, both_ways, false≢true, and_right, or_from, All-weaker, All-contains, All-contains_itself}
-use Rattle.laws.specs.Words.{Close, Unused, Fault, HandshakeWait, ReplyWait, Facts, Phase, Closing, Deadline, Kind, Handshake, TimeWait, expired, is_live, live_phase, is_pending, opening_phase, is_greeting, is_greeting_phase, is_negotiated, is_outbound, some_runs, Machine, Entry, Owed, Effect, unused, gone, tells, then_do, as_move, on_entry, peer_at, entry_turns, entry_goes, closing_entry, grace_over, wait_over, deadlines_of, reply_deadline, due, fires_as, fires, fires_some, fire_due}
+use Rattle.std.proofs.Common.{ℕ, zero, suc, ◌≡◌, ◌≤◌, arith, true, false, ◌&&◌, [], ◌∷◌, Some, All, Contains, refl, sym, ap, subst, leb-true}
+use Rattle.laws.proofs.Words.{cond_both, both_ways, false≢true, and_right, All-weaker, All-contains, All-contains_itself}
+use Rattle.laws.specs.Words.{Close, Unused, Fault, HandshakeWait, ReplyWait, Facts, Phase, Closing, Deadline, Kind, Handshake, TimeWait, expired, is_live, live_phase, is_greeting, is_greeting_phase, is_negotiated, is_outbound, Machine, Entry, Owed, Effect, unused, gone, tells, then_do, as_move, on_entry, peer_at, entry_turns, entry_goes, closing_entry, grace_over, wait_over, deadlines_of, reply_deadline, due, fires_as, fires, fires_some, fire_due}
 use Rattle.net_base.specs.declared.timer.Kind.TheVariants.{Grace as GraceKind}
 use Rattle.laws.specs.AtMoves.{is_missed, failed_where, FailsWhere, IsPast, IsOver, IsLawful}
 use Rattle.laws.specs.Sound.{IsOrderly}
@@ -19,7 +19,7 @@ use Rattle.laws.proofs.Telling.{told_move}
 use Rattle.laws.proofs.ToldMoves.{turned-told, turned-stage, goes-told, ended-told}
 use Rattle.laws.proofs.WholeEvents.{fires-keeps}
 use Rattle.laws.proofs.WholeMoves.{stands-shaped, stands-owing, greeting-live, negotiated-live}
-use Rattle.laws.proofs.Cases.{by_bool, by_option}
+use Rattle.laws.proofs.Cases.{by_option}
 
 -- ---- what it is that is late
 
@@ -53,16 +53,11 @@ deadlines_of-late now e = deadlines-by (MeansLate now e) e (λ until is late. ap
 
 -- nobody uses a connection whose grace is over but this side
 over : (now : ℕ) (f : Facts) → IsShaped f → f.local ≡ false → IsPast now f.grace → IsOver now f
-over now f shape idle past = record { local = idle; running = by_running (some_runs f.running) refl; grace = past }
-  where
-    by_running : (b : Bool) → some_runs f.running ≡ b → b ≡ false
-    by_running true is = elim (subst (IsPast now) (shape.remote is) past) [ ]
-    by_running false is = refl
+over now f shape idle past = record { local = idle; running = grind (arith, shape.remote, past); grace = past }
 
 -- a grace runs only while the handshake is done
 past-negotiated : (now : ℕ) (f : Facts) → IsShaped f → IsPast now f.grace → is_negotiated f ≡ true
-past-negotiated now f shape past = by_bool (is_negotiated f) (λ b. b ≡ true)
-    (λ is. refl) (λ is. elim (subst (IsPast now) (shape.unused is).grace past) [ ])
+past-negotiated now f shape past = grind (arith, past, λ (is : is_negotiated f ≡ false). (shape.unused is).grace)
 
 grace_over-told : (m : Machine) (e : Entry) (k : ℕ) → IsOrderly m → StandsAt m.connections k e → is_live e.facts ≡ true →
     IsTold m (as_move (unused e.facts.cid.0) m (then_do (tells (Close e.facts.cid Unused ∷ []) m) (entry_turns e (closing_entry m e))))
@@ -94,18 +89,11 @@ grace_over-obeys m e k h s past =
     (grace_over-told m e k h.orderly s (negotiated-live e.facts.phase (past-negotiated m.now e.facts (stands-shaped m e k h s) past)))))
 
 live-negotiated : (f : Facts) → is_live f ≡ false → is_negotiated f ≡ false
-live-negotiated f dead = by_bool (is_negotiated f) (λ b. b ≡ false)
-    (λ is. absurd (both_ways (is_live f) dead (negotiated-live f.phase is))) (λ is. refl)
+live-negotiated f dead = grind (arith, dead)
 
 -- nobody misses one that this side has closed
 dead-unmissed : (f : Facts) → IsShaped f → is_live f ≡ false → is_missed f ≡ false
-dead-unmissed f shape dead =
-    or_from f.local (is_pending f) (shape.unused (live-negotiated f dead)).local
-    (ap (λ b. is_outbound f && b) (unopened f.phase dead) ∙ and_right (is_outbound f) false refl)
-  where
-    unopened : (p : Phase) → live_phase p ≡ false → opening_phase p ≡ false
-    unopened (Closing until) is = refl
-    unopened other is = absurd (false≢true (sym is))
+dead-unmissed f shape dead = grind (arith, dead, (shape.unused (live-negotiated f dead)).local)
 
 wait_over-obeys : (m : Machine) (e : Entry) (k : ℕ) → IsOrdered m → StandsAt m.connections k e → is_live e.facts ≡ false →
     Obeys IsLawful m (wait_over e m)
@@ -121,12 +109,7 @@ wait_over-obeys m e k h s dead =
 -- a reply is owed only while the connection is used
 late-live : (m : Machine) (e : Entry) (k : ℕ) → IsOrdered m → StandsAt m.connections k e → IsLate m.now e → is_live e.facts ≡ true
 late-live m e k h s late =
-    let shape : IsShaped e.facts = stands-shaped m e k h s in
-    negotiated-live e.facts.phase (local-negotiated e.facts shape (by_bool e.facts.local (λ b. b ≡ true)
-    (λ is. refl) (λ is. none e.owed ((stands-owing m e k h s).used is) late.among)))
-  where
-    none : {Z : Type 0} (owed : List Owed) → owed ≡ [] → Contains owed late.owed → Z
-    none owed is among = absurd (let inside : among.0 < length owed = among.1 in let empty : length owed ≡ 0 = ap length is in omega (arith, inside, empty))
+    negotiated-live e.facts.phase (local-negotiated e.facts (stands-shaped m e k h s) (grind (arith, (stands-owing m e k h s).used, late.among.1)))
 
 fires_as-obeys : (kind : Kind) (m : Machine) (e : Entry) (k : ℕ) → IsOrdered m → StandsAt m.connections k e → LateAs m.now e kind →
     Obeys IsLawful m (fires_as kind e m)

@@ -1,8 +1,7 @@
 -- What comes of it where a peer connects, where a dial ends, and where the other side closes.
-use Rattle.std.proofs.Common.{ℕ, ◌≡◌, Bool, true, false, nat_le, Some, None, eqb-true}
+use Rattle.std.proofs.Common.{ℕ, ◌≡◌, Bool, true, false, nat_le, Some, None, eqb-true, arith}
 use Rattle.laws.proofs.Words.{cond_both}
-use Rattle.laws.specs.Words.{has_id, is_dialing, is_live, is_pending, same_address, address_below, Away, OwnAddr, Crossed, Overwritten, Addr, Cid, ending, vanishes, dial_opens, dial_fails, Effect, nothing_more, then_do, on_entry, turned_away, admitted, crossed, accepted_beside, peer_connects, closes, peer_closes, dialed, dial_ends, Machine, Entry, counted_in, entry_at, live_entry_at}
-use Rattle.net_base.specs.declared.action.Away.TheVariants.{Full, Present}
+use Rattle.laws.specs.Words.{has_id, is_dialing, is_live, is_pending, same_address, Away, Overwritten, Addr, Cid, ending, vanishes, dial_opens, dial_fails, Effect, nothing_more, then_do, on_entry, turned_away, admitted, peer_connects, closes, peer_closes, dialed, dial_ends, Machine, Entry, counted_in, entry_at, live_entry_at}
 use Rattle.laws.proofs.Cases.{by_option}
 use Rattle.laws.proofs.Lists.{StandsAt, find_some}
 
@@ -16,15 +15,12 @@ pub connects-cases : (addr : Addr) (m : Machine) (P : Effect → Type 0) → ((c
     (HasRoom addr m → live_entry_at addr m ≡ None → P (admitted addr m)) →
     (HasRoom addr m → (e : Entry) → live_entry_at addr m ≡ Some e → is_pending e.facts ≡ true → P (then_do (ending Overwritten e m) (admitted addr))) →
     P (peer_connects addr m)
-connects-cases addr m P away alone crosses = cond_both (same_address addr m.settings.own) _ _ P
-    (λ own. away OwnAddr)
-    (λ other. cond_both (nat_le m.settings.hard (counted_in m)) (turned_away Full m) (accepted_beside (live_entry_at addr m) addr m) P
-    (λ full. away Full)
-    (λ below. by_option (live_entry_at addr m) (λ o. P (accepted_beside o addr m)) (alone (record { other = other; below = below }))
-    (λ e is. cond_both (is_pending e.facts) (crossed addr e m) (turned_away Present m) P
-    (λ pending. cond_both (address_below addr m.settings.own) (then_do (ending Overwritten e m) (admitted addr)) (turned_away Crossed m) P
-    (λ lower. crosses (record { other = other; below = below }) e is pending) (λ above. away Crossed))
-    (λ there. away Present))))
+connects-cases addr m P away alone crosses = grind (
+  arith,
+  away,
+  λ (other : same_address addr m.settings.own ≡ false) (below : nat_le m.settings.hard (counted_in m) ≡ false). alone (record { other = other; below = below }),
+  λ (other : same_address addr m.settings.own ≡ false) (below : nat_le m.settings.hard (counted_in m) ≡ false). crosses (record { other = other; below = below }),
+)
 
 -- a connection is there or not
 pub stood-cases : (cid : Cid) (act : Entry → Machine → Effect) (m : Machine) (P : Effect → Type 0) → P (nothing_more m) →
@@ -36,10 +32,7 @@ stood-cases cid act m P none each = by_option (entry_at cid.0 m) (λ o. P (on_en
 pub dialed-cases : (cid : Cid) (opened : Bool) (m : Machine) (P : Effect → Type 0) → P (nothing_more m) →
     ((e : Entry) (k : ℕ) → StandsAt m.connections k e → is_dialing e.facts ≡ true → P (dial_opens e m)) →
     ((e : Entry) (k : ℕ) → StandsAt m.connections k e → is_dialing e.facts ≡ true → P (dial_fails e m)) → P (dial_ends cid opened m)
-dialed-cases cid true m P none opens fails = stood-cases cid (dialed true) m P none
-    (λ e k s own. cond_both (is_dialing e.facts) (dial_opens e m) (nothing_more m) P (opens e k s) (λ other. none))
-dialed-cases cid false m P none opens fails = stood-cases cid (dialed false) m P none
-    (λ e k s own. cond_both (is_dialing e.facts) (dial_fails e m) (nothing_more m) P (fails e k s) (λ other. none))
+dialed-cases cid opened m P none opens fails = stood-cases cid (dialed opened) m P none (λ e k s own. grind (arith, none, opens e k s, fails e k s))
 
 -- one that the other side closes goes
 pub closes-cases : (cid : Cid) (m : Machine) (P : Effect → Type 0) → P (nothing_more m) →

@@ -1,8 +1,8 @@
 -- What a connection adds to the counts of the record: whether the limits count it, and how many of its deadlines
 -- are late.
-use Rattle.std.proofs.Common.{ℕ, ◌+◌, ◌≤◌, ◌≡◌, Bool, true, false, cond, ◌++◌, map, sum_by, count_by, nat_le, ◌&&◌, ◌||◌, not, refl, ap, ◌∙◌, arith}
+use Rattle.std.proofs.Common.{ℕ, ◌+◌, ◌≤◌, ◌≡◌, Bool, true, false, cond, ◌++◌, map, sum_by, count_by, nat_le, refl, ap, ◌∙◌, arith}
 use Rattle.laws.proofs.Words.{lt-leb, sum_by-append}
-use Rattle.laws.specs.Words.{Facts, Closing, Deadline, is_counted, expired, closing, is_outbound, is_greeting, is_negotiated, some_runs, is_for_remote, Machine, Entry, counted_in, closing_entry, deadlines, deadlines_of, phase_deadlines, grace_deadlines, reply_deadline}
+use Rattle.laws.specs.Words.{Facts, Closing, Deadline, is_counted, expired, closing, Machine, Entry, counted_in, closing_entry, deadlines, deadlines_of, phase_deadlines, grace_deadlines, reply_deadline}
 use Rattle.laws.proofs.Lists.{sum_by-map, sum_by-flat_map}
 
 -- 1 where the limits count it
@@ -40,24 +40,13 @@ late_of-parts now e =
     let owed = map (reply_deadline e.facts.cid) e.owed in
     sum_by-append one (phase ++ grace) owed ∙ ap (λ n. n + sum_by one owed) (sum_by-append one phase grace)
 
--- what stands behind a test that fails makes no difference
-fails_anyway : (x y z : Bool) → (x && false && y) ≡ (x && false && z)
-fails_anyway true y z = refl
-fails_anyway false y z = refl
-
 -- A grace that is over makes no difference to a connection in local use.
 pub counted-expired : (f : Facts) → f.local ≡ true → is_counted (expired f) ≡ is_counted f
-counted-expired f in_use = rw in_use (ap
-    (λ kept. (not (is_outbound f) && is_greeting f) || (is_negotiated f && some_runs f.running) || kept)
-    (fails_anyway (is_negotiated f) false (is_for_remote f.grace)))
-
-none_passes : (x : Bool) → (x && false || false || false) ≡ false
-none_passes true = refl
-none_passes false = refl
+counted-expired f in_use = grind (arith, in_use)
 
 -- A connection that this side has closed isn't counted.
 pub counted-closing : (until : ℕ) (f : Facts) → is_counted (closing until f) ≡ false
-counted-closing until f = none_passes (not (is_outbound f))
+counted-closing until f = grind arith
 
 abbrev pub grace_late_of : ℕ → Entry → ℕ
 grace_late_of now e = count_by (is_late now) (grace_deadlines e.facts.cid e.facts.grace)

@@ -1,14 +1,13 @@
 -- What each move adds to the counts of the record: counted connections and late deadlines.
-use Rattle.std.proofs.Common.{ℕ, ◌+◌, ◌≤◌, ◌≡◌, Bool, true, false, cond, not, ◌&&◌, ◌||◌, ◌==◌, nat_le, nat_lt, List, [], ◌∷◌, ◌++◌, map, filter, count_by, refl, ap, ◌∙◌, arith}
-use Rattle.laws.proofs.Words.{cond_both, both_ways, false≢true, lt-leb, map-append, sum_by-append, sum_by-cons}
-use Rattle.laws.specs.Words.{Agreed, Cid, Facts, ForRemote, ForLocal, Greeting, is_counted, connected, agreed_outbound, acquired, is_outbound, is_greeting, is_negotiated, is_for_remote, some_runs, phase_deadlines, grace_deadlines, reply_deadline, Entry, Owed, with_reply, without_reply}
+use Rattle.std.proofs.Common.{ℕ, ◌+◌, ◌≤◌, ◌≡◌, Bool, true, false, cond, not, ◌==◌, nat_le, nat_lt, List, [], ◌∷◌, ◌++◌, map, filter, count_by, refl, ap, ◌∙◌, arith}
+use Rattle.laws.proofs.Words.{lt-leb, map-append, sum_by-append, sum_by-cons}
+use Rattle.laws.specs.Words.{Agreed, Cid, Facts, ForRemote, ForLocal, Greeting, is_counted, connected, agreed_outbound, acquired, is_outbound, is_greeting, is_negotiated, some_runs, phase_deadlines, grace_deadlines, reply_deadline, Entry, Owed, with_reply, without_reply}
 use Rattle.laws.proofs.Counts.{one_if_counted, is_late, late_of, late_of-parts, grace_late_of}
-use Rattle.laws.proofs.Cases.{by_bool}
 
 -- ---- counted connections
 
 pub at_most_one : (f : Facts) → one_if_counted f ≤ 1
-at_most_one f = cond_both (is_counted f) 1 0 (λ n. n ≤ 1) (λ h. omega arith) (λ h. omega arith)
+at_most_one f = grind arith
 
 pub one_if-counted : (f : Facts) → is_counted f ≡ true → one_if_counted f ≡ 1
 one_if-counted f h = rw h refl
@@ -26,23 +25,14 @@ pub counted-agreed_outbound : (agreed : Agreed) (until : ℕ) (f : Facts) → is
     is_counted (agreed_outbound agreed until f) ≡ false
 counted-agreed_outbound agreed until f outbound none = rw (outbound, none) refl
 
-fewer_when_local : (a n r l k : Bool) → (a || (n && r) || (n && false && k)) ≡ true → (a || (n && r) || (n && not l && k)) ≡ true
-fewer_when_local false true false l k e = absurd (false≢true e)
-fewer_when_local false false r l k e = absurd (false≢true e)
-fewer_when_local a n r l k e = refl
-
 pub counted-acquired : (f : Facts) → is_counted (acquired f) ≡ true → is_counted f ≡ true
-counted-acquired f h =
-    fewer_when_local (not (is_outbound f) && is_greeting f) (is_negotiated f) (some_runs f.running) f.local (is_for_remote f.grace) h
+counted-acquired f h = grind (arith, h)
 
 pub fewer-acquired : (f : Facts) → one_if_counted (acquired f) ≤ one_if_counted f
-fewer-acquired f = cond_both (is_counted (acquired f)) 1 0 (λ n. n ≤ one_if_counted f)
-    (λ yes_. let same : one_if_counted f ≡ 1 = one_if-counted f (counted-acquired f yes_) in omega arith) (λ no_. omega arith)
+fewer-acquired f = grind (arith, counted-acquired f)
 
 pub counted-running : (f : Facts) → is_negotiated f ≡ true → some_runs f.running ≡ true → is_counted f ≡ true
-counted-running f negotiated runs = rw (negotiated, runs) (by_bool (not (is_outbound f) && is_greeting f)
-    (λ b. (b || true || (true && not f.local && is_for_remote f.grace)) ≡ true)
-    (λ is. refl) (λ is. refl))
+counted-running f negotiated runs = grind (arith, negotiated, runs)
 
 -- ---- late deadlines
 
@@ -83,38 +73,17 @@ owed-cons now cid o owed = sum_by-cons (λ d. cond (is_late now d) 1 0) (reply_d
 filters-fewer : (now : ℕ) (cid : Cid) (f g : Owed → Bool) → ((o : Owed) → f o ≡ true → g o ≡ false) → (owed : List Owed) →
     owed_late now cid (filter f owed) + owed_late now cid (filter g owed) ≤ owed_late now cid owed
 filters-fewer now cid f g apart [] = omega arith
-filters-fewer now cid f g apart (o ∷ owed) = by_head (f o) (g o) refl refl (filters-fewer now cid f g apart owed)
-  where
-    by_head : (b c : Bool) → f o ≡ b → g o ≡ c →
-        owed_late now cid (filter f owed) + owed_late now cid (filter g owed) ≤ owed_late now cid owed →
-        owed_late now cid (filter f (o ∷ owed)) + owed_late now cid (filter g (o ∷ owed)) ≤ owed_late now cid (o ∷ owed)
-    by_head true true d e rest = absurd (both_ways (g o) (apart o d) e)
-    by_head true false d e rest =
-        let whole = owed-cons now cid o owed in
-        let kept = owed-cons now cid o (filter f owed) in
-        rw (d, e) (omega (arith, whole, kept, rest))
-    by_head false true d e rest =
-        let whole = owed-cons now cid o owed in
-        let kept = owed-cons now cid o (filter g owed) in
-        rw (d, e) (omega (arith, whole, kept, rest))
-    by_head false false d e rest =
-        let whole = owed-cons now cid o owed in
-        rw (d, e) (omega (arith, whole, rest))
-
-filter-fewer : (now : ℕ) (cid : Cid) (keeps : Owed → Bool) (owed : List Owed) → owed_late now cid (filter keeps owed) ≤ owed_late now cid owed
-filter-fewer now cid keeps owed =
-    let both = filters-fewer now cid keeps (λ o. false) (λ o h. refl) owed in omega (arith, both)
+filters-fewer now cid f g apart (o ∷ owed) =
+    grind (arith, apart o, owed-cons now cid o owed, owed-cons now cid o (filter f owed), owed-cons now cid o (filter g owed), filters-fewer now cid f g apart owed)
 
 pub paid-fewer : (now protocol : ℕ) (cid : Cid) (owed : List Owed) → owed_late now cid (without_reply protocol owed) ≤ owed_late now cid owed
-paid-fewer now protocol cid owed = filter-fewer now cid (λ o. not (o.protocol == protocol)) owed
+paid-fewer now protocol cid owed =
+    let both = filters-fewer now cid (λ o. not (o.protocol == protocol)) (λ o. false) (λ o h. refl) owed in omega (arith, both)
 
 owed-append : (now : ℕ) (cid : Cid) (xs ys : List Owed) → owed_late now cid (xs ++ ys) ≡ owed_late now cid xs + owed_late now cid ys
 owed-append now cid xs ys =
     ap (λ ds. count_by (is_late now) ds) (map-append (reply_deadline cid) xs ys)
     ∙ sum_by-append (λ d. cond (is_late now d) 1 0) (map (reply_deadline cid) xs) (map (reply_deadline cid) ys)
-
-lower-not_higher : (a b : ℕ) → nat_lt a b ≡ true → nat_lt b a ≡ false
-lower-not_higher a b h = grind arith
 
 -- a reply that is owed from now on is not late
 pub owing-fewer : (now : ℕ) (cid : Cid) (new : Owed) (owed : List Owed) → nat_le new.until now ≡ false →
@@ -123,7 +92,7 @@ owing-fewer now cid new owed later =
     let before : List Owed = filter (λ o. nat_lt o.protocol new.protocol) owed in
     let behind : List Owed = filter (λ o. nat_lt new.protocol o.protocol) owed in
     let apart = filters-fewer now cid (λ o. nat_lt o.protocol new.protocol) (λ o. nat_lt new.protocol o.protocol)
-    (λ o h. lower-not_higher o.protocol new.protocol h) owed in
+    (λ o h. grind (arith, h)) owed in
     let split : owed_late now cid (before ++ new ∷ behind) ≡ owed_late now cid before + owed_late now cid (new ∷ behind) =
     owed-append now cid before (new ∷ behind) in
     let first = owed-cons now cid new behind in

@@ -1,5 +1,5 @@
 -- A connection of the record changes, goes or comes.
-use Rattle.std.proofs.Common.{ℕ, ◌+◌, ◌≡◌, true, List, [], ◌∷◌, ◌++◌, get_or, set, remove, All, AllPairs, sum_by, IsTrue, refl, sym, ap, ◌∙◌, subst, arith, eqb-true, ne_eqb, eq-eqb}
+use Rattle.std.proofs.Common.{ℕ, ◌+◌, ◌≡◌, true, List, [], ◌∷◌, ◌++◌, get_or, set, remove, All, AllPairs, sum_by, IsTrue, refl, sym, ap, ◌∙◌, subst, arith, eq-eqb}
 use Rattle.laws.proofs.Words.{All-set, All-push, All-filter, All-weaker, AllPairs-filter, all_pairs_push}
 use Rattle.laws.specs.Words.{has_id, is_live, Machine, Entry, with_entry, without_entry}
 use Rattle.std.specs.Prelude.{not}
@@ -9,10 +9,7 @@ use Rattle.laws.proofs.Lists.{StandsAt, All-stands, OnePasses, AllPairs-set, rep
 
 -- since ids rise, at most one connection has an id
 pub one_has_id : (cid : ℕ) (es : List Entry) → AllPairs HasLowerId es → OnePasses (λ e. has_id cid e.facts) es
-one_has_id cid es rise i j d before inside here =
-    let older : HasLowerId (get_or es i d) (get_or es j d) = rise i j d before inside in
-    let same : (get_or es i d).facts.cid.0 ≡ cid = eqb-true (get_or es i d).facts.cid.0 cid here in
-    ne_eqb (get_or es j d).facts.cid.0 cid (λ other. omega arith)
+one_has_id cid es rise i j d before inside here = grind (arith, here, rise i j d before inside)
 
 pub has_own_id : (e : Entry) → has_id e.facts.cid.0 e.facts ≡ true
 has_own_id e = eq-eqb e.facts.cid.0 e.facts.cid.0 refl
@@ -37,18 +34,13 @@ turned-orderly m old new k h s t =
     let id : new.facts.cid.0 ≡ old.facts.cid.0 = ap (λ cid. cid.0) t.same_id in
     let list : set m.connections k new ≡ (with_entry new m).connections = sym (turned-connections m old new k h s t) in
     let given : HasGivenId m.next_id old = All-stands (HasGivenId m.next_id) m.connections k old s h.ids_given in
-    record {
-      settings = h.settings;
-      next_id = h.next_id;
-      ids_given = subst (All (HasGivenId m.next_id)) list
-          (All-set (HasGivenId m.next_id) m.connections k new (omega arith) h.ids_given);
-      ids_rise = subst (AllPairs HasLowerId) list
-          (AllPairs-set HasLowerId new old m.connections k s (λ y older. omega arith) (λ y older. omega arith) h.ids_rise);
-      addresses = subst (AllPairs DifferInAddress) list
-          (AllPairs-set DifferInAddress new old m.connections k s
+    assumption (
+      subst (All (HasGivenId m.next_id)) list (All-set (HasGivenId m.next_id) m.connections k new (omega arith) h.ids_given),
+      subst (AllPairs HasLowerId) list (AllPairs-set HasLowerId new old m.connections k s (λ y older. omega arith) (λ y older. omega arith) h.ids_rise),
+      subst (AllPairs DifferInAddress) list (AllPairs-set DifferInAddress new old m.connections k s
           (λ y own y_live new_live same. own y_live (t.live new_live) (same ∙ t.same_addr))
-          (λ y own new_live y_live same. own (t.live new_live) y_live (sym t.same_addr ∙ same)) h.addresses);
-    }
+          (λ y own new_live y_live same. own (t.live new_live) y_live (sym t.same_addr ∙ same)) h.addresses),
+    )
 
 -- a sum over the connections, by what the one that changed adds to it
 pub turned-sum : (f : Entry → ℕ) (m : Machine) (old new : Entry) (k : ℕ) → IsOrderly m → StandsAt m.connections k old →
@@ -62,13 +54,11 @@ gone-connections m old k h s = without_at (λ e. has_id old.facts.cid.0 e.facts)
     (one_has_id old.facts.cid.0 m.connections h.ids_rise) s (has_own_id old)
 
 pub gone-orderly : (m : Machine) (cid : ℕ) → IsOrderly m → IsOrderly (without_entry cid m)
-gone-orderly m cid h = record {
-  settings = h.settings;
-  next_id = h.next_id;
-  ids_given = All-filter (λ e. not (has_id cid e.facts)) (HasGivenId m.next_id) m.connections h.ids_given;
-  ids_rise = AllPairs-filter HasLowerId (λ e. not (has_id cid e.facts)) m.connections h.ids_rise;
-  addresses = AllPairs-filter DifferInAddress (λ e. not (has_id cid e.facts)) m.connections h.addresses;
-}
+gone-orderly m cid h = assumption (
+  All-filter (λ e. not (has_id cid e.facts)) (HasGivenId m.next_id) m.connections h.ids_given,
+  AllPairs-filter HasLowerId (λ e. not (has_id cid e.facts)) m.connections h.ids_rise,
+  AllPairs-filter DifferInAddress (λ e. not (has_id cid e.facts)) m.connections h.addresses,
+)
 
 pub gone-sum : (f : Entry → ℕ) (m : Machine) (old : Entry) (k : ℕ) → IsOrderly m → StandsAt m.connections k old →
     sum_by f (without_entry old.facts.cid.0 m).connections + f old ≡ sum_by f m.connections

@@ -1,6 +1,6 @@
 -- The moves of each event.
 use Rattle.std.proofs.Common.{ℕ, ◌+◌, ◌≡◌, ◌≤◌, arith, Bool, true, false, ◌&&◌, nat_le, nat_lt, List, [], ◌∷◌, ◌++◌, length, Some, refl, ap, ◌∙◌}
-use Rattle.laws.proofs.Words.{cond_both, both_ways, false≢true, and_from, or_right}
+use Rattle.laws.proofs.Words.{cond_both, both_ways, false≢true, and_from, or_right, All-from_recursion}
 use Rattle.laws.specs.Words.{AllByRecursion, connected, is_live_at, is_negotiated, is_outbound, is_pending, is_dialing, is_dialing_phase, opening_phase, Admit, Pause, pause_of, Phase, Negotiated, Closing, Overwritten, Addr, Cid, Event, Now, Govern, Accepted, Dialed, Bytes, Closed, Locals, Roots, Bigs, Group, Job, RootAnswer, Found, Failed, cleaned, members_of, awaits, publics_of, found, proposal_of, Machine, Entry, counted_in, Effect, Move, shared, gone, nothing_more, tells, as_move, for_each, own_info, peer_comes, peer_is_ordinary, peer_at, sends_as_initiator, with_entry, without_entry, entry_goes, entry_comes, lost, ending, vanishes, dial_opens, dial_fails, deadlines, fire_all, clock_shows, turned_away, pause_notice, admitted, peer_connects, peer_closes, dial_ends, comes_ordinary, locals_are, is_wanted_big, comes_big, bigs_are, roots_say, roots_answer, step}
 use Rattle.laws.specs.AtMoves.{is_missed, FailsWhere, IsLawful, MovesAreLawful, is_up_connection}
 use Rattle.laws.specs.Sound.{IsOrderly}
@@ -15,7 +15,7 @@ use Rattle.laws.proofs.Governing.{govern-trimmed}
 use Rattle.laws.proofs.KnownWanted.{bigs-within}
 use Rattle.laws.proofs.Failures.{vanishes-failed}
 use Rattle.laws.proofs.Lawful.{Accounts, accounts_come, accounts_gone, Obeys, obeys_then, obeys_nothing, IsQuiet, quiet-lawful, quiet-obeys, tells-quiet, lost-quiet, comes-providing, shared-accounts, ending-obeys, on_stands, turned_then-obeys, as_move-obeys, IsAllowed, Within, allowed_within}
-use Rattle.laws.proofs.Lists.{StandsAt, find_some, all-both, all-placed}
+use Rattle.laws.proofs.Lists.{StandsAt, find_some, all-both}
 use Rattle.laws.proofs.Shapes.{dialing-unnegotiated}
 use Rattle.laws.proofs.Streams.{bytes_come_in-trimmed}
 use Rattle.laws.proofs.Telling.{told_then, told_move}
@@ -179,4 +179,4 @@ step-lawful m (Bigs addrs) h = (bigs-obeys addrs m).lawful
 step-lawful m other h = tt
 
 pub moves-lawful : (m : Machine) (event : Event) → IsSteady m → MovesAreLawful m event
-moves-lawful m event h = all-placed IsLawful (step m event).moves (step-lawful m event h)
+moves-lawful m event h = All-from_recursion IsLawful (step m event).moves (step-lawful m event h)

@@ -1,22 +1,22 @@
 -- Each event keeps what is sound.
-use Rattle.std.proofs.Common.{ℕ, ◌+◌, ◌<◌, ◌≤◌, ◌≡◌, ◌≢◌, true, false, remove, None, All, IsTrue, nat_le, sum_by, refl, sym, ap, ◌∙◌, subst, arith, leb-false}
-use Rattle.laws.proofs.Words.{cond_both, and_parts, and_from, both_ways, lt-leb, All-weaker, sum_by_push}
-use Rattle.laws.specs.Words.{Effect, same_address, Overwritten, Addr, accepted, is_live, is_live_at, Machine, Entry, fresh_entry, counted_in, live_entry_at, then_do, without_entry, ending, deadlines, fire_all, clock_shows, admitted, peer_connects}
+use Rattle.std.proofs.Common.{ℕ, ◌+◌, ◌<◌, ◌≤◌, ◌≡◌, ◌≢◌, false, remove, None, All, IsTrue, nat_le, refl, sym, ap, ◌∙◌, subst, arith, leb-false}
+use Rattle.laws.proofs.Words.{cond_both, and_parts, lt-leb, All-weaker, count_none, recursion_from_All}
+use Rattle.laws.specs.Words.{Effect, same_address, Overwritten, Addr, accepted, is_live, is_live_at, Machine, Entry, fresh_entry, counted_in, live_entry_at, then_do, without_entry, ending, deadlines, fire_all, clock_shows, admitted, peer_connects, nothing_more}
 use Rattle.laws.specs.Laws.{DifferInAddress, WithinHardLimit, DeadlinesAhead}
 use Rattle.laws.specs.Sound.{IsOrderly, IsSound}
 use Rattle.laws.proofs.Addresses.{same_address-self, same_address-true}
-use Rattle.laws.proofs.Lists.{FoundIn, find_some, find_none, All-others, count_by-none, count_by-all_fail}
+use Rattle.laws.proofs.Lists.{FoundIn, find_some, find_none, All-others, count_by-none}
 use Rattle.laws.proofs.Settings.{handshake-positive}
-use Rattle.laws.proofs.Counts.{is_late, counted_of, counted_in-sum, late_of, late_in, late_in-sum}
+use Rattle.laws.proofs.Counts.{is_late, late_of, late_in}
 use Rattle.laws.proofs.Entries.{with_new, come-orderly, gone-connections}
-use Rattle.laws.proofs.Moves.{Lowers, ending-lowers}
+use Rattle.laws.proofs.Moves.{Lowers, ending-lowers, come-counts}
 use Rattle.laws.proofs.Firing.{fire_all-lowers, fire_all-none_late}
 use Rattle.laws.proofs.Connects.{connects-cases}
 
 -- no deadline is late exactly where every deadline is above now
 pub ahead-none_late : (m : Machine) → DeadlinesAhead m → late_in m ≡ 0
-ahead-none_late m h = count_by-all_fail (is_late m.now) (deadlines m)
-    (All-weaker (λ d. m.now < d.at) (λ d. is_late m.now d ≡ false) (λ d above. lt-leb d.at m.now above) (deadlines m) h)
+ahead-none_late m h = count_none (is_late m.now) (deadlines m) (recursion_from_All (λ d. is_late m.now d ≡ false) (deadlines m)
+    (All-weaker (λ d. m.now < d.at) (λ d. is_late m.now d ≡ false) (λ d above. lt-leb d.at m.now above) (deadlines m) h))
 
 pub none_late-ahead : (m : Machine) → late_in m ≡ 0 → DeadlinesAhead m
 none_late-ahead m none = All-weaker (λ d. is_late m.now d ≡ false) (λ d. m.now < d.at)
@@ -42,23 +42,14 @@ pub fire_all-sound : (m : Machine) → IsOrderly m → WithinHardLimit m → Sta
 fire_all-sound m h within =
     let l : Lowers 0 m (fire_all m).machine = fire_all-lowers m h in
     let hard : (fire_all m).machine.settings.hard ≡ m.settings.hard = ap (λ s. s.hard) l.settings in
-    record {
-      sound = record {
-        orderly = l.orderly;
-        counted = omega (arith, within);
-        deadlines = none_late-ahead (fire_all m).machine (fire_all-none_late m h);
-      };
-      settings = l.settings;
-    }
-
-fired_at-sound : (t : ℕ) (m : Machine) → IsSound m → StaysSound m (fire_all (at_moment t m)).machine
-fired_at-sound t m h =
-    let all : StaysSound (at_moment t m) (fire_all (at_moment t m)).machine =
-    fire_all-sound (at_moment t m) (at_moment-orderly t m h.orderly) h.counted in
-    record { sound = all.sound; settings = all.settings }
+    let counted : WithinHardLimit (fire_all m).machine = omega (arith, l.counted, within, hard) in
+    assumption (none_late-ahead (fire_all m).machine (fire_all-none_late m h))
 
 pub clock_shows-sound : (t : ℕ) (m : Machine) → IsSound m → StaysSound m (clock_shows t m).machine
-clock_shows-sound t m h = cond_both (nat_le t m.now) _ _ (λ (effect : Effect). StaysSound m effect.machine) (λ past. stays_same m h) (λ later. fired_at-sound t m h)
+clock_shows-sound t m h = cond_both (nat_le t m.now) (nothing_more m) (fire_all (at_moment t m))
+    (λ effect. StaysSound m effect.machine) (λ past. stays_same m h) (λ later.
+    let all = fire_all-sound (at_moment t m) (at_moment-orderly t m h.orderly) h.counted in
+    record { sound = all.sound; settings = all.settings })
 
 -- the connection that is admitted
 abbrev pub admitted_entry : Addr → Machine → Entry
@@ -67,8 +58,8 @@ admitted_entry addr m = fresh_entry (accepted m.next_id addr (m.now + m.settings
 -- one more is counted then
 pub admitted-counted : (addr : Addr) (m : Machine) → counted_in (with_new (admitted_entry addr m) m) ≡ counted_in m + 1
 admitted-counted addr m =
-    let new : Entry = admitted_entry addr m in
-    counted_in-sum (with_new new m) ∙ (sum_by_push counted_of m.connections new ∙ ap (λ n. n + 1) (sym (counted_in-sum m)))
+    let one : counted_in (with_new (admitted_entry addr m) m) + 0 ≡ counted_in m + 1 = (come-counts m (admitted_entry addr m)).counted in
+    omega (arith, one)
 
 -- A connection is admitted below the hard limit, where no live connection has its address.
 pub admitted-sound : (addr : Addr) (m : Machine) → IsOrderly m → counted_in m < m.settings.hard → late_in m ≡ 0 →
@@ -77,24 +68,16 @@ admitted-sound addr m h room none apart =
     let new : Entry = admitted_entry addr m in
     let n : Machine = with_new new m in
     let counts : counted_in n ≡ counted_in m + 1 = admitted-counted addr m in
-    let above : m.now < m.now + m.settings.handshake =
-    (let positive : 1 ≤ m.settings.handshake = handshake-positive m.settings h.settings in omega arith) in
-    let ahead : nat_le (m.now + m.settings.handshake) m.now ≡ false = lt-leb (m.now + m.settings.handshake) m.now above in
+    let positive : 1 ≤ m.settings.handshake = handshake-positive m.settings h.settings in
+    let ahead : nat_le (m.now + m.settings.handshake) m.now ≡ false = grind (arith, positive) in
     let not_late : late_of m.now new ≡ 0 = rw ahead refl in
-    let lates : sum_by (late_of m.now) n.connections ≡ sum_by (late_of m.now) m.connections + late_of m.now new =
-    sum_by_push (late_of m.now) m.connections new in
-    let late_before : late_in m ≡ sum_by (late_of m.now) m.connections = late_in-sum m in
-    let late_after : late_in n ≡ sum_by (late_of m.now) n.connections = late_in-sum n in
-    record {
-      sound = record {
-        orderly = come-orderly m new h refl
-            (All-weaker (λ e. IsTrue (is_live e.facts) → e.facts.addr ≢ addr) (λ e. DifferInAddress e new)
-            (λ e own e_live new_live. own e_live) m.connections apart);
-        counted = omega arith;
-        deadlines = none_late-ahead n (omega arith);
-      };
-      settings = refl;
-    }
+    let lates = (come-counts m new).late in
+    let counted : WithinHardLimit n = omega (arith, counts, room) in
+    assumption (
+      come-orderly m new h refl (All-weaker (λ e. IsTrue (is_live e.facts) → e.facts.addr ≢ addr) (λ e. DifferInAddress e new)
+          (λ e own e_live new_live. own e_live) m.connections apart),
+      none_late-ahead n (omega (arith, lates, not_late, none)),
+    )
 
 -- what an address needs for one more connection
 abbrev NoneLiveAt : Addr → Machine → Type 0
@@ -103,13 +86,8 @@ NoneLiveAt addr m = All (λ e. IsTrue (is_live e.facts) → e.facts.addr ≢ add
 none_live_at-none : (addr : Addr) (m : Machine) → live_entry_at addr m ≡ None → NoneLiveAt addr m
 none_live_at-none addr m none = All-weaker (λ e. is_live_at addr e.facts ≡ false)
     (λ e. IsTrue (is_live e.facts) → e.facts.addr ≢ addr)
-    (λ e other e_live same. both_ways (is_live_at addr e.facts) other
-    (and_from (same_address e.facts.addr addr) (is_live e.facts)
-    (subst (λ a. same_address e.facts.addr a ≡ true) same (same_address-self e.facts.addr)) e_live))
+    (λ e other e_live same. grind (arith, other, e_live, same, same_address-self e.facts.addr))
     m.connections (find_none (λ e. is_live_at addr e.facts) m.connections none)
-
-differ_in_address-turned : (e f : Entry) → DifferInAddress e f → DifferInAddress f e
-differ_in_address-turned e f own f_live e_live same = own e_live f_live (sym same)
 
 -- once the live connection of an address has gone, none is left
 none_live_at-gone : (addr : Addr) (m : Machine) (entry : Entry) → IsOrderly m →
@@ -122,7 +100,7 @@ none_live_at-gone addr m entry h found =
     (All-weaker (DifferInAddress entry) (λ e. IsTrue (is_live e.facts) → e.facts.addr ≢ addr)
     (λ e own e_live same. own parts.1 e_live (at_addr ∙ sym same))
     (remove m.connections found.place)
-    (All-others DifferInAddress differ_in_address-turned entry m.connections found.place found.stands h.addresses))
+    (All-others DifferInAddress (λ e f own f_live e_live same. own e_live f_live (sym same)) entry m.connections found.place found.stands h.addresses))
 
 -- the connection that this node dialed gives way to the one that comes
 pub overwritten-sound : (addr : Addr) (m : Machine) (entry : Entry) → IsSound m → counted_in m < m.settings.hard →

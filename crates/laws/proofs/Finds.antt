@@ -5,8 +5,7 @@ use Rattle.laws.proofs.Words.{All-head, All-tail, find_past}
 
 pub find-none_passes : {X : Type 0} (p : X → Bool) (xs : List X) → All (λ x. p x ≡ false) xs → find p xs ≡ None
 find-none_passes p [] h = refl
-find-none_passes p (x ∷ xs) h =
-    rw (All-head (λ y. p y ≡ false) x xs h) (find-none_passes p xs (All-tail (λ y. p y ≡ false) x xs h))
+find-none_passes p (x ∷ xs) h = grind (arith, All-head (λ y. p y ≡ false) x xs h, find-none_passes p xs (All-tail (λ y. p y ≡ false) x xs h))
 
 -- an element that fails gives way to another that fails
 pub find-set_other : {X : Type 0} (p : X → Bool) (new x : X) (xs : List X) (k : ℕ) → StandsAt xs k x →
@@ -20,20 +19,17 @@ find-set_here p new x [] k one s old_passes new_passes = absurd (omega (arith, s
 find-set_here p new x (y ∷ ys) zero one s old_passes new_passes = rw new_passes refl
 find-set_here p new x (y ∷ ys) (suc k) one s old_passes new_passes =
     let rest : StandsAt ys k x = stands_before y x ys k s in
-    let other : p y ≡ false = OnePasses-not_before p y x ys k one rest old_passes in
-    rw other (find-set_here p new x ys k (OnePasses-tail p y ys one) rest old_passes new_passes)
+    grind (arith, OnePasses-not_before p y x ys k one rest old_passes, find-set_here p new x ys k (OnePasses-tail p y ys one) rest old_passes new_passes)
 
 -- the one that passes gives way to one that fails
 pub find-set_gone : {X : Type 0} (p : X → Bool) (new x : X) (xs : List X) (k : ℕ) → OnePasses p xs → StandsAt xs k x →
     p x ≡ true → p new ≡ false → find p (set xs k new) ≡ None
 find-set_gone p new x [] k one s old_passes new_fails = absurd (omega (arith, s.inside))
 find-set_gone p new x (y ∷ ys) zero one s old_passes new_fails =
-    let here : p y ≡ true = ap p s.is ∙ old_passes in
-    rw new_fails (find-none_passes p ys (OnePasses-none_after p y ys one here))
+    rw new_fails (find-none_passes p ys (OnePasses-none_after p y ys one (ap p s.is ∙ old_passes)))
 find-set_gone p new x (y ∷ ys) (suc k) one s old_passes new_fails =
     let rest : StandsAt ys k x = stands_before y x ys k s in
-    let other : p y ≡ false = OnePasses-not_before p y x ys k one rest old_passes in
-    rw other (find-set_gone p new x ys k (OnePasses-tail p y ys one) rest old_passes new_fails)
+    grind (arith, OnePasses-not_before p y x ys k one rest old_passes, find-set_gone p new x ys k (OnePasses-tail p y ys one) rest old_passes new_fails)
 
 -- an element that fails goes
 pub find-remove_other : {X : Type 0} (p : X → Bool) (x : X) (xs : List X) (k : ℕ) → StandsAt xs k x →
@@ -51,5 +47,4 @@ find-remove_here p x (y ∷ ys) zero one s passes =
     find-none_passes p ys (OnePasses-none_after p y ys one (ap p s.is ∙ passes))
 find-remove_here p x (y ∷ ys) (suc k) one s passes =
     let rest : StandsAt ys k x = stands_before y x ys k s in
-    let other : p y ≡ false = OnePasses-not_before p y x ys k one rest passes in
-    rw other (find-remove_here p x ys k (OnePasses-tail p y ys one) rest passes)
+    grind (arith, OnePasses-not_before p y x ys k one rest passes, find-remove_here p x ys k (OnePasses-tail p y ys one) rest passes)

@@ -1,7 +1,6 @@
 -- Who goes without this node's doing.
-use Rattle.std.proofs.Common.{ℕ, ◌≡◌, Bool, false, if◌then◌else◌, List, [], ◌∷◌, ◌++◌, find, flat_map, Option, Some, None, refl, ap, ◌∙◌, subst, eq-eqb, eqb-true}
-use Rattle.laws.proofs.Words.{cond_both}
-use Rattle.laws.specs.Words.{has_id, failed_peer, Action, Addr, Terminated, Cid, Facts, Cold, same_temp, is_missed, lost, vanishes, without_entry, nothing_more, on_entry, closes, dialed, Machine, Entry, entry_at, peer_at, turns_at, peer_fails}
+use Rattle.std.proofs.Common.{ℕ, ◌≡◌, Bool, false, if◌then◌else◌, List, [], ◌∷◌, ◌++◌, find, flat_map, Option, Some, None, refl, ap, ◌∙◌, subst, eq-eqb, eqb-true, arith}
+use Rattle.laws.specs.Words.{has_id, Action, Addr, Terminated, Cid, Facts, lost, vanishes, without_entry, on_entry, closes, dialed, Machine, Entry, entry_at}
 use Rattle.net_base.specs.declared.action.Action.TheVariants.{Peer as TellPeer}
 use Rattle.laws.specs.Words.note
 use Rattle.laws.specs.Acts.{Act, ends_dial, is_closed, does}
@@ -11,15 +10,10 @@ use Rattle.laws.specs.InActions.{names_by, names_in}
 use Rattle.laws.proofs.Lawful.{lost-quiet}
 use Rattle.laws.proofs.Lists.{find_some}
 use Rattle.laws.proofs.Moments.{gone-none}
-use Rattle.laws.proofs.Cases.{by_option}
 
 -- what comes of a loss is a note on a peer
 pub lost-silent : {X : Type 0} (by : Action → List X) → ((addr : Addr) → by (TellPeer addr note.Cold) ≡ []) → (f : Facts) (m : Machine) → flat_map by (lost f m).actions ≡ []
-lost-silent by silent f m = cond_both (is_missed f) (peer_fails f.addr m) (nothing_more m) (λ effect. flat_map by effect.actions ≡ [])
-    (λ missed. by_option (peer_at f.addr m) (λ o. flat_map by (turns_at o (failed_peer m.now m.settings.backoff) m).actions ≡ [])
-    (λ is. refl)
-    (λ p is. cond_both (same_temp p.temp Cold) [] (TellPeer p.addr note.Cold ∷ []) (λ actions. flat_map by actions ≡ []) (λ same. refl)
-    (λ other. ap (λ xs. xs ++ []) (silent p.addr)))) (λ other. refl)
+lost-silent by silent f m = grind (arith, silent)
 
 pub vanishes-none : (e : Entry) (m : Machine) → entry_at e.facts.cid.0 (vanishes e m).machine ≡ None
 vanishes-none e m = ap (find (λ x. has_id e.facts.cid.0 x.facts)) (lost-quiet e.facts (without_entry e.facts.cid.0 m)).connections ∙ gone-none e.facts.cid.0 m

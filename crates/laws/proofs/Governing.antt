@@ -1,7 +1,6 @@
 -- The governor as a whole: each rule, and all of them.
 use Rattle.std.proofs.Common.{ℕ, ◌≤◌, ◌≡◌, List, [], ◌∷◌, ◌++◌, refl, arith}
-use Rattle.laws.proofs.Words.{cond_both}
-use Rattle.laws.specs.Words.{AllByRecursion, AskRoots, may_ask, asked, Order, Machine, counted_in, Effect, Move, tells, then_do, for_each, carries_out, asks_roots, ordinary_rules, big_rules, rules, govern}
+use Rattle.laws.specs.Words.{AllByRecursion, AskRoots, asked, Order, Machine, counted_in, Effect, Move, tells, then_do, for_each, carries_out, asks_roots, ordinary_rules, big_rules, rules, govern}
 use Rattle.laws.specs.Acts.{orders_of}
 use Rattle.laws.specs.AtMoves.{IsLawful}
 use Rattle.laws.specs.Steady.{IsOrdered}
@@ -41,14 +40,12 @@ all-rules (r ∷ rs) right m o within =
     }
 
 pub asks_roots-keeps : (m : Machine) → IsOrdered m → Keeps 0 m (asks_roots m).machine
-asks_roots-keeps m h = cond_both (may_ask m.now m.targets.root m.roots) _ _ (λ (effect : Effect). Keeps 0 m effect.machine)
-    (λ too_few. elsewhere-keeps m.targets m.big_targets (asked m.roots) m h (λ job same. let is : m.roots.next_job ≡ job = cc in omega (arith, is)))
-    (λ enough. keeps_nothing m h)
+asks_roots-keeps m h =
+    grind (arith, keeps_nothing m h, elsewhere-keeps m.targets m.big_targets (asked m.roots) m h (λ job same. let is : m.roots.next_job ≡ job = cc in omega (arith, is)))
 
 asks_roots-quiet : (m : Machine) → IsQuiet m (asks_roots m)
-asks_roots-quiet m = cond_both (may_ask m.now m.targets.root m.roots) _ _ (IsQuiet m)
-    (λ too_few. elsewhere-quiet m (tells (AskRoots (record { 0 = m.roots.next_job }) ∷ []) (record m { roots = asked m.roots })) refl refl refl refl refl)
-    (λ enough. tells-quiet [] m refl)
+asks_roots-quiet m =
+    grind (arith, elsewhere-quiet m (tells (AskRoots (record { 0 = m.roots.next_job }) ∷ []) (record m { roots = asked m.roots })) refl refl refl refl refl, tells-quiet [] m refl)
 
 -- what the governor does, and each of its orders
 pub record Governs (word : ℕ) (m : Machine) : Type 0 where

@@ -1,10 +1,9 @@
 -- Cleaned groups have no address twice.
-use Rattle.std.proofs.Common.{◌≡◌, false, List, [], ◌∷◌, ◌++◌, if◌then◌else◌, ◌∙◌, sym}
+use Rattle.std.proofs.Common.{◌≡◌, false, List, [], ◌∷◌, ◌++◌, ◌∙◌, sym, arith}
 use Rattle.laws.proofs.Words.{or_parts, list_any-append}
 use Rattle.laws.specs.Words.{AllByRecursion, same_address, Addr, Group, is_listed, first_places, cleaned_after, cleaned, members_of}
 use Rattle.laws.specs.Steady.{AreApart}
 use Rattle.laws.proofs.Lists.{all-weaker, all-appended}
-use Rattle.laws.proofs.Cases.{by_bool}
 
 -- none of some addresses is listed among others
 abbrev pub NoneListed : List Addr → List Addr → Type 0
@@ -18,32 +17,18 @@ unlisted_append a before more h = or_parts (is_listed a before) (is_listed a mor
 pub first_places-none : (before addrs : List Addr) → NoneListed before (first_places before addrs)
 unfolding first_places
 first_places-none before [] = tt
-first_places-none before (a ∷ addrs) = by_bool (is_listed a before)
-    (λ b. AllByRecursion (λ x. is_listed x before ≡ false) (first_places before addrs) →
-    AllByRecursion (λ x. is_listed x (before ++ a ∷ []) ≡ false) (first_places (before ++ a ∷ []) addrs) →
-    AllByRecursion (λ x. is_listed x before ≡ false) (if b then first_places before addrs else a ∷ first_places (before ++ a ∷ []) addrs))
-    (λ e skipped kept. skipped)
-    (λ e skipped kept. (
-      e,
-      all-weaker (λ x. is_listed x (before ++ a ∷ []) ≡ false) (λ x. is_listed x before ≡ false)
-          (λ x h. (unlisted_append x before (a ∷ []) h).0) (first_places (before ++ a ∷ []) addrs) kept,
-    )) (first_places-none before addrs) (first_places-none (before ++ a ∷ []) addrs)
+first_places-none before (a ∷ addrs) =
+    let kept = all-weaker (λ x. is_listed x (before ++ a ∷ []) ≡ false) (λ x. is_listed x before ≡ false) (λ x h. (unlisted_append x before (a ∷ []) h).0)
+    (first_places (before ++ a ∷ []) addrs) (first_places-none (before ++ a ∷ []) addrs) in
+    grind (arith, first_places-none before addrs, kept)
 
 first_places-apart : (before addrs : List Addr) → AreApart (first_places before addrs)
 unfolding first_places
 first_places-apart before [] = tt
-first_places-apart before (a ∷ addrs) = by_bool (is_listed a before)
-    (λ b. AreApart (first_places before addrs) →
-    AllByRecursion (λ x. is_listed x (before ++ a ∷ []) ≡ false) (first_places (before ++ a ∷ []) addrs) →
-    AreApart (first_places (before ++ a ∷ []) addrs) →
-    AreApart (if b then first_places before addrs else a ∷ first_places (before ++ a ∷ []) addrs))
-    (λ is skipped none kept. skipped)
-    (λ is skipped none kept. (
-      all-weaker (λ x. is_listed x (before ++ a ∷ []) ≡ false) (λ x. same_address x a ≡ false)
-          (λ x h. (or_parts (same_address x a) false (unlisted_append x before (a ∷ []) h).1).0) (first_places (before ++ a ∷ []) addrs) none,
-      kept,
-    )) (first_places-apart before addrs)
-    (first_places-none (before ++ a ∷ []) addrs) (first_places-apart (before ++ a ∷ []) addrs)
+first_places-apart before (a ∷ addrs) =
+    let others = all-weaker (λ x. is_listed x (before ++ a ∷ []) ≡ false) (λ x. same_address x a ≡ false)
+    (λ x h. (or_parts (same_address x a) false (unlisted_append x before (a ∷ []) h).1).0) (first_places (before ++ a ∷ []) addrs) (first_places-none (before ++ a ∷ []) addrs) in
+    grind (arith, first_places-apart before addrs, first_places-apart (before ++ a ∷ []) addrs, others)
 
 -- ---- all groups
 
@@ -57,19 +42,12 @@ cleaned-none before (g ∷ groups) =
     (all-weaker (λ x. is_listed x (before ++ here) ≡ false) (λ x. is_listed x before ≡ false)
     (λ x h. (unlisted_append x before here h).0) rest (cleaned-none (before ++ here) groups))
 
-listed_of : (y : Addr) (xs ys : List Addr) → AllByRecursion (λ z. is_listed z (y ∷ xs) ≡ false) ys →
-    AllByRecursion (λ z. same_address z y ≡ false) ys × AllByRecursion (λ z. is_listed z xs ≡ false) ys
-listed_of y xs [] h = (tt, tt)
-listed_of y xs (z ∷ ys) h =
-    let parts = or_parts (same_address z y) (is_listed z xs) h.0 in
-    let rest = listed_of y xs ys h.1 in
-    ((parts.0, rest.0), (parts.1, rest.1))
-
 pub append-apart : (xs ys : List Addr) → AreApart xs → AreApart ys → AllByRecursion (λ z. is_listed z xs ≡ false) ys → AreApart (xs ++ ys)
 append-apart [] ys h k n = k
-append-apart (x ∷ xs) ys h k n =
-    let parts = listed_of x xs ys n in
-    (all-appended (λ z. same_address z x ≡ false) xs ys h.0 parts.0, append-apart xs ys h.1 k parts.1)
+append-apart (x ∷ xs) ys h k n = (
+  all-appended (λ z. same_address z x ≡ false) xs ys h.0 (all-weaker (λ z. is_listed z (x ∷ xs) ≡ false) (λ z. same_address z x ≡ false) (λ z none. grind (arith, none)) ys n),
+  append-apart xs ys h.1 k (all-weaker (λ z. is_listed z (x ∷ xs) ≡ false) (λ z. is_listed z xs ≡ false) (λ z none. grind (arith, none)) ys n),
+)
 
 cleaned_after-apart : (before : List Addr) (groups : List Group) → AreApart (members_of (cleaned_after before groups))
 unfolding cleaned_after

@@ -1,9 +1,8 @@
 -- A connection in its handshake: whatever comes in, the connections stay in order and within the limit.
-use Rattle.std.proofs.Common.{ℕ, ◌+◌, ◌≤◌, ◌≡◌, Bool, true, false, not, ◌&&◌, if◌then◌else◌, List, [], Option, Some, None, refl, sym, subst}
-use Rattle.laws.proofs.Words.{cond_both, both_ways, and_from, and_right, or_from, or_right}
-use Rattle.laws.specs.Words.{accepts_info, accepts_offer, agrees_info, agrees_on, meets_joined, meets_info, meets_offer, verdict_of, common_in, joined, same_magic, answer_of, Acceptor, Dialer, Verdict, is_node_version, VersionInfo, Info, Known, Foreign, Message, Offer, Item, CloseCause, Protocol, Agreed, Cid, Negotiated, Provenance, FromRemote, FromLocal, agreed_inbound, agreed_outbound, is_greeting, is_negotiated, opening_phase, is_outbound, is_outbound_by, is_pending, Machine, Entry, counted_in, sends_as_responder, Effect, own_info, ending, role_of, sends_answer, judged, decided, greets}
+use Rattle.std.proofs.Common.{ℕ, ◌+◌, ◌≤◌, ◌≡◌, Bool, true, false, List, [], Option, Some, None, refl, sym, subst, arith}
+use Rattle.laws.proofs.Words.{both_ways}
+use Rattle.laws.specs.Words.{accepts_info, agrees_on, meets_info, verdict_of, answer_of, Acceptor, Dialer, Verdict, VersionInfo, Info, Message, Offer, Item, CloseCause, Protocol, Agreed, Cid, Negotiated, Provenance, agreed_inbound, agreed_outbound, is_greeting, is_negotiated, is_outbound, is_outbound_by, Machine, Entry, counted_in, sends_as_responder, Effect, own_info, ending, role_of, sends_answer, judged, decided, greets}
 use Rattle.laws.specs.Words.verdict
-use Rattle.laws.specs.Words.why
 use Rattle.laws.specs.Words.message
 use Rattle.laws.specs.Words.cause
 use Rattle.laws.specs.AtMoves.{IsPrunedRightly, IsLawful, is_up_connection}
@@ -28,46 +27,22 @@ is_agree (verdict.Agree agreed) = true
 is_agree other = false
 
 accepts_info-no_agree : (own : VersionInfo) (version : ℕ) (info : Info) → is_agree (accepts_info own version info) ≡ false
-accepts_info-no_agree own version Foreign = refl
-accepts_info-no_agree own version (Known theirs) =
-    cond_both (not (same_magic own theirs)) (verdict.Refuse (why.Magic version))
-    (if theirs.query then verdict.Query else verdict.Accept (joined version own theirs)) (λ v. is_agree v ≡ false) (λ h. refl)
-    (λ h. cond_both theirs.query verdict.Query (verdict.Accept (joined version own theirs)) (λ v. is_agree v ≡ false) (λ k. refl) (λ k. refl))
-
-accepts_offer-no_agree : (own : VersionInfo) (o : Option Offer) → is_agree (accepts_offer own o) ≡ false
-accepts_offer-no_agree own None = refl
-accepts_offer-no_agree own (Some offer) = accepts_info-no_agree own offer.version offer.info
+accepts_info-no_agree own version info = grind arith
 
 meets_info-no_accept : (own : VersionInfo) (version : ℕ) (info : Info) → is_accept (meets_info own version info) ≡ false
-meets_info-no_accept own version Foreign = refl
-meets_info-no_accept own version (Known theirs) =
-    cond_both (not (same_magic own theirs)) verdict.Refused
-    (if theirs.query then verdict.Wrong else meets_joined (joined version own theirs)) (λ v. is_accept v ≡ false) (λ h. refl)
-    (λ h. cond_both theirs.query verdict.Wrong (meets_joined (joined version own theirs)) (λ v. is_accept v ≡ false) (λ k. refl)
-    (λ k. cond_both (joined version own theirs).initiator_only verdict.Refused (verdict.Agree (joined version own theirs))
-    (λ v. is_accept v ≡ false) (λ l. refl) (λ l. refl)))
-
-meets_offer-no_accept : (own : VersionInfo) (o : Option Offer) → is_accept (meets_offer own o) ≡ false
-meets_offer-no_accept own None = refl
-meets_offer-no_accept own (Some offer) = meets_info-no_accept own offer.version offer.info
+meets_info-no_accept own version info = grind arith
 
 agrees_on-no_accept : (own : VersionInfo) (version : ℕ) (info : Info) → is_accept (agrees_on own version info) ≡ false
-agrees_on-no_accept own version info =
-    cond_both (is_node_version version) (agrees_info own version info) verdict.Wrong (λ v. is_accept v ≡ false) (λ h. by_info info) (λ h. refl)
-  where
-    by_info : (i : Info) → is_accept (agrees_info own version i) ≡ false
-    by_info Foreign = refl
-    by_info (Known theirs) = cond_both (same_magic own theirs) (verdict.Agree (joined version own theirs)) verdict.Wrong
-        (λ v. is_accept v ≡ false) (λ h. refl) (λ h. refl)
+agrees_on-no_accept own version info = grind arith
 
 -- a dialer accepts nothing, and an acceptor agrees to nothing
 dialer-no_accept : (own : VersionInfo) (m : Message) → is_accept (verdict_of Dialer own m) ≡ false
-dialer-no_accept own (message.Propose table) = meets_offer-no_accept own (common_in table)
+dialer-no_accept own (message.Propose table) = grind (arith, λ (offer : Offer). meets_info-no_accept own offer.version offer.info)
 dialer-no_accept own (message.Accept version info) = agrees_on-no_accept own version info
 dialer-no_accept own other = refl
 
 acceptor-no_agree : (own : VersionInfo) (m : Message) → is_agree (verdict_of Acceptor own m) ≡ false
-acceptor-no_agree own (message.Propose table) = accepts_offer-no_agree own (common_in table)
+acceptor-no_agree own (message.Propose table) = grind (arith, λ (offer : Offer). accepts_info-no_agree own offer.version offer.info)
 acceptor-no_agree own other = refl
 
 -- ---- what a verdict does
@@ -92,16 +67,11 @@ ends cause loses m e k g crowded =
 -- who was dialed by the other side is not used
 agreed_inbound-down : (agreed : Agreed) (until : ℕ) (e : Entry) → is_greeting e.facts ≡ true → IsShaped e.facts →
     is_up_connection (Some (record e { facts = agreed_inbound agreed until e.facts })) ≡ true → is_up_connection (Some e) ≡ true
-agreed_inbound-down agreed until e greeting shape up =
-    let unused : e.facts.local ≡ false = (shape.unused (greeting-unnegotiated e.facts.phase greeting)).local in
-    absurd (both_ways (is_up_connection (Some (record e { facts = agreed_inbound agreed until e.facts })))
-    (or_from e.facts.local (is_outbound e.facts && false) unused (and_right (is_outbound e.facts) false refl)) up)
+agreed_inbound-down agreed until e greeting shape up = grind (arith, up, (shape.unused (greeting-unnegotiated e.facts.phase greeting)).local)
 
 -- and who was dialed by this node is on its way
 greeting-up : (e : Entry) → is_greeting e.facts ≡ true → is_outbound e.facts ≡ true → is_up_connection (Some e) ≡ true
-greeting-up e greeting outbound =
-    or_right (is_negotiated e.facts && e.facts.local) (is_pending e.facts)
-    (and_from (is_outbound e.facts) (opening_phase e.facts.phase) outbound (greeting-opening e.facts.phase greeting))
+greeting-up e greeting outbound = grind (arith, outbound, greeting-opening e.facts.phase greeting)
 
 judged-trimmed : (v : Verdict) (m : Machine) (e : Entry) (k : ℕ) → Greets m e k → (is_accept v ≡ true → is_outbound e.facts ≡ false) →
     (is_agree v ≡ true → is_outbound e.facts ≡ true) → Trimmed IsLawful m (judged v e m)
@@ -120,12 +90,10 @@ judged-trimmed verdict.Wrong m e k g accepts agrees = ends (cause.Fault Protocol
 judged-trimmed other m e k g accepts agrees = ends cause.Refused refl m e k g tt
 
 accepts-inbound : (own : VersionInfo) (p : Provenance) (msg : Message) → is_accept (verdict_of (role_of p) own msg) ≡ true → is_outbound_by p ≡ false
-accepts-inbound own FromRemote msg h = refl
-accepts-inbound own FromLocal msg h = absurd (both_ways (is_accept (verdict_of Dialer own msg)) (dialer-no_accept own msg) h)
+accepts-inbound own p msg h = grind (arith, h, dialer-no_accept own msg)
 
 agrees-outbound : (own : VersionInfo) (p : Provenance) (msg : Message) → is_agree (verdict_of (role_of p) own msg) ≡ true → is_outbound_by p ≡ true
-agrees-outbound own FromLocal msg h = refl
-agrees-outbound own FromRemote msg h = absurd (both_ways (is_agree (verdict_of Acceptor own msg)) (acceptor-no_agree own msg) h)
+agrees-outbound own p msg h = grind (arith, h, acceptor-no_agree own msg)
 
 decided-trimmed : (msg : Message) (m : Machine) (e : Entry) (k : ℕ) → Greets m e k →
     Trimmed IsLawful m (decided (verdict_of (role_of e.facts.provenance) (own_info m.settings) msg) e m)

@@ -1,12 +1,11 @@
 -- A part of a step of the whole machine: what it keeps, and by how much it may raise the counted connections.
 use Rattle.std.proofs.Common.{ℕ, ◌+◌, ◌<◌, ◌≤◌, ◌≡◌, Bool, true, false, not, List, [], ◌∷◌, set, All, Some, refl, sym, ◌∙◌, subst, arith}
 use Rattle.laws.proofs.Words.{All-head, All-tail, All-set, All-filter}
-use Rattle.laws.specs.Words.{same_address, Peer, with_entry, without_entry, Machine, Entry, counted_in, live_entry_at, Effect, for_each, turns_at, peer_at, peer_changes, note_of_coming, peer_comes, RootState, Addr, Settings, BigTargets, Targets, new_peer, entry_of, entered, Added, New, has_id}
+use Rattle.laws.specs.Words.{same_address, Peer, with_entry, without_entry, Machine, Entry, counted_in, live_entry_at, Effect, for_each, turns_at, peer_at, peer_changes, note_of_coming, peer_comes, RootState, Addr, Settings, BigTargets, Targets, new_peer, entry_of, entered, Added, has_id}
 use Rattle.peer_book.specs.Book.{with_peer as with_peer_in}
 use Rattle.laws.specs.Laws.{is_local, LocalsAreOrdinary}
 use Rattle.laws.specs.Sound.{IsOrderly}
 use Rattle.laws.specs.Steady.{IsShaped, IsOwing, IsOrdered, TiedBy, IsTied}
-use Rattle.laws.proofs.Books.{IsBook, book_of, with_peer-book, entered-book}
 use Rattle.laws.proofs.Counts.{counted_of, late_of, late_in}
 use Rattle.laws.proofs.Entries.{TurnsInto, turned-connections, turned-orderly, gone-orderly}
 use Rattle.laws.proofs.Moves.{gone-counts, turned-counts}
@@ -14,6 +13,7 @@ use Rattle.laws.proofs.Lists.{StandsAt, All-stands}
 use Rattle.laws.proofs.Ordinary.{turned-classes, comes-classes}
 use Rattle.laws.proofs.Ties.{changed-ties, comes-ties}
 use Rattle.laws.proofs.Cases.{by_option}
+use Rattle.laws.proofs.PeersApart.{IsBook, book_of, with_peer-book, entered-book}
 
 -- From one record to another, by what may be a part of a move: both hold at every moment, no more than so many
 -- connections come to be counted, and no more deadlines are late.
@@ -40,7 +40,7 @@ pub moves-keeps : (raised : ℕ) (m n : Machine) → Moves raised m n → (IsTie
 moves-keeps raised m n h ties = assumption
 
 pub keeps-moves : (raised : ℕ) (m n : Machine) → Keeps raised m n → Moves raised m n
-keeps-moves raised m n h = record { ordered = h.ordered; settings = h.settings; now = h.now; counted = h.counted; late = h.late; classes = h.classes }
+keeps-moves raised m n h = assumption
 
 pub moves_then : (i j : ℕ) (m n o : Machine) → Moves i m n → Moves j n o → Moves (i + j) m o
 moves_then i j m n o first second = record {
@@ -60,15 +60,8 @@ keeps_nothing m h = moves-keeps 0 m m (moves_nothing m h) (λ ties. ties)
 
 -- one part after another
 pub keeps_then : (i j : ℕ) (m n o : Machine) → Keeps i m n → Keeps j n o → Keeps (i + j) m o
-keeps_then i j m n o first second = record {
-  ordered = second.ordered;
-  settings = second.settings ∙ first.settings;
-  now = second.now ∙ first.now;
-  counted = omega arith;
-  late = omega arith;
-  classes = λ h. second.classes (first.classes h);
-  ties = λ h. second.ties (first.ties h);
-}
+keeps_then i j m n o first second =
+    moves-keeps (i + j) m o (moves_then i j m n o (keeps-moves i m n first) (keeps-moves j n o second)) (λ h. second.ties (first.ties h))
 
 -- a connection turns into another
 pub turns-moves : (raised : ℕ) (m : Machine) (old new : Entry) (k : ℕ) → IsOrdered m → StandsAt m.connections k old →
@@ -81,39 +74,30 @@ turns-moves raised m old new k h s t shaped owes more later =
     let other : same_address new.facts.addr own ≡ false = subst (λ a. same_address a own ≡ false) (sym t.same_addr)
     (All-stands (λ e. same_address e.facts.addr own ≡ false) m.connections k old s h.formed.other_connections) in
     let list : set m.connections k new ≡ n.connections = sym (turned-connections m old new k o s t) in
-    let counts = turned-counts m old new k o s t in
-    record {
-      ordered = assumption (
-        turned-orderly m old new k o s t,
-        subst (All (λ e. IsShaped e.facts)) list (All-set (λ e. IsShaped e.facts) m.connections k new shaped h.formed.shaped),
-        subst (All IsOwing) list (All-set IsOwing m.connections k new owes h.formed.owing),
-        subst (All (λ e. same_address e.facts.addr own ≡ false)) list (All-set (λ e. same_address e.facts.addr own ≡ false) m.connections k new other h.formed.other_connections),
-      );
-      settings = refl;
-      now = refl;
-      counted = omega (arith, counts.0, more);
-      late = omega (arith, counts.1, later);
-      classes = λ locals. locals;
-    }
+    let recounted = turned-counts m old new k o s t in
+    let counted : counted_in n ≤ counted_in m + raised = omega (arith, recounted.counted, more) in
+    let late : late_in n ≤ late_in m = omega (arith, recounted.late, later) in
+    assumption (
+      turned-orderly m old new k o s t,
+      subst (All (λ e. IsShaped e.facts)) list (All-set (λ e. IsShaped e.facts) m.connections k new shaped h.formed.shaped),
+      subst (All IsOwing) list (All-set IsOwing m.connections k new owes h.formed.owing),
+      subst (All (λ e. same_address e.facts.addr own ≡ false)) list (All-set (λ e. same_address e.facts.addr own ≡ false) m.connections k new other h.formed.other_connections),
+    )
 
 -- a connection goes
 pub goes-moves : (m : Machine) (e : Entry) (k : ℕ) → IsOrdered m → StandsAt m.connections k e →
     Moves 0 m (without_entry e.facts.cid.0 m)
 goes-moves m e k h s =
-    let counts = gone-counts m e k h.orderly s in
-    record {
-      ordered = assumption (
-        gone-orderly m e.facts.cid.0 h.orderly,
-        All-filter (λ x. not (has_id e.facts.cid.0 x.facts)) (λ x. IsShaped x.facts) m.connections h.formed.shaped,
-        All-filter (λ x. not (has_id e.facts.cid.0 x.facts)) IsOwing m.connections h.formed.owing,
-        All-filter (λ x. not (has_id e.facts.cid.0 x.facts)) (λ x. same_address x.facts.addr m.settings.own ≡ false) m.connections h.formed.other_connections,
-      );
-      settings = refl;
-      now = refl;
-      counted = omega (arith, counts.0);
-      late = omega (arith, counts.1);
-      classes = λ locals. locals;
-    }
+    let n : Machine = without_entry e.facts.cid.0 m in
+    let recounted = gone-counts m e k h.orderly s in
+    let counted : counted_in n ≤ counted_in m + 0 = omega (arith, recounted.counted) in
+    let late : late_in n ≤ late_in m = omega (arith, recounted.late) in
+    assumption (
+      gone-orderly m e.facts.cid.0 h.orderly,
+      All-filter (λ x. not (has_id e.facts.cid.0 x.facts)) (λ x. IsShaped x.facts) m.connections h.formed.shaped,
+      All-filter (λ x. not (has_id e.facts.cid.0 x.facts)) IsOwing m.connections h.formed.owing,
+      All-filter (λ x. not (has_id e.facts.cid.0 x.facts)) (λ x. same_address x.facts.addr m.settings.own ≡ false) m.connections h.formed.other_connections,
+    )
 
 -- the question that is pending was numbered
 abbrev pub IsNumbered : RootState → Type 0
@@ -123,14 +107,10 @@ IsNumbered roots = (job : ℕ) → roots.pending ≡ Some job → job < roots.ne
 pub elsewhere-moves : (targets : Targets) (big : BigTargets) (roots : RootState) (peers : List Peer) (m : Machine) →
     IsOrdered m → IsNumbered roots → IsBook m.settings.own peers → (LocalsAreOrdinary m → LocalsAreOrdinary (record m { peers = peers })) →
     Moves 0 m (record m { targets = targets; big_targets = big; roots = roots; peers = peers })
-elsewhere-moves targets big roots peers m h numbered book classes = record {
-  ordered = assumption;
-  settings = refl;
-  now = refl;
-  counted = omega arith;
-  late = omega arith;
-  classes = classes;
-}
+elsewhere-moves targets big roots peers m h numbered book classes =
+    let counted : counted_in m ≤ counted_in m + 0 = omega arith in
+    let late : late_in m ≤ late_in m = omega arith in
+    assumption
 
 -- what is neither a connection nor a peer is no matter of either
 pub elsewhere-keeps : (targets : Targets) (big : BigTargets) (roots : RootState) (m : Machine) →
@@ -164,8 +144,7 @@ changes-keeps addr change m same class step h =
     (changed-ties addr change m m same refl refl (λ b other. refl) (λ none alone. alone) (λ p found tie. step p tie))
 
 pub note-machine : (added : Added) (addr : Addr) (m : Machine) → (note_of_coming added addr m).machine ≡ m
-note-machine New addr m = refl
-note-machine other addr m = refl
+note-machine added addr m = grind arith
 
 -- it is not the own address, and no big ledger peer's where it is local
 pub peer_comes-keeps : (big : Bool) (addr : Addr) (m : Machine) → IsOrdered m → same_address addr m.settings.own ≡ false →

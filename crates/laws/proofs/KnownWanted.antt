@@ -1,7 +1,7 @@
 -- No more addresses come into the book than are wanted.
-use Rattle.std.proofs.Common.{ℕ, ◌+◌, ◌-◌, ◌≤◌, ◌<◌, ◌≡◌, Bool, true, false, not, ◌&&◌, nat_lt, if◌then◌else◌, List, [], ◌∷◌, ◌++◌, length, take, Option, Some, None, is_some, refl, sym, ap, ◌∙◌, subst, arith, ltb-true}
-use Rattle.laws.proofs.Words.{and_parts, length-take, count_by-put_in}
-use Rattle.laws.specs.Words.{AllByRecursion, same_address, Addr, Peer, effective_big_of, is_of, known_of, new_peer, entry_of, entered_by, entered, Added, New, group_of, room_for, is_new, taken_after, Share, Peers, Machine, Effect, Happened, shared, nothing_more, as_move, for_each, peer_at, peer_comes, is_wanted_big, comes_big, bigs_are, shares_address, taken_of, takes_addresses}
+use Rattle.std.proofs.Common.{◌+◌, ◌-◌, ◌≤◌, ◌<◌, ◌≡◌, Bool, true, false, if◌then◌else◌, List, [], ◌∷◌, ◌++◌, length, Option, Some, None, sym, ap, ◌∙◌, subst, arith}
+use Rattle.laws.proofs.Words.{length-take, count_by-put_in}
+use Rattle.laws.specs.Words.{AllByRecursion, Addr, Peer, is_of, known_of, new_peer, entered, room_for, is_new, taken_after, Share, Peers, Machine, Effect, Happened, shared, nothing_more, as_move, for_each, peer_comes, is_wanted_big, comes_big, bigs_are, shares_address, taken_of, takes_addresses}
 use Rattle.peer_book.specs.Book.{peer_at as peer_in}
 use Rattle.laws.specs.AtMoves.{known_wanted, IsWantedNew, WithinTargets}
 use Rattle.laws.proofs.Lawful.{comes-machine, comes-providing, Within}
@@ -9,6 +9,7 @@ use Rattle.laws.proofs.Lists.{all-appended}
 use Rattle.laws.proofs.Spending.{one-most}
 use Rattle.laws.proofs.Ties.{put_in-here}
 use Rattle.laws.proofs.Cases.{by_bool, some_same}
+use Rattle.laws.proofs.PeersApart.{entered-cases}
 
 -- a part that is one move
 pub move-within : (happened : Happened) (before : Machine) (effect : Effect) → effect.moves ≡ [] → WithinTargets happened before effect.machine →
@@ -23,36 +24,21 @@ came big addr m = record m { peers = entered (new_peer big addr) m.peers }
 
 -- at most one more is known of its class
 entered-known : (big : Bool) (addr : Addr) (ps : List Peer) → known_of big (entered (new_peer big addr) ps) ≤ known_of big ps + 1
-entered-known big addr ps = by_added (entry_of addr ps)
-  where
-    by_added : (added : Added) → known_of big (entered_by added (new_peer big addr) ps) ≤ known_of big ps + 1
-    by_added New =
-        let count = count_by-put_in (λ p. p.addr) (is_of big) (new_peer big addr) ps in
-        omega (arith, count, one-most (is_of big (new_peer big addr)))
-    by_added other = omega arith
+entered-known big addr ps = entered-cases (new_peer big addr) ps (λ qs. known_of big qs ≤ known_of big ps + 1) (omega arith)
+    (λ absent room.
+    let count = count_by-put_in (λ p. p.addr) (is_of big) (new_peer big addr) ps in
+    omega (arith, count, one-most (is_of big (new_peer big addr))))
 
 -- whoever was not there and is found is of its class
 entered-class : (big : Bool) (addr : Addr) (ps : List Peer) (p : Peer) → peer_in addr ps ≡ None → peer_in addr (entered (new_peer big addr) ps) ≡ Some p →
     p.big ≡ big
-entered-class big addr ps p none found = by_added (entry_of addr ps) found
-  where
-    by_added : (added : Added) → peer_in addr (entered_by added (new_peer big addr) ps) ≡ Some p → p.big ≡ big
-    by_added New found =
-        let here : peer_in addr (entered_by New (new_peer big addr) ps) ≡ Some (new_peer big addr) = put_in-here (new_peer big addr) ps none in
-        let same : Some p ≡ Some (new_peer big addr) = sym found ∙ here in
-        ap (λ q. q.big) (some_same p (new_peer big addr) same)
-    by_added other found = let never : None ≡ Some p = sym none ∙ found in absurd cc
+entered-class big addr ps p none = entered-cases (new_peer big addr) ps (λ qs. peer_in addr qs ≡ Some p → p.big ≡ big)
+    (λ same. let never : None ≡ Some p = sym none ∙ same in absurd cc)
+    (λ absent room here. ap (λ q. q.big) (some_same p (new_peer big addr) (sym here ∙ put_in-here (new_peer big addr) ps none)))
 
 came-within : (big : Bool) (addr : Addr) (m : Machine) → known_of big m.peers < known_wanted big m → IsWantedNew addr m (came big addr m)
 came-within big addr m fewer none p found =
-    let class : p.big ≡ big = entered-class big addr m.peers p none found in
-    let most = entered-known big addr m.peers in
-    let same : known_wanted big (came big addr m) ≡ known_wanted big m = wanted-same big in
-    subst (λ b. known_of b (came big addr m).peers ≤ known_wanted b (came big addr m)) (sym class) (omega (arith, most, same, fewer))
-  where
-    wanted-same : (b : Bool) → known_wanted b (came big addr m) ≡ known_wanted b m
-    wanted-same true = refl
-    wanted-same false = refl
+    grind (arith, fewer, entered-class big addr m.peers p none found, entered-known big addr m.peers)
 
 -- an address that comes as a move
 abbrev coming : Bool → Addr → Machine → Effect
@@ -78,24 +64,15 @@ shares-within (a ∷ addrs) m h =
 
 pub takes-within : (o : Option Share) (m : Machine) → AllByRecursion Within (takes_addresses o m).moves
 takes-within (Some (Peers told)) m =
-    shares-within (taken_of told m) m
-    (few (room_for (known_wanted false m) m.peers) (taken_after [] (is_new m.settings.own m.settings.version m.peers) told) room)
-  where
-    few : (k : ℕ) (addrs : List Addr) → k ≤ known_wanted false m - known_of false m.peers → length (take k addrs) ≤ known_wanted false m - known_of false m.peers
-    few k addrs h = let most = length-take k addrs in omega (arith, most, h)
-
-    room : room_for (known_wanted false m) m.peers ≤ known_wanted false m - known_of false m.peers
-    room = omega arith
+    let most = length-take (room_for (known_wanted false m) m.peers) (taken_after [] (is_new m.settings.own m.settings.version m.peers) told) in
+    shares-within (taken_of told m) m (omega (arith, most))
 takes-within other m = tt
 
 -- ---- big ledger peers that are set
 
 comes_big-within : (addr : Addr) (m : Machine) → AllByRecursion Within (comes_big addr m).moves
 comes_big-within addr m = by_bool (is_wanted_big addr m) (λ b. AllByRecursion Within (if b then coming true addr m else nothing_more m).moves)
-    (λ wanted.
-    let parts = and_parts (not (same_address addr m.settings.own) && not (is_some (peer_at addr m)) && not (is_some (group_of addr m.groups)))
-    (nat_lt (known_of true m.peers) (effective_big_of m.big_targets m.now).known) wanted in
-    coming-within true addr m (ltb-true (known_of true m.peers) (effective_big_of m.big_targets m.now).known parts.1))
+    (λ wanted. coming-within true addr m (grind (arith, wanted)))
     (λ other. tt)
 
 pub bigs-within : (addrs : List Addr) (m : Machine) → AllByRecursion Within (bigs_are addrs m).moves

@@ -5,13 +5,9 @@ pub mod Events
 pub mod Firing
 pub mod Ids
 mod Numbers
-mod NumbersOfEvents
-mod NumbersOfOrders
-mod NumbersOfPicks
 mod NumbersOfRules
 pub mod Lists
 pub mod Moves
-pub mod Runs
 pub mod Settings
 mod Finds
 mod Connects
@@ -35,7 +31,6 @@ mod GroupsApart
 mod Locals
 mod Orders
 mod PeersApart
-mod Books
 mod Owing
 mod Sharing
 mod Ordinary
@@ -63,7 +58,6 @@ mod Wanted
 mod EventMoves
 mod Telling
 mod ToldMoves
-mod Open
 mod Chain
 mod Due
 mod CarriedOut
@@ -75,8 +69,6 @@ mod Served
 mod Silent
 mod Goes
 mod RootsAsked
-mod Agreed
-mod Responders
 mod PartMoves
 pub mod PartEvents
 mod Turned
@@ -86,3 +78,4 @@ mod Pruning
 mod Walk
 mod Cases
 pub mod Words
+mod Items

@@ -1,6 +1,6 @@
 -- One element of a list: what is found, what takes its place, and the list without it.
-use Rattle.std.proofs.Common.{nat_lt, ℕ, zero, suc, ◌+◌, ◌<◌, ◌≤◌, ◌≡◌, Bool, true, false, cond, not, List, [], ◌∷◌, ◌++◌, length, map, filter, find, set, remove, get_or, Some, None, All, AllPairs, sum_by, count_by, flat_map, if◌then◌else◌, refl, sym, ap, ◌∙◌, subst, arith}
-use Rattle.laws.proofs.Words.{false_from_ne_true, both_ways, All-head, All-tail, All-cons, All-nil, All-set, All-weaker, AllPairs-cons, sum_by-cons, sum_by-append, sum_by-set, sum_by-remove, get_or-le-sum_by}
+use Rattle.std.proofs.Common.{nat_lt, ℕ, zero, suc, ◌+◌, ◌<◌, ◌≡◌, Bool, true, false, cond, not, List, [], ◌∷◌, ◌++◌, length, map, filter, find, set, remove, get_or, Some, None, All, AllPairs, sum_by, count_by, flat_map, if◌then◌else◌, refl, sym, ap, ◌∙◌, subst, arith}
+use Rattle.laws.proofs.Words.{false_from_ne_true, both_ways, All-head, All-tail, All-cons, All-nil, All-set, All-weaker, AllPairs-cons, sum_by-cons, sum_by-append, sum_by-set, sum_by-remove, get_or-le-sum_by, All-append, All-filter, All-map, All-from_recursion, recursion_from_All, filter_passes, map_fixed, fold-map}
 use Rattle.laws.specs.Words.{AllByRecursion}
 use Rattle.laws.proofs.Cases.{by_bool}
 
@@ -42,6 +42,15 @@ all-standing P [] each = All-nil P
 all-standing P (y ∷ ys) each =
     All-cons P y ys (each y 0 (record { inside = omega arith; is = refl })) (all-standing P ys (λ x k s. each x (suc k) (stands_next y x ys k s)))
 
+-- what holds of all of two lists holds of all of each
+pub All-front : {X : Type 0} (P : X → Type 0) (xs ys : List X) → All P (xs ++ ys) → All P xs
+All-front P [] ys h = All-nil P
+All-front P (x ∷ xs) ys h = All-cons P x xs (All-head P x (xs ++ ys) h) (All-front P xs ys (All-tail P x (xs ++ ys) h))
+
+pub All-behind : {X : Type 0} (P : X → Type 0) (xs ys : List X) → All P (xs ++ ys) → All P ys
+All-behind P [] ys h = h
+All-behind P (x ∷ xs) ys h = All-behind P xs ys (All-tail P x (xs ++ ys) h)
+
 -- at most one element passes
 abbrev pub OnePasses : {X : Type 0} → (X → Bool) → List X → Type 0
 OnePasses p xs = AllPairs (λ x y. p x ≡ true → p y ≡ false) xs
@@ -68,38 +77,30 @@ without p xs = filter (λ x. not (p x)) xs
 
 pub replaced_none : {X : Type 0} (p : X → Bool) (new : X) (xs : List X) → All (λ x. p x ≡ false) xs →
     replaced p new xs ≡ xs
-replaced_none p new [] h = refl
-replaced_none p new (x ∷ xs) h =
-    let here : p x ≡ false = All-head (λ x. p x ≡ false) x xs h in
-    rw here (ap (λ ys. x ∷ ys) (replaced_none p new xs (All-tail (λ x. p x ≡ false) x xs h)))
+replaced_none p new xs h =
+    map_fixed (λ x. if p x then new else x) xs (All-weaker (λ x. p x ≡ false) (λ x. (if p x then new else x) ≡ x) (λ x fails. rw fails refl) xs h)
 
 pub without_none : {X : Type 0} (p : X → Bool) (xs : List X) → All (λ x. p x ≡ false) xs → without p xs ≡ xs
 without_none p [] h = refl
-without_none p (x ∷ xs) h =
-    let here : p x ≡ false = All-head (λ x. p x ≡ false) x xs h in
-    rw here (ap (λ ys. x ∷ ys) (without_none p xs (All-tail (λ x. p x ≡ false) x xs h)))
+without_none p (x ∷ xs) h = grind (arith, All-head (λ x. p x ≡ false) x xs h, without_none p xs (All-tail (λ x. p x ≡ false) x xs h))
 
 pub replaced_at : {X : Type 0} (p : X → Bool) (new x : X) (xs : List X) (k : ℕ) → OnePasses p xs → StandsAt xs k x →
     p x ≡ true → replaced p new xs ≡ set xs k new
 replaced_at p new x [] k one s passes = absurd (omega (arith, s.inside))
 replaced_at p new x (y ∷ ys) zero one s passes =
-    let here : p y ≡ true = ap p s.is ∙ passes in
-    rw here (ap (λ zs. new ∷ zs) (replaced_none p new ys (OnePasses-none_after p y ys one here)))
+    grind (arith, ap p s.is ∙ passes, replaced_none p new ys (OnePasses-none_after p y ys one (ap p s.is ∙ passes)))
 replaced_at p new x (y ∷ ys) (suc k) one s passes =
     let rest : StandsAt ys k x = stands_before y x ys k s in
-    let other : p y ≡ false = OnePasses-not_before p y x ys k one rest passes in
-    rw other (ap (λ zs. y ∷ zs) (replaced_at p new x ys k (OnePasses-tail p y ys one) rest passes))
+    grind (arith, OnePasses-not_before p y x ys k one rest passes, replaced_at p new x ys k (OnePasses-tail p y ys one) rest passes)
 
 pub without_at : {X : Type 0} (p : X → Bool) (x : X) (xs : List X) (k : ℕ) → OnePasses p xs → StandsAt xs k x →
     p x ≡ true → without p xs ≡ remove xs k
 without_at p x [] k one s passes = absurd (omega (arith, s.inside))
 without_at p x (y ∷ ys) zero one s passes =
-    let here : p y ≡ true = ap p s.is ∙ passes in
-    rw here (without_none p ys (OnePasses-none_after p y ys one here))
+    grind (arith, ap p s.is ∙ passes, without_none p ys (OnePasses-none_after p y ys one (ap p s.is ∙ passes)))
 without_at p x (y ∷ ys) (suc k) one s passes =
     let rest : StandsAt ys k x = stands_before y x ys k s in
-    let other : p y ≡ false = OnePasses-not_before p y x ys k one rest passes in
-    rw other (ap (λ zs. y ∷ zs) (without_at p x ys k (OnePasses-tail p y ys one) rest passes))
+    grind (arith, OnePasses-not_before p y x ys k one rest passes, without_at p x ys k (OnePasses-tail p y ys one) rest passes)
 
 -- what a search finds stands in the list, and passes
 pub record FoundIn {X : Type 0} (p : X → Bool) (xs : List X) (x : X) : Type 0 where
@@ -130,8 +131,7 @@ find_only p x [] k one s passes = absurd (omega (arith, s.inside))
 find_only p x (y ∷ ys) zero one s passes = rw (ap p s.is ∙ passes) (ap Some s.is)
 find_only p x (y ∷ ys) (suc k) one s passes =
     let rest : StandsAt ys k x = stands_before y x ys k s in
-    let other : p y ≡ false = OnePasses-not_before p y x ys k one rest passes in
-    rw other (find_only p x ys k (OnePasses-tail p y ys one) rest passes)
+    grind (arith, OnePasses-not_before p y x ys k one rest passes, find_only p x ys k (OnePasses-tail p y ys one) rest passes)
 
 -- An element gives way to one that stands to each other as it did.
 pub AllPairs-set : {X : Type 0} (R : X → X → Type 0) (new x : X) (xs : List X) (k : ℕ) → StandsAt xs k x →
@@ -172,9 +172,7 @@ sum_by-without f p x xs k one s passes =
 
 pub sum_by-map : {X Y : Type 0} (f : Y → ℕ) (g : X → Y) (xs : List X) →
     sum_by f (map g xs) ≡ sum_by (λ x. f (g x)) xs
-sum_by-map f g [] = refl
-sum_by-map f g (x ∷ xs) =
-    sum_by-cons f (g x) (map g xs) ∙ (ap (λ n. f (g x) + n) (sum_by-map f g xs) ∙ sym (sum_by-cons (λ y. f (g y)) x xs))
+sum_by-map f g xs = fold-map (λ sum x. sum + f x) g 0 xs
 
 pub sum_by-flat_map : {X Y : Type 0} (f : Y → ℕ) (g : X → List Y) (xs : List X) →
     sum_by f (flat_map g xs) ≡ sum_by (λ x. sum_by f (g x)) xs
@@ -185,43 +183,31 @@ sum_by-flat_map f g (x ∷ xs) =
 
 -- none is counted exactly where each one fails
 pub count_by-none : {X : Type 0} (p : X → Bool) (xs : List X) → count_by p xs ≡ 0 → All (λ x. p x ≡ false) xs
-count_by-none p xs none k d inside = false_from_ne_true (p (get_or xs k d)) (λ passes.
-    let one : cond (p (get_or xs k d)) 1 0 ≤ count_by p xs = get_or-le-sum_by (λ x. cond (p x) 1 0) xs k d inside in
-    let one_at_least : 1 ≤ count_by p xs = rw passes at one in
-    omega arith)
-
-pub count_by-all_fail : {X : Type 0} (p : X → Bool) (xs : List X) → All (λ x. p x ≡ false) xs → count_by p xs ≡ 0
-count_by-all_fail p [] h = refl
-count_by-all_fail p (x ∷ xs) h =
-    let here : p x ≡ false = All-head (λ y. p y ≡ false) x xs h in
-    let first : cond {A = ℕ} (p x) 1 0 ≡ 0 = rw here refl in
-    let rest : count_by p xs ≡ 0 = count_by-all_fail p xs (All-tail (λ y. p y ≡ false) x xs h) in
-    omega (arith, sum_by-cons (λ y. cond (p y) 1 0) x xs)
+count_by-none p xs none k d inside = grind (arith, none, get_or-le-sum_by (λ x. cond (p x) 1 0) xs k d inside)
 
 -- ---- every element, by recursion
 
 pub all-weaker : {X : Type 0} (P Q : X → Type 0) → ((x : X) → P x → Q x) → (xs : List X) → AllByRecursion P xs → AllByRecursion Q xs
-all-weaker P Q gives [] h = tt
-all-weaker P Q gives (x ∷ xs) h = (gives x h.0, all-weaker P Q gives xs h.1)
+all-weaker P Q gives xs h = recursion_from_All Q xs (All-weaker P Q gives xs (All-from_recursion P xs h))
 
 pub all-true : {X : Type 0} (P : X → Type 0) → ((x : X) → P x) → (xs : List X) → AllByRecursion P xs
-all-true P each [] = tt
-all-true P each (x ∷ xs) = (each x, all-true P each xs)
+all-true P each xs = recursion_from_All P xs (λ k d inside. each (get_or xs k d))
 
 pub filter-all : {X : Type 0} (P : X → Type 0) (q : X → Bool) (xs : List X) → AllByRecursion P xs → AllByRecursion P (filter q xs)
-filter-all P q [] h = h
-filter-all {X} P q (x ∷ xs) h = by_bool (q x) (λ b. AllByRecursion P (filter q xs) → AllByRecursion P (cond b (x ∷ filter q xs) (filter q xs)))
-    (λ is rest. (h.0, rest)) (λ is rest. rest) (filter-all P q xs h.1)
+filter-all P q xs h = recursion_from_All P (filter q xs) (All-filter q P xs (All-from_recursion P xs h))
+
+pub filter-passing : {X : Type 0} (q : X → Bool) (xs : List X) → AllByRecursion (λ x. q x ≡ true) (filter q xs)
+filter-passing q xs = recursion_from_All (λ x. q x ≡ true) (filter q xs) (filter_passes q xs)
 
 pub all-appended : {X : Type 0} (P : X → Type 0) (xs ys : List X) → AllByRecursion P xs → AllByRecursion P ys → AllByRecursion P (xs ++ ys)
-all-appended P [] ys h k = k
-all-appended P (x ∷ xs) ys h k = (h.0, all-appended P xs ys h.1 k)
+all-appended P xs ys h k = recursion_from_All P (xs ++ ys) (All-append P xs ys (All-from_recursion P xs h) (All-from_recursion P ys k))
+
+pub all-behind : {X : Type 0} (P : X → Type 0) (xs ys : List X) → AllByRecursion P (xs ++ ys) → AllByRecursion P ys
+all-behind P xs ys h = recursion_from_All P ys (All-behind P xs ys (All-from_recursion P (xs ++ ys) h))
+
+pub all-map : {X Y : Type 0} (P : Y → Type 0) (g : X → Y) (xs : List X) → AllByRecursion (λ x. P (g x)) xs → AllByRecursion P (map g xs)
+all-map P g xs h = recursion_from_All P (map g xs) (All-map P g xs (All-from_recursion (λ x. P (g x)) xs h))
 
 pub all-both : {X : Type 0} (P Q R : X → Type 0) → ((x : X) → P x → Q x → R x) → (xs : List X) → AllByRecursion P xs → AllByRecursion Q xs → AllByRecursion R xs
 all-both P Q R gives [] h k = tt
 all-both P Q R gives (x ∷ xs) h k = (gives x h.0 k.0, all-both P Q R gives xs h.1 k.1)
-
--- by places, too
-pub all-placed : {X : Type 0} (P : X → Type 0) (xs : List X) → AllByRecursion P xs → All P xs
-all-placed P [] h = All-nil P
-all-placed P (x ∷ xs) h = All-cons P x xs h.0 (all-placed P xs h.1)

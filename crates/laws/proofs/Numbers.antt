@@ -1,14 +1,16 @@
--- Ids and jobs: how many a part of a step gives out.
-use Rattle.std.proofs.Common.{ℕ, ◌+◌, ◌%◌, ◌≤◌, ◌≡◌, Bool, cond, nat_le, List, [], ◌∷◌, count_by, Option, Some, None, refl, sym, ap, ◌∙◌, subst, arith}
-use Rattle.laws.proofs.Words.{cond_both, sum_by-cons}
-use Rattle.laws.specs.Words.{unwrap_or, choice_of, is_live, failed_peer, CloseCause, Pruned, Overwritten, Addr, Cid, Facts, Peer, Warm, new_peer, entry_of, entered, Machine, Entry, counted_in, entry_at, Effect, nothing_more, for_each, on_entry, turns_at, peer_at, peer_changes, peer_fails, peer_succeeds, peer_comes, with_entry, without_entry, is_missed, lost, lost_by, ending, vanishes, is_used, candidates_in, trim, closes, owing}
+-- Ids and jobs: how many a part of a step gives out, and how many an order of the governor does.
+use Rattle.std.proofs.Common.{ℕ, ◌+◌, ◌%◌, ◌≤◌, ◌≡◌, Bool, List, [], ◌∷◌, Option, Some, None, refl, sym, ap, ◌∙◌, subst, arith, not, length, map, find}
+use Rattle.laws.proofs.Words.{cond_both}
+use Rattle.laws.specs.Words.{unwrap_or, choice_of, failed_peer, CloseCause, Pruned, Addr, Cid, Facts, Peer, Warm, new_peer, entry_of, entered, Machine, Entry, entry_at, Effect, for_each, on_entry, turns_at, peer_at, peer_changes, peer_succeeds, peer_comes, with_entry, without_entry, lost, lost_by, ending, vanishes, is_used, candidates_in, trim, owing, released, acquired, is_acquirable, Order, Ask, Forget, Promote, Release, Activate, Deactivate, same_address, Cold, live_entry_at, peer_becomes, peer_was_asked, peer_goes, acquire, release, dial, promoted_at, promote, is_used_at, asks_peer, activates, deactivates, carries_out}
 use Rattle.peer_book.specs.Book.{peer_at as peer_in, with_peer as with_peer_in}
 use Rattle.laws.specs.Steady.{ArePeersApart}
 use Rattle.laws.proofs.Keeping.{note-machine}
-use Rattle.laws.proofs.PeersApart.{with_peer-apart}
-use Rattle.laws.proofs.Spending.{AreSameBut, with_peer-same_but}
-use Rattle.laws.proofs.Ties.{found-addr}
+use Rattle.laws.proofs.PeersApart.{with_peer-apart, filter-apart}
+use Rattle.laws.proofs.Spending.{class_at, same_but-class, with_peer-same_but}
+use Rattle.laws.proofs.Ties.{found-addr, taken-elsewhere, taken-here}
 use Rattle.laws.proofs.Cases.{by_option}
+use Rattle.laws.proofs.Walk.{says_done-machine}
+use Rattle.laws.proofs.Addresses.{same_address-true}
 
 -- ---- the numbers that are given next
 
@@ -38,44 +40,29 @@ none_then first second = gains_then 0 0 first second
 
 -- ---- a part of a step
 
--- how many peers have an address and a class that pass a test
-abbrev pub number_of : (Addr → Bool → Bool) → List Peer → ℕ
-number_of test = count_by (λ p. test p.addr p.big)
-
 -- And no peer comes, and none changes its class.
 pub record Gives (ids : ℕ) (before after : Machine) : Type 0 where
   pub numbers : Gains ids (numbers_of before) (numbers_of after)
   pub groups : after.groups ≡ before.groups
   pub apart : ArePeersApart before.peers → ArePeersApart after.peers
-  pub fewer : ArePeersApart before.peers → (test : Addr → Bool → Bool) → number_of test after.peers ≤ number_of test before.peers
+  pub kept : ArePeersApart before.peers → (a : Addr) (big : Bool) → class_at a after.peers ≡ Some big → class_at a before.peers ≡ Some big
 
 pub gives_nothing : (m : Machine) → Gives 0 m m
-gives_nothing m = record { numbers = unchanged refl; groups = refl; apart = λ h. h; fewer = λ h test. omega arith }
+gives_nothing m = record { numbers = unchanged refl; groups = refl; apart = λ h. h; kept = λ h a big is. is }
 
 pub gives_then : (i j : ℕ) (m n o : Machine) → Gives i m n → Gives j n o → Gives (i + j) m o
 gives_then i j m n o first second = record {
   numbers = gains_then i j first.numbers second.numbers;
   groups = second.groups ∙ first.groups;
   apart = λ h. second.apart (first.apart h);
-  fewer = λ h test. omega (arith, first.fewer h test, second.fewer (first.apart h) test);
+  kept = λ h a big is. first.kept h a big (second.kept (first.apart h) a big is);
 }
 
 pub gives_more : (i j : ℕ) (m n : Machine) → i ≤ j → Gives i m n → Gives j m n
-gives_more i j m n more h = record { numbers = record { id = omega (arith, more, h.numbers.id); job = h.numbers.job }; groups = h.groups; apart = h.apart; fewer = h.fewer }
+gives_more i j m n more h = record { numbers = record { id = omega (arith, more, h.numbers.id); job = h.numbers.job }; groups = h.groups; apart = h.apart; kept = h.kept }
 
 pub connections-gives : (connections : List Entry) (m : Machine) → Gives 0 m (record m { connections = connections })
-connections-gives connections m = record { numbers = unchanged refl; groups = refl; apart = λ h. h; fewer = λ h test. omega arith }
-
-same_but-number : (test : Addr → Bool → Bool) (addr : Addr) (ps qs : List Peer) → AreSameBut addr ps qs → number_of test qs ≡ number_of test ps
-same_but-number test addr [] [] h = refl
-same_but-number test addr (p ∷ ps) (q ∷ qs) h =
-    let here : cond {A = ℕ} (test q.addr q.big) 1 0 ≡ cond {A = ℕ} (test p.addr p.big) 1 0 =
-    ap (λ a. cond {A = ℕ} (test a q.big) 1 0) h.0.same_addr ∙ ap (λ b. cond {A = ℕ} (test p.addr b) 1 0) h.0.same_class in
-    let rest = same_but-number test addr ps qs h.1 in
-    let before = sum_by-cons (λ x. cond {A = ℕ} (test x.addr x.big) 1 0) p ps in
-    let after = sum_by-cons (λ x. cond {A = ℕ} (test x.addr x.big) 1 0) q qs in
-    omega (arith, here, rest, before, after)
-same_but-number test addr ps qs h = elim h [ ]
+connections-gives connections m = record { numbers = unchanged refl; groups = refl; apart = λ h. h; kept = λ h a big is. is }
 
 -- a change that keeps addresses and classes
 pub changes-gives : (addr : Addr) (change : Peer → Peer) (m : Machine) → ((p : Peer) → (change p).addr ≡ p.addr) → ((p : Peer) → (change p).big ≡ p.big) →
@@ -89,20 +76,16 @@ changes-gives addr change m same class = by_option (peer_at addr m) (λ o. Gives
       numbers = unchanged refl;
       groups = refl;
       apart = λ h. with_peer-apart new m.peers h;
-      fewer = λ h test.
-          let same_number = same_but-number test new.addr m.peers (with_peer_in new m.peers) (with_peer-same_but new p m.peers h found (class p)) in
-          omega (arith, same_number);
+      kept = λ h a big is. sym (same_but-class new.addr a m.peers (with_peer_in new m.peers) (with_peer-same_but new p m.peers h found (class p))) ∙ is;
     })
 
 -- ---- a connection goes
 
 lost-gives : (f : Facts) (m : Machine) → Gives 0 m (lost f m).machine
-lost-gives f m = cond_both (is_missed f) (peer_fails f.addr m) (nothing_more m) (λ effect. Gives 0 m effect.machine)
-    (λ missed. changes-gives f.addr (failed_peer m.now m.settings.backoff) m (λ p. refl) (λ p. refl)) (λ other. gives_nothing m)
+lost-gives f m = grind (arith, gives_nothing m, changes-gives f.addr (failed_peer m.now m.settings.backoff) m (λ p. refl) (λ p. refl))
 
 lost_by-gives : (cause : CloseCause) (f : Facts) (m : Machine) → Gives 0 m (lost_by cause f m).machine
-lost_by-gives Overwritten f m = gives_nothing m
-lost_by-gives other f m = lost-gives f m
+lost_by-gives cause f m = grind (arith, gives_nothing m, lost-gives f m)
 
 ending-gives : (cause : CloseCause) (e : Entry) (m : Machine) → Gives 0 m (ending cause e m).machine
 ending-gives cause e m =
@@ -116,9 +99,7 @@ on_entry-gives k act each (Some e) m = each e m
 
 pub trim-gives : (moved : Cid) (m : Machine) → Gives 0 m (trim moved m).machine
 trim-gives moved m =
-    let pruned : Option Entry = entry_at (unwrap_or (choice_of (candidates_in m)) moved).0 m in
-    cond_both (nat_le (counted_in m) m.settings.hard) (nothing_more m) (on_entry pruned (ending Pruned) m) (λ effect. Gives 0 m effect.machine)
-    (λ within. gives_nothing m) (λ above. on_entry-gives 0 (ending Pruned) (ending-gives Pruned) pruned m)
+    grind (arith, gives_nothing m, on_entry-gives 0 (ending Pruned) (ending-gives Pruned) (entry_at (unwrap_or (choice_of (candidates_in m)) moved).0 m) m)
 
 -- ---- a connection comes into use
 
@@ -158,12 +139,73 @@ ending-none cause e m = (ending-gives cause e m).numbers
 pub vanishes-none : (e : Entry) (m : Machine) → GivesNone m (vanishes e m).machine
 vanishes-none e m = (lost-gives e.facts (without_entry e.facts.cid.0 m)).numbers
 
--- where it is about a connection, and there may be none
-pub on_entry-none : (act : Entry → Machine → Effect) → ((e : Entry) (m : Machine) → GivesNone m (act e m).machine) → (o : Option Entry) (m : Machine) →
-    GivesNone m (on_entry o act m).machine
-on_entry-none act each None m = unchanged refl
-on_entry-none act each (Some e) m = each e m
+-- ---- the governor's orders
 
-pub closes-none : (e : Entry) (m : Machine) → GivesNone m (closes e m).machine
-closes-none e m = cond_both (is_live e.facts) (vanishes e m) (nothing_more m) (λ effect. GivesNone m effect.machine)
-    (λ live. vanishes-none e m) (λ dead. unchanged refl)
+release-gives : (e : Entry) (m : Machine) → Gives 0 m (release e m).machine
+release-gives e m =
+    let turned : Machine → Machine = λ n. with_entry (record e { facts = released (n.now + n.settings.idle) e.facts }) n in
+    let rest : Machine → Machine = λ n. (trim e.facts.cid (peer_becomes Cold e.facts.addr (turned n)).machine).machine in
+    let n : Machine = turned m in
+    let o : Machine = (peer_becomes Cold e.facts.addr n).machine in
+    subst (λ w. Gives 0 m (rest w)) (sym (says_done-machine e.facts m)) (gives_then 0 0 m n (rest m) (connections-gives n.connections m)
+    (gives_then 0 0 n o (rest m) (changes-gives e.facts.addr (λ p. record p { temp = Cold }) n (λ p. refl) (λ p. refl)) (trim-gives e.facts.cid o)))
+
+asks_peer-gives : (number : ℕ) (e : Entry) (m : Machine) → Gives 0 m (asks_peer number e m).machine
+asks_peer-gives number e m =
+    let n : Machine = with_entry (owing 10 number m e) m in
+    let next : ℕ = m.now + m.settings.sharegap in
+    gives_then 0 0 m n (peer_was_asked next e.facts.addr n).machine (connections-gives n.connections m)
+    (changes-gives e.facts.addr (λ p. record p { share_next = next }) n (λ p. refl) (λ p. refl))
+
+-- who is forgotten has no class
+peer_goes-gives : (addr : Addr) (m : Machine) → Gives 0 m (peer_goes addr m).machine
+peer_goes-gives addr m = record {
+  numbers = unchanged refl;
+  groups = refl;
+  apart = λ h. filter-apart (λ p. not (same_address p.addr addr)) m.peers h;
+  kept = λ h a big is. grind (arith, is, same_address-true a addr, taken-here addr m.peers, taken-elsewhere addr a m.peers);
+}
+
+dial-gives : (addr : Addr) (m : Machine) → Gives 1 m (dial addr m).machine
+dial-gives addr m = record { numbers = one_more (numbers_of m); groups = refl; apart = λ h. h; kept = λ h a big is. is }
+
+promote-gives : (addr : Addr) (m : Machine) → Gives 1 m (promote addr m).machine
+promote-gives addr m = by_option (live_entry_at addr m) (λ o. Gives 1 m (promoted_at o addr m).machine)
+    (λ is. dial-gives addr m)
+    (λ e is. cond_both (is_acquirable e.facts) (acquire e m) (dial addr m) (λ effect. Gives 1 m effect.machine)
+    (λ free. gives_more 0 1 m (acquire e m).machine (omega arith) (is_used-gives (acquired e.facts) e m)) (λ other. dial-gives addr m))
+
+-- ---- many orders
+
+-- the ids that an order may give
+abbrev pub ids_of : Order → ℕ
+ids_of (Promote addr) = 1
+ids_of other = 0
+
+carries-gives : (order : Order) (m : Machine) → Gives (ids_of order) m (carries_out order m).machine
+carries-gives (Ask addr number) m = on_entry-gives 0 (asks_peer number) (asks_peer-gives number) (find (is_used_at addr) m.connections) m
+carries-gives (Forget addr) m = peer_goes-gives addr m
+carries-gives (Promote addr) m = promote-gives addr m
+carries-gives (Release addr) m = on_entry-gives 0 release release-gives (find (is_used_at addr) m.connections) m
+carries-gives (Activate addr) m =
+    on_entry-gives 0 activates (λ e n. connections-gives (with_entry (owing 2 0 n e) n).connections n) (find (is_used_at addr) m.connections) m
+carries-gives (Deactivate addr) m =
+    on_entry-gives 0 deactivates (λ e n. changes-gives e.facts.addr (λ p. record p { temp = Warm }) n (λ p. refl) (λ p. refl)) (find (is_used_at addr) m.connections) m
+
+-- orders that give none
+pub still-gives : (order : Addr → Order) → ((addr : Addr) → ids_of (order addr) ≡ 0) → (addrs : List Addr) (m : Machine) →
+    Gives 0 m (for_each carries_out (map order addrs) m).machine
+unfolding for_each
+still-gives order none [] m = gives_nothing m
+still-gives order none (a ∷ addrs) m =
+    let n : Machine = (carries_out (order a) m).machine in
+    gives_then 0 0 m n (for_each carries_out (map order addrs) n).machine (subst (λ ids. Gives ids m n) (none a) (carries-gives (order a) m)) (still-gives order none addrs n)
+
+pub promotes-gives : (addrs : List Addr) (m : Machine) → Gives (length addrs) m (for_each carries_out (map Promote addrs) m).machine
+unfolding for_each
+promotes-gives [] m = gives_nothing m
+promotes-gives (a ∷ addrs) m =
+    let n : Machine = (promote a m).machine in
+    let o : Machine = (for_each carries_out (map Promote addrs) n).machine in
+    gives_more (1 + length addrs) (length (a ∷ addrs)) m o (omega arith)
+    (gives_then 1 (length addrs) m n o (promote-gives a m) (promotes-gives addrs n))

@@ -1,16 +1,70 @@
--- How many ids the rules give out: each peer is dialed once at most.
-use Rattle.std.proofs.Common.{ℕ, ◌+◌, ◌-◌, ◌≡◌, Bool, true, false, not, ◌&&◌, ◌||◌, List, [], ◌∷◌, ◌++◌, length, map, flat_map, sym, ap, ◌∙◌, subst, arith}
-use Rattle.laws.proofs.Words.{cond_both, and_parts, and_from, map-append}
-use Rattle.laws.specs.Words.{AllByRecursion, big_orders, is_eligible, may_be_deactivated, active_target, orders_for, is_not_local, is_member_and, members_count, g4_orders, g5_orders, g9_orders, B5, Order, Ask, Forget, Promote, Release, Activate, Deactivate, AskRoots, Addr, Group, Peer, active_of, is_of, is_established, is_listed, members_of, may_ask, asked, Machine, Effect, nothing_more, tells, then_do, for_each, release, link_of, view_of, asks_peer, activates, deactivates, carries_out, ordinary_rules, big_rules, rules, govern}
+-- How many ids the rules give out: distinct addresses of the book are no more than its peers, so each peer is dialed once at most.
+use Rattle.std.proofs.Common.{ℕ, ◌+◌, ◌≤◌, ◌≡◌, Bool, true, false, cond, not, ◌&&◌, List, [], ◌∷◌, length, count_by, Some, refl, ap, ◌∙◌, arith, ◌-◌, ◌||◌, ◌++◌, map, flat_map, sym, subst}
+use Rattle.laws.proofs.Words.{sum_by-cons, sum_by-filter_both, cond_both, and_parts, and_from, map-append}
+use Rattle.laws.specs.Words.{AllByRecursion, option_map, has_address, without_peer, same_address, Addr, Group, Peer, is_of, is_listed, members_of, big_orders, is_eligible, may_be_deactivated, active_target, orders_for, is_not_local, is_member_and, members_count, g4_orders, g5_orders, g9_orders, B5, Order, Ask, Forget, Promote, Release, Activate, Deactivate, AskRoots, active_of, is_established, may_ask, asked, Machine, Effect, nothing_more, tells, then_do, for_each, link_of, view_of, carries_out, ordinary_rules, big_rules, rules, govern}
+use Rattle.laws.specs.Steady.{ArePeersApart, AreApart, IsFormed, GivesFew}
+use Rattle.laws.proofs.Chosen.{chosen, chosen-all, chosen-apart, PicksMembers, picks-listed, groups_picks-apart, groups_picks-all, map-groups, group_picks}
+use Rattle.laws.proofs.Lists.{all-both, all-weaker}
+use Rattle.laws.proofs.Addresses.{same_address-true}
+use Rattle.laws.proofs.Spending.{class_at}
+use Rattle.laws.proofs.Ties.{taken-elsewhere}
 use Rattle.govern_rules.specs.Links.{is_pending as is_pending_link}
-use Rattle.laws.specs.Steady.{IsFormed, GivesFew, ArePeersApart, AreApart}
-use Rattle.laws.proofs.Chosen.{chosen, chosen-apart, PicksMembers, picks-listed, groups_picks-apart, groups_picks-all, map-groups, group_picks}
-use Rattle.laws.proofs.Lists.{all-both}
-use Rattle.laws.proofs.Ties.{found-addr}
 use Rattle.laws.proofs.Locals.{not_local-no_member}
-use Rattle.laws.proofs.Numbers.{Gains, Gives, gives_more, gives_nothing, gives_then, number_of, numbers_of}
-use Rattle.laws.proofs.NumbersOfOrders.{IsStill, activates-gives, asks_peer-gives, deactivates-gives, on_used-gives, peer_goes-gives, promotes-gives, release-gives, still-gives}
-use Rattle.laws.proofs.NumbersOfPicks.{IsFoundWith, chosen-found, distinct-number, is_big_one, is_local_one, is_other_one, kinds-number}
+use Rattle.laws.proofs.Numbers.{Gains, Gives, gives_more, gives_nothing, gives_then, numbers_of, ids_of, promotes-gives, still-gives}
+
+-- ---- distinct addresses, each found in the book, are no more than peers
+
+-- how many peers have an address and a class that pass a test
+abbrev pub number_of : (Addr → Bool → Bool) → List Peer → ℕ
+number_of test = count_by (λ p. test p.addr p.big)
+
+pub record IsFoundWith (test : Addr → Bool → Bool) (peers : List Peer) (a : Addr) : Type 0 where
+  pub big : Bool
+  pub found : class_at a peers ≡ Some big
+  pub passes : test a big ≡ true
+
+-- without the peer of such an address it is one less
+one_goes : (test : Addr → Bool → Bool) (a : Addr) (big : Bool) (ps : List Peer) → test a big ≡ true → class_at a ps ≡ Some big →
+    number_of test (without_peer a ps) + 1 ≤ number_of test ps
+one_goes test a big [] passes found = absurd cc
+one_goes test a big (q ∷ ps) passes found =
+    let one : Peer → ℕ = λ p. cond {A = ℕ} (test p.addr p.big) 1 0 in
+    let both = sum_by-filter_both (has_address a) (λ p. not (has_address a p)) (λ p. refl) one ps in
+    grind (arith, found, passes, same_address-true q.addr a, one_goes test a big ps passes, sum_by-cons one q ps, sum_by-cons one q (without_peer a ps), both)
+
+pub distinct-number : (test : Addr → Bool → Bool) (addrs : List Addr) (ps : List Peer) → AreApart addrs → AllByRecursion (IsFoundWith test ps) addrs →
+    length addrs ≤ number_of test ps
+distinct-number test [] ps apart found = omega arith
+distinct-number test (a ∷ addrs) ps apart found =
+    let others : AllByRecursion (IsFoundWith test (without_peer a ps)) addrs =
+    all-both (λ b. same_address b a ≡ false) (IsFoundWith test ps) (IsFoundWith test (without_peer a ps))
+    (λ b other h. record { big = h.big; found = ap (option_map (λ p. p.big)) (taken-elsewhere a b ps other) ∙ h.found; passes = h.passes }) addrs apart.0 found.1 in
+    omega (arith, one_goes test a found.0.big ps found.0.passes found.0.found, distinct-number test addrs (without_peer a ps) apart.1 others)
+
+-- ---- whom the rules pick
+
+-- a peer is a local one, another ordinary one, or a big ledger peer
+abbrev pub is_local_one : List Group → Addr → Bool → Bool
+is_local_one groups a big = not big && is_listed a (members_of groups)
+
+abbrev pub is_other_one : List Group → Addr → Bool → Bool
+is_other_one groups a big = not big && not (is_listed a (members_of groups))
+
+abbrev pub is_big_one : Addr → Bool → Bool
+is_big_one a big = big
+
+pub kinds-number : (groups : List Group) (ps : List Peer) →
+    number_of (is_local_one groups) ps + number_of (is_other_one groups) ps + number_of is_big_one ps ≤ length ps
+kinds-number groups [] = omega arith
+kinds-number groups (p ∷ ps) =
+    let counts : (Addr → Bool → Bool) → Peer → ℕ = λ test x. cond {A = ℕ} (test x.addr x.big) 1 0 in
+    grind (arith, kinds-number groups ps, sum_by-cons (counts (is_local_one groups)) p ps, sum_by-cons (counts (is_other_one groups)) p ps, sum_by-cons (counts is_big_one) p ps)
+
+-- whoever is picked is of a kind where the candidates are
+pub chosen-found : (kind : Addr → Bool → Bool) (big : Bool) (word number : ℕ) (test : Peer → Bool) (peers : List Peer) → ArePeersApart peers →
+    ((p : Peer) → (is_of big p && test p) ≡ true → kind p.addr p.big ≡ true) → AllByRecursion (IsFoundWith kind peers) (chosen big word number test peers)
+chosen-found kind big word number test peers apart gives =
+    chosen-all (IsFoundWith kind peers) big word number test peers apart (λ p h found. record { big = p.big; found = ap (option_map (λ q. q.big)) found; passes = gives p h })
 
 -- ---- each rule
 
@@ -39,50 +93,33 @@ kind-rule : (start : Machine) (kind : Addr → Bool → Bool) (addrs : List Addr
     Gives (given + number_of kind start.peers) start (for_each carries_out (map Promote addrs) m).machine
 kind-rule start kind addrs given m peers h apart found =
     let n : Machine = (for_each carries_out (map Promote addrs) m).machine in
-    let picks = distinct-number kind addrs m.peers apart found in
-    let fewer = h.fewer peers kind in
+    let known : AllByRecursion (IsFoundWith kind start.peers) addrs = all-weaker (IsFoundWith kind m.peers) (IsFoundWith kind start.peers)
+    (λ a x. record { big = x.big; found = h.kept peers a x.big x.found; passes = x.passes }) addrs found in
     gives_then given (number_of kind start.peers) start m n h
-    (gives_more (length addrs) (number_of kind start.peers) m n (omega (arith, picks, fewer)) (promotes-gives addrs m))
+    (gives_more (length addrs) (number_of kind start.peers) m n (distinct-number kind addrs start.peers apart known) (promotes-gives addrs m))
 
 g4-rule : (start : Machine) (word : ℕ) → ArePeersApart start.peers → AreApart (members_of start.groups) →
     DoesGive start (number_of (is_local_one start.groups) start.peers) (rules (λ m. g4_orders (view_of word m) m.peers m.groups))
 unfolding DoesGive
 g4-rule start word peers members given m h =
+    let kind : Addr → Bool → Bool = is_local_one start.groups in
+    let is_small : Addr → Bool → Bool = λ a big. not big in
+    let here : ArePeersApart m.peers = h.apart peers in
+    let groups : AreApart (members_of m.groups) = subst (λ gs. AreApart (members_of gs)) (sym h.groups) members in
+    let eligible : Peer → Bool = is_eligible m.now (map link_of m.connections) in
+    let number : Group → ℕ = λ g. g.warm - members_count g (λ p. is_established p.temp || is_pending_link (map link_of m.connections) p.addr) m.peers in
+    let pick : Group → List Addr = λ g. chosen false word (number g) (is_member_and g eligible) m.peers in
+    let picks : PicksMembers pick = group_picks word number eligible m.peers here in
     subst (λ orders. Gives (given + number_of kind start.peers) start (for_each carries_out orders m).machine) (sym (map-groups Promote pick m.groups))
     (kind-rule start kind (flat_map pick m.groups) given m peers h (groups_picks-apart pick m.groups picks groups)
     (all-both (λ a. is_listed a (members_of m.groups) ≡ true) (IsFoundWith is_small m.peers) (IsFoundWith kind m.peers)
     (λ a listed x. record {
-      peer = x.peer;
+      big = x.big;
       found = x.found;
-      passes = and_from (not x.peer.big) (is_listed x.peer.addr (members_of start.groups)) x.passes
-          (ap (λ b. is_listed b (members_of start.groups)) (found-addr a m.peers x.peer x.found) ∙ (ap (λ gs. is_listed a (members_of gs)) (sym h.groups) ∙ listed));
+      passes = and_from (not x.big) (is_listed a (members_of start.groups)) x.passes (ap (λ gs. is_listed a (members_of gs)) (sym h.groups) ∙ listed);
     }) (flat_map pick m.groups) (picks-listed pick m.groups picks)
     (groups_picks-all (IsFoundWith is_small m.peers) pick m.groups (λ g. chosen-found is_small false word (number g) (is_member_and g eligible) m.peers here
     (λ p passes. (and_parts (not p.big) (is_member_and g eligible p) passes).0)))))
-  where
-    kind : Addr → Bool → Bool
-    kind = is_local_one start.groups
-
-    is_small : Addr → Bool → Bool
-    is_small a big = not big
-
-    here : ArePeersApart m.peers
-    here = h.apart peers
-
-    groups : AreApart (members_of m.groups)
-    groups = subst (λ gs. AreApart (members_of gs)) (sym h.groups) members
-
-    eligible : Peer → Bool
-    eligible = is_eligible m.now (map link_of m.connections)
-
-    number : Group → ℕ
-    number g = g.warm - members_count g (λ p. is_established p.temp || is_pending_link (map link_of m.connections) p.addr) m.peers
-
-    pick : Group → List Addr
-    pick g = chosen false word (number g) (is_member_and g eligible) m.peers
-
-    picks : PicksMembers pick
-    picks = group_picks word number eligible m.peers here
 
 -- a rule by the targets
 class-rule : (start : Machine) (kind : Addr → Bool → Bool) (big : Bool) (word number : ℕ) (test : Peer → Bool) (given : ℕ) (m : Machine) →
@@ -95,63 +132,30 @@ class-rule start kind big word number test given m peers h gives =
 g5-rule : (start : Machine) (word : ℕ) → ArePeersApart start.peers →
     DoesGive start (number_of (is_other_one start.groups) start.peers) (rules (λ m. g5_orders (view_of word m) m.peers m.groups))
 unfolding DoesGive
-g5-rule start word peers given m h = class-rule start (is_other_one start.groups) false word _ _ given m peers h other
-  where
-    eligible : Peer → Bool
-    eligible = is_eligible m.now (map link_of m.connections)
-
-    other : (p : Peer) → (not p.big && (is_not_local m.groups p.addr && eligible p)) ≡ true → is_other_one start.groups p.addr p.big ≡ true
-    other p passes =
-        let parts = and_parts (not p.big) (is_not_local m.groups p.addr && eligible p) passes in
-        and_from (not p.big) (not (is_listed p.addr (members_of start.groups))) parts.0
-        (ap not (not_local-no_member p.addr start.groups
-        (subst (λ gs. is_not_local gs p.addr ≡ true) h.groups (and_parts (is_not_local m.groups p.addr) (eligible p) parts.1).0)))
+g5-rule start word peers given m h = class-rule start (is_other_one start.groups) false word _ _ given m peers h
+    (λ p passes. grind (arith, passes, h.groups, not_local-no_member p.addr start.groups))
 
 b5-rule : (start : Machine) (word : ℕ) → ArePeersApart start.peers →
     DoesGive start (number_of is_big_one start.peers) (rules (λ m. big_orders B5 (view_of word m) m.peers))
 unfolding DoesGive
-b5-rule start word peers given m h = class-rule start is_big_one true word _ _ given m peers h big
-  where
-    big : (p : Peer) → (p.big && is_eligible m.now (map link_of m.connections) p) ≡ true → p.big ≡ true
-    big p passes = (and_parts p.big (is_eligible m.now (map link_of m.connections) p) passes).0
+b5-rule start word peers given m h = class-rule start is_big_one true word _ _ given m peers h (λ p passes. grind (arith, passes))
 
 -- orders by the valencies that give no id
-groups-still : (order : Addr → Order) → IsStill order → (word : ℕ) (number : Group → ℕ) (test : Peer → Bool) (m : Machine) →
+groups-still : (order : Addr → Order) → ((addr : Addr) → ids_of (order addr) ≡ 0) → (word : ℕ) (number : Group → ℕ) (test : Peer → Bool) (m : Machine) →
     Gives 0 m (for_each carries_out (flat_map (λ g. orders_for false word order (number g) (is_member_and g test) m.peers) m.groups) m).machine
-groups-still order each word number test m =
+groups-still order none word number test m =
     let pick : Group → List Addr = λ g. chosen false word (number g) (is_member_and g test) m.peers in
-    subst (λ orders. Gives 0 m (for_each carries_out orders m).machine) (sym (map-groups order pick m.groups)) (still-gives order each (flat_map pick m.groups) m)
-
-deactivate-still : IsStill Deactivate
-deactivate-still addr m = on_used-gives addr deactivates deactivates-gives m
+    subst (λ orders. Gives 0 m (for_each carries_out orders m).machine) (sym (map-groups order pick m.groups)) (still-gives order none (flat_map pick m.groups) m)
 
 g9-gives : (word : ℕ) (m : Machine) → Gives 0 m (rules (λ o. g9_orders (view_of word o) o.peers o.groups) m).machine
 g9-gives word m =
-    subst (λ orders. Gives 0 m (for_each carries_out orders m).machine) same (still-gives Deactivate deactivate-still (beyond ++ flat_map members m.groups) m)
-  where
-    beyond : List Addr
-    beyond = chosen false word (active_of false m.peers - active_target false (view_of word m)) (λ p. is_not_local m.groups p.addr && may_be_deactivated p) m.peers
-
-    members : Group → List Addr
-    members g = chosen false word (members_count g may_be_deactivated m.peers - g.hot) (is_member_and g may_be_deactivated) m.peers
-
-    same : map Deactivate (beyond ++ flat_map members m.groups) ≡ g9_orders (view_of word m) m.peers m.groups
-    same = map-append Deactivate beyond (flat_map members m.groups)
-        ∙ ap (λ orders. map Deactivate beyond ++ orders) (sym (map-groups Deactivate members m.groups))
+    let beyond : List Addr = chosen false word (active_of false m.peers - active_target false (view_of word m)) (λ p. is_not_local m.groups p.addr && may_be_deactivated p) m.peers in
+    let members : Group → List Addr = λ g. chosen false word (members_count g may_be_deactivated m.peers - g.hot) (is_member_and g may_be_deactivated) m.peers in
+    let same : map Deactivate (beyond ++ flat_map members m.groups) ≡ g9_orders (view_of word m) m.peers m.groups = map-append Deactivate beyond (flat_map members m.groups)
+    ∙ ap (λ orders. map Deactivate beyond ++ orders) (sym (map-groups Deactivate members m.groups)) in
+    subst (λ orders. Gives 0 m (for_each carries_out orders m).machine) same (still-gives Deactivate (λ addr. refl) (beyond ++ flat_map members m.groups) m)
 
 -- ---- all rules
-
-forget-still : IsStill Forget
-forget-still addr m = peer_goes-gives addr m
-
-release-still : IsStill Release
-release-still addr m = on_used-gives addr release release-gives m
-
-activate-still : IsStill Activate
-activate-still addr m = on_used-gives addr activates activates-gives m
-
-ask-still : (number : ℕ) → IsStill (λ addr. Ask addr number)
-ask-still number addr m = on_used-gives addr (asks_peer number) (asks_peer-gives number) m
 
 -- what the rules for a class may give in all
 abbrev ordinary_ids : Machine → ℕ
@@ -164,22 +168,22 @@ big_ids start = 0 + (number_of is_big_one start.peers + (0 + (0 + (0 + 0))))
 ordinary-give : (start : Machine) (word : ℕ) → ArePeersApart start.peers → AreApart (members_of start.groups) →
     DoesGive start (ordinary_ids start) (for_each rules (ordinary_rules word))
 ordinary-give start word peers members =
-    rule_then start _ _ _ _ (still-rule start _ (λ m. still-gives (λ addr. Ask addr _) (ask-still _) _ m))
-    (rule_then start _ _ _ _ (still-rule start _ (λ m. still-gives Forget forget-still _ m))
+    rule_then start _ _ _ _ (still-rule start _ (λ m. still-gives (λ addr. Ask addr _) (λ addr. refl) _ m))
+    (rule_then start _ _ _ _ (still-rule start _ (λ m. still-gives Forget (λ addr. refl) _ m))
     (rule_then start _ _ _ _ (g4-rule start word peers members)
     (rule_then start _ _ _ _ (g5-rule start word peers)
-    (rule_then start _ _ _ _ (still-rule start _ (λ m. still-gives Release release-still _ m))
-    (rule_then start _ _ _ _ (still-rule start _ (λ m. groups-still Activate activate-still word _ _ m))
-    (rule_then start _ _ _ _ (still-rule start _ (λ m. still-gives Activate activate-still _ m))
+    (rule_then start _ _ _ _ (still-rule start _ (λ m. still-gives Release (λ addr. refl) _ m))
+    (rule_then start _ _ _ _ (still-rule start _ (λ m. groups-still Activate (λ addr. refl) word _ _ m))
+    (rule_then start _ _ _ _ (still-rule start _ (λ m. still-gives Activate (λ addr. refl) _ m))
     (rule_then start _ _ _ _ (still-rule start _ (g9-gives word)) (no_rules start))))))))
 
 big-give : (start : Machine) (word : ℕ) → ArePeersApart start.peers → DoesGive start (big_ids start) (for_each rules (big_rules word))
 big-give start word peers =
-    rule_then start _ _ _ _ (still-rule start _ (λ m. still-gives Forget forget-still _ m))
+    rule_then start _ _ _ _ (still-rule start _ (λ m. still-gives Forget (λ addr. refl) _ m))
     (rule_then start _ _ _ _ (b5-rule start word peers)
-    (rule_then start _ _ _ _ (still-rule start _ (λ m. still-gives Release release-still _ m))
-    (rule_then start _ _ _ _ (still-rule start _ (λ m. still-gives Activate activate-still _ m))
-    (rule_then start _ _ _ _ (still-rule start _ (λ m. still-gives Deactivate deactivate-still _ m)) (no_rules start)))))
+    (rule_then start _ _ _ _ (still-rule start _ (λ m. still-gives Release (λ addr. refl) _ m))
+    (rule_then start _ _ _ _ (still-rule start _ (λ m. still-gives Activate (λ addr. refl) _ m))
+    (rule_then start _ _ _ _ (still-rule start _ (λ m. still-gives Deactivate (λ addr. refl) _ m)) (no_rules start)))))
 
 -- from a record on in which all other rules start
 pub rules-give : (word : ℕ) (m : Machine) → ArePeersApart m.peers → AreApart (members_of m.groups) →

@@ -1,8 +1,7 @@
 -- The orders of each rule may be carried out, one after the other: each is due, and there are ids left, since all of them together
 -- give out few.
-use Rattle.std.proofs.Common.{ℕ, ◌+◌, ◌^◌, ◌≤◌, ◌≡◌, true, not, ◌||◌, List, [], ◌∷◌, ◌++◌, IsSomeAnd, refl, sym, subst, arith}
-use Rattle.laws.proofs.Words.{cond_both}
-use Rattle.laws.specs.Words.{Effect, Cold, is_acquirable, may_ask, Order, Ask, Forget, Promote, Release, Machine, counted_in, for_each, peer_at, carries_out, asks_roots, ordinary_rules, big_rules, rules}
+use Rattle.std.proofs.Common.{ℕ, ◌+◌, ◌^◌, ◌≤◌, ◌≡◌, true, not, ◌||◌, List, [], ◌∷◌, ◌++◌, IsSomeAnd, sym, subst, arith, ap}
+use Rattle.laws.specs.Words.{Effect, Cold, is_acquirable, Order, Ask, Forget, Promote, Release, Machine, counted_in, for_each, peer_at, carries_out, asks_roots, ordinary_rules, big_rules, rules}
 use Rattle.laws.specs.Acts.{orders_of}
 use Rattle.laws.specs.AtMoves.{some_connection}
 use Rattle.laws.specs.OrderNeeds.{MayGovern, MayCarry, MayAll, MayFollow}
@@ -16,6 +15,7 @@ use Rattle.laws.proofs.Ordering.{EachDue}
 use Rattle.laws.proofs.Orders.{EachAccounted}
 use Rattle.laws.proofs.Promotions.{free-may}
 use Rattle.laws.proofs.WaitsOfParts.{order-waits}
+use Rattle.laws.proofs.RootsAsked.{roots-set}
 
 -- ---- what an order needs
 
@@ -72,9 +72,6 @@ all-follow each m h due few = follow each m (all-may (orders_of each m) m h due 
 
 -- ---- the governor
 
-asks_roots-ids : (m : Machine) → (asks_roots m).machine.next_id ≡ m.next_id
-asks_roots-ids m = cond_both (may_ask m.now m.targets.root m.roots) _ _ (λ (effect : Effect). effect.machine.next_id ≡ m.next_id) (λ too_few. refl) (λ enough. refl)
-
 -- In order and within the limit, with ids left, all orders may be carried out.
 pub govern-may : (word : ℕ) (m : Machine) → IsOrdered m → counted_in m ≤ m.settings.hard → m.next_id + 60000 ≤ 2 ^ 48 → MayGovern word m
 govern-may word m h within room =
@@ -82,7 +79,7 @@ govern-may word m h within room =
     let o : Machine = (for_each rules (ordinary_rules word) n).machine in
     let g : Governs word m = governs word m h within in
     let formed = (asks_roots-keeps m h).ordered.formed in
-    let same : n.next_id ≡ m.next_id = asks_roots-ids m in
+    let same : n.next_id ≡ m.next_id = ap (λ x. x.next_id) (roots-set m) in
     let given = (rules-give word n formed.peers formed.groups).id in
     let most : (for_each rules (big_rules word) o).machine.next_id ≤ 2 ^ 48 = omega (arith, given, formed.room, same, room) in
     let later : o.next_id ≤ (for_each rules (big_rules word) o).machine.next_id =

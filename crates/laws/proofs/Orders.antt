@@ -5,7 +5,6 @@ use Rattle.laws.specs.Words.{AllByRecursion, same_address, Addr, Facts, Peer, Co
 use Rattle.laws.specs.AtMoves.{IsReady, IsLawful, is_up_connection, is_up, is_hot_peer, is_asked_connection, is_hot_or_asked, is_known, promotes, activates as activation, shares}
 use Rattle.laws.specs.Steady.{AreTied, TiedBy, IsTied, IsOrdered}
 use Rattle.laws.proofs.Addresses.{same_address-true}
-use Rattle.laws.proofs.Books.{book_of, filter-book}
 use Rattle.laws.proofs.Chain.{then_assoc}
 use Rattle.laws.proofs.Counts.{counted_of}
 use Rattle.laws.proofs.Effects.{one_if-not_counted}
@@ -16,7 +15,7 @@ use Rattle.laws.proofs.Moves.{turned-counts}
 use Rattle.laws.proofs.Lists.{StandsAt, FoundIn, stands-set, find_some}
 use Rattle.laws.proofs.Ordinary.{taken-classes}
 use Rattle.laws.proofs.Owing.{OwesNothing, with_reply-some}
-use Rattle.laws.proofs.PeersApart.{same_turned}
+use Rattle.laws.proofs.PeersApart.{same_turned, book_of, filter-book}
 use Rattle.laws.proofs.Rises.{rises_said, rises_nowhere, turned-down, taken-hot, taken-known}
 use Rattle.laws.proofs.Telling.{told_then, told_move}
 use Rattle.laws.proofs.ToldMoves.{turned-told, peer_goes-told, turns_at-connections}
@@ -322,7 +321,7 @@ releasing-carried addr m e k u may =
       counted = by_bool (is_counted new.facts) (λ b. (b ≡ false → b ≡ true) → b ≡ true)
           (λ is gives. refl) (λ is gives. gives refl)
           (λ none. let zero : counted_of new ≡ 0 = one_if-not_counted new.facts none in
-          absurd (omega (arith, over, alike, counts.0, limit, within, zero)));
+          absurd (omega (arith, over, alike, counts.counted, limit, within, zero)));
     }) in
     subst (Trimmed IsLawful m) (then_assoc (entry_turns e new m) (peer_becomes Cold e.facts.addr) (trim e.facts.cid))
     (raised_then_trimmed IsLawful m (then_do (entry_turns e new m) (peer_becomes Cold e.facts.addr)) (trim e.facts.cid) raised

@@ -1,45 +1,32 @@
 -- What is owed on a connection, through each change of it.
-use Rattle.std.proofs.Common.{ℕ, ◌+◌, ◌<◌, ◌≡◌, Bool, true, false, cond, not, ◌||◌, ◌==◌, nat_lt, List, [], ◌∷◌, ◌++◌, filter, find, is_some, Some, All, AllPairs, refl, sym, ap, ◌∙◌, subst, arith, ltb-true}
+use Rattle.std.proofs.Common.{ℕ, ◌+◌, ◌<◌, ◌≡◌, Bool, true, false, not, ◌==◌, nat_lt, List, [], ◌∷◌, ◌++◌, filter, find, is_some, All, AllPairs, refl, sym, ap, ◌∙◌, subst, arith, ltb-true}
 use Rattle.laws.proofs.Words.{both_ways, false≢true, All-nil, All-head, All-tail, All-cons, All-filter, All-append, All-weaker, filter_passes, AllPairs-cons, AllPairs-filter}
 use Rattle.laws.specs.Words.{agreed_sharing, Machine, Entry, Owed, with_reply, without_reply, reply_on, owing, paid, is_owed_on}
 use Rattle.laws.specs.Steady.{IsOwing}
-use Rattle.laws.proofs.Lists.{AllPairs-head, AllPairs-tail}
-use Rattle.laws.proofs.Cases.{by_bool}
+use Rattle.laws.proofs.Finds.{find-none_passes}
+use Rattle.laws.proofs.Lists.{AllPairs-head, AllPairs-tail, find_none}
+use Rattle.laws.proofs.Cases.{by_bool, by_option}
 
 -- ---- which replies are found
 
-some_filter : {X : Type 0} (q r : X → Bool) (xs : List X) → is_some (find q (filter r xs)) ≡ true → is_some (find q xs) ≡ true
-some_filter q r [] h = h
-some_filter {X} q r (x ∷ xs) h = by_bool (r x)
-    (λ b. is_some (find q (cond b (x ∷ filter r xs) (filter r xs))) ≡ true → (is_some (find q (filter r xs)) ≡ true → is_some (find q xs) ≡ true) → is_some (find q (x ∷ xs)) ≡ true)
-    (λ is h later. by_bool (q x)
-    (λ b. is_some (cond b (Some x) (find q (filter r xs))) ≡ true → (is_some (find q (filter r xs)) ≡ true → is_some (find q xs) ≡ true) → is_some (cond b (Some x) (find q xs)) ≡ true)
-    (λ is h later. refl) (λ is h later. later h) h later) (λ is h later. by_bool (q x)
-    (λ b. is_some (find q xs) ≡ true → is_some (cond b (Some x) (find q xs)) ≡ true)
-    (λ is rest. refl) (λ is rest. rest) (later h)) h (some_filter q r xs)
-
-some_append : {X : Type 0} (Z : Type 0) (q : X → Bool) (xs ys : List X) → (is_some (find q xs) ≡ true → Z) → (is_some (find q ys) ≡ true → Z) →
-    is_some (find q (xs ++ ys)) ≡ true → Z
-some_append Z q [] ys front behind h = behind h
-some_append {X} Z q (x ∷ xs) ys front behind h = by_bool (q x)
-    (λ b. (is_some (cond b (Some x) (find q xs)) ≡ true → Z) → is_some (cond b (Some x) (find q (xs ++ ys))) ≡ true →
-    ((is_some (find q xs) ≡ true → Z) → (is_some (find q ys) ≡ true → Z) → is_some (find q (xs ++ ys)) ≡ true → Z) → Z)
-    (λ is front h later. front refl) (λ is front h later. later front behind h) front h (some_append Z q xs ys)
+-- where each fails if each did before, whatever is found was found before
+some-before : (q : Owed → Bool) (xs ys : List Owed) → (All (λ o. q o ≡ false) xs → All (λ o. q o ≡ false) ys) → is_some (find q ys) ≡ true → is_some (find q xs) ≡ true
+some-before q xs ys fails h = by_option (find q xs) (λ o. is_some o ≡ true)
+    (λ none. sym (ap is_some (find-none_passes q ys (fails (find_none q xs none)))) ∙ h) (λ o is. refl)
 
 -- a reply of another kind than the one that comes to be owed was owed before it
 pub with_reply-some : (q : Owed → Bool) (new : Owed) (owed : List Owed) → q new ≡ false →
     is_some (find q (with_reply new owed)) ≡ true → is_some (find q owed) ≡ true
-with_reply-some q new owed other h =
-    some_append (is_some (find q owed) ≡ true) q
-    (filter (λ o. nat_lt o.protocol new.protocol) owed) (new ∷ filter (λ o. nat_lt new.protocol o.protocol) owed)
-    (some_filter q (λ o. nat_lt o.protocol new.protocol) owed) (λ found. by_bool (q new)
-    (λ b. b ≡ false → is_some (cond b (Some new) (find q (filter (λ o. nat_lt new.protocol o.protocol) owed))) ≡ true → is_some (find q owed) ≡ true)
-    (λ is other found. absurd (false≢true (sym other)))
-    (λ is other found. some_filter q (λ o. nat_lt new.protocol o.protocol) owed found) other found) h
+with_reply-some q new owed other =
+    let fails : Owed → Type 0 = λ o. q o ≡ false in
+    let before : Owed → Bool = λ o. nat_lt o.protocol new.protocol in
+    let behind : Owed → Bool = λ o. nat_lt new.protocol o.protocol in
+    some-before q owed (with_reply new owed) (λ all. All-append fails (filter before owed) (new ∷ filter behind owed) (All-filter before fails owed all)
+    (All-cons fails new (filter behind owed) other (All-filter behind fails owed all)))
 
 -- and so was one that is owed once another was paid
 pub paid-some : (q : Owed → Bool) (protocol : ℕ) (owed : List Owed) → is_some (find q (without_reply protocol owed)) ≡ true → is_some (find q owed) ≡ true
-paid-some q protocol owed h = some_filter q (λ o. not (o.protocol == protocol)) owed h
+paid-some q protocol owed = some-before q owed (without_reply protocol owed) (All-filter (λ o. not (o.protocol == protocol)) (λ o. q o ≡ false) owed)
 
 -- ---- where nothing is owed
 
@@ -60,21 +47,14 @@ pub record OwesNothing (e : Entry) : Type 0 where
 pub nothing_owed : (e : Entry) → IsOwing e → OwesNothing e → e.owed ≡ []
 nothing_owed e h none = by_list e.owed refl
   where
-    found : (a : Bool) (o : Owed) (owed : List Owed) (n : ℕ) → (o.protocol == n) ≡ a → is_some (find (λ q. q.protocol == n) (o ∷ owed)) ≡ false → a ≡ false
-    found true o owed n is none = absurd (false≢true (sym none ∙ ap (λ b. is_some (cond b (Some o) (find (λ q. q.protocol == n) owed))) is))
-    found false o owed n is none = refl
-
     by_list : (owed : List Owed) → e.owed ≡ owed → e.owed ≡ []
     by_list [] is = is
     by_list (o ∷ owed) is =
         let first : is_owed_on o.protocol ≡ true = All-head (λ q. is_owed_on q.protocol ≡ true) o owed
         (subst (All (λ q. is_owed_on q.protocol ≡ true)) is h.protocols) in
-        let on : (n : ℕ) → is_some (reply_on n e) ≡ false → (o.protocol == n) ≡ false =
-        λ n free. found (o.protocol == n) o owed n refl (ap (λ list. is_some (find (λ q. q.protocol == n) list)) (sym is) ∙ free) in
-        absurd (false≢true (sym (none_of (o.protocol == 2) (o.protocol == 8) (o.protocol == 10) (on 2 none.on_2) (on 8 none.on_8) (on 10 none.on_10)) ∙ first))
-      where
-        none_of : (a b c : Bool) → a ≡ false → b ≡ false → c ≡ false → (a || b || c) ≡ false
-        none_of a b c x y z = rw (x, y, z) refl
+        let on : (n : ℕ) → is_some (reply_on n e) ≡ false → is_some (find (λ q. q.protocol == n) (o ∷ owed)) ≡ false =
+        λ n free. ap (λ list. is_some (find (λ q. q.protocol == n) list)) (sym is) ∙ free in
+        absurd (grind (arith, first, on 2 none.on_2, on 8 none.on_8, on 10 none.on_10))
 
 -- ---- changes
 
@@ -135,10 +115,6 @@ owing-owing protocol asked m e known local sharing h =
           (All-cons fits new (filter above e.owed) known (All-filter above fits e.owed h.protocols));
       rises = with_reply-rises new e.owed h.rises;
       used = λ unused. absurd (both_ways e.facts.local unused local);
-      shares = λ found. by_protocol (protocol == 10) refl found;
+      shares = λ found. by_bool (protocol == 10) (λ b. agreed_sharing e.facts.agreed ≡ true) sharing
+          (λ other. h.shares (with_reply-some (λ o. o.protocol == 10) new e.owed other found));
     }
-  where
-    by_protocol : (b : Bool) → (protocol == 10) ≡ b → is_some (reply_on 10 (owing protocol asked m e)) ≡ true → agreed_sharing e.facts.agreed ≡ true
-    by_protocol true is found = sharing is
-    by_protocol false is found =
-        h.shares (with_reply-some (λ o. o.protocol == 10) (record { protocol = protocol; until = m.now + m.settings.reply; asked = asked }) e.owed is found)

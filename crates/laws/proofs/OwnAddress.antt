@@ -1,9 +1,8 @@
 -- The own address is neither a member of the groups, nor a public root peer, nor taken of what a peer told, nor wanted
 -- as that of a big ledger peer.
-use Rattle.std.proofs.Common.{ℕ, ◌≡◌, Bool, true, false, ◌&&◌, not, nat_lt, is_some, List, [], ◌∷◌, All}
-use Rattle.laws.proofs.Words.{and_parts, or_parts, not-true, All-weaker, All-take, All-from_recursion, taken_are_new}
-use Rattle.laws.specs.Words.{same_address, Addr, Group, Peer, Settings, is_not_local, known_of, Machine, peer_at, is_wanted_big, effective_big_of, is_listed, first_places, cleaned, members_of, publics_of, fits_version, is_new, fresh_of}
-use Rattle.peer_book.specs.Book.{peer_at as peer_in}
+use Rattle.std.proofs.Common.{ℕ, ◌≡◌, true, false, arith, List, [], ◌∷◌, All, arith}
+use Rattle.laws.proofs.Words.{or_parts, All-weaker, All-take, All-from_recursion, taken_are_new}
+use Rattle.laws.specs.Words.{same_address, Addr, Group, Peer, Settings, Machine, is_wanted_big, is_listed, first_places, cleaned, members_of, publics_of, is_new, fresh_of}
 use Rattle.laws.specs.Laws.{is_local}
 use Rattle.laws.proofs.GroupsApart.{NoneListed, first_places-none, cleaned-none}
 use Rattle.laws.proofs.Locals.{not_local-no_member}
@@ -27,27 +26,12 @@ publics-other settings target addrs =
 
 pub taken-other : (settings : Settings) (target : ℕ) (peers : List Peer) (told : List Addr) →
     All (IsOther settings) (fresh_of settings.own target settings.version peers told)
-taken-other settings target peers told = All-weaker (λ a. is_new settings.own settings.version peers a ≡ true) (IsOther settings) each
+taken-other settings target peers told = All-weaker (λ a. is_new settings.own settings.version peers a ≡ true) (IsOther settings) (λ a h. grind (arith, h))
     (fresh_of settings.own target settings.version peers told) (taken_are_new settings.own target settings.version peers told)
-  where
-    each : (a : Addr) → is_new settings.own settings.version peers a ≡ true → IsOther settings a
-    each a h =
-        let fits = and_parts (fits_version settings.version a && not (same_address a settings.own)) (not (is_some (peer_in a peers))) h in
-        not-true (same_address a settings.own) (and_parts (fits_version settings.version a) (not (same_address a settings.own)) fits.0).1
 
 -- neither is the address of a local peer
-wanted_parts : (addr : Addr) (m : Machine) → is_wanted_big addr m ≡ true →
-    (not (same_address addr m.settings.own) ≡ true) × (is_not_local m.groups addr ≡ true)
-wanted_parts addr m h =
-    let own : Bool = not (same_address addr m.settings.own) in
-    let known : Bool = not (is_some (peer_at addr m)) in
-    let local : Bool = is_not_local m.groups addr in
-    let room = and_parts (own && known && local) (nat_lt (known_of true m.peers) (effective_big_of m.big_targets m.now).known) h in
-    let parts = and_parts (own && known) local room.0 in
-    ((and_parts own known parts.0).0, parts.1)
-
 pub wanted-other : (addr : Addr) (m : Machine) → is_wanted_big addr m ≡ true → IsOther m.settings addr
-wanted-other addr m h = not-true (same_address addr m.settings.own) (wanted_parts addr m h).0
+wanted-other addr m h = grind (arith, h)
 
 pub wanted-not_local : (addr : Addr) (m : Machine) → is_wanted_big addr m ≡ true → is_local m.groups addr ≡ false
-wanted-not_local addr m h = not_local-no_member addr m.groups (wanted_parts addr m h).1
+wanted-not_local addr m h = not_local-no_member addr m.groups (grind (arith, h))

@@ -1,6 +1,6 @@
 -- The parts of each event are lawful.
 use Rattle.std.proofs.Common.{ℕ, zero, suc, ◌≤◌, ◌≡◌, Bool, true, false, ◌||◌, nat_le, if◌then◌else◌, List, [], ◌∷◌, ◌++◌, map, length, refl, sym, ap, subst, arith}
-use Rattle.laws.proofs.Words.{or_left, or_right, false≢true}
+use Rattle.laws.proofs.Words.{or_left, or_right, false≢true, All-from_recursion}
 use Rattle.laws.specs.Words.{AllByRecursion, has_id, is_live, is_greeting, is_negotiated, Order, FedBy, Item, same_address, Addr, Cid, Event, Now, Govern, Accepted, Dialed, Bytes, Closed, Aims, Locals, Roots, BigAims, Bigs, Group, RootAnswer, Found, Failed, is_listed, cleaned, members_of, awaits, publics_of, found, with_entry, entry_turns, deadlines, due, fires, Effect, for_each, carries_out, asks_roots, ordinary_rules, big_rules, rules, Machine, Entry, counted_in, entry_at, peer_is_ordinary, comes_ordinary, comes_big, handles}
 use Rattle.laws.specs.Acts.{Act, shows, fires_one, asks_for_roots, carries, connects, ends_dial, stores, handles_item, ends_stream, is_closed, sets_targets, sets_big_targets, sets_groups, sets_roots, makes_ordinary, provides, provides_big, does, fired_from, fired, orders_of, acts_at_moment, acts_fed, acts_of_bytes, acts_of_answer, acts, parts_of}
 use Rattle.laws.specs.AtMoves.{IsLawful, is_known, is_provided_by, fed_on}
@@ -18,8 +18,7 @@ use Rattle.laws.proofs.Arrivals.{cleaned-listed, publics-listed, comes-known}
 use Rattle.laws.proofs.Governing.{Governs, governs}
 use Rattle.laws.proofs.Keeping.{Keeps}
 use Rattle.laws.proofs.Lawful.{quiet-obeys, elsewhere-quiet, changes-quiet, comes-providing, stands-found, turns-obeys}
-use Rattle.laws.proofs.Lists.{StandsAt, find_some, all-placed, all-weaker}
-use Rattle.laws.proofs.Open.{IsOpen, turned-open, handles-open}
+use Rattle.laws.proofs.Lists.{StandsAt, find_some, all-weaker}
 use Rattle.laws.proofs.Ordering.{EachDue}
 use Rattle.laws.proofs.Orders.{EachAccounted}
 use Rattle.laws.proofs.PartMoves.{accounted-part, providing-part, AreLawful, no_part, first_part, one_part, more_parts, Tells, accounted_by}
@@ -29,6 +28,7 @@ use Rattle.laws.proofs.Trims.{Trimmed, trimmed-within}
 use Rattle.laws.proofs.WholeEvents.{ordered_of, formed_at_moment, fires-keeps}
 use Rattle.laws.proofs.WholeMoves.{decodes-keeps}
 use Rattle.laws.proofs.Cases.{by_bool, by_option}
+use Rattle.laws.proofs.Items.{IsOpen, turned-open, handles-open}
 
 -- ---- the clock
 
@@ -216,7 +216,7 @@ event-lawful m event h =
     let all : AreLawful event (acts m event) m = parts-lawful m event h in
     record {
       parts = parts-chain m event;
-      each = all-placed (IsLawfulPart event) (parts_of m event) all.each;
+      each = All-from_recursion (IsLawfulPart event) (parts_of m event) all.each;
       accounted = subst (IsAccounted event m) (sym (parts-chain m event)) (accounted_by event m (for_each does (acts m event) m) all.tells all.ends);
       speaks = subst (Speaks m) (sym (parts-chain m event)) all.speaks;
       moves = moves-lawful m event h;

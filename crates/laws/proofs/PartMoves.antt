@@ -1,26 +1,24 @@
 -- Each part of an event is lawful.
-use Rattle.std.proofs.Common.{ℕ, ◌≡◌, ◌≤◌, Bool, true, false, not, ◌&&◌, ◌||◌, ◌==◌, List, [], ◌∷◌, ◌++◌, Option, Some, None, refl, sym, subst, arith, nat_lt}
-use Rattle.laws.proofs.Words.{false≢true, both_ways, and_parts, or_left, or_right, list_any-append}
-use Rattle.laws.specs.Words.{AllByRecursion, Addr, Phase, Negotiated, Closing, Event, is_negotiated_phase, live_phase, Effect, for_each, nothing_more, then_do, Machine, Entry, entry_at}
+use Rattle.std.proofs.Common.{ℕ, ◌≡◌, ◌≤◌, Bool, true, false, ◌||◌, ◌==◌, List, [], ◌∷◌, ◌++◌, Option, sym, subst, arith, nat_lt}
+use Rattle.laws.proofs.Words.{false≢true, or_left, list_any-append}
+use Rattle.laws.specs.Words.{AllByRecursion, Addr, Event, Effect, for_each, nothing_more, then_do, Machine, Entry, entry_at}
 use Rattle.laws.specs.Acts.{Act, ends_dial, is_closed, does, parts_from}
 use Rattle.laws.specs.AtMoves.{is_negotiated_entry, is_negotiated_at, is_ended_in, is_closed_by, is_up, is_hot_or_asked, is_known, promotes, activates, is_shared_in, is_provided_by, shares}
 use Rattle.laws.specs.OpenEnds.{is_open_entry, is_open_at, is_dialing_entry, goes_by_itself}
 use Rattle.laws.specs.CarriedOut.{IsDoneByOrder}
 use Rattle.laws.specs.Parts.{IsNext, IsDone, EndsOnce, IsAccounted, IsLawfulPart, RisesBy, Arrives}
 use Rattle.laws.specs.Sends.{Speaks}
-use Rattle.laws.specs.Stages.{stage_of_phase, stage_of, stage_at}
+use Rattle.laws.specs.Stages.{stage_of, stage_at}
 use Rattle.laws.specs.Telling.{IsTold}
 use Rattle.laws.proofs.CarriedOut.{treats-book, pauses-right}
 use Rattle.laws.proofs.Lawful.{Accounts, IsProviding, obeys_nothing}
 use Rattle.laws.proofs.Admitted.{admits-right}
-use Rattle.laws.proofs.Agreed.{agrees-right}
 use Rattle.laws.proofs.BackOff.{treats, forgives}
 use Rattle.laws.proofs.Begun.{over-after, waits-begin}
 use Rattle.laws.proofs.Goes.{goes-where}
 use Rattle.laws.proofs.Heats.{heats-up}
 use Rattle.laws.proofs.Known.{keeps-known}
 use Rattle.laws.proofs.Lingers.{lingers}
-use Rattle.laws.proofs.Responders.{responds-right}
 use Rattle.laws.proofs.OpenEnds.{StaysOr, stays_then, stays-of, opens-once, ended_once}
 use Rattle.laws.proofs.RootsAsked.{asks-right}
 use Rattle.laws.proofs.Sends.{sends-right}
@@ -28,39 +26,25 @@ use Rattle.laws.proofs.Served.{answers-right}
 use Rattle.laws.proofs.Telling.{told_then}
 use Rattle.laws.proofs.Pruning.{ends-rightly}
 use Rattle.laws.proofs.Walk.{Finds}
-use Rattle.laws.proofs.Shapes.{dialing-unnegotiated}
-use Rattle.laws.proofs.WholeMoves.{negotiated-live}
 use Rattle.laws.proofs.WaitsOfParts.{waits-right, leaves-rest, is-set}
-use Rattle.laws.proofs.Rises.{NoneConnected, or_each, hot_or_asked-down, rises_nowhere, same-connected, rises_by_then}
+use Rattle.laws.proofs.Rises.{NoneConnected, hot_or_asked-down, rises_nowhere, same-connected, rises_by_then}
 use Rattle.laws.proofs.Chain.{each_appended}
 use Rattle.laws.proofs.Speaks.{speaks-right, speaks_then}
+use Rattle.laws.proofs.Items.{agrees-right, responds-right}
 
 -- ---- who was negotiated before it
 
 negotiated-stage : (o : Option Entry) (given : Bool) → is_negotiated_entry o ≡ true → stage_of o given ≡ 3
-negotiated-stage None given h = absurd (false≢true h)
-negotiated-stage (Some e) given h = by_phase e.facts.phase h
-  where
-    by_phase : (p : Phase) → is_negotiated_phase p ≡ true → stage_of_phase p ≡ 3
-    by_phase Negotiated h = refl
-    by_phase other h = absurd (false≢true h)
+negotiated-stage o given h = grind (arith, h)
 
 still-negotiated : (o : Option Entry) (given : Bool) → is_open_entry o ≡ true → 3 ≤ stage_of o given → is_negotiated_entry o ≡ true
-still-negotiated None given there far = absurd (false≢true there)
-still-negotiated (Some e) given there far = by_phase e.facts.phase there far
-  where
-    by_phase : (p : Phase) → live_phase p ≡ true → 3 ≤ stage_of_phase p → is_negotiated_phase p ≡ true
-    by_phase Negotiated live far = refl
-    by_phase (Closing until) live far = absurd (false≢true live)
-    by_phase other live far = absurd (omega (arith, far))
+still-negotiated o given there far = grind (arith, there, far)
 
 negotiated-open : (o : Option Entry) → is_negotiated_entry o ≡ true → is_open_entry o ≡ true
-negotiated-open None h = h
-negotiated-open (Some e) h = negotiated-live e.facts.phase h
+negotiated-open o h = grind (arith, h)
 
 undone-dial : (o : Option Entry) → is_dialing_entry o ≡ true → is_negotiated_entry o ≡ false
-undone-dial None h = refl
-undone-dial (Some e) h = dialing-unnegotiated e.facts.phase h
+undone-dial o h = grind (arith, h)
 
 -- whoever was negotiated stays so, or is ended or closed
 abbrev pub EndsKnown : Event → Machine → Effect → Type 0
@@ -84,16 +68,12 @@ ends-known event act m closes next found told cid before =
     itself : (a : Act) → ClosesBy a event → goes_by_itself a m cid ≡ true → is_closed_by cid event ≡ true
     itself (is_closed own) closes goes = closes cid goes
     itself (ends_dial own opened) closes goes =
-        let fails = and_parts (own.0 == cid) (not opened && is_dialing_entry (entry_at cid m)) goes in
-        let dials = and_parts (not opened) (is_dialing_entry (entry_at cid m)) fails.1 in
-        absurd (both_ways (is_negotiated_at cid m) (undone-dial (entry_at cid m) dials.1) before)
+        grind (arith, goes, before, undone-dial (entry_at cid m))
     itself other closes goes = absurd (false≢true goes)
 
     by_open : (there ended goes : Bool) → (there ≡ true → is_negotiated_at cid (does act m).machine ≡ true) → (goes ≡ true → is_closed_by cid event ≡ true) →
         (there || (ended || goes)) ≡ true → (is_negotiated_at cid (does act m).machine || (ended || is_closed_by cid event)) ≡ true
-    by_open true ended goes still closed h = or_left (is_negotiated_at cid (does act m).machine) (ended || is_closed_by cid event) (still refl)
-    by_open false ended goes still closed h =
-        or_right (is_negotiated_at cid (does act m).machine) (ended || is_closed_by cid event) (or_each ended goes ended (is_closed_by cid event) (λ is. is) closed h)
+    by_open there ended goes still closed h = grind (arith, still, closed, h)
 
 ends-once : (event : Event) (m : Machine) (effect : Effect) → IsTold m effect → EndsKnown event m effect → EndsOnce event m effect
 ends-once event m effect told accounted cid before =
@@ -120,20 +100,10 @@ tells_then event m first next one two = record {
   told = told_then m first next one.told two.told;
   promotions = rises_by_then is_up promotes m first next one.promotions two.promotions;
   activations = rises_by_then is_hot_or_asked activates m first next one.activations two.activations;
-  arrivals = λ addr known. subst (λ b. (is_known addr m || b || is_provided_by addr event) ≡ true)
-      (sym (list_any-append (λ move. shares addr move.happened) first.moves second.moves))
-      (arrived (is_known addr m) (is_shared_in addr first.moves) (is_provided_by addr event) (is_known addr first.machine) (is_shared_in addr second.moves)
-      (one.arrivals addr) (two.arrivals addr known));
+  arrivals = λ addr known.
+      let moved = list_any-append (λ move. shares addr move.happened) first.moves (next first.machine).moves in
+      grind (arith, one.arrivals addr, two.arrivals addr known, moved);
 }
-  where
-    second : Effect
-    second = next first.machine
-
-    arrived : (before early named there late : Bool) → (there ≡ true → (before || early || named) ≡ true) → (there || late || named) ≡ true → (before || (early || late) || named) ≡ true
-    arrived false false false true late one two = absurd (false≢true (one refl))
-    arrived false false false false late one two = two
-    arrived false false true there true one two = refl
-    arrived before early named there late one two = refl
 
 pub accounted-part : (event : Event) (m : Machine) (effect : Effect) → Accounts m effect → Tells event m effect
 accounted-part event m effect h = record {
@@ -152,8 +122,7 @@ providing-part event m effect p named =
       told = p.told;
       promotions = rises_nowhere is_up promotes m effect connected.up;
       activations = rises_nowhere is_hot_or_asked activates m effect (hot_or_asked-down m effect.machine p.hot connected.asked);
-      arrivals = λ addr known. or_each (is_known addr m) (is_provided_by addr event) (is_known addr m || is_shared_in addr effect.moves) (is_provided_by addr event)
-          (λ before. or_left (is_known addr m) (is_shared_in addr effect.moves) before) (λ is. is) (named addr known);
+      arrivals = λ addr known. grind (arith, named addr known);
     }
 
 lawful-part : (event : Event) (act : Act) (m : Machine) → ClosesBy act event → IsNext act m → IsDoneByOrder act m (does act m) → Finds act m →

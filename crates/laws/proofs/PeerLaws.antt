@@ -1,9 +1,8 @@
 -- The laws on peers, from what ties them to connections.
-use Rattle.std.proofs.Common.{ℕ, ◌≤◌, ◌≡◌, true, false, ◌&&◌, ◌||◌, Option, Some, None, refl, sym, ap, ◌∙◌, subst}
-use Rattle.laws.proofs.Words.{both_ways, false≢true, and_parts, and_from}
-use Rattle.laws.specs.Words.{Addr, Peer, Temp, Cold, Hot, is_negotiated, is_pending, is_live_at, is_active, is_established, same_temp, Machine, Entry, live_entry_at, peer_at}
+use Rattle.std.proofs.Common.{ℕ, ◌≤◌, ◌≡◌, true, false, ◌&&◌, ◌||◌, Option, Some, None, refl, sym, ap, ◌∙◌, subst, arith}
+use Rattle.laws.proofs.Words.{both_ways, false≢true, and_from}
+use Rattle.laws.specs.Words.{Addr, Peer, is_negotiated, is_pending, is_live_at, Machine, Entry, live_entry_at, peer_at}
 use Rattle.laws.specs.Laws.{is_established_peer, is_cold_peer, is_used_connection, is_pending_connection, EstablishedAreUsed, PendingAreCold, UsedAreOutOfBackOff}
-use Rattle.laws.specs.AtMoves.{is_hot_peer}
 use Rattle.laws.specs.Records.{LocalsAreEstablished, HotAreUsed, IsLawfulRecord}
 use Rattle.laws.specs.Steady.{IsShaped, IsFormed, IsSteady, TiedBy}
 use Rattle.laws.proofs.Lists.{FoundIn, find_some, All-stands, all-standing}
@@ -11,7 +10,7 @@ use Rattle.laws.proofs.Moments.{waits-ahead}
 use Rattle.laws.proofs.Shapes.{local-negotiated}
 use Rattle.laws.proofs.Ties.{live_here}
 use Rattle.laws.proofs.WholeMoves.{pending-unnegotiated, negotiated-live}
-use Rattle.laws.proofs.Cases.{by_bool, by_option}
+use Rattle.laws.proofs.Cases.{by_option}
 
 -- the live connection of an address is in shape
 abbrev IsShapedBy : Option Entry → Type 0
@@ -27,8 +26,7 @@ live-shaped addr m h = by_option (live_entry_at addr m) (λ o. IsShapedBy o)
 
 -- what is in local use is negotiated
 used_is_local : (e : Entry) → IsShaped e.facts → (is_negotiated e.facts && e.facts.local) ≡ e.facts.local
-used_is_local e shape = by_bool (is_negotiated e.facts) (λ b. (b && e.facts.local) ≡ e.facts.local)
-    (λ is. refl) (λ is. sym (shape.unused is).local)
+used_is_local e shape = grind (arith, λ (is : is_negotiated e.facts ≡ false). (shape.unused is).local)
 
 established-used : (now : ℕ) (p : Option Peer) (e : Option Entry) → IsShapedBy e → TiedBy now p e → is_established_peer p ≡ is_used_connection e
 established-used now None None shape tie = refl
@@ -36,20 +34,14 @@ established-used now (Some p) None shape tie = tie
 established-used now None (Some e) shape tie = sym tie.unused ∙ sym (used_is_local e shape)
 established-used now (Some p) (Some e) shape tie = tie.established ∙ sym (used_is_local e shape)
 
-cold-unless : (t : Temp) → is_established t ≡ false → same_temp t Cold ≡ true
-cold-unless Cold h = refl
-cold-unless other h = absurd (false≢true (sym h))
-
 pending-cold : (now : ℕ) (p : Option Peer) (e : Option Entry) → IsShapedBy e → TiedBy now p e → is_pending_connection e ≡ true → is_cold_peer p ≡ true
 pending-cold now p None shape tie pending = absurd (false≢true pending)
 pending-cold now None (Some e) shape tie pending = absurd (both_ways (is_pending e.facts) tie.not_dialed pending)
-pending-cold now (Some p) (Some e) shape tie pending =
-    cold-unless p.temp (tie.established ∙ (shape.unused (pending-unnegotiated e.facts pending)).local)
+pending-cold now (Some p) (Some e) shape tie pending = grind (arith, tie.established, (shape.unused (pending-unnegotiated e.facts pending)).local)
 
 used-rested : (now : ℕ) (p : Peer) (e : Option Entry) → TiedBy now (Some p) e → (is_used_connection e || is_pending_connection e) ≡ true → p.not_before ≤ now
 used-rested now p None tie either = absurd (false≢true either)
-used-rested now p (Some e) tie either = by_bool (is_negotiated e.facts && e.facts.local) (λ b. (b || is_pending e.facts) ≡ true → p.not_before ≤ now)
-    (λ is h. tie.in_use (and_parts (is_negotiated e.facts) e.facts.local is).1) (λ is h. tie.on_its_way h) either
+used-rested now p (Some e) tie either = grind (arith, tie.in_use, tie.on_its_way, either)
 
 pub steady-established : (m : Machine) → IsSteady m → EstablishedAreUsed m
 steady-established m h addr = established-used m.now (peer_at addr m) (live_entry_at addr m) (live-shaped addr m h.formed) (h.tied addr)
@@ -64,12 +56,8 @@ steady-back_off m h addr p found either =
 -- ---- the record
 
 steady-hot : (m : Machine) → IsSteady m → HotAreUsed m
-steady-hot m h addr hot = sym (steady-established m h addr) ∙ by_option (peer_at addr m) (λ o. is_hot_peer o ≡ true → is_established_peer o ≡ true)
-    (λ is hot. absurd (false≢true hot)) (λ p is hot. by_temp p.temp hot) hot
-  where
-    by_temp : (t : Temp) → is_active t ≡ true → is_established t ≡ true
-    by_temp Hot hot = refl
-    by_temp other hot = absurd (false≢true hot)
+steady-hot m h addr hot =
+    let established : is_established_peer (peer_at addr m) ≡ true = grind (arith, hot) in sym (steady-established m h addr) ∙ established
 
 -- what is in local use is live, and so the live connection of its address
 steady-local : (m : Machine) → IsSteady m → LocalsAreEstablished m

@@ -1,5 +1,5 @@
 -- Who is pruned in a part of an event: one that might go, or the one that moved.
-use Rattle.std.proofs.Common.{ℕ, ◌+◌, ◌≡◌, true, false, ◌||◌, ◌==◌, if◌then◌else◌, find, Some, refl, sym, ap, ◌∙◌, subst, arith, eqb-true}
+use Rattle.std.proofs.Common.{◌+◌, ◌≡◌, true, false, ◌||◌, ◌==◌, find, Some, refl, sym, ap, ◌∙◌, subst, arith, eqb-true}
 use Rattle.laws.proofs.Words.{or_left, or_right}
 use Rattle.laws.specs.Words.{option_map, unwrap_or, is_candidate, first_to_go, choice_of, awakened, released, has_id, Order, Release, Item, Addr, Cid, Peer, Cold, with_entry, candidates_in, is_used_at, Machine, Entry, entry_at, peer_at}
 use Rattle.laws.specs.Words.cause
@@ -35,24 +35,15 @@ chosen-goes moved m h e is = by_option (first_to_go (candidates_in m)) (λ o. (e
 chosen-went : (m n : Machine) (old new : Entry) → new.facts.cid ≡ old.facts.cid → n.connections ≡ (with_entry new m).connections → IsOrderly n →
     (e : Entry) → entry_at (unwrap_or (choice_of (candidates_in n)) old.facts.cid).0 n ≡ Some e →
     (e.facts.cid.0 == old.facts.cid.0 || is_candidate_entry (entry_at e.facts.cid.0 m)) ≡ true
-chosen-went m n old new same list h e is = by_bool (e.facts.cid.0 == old.facts.cid.0)
+chosen-went m n old new same list h e is =
+    let at = find_some (λ x. has_id (unwrap_or (choice_of (candidates_in n)) old.facts.cid).0 x.facts) n.connections e is in
+    let there : find (λ x. has_id e.facts.cid.0 x.facts) (with_entry new m).connections ≡ Some e =
+    subst (λ es. find (λ x. has_id e.facts.cid.0 x.facts) es ≡ Some e) list (found_by_id n e at.place e.facts.cid h at.stands refl) in
+    let stood : (e.facts.cid.0 == old.facts.cid.0) ≡ false → entry_at e.facts.cid.0 m ≡ Some e =
+    λ apart. grind (arith, apart, same, sym (replaced e.facts.cid.0 new m.connections) ∙ there) in
+    by_bool (e.facts.cid.0 == old.facts.cid.0)
     (λ b. (b || is_candidate e.facts) ≡ true → (b || is_candidate_entry (entry_at e.facts.cid.0 m)) ≡ true)
-    (λ own may. refl)
-    (λ apart may.
-    ap is_candidate_entry (other (ap (λ c. c.0 == e.facts.cid.0) same ∙ turned e.facts.cid.0 old.facts.cid.0 apart)) ∙ may) (chosen-goes old.facts.cid n h e is)
-  where
-    found : entry_at e.facts.cid.0 n ≡ Some e
-    found =
-        let at = find_some (λ x. has_id (unwrap_or (choice_of (candidates_in n)) old.facts.cid).0 x.facts) n.connections e is in
-        found_by_id n e at.place e.facts.cid h at.stands refl
-
-    other : (new.facts.cid.0 == e.facts.cid.0) ≡ false → entry_at e.facts.cid.0 m ≡ Some e
-    other apart =
-        sym (ap (λ b. if b then option_map (λ x. new) (entry_at e.facts.cid.0 m) else entry_at e.facts.cid.0 m) apart)
-        ∙ (sym (replaced e.facts.cid.0 new m.connections) ∙ (sym (ap (find (λ x. has_id e.facts.cid.0 x.facts)) list) ∙ found))
-
-    turned : (a b : ℕ) → (a == b) ≡ false → (b == a) ≡ false
-    turned a b h = grind arith
+    (λ own may. refl) (λ apart may. ap is_candidate_entry (stood apart) ∙ may) (chosen-goes old.facts.cid n h e is)
 
 -- ---- an item, and a release
 
@@ -73,6 +64,10 @@ OfRelease addr m end = (was_used_at addr (entry_at end.cid m) || is_candidate_en
 
 release-chosen : (addr : Addr) (m : Machine) → IsOrderly m → ChosenByOrder (OfRelease addr m) (Release addr) m
 release-chosen addr m h e is f at =
+    let place : FoundIn (is_used_at addr) m.connections e = find_some (is_used_at addr) m.connections e is in
+    let new : Entry = record e { facts = released (m.now + m.settings.idle) e.facts } in
+    let n : Machine = with_entry new m in
+    let cold : Peer → Peer = λ p. record p { temp = Cold } in
     by_bool (f.facts.cid.0 == e.facts.cid.0)
     (λ b. (b || is_candidate_entry (entry_at f.facts.cid.0 m)) ≡ true → OfRelease addr m (end_of f cause.Pruned))
     (λ own may.
@@ -81,18 +76,6 @@ release-chosen addr m h e is f at =
     (λ other may. or_right (was_used_at addr (entry_at f.facts.cid.0 m)) (is_candidate_entry (entry_at f.facts.cid.0 m)) may)
     (chosen-went m (cooled e m) e new refl (turns_at-connections (peer_at e.facts.addr n) cold n)
     (changed-orderly (peer_at e.facts.addr n) cold n (turned-orderly m e new place.place h place.stands (record { same_id = refl; same_addr = refl; live = λ l. l }))) f at)
-  where
-    place : FoundIn (is_used_at addr) m.connections e
-    place = find_some (is_used_at addr) m.connections e is
-
-    new : Entry
-    new = record e { facts = released (m.now + m.settings.idle) e.facts }
-
-    n : Machine
-    n = with_entry new m
-
-    cold : Peer → Peer
-    cold = λ p. record p { temp = Cold }
 
 order-chosen : (order : Order) (m : Machine) → IsOrderly m → ChosenByOrder (IsPrunedByOrder order m) order m
 order-chosen (Release addr) m h = release-chosen addr m h

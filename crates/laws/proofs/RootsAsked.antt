@@ -1,23 +1,17 @@
 -- The public root peers are asked for where they are wanted.
-use Rattle.std.proofs.Common.{◌≡◌, [], ◌∷◌, if◌then◌else◌, refl}
+use Rattle.std.proofs.Common.{◌≡◌, refl, arith}
 use Rattle.laws.specs.Acts.{Act, asks_for_roots, connects, does}
-use Rattle.laws.specs.Words.{AskRoots, may_ask, asked, nothing_more, tells, Machine}
-use Rattle.laws.specs.RootsAsked.{asked_by, asked_in, roots_asked, AsksRight}
+use Rattle.laws.specs.Words.{may_ask, Machine}
+use Rattle.laws.specs.RootsAsked.{asked_by, roots_asked, AsksRight}
 use Rattle.laws.specs.Parts.{IsNext}
 use Rattle.laws.proofs.Walk.{Finds}
 use Rattle.laws.proofs.Silent.{asked-deaf, connects-silent, part-silent}
-use Rattle.laws.proofs.Cases.{by_bool}
 
 roots-asked : (m : Machine) → AsksRight asks_for_roots m (does asks_for_roots m)
-roots-asked m = by_bool (may_ask m.now m.targets.root m.roots)
-    (λ b. asked_in (if b then tells (AskRoots (record { 0 = m.roots.next_job }) ∷ []) (record m { roots = asked m.roots }) else nothing_more m).actions
-    ≡ (if b then m.roots.next_job ∷ [] else []))
-    (λ is. refl) (λ is. refl)
+roots-asked m = grind arith
 
 pub roots-set : (m : Machine) → (does asks_for_roots m).machine ≡ record m { roots = roots_asked (may_ask m.now m.targets.root m.roots) m.roots }
-roots-set m = by_bool (may_ask m.now m.targets.root m.roots)
-    (λ b. (if b then tells (AskRoots (record { 0 = m.roots.next_job }) ∷ []) (record m { roots = asked m.roots }) else nothing_more m).machine ≡ record m { roots = roots_asked b m.roots })
-    (λ is. refl) (λ is. refl)
+roots-set m = grind arith
 
 pub asks-right : (act : Act) (m : Machine) → IsNext act m → Finds act m → AsksRight act m (does act m)
 asks-right asks_for_roots m next found = roots-asked m

@@ -1,17 +1,18 @@
 -- Bytes come in on a connection.
-use Rattle.std.proofs.Common.{ℕ, ◌≤◌, ◌≡◌, true, arith, List, [], ◌∷◌, Option, Some, refl, ap, eqb-true, ◌||◌}
-use Rattle.laws.proofs.Words.{cond_both, false≢true}
+use Rattle.std.proofs.Common.{ℕ, ◌≤◌, ◌≡◌, true, arith, List, [], ◌∷◌, Option, Some, refl, ap, ◌||◌}
+use Rattle.laws.proofs.Words.{cond_both}
 use Rattle.laws.specs.Words.{FedBy, CutFault, Item, Fault, Cid, Phase, Greeting, Negotiated, has_id, is_live, live_phase, is_greeting_phase, is_negotiated_phase, is_greeting, is_negotiated, kind_of, Machine, Entry, counted_in, entry_at, Effect, then_do, for_each, on_entry, on_connection, entry_turns, handled_in, handled, handles, faulted, fed_with, comes_in, bytes_come_in}
 use Rattle.laws.specs.AtMoves.{fed_on, IsLawful}
 use Rattle.laws.specs.Steady.{IsOrdered}
 use Rattle.laws.proofs.Handshakes.{greets-trimmed}
 use Rattle.laws.proofs.Lawful.{turns-obeys}
 use Rattle.laws.proofs.Lists.{StandsAt, find_some}
-use Rattle.laws.proofs.Open.{IsOpen, turned-open, handles-open}
 use Rattle.laws.proofs.Talks.{talks-trimmed}
 use Rattle.laws.proofs.Trims.{Trimmed, keeps-trimmed, ending-trimmed, nothing-trimmed, trimmed_then, trimmed-within, for_each_that-trimmed}
 use Rattle.laws.proofs.WholeMoves.{decodes-keeps}
 use Rattle.laws.proofs.Cases.{by_option}
+use Rattle.laws.proofs.Connects.{stood-cases}
+use Rattle.laws.proofs.Items.{IsOpen, turned-open, handles-open}
 
 handled_in-trimmed : (p : Phase) (item : Item) (m : Machine) (e : Entry) (k : ℕ) → e.facts.phase ≡ p → IsOrdered m → counted_in m ≤ m.settings.hard →
     StandsAt m.connections k e → Trimmed IsLawful m (handled_in p item e m)
@@ -22,20 +23,12 @@ handled_in-trimmed other item m e k is h within s = nothing-trimmed IsLawful m w
 
 -- who is found by an id has it
 pub found-cid : (cid : Cid) (m : Machine) (e : Entry) → entry_at cid.0 m ≡ Some e → e.facts.cid ≡ cid
-found-cid cid m e is =
-    let same : e.facts.cid.0 ≡ cid.0 = eqb-true e.facts.cid.0 cid.0 (find_some (λ y. has_id cid.0 y.facts) m.connections e is).passes in
-    ap cid_of same
-  where
-    cid_of : ℕ → Cid
-    cid_of n = record { 0 = n }
+found-cid cid m e is = grind (arith, (find_some (λ y. has_id cid.0 y.facts) m.connections e is).passes)
 
 pub handles-trimmed : (cid : Cid) (item : Item) (m : Machine) → IsOrdered m → counted_in m ≤ m.settings.hard →
     Trimmed IsLawful m (handles cid item m)
-handles-trimmed cid item m h within = by_option (entry_at cid.0 m) (λ o. Trimmed IsLawful m (on_entry o (handled item) m))
-    (λ is. nothing-trimmed IsLawful m within h)
-    (λ e is.
-    let at = find_some (λ y. has_id cid.0 y.facts) m.connections e is in
-    handled_in-trimmed e.facts.phase item m e at.place refl h within at.stands)
+handles-trimmed cid item m h within = stood-cases cid (handled item) m (Trimmed IsLawful m) (nothing-trimmed IsLawful m within h)
+    (λ e k s own. handled_in-trimmed e.facts.phase item m e k refl h within s)
 
 all_handled-open : (cid : Cid) (items : List Item) (m : Machine) → IsOrdered m → counted_in m ≤ m.settings.hard → IsOpen cid.0 m → IsOpen cid.0 (for_each (handles cid) items m).machine
 unfolding for_each
@@ -46,13 +39,12 @@ all_handled-open cid (item ∷ items) m h within open_ =
 
 pub faulted-trimmed : (cid : Cid) (fault : Option CutFault) → (m : Machine) → IsOrdered m → counted_in m ≤ m.settings.hard →
     IsOpen cid.0 m → Trimmed IsLawful m (on_connection cid (faulted fault) m)
-faulted-trimmed cid fault m h within open_ = by_entry (entry_at cid.0 m) refl fault
-  where
-    by_entry : (o : Option Entry) → entry_at cid.0 m ≡ o → (f : Option CutFault) → Trimmed IsLawful m (on_entry o (faulted f) m)
-    by_entry (Some e) is (Some f) =
-        let at = find_some (λ y. has_id cid.0 y.facts) m.connections e is in
-        ending-trimmed (Fault (kind_of f)) refl m e at.place h within at.stands (open_ e is) (λ negotiated. tt) tt
-    by_entry o is f = nothing-trimmed IsLawful m within h
+faulted-trimmed cid fault m h within open_ = by_option (entry_at cid.0 m) (λ o. Trimmed IsLawful m (on_entry o (faulted fault) m))
+    (λ is. nothing-trimmed IsLawful m within h)
+    (λ e is.
+    let at = find_some (λ y. has_id cid.0 y.facts) m.connections e is in
+    by_option fault (λ f. Trimmed IsLawful m (faulted f e m)) (λ none. nothing-trimmed IsLawful m within h)
+    (λ f some. ending-trimmed (Fault (kind_of f)) refl m e at.place h within at.stands (open_ e is) (λ negotiated. tt) tt))
 
 fed_with-trimmed : (fed : FedBy) (m : Machine) (e : Entry) (k : ℕ) → IsOrdered m → counted_in m ≤ m.settings.hard → StandsAt m.connections k e → is_live e.facts ≡ true →
     Trimmed IsLawful m (fed_with fed e m)
@@ -74,9 +66,7 @@ fed_with-trimmed fed m e k h within s live =
 
 -- in its handshake or after it a connection is live
 pub open-live : (p : Phase) → (is_greeting_phase p || is_negotiated_phase p) ≡ true → live_phase p ≡ true
-open-live (Greeting until) h = refl
-open-live Negotiated h = refl
-open-live other h = absurd (false≢true h)
+open-live p h = grind (arith, h)
 
 comes_in-trimmed : (bytes : List ℕ) (m : Machine) (e : Entry) (k : ℕ) → IsOrdered m → counted_in m ≤ m.settings.hard →
     StandsAt m.connections k e → Trimmed IsLawful m (comes_in bytes e m)
@@ -85,8 +75,5 @@ comes_in-trimmed bytes m e k h within s = cond_both (is_greeting e.facts || is_n
 
 pub bytes_come_in-trimmed : (cid : Cid) (bytes : List ℕ) (m : Machine) → IsOrdered m → counted_in m ≤ m.settings.hard →
     Trimmed IsLawful m (bytes_come_in cid bytes m)
-bytes_come_in-trimmed cid bytes m h within = by_option (entry_at cid.0 m) (λ o. Trimmed IsLawful m (on_entry o (comes_in bytes) m))
-    (λ is. nothing-trimmed IsLawful m within h)
-    (λ e is.
-    let at = find_some (λ y. has_id cid.0 y.facts) m.connections e is in
-    comes_in-trimmed bytes m e at.place h within at.stands)
+bytes_come_in-trimmed cid bytes m h within = stood-cases cid (comes_in bytes) m (Trimmed IsLawful m) (nothing-trimmed IsLawful m within h)
+    (λ e k s own. comes_in-trimmed bytes m e k h within s)

@@ -141,7 +141,7 @@ pruned-drops : (m : Machine) (e : Entry) (k : ℕ) → IsOrdered m → StandsAt 
 pruned-drops m e k h s =
     let n : Machine = without_entry e.facts.cid.0 m in
     let counts = gone-counts m e k h.orderly s in
-    omega (arith, counts.0, lost-counted e.facts n)
+    omega (arith, counts.counted, lost-counted e.facts n)
 
 -- no more are counted than the hard limit says, the rest is kept, and each move keeps a law
 pub record Trimmed (Law : Move → Type 0) (before : Machine) (effect : Effect) : Type 0 where

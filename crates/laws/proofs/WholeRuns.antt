@@ -1,10 +1,23 @@
--- Every run of the whole machine.
-use Rattle.std.proofs.Common.{◌≡◌, false, arith, List, [], ◌∷◌, refl, ◌∙◌}
+-- Every run of the whole machine: how it begins, and how it goes on.
+use Rattle.std.proofs.Common.{◌<◌, arith, ◌≡◌, false, List, [], ◌∷◌, refl, ◌∙◌}
 use Rattle.laws.proofs.Words.{All-nil}
-use Rattle.laws.specs.Words.{same_address, AreSound, Event, Settings, Machine, start_of, step, after_all}
+use Rattle.laws.specs.Words.{AreSound, Settings, start_of, same_address, Event, Machine, step, after_all}
+use Rattle.laws.specs.Sound.{HasGivenId, IsSound}
 use Rattle.laws.specs.Steady.{IsShaped, IsOwing, IsSteady}
-use Rattle.laws.proofs.Runs.{start-sound}
 use Rattle.laws.proofs.WholeEvents.{StaysSteady, step-steady}
+
+pub start-sound : (settings : Settings) → AreSound settings → IsSound (start_of settings)
+start-sound settings h = record {
+  orderly = record {
+    settings = h;
+    next_id = omega arith;
+    ids_given = All-nil (HasGivenId 1);
+    ids_rise = λ i j d before inside. absurd (omega arith);
+    addresses = λ i j d before inside. absurd (omega arith);
+  };
+  counted = omega arith;
+  deadlines = All-nil (λ d. 0 < d.at);
+}
 
 pub start-steady : (settings : Settings) → AreSound settings → IsSteady (start_of settings)
 start-steady settings h = record {
