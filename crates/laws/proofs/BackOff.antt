@@ -1,7 +1,7 @@
 -- What is remembered of peers, and whose failures are forgiven, through each part of an event.
-use Rattle.std.proofs.Common.{ℕ, ◌+◌, ◌%◌, ◌≡◌, ◌⊎◌, Bool, true, false, not, ◌&&◌, ◌||◌, ◌==◌, nat_le, if◌then◌else◌, List, [], ◌∷◌, find, length, is_some, is_none, Option, Some, None, refl, sym, ap, ◌∙◌, subst, inl, inr, arith, eqb-true}
+use Rattle.std.proofs.Common.{ℕ, ◌+◌, ◌%◌, ◌≡◌, ◌⊎◌, Bool, true, false, not, ◌&&◌, ◌||◌, ◌==◌, if◌then◌else◌, List, [], ◌∷◌, find, is_none, Option, Some, None, refl, sym, ap, ◌∙◌, subst, inl, inr, arith, eqb-true}
 use Rattle.laws.proofs.Words.{list_any_at, cond_both, both_ways, false≢true, and_parts, and_from, false_from_ne_true, not-true}
-use Rattle.laws.specs.Words.{option_map, unwrap_or, choice_of, is_candidate, is_counted, acquired, agreed_outbound, expired, has_id, is_acquirable, is_dialing, is_live, is_live_at, is_negotiated, is_outbound, is_pending, opening_phase, runs, Order, Ask, Forget, Promote, Release, Activate, Deactivate, verdict_of, answer_of, Verdict, kind_of, CutFault, Item, same_address, failed_peer, Close, CloseCause, Unused, Pruned, Overwritten, Refused, Query, Fault, Protocol, HandshakeWait, ReplyWait, Addr, Facts, Phase, Greeting, Negotiated, Peer, Cold, Warm, Hot, Kind, entered_by, new_peer, most_peers, New, Present, Full, Seen, with_entry, without_entry, entry_turns, is_missed, lost, ending, vanishes, closing_entry, grace_over, acquire, candidates_in, trim, release, awake, idle, dial, dial_opens, dial_fails, fires_as, Effect, shared, unused, tells, nothing_more, then_do, as_move, on_entry, closes, dialed, promoted_at, is_used_at, on_used, asks_peer, activates, deactivates, carries_out, role_of, judged, greets, Machine, Entry, entry_at, live_entry_at, own_info, peer_at, peer_changes, peer_fails, peer_becomes, peer_goes, peer_comes, is_wanted_big, owing, paid, handled_in, handled, faulted, stops_if, serves, begins, brings, talks, is_greeting_phase, Cid}
+use Rattle.laws.specs.Words.{option_map, unwrap_or, choice_of, is_candidate, is_counted, acquired, agreed_outbound, expired, has_id, is_acquirable, is_dialing, is_live, is_live_at, is_negotiated, is_outbound, is_pending, opening_phase, runs, Order, Ask, Forget, Promote, Release, Activate, Deactivate, verdict_of, answer_of, Verdict, kind_of, CutFault, Item, same_address, failed_peer, Close, CloseCause, Unused, Pruned, Overwritten, Refused, Query, Fault, Protocol, HandshakeWait, ReplyWait, Addr, Facts, Phase, Greeting, Negotiated, Peer, Cold, Warm, Hot, Kind, entered_by, new_peer, New, Seen, with_entry, without_entry, entry_turns, is_missed, lost, ending, vanishes, closing_entry, grace_over, acquire, candidates_in, trim, release, awake, idle, dial, dial_opens, fires_as, Effect, shared, unused, tells, nothing_more, then_do, as_move, on_entry, closes, dialed, promoted_at, is_used_at, on_used, asks_peer, activates, deactivates, carries_out, role_of, judged, greets, Machine, Entry, entry_at, live_entry_at, own_info, peer_at, peer_changes, peer_fails, peer_becomes, peer_goes, peer_comes, is_wanted_big, owing, paid, handled_in, handled, faulted, stops_if, serves, begins, brings, talks, is_greeting_phase, Cid}
 use Rattle.laws.specs.Words.verdict
 use Rattle.laws.specs.Words.kind
 use Rattle.laws.specs.Acts.{Act, fires_one, carries, ends_dial, handles_item, ends_stream, is_closed, makes_ordinary, provides, provides_big, does}
@@ -27,6 +27,7 @@ use Rattle.laws.proofs.ToldMoves.{turns_at-connections}
 use Rattle.laws.proofs.WholeMoves.{pending-unnegotiated}
 use Rattle.laws.specs.CarriedOut.{OnPeer, WhereGreeting, is_in_use, Forgives}
 use Rattle.laws.proofs.Cases.{by_bool, by_option, some_same}
+use Rattle.laws.proofs.PeersApart.{entered-cases}
 
 -- ---- whoever is there is there still
 
@@ -113,12 +114,8 @@ becomes-still : (t : _) (a : Addr) (m : Machine) → Still m (peer_becomes t a m
 becomes-still t a m = changed-still a (λ p. record p { temp = t }) m (λ p. refl) (λ p. record { failures = refl; not_before = refl; share_next = refl })
 
 comes-still : (big : Bool) (a : Addr) (m : Machine) → Still m (peer_comes big a m).machine
-comes-still big a m =
-    subst (Still m) (sym (comes-machine big a m)) (by_bool (is_some (peer_at a m))
-    (λ c. Still m (record m { peers = entered_by (if c then Present else if nat_le most_peers (length m.peers) then Full else New) new m.peers }))
-    (λ is. same-still m m refl)
-    (λ is. cond_both (nat_le most_peers (length m.peers)) Full New (λ added. Still m (record m { peers = entered_by added new m.peers }))
-    (λ full. same-still m m refl) (λ room. comes (none_there (peer_at a m) is))))
+comes-still big a m = subst (Still m) (sym (comes-machine big a m)) (entered-cases new m.peers (λ ps. Still m (record m { peers = ps })) (same-still m m refl)
+    (λ none room. comes (none_there (peer_at a m) none)))
   where
     new : Peer
     new = new_peer big a
@@ -252,9 +249,6 @@ handled-beside other item m e k h s = same-beside e m m refl
 
 -- ---- on a connection
 
-all-remembered : (m n : Machine) → Still m n → AllRemembered m n
-all-remembered m n still b = stays_both IsRemembered (peer_at b m) (peer_at b n) (still b)
-
 weaker-both : (P Q : Peer → Peer → Type 0) → ((p q : Peer) → P p q → Q p q) → (a b : Option Peer) → WhereBoth P a b → WhereBoth Q a b
 weaker-both P Q each None b h = tt
 weaker-both P Q each (Some p) None h = tt
@@ -293,7 +287,7 @@ all-treated : (m n : Machine) → AllRemembered m n → Treats (AllRemembered m 
 all-treated m n h = record { remembered = h; fails = λ addr kept. remembered-spared (peer_at addr m) (peer_at addr n) (h addr) }
 
 still-treated : (m n : Machine) → Still m n → Treats (AllRemembered m n) m n
-still-treated m n still = all-treated m n (all-remembered m n still)
+still-treated m n still = all-treated m n (λ b. stays_both IsRemembered (peer_at b m) (peer_at b n) (still b))
 
 same-treated : (m n : Machine) → n.peers ≡ m.peers → Treats (AllRemembered m n) m n
 same-treated m n same = still-treated m n (same-still m n same)
@@ -307,18 +301,6 @@ beside cid act m each = by_option (entry_at cid m) (λ o. Treats (RemembersBesid
     let n : Machine = (act e m).machine in
     let b : Beside e m n = each e at.place at.stands in
     record { remembered = λ addr other. stays_both IsRemembered (peer_at addr m) (peer_at addr n) (b.others addr other); fails = beside-fails e at.place m n at.stands b })
-
-dialed-beside : (opened : Bool) (e : Entry) (m : Machine) → Beside e m (dialed opened e m).machine
-dialed-beside opened e m =
-    cond_both (is_dialing e.facts) (if opened then dial_opens e m else dial_fails e m) (nothing_more m) (λ effect. Beside e m effect.machine)
-    (λ dialing. cond_both opened (dial_opens e m) (dial_fails e m) (λ effect. Beside e m effect.machine)
-    (λ open_. same-beside e m (dial_opens e m).machine refl)
-    (λ failed. vanishes-beside e m))
-    (λ other. same-beside e m m refl)
-
-closes-beside : (e : Entry) (m : Machine) → Beside e m (closes e m).machine
-closes-beside e m = cond_both (is_live e.facts) (vanishes e m) (nothing_more m) (λ effect. Beside e m effect.machine)
-    (λ live. vanishes-beside e m) (λ closed. same-beside e m m refl)
 
 faulted-beside : (fault : Option CutFault) (e : Entry) (m : Machine) → Beside e m (faulted fault e m).machine
 faulted-beside None e m = same-beside e m m refl
@@ -432,10 +414,13 @@ orders-treat (Deactivate addr) m h = on_each addr deactivates m (λ e k s local.
 pub treats : (act : Act) (m : Machine) → Finds act m → Treats (Remembers act m (does act m).machine) m (does act m).machine
 treats (fires_one d) m known = beside d.cid.0 (fires_as d.kind) m (λ e k s. fired-beside d.kind e m)
 treats (carries order) m known = orders-treat order m known
-treats (ends_dial cid opened) m known = beside cid.0 (dialed opened) m (λ e k s. dialed-beside opened e m)
+treats (ends_dial cid opened) m known = beside cid.0 (dialed opened) m (λ e k s. cond_both (is_dialing e.facts) _ _ (λ (effect : Effect). Beside e m effect.machine)
+    (λ dialing. cond_both opened _ _ (λ (effect : Effect). Beside e m effect.machine) (λ open_. same-beside e m (dial_opens e m).machine refl) (λ failed. vanishes-beside e m))
+    (λ other. same-beside e m m refl))
 treats (handles_item cid item) m known = beside cid.0 (handled item) m (λ e k s. handled-beside e.facts.phase item m e k known.orderly s)
 treats (ends_stream cid fault) m known = beside cid.0 (faulted fault) m (λ e k s. faulted-beside fault e m)
-treats (is_closed cid) m known = beside cid.0 closes m (λ e k s. closes-beside e m)
+treats (is_closed cid) m known = beside cid.0 closes m (λ e k s. cond_both (is_live e.facts) _ _ (λ (effect : Effect). Beside e m effect.machine)
+    (λ live. vanishes-beside e m) (λ closed. same-beside e m m refl))
 treats (makes_ordinary addr) m known = still-treated m (does (makes_ordinary addr) m).machine
     (changed-still addr (λ p. record p { big = false }) m (λ p. refl) (λ p. record { failures = refl; not_before = refl; share_next = refl }))
 treats (provides addr) m known = still-treated m (does (provides addr) m).machine (comes-still false addr m)
@@ -465,15 +450,12 @@ judged-forgiven (verdict.Agree agreed) e m is not_used used =
 judged-forgiven verdict.Wrong e m is not_used used = ending-forgiven (Fault Protocol) e m used
 judged-forgiven other e m is not_used used = ending-forgiven Refused e m used
 
-greets-forgiven : (item : Item) (e : Entry) (m : Machine) → entry_at e.facts.cid.0 m ≡ Some e → e.facts.local ≡ false → Forgiven e (greets item e m).machine
-greets-forgiven item e m stands not_used = greets-cases item e m (λ effect. Forgiven e effect.machine) (λ fault. ending-forgiven (Fault fault) e m)
+handled_in-forgiven : (p : Phase) (item : Item) (e : Entry) (m : Machine) → entry_at e.facts.cid.0 m ≡ Some e → is_greeting_phase p ≡ true → e.facts.local ≡ false →
+    Forgiven e (handled_in p item e m).machine
+handled_in-forgiven (Greeting until) item e m stands greeting not_used = greets-cases item e m (λ effect. Forgiven e effect.machine) (λ fault. ending-forgiven (Fault fault) e m)
     (λ msg is.
     let v : Verdict = verdict_of (role_of e.facts.provenance) (own_info m.settings) msg in
     subst (λ n. Forgiven e (judged v e n).machine) (sym (answer-machine (answer_of v (own_info m.settings)) e.facts.cid m)) (judged-forgiven v e m stands not_used))
-
-handled_in-forgiven : (p : Phase) (item : Item) (e : Entry) (m : Machine) → entry_at e.facts.cid.0 m ≡ Some e → is_greeting_phase p ≡ true → e.facts.local ≡ false →
-    Forgiven e (handled_in p item e m).machine
-handled_in-forgiven (Greeting until) item e m stands greeting not_used = greets-forgiven item e m stands not_used
 handled_in-forgiven other item e m stands greeting not_used = absurd (false≢true greeting)
 
 handled-forgiven : (own : Cid) (item : Item) (m : Machine) → Forgives (handles_item own item) m (does (handles_item own item) m).machine

@@ -1,7 +1,7 @@
 -- On the connection that a part is about a wait begins, goes on and ends exactly where it is to.
 use Rattle.std.proofs.Common.{ℕ, ◌+◌, ◌%◌, ◌≡◌, Bool, true, false, not, ◌&&◌, ◌||◌, ◌==◌, if◌then◌else◌, find, Option, Some, None, Result, Ok, Err, refl, sym, ap, ◌∙◌, subst, eq-eqb, eqb-true, []}
 use Rattle.laws.proofs.Words.{false≢true, and_right}
-use Rattle.laws.specs.Words.{agreed_inbound, agreed_outbound, awakened, connected, expired, released, has_id, is_acquirable, is_dialing_phase, is_for_remote, is_greeting_phase, is_live, is_negotiated, runs, some_runs, with_responder, agreed_sharing, Order, Ask, Promote, Release, Activate, verdict_of, Verdict, message_of, Message, Item, FaultKind, Agreed, Grace, Off, ForRemote, ForLocal, Phase, Dialing, Greeting, Negotiated, Deadline, Kind, watched, Seen, closing_entry, fires_as, fires, on_entry, role_of, Machine, Entry, entry_at, own_info, owing, paid}
+use Rattle.laws.specs.Words.{agreed_inbound, agreed_outbound, awakened, connected, expired, released, has_id, is_acquirable, is_dialing_phase, is_for_remote, is_greeting_phase, is_live, is_negotiated, runs, some_runs, with_responder, agreed_sharing, Order, Ask, Promote, Release, Activate, verdict_of, Verdict, message_of, Message, Item, FaultKind, Agreed, Off, ForRemote, ForLocal, Phase, Dialing, Greeting, Negotiated, Deadline, Kind, watched, Seen, closing_entry, fires_as, fires, on_entry, role_of, Machine, Entry, entry_at, own_info, owing, paid}
 use Rattle.laws.specs.Words.verdict
 use Rattle.laws.specs.Words.kind
 use Rattle.laws.specs.Acts.{Act, fires_one, carries, ends_dial, stores, handles_item, ends_stream, is_closed, does}

@@ -1,9 +1,9 @@
 -- Each order does what it says, the book changes only where it is to, and accepting pauses where it must.
-use Rattle.std.proofs.Common.{ℕ, ◌+◌, ◌%◌, ◌≡◌, Bool, true, false, ◌&&◌, nat_le, nat_lt, if◌then◌else◌, [], ◌∷◌, find, get_or, set, Option, Some, None, is_some, refl, sym, ap, ◌∙◌, subst, arith}
+use Rattle.std.proofs.Common.{ℕ, ◌+◌, ◌%◌, ◌≡◌, Bool, true, false, ◌&&◌, nat_lt, if◌then◌else◌, [], ◌∷◌, find, get_or, set, Option, Some, None, is_some, refl, sym, ap, ◌∙◌, subst, arith}
 use Rattle.laws.proofs.Words.{cond_both, and_parts, and_from, All-weaker}
-use Rattle.laws.specs.Words.{Effect, option_map, unwrap_or, pause_of, choice_of, acquired, released, has_id, is_live, is_live_at, Order, Ask, Forget, Promote, Release, Activate, Deactivate, Addr, Peer, Cold, Warm, same_address, failed_peer, Cid, Facts, Pause, Pruned, Overwritten, may_ask, with_entry, without_entry, entry_turns, lost, ending, candidates_in, acquire, trim, release, nothing_more, then_do, on_entry, on_connection, admitted, peer_connects, closes, promote, is_used_at, on_used, asks_peer, deactivates, carries_out, asks_roots, Machine, Entry, counted_in, entry_at, live_entry_at, peer_at, turns_at, peer_changes, peer_fails, peer_becomes, peer_goes, owing}
-use Rattle.laws.specs.AtMoves.{is_missed, FailsWhere, OnEntry, is_known}
-use Rattle.laws.specs.CarriedOut.{WhereLive, OnPeer, IsReused, Reuses, LeavesAlone, IsUsedByNobody, Comes, IsCarriedOut, TreatsBook, pauses_by, pauses_in, pauses_due, PausesRight}
+use Rattle.laws.specs.Words.{Effect, option_map, pause_of, acquired, has_id, is_live, is_live_at, Order, Ask, Forget, Promote, Release, Activate, Deactivate, Addr, Peer, Cold, Warm, same_address, failed_peer, Cid, Facts, Pause, Overwritten, may_ask, with_entry, without_entry, lost, ending, acquire, trim, release, nothing_more, on_entry, admitted, closes, promote, is_used_at, on_used, asks_peer, deactivates, carries_out, Machine, Entry, counted_in, entry_at, live_entry_at, peer_at, turns_at, peer_changes, peer_fails, owing}
+use Rattle.laws.specs.AtMoves.{is_missed, FailsWhere, OnEntry}
+use Rattle.laws.specs.CarriedOut.{WhereLive, OnPeer, IsReused, Reuses, IsUsedByNobody, Comes, IsCarriedOut, TreatsBook, pauses_by, pauses_in, pauses_due, PausesRight}
 use Rattle.laws.specs.Sound.{IsOrderly}
 use Rattle.laws.specs.Acts.{Act, shows, asks_for_roots, connects, stores, is_closed, sets_targets, sets_big_targets, sets_groups, sets_roots, does}
 use Rattle.laws.specs.Parts.{IsNext}
@@ -13,7 +13,7 @@ use Rattle.laws.proofs.Entries.{TurnsInto, turned-connections, turned-orderly, o
 use Rattle.laws.proofs.Failures.{changed-found, vanishes-failed}
 use Rattle.laws.proofs.Finds.{find-set_here, find-set_gone}
 use Rattle.laws.proofs.Lists.{StandsAt, OnePasses, FoundIn, stands-set, find_some, find_only, find_none, not_below}
-use Rattle.laws.proofs.Walk.{says_done-machine, Finds}
+use Rattle.laws.proofs.Walk.{Finds, release-machine, cooled, turned_by, is_released}
 use Rattle.laws.proofs.Orders.{unused_at}
 use Rattle.laws.proofs.Silent.{pauses-deaf, part-silent, asks-silent}
 use Rattle.laws.proofs.Ties.{live_one, taken-here, turns_at-elsewhere}
@@ -21,6 +21,7 @@ use Rattle.laws.proofs.ToldMoves.{turns_at-connections}
 use Rattle.laws.proofs.Trims.{trim-used}
 use Rattle.laws.proofs.Cases.{by_bool, by_option}
 use Rattle.laws.proofs.Connects.{connects-cases}
+use Rattle.laws.proofs.ItemCases.{trim-cases}
 
 -- at most one connection of an address is in local use
 pub used_one : (addr : Addr) (m : Machine) → IsOrderly m → OnePasses (is_used_at addr) m.connections
@@ -34,38 +35,28 @@ pub changed-orderly : (o : Option Peer) (change : Peer → Peer) (m : Machine) �
 changed-orderly None change m h = h
 changed-orderly (Some p) change m h = assumption
 
-releasing-none : (addr : Addr) (m : Machine) (e : Entry) (k : ℕ) → IsOrderly m → StandsAt m.connections k e → is_used_at addr e ≡ true →
-    find (is_used_at addr) (then_do (entry_turns e (record e { facts = released (m.now + m.settings.idle) e.facts }) m)
-    (λ n. then_do (peer_becomes Cold e.facts.addr n) (trim e.facts.cid))).machine.connections ≡ None
-releasing-none addr m e k h s used =
-    let new : Entry = record e { facts = released (m.now + m.settings.idle) e.facts } in
-    let t : TurnsInto e new = record { same_id = refl; same_addr = refl; live = λ l. l } in
-    let cold : Peer → Peer = λ p. record p { temp = Cold } in
-    let n : Machine = with_entry new m in
-    let o : Machine = (peer_becomes Cold e.facts.addr n).machine in
-    let list : o.connections ≡ set m.connections k new = turns_at-connections (peer_at e.facts.addr n) cold n ∙ turned-connections m e new k h s t in
-    let stands : StandsAt o.connections k new = subst (λ es. StandsAt es k new) (sym list) (stands-set m.connections k new e s) in
-    trim-used (is_used_at addr) (unused_at addr) e.facts.cid o new k (changed-orderly (peer_at e.facts.addr n) cold n (turned-orderly m e new k h s t)) stands refl refl
-    ∙ (ap (find (is_used_at addr)) list ∙ find-set_gone (is_used_at addr) new e m.connections k (used_one addr m h) s used (unused_at addr new refl))
-
 release-none : (addr : Addr) (m : Machine) → IsOrderly m → find (is_used_at addr) (on_used addr release m).machine.connections ≡ None
 release-none addr m h = by_option (find (is_used_at addr) m.connections)
     (λ o. find (is_used_at addr) (on_entry o release m).machine.connections ≡ None)
     (λ is. is)
     (λ e is.
     let at : FoundIn (is_used_at addr) m.connections e = find_some (is_used_at addr) m.connections e is in
-    subst (λ n. find (is_used_at addr) (then_do (entry_turns e (record e { facts = released (n.now + n.settings.idle) e.facts }) n)
-    (λ w. then_do (peer_becomes Cold e.facts.addr w) (trim e.facts.cid))).machine.connections ≡ None) (sym (says_done-machine e.facts m))
-    (releasing-none addr m e at.place h at.stands at.passes))
+    let new : Entry = turned_by is_released e m in
+    let t : TurnsInto e new = record { same_id = refl; same_addr = refl; live = λ l. l } in
+    let cold : Peer → Peer = λ p. record p { temp = Cold } in
+    let n : Machine = with_entry new m in
+    let list : (cooled e m).connections ≡ set m.connections at.place new = turns_at-connections (peer_at e.facts.addr n) cold n ∙ turned-connections m e new at.place h at.stands t in
+    let stands : StandsAt (cooled e m).connections at.place new = subst (λ es. StandsAt es at.place new) (sym list) (stands-set m.connections at.place new e at.stands) in
+    ap (λ w. find (is_used_at addr) w.connections) (release-machine e m)
+    ∙ (trim-used (is_used_at addr) (unused_at addr) e.facts.cid (cooled e m) new at.place
+    (changed-orderly (peer_at e.facts.addr n) cold n (turned-orderly m e new at.place h at.stands t)) stands refl refl
+    ∙ (ap (find (is_used_at addr)) list ∙ find-set_gone (is_used_at addr) new e m.connections at.place (used_one addr m h) at.stands at.passes (unused_at addr new refl))))
 
 -- where none is found, no live one of the address is in local use
 none-used : (addr : Addr) (m : Machine) → find (is_used_at addr) m.connections ≡ None → IsUsedByNobody addr m
 none-used addr m none =
     All-weaker (λ e. is_used_at addr e ≡ false) (λ e. is_live_at addr e.facts ≡ true → e.facts.local ≡ false)
     (λ e other live. sym (ap (λ b. b && e.facts.local) live) ∙ other) m.connections (find_none (is_used_at addr) m.connections none)
-
-forgotten : (addr : Addr) (m : Machine) → is_known addr (peer_goes addr m).machine ≡ false
-forgotten addr m = ap is_some (taken-here addr m.peers)
 
 -- ---- a peer that changes
 
@@ -98,7 +89,7 @@ reuses addr m h e live free =
       forgiven = changed-here e.facts.addr warm n (λ p. refl) (λ p. p.failures ≡ 0) (λ p. refl);
     })
 
--- ---- a peer that is asked for addresses
+-- ---- a peer that an order finds in use
 
 -- the live connection that is in use is the one that an order finds
 used-here : (addr : Addr) (m : Machine) (e : Entry) → IsOrderly m → live_entry_at addr m ≡ Some e → e.facts.local ≡ true → find (is_used_at addr) m.connections ≡ Some e
@@ -110,20 +101,12 @@ address-here : (addr : Addr) (m : Machine) (e : Entry) → live_entry_at addr m 
 address-here addr m e live =
     same_address-true e.facts.addr addr (and_parts (same_address e.facts.addr addr) (is_live e.facts) (find_some (λ x. is_live_at addr x.facts) m.connections e live).passes).0
 
-leaves-alone : (addr : Addr) (n : ℕ) (m : Machine) → IsOrderly m → LeavesAlone addr m (carries_out (Ask addr n) m).machine
-leaves-alone addr n m h e live local =
-    let gap : ℕ = m.now + m.settings.sharegap in
-    subst (λ o. OnPeer (peer_at addr (on_entry o (asks_peer n) m).machine) (λ p. p.share_next ≡ gap)) (sym (used-here addr m e h live local))
-    (subst (λ a. OnPeer (peer_at a (asks_peer n e m).machine) (λ p. p.share_next ≡ gap)) (address-here addr m e live)
-    (changed-here e.facts.addr (λ p. record p { share_next = gap }) (with_entry (owing 10 n m e) m) (λ p. refl) (λ p. p.share_next ≡ gap) (λ p. refl)))
-
--- ---- a peer that is deactivated
-
-deactivates-warms : (addr : Addr) (m : Machine) → IsOrderly m → Comes Warm addr m (carries_out (Deactivate addr) m).machine
-deactivates-warms addr m h e live local =
-    subst (λ o. OnPeer (peer_at addr (on_entry o deactivates m).machine) (λ p. p.temp ≡ Warm)) (sym (used-here addr m e h live local))
-    (subst (λ a. OnPeer (peer_at a (deactivates e m).machine) (λ p. p.temp ≡ Warm)) (address-here addr m e live)
-    (changed-here e.facts.addr (λ p. record p { temp = Warm }) m (λ p. refl) (λ p. p.temp ≡ Warm) (λ p. refl)))
+-- what an order leaves of the peer of each connection holds at its own address
+used-leaves : (addr : Addr) (act : Entry → Machine → Effect) (m : Machine) (law : Peer → Type 0) → IsOrderly m → ((e : Entry) → OnPeer (peer_at e.facts.addr (act e m).machine) law) →
+    (e : Entry) → live_entry_at addr m ≡ Some e → e.facts.local ≡ true → OnPeer (peer_at addr (on_used addr act m).machine) law
+used-leaves addr act m law h each e live local =
+    subst (λ o. OnPeer (peer_at addr (on_entry o act m).machine) law) (sym (used-here addr m e h live local))
+    (subst (λ a. OnPeer (peer_at a (act e m).machine) law) (address-here addr m e live) (each e))
 
 -- ---- a peer that is released
 
@@ -139,28 +122,15 @@ lost-cold a f m cold = cond_both (is_missed f) (peer_fails f.addr m) (nothing_mo
     fails = failed_peer m.now m.settings.backoff
 
 trim-cold : (a : Addr) (moved : Cid) (m : Machine) → OnPeer (peer_at a m) (λ p. p.temp ≡ Cold) → OnPeer (peer_at a (trim moved m).machine) (λ p. p.temp ≡ Cold)
-trim-cold a moved m cold = cond_both (nat_le (counted_in m) m.settings.hard) (nothing_more m) (on_connection (unwrap_or (choice_of (candidates_in m)) moved) (ending Pruned) m)
-    (λ effect. OnPeer (peer_at a effect.machine) (λ p. p.temp ≡ Cold)) (λ within. cold) (λ above. by_option (entry_at (unwrap_or (choice_of (candidates_in m)) moved).0 m)
-    (λ o. OnPeer (peer_at a (on_entry o (ending Pruned) m).machine) (λ p. p.temp ≡ Cold))
-    (λ is. cold) (λ e is. lost-cold a e.facts (without_entry e.facts.cid.0 m) cold))
+trim-cold a moved m cold =
+    trim-cases moved m (λ effect. OnPeer (peer_at a effect.machine) (λ p. p.temp ≡ Cold)) cold (λ e is. lost-cold a e.facts (without_entry e.facts.cid.0 m) cold)
 
 releases-cools : (addr : Addr) (m : Machine) → IsOrderly m → Comes Cold addr m (carries_out (Release addr) m).machine
-releases-cools addr m h e live local =
-    let n : Machine = with_entry (record e { facts = released (m.now + m.settings.idle) e.facts }) m in
-    subst (λ o. OnPeer (peer_at addr (on_entry o release m).machine) (λ p. p.temp ≡ Cold)) (sym (used-here addr m e h live local))
-    (subst (λ a. OnPeer (peer_at a (release e m).machine) (λ p. p.temp ≡ Cold)) (address-here addr m e live)
-    (subst (λ w. OnPeer (peer_at e.facts.addr (then_do (entry_turns e (record e { facts = released (w.now + w.settings.idle) e.facts }) w)
-    (λ x. then_do (peer_becomes Cold e.facts.addr x) (trim e.facts.cid))).machine) (λ p. p.temp ≡ Cold)) (sym (says_done-machine e.facts m))
-    (trim-cold e.facts.addr e.facts.cid (peer_becomes Cold e.facts.addr n).machine (changed-here e.facts.addr (λ p. record p { temp = Cold }) n (λ p. refl) (λ p. p.temp ≡ Cold) (λ p. refl)))))
+releases-cools addr m h = used-leaves addr release m (λ p. p.temp ≡ Cold) h (λ e.
+    subst (λ w. OnPeer (peer_at e.facts.addr w) (λ p. p.temp ≡ Cold)) (sym (release-machine e m)) (trim-cold e.facts.addr e.facts.cid (cooled e m)
+    (changed-here e.facts.addr (λ p. record p { temp = Cold }) (with_entry (turned_by is_released e m) m) (λ p. refl) (λ p. p.temp ≡ Cold) (λ p. refl))))
 
 -- ---- the book
-
-connects-book : (addr : Addr) (m : Machine) → (peer_connects addr m).machine.peers ≡ m.peers
-connects-book addr m = connects-cases addr m (λ effect. effect.machine.peers ≡ m.peers) (λ cause. refl) (λ room alone. refl) (λ room e is pending. refl)
-
-asks-book : (m : Machine) → (asks_roots m).machine.peers ≡ m.peers
-asks-book m = cond_both (may_ask m.now m.targets.root m.roots) _ _ (λ (effect : Effect). effect.machine.peers ≡ m.peers)
-    (λ too_few. refl) (λ enough. refl)
 
 closed-book : (o : Option Entry) (m : Machine) → WhereLive o (λ e. FailsWhere (is_missed e.facts) e m (on_entry o closes m).machine)
 closed-book None m = tt
@@ -168,8 +138,8 @@ closed-book (Some e) m = λ live. rw live (vanishes-failed e m)
 
 pub treats-book : (act : Act) (m : Machine) → TreatsBook act m (does act m).machine
 treats-book (shows t) m = refl
-treats-book asks_for_roots m = asks-book m
-treats-book (connects addr) m = connects-book addr m
+treats-book asks_for_roots m = cond_both (may_ask m.now m.targets.root m.roots) _ _ (λ (effect : Effect). effect.machine.peers ≡ m.peers) (λ too_few. refl) (λ enough. refl)
+treats-book (connects addr) m = connects-cases addr m (λ effect. effect.machine.peers ≡ m.peers) (λ cause. refl) (λ room alone. refl) (λ room e is pending. refl)
 treats-book (stores entry undecoded) m = refl
 treats-book (is_closed cid) m = closed-book (entry_at cid.0 m) m
 treats-book (sets_targets targets) m = refl
@@ -184,33 +154,32 @@ notice-pauses : (b : Bool) (length : ℕ) → pauses_in (if b then Pause length 
 notice-pauses true length = refl
 notice-pauses false length = refl
 
-is_below : (n : ℕ) → nat_lt n (n + 1) ≡ true
-is_below n = grind arith
-
 admitted-pauses : (addr : Addr) (m : Machine) → pauses_in (admitted addr m).actions ≡ pauses_due m (admitted addr m).machine
 admitted-pauses addr m =
     let n : Machine = (admitted addr m).machine in
+    let below : nat_lt m.next_id (m.next_id + 1) ≡ true = grind arith in
     notice-pauses (nat_lt n.settings.soft (counted_in n)) (pause_of n.settings (counted_in n))
-    ∙ ap (λ b. if b && nat_lt n.settings.soft (counted_in n) then pause_of n.settings (counted_in n) ∷ [] else []) (sym (is_below m.next_id))
+    ∙ ap (λ b. if b && nat_lt n.settings.soft (counted_in n) then pause_of n.settings (counted_in n) ∷ [] else []) (sym below)
 
 nobody-pauses : (m : Machine) → [] ≡ pauses_due m m
 nobody-pauses m = ap (λ b. if b && nat_lt m.settings.soft (counted_in m) then pause_of m.settings (counted_in m) ∷ [] else []) (sym (not_below m.next_id))
 
-connects-pauses : (addr : Addr) (m : Machine) → pauses_in (peer_connects addr m).actions ≡ pauses_due m (peer_connects addr m).machine
-connects-pauses addr m = connects-cases addr m (λ effect. pauses_in effect.actions ≡ pauses_due m effect.machine) (λ cause. nobody-pauses m)
-    (λ room alone. admitted-pauses addr m) (λ room e is pending. admitted-pauses addr (ending Overwritten e m).machine)
-
 pub pauses-right : (act : Act) (m : Machine) → IsNext act m → Finds act m → PausesRight act m (does act m)
-pauses-right (connects addr) m next found = connects-pauses addr m
+pauses-right (connects addr) m next found = connects-cases addr m (λ effect. pauses_in effect.actions ≡ pauses_due m effect.machine) (λ cause. nobody-pauses m)
+    (λ room alone. admitted-pauses addr m) (λ room e is pending. admitted-pauses addr (ending Overwritten e m).machine)
 pauses-right asks_for_roots m next found = asks-silent pauses_by (λ job. refl) m
 pauses-right other m next found = part-silent pauses_by pauses-deaf (λ cid bytes. refl) other m tt next found
 
 -- ---- each order
 
 pub carried-out : (order : Order) (m : Machine) → IsOrderly m → IsCarriedOut order m (carries_out order m)
-carried-out (Ask addr n) m h = leaves-alone addr n m h
-carried-out (Forget addr) m h = forgotten addr m
+carried-out (Ask addr n) m h =
+    let gap : ℕ = m.now + m.settings.sharegap in
+    used-leaves addr (asks_peer n) m (λ p. p.share_next ≡ gap) h
+    (λ e. changed-here e.facts.addr (λ p. record p { share_next = gap }) (with_entry (owing 10 n m e) m) (λ p. refl) (λ p. p.share_next ≡ gap) (λ p. refl))
+carried-out (Forget addr) m h = ap is_some (taken-here addr m.peers)
 carried-out (Promote addr) m h = (promote-move addr m, reuses addr m h)
 carried-out (Release addr) m h = (none-used addr (carries_out (Release addr) m).machine (release-none addr m h), releases-cools addr m h)
 carried-out (Activate addr) m h = activate-move addr m
-carried-out (Deactivate addr) m h = deactivates-warms addr m h
+carried-out (Deactivate addr) m h = used-leaves addr deactivates m (λ p. p.temp ≡ Warm) h
+    (λ e. changed-here e.facts.addr (λ p. record p { temp = Warm }) m (λ p. refl) (λ p. p.temp ≡ Warm) (λ p. refl))

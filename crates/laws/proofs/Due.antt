@@ -1,7 +1,7 @@
 -- Whom each part of an event ends: whom it must, and nobody else but by pruning; and whom it prunes.
-use Rattle.std.proofs.Common.{ℕ, ◌+◌, ◌%◌, ◌≡◌, Bool, true, false, not, ◌&&◌, ◌==◌, nat_le, if◌then◌else◌, List, [], ◌∷◌, ◌++◌, map, filter, find, Option, Some, None, Result, Ok, Err, refl, sym, ap, ◌∙◌, subst}
+use Rattle.std.proofs.Common.{ℕ, ◌+◌, ◌≡◌, Bool, true, false, not, ◌&&◌, ◌==◌, nat_le, if◌then◌else◌, List, [], ◌∷◌, ◌++◌, map, filter, find, Option, Some, None, Result, Ok, Err, refl, sym, ap, ◌∙◌, subst}
 use Rattle.laws.proofs.Words.{cond_both, flat_map-append, filter-append}
-use Rattle.laws.specs.Words.{AllByRecursion, unwrap_or, choice_of, is_acquirable, is_pending, runs, agreed_sharing, Order, Ask, Forget, Promote, Release, Activate, Deactivate, answer_of, Verdict, CutFault, Item, same_address, address_below, CloseCause, OwnAddr, Crossed, FaultKind, Malformed, Protocol, HandshakeWait, ReplyWait, Close, AskRoots, expired, acquired, awakened, Addr, Cid, Phase, Greeting, Negotiated, Cold, Warm, Hot, Kind, Handshake, TimeWait, watched, Seen, may_ask, asked, item_number_of, alive_of, share_of, Alive, Share, kind_of, with_entry, without_entry, entry_turns, ending, vanishes, acquire, candidates_in, trim, says_done, release, awake, idle, dial, dial_opens, closing_entry, fires_as, Effect, Happened, Move, promoted, activated, shared, ended, unused, gone, on_entry, on_connection, nothing_more, tells, then_do, as_move, turned_away, admitted, accepted_beside, peer_connects, promoted_at, promote, is_used_at, on_used, asks_peer, activates, activate, deactivates, carries_out, asks_roots, sends_answer, judged, decided, greets, Machine, Entry, Owed, counted_in, entry_at, live_entry_at, own_info, peer_at, peer_becomes, peer_is_ordinary, peer_comes, comes_ordinary, is_wanted_big, comes_big, reply_on, owing, paid, handled_in, handled, faulted, replies, stops_if, serves, begins, takes_requests, asked_as, pays_chain_sync, pays_keep_alive, pays_peer_sharing, pays, brings, answered_as, talks}
+use Rattle.laws.specs.Words.{AllByRecursion, unwrap_or, choice_of, is_acquirable, is_pending, runs, agreed_sharing, Order, Ask, Forget, Promote, Release, Activate, Deactivate, answer_of, Verdict, CutFault, Item, same_address, address_below, CloseCause, OwnAddr, Crossed, FaultKind, Malformed, Protocol, HandshakeWait, ReplyWait, Close, expired, awakened, Addr, Cid, Phase, Greeting, Negotiated, Cold, Warm, Hot, Kind, Handshake, TimeWait, watched, Seen, may_ask, item_number_of, alive_of, share_of, Alive, Share, kind_of, with_entry, without_entry, entry_turns, ending, vanishes, acquire, candidates_in, trim, says_done, release, awake, idle, dial, dial_opens, closing_entry, fires_as, Effect, Happened, Move, promoted, activated, shared, ended, unused, gone, on_entry, on_connection, nothing_more, tells, then_do, as_move, turned_away, admitted, accepted_beside, peer_connects, promoted_at, promote, is_used_at, on_used, asks_peer, activates, activate, deactivates, carries_out, sends_answer, judged, greets, Machine, Entry, Owed, counted_in, entry_at, live_entry_at, own_info, peer_at, peer_becomes, peer_is_ordinary, peer_comes, comes_ordinary, is_wanted_big, reply_on, owing, paid, handled_in, handled, faulted, replies, stops_if, serves, begins, takes_requests, asked_as, pays_chain_sync, pays_keep_alive, pays_peer_sharing, pays, brings, answered_as, talks}
 use Rattle.laws.specs.Words.verdict
 use Rattle.laws.specs.Words.cut
 use Rattle.laws.specs.Words.cause
@@ -58,20 +58,23 @@ kind-same : (f : CutFault) → kind_of f ≡ kind_of_cut f
 kind-same cut.Bad = refl
 kind-same other = refl
 
--- a promotion and an activation are one move each
+-- neither what a promotion does nor what an activation does is a move by itself
+pub promoted_at-moves : (o : Option Entry) (addr : Addr) (m : Machine) → (promoted_at o addr m).moves ≡ []
+promoted_at-moves None addr m = refl
+promoted_at-moves (Some e) addr m = cond_both (is_acquirable e.facts) (acquire e m) (dial addr m) (λ effect. effect.moves ≡ [])
+    (λ free. ap (λ ms. ms ++ []) (turns_at-moves _ _ _)) (λ other. refl)
+
+pub on_used-moves : (addr : Addr) (m : Machine) → (on_used addr activates m).moves ≡ []
+on_used-moves addr m = by_option (find (is_used_at addr) m.connections) (λ o. (on_entry o activates m).moves ≡ [])
+    (λ is. refl) (λ e is. refl)
+
+-- so they are one move each
 pub promote-move : (addr : Addr) (m : Machine) → IsOneMove (promoted addr) m (promote addr m)
-promote-move addr m = by_option (live_entry_at addr m) (λ o. IsOneMove (promoted addr) m (as_move (promoted addr) m (promoted_at o addr m)))
-    (λ is. refl)
-    (λ e is. cond_both (is_acquirable e.facts) (acquire e m) (dial addr m) (λ effect. IsOneMove (promoted addr) m (as_move (promoted addr) m effect))
-    (λ free.
-    let n : Machine = with_entry (owing 8 (e.facts.cid.0 % 65536) m (record e { facts = acquired e.facts })) m in
-    let move : Move = record { happened = promoted addr; before = m; after = (acquire e m).machine } in
-    ap (λ ms. (ms ++ []) ++ move ∷ []) (turns_at-moves (peer_at e.facts.addr n) (λ p. record p { temp = Warm; failures = 0 }) n)) (λ other. refl))
+promote-move addr m =
+    ap (λ ms. ms ++ record { happened = promoted addr; before = m; after = (promote addr m).machine } ∷ []) (promoted_at-moves (live_entry_at addr m) addr m)
 
 pub activate-move : (addr : Addr) (m : Machine) → IsOneMove (activated addr) m (activate addr m)
-activate-move addr m = by_option (find (is_used_at addr) m.connections)
-    (λ o. IsOneMove (activated addr) m (as_move (activated addr) m (on_entry o activates m)))
-    (λ is. refl) (λ e is. refl)
+activate-move addr m = ap (λ ms. ms ++ record { happened = activated addr; before = m; after = (activate addr m).machine } ∷ []) (on_used-moves addr m)
 
 module _ (P : End → Type 0) where
   -- those are ended but by pruning, and each that is pruned passes
@@ -135,15 +138,12 @@ module _ (P : End → Type 0) where
   judged-ends verdict.Wrong e m = ending-ends (cause.Fault Protocol) e m refl
   judged-ends other e m = ending-ends cause.Refused e m refl
 
-  decided-ends : (v : Verdict) (e : Entry) (m : Machine) → EndsAs (decided v e m) (map (end_of e) (causes_of_verdict v))
-  decided-ends v e m =
-      let first : Effect = sends_answer (answer_of v (own_info m.settings)) e.facts.cid m in
-      ends_then first (judged v e) (map (end_of e) (causes_of_verdict v))
-      (moves_nothing first (answer-quiet (answer_of v (own_info m.settings)) e.facts.cid m).moves) (judged-ends v e first.machine)
-
   greets-ends : (item : Item) (e : Entry) (m : Machine) → EndsAs (greets item e m) (map (end_of e) (causes_of_greeting item e.facts m))
   greets-ends item e m = greets-due causes_of_message protocol_fault causes_of_verdict item e m (λ effect causes. EndsAs effect (map (end_of e) causes))
-      (λ causes. ending-ends (cause.Fault Malformed) e m refl) (ending-ends (cause.Fault Protocol) e m refl) (λ effect msg causes h. h) (λ v. decided-ends v e m)
+      (λ causes. ending-ends (cause.Fault Malformed) e m refl) (ending-ends (cause.Fault Protocol) e m refl) (λ effect msg causes h. h) (λ v.
+      let first : Effect = sends_answer (answer_of v (own_info m.settings)) e.facts.cid m in
+      ends_then first (judged v e) (map (end_of e) (causes_of_verdict v))
+      (moves_nothing first (answer-quiet (answer_of v (own_info m.settings)) e.facts.cid m).moves) (judged-ends v e first.machine))
 
   serves-ends : (o : Option Entry) (seen : Seen) (protocol : ℕ) (m : Machine) → EndsAs (on_entry o (serves seen protocol) m) []
   serves-ends None seen protocol m = ends_nobody (nothing_more m) refl
@@ -282,15 +282,6 @@ module _ (P : End → Type 0) where
   carries-ends (Deactivate addr) m chosen = on_used-ends addr deactivates m
       (λ e is. moves_nothing (deactivates e m) (turns_at-moves (peer_at e.facts.addr m) (λ p. record p { temp = Warm }) m))
 
-  roots-ends : (m : Machine) → EndsAs (asks_roots m) []
-  roots-ends m = cond_both (may_ask m.now m.targets.root m.roots)
-      (tells (AskRoots (record { 0 = m.roots.next_job }) ∷ []) (record m { roots = asked m.roots })) (nothing_more m) (λ effect. EndsAs effect [])
-      (λ too_few. ends_nobody (tells (AskRoots (record { 0 = m.roots.next_job }) ∷ []) (record m { roots = asked m.roots })) refl) (λ enough. ends_nobody (nothing_more m) refl)
-
-  big-ends : (addr : Addr) (m : Machine) → EndsAs (comes_big addr m) []
-  big-ends addr m = cond_both (is_wanted_big addr m) (as_move (shared addr) m (peer_comes true addr m)) (nothing_more m) (λ effect. EndsAs effect [])
-      (λ wanted. comes-ends true addr m) (λ other. ends_nobody (nothing_more m) refl)
-
   -- ---- each act
 
   -- whom an item may prune, and a release
@@ -301,7 +292,8 @@ module _ (P : End → Type 0) where
 
   pub part-ends : (act : Act) (m : Machine) → ChosenBy act m → EndsAs (does act m) (ends_due act m)
   part-ends (fires_one d) m chosen = on_ends (entry_at d.cid.0 m) (fires_as d.kind) m (causes_of_kind d.kind) (λ e is. fires_as-ends d.kind e m)
-  part-ends asks_for_roots m chosen = roots-ends m
+  part-ends asks_for_roots m chosen = cond_both (may_ask m.now m.targets.root m.roots) _ _ (λ (effect : Effect). EndsAs effect [])
+      (λ too_few. ends_nobody _ refl) (λ enough. ends_nobody (nothing_more m) refl)
   part-ends (carries order) m chosen = carries-ends order m chosen
   part-ends (connects addr) m chosen = connects-ends addr m
   part-ends (ends_dial cid opened) m chosen = dialed-cases cid opened m (λ effect. EndsAs effect []) (ends_nobody (nothing_more m) refl)
@@ -312,5 +304,6 @@ module _ (P : End → Type 0) where
       (λ e k s own. moves_nothing (vanishes e m) (lost-quiet e.facts (without_entry e.facts.cid.0 m)).moves)
   part-ends (makes_ordinary addr) m chosen = moves_nothing (peer_is_ordinary addr m) (turns_at-moves (peer_at addr m) (λ p. record p { big = false }) m)
   part-ends (provides addr) m chosen = moves_nothing (comes_ordinary addr m) (comes-providing false addr m).moves
-  part-ends (provides_big addr) m chosen = big-ends addr m
+  part-ends (provides_big addr) m chosen = cond_both (is_wanted_big addr m) _ _ (λ (effect : Effect). EndsAs effect [])
+      (λ wanted. comes-ends true addr m) (λ other. ends_nobody (nothing_more m) refl)
   part-ends other m chosen = ends_nobody (does other m) refl

@@ -1,12 +1,11 @@
 -- The moves of each event.
 use Rattle.std.proofs.Common.{ℕ, ◌+◌, ◌≡◌, ◌≤◌, arith, Bool, true, false, ◌&&◌, nat_le, nat_lt, List, [], ◌∷◌, ◌++◌, length, Some, refl, ap, ◌∙◌}
 use Rattle.laws.proofs.Words.{cond_both, both_ways, false≢true, and_from, or_right, All-from_recursion}
-use Rattle.laws.specs.Words.{AllByRecursion, connected, is_live_at, is_negotiated, is_outbound, is_pending, is_dialing, is_dialing_phase, opening_phase, Admit, Pause, pause_of, Phase, Negotiated, Closing, Overwritten, Addr, Cid, Event, Now, Govern, Accepted, Dialed, Bytes, Closed, Locals, Roots, Bigs, Group, Job, RootAnswer, Found, Failed, cleaned, members_of, awaits, publics_of, found, proposal_of, Machine, Entry, counted_in, Effect, Move, shared, gone, nothing_more, tells, as_move, for_each, own_info, peer_comes, peer_is_ordinary, peer_at, sends_as_initiator, with_entry, without_entry, entry_goes, entry_comes, lost, ending, vanishes, dial_opens, dial_fails, deadlines, fire_all, clock_shows, turned_away, pause_notice, admitted, peer_connects, peer_closes, dial_ends, comes_ordinary, locals_are, is_wanted_big, comes_big, bigs_are, roots_say, roots_answer, step}
+use Rattle.laws.specs.Words.{AllByRecursion, connected, is_live_at, is_negotiated, is_outbound, is_pending, is_dialing, is_dialing_phase, opening_phase, Admit, Pause, pause_of, Phase, Negotiated, Closing, Overwritten, Addr, Cid, Event, Now, Govern, Accepted, Dialed, Bytes, Closed, Locals, Roots, Bigs, Group, Job, RootAnswer, Found, Failed, cleaned, members_of, awaits, publics_of, found, proposal_of, Machine, Entry, counted_in, Effect, Move, shared, gone, nothing_more, tells, as_move, for_each, own_info, peer_comes, peer_is_ordinary, peer_at, sends_as_initiator, with_entry, without_entry, entry_goes, entry_comes, lost, ending, vanishes, dial_fails, deadlines, fire_all, clock_shows, turned_away, pause_notice, admitted, peer_connects, peer_closes, dial_ends, comes_ordinary, locals_are, is_wanted_big, comes_big, bigs_are, roots_say, roots_answer, step}
 use Rattle.laws.specs.AtMoves.{is_missed, FailsWhere, IsLawful, MovesAreLawful, is_up_connection}
 use Rattle.laws.specs.Sound.{IsOrderly}
 use Rattle.laws.specs.Stages.{stage_of_phase}
 use Rattle.laws.specs.Telling.{IsTold}
-use Rattle.laws.specs.InActions.{promoted_by_dial}
 use Rattle.laws.specs.Steady.{IsSteady, IsOrdered}
 use Rattle.laws.proofs.Admitted.{pending-live}
 use Rattle.laws.proofs.Clock.{fire_due-obeys}
@@ -88,16 +87,6 @@ vanishes-told : (m : Machine) (e : Entry) (k : ℕ) → IsOrdered m → StandsAt
 vanishes-told m e k h s =
     told_then m (entry_goes e m) (lost e.facts) (goes-told m e k h.orderly s) (lost-quiet e.facts (without_entry e.facts.cid.0 m)).told
 
-opens-obeys : (Law : Move → Type 0) (m : Machine) (e : Entry) (k : ℕ) → IsOrdered m → StandsAt m.connections k e → is_dialing e.facts ≡ true → Obeys Law m (dial_opens e m)
-opens-obeys Law m e k h s dials =
-    let new : Entry = record e { facts = connected (m.now + m.settings.handshake) e.facts } in
-    let proposal : Machine → Effect = λ n. sends_as_initiator e.facts.cid 0 (proposal_of (own_info n.settings)) n in
-    turned_then-obeys Law m e new k proposal h.orderly s
-    (record { same_id = refl; same_addr = refl; live = λ l. dialing-live e.facts.phase dials })
-    (record { up = λ up. dialing-up m e k h s dials; asked = λ asked. asked })
-    (dialing-stage e.facts.phase dials)
-    (tells-quiet (proposal (with_entry new m)).actions (with_entry new m) refl)
-
 fails-obeys : (m : Machine) (e : Entry) (k : ℕ) → IsOrdered m → StandsAt m.connections k e → is_dialing e.facts ≡ true →
     Obeys IsLawful m (dial_fails e m)
 fails-obeys m e k h s dials =
@@ -106,14 +95,19 @@ fails-obeys m e k h s dials =
     as_move-obeys IsLawful (gone e.facts.cid.0) m (vanishes e m) lost.moves
     (record { back_off = tt; targets = tt; cause = on_stands (λ x. (is_negotiated x.facts ≡ false) × FailsWhere (is_missed x.facts) x m (vanishes e m).machine) m e k h.orderly s (unnegotiated, vanishes-failed e m) })
     (accounts_gone m e k (dial_fails e m) h.orderly s lost.connections lost.hot lost.known
-    (told_move (gone e.facts.cid.0) m (vanishes e m) refl (no_dial (vanishes e m)) (vanishes-told m e k h s)))
-  where
-    no_dial : (effect : Effect) → promoted_by_dial (gone e.facts.cid.0) m.next_id effect.machine.next_id ≡ []
-    no_dial effect = refl
+    (told_move (gone e.facts.cid.0) m (vanishes e m) refl refl (vanishes-told m e k h s)))
 
 pub dial_ends-obeys : (cid : Cid) (opened : Bool) (m : Machine) → IsOrdered m → Obeys IsLawful m (dial_ends cid opened m)
 dial_ends-obeys cid opened m h = dialed-cases cid opened m (Obeys IsLawful m) (obeys_nothing IsLawful m)
-    (λ e k s dials. opens-obeys IsLawful m e k h s dials) (λ e k s dials. fails-obeys m e k h s dials)
+    (λ e k s dials.
+    let new : Entry = record e { facts = connected (m.now + m.settings.handshake) e.facts } in
+    let proposal : Machine → Effect = λ n. sends_as_initiator e.facts.cid 0 (proposal_of (own_info n.settings)) n in
+    turned_then-obeys IsLawful m e new k proposal h.orderly s
+    (record { same_id = refl; same_addr = refl; live = λ l. dialing-live e.facts.phase dials })
+    (record { up = λ up. dialing-up m e k h s dials; asked = λ asked. asked })
+    (dialing-stage e.facts.phase dials)
+    (tells-quiet (proposal (with_entry new m)).actions (with_entry new m) refl))
+    (λ e k s dials. fails-obeys m e k h s dials)
 
 -- ---- a peer connects
 
@@ -154,10 +148,6 @@ clock-lawful t m h =
 
 -- ---- the other side closes
 
-closes-lawful : (Law : Move → Type 0) (cid : Cid) (m : Machine) → AllByRecursion Law (peer_closes cid m).moves
-closes-lawful Law cid m = closes-cases cid m (λ effect. AllByRecursion Law effect.moves) tt
-    (λ e k s own. quiet-lawful Law (vanishes e m) (lost-quiet e.facts (without_entry e.facts.cid.0 m)).moves)
-
 pub closes-accounted : (cid : Cid) (m : Machine) → IsOrdered m → Accounts m (peer_closes cid m)
 closes-accounted cid m h = closes-cases cid m (Accounts m) (obeys_nothing (λ move. Unit {0}) m).accounted
     (λ e k s own.
@@ -172,7 +162,8 @@ step-lawful m (Govern word) h = (govern-trimmed word m (ordered_of m h) h.sound.
 step-lawful m (Accepted addr) h = (connects-obeys addr m (ordered_of m h)).lawful
 step-lawful m (Dialed cid opened) h = (dial_ends-obeys cid opened m (ordered_of m h)).lawful
 step-lawful m (Bytes cid bytes) h = (bytes_come_in-trimmed cid bytes m (ordered_of m h) h.sound.counted).lawful h.tied
-step-lawful m (Closed cid) h = closes-lawful IsLawful cid m
+step-lawful m (Closed cid) h = closes-cases cid m (λ effect. AllByRecursion IsLawful effect.moves) tt
+    (λ e k s own. quiet-lawful IsLawful (vanishes e m) (lost-quiet e.facts (without_entry e.facts.cid.0 m)).moves)
 step-lawful m (Locals groups) h = quiet-lawful IsLawful (locals_are groups m) (locals-moves groups m)
 step-lawful m (Roots job answer) h = quiet-lawful IsLawful (roots_answer job answer m) (roots-moves job answer m)
 step-lawful m (Bigs addrs) h = (bigs-obeys addrs m).lawful

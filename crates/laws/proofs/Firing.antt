@@ -151,15 +151,6 @@ due-contains m d e =
       All-contains (λ x. is_late m.now x ≡ true) late d (filter_passes (is_late m.now) (deadlines m)) among,
     )
 
-pub deadlines_of-cid : (e : Entry) → All (λ d. d.cid ≡ e.facts.cid) (deadlines_of e)
-deadlines_of-cid e = deadlines-by (λ d. d.cid ≡ e.facts.cid) e (λ until is. refl) (λ until is. refl) (λ until is. refl) (λ until is. refl) (λ k d inside. refl)
-
--- Only a connection that this side has closed has a time-wait.
-deadlines_of-waits : (e : Entry) → All (λ d. d.kind ≡ TimeWait → is_live e.facts ≡ false) (deadlines_of e)
-deadlines_of-waits e = deadlines-by (λ d. d.kind ≡ TimeWait → is_live e.facts ≡ false) e (λ until is same. absurd cc) (λ until is same. ap live_phase is)
-    (λ until is same. absurd cc) (λ until is same. absurd cc)
-    (λ k d inside. reply_kind-cases (λ kind. kind ≡ TimeWait → is_live e.facts ≡ false) (λ same. absurd cc) (λ same. absurd cc) (λ same. absurd cc) (get_or e.owed k d).protocol)
-
 -- the connection whose deadline fires next
 pub record Due (m : Machine) (d : Deadline) : Type 0 where
   pub owner : Entry
@@ -176,7 +167,8 @@ due_of m d h e =
     let has : Has m.connections d = has-contains m.connections d known.0 in
     let owner : Entry = has.owner in
     let id : d.cid ≡ owner.facts.cid =
-    All-contains (λ x. x.cid ≡ owner.facts.cid) (deadlines_of owner) d (deadlines_of-cid owner) has.among in
+    All-contains (λ x. x.cid ≡ owner.facts.cid) (deadlines_of owner) d
+    (deadlines-by (λ x. x.cid ≡ owner.facts.cid) owner (λ until is. refl) (λ until is. refl) (λ until is. refl) (λ until is. refl) (λ k x inside. refl)) has.among in
     record {
       among = has.among;
       late = known.1;
@@ -186,7 +178,11 @@ due_of m d h e =
       found = find_only (λ x. has_id d.cid.0 x.facts) owner m.connections has.place
           (one_has_id d.cid.0 m.connections h.ids_rise) has.stands
           (eq-eqb owner.facts.cid.0 d.cid.0 (sym (ap (λ cid. cid.0) id)));
-      waits = All-contains (λ x. x.kind ≡ TimeWait → is_live owner.facts ≡ false) (deadlines_of owner) d (deadlines_of-waits owner) has.among;
+      -- only a connection that this side has closed has a time-wait
+      waits = All-contains (λ x. x.kind ≡ TimeWait → is_live owner.facts ≡ false) (deadlines_of owner) d
+          (deadlines-by (λ x. x.kind ≡ TimeWait → is_live owner.facts ≡ false) owner (λ until is same. absurd cc) (λ until is same. ap live_phase is)
+          (λ until is same. absurd cc) (λ until is same. absurd cc) (λ k x inside. reply_kind-cases (λ kind. kind ≡ TimeWait → is_live owner.facts ≡ false)
+          (λ same. absurd cc) (λ same. absurd cc) (λ same. absurd cc) (get_or owner.owed k x).protocol)) has.among;
     }
 
 -- The deadline that fires next leaves fewer that are late.
@@ -198,19 +194,14 @@ due-lowers m d h e =
     (fired_of-positive m.now next.owner d next.among next.late)
     (fires_as-lowers d.kind m next.owner next.place h next.stands))
 
--- where no deadline is to fire, none is late
-due-none : (m : Machine) → due m ≡ None → late_in m ≡ 0
-due-none m e =
-    let late : List Deadline = filter (is_late m.now) (deadlines m) in
-    sym (length-filter (is_late m.now) (deadlines m)) ∙ ap length (least-none late e)
-
 -- So many may fire as are late, and then none is.
 pub fire_due-all : (n : ℕ) (m : Machine) → IsOrderly m → late_in m ≤ n → late_in (fire_due n m).machine ≡ 0
 unfolding fire_due
 fire_due-all zero m h enough = omega arith
 fire_due-all (suc n) m h enough = by_option (due m)
     (λ o. ((w : Machine) → IsOrderly w → late_in w ≤ n → late_in (fire_due n w).machine ≡ 0) → late_in (fires_some o (fire_due n) m).machine ≡ 0)
-    (λ e later. due-none m e)
+    -- where no deadline is to fire, none is late
+    (λ e later. sym (length-filter (is_late m.now) (deadlines m)) ∙ ap length (least-none (filter (is_late m.now) (deadlines m)) e))
     (λ d e later.
     let first : Lowers 1 m (fires d m).machine = due-lowers m d h e in
     later (fires d m).machine first.orderly (omega arith)) (fire_due-all n)
@@ -219,13 +210,10 @@ fire_due-all (suc n) m h enough = by_option (due m)
 pub fire_all-none_late : (m : Machine) → IsOrderly m → late_in (fire_all m).machine ≡ 0
 fire_all-none_late m h = fire_due-all (length (deadlines m)) m h (count_by-le-length (is_late m.now) (deadlines m))
 
-none_late-none_due : (m : Machine) → late_in m ≡ 0 → due m ≡ None
-none_late-none_due m none =
-    let late : List Deadline = filter (is_late m.now) (deadlines m) in
-    ap least (nil_from_length late (length-filter (is_late m.now) (deadlines m) ∙ none))
-
 pub fire_all-none_due : (m : Machine) → IsOrderly m → due (fire_all m).machine ≡ None
-fire_all-none_due m h = none_late-none_due (fire_all m).machine (fire_all-none_late m h)
+fire_all-none_due m h =
+    let n : Machine = (fire_all m).machine in
+    ap least (nil_from_length (filter (is_late n.now) (deadlines n)) (length-filter (is_late n.now) (deadlines n) ∙ fire_all-none_late m h))
 
 pub fire_all-lowers : (m : Machine) → IsOrderly m → Lowers 0 m (fire_all m).machine
 fire_all-lowers m = fire_due-lowers (length (deadlines m)) m

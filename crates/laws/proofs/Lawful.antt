@@ -103,14 +103,11 @@ pub record IsQuiet (before : Machine) (effect : Effect) : Type 0 where
   pub known : StaysDown is_known before effect.machine
   pub told : IsTold before effect
 
-quiet-accounts : (m : Machine) (effect : Effect) → IsQuiet m effect → Accounts m effect
-quiet-accounts m effect q = accounts_none m effect (same-connected m effect.machine q.connections) q.hot q.known q.told
-
 pub quiet-lawful : (Law : Move → Type 0) (effect : Effect) → effect.moves ≡ [] → AllByRecursion Law effect.moves
 quiet-lawful Law effect none = subst (AllByRecursion Law) (sym none) tt
 
 pub quiet-obeys : (Law : Move → Type 0) (m : Machine) (effect : Effect) → IsQuiet m effect → Obeys Law m effect
-quiet-obeys Law m effect q = record { lawful = quiet-lawful Law effect q.moves; accounted = quiet-accounts m effect q }
+quiet-obeys Law m effect q = record { lawful = quiet-lawful Law effect q.moves; accounted = accounts_none m effect (same-connected m effect.machine q.connections) q.hot q.known q.told }
 
 -- what is neither a connection nor a peer is no matter of either
 pub elsewhere-quiet : (m : Machine) (effect : Effect) → effect.moves ≡ [] → effect.machine.connections ≡ m.connections → effect.machine.peers ≡ m.peers →
@@ -205,17 +202,6 @@ stands-found m e k h s = find_only (λ x. has_id e.facts.cid.0 x.facts) e m.conn
 pub on_stands : (law : Entry → Type 0) (m : Machine) (e : Entry) (k : ℕ) → IsOrderly m → StandsAt m.connections k e → law e → OnEntry (entry_at e.facts.cid.0 m) law
 on_stands law m e k h s holds = subst (λ o. OnEntry o law) (sym (stands-found m e k h s)) holds
 
--- a connection is ended, for a cause where its handshake was done
-ended-lawful : (cause : CloseCause) (m after : Machine) (e : Entry) (k : ℕ) → IsOrderly m → StandsAt m.connections k e →
-    (is_negotiated e.facts ≡ true → IsLateCause cause) → IsPrunedRightly cause e m → FailsWhere (is_failure cause e.facts) e m after →
-    IsLawful (record { happened = ended e.facts.cid.0 cause; before = m; after = after })
-ended-lawful cause m after e k h s may crowded fails = record {
-  back_off = tt;
-  targets = tt;
-  cause = on_stands (λ x. (is_negotiated x.facts ≡ true → IsLateCause cause) × IsPrunedRightly cause x m × FailsWhere (is_failure cause x.facts) x m after) m e k h s
-      (may, crowded, fails);
-}
-
 pub live_stage : (p : Phase) → live_phase p ≡ true → stage_of_phase p ≤ 3
 live_stage (Closing until) live = absurd (false≢true live)
 live_stage other live = omega arith
@@ -253,7 +239,15 @@ ending-obeys cause m e k h s live may crowded =
     let move : Move = record { happened = ended e.facts.cid.0 cause; before = m; after = (ending cause e m).machine } in
     let moves : (ending cause e m).moves ≡ move ∷ [] = ap (λ ms. ms ++ move ∷ []) q.moves in
     record {
-      lawful = subst (AllByRecursion IsLawful) (sym moves) (ended-lawful cause m (ending cause e m).machine e k h s may crowded (ending-failed cause e m), tt);
+      lawful = subst (AllByRecursion IsLawful) (sym moves) (
+        record {
+          back_off = tt;
+          targets = tt;
+          cause = on_stands (λ x. (is_negotiated x.facts ≡ true → IsLateCause cause) × IsPrunedRightly cause x m × FailsWhere (is_failure cause x.facts) x m (ending cause e m).machine) m e k h s
+              (may, crowded, ending-failed cause e m);
+        },
+        tt,
+      );
       accounted = accounts_gone m e k (ending cause e m) h s q.connections q.hot q.known (ending-told cause m e k h s live may);
     }
 

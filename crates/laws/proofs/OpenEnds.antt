@@ -1,5 +1,5 @@
 -- A connection that stands open stays so or ends once, in each part of an event.
-use Rattle.std.proofs.Common.{ℕ, ◌+◌, ◌≤◌, ◌≡◌, Bool, true, false, ◌||◌, ◌==◌, nat_lt, if◌then◌else◌, cond, flat_map, List, [], ◌∷◌, ◌++◌, find, Option, Some, None, refl, sym, ap, ◌∙◌, subst, inl, inr, arith, eqb-true, eq-eqb}
+use Rattle.std.proofs.Common.{ℕ, ◌+◌, ◌≤◌, ◌≡◌, Bool, true, false, ◌||◌, ◌==◌, nat_lt, if◌then◌else◌, cond, flat_map, List, [], ◌∷◌, ◌++◌, find, Option, Some, None, refl, sym, ap, ◌∙◌, subst, inl, inr, arith, eqb-true}
 use Rattle.laws.proofs.Words.{both_ways, false≢true, or_left, or_right, list_any-append, find-append}
 use Rattle.laws.specs.Words.{Undecoded, list_any, option_map, option_or, dialing, accepted, has_id, is_live, Send, CloseCause, entry_goes, with_entry, without_entry, entry_turns, lost_by, ending, vanishes, closing_entry, dial, Effect, Happened, Move, ended, unused, nothing_more, tells, then_do, as_move, turned_away, admitted, Machine, Entry, fresh_entry, entry_at, peer_changes, peer_goes, peer_at, peer_comes}
 use Rattle.laws.specs.Acts.{Act, does}
@@ -9,7 +9,7 @@ use Rattle.laws.specs.Parts.{IsNext}
 use Rattle.laws.specs.Stages.{stage_of, stage_at, causes_by, causes_in, IsOneEnd, IsLateCause}
 use Rattle.laws.specs.Telling.{IsTold}
 use Rattle.laws.specs.InActions.{ended_by, ends_in}
-use Rattle.laws.proofs.Walk.{Finds, Scope, Stands, Turn, turned_by, turned-cid, turned-live, shuts, Kept, scope_of, walk}
+use Rattle.laws.proofs.Walk.{Finds, Scope, Stands, Turn, turned_by, turned-cid, turned-live, shuts, Kept, scope_of, walk, own_id}
 use Rattle.laws.proofs.Moments.{turned-found}
 use Rattle.laws.proofs.Lawful.{comes-machine, lost_by-quiet, lost-quiet, live_stage}
 use Rattle.laws.proofs.Telling.{ended-over}
@@ -84,9 +84,6 @@ module _ (scope : Scope) (test : Option Entry → Bool) (goes : ℕ → Bool) (l
       (cid : ℕ) → (e.facts.cid.0 == cid) ≡ false → entry_at cid effect.machine ≡ entry_at cid m
   gone-others m e effect same cid other =
       ap (find (λ x. has_id cid x.facts)) same ∙ (gone-found cid e.facts.cid.0 m.connections ∙ ap (λ b. if b then None else entry_at cid m) other)
-
-  own_id : (cid : ℕ) → (cid == cid) ≡ true
-  own_id cid = eq-eqb cid cid refl
 
   ending-stays : (cause : CloseCause) (e : Entry) (m : Machine) → Stays m (ending cause e m)
   ending-stays cause e m =

@@ -1,7 +1,7 @@
 -- Each order of the governor is due: whom a rule picks is one that it may be for, and it picks as many as are too few or too many.
 use Rattle.std.proofs.Common.{ℕ, ◌+◌, ◌-◌, ◌≤◌, ◌<◌, ◌≡◌, Bool, true, false, cond, not, ◌&&◌, ◌||◌, nat_le, nat_lt, min, if◌then◌else◌, List, [], ◌∷◌, ◌++◌, length, map, filter, flat_map, count_by, Option, Some, refl, sym, ap, ◌∙◌, subst, arith, leb-true, find, is_some, None}
-use Rattle.laws.proofs.Words.{both_ways, and_parts, not-true, false≢true, or_parts, All-from_recursion, sum_by-cons, sum_by-append, count_by-le-length, count_none, map-append}
-use Rattle.laws.specs.Words.{AllByRecursion, same_address, Addr, Group, Peer, Temp, Cold, Warm, Hot, effective_of, effective_big_of, is_acquirable, is_pending, is_live, is_live_at, everybody, big_orders, may_be_asked, is_eligible, may_be_forgotten, may_be_released, may_be_activated, may_be_deactivated, count_of, is_linked, owes_on_2, owes_on_10, owes_a_reply, can_share, some_link, orders_for, is_not_local, may_be_dropped, is_member_and, members_count, missing_of, g2_orders, g3_orders, g4_orders, g5_orders, g6_orders, g7_orders, g8_orders, g9_orders, B3, B5, B6, B8, B9, Link, Order, Ask, Forget, Promote, Release, Activate, Deactivate, is_of, is_established, same_temp, known_of, established_of, active_of, is_listed, for_each, Effect, Move, link_of, view_of, carries_out, ordinary_rules, big_rules, is_used_at, Machine, Entry, counted_in, live_entry_at, peer_at, reply_on}
+use Rattle.laws.proofs.Words.{both_ways, and_parts, not-true, or_parts, All-from_recursion, sum_by-cons, sum_by-append, count_by-le-length, count_none, map-append}
+use Rattle.laws.specs.Words.{AllByRecursion, same_address, Addr, Group, Peer, Temp, Cold, Warm, Hot, effective_of, effective_big_of, is_acquirable, is_pending, is_live, is_live_at, everybody, big_orders, may_be_asked, is_eligible, may_be_forgotten, may_be_released, may_be_activated, may_be_deactivated, count_of, is_linked, owes_on_2, owes_on_10, owes_a_reply, can_share, some_link, orders_for, is_not_local, may_be_dropped, is_member_and, members_count, missing_of, g2_orders, g3_orders, g4_orders, g5_orders, g7_orders, g8_orders, g9_orders, B5, B8, Link, Order, Ask, Forget, Promote, Release, Activate, Deactivate, is_of, is_established, same_temp, known_of, established_of, active_of, is_listed, for_each, Effect, Move, link_of, view_of, carries_out, ordinary_rules, big_rules, is_used_at, Machine, Entry, counted_in, live_entry_at, peer_at, reply_on}
 use Rattle.govern_rules.specs.Links.{is_pending as is_pending_link, is_acquirable as is_acquirable_link}
 use Rattle.laws.specs.AtMoves.{some_connection, number_with, members_with, known_wanted, established_wanted, active_wanted, IsLawful, IsReady}
 use Rattle.laws.specs.CarriedOut.{IsUnset}
@@ -164,9 +164,6 @@ releases-spend big = record {
 
 -- ---- a peer is asked for addresses
 
-tells-local : IsLocalTest tells_soon
-tells-local addr m n h p other = h.connections is_to_tell p.addr other
-
 abbrev IsToAsk : ℕ → Peer → Type 0
 IsToAsk now p = (p.big ≡ false) × (is_established p.temp ≡ true) × (p.share_next ≤ now)
 
@@ -206,7 +203,7 @@ asks-spend k = record {
       let unset : IsUnset m n = order-unset (Ask a k) m h in
       let wanted : known_wanted false n ≡ known_wanted false m = known-stays false m n unset in
       let known : known_of false n.peers ≡ known_of false m.peers = known-same false a m.peers n.peers changes.peers in
-      let more = number-one tells_soon tells-local false a m n h.formed.peers changes in
+      let more = number-one tells_soon (λ addr v w changed p other. changed.connections is_to_tell p.addr other) false a m n h.formed.peers changes in
       let shares : n.settings.shares ≡ m.settings.shares = ap (λ s. s.shares) unset.settings in
       let few = left.few in
       record {
@@ -544,53 +541,13 @@ g2-due word m h within =
     short : nat_lt 0 (missing_of (view_of word m) m.peers) ≡ true → known_of false m.peers < known_wanted false m
     short is = grind (arith, is)
 
-both-false : (a b : Bool) → (not a && not b) ≡ true → not (a || b) ≡ true
-both-false true b h = absurd (false≢true h)
-both-false false b h = h
-
 g3-due : (word : ℕ) → DoesRight (λ m. g3_orders (view_of word m) m.peers m.groups m.roots.publics)
 g3-due word m h within =
     class-done IsLawful (Forgettable false) (ForgetsLeft false) Forget (forgets-spend false) false word _ _ m h within
     (forget-gives false (may_be_dropped m.groups m.roots.publics) m
     (λ a dropped. let parts = and_parts (is_not_local m.groups a) (not (is_listed a m.roots.publics)) dropped in
-    both-false (is_local m.groups a) (is_listed a m.roots.publics) (and_both (not (is_local m.groups a)) (not_local m.groups a parts.0) parts.1)))
+    rw (not_local-no_member a m.groups parts.0, not-true (is_listed a m.roots.publics) parts.1) refl))
     (λ addrs few. few)
-  where
-    and_both : (x : Bool) {y : Bool} → x ≡ true → y ≡ true → (x && y) ≡ true
-    and_both x {y} one two = rw one two
-
-g4-due : (word : ℕ) → DoesRight (λ m. g4_orders (view_of word m) m.peers m.groups)
-g4-due word m h within =
-    wanted-done m (g4_orders (view_of word m) m.peers m.groups)
-    (groups-done IsAllowed Promotable Promote promotes-spend word
-    (λ g. g.warm - members_count g (λ p. is_established p.temp || is_pending_link (links_of m) p.addr) m.peers)
-    (is_eligible m.now (links_of m)) m h within (promote-gives false m)) (groups_promotes-within word m h)
-
-g5-due : (word : ℕ) → DoesRight (λ m. g5_orders (view_of word m) m.peers m.groups)
-g5-due word m h within =
-    wanted-done m (g5_orders (view_of word m) m.peers m.groups)
-    (class-done IsAllowed Promotable Enough Promote promotes-spend false word _ _ m h within
-    (among-gives Promotable false (λ p. is_not_local m.groups p.addr) (is_eligible m.now (links_of m)) m (promote-gives false m)) (λ addrs few. tt))
-    (promotes-within false (is_not_local m.groups) word m (not_local m.groups) h)
-
-g6-due : (word : ℕ) → DoesRight (λ m. g6_orders (view_of word m) m.peers m.groups)
-g6-due word m h within =
-    class-done IsLawful (Releasable false) (ReleasesLeft false) Release (releases-spend false) false word _ _ m h within
-    (release-gives false (is_not_local m.groups) m (not_local m.groups)) (λ addrs few. few)
-
-g7-due : (word : ℕ) → DoesRight (λ m. g7_orders (view_of word m) m.peers m.groups)
-g7-due word m h within =
-    wanted-done m (g7_orders (view_of word m) m.peers m.groups)
-    (groups-done IsAllowed Activatable Activate activates-spend word
-    (λ g. g.hot - members_count g (λ p. same_temp p.temp Hot || owes_on_2 (links_of m) p.addr) m.peers)
-    (may_be_activated (links_of m)) m h within (activate-gives false m)) (groups_activates-within word m h)
-
-g8-due : (word : ℕ) → DoesRight (λ m. g8_orders (view_of word m) m.peers m.groups)
-g8-due word m h within =
-    wanted-done m (g8_orders (view_of word m) m.peers m.groups)
-    (class-done IsAllowed Activatable Enough Activate activates-spend false word _ _ m h within
-    (among-gives Activatable false (λ p. is_not_local m.groups p.addr) (may_be_activated (links_of m)) m (activate-gives false m)) (λ addrs few. tt))
-    (activates-within false (is_not_local m.groups) word m (not_local m.groups) h)
 
 -- ---- by the target, and then by the valencies
 
@@ -610,9 +567,6 @@ first-local m (a ∷ addrs) h = (
 first-append : (m : Machine) (xs ys : List Addr) → AllByRecursion (λ a. is_local m.groups a ≡ false) xs → TargetFirst m.groups ys → TargetFirst m.groups (xs ++ ys)
 first-append m [] ys free h = h
 first-append m (x ∷ xs) ys free h = (λ is. absurd (both_ways (is_local m.groups x) free.0 is), first-append m xs ys free.1 h)
-
-members-hot : (m : Machine) (g : Group) → members_count g may_be_deactivated m.peers ≡ members_with is_hot g m
-members-hot m g = λ i. count_by (λ p. is_of false p && (is_listed p.addr g.members && hot-active p.temp i)) m.peers
 
 apart_of-local : (m : Machine) (b : Addr) (xs : List Addr) → AllByRecursion (λ a. is_local m.groups a ≡ false) xs → is_local m.groups b ≡ true → is_listed b xs ≡ false
 apart_of-local m b [] free local = refl
@@ -650,32 +604,27 @@ module _ (word : ℕ) (m : Machine) (h : IsOrdered m) where
       (among-gives (Deactivatable false) false (λ p. is_not_local m.groups p.addr) may_be_deactivated m (deactivate-gives false m)))
       (groups_picks-may (Deactivatable false) word (λ g. members_count g may_be_deactivated m.peers - g.hot) may_be_deactivated m h (deactivate-gives false m))
 
-  few_free : count_by (is_free_of m.groups) (front ++ behind) ≤ active_of false m.peers - active_wanted false m
-  few_free =
-      let both = sum_by-append (λ a. cond {A = ℕ} (is_free_of m.groups a) 1 0) front behind in
-      let most = picks-most false word (active_of false m.peers - active_wanted false m)
-      (filter (λ p. is_of false p && (is_not_local m.groups p.addr && may_be_deactivated p)) m.peers) in
-      let all = count_by-le-length (is_free_of m.groups) front in
-      let none = count_none (is_free_of m.groups) behind
-      (all-weaker (λ b. is_local m.groups b ≡ true) (λ b. is_free_of m.groups b ≡ false) (λ b here. ap not here) behind local_behind) in
-      omega (arith, both, most, all, none)
-
-  few_members : AllByRecursion (HasHotLeft (front ++ behind) m) m.groups
-  few_members =
-      all-both (λ g. count_by (λ a. is_listed a g.members) front ≡ 0) (λ g. count_by (λ a. is_listed a g.members) behind ≤ length (members_beyond word m g))
-      (HasHotLeft (front ++ behind) m)
-      (λ g zero few.
-      let parts = sum_by-append (λ a. cond {A = ℕ} (is_listed a g.members) 1 0) front behind in
-      let most = picks-most false word (members_count g may_be_deactivated m.peers - g.hot) (filter (λ p. is_of false p && is_member_and g may_be_deactivated p) m.peers) in
-      let same = members-hot m g in
-      omega (arith, zero, few, parts, most, same))
-      m.groups (none_in-each front m.groups free_front) (own_picks (members_beyond word m) m.groups in_groups h.formed.groups)
-
   hot_left : HotLeft (front ++ behind) m
   hot_left = record {
     first = first-append m front behind free_front (first-local m behind local_behind);
-    by_target = few_free;
-    by_valency = few_members;
+    by_target =
+        let both = sum_by-append (λ a. cond {A = ℕ} (is_free_of m.groups a) 1 0) front behind in
+        let most = picks-most false word (active_of false m.peers - active_wanted false m)
+        (filter (λ p. is_of false p && (is_not_local m.groups p.addr && may_be_deactivated p)) m.peers) in
+        let all = count_by-le-length (is_free_of m.groups) front in
+        let none = count_none (is_free_of m.groups) behind
+        (all-weaker (λ b. is_local m.groups b ≡ true) (λ b. is_free_of m.groups b ≡ false) (λ b here. ap not here) behind local_behind) in
+        omega (arith, both, most, all, none);
+    by_valency =
+        all-both (λ g. count_by (λ a. is_listed a g.members) front ≡ 0) (λ g. count_by (λ a. is_listed a g.members) behind ≤ length (members_beyond word m g))
+        (HasHotLeft (front ++ behind) m)
+        (λ g zero few.
+        let parts = sum_by-append (λ a. cond {A = ℕ} (is_listed a g.members) 1 0) front behind in
+        let most = picks-most false word (members_count g may_be_deactivated m.peers - g.hot) (filter (λ p. is_of false p && is_member_and g may_be_deactivated p) m.peers) in
+        let same : members_count g may_be_deactivated m.peers ≡ members_with is_hot g m =
+        λ i. count_by (λ p. is_of false p && (is_listed p.addr g.members && hot-active p.temp i)) m.peers in
+        omega (arith, zero, few, parts, most, same))
+        m.groups (none_in-each front m.groups free_front) (own_picks (members_beyond word m) m.groups in_groups h.formed.groups);
   }
 
 g9-due : (word : ℕ) → DoesRight (λ m. g9_orders (view_of word m) m.peers m.groups)
@@ -687,34 +636,63 @@ g9-due word m h within =
     (each-done IsLawful (Deactivatable false) HotLeft Deactivate hot-spend (front word m h ++ behind word m h) m h within (apart word m h) (may_all word m h) (hot_left word m h))
 
 pub ordinary-due : (word : ℕ) → AllByRecursion (λ orders. DoesRight orders) (ordinary_rules word)
-ordinary-due word = (g2-due word, (g3-due word, (g4-due word, (g5-due word, (g6-due word, (g7-due word, (g8-due word, (g9-due word, tt))))))))
-
-b3-due : (word : ℕ) → DoesRight (λ m. big_orders B3 (view_of word m) m.peers)
-b3-due word m h within =
-    class-done IsLawful (Forgettable true) (ForgetsLeft true) Forget (forgets-spend true) true word _ _ m h within (forget-gives true everybody m (λ a all. refl)) (λ addrs few. few)
-
-b5-due : (word : ℕ) → DoesRight (λ m. big_orders B5 (view_of word m) m.peers)
-b5-due word m h within =
-    wanted-done m (big_orders B5 (view_of word m) m.peers)
-    (class-done IsAllowed Promotable Enough Promote promotes-spend true word _ _ m h within
-    (among-gives Promotable true (λ p. everybody p.addr) (is_eligible m.now (links_of m)) m (promote-gives true m)) (λ addrs few. tt))
-    (promotes-within true everybody word m (λ a all. refl) h)
-
-b6-due : (word : ℕ) → DoesRight (λ m. big_orders B6 (view_of word m) m.peers)
-b6-due word m h within =
-    class-done IsLawful (Releasable true) (ReleasesLeft true) Release (releases-spend true) true word _ _ m h within (release-gives true everybody m (λ a all. refl)) (λ addrs few. few)
-
-b8-due : (word : ℕ) → DoesRight (λ m. big_orders B8 (view_of word m) m.peers)
-b8-due word m h within =
-    wanted-done m (big_orders B8 (view_of word m) m.peers)
-    (class-done IsAllowed Activatable Enough Activate activates-spend true word _ _ m h within
-    (among-gives Activatable true (λ p. everybody p.addr) (may_be_activated (links_of m)) m (activate-gives true m)) (λ addrs few. tt))
-    (activates-within true everybody word m (λ a all. refl) h)
-
-b9-due : (word : ℕ) → DoesRight (λ m. big_orders B9 (view_of word m) m.peers)
-b9-due word m h within =
-    class-done IsLawful (Deactivatable true) BigHotLeft Deactivate big_hot-spend true word _ _ m h within
-    (among-gives (Deactivatable true) true (λ p. everybody p.addr) may_be_deactivated m (deactivate-gives true m)) (λ addrs few. few)
+ordinary-due word = (
+  g2-due word,
+  (
+    g3-due word,
+    (
+      λ m h within. wanted-done m (g4_orders (view_of word m) m.peers m.groups)
+          (groups-done IsAllowed Promotable Promote promotes-spend word
+          (λ g. g.warm - members_count g (λ p. is_established p.temp || is_pending_link (links_of m) p.addr) m.peers)
+          (is_eligible m.now (links_of m)) m h within (promote-gives false m)) (groups_promotes-within word m h),
+      (
+        λ m h within. wanted-done m (g5_orders (view_of word m) m.peers m.groups)
+            (class-done IsAllowed Promotable Enough Promote promotes-spend false word _ _ m h within
+            (among-gives Promotable false (λ p. is_not_local m.groups p.addr) (is_eligible m.now (links_of m)) m (promote-gives false m)) (λ addrs few. tt))
+            (promotes-within false (is_not_local m.groups) word m (not_local m.groups) h),
+        (
+          λ m h within. class-done IsLawful (Releasable false) (ReleasesLeft false) Release (releases-spend false) false word _ _ m h within
+              (release-gives false (is_not_local m.groups) m (not_local m.groups)) (λ addrs few. few),
+          (
+            λ m h within. wanted-done m (g7_orders (view_of word m) m.peers m.groups)
+                (groups-done IsAllowed Activatable Activate activates-spend word
+                (λ g. g.hot - members_count g (λ p. same_temp p.temp Hot || owes_on_2 (links_of m) p.addr) m.peers)
+                (may_be_activated (links_of m)) m h within (activate-gives false m)) (groups_activates-within word m h),
+            (
+              λ m h within. wanted-done m (g8_orders (view_of word m) m.peers m.groups)
+                  (class-done IsAllowed Activatable Enough Activate activates-spend false word _ _ m h within
+                  (among-gives Activatable false (λ p. is_not_local m.groups p.addr) (may_be_activated (links_of m)) m (activate-gives false m)) (λ addrs few. tt))
+                  (activates-within false (is_not_local m.groups) word m (not_local m.groups) h),
+              (g9-due word, tt),
+            ),
+          ),
+        ),
+      ),
+    ),
+  ),
+)
 
 pub big-due : (word : ℕ) → AllByRecursion (λ orders. DoesRight orders) (big_rules word)
-big-due word = (b3-due word, (b5-due word, (b6-due word, (b8-due word, (b9-due word, tt)))))
+big-due word = (
+  λ m h within. class-done IsLawful (Forgettable true) (ForgetsLeft true) Forget (forgets-spend true) true word _ _ m h within (forget-gives true everybody m (λ a all. refl)) (λ addrs few. few),
+  (
+    λ m h within. wanted-done m (big_orders B5 (view_of word m) m.peers)
+        (class-done IsAllowed Promotable Enough Promote promotes-spend true word _ _ m h within
+        (among-gives Promotable true (λ p. everybody p.addr) (is_eligible m.now (links_of m)) m (promote-gives true m)) (λ addrs few. tt))
+        (promotes-within true everybody word m (λ a all. refl) h),
+    (
+      λ m h within. class-done IsLawful (Releasable true) (ReleasesLeft true) Release (releases-spend true) true word _ _ m h within (release-gives true everybody m (λ a all. refl)) (λ addrs few. few),
+      (
+        λ m h within. wanted-done m (big_orders B8 (view_of word m) m.peers)
+            (class-done IsAllowed Activatable Enough Activate activates-spend true word _ _ m h within
+            (among-gives Activatable true (λ p. everybody p.addr) (may_be_activated (links_of m)) m (activate-gives true m)) (λ addrs few. tt))
+            (activates-within true everybody word m (λ a all. refl) h),
+        (
+          λ m h within. class-done IsLawful (Deactivatable true) BigHotLeft Deactivate big_hot-spend true word _ _ m h within
+              (among-gives (Deactivatable true) true (λ p. everybody p.addr) may_be_deactivated m (deactivate-gives true m)) (λ addrs few. few),
+          tt,
+        ),
+      ),
+    ),
+  ),
+)

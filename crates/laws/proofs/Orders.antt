@@ -20,7 +20,7 @@ use Rattle.laws.proofs.Rises.{rises_said, rises_nowhere, turned-down, taken-hot,
 use Rattle.laws.proofs.Telling.{told_then, told_move}
 use Rattle.laws.proofs.ToldMoves.{turned-told, peer_goes-told, turns_at-connections}
 use Rattle.laws.proofs.Ties.{live_here, turned_here, turned_elsewhere, changed-ties, taken-ties}
-use Rattle.laws.proofs.Trims.{Trimmed, tied-trimmed, keeps-trimmed, nothing-trimmed, trimmed_then, as_move-trimmed, raised_then_trimmed, trim-trims, turns_at-counted}
+use Rattle.laws.proofs.Trims.{Trimmed, tied-trimmed, keeps-trimmed, nothing-trimmed, trimmed_then, as_move-trimmed, raised_then_trimmed, trim-trims}
 use Rattle.laws.proofs.WholeMoves.{owes-keeps, IsWarm, asks_warm-keeps, releases-moves}
 use Rattle.laws.proofs.Walk.{says_done-machine}
 use Rattle.laws.proofs.Cases.{by_bool, by_option}
@@ -121,8 +121,8 @@ asked-obeys Law n m e k h s =
 abbrev pub MayAsk : Machine → Addr → Type 0
 MayAsk m addr = (e : Entry) → find (is_used_at addr) m.connections ≡ Some e → agreed_sharing e.facts.agreed ≡ true
 
-asked-carried : (Law : Move → Type 0) (n : ℕ) (addr : Addr) (m : Machine) (e : Entry) (k : ℕ) → Used m addr e k → MayAsk m addr → Trimmed Law m (asks_peer n e m)
-asked-carried Law n addr m e k u may =
+pub ask-carried : (Law : Move → Type 0) (n : ℕ) → Carries Law MayAsk (λ addr. Ask addr n)
+ask-carried Law n addr m h within may = on_used-carried Law addr (asks_peer n) m h within (λ e k u.
     let o : Machine = with_entry (owing 10 n m e) m in
     let owes : Keeps 0 m o =
     owes-keeps 10 n m e k u.ordered u.stands (record { known = refl; local = u.local; sharing = λ on_10. may e u.found }) refl in
@@ -131,14 +131,11 @@ asked-carried Law n addr m e k u may =
     (keeps_then 0 0 m o (peer_was_asked next e.facts.addr o).machine owes
     (changes-keeps e.facts.addr (λ p. record p { share_next = next }) o (λ p. refl) (λ p ordinary. ordinary)
     (λ p tie. same_peer next o.now p (live_entry_at e.facts.addr o) tie) owes.ordered))
-    (asked-obeys Law n m e k u.ordered u.stands)
+    (asked-obeys Law n m e k u.ordered u.stands))
   where
     same_peer : (next now : ℕ) (p : Peer) (x : Option Entry) → TiedBy now (Some p) x → TiedBy now (Some (record p { share_next = next })) x
     same_peer next now p None tie = tie
     same_peer next now p (Some x) tie = record { established = tie.established; in_use = tie.in_use; on_its_way = tie.on_its_way; asked = tie.asked }
-
-pub ask-carried : (Law : Move → Type 0) (n : ℕ) → Carries Law MayAsk (λ addr. Ask addr n)
-ask-carried Law n addr m h within may = on_used-carried Law addr (asks_peer n) m h within (λ e k u. asked-carried Law n addr m e k u may)
 
 -- ---- a warm peer is to become hot
 
@@ -174,35 +171,26 @@ activates-accounts addr m e k u =
           (turned-told m e new k u.ordered.orderly u.stands turns (omega arith)));
     }
 
-activated-carried : (addr : Addr) (m : Machine) (e : Entry) (k : ℕ) → Used m addr e k → MayActivate m addr →
-    Trimmed IsAllowed m (as_move (activated addr) m (activates e m))
-activated-carried addr m e k u may = tied-trimmed IsAllowed m (as_move (activated addr) m (activates e m)) u.within
-    (asks_warm-keeps 0 m e k u.ordered u.stands u.local (subst (λ a. IsWarm (peer_at a m)) (sym u.here) may))
-    (λ ties. (activated-allowed addr m (activates e m).machine may ties, tt)) (activates-accounts addr m e k u)
-
 pub activate-carried : Carries IsAllowed MayActivate Activate
 activate-carried addr m h within may = on_used_by-carried IsAllowed addr (as_move (activated addr) m) activates m h within
     (as_move-trimmed IsAllowed (activated addr) m (nothing_more m) refl refl (nothing-trimmed IsAllowed m within h)
     (λ ties. activated-allowed addr m m may ties))
-    (λ e k u. activated-carried addr m e k u may)
+    (λ e k u. tied-trimmed IsAllowed m (as_move (activated addr) m (activates e m)) u.within
+    (asks_warm-keeps 0 m e k u.ordered u.stands u.local (subst (λ a. IsWarm (peer_at a m)) (sym u.here) may))
+    (λ ties. (activated-allowed addr m (activates e m).machine may ties, tt)) (activates-accounts addr m e k u))
 
 -- ---- a hot peer is to become warm
 
-deactivated-obeys : (Law : Move → Type 0) (m : Machine) (e : Entry) → Obeys Law m (deactivates e m)
-deactivated-obeys Law m e =
-    let notice : Effect = sends_as_initiator e.facts.cid 2 chain_sync_done m in
-    quiet-obeys Law m (deactivates e m)
-    (quiet_then m notice (peer_becomes Warm e.facts.addr) (tells-quiet notice.actions m refl)
-    (changes-quiet e.facts.addr (λ p. record p { temp = Warm }) m (record { addr = λ p. refl; hot = λ p hot. absurd (false≢true hot) })))
-
 deactivated-carried : (Law : Move → Type 0) (addr : Addr) (m : Machine) (e : Entry) (k : ℕ) → Used m addr e k → Trimmed Law m (deactivates e m)
 deactivated-carried Law addr m e k u =
+    let notice : Effect = sends_as_initiator e.facts.cid 2 chain_sync_done m in
     let was : live_entry_at e.facts.addr m ≡ Some e = live_here m e k u.ordered.orderly u.stands u.live in
     keeps-trimmed Law m (deactivates e m) u.within
     (changes-keeps e.facts.addr (λ p. record p { temp = Warm }) m (λ p. refl) (λ p ordinary. ordinary)
     (λ p tie. subst (λ o. TiedBy m.now (Some (record p { temp = Warm })) o) (sym was)
     (warm p (subst (λ o. TiedBy m.now (Some p) o) was tie))) u.ordered)
-    (deactivated-obeys Law m e)
+    (quiet-obeys Law m (deactivates e m) (quiet_then m notice (peer_becomes Warm e.facts.addr) (tells-quiet notice.actions m refl)
+    (changes-quiet e.facts.addr (λ p. record p { temp = Warm }) m (record { addr = λ p. refl; hot = λ p hot. absurd (false≢true hot) }))))
   where
     warm : (p : Peer) → AreTied m.now p e → AreTied m.now (record p { temp = Warm }) e
     warm p tie = record { established = sym u.local; in_use = tie.in_use; on_its_way = tie.on_its_way; asked = λ asked. refl }
@@ -308,7 +296,7 @@ releasing-carried addr m e k u may =
     let list : n.connections ≡ set m.connections k new = turned-connections m e new k h.orderly s t in
     let same : o.connections ≡ set m.connections k new = turns_at-connections (peer_at e.facts.addr n) cold n ∙ list in
     let stands : StandsAt o.connections k new = subst (λ es. StandsAt es k new) (sym same) (stands-set m.connections k new e s) in
-    let alike : counted_in o ≡ counted_in n = turns_at-counted (peer_at e.facts.addr n) cold n in
+    let alike : counted_in o ≡ counted_in n = ap (λ es. counted_in (record n { connections = es })) (turns_at-connections (peer_at e.facts.addr n) cold n) in
     let counts = turned-counts m e new k h.orderly s t in
     let within = u.within in
     let limit : o.settings.hard ≡ m.settings.hard = ap (λ x. x.hard) raised.settings in
@@ -337,14 +325,11 @@ releasing-carried addr m e k u may =
       asked = λ asked. absurd (both_ways (is_some (reply_on 2 e)) (may e u.found).on_2 (ap is_some (sym owed) ∙ asked));
     }
 
-released-carried : (addr : Addr) (m : Machine) (e : Entry) (k : ℕ) → Used m addr e k → MayRelease m addr → Trimmed IsLawful m (release e m)
-released-carried addr m e k u may =
+pub release-carried : Carries IsLawful MayRelease Release
+release-carried addr m h within may = on_used-carried IsLawful addr release m h within (λ e k u.
     let first : Effect = says_done e.facts m in
     let same : m ≡ first.machine = sym (says_done-machine e.facts m) in
     trimmed_then IsLawful m first (releasing e)
     (keeps-trimmed IsLawful m first u.within (subst (Keeps 0 m) same (keeps_nothing m u.ordered))
     (quiet-obeys IsLawful m first (says_done-quiet e.facts m)))
-    (subst (λ n. Trimmed IsLawful n (releasing e n)) same (releasing-carried addr m e k u may))
-
-pub release-carried : Carries IsLawful MayRelease Release
-release-carried addr m h within may = on_used-carried IsLawful addr release m h within (λ e k u. released-carried addr m e k u may)
+    (subst (λ n. Trimmed IsLawful n (releasing e n)) same (releasing-carried addr m e k u may)))

@@ -87,15 +87,11 @@ record Feeding (cid : Cid) (m : Machine) : Type 0 where
   within : counted_in m ≤ m.settings.hard
   open_ : IsOpen cid.0 m
 
-stream-part : (event : Event) (cid : Cid) (fed : FedBy) (m : Machine) → Feeding cid m → AreLawful event (ends_stream cid fed.state.fault ∷ []) m
-stream-part event cid fed m f =
-    one_part event (ends_stream cid fed.state.fault) m tt tt tt tt
-    (accounted-part event m (does (ends_stream cid fed.state.fault) m)
-    (faulted-trimmed cid fed.state.fault m f.ordered f.within f.open_).accounted)
-
 items-parts : (event : Event) (cid : Cid) (fed : FedBy) (items : List Item) (m : Machine) → Feeding cid m →
     AreLawful event (map (handles_item cid) items ++ ends_stream cid fed.state.fault ∷ []) m
-items-parts event cid fed [] m f = stream-part event cid fed m f
+items-parts event cid fed [] m f =
+    one_part event (ends_stream cid fed.state.fault) m tt tt tt tt
+    (accounted-part event m (does (ends_stream cid fed.state.fault) m) (faulted-trimmed cid fed.state.fault m f.ordered f.within f.open_).accounted)
 items-parts event cid fed (item ∷ items) m f =
     let effect : Effect = handles cid item m in
     let t : Trimmed IsLawful m effect = handles-trimmed cid item m f.ordered f.within in

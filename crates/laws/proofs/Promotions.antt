@@ -71,11 +71,6 @@ dial-keeps addr m h none ready =
       asked = λ asked. absurd (false≢true asked);
     }
 
--- ---- what a promotion leaves at other addresses
-
-pub dial-elsewhere : (addr b : Addr) (m : Machine) → same_address b addr ≡ false → live_entry_at b (dial addr m).machine ≡ live_entry_at b m
-dial-elsewhere addr b m other = come_elsewhere m (fresh_entry (dialing m.next_id addr)) b other
-
 -- ---- what a promotion tells
 
 dial-accounts : (addr : Addr) (m : Machine) → IsOrdered m → Accounts m (as_move (promoted addr) m (dial addr m))
@@ -84,7 +79,7 @@ dial-accounts addr m h =
     let effect : Effect = dial addr m in
     record {
       promotions = rises_said is_up promotes (promoted addr) m effect
-          (λ b other up. ap is_up_connection (sym (dial-elsewhere addr b m (same_turned addr b other))) ∙ up);
+          (λ b other up. ap is_up_connection (sym (come_elsewhere m new b (same_turned addr b other))) ∙ up);
       activations = rises_nowhere is_hot_or_asked activates m (as_move (promoted addr) m effect)
           (hot_or_asked-down m effect.machine (λ b hot. hot) (come-down is_asked_connection refl m new refl));
       arrivals = rises_nowhere is_known shares m (as_move (promoted addr) m effect) (λ b known. known);

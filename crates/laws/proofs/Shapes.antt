@@ -1,6 +1,6 @@
 -- Each move keeps the facts of a connection in shape.
 use Rattle.std.proofs.Common.{ℕ, ◌≡◌, Bool, true, false, not, ◌||◌, ◌&&◌, if◌then◌else◌, refl, sym, ap, ◌∙◌}
-use Rattle.laws.proofs.Words.{false≢true, both_ways, and_parts, not-true, or_right, or_left}
+use Rattle.laws.proofs.Words.{false≢true, both_ways, and_parts, not-true, or_right, or_left, cond_both}
 use Rattle.laws.specs.Words.{Addr, Agreed, Facts, Grace, Off, ForRemote, ForLocal, Phase, Negotiated, accepted, dialing, connected, agreed_inbound, agreed_outbound, acquired, released, awakened, idled, expired, closing, is_negotiated, is_negotiated_phase, is_dialing, is_dialing_phase, is_greeting, is_greeting_phase, is_outbound, is_duplex, is_for_remote, is_for_local, some_runs, is_acquirable}
 use Rattle.laws.specs.Steady.{IsShaped, IsUnused}
 use Rattle.laws.proofs.Cases.{by_bool}
@@ -64,14 +64,13 @@ agreed_inbound-shaped agreed until f h greets inbound =
       serves_local = λ local. absurd (both_ways f.local u.local local);
     }
 
-outbound_grace-kept : (uni : Bool) (until : ℕ) → is_for_local (if uni then Off else ForRemote until) ≡ false
-outbound_grace-kept true until = refl
-outbound_grace-kept false until = refl
+or_false : (b : Bool) → (b || false) ≡ true → b ≡ true
+or_false true e = refl
+or_false false e = e
 
 outbound_grace-serves : (uni out runs : Bool) (until : ℕ) → runs ≡ false →
     (runs || is_for_remote (if uni then Off else ForRemote until)) ≡ true → (not out || not uni) ≡ true
-outbound_grace-serves true out runs until none serves = absurd (both_ways runs none (by_bool runs (λ b. (b || false) ≡ true → b ≡ true)
-    (λ is e. refl) (λ is e. e) serves))
+outbound_grace-serves true out runs until none serves = absurd (both_ways runs none (or_false runs serves))
 outbound_grace-serves false true runs until none serves = refl
 outbound_grace-serves false false runs until none serves = refl
 
@@ -82,7 +81,7 @@ agreed_outbound-shaped agreed until f h greets outbound =
       unused = λ e. absurd (false≢true (sym e));
       dialing = λ e. absurd (false≢true e);
       remote = λ runs. absurd (both_ways (some_runs f.running) u.running runs);
-      kept = λ local. outbound_grace-kept agreed.initiator_only until;
+      kept = λ local. cond_both agreed.initiator_only Off (ForRemote until) (λ g. is_for_local g ≡ false) (λ alone. refl) (λ both. refl);
       idle = λ phase local runs. absurd (false≢true (sym local));
       serves_remote = λ serves. outbound_grace-serves agreed.initiator_only (is_outbound f) (some_runs f.running) until u.running serves;
       serves_local = λ local. rw outbound refl;
@@ -100,10 +99,6 @@ running-negotiated f h runs = by_bool (is_negotiated f) (λ b. is_negotiated f �
 
 abbrev pub serves_remote : Facts → Bool
 serves_remote f = not (is_outbound f) || is_duplex f
-
-or_false : (b : Bool) → (b || false) ≡ true → b ≡ true
-or_false true e = refl
-or_false false e = e
 
 -- ---- moves of one that is negotiated
 
@@ -132,18 +127,6 @@ acquired-shaped f h may =
       serves_local = λ local. rw c.duplex (or_right (is_outbound f) true refl);
     }
 
-released-remote : (runs : Bool) (grace : Grace) (until : ℕ) → (runs ≡ true → grace ≡ Off) → runs ≡ true →
-    (if runs || is_for_remote grace then grace else ForLocal until) ≡ Off
-released-remote true grace until off runs = off runs
-released-remote false grace until off runs = absurd (false≢true runs)
-
-released-idle : (runs : Bool) (grace : Grace) (until : ℕ) → runs ≡ false →
-    (is_for_remote (if runs || is_for_remote grace then grace else ForLocal until)
-    || is_for_local (if runs || is_for_remote grace then grace else ForLocal until)) ≡ true
-released-idle true grace until none = absurd (false≢true (sym none))
-released-idle false Off until none = refl
-released-idle runs grace until none = refl
-
 released-serves : (runs : Bool) (grace : Grace) (until : ℕ) →
     (runs || is_for_remote (if runs || is_for_remote grace then grace else ForLocal until)) ≡ true →
     (runs || is_for_remote grace) ≡ true
@@ -155,9 +138,9 @@ pub released-shaped : (until : ℕ) (f : Facts) → IsShaped f → f.local ≡ t
 released-shaped until f h local = record {
   unused = λ e. absurd (both_ways (is_negotiated f) e (local-negotiated f h local));
   dialing = h.dialing;
-  remote = λ runs. released-remote (some_runs f.running) f.grace until h.remote runs;
+  remote = λ runs. rw runs (h.remote runs);
   kept = λ e. absurd (false≢true e);
-  idle = λ phase none runs. released-idle (some_runs f.running) f.grace until runs;
+  idle = λ phase none runs. rw runs (cond_both (is_for_remote f.grace) f.grace (ForLocal until) (λ g. (is_for_remote g || is_for_local g) ≡ true) (λ is. rw is refl) (λ other. refl));
   serves_remote = λ serves. h.serves_remote (released-serves (some_runs f.running) f.grace until serves);
   serves_local = λ e. absurd (false≢true e);
 }
@@ -175,20 +158,6 @@ awakened-shaped protocol f h negotiated serves runs = record {
   serves_local = h.serves_local;
 }
 
-idled-remote : (still : Bool) (grace : Grace) (until : ℕ) → grace ≡ Off → still ≡ true →
-    (if still then grace else ForRemote until) ≡ Off
-idled-remote true grace until off e = off
-idled-remote false grace until off e = absurd (false≢true e)
-
-idled-kept : (still : Bool) (grace : Grace) (until : ℕ) → grace ≡ Off → is_for_local (if still then grace else ForRemote until) ≡ false
-idled-kept true grace until off = ap is_for_local off
-idled-kept false grace until off = refl
-
-idled-idle : (still : Bool) (grace : Grace) (until : ℕ) → still ≡ false →
-    (is_for_remote (if still then grace else ForRemote until) || is_for_local (if still then grace else ForRemote until)) ≡ true
-idled-idle true grace until none = absurd (false≢true (sym none))
-idled-idle false grace until none = refl
-
 -- A responder stops, while one ran.
 pub idled-shaped : (protocol until : ℕ) (f : Facts) → IsShaped f → some_runs f.running ≡ true → IsShaped (idled protocol until f)
 idled-shaped protocol until f h runs =
@@ -197,9 +166,9 @@ idled-shaped protocol until f h runs =
     let serves : serves_remote f ≡ true = h.serves_remote (or_left (some_runs f.running) (is_for_remote f.grace) runs) in record {
       unused = λ e. absurd (both_ways (is_negotiated f) e (running-negotiated f h runs));
       dialing = h.dialing;
-      remote = λ e. idled-remote still f.grace until off e;
-      kept = λ local. idled-kept still f.grace until off;
-      idle = λ phase local none. idled-idle still f.grace until none;
+      remote = λ e. rw e off;
+      kept = λ local. cond_both still f.grace (ForRemote until) (λ g. is_for_local g ≡ false) (λ runs. ap is_for_local off) (λ stops. refl);
+      idle = λ phase local none. rw none refl;
       serves_remote = λ e. serves;
       serves_local = h.serves_local;
     }

@@ -1,10 +1,9 @@
 -- What is told of a sort by no part but those that are to.
 use Rattle.std.proofs.Common.{ℕ, ◌+◌, ◌≡◌, Bool, true, false, nat_lt, List, [], ◌∷◌, ◌++◌, flat_map, Option, Some, None, refl, ap, ◌∙◌}
 use Rattle.laws.proofs.Words.{cond_both, both_ways, false≢true, flat_map-append}
-use Rattle.laws.specs.Words.{pause_of, accepted, dialing, name_of, same_name, runs, Item, Action, Admit, Turnaway, Dial, Send, Close, Pause, AskRoots, State, Away, CloseCause, Unused, Overwritten, Fault, Protocol, PeerNote, StateName, Terminated, Addr, Cid, Job, Peer, Cold, entry_of, entered, new_peer, same_temp, Added, New, asked, may_ask, with_entry, without_entry, entry_turns, lost, ending, vanishes, closing_entry, trim, awake, dial, Effect, nothing_more, tells, then_do, pause_notice, admitted, peer_connects, asks_roots, Machine, Entry, Owed, counted_in, next_cid, peer_at, turns_at, note_of, peer_comes, note_of_coming, paid, stops_if, begins, pays, brings, answered_as}
+use Rattle.laws.specs.Words.{pause_of, accepted, dialing, name_of, same_name, runs, Item, Action, Admit, Turnaway, Dial, Send, Close, Pause, AskRoots, State, Away, CloseCause, Unused, Overwritten, Fault, Protocol, PeerNote, StateName, Terminated, Addr, Cid, Job, Peer, entry_of, entered, new_peer, same_temp, Added, New, asked, may_ask, with_entry, without_entry, entry_turns, lost, ending, vanishes, closing_entry, trim, awake, Effect, nothing_more, tells, then_do, pause_notice, admitted, peer_connects, asks_roots, Machine, Entry, Owed, counted_in, next_cid, peer_at, turns_at, note_of, peer_comes, note_of_coming, paid, stops_if, begins, pays, brings, answered_as}
 use Rattle.net_base.specs.declared.action.Action.TheVariants.{Peer as TellPeer}
 use Rattle.laws.specs.Words.note
-use Rattle.peer_book.specs.declared.added.Added.TheVariants.{Present as Known}
 use Rattle.laws.specs.Acts.{Act, shows, asks_for_roots, connects, sets_targets, sets_big_targets, sets_groups, sets_roots, does}
 use Rattle.laws.specs.Admitted.{admitted_by, turned_away_by}
 use Rattle.laws.specs.CarriedOut.{pauses_by}
@@ -82,9 +81,6 @@ module _ {X : Type 0} (by : Action → List X) (deaf : Deaf by) where
   coming-silent first cid name rest none more =
       more-silent first (State cid name ∷ rest) none (more-silent (State cid name) rest (deaf.state cid name) more)
 
-  pub dial-silent : (addr : Addr) (m : Machine) → flat_map by (dial addr m).actions ≡ []
-  dial-silent addr m = coming-silent (Dial (next_cid m) addr) (next_cid m) (name_of (dialing m.next_id addr)) [] (deaf.dial (next_cid m) addr) refl
-
   admitted-silent : ((cid : Cid) (addr : Addr) → by (Admit cid addr) ≡ []) → ((length : ℕ) → by (Pause length) ≡ []) → (addr : Addr) (m : Machine) →
       flat_map by (admitted addr m).actions ≡ []
   admitted-silent admits pauses addr m =
@@ -116,7 +112,7 @@ module _ {X : Type 0} (by : Action → List X) (deaf : Deaf by) where
     when_ended = λ cause e m. ending-silent cause e m;
     when_gone = λ e m itself. vanishes-silent e m;
     when_over = λ e m stands drops closed. one-silent (State e.facts.cid Terminated) (deaf.state e.facts.cid Terminated);
-    when_dialed = λ addr m may. dial-silent addr m;
+    when_dialed = λ addr m may. coming-silent (Dial (next_cid m) addr) (next_cid m) (name_of (dialing m.next_id addr)) [] (deaf.dial (next_cid m) addr) refl;
     when_admitted = λ addr m may. admitted-silent (mutes.admits may) (mutes.pauses may) addr m;
     when_turned_away = λ away m may. one-silent (Turnaway away) (mutes.turns_away may away);
     when_changed = λ addr change m same. changed-silent (peer_at addr m) change m;

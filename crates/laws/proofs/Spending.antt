@@ -1,9 +1,9 @@
 -- A move at one address raises what is counted by one at most.
-use Rattle.std.proofs.Common.{ℕ, zero, suc, ◌+◌, ◌%◌, ◌≤◌, ◌≡◌, Bool, true, false, cond, ◌&&◌, ◌||◌, if◌then◌else◌, set, List, [], ◌∷◌, ◌++◌, find, count_by, Option, Some, None, is_some, refl, sym, ap, ◌∙◌, subst, arith}
+use Rattle.std.proofs.Common.{ℕ, zero, suc, ◌+◌, ◌%◌, ◌≤◌, ◌≡◌, Bool, true, false, cond, ◌&&◌, ◌||◌, if◌then◌else◌, set, List, [], ◌∷◌, ◌++◌, find, count_by, Option, Some, None, refl, sym, ap, ◌∙◌, subst, arith}
 use Rattle.laws.proofs.Words.{both_ways, and_parts, sum_by-cons}
-use Rattle.laws.specs.Words.{list_any, AllByRecursion, option_map, same_address, Addr, Group, Peer, Warm, dialing, acquired, is_live, is_live_at, is_acquirable, is_pending, has_address, is_of, is_established, is_active, with_peer, is_listed, Machine, Entry, fresh_entry, live_entry_at, reply_on, owing, turns_at, peer_at, with_entry, acquire, dial, promoted_at, promote, is_used_at, activates, activate, on_entry}
+use Rattle.laws.specs.Words.{list_any, AllByRecursion, option_map, same_address, Addr, Group, Peer, Warm, dialing, acquired, is_live, is_live_at, is_acquirable, has_address, is_of, with_peer, is_listed, Machine, Entry, fresh_entry, live_entry_at, owing, turns_at, peer_at, with_entry, acquire, dial, promoted_at, promote, is_used_at, activates, activate, on_entry, peer_changes, Effect, on_used}
 use Rattle.peer_book.specs.Book.{peer_at as peer_in}
-use Rattle.laws.specs.AtMoves.{some_connection, is_established_or_pending, is_active_or_asked, number_with, members_with}
+use Rattle.laws.specs.AtMoves.{some_connection, number_with, members_with}
 use Rattle.laws.specs.Steady.{ArePeersApart, IsOrdered}
 use Rattle.laws.proofs.Addresses.{same_address-true}
 use Rattle.laws.proofs.Entries.{TurnsInto, turned-connections}
@@ -126,12 +126,6 @@ pub record ChangesAt (addr : Addr) (before after : Machine) : Type 0 where
 abbrev pub IsLocalTest : (Machine → Peer → Bool) → Type 0
 IsLocalTest test = (addr : Addr) (m n : Machine) → ChangesAt addr m n → (p : Peer) → same_address p.addr addr ≡ false → test n p ≡ test m p
 
-pub established_or_pending-same : IsLocalTest is_established_or_pending
-established_or_pending-same addr m n h p other = ap (λ b. is_established p.temp || b) (h.connections (λ e. is_pending e.facts) p.addr other)
-
-pub active_or_asked-same : IsLocalTest is_active_or_asked
-active_or_asked-same addr m n h p other = ap (λ b. is_active p.temp || b) (h.connections (λ e. is_some (reply_on 2 e)) p.addr other)
-
 module _ (test : Machine → Peer → Bool) (same : IsLocalTest test) where
   -- one more of a class at most passes
   pub number-one : (big : Bool) (addr : Addr) (m n : Machine) → ArePeersApart m.peers → ChangesAt addr m n →
@@ -192,6 +186,27 @@ turned-same m e new k h s t test b other =
     ap (λ es. list_any (passes_at test b) es) (turned-connections m e new k h.orderly s t)
     ∙ set-same test b new e m.connections k s here (subst (λ a. same_address a b ≡ false) (sym t.same_addr) here)
 
+-- no peer changes with it
+pub turned-changes : (m : Machine) (e new : Entry) (k : ℕ) → IsOrdered m → StandsAt m.connections k e → TurnsInto e new → ChangesAt e.facts.addr m (with_entry new m)
+turned-changes m e new k h s t = record { peers = all_same e.facts.addr m.peers; connections = turned-same m e new k h s t }
+
+pub changed-changes : (a : Addr) (change : Peer → Peer) (m n : Machine) → ChangesAt a m n → n.peers ≡ m.peers → ArePeersApart m.peers →
+    ((p : Peer) → (change p).addr ≡ p.addr) → ((p : Peer) → (change p).big ≡ p.big) → ChangesAt a m (peer_changes a change n).machine
+changed-changes a change m n h same apart addr class = by_option (peer_at a n) (λ o. ChangesAt a m (turns_at o change n).machine)
+    (λ is. h)
+    (λ p is.
+    let here : (change p).addr ≡ a = addr p ∙ same_address-true p.addr a (find_some (has_address a) n.peers p is).passes in
+    assumption (
+      subst (λ ps. AreSameBut a ps (with_peer (change p) n.peers)) same
+          (subst (λ x. AreSameBut x n.peers (with_peer (change p) n.peers)) here
+          (with_peer-same_but (change p) p n.peers (subst ArePeersApart (sym same) apart)
+          (subst (λ x. peer_in x n.peers ≡ Some p) (sym here) is) (class p))),
+      h,
+    ))
+
+pub nothing-changes : (a : Addr) (m : Machine) → ChangesAt a m m
+nothing-changes a m = record { peers = all_same a m.peers; connections = λ test b other. refl }
+
 -- ---- a promotion
 
 dial-changes : (addr : Addr) (m : Machine) → ChangesAt addr m (dial addr m).machine
@@ -201,24 +216,10 @@ dial-changes addr m = record {
 }
 
 acquire-changes : (m : Machine) (e : Entry) (k : ℕ) → IsOrdered m → StandsAt m.connections k e → ChangesAt e.facts.addr m (acquire e m).machine
-acquire-changes m e k h s = by_option (peer_at e.facts.addr m) (λ o. ChangesAt e.facts.addr m (turns_at o warm (with_entry new m)).machine)
-    (λ is. record { peers = all_same e.facts.addr m.peers; connections = same })
-    (λ p is.
-    let here : p.addr ≡ e.facts.addr = same_address-true p.addr e.facts.addr (find_some (has_address e.facts.addr) m.peers p is).passes in
-    assumption (
-      subst (λ a. AreSameBut a m.peers (with_peer (warm p) m.peers)) here
-          (with_peer-same_but (warm p) p m.peers h.formed.peers (subst (λ a. peer_in a m.peers ≡ Some p) (sym here) is) refl),
-      same,
-    ))
-  where
-    new : Entry
-    new = owing 8 (e.facts.cid.0 % 65536) m (record e { facts = acquired e.facts })
-
-    warm : Peer → Peer
-    warm = λ p. record p { temp = Warm; failures = 0 }
-
-    same : (test : Entry → Bool) (b : Addr) → same_address b e.facts.addr ≡ false → some_connection test b (with_entry new m) ≡ some_connection test b m
-    same = turned-same m e new k h s (record { same_id = refl; same_addr = refl; live = λ l. l })
+acquire-changes m e k h s =
+    let new : Entry = owing 8 (e.facts.cid.0 % 65536) m (record e { facts = acquired e.facts }) in
+    changed-changes e.facts.addr (λ p. record p { temp = Warm; failures = 0 }) m (with_entry new m)
+    (turned-changes m e new k h s (record { same_id = refl; same_addr = refl; live = λ l. l })) refl h.formed.peers (λ p. refl) (λ p. refl)
 
 pub promote-changes : (addr : Addr) (m : Machine) → IsOrdered m → ChangesAt addr m (promote addr m).machine
 promote-changes addr m h = by_live (live_entry_at addr m) refl
@@ -241,13 +242,13 @@ used-here a m e is =
     let lives = and_parts (is_live_at a e.facts) e.facts.local at.passes in
     same_address-true e.facts.addr a (and_parts (same_address e.facts.addr a) (is_live e.facts) lives.0).0
 
+-- an order changes what the connection in use at its address changes
+pub used-changes : (R : Addr → Machine → Machine → Type 0) (a : Addr) (act : Entry → Machine → Effect) (m : Machine) → R a m m →
+    ((e : Entry) → FoundIn (is_used_at a) m.connections e → R e.facts.addr m (act e m).machine) → R a m (on_used a act m).machine
+used-changes R a act m nothing each = by_option (find (is_used_at a) m.connections) (λ o. R a m (on_entry o act m).machine)
+    (λ is. nothing)
+    (λ e is. subst (λ x. R x m (act e m).machine) (used-here a m e is) (each e (find_some (is_used_at a) m.connections e is)))
+
 pub activate-changes : (addr : Addr) (m : Machine) → IsOrdered m → ChangesAt addr m (activate addr m).machine
-activate-changes addr m h = by_option (find (is_used_at addr) m.connections) (λ o. ChangesAt addr m (on_entry o activates m).machine)
-    (λ is. record { peers = all_same addr m.peers; connections = λ test b other. refl })
-    (λ e is.
-    let at : FoundIn (is_used_at addr) m.connections e = find_some (is_used_at addr) m.connections e is in
-    record {
-      peers = all_same addr m.peers;
-      connections = λ test b other. turned-same m e (owing 2 0 m e) at.place h at.stands (record { same_id = refl; same_addr = refl; live = λ l. l }) test b
-          (subst (λ a. same_address b a ≡ false) (sym (used-here addr m e is)) other);
-    })
+activate-changes addr m h = used-changes ChangesAt addr activates m (nothing-changes addr m)
+    (λ e at. turned-changes m e (owing 2 0 m e) at.place h at.stands (record { same_id = refl; same_addr = refl; live = λ l. l }))

@@ -1,16 +1,16 @@
 -- A connection whose handshake is done: whatever comes in, the connections stay in order and within the limit.
-use Rattle.std.proofs.Common.{ℕ, ◌+◌, [], ◌∷◌, cond, not, is_some, ◌≤◌, ◌≡◌, Bool, true, false, ◌||◌, ◌==◌, if◌then◌else◌, List, find, set, Option, Some, None, Result, Ok, Err, refl, sym, ap, ◌∙◌, subst, arith, eqb-true, eq-eqb}
+use Rattle.std.proofs.Common.{ℕ, ◌+◌, [], ◌∷◌, cond, not, is_some, ◌≤◌, ◌≡◌, Bool, true, false, ◌||◌, ◌==◌, if◌then◌else◌, List, find, set, Option, Some, None, Result, Ok, Err, refl, sym, ap, ◌∙◌, subst, arith, eqb-true}
 use Rattle.laws.proofs.Words.{cond_both, both_ways, false≢true, or_right}
-use Rattle.laws.specs.Words.{same_address, Fault, FaultKind, Protocol, UnknownId, Addr, Facts, Responders, Peer, Hot, awakened, idled, effective_of, has_responder, is_live, agreed_sharing, has_id, is_negotiated, runs, some_runs, Item, watched, seen_by_number, chain_sync_seen, block_fetch_seen, tx_submission_seen, keep_alive_seen, peer_sharing_seen, Reply, Seen, item_number_of, alive_of, share_of, Share, is_established, Machine, Entry, Owed, counted_in, entry_at, live_entry_at, Effect, Move, shared, nothing_more, then_do, on_entry, on_connection, peer_at, peer_becomes, peer_comes, with_entry, entry_turns, ending, trim, awake, idle, replies, stops_if, serves, begins, takes_requests, shares_address, taken_of, takes_addresses, brings, talks, reply_on, without_reply, paid, Cid}
+use Rattle.laws.specs.Words.{same_address, Fault, FaultKind, Protocol, UnknownId, Addr, Facts, Responders, Peer, Hot, awakened, idled, effective_of, has_responder, is_live, agreed_sharing, has_id, is_negotiated, runs, some_runs, Item, watched, seen_by_number, chain_sync_seen, block_fetch_seen, tx_submission_seen, keep_alive_seen, peer_sharing_seen, Reply, Seen, item_number_of, alive_of, share_of, Share, is_established, Machine, Entry, Owed, counted_in, entry_at, live_entry_at, Effect, shared, nothing_more, then_do, on_entry, on_connection, peer_at, peer_becomes, peer_comes, with_entry, entry_turns, ending, trim, awake, idle, replies, stops_if, serves, begins, takes_requests, shares_address, taken_of, takes_addresses, brings, talks, reply_on, without_reply, paid, Cid}
 use Rattle.laws.specs.Words.reply
 use Rattle.laws.specs.Words.share
 use Rattle.laws.proofs.Effects.{counted-running}
-use Rattle.laws.proofs.Entries.{TurnsInto, one_has_id, turned-connections}
+use Rattle.laws.proofs.Entries.{TurnsInto, turned-connections}
 use Rattle.laws.specs.AtMoves.{IsLawful, is_up, is_hot_peer, is_asked_connection, is_hot_or_asked, is_known, promotes, activates, shares}
 use Rattle.laws.proofs.KnownWanted.{takes-within}
-use Rattle.laws.proofs.Lawful.{Accounts, Obeys, IsQuiet, quiet-lawful, quiet-obeys, tells-quiet, comes-providing, shared-accounts, turns-obeys, IsAllowed, Within, allowed_within, as_move-obeys}
+use Rattle.laws.proofs.Lawful.{Accounts, IsQuiet, quiet-lawful, quiet-obeys, tells-quiet, comes-providing, shared-accounts, turns-obeys, IsAllowed, Within, allowed_within, as_move-obeys, stands-found}
 use Rattle.laws.proofs.Keeping.{Keeps, keeps_nothing, moves_then, moves-keeps, keeps-moves, changes-moves, peer_comes-keeps}
-use Rattle.laws.proofs.Lists.{StandsAt, stands-set, find_some, find_only}
+use Rattle.laws.proofs.Lists.{StandsAt, stands-set, find_some}
 use Rattle.laws.specs.Steady.{AreTied, TiedBy, IsOrdered}
 use Rattle.laws.proofs.Addresses.{same_address-true}
 use Rattle.laws.proofs.Owing.{paid-some}
@@ -81,10 +81,7 @@ record Begun (cid : ℕ) (before : Machine) (effect : Effect) : Type 0 where
   runs : (x : Entry) → entry_at cid effect.machine ≡ Some x → some_runs x.facts.running ≡ true
 
 found_is : (m : Machine) (e x : Entry) (k : ℕ) → IsOrdered m → StandsAt m.connections k e → entry_at e.facts.cid.0 m ≡ Some x → x ≡ e
-found_is m e x k h s found =
-    let own : entry_at e.facts.cid.0 m ≡ Some e =
-    find_only (λ y. has_id e.facts.cid.0 y.facts) e m.connections k (one_has_id e.facts.cid.0 m.connections h.orderly.ids_rise) s (eq-eqb e.facts.cid.0 e.facts.cid.0 refl) in
-    some_same x e (sym found ∙ own)
+found_is m e x k h s found = some_same x e (sym found ∙ stands-found m e k h.orderly s)
 
 awake-begun : (protocol : ℕ) (m : Machine) (e : Entry) (k : ℕ) → Talking m e k → takes_requests e ≡ true → has_responder protocol ≡ true →
     Begun e.facts.cid.0 m (awake protocol e m)
@@ -202,13 +199,6 @@ hot-keeps m e k h s live asked =
       asked = λ again. absurd (both_ways (is_some (reply_on 2 (paid 2 e))) (paid-none e.owed) again);
     }
 
--- what another answer brings
-brings-trimmed : (protocol : ℕ) (body : List ℕ) (m : Machine) → IsOrdered m → counted_in m ≤ m.settings.hard →
-    Trimmed IsLawful m (if protocol == 8 then nothing_more m else takes_addresses (share_of body) m)
-brings-trimmed protocol body m h within =
-    cond_both (protocol == 8) (nothing_more m) (takes_addresses (share_of body) m) (Trimmed IsLawful m)
-    (λ on_8. nothing-trimmed IsLawful m within h) (λ not_8. takes-trimmed (share_of body) m h within)
-
 paid-lower : (protocol : ℕ) (e : Entry) → IsNoHigher e (paid protocol e)
 paid-lower protocol e = record { up = λ up. up; asked = paid-some (λ o. o.protocol == 2) protocol e.owed }
 
@@ -242,11 +232,6 @@ hot-accounts m e k h s live asked =
     by_address b o elsewhere connected false other rises =
         or_each (is_hot b o) (is_asked b o) (is_hot b m) (is_asked b m) (λ hot. ap is_hot_peer (sym (elsewhere other)) ∙ hot) (connected.asked b) rises
 
-paid-obeys : (Law : Move → Type 0) (protocol : ℕ) (m : Machine) (e : Entry) (k : ℕ) → IsOrdered m → StandsAt m.connections k e →
-    Obeys Law m (entry_turns e (paid protocol e) m)
-paid-obeys Law protocol m e k h s =
-    turns-obeys Law m e (paid protocol e) k h.orderly s (record { same_id = refl; same_addr = refl; live = λ l. l }) (paid-lower protocol e) (omega arith)
-
 answered_as-trimmed : (owed : Owed) (item : Item) (m : Machine) (e : Entry) (k : ℕ) → reply_on item.id e ≡ Some owed → Talking m e k →
     Trimmed IsLawful m (then_do (entry_turns e (paid item.id e) m) (brings item.id item.body e))
 answered_as-trimmed owed item m e k is t = by_protocol (item.id == 2) refl
@@ -270,9 +255,11 @@ answered_as-trimmed owed item m e k is t = by_protocol (item.id == 2) refl
     by_protocol false not_2 =
         let first : Effect = entry_turns e (paid item.id e) m in
         let one : Trimmed IsLawful m first =
-        keeps-trimmed IsLawful m first t.within (pays-keeps item.id m e k t.ordered t.stands) (paid-obeys IsLawful item.id m e k t.ordered t.stands) in
+        keeps-trimmed IsLawful m first t.within (pays-keeps item.id m e k t.ordered t.stands)
+        (turns-obeys IsLawful m e (paid item.id e) k t.ordered.orderly t.stands (record { same_id = refl; same_addr = refl; live = λ l. l }) (paid-lower item.id e) (omega arith)) in
         trimmed_then IsLawful m first (λ n. if item.id == 8 then nothing_more n else takes_addresses (share_of item.body) n) one
-        (brings-trimmed item.id item.body first.machine one.ordered (trimmed-within IsLawful m first one))
+        (cond_both (item.id == 8) _ _ (Trimmed IsLawful first.machine) (λ on_8. nothing-trimmed IsLawful first.machine (trimmed-within IsLawful m first one) one.ordered)
+        (λ not_8. takes-trimmed (share_of item.body) first.machine one.ordered (trimmed-within IsLawful m first one)))
 
 -- an item comes in
 pub talks-trimmed : (item : Item) (m : Machine) (e : Entry) (k : ℕ) → Talking m e k →

@@ -5,7 +5,7 @@ use Rattle.laws.specs.Words.{Action, Turnaway, Send, Pause, AskRoots, CloseCause
 use Rattle.peer_book.specs.Book.{peer_at as peer_in}
 use Rattle.laws.specs.Stages.{stage_of_phase, stage_of, stage_at, stage_ended, causes_by, causes_in, IsOneEnd}
 use Rattle.laws.specs.Telling.{KeepsAddress, GoesOn, IsTold}
-use Rattle.laws.specs.InActions.{End, Given, closed_by, closes_in, ended_by, ends_in, dialed_by, dials_in, promoted_by_dial, dial_promotions_in, given_by, given_in, CountUp, HasAddress, AreAt, LeadTo, temp_of, temp_at, notes_by, notes_in, noted, is_change, state_at, names_by, names_in, is_other_name, same_state}
+use Rattle.laws.specs.InActions.{End, Given, closed_by, closes_in, ended_by, ends_in, dialed_by, dials_in, promoted_by_dial, dial_promotions_in, given_by, given_in, CountUp, HasAddress, AreAt, LeadTo, temp_of, temp_at, notes_by, notes_in, noted, is_change, state_at, names_by, names_in, is_other_name, same_state, state_of}
 
 -- ---- one after the other
 
@@ -146,6 +146,27 @@ pub record IsUnchanged (before after : Machine) : Type 0 where
   pub peers : after.peers ≡ before.peers
   pub next_id : after.next_id ≡ before.next_id
 
+-- a connection, as it was and as it is, and what is told of it
+pub went_on : (cid : ℕ) (m : Machine) (effect : Effect) (o p : Option Entry) → entry_at cid m ≡ o → entry_at cid effect.machine ≡ p → effect.moves ≡ [] →
+    KeepsAddress o p → LeadTo is_other_name same_state (state_of o) (names_in cid effect.actions) (state_of p) →
+    stage_of o (nat_lt cid m.next_id) ≤ stage_of p (nat_lt cid effect.machine.next_id) → GoesOn cid m effect
+went_on cid m effect o p was now none address names forward =
+    let before : stage_at cid m ≡ stage_of o (nat_lt cid m.next_id) = ap (λ x. stage_of x (nat_lt cid m.next_id)) was in
+    let after : stage_at cid effect.machine ≡ stage_of p (nat_lt cid effect.machine.next_id) = ap (λ x. stage_of x (nat_lt cid effect.machine.next_id)) now in
+    record {
+      names = subst (λ x. LeadTo is_other_name same_state (state_of x) (names_in cid effect.actions) (state_at cid effect.machine)) (sym was)
+          (subst (λ x. LeadTo is_other_name same_state (state_of o) (names_in cid effect.actions) (state_of x)) (sym now) names);
+      address = subst (λ x. KeepsAddress x (entry_at cid effect.machine)) (sym was) (subst (λ x. KeepsAddress o x) (sym now) address);
+      forward = omega (arith, before, after, forward);
+      ends = subst (λ ms. IsOneEnd (causes_in cid ms) (stage_at cid m) (stage_at cid effect.machine)) (sym none) tt;
+    }
+
+-- one of which nothing is told, as it was
+pub went_untold : (cid : ℕ) (m : Machine) (effect : Effect) → entry_at cid effect.machine ≡ entry_at cid m → effect.moves ≡ [] → names_in cid effect.actions ≡ [] →
+    stage_at cid m ≤ stage_of (entry_at cid m) (nat_lt cid effect.machine.next_id) → GoesOn cid m effect
+went_untold cid m effect same none untold forward =
+    went_on cid m effect (entry_at cid m) (entry_at cid m) refl same none (keeps_itself (entry_at cid m)) (rw untold refl) forward
+
 pub told_unchanged : (m : Machine) (effect : Effect) → IsMute effect.actions → effect.moves ≡ [] → IsUnchanged m effect.machine → IsTold m effect
 told_unchanged m effect mute none same = record {
   closes = mute.closes ∙ sym (ap ends_in none);
@@ -154,17 +175,8 @@ told_unchanged m effect mute none same = record {
   addresses = subst (λ gs. AreAt gs effect.machine) (sym mute.given) tt;
   peers = λ addr. subst (λ ns. LeadTo is_change noted (temp_at addr m) ns (temp_at addr effect.machine)) (sym (mute.notes addr))
       (ap (λ ps. temp_of (peer_in addr ps)) (sym same.peers));
-  connections = λ cid.
-      let stage : stage_at cid m ≡ stage_at cid effect.machine =
-      ap (λ es. stage_at cid (record m { connections = es })) (sym same.connections)
-      ∙ ap (λ next. stage_at cid (record m { connections = effect.machine.connections; next_id = next })) (sym same.next_id) in
-      record {
-        names = subst (λ ns. LeadTo is_other_name same_state (state_at cid m) ns (state_at cid effect.machine)) (sym (mute.names cid))
-            (ap (λ es. state_at cid (record m { connections = es })) (sym same.connections));
-        address = subst (λ o. KeepsAddress (entry_at cid m) o) (ap (find (λ e. has_id cid e.facts)) (sym same.connections)) (keeps_itself (entry_at cid m));
-        forward = omega (arith, stage);
-        ends = subst (λ ms. IsOneEnd (causes_in cid ms) (stage_at cid m) (stage_at cid effect.machine)) (sym none) tt;
-      };
+  connections = λ cid. went_untold cid m effect (ap (find (λ e. has_id cid e.facts)) same.connections) none (mute.names cid)
+      (subst (λ next. stage_at cid m ≤ stage_of (entry_at cid m) (nat_lt cid next)) (sym same.next_id) (omega arith));
 }
 
 pub mute-none : IsMute []

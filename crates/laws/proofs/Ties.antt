@@ -173,15 +173,12 @@ changed-ties a change m n same now peers lives alone step ties = by_peer (peer_a
         let new : Peer = change p in
         let here : new.addr ≡ a = same p ∙ found-addr a n.peers p is in
         let o : Machine = (turns_at (Some p) change n).machine in
+        let found : peer_at a o ≡ Some new =
+        subst (λ x. peer_in x (with_peer_in new n.peers) ≡ Some new) here (peer_here new p n.peers (subst (λ x. peer_in x n.peers ≡ Some p) (sym here) is)) in
         tied_but a m o now
         (λ b other. peer_elsewhere new b n.peers (subst (λ x. same_address b x ≡ false) (sym here) other) ∙ book b) lives
         (subst (λ t. TiedBy t (peer_at a o) (live_entry_at a o)) (sym now)
-        (subst (λ q. TiedBy m.now q (live_entry_at a n)) (sym (found_new a new here p is)) (step p (sym (book a) ∙ is) (was (Some p) is)))) ties
-      where
-        found_new : (a : Addr) (new : Peer) → new.addr ≡ a → (p : Peer) → peer_in a n.peers ≡ Some p → peer_in a (with_peer_in new n.peers) ≡ Some new
-        found_new a new here p is =
-            subst (λ x. peer_in x (with_peer_in new n.peers) ≡ Some new) here
-            (peer_here new p n.peers (subst (λ x. peer_in x n.peers ≡ Some p) (sym here) is))
+        (subst (λ q. TiedBy m.now q (live_entry_at a n)) (sym found) (step p (sym (book a) ∙ is) (was (Some p) is)))) ties
 
 -- ---- a peer comes, and one goes
 

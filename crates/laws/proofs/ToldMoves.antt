@@ -6,16 +6,16 @@ use Rattle.net_base.specs.declared.action.Action.TheVariants.{Peer as TellPeer}
 use Rattle.laws.specs.Words.note
 use Rattle.peer_book.specs.Book.{peer_at as peer_in}
 use Rattle.laws.specs.Sound.{HasGivenId, IsOrderly}
-use Rattle.laws.specs.Stages.{stage_of_phase, stage_of, stage_at, stage_ended, causes_by, causes_in, IsLateCause, IsOneEnd}
-use Rattle.laws.specs.Telling.{KeepsAddress, GoesOn, IsTold}
-use Rattle.laws.specs.InActions.{End, Given, closes_in, ended_by, ends_in, dials_in, promoted_by_dial, dial_promotions_in, given_in, CountUp, HasAddress, AreAt, LeadTo, temp_of, temp_at, notes_in, noted, is_change, state_of, state_at, names_in, is_other_name, same_state}
+use Rattle.laws.specs.Stages.{stage_of_phase, stage_of, stage_at, stage_ended, causes_by, IsLateCause, IsOneEnd}
+use Rattle.laws.specs.Telling.{GoesOn, IsTold}
+use Rattle.laws.specs.InActions.{End, Given, closes_in, ended_by, ends_in, dials_in, promoted_by_dial, dial_promotions_in, given_in, CountUp, HasAddress, AreAt, LeadTo, temp_of, temp_at, notes_in, noted, is_change, names_in, is_other_name, same_state}
 use Rattle.laws.proofs.Addresses.{same_address-self, same_address-true}
 use Rattle.laws.proofs.Entries.{TurnsInto, one_has_id, has_own_id, turned-connections, gone-connections, with_new}
 use Rattle.laws.proofs.Failures.{changed-found}
 use Rattle.laws.proofs.Finds.{find-none_passes, find-set_other, find-set_here, find-remove_other, find-remove_here}
 use Rattle.laws.proofs.Lists.{StandsAt, OnePasses, All-stands, find_only}
 use Rattle.laws.proofs.PeersApart.{same_turned}
-use Rattle.laws.proofs.Telling.{open_stage, keeps_itself, told_unchanged, mute-none}
+use Rattle.laws.proofs.Telling.{open_stage, told_unchanged, mute-none, went_on, went_untold}
 use Rattle.laws.proofs.Ties.{found-addr, put_in-here, put_in-elsewhere, none_there, taken-here, taken-elsewhere, find-push_other, turns_at-elsewhere, find-push_here}
 use Rattle.laws.proofs.Cases.{by_bool}
 
@@ -86,27 +86,6 @@ naming-told m effect naming none peers next_id each = record {
   connections = each;
 }
 
--- a connection, as it was and as it is, and what is told of it
-went_on : (cid : ℕ) (m : Machine) (effect : Effect) (o p : Option Entry) → entry_at cid m ≡ o → entry_at cid effect.machine ≡ p → effect.moves ≡ [] →
-    KeepsAddress o p → LeadTo is_other_name same_state (state_of o) (names_in cid effect.actions) (state_of p) →
-    stage_of o (nat_lt cid m.next_id) ≤ stage_of p (nat_lt cid effect.machine.next_id) → GoesOn cid m effect
-went_on cid m effect o p was now none address names forward =
-    let before : stage_at cid m ≡ stage_of o (nat_lt cid m.next_id) = ap (λ x. stage_of x (nat_lt cid m.next_id)) was in
-    let after : stage_at cid effect.machine ≡ stage_of p (nat_lt cid effect.machine.next_id) = ap (λ x. stage_of x (nat_lt cid effect.machine.next_id)) now in
-    record {
-      names = subst (λ x. LeadTo is_other_name same_state (state_of x) (names_in cid effect.actions) (state_at cid effect.machine)) (sym was)
-          (subst (λ x. LeadTo is_other_name same_state (state_of o) (names_in cid effect.actions) (state_of x)) (sym now) names);
-      address = subst (λ x. KeepsAddress x (entry_at cid effect.machine)) (sym was) (subst (λ x. KeepsAddress o x) (sym now) address);
-      forward = omega (arith, before, after, forward);
-      ends = subst (λ ms. IsOneEnd (causes_in cid ms) (stage_at cid m) (stage_at cid effect.machine)) (sym none) tt;
-    }
-
--- one of which nothing is told, as it was
-went_untold : (cid : ℕ) (m : Machine) (effect : Effect) → entry_at cid effect.machine ≡ entry_at cid m → effect.moves ≡ [] → names_in cid effect.actions ≡ [] →
-    stage_at cid m ≤ stage_of (entry_at cid m) (nat_lt cid effect.machine.next_id) → GoesOn cid m effect
-went_untold cid m effect same none untold forward =
-    went_on cid m effect (entry_at cid m) (entry_at cid m) refl same none (keeps_itself (entry_at cid m)) (rw untold refl) forward
-
 -- ---- a connection turns
 
 pub turned-told : (m : Machine) (e new : Entry) (k : ℕ) → IsOrderly m → StandsAt m.connections k e → TurnsInto e new →
@@ -115,15 +94,6 @@ turned-told m e new k h s t forward =
     naming-told m (entry_turns e new m) (turn-naming (same_name (name_of e.facts) (name_of new.facts)) e.facts.cid (name_of new.facts)) refl refl refl
     (λ cid. by_id cid (has_id cid e.facts) refl)
   where
-    own_name : (cid : ℕ) → has_id cid e.facts ≡ true → (same : Bool) → same_name (name_of e.facts) (name_of new.facts) ≡ same →
-        LeadTo is_other_name same_state (name_of e.facts) (names_in cid (if same then [] else State e.facts.cid (name_of new.facts) ∷ [])) (name_of new.facts)
-    own_name cid own true is = same_name-true (name_of e.facts) (name_of new.facts) is
-    own_name cid own false is = one_name cid e.facts.cid (name_of e.facts) (name_of new.facts) own is
-
-    other_name : (cid : ℕ) → has_id cid e.facts ≡ false → (same : Bool) → names_in cid (if same then [] else State e.facts.cid (name_of new.facts) ∷ []) ≡ []
-    other_name cid other true = refl
-    other_name cid other false = no_name cid e.facts.cid (name_of new.facts) other
-
     list : (with_entry new m).connections ≡ set m.connections k new
     list = turned-connections m e new k h s t
 
@@ -133,12 +103,15 @@ turned-told m e new k h s t forward =
         let new_own : has_id cid new.facts ≡ true = ap (λ c. c.0 == cid) t.same_id ∙ own in
         went_on cid m (entry_turns e new m) (Some e) (Some new) (find_only (λ x. has_id cid x.facts) e m.connections k one s own)
         (ap (find (λ x. has_id cid x.facts)) list ∙ find-set_here (λ x. has_id cid x.facts) new e m.connections k one s own new_own) refl t.same_addr
-        (own_name cid own (same_name (name_of e.facts) (name_of new.facts)) refl) forward
+        (cond_both (same_name (name_of e.facts) (name_of new.facts)) [] (State e.facts.cid (name_of new.facts) ∷ [])
+        (λ actions. LeadTo is_other_name same_state (name_of e.facts) (names_in cid actions) (name_of new.facts)) (same_name-true (name_of e.facts) (name_of new.facts))
+        (one_name cid e.facts.cid (name_of e.facts) (name_of new.facts) own)) forward
     by_id cid false other =
         let new_other : has_id cid new.facts ≡ false = ap (λ c. c.0 == cid) t.same_id ∙ other in
         went_untold cid m (entry_turns e new m)
         (ap (find (λ x. has_id cid x.facts)) list ∙ find-set_other (λ x. has_id cid x.facts) new e m.connections k s other new_other) refl
-        (other_name cid other (same_name (name_of e.facts) (name_of new.facts))) (omega arith)
+        (cond_both (same_name (name_of e.facts) (name_of new.facts)) [] (State e.facts.cid (name_of new.facts) ∷ []) (λ actions. names_in cid actions ≡ [])
+        (λ same. refl) (λ turns. no_name cid e.facts.cid (name_of new.facts) other)) (omega arith)
 
 pub turned-stage : (m : Machine) (e new : Entry) (k : ℕ) → IsOrderly m → StandsAt m.connections k e → TurnsInto e new →
     stage_at e.facts.cid.0 (with_entry new m) ≡ stage_of_phase new.facts.phase
@@ -255,10 +228,6 @@ came-goes_on m new effect cid h id same none named = by_bool (has_id cid new.fac
     (named ∙ no_name cid new.facts.cid (name_of new.facts) other)
     (subst (λ next. stage_at cid m ≤ stage_of (entry_at cid m) (nat_lt cid next)) (sym (ap (λ n. n.next_id) same)) (given_later (entry_at cid m) cid m.next_id)))
 
--- it has the address that is told
-came-at : (m : Machine) (new : Entry) (addr : Addr) → IsOrderly m → new.facts.cid.0 ≡ m.next_id → new.facts.addr ≡ addr → HasAddress addr (entry_at m.next_id (with_new new m))
-came-at m new addr h id here = subst (HasAddress addr) (sym (new-found m new h id)) here
-
 -- it is admitted
 pub admits-told : (m : Machine) (new : Entry) (addr : Addr) → IsOrderly m → new.facts.cid.0 ≡ m.next_id → new.facts.addr ≡ addr →
     IsTold m (entry_comes (Admit (record { 0 = m.next_id }) addr ∷ []) new m)
@@ -266,7 +235,7 @@ admits-told m new addr h id here = record {
   closes = refl;
   dials = refl;
   given = (refl, refl);
-  addresses = (came-at m new addr h id here, tt);
+  addresses = (subst (HasAddress addr) (sym (new-found m new h id)) here, tt);
   peers = λ a. refl;
   connections = λ cid. came-goes_on m new (entry_comes (Admit (record { 0 = m.next_id }) addr ∷ []) new m) cid h id refl refl refl;
 }
@@ -281,7 +250,7 @@ dials-told m new addr h id here =
       closes = refl;
       dials = subst (λ b. dial ∷ [] ≡ (if b then dial ∷ [] else []) ++ []) (sym more) refl;
       given = (refl, refl);
-      addresses = (came-at m new addr h id here, tt);
+      addresses = (subst (HasAddress addr) (sym (new-found m new h id)) here, tt);
       peers = λ a. refl;
       connections = λ cid.
           let goes : GoesOn cid m (entry_comes (Dial (record { 0 = m.next_id }) addr ∷ []) new m) =
@@ -314,21 +283,24 @@ no_note : (a other : Addr) (note : PeerNote) → same_address other a ≡ false 
 no_note a other note apart = ap (λ c. (if c then note ∷ [] else []) ++ []) apart
 
 -- what tells of peers alone
-pub record IsNoting (actions : List Action) : Type 0 where
-  pub closes : closes_in actions ≡ []
-  pub dials : dials_in actions ≡ []
-  pub given : given_in actions ≡ []
-  pub names : (cid : ℕ) → names_in cid actions ≡ []
+record IsNoting (actions : List Action) : Type 0 where
+  closes : closes_in actions ≡ []
+  dials : dials_in actions ≡ []
+  given : given_in actions ≡ []
+  names : (cid : ℕ) → names_in cid actions ≡ []
 
-pub noting-told : (m : Machine) (effect : Effect) → IsNoting effect.actions → effect.moves ≡ [] → effect.machine.connections ≡ m.connections →
-    effect.machine.next_id ≡ m.next_id →
-    ((addr : Addr) → LeadTo is_change noted (temp_at addr m) (notes_in addr effect.actions) (temp_at addr effect.machine)) → IsTold m effect
-noting-told m effect noting none connections next_id each = record {
+-- Of peers only the one at an address is told of, and no other changes.
+noting-told : (a : Addr) (m : Machine) (effect : Effect) → IsNoting effect.actions → effect.moves ≡ [] → effect.machine.connections ≡ m.connections →
+    effect.machine.next_id ≡ m.next_id → LeadTo is_change noted (temp_at a m) (notes_in a effect.actions) (temp_at a effect.machine) →
+    ((b : Addr) → same_address b a ≡ false → notes_in b effect.actions ≡ []) → ((b : Addr) → same_address b a ≡ false → peer_at b effect.machine ≡ peer_at b m) → IsTold m effect
+noting-told a m effect noting none connections next_id here untold same = record {
   closes = noting.closes ∙ sym (ap ends_in none);
   dials = noting.dials ∙ sym (ap dial_promotions_in none);
   given = subst (λ ns. CountUp m.next_id ns effect.machine.next_id) (sym noting.given) (sym next_id);
   addresses = subst (λ gs. AreAt gs effect.machine) (sym noting.given) tt;
-  peers = each;
+  peers = λ b. by_bool (same_address b a) (λ c. LeadTo is_change noted (temp_at b m) (notes_in b effect.actions) (temp_at b effect.machine))
+      (λ is. subst (λ x. LeadTo is_change noted (temp_at x m) (notes_in x effect.actions) (temp_at x effect.machine)) (sym (same_address-true b a is)) here)
+      (λ other. subst (λ notes. LeadTo is_change noted (temp_at b m) notes (temp_at b effect.machine)) (sym (untold b other)) (ap temp_of (sym (same b other))));
   connections = λ cid.
       went_untold cid m effect (ap (find (λ e. has_id cid e.facts)) connections) none (noting.names cid)
       (subst (λ next. stage_at cid m ≤ stage_of (entry_at cid m) (nat_lt cid next)) (sym next_id) (omega arith));
@@ -357,20 +329,17 @@ turns_at-next (Some p) change m = refl
 -- a change that leaves the address
 pub changes-told : (a : Addr) (change : Peer → Peer) (m : Machine) → ((p : Peer) → (change p).addr ≡ p.addr) → IsTold m (peer_changes a change m)
 changes-told a change m same =
-    noting-told m (peer_changes a change m) (turns_at-noting (peer_at a m) change m) (turns_at-moves (peer_at a m) change m) (turns_at-connections (peer_at a m) change m)
-    (turns_at-next (peer_at a m) change m) (λ b. by_address b (same_address b a) refl)
+    noting-told a m (peer_changes a change m) (turns_at-noting (peer_at a m) change m) (turns_at-moves (peer_at a m) change m) (turns_at-connections (peer_at a m) change m)
+    (turns_at-next (peer_at a m) change m)
+    (subst (λ o. LeadTo is_change noted (temp_at a m) (notes_in a (peer_changes a change m).actions) (temp_of o)) (sym (changed-found a change m same)) (by_peer (peer_at a m) refl))
+    (λ b other. other_note b other (peer_at a m) refl) (turns_at-elsewhere a change m same)
   where
-    own_note : (p : Peer) → peer_at a m ≡ Some p → (still : Bool) → same_temp p.temp (change p).temp ≡ still →
-        LeadTo is_change noted (Some p.temp) (notes_in a (if still then [] else TellPeer p.addr (note_of (change p).temp) ∷ [])) (Some (change p).temp)
-    own_note p is true still = ap Some (is_temp p.temp (change p).temp still)
-    own_note p is false turns =
-        one_note a p.addr (Some p.temp) (Some (change p).temp) (note_of (change p).temp)
-        (subst (λ x. same_address p.addr x ≡ true) (found-addr a m.peers p is) (same_address-self p.addr))
-        (changes_temp p.temp (change p).temp turns) (noted_temp (change p).temp)
-
     by_peer : (o : Option Peer) → peer_at a m ≡ o → LeadTo is_change noted (temp_of o) (notes_in a (turns_at o change m).actions) (temp_of (option_map change o))
     by_peer None is = refl
-    by_peer (Some p) is = own_note p is (same_temp p.temp (change p).temp) refl
+    by_peer (Some p) is = cond_both (same_temp p.temp (change p).temp) [] (TellPeer p.addr (note_of (change p).temp) ∷ [])
+        (λ actions. LeadTo is_change noted (Some p.temp) (notes_in a actions) (Some (change p).temp)) (λ still. ap Some (is_temp p.temp (change p).temp still))
+        (λ turns. one_note a p.addr (Some p.temp) (Some (change p).temp) (note_of (change p).temp)
+        (subst (λ x. same_address p.addr x ≡ true) (found-addr a m.peers p is) (same_address-self p.addr)) (changes_temp p.temp (change p).temp turns) (noted_temp (change p).temp))
 
     other_note : (b : Addr) → same_address b a ≡ false → (o : Option Peer) → peer_at a m ≡ o → notes_in b (turns_at o change m).actions ≡ []
     other_note b other None is = refl
@@ -379,23 +348,14 @@ changes-told a change m same =
         cond_both (same_temp p.temp (change p).temp) [] (TellPeer p.addr (note_of (change p).temp) ∷ []) (λ actions. notes_in b actions ≡ [])
         (λ still. refl) (λ turns. no_note b p.addr (note_of (change p).temp) apart)
 
-    by_address : (b : Addr) (c : Bool) → same_address b a ≡ c →
-        LeadTo is_change noted (temp_at b m) (notes_in b (peer_changes a change m).actions) (temp_at b (peer_changes a change m).machine)
-    by_address b true is =
-        subst (λ x. LeadTo is_change noted (temp_at x m) (notes_in x (peer_changes a change m).actions) (temp_at x (peer_changes a change m).machine))
-        (sym (same_address-true b a is))
-        (subst (λ o. LeadTo is_change noted (temp_at a m) (notes_in a (peer_changes a change m).actions) (temp_of o)) (sym (changed-found a change m same))
-        (by_peer (peer_at a m) refl))
-    by_address b false other =
-        subst (λ notes. LeadTo is_change noted (temp_at b m) notes (temp_at b (peer_changes a change m).machine))
-        (sym (other_note b other (peer_at a m) refl)) (ap temp_of (sym (turns_at-elsewhere a change m same b other)))
-
 -- ---- a peer comes and goes
 
 pub peer_comes-told : (big : Bool) (a : Addr) (m : Machine) → IsTold m (peer_comes big a m)
-peer_comes-told big a m = by_bool (is_some (peer_at a m))
-    (λ b. IsTold m (came (if b then Present else if nat_le most_peers (length m.peers) then Full else New)))
-    (λ is. stays) (λ is. by_room (none_there (peer_at a m) is) (nat_le most_peers (length m.peers)))
+peer_comes-told big a m =
+    cond_both (is_some (peer_at a m)) Present (if nat_le most_peers (length m.peers) then Full else New) (λ added. IsTold m (came added))
+    (λ is. told_unchanged m (came Present) mute-none refl (record { connections = refl; peers = refl; next_id = refl }))
+    (λ is. cond_both (nat_le most_peers (length m.peers)) Full New (λ added. IsTold m (came added))
+    (λ full. told_unchanged m (came Full) mute-none refl (record { connections = refl; peers = refl; next_id = refl })) (λ room. comes (none_there (peer_at a m) is)))
   where
     new : Peer
     new = new_peer big a
@@ -403,42 +363,20 @@ peer_comes-told big a m = by_bool (is_some (peer_at a m))
     came : Added → Effect
     came added = note_of_coming added a (record m { peers = entered_by added new m.peers })
 
-    stays : IsTold m (came Present)
-    stays = told_unchanged m (came Present) mute-none refl (record { connections = refl; peers = refl; next_id = refl })
-
-    by_address : peer_at a m ≡ None → (b : Addr) (c : Bool) → same_address b a ≡ c →
-        LeadTo is_change noted (temp_at b m) (notes_in b (came New).actions) (temp_at b (came New).machine)
-    by_address none b true is =
-        subst (λ x. LeadTo is_change noted (temp_at x m) (notes_in x (came New).actions) (temp_at x (came New).machine)) (sym (same_address-true b a is))
-        (subst (λ o. LeadTo is_change noted (temp_at a m) (notes_in a (came New).actions) (temp_of o)) (sym (put_in-here new m.peers none))
-        (subst (λ o. LeadTo is_change noted (temp_of o) (notes_in a (came New).actions) (Some Cold)) (sym none)
-        (one_note a a None (Some Cold) note.Known (same_address-self a) refl refl)))
-    by_address none b false other =
-        subst (λ notes. LeadTo is_change noted (temp_at b m) notes (temp_at b (came New).machine)) (sym (no_note b a note.Known (same_turned b a other)))
-        (ap temp_of (sym (put_in-elsewhere new b m.peers other)))
-
     comes : peer_at a m ≡ None → IsTold m (came New)
-    comes none = noting-told m (came New) (turn-noting false a note.Known) refl refl refl (λ b. by_address none b (same_address b a) refl)
-
-    by_room : peer_at a m ≡ None → (b : Bool) → IsTold m (came (if b then Full else New))
-    by_room none true = told_unchanged m (came Full) mute-none refl (record { connections = refl; peers = refl; next_id = refl })
-    by_room none false = comes none
+    comes none =
+        noting-told a m (came New) (turn-noting false a note.Known) refl refl refl
+        (subst (λ o. LeadTo is_change noted (temp_at a m) (notes_in a (came New).actions) (temp_of o)) (sym (put_in-here new m.peers none))
+        (subst (λ o. LeadTo is_change noted (temp_of o) (notes_in a (came New).actions) (Some Cold)) (sym none) (one_note a a None (Some Cold) note.Known (same_address-self a) refl refl)))
+        (λ b other. no_note b a note.Known (same_turned b a other)) (λ b other. put_in-elsewhere new b m.peers other)
 
 -- of a peer that is there
 pub peer_goes-told : (a : Addr) (m : Machine) → is_some (peer_at a m) ≡ true → IsTold m (peer_goes a m)
 peer_goes-told a m there =
-    noting-told m (peer_goes a m) (turn-noting false a note.Forgotten) refl refl refl (λ b. by_address b (same_address b a) refl)
+    noting-told a m (peer_goes a m) (turn-noting false a note.Forgotten) refl refl refl
+    (one_note a a (temp_at a m) (temp_at a (peer_goes a m).machine) note.Forgotten (same_address-self a) (was (peer_at a m) there) (ap temp_of (sym (taken-here a m.peers))))
+    (λ b other. no_note b a note.Forgotten (same_turned b a other)) (λ b other. taken-elsewhere a b m.peers other)
   where
     was : (o : Option Peer) → is_some o ≡ true → is_change (temp_of o) note.Forgotten ≡ true
     was None none = none
     was (Some p) is = refl
-
-    by_address : (b : Addr) (c : Bool) → same_address b a ≡ c →
-        LeadTo is_change noted (temp_at b m) (notes_in b (peer_goes a m).actions) (temp_at b (peer_goes a m).machine)
-    by_address b true is =
-        subst (λ x. LeadTo is_change noted (temp_at x m) (notes_in x (peer_goes a m).actions) (temp_at x (peer_goes a m).machine)) (sym (same_address-true b a is))
-        (one_note a a (temp_at a m) (temp_at a (peer_goes a m).machine) note.Forgotten (same_address-self a) (was (peer_at a m) there)
-        (ap temp_of (sym (taken-here a m.peers))))
-    by_address b false other =
-        subst (λ notes. LeadTo is_change noted (temp_at b m) notes (temp_at b (peer_goes a m).machine)) (sym (no_note b a note.Forgotten (same_turned b a other)))
-        (ap temp_of (sym (taken-elsewhere a b m.peers other)))

@@ -1,7 +1,7 @@
 -- Where more connections are counted than the hard limit, one of them goes.
 use Rattle.std.proofs.Common.{ℕ, suc, ◌+◌, ◌≤◌, ◌<◌, ◌≡◌, Bool, true, false, not, ◌&&◌, ◌||◌, nat_le, if◌then◌else◌, List, [], ◌∷◌, ◌++◌, map, filter_map, find, Option, Some, None, refl, sym, ap, ◌∙◌, subst, arith, eq-eqb, leb-true, leb-false, All}
 use Rattle.laws.proofs.Words.{cond_both, both_ways, and_parts, not-true, All-head, All-tail, All-from_recursion, recursion_from_All, first_to_go-law}
-use Rattle.laws.specs.Words.{AllByRecursion, cons_option, option_map, unwrap_or, Settings, CloseCause, Pruned, Cid, Facts, Peer, IsFirstToGo, is_candidate, rank_of_candidate, goes_before, first_of, first_to_go, Candidate, is_counted, has_id, is_live, live_phase, is_greeting, is_greeting_phase, is_negotiated, is_negotiated_phase, is_outbound, Phase, Closing, failed_peer, Machine, Entry, counted_in, entry_at, Effect, Happened, Move, nothing_more, then_do, as_move, for_each, on_entry, turns_at, peer_at, peer_fails, without_entry, is_missed, lost, ending, candidate_of, candidates_in, trim}
+use Rattle.laws.specs.Words.{AllByRecursion, cons_option, option_map, unwrap_or, Settings, CloseCause, Pruned, Cid, Facts, IsFirstToGo, is_candidate, rank_of_candidate, goes_before, first_of, first_to_go, Candidate, is_counted, has_id, is_live, live_phase, is_greeting, is_greeting_phase, is_negotiated, is_negotiated_phase, is_outbound, Phase, Closing, Machine, Entry, counted_in, entry_at, Effect, Happened, Move, nothing_more, then_do, as_move, for_each, on_entry, without_entry, lost, ending, candidate_of, candidates_in, trim}
 use Rattle.laws.specs.AtMoves.{as_candidate, IsDueToGo, IsPrunedRightly, IsLawful}
 use Rattle.laws.specs.Laws.{LocalsAreOrdinary}
 use Rattle.laws.specs.Sound.{IsOrderly}
@@ -13,8 +13,7 @@ use Rattle.laws.proofs.Effects.{one_if-counted}
 use Rattle.laws.proofs.Entries.{gone-connections, one_has_id}
 use Rattle.laws.proofs.Finds.{find-remove_other}
 use Rattle.laws.proofs.Keeping.{Keeps, keeps_nothing}
-use Rattle.laws.proofs.ToldMoves.{turns_at-connections}
-use Rattle.laws.proofs.Lawful.{Accounts, accounts_then, accounts_move, Obeys, obeys_nothing, ending-obeys}
+use Rattle.laws.proofs.Lawful.{Accounts, accounts_then, accounts_move, Obeys, obeys_nothing, ending-obeys, lost-quiet}
 use Rattle.laws.proofs.Moves.{gone-counts}
 use Rattle.laws.proofs.Lists.{StandsAt, stands_next, find_only, all-weaker, all-appended, all-both}
 use Rattle.laws.proofs.WholeMoves.{IsLost, ending-keeps}
@@ -95,53 +94,21 @@ may_go-all P (f ∷ es) h = by_bool (is_candidate f.facts)
 choice_law : (m : Machine) (o : Option Candidate) → first_to_go (candidates_in m) ≡ o → IsFirstToGo o (candidates_in m)
 choice_law m o is = subst (λ c. IsFirstToGo c (candidates_in m)) is (first_to_go-law (candidates_in m))
 
--- where nobody may go, whoever does is first
-alone-due : (e : Entry) (m : Machine) → is_counted e.facts ≡ true → counted_in m ≡ m.settings.hard + 1 → first_to_go (candidates_in m) ≡ None → IsDueToGo e m
-alone-due e m counted most none = record {
+abbrev GoesAfter : Entry → Candidate → Type 0
+GoesAfter e d = (is_candidate e.facts ≡ true) × (goes_before d (as_candidate e) ≡ false)
+
+-- it is due where each candidate is one after which it goes
+due-after : (e : Entry) (m : Machine) → is_counted e.facts ≡ true → counted_in m ≡ m.settings.hard + 1 → AllByRecursion (GoesAfter e) (candidates_in m) → IsDueToGo e m
+due-after e m counted most each = record {
   crowded = most;
   counted = counted;
-  first = All-from_recursion IsBefore m.connections (may_go-all (λ d. Goes_after d) m.connections
-      (subst (AllByRecursion Goes_after) (sym (choice_law m None none)) tt));
+  first = All-from_recursion (λ f. is_candidate f.facts ≡ true → GoesAfter e (as_candidate f)) m.connections (may_go-all (GoesAfter e) m.connections each);
 }
-  where
-    Goes_after : Candidate → Type 0
-    Goes_after d = (is_candidate e.facts ≡ true) × (goes_before d (as_candidate e) ≡ false)
-
-    IsBefore : Entry → Type 0
-    IsBefore f = is_candidate f.facts ≡ true → Goes_after (as_candidate f)
-
-chosen-due : (m : Machine) (c : Candidate) → counted_in m ≡ m.settings.hard + 1 → first_to_go (candidates_in m) ≡ Some c → (g : Goes m.connections c) → IsDueToGo g.entry m
-chosen-due m c most some g = record {
-  crowded = most;
-  counted = g.facts.counted;
-  first = All-from_recursion IsBefore m.connections (may_go-all (λ d. Goes_after d) m.connections
-      (all-weaker (λ d. goes_before d c ≡ false) Goes_after
-      (λ d after. (g.facts.may, subst (λ x. goes_before d x ≡ false) (sym g.facts.ranked) after)) (candidates_in m)
-      (recursion_from_All (λ d. goes_before d c ≡ false) (candidates_in m) (choice_law m (Some c) some).1)));
-}
-  where
-    Goes_after : Candidate → Type 0
-    Goes_after d = (is_candidate g.entry.facts ≡ true) × (goes_before d (as_candidate g.entry) ≡ false)
-
-    IsBefore : Entry → Type 0
-    IsBefore f = is_candidate f.facts ≡ true → Goes_after (as_candidate f)
 
 -- ---- one less is counted
 
-pub turns_at-counted : (o : Option Peer) (change : Peer → Peer) (m : Machine) → counted_in (turns_at o change m).machine ≡ counted_in m
-turns_at-counted None change m = refl
-turns_at-counted (Some p) change m = refl
-
-lost-counted : (f : Facts) (m : Machine) → counted_in (lost f m).machine ≡ counted_in m
-lost-counted f m = cond_both (is_missed f) (peer_fails f.addr m) (nothing_more m) (λ effect. counted_in effect.machine ≡ counted_in m)
-    (λ missed. turns_at-counted (peer_at f.addr m) (failed_peer m.now m.settings.backoff) m) (λ other. refl)
-
-pruned-drops : (m : Machine) (e : Entry) (k : ℕ) → IsOrdered m → StandsAt m.connections k e →
-    counted_in (ending Pruned e m).machine + counted_of e ≡ counted_in m
-pruned-drops m e k h s =
-    let n : Machine = without_entry e.facts.cid.0 m in
-    let counts = gone-counts m e k h.orderly s in
-    omega (arith, counts.counted, lost-counted e.facts n)
+pub lost-connections : (f : Facts) (m : Machine) → (lost f m).machine.connections ≡ m.connections
+lost-connections f m = (lost-quiet f m).connections
 
 -- no more are counted than the hard limit says, the rest is kept, and each move keeps a law
 pub record Trimmed (Law : Move → Type 0) (before : Machine) (effect : Effect) : Type 0 where
@@ -193,9 +160,10 @@ pruned-trims m e k h s due =
     let keeps : Keeps 0 m (ending Pruned e m).machine = ending-keeps Pruned refl m e k h s in
     let obeys : Obeys IsLawful m (ending Pruned e m) =
     ending-obeys Pruned m e k h.orderly s (counted-live e.facts counted) (λ negotiated. tt) due in
-    let drops = pruned-drops m e k h s in
+    let counts = gone-counts m e k h.orderly s in
+    let lost_ = ap (λ es. counted_in (record m { connections = es })) (lost-connections e.facts (without_entry e.facts.cid.0 m)) in
     let one : counted_of e ≡ 1 = one_if-counted e.facts counted in
-    let few : counted_in (ending Pruned e m).machine ≤ m.settings.hard = omega (arith, drops, one, most) in
+    let few : counted_in (ending Pruned e m).machine ≤ m.settings.hard = omega (arith, counts.counted, lost_, one, most) in
     assumption (keeps, obeys)
 
 -- the connection that moved stands, and is counted
@@ -223,17 +191,18 @@ trim-trims moved m h most over = cond_both (nat_le (counted_in m) m.settings.har
         Trimmed IsLawful m (on_entry (entry_at (unwrap_or (option_map (λ c. c.cid) (first_to_go (candidates_in m))) moved).0 m) (ending Pruned) m)
     by_choice one_more None none own =
         rw (none, found_by_id m own.entry own.place moved h.orderly own.stands own.same)
-        (pruned-trims m own.entry own.place h own.stands (alone-due own.entry m own.counted one_more none))
+        (pruned-trims m own.entry own.place h own.stands
+        -- where nobody may go, whoever does is first
+        (due-after own.entry m own.counted one_more (subst (AllByRecursion (GoesAfter own.entry)) (sym (choice_law m None none)) tt)))
     by_choice one_more (Some c) some own =
         let goes : Goes m.connections c = goes_among m.connections c some in
         rw (some, found_by_id m goes.entry goes.place c.cid h.orderly goes.stands goes.facts.same)
-        (pruned-trims m goes.entry goes.place h goes.stands (chosen-due m c one_more some goes))
+        (pruned-trims m goes.entry goes.place h goes.stands
+        (due-after goes.entry m goes.facts.counted one_more (all-weaker (λ d. goes_before d c ≡ false) (GoesAfter goes.entry)
+        (λ d after. (goes.facts.may, subst (λ x. goes_before d x ≡ false) (sym goes.facts.ranked) after)) (candidates_in m)
+        (recursion_from_All (λ d. goes_before d c ≡ false) (candidates_in m) (choice_law m (Some c) some).1))))
 
 -- ---- who is in local use stays
-
-pub lost-connections : (f : Facts) (m : Machine) → (lost f m).machine.connections ≡ m.connections
-lost-connections f m = cond_both (is_missed f) (peer_fails f.addr m) (nothing_more m) (λ effect. effect.machine.connections ≡ m.connections)
-    (λ missed. turns_at-connections (peer_at f.addr m) (failed_peer m.now m.settings.backoff) m) (λ other. refl)
 
 pruned-used : (q : Entry → Bool) → ((x : Entry) → x.facts.local ≡ false → q x ≡ false) → (m : Machine) (e : Entry) (k : ℕ) → IsOrderly m →
     StandsAt m.connections k e → e.facts.local ≡ false → find q (ending Pruned e m).machine.connections ≡ find q m.connections

@@ -1,7 +1,7 @@
 -- How long is waited, what is set, and what is left as it was, in each part of an event.
-use Rattle.std.proofs.Common.{ℕ, ◌+◌, ◌%◌, ◌≡◌, ◌⊎◌, Bool, false, ◌||◌, find, Option, Some, None, refl, sym, ap, subst, inl, inr}
+use Rattle.std.proofs.Common.{ℕ, ◌+◌, ◌%◌, ◌≡◌, ◌⊎◌, false, ◌||◌, find, Option, Some, None, refl, sym, ap, subst, inl, inr}
 use Rattle.laws.proofs.Words.{cond_both, both_ways}
-use Rattle.laws.specs.Words.{dialing, accepted, agreed_inbound, agreed_outbound, acquired, released, awakened, idled, expired, has_id, is_for_remote, some_runs, with_responder, failed_peer, Undecoded, CloseCause, Overwritten, Addr, Facts, Off, ForRemote, ForLocal, Negotiated, Peer, Kind, entry_of, entered, new_peer, without_entry, is_missed, lost, lost_by, ending, vanishes, closing_entry, dial, Effect, nothing_more, admitted, Machine, Entry, fresh_entry, entry_at, peer_at, turns_at, peer_fails, peer_comes, peer_goes, owing, paid, Order}
+use Rattle.laws.specs.Words.{dialing, accepted, agreed_inbound, agreed_outbound, acquired, released, awakened, idled, expired, has_id, is_for_remote, some_runs, with_responder, failed_peer, Undecoded, CloseCause, Overwritten, Addr, Facts, Off, ForRemote, ForLocal, Negotiated, Peer, Kind, entry_of, entered, new_peer, without_entry, is_missed, lost, lost_by, ending, vanishes, closing_entry, dial, Effect, nothing_more, admitted, Machine, Entry, fresh_entry, entry_at, peer_at, turns_at, peer_fails, peer_goes, owing, paid, Order}
 use Rattle.laws.specs.Words.kind
 use Rattle.laws.specs.Acts.{Act, shows, asks_for_roots, carries, sets_targets, sets_big_targets, sets_groups, sets_roots, does}
 use Rattle.laws.specs.CarriedOut.{IsUnset, IsSet}
@@ -95,11 +95,6 @@ module _ (scope : Scope) where
   changed-waits None change m = waits_nothing scope m
   changed-waits (Some p) change m = waits_peers scope (turns_at (Some p) change m).machine.peers m
 
-  comes-waits : (big : Bool) (addr : Addr) (m : Machine) → Waited m (peer_comes big addr m)
-  comes-waits big addr m =
-      let n : Machine = record m { peers = entered (new_peer big addr) m.peers } in
-      subst (Waits scope m) (sym (note-machine (entry_of addr m.peers) addr n)) (waits_peers scope n.peers m)
-
   lost-waits : (f : Facts) (m : Machine) → Waited m (lost f m)
   lost-waits f m = cond_both (is_missed f) (peer_fails f.addr m) (nothing_more m) (Waited m)
       (λ missed. changed-waits (peer_at f.addr m) (failed_peer m.now m.settings.backoff) m) (λ other. waits_nothing scope m)
@@ -144,7 +139,8 @@ module _ (scope : Scope) where
     when_admitted = λ addr m may. admitted-waits addr m;
     when_turned_away = λ away m may. waits_nothing scope m;
     when_changed = λ addr change m same. changed-waits (peer_at addr m) change m;
-    when_known = λ big addr m. comes-waits big addr m;
+    when_known = λ big addr m. let n : Machine = record m { peers = entered (new_peer big addr) m.peers } in
+        subst (Waits scope m) (sym (note-machine (entry_of addr m.peers) addr n)) (waits_peers scope n.peers m);
     when_forgotten = λ addr m may. waits_peers scope (peer_goes addr m).machine.peers m;
   }
 
@@ -170,15 +166,11 @@ right scope m n h kind cid =
     subst (λ s. IsWait (n.now + length_of kind s) (until_at kind cid m) (until_at kind cid n)) (sym h.unset.settings)
     (subst (λ t. IsWait (t + length_of kind m.settings) (until_at kind cid m) (until_at kind cid n)) (sym h.unset.now) ((h.each cid).waits kind))
 
--- no connection changes where something is set
-set-right : (m n : Machine) → n.connections ≡ m.connections → WaitsRight m n
-set-right m n same kind cid =
-    subst (λ es. IsWait (n.now + length_of kind n.settings) (until_at kind cid m) (until_in kind (find (λ e. has_id cid e.facts) es))) (sym same)
-    (kept (n.now + length_of kind n.settings) (until_at kind cid m))
-
 pub waits-right : (act : Act) (m : Machine) → IsNext act m → Finds act m → WaitsRight m (does act m).machine
 waits-right act m next found = elim (sets_or_changes act m) [
-  | inl same ↦ set-right m (does act m).machine same
+  | inl same ↦ let n : Machine = (does act m).machine in λ kind cid.
+      subst (λ es. IsWait (n.now + length_of kind n.settings) (until_at kind cid m) (until_in kind (find (λ e. has_id cid e.facts) es))) (sym same)
+      (kept (n.now + length_of kind n.settings) (until_at kind cid m))
   | inr change ↦ right (scope_of act m) m (does act m).machine (act-waits act m change next found)
 ]
 

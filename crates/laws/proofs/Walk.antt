@@ -294,9 +294,6 @@ module _ (scope : Scope) (R : Machine → Effect → Type 0) (kept : Kept scope 
       (λ fails. kept.when_moved (gone e.facts.cid.0) m (vanishes e m) refl (kept.when_gone e m (itself dials fails))))
       (λ other. kept.when_nothing m)
 
-  closes-walk : (e : Entry) (m : Machine) → scope.goes e.facts.cid.0 ≡ true → R m (closes e m)
-  closes-walk e m itself = cond_both (is_live e.facts) (vanishes e m) (nothing_more m) (R m) (λ live. kept.when_gone e m itself) (λ closed. kept.when_nothing m)
-
   -- ---- an item in the handshake
 
   judged-walk : (v : Verdict) (e : Entry) (m : Machine) → scope.sends ≡ true → Stands scope e m → R m (judged v e m)
@@ -426,7 +423,7 @@ orderly-finds order m h = record {
 pub forgets_own : (order : Order) (addr : Addr) → order ≡ Forget addr → forgets (carries order) addr ≡ true
 forgets_own order addr is = subst (λ o. forgets (carries o) addr ≡ true) (sym is) (same_address-self addr)
 
-own_id : (cid : ℕ) → (cid == cid) ≡ true
+pub own_id : (cid : ℕ) → (cid == cid) ≡ true
 own_id cid = eq-eqb cid cid refl
 
 module _ (act : Act) (m : Machine) (R : Machine → Effect → Type 0) (kept : Kept (scope_of act m) R) where
@@ -460,7 +457,8 @@ walk (ends_stream cid fault) m R change next found kept =
     named-walk (ends_stream cid fault) m R kept cid.0 (faulted fault) (own_id cid.0) (λ e is same stands. faulted-walk (scope_of (ends_stream cid fault) m) R kept fault e m)
 walk (is_closed cid) m R change next found kept =
     named-walk (is_closed cid) m R kept cid.0 closes (own_id cid.0)
-    (λ e is same stands. closes-walk (scope_of (is_closed cid) m) R kept e m (eq-eqb cid.0 e.facts.cid.0 same))
+    (λ e is same stands. cond_both (is_live e.facts) (vanishes e m) (nothing_more m) (R m)
+    (λ live. kept.when_gone e m (eq-eqb cid.0 e.facts.cid.0 same)) (λ closed. kept.when_nothing m))
 walk (makes_ordinary addr) m R change next found kept = kept.when_changed addr (λ p. record p { big = false }) m (λ p. refl)
 walk (provides addr) m R change next found kept = kept.when_known false addr m
 walk (provides_big addr) m R change next found kept = big-walk (scope_of (provides_big addr) m) R kept addr m

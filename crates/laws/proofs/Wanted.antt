@@ -1,7 +1,7 @@
 -- Nobody is promoted or activated beyond what is wanted: the numbers of a rule are what its orders use up.
-use Rattle.std.proofs.Common.{ℕ, ◌+◌, ◌-◌, ◌%◌, ◌≤◌, ◌≡◌, Bool, true, false, cond, not, ◌&&◌, ◌||◌, List, [], ◌∷◌, ◌++◌, length, map, filter, find, flat_map, count_by, Option, Some, None, is_some, refl, sym, ap, ◌∙◌, subst, arith}
-use Rattle.laws.proofs.Words.{cond_both, both_ways, and_parts, false_from_ne_true, not-true, All-from_recursion, All-weaker, sum_by-cons, sum_by-append, count_by-le-length, count_none, length-picked, length-ranked}
-use Rattle.laws.specs.Words.{list_any, AllByRecursion, option_map, same_address, Addr, Group, Peer, Temp, Cold, Warm, Hot, effective_of, effective_big_of, acquired, is_acquirable, is_pending, is_eligible, may_be_activated, established_target, active_target, count_of, promotes, some_link, owes_on_2, rated_of, picks_of, orders_for, is_member_and, members_count, g4_orders, g7_orders, Link, Order, Promote, Activate, is_of, is_established, is_active, same_temp, established_of, active_of, addresses_of, is_listed, members_of, Machine, Entry, live_entry_at, promoted, activated, for_each, on_entry, reply_on, owing, peer_at, with_entry, acquire, dial, link_of, view_of, promoted_at, is_used_at, on_used, activates, carries_out}
+use Rattle.std.proofs.Common.{ℕ, ◌+◌, ◌-◌, ◌≤◌, ◌≡◌, Bool, true, false, cond, not, ◌&&◌, ◌||◌, List, [], ◌∷◌, ◌++◌, length, map, filter, flat_map, count_by, Some, is_some, refl, sym, ap, ◌∙◌, subst, arith}
+use Rattle.laws.proofs.Words.{both_ways, and_parts, false_from_ne_true, not-true, All-from_recursion, All-weaker, sum_by-cons, sum_by-append, count_by-le-length, count_none, length-picked, length-ranked}
+use Rattle.laws.specs.Words.{list_any, AllByRecursion, option_map, same_address, Addr, Group, Peer, Temp, Cold, Hot, effective_of, effective_big_of, is_pending, is_eligible, may_be_activated, established_target, active_target, count_of, promotes, some_link, owes_on_2, rated_of, picks_of, orders_for, is_member_and, members_count, g4_orders, g7_orders, Link, Order, Promote, Activate, is_of, is_established, is_active, same_temp, established_of, active_of, addresses_of, is_listed, members_of, Machine, Entry, live_entry_at, promoted, activated, for_each, reply_on, peer_at, link_of, view_of, promoted_at, on_used, activates, carries_out}
 use Rattle.govern_rules.specs.ClassRules.{activates as activates_class}
 use Rattle.govern_rules.specs.Links.{is_pending as is_pending_link}
 use Rattle.peer_book.specs.Book.{peer_at as peer_in}
@@ -16,10 +16,10 @@ use Rattle.laws.proofs.Lawful.{Within}
 use Rattle.laws.proofs.Lists.{all-weaker, all-appended, all-both}
 use Rattle.laws.proofs.Locals.{no_member-unlisted}
 use Rattle.laws.proofs.Orders.{EachAccounted}
-use Rattle.laws.proofs.Spending.{ChangesAt, IsLocalTest, established_or_pending-same, active_or_asked-same, class_at, same_but-class, number-one, members-one, members-none, promote-changes, activate-changes}
-use Rattle.laws.proofs.Cases.{by_bool, by_option, some_same}
-use Rattle.laws.proofs.ToldMoves.{turns_at-moves}
+use Rattle.laws.proofs.Spending.{ChangesAt, IsLocalTest, class_at, same_but-class, number-one, members-one, members-none, promote-changes, activate-changes}
+use Rattle.laws.proofs.Cases.{by_bool, some_same}
 use Rattle.laws.proofs.WaitsOfParts.{order-unset}
+use Rattle.laws.proofs.Due.{promoted_at-moves, on_used-moves}
 
 -- ---- an order that uses up what is wanted
 
@@ -39,24 +39,10 @@ pub active-stays : (big : Bool) (m n : Machine) → IsUnset m n → active_wante
 active-stays false m n h = λ i. (effective_of (h.targets i) (h.now i)).active
 active-stays true m n h = λ i. (effective_big_of (h.big_targets i) (h.now i)).active
 
-acquire-moves : (e : Entry) (m : Machine) → (acquire e m).moves ≡ []
-acquire-moves e m =
-    let n : Machine = with_entry (owing 8 (e.facts.cid.0 % 65536) m (record e { facts = acquired e.facts })) m in
-    ap (λ ms. ms ++ []) (turns_at-moves (peer_at e.facts.addr n) (λ p. record p { temp = Warm; failures = 0 }) n)
-
-promoted_at-moves : (o : Option Entry) (addr : Addr) (m : Machine) → (promoted_at o addr m).moves ≡ []
-promoted_at-moves None addr m = refl
-promoted_at-moves (Some e) addr m = cond_both (is_acquirable e.facts) (acquire e m) (dial addr m) (λ effect. effect.moves ≡ [])
-    (λ may. acquire-moves e m) (λ other. refl)
-
-on_used-moves : (addr : Addr) (m : Machine) → (on_used addr activates m).moves ≡ []
-on_used-moves addr m = by_option (find (is_used_at addr) m.connections) (λ o. (on_entry o activates m).moves ≡ [])
-    (λ is. refl) (λ e is. refl)
-
 promotes-use : Uses is_established_or_pending established_wanted (λ group. group.warm) Promote
 promotes-use = record {
   changes = promote-changes;
-  local = established_or_pending-same;
+  local = λ addr m n changes p other. ap (λ b. is_established p.temp || b) (changes.connections (λ e. is_pending e.facts) p.addr other);
   within = λ addr m wanted.
       move-within (promoted addr) m (promoted_at (live_entry_at addr m) addr m) (promoted_at-moves (live_entry_at addr m) addr m) wanted;
   stays = established-stays;
@@ -65,7 +51,7 @@ promotes-use = record {
 activates-use : Uses is_active_or_asked active_wanted (λ group. group.hot) Activate
 activates-use = record {
   changes = activate-changes;
-  local = active_or_asked-same;
+  local = λ addr m n changes p other. ap (λ b. is_active p.temp || b) (changes.connections (λ e. is_some (reply_on 2 e)) p.addr other);
   within = λ addr m wanted. move-within (activated addr) m (on_used addr activates m) (on_used-moves addr m) wanted;
   stays = active-stays;
 }

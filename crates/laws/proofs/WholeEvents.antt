@@ -1,10 +1,10 @@
 -- Each event of the whole machine.
-use Rattle.std.proofs.Common.{ℕ, zero, suc, ◌+◌, ◌≤◌, ◌≡◌, Bool, true, false, cond, nat_le, if◌then◌else◌, List, length, All, Option, Some, None, refl, sym, ap, ◌∙◌, subst, arith, leb-false}
+use Rattle.std.proofs.Common.{ℕ, zero, suc, ◌+◌, ◌≤◌, ◌≡◌, true, false, cond, nat_le, if◌then◌else◌, List, length, All, Option, Some, None, refl, sym, ap, ◌∙◌, subst, arith, leb-false}
 use Rattle.laws.proofs.Words.{cond_both, both_ways, and_parts, false≢true, All-push}
-use Rattle.laws.specs.Words.{same_address, Overwritten, Fault, HandshakeWait, ReplyWait, Addr, Cid, Event, Now, Govern, Accepted, Dialed, Bytes, Closed, Aims, Locals, Roots, BigAims, Bigs, Group, Job, RootAnswer, Found, Failed, Peer, Deadline, Kind, Handshake, TimeWait, expired, is_live, is_live_at, cleaned, members_of, awaits, publics_of, found, failed, Machine, Entry, counted_in, live_entry_at, Effect, Move, shared, unused, nothing_more, as_move, for_each, on_entry, peer_at, peer_is_ordinary, peer_comes, with_entry, without_entry, entry_turns, closing_entry, grace_over, ending, deadlines, due, fires_as, fires, fires_some, fire_due, fire_all, clock_shows, admitted, peer_connects, peer_closes, dial_ends, govern, targets_are, big_targets_are, comes_ordinary, locals_are, is_wanted_big, comes_big, bigs_are, roots_say, roots_answer, bytes_come_in, step}
+use Rattle.laws.specs.Words.{same_address, Overwritten, Fault, HandshakeWait, ReplyWait, Addr, Event, Now, Govern, Accepted, Dialed, Bytes, Closed, Aims, Locals, Roots, BigAims, Bigs, Group, RootAnswer, Found, Failed, Peer, Deadline, Kind, Handshake, TimeWait, expired, is_live, is_live_at, cleaned, members_of, awaits, publics_of, found, failed, Machine, Entry, counted_in, live_entry_at, Effect, Move, shared, nothing_more, as_move, for_each, on_entry, peer_at, peer_is_ordinary, peer_comes, with_entry, without_entry, entry_turns, closing_entry, ending, deadlines, due, fires_as, fires, fires_some, fire_due, fire_all, clock_shows, admitted, peer_connects, peer_closes, dial_ends, govern, targets_are, big_targets_are, comes_ordinary, locals_are, is_wanted_big, comes_big, bigs_are, roots_say, roots_answer, bytes_come_in, step}
 use Rattle.net_base.specs.declared.timer.Kind.TheVariants.{Grace as GraceKind}
 use Rattle.laws.specs.AtMoves.{IsLawful}
-use Rattle.laws.specs.Steady.{IsShaped, IsFormed, IsSteady, TiedBy, IsTied, AreApart, IsOwing, IsOrdered}
+use Rattle.laws.specs.Steady.{IsShaped, IsFormed, IsSteady, TiedBy, IsTied, IsOwing, IsOrdered}
 use Rattle.laws.specs.Laws.{is_local, LocalsAreOrdinary}
 use Rattle.laws.proofs.Addresses.{same_address-true}
 use Rattle.laws.proofs.Entries.{TurnsInto}
@@ -40,10 +40,6 @@ ordinary-keeps addr m h = changes-keeps addr (λ p. record p { big = false }) m 
     same_peer p None tie = tie
     same_peer p (Some e) tie = record { established = tie.established; in_use = tie.in_use; on_its_way = tie.on_its_way; asked = tie.asked }
 
--- the groups alone are set
-grouped-ordered : (groups : List Group) (m : Machine) → IsOrdered m → AreApart (members_of groups) → IsOrdered (record m { groups = groups })
-grouped-ordered groups m h apart = assumption
-
 locals-keeps : (groups : List Group) (m : Machine) → IsOrdered m → Keeps 0 m (locals_are groups m).machine
 locals-keeps groups m h =
     let kept : List Group = cleaned m.settings.own groups in
@@ -51,7 +47,7 @@ locals-keeps groups m h =
     let o : Machine = (for_each peer_is_ordinary (members_of kept) n).machine in
     let p : Machine = (for_each comes_ordinary (members_of kept) o).machine in
     let first : Keeps 0 n o =
-    for_each-keeps peer_is_ordinary ordinary-keeps (members_of kept) n (grouped-ordered kept m h (cleaned-apart m.settings.own groups)) in
+    for_each-keeps peer_is_ordinary ordinary-keeps (members_of kept) n (assumption (cleaned-apart m.settings.own groups, h)) in
     let second : Keeps 0 o p = for_each_that-keeps IsOther comes_ordinary comes_ordinary-keeps (members_of kept) o first.ordered
     (subst (λ s. All (IsOther s) (members_of kept)) (sym first.settings) (members-other m.settings groups)) in
     let both : Keeps 0 n p = keeps_then 0 0 n o p first second in
@@ -73,19 +69,6 @@ roots_say-keeps (Found ttl addrs) m h =
     keeps_then 0 0 m n (for_each comes_ordinary publics n).machine first
     (for_each_that-keeps IsOther comes_ordinary comes_ordinary-keeps publics n first.ordered (publics-other m.settings m.targets.root addrs))
 roots_say-keeps Failed m h = elsewhere-keeps m.targets m.big_targets (failed m.now m.settings.backoff m.roots) m h (λ job never. absurd cc)
-
-roots-keeps : (job : Job) (answer : RootAnswer) (m : Machine) → IsOrdered m → Keeps 0 m (roots_answer job answer m).machine
-roots-keeps job answer m h = cond_both (awaits job.0 m.roots) (roots_say answer m) (nothing_more m) (λ effect. Keeps 0 m effect.machine)
-    (λ pending. roots_say-keeps answer m h) (λ other. keeps_nothing m h)
-
--- ---- dials and ends
-
-dial_ends-keeps : (cid : Cid) (opened : Bool) (m : Machine) → IsOrdered m → Keeps 0 m (dial_ends cid opened m).machine
-dial_ends-keeps cid opened m h = dialed-cases cid opened m (λ effect. Keeps 0 m effect.machine) (keeps_nothing m h)
-    (λ e k s dials. connects-keeps m e k h s dials) (λ e k s dials. vanishes-keeps m e k h s)
-
-closes-keeps : (cid : Cid) (m : Machine) → IsOrdered m → Keeps 0 m (peer_closes cid m).machine
-closes-keeps cid m h = closes-cases cid m (λ effect. Keeps 0 m effect.machine) (keeps_nothing m h) (λ e k s own. vanishes-keeps m e k h s)
 
 -- ---- a peer connects
 
@@ -131,21 +114,12 @@ closes_entry-keeps m e k h s idle =
     (turned-ties m e (closing_entry m e) k h.orderly s turns (λ live o is tie. by_option o (λ o. TiedBy m.now o (Some e) → TiedBy m.now o None)
     (λ is tie. tt) (λ p is tie. tie.established ∙ idle) tie))
 
-grace_over-keeps : (m : Machine) (e : Entry) (k : ℕ) → IsOrdered m → StandsAt m.connections k e → Keeps 0 m (grace_over e m).machine
-grace_over-keeps m e k h s = cond_both e.facts.local _ _ (λ (effect : Effect). Keeps 0 m effect.machine) (expires-keeps m e k h s) (closes_entry-keeps m e k h s)
-
--- a time-wait is over
-waits-keeps : (m : Machine) (e : Entry) (k : ℕ) → IsOrdered m → StandsAt m.connections k e → is_live e.facts ≡ false →
-    Keeps 0 m (without_entry e.facts.cid.0 m)
-waits-keeps m e k h s dead =
-    moves-keeps 0 m (without_entry e.facts.cid.0 m) (goes-moves m e k h s)
-    (gone-ties m e k h.orderly s (λ live. absurd (both_ways (is_live e.facts) dead live)))
-
 fires_as-keeps : (kind : Kind) (m : Machine) (e : Entry) (k : ℕ) → IsOrdered m → StandsAt m.connections k e → (kind ≡ TimeWait → is_live e.facts ≡ false) →
     Keeps 0 m (fires_as kind e m).machine
 fires_as-keeps Handshake m e k h s waits = ending-keeps (Fault HandshakeWait) refl m e k h s
-fires_as-keeps GraceKind m e k h s waits = grace_over-keeps m e k h s
-fires_as-keeps TimeWait m e k h s waits = waits-keeps m e k h s (waits refl)
+fires_as-keeps GraceKind m e k h s waits = cond_both e.facts.local _ _ (λ (effect : Effect). Keeps 0 m effect.machine) (expires-keeps m e k h s) (closes_entry-keeps m e k h s)
+fires_as-keeps TimeWait m e k h s waits = moves-keeps 0 m (without_entry e.facts.cid.0 m) (goes-moves m e k h s)
+    (gone-ties m e k h.orderly s (λ live. absurd (both_ways (is_live e.facts) (waits refl) live)))
 fires_as-keeps other m e k h s waits = ending-keeps (Fault ReplyWait) refl m e k h s
 
 pub fires-keeps : (d : Deadline) (m : Machine) → IsOrdered m → due m ≡ Some d → Keeps 0 m (fires d m).machine
@@ -233,11 +207,14 @@ pub step-steady : (m : Machine) (event : Event) → IsSteady m → StaysSteady m
 step-steady m (Now t) h = clock-steady t m h
 step-steady m (Govern word) h = trimmed-steady IsLawful m (govern word m) h (govern-trimmed word m (ordered_of m h) h.sound.counted)
 step-steady m (Accepted addr) h = connects-steady addr m h
-step-steady m (Dialed cid opened) h = kept-steady m (dial_ends cid opened m).machine h (dial_ends-keeps cid opened m (ordered_of m h))
+step-steady m (Dialed cid opened) h = kept-steady m (dial_ends cid opened m).machine h (dialed-cases cid opened m (λ effect. Keeps 0 m effect.machine)
+    (keeps_nothing m (ordered_of m h)) (λ e k s dials. connects-keeps m e k (ordered_of m h) s dials) (λ e k s dials. vanishes-keeps m e k (ordered_of m h) s))
 step-steady m (Bytes cid bytes) h = trimmed-steady IsLawful m (bytes_come_in cid bytes m) h (bytes_come_in-trimmed cid bytes m (ordered_of m h) h.sound.counted)
-step-steady m (Closed cid) h = kept-steady m (peer_closes cid m).machine h (closes-keeps cid m (ordered_of m h))
+step-steady m (Closed cid) h = kept-steady m (peer_closes cid m).machine h (closes-cases cid m (λ effect. Keeps 0 m effect.machine) (keeps_nothing m (ordered_of m h))
+    (λ e k s own. vanishes-keeps m e k (ordered_of m h) s))
 step-steady m (Aims targets) h = kept-steady m (targets_are targets m).machine h (elsewhere-keeps targets m.big_targets m.roots m (ordered_of m h) h.formed.pending_job)
 step-steady m (Locals groups) h = kept-steady m (locals_are groups m).machine h (locals-keeps groups m (ordered_of m h))
-step-steady m (Roots job answer) h = kept-steady m (roots_answer job answer m).machine h (roots-keeps job answer m (ordered_of m h))
+step-steady m (Roots job answer) h = kept-steady m (roots_answer job answer m).machine h (cond_both (awaits job.0 m.roots) _ _
+    (λ (effect : Effect). Keeps 0 m effect.machine) (λ pending. roots_say-keeps answer m (ordered_of m h)) (λ other. keeps_nothing m (ordered_of m h)))
 step-steady m (BigAims targets) h = kept-steady m (big_targets_are targets m).machine h (elsewhere-keeps m.targets targets m.roots m (ordered_of m h) h.formed.pending_job)
 step-steady m (Bigs addrs) h = kept-steady m (bigs_are addrs m).machine h (for_each-keeps comes_big comes_big-keeps addrs m (ordered_of m h))

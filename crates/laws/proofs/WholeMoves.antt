@@ -1,7 +1,7 @@
 -- The moves of connections in the whole machine: what each keeps, and by how much it may raise the counted ones.
 use Rattle.std.proofs.Common.{ℕ, ◌+◌, ◌%◌, ◌≤◌, ◌≡◌, Bool, true, false, ◌&&◌, ◌||◌, nat_le, ◌==◌, if◌then◌else◌, count_by, Option, Some, None, is_some, subst, refl, sym, ap, ◌∙◌, arith}
 use Rattle.laws.proofs.Words.{cond_both, both_ways, and_parts, and_from, false≢true, false_from_ne_true, and_right}
-use Rattle.laws.specs.Words.{CloseCause, Overwritten, Agreed, Cid, Facts, Undecoded, Grace, Off, ForRemote, ForLocal, Phase, Dialing, Greeting, Negotiated, Closing, Peer, Warm, Version, settings_tests, failed_peer, connected, agreed_inbound, agreed_outbound, acquired, released, awakened, idled, agreed_sharing, is_pending, opening_phase, is_negotiated, is_negotiated_phase, is_dialing, is_dialing_phase, is_greeting, is_greeting_phase, live_phase, is_outbound, is_for_remote, some_runs, is_acquirable, is_live, Machine, Entry, live_entry_at, nothing_more, peer_at, peer_fails, peer_succeeds, reply_on, owing, paid, is_owed_on, with_entry, without_entry, is_missed, lost, lost_by, ending, vanishes, is_used, is_agreed_inbound, is_agreed_outbound, acquire, idle, grace_deadlines}
+use Rattle.laws.specs.Words.{CloseCause, Overwritten, Agreed, Cid, Facts, Undecoded, Grace, Off, ForRemote, ForLocal, Phase, Dialing, Greeting, Negotiated, Closing, Peer, Warm, Version, settings_tests, failed_peer, connected, agreed_inbound, agreed_outbound, acquired, released, awakened, idled, agreed_sharing, is_pending, opening_phase, is_negotiated, is_negotiated_phase, is_dialing, is_dialing_phase, is_greeting, is_greeting_phase, live_phase, is_outbound, is_for_remote, some_runs, is_acquirable, is_live, Machine, Entry, live_entry_at, nothing_more, peer_at, peer_fails, peer_succeeds, reply_on, owing, paid, is_owed_on, with_entry, without_entry, is_missed, lost, lost_by, ending, vanishes, is_used, is_agreed_inbound, is_agreed_outbound, acquire, idle, grace_deadlines, Effect}
 use Rattle.laws.specs.AtMoves.{IsReady}
 use Rattle.laws.specs.Steady.{IsShaped, IsUnused, AreTied, TiedBy, IsTied, IsOwing, IsOrdered}
 use Rattle.laws.proofs.Counts.{counted_of, late_of, one_if_counted, is_late, grace_late_of}
@@ -64,10 +64,6 @@ not_missed-unused : (f : Facts) → is_missed f ≡ false → f.local ≡ false
 not_missed-unused f h = by_bool f.local (λ b. (b || is_pending f) ≡ false → b ≡ false)
     (λ is h. absurd (false≢true (sym h))) (λ is h. refl) h
 
-pub lost-moves : (f : Facts) (m : Machine) → IsOrdered m → Moves 0 m (lost f m).machine
-lost-moves f m h = cond_both (is_missed f) (peer_fails f.addr m) (nothing_more m) (λ effect. Moves 0 m effect.machine)
-    (λ missed. changes-moves f.addr (failed_peer m.now m.settings.backoff) m (λ p. refl) (λ p ordinary. ordinary) h) (λ other. moves_nothing m h)
-
 lost-ties : (m : Machine) (e : Entry) (k : ℕ) → IsOrdered m → StandsAt m.connections k e → IsTied m →
     IsTied (lost e.facts (without_entry e.facts.cid.0 m)).machine
 lost-ties m e k h s ties =
@@ -88,7 +84,10 @@ gone_lost-keeps : (m : Machine) (e : Entry) (k : ℕ) → IsOrdered m → Stands
 gone_lost-keeps m e k h s =
     let n : Machine = without_entry e.facts.cid.0 m in
     let goes : Moves 0 m n = goes-moves m e k h s in
-    moves-keeps 0 m (lost e.facts n).machine (moves_then 0 0 m n (lost e.facts n).machine goes (lost-moves e.facts n goes.ordered)) (lost-ties m e k h s)
+    moves-keeps 0 m (lost e.facts n).machine (moves_then 0 0 m n (lost e.facts n).machine goes
+    (cond_both (is_missed e.facts) _ _ (λ (effect : Effect). Moves 0 n effect.machine)
+    (λ missed. changes-moves e.facts.addr (failed_peer n.now n.settings.backoff) n (λ p. refl) (λ p ordinary. ordinary) goes.ordered) (λ other. moves_nothing n goes.ordered)))
+    (lost-ties m e k h s)
 
 -- a cause for which a peer fails
 abbrev pub IsLost : CloseCause → Type 0
