@@ -1,7 +1,7 @@
 -- The moves of the clock: a reply is late, a grace is over, a handshake was not done in time, a time-wait is over.
 use Rattle.std.proofs.Common.{ℕ, zero, suc, ◌≡◌, ◌≤◌, arith, true, false, ◌&&◌, [], ◌∷◌, Some, All, Contains, refl, sym, ap, subst, leb-true}
 use Rattle.laws.proofs.Words.{cond_both, both_ways, false≢true, and_right, All-weaker, All-contains, All-contains_itself}
-use Rattle.laws.specs.Words.{Close, Unused, Fault, HandshakeWait, ReplyWait, Facts, Phase, Closing, Deadline, Kind, Handshake, TimeWait, expired, is_live, live_phase, is_greeting, is_greeting_phase, is_negotiated, is_outbound, Machine, Entry, Owed, Effect, unused, gone, tells, then_do, as_move, on_entry, peer_at, entry_turns, entry_goes, closing_entry, grace_over, wait_over, deadlines_of, reply_deadline, due, fires_as, fires, fires_some, fire_due}
+use Rattle.laws.specs.Words.{Close, Unused, Fault, HandshakeWait, ReplyWait, Facts, Deadline, Kind, Handshake, TimeWait, expired, is_live, live_phase, is_greeting, is_greeting_phase, is_negotiated, is_outbound, Machine, Entry, Owed, Effect, unused, gone, tells, then_do, as_move, on_entry, peer_at, entry_turns, entry_goes, closing_entry, grace_over, wait_over, deadlines_of, reply_deadline, due, fires_as, fires, fires_some, fire_due}
 use Rattle.net_base.specs.declared.timer.Kind.TheVariants.{Grace as GraceKind}
 use Rattle.laws.specs.AtMoves.{is_missed, failed_where, FailsWhere, IsPast, IsOver, IsLawful}
 use Rattle.laws.specs.Sound.{IsOrderly}

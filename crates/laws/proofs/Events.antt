@@ -1,7 +1,7 @@
 -- Each event keeps what is sound.
 use Rattle.std.proofs.Common.{ℕ, ◌+◌, ◌<◌, ◌≤◌, ◌≡◌, ◌≢◌, false, remove, None, All, IsTrue, nat_le, refl, sym, ap, ◌∙◌, subst, arith, leb-false}
 use Rattle.laws.proofs.Words.{cond_both, and_parts, lt-leb, All-weaker, count_none, recursion_from_All}
-use Rattle.laws.specs.Words.{Effect, same_address, Overwritten, Addr, accepted, is_live, is_live_at, Machine, Entry, fresh_entry, counted_in, live_entry_at, then_do, without_entry, ending, deadlines, fire_all, clock_shows, admitted, peer_connects, nothing_more}
+use Rattle.laws.specs.Words.{same_address, Overwritten, Addr, accepted, is_live, is_live_at, Machine, Entry, fresh_entry, counted_in, live_entry_at, then_do, without_entry, ending, deadlines, fire_all, clock_shows, admitted, peer_connects, nothing_more}
 use Rattle.laws.specs.Laws.{DifferInAddress, WithinHardLimit, DeadlinesAhead}
 use Rattle.laws.specs.Sound.{IsOrderly, IsSound}
 use Rattle.laws.proofs.Addresses.{same_address-self, same_address-true}

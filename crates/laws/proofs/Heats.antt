@@ -1,7 +1,7 @@
 -- A peer that has answered where the chains meet is hot.
-use Rattle.std.proofs.Common.{ℕ, ◌≡◌, Bool, true, false, ◌==◌, is_some, Option, Some, None, refl, sym, ap, ◌∙◌, subst, eqb-true}
+use Rattle.std.proofs.Common.{◌≡◌, true, false, ◌==◌, is_some, Option, Some, None, refl, sym, ap, ◌∙◌, subst, eqb-true}
 use Rattle.laws.proofs.Words.{cond_both, both_ways, false≢true}
-use Rattle.laws.specs.Words.{option_map, Item, Phase, Negotiated, Hot, Peer, Addr, Cid, Fault, Protocol, CloseCause, has_id, is_negotiated, is_negotiated_phase, agreed_sharing, watched, Effect, then_do, on_entry, entry_turns, with_entry, ending, handled, handled_in, talks, asked_as, answered_as, reply_on, Owed, pays, paid, brings, peer_becomes, peer_at, Machine, Entry, entry_at}
+use Rattle.laws.specs.Words.{option_map, Item, Phase, Negotiated, Hot, Peer, Addr, Fault, Protocol, CloseCause, has_id, is_negotiated_phase, agreed_sharing, watched, Effect, then_do, on_entry, entry_turns, with_entry, ending, handled, handled_in, asked_as, answered_as, reply_on, Owed, pays, paid, brings, peer_becomes, peer_at, Machine, Entry, entry_at}
 use Rattle.laws.specs.Acts.{Act, handles_item, does}
 use Rattle.laws.specs.CarriedOut.{OnPeer, WhereAnswered, HeatsUp}
 use Rattle.laws.proofs.Failures.{changed-found}

@@ -1,7 +1,7 @@
 -- Whoever is in the book stays in it, unless an order forgets it.
-use Rattle.std.proofs.Common.{ℕ, ◌≡◌, Bool, true, false, ◌||◌, ◌⊎◌, List, [], ◌∷◌, is_some, Option, Some, None, refl, sym, ap, ◌∙◌, subst, inl, inr}
-use Rattle.laws.proofs.Words.{cond_both, both_ways, false≢true, or_left, or_right}
-use Rattle.laws.specs.Words.{option_map, same_address, Addr, Facts, Peer, CloseCause, Overwritten, failed_peer, new_peer, entered, without_peer, lost, lost_by, is_missed, ending, vanishes, without_entry, Effect, nothing_more, then_do, peer_fails, peer_changes, peer_comes, peer_goes, peer_at, Machine, Entry, Send, tells, entry_turns, entry_goes, dial, admitted, turned_away, Undecoded}
+use Rattle.std.proofs.Common.{◌≡◌, Bool, true, false, ◌||◌, [], ◌∷◌, is_some, refl, sym, ap, ◌∙◌, subst}
+use Rattle.laws.proofs.Words.{cond_both, both_ways, or_left, or_right}
+use Rattle.laws.specs.Words.{option_map, same_address, Addr, Facts, Peer, CloseCause, Overwritten, failed_peer, new_peer, lost, is_missed, ending, without_entry, Effect, nothing_more, then_do, peer_fails, peer_changes, peer_comes, peer_goes, peer_at, Machine, Entry, Send, tells, entry_turns, entry_goes, dial, admitted, turned_away}
 use Rattle.peer_book.specs.Book.{peer_at as peer_in, with_new as with_new_in}
 use Rattle.laws.specs.Acts.{Act, shows, asks_for_roots, sets_targets, sets_big_targets, sets_groups, sets_roots, does}
 use Rattle.laws.specs.AtMoves.{is_known}

@@ -1,7 +1,7 @@
 -- A connection that waits its time stays until that is over.
-use Rattle.std.proofs.Common.{ℕ, ◌≤◌, ◌≡◌, Bool, true, false, not, ◌&&◌, ◌||◌, ◌==◌, nat_lt, List, [], ◌∷◌, is_some, if◌then◌else◌, find, Option, Some, None, refl, sym, ap, ◌∙◌, subst, arith, eqb-true, All}
-use Rattle.laws.proofs.Words.{both_ways, false≢true, or_left, or_right, and_from, not-true}
-use Rattle.laws.specs.Words.{Phase, Closing, Grace, Facts, CloseCause, Kind, Deadline, vanishes, is_live, live_phase, is_dialing, is_dialing_phase, is_negotiated, is_negotiated_phase, has_id, nothing_more, on_entry, closes, Effect, Machine, Entry, Owed, entry_at, reply_on}
+use Rattle.std.proofs.Common.{ℕ, ◌≤◌, ◌≡◌, Bool, true, false, not, ◌&&◌, ◌||◌, ◌==◌, nat_lt, List, [], ◌∷◌, is_some, if◌then◌else◌, Option, Some, None, refl, sym, ap, ◌∙◌, subst, arith, eqb-true}
+use Rattle.laws.proofs.Words.{false≢true, or_left, or_right, and_from, not-true}
+use Rattle.laws.specs.Words.{Phase, Closing, CloseCause, Kind, Deadline, vanishes, is_live, live_phase, is_dialing, is_dialing_phase, is_negotiated_phase, has_id, nothing_more, on_entry, closes, Effect, Machine, Entry, entry_at}
 use Rattle.laws.specs.Words.kind
 use Rattle.laws.specs.Acts.{Act, fires_one, ends_dial, is_closed, does}
 use Rattle.laws.specs.AtMoves.{is_ended_in}
@@ -13,10 +13,10 @@ use Rattle.laws.specs.Steady.{IsOrdered, IsShaped, IsUnused, IsOwing}
 use Rattle.laws.specs.Telling.{IsTold}
 use Rattle.laws.specs.Untouched.{is_about, may_close}
 use Rattle.laws.specs.Waits.{until_greeted, until_unused, until_of, until_in, until_at}
-use Rattle.laws.proofs.Lists.{StandsAt, All-stands, find_some}
+use Rattle.laws.proofs.Lists.{All-stands, find_some}
 use Rattle.laws.proofs.OpenEnds.{uncaused, lasts-of}
-use Rattle.laws.proofs.Walk.{Finds, Stands, scope_of}
-use Rattle.laws.proofs.Cases.{by_bool, by_option}
+use Rattle.laws.proofs.Walk.{Finds}
+use Rattle.laws.proofs.Cases.{by_bool}
 
 -- one that waits its time is closed, and closing is behind all that is open
 waiting-stage : (o : Option Entry) (given : Bool) → is_waiting_entry o ≡ true → 4 ≤ stage_of o given

@@ -1,7 +1,7 @@
 -- The orders of each rule may be carried out, one after the other: each is due, and there are ids left, since all of them together
 -- give out few.
 use Rattle.std.proofs.Common.{ℕ, ◌+◌, ◌^◌, ◌≤◌, ◌≡◌, true, not, ◌||◌, List, [], ◌∷◌, ◌++◌, IsSomeAnd, sym, subst, arith, ap}
-use Rattle.laws.specs.Words.{Effect, Cold, is_acquirable, Order, Ask, Forget, Promote, Release, Machine, counted_in, for_each, peer_at, carries_out, asks_roots, ordinary_rules, big_rules, rules}
+use Rattle.laws.specs.Words.{Cold, is_acquirable, Order, Ask, Forget, Promote, Release, Machine, counted_in, for_each, peer_at, carries_out, asks_roots, ordinary_rules, big_rules, rules}
 use Rattle.laws.specs.Acts.{orders_of}
 use Rattle.laws.specs.AtMoves.{some_connection}
 use Rattle.laws.specs.OrderNeeds.{MayGovern, MayCarry, MayAll, MayFollow}

@@ -1,13 +1,12 @@
 -- Local peers are ordinary ones, through each change of the book.
-use Rattle.std.proofs.Common.{◌≡◌, Bool, true, false, List, [], ◌∷◌, Option, Some, None, refl, ap, sym, ◌∙◌, subst, arith}
-use Rattle.laws.specs.Words.{option_map, Addr, Peer, without_peer, new_peer, entered, is_listed, members_of, Machine, for_each, peer_at, turns_at, peer_is_ordinary}
+use Rattle.std.proofs.Common.{◌≡◌, Bool, true, false, List, [], ◌∷◌, Option, Some, None, refl, sym, ◌∙◌, subst, arith}
+use Rattle.laws.specs.Words.{Addr, Peer, without_peer, new_peer, entered, is_listed, members_of, Machine, for_each, peer_at, turns_at, peer_is_ordinary}
 use Rattle.peer_book.specs.Book.{peer_at as peer_in, with_peer as with_peer_in}
 use Rattle.laws.specs.Laws.{is_local, LocalsAreOrdinary}
 use Rattle.laws.proofs.Addresses.{same_address-true}
-use Rattle.laws.proofs.Failures.{changed-found}
 use Rattle.laws.proofs.Ties.{found-addr, peer_elsewhere, peer_here, put_in-elsewhere, put_in-here, none_there, taken-elsewhere, taken-here}
 use Rattle.laws.proofs.PeersApart.{entered-cases}
-use Rattle.laws.proofs.Cases.{by_option, some_same}
+use Rattle.laws.proofs.Cases.{by_option}
 
 -- ---- one peer
 

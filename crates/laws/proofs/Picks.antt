@@ -4,7 +4,7 @@ use Rattle.laws.specs.Words.{AllByRecursion, best_of, address_below, ip_below, s
 use Rattle.peer_book.specs.Book.{peer_at}
 use Rattle.laws.specs.Steady.{ArePeersApart, AreApart}
 use Rattle.laws.proofs.Addresses.{same_address-true}
-use Rattle.laws.proofs.Lists.{all-weaker, filter-all, not_below, all-both, all-map, filter-passing}
+use Rattle.laws.proofs.Lists.{all-weaker, filter-all, all-both, all-map, filter-passing}
 use Rattle.laws.proofs.PeersApart.{all-found}
 
 -- ---- the least of several things

@@ -1,6 +1,6 @@
 -- What is found by an id after a trim was found before, and a responder that started runs.
 use Rattle.std.proofs.Common.{ℕ, ◌≡◌, true, find, Option, Some, None, refl, sym, ap, ◌∙◌, arith}
-use Rattle.laws.specs.Words.{Effect, unwrap_or, Cid, Facts, choice_of, awakened, has_responder, has_id, runs, with_entry, without_entry, candidates_in, trim, awake, ending, on_entry, Machine, Entry, entry_at, Pruned}
+use Rattle.laws.specs.Words.{unwrap_or, Cid, Facts, choice_of, awakened, has_responder, has_id, runs, with_entry, without_entry, candidates_in, trim, awake, ending, on_entry, Machine, Entry, entry_at, Pruned}
 use Rattle.laws.proofs.Trims.{lost-connections}
 use Rattle.laws.proofs.Moments.{turned-found as turned-into}
 use Rattle.laws.proofs.Waits.{gone-found as found-once_gone}

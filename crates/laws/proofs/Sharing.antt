@@ -1,7 +1,7 @@
 -- Who can share is found among the links: its connection in use has agreed on it.
-use Rattle.std.proofs.Common.{◌≡◌, Bool, true, ◌&&◌, List, [], ◌∷◌, map, find, Some, is_some, arith, ap}
+use Rattle.std.proofs.Common.{◌≡◌, Bool, true, ◌&&◌, List, [], ◌∷◌, map, find, Some, is_some, arith}
 use Rattle.laws.proofs.Words.{and_parts, false≢true}
-use Rattle.laws.specs.Words.{same_address, Addr, agreed_sharing, is_live, is_live_at, can_share, Machine, Entry, link_of, is_used_at}
+use Rattle.laws.specs.Words.{same_address, Addr, agreed_sharing, is_live, can_share, Machine, Entry, link_of, is_used_at}
 use Rattle.laws.specs.Steady.{IsOrdered}
 use Rattle.laws.proofs.Lists.{find_only, find_some}
 use Rattle.laws.proofs.Orders.{MayAsk}

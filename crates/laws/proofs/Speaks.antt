@@ -1,12 +1,12 @@
 -- What is said is said to who is open, and behind the close of a connection nothing.
-use Rattle.std.proofs.Common.{ℕ, ◌+◌, ◌%◌, ◌≤◌, ◌≡◌, nat_lt, find, arith, flat_map, if◌then◌else◌, Bool, true, false, ◌&&◌, ◌==◌, List, [], ◌∷◌, ◌++◌, filter, Option, Some, None, Result, Ok, Err, refl, sym, ap, ◌∙◌, subst, eqb-true, eq-eqb}
+use Rattle.std.proofs.Common.{ℕ, ◌+◌, ◌%◌, ◌≤◌, ◌≡◌, nat_lt, find, arith, flat_map, if◌then◌else◌, Bool, true, false, ◌&&◌, ◌==◌, List, [], ◌∷◌, ◌++◌, Option, Some, None, Result, Ok, Err, refl, sym, ap, ◌∙◌, subst, eqb-true, eq-eqb}
 use Rattle.laws.proofs.Words.{cond_both, and_parts, false≢true, flat_map-append, filter-append}
-use Rattle.laws.specs.Words.{AllByRecursion, FaultKind, Fault, Protocol, Malformed, Refused, Query, Pruned, Action, Close, Send, State, Addr, Cid, Facts, Peer, Cold, Warm, Phase, Dialing, Greeting, Negotiated, CloseCause, Unused, same_address, is_live, is_live_at, is_used_at, is_dialing_phase, agreed_sharing, is_acquirable, is_dialing, connected, agreed_inbound, agreed_outbound, acquired, runs, has_id, same_name, name_of, same_temp, Item, Message, Verdict, verdict_of, answer_of, proposal_of, written_alive, written_request, Done, lost, is_missed, without_entry, peer_fails, failed_peer, Order, Ask, Forget, Promote, Release, Activate, Deactivate, Seen, Reply, Effect, nothing_more, tells, then_do, on_entry, on_connection, entry_turns, with_entry, ending, dial, dial_opens, dial_fails, is_used, acquire, release, says_done, trim, awake, begins, serves, stops_if, replies, asked_as, answered_as, takes_requests, talks, handled, handled_in, greets, decided, judged, sends_answer, sends_as_initiator, peer_sharing_done, find_intersect, chain_sync_done, owing, peer_at, turns_at, note_of, peer_succeeds, peer_becomes, peer_was_asked, promoted_at, on_used, asks_peer, activates, deactivates, carries_out, dialed, own_info, role_of, Machine, Entry, entry_at, live_entry_at, reply_on, watched}
+use Rattle.laws.specs.Words.{AllByRecursion, FaultKind, Fault, Protocol, Refused, Query, Pruned, Action, Close, Send, State, Addr, Cid, Facts, Peer, Warm, Phase, Dialing, Greeting, Negotiated, CloseCause, Unused, same_address, is_live, is_live_at, is_used_at, is_dialing_phase, agreed_sharing, is_acquirable, is_dialing, connected, agreed_inbound, agreed_outbound, acquired, runs, has_id, same_name, name_of, same_temp, Item, Verdict, verdict_of, answer_of, proposal_of, written_alive, written_request, Done, lost, is_missed, without_entry, peer_fails, failed_peer, Order, Ask, Forget, Promote, Release, Activate, Deactivate, Seen, Reply, Effect, nothing_more, tells, then_do, on_entry, entry_turns, with_entry, ending, dial, dial_opens, dial_fails, is_used, acquire, release, says_done, trim, awake, begins, serves, stops_if, replies, asked_as, answered_as, takes_requests, talks, handled, handled_in, greets, decided, judged, sends_answer, sends_as_initiator, peer_sharing_done, owing, peer_at, turns_at, note_of, peer_succeeds, peer_was_asked, promoted_at, asks_peer, activates, deactivates, carries_out, dialed, own_info, role_of, Machine, Entry, entry_at, live_entry_at, reply_on, watched}
 use Rattle.net_base.specs.declared.action.Action.TheVariants.{Peer as TellPeer}
 use Rattle.laws.specs.Words.reply
 use Rattle.warm_messages.specs.declared.alive.Alive.TheVariants.{Ask as AskAlive}
 use Rattle.laws.specs.Words.verdict
-use Rattle.laws.specs.Acts.{Act, asks_for_roots, carries, connects, ends_dial, handles_item, does}
+use Rattle.laws.specs.Acts.{Act, carries, ends_dial, handles_item, does}
 use Rattle.laws.specs.Ends.{offered}
 use Rattle.laws.specs.InActions.{End, closes_in, ends_in}
 use Rattle.laws.specs.Parts.{IsNext}
@@ -20,7 +20,7 @@ use Rattle.laws.proofs.Lawful.{stands-found, live_stage}
 use Rattle.laws.proofs.Lists.{find_some, all-weaker, all-appended}
 use Rattle.laws.proofs.Moments.{ending-none}
 use Rattle.laws.proofs.Sends.{gives_up, gives_up-silent, decided-sends, sends-right}
-use Rattle.laws.proofs.Silent.{sent-deaf, turns-silent, ending-silent, vanishes-silent, stops-silent, begins-silent, answered-silent}
+use Rattle.laws.proofs.Silent.{sent-deaf, ending-silent, vanishes-silent, stops-silent, begins-silent, answered-silent}
 use Rattle.laws.proofs.Walk.{Finds, turned_by, awakes, idles}
 use Rattle.laws.proofs.Cases.{by_bool, by_option}
 
