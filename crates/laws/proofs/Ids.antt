@@ -12,7 +12,7 @@ use Rattle.laws.proofs.NumbersOfRules.{govern-few}
 -- ---- a part that dials nobody, and lets nobody in
 
 abbrev anything : Scope
-anything = record { own = λ cid. true; comes = λ cid. true; drops = true; goes = λ cid. true; timely = false; sends = true; dials = false; lets_in = false; forgets = λ addr. true }
+anything = record { own = λ cid. true; comes = λ cid. true; drops = true; goes = λ cid. true; timely = false; sends = true; dials = false; lets_in = false; forgets = λ addr. true; brings = λ big. true; makes = true }
 
 abbrev Given : Machine → Effect → Type 0
 Given m effect = GivesNone m effect.machine
@@ -33,7 +33,8 @@ none-kept = record {
   when_admitted = λ addr m may. absurd (false≢true may);
   when_turned_away = λ away m may. unchanged refl;
   when_changed = λ addr change m same. turns_at-none (peer_at addr m) change m;
-  when_known = λ big addr m. peer_comes-none big addr m;
+  when_made = λ addr m may. turns_at-none (peer_at addr m) (λ p. record p { big = false }) m;
+  when_known = λ big addr m may. peer_comes-none big addr m;
   when_forgotten = λ addr m may. unchanged refl;
 }
 
@@ -62,7 +63,7 @@ dial_ends-none cid opened m = found-none cid.0 (dialed opened) m (λ e stands. d
 -- ---- what is set and provided
 
 pub comes_big-none : (addr : Addr) (m : Machine) → Given m (comes_big addr m)
-comes_big-none addr m = big-walk anything Given none-kept addr m
+comes_big-none addr m = big-walk anything Given none-kept addr m refl
 
 pub locals_are-none : (groups : List Group) (m : Machine) → GivesNone m (locals_are groups m).machine
 locals_are-none groups m =
@@ -83,7 +84,7 @@ roots_answer-none job answer m = cond_both (awaits job.0 m.roots) (roots_say ans
 -- ---- bytes
 
 handles-none : (cid : Cid) (item : Item) (m : Machine) → Given m (handles cid item m)
-handles-none cid item m = found-none cid.0 (handled item) m (λ e stands. handled-walk anything Given none-kept e.facts.phase item e m refl stands)
+handles-none cid item m = found-none cid.0 (handled item) m (λ e stands. handled-walk anything Given none-kept e.facts.phase item e m refl refl stands)
 
 fed_with-none : (fed : FedBy) (e : Entry) (m : Machine) → GivesNone m (fed_with fed e m).machine
 fed_with-none fed e m =

@@ -72,8 +72,9 @@ known-kept scope = record {
   when_dialed = λ addr m may. knows_same scope.forgets m (dial addr m) refl;
   when_admitted = λ addr m may. knows_same scope.forgets m (admitted addr m) refl;
   when_turned_away = λ away m may. knows_same scope.forgets m (turned_away away m) refl;
-  when_changed = λ addr change m same. changed-knows scope.forgets addr change m same;
-  when_known = λ big addr m. comes-knows scope.forgets big addr m;
+  when_changed = λ addr change m same. changed-knows scope.forgets addr change m (λ p. (same p).0);
+  when_made = λ addr m may. changed-knows scope.forgets addr (λ p. record p { big = false }) m (λ p. refl);
+  when_known = λ big addr m may. comes-knows scope.forgets big addr m;
   when_forgotten = λ addr m may. goes-knows scope.forgets addr m (λ b same. subst (λ a. scope.forgets a ≡ true) (sym (same_address-true b addr same)) may);
 }
 

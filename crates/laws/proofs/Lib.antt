@@ -25,6 +25,7 @@ mod OpenEnds
 mod Lingers
 mod Heats
 mod Known
+mod Classes
 mod Ordering
 mod Governing
 mod GroupsApart

@@ -1,7 +1,7 @@
 -- A connection that stands open stays so or ends once, in each part of an event.
 use Rattle.std.proofs.Common.{ℕ, ◌+◌, ◌≤◌, ◌≡◌, Bool, true, false, ◌||◌, ◌==◌, nat_lt, if◌then◌else◌, cond, flat_map, List, [], ◌∷◌, ◌++◌, find, Option, Some, None, refl, sym, ap, ◌∙◌, subst, inl, inr, arith, eqb-true}
 use Rattle.laws.proofs.Words.{both_ways, false≢true, or_left, or_right, list_any-append, find-append}
-use Rattle.laws.specs.Words.{Undecoded, list_any, option_map, option_or, dialing, accepted, has_id, is_live, Send, CloseCause, entry_goes, with_entry, without_entry, entry_turns, lost_by, ending, vanishes, closing_entry, dial, Effect, Happened, Move, ended, unused, nothing_more, tells, then_do, as_move, turned_away, admitted, Machine, Entry, fresh_entry, entry_at, peer_changes, peer_goes, peer_at, peer_comes}
+use Rattle.laws.specs.Words.{Undecoded, list_any, option_map, option_or, dialing, accepted, has_id, is_live, Send, CloseCause, entry_goes, with_entry, without_entry, entry_turns, lost_by, ending, vanishes, closing_entry, dial, Effect, Happened, Move, ended, unused, nothing_more, tells, then_do, as_move, turned_away, admitted, Machine, Entry, fresh_entry, entry_at, peer_changes, peer_goes, peer_at, peer_comes, peer_is_ordinary}
 use Rattle.laws.specs.Acts.{Act, does}
 use Rattle.laws.specs.AtMoves.{ends, is_ended_in}
 use Rattle.laws.specs.OpenEnds.{is_open_entry, is_open_at, goes_by_itself, IsOpenEnd, OpenEndsOnce}
@@ -151,7 +151,8 @@ module _ (scope : Scope) (test : Option Entry → Bool) (goes : ℕ → Bool) (l
     when_admitted = λ addr m may. come-stays m (fresh_entry (accepted m.next_id addr (m.now + m.settings.handshake))) (admitted addr m) refl;
     when_turned_away = λ away m may. stays_same m (turned_away away m) refl;
     when_changed = λ addr change m same. stays_same m (peer_changes addr change m) (turns_at-connections (peer_at addr m) change m);
-    when_known = λ big addr m. stays_same m (peer_comes big addr m) (ap (λ n. n.connections) (comes-machine big addr m));
+    when_made = λ addr m may. stays_same m (peer_is_ordinary addr m) (turns_at-connections (peer_at addr m) (λ p. record p { big = false }) m);
+    when_known = λ big addr m may. stays_same m (peer_comes big addr m) (ap (λ n. n.connections) (comes-machine big addr m));
     when_forgotten = λ addr m may. stays_same m (peer_goes addr m) refl;
   }
 

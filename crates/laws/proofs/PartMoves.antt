@@ -17,6 +17,7 @@ use Rattle.laws.proofs.BackOff.{treats, forgives}
 use Rattle.laws.proofs.Begun.{over-after, waits-begin}
 use Rattle.laws.proofs.Goes.{goes-where}
 use Rattle.laws.proofs.Heats.{heats-up}
+use Rattle.laws.proofs.Classes.{keeps-class}
 use Rattle.laws.proofs.Known.{keeps-known}
 use Rattle.laws.proofs.Lingers.{lingers}
 use Rattle.laws.proofs.OpenEnds.{StaysOr, stays_then, stays-of, opens-once, ended_once}
@@ -132,6 +133,7 @@ lawful-part event act m closes next order found h = record {
   next = next;
   order = order;
   book = treats-book act m;
+  classes = keeps-class act m next found;
   known = keeps-known act m next found;
   heats = heats-up act m;
   forgiven = forgives act m;

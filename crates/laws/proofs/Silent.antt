@@ -116,7 +116,8 @@ module _ {X : Type 0} (by : Action → List X) (deaf : Deaf by) where
     when_admitted = λ addr m may. admitted-silent (mutes.admits may) (mutes.pauses may) addr m;
     when_turned_away = λ away m may. one-silent (Turnaway away) (mutes.turns_away may away);
     when_changed = λ addr change m same. changed-silent (peer_at addr m) change m;
-    when_known = λ big addr m. comes-silent big addr m;
+    when_made = λ addr m may. changed-silent (peer_at addr m) (λ p. record p { big = false }) m;
+    when_known = λ big addr m may. comes-silent big addr m;
     when_forgotten = λ addr m may. one-silent (TellPeer addr note.Forgotten) (deaf.peer addr note.Forgotten);
   }
 
@@ -145,7 +146,7 @@ module _ {X : Type 0} (by : Action → List X) (deaf : Deaf by) where
   answered-silent (Some owed) item e m =
       cond_both (pays owed item.body) _ _ (λ (effect : Effect). flat_map by effect.actions ≡ [])
       (λ paid_. both-silent (entry_turns e (paid item.id e) m) (brings item.id item.body e) (turns-silent e (paid item.id e) m)
-      (brings-walk still Says (silent-kept still still-mutes) item.id item.body e (with_entry (paid item.id e) m)))
+      (brings-walk still Says (silent-kept still still-mutes) item.id item.body e (with_entry (paid item.id e) m) refl))
       (λ other. ending-silent (Fault Protocol) e m)
 
   -- who is let in or turned away, and when accepting pauses, is no matter of it either

@@ -210,7 +210,7 @@ handled-becomes Negotiated item e m given is =
     (λ fault. ending-becomes (turned_by_item Negotiated item e m) (Fault fault) e m)
     (λ first seen was takes. rw (first, was) (served-becomes seen item.id e m given is))
     (λ second owed here. rw second (then-becomes (Some (paid item.id e)) e.facts.cid.0 n (brings item.id item.body e n).machine given (turned-becomes e (paid item.id e) m refl)
-    (brings-walk nobody (Waited nobody) (waits-kept nobody) item.id item.body e n)))
+    (brings-walk nobody (Waited nobody) (waits-kept nobody) item.id item.body e n refl)))
 handled-becomes other item e m given is = stands-becomes e m is
 
 -- ---- an order

@@ -139,7 +139,8 @@ module _ (scope : Scope) where
     when_admitted = λ addr m may. admitted-waits addr m;
     when_turned_away = λ away m may. waits_nothing scope m;
     when_changed = λ addr change m same. changed-waits (peer_at addr m) change m;
-    when_known = λ big addr m. let n : Machine = record m { peers = entered (new_peer big addr) m.peers } in
+    when_made = λ addr m may. changed-waits (peer_at addr m) (λ p. record p { big = false }) m;
+    when_known = λ big addr m may. let n : Machine = record m { peers = entered (new_peer big addr) m.peers } in
         subst (Waits scope m) (sym (note-machine (entry_of addr m.peers) addr n)) (waits_peers scope n.peers m);
     when_forgotten = λ addr m may. waits_peers scope (peer_goes addr m).machine.peers m;
   }

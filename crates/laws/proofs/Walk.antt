@@ -2,13 +2,13 @@
 -- what stood before and what came of it that holds of each of these, and of one after the other, holds of the part.
 use Rattle.std.proofs.Common.{ℕ, ◌+◌, ◌%◌, ◌≡◌, Bool, true, false, ◌==◌, if◌then◌else◌, List, [], ◌∷◌, find, Option, Some, None, refl, sym, ap, ◌∙◌, subst, eqb-true, eq-eqb}
 use Rattle.laws.proofs.Words.{cond_both, and_parts}
-use Rattle.laws.specs.Words.{connected, agreed_inbound, agreed_outbound, acquired, released, awakened, idled, expired, has_id, is_acquirable, is_dialing, is_live, is_live_at, live_phase, runs, agreed_sharing, Order, Ask, Forget, Promote, Release, Activate, Deactivate, verdict_of, answer_of, proposal_of, Verdict, kind_of, frame_of, CutFault, Item, same_address, Undecoded, Close, Send, Away, CloseCause, Unused, Pruned, Overwritten, Refused, Query, Fault, Protocol, HandshakeWait, ReplyWait, Addr, Agreed, Cid, Facts, Phase, Greeting, Negotiated, Closing, Peer, Cold, Warm, Hot, Kind, Reply, Seen, written_alive, written_request, Done, with_entry, entry_turns, entry_goes, ending, vanishes, closing_entry, is_used, acquire, trim, says_done, release, awake, dial, dial_opens, dial_fails, fires_as, Effect, Happened, promoted, activated, shared, unused, gone, nothing_more, tells, then_do, as_move, on_entry, on_connection, turned_away, admitted, peer_connects, closes, dialed, promoted_at, is_used_at, on_used, asks_peer, activates, deactivates, carries_out, role_of, sends_answer, judged, greets, Machine, Entry, entry_at, live_entry_at, own_info, peer_changes, peer_succeeds, peer_becomes, peer_was_asked, peer_comes, peer_goes, is_wanted_big, comes_big, owing, paid, sends_as_initiator, find_intersect, chain_sync_done, peer_sharing_done, handled_in, handled, faulted, replies, stops_if, serves, begins, brings, talks}
+use Rattle.laws.specs.Words.{connected, agreed_inbound, agreed_outbound, acquired, released, awakened, idled, expired, has_id, is_acquirable, is_dialing, is_live, is_live_at, live_phase, runs, agreed_sharing, Order, Ask, Forget, Promote, Release, Activate, Deactivate, verdict_of, answer_of, proposal_of, Verdict, kind_of, frame_of, CutFault, Item, same_address, Undecoded, Close, Send, Away, CloseCause, Unused, Pruned, Overwritten, Refused, Query, Fault, Protocol, HandshakeWait, ReplyWait, Addr, Agreed, Cid, Facts, Phase, Greeting, Negotiated, Closing, Peer, Cold, Warm, Hot, Kind, Reply, Seen, written_alive, written_request, Done, with_entry, entry_turns, entry_goes, ending, vanishes, closing_entry, is_used, acquire, trim, says_done, release, awake, dial, dial_opens, dial_fails, fires_as, Effect, Happened, promoted, activated, shared, unused, gone, nothing_more, tells, then_do, as_move, on_entry, on_connection, turned_away, admitted, peer_connects, closes, dialed, promoted_at, is_used_at, on_used, asks_peer, activates, deactivates, carries_out, role_of, sends_answer, judged, greets, Machine, Entry, entry_at, live_entry_at, own_info, peer_changes, peer_succeeds, peer_becomes, peer_was_asked, peer_comes, peer_goes, is_wanted_big, comes_big, owing, paid, sends_as_initiator, find_intersect, chain_sync_done, peer_sharing_done, handled_in, handled, faulted, replies, stops_if, serves, begins, brings, talks, peer_is_ordinary}
 use Rattle.laws.specs.Words.verdict
 use Rattle.laws.specs.Words.kind
 use Rattle.laws.specs.Words.reply
 use Rattle.warm_messages.specs.declared.alive.Alive.TheVariants.{Ask as AskAlive}
 use Rattle.laws.specs.Acts.{Act, shows, fires_one, asks_for_roots, carries, connects, ends_dial, stores, handles_item, ends_stream, is_closed, sets_targets, sets_big_targets, sets_groups, sets_roots, makes_ordinary, provides, provides_big, does}
-use Rattle.laws.specs.CarriedOut.{forgets}
+use Rattle.laws.specs.CarriedOut.{forgets, brings_class, makes_one}
 use Rattle.laws.specs.InActions.{ended_by}
 use Rattle.laws.specs.OpenEnds.{goes_by_itself}
 use Rattle.laws.specs.Parts.{IsNext}
@@ -122,12 +122,14 @@ pub record Scope : Type 0 where
   pub sends : Bool
   pub dials : Bool
   pub lets_in : Bool
-  -- which peers it may forget
+  -- which peers it may forget, which class of peers it may bring, and whether it may make one ordinary
   pub forgets : Addr → Bool
+  pub brings : Bool → Bool
+  pub makes : Bool
 
 -- about some connections, and nothing more than to send
 abbrev pub on_those : (ℕ → Bool) → Scope
-on_those own = record { own = own; comes = λ cid. false; drops = false; goes = λ cid. false; timely = false; sends = true; dials = false; lets_in = false; forgets = λ addr. false }
+on_those own = record { own = own; comes = λ cid. false; drops = false; goes = λ cid. false; timely = false; sends = true; dials = false; lets_in = false; forgets = λ addr. false; brings = λ big. true; makes = false }
 
 -- a connection that is found by its own id, and is one that the part is about
 pub record Stands (scope : Scope) (e : Entry) (m : Machine) : Type 0 where
@@ -166,8 +168,9 @@ pub record Kept (scope : Scope) (R : Machine → Effect → Type 0) : Type 0 whe
   pub when_admitted : (addr : Addr) (m : Machine) → scope.lets_in ≡ true → R m (admitted addr m)
   pub when_turned_away : (away : Away) (m : Machine) → scope.lets_in ≡ true → R m (turned_away away m)
   -- a peer changes, comes or goes
-  pub when_changed : (addr : Addr) (change : Peer → Peer) (m : Machine) → ((p : Peer) → (change p).addr ≡ p.addr) → R m (peer_changes addr change m)
-  pub when_known : (big : Bool) (addr : Addr) (m : Machine) → R m (peer_comes big addr m)
+  pub when_changed : (addr : Addr) (change : Peer → Peer) (m : Machine) → ((p : Peer) → ((change p).addr ≡ p.addr) × ((change p).big ≡ p.big)) → R m (peer_changes addr change m)
+  pub when_made : (addr : Addr) (m : Machine) → scope.makes ≡ true → R m (peer_is_ordinary addr m)
+  pub when_known : (big : Bool) (addr : Addr) (m : Machine) → scope.brings big ≡ true → R m (peer_comes big addr m)
   pub when_forgotten : (addr : Addr) (m : Machine) → scope.forgets addr ≡ true → R m (peer_goes addr m)
 
 module _ (scope : Scope) (R : Machine → Effect → Type 0) (kept : Kept scope R) where
@@ -209,7 +212,7 @@ module _ (scope : Scope) (R : Machine → Effect → Type 0) (kept : Kept scope 
       let n : Machine = with_entry (taken f e m) m in
       let alive : Machine → Effect = sends_as_initiator f.cid 8 (written_alive (AskAlive (f.cid.0 % 65536))) in
       kept.when_both m (entry_turns e (taken f e m) m) (λ x. then_do (peer_succeeds f.addr x) alive) turned
-      (kept.when_both n (peer_succeeds f.addr n) alive (kept.when_changed f.addr (λ p. record p { temp = Warm; failures = 0 }) n (λ p. refl))
+      (kept.when_both n (peer_succeeds f.addr n) alive (kept.when_changed f.addr (λ p. record p { temp = Warm; failures = 0 }) n (λ p. (refl, refl)))
       (says-walk f.cid 8 (written_alive (AskAlive (f.cid.0 % 65536))) (peer_succeeds f.addr n).machine may))
 
   pub acquire-walk : (e : Entry) (m : Machine) → scope.sends ≡ true → Stands scope e m → R m (acquire e m)
@@ -225,7 +228,7 @@ module _ (scope : Scope) (R : Machine → Effect → Type 0) (kept : Kept scope 
 
   pub release-walk : (e : Entry) (m : Machine) → scope.sends ≡ true → Stands scope e m → R m (release e m)
   release-walk e m may stands = release-parts R kept.when_both e m (says_done-walk e.facts m may) (kept.when_turned is_released e m stands)
-      (kept.when_changed e.facts.addr (λ p. record p { temp = Cold }) (with_entry (turned_by is_released e m) m) (λ p. refl)) (trim-walk e.facts.cid (cooled e m))
+      (kept.when_changed e.facts.addr (λ p. record p { temp = Cold }) (with_entry (turned_by is_released e m) m) (λ p. (refl, refl))) (trim-walk e.facts.cid (cooled e m))
 
   pub asks_peer-walk : (number : ℕ) (e : Entry) (m : Machine) → scope.sends ≡ true → Stands scope e m → R m (asks_peer number e m)
   asks_peer-walk number e m may stands =
@@ -234,7 +237,7 @@ module _ (scope : Scope) (R : Machine → Effect → Type 0) (kept : Kept scope 
       kept.when_both m (sends_as_initiator e.facts.cid 10 (written_request number) m) (λ w. then_do (entry_turns e (owing 10 number w e) w) alone)
       (says-walk e.facts.cid 10 (written_request number) m may)
       (kept.when_both m (entry_turns e (owing 10 number m e) m) alone (kept.when_turned (owes 10 number) e m stands)
-      (kept.when_changed e.facts.addr (λ p. record p { share_next = n.now + n.settings.sharegap }) n (λ p. refl)))
+      (kept.when_changed e.facts.addr (λ p. record p { share_next = n.now + n.settings.sharegap }) n (λ p. (refl, refl))))
 
   pub activates-walk : (e : Entry) (m : Machine) → scope.sends ≡ true → Stands scope e m → R m (activates e m)
   activates-walk e m may stands =
@@ -244,7 +247,7 @@ module _ (scope : Scope) (R : Machine → Effect → Type 0) (kept : Kept scope 
   pub deactivates-walk : (e : Entry) (m : Machine) → scope.sends ≡ true → R m (deactivates e m)
   deactivates-walk e m may =
       kept.when_both m (sends_as_initiator e.facts.cid 2 chain_sync_done m) (peer_becomes Warm e.facts.addr)
-      (says-walk e.facts.cid 2 chain_sync_done m may) (kept.when_changed e.facts.addr (λ p. record p { temp = Warm }) m (λ p. refl))
+      (says-walk e.facts.cid 2 chain_sync_done m may) (kept.when_changed e.facts.addr (λ p. record p { temp = Warm }) m (λ p. (refl, refl)))
 
   stands-own : (addr : Addr) (m : Machine) (q : Entry → Bool) (e : Entry) → FindsOwn scope addr m → find q m.connections ≡ Some e → same_address e.facts.addr addr ≡ true → Stands scope e m
   stands-own addr m q e finds is at = let found = finds.found q e is in record { found = found; own = finds.own e found at }
@@ -328,33 +331,34 @@ module _ (scope : Scope) (R : Machine → Effect → Type 0) (kept : Kept scope 
       (λ silent. kept.when_both m (entry_turns e (turned_by (awakes protocol) e m) m) (trim e.facts.cid) (kept.when_turned (awakes protocol) e m stands)
       (trim-walk e.facts.cid (with_entry (turned_by (awakes protocol) e m) m)))
 
-  comes-walk : (big : Bool) (addr : Addr) (m : Machine) → R m (as_move (shared addr) m (peer_comes big addr m))
-  comes-walk big addr m = kept.when_moved (shared addr) m (peer_comes big addr m) refl (kept.when_known big addr m)
+  comes-walk : (big : Bool) (addr : Addr) (m : Machine) → scope.brings big ≡ true → R m (as_move (shared addr) m (peer_comes big addr m))
+  comes-walk big addr m may = kept.when_moved (shared addr) m (peer_comes big addr m) refl (kept.when_known big addr m may)
 
-  pub brings-walk : (protocol : ℕ) (body : List ℕ) (e : Entry) (m : Machine) → R m (brings protocol body e m)
-  brings-walk = brings-cases R kept.when_nothing kept.when_both (comes-walk false) (λ addr m. kept.when_changed addr (λ p. record p { temp = Hot }) m (λ p. refl))
+  pub brings-walk : (protocol : ℕ) (body : List ℕ) (e : Entry) (m : Machine) → scope.brings false ≡ true → R m (brings protocol body e m)
+  brings-walk protocol body e m may = brings-cases R kept.when_nothing kept.when_both (λ addr n. comes-walk false addr n may)
+      (λ addr n. kept.when_changed addr (λ p. record p { temp = Hot }) n (λ p. (refl, refl))) protocol body e m
 
-  talks-walk : (item : Item) (e : Entry) (m : Machine) → scope.sends ≡ true → Stands scope e m → R m (talks item e m)
-  talks-walk item e m may stands =
+  talks-walk : (item : Item) (e : Entry) (m : Machine) → scope.sends ≡ true → scope.brings false ≡ true → Stands scope e m → R m (talks item e m)
+  talks-walk item e m may may_bring stands =
       let n : Machine = (begins item.id e m).machine in
       talks-cases item e m (R m) (λ fault. kept.when_ended (Fault fault) e m)
       (λ first seen was takes. kept.when_both m (begins item.id e m) (on_connection e.facts.cid (serves seen item.id)) (begins-walk item.id e m stands)
       (on_found e.facts.cid.0 (serves seen item.id) n (λ f here. serves-walk seen item.id f n may (found-stands scope e.facts.cid.0 n f here stands.own))))
       (λ second owed is. kept.when_both m (entry_turns e (paid item.id e) m) (brings item.id item.body e) (kept.when_turned (is_paid item.id) e m stands)
-      (brings-walk item.id item.body e (with_entry (paid item.id e) m)))
+      (brings-walk item.id item.body e (with_entry (paid item.id e) m) may_bring))
 
-  pub handled-walk : (p : Phase) (item : Item) (e : Entry) (m : Machine) → scope.sends ≡ true → Stands scope e m → R m (handled_in p item e m)
-  handled-walk (Greeting until) item e m may stands = greets-walk item e m may stands
-  handled-walk Negotiated item e m may stands = talks-walk item e m may stands
-  handled-walk other item e m may stands = kept.when_nothing m
+  pub handled-walk : (p : Phase) (item : Item) (e : Entry) (m : Machine) → scope.sends ≡ true → scope.brings false ≡ true → Stands scope e m → R m (handled_in p item e m)
+  handled-walk (Greeting until) item e m may may_bring stands = greets-walk item e m may stands
+  handled-walk Negotiated item e m may may_bring stands = talks-walk item e m may may_bring stands
+  handled-walk other item e m may may_bring stands = kept.when_nothing m
 
   pub faulted-walk : (fault : Option CutFault) (e : Entry) (m : Machine) → R m (faulted fault e m)
   faulted-walk None e m = kept.when_nothing m
   faulted-walk (Some fault) e m = kept.when_ended (Fault (kind_of fault)) e m
 
-  pub big-walk : (addr : Addr) (m : Machine) → R m (comes_big addr m)
-  big-walk addr m = cond_both (is_wanted_big addr m) (as_move (shared addr) m (peer_comes true addr m)) (nothing_more m) (R m)
-      (λ wanted. comes-walk true addr m) (λ other. kept.when_nothing m)
+  pub big-walk : (addr : Addr) (m : Machine) → scope.brings true ≡ true → R m (comes_big addr m)
+  big-walk addr m may = cond_both (is_wanted_big addr m) (as_move (shared addr) m (peer_comes true addr m)) (nothing_more m) (R m)
+      (λ wanted. comes-walk true addr m may) (λ other. kept.when_nothing m)
 
 -- ---- each act
 
@@ -404,6 +408,8 @@ scope_of act m = record {
   dials = may_dial act;
   lets_in = may_let_in act;
   forgets = forgets act;
+  brings = brings_class act;
+  makes = makes_one act;
 }
 
 -- what waits its time is live no more
@@ -452,14 +458,14 @@ walk (stores e undecoded) m R change next found kept =
     kept.when_stored undecoded e m (record { found = found; own = own_id e.facts.cid.0 }) (own_id e.facts.cid.0)
 walk (handles_item cid item) m R change next found kept =
     named-walk (handles_item cid item) m R kept cid.0 (handled item) (own_id cid.0)
-    (λ e is same stands. handled-walk (scope_of (handles_item cid item) m) R kept e.facts.phase item e m refl stands)
+    (λ e is same stands. handled-walk (scope_of (handles_item cid item) m) R kept e.facts.phase item e m refl refl stands)
 walk (ends_stream cid fault) m R change next found kept =
     named-walk (ends_stream cid fault) m R kept cid.0 (faulted fault) (own_id cid.0) (λ e is same stands. faulted-walk (scope_of (ends_stream cid fault) m) R kept fault e m)
 walk (is_closed cid) m R change next found kept =
     named-walk (is_closed cid) m R kept cid.0 closes (own_id cid.0)
     (λ e is same stands. cond_both (is_live e.facts) (vanishes e m) (nothing_more m) (R m)
     (λ live. kept.when_gone e m (eq-eqb cid.0 e.facts.cid.0 same)) (λ closed. kept.when_nothing m))
-walk (makes_ordinary addr) m R change next found kept = kept.when_changed addr (λ p. record p { big = false }) m (λ p. refl)
-walk (provides addr) m R change next found kept = kept.when_known false addr m
-walk (provides_big addr) m R change next found kept = big-walk (scope_of (provides_big addr) m) R kept addr m
+walk (makes_ordinary addr) m R change next found kept = kept.when_made addr m refl
+walk (provides addr) m R change next found kept = kept.when_known false addr m refl
+walk (provides_big addr) m R change next found kept = big-walk (scope_of (provides_big addr) m) R kept addr m refl
 walk other m R sets next found kept = elim sets [ ]

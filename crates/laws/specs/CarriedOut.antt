@@ -1,7 +1,7 @@
 -- What an act does by its kind: an order of the governor, what changes the book, when accepting pauses, and what is set.
-use Rattle.std.specs.Prelude.{ℕ, ◌+◌, ◌≡◌, Bool, true, false, ◌&&◌, ◌||◌, nat_lt, List, [], ◌∷◌, All, is_some, ◌==◌, if◌then◌else◌, Option, Some, None}
+use Rattle.std.specs.Prelude.{ℕ, ◌+◌, ◌≡◌, Bool, true, false, not, ◌&&◌, ◌||◌, nat_lt, List, [], ◌∷◌, All, is_some, ◌==◌, if◌then◌else◌, Option, Some, None}
 use Rattle.laws.specs.Words.{flat_map, pause_of, is_acquirable, is_greeting, is_live, is_live_at, same_address, Order, Ask, Forget, Promote, Release, Activate, Deactivate, Action, Pause, Addr, Peer, Temp, Cold, Warm, Hot, Item, is_negotiated, Effect, Happened, promoted, activated, Machine, Entry, counted_in, entry_at, live_entry_at, peer_at}
-use Rattle.laws.specs.Acts.{Act, shows, asks_for_roots, carries, connects, stores, handles_item, is_closed, sets_targets, sets_big_targets, sets_groups, sets_roots}
+use Rattle.laws.specs.Acts.{Act, shows, asks_for_roots, carries, connects, stores, handles_item, is_closed, sets_targets, sets_big_targets, sets_groups, sets_roots, makes_ordinary, provides_big}
 use Rattle.laws.specs.RootsAsked.{are_roots_wanted, roots_asked}
 use Rattle.laws.specs.AtMoves.{is_missed, FailsWhere, OnEntry, is_known}
 
@@ -80,6 +80,32 @@ forgets other addr = false
 -- Whoever is in the book stays in it, unless an order forgets it.
 abbrev pub KeepsKnown : Act → Machine → Machine → Type 0
 KeepsKnown act before after = (addr : Addr) → is_known addr before ≡ true → (is_known addr after || forgets act addr) ≡ true
+
+-- ---- the class of a peer
+
+-- a list of big ledger peers brings such ones, and all else ordinary ones
+abbrev pub brings_class : Act → Bool → Bool
+brings_class (provides_big addr) big = big
+brings_class other big = not big
+
+-- a member of a group becomes an ordinary peer
+abbrev pub makes_one : Act → Bool
+makes_one (makes_ordinary addr) = true
+makes_one other = false
+
+abbrev pub is_made_ordinary : Act → Addr → Bool
+is_made_ordinary (makes_ordinary member) addr = same_address addr member
+is_made_ordinary other addr = false
+
+-- Whoever stays keeps the class, and whoever comes is of the class that is brought.
+abbrev pub IsOfClass : Act → Option Peer → Option Peer → Type 0
+IsOfClass act before None = Unit {0}
+IsOfClass act None (Some q) = brings_class act q.big ≡ true
+IsOfClass act (Some p) (Some q) = q.big ≡ p.big
+
+pub record KeepsClass (act : Act) (before after : Machine) : Type 0 where
+  pub class : (addr : Addr) → is_made_ordinary act addr ≡ false → IsOfClass act (peer_at addr before) (peer_at addr after)
+  pub made : (addr : Addr) → is_made_ordinary act addr ≡ true → OnPeer (peer_at addr after) (λ p. p.big ≡ false)
 
 -- ---- who becomes hot
 
