@@ -99,6 +99,7 @@ all_run = record {
   };
   sharing = record {
     share_answer_adds_peer_runs = refl;
+    told_peer_is_dialed_runs = refl;
     share_answer_too_many_runs = refl;
     share_request_of_one_runs = refl;
     share_answer_above_target_runs = refl;

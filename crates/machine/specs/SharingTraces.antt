@@ -31,6 +31,31 @@ share_answer_adds_peer = record {
       ∷ [];
 }
 
+-- a peer that was told is an ordinary one, and dialed where one more is to be established
+abbrev pub told_peer_is_dialed : Trace
+told_peer_is_dialed = record {
+  settings = usual;
+  happenings =
+      brings (Locals (group 0 1 true (node 3002 ∷ []) ∷ [])) (Peer (node 3002) note.Known ∷ [])
+      ∷ brings (Govern 0) (Dial (cid 1) (node 3002) ∷ State (cid 1) state.ReservedOutbound ∷ [])
+      ∷ brings (Dialed (cid 1) true) (
+      State (cid 1) state.UnnegotiatedOutbound
+      ∷ Send (cid 1) (bytes_of (codes "00000000000000118200a20d84182af401f40e84182af401f4"))
+      ∷ [])
+      ∷ brings (Bytes (cid 1) (bytes_of (codes "000000008000000983010e84182af401f4"))) (
+      State (cid 1) state.OutboundDupTicking
+      ∷ Peer (node 3002) note.Warm
+      ∷ Send (cid 1) (bytes_of (codes "0000000000080003820001"))
+      ∷ [])
+      ∷ brings (Bytes (cid 1) (bytes_of (codes "0000000080080003820101"))) []
+      ∷ brings (Aims (aims 0 3 0 0)) []
+      ∷ brings (Govern 0) (Send (cid 1) (bytes_of (codes "00000000000a0003820002")) ∷ [])
+      ∷ brings (Bytes (cid 1) (bytes_of (codes "00000000800a001782018283001a7f000001190bb983001a7f000001190bbd"))) (Peer (node 3005) note.Known ∷ [])
+      ∷ brings (Aims (aims 0 3 2 0)) []
+      ∷ brings (Govern 0) (Dial (cid 2) (node 3005) ∷ State (cid 2) state.ReservedOutbound ∷ [])
+      ∷ [];
+}
+
 -- an answer has more addresses than were asked for
 abbrev pub share_answer_too_many : Trace
 share_answer_too_many = record {

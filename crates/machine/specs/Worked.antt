@@ -6,7 +6,7 @@ use Rattle.machine.specs.OutboundTraces.{outbound_duplex_life, outbound_release_
 use Rattle.machine.specs.CrossingTraces.{crossing_own_lower, crossing_own_higher, accepted_own_address, accepted_present_greeting, accepted_present_negotiated, simultaneous_open}
 use Rattle.machine.specs.LimitTraces.{accept_limits, prune_newest_greeting, prune_idle_before_greeting, prune_the_woken_itself}
 use Rattle.machine.specs.GovernorTraces.{targets_ask_roots_and_dial, release_least_score, release_score_wraps, pending_counts, backoff_first, backoff_seven_failures, local_valency_above_target, locals_cleaned, one_round}
-use Rattle.machine.specs.SharingTraces.{share_answer_adds_peer, share_answer_too_many, share_request_of_one, share_answer_above_target, share_served_without_asker, share_answer_ipv6_taken, share_answer_ipv6_passed_over}
+use Rattle.machine.specs.SharingTraces.{share_answer_adds_peer, told_peer_is_dialed, share_answer_too_many, share_request_of_one, share_answer_above_target, share_served_without_asker, share_answer_ipv6_taken, share_answer_ipv6_passed_over}
 use Rattle.machine.specs.BigPeerTraces.{big_fewer_failures_first, big_made_ordinary_by_locals, big_counted_apart, big_forgotten_apart}
 use Rattle.machine.specs.DistinctTraces.{pause_grows, inbound_waits, dial_answered_again, dialer_on_other_sides, inbound_unidirectional_served, reply_wait_and_back_off, release_trims, overwritten_is_no_failure}
 use Rattle.machine.specs.LastingTraces.{public_roots_stay, dialed_after_the_time_wait, turned_away_for_the_first_cause, one_grace_goes_on, greeting_closed_ends_once, asked_once, released_once_it_has_answered, let_in_beside_a_time_wait, closed_in_its_time_wait, halves_on_two_connections, one_answer_leaves_the_other_wait, unused_end_is_no_failure}
@@ -73,6 +73,7 @@ pub record GovernorsRun : Type 0 where
 
 pub record SharingsRun : Type 0 where
   pub share_answer_adds_peer_runs : IsRun share_answer_adds_peer
+  pub told_peer_is_dialed_runs : IsRun told_peer_is_dialed
   pub share_answer_too_many_runs : IsRun share_answer_too_many
   pub share_request_of_one_runs : IsRun share_request_of_one
   pub share_answer_above_target_runs : IsRun share_answer_above_target
