@@ -8,16 +8,11 @@ use Rattle.conn_table.specs.Conditions.{after_step}
 use Rattle.conn_table.specs.declared.step.Step.{Step}
 use Rattle.conn_table.specs.declared.step.Step.TheVariants.{Negotiated}
 use Rattle.conn_state.specs.Use.{has_id, is_outbound}
-use Rattle.net_base.specs.Shared.{RootState}
 use Rattle.net_base.specs.declared.action.Action.{Action}
 use Rattle.net_base.specs.declared.connection.Agreed.{Agreed}
 use Rattle.net_base.specs.declared.connection.Cid.{Cid}
 use Rattle.net_base.specs.declared.connection.Facts.{Facts}
-use Rattle.net_base.specs.declared.event.Group.{Group}
-use Rattle.net_base.specs.declared.peer.Peer.{Peer}
 use Rattle.net_base.specs.declared.peer.Temp.TheVariants.{Cold}
-use Rattle.net_base.specs.declared.targets.BigTargets.{BigTargets}
-use Rattle.net_base.specs.declared.targets.Targets.{Targets}
 use Rattle.machine.specs.Connections.{entry_turns, with_entry, is_used, is_agreed_inbound, is_agreed_outbound, says_done, release, trim}
 use Rattle.machine.specs.Effect.{Effect, then_do, nothing_more}
 use Rattle.machine.specs.Machine.{Machine, Entry, entry_at}
@@ -26,6 +21,7 @@ use Rattle.machine.specs.Replies.{owing}
 use Rattle.node_engine.proofs.FindLemmas.{IfSome-find}
 use Rattle.connections.specs.Standing.{Standing, entry_with, turned, Turns, moved}
 use Rattle.connections.specs.Steps.{closes, stepped}
+use Rattle.peers.specs.State.{PeerState}
 use Rattle.node_engine.specs.State.{Does, DoesTo, IsKnown, machine_of, name_notice, is_used_from}
 
 -- ---- parts one after another
@@ -172,17 +168,17 @@ used_effect : (g : Facts) (x : Entry) (m : Machine) → g.cid ≡ x.facts.cid �
     is_used_from x.facts (record x { facts = g }) (with_entry (record x { facts = g }) m) ≡ is_used g x m
 used_effect g x m same_cid same_addr = rw (← same_cid, ← same_addr, twice g x (g.cid.0 % 65536) m) refl
 
-module _ (now : ℕ) (targets : Targets) (big : BigTargets) (groups : List Group) (roots : RootState) (peers : List Peer) where
+module _ (now : ℕ) (peers : PeerState) where
   pub turn_does : (facts : Facts) (change : Entry → Entry) (s t : Standing) (act : Entry → Machine → Effect) (m : Machine) (before after : List Action) →
-      ((e : Entry) → act e (machine_of now targets big groups roots peers s) ≡ entry_turns e (change e) (machine_of now targets big groups roots peers s)) →
-      machine_of now targets big groups roots peers s ≡ m → HasTurned facts change s t →
+      ((e : Entry) → act e (machine_of now peers s) ≡ entry_turns e (change e) (machine_of now peers s)) →
+      machine_of now peers s ≡ m → HasTurned facts change s t →
       IfSome (entry_with facts.cid.0 t) (λ e. after ≡ before ++ name_notice facts e.facts) →
-      DoesTo facts.cid.0 act before m (machine_of now targets big groups roots peers t) after
+      DoesTo facts.cid.0 act before m (machine_of now peers t) after
   turn_does facts change s t act m before after means is h told =
-      let n : Machine = machine_of now targets big groups roots peers t in
-      let first : Machine = machine_of now targets big groups roots peers s in
+      let n : Machine = machine_of now peers t in
+      let first : Machine = machine_of now peers s in
       let does : Does (entry_turns h.entry (change h.entry) first) before n after = record {
-        machine_is = ap (machine_of now targets big groups roots peers) h.turns;
+        machine_is = ap (machine_of now peers) h.turns;
         actions_are = of_entry (λ e. after ≡ before ++ name_notice facts e.facts) (entry_with facts.cid.0 t) (change h.entry) h.next_there told
             ∙ ap (λ f. before ++ name_notice f (change h.entry).facts) (sym h.is);
       } in
@@ -192,18 +188,18 @@ module _ (now : ℕ) (targets : Targets) (big : BigTargets) (groups : List Group
 
   -- a connection has turned, and has come into use
   pub used_does : (facts : Facts) (move : Facts → Facts) (s t : Standing) (act : Entry → Machine → Effect) (m n : Machine) (before after : List Action) →
-      ((e : Entry) → act e (machine_of now targets big groups roots peers s) ≡ is_used (move e.facts) e (machine_of now targets big groups roots peers s)) →
-      machine_of now targets big groups roots peers s ≡ m → HasTurned facts (moved move) s t →
+      ((e : Entry) → act e (machine_of now peers s) ≡ is_used (move e.facts) e (machine_of now peers s)) →
+      machine_of now peers s ≡ m → HasTurned facts (moved move) s t →
       (move facts).cid ≡ facts.cid → (move facts).addr ≡ facts.addr →
-      DoesTo facts.cid.0 (is_used_from facts) before (machine_of now targets big groups roots peers t) n after →
+      DoesTo facts.cid.0 (is_used_from facts) before (machine_of now peers t) n after →
       DoesTo facts.cid.0 act before m n after
   used_does facts move s t act m n before after means is h cid addr does =
-      let first : Machine = machine_of now targets big groups roots peers s in
+      let first : Machine = machine_of now peers s in
       let new : Entry = moved move h.entry in
-      let next : Does (is_used_from facts new (machine_of now targets big groups roots peers t)) before n after =
-      of_entry (λ x. Does (is_used_from facts x (machine_of now targets big groups roots peers t)) before n after) (entry_with facts.cid.0 t) new h.next_there does in
+      let next : Does (is_used_from facts new (machine_of now peers t)) before n after =
+      of_entry (λ x. Does (is_used_from facts x (machine_of now peers t)) before n after) (entry_with facts.cid.0 t) new h.next_there does in
       let there : Does (is_used_from facts new (with_entry new first)) before n after =
-      subst (λ w. Does (is_used_from facts new (machine_of now targets big groups roots peers w)) before n after) h.turns next in
+      subst (λ w. Does (is_used_from facts new (machine_of now peers w)) before n after) h.turns next in
       let from : Does (is_used_from h.entry.facts new (with_entry new first)) before n after =
       subst (λ f. Does (is_used_from f new (with_entry new first)) before n after) (sym h.is) there in
       let used : Does (is_used (move h.entry.facts) h.entry first) before n after =

@@ -1,5 +1,5 @@
 -- Bytes of which the first item was judged before the others were taken, and items of a connection that has ended.
-use Rattle.std.proofs.Common.{◌≡◌, ℕ, suc, ◌+◌, arith, drop-cons, Bool, true, false, ◌==◌, not, if◌then◌else◌, List, [], ◌∷◌, ◌++◌, drop, map, filter, slice_get, Option, Some, None, append_assoc, append-nil, refl, sym, ap, subst, ◌∙◌, inl, inr, eq-eqb}
+use Rattle.std.proofs.Common.{◌≡◌, ℕ, suc, ◌+◌, arith, drop-cons, true, not, if◌then◌else◌, List, [], ◌∷◌, ◌++◌, drop, map, filter, slice_get, Option, Some, None, append_assoc, append-nil, refl, sym, ap, subst, ◌∙◌, inl, inr, eq-eqb}
 use Rattle.std.specs.Option.{option_map}
 use Rattle.std.proofs.lemmas.Bool.{cases_Bool}
 use Rattle.std.proofs.lemmas.Option.{slice_get_within, get_or_from_slice_get}
@@ -10,13 +10,12 @@ use Rattle.hs_receive.specs.Receiving.{receives}
 use Rattle.hs_receive.specs.declared.received.Received.{Received}
 use Rattle.hs_receive.specs.declared.received.Received.TheVariants as received
 use Rattle.laws.proofs.Moments.{ending-none, turned-found}
-use Rattle.machine.specs.Connections.{with_entry, without_entry, entry_turns, entry_goes, lost_by, ending}
-use Rattle.machine.specs.Effect.{Effect, nothing_more, then_do, on_entry, on_connection, for_each}
+use Rattle.machine.specs.Connections.{with_entry, without_entry, entry_turns, lost_by, ending}
+use Rattle.machine.specs.Effect.{Effect, then_do, on_entry, on_connection, for_each}
 use Rattle.machine.specs.Greeting.{role_of, greets}
 use Rattle.machine.specs.Machine.{Machine, Entry, entry_at}
 use Rattle.machine.specs.Own.{own_info}
 use Rattle.machine.specs.Stream.{handled_in, handled, handles, faulted, feeds}
-use Rattle.mux_segment.specs.declared.fault.CutFault.{CutFault}
 use Rattle.mux_segment.specs.declared.item.Item.{Item}
 use Rattle.net_base.specs.declared.action.Action.{Action}
 use Rattle.net_base.specs.declared.action.Action.TheVariants.{Close, State}
@@ -134,7 +133,7 @@ head-of : (items : List Item) (item : Item) → slice_get items 0 ≡ Some item 
 head-of [] item is = absurd cc
 head-of (x ∷ xs) item is = let same : x ≡ item = cc in ap (λ (y : Item). y ∷ xs) same
 
-greeting-handled : (p : Phase) (item : Item) (e : Entry) (m : Machine) → is_greeting_phase p ≡ true → handled_in p item e m ≡ greets item e m
+pub greeting-handled : (p : Phase) (item : Item) (e : Entry) (m : Machine) → is_greeting_phase p ≡ true → handled_in p item e m ≡ greets item e m
 greeting-handled Dialing item e m is = absurd cc
 greeting-handled (Greeting until) item e m is = refl
 greeting-handled Negotiated item e m is = absurd cc

@@ -6,7 +6,7 @@ use Rattle.machine.specs.Effect.{Effect, for_each}
 use Rattle.machine.specs.Govern.{carries_out, rules}
 use Rattle.machine.specs.Machine.{Machine}
 use Rattle.laws.specs.OrderNeeds.{MayCarry, MayAll, MayFollow}
-use Rattle.node_engine.specs.State.{Does, DoesSilently}
+use Rattle.node_engine.specs.State.{Does}
 
 -- The rest leads where all of them lead.
 pub record IsGoing {X : Type 0} (act : X → Machine → Effect) (all rest : List X) (first : Machine) (before : List Action) (m : Machine) (after : List Action) : Type 0 where
@@ -33,27 +33,6 @@ unfolding for_each
 going-all {X} act all rest first before m after done h =
     let k : IsGoing act all [] first before m after = subst (λ (xs : List X). IsGoing act all xs first before m after) done h in
     record { machine_is = sym k.machine_left; actions_are = sym (k.actions_left ∙ append-nil after) }
-
--- the same of parts that tell nothing
-pub record IsGoingSilently {X : Type 0} (act : X → Machine → Effect) (all rest : List X) (first : Machine) (m : Machine) : Type 0 where
-  pub going : (before : List Action) → IsGoing act all rest first before m before
-
-pub silently-none : {X : Type 0} (act : X → Machine → Effect) (all : List X) (m : Machine) → IsGoingSilently act all all m m
-silently-none act all m = record { going = going-none act all m }
-
-pub silently-more : {X : Type 0} (act : X → Machine → Effect) (all rest more : List X) (x : X) (first m n : Machine) → rest ≡ x ∷ more →
-    IsGoingSilently act all rest first m → DoesSilently (act x m) n → IsGoingSilently act all more first n
-silently-more act all rest more x first m n next h does = record {
-  going = λ before. going-more act all rest more x first before m before n before next (h.going before)
-      (record { machine_is = does.machine_is; actions_are = does.tells_nothing before });
-}
-
-pub silently-all : {X : Type 0} (act : X → Machine → Effect) (all rest : List X) (first m : Machine) → rest ≡ [] →
-    IsGoingSilently act all rest first m → DoesSilently (for_each act all first) m
-silently-all act all rest first m done h = record {
-  machine_is = (going-all act all rest first [] m [] done (h.going [])).machine_is;
-  tells_nothing = λ before. (going-all act all rest first before m before done (h.going before)).actions_are;
-}
 
 -- ---- orders that may be carried out
 

@@ -1,7 +1,7 @@
 -- What an item comes to in the handshake, carried out.
-use Rattle.std.proofs.Common.{◌≡◌, ℕ, Bool, true, false, ◌&&◌, ◌==◌, not, if◌then◌else◌, find, List, Option, Some, None, refl, sym, ap, subst, ◌∙◌}
+use Rattle.std.proofs.Common.{◌≡◌, ℕ, Bool, true, false, ◌&&◌, ◌==◌, not, if◌then◌else◌, List, Option, Some, None, refl, sym, ap, subst, ◌∙◌}
 use Rattle.conn_state.specs.Use.{is_outbound_by}
-use Rattle.hs_decide.specs.Agreement.{accepts_info, accepts_offer, agrees_info, agrees_on, meets_joined, meets_info, meets_offer, common_in, joined, same_magic, verdict_of}
+use Rattle.hs_decide.specs.Agreement.{accepts_info, accepts_offer, agrees_info, meets_joined, meets_info, meets_offer, common_in, joined, same_magic, verdict_of}
 use Rattle.hs_decide.specs.Answers.{answer_of}
 use Rattle.hs_decide.specs.declared.role.Role.{Role}
 use Rattle.hs_decide.specs.declared.verdict.Verdict.{Verdict}

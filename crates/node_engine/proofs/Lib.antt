@@ -1,6 +1,5 @@
 pub mod DoesLemmas
 pub mod Doings
-pub mod EachLemmas
 pub mod Ends
 pub mod FindLemmas
 pub mod FireLemmas
@@ -9,6 +8,6 @@ pub mod StreamLemmas
 pub mod Going
 pub mod LocalUse
 pub mod RuleSteps
+pub mod PeerChanges
 pub mod Together
-pub mod Tellable
 pub mod FirstItems

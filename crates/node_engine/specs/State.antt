@@ -1,45 +1,40 @@
 -- What stands for the machine's record, and what a part of a step does to it.
-use Rattle.std.specs.Prelude.{◌≡◌, ℕ, ◌%◌, Bool, ◌&&◌, not, is_some, List, [], ◌∷◌, ◌++◌, map, IfSome, IsSomeAnd, if◌then◌else◌}
-use Rattle.accept_gate.specs.declared.gate.Gate.{Gate}
-use Rattle.accept_gate.specs.declared.gate.Gate.TheVariants.{Free, Pause as PauseFor, Full as NoRoom}
+use Rattle.std.specs.Prelude.{◌≡◌, ℕ, ◌%◌, List, [], ◌∷◌, ◌++◌, map, Option, Some, None, IfSome, IsSomeAnd, if◌then◌else◌}
 use Rattle.conn_state.specs.Names.{name_of, same_name}
-use Rattle.net_base.specs.Address.{same_address}
-use Rattle.net_base.specs.Shared.{RootState}
 use Rattle.net_base.specs.declared.action.Action.{Action}
-use Rattle.net_base.specs.declared.action.Action.TheVariants.{Peer as TellPeer, State, Pause}
+use Rattle.net_base.specs.declared.action.Action.TheVariants.{Peer as TellPeer, State, Send}
 use Rattle.net_base.specs.declared.action.PeerNote.TheVariants.{Known}
 use Rattle.net_base.specs.declared.address.Addr.{Addr}
+use Rattle.net_base.specs.declared.connection.Cid.{Cid}
 use Rattle.net_base.specs.declared.connection.Facts.{Facts}
-use Rattle.net_base.specs.declared.event.Group.{Group}
-use Rattle.net_base.specs.declared.peer.Peer.{Peer}
 use Rattle.net_base.specs.declared.peer.Temp.{Temp}
-use Rattle.net_base.specs.declared.targets.BigTargets.{BigTargets}
-use Rattle.net_base.specs.declared.targets.Targets.{Targets}
 use Rattle.machine.specs.Connections.{with_entry}
 use Rattle.machine.specs.Effect.{Effect, tells, then_do}
 use Rattle.machine.specs.Machine.{Machine, Entry, entry_at}
 use Rattle.machine.specs.Peers.{note_of, peer_succeeds}
 use Rattle.machine.specs.Replies.{owing, sends_as_initiator}
 use Rattle.connections.specs.Standing.{Standing}
-use Rattle.peer_book.specs.Book.{same_temp}
-use Rattle.peer_book.specs.declared.added.Added.{Added}
-use Rattle.peer_book.specs.declared.added.Added.TheVariants.{New, Present, Full}
-use Rattle.root_groups.specs.Cleaned.{group_of}
+use Rattle.mux_segment.specs.Frame.{frame_of}
+use Rattle.peers.specs.State.{PeerState}
 use Rattle.warm_messages.specs.Writing.{written_alive}
 use Rattle.warm_messages.specs.declared.alive.Alive.TheVariants.{Ask}
 
-abbrev pub machine_of : ℕ → Targets → BigTargets → List Group → RootState → List Peer → Standing → Machine
-machine_of now targets big groups roots peers s = record {
+abbrev pub machine_of : ℕ → PeerState → Standing → Machine
+machine_of now p s = record {
   settings = s.settings;
   now = now;
-  targets = targets;
-  big_targets = big;
-  groups = groups;
-  roots = roots;
+  targets = p.targets;
+  big_targets = p.big_targets;
+  groups = p.groups;
+  roots = p.roots;
   connections = s.entries;
-  peers = peers;
+  peers = p.peers;
   next_id = s.next_id;
 }
+
+-- what it has of peers
+abbrev pub peers_of : Machine → PeerState
+peers_of m = record { targets = m.targets; big_targets = m.big_targets; groups = m.groups; roots = m.roots; peers = m.peers }
 
 -- A part of a step led to a machine, and to the actions before it with its own behind them.
 pub record Does (effect : Effect) (before : List Action) (machine : Machine) (after : List Action) : Type 0 where
@@ -59,21 +54,16 @@ IsKnown facts m = IsSomeAnd (entry_at facts.cid.0 m) (λ e. e.facts ≡ facts)
 abbrev pub DoesTo : ℕ → (Entry → Machine → Effect) → List Action → Machine → Machine → List Action → Type 0
 DoesTo cid act before old new after = IfSome (entry_at cid old) (λ e. Does (act e old) before new after)
 
--- an address that is neither the own one nor local
-abbrev pub is_stranger : Machine → Addr → Bool
-is_stranger m addr = not (same_address addr m.settings.own) && not (is_some (group_of addr m.groups))
+-- a message on a protocol, from a side
+abbrev pub sends_from : ℕ → Cid → ℕ → List ℕ → Machine → Effect
+sends_from side cid protocol payload m = tells (Send cid (frame_of side protocol m.now payload) ∷ []) m
 
 -- ---- what is told
 
--- a peer's temperature, where it is another one than before
-abbrev pub temp_notice : Addr → Temp → Temp → List Action
-temp_notice addr old new = if same_temp old new then [] else TellPeer addr (note_of new) ∷ []
-
--- that an address is known, where it is new in the book
-abbrev pub coming_notice : Added → Addr → List Action
-coming_notice New addr = TellPeer addr Known ∷ []
-coming_notice Present addr = []
-coming_notice Full addr = []
+-- a peer's temperature, where there is one to tell
+abbrev pub temp_notice : Addr → Option Temp → List Action
+temp_notice addr None = []
+temp_notice addr (Some temp) = TellPeer addr (note_of temp) ∷ []
 
 -- that addresses are known, each of which is new in the book
 abbrev pub known_notices : List Addr → List Action
@@ -82,12 +72,6 @@ known_notices = map (λ addr. TellPeer addr Known)
 -- a connection's name, where it is another one than before
 abbrev pub name_notice : Facts → Facts → List Action
 name_notice old new = if same_name (name_of old) (name_of new) then [] else State old.cid (name_of new) ∷ []
-
--- the pause that the gate asks for
-abbrev pub gate_notice : Gate → List Action
-gate_notice Free = []
-gate_notice (PauseFor delay) = Pause delay ∷ []
-gate_notice NoRoom = []
 
 -- ---- parts of moves
 

@@ -145,7 +145,7 @@ impl Engine {
     pub fn facts(&self, cid: Cid) -> Option<Facts>
         ensures { result ≡ facts_at cid.0 (facts_of self.now.machine) }
     {
-        self.machine.state().facts(cid)
+        self.machine.state().found(cid)
     }
 
     /// What is known of the peer with an address. None where there is none.

@@ -5,13 +5,14 @@ ghost use Rattle.net_base.specs.Limits.{IsWithinLimits};
 ghost use Rattle.node_engine.specs.Blank.{blank};
 
 use crate::NodeState;
-use net_base::{ActionList, Event, OutOfMemory};
+use net_base::{ActionList, Event, OutOfMemory, Sequence};
 use pick_policy::{Picker, RankedPicker};
 use std::alloc::Global;
 use std::marker::Model;
 
 /// What a node knows, on the heap, since each step moves the engine. Contracts see the machine's record.
 pub struct HeldState {
+    alloc: Global,
     state: Box<NodeState>,
 }
 
@@ -27,7 +28,7 @@ impl Model for HeldState {
 // what it is to drop every part of the state.
 impl Drop for HeldState {
     fn drop(self) {
-        let HeldState { state: _ } = self;
+        let HeldState { alloc: _, state: _ } = self;
     }
 }
 
@@ -36,7 +37,7 @@ impl HeldState {
         ensures { IfOk result (λ held. held ≡ state) }
     {
         match Box::new(alloc, state) {
-            Ok(state) => Ok(HeldState { state }),
+            Ok(state) => Ok(HeldState { alloc, state }),
             Err(_) => Err(OutOfMemory),
         }
     }
@@ -61,7 +62,9 @@ impl HeldState {
         ensures machine { OnOk result (self.new ≡ (step self.old event.now).machine) }
         ensures actions { IfOk result (λ actions. actions ≡ (step self.old event.now).actions) }
     {
-        self.state.handle(event, picker, ranked)
+        let mut actions = Sequence::new(self.alloc);
+        self.state.respond(event, picker, ranked, &mut actions)?;
+        Ok(actions)
     }
 
     /// All that is known is given up.

@@ -6,7 +6,6 @@ mod held;
 mod node_state;
 mod own;
 mod refusal;
-mod rule;
 mod tally;
 
 pub use engine::Engine;

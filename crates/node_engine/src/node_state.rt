@@ -1,8 +1,7 @@
-ghost use Rattle.std.specs.Prelude.{◌≡◌, ◌≤◌, ◌+◌, ◌^◌, map, OnOk, IfOk};
-ghost use Rattle.conn_state.specs.Use.{facts_at};
+ghost use Rattle.std.specs.Prelude.{◌≡◌, ◌≤◌, ◌+◌, ◌^◌, map, OnOk};
 ghost use Rattle.laws.specs.Steady.{IsSteady};
 ghost use Rattle.machine.specs.Deadlines.{deadlines};
-ghost use Rattle.machine.specs.Machine.{start_of, facts_of};
+ghost use Rattle.machine.specs.Machine.{start_of};
 ghost use Rattle.machine.specs.Peers.{peer_at};
 ghost use Rattle.machine.specs.Step.{step};
 ghost use Rattle.net_base.specs.Bounds.{AreSound};
@@ -19,13 +18,9 @@ mod moves;
 
 use crate::Tally;
 use connections::Connections;
-use net_base::{
-    ActionList, Addr, AddrList, BigTargets, Cid, Event, Facts, Ip, OutOfMemory, Peer, Sequence,
-    Settings, Targets,
-};
-use peer_book::PeerBook;
+use net_base::{ActionList, Addr, Event, Ip, OutOfMemory, Peer, Settings};
+use peers::Peers;
 use pick_policy::{Picker, RankedPicker};
-use root_groups::{Groups, Roots};
 use std::alloc::Global;
 use std::marker::Model;
 use timer_queue::TimerQueue;
@@ -35,27 +30,20 @@ use timer_queue::TimerQueue;
 pub struct NodeState {
     alloc: Global,
     moment: u64,
-    targets: Targets,
-    big_targets: BigTargets,
-    groups: Groups,
-    roots: Roots,
-    book: PeerBook,
-    // what may be told to anyone, from the first request for addresses on until something changes that
-    tellable: Option<AddrList>,
+    peers: Peers,
     connections: Connections,
 }
 
 impl Model for NodeState {
-    ghost use Rattle.std.specs.Prelude.{◌≤◌, ◌^◌, IfSome};
+    ghost use Rattle.std.specs.Prelude.{◌≤◌, ◌^◌};
     ghost use Rattle.machine.specs.Machine.{Machine};
     ghost use Rattle.node_engine.specs.State.{machine_of};
-    ghost use Rattle.share_rounds.specs.Rounds.{AreTellable};
 
     ghost Value = { Machine };
 
-    ghost view = { λ s. machine_of s.moment s.targets s.big_targets s.groups s.roots s.book s.connections };
+    ghost view = { λ s. machine_of s.moment s.peers s.connections };
 
-    ghost invariant = { λ s. (s.moment ≤ 2 ^ 48) × IfSome s.tellable (λ addrs. AreTellable addrs s.book s.groups s.roots.publics) };
+    ghost invariant = { λ s. s.moment ≤ 2 ^ 48 };
 }
 
 impl NodeState {
@@ -67,21 +55,7 @@ impl NodeState {
         NodeState {
             alloc,
             moment: 0,
-            targets: Targets {
-                root: 0,
-                known: 0,
-                established: 0,
-                active: 0,
-            },
-            big_targets: BigTargets {
-                known: 0,
-                established: 0,
-                active: 0,
-            },
-            groups: Groups::new(alloc),
-            roots: Roots::new(alloc),
-            book: PeerBook::new(alloc),
-            tellable: None,
+            peers: Peers::new(alloc),
             connections: Connections::new(alloc, settings),
         }
     }
@@ -97,27 +71,8 @@ impl NodeState {
         *self = NodeState::new(self.alloc, &Settings::usual(nowhere));
     }
 
-    /// What happens to the node, and what it does about it.
-    pub(crate) fn handle(
-        &mut self,
-        event: &Event,
-        picker: &Picker,
-        ranked: &RankedPicker,
-    ) -> Result<ActionList, OutOfMemory>
-        requires steady { IsSteady self.old }
-        requires few_ids { self.old.next_id + 60000 ≤ 2 ^ 48 }
-        requires few_jobs { self.old.roots.next_job ≤ 2 ^ 48 }
-        requires within { IsWithinLimits event.now }
-        ensures machine { OnOk result (self.new ≡ (step self.old event.now).machine) }
-        ensures actions { IfOk result (λ actions. actions ≡ (step self.old event.now).actions) }
-    {
-        let mut actions = Sequence::new(self.alloc);
-        self.respond(event, picker, ranked, &mut actions)?;
-        Ok(actions)
-    }
-
-    // What happens to the node, with what it does about it behind the actions before.
-    fn respond(
+    /// What happens to the node, with what it does about it behind the actions before.
+    pub(crate) fn respond(
         &mut self,
         event: &Event,
         picker: &Picker,
@@ -138,13 +93,13 @@ impl NodeState {
             Event::Bytes(cid, bytes) => self.bytes_come_in(*cid, bytes.as_slice(), actions),
             Event::Closed(cid) => self.close(*cid, actions),
             Event::Aims(targets) => {
-                self.targets_are(*targets);
+                self.peers.set_targets(*targets);
                 Ok(())
             }
             Event::Locals(groups) => self.locals_are(groups, actions),
             Event::Roots(job, answer) => self.roots_answer(*job, answer, actions),
             Event::BigAims(targets) => {
-                self.big_targets_are(*targets);
+                self.peers.set_big_targets(*targets);
                 Ok(())
             }
             Event::Bigs(addrs) => self.bigs_are(addrs.as_slice(), actions),
@@ -168,32 +123,26 @@ impl NodeState {
         self.connections.timers()
     }
 
-    /// What is known of a connection. None where there is none with the id.
-    pub(crate) fn facts(&self, cid: Cid) -> Option<Facts>
-        ensures { result ≡ facts_at cid.0 (facts_of self.now) }
-    {
-        self.connections.facts(cid)
-    }
-
     /// What is known of a peer. None where there is none with the address.
     pub(crate) fn peer(&self, addr: Addr) -> Option<Peer>
         ensures { result ≡ peer_at addr self.now }
     {
-        self.book.get(addr)
+        self.peers.book().get(addr)
     }
 
     /// How many peers and connections there are.
     pub(crate) fn tally(&self) -> Tally
         ensures { result ≡ tally_of self.now }
     {
+        let book = self.peers.book();
         Tally {
-            known: self.book.known(),
-            established: self.book.established(),
-            active: self.book.active(),
+            known: book.known(),
+            established: book.established(),
+            active: book.active(),
             counted: self.connections.counted(),
-            big_known: self.book.big_known(),
-            big_established: self.book.big_established(),
-            big_active: self.book.big_active(),
+            big_known: book.big_known(),
+            big_established: book.big_established(),
+            big_active: book.big_active(),
         }
     }
 }

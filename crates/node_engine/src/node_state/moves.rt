@@ -8,3 +8,6 @@ mod sends;
 mod trim;
 mod turns;
 mod uses;
+
+pub(crate) use peers::tell_known;
+pub(crate) use sends::{INITIATOR, RESPONDER};

@@ -1,13 +1,11 @@
-ghost use Rattle.std.specs.Prelude.{◌≡◌, ◌≤◌, ◌^◌, true, OnOk, Some};
-ghost use Rattle.conn_table.specs.Answers.{is_due};
+ghost use Rattle.std.specs.Prelude.{◌≡◌, ◌≤◌, ◌^◌, OnOk, Some};
 ghost use Rattle.laws.specs.Sound.{IsOrderly};
-ghost use Rattle.machine.specs.Deadlines.{due, fires, fires_as, fire_all};
+ghost use Rattle.machine.specs.Deadlines.{due, fires, fire_all};
 ghost use Rattle.machine.specs.Events.{clock_shows};
-ghost use Rattle.net_base.specs.declared.timer.Kind.TheVariants.{Grace as GraceKind};
-ghost use Rattle.node_engine.specs.State.{Does, DoesTo, IsKnown};
+ghost use Rattle.node_engine.specs.State.{Does};
 
 use crate::NodeState;
-use net_base::{ActionList, CloseCause, Deadline, Facts, FaultKind, Kind, OutOfMemory};
+use net_base::{ActionList, CloseCause, Deadline, FaultKind, Kind, OutOfMemory};
 
 impl NodeState {
     /// The clock shows a moment. Where it is a later one, all that is due by then happens.
@@ -45,35 +43,21 @@ impl NodeState {
         self.connections.due(self.moment)
     }
 
-    // The deadline fires that is the next one.
+    // The deadline fires that is the next one, by its kind.
     fn fire(&mut self, deadline: Deadline, actions: &mut ActionList) -> Result<(), OutOfMemory>
         requires orderly { IsOrderly self.old }
         requires next { due self.old ≡ Some deadline }
         ensures { OnOk result (Does (fires deadline self.old) actions.old self.new actions.new) }
     {
-        match self.found(deadline.cid) {
-            Some(facts) => self.fire_on(facts, deadline.kind, actions),
-            None => Ok(()),
-        }
-    }
-
-    // A deadline of a connection fires, by its kind.
-    fn fire_on(
-        &mut self,
-        facts: Facts,
-        kind: Kind,
-        actions: &mut ActionList,
-    ) -> Result<(), OutOfMemory>
-        requires known { IsKnown facts self.old }
-        requires over { kind ≡ GraceKind → is_due self.old.now facts.grace ≡ true }
-        ensures { OnOk result (DoesTo facts.cid.0 (fires_as kind) actions.old self.old self.new actions.new) }
-    {
-        match kind {
+        let Some(facts) = self.found(deadline.cid) else {
+            return Ok(());
+        };
+        match deadline.kind {
             Kind::Handshake => {
                 self.end(facts, CloseCause::Fault(FaultKind::HandshakeWait), actions)
             }
             Kind::Grace => self.grace_over(facts, actions),
-            Kind::TimeWait => self.wait_over(facts, actions),
+            Kind::TimeWait => self.let_go(facts, actions),
             Kind::Reply2 | Kind::Reply8 | Kind::Reply10 => {
                 self.end(facts, CloseCause::Fault(FaultKind::ReplyWait), actions)
             }

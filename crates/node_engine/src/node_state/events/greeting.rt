@@ -1,37 +1,24 @@
 ghost use Rattle.std.specs.Prelude.{◌≡◌, true, IfOk, OnOk};
 ghost use Rattle.conn_state.specs.Use.{is_greeting};
-ghost use Rattle.hs_decide.specs.Answers.{answer_of, CanAnswer};
+ghost use Rattle.hs_decide.specs.Answers.{CanAnswer};
 ghost use Rattle.hs_receive.specs.Receiving.{receives, CanBeAnswered};
-ghost use Rattle.machine.specs.Greeting.{role_of, sends_answer, judged, decided, greets};
+ghost use Rattle.machine.specs.Greeting.{role_of, judged, decided};
 ghost use Rattle.machine.specs.Own.{own_info};
 ghost use Rattle.mux_segment.specs.Lent.{lent};
 ghost use Rattle.node_engine.specs.Greets.{CanJudge, CanFollow, greeted_as};
 ghost use Rattle.node_engine.specs.State.{Does, DoesTo, IsKnown};
 
 use crate::NodeState;
+use crate::node_state::moves::RESPONDER;
 use crate::own::own_info;
+use conn_table::Step;
 use hs_decide::{Role, Verdict, answer};
-use hs_message::VersionInfo;
 use hs_receive::{Received, receive};
 use mux_segment::LentItem;
-use net_base::{ActionList, Cid, CloseCause, Facts, FaultKind, OutOfMemory, Provenance};
+use net_base::protocol::HANDSHAKE;
+use net_base::{ActionList, CloseCause, Facts, FaultKind, OutOfMemory, Provenance};
 
 impl NodeState {
-    /// An item comes in on a connection whose handshake is under way.
-    pub(crate) fn greet(
-        &mut self,
-        facts: Facts,
-        item: &LentItem<'_>,
-        actions: &mut ActionList,
-    ) -> Result<(), OutOfMemory>
-        requires known { IsKnown facts self.old }
-        requires greeting { is_greeting facts ≡ true }
-        ensures { OnOk result (DoesTo facts.cid.0 (greets (lent item.now)) actions.old self.old self.new actions.new) }
-    {
-        let received = self.received(facts, item)?;
-        self.greet_as(facts, received, actions)
-    }
-
     /// What an item comes to in the handshake of a connection.
     pub(crate) fn received(
         &self,
@@ -80,26 +67,11 @@ impl NodeState {
         ensures { OnOk result (DoesTo facts.cid.0 (decided verdict) actions.old self.old self.new actions.new) }
     {
         let own = own_info(self.connections.settings());
-        self.say(facts.cid, &verdict, &own, actions)?;
+        let Some(octets) = answer(self.alloc, &verdict, &own)? else {
+            return self.follow_verdict(facts, verdict, actions);
+        };
+        self.send(facts.cid, RESPONDER, HANDSHAKE, octets.as_slice(), actions)?;
         self.follow_verdict(facts, verdict, actions)
-    }
-
-    // What is sent before a verdict is carried out.
-    fn say(
-        &self,
-        cid: Cid,
-        verdict: &Verdict,
-        own: &VersionInfo,
-        actions: &mut ActionList,
-    ) -> Result<(), OutOfMemory>
-        requires { CanAnswer verdict.now }
-        ensures { OnOk result
-            (Does (sends_answer (answer_of verdict.now own.now) cid self.now) actions.old self.now actions.new) }
-    {
-        match answer(self.alloc, verdict, own)? {
-            Some(octets) => self.answer(cid, 0, octets.as_slice(), actions),
-            None => Ok(()),
-        }
     }
 
     // A verdict is carried out.
@@ -115,8 +87,16 @@ impl NodeState {
         ensures { OnOk result (DoesTo facts.cid.0 (judged verdict) actions.old self.old self.new actions.new) }
     {
         match verdict {
-            Verdict::Accept(agreed) => self.agree_inbound(facts, agreed, actions),
-            Verdict::Agree(agreed) => self.agree_outbound(facts, agreed, actions),
+            // the connection is kept for the other side
+            Verdict::Accept(agreed) => {
+                let until = self.idle_end();
+                self.turn(facts, Step::Negotiated(agreed, until), actions)
+            }
+            // who dialed uses it at once
+            Verdict::Agree(agreed) => {
+                let until = self.idle_end();
+                self.come_into_use(facts, Step::Negotiated(agreed, until), actions)
+            }
             Verdict::Refuse(_) | Verdict::Refused => {
                 self.end(facts, CloseCause::Refused, actions)
             }

@@ -1,15 +1,15 @@
-ghost use Rattle.std.specs.Prelude.{◌≡◌, ◌≤◌, ◌^◌, OnOk, if◌then◌else◌};
-ghost use Rattle.machine.specs.Effect.{nothing_more};
-ghost use Rattle.machine.specs.Provided.{roots_answer, roots_say};
-ghost use Rattle.net_base.specs.declared.event.RootAnswer.TheVariants.{Found, Failed};
+ghost use Rattle.std.specs.Prelude.{OnOk};
+ghost use Rattle.machine.specs.Provided.{roots_answer};
 ghost use Rattle.net_base.specs.Limits.{ServesAnInterval};
-ghost use Rattle.node_engine.specs.State.{Does, DoesSilently};
+ghost use Rattle.node_engine.specs.State.{Does};
 
 use crate::NodeState;
-use net_base::{Action, ActionList, AddrList, Job, OutOfMemory, RootAnswer};
+use crate::node_state::moves::tell_known;
+use net_base::{ActionList, Job, OutOfMemory, RootAnswer};
 
 impl NodeState {
-    /// A question for public root peers is answered. An answer counts only where its question is pending.
+    /// A question for public root peers is answered. An answer counts only where its question is pending; the public roots
+    /// that are found come into the book.
     pub(crate) fn roots_answer(
         &mut self,
         job: Job,
@@ -20,40 +20,16 @@ impl NodeState {
         ensures { OnOk result (Does (roots_answer job answer.now self.old) actions.old self.new actions.new) }
     {
         match answer {
-            RootAnswer::Found(ttl, addrs) => self.roots_found(job, *ttl, addrs, actions),
+            RootAnswer::Found(ttl, addrs) => {
+                let own = self.connections.settings().own;
+                let new = self.peers.roots_found(job, *ttl, addrs, own, self.moment)?;
+                tell_known(new.as_slice(), actions)
+            }
             RootAnswer::Failed => {
-                self.roots_failed(job);
+                let base = self.connections.settings().backoff;
+                self.peers.roots_failed(job, self.moment, base);
                 Ok(())
             }
         }
-    }
-
-    // They are found: each comes into the book.
-    fn roots_found(
-        &mut self,
-        job: Job,
-        ttl: u64,
-        addrs: &AddrList,
-        actions: &mut ActionList,
-    ) -> Result<(), OutOfMemory>
-        requires { ttl ≤ 86_400_000 }
-        ensures { OnOk result (Does (roots_answer job (Found ttl addrs.now) self.old) actions.old self.new actions.new) }
-    {
-        let own = self.connections.settings().own;
-        let target = self.targets.root;
-        self.tellable = None;
-        if !self.roots.found(job, ttl, addrs, own, target, self.moment)? {
-            return Ok(());
-        }
-        let publics = AddrList::from_vec(self.roots.publics().as_slice().to_vec(self.alloc)?);
-        self.come_ordinary(publics.as_slice(), actions)
-    }
-
-    // They are not.
-    fn roots_failed(&mut self, job: Job)
-        ensures { DoesSilently (roots_answer job Failed self.old) self.new }
-    {
-        let base = self.connections.settings().backoff;
-        self.roots.failed(job, self.moment, base);
     }
 }

@@ -4,7 +4,7 @@ ghost use Rattle.hs_receive.specs.Receiving.{kind_of, CanBeAnswered};
 ghost use Rattle.machine.specs.Connections.{entry_turns};
 ghost use Rattle.machine.specs.Effect.{on_connection, for_each};
 ghost use Rattle.machine.specs.Machine.{entry_at};
-ghost use Rattle.machine.specs.Stream.{handled, handles, faulted, feeds, comes_in, bytes_come_in};
+ghost use Rattle.machine.specs.Stream.{handled, handles, faulted, feeds, bytes_come_in};
 ghost use Rattle.connections.specs.Standing.{fed_of, fed_entry};
 ghost use Rattle.mux_segment.specs.Lent.{lent};
 ghost use Rattle.node_engine.specs.Greets.{CanFollow, feeds_as};
@@ -12,14 +12,13 @@ ghost use Rattle.node_engine.specs.State.{Does, DoesTo, DoesSilently, IsKnown};
 ghost use Rattle.connections.specs.Talks.{IsFed};
 
 use crate::NodeState;
-use conn_state::facts::is_greeting;
 use connections::Decoded;
 use hs_receive::{Received, kind_of};
 use mux_segment::{CutFault, LentItem, PackedItems};
 use net_base::{ActionList, Cid, CloseCause, Facts, FaultKind, OutOfMemory, Phase};
 
 impl NodeState {
-    /// Bytes come in on a connection.
+    /// Bytes come in on a connection. Nothing comes in on a socket that is not open.
     pub(crate) fn bytes_come_in(
         &mut self,
         cid: Cid,
@@ -28,48 +27,18 @@ impl NodeState {
     ) -> Result<(), OutOfMemory>
         ensures { OnOk result (Does (bytes_come_in cid bytes.now self.old) actions.old self.new actions.new) }
     {
-        match self.found(cid) {
-            Some(facts) => self.bytes_come_in_phase(facts, bytes, actions),
-            None => Ok(()),
-        }
-    }
-
-    // Nothing comes in on a socket that is not open.
-    fn bytes_come_in_phase(
-        &mut self,
-        facts: Facts,
-        bytes: &[u8],
-        actions: &mut ActionList,
-    ) -> Result<(), OutOfMemory>
-        requires { IsKnown facts self.old }
-        ensures { OnOk result
-            (DoesTo facts.cid.0 (comes_in bytes.now) actions.old self.old self.new actions.new) }
-    {
+        let Some(facts) = self.found(cid) else {
+            return Ok(());
+        };
         match facts.phase {
-            Phase::Greeting(_) | Phase::Negotiated => self.feed(facts, bytes, actions),
+            Phase::Greeting(_) => self.feed_greeting(facts, bytes, actions),
+            Phase::Negotiated => self.feed_all(cid, bytes, actions),
             Phase::Dialing | Phase::Closing(_) => Ok(()),
         }
     }
 
-    // New bytes of a stream. The first item in a handshake is judged before anything behind it is looked at.
-    fn feed(
-        &mut self,
-        facts: Facts,
-        bytes: &[u8],
-        actions: &mut ActionList,
-    ) -> Result<(), OutOfMemory>
-        requires { IsKnown facts self.old }
-        ensures { OnOk result
-            (DoesTo facts.cid.0 (feeds bytes.now) actions.old self.old self.new actions.new) }
-    {
-        if is_greeting(&facts) {
-            self.feed_greeting(facts, bytes, actions)
-        } else {
-            self.feed_all(facts.cid, bytes, actions)
-        }
-    }
-
-    // New bytes of a stream in the handshake, by its first item where that is easily seen.
+    // New bytes of a stream in the handshake. Its first item is judged before anything behind it is looked at, where that is
+    // easily seen.
     fn feed_greeting(
         &mut self,
         facts: Facts,
@@ -85,25 +54,8 @@ impl NodeState {
             return self.feed_all(facts.cid, bytes, actions);
         };
         let received = self.received(facts, &item)?;
-        self.feed_as(facts, received, bytes, actions)
-    }
-
-    // The same, once it is known what the first item came to. Where that ends the connection, the rest is not taken.
-    fn feed_as(
-        &mut self,
-        facts: Facts,
-        received: Received,
-        bytes: &[u8],
-        actions: &mut ActionList,
-    ) -> Result<(), OutOfMemory>
-        requires known { IsKnown facts self.old }
-        requires greeting { is_greeting facts ≡ true }
-        requires answerable { CanBeAnswered received }
-        requires may { CanFollow received facts }
-        ensures { OnOk result
-            (DoesTo facts.cid.0 (feeds_as received bytes.now) actions.old self.old self.new actions.new) }
-    {
         match received {
+            // where that ends the connection, the rest is not taken
             Received::Fault(kind) => self.end(facts, CloseCause::Fault(kind), actions),
             Received::Decided(_) => self.feed_behind(facts, received, bytes, actions),
         }
@@ -187,7 +139,10 @@ impl NodeState {
             (DoesTo facts.cid.0 (handled (lent item.now)) actions.old self.old self.new actions.new) }
     {
         match facts.phase {
-            Phase::Greeting(_) => self.greet(facts, item, actions),
+            Phase::Greeting(_) => {
+                let received = self.received(facts, item)?;
+                self.greet_as(facts, received, actions)
+            }
             Phase::Negotiated => self.talk(facts, item, actions),
             Phase::Dialing | Phase::Closing(_) => Ok(()),
         }
@@ -203,22 +158,9 @@ impl NodeState {
         ensures { OnOk result
             (Does (on_connection cid (faulted fault) self.old) actions.old self.new actions.new) }
     {
-        match fault {
-            Some(fault) => self.fail(cid, fault, actions),
-            None => Ok(()),
-        }
-    }
-
-    // No more items can be taken off the stream of a connection.
-    fn fail(
-        &mut self,
-        cid: Cid,
-        fault: CutFault,
-        actions: &mut ActionList,
-    ) -> Result<(), OutOfMemory>
-        ensures { OnOk result
-            (Does (on_connection cid (faulted (Some fault)) self.old) actions.old self.new actions.new) }
-    {
+        let Some(fault) = fault else {
+            return Ok(());
+        };
         match self.found(cid) {
             Some(facts) => self.end(facts, CloseCause::Fault(kind_of(fault)), actions),
             None => Ok(()),

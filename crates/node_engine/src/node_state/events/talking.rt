@@ -8,16 +8,15 @@ ghost use Rattle.machine.specs.Talking.{served_peers, replies, serves, begins, a
 ghost use Rattle.mux_segment.specs.Lent.{lent};
 ghost use Rattle.node_engine.specs.State.{Does, DoesTo, IsKnown};
 ghost use Rattle.remote_watch.specs.Watch.{watched};
-ghost use Rattle.share_rounds.specs.Rounds.{served_to};
 
 use crate::NodeState;
+use crate::node_state::moves::RESPONDER;
 use conn_state::facts::{is_sharing, serves_remote};
 use conn_state::responders::runs;
 use conn_table::Step;
 use mux_segment::LentItem;
 use net_base::{ActionList, Addr, AddrList, Cid, CloseCause, Facts, FaultKind, OutOfMemory};
 use remote_watch::{Reply, Seen, reply_bytes, watch};
-use share_rounds::{served_among, tellable};
 
 impl NodeState {
     /// An item comes in on a connection whose handshake is done.
@@ -31,26 +30,9 @@ impl NodeState {
         requires negotiated { is_negotiated facts ≡ true }
         ensures { OnOk result (DoesTo facts.cid.0 (talks (lent item.now)) actions.old self.old self.new actions.new) }
     {
-        if item.side == 0 {
-            self.watch_item(facts, item, actions)
-        } else {
-            self.take_answer(facts, item, actions)
+        if item.side != 0 {
+            return self.take_answer(facts, item, actions);
         }
-    }
-
-    // The other side asks.
-    fn watch_item(
-        &mut self,
-        facts: Facts,
-        item: &LentItem<'_>,
-        actions: &mut ActionList,
-    ) -> Result<(), OutOfMemory>
-        requires known { IsKnown facts self.old }
-        requires negotiated { is_negotiated facts ≡ true }
-        ensures { OnOk result (DoesTo facts.cid.0
-            (asked_as (watched item.now.id (agreed_sharing facts.agreed) item.now.body.now) item.now.id)
-            actions.old self.old self.new actions.new) }
-    {
         match watch(self.alloc, item.id, is_sharing(&facts), item.body) {
             Ok(seen) => self.take_request(facts, item.id, seen, actions),
             Err(refusal) => self.end(facts, CloseCause::Fault(refusal.fault()?), actions),
@@ -110,25 +92,9 @@ impl NodeState {
         requires runs { IfSome (entry_at cid.0 self.old) (λ e. runs protocol e.facts.running ≡ true) }
         ensures { OnOk result (Does (on_connection cid (serves seen protocol) self.old) actions.old self.new actions.new) }
     {
-        match self.found(cid) {
-            Some(facts) => self.serve_on(facts, protocol, seen, actions),
-            None => Ok(()),
-        }
-    }
-
-    // The reply is sent, and the protocol that is done stops.
-    fn serve_on(
-        &mut self,
-        facts: Facts,
-        protocol: u16,
-        seen: Seen,
-        actions: &mut ActionList,
-    ) -> Result<(), OutOfMemory>
-        requires known { IsKnown facts self.old }
-        requires responder { has_responder protocol ≡ true }
-        requires runs { runs protocol facts.running ≡ true }
-        ensures { OnOk result (DoesTo facts.cid.0 (serves seen protocol) actions.old self.old self.new actions.new) }
-    {
+        let Some(facts) = self.found(cid) else {
+            return Ok(());
+        };
         self.reply(facts, protocol, seen.reply, actions)?;
         if seen.done {
             let until = self.idle_end();
@@ -156,7 +122,7 @@ impl NodeState {
         }
         let peers = self.served_peers(reply, facts.addr)?;
         let bytes = reply_bytes(self.alloc, &reply, peers.as_slice())?;
-        self.answer(facts.cid, protocol, bytes.as_slice(), actions)
+        self.send(facts.cid, RESPONDER, protocol, bytes.as_slice(), actions)
     }
 
     // The peers that are handed out to the other side.
@@ -165,22 +131,8 @@ impl NodeState {
         ensures same { self.new ≡ self.old }
     {
         match reply {
-            Reply::Share(n) => self.served_to(asker, n),
+            Reply::Share(n) => self.peers.served_to(asker, n),
             _ => Ok(AddrList::new(self.alloc)),
         }
-    }
-
-    // The peers that are told to one that asks for so many. What may be told to anyone is looked up once.
-    fn served_to(&mut self, asker: Addr, n: u64) -> Result<AddrList, OutOfMemory>
-        ensures peers { IfOk result (λ peers. peers ≡ served_to asker n self.old.peers self.old.groups self.old.roots.publics) }
-        ensures same { self.new ≡ self.old }
-    {
-        if let Some(addrs) = &self.tellable {
-            return served_among(self.alloc, addrs.as_slice(), asker, n);
-        }
-        let addrs = tellable(self.alloc, &self.book, &self.groups, &self.roots)?;
-        let served = served_among(self.alloc, addrs.as_slice(), asker, n);
-        self.tellable = Some(addrs);
-        served
     }
 }

@@ -4,6 +4,7 @@ ghost use Rattle.laws.specs.Laws.{WithinHardLimit};
 ghost use Rattle.machine.specs.Govern.{govern};
 ghost use Rattle.node_engine.specs.State.{Does};
 
+use super::rules::{BIG, ORDINARY};
 use crate::NodeState;
 use net_base::{ActionList, OutOfMemory};
 use pick_policy::{Picker, RankedPicker};
@@ -24,7 +25,7 @@ impl NodeState {
         ensures { OnOk result (Does (govern word self.old) actions.old self.new actions.new) }
     {
         self.ask_roots(actions)?;
-        self.follow_ordinary(word, picker, actions)?;
-        self.follow_big(word, ranked, actions)
+        self.follow_all(&ORDINARY, word, picker, ranked, actions)?;
+        self.follow_all(&BIG, word, picker, ranked, actions)
     }
 }

@@ -11,7 +11,7 @@ impl NodeState {
         requires { self.old.roots.next_job ≤ 2 ^ 48 }
         ensures { OnOk result (Does (asks_roots self.old) actions.old self.new actions.new) }
     {
-        match self.roots.ask(self.moment, self.targets.root) {
+        match self.peers.ask_roots(self.moment) {
             Some(job) => actions.push(Action::AskRoots(job)),
             None => Ok(()),
         }

@@ -2,13 +2,13 @@ ghost use Rattle.std.specs.Prelude.{◌≡◌, ◌≤◌, ◌^◌, true, false, 
 ghost use Rattle.conn_state.specs.Use.{is_dialing};
 ghost use Rattle.conn_table.specs.Answers.{any_at};
 ghost use Rattle.hs_decide.specs.Answers.{proposal_of};
-ghost use Rattle.machine.specs.Connections.{dial, dial_opens, dial_fails};
-ghost use Rattle.machine.specs.Machine.{facts_of};
 ghost use Rattle.machine.specs.Own.{own_info};
-ghost use Rattle.machine.specs.Replies.{sends_as_initiator};
-ghost use Rattle.node_engine.specs.State.{Does, DoesTo, IsKnown};
+ghost use Rattle.machine.specs.Connections.{dial, dial_opens};
+ghost use Rattle.machine.specs.Machine.{facts_of};
+ghost use Rattle.node_engine.specs.State.{Does, DoesTo, IsKnown, sends_from};
 
 use crate::NodeState;
+use crate::node_state::moves::INITIATOR;
 use crate::own::own_info;
 use conn_table::Step;
 use hs_decide::proposal;
@@ -37,29 +37,17 @@ impl NodeState {
         requires dialing { is_dialing facts ≡ true }
         ensures { OnOk result (DoesTo facts.cid.0 dial_opens actions.old self.old self.new actions.new) }
     {
-        let until = self.handshake_end();
+        let until = self.moment + self.connections.settings().handshake;
         self.turn(facts, Step::Connected(until), actions)?;
         self.propose(facts.cid, actions)
     }
 
-    /// It is not: the connection goes, and its peer has failed.
-    pub(crate) fn dial_fails(
-        &mut self,
-        facts: Facts,
-        actions: &mut ActionList,
-    ) -> Result<(), OutOfMemory>
-        requires { IsKnown facts self.old }
-        ensures { OnOk result (DoesTo facts.cid.0 dial_fails actions.old self.old self.new actions.new) }
-    {
-        self.vanish(facts, actions)
-    }
-
     // This node's proposal.
     fn propose(&self, cid: Cid, actions: &mut ActionList) -> Result<(), OutOfMemory>
-        ensures { OnOk result (Does (sends_as_initiator cid 0 (proposal_of (own_info self.now.settings)) self.now)
+        ensures { OnOk result (Does (sends_from 0 cid 0 (proposal_of (own_info self.now.settings)) self.now)
             actions.old self.now actions.new) }
     {
         let payload = proposal(self.alloc, &own_info(self.connections.settings()))?;
-        self.ask(cid, HANDSHAKE, payload.as_slice(), actions)
+        self.send(cid, INITIATOR, HANDSHAKE, payload.as_slice(), actions)
     }
 }

@@ -1,6 +1,6 @@
 ghost use Rattle.std.specs.Prelude.{◌≡◌, true, OnOk};
 ghost use Rattle.conn_table.specs.Answers.{is_due};
-ghost use Rattle.machine.specs.Connections.{grace_over, wait_over};
+ghost use Rattle.machine.specs.Connections.{grace_over};
 ghost use Rattle.node_engine.specs.State.{DoesTo, IsKnown};
 
 use crate::NodeState;
@@ -18,24 +18,12 @@ impl NodeState {
         requires over { is_due self.old.now facts.grace ≡ true }
         ensures { OnOk result (DoesTo facts.cid.0 grace_over actions.old self.old self.new actions.new) }
     {
-        let until = self.time_wait_end();
+        let until = self.moment + self.connections.settings().timewait;
         let step = Step::GraceOver(until);
         if facts.local {
             return self.turn(facts, step, actions);
         }
         actions.push(Action::Close(facts.cid, CloseCause::Unused))?;
         self.turn(facts, step, actions)
-    }
-
-    /// The time-wait of a connection is over.
-    pub(crate) fn wait_over(
-        &mut self,
-        facts: Facts,
-        actions: &mut ActionList,
-    ) -> Result<(), OutOfMemory>
-        requires { IsKnown facts self.old }
-        ensures { OnOk result (DoesTo facts.cid.0 wait_over actions.old self.old self.new actions.new) }
-    {
-        self.let_go(facts, actions)
     }
 }

@@ -1,39 +1,31 @@
-ghost use Rattle.std.specs.Prelude.{◌<◌, ◌^◌, OnOk};
-ghost use Rattle.machine.specs.Replies.{sends_as_initiator, sends_as_responder};
-ghost use Rattle.node_engine.specs.State.{Does};
+ghost use Rattle.std.specs.Prelude.{◌<◌, ◌≤◌, ◌^◌, OnOk};
+ghost use Rattle.node_engine.specs.State.{Does, sends_from};
 
 use crate::NodeState;
 use mux_segment::frame;
 use net_base::{Action, ActionList, Cid, OutOfMemory};
 
-impl NodeState {
-    /// A message on a protocol, from side 0, the initiator's.
-    pub(crate) fn ask(
-        &self,
-        cid: Cid,
-        protocol: u16,
-        payload: &[u8],
-        actions: &mut ActionList,
-    ) -> Result<(), OutOfMemory>
-        requires { protocol < 2 ^ 15 }
-        ensures { OnOk result (Does (sends_as_initiator cid protocol payload.now self.now) actions.old self.now actions.new) }
-    {
-        let octets = frame(self.alloc, 0, protocol, self.moment, payload)?;
-        actions.push(Action::Send(cid, octets))
-    }
+/// The side of who began a protocol.
+pub(crate) const INITIATOR: u8 = 0;
 
-    /// A message on a protocol, from side 1, the responder's.
-    pub(crate) fn answer(
+/// The side of who answers.
+pub(crate) const RESPONDER: u8 = 1;
+
+impl NodeState {
+    /// A message on a protocol, from one of the two sides.
+    pub(crate) fn send(
         &self,
         cid: Cid,
+        side: u8,
         protocol: u16,
         payload: &[u8],
         actions: &mut ActionList,
     ) -> Result<(), OutOfMemory>
-        requires { protocol < 2 ^ 15 }
-        ensures { OnOk result (Does (sends_as_responder cid protocol payload.now self.now) actions.old self.now actions.new) }
+        requires side { side ≤ 1 }
+        requires protocol { protocol < 2 ^ 15 }
+        ensures { OnOk result (Does (sends_from side cid protocol payload.now self.now) actions.old self.now actions.new) }
     {
-        let octets = frame(self.alloc, 1, protocol, self.moment, payload)?;
+        let octets = frame(self.alloc, side, protocol, self.moment, payload)?;
         actions.push(Action::Send(cid, octets))
     }
 }

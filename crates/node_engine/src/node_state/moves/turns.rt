@@ -27,25 +27,11 @@ impl NodeState {
         self.tell_turn(facts, actions)
     }
 
-    /// Until when a handshake that begins now may last.
-    pub(crate) fn handshake_end(&self) -> u64
-        ensures { result ≡ self.now.now + self.now.settings.handshake }
-    {
-        self.moment + self.connections.settings().handshake
-    }
-
     /// Until when a connection that nobody uses from now on is kept.
     pub(crate) fn idle_end(&self) -> u64
         ensures { result ≡ self.now.now + self.now.settings.idle }
     {
         self.moment + self.connections.settings().idle
-    }
-
-    /// Until when a connection that is closed now is kept.
-    pub(crate) fn time_wait_end(&self) -> u64
-        ensures { result ≡ self.now.now + self.now.settings.timewait }
-    {
-        self.moment + self.connections.settings().timewait
     }
 
     /// A reply on a protocol comes to be owed from now on, for what was asked. Nothing is told of that.

@@ -1,8 +1,7 @@
 ghost use Rattle.std.specs.Prelude.{◌≡◌, true, false, IsSome, OnOk};
 ghost use Rattle.conn_state.specs.Protocols.{has_responder};
-ghost use Rattle.conn_state.specs.Use.{is_greeting, is_outbound};
 ghost use Rattle.conn_table.specs.Conditions.{CanAwake, CanStep, after_step};
-ghost use Rattle.machine.specs.Connections.{is_agreed_inbound, is_agreed_outbound, is_used, says_done, release, awake};
+ghost use Rattle.machine.specs.Connections.{is_used, says_done, release, awake};
 ghost use Rattle.machine.specs.Machine.{entry_at};
 ghost use Rattle.machine.specs.Replies.{sends_as_initiator};
 ghost use Rattle.connections.specs.Steps.{closes};
@@ -10,45 +9,14 @@ ghost use Rattle.node_engine.specs.State.{Does, DoesTo, IsKnown, is_used_from};
 ghost use Rattle.warm_messages.specs.Writing.{written_alive};
 
 use crate::NodeState;
+use crate::node_state::moves::INITIATOR;
 use conn_state::facts::is_sharing;
 use conn_table::Step;
 use net_base::protocol::{KEEP_ALIVE, PEER_SHARING};
-use net_base::{ActionList, Agreed, Cid, Facts, OutOfMemory, Temp};
+use net_base::{ActionList, Cid, Facts, OutOfMemory, Temp};
 use warm_messages::{Alive, SHARE_DONE, write_alive};
 
 impl NodeState {
-    /// The handshake of a peer that connected is done: the connection is kept for the other side.
-    pub(crate) fn agree_inbound(
-        &mut self,
-        facts: Facts,
-        agreed: Agreed,
-        actions: &mut ActionList,
-    ) -> Result<(), OutOfMemory>
-        requires known { IsKnown facts self.old }
-        requires greeting { is_greeting facts ≡ true }
-        requires inbound { is_outbound facts ≡ false }
-        ensures { OnOk result (DoesTo facts.cid.0 (is_agreed_inbound agreed) actions.old self.old self.new actions.new) }
-    {
-        let until = self.idle_end();
-        self.turn(facts, Step::Negotiated(agreed, until), actions)
-    }
-
-    /// The handshake of a peer that was dialed is done: the connection is in use at once.
-    pub(crate) fn agree_outbound(
-        &mut self,
-        facts: Facts,
-        agreed: Agreed,
-        actions: &mut ActionList,
-    ) -> Result<(), OutOfMemory>
-        requires known { IsKnown facts self.old }
-        requires greeting { is_greeting facts ≡ true }
-        requires outbound { is_outbound facts ≡ true }
-        ensures { OnOk result (DoesTo facts.cid.0 (is_agreed_outbound agreed) actions.old self.old self.new actions.new) }
-    {
-        let until = self.idle_end();
-        self.come_into_use(facts, Step::Negotiated(agreed, until), actions)
-    }
-
     /// A connection comes into this node's use by a move that it has.
     pub(crate) fn come_into_use(
         &mut self,
@@ -121,7 +89,7 @@ impl NodeState {
         ensures { OnOk result (Does (sends_as_initiator cid 8 (written_alive message) self.now) actions.old self.now actions.new) }
     {
         let payload = write_alive(self.alloc, &message)?;
-        self.ask(cid, KEEP_ALIVE, payload.as_slice(), actions)
+        self.send(cid, INITIATOR, KEEP_ALIVE, payload.as_slice(), actions)
     }
 
     // The protocols that this node began are done: peer sharing, where it was agreed, and keep-alive.
@@ -129,7 +97,7 @@ impl NodeState {
         ensures { OnOk result (Does (says_done facts self.now) actions.old self.now actions.new) }
     {
         if is_sharing(&facts) {
-            self.ask(facts.cid, PEER_SHARING, &SHARE_DONE, actions)?;
+            self.send(facts.cid, INITIATOR, PEER_SHARING, &SHARE_DONE, actions)?;
         }
         self.keep_alive(facts.cid, Alive::Done, actions)
     }

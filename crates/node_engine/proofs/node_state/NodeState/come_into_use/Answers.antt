@@ -26,6 +26,6 @@ pub greet_use-requires : goal.greet_use-requires
 greet_use-requires c = on_some _ _ (turned (goal.at.greet_use-requires c).After-turn).next_there
 
 pub returns : goal.returns
-returns c = on_ok_weaker c.greet_use.result (used_does _ _ _ _ _ _ _ _ _ _ (λ e. is_used (after_step c.args.step e.facts) e) _ _ _ _ (λ e. refl) c.self.view_is
+returns c = on_ok_weaker c.greet_use.result (used_does _ _ _ _ _ _ (λ e. is_used (after_step c.args.step e.facts) e) _ _ _ _ (λ e. refl) c.self.view_is
     (turned (goal.at.returns c).After-turn) (ap (λ p. p.cid) (step_keeps c.args.step c.args.facts)) (ap (λ p. p.addr) (step_keeps c.args.step c.args.facts)))
     c.greet_use.ensures

@@ -1,4 +1,4 @@
-use Rattle.std.proofs.Common.{◌≡◌, Some}
+use Rattle.std.proofs.Common.{◌≡◌, Some, IfSome, subst}
 use Rattle.std.specs.Option.{option_map}
 use Rattle.machine.specs.Machine.{entry_at}
 use Rattle.machine.specs.Replies.{reply_on}
@@ -16,8 +16,9 @@ returns-in-Some c =
     does_other c.take_owed.result c.args.facts (answered_as (Some (owed_as id c.in-Some.reply)) (lent c.args.item.now))
     (λ e. answered_as (reply_on id e) (lent c.args.item.now) e)
     c.args.self.now c.take_owed.new.self c.args.actions.now c.args.actions.now c.take_owed.new.actions c.requires
-    (λ e is same done. answered-owed (lent c.args.item.now) c.in-Some.reply c.owed_on.result e
+    (λ e is same done. answered-owed (lent c.args.item.now) c.in-Some.reply c.reply.result e
     c.args.self.now c.take_owed.new.self c.args.actions.now c.take_owed.new.actions
-    (of_entry (λ x. c.owed_on.result ≡ option_map reply_of (reply_on id x)) (entry_at c.args.facts.cid.0 c.args.self.now) e is c.owed_on.ensures)
+    (of_entry (λ x. c.reply.result ≡ option_map reply_of (reply_on id x)) (entry_at c.args.facts.cid.0 c.args.self.now) e is
+    (subst (λ m. IfSome (entry_at c.args.facts.cid.0 m) (λ x. c.reply.result ≡ option_map reply_of (reply_on id x))) c.self.view_is c.reply.ensures))
     c.in-Some.is done)
     c.take_owed.ensures

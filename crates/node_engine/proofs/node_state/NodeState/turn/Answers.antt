@@ -23,5 +23,5 @@ pub tell_turn-requires : goal.tell_turn-requires
 tell_turn-requires c = on_some _ _ (turned (goal.at.tell_turn-requires c).After-turn).next_there
 
 pub returns : goal.returns
-returns c = on_ok_weaker c.tell_turn.result (turn_does _ _ _ _ _ _ _ _ _ _ (λ e. entry_turns e (stepped c.args.step e)) _ _ _ (λ e. refl) c.self.view_is
+returns c = on_ok_weaker c.tell_turn.result (turn_does _ _ _ _ _ _ (λ e. entry_turns e (stepped c.args.step e)) _ _ _ (λ e. refl) c.self.view_is
     (turned (goal.at.returns c).After-turn)) c.tell_turn.ensures

@@ -1,0 +1,6 @@
+use Rattle.std.proofs.Common.{sym, ◌∙◌}
+use Rattle.peers.proofs.Tellable.{tellable-changed}
+use Rattle.peers.proofs.peers.Peers.fail.Goals as goal
+
+pub invariant_of-self : goal.invariant_of-self
+invariant_of-self c = tellable-changed _ c.in_ok-peer.peer _ _ _ _ _ _ (sym c.get.ensures ∙ c.in_ok-peer.was) c.fail.ensures c.self.invariant
