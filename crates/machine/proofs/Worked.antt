@@ -38,6 +38,21 @@ all_run = record {
     one_answer_leaves_the_other_wait_runs = refl;
     unused_end_is_no_failure_runs = refl;
   };
+  laws = record {
+    share_answer_is_late_runs = refl;
+    provider_is_left_alone_runs = refl;
+    one_protocol_is_done_runs = refl;
+    sharing_is_turned_off_runs = refl;
+    private_group_is_not_told_runs = refl;
+    public_root_is_not_told_runs = refl;
+    back_off_outlives_the_groups_runs = refl;
+    own_address_is_no_peer_runs = refl;
+    answer_is_no_failure_runs = refl;
+    accepting_goes_on_where_somebody_goes_runs = refl;
+    asked_only_where_agreed_runs = refl;
+    promoted_after_the_lowered_target_runs = refl;
+    who_moved_goes_runs = refl;
+  };
   handshakes = record {
     inbound_duplex_accept_runs = refl;
     inbound_no_common_version_runs = refl;

@@ -25,4 +25,5 @@ pub mod BigPeerTraces
 pub mod DistinctTraces
 pub mod DistinctPeerTraces
 pub mod LastingTraces
+pub mod LawTraces
 pub mod Worked

@@ -1,6 +1,6 @@
 //! Laws on the definitions. The functions do nothing.
 
-ghost use Rattle.machine.specs.Worked.{HandshakesRun, RespondersRun, OutboundsRun, CrossingsRun, LimitsRun, GovernorsRun, SharingsRun, BigPeersRun, DistinctRun, DistinctPeersRun, LastingRun};
+ghost use Rattle.machine.specs.Worked.{HandshakesRun, RespondersRun, OutboundsRun, CrossingsRun, LimitsRun, GovernorsRun, SharingsRun, BigPeersRun, DistinctRun, DistinctPeersRun, LastingRun, LawsRun};
 
 /// The machine does on each worked trace what the trace says.
 pub fn worked_traces_are_runs()
@@ -15,4 +15,5 @@ pub fn worked_traces_are_runs()
     ensures distinct { DistinctRun }
     ensures distinct_peers { DistinctPeersRun }
     ensures lasting { LastingRun }
+    ensures laws { LawsRun }
 {}

@@ -33,3 +33,6 @@ returns-clause-distinct_peers c = all_run.distinct_peers
 
 pub returns-clause-lasting : goal.returns-clause-lasting
 returns-clause-lasting c = all_run.lasting
+
+pub returns-clause-laws : goal.returns-clause-laws
+returns-clause-laws c = all_run.laws
